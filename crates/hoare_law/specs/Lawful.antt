@@ -1,0 +1,35 @@
+-- Lawful histories: whenever the monitor is given up, what is owed holds (the paper's axioms for wait and signal, in which
+-- the assertions may also speak of the waiting priorities: this project's choice).
+use Rattle.std.specs.Prelude.{ℕ, List, [], ◌∷◌, ◌++◌, ◌≡◌, IsSomeAnd}
+use Rattle.hoare_law.specs.declared.event.Event.{Event}
+use Rattle.hoare_law.specs.declared.event.History.{History}
+use Rattle.hoare_law.specs.declared.event.Event.TheVariants.{Wait, Signal, Pass, Leave}
+use Rattle.hoare_law.specs.Waiting.{priority_of, chosen}
+use Rattle.hoare_law.specs.Priorities.{priorities, nobody}
+use Rattle.hoare_law.specs.Legal.{IsLegal}
+
+-- what is asked of data and waiting priorities: by rest whenever the monitor is given up, by ready where one that waited on
+-- a condition with a priority is resumed
+abbrev pub Rest : Type 0 → Type 1
+Rest S = S → (ℕ → List ℕ) → Type 0
+
+abbrev pub Ready : Type 0 → Type 1
+Ready S = ℕ → ℕ → S → (ℕ → List ℕ) → Type 0
+
+-- what the event owes to whom it gives the monitor up, where f came before
+unfoldable pub Owes : {S : Type 0} → Rest S → Ready S → List (Event S) → Event S → Type 0
+Owes rest ready f (Wait k c p s) = rest s (priorities (f ++ Wait k c p s ∷ []))
+Owes rest ready f (Leave k s) = rest s (priorities (f ++ Leave k s ∷ []))
+Owes rest ready f (Signal k c w s) = IsSomeAnd (chosen c f) (λ e. ready c (priority_of e) s (priorities (f ++ Signal k c w s ∷ [])))
+Owes rest ready f (Pass k c w s) = IsSomeAnd (chosen c f) (λ e. ready c (priority_of e) s (priorities (f ++ Pass k c w s ∷ [])))
+Owes rest ready f _ = Unit {0}
+
+-- the opening data are at rest, and each event paid what it owed
+pub record IsLawful {S : Type 0} (rest : Rest S) (ready : Ready S) (h : History S) : Type 0 where
+  pub opens : rest h.opening nobody
+  pub each : (f later : List (Event S)) (e : Event S) → h.events ≡ f ++ e ∷ later → Owes rest ready f e
+
+-- legal and lawful
+pub record Stands {S : Type 0} (rest : Rest S) (ready : Ready S) (h : History S) : Type 0 where
+  pub legal : IsLegal h
+  pub lawful : IsLawful rest ready h

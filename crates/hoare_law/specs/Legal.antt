@@ -1,0 +1,38 @@
+-- Legal histories: those of Hoare's machine.
+use Rattle.std.specs.Prelude.{List, ◌∷◌, ◌++◌, ◌<◌, ◌≡◌, true}
+use Rattle.hoare_law.specs.declared.event.Event.{Event}
+use Rattle.hoare_law.specs.declared.event.History.{History}
+use Rattle.hoare_law.specs.declared.event.Event.TheVariants.{Admit, Wait, Signal, Pass, Leave, Resume, Back}
+use Rattle.hoare_law.specs.declared.turn.Turn.TheVariants.{Free, Held, Owed, Return}
+use Rattle.hoare_law.specs.Events.{latest_data, cut_to}
+use Rattle.hoare_law.specs.Waiting.{Chooses}
+use Rattle.hoare_law.specs.Turns.{turn, outside}
+
+-- the event's places and condition are the monitor's
+abbrev pub IsInRange : {S : Type 0} → History S → Event S → Type 0
+IsInRange f (Admit k s) = k < f.places
+IsInRange f (Wait k c p s) = (k < f.places) × (c < f.conditions)
+IsInRange f (Signal k c w s) = (k < f.places) × (c < f.conditions) × (w < f.places)
+IsInRange f (Pass k c w s) = (k < f.places) × (c < f.conditions) × (w < f.places)
+IsInRange f (Leave k s) = k < f.places
+IsInRange f (Resume k c s) = (k < f.places) × (c < f.conditions)
+IsInRange f (Back k s) = k < f.places
+
+-- the event is the turn's, finds the data as they were left, and resumes whom it should
+abbrev pub Fits : {S : Type 0} → History S → Event S → Type 0
+Fits f (Admit k s) = (turn f.events ≡ Free) × (outside k f.events ≡ true) × (s ≡ latest_data f)
+Fits f (Resume k c s) = (turn f.events ≡ Owed k c) × (s ≡ latest_data f)
+Fits f (Back k s) = (turn f.events ≡ Return k) × (s ≡ latest_data f)
+Fits f (Wait k c p s) = turn f.events ≡ Held k
+Fits f (Leave k s) = turn f.events ≡ Held k
+Fits f (Signal k c w s) = (turn f.events ≡ Held k) × Chooses c f.events w
+Fits f (Pass k c w s) = (turn f.events ≡ Held k) × Chooses c f.events w
+
+-- the event may come next
+pub record Allowed {S : Type 0} (f : History S) (e : Event S) : Type 0 where
+  pub in_range : IsInRange f e
+  pub fits : Fits f e
+
+-- each event was allowed after those before it
+pub record IsLegal {S : Type 0} (h : History S) : Type 0 where
+  pub each : (f later : List (Event S)) (e : Event S) → h.events ≡ f ++ e ∷ later → Allowed (cut_to h f) e

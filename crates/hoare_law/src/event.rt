@@ -1,0 +1,58 @@
+use std::collections::LinkedList;
+
+/// One step of one process at a monitor. Histories stand in contracts alone: no value of this type is ever made.
+///
+/// `data` is the monitor's data as left (`Wait`, `Signal`, `Pass`, `Leave`) or as found (`Admit`, `Resume`, `Back`).
+pub enum Event<S> {
+    /// A newcomer comes in from outside.
+    Admit {
+        place: usize,
+        data: S,
+    },
+    /// The process inside waits on a condition, with a priority, and gives the monitor up.
+    Wait {
+        place: usize,
+        condition: usize,
+        priority: u64,
+        data: S,
+    },
+    /// The process inside hands the monitor to a waiting one, and is held up as a signaller.
+    Signal {
+        place: usize,
+        condition: usize,
+        resumed: usize,
+        data: S,
+    },
+    /// The process inside hands the monitor to a waiting one, and is outside: a signal as the last act.
+    Pass {
+        place: usize,
+        condition: usize,
+        resumed: usize,
+        data: S,
+    },
+    /// The process inside goes out.
+    Leave {
+        place: usize,
+        data: S,
+    },
+    /// A process that waited on a condition goes on.
+    Resume {
+        place: usize,
+        condition: usize,
+        data: S,
+    },
+    /// A process that signalled goes on.
+    Back {
+        place: usize,
+        data: S,
+    },
+}
+
+/// What happened at a monitor with so many places and conditions that was opened with this data: its events, the oldest
+/// first. No value of it is ever made.
+pub struct History<S> {
+    pub places: usize,
+    pub conditions: usize,
+    pub opening: S,
+    pub events: LinkedList<Event<S>>,
+}

@@ -5,6 +5,7 @@ use Rattle.std.proofs.lemmas.Bool.Decides.{nat_tests}
 use Rattle.std.proofs.lemmas.List.{append-nil}
 use Rattle.hoare_law.specs.Priorities.{put_in, in_order}
 use Rattle.hoare_law.proofs.Tests.{both_true, and_false, not_below, above, self_least, list_all-push}
+use Rattle.hoare_law.proofs.Filters.{find-same}
 use Rattle.hoare_law.proofs.Orders.{put_all-push, list_all-lower}
 
 abbrev pub first_of : {X : Type 0} → List X → Option X
@@ -51,10 +52,6 @@ module _ {X : Type 0} (key : X → ℕ) where
     pub least : (b : X) → o ≡ Some b → is_least_of ws b ≡ true
     pub some : o ≡ None → ws ≡ []
 
-  find_same : (p q : X → Bool) (xs : List X) → ((x : X) → p x ≡ q x) → find p xs ≡ find q xs
-  find_same p q [] h = refl
-  find_same p q (x ∷ xs) h = rw (h x) (ap (λ r. cond (q x) (Some x) r) (find_same p q xs h))
-
   least_push : (ws : List X) (w x : X) → is_least_of (ws ++ w ∷ []) x ≡ (is_least_of ws x && leb (key x) (key w))
   least_push ws w x = list_all-push (λ v. leb (key x) (key v)) ws w
 
@@ -77,7 +74,7 @@ module _ {X : Type 0} (key : X → ℕ) where
     some = λ e. absurd (cc);
   }
   step (Some b) ws w c = record {
-    found = find_same _ _ (ws ++ w ∷ []) (least_push ws w) ∙ chosen_by (leb (key b) (key w)) ws w b refl c.found (c.least b refl);
+    found = find-same _ _ (ws ++ w ∷ []) (least_push ws w) ∙ chosen_by (leb (key b) (key w)) ws w b refl c.found (c.least b refl);
     first = ap first_of (put_all-push key [] ws w) ∙ first_put w (in_order key ws) ∙ ap (λ v. Some (better v w)) c.first;
     least = λ x e. let q : better (Some b) w ≡ x = cc in subst (λ (v : X). is_least_of (ws ++ w ∷ []) v ≡ true) q (least_by (leb (key b) (key w)) ws w b refl (c.least b refl));
     some = λ e. absurd (cc);

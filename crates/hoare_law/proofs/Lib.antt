@@ -5,3 +5,14 @@ pub mod Turns
 pub mod Legal
 pub mod Orders
 pub mod Chosen
+pub mod Growth
+pub mod Filters
+pub mod Held
+pub mod Waiters
+pub mod Risings
+pub mod Priorities
+pub mod Fronts
+pub mod Erasure
+pub mod Rules
+pub mod Joined
+pub mod InOrder

@@ -1,5 +1,5 @@
 -- Lists by rising key: what a filter and one more element do to them.
-use Rattle.std.proofs.Common.{◌≡◌, ℕ, ◌<◌, Bool, true, false, cond, leb, ◌&&◌, List, [], ◌∷◌, ◌++◌, refl, ap, sym, ◌∙◌}
+use Rattle.std.proofs.Common.{◌≡◌, ℕ, ◌<◌, Bool, true, false, cond, leb, ◌&&◌, List, [], ◌∷◌, ◌++◌, map, refl, ap, sym, ◌∙◌}
 use Rattle.std.specs.List.{list_all, filter}
 use Rattle.hoare_law.specs.Priorities.{put_in, put_all, in_order}
 use Rattle.hoare_law.proofs.Tests.{both_true, not_below, lower, above, below, list_all-filter}
@@ -76,3 +76,13 @@ module _ {X : Type 0} (key : X → ℕ) where
   -- those who stay keep their order
   pub in_order-filter : (p : X → Bool) (ws : List X) → in_order key (filter p ws) ≡ filter p (in_order key ws)
   in_order-filter p ws = put_all-filter p ws [] tt
+
+-- a key that a map carries over
+pub put_in-map : {X Y : Type 0} (f : X → Y) (key : Y → ℕ) (x : X) (xs : List X) → put_in key (f x) (map f xs) ≡ map f (put_in (λ v. key (f v)) x xs)
+put_in-map f key x [] = refl
+put_in-map f key x (y ∷ ys) = by (leb (key (f y)) (key (f x))) (put_in-map f key x ys)
+  where
+    by : (t : Bool) → put_in key (f x) (map f ys) ≡ map f (put_in (λ v. key (f v)) x ys)
+        → cond t (f y ∷ put_in key (f x) (map f ys)) (f x ∷ f y ∷ map f ys) ≡ map f (cond t (y ∷ put_in (λ v. key (f v)) x ys) (x ∷ y ∷ ys))
+    by true rest = ap (λ l. f y ∷ l) rest
+    by false rest = refl

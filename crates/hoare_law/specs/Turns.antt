@@ -1,4 +1,4 @@
--- Whose turn it is, and who is outside ("Monitors", section 1, and section 4 for the waiting signallers).
+-- Whose turn it is, and who is outside ("Monitors", Introduction, and Interpretation for the waiting signallers).
 use Rattle.std.specs.Prelude.{ℕ, List, [], ◌∷◌, ◌==◌, ◌&&◌, not, Bool, true, false, Option, Some, None, map}
 use Rattle.std.specs.List.{list_all}
 use Rattle.hoare_law.specs.declared.event.Event.{Event}

@@ -1,4 +1,4 @@
--- Who waits, and whom a signal resumes ("Monitors", section 2, Scheduled waits).
+-- Who waits, and whom a signal resumes ("Monitors", Scheduled Waits).
 use Rattle.std.specs.Prelude.{ℕ, List, [], ◌∷◌, ◌==◌, ◌&&◌, ◌||◌, not, nat_le, Bool, false, if◌then◌else◌, Option, IsSomeAnd, ◌≡◌}
 use Rattle.std.specs.List.{list_all, find}
 use Rattle.hoare_law.specs.declared.event.Event.{Event}

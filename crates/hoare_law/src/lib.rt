@@ -2,6 +2,9 @@
 //! what happens at a monitor, which histories are legal, and what each call of a monitor owes and gives.
 #![tactic(auto)]
 
+pub mod data;
 pub mod event;
+pub mod laws;
+pub mod monitor;
 pub mod turn;
 pub mod waits;

@@ -1,0 +1,246 @@
+-- Who waits, whose turn it is and what is legal do not depend on the data.
+use Rattle.std.proofs.Common.{◌≡◌, ◌==◌, ◌&&◌, not, ℕ, List, [], ◌∷◌, ◌++◌, map, Bool, true, false, cond, leb, Option, Some, None, refl, ap, sym, ◌∙◌, subst}
+use Rattle.std.specs.Prelude.{IsSomeAnd}
+use Rattle.std.specs.Option.{option_map}
+use Rattle.std.specs.List.{find}
+use Rattle.std.proofs.lemmas.List.{map-append}
+use Rattle.std.proofs.lemmas.List.Elements.{filter_agree}
+use Rattle.std.proofs.lemmas.List.Folds.{list_all-map}
+use Rattle.hoare_law.specs.declared.event.Event.{Event}
+use Rattle.hoare_law.specs.declared.event.History.{History}
+use Rattle.hoare_law.specs.declared.event.Event.TheVariants.{Admit, Wait, Signal, Pass, Leave, Resume, Back}
+use Rattle.hoare_law.specs.Events.{place_of, own, newest, with_event, cut_to}
+use Rattle.hoare_law.specs.Waiting.{filter_by_later, waits_on, priority_of, concerns, is_untouched, waiting, is_least, chosen, Chooses}
+use Rattle.hoare_law.specs.Turns.{is_signal, is_last_act, urgent, turn, turn_by, turn_after, is_out, outside}
+use Rattle.hoare_law.specs.Priorities.{in_order, priorities}
+use Rattle.hoare_law.specs.Legal.{Allowed, IsLegal}
+use Rattle.hoare_law.specs.Growth.{Begins}
+use Rattle.hoare_law.specs.Erasure.{without_data, all_without_data, erased}
+use Rattle.hoare_law.proofs.Turns.{filter-map}
+use Rattle.hoare_law.proofs.Filters.{list_all-same, find-same}
+use Rattle.hoare_law.proofs.Risings.{map-in_order}
+
+-- maps and filters change places
+newest-map : {X Y : Type 0} (f : X → Y) (xs : List X) → newest (map f xs) ≡ option_map f (newest xs)
+newest-map f [] = refl
+newest-map f (x ∷ []) = refl
+newest-map f (x ∷ y ∷ xs) = newest-map f (y ∷ xs)
+
+find-map : {X Y : Type 0} (f : X → Y) (p : Y → Bool) (xs : List X) → find p (map f xs) ≡ option_map f (find (λ x. p (f x)) xs)
+find-map f p [] = refl
+find-map f p (x ∷ xs) = by (p (f x)) (find-map f p xs)
+  where
+    by : (t : Bool) → find p (map f xs) ≡ option_map f (find (λ y. p (f y)) xs) → cond t (Some (f x)) (find p (map f xs)) ≡ option_map f (cond t (Some x) (find (λ y. p (f y)) xs))
+    by true rest = refl
+    by false rest = rest
+
+filter_by_later-map : {X Y : Type 0} (f : X → Y) (test : Y → List Y → Bool) (kept : X → List X → Bool) (xs : List X) → ((x : X) (later : List X) → test (f x) (map f later) ≡ kept x later) → filter_by_later test (map f xs) ≡ map f (filter_by_later kept xs)
+filter_by_later-map f test kept [] same = refl
+filter_by_later-map f test kept (x ∷ xs) same = ap (λ b. cond b (f x ∷ filter_by_later test (map f xs)) (filter_by_later test (map f xs))) (same x xs) ∙ by (kept x xs) (filter_by_later-map f test kept xs same)
+  where
+    by : (t : Bool) → filter_by_later test (map f xs) ≡ map f (filter_by_later kept xs) → cond t (f x ∷ filter_by_later test (map f xs)) (filter_by_later test (map f xs)) ≡ map f (cond t (x ∷ filter_by_later kept xs) (filter_by_later kept xs))
+    by true rest = ap (λ l. f x ∷ l) rest
+    by false rest = rest
+
+map-map_same : {X Y Z : Type 0} (f : X → Y) (g : Y → Z) (k : X → Z) (xs : List X) → ((x : X) → g (f x) ≡ k x) → map g (map f xs) ≡ map k xs
+map-map_same f g k [] same = refl
+map-map_same f g k (x ∷ xs) same = rw (same x, map-map_same f g k xs same) refl
+
+-- y stands in a map of xs behind us, and is f of an element of xs
+record IsMapped {X Y : Type 0} (f : X → Y) (xs : List X) (us : List Y) (y : Y) : Type 0 where
+  front : List X
+  at : X
+  behind : List X
+  is : xs ≡ front ++ at ∷ behind
+  before : map f front ≡ us
+  maps : f at ≡ y
+
+mapped_behind : {X Y : Type 0} (f : X → Y) (x : X) (xs : List X) (u : Y) (us : List Y) (y : Y) → f x ≡ u → IsMapped f xs us y → IsMapped f (x ∷ xs) (u ∷ us) y
+mapped_behind f x xs u us y first m = record { front = x ∷ m.front; at = m.at; behind = m.behind; is = ap (λ l. x ∷ l) m.is; before = λ i. first i ∷ m.before i; maps = m.maps }
+
+map-split : {X Y : Type 0} (f : X → Y) (xs : List X) (us : List Y) (y : Y) (vs : List Y) → map f xs ≡ us ++ y ∷ vs → IsMapped f xs us y
+map-split f [] [] y vs is = absurd (cc)
+map-split f [] (u ∷ us) y vs is = absurd (cc)
+map-split f (x ∷ xs) [] y vs is = record { front = []; at = x; behind = xs; is = refl; before = refl; maps = cc }
+map-split f (x ∷ xs) (u ∷ us) y vs is = mapped_behind f x xs u us y (cc) (map-split f xs us y vs (cc))
+
+module _ {S : Type 0} where
+  -- the place stays
+  pub place_of-erased : (e : Event S) → place_of (without_data e) ≡ place_of e
+  place_of-erased (Admit k s) = refl
+  place_of-erased (Wait k c p s) = refl
+  place_of-erased (Signal k c w s) = refl
+  place_of-erased (Pass k c w s) = refl
+  place_of-erased (Leave k s) = refl
+  place_of-erased (Resume k c s) = refl
+  place_of-erased (Back k s) = refl
+
+  -- the priority stays
+  pub priority_of-erased : (e : Event S) → priority_of (without_data e) ≡ priority_of e
+  priority_of-erased (Admit k s) = refl
+  priority_of-erased (Wait k c p s) = refl
+  priority_of-erased (Signal k c w s) = refl
+  priority_of-erased (Pass k c w s) = refl
+  priority_of-erased (Leave k s) = refl
+  priority_of-erased (Resume k c s) = refl
+  priority_of-erased (Back k s) = refl
+
+  waits_on-erased : (c : ℕ) (e : Event S) → waits_on c (without_data e) ≡ waits_on c e
+  waits_on-erased c (Admit k s) = refl
+  waits_on-erased c (Wait k d p s) = refl
+  waits_on-erased c (Signal k d w s) = refl
+  waits_on-erased c (Pass k d w s) = refl
+  waits_on-erased c (Leave k s) = refl
+  waits_on-erased c (Resume k d s) = refl
+  waits_on-erased c (Back k s) = refl
+
+  concerns-erased : (j : ℕ) (e : Event S) → concerns j (without_data e) ≡ concerns j e
+  concerns-erased j (Admit k s) = refl
+  concerns-erased j (Wait k d p s) = refl
+  concerns-erased j (Signal k d w s) = refl
+  concerns-erased j (Pass k d w s) = refl
+  concerns-erased j (Leave k s) = refl
+  concerns-erased j (Resume k d s) = refl
+  concerns-erased j (Back k s) = refl
+
+  is_signal-erased : (e : Event S) → is_signal (without_data e) ≡ is_signal e
+  is_signal-erased (Admit k s) = refl
+  is_signal-erased (Wait k c p s) = refl
+  is_signal-erased (Signal k c w s) = refl
+  is_signal-erased (Pass k c w s) = refl
+  is_signal-erased (Leave k s) = refl
+  is_signal-erased (Resume k c s) = refl
+  is_signal-erased (Back k s) = refl
+
+  turn_by-erased : (e : Event S) (us : List ℕ) → turn_by (without_data e) us ≡ turn_by e us
+  turn_by-erased (Admit k s) us = refl
+  turn_by-erased (Wait k c p s) us = refl
+  turn_by-erased (Signal k c w s) us = refl
+  turn_by-erased (Pass k c w s) us = refl
+  turn_by-erased (Leave k s) us = refl
+  turn_by-erased (Resume k c s) us = refl
+  turn_by-erased (Back k s) us = refl
+
+  is_out-erased : (o : Option (Event S)) → is_out (option_map without_data o) ≡ is_out o
+  is_out-erased None = refl
+  is_out-erased (Some (Admit k s)) = refl
+  is_out-erased (Some (Wait k c p s)) = refl
+  is_out-erased (Some (Signal k c w s)) = refl
+  is_out-erased (Some (Pass k c w s)) = refl
+  is_out-erased (Some (Leave k s)) = refl
+  is_out-erased (Some (Resume k c s)) = refl
+  is_out-erased (Some (Back k s)) = refl
+
+  untouched-erased : (e : Event S) (later : List (Event S)) → is_untouched (without_data e) (all_without_data later) ≡ is_untouched e later
+  untouched-erased e later =
+      list_all-map (λ x. not (concerns (place_of (without_data e)) x)) without_data later
+      ∙ list_all-same _ (λ x. not (concerns (place_of e) x)) later (λ x. ap not (ap (λ j. concerns j (without_data x)) (place_of-erased e) ∙ concerns-erased (place_of e) x))
+
+  last_act-erased : (e : Event S) (later : List (Event S)) → is_last_act (without_data e) (all_without_data later) ≡ is_last_act e later
+  last_act-erased e later =
+      list_all-map (λ x. not (place_of x == place_of (without_data e))) without_data later
+      ∙ list_all-same _ (λ x. not (place_of x == place_of e)) later (λ x. ap not ((λ i. place_of-erased x i == place_of-erased e i)))
+
+  -- the last event stays
+  pub newest-erased : (h : List (Event S)) → newest (all_without_data h) ≡ option_map without_data (newest h)
+  newest-erased h = newest-map without_data h
+
+  -- the own events stay
+  pub own-erased : (k : ℕ) (h : List (Event S)) → own k (all_without_data h) ≡ all_without_data (own k h)
+  own-erased k h = filter-map without_data (λ e. place_of e == k) h ∙ ap (map without_data) (filter_agree _ (λ e. place_of e == k) (λ e. ap (λ j. j == k) (place_of-erased e)) h)
+
+  -- the same wait
+  pub waiting-erased : (c : ℕ) (h : List (Event S)) → waiting c (all_without_data h) ≡ all_without_data (waiting c h)
+  unfolding waiting
+  waiting-erased c h = filter_by_later-map without_data _ (λ e later. waits_on c e && is_untouched e later) h (λ e later i. waits_on-erased c e i && untouched-erased e later i)
+
+  -- the same signallers wait
+  pub urgent-erased : (h : List (Event S)) → urgent (all_without_data h) ≡ urgent h
+  unfolding urgent
+  urgent-erased h =
+      ap (map place_of) (filter_by_later-map without_data _ (λ e later. is_signal e && is_last_act e later) h (λ e later i. is_signal-erased e i && last_act-erased e later i))
+      ∙ map-map_same without_data place_of place_of _ place_of-erased
+
+  turn_after-erased : (o : Option (Event S)) (us : List ℕ) → turn_after (option_map without_data o) us ≡ turn_after o us
+  turn_after-erased None us = refl
+  turn_after-erased (Some e) us = turn_by-erased e us
+
+  -- the turn is the same
+  pub turn-erased : (h : List (Event S)) → turn (all_without_data h) ≡ turn h
+  unfolding turn
+  turn-erased h = (λ i. turn_after (newest-erased h i) (urgent-erased h i)) ∙ turn_after-erased (newest h) (urgent h)
+
+  -- the same are outside
+  pub outside-erased : (k : ℕ) (h : List (Event S)) → outside k (all_without_data h) ≡ outside k h
+  unfolding outside
+  outside-erased k h = ap (λ l. is_out (newest l)) (own-erased k h) ∙ ap is_out (newest-erased (own k h)) ∙ is_out-erased (newest (own k h))
+
+  least-erased : (ws : List (Event S)) (e : Event S) → is_least (all_without_data ws) (without_data e) ≡ is_least ws e
+  least-erased ws e = list_all-map _ without_data ws ∙ list_all-same _ _ ws (λ x i. leb (priority_of-erased e i) (priority_of-erased x i))
+
+  -- the same is chosen
+  pub chosen-erased : (c : ℕ) (h : List (Event S)) → chosen c (all_without_data h) ≡ option_map without_data (chosen c h)
+  unfolding chosen
+  chosen-erased c h =
+      ap (λ ws. find (is_least ws) ws) (waiting-erased c h)
+      ∙ find-map without_data (is_least (all_without_data (waiting c h))) (waiting c h)
+      ∙ ap (option_map without_data) (find-same _ (is_least (waiting c h)) (waiting c h) (least-erased (waiting c h)))
+
+  -- so its place is chosen
+  pub Chooses-erased : (c w : ℕ) (h : List (Event S)) → Chooses c h w → Chooses c (all_without_data h) w
+  unfolding Chooses
+  Chooses-erased c w h is = subst (λ (o : Option (Event (Unit {0}))). IsSomeAnd o (λ e. place_of e ≡ w)) (sym (chosen-erased c h)) (by (chosen c h) is)
+    where
+      by : (o : Option (Event S)) → IsSomeAnd o (λ e. place_of e ≡ w) → IsSomeAnd (option_map without_data o) (λ e. place_of e ≡ w)
+      by None p = p
+      by (Some e) p = place_of-erased e ∙ p
+
+  -- and no other
+  pub Chooses-from_erased : (c w : ℕ) (h : List (Event S)) → Chooses c (all_without_data h) w → Chooses c h w
+  unfolding Chooses
+  Chooses-from_erased c w h is = by (chosen c h) (subst (λ (o : Option (Event (Unit {0}))). IsSomeAnd o (λ e. place_of e ≡ w)) (chosen-erased c h) is)
+    where
+      by : (o : Option (Event S)) → IsSomeAnd (option_map without_data o) (λ e. place_of e ≡ w) → IsSomeAnd o (λ e. place_of e ≡ w)
+      by None p = p
+      by (Some e) p = sym (place_of-erased e) ∙ p
+
+  priorities_at : (h : List (Event S)) (c : ℕ) → priorities (all_without_data h) c ≡ priorities h c
+  unfolding priorities
+  priorities_at h c =
+      ap (λ ws. map priority_of (in_order priority_of ws)) (waiting-erased c h)
+      ∙ map-in_order priority_of (all_without_data (waiting c h))
+      ∙ ap (in_order (λ n. n)) (map-map_same without_data priority_of priority_of (waiting c h) priority_of-erased)
+      ∙ sym (map-in_order priority_of (waiting c h))
+
+  -- the waiting priorities are the same
+  pub priorities-erased : (h : List (Event S)) → priorities (all_without_data h) ≡ priorities h
+  priorities-erased h = λ i c. priorities_at h c i
+
+  -- one more event
+  pub erased-push : (h : History S) (e : Event S) → erased (with_event h e) ≡ with_event (erased h) (without_data e)
+  unfolding with_event
+  erased-push h e = ap (λ l. record { places = h.places; conditions = h.conditions; opening = tt; events = l }) (map-append without_data h.events (e ∷ []))
+
+  -- a front stays a front
+  pub Begins-erased : {f h : History S} → Begins f h → Begins (erased f) (erased h)
+  Begins-erased {f = f} b = record { places = b.places; conditions = b.conditions; opening = refl; later = all_without_data b.later; is = sym (map-append without_data f.events b.later) ∙ ap all_without_data b.is }
+
+  -- what may come next may do so without its data
+  pub Allowed-erased : (f : History S) (e : Event S) → Allowed f e → Allowed (erased f) (without_data e)
+  Allowed-erased f (Admit k s) a = record { in_range = a.in_range; fits = (turn-erased f.events ∙ a.fits.0, outside-erased k f.events ∙ a.fits.1, refl) }
+  Allowed-erased f (Wait k c p s) a = record { in_range = a.in_range; fits = turn-erased f.events ∙ a.fits }
+  Allowed-erased f (Signal k c w s) a = record { in_range = a.in_range; fits = (turn-erased f.events ∙ a.fits.0, Chooses-erased c w f.events a.fits.1) }
+  Allowed-erased f (Pass k c w s) a = record { in_range = a.in_range; fits = (turn-erased f.events ∙ a.fits.0, Chooses-erased c w f.events a.fits.1) }
+  Allowed-erased f (Leave k s) a = record { in_range = a.in_range; fits = turn-erased f.events ∙ a.fits }
+  Allowed-erased f (Resume k c s) a = record { in_range = a.in_range; fits = (turn-erased f.events ∙ a.fits.0, refl) }
+  Allowed-erased f (Back k s) a = record { in_range = a.in_range; fits = (turn-erased f.events ∙ a.fits.0, refl) }
+
+  -- a legal history is legal without its data
+  pub IsLegal-erased : (h : History S) → IsLegal h → IsLegal (erased h)
+  IsLegal-erased h legal = record {
+    each = λ f later e is.
+        let r : IsMapped without_data h.events f e = map-split without_data h.events f e later is in
+        let a : Allowed (cut_to (erased h) (all_without_data r.front)) (without_data r.at) = Allowed-erased (cut_to h r.front) r.at (legal.each r.front r.behind r.at r.is) in
+        let b : Allowed (cut_to (erased h) f) (without_data r.at) = subst (λ (l : List (Event (Unit {0}))). Allowed (cut_to (erased h) l) (without_data r.at)) r.before a in
+        subst (λ (x : Event (Unit {0})). Allowed (cut_to (erased h) f) x) r.maps b;
+  }

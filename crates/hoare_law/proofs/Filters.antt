@@ -1,0 +1,143 @@
+-- Filters, what they keep, and the last element of a list.
+use Rattle.std.proofs.Common.{◌≡◌, ◌||◌, not, List, [], ◌∷◌, ◌++◌, map, Bool, true, false, cond, Some, refl, ap, sym, ◌∙◌, subst}
+use Rattle.std.specs.Prelude.{All}
+use Rattle.std.specs.List.{filter, list_all, find}
+use Rattle.std.proofs.lemmas.List.Elements.{All-nil, All-cons, All-head, All-tail}
+use Rattle.hoare_law.specs.Events.{newest}
+use Rattle.hoare_law.specs.Waiting.{filter_by_later}
+use Rattle.hoare_law.proofs.Tests.{both_true}
+
+-- a list is empty, or has a last element
+pub data HasLast {X : Type 0} (xs : List X) : Type 0 where
+  nothing : xs ≡ [] → HasLast xs
+  pushed : (ys : List X) (x : X) → xs ≡ ys ++ x ∷ [] → HasLast xs
+
+more_before : {X : Type 0} (x : X) (xs : List X) → HasLast xs → HasLast (x ∷ xs)
+more_before x xs (nothing is) = pushed [] x (ap (λ l. x ∷ l) is)
+more_before x xs (pushed ys y is) = pushed (x ∷ ys) y (ap (λ l. x ∷ l) is)
+
+-- each list is one or the other
+pub has_last : {X : Type 0} (xs : List X) → HasLast xs
+has_last [] = nothing refl
+has_last (x ∷ xs) = more_before x xs (has_last xs)
+
+-- the last element stays with one more before
+pub newest-cons : {X : Type 0} (x : X) (xs : List X) (y : X) → newest xs ≡ Some y → newest (x ∷ xs) ≡ Some y
+newest-cons x [] y is = absurd (cc)
+newest-cons x (z ∷ xs) y is = is
+
+-- a last element stands behind the others
+pub newest-some : {X : Type 0} (xs : List X) (x : X) → newest xs ≡ Some x → (ys : List X) × (xs ≡ ys ++ x ∷ [])
+newest-some [] x is = absurd (cc)
+newest-some (y ∷ []) x is = ([], cc)
+newest-some (y ∷ z ∷ xs) x is = let r : (ys : List _) × (z ∷ xs ≡ ys ++ x ∷ []) = newest-some (z ∷ xs) x is in (y ∷ r.0, ap (λ l. y ∷ l) r.1)
+
+-- only nothing is mapped to nothing
+pub map-none : {X Y : Type 0} (f : X → Y) (xs : List X) → map f xs ≡ [] → xs ≡ []
+map-none f [] is = refl
+map-none f (x ∷ xs) is = absurd (cc)
+
+-- two filters change places
+pub filter-filter : {X : Type 0} (p q : X → Bool) (xs : List X) → filter p (filter q xs) ≡ filter q (filter p xs)
+filter-filter p q [] = refl
+filter-filter p q (x ∷ xs) = by (p x) (q x) refl refl (filter-filter p q xs)
+  where
+    by : (s t : Bool) → p x ≡ s → q x ≡ t → filter p (filter q xs) ≡ filter q (filter p xs) → filter p (cond t (x ∷ filter q xs) (filter q xs)) ≡ filter q (cond s (x ∷ filter p xs) (filter p xs))
+    by true true s t rest = rw (s, t) (ap (λ l. x ∷ l) rest)
+    by true false s t rest = rw t rest
+    by false true s t rest = rw s rest
+    by false false s t rest = rest
+
+-- a filter keeps all that pass
+pub filter-all : {X : Type 0} (p : X → Bool) (xs : List X) → list_all p xs ≡ true → filter p xs ≡ xs
+filter-all p [] a = refl
+filter-all p (x ∷ xs) a = let b : (p x ≡ true) × (list_all p xs ≡ true) = both_true _ _ a in rw b.0 (ap (λ l. x ∷ l) (filter-all p xs b.1))
+
+-- what a filter keeps passes its test
+pub list_all-filter_own : {X : Type 0} (p : X → Bool) (xs : List X) → list_all p (filter p xs) ≡ true
+list_all-filter_own p [] = refl
+list_all-filter_own p (x ∷ xs) = by (p x) refl (list_all-filter_own p xs)
+  where
+    by : (t : Bool) → p x ≡ t → list_all p (filter p xs) ≡ true → list_all p (cond t (x ∷ filter p xs) (filter p xs)) ≡ true
+    by true is rest = rw is rest
+    by false is rest = rest
+
+-- where a filter keeps nothing, all fail its test
+pub list_all-filter_none : {X : Type 0} (p : X → Bool) (xs : List X) → filter p xs ≡ [] → list_all (λ x. not (p x)) xs ≡ true
+list_all-filter_none p [] none = refl
+list_all-filter_none p (x ∷ xs) none = by (p x) refl none (list_all-filter_none p xs)
+  where
+    by : (t : Bool) → p x ≡ t → cond t (x ∷ filter p xs) (filter p xs) ≡ [] → (filter p xs ≡ [] → list_all (λ y. not (p y)) xs ≡ true) → list_all (λ y. not (p y)) (x ∷ xs) ≡ true
+    by true is e rest = absurd (cc)
+    by false is e rest = rw is (rest e)
+
+-- where all fail a test, a filter keeps nothing
+pub filter-none : {X : Type 0} (p : X → Bool) (xs : List X) → list_all (λ x. not (p x)) xs ≡ true → filter p xs ≡ []
+filter-none p [] a = refl
+filter-none p (x ∷ xs) a =
+    let b : (not (p x) ≡ true) × (list_all (λ y. not (p y)) xs ≡ true) = both_true _ _ a in
+    let f : p x ≡ false = not_true (p x) b.0 in
+    rw f (filter-none p xs b.1)
+  where
+    not_true : (t : Bool) → not t ≡ true → t ≡ false
+    not_true true e = absurd (cc)
+    not_true false e = refl
+
+-- a test that none passes is left out
+pub filter-or : {X : Type 0} (p q : X → Bool) (xs : List X) → list_all (λ x. not (p x)) xs ≡ true → filter (λ x. not (p x || q x)) xs ≡ filter (λ x. not (q x)) xs
+filter-or p q [] a = refl
+filter-or p q (x ∷ xs) a =
+    let b : (not (p x) ≡ true) × (list_all (λ y. not (p y)) xs ≡ true) = both_true _ _ a in
+    let same : not (p x || q x) ≡ not (q x) = not_or (p x) (q x) b.0 in
+    rw (same, filter-or p q xs b.1) refl
+  where
+    not_or : (s t : Bool) → not s ≡ true → not (s || t) ≡ not t
+    not_or true t e = absurd (cc)
+    not_or false t e = refl
+
+-- equal tests
+pub list_all-same : {X : Type 0} (p q : X → Bool) (xs : List X) → ((x : X) → p x ≡ q x) → list_all p xs ≡ list_all q xs
+list_all-same p q [] same = refl
+list_all-same p q (x ∷ xs) same = rw (same x, list_all-same p q xs same) refl
+
+-- a test of all, from a fact of all
+pub list_all-from_All : {X : Type 0} (p : X → Bool) (xs : List X) → All (λ x. p x ≡ true) xs → list_all p xs ≡ true
+list_all-from_All p [] a = refl
+list_all-from_All p (x ∷ xs) a = let b : p x ≡ true = All-head (λ y. p y ≡ true) x xs a in rw b (list_all-from_All p xs (All-tail (λ y. p y ≡ true) x xs a))
+
+-- what holds of all holds of one among them
+pub list_all-at : {X : Type 0} (p : X → Bool) (xs : List X) (x : X) (ys : List X) → list_all p (xs ++ x ∷ ys) ≡ true → p x ≡ true
+list_all-at p [] x ys a = (both_true _ _ a).0
+list_all-at p (z ∷ xs) x ys a = list_all-at p xs x ys (both_true _ _ a).1
+
+-- equal tests find the same
+pub find-same : {X : Type 0} (p q : X → Bool) (xs : List X) → ((x : X) → p x ≡ q x) → find p xs ≡ find q xs
+find-same p q [] same = refl
+find-same p q (x ∷ xs) same = rw (same x) (ap (λ r. cond (q x) (Some x) r) (find-same p q xs same))
+
+-- the one found passes the test, and stands in the list
+pub find-passes : {X : Type 0} (p : X → Bool) (xs : List X) (x : X) → find p xs ≡ Some x → p x ≡ true
+find-passes p [] x is = absurd (cc)
+find-passes p (y ∷ xs) x is = by (p y) refl is (find-passes p xs x)
+  where
+    by : (t : Bool) → p y ≡ t → cond t (Some y) (find p xs) ≡ Some x → (find p xs ≡ Some x → p x ≡ true) → p x ≡ true
+    by true e f rest = let same : y ≡ x = cc in ap p (sym same) ∙ e
+    by false e f rest = rest f
+
+-- what holds of all holds of the one found
+pub All-find : {X : Type 0} (P : X → Type 0) (p : X → Bool) (xs : List X) (x : X) → find p xs ≡ Some x → All P xs → P x
+All-find P p [] x is all = absurd (cc)
+All-find P p (y ∷ xs) x is all = by (p y) is (λ f. All-find P p xs x f (All-tail P y xs all))
+  where
+    by : (t : Bool) → cond t (Some y) (find p xs) ≡ Some x → (find p xs ≡ Some x → P x) → P x
+    by true f rest = let same : y ≡ x = cc in subst P same (All-head P y xs all)
+    by false f rest = rest f
+
+-- what holds of each that passes, by what comes later
+pub All-filter_by_later : {X : Type 0} (P : X → Type 0) (test : X → List X → Bool) (xs : List X) → ((f : List X) (x : X) (later : List X) → xs ≡ f ++ x ∷ later → test x later ≡ true → P x) → All P (filter_by_later test xs)
+All-filter_by_later P test [] holds = All-nil P
+All-filter_by_later P test (x ∷ xs) holds = by (test x xs) refl (All-filter_by_later P test xs (λ f y later is t. holds (x ∷ f) y later (ap (λ l. x ∷ l) is) t))
+  where
+    by : (t : Bool) → test x xs ≡ t → All P (filter_by_later test xs) → All P (cond t (x ∷ filter_by_later test xs) (filter_by_later test xs))
+    by true is all = All-cons P x (filter_by_later test xs) (holds [] x xs refl is) all
+    by false is all = all

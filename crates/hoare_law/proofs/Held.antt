@@ -1,0 +1,223 @@
+-- Who has the turn, by the last event, and who waits meanwhile.
+use Rattle.std.proofs.Common.{◌≡◌, ◌≢◌, ◌==◌, ◌⊎◌, inl, inr, not, ℕ, List, [], ◌∷◌, ◌++◌, Bool, true, false, cond, Some, refl, ap, sym, ◌∙◌, eq-eqb}
+use Rattle.std.specs.List.{filter, list_all}
+use Rattle.std.proofs.lemmas.List.{append-nil}
+use Rattle.hoare_law.specs.declared.event.Event.{Event}
+use Rattle.hoare_law.specs.declared.event.Event.TheVariants.{Admit, Wait, Signal, Pass, Leave, Resume, Back}
+use Rattle.hoare_law.specs.declared.turn.Turn.{Turn}
+use Rattle.hoare_law.specs.declared.turn.Turn.TheVariants.{Free, Held, Owed, Return}
+use Rattle.hoare_law.specs.Events.{place_of, own, newest}
+use Rattle.hoare_law.specs.Waiting.{waits_on, concerns, waiting}
+use Rattle.hoare_law.specs.Turns.{is_signal, urgent, turn, turn_by, turn_given_up, is_out, outside}
+use Rattle.hoare_law.proofs.Events.{newest-push, own-push}
+use Rattle.hoare_law.proofs.Waiting.{waiting-push}
+use Rattle.hoare_law.proofs.Turns.{urgent-push, turn-push, outside-push}
+use Rattle.hoare_law.proofs.Filters.{HasLast, nothing, pushed, has_last, list_all-filter_own, list_all-same}
+
+-- the event brings its place inside
+abbrev pub brings_in : {S : Type 0} → Event S → Bool
+brings_in (Admit k s) = true
+brings_in (Resume k c s) = true
+brings_in (Back k s) = true
+brings_in _ = false
+
+-- the event hands the monitor to w, that waits on c: a signal or a pass
+abbrev pub hands_to : {S : Type 0} → ℕ → ℕ → Event S → Type 0
+hands_to w c (Signal k d v s) = (v ≡ w) × (d ≡ c)
+hands_to w c (Pass k d v s) = (v ≡ w) × (d ≡ c)
+hands_to w c _ = ⊥
+
+-- the event gives the monitor up to nobody in particular
+abbrev pub gives_up : {S : Type 0} → Event S → Bool
+gives_up (Wait k c p s) = true
+gives_up (Leave k s) = true
+gives_up _ = false
+
+not_held : (us : List ℕ) (k : ℕ) → turn_given_up us ≢ Held k
+not_held [] k e = cc
+not_held (u ∷ us) k e = cc
+
+not_owed : (us : List ℕ) (w c : ℕ) → turn_given_up us ≢ Owed w c
+not_owed [] w c e = cc
+not_owed (u ∷ us) w c e = cc
+
+returns_first : (us : List ℕ) (k : ℕ) → turn_given_up us ≡ Return k → (vs : List ℕ) × (us ≡ k ∷ vs)
+returns_first [] k e = absurd (cc)
+returns_first (u ∷ us) k e = (us, cc)
+
+module _ {S : Type 0} where
+  -- a history whose last event is e
+  abbrev pub Ends : List (Event S) → Event S → Type 0
+  Ends h e = (g : List (Event S)) × (h ≡ g ++ e ∷ [])
+
+  turn_by_last : (g : List (Event S)) (e : Event S) (h : List (Event S)) → h ≡ g ++ e ∷ [] → turn_by e (urgent h) ≡ turn h
+  turn_by_last g e h ends = ap (λ x. turn_by e (urgent x)) ends ∙ sym (turn-push g e) ∙ ap turn (sym ends)
+
+  -- the turn is what the last event makes it
+  turn_of_last : (h : List (Event S)) (t : Turn) → turn h ≡ t → t ≢ Free → (e : Event S) × Ends h e × (turn_by e (urgent h) ≡ t)
+  unfolding turn
+  turn_of_last h t is some = by (has_last h)
+    where
+      by : HasLast h → (e : Event S) × Ends h e × (turn_by e (urgent h) ≡ t)
+      by (nothing none) = absurd (some (sym is ∙ ap turn none))
+      by (pushed g e ends) = (e, (g, ends), turn_by_last g e h ends ∙ is)
+
+  held_by : (e : Event S) (us : List ℕ) (k : ℕ) → turn_by e us ≡ Held k → (brings_in e ≡ true) × (place_of e ≡ k)
+  held_by (Admit j s) us k t = (refl, cc)
+  held_by (Resume j c s) us k t = (refl, cc)
+  held_by (Back j s) us k t = (refl, cc)
+  held_by (Signal j c w s) us k t = absurd (cc)
+  held_by (Pass j c w s) us k t = absurd (cc)
+  held_by (Wait j c p s) us k t = absurd (not_held us k t)
+  held_by (Leave j s) us k t = absurd (not_held us k t)
+
+  -- the last event brought in the place whose turn it is
+  pub turn-held : (h : List (Event S)) (k : ℕ) → turn h ≡ Held k → (e : Event S) × Ends h e × (brings_in e ≡ true) × (place_of e ≡ k)
+  turn-held h k is =
+      let r : (e : Event S) × Ends h e × (turn_by e (urgent h) ≡ Held k) = turn_of_last h (Held k) is (λ e. cc) in
+      let b : (brings_in r.0 ≡ true) × (place_of r.0 ≡ k) = held_by r.0 (urgent h) k r.2 in
+      (r.0, r.1, b.0, b.1)
+
+  owed_by : (e : Event S) (us : List ℕ) (w c : ℕ) → turn_by e us ≡ Owed w c → hands_to w c e
+  owed_by (Admit j s) us w c t = absurd (cc)
+  owed_by (Resume j d s) us w c t = absurd (cc)
+  owed_by (Back j s) us w c t = absurd (cc)
+  owed_by (Signal j d v s) us w c t = (cc, cc)
+  owed_by (Pass j d v s) us w c t = (cc, cc)
+  owed_by (Wait j d p s) us w c t = absurd (not_owed us w c t)
+  owed_by (Leave j s) us w c t = absurd (not_owed us w c t)
+
+  -- the last event handed the monitor to whom it is owed
+  pub turn-owed : (h : List (Event S)) (w c : ℕ) → turn h ≡ Owed w c → (e : Event S) × Ends h e × hands_to w c e
+  turn-owed h w c is =
+      let r : (e : Event S) × Ends h e × (turn_by e (urgent h) ≡ Owed w c) = turn_of_last h (Owed w c) is (λ e. cc) in
+      (r.0, r.1, owed_by r.0 (urgent h) w c r.2)
+
+  return_by : (e : Event S) (us : List ℕ) (k : ℕ) → turn_by e us ≡ Return k → (gives_up e ≡ true) × (turn_given_up us ≡ Return k)
+  return_by (Admit j s) us k t = absurd (cc)
+  return_by (Resume j d s) us k t = absurd (cc)
+  return_by (Back j s) us k t = absurd (cc)
+  return_by (Signal j d v s) us k t = absurd (cc)
+  return_by (Pass j d v s) us k t = absurd (cc)
+  return_by (Wait j d p s) us k t = (refl, t)
+  return_by (Leave j s) us k t = (refl, t)
+
+  -- the last event gave the monitor up, and k is the first waiting signaller
+  pub turn-return : (h : List (Event S)) (k : ℕ) → turn h ≡ Return k → (e : Event S) × Ends h e × (gives_up e ≡ true) × (us : List ℕ) × (urgent h ≡ k ∷ us)
+  turn-return h k is =
+      let r : (e : Event S) × Ends h e × (turn_by e (urgent h) ≡ Return k) = turn_of_last h (Return k) is (λ e. cc) in
+      let g : (gives_up r.0 ≡ true) × (turn_given_up (urgent h) ≡ Return k) = return_by r.0 (urgent h) k r.2 in
+      let u : (us : List ℕ) × (urgent h ≡ k ∷ us) = returns_first (urgent h) k g.1 in
+      (r.0, r.1, g.0, u.0, u.1)
+
+  free_by : (e : Event S) (us : List ℕ) → turn_by e us ≡ Free → (gives_up e ≡ true) × (us ≡ [])
+  free_by (Admit j s) us t = absurd (cc)
+  free_by (Resume j d s) us t = absurd (cc)
+  free_by (Back j s) us t = absurd (cc)
+  free_by (Signal j d v s) us t = absurd (cc)
+  free_by (Pass j d v s) us t = absurd (cc)
+  free_by (Wait j d p s) [] t = (refl, refl)
+  free_by (Wait j d p s) (u ∷ us) t = absurd (cc)
+  free_by (Leave j s) [] t = (refl, refl)
+  free_by (Leave j s) (u ∷ us) t = absurd (cc)
+
+  -- nothing happened, or the last event gave the monitor up, where nobody's turn it is
+  pub turn-free : (h : List (Event S)) → turn h ≡ Free → (h ≡ []) ⊎ ((e : Event S) × Ends h e × (gives_up e ≡ true))
+  turn-free h is = by (has_last h)
+    where
+      by : HasLast h → (h ≡ []) ⊎ ((e : Event S) × Ends h e × (gives_up e ≡ true))
+      by (nothing none) = inl none
+      by (pushed g e ends) = inr (e, (g, ends), (free_by e (urgent h) (turn_by_last g e h ends ∙ is)).0)
+
+  -- no signaller waits where nobody's turn it is
+  pub urgent-free : (h : List (Event S)) → turn h ≡ Free → urgent h ≡ []
+  unfolding urgent
+  urgent-free h is = by (has_last h)
+    where
+      by : HasLast h → urgent h ≡ []
+      by (nothing none) = ap urgent none
+      by (pushed g e ends) = (free_by e (urgent h) (turn_by_last g e h ends ∙ is)).1
+
+  in_not_waiting : (e : Event S) (c : ℕ) → brings_in e ≡ true → waits_on c e ≡ false
+  in_not_waiting (Admit j s) c is = refl
+  in_not_waiting (Resume j d s) c is = refl
+  in_not_waiting (Back j s) c is = refl
+  in_not_waiting (Wait j d p s) c is = absurd (cc)
+  in_not_waiting (Signal j d v s) c is = refl
+  in_not_waiting (Pass j d v s) c is = refl
+  in_not_waiting (Leave j s) c is = refl
+
+  in_concerns_own : (e : Event S) (j : ℕ) → brings_in e ≡ true → concerns j e ≡ (place_of e == j)
+  in_concerns_own (Admit i s) j is = refl
+  in_concerns_own (Resume i d s) j is = refl
+  in_concerns_own (Back i s) j is = refl
+  in_concerns_own (Wait i d p s) j is = refl
+  in_concerns_own (Signal i d v s) j is = absurd (cc)
+  in_concerns_own (Pass i d v s) j is = absurd (cc)
+  in_concerns_own (Leave i s) j is = refl
+
+  in_no_signal : (e : Event S) → brings_in e ≡ true → is_signal e ≡ false
+  in_no_signal (Admit j s) is = refl
+  in_no_signal (Resume j d s) is = refl
+  in_no_signal (Back j s) is = refl
+  in_no_signal (Wait j d p s) is = refl
+  in_no_signal (Signal j d v s) is = absurd (cc)
+  in_no_signal (Pass j d v s) is = refl
+  in_no_signal (Leave j s) is = refl
+
+  in_not_out : (e : Event S) → brings_in e ≡ true → is_out (Some e) ≡ false
+  in_not_out (Admit j s) is = refl
+  in_not_out (Resume j d s) is = refl
+  in_not_out (Back j s) is = refl
+  in_not_out (Wait j d p s) is = refl
+  in_not_out (Signal j d v s) is = refl
+  in_not_out (Pass j d v s) is = absurd (cc)
+  in_not_out (Leave j s) is = absurd (cc)
+
+  -- one that is brought in waits nowhere
+  waiting-in : (g : List (Event S)) (e : Event S) (c : ℕ) → brings_in e ≡ true → list_all (λ x. not (place_of e == place_of x)) (waiting c (g ++ e ∷ [])) ≡ true
+  waiting-in g e c is =
+      let added : waiting c (g ++ e ∷ []) ≡ filter (λ x. not (concerns (place_of x) e)) (waiting c g) =
+      waiting-push c g e ∙ ap (λ b. filter (λ x. not (concerns (place_of x) e)) (waiting c g) ++ cond b (e ∷ []) []) (in_not_waiting e c is) ∙ append-nil _ in
+      list_all-same (λ x. not (place_of e == place_of x)) (λ x. not (concerns (place_of x) e)) (waiting c (g ++ e ∷ [])) (λ x. ap not (sym (in_concerns_own e (place_of x) is)))
+      ∙ ap (list_all (λ x. not (concerns (place_of x) e))) added
+      ∙ list_all-filter_own (λ x. not (concerns (place_of x) e)) (waiting c g)
+
+  -- the place whose turn it is waits nowhere
+  pub waiting-held : (h : List (Event S)) (k c : ℕ) → turn h ≡ Held k → list_all (λ x. not (k == place_of x)) (waiting c h) ≡ true
+  waiting-held h k c is =
+      let r : (e : Event S) × Ends h e × (brings_in e ≡ true) × (place_of e ≡ k) = turn-held h k is in
+      ap (λ j. list_all (λ x. not (j == place_of x)) (waiting c h)) (sym r.3)
+      ∙ ap (λ g. list_all (λ x. not (place_of r.0 == place_of x)) (waiting c g)) r.1.1
+      ∙ waiting-in r.1.0 r.0 c r.2
+
+  -- nor as a signaller
+  pub urgent-held : (h : List (Event S)) (k : ℕ) → turn h ≡ Held k → list_all (λ u. not (k == u)) (urgent h) ≡ true
+  urgent-held h k is =
+      let r : (e : Event S) × Ends h e × (brings_in e ≡ true) × (place_of e ≡ k) = turn-held h k is in
+      let added : urgent (r.1.0 ++ r.0 ∷ []) ≡ filter (λ u. not (place_of r.0 == u)) (urgent r.1.0) =
+      urgent-push r.1.0 r.0 ∙ ap (λ b. filter (λ u. not (place_of r.0 == u)) (urgent r.1.0) ++ cond b (place_of r.0 ∷ []) []) (in_no_signal r.0 r.2) ∙ append-nil _ in
+      ap (λ j. list_all (λ u. not (j == u)) (urgent h)) (sym r.3)
+      ∙ ap (λ g. list_all (λ u. not (place_of r.0 == u)) (urgent g)) r.1.1
+      ∙ ap (list_all (λ u. not (place_of r.0 == u))) added
+      ∙ list_all-filter_own (λ u. not (place_of r.0 == u)) (urgent r.1.0)
+
+  -- and is not outside
+  pub outside-held : (h : List (Event S)) (k : ℕ) → turn h ≡ Held k → outside k h ≡ false
+  outside-held h k is =
+      let r : (e : Event S) × Ends h e × (brings_in e ≡ true) × (place_of e ≡ k) = turn-held h k is in
+      ap (outside k) r.1.1
+      ∙ outside-push k r.1.0 r.0
+      ∙ ap (λ b. cond b (is_out (Some r.0)) (outside k r.1.0)) (eq-eqb (place_of r.0) k r.3)
+      ∙ in_not_out r.0 r.2
+
+  -- its own last event brought it in
+  pub own-held : (h : List (Event S)) (k : ℕ) → turn h ≡ Held k → (e : Event S) × (newest (own k h) ≡ Some e) × (brings_in e ≡ true)
+  own-held h k is =
+      let r : (e : Event S) × Ends h e × (brings_in e ≡ true) × (place_of e ≡ k) = turn-held h k is in
+      let last : own k h ≡ own k r.1.0 ++ r.0 ∷ [] = ap (own k) r.1.1 ∙ own-push k r.1.0 r.0 ∙ ap (λ b. own k r.1.0 ++ cond b (r.0 ∷ []) []) (eq-eqb (place_of r.0) k r.3) in
+      (r.0, ap newest last ∙ newest-push (own k r.1.0) r.0, r.2)
+
+  -- at most one place has the turn
+  pub held_one : (h : List (Event S)) (j k : ℕ) → turn h ≡ Held j → turn h ≡ Held k → j ≡ k
+  held_one h j k a b = let both : Held j ≡ Held k = sym a ∙ b in cc

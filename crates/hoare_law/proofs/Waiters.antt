@@ -1,0 +1,202 @@
+-- What is known of a process that waits, of the one that is chosen, and of a waiting signaller.
+use Rattle.std.proofs.Common.{◌≡◌, ◌≢◌, ◌==◌, ◌&&◌, ◌||◌, ◌<◌, ◌≤◌, not, ℕ, List, [], ◌∷◌, ◌++◌, length, Bool, true, false, cond, Some, refl, ap, sym, ◌∙◌, subst, arith, eq-eqb, eqb-true, ne_eqb, true≢false}
+use Rattle.std.specs.Prelude.{All}
+use Rattle.std.specs.List.{filter, list_all}
+use Rattle.std.proofs.lemmas.List.Elements.{All-head, All-weaker, All-map, filter-append}
+use Rattle.hoare_law.specs.declared.event.Event.{Event}
+use Rattle.hoare_law.specs.declared.event.History.{History}
+use Rattle.hoare_law.specs.declared.event.Event.TheVariants.{Admit, Wait, Signal, Pass, Leave, Resume, Back}
+use Rattle.hoare_law.specs.declared.turn.Turn.TheVariants.{Held, Owed, Return}
+use Rattle.hoare_law.specs.Events.{place_of, own, newest, cut_to}
+use Rattle.hoare_law.specs.Waiting.{filter_by_later, waits_on, concerns, is_untouched, is_least, waiting, chosen}
+use Rattle.hoare_law.specs.Turns.{is_signal, is_last_act, urgent, turn}
+use Rattle.hoare_law.specs.Legal.{IsInRange, IsLegal}
+use Rattle.hoare_law.proofs.Tests.{both_true}
+use Rattle.hoare_law.proofs.Events.{newest-push}
+use Rattle.hoare_law.proofs.Filters.{filter-none, list_all-at, list_all-from_All, All-find, find-passes, All-filter_by_later}
+use Rattle.hoare_law.proofs.Held.{brings_in, hands_to, turn-held, turn-owed, turn-return}
+
+negated : (b : Bool) → not b ≡ true → b ≡ false
+negated true e = absurd (cc)
+negated false e = refl
+
+first : (a b : Bool) → not (a || b) ≡ true → a ≡ false
+first true b e = absurd (cc)
+first false b e = refl
+
+-- an event that does not concern a place is not its own
+own_is_concerned : {S : Type 0} (e : Event S) (k : ℕ) → not (concerns k e) ≡ true → (place_of e == k) ≡ false
+own_is_concerned (Admit j s) k n = negated _ n
+own_is_concerned (Resume j c s) k n = negated _ n
+own_is_concerned (Back j s) k n = negated _ n
+own_is_concerned (Wait j c p s) k n = negated _ n
+own_is_concerned (Signal j c w s) k n = first _ _ n
+own_is_concerned (Pass j c w s) k n = first _ _ n
+own_is_concerned (Leave j s) k n = negated _ n
+
+swapped : (j k : ℕ) → (j == k) ≡ false → (k == j) ≡ false
+swapped j k e = ne_eqb k j (λ same. true≢false (sym (eq-eqb j k (sym same)) ∙ e))
+
+module _ {S : Type 0} where
+  -- x waits on c in h: it is a wait on c, and its place's last event
+  pub record Waits (c : ℕ) (h : List (Event S)) (x : Event S) : Type 0 where
+    pub on : waits_on c x ≡ true
+    pub last : newest (own (place_of x) h) ≡ Some x
+
+  own_none : (k : ℕ) (later : List (Event S)) → list_all (λ x. not (place_of x == k)) later ≡ true → own k later ≡ []
+  own_none k later a = filter-none (λ x. place_of x == k) later a
+
+  -- an event behind which its place does nothing is the place's last
+  newest-own_split : (f later : List (Event S)) (x : Event S) (h : List (Event S)) → h ≡ f ++ x ∷ later → list_all (λ y. not (place_of y == place_of x)) later ≡ true → newest (own (place_of x) h) ≡ Some x
+  newest-own_split f later x h is a =
+      let k : ℕ = place_of x in
+      let tail : own k (x ∷ later) ≡ x ∷ [] = ap (λ b. cond b (x ∷ own k later) (own k later)) (eq-eqb k k refl) ∙ ap (λ l. x ∷ l) (own_none k later a) in
+      let whole : own k h ≡ own k f ++ x ∷ [] = ap (own k) is ∙ filter-append (λ y. place_of y == k) f (x ∷ later) ∙ ap (λ l. own k f ++ l) tail in
+      ap newest whole ∙ newest-push (own k f) x
+
+  untouched_last : (k : ℕ) (later : List (Event S)) → list_all (λ y. not (concerns k y)) later ≡ true → list_all (λ y. not (place_of y == k)) later ≡ true
+  untouched_last k [] a = refl
+  untouched_last k (y ∷ later) a =
+      let b : (not (concerns k y) ≡ true) × (list_all (λ z. not (concerns k z)) later ≡ true) = both_true _ _ a in
+      rw (own_is_concerned y k b.0) (untouched_last k later b.1)
+
+  -- each that waits is its place's last event
+  pub All-waiting : (c : ℕ) (h : List (Event S)) → All (Waits c h) (waiting c h)
+  unfolding waiting
+  All-waiting c h = All-filter_by_later (Waits c h) (λ e later. waits_on c e && is_untouched e later) h
+      (λ f x later is t.
+      let b : (waits_on c x ≡ true) × (is_untouched x later ≡ true) = both_true _ _ t in
+      record { on = b.0; last = newest-own_split f later x h is (untouched_last (place_of x) later b.1) })
+
+  -- and each waiting signaller's last event is its signal
+  abbrev pub LastSignals : List (Event S) → ℕ → Type 0
+  LastSignals h k = (x : Event S) × (newest (own k h) ≡ Some x) × (is_signal x ≡ true)
+
+  -- so says each place that stands among the signallers
+  pub All-urgent : (h : List (Event S)) → All (LastSignals h) (urgent h)
+  unfolding urgent
+  All-urgent h = All-map (LastSignals h) place_of _ (All-filter_by_later (λ x. LastSignals h (place_of x)) (λ e later. is_signal e && is_last_act e later) h
+      (λ f x later is t.
+      let b : (is_signal x ≡ true) × (is_last_act x later ≡ true) = both_true _ _ t in
+      (x, newest-own_split f later x h is b.1, b.0)))
+
+  in_range_cut : (h : History S) (f : List (Event S)) (e : Event S) → IsInRange (cut_to h f) e → IsInRange h e
+  in_range_cut h f (Admit k s) r = r
+  in_range_cut h f (Wait k c p s) r = r
+  in_range_cut h f (Signal k c w s) r = r
+  in_range_cut h f (Pass k c w s) r = r
+  in_range_cut h f (Leave k s) r = r
+  in_range_cut h f (Resume k c s) r = r
+  in_range_cut h f (Back k s) r = r
+
+  -- wherever an event of a legal history stands, it is in range
+  pub in_range-at : (h : History S) (f later : List (Event S)) (e : Event S) → IsLegal h → h.events ≡ f ++ e ∷ later → IsInRange h e
+  in_range-at h f later e legal is = in_range_cut h f e (legal.each f later e is).in_range
+
+  -- of each kind that stands by what comes later
+  pub All-in_range : (h : History S) (test : Event S → List (Event S) → Bool) → IsLegal h → All (IsInRange h) (filter_by_later test h.events)
+  All-in_range h test legal = All-filter_by_later (IsInRange h) test h.events (λ f e later is t. in_range-at h f later e legal is)
+
+  -- the place of an event in range is a place of the monitor
+  pub place_in_range : (h : History S) (e : Event S) → IsInRange h e → place_of e < h.places
+  place_in_range h (Admit k s) r = r
+  place_in_range h (Wait k c p s) r = r.0
+  place_in_range h (Signal k c w s) r = r.0
+  place_in_range h (Pass k c w s) r = r.0
+  place_in_range h (Leave k s) r = r
+  place_in_range h (Resume k c s) r = r.0
+  place_in_range h (Back k s) r = r
+
+  hand_in_range : (h : History S) (e : Event S) (w c : ℕ) → hands_to w c e → IsInRange h e → (w < h.places) × (c < h.conditions)
+  hand_in_range h (Signal k d v s) w c is r = (subst (λ (i : ℕ). i < h.places) is.0 r.2, subst (λ (i : ℕ). i < h.conditions) is.1 r.1)
+  hand_in_range h (Pass k d v s) w c is r = (subst (λ (i : ℕ). i < h.places) is.0 r.2, subst (λ (i : ℕ). i < h.conditions) is.1 r.1)
+  hand_in_range h (Admit k s) w c is r = absurd is
+  hand_in_range h (Wait k d p s) w c is r = absurd is
+  hand_in_range h (Leave k s) w c is r = absurd is
+  hand_in_range h (Resume k d s) w c is r = absurd is
+  hand_in_range h (Back k s) w c is r = absurd is
+
+  -- who has the turn is a place of the monitor
+  pub held-in_range : (h : History S) (k : ℕ) → IsLegal h → turn h.events ≡ Held k → k < h.places
+  held-in_range h k legal is =
+      let r : (e : Event S) × ((g : List (Event S)) × (h.events ≡ g ++ e ∷ [])) × (brings_in e ≡ true) × (place_of e ≡ k) = turn-held h.events k is in
+      subst (λ (i : ℕ). i < h.places) r.3 (place_in_range h r.0 (in_range-at h r.1.0 [] r.0 legal r.1.1))
+
+  -- so are place and condition to which it is owed
+  pub owed-in_range : (h : History S) (w c : ℕ) → IsLegal h → turn h.events ≡ Owed w c → (w < h.places) × (c < h.conditions)
+  owed-in_range h w c legal is =
+      let r : (e : Event S) × ((g : List (Event S)) × (h.events ≡ g ++ e ∷ [])) × hands_to w c e = turn-owed h.events w c is in
+      hand_in_range h r.0 w c r.2 (in_range-at h r.1.0 [] r.0 legal r.1.1)
+
+  -- so are the waiting signallers
+  pub urgent-in_range : (h : History S) → IsLegal h → All (λ k. k < h.places) (urgent h.events)
+  unfolding urgent
+  urgent-in_range h legal = All-map (λ k. k < h.places) place_of _ (All-weaker (IsInRange h) (λ e. place_of e < h.places) (place_in_range h) _ (All-in_range h _ legal))
+
+  -- and the one that returns
+  pub return-in_range : (h : History S) (k : ℕ) → IsLegal h → turn h.events ≡ Return k → k < h.places
+  return-in_range h k legal is = let r = turn-return h.events k is in
+      All-head (λ (i : ℕ). i < h.places) k r.3 (subst (λ (us : List ℕ). All (λ (i : ℕ). i < h.places) us) r.4 (urgent-in_range h legal))
+
+  -- the last event of a place that returns is its signal
+  pub own-return : (h : List (Event S)) (k : ℕ) → turn h ≡ Return k → LastSignals h k
+  own-return h k is = let r = turn-return h k is in
+      All-head (LastSignals h) k r.3 (subst (λ (us : List ℕ). All (LastSignals h) us) r.4 (All-urgent h))
+
+  -- the chosen one waits
+  pub chosen-waits : (c : ℕ) (h : List (Event S)) (x : Event S) → chosen c h ≡ Some x → Waits c h x
+  unfolding chosen
+  chosen-waits c h x is = All-find (Waits c h) (is_least (waiting c h)) (waiting c h) x is (All-waiting c h)
+
+  -- and its wait is in range
+  pub chosen-in_range : (c : ℕ) (h : History S) (x : Event S) → IsLegal h → chosen c h.events ≡ Some x → IsInRange h x
+  unfolding chosen waiting
+  chosen-in_range c h x legal is = All-find (IsInRange h) (is_least (waiting c h.events)) (waiting c h.events) x is (All-in_range h (λ e later. waits_on c e && is_untouched e later) legal)
+
+  -- none that waits has a less priority
+  pub chosen-least : (c : ℕ) (h : List (Event S)) (x : Event S) → chosen c h ≡ Some x → is_least (waiting c h) x ≡ true
+  unfolding chosen
+  chosen-least c h x is = find-passes (is_least (waiting c h)) (waiting c h) x is
+
+  both_wait : (c d : ℕ) (x : Event S) → waits_on c x ≡ true → waits_on d x ≡ true → d ≡ c
+  both_wait c d (Wait k i p s) a b = sym (eqb-true i d b) ∙ eqb-true i c a
+  both_wait c d (Admit k s) a b = absurd (cc)
+  both_wait c d (Signal k i w s) a b = absurd (cc)
+  both_wait c d (Pass k i w s) a b = absurd (cc)
+  both_wait c d (Leave k s) a b = absurd (cc)
+  both_wait c d (Resume k i s) a b = absurd (cc)
+  both_wait c d (Back k s) a b = absurd (cc)
+
+  -- a place waits on one condition
+  pub waits_once : (c d : ℕ) (h : List (Event S)) (x y : Event S) → Waits c h x → Waits d h y → place_of x ≡ place_of y → d ≡ c
+  waits_once c d h x y a b same =
+      let one : x ≡ y = let e : Some x ≡ Some y = sym a.last ∙ ap (λ k. newest (own k h)) same ∙ b.last in cc in
+      both_wait c d y (ap (waits_on c) (sym one) ∙ a.on) b.on
+
+  -- whoever waits on c waits on no other condition
+  pub waiting-elsewhere : (c d : ℕ) (h : List (Event S)) (x : Event S) → d ≢ c → Waits c h x → list_all (λ y. not (place_of x == place_of y)) (waiting d h) ≡ true
+  waiting-elsewhere c d h x apart a = list_all-from_All (λ y. not (place_of x == place_of y)) (waiting d h)
+      (All-weaker (Waits d h) (λ y. not (place_of x == place_of y) ≡ true)
+      (λ y b. ap not (ne_eqb (place_of x) (place_of y) (λ same. apart (waits_once c d h x y a b same))))
+      (waiting d h) (All-waiting d h))
+
+  -- no place waits twice on a condition
+  pub waiting-once : (c w : ℕ) (h : List (Event S)) → length (filter (λ x. w == place_of x) (waiting c h)) ≤ 1
+  unfolding waiting
+  waiting-once c w [] = omega arith
+  waiting-once c w (x ∷ h) = by (waits_on c x && is_untouched x h) refl (waiting-once c w h)
+    where
+      own_apart : is_untouched x h ≡ true → list_all (λ y. not (place_of x == place_of y)) (waiting c h) ≡ true
+      own_apart a = list_all-from_All (λ y. not (place_of x == place_of y)) (waiting c h)
+          (All-filter_by_later (λ y. not (place_of x == place_of y) ≡ true) (λ e later. waits_on c e && is_untouched e later) h
+          (λ f y later is t. ap not (swapped (place_of y) (place_of x) (own_is_concerned y (place_of x) (list_all-at (λ z. not (concerns (place_of x) z)) f y later (ap (list_all (λ z. not (concerns (place_of x) z))) (sym is) ∙ a))))))
+
+      first_of : (t : Bool) → (w == place_of x) ≡ t → is_untouched x h ≡ true → length (filter (λ y. w == place_of y) (waiting c h)) ≤ 1 → length (cond t (x ∷ filter (λ y. w == place_of y) (waiting c h)) (filter (λ y. w == place_of y) (waiting c h))) ≤ 1
+      first_of true is a rest =
+          let none : filter (λ y. w == place_of y) (waiting c h) ≡ [] = filter-none (λ y. w == place_of y) (waiting c h) (ap (λ i. list_all (λ y. not (i == place_of y)) (waiting c h)) (eqb-true w (place_of x) is) ∙ own_apart a) in
+          rw none (omega arith)
+      first_of false is a rest = rest
+
+      by : (t : Bool) → (waits_on c x && is_untouched x h) ≡ t → length (filter (λ y. w == place_of y) (waiting c h)) ≤ 1 → length (filter (λ y. w == place_of y) (cond t (x ∷ waiting c h) (waiting c h))) ≤ 1
+      by true is rest = first_of (w == place_of x) refl (both_true _ _ is).1 rest
+      by false is rest = rest

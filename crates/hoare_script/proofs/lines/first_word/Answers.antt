@@ -1,0 +1,15 @@
+use Rattle.std.proofs.Common.{◌≡◌, ℕ, ◌+◌, ◌-◌, length, take, drop, List, ◌∷◌, ap, sym, ◌∙◌, arith, add-one, length-drop}
+use Rattle.hoare_script.specs.Lines.{words_of}
+use Rattle.hoare_script.proofs.Spelling.{slice_split-at_first, slice_split-whole, take-all}
+use Rattle.hoare_script.proofs.lines.first_word.Goals as goal
+
+pub returns-then-b-eq32 : goal.returns-then-b-eq32
+returns-then-b-eq32 c =
+    let line : List ℕ = c.args.line.now in
+    let i : ℕ = c.loop-i.i in
+    let rest : take (length line - (i + 1)) (drop (i + 1) line) ≡ drop (i + 1) line = take-all _ _ (omega (arith, length-drop (i + 1) line)) in
+    slice_split-at_first 32 line i c.loop-i.invariant c.loop-i-test.true c.if-b-eq32.true
+    ∙ ap (λ w. take i line ∷ words_of w) (sym (rest ∙ ap (λ n. drop n line) (add-one i)))
+
+pub returns : goal.returns
+returns c = slice_split-whole 32 c.args.line.now (λ k h. c.loop-i.invariant k (omega arith))

@@ -1,0 +1,99 @@
+-- The grammar: how a line spells a header or a command.
+use Rattle.std.specs.Prelude.{ℕ, ◌+◌, ◌*◌, ◌-◌, ◌^◌, ◌==◌, nat_lt, nat_le, Bool, true, false, not, ◌&&◌, if◌then◌else◌, List, [], ◌∷◌, Option, Some, None, codes}
+use Rattle.std.specs.List.{slice_split}
+use Rattle.std.specs.Str.{bytes_eq}
+use Rattle.wait_book.specs.declared.steps.Step.TheVariants.{Enter, Wait, Signal, Pass, Leave}
+use Rattle.hoare_script.specs.declared.lines.Command.{Command}
+use Rattle.hoare_script.specs.declared.lines.Command.TheVariants.{Do, Queue, First}
+use Rattle.hoare_script.specs.declared.lines.Header.{Header}
+
+abbrev pub is_space : ℕ → Bool
+is_space b = b == 32
+
+-- the words of a line, which single spaces part
+abbrev pub words_of : List ℕ → List (List ℕ)
+words_of line = slice_split is_space line
+
+abbrev pub is_digit : ℕ → Bool
+is_digit c = nat_le 48 c && nat_le c 57
+
+abbrev pub all_digits : List ℕ → Bool
+all_digits [] = true
+all_digits (c ∷ cs) = is_digit c && all_digits cs
+
+-- no digit is missing, and no leading 0 is in vain
+abbrev pub begins_well : List ℕ → Bool
+begins_well [] = false
+begins_well (c ∷ []) = true
+begins_well (c ∷ d ∷ ds) = not (c == 48)
+
+-- what digits stand for, after a number
+abbrev pub value_after : ℕ → List ℕ → ℕ
+value_after n [] = n
+value_after n (c ∷ cs) = value_after (10 * n + (c - 48)) cs
+
+-- digits that stand for a number of 64 bits
+unfoldable pub digits_of : List ℕ → Option ℕ
+digits_of w = if all_digits w && nat_lt (value_after 0 w) (2 ^ 64) then Some (value_after 0 w) else None
+
+-- a word that is a number
+unfoldable pub number_of : List ℕ → Option ℕ
+number_of w = if begins_well w then digits_of w else None
+
+-- what a number is used for, if there is one
+abbrev pub with_number : {X : Type 0} → Option ℕ → (ℕ → Option X) → Option X
+with_number None f = None
+with_number (Some n) f = f n
+
+-- a word and its numbers
+abbrev pub named_one : List ℕ → ℕ → Option Command
+named_one w n =
+    if bytes_eq w (codes "enter") then Some (Do (Enter n))
+    else (if bytes_eq w (codes "leave") then Some (Do (Leave n))
+    else (if bytes_eq w (codes "queue") then Some (Queue n)
+    else (if bytes_eq w (codes "first") then Some (First n) else None)))
+
+abbrev pub named_two : List ℕ → ℕ → ℕ → Option Command
+named_two w k c =
+    if bytes_eq w (codes "signal") then Some (Do (Signal k c))
+    else (if bytes_eq w (codes "pass") then Some (Do (Pass k c)) else None)
+
+abbrev pub named_three : List ℕ → ℕ → ℕ → ℕ → Option Command
+named_three w k c p = if bytes_eq w (codes "wait") then Some (Do (Wait k c p)) else None
+
+-- a command with one, two or three numbers
+abbrev pub command_of_one : List ℕ → List ℕ → Option Command
+command_of_one w a = with_number (number_of a) (named_one w)
+
+abbrev pub command_of_two : List ℕ → List ℕ → List ℕ → Option Command
+command_of_two w a b = with_number (number_of a) (λ k. with_number (number_of b) (named_two w k))
+
+abbrev pub command_of_three : List ℕ → List ℕ → List ℕ → List ℕ → Option Command
+command_of_three w a b p = with_number (number_of a) (λ k. with_number (number_of b) (λ c. with_number (number_of p) (named_three w k c)))
+
+abbrev pub command_of_words : List (List ℕ) → Option Command
+command_of_words [] = None
+command_of_words (w ∷ []) = None
+command_of_words (w ∷ a ∷ []) = command_of_one w a
+command_of_words (w ∷ a ∷ b ∷ []) = command_of_two w a b
+command_of_words (w ∷ a ∷ b ∷ p ∷ []) = command_of_three w a b p
+command_of_words (w ∷ a ∷ b ∷ p ∷ x ∷ xs) = None
+
+-- the command that a line spells
+unfoldable pub command_of : List ℕ → Option Command
+command_of line = command_of_words (words_of line)
+
+abbrev pub header_with : ℕ → ℕ → Option Header
+header_with p c = Some (record { places = p; conditions = c })
+
+abbrev pub header_of_words : List (List ℕ) → Option Header
+header_of_words [] = None
+header_of_words (w ∷ []) = None
+header_of_words (w ∷ a ∷ []) = None
+header_of_words (w ∷ a ∷ b ∷ []) =
+    if bytes_eq w (codes "monitor") then with_number (number_of a) (λ p. with_number (number_of b) (header_with p)) else None
+header_of_words (w ∷ a ∷ b ∷ p ∷ xs) = None
+
+-- the header that a line spells, with any numbers
+unfoldable pub header_of : List ℕ → Option Header
+header_of line = header_of_words (words_of line)

@@ -1,0 +1,142 @@
+-- What a script is answered: line by line, by the history that its commands make.
+use Rattle.std.specs.Prelude.{ℕ, ◌+◌, ◌==◌, nat_lt, Bool, true, false, if◌then◌else◌, List, [], ◌∷◌, ◌++◌, length, take, Option, Some, None, Result, Ok, Err}
+use Rattle.std.specs.List.{slice_split}
+use Rattle.hoare_law.specs.declared.event.Event.{Event}
+use Rattle.hoare_law.specs.declared.event.History.{History}
+use Rattle.hoare_law.specs.declared.turn.Turn.{Turn}
+use Rattle.hoare_law.specs.declared.turn.Turn.TheVariants as turns
+use Rattle.hoare_law.specs.Turns.{turn}
+use Rattle.hoare_law.specs.Waiting.{waiting, chosen, priority_of}
+use Rattle.wait_book.specs.declared.steps.Step.{Step}
+use Rattle.wait_book.specs.declared.steps.StepRefused.{StepRefused}
+use Rattle.wait_book.specs.declared.steps.MakeRefused.{MakeRefused}
+use Rattle.wait_book.specs.Contents.{make_refusal, unused}
+use Rattle.wait_book.specs.Stepping.{refusal_of, condition_refusal, after_step}
+use Rattle.hoare_script.specs.declared.fault.ScriptFault.{ScriptFault}
+use Rattle.hoare_script.specs.declared.fault.ScriptFault.TheVariants as faults
+use Rattle.hoare_script.specs.declared.lines.Header.{Header}
+use Rattle.hoare_script.specs.declared.lines.Command.{Command}
+use Rattle.hoare_script.specs.declared.lines.Command.TheVariants.{Do, Queue, First}
+use Rattle.hoare_script.specs.declared.answers.Answer.{Answer}
+use Rattle.hoare_script.specs.declared.answers.Answer.TheVariants.{Free, Inside, Waiting, Nobody, Priority, Refused}
+use Rattle.hoare_script.specs.Lines.{command_of, header_of}
+use Rattle.hoare_script.specs.Answers.{answer_line}
+use Rattle.hoare_script.specs.Streams.{is_newline}
+
+-- the place inside, or that the monitor is free
+abbrev pub turn_answer : Turn → Answer
+turn_answer turns.Free = Free
+turn_answer (turns.Held k) = Inside k
+turn_answer (turns.Owed k c) = Inside k
+turn_answer (turns.Return k) = Inside k
+
+-- a step's answer and the history after it, by what refuses it
+abbrev pub step_answer : History (Unit {0}) → Step → Option StepRefused → Answer
+step_answer h s None = turn_answer (turn (after_step h s).events)
+step_answer h s (Some r) = Refused r
+
+abbrev pub history_by : History (Unit {0}) → Step → Option StepRefused → History (Unit {0})
+history_by h s None = after_step h s
+history_by h s (Some r) = h
+
+abbrev pub is_nonempty : {X : Type 0} → List X → Bool
+is_nonempty [] = false
+is_nonempty (x ∷ xs) = true
+
+-- whether somebody waits on c
+abbrev pub queue_answer : History (Unit {0}) → ℕ → Option StepRefused → Answer
+queue_answer h c None = Waiting (is_nonempty (waiting c h.events))
+queue_answer h c (Some r) = Refused r
+
+abbrev pub priority_answer : Option (Event (Unit {0})) → Answer
+priority_answer None = Nobody
+priority_answer (Some e) = Priority (priority_of e)
+
+-- the priority of whom a signal on c would resume
+abbrev pub first_answer : History (Unit {0}) → ℕ → Option StepRefused → Answer
+first_answer h c None = priority_answer (chosen c h.events)
+first_answer h c (Some r) = Refused r
+
+-- what a command is answered where h happened, and what then happened
+unfoldable pub answer_to : History (Unit {0}) → Command → Answer
+answer_to h (Do s) = step_answer h s (refusal_of h s)
+answer_to h (Queue c) = queue_answer h c (condition_refusal h c)
+answer_to h (First c) = first_answer h c (condition_refusal h c)
+
+unfoldable pub history_after : History (Unit {0}) → Command → History (Unit {0})
+history_after h (Do s) = history_by h s (refusal_of h s)
+history_after h (Queue c) = h
+history_after h (First c) = h
+
+-- how far a script is: before its header, or where a history happened
+pub data State : Type 0 where
+  Start : State
+  Running : (history : History (Unit {0})) → State
+
+-- what one line writes, and how the script goes on; or its fault
+abbrev pub Outcome : Type 0
+Outcome = Result (List ℕ × State) ScriptFault
+
+abbrev pub opened_by : ℕ → Header → Option MakeRefused → Outcome
+opened_by i h None = Ok ([], Running (unused h.places h.conditions))
+opened_by i h (Some r) = Err (faults.BadHeader i)
+
+abbrev pub header_line : ℕ → Option Header → Outcome
+header_line i None = Err (faults.BadHeader i)
+header_line i (Some h) = opened_by i h (make_refusal h.places h.conditions)
+
+abbrev pub command_line : History (Unit {0}) → ℕ → List ℕ → Option Command → Outcome
+command_line h i line None = Err (faults.BadLine i)
+command_line h i line (Some c) = Ok (answer_line line (answer_to h c), Running (history_after h c))
+
+-- the line with number i
+unfoldable pub one_line : State → ℕ → List ℕ → Outcome
+one_line Start i line = header_line i (header_of line)
+one_line (Running h) i line = command_line h i line (command_of line)
+
+-- what is written, and the fault that ends it, if one does
+pub record Told : Type 0 where
+  pub written : List ℕ
+  pub fault : Option ScriptFault
+
+abbrev pub stop : ScriptFault → Told
+stop f = record { written = []; fault = Some f }
+
+abbrev pub done : Told
+done = record { written = []; fault = None }
+
+abbrev pub prepend : List ℕ → Told → Told
+prepend w t = record { written = w ++ t.written; fault = t.fault }
+
+abbrev pub then_on : Outcome → (State → Told) → Told
+then_on (Err f) go = stop f
+then_on (Ok w) go = prepend w.0 (go w.1)
+
+-- what comes of the bytes after the last whole line, which has number i
+abbrev pub Ending : Type 0
+Ending = State → ℕ → List ℕ → Told
+
+-- the input ends there
+abbrev pub at_end : Ending
+at_end s i [] = if i == 1 then stop faults.NoHeader else done
+at_end s i (b ∷ bs) = then_on (one_line s i (b ∷ bs)) (λ _. done)
+
+-- a read fails there
+abbrev pub at_cut : Ending
+at_cut s i last = stop faults.ReadFault
+
+-- whole lines, and what follows them; over: there are bytes past the limit
+abbrev pub told_lines : Ending → Bool → State → ℕ → List (List ℕ) → Told
+told_lines e over s i [] = done
+told_lines e over s i (last ∷ []) =
+    if nat_lt 256 (length last) then stop (faults.LineTooLong i) else (if over then stop faults.TooMuch else e s i last)
+told_lines e over s i (line ∷ next ∷ lines) =
+    if nat_lt 256 (length line) then stop (faults.LineTooLong i) else then_on (one_line s i line) (λ t. told_lines e over t (i + 1) (next ∷ lines))
+
+-- from line i on, with room for so many bytes
+unfoldable pub told_from : Ending → State → ℕ → ℕ → List ℕ → Told
+told_from e s i room text = told_lines e (nat_lt room (length text)) s i (slice_split is_newline (take room text))
+
+-- what a script writes, and its fault
+abbrev pub told : Ending → List ℕ → Told
+told e text = told_from e Start 1 1048576 text

@@ -1,0 +1,46 @@
+ghost use Rattle.std.specs.Prelude.{◌≡◌};
+ghost use Rattle.hoare_script.specs.Status.{status_of};
+
+use thiserror::Error;
+
+/// Why a script ends early. A fault stands at a byte of the input, and the earliest is answered. Lines are counted from 1,
+/// the header's.
+#[derive(Clone, Copy, Debug, PartialEq, Eq, Error)]
+pub enum ScriptFault {
+    /// The input is empty.
+    #[error("fault 1 NoHeader")]
+    NoHeader,
+    /// A line after the first has none of the forms of a command.
+    #[error("fault 2 BadLine line {0}")]
+    BadLine(u64),
+    /// The first line isn't `monitor P C` with 1 to 64 places and 1 to 8 conditions.
+    #[error("fault 3 BadHeader line {0}")]
+    BadHeader(u64),
+    /// A read failed. The unfinished line before it isn't answered.
+    #[error("fault 4 ReadFault")]
+    ReadFault,
+    /// A write failed, or took no bytes.
+    #[error("fault 5 WriteFault")]
+    WriteFault,
+    /// There is no memory for the book. Nothing is written.
+    #[error("fault 6 Memory")]
+    Memory,
+    /// A line has over 256 bytes, its end not counted.
+    #[error("fault 7 LineTooLong line {0}")]
+    LineTooLong(u64),
+    /// The input has over 1,048,576 bytes.
+    #[error("fault 8 TooMuch")]
+    TooMuch,
+}
+
+impl ScriptFault {
+    /// The exit status of a program that the fault ends: 3 where a read, a write or memory failed, else 2.
+    pub fn status(&self) -> u8
+        ensures { result ≡ status_of self.now }
+    {
+        match self {
+            ScriptFault::ReadFault | ScriptFault::WriteFault | ScriptFault::Memory => 3,
+            _ => 2,
+        }
+    }
+}

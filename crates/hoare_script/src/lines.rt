@@ -1,0 +1,167 @@
+//! How a line spells a header or a command.
+ghost use Rattle.std.specs.Prelude.{◌≡◌};
+ghost use Rattle.hoare_script.specs.Lines.{begins_well, command_of, command_of_one, command_of_three, command_of_two, digits_of, header_of, number_of, words_of};
+ghost use Rattle.hoare_script.specs.Words.{words_from};
+
+use wait_book::steps::Step;
+
+/// The first line of a script: so many places, and so many conditions.
+#[derive(Clone, Copy, Debug, PartialEq, Eq)]
+pub struct Header {
+    pub places: u64,
+    pub conditions: u64,
+}
+
+/// What a later line asks.
+#[derive(Clone, Copy, Debug, PartialEq, Eq)]
+pub enum Command {
+    /// A step of a place, which changes the book.
+    Do(Step),
+    /// Whether somebody waits on a condition (Hoare's `queue`).
+    Queue(u64),
+    /// The priority of the process that a signal on a condition would resume.
+    First(u64),
+}
+
+// The first word of a line, and what follows its space.
+fn first_word(line: &[u8]) -> (&[u8], Option<&[u8]>)
+    ensures { words_of line.now ≡ words_from result.0 result.1 }
+{
+    for (i, b) in line.iter().enumerate() {
+        if *b == b' ' {
+            return (&line[..i], Some(&line[i + 1..]));
+        }
+    }
+    (line, None)
+}
+
+// What digits stand for, if they are digits and it has 64 bits.
+fn digits(word: &[u8]) -> Option<u64>
+    ensures { result ≡ digits_of word.now }
+{
+    let mut value: u64 = 0;
+    for b in word {
+        if *b < b'0' || *b > b'9' {
+            return None;
+        }
+        let Some(tens) = value.checked_mul(10) else {
+            return None;
+        };
+        let Some(more) = tens.checked_add((*b - b'0') as u64) else {
+            return None;
+        };
+        value = more;
+    }
+    Some(value)
+}
+
+// No digit is missing, and no leading 0 is in vain.
+fn begins_well(word: &[u8]) -> bool
+    ensures { result ≡ begins_well word.now }
+{
+    match word {
+        [] => false,
+        [_] => true,
+        [first, ..] => *first != b'0',
+    }
+}
+
+// A word that is a number.
+#[tactic(auto, unfolding(crate::specs::Lines::number_of))]
+fn number(word: &[u8]) -> Option<u64>
+    ensures { result ≡ number_of word.now }
+{
+    if begins_well(word) {
+        digits(word)
+    } else {
+        None
+    }
+}
+
+// A command with one number.
+fn with_one(word: &[u8], first: &[u8]) -> Option<Command>
+    ensures { result ≡ command_of_one word.now first.now }
+{
+    let n = number(first)?;
+    if word == b"enter".as_slice() {
+        return Some(Command::Do(Step::Enter(n)));
+    }
+    if word == b"leave".as_slice() {
+        return Some(Command::Do(Step::Leave(n)));
+    }
+    if word == b"queue".as_slice() {
+        return Some(Command::Queue(n));
+    }
+    if word == b"first".as_slice() {
+        return Some(Command::First(n));
+    }
+    None
+}
+
+// A command with two numbers.
+fn with_two(word: &[u8], first: &[u8], second: &[u8]) -> Option<Command>
+    ensures { result ≡ command_of_two word.now first.now second.now }
+{
+    let place = number(first)?;
+    let condition = number(second)?;
+    if word == b"signal".as_slice() {
+        return Some(Command::Do(Step::Signal(place, condition)));
+    }
+    if word == b"pass".as_slice() {
+        return Some(Command::Do(Step::Pass(place, condition)));
+    }
+    None
+}
+
+// The command with three numbers.
+fn with_three(word: &[u8], first: &[u8], second: &[u8], third: &[u8]) -> Option<Command>
+    ensures { result ≡ command_of_three word.now first.now second.now third.now }
+{
+    let place = number(first)?;
+    let condition = number(second)?;
+    let priority = number(third)?;
+    if word == b"wait".as_slice() {
+        return Some(Command::Do(Step::Wait(place, condition, priority)));
+    }
+    None
+}
+
+/// The command that a line spells.
+#[tactic(auto, unfolding(crate::specs::Lines::command_of))]
+pub fn parse_command(line: &[u8]) -> Option<Command>
+    ensures { result ≡ command_of line.now }
+{
+    let (word, rest) = first_word(line);
+    let (first, rest) = first_word(rest?);
+    let Some(rest) = rest else {
+        return with_one(word, first);
+    };
+    let (second, rest) = first_word(rest);
+    let Some(rest) = rest else {
+        return with_two(word, first, second);
+    };
+    let (third, rest) = first_word(rest);
+    if let Some(_) = rest {
+        return None;
+    }
+    with_three(word, first, second, third)
+}
+
+/// The header that a line spells, with any numbers.
+#[tactic(auto, unfolding(crate::specs::Lines::header_of))]
+pub fn parse_header(line: &[u8]) -> Option<Header>
+    ensures { result ≡ header_of line.now }
+{
+    let (word, rest) = first_word(line);
+    let (first, rest) = first_word(rest?);
+    let (second, rest) = first_word(rest?);
+    if let Some(_) = rest {
+        return None;
+    }
+    if word != b"monitor".as_slice() {
+        return None;
+    }
+    let places = number(first)?;
+    let conditions = number(second)?;
+    Some(Header { places, conditions })
+}

@@ -1,0 +1,167 @@
+//! A whole script.
+ghost use Rattle.std.specs.Prelude.{◌≡◌, ◌≢◌, ◌≤◌, ◌||◌, [], length, false, IfSome, IsOkAnd, MatchResult, None, Some, Ok, Err, OnOk, ◌⊎◌};
+ghost use Rattle.hoare_law.specs.declared.event.History.{History};
+ghost use Rattle.wait_book.specs.Contents.{IsOf};
+ghost use Rattle.hoare_script.specs.Answering.{Follows, Stands};
+ghost use Rattle.hoare_script.specs.Lines.{command_of, header_of};
+ghost use Rattle.hoare_script.specs.Marks.{is_read_fault, is_write_fault};
+ghost use Rattle.hoare_script.specs.Runs.{Tells};
+ghost use Rattle.hoare_script.specs.Scripts.{Start, State, command_line, header_line, one_line};
+
+use crate::answers::answer_line;
+use crate::fault::ScriptFault;
+use crate::lines::{parse_command, parse_header};
+use crate::opened::Opened;
+use crate::streams::{Ended, LineFault, WatchedReader, WatchedWriter, read_line, write_whole};
+use arrayvec::ArrayVec;
+use std::alloc::Global;
+use std::io::{Read, Write};
+use wait_book::steps::MakeRefused;
+
+/// Reads a script and writes the answer to each line after the header, before it answers the next. A fault ends it: its
+/// answer is the earliest of the text, unless a read, a write or memory fails first. It reads at most 1,048,577 bytes. An
+/// interrupted read or write counts as failed, and nothing is flushed.
+pub fn run<R: Read, W: Write>(
+    alloc: Global,
+    reader: &mut R,
+    writer: &mut W,
+) -> Result<(), ScriptFault>
+    ensures told { IfSome (R.remaining reader.old) (λ text.
+        Tells text (R.remaining reader.new) (W.contents writer.old) (W.contents writer.new) result) }
+{
+    let mut watched_reader = WatchedReader::new(reader);
+    let mut watched_writer = WatchedWriter::new(writer);
+    run_watched(alloc, &mut watched_reader, &mut watched_writer)
+}
+
+/// `run`, with a reader and a writer that remember whether they failed: `ReadFault` is answered exactly where a read failed,
+/// and `WriteFault` exactly where a write failed or took no bytes.
+pub fn run_watched<R: Read, W: Write>(
+    alloc: Global,
+    reader: &mut WatchedReader<'_, R>,
+    writer: &mut WatchedWriter<'_, W>,
+) -> Result<(), ScriptFault>
+    ensures told { IfSome (R.remaining reader.old.inner.now) (λ text.
+        Tells text (R.remaining reader.new.inner.now) (W.contents writer.old.inner.now) (W.contents writer.new.inner.now) result) }
+    ensures read_fault { reader.new.failed ≡ (reader.old.failed || is_read_fault result) }
+    ensures write_fault { writer.new.failed ≡ (writer.old.failed || is_write_fault result) }
+    ensures same_reader { reader.new.inner.ghost_name ≡ reader.old.inner.ghost_name }
+    ensures same_writer { writer.new.inner.ghost_name ≡ writer.old.inner.ghost_name }
+{
+    let mut opened = None;
+    answer_lines(alloc, reader, writer, &mut opened)
+}
+
+// The lines of a script, of which none was read yet.
+fn answer_lines<R: Read, W: Write>(
+    alloc: Global,
+    reader: &mut WatchedReader<'_, R>,
+    writer: &mut WatchedWriter<'_, W>,
+    opened: &mut Option<Opened>,
+) -> Result<(), ScriptFault>
+    requires { opened.old ≡ None }
+    ensures told { IfSome (R.remaining reader.old.inner.now) (λ text.
+        Tells text (R.remaining reader.new.inner.now) (W.contents writer.old.inner.now) (W.contents writer.new.inner.now) result) }
+    ensures read_fault { reader.new.failed ≡ (reader.old.failed || is_read_fault result) }
+    ensures write_fault { writer.new.failed ≡ (writer.old.failed || is_write_fault result) }
+    ensures same_reader { reader.new.inner.ghost_name ≡ reader.old.inner.ghost_name }
+    ensures same_writer { writer.new.inner.ghost_name ≡ writer.old.inner.ghost_name }
+{
+    let mut line = ArrayVec::new();
+    let mut room: usize = 1_048_576;
+    let mut number: u64 = 1;
+    'lines: loop {
+        match read_line(reader, &mut line, room) {
+            Err(LineFault::Failed) => return Err(ScriptFault::ReadFault),
+            Err(LineFault::TooLong) => return Err(ScriptFault::LineTooLong(number)),
+            Err(LineFault::TooMuch) => return Err(ScriptFault::TooMuch),
+            Ok(Ended::Last) => {
+                if !line.is_empty() {
+                    return one_line(alloc, writer, opened, number, line.as_slice());
+                }
+                if number == 1 {
+                    return Err(ScriptFault::NoHeader);
+                }
+                return Ok(());
+            }
+            Ok(Ended::Line) => {
+                if let Err(fault) = one_line(alloc, writer, opened, number, line.as_slice()) {
+                    return Err(fault);
+                }
+                room -= line.len() + 1;
+                number += 1;
+            }
+        }
+    }
+}
+
+// The line with a number. Only a header takes memory.
+fn one_line<W: Write>(
+    alloc: Global,
+    writer: &mut WatchedWriter<'_, W>,
+    opened: &mut Option<Opened>,
+    number: u64,
+    line: &[u8],
+) -> Result<(), ScriptFault>
+    requires { length line.now ≤ 256 }
+    ensures of { (s : State) → Stands opened.old s → Follows (one_line s number line.now)
+        (W.contents writer.old.inner.now) (W.contents writer.new.inner.now) opened.new result }
+    ensures opened { OnOk result (opened.new ≢ None) }
+    ensures memory { (s : State) → Stands opened.old s → result ≡ Err ScriptFault.Memory → s ≡ Start }
+    ensures no_read { is_read_fault result ≡ false }
+    ensures write_fault { writer.new.failed ≡ (writer.old.failed || is_write_fault result) }
+    ensures same_writer { writer.new.inner.ghost_name ≡ writer.old.inner.ghost_name }
+{
+    match opened {
+        Some(monitor) => command_line(writer, monitor, number, line),
+        None => match header_line(alloc, number, line) {
+            Ok(monitor) => {
+                *opened = Some(monitor);
+                Ok(())
+            }
+            Err(fault) => Err(fault),
+        },
+    }
+}
+
+// Opens a book by a header.
+fn header_line(alloc: Global, number: u64, line: &[u8]) -> Result<Opened, ScriptFault>
+    ensures { MatchResult result
+        (λ b. IsOkAnd (header_line number (header_of line.now)) (λ p. (p.0 ≡ []) × Stands (Some b) p.1))
+        (λ f. (f ≡ ScriptFault.Memory) ⊎ ((header_line number (header_of line.now) ≡ Err f) × (f ≡ ScriptFault.BadHeader number))) }
+{
+    let Some(header) = parse_header(line) else {
+        return Err(ScriptFault::BadHeader(number));
+    };
+    match Opened::make(alloc, header) {
+        Ok(monitor) => Ok(monitor),
+        Err(MakeRefused::Memory) => Err(ScriptFault::Memory),
+        Err(_) => Err(ScriptFault::BadHeader(number)),
+    }
+}
+
+// Does what a line asks, and writes the answer.
+fn command_line<W: Write>(
+    writer: &mut WatchedWriter<'_, W>,
+    opened: &mut Opened,
+    number: u64,
+    line: &[u8],
+) -> Result<(), ScriptFault>
+    requires { length line.now ≤ 256 }
+    ensures of { (h : History (Unit {0})) → IsOf opened.old h → Follows (command_line h number line.now (command_of line.now))
+        (W.contents writer.old.inner.now) (W.contents writer.new.inner.now) (Some opened.new) result }
+    ensures no_memory { result ≢ Err ScriptFault.Memory }
+    ensures no_read { is_read_fault result ≡ false }
+    ensures write_fault { writer.new.failed ≡ (writer.old.failed || is_write_fault result) }
+    ensures same_writer { writer.new.inner.ghost_name ≡ writer.old.inner.ghost_name }
+{
+    let Some(command) = parse_command(line) else {
+        return Err(ScriptFault::BadLine(number));
+    };
+    let answer = opened.answer(command);
+    let text = answer_line(line, answer);
+    match write_whole(writer, text.as_slice()) {
+        Ok(()) => Ok(()),
+        Err(_) => Err(ScriptFault::WriteFault),
+    }
+}

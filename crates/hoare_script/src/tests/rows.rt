@@ -1,0 +1,190 @@
+// Each row is a line with its answer, as it is written.
+use super::told;
+use crate::ScriptFault;
+use std::io::Write;
+use std::process::Abort;
+use std::test::Fail;
+
+// Runs the script of a header and of the rows' lines, whose answers are the rows.
+fn check<R: Abort + AllocGlobal>(rt: &R, header: &str, rows: &[&str]) -> Result<(), Fail> {
+    let mut script = Vec::new(rt.alloc());
+    let mut answers = Vec::new(rt.alloc());
+    writeln!(script, "{header}")?;
+    for row in rows {
+        let (line, _) = row.split_once(" -> ").ok_or("a row without an answer")?;
+        writeln!(script, "{line}")?;
+        writeln!(answers, "{row}")?;
+    }
+    let (result, written) = told(rt.alloc(), script.as_slice());
+    assert_eq!(rt; result, Ok(()));
+    assert_eq!(rt; written.as_slice(), answers.as_slice());
+    Ok(())
+}
+
+#[test]
+fn enter_and_leave(rt: HostRuntime) -> Result<(), Fail> {
+    check(&rt, "monitor 1 1", &["enter 0 -> 0", "leave 0 -> free"])
+}
+
+#[test]
+fn signal_nobody(rt: HostRuntime) -> Result<(), Fail> {
+    let rows = [
+        "enter 0 -> 0",
+        "signal 0 0 -> 0",
+        "queue 0 -> false",
+        "first 0 -> none",
+    ];
+    check(&rt, "monitor 1 1", &rows)
+}
+
+#[test]
+fn hand_over(rt: HostRuntime) -> Result<(), Fail> {
+    let rows = [
+        "enter 0 -> 0",
+        "wait 0 0 0 -> free",
+        "enter 1 -> 1",
+        "signal 1 0 -> 0",
+        "leave 0 -> 1",
+        "leave 1 -> free",
+    ];
+    check(&rt, "monitor 2 1", &rows)
+}
+
+#[test]
+fn signaller_before_newcomer(rt: HostRuntime) -> Result<(), Fail> {
+    let rows = [
+        "enter 0 -> 0",
+        "wait 0 0 0 -> free",
+        "enter 1 -> 1",
+        "signal 1 0 -> 0",
+        "enter 2 -> refused 2",
+        "leave 0 -> 1",
+        "enter 2 -> refused 2",
+        "leave 1 -> free",
+        "enter 2 -> 2",
+    ];
+    check(&rt, "monitor 3 1", &rows)
+}
+
+#[test]
+fn least_priority_longest_waiting(rt: HostRuntime) -> Result<(), Fail> {
+    let rows = [
+        "enter 0 -> 0",
+        "wait 0 0 5 -> free",
+        "enter 1 -> 1",
+        "wait 1 0 3 -> free",
+        "enter 2 -> 2",
+        "wait 2 0 3 -> free",
+        "enter 3 -> 3",
+        "queue 0 -> true",
+        "first 0 -> 3",
+        "signal 3 0 -> 1",
+        "leave 1 -> 3",
+        "signal 3 0 -> 2",
+        "leave 2 -> 3",
+        "signal 3 0 -> 0",
+        "leave 0 -> 3",
+        "leave 3 -> free",
+    ];
+    check(&rt, "monitor 4 1", &rows)
+}
+
+#[test]
+fn two_signallers_in_turn(rt: HostRuntime) -> Result<(), Fail> {
+    let rows = [
+        "enter 0 -> 0",
+        "wait 0 0 0 -> free",
+        "enter 1 -> 1",
+        "wait 1 1 0 -> free",
+        "enter 2 -> 2",
+        "signal 2 0 -> 0",
+        "signal 0 1 -> 1",
+        "leave 1 -> 2",
+        "leave 2 -> 0",
+        "leave 0 -> free",
+    ];
+    check(&rt, "monitor 3 2", &rows)
+}
+
+#[test]
+fn wait_lets_signaller_return(rt: HostRuntime) -> Result<(), Fail> {
+    let rows = [
+        "enter 0 -> 0",
+        "wait 0 0 0 -> free",
+        "enter 1 -> 1",
+        "signal 1 0 -> 0",
+        "wait 0 0 0 -> 1",
+        "leave 1 -> free",
+        "enter 0 -> refused 3",
+    ];
+    check(&rt, "monitor 2 1", &rows)
+}
+
+// The greatest number is a priority, and the next one is none.
+#[test]
+fn greatest_priority(rt: HostRuntime) -> Result<(), Fail> {
+    let script =
+        b"monitor 3 1\nenter 0\nwait 0 0 18446744073709551615\nenter 1\nwait 1 0 0\nenter 2\nsignal 2 0\nwait 1 0 18446744073709551616\n";
+    let answers =
+        b"enter 0 -> 0\nwait 0 0 18446744073709551615 -> free\nenter 1 -> 1\nwait 1 0 0 -> free\nenter 2 -> 2\nsignal 2 0 -> 1\n";
+    let (result, written) = told(rt.alloc(), script);
+    assert_eq!(rt; result, Err(ScriptFault::BadLine(8)));
+    assert_eq!(rt; written.as_slice(), answers.as_slice());
+    Ok(())
+}
+
+#[test]
+fn refusals_in_order(rt: HostRuntime) -> Result<(), Fail> {
+    let rows = [
+        "wait 0 0 0 -> refused 4",
+        "enter 1 -> refused 1",
+        "enter 0 -> 0",
+        "enter 0 -> refused 2",
+        "wait 0 1 0 -> refused 5",
+        "queue 1 -> refused 5",
+        "wait 0 0 0 -> free",
+    ];
+    check(&rt, "monitor 1 1", &rows)
+}
+
+#[test]
+fn pass_and_leave(rt: HostRuntime) -> Result<(), Fail> {
+    let rows = [
+        "enter 0 -> 0",
+        "wait 0 0 0 -> free",
+        "enter 1 -> 1",
+        "pass 1 0 -> 0",
+        "leave 0 -> free",
+        "enter 1 -> 1",
+        "pass 1 0 -> free",
+    ];
+    check(&rt, "monitor 2 1", &rows)
+}
+
+// Places 0 to 62 wait with priorities 62 to 0, and the last place resumes them from 62 down to 0.
+#[test]
+fn sixty_three_priorities(rt: HostRuntime) -> Result<(), Fail> {
+    let mut script = Vec::new(rt.alloc());
+    let mut answers = Vec::new(rt.alloc());
+    writeln!(script, "monitor 64 8")?;
+    for place in 0..63u64 {
+        let priority = 62 - place;
+        writeln!(script, "enter {place}\nwait {place} 0 {priority}")?;
+        writeln!(
+            answers,
+            "enter {place} -> {place}\nwait {place} 0 {priority} -> free"
+        )?;
+    }
+    writeln!(script, "enter 63")?;
+    writeln!(answers, "enter 63 -> 63")?;
+    for place in (0..63u64).rev() {
+        writeln!(script, "signal 63 0\nleave {place}")?;
+        writeln!(answers, "signal 63 0 -> {place}\nleave {place} -> 63")?;
+    }
+    writeln!(script, "leave 63")?;
+    writeln!(answers, "leave 63 -> free")?;
+    let (result, written) = told(rt.alloc(), script.as_slice());
+    assert_eq!(rt; result, Ok(()));
+    assert_eq!(rt; written.as_slice(), answers.as_slice());
+    Ok(())
+}

@@ -1,0 +1,3 @@
+pub mod SingleSteps
+pub mod Ring
+pub mod BufferSteps

@@ -1,0 +1,5 @@
+pub mod Singles
+pub mod SingleTraces
+pub mod Buffers
+pub mod BufferTraces
+pub mod Ring

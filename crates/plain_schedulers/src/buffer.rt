@@ -1,0 +1,136 @@
+mod ring;
+
+ghost use Rattle.std.specs.Prelude.{◌≡◌, ◌<◌, ℕ, IfOk};
+ghost use Rattle.hoare_law.specs.Priorities.{nobody};
+ghost use Rattle.plain_schedulers.specs.Buffers.{BufferRests, Makes};
+ghost use Rattle.plain_schedulers.specs.BufferTraces.{Appends, Removes};
+
+use crate::buffer::ring::empty_cells;
+use hoare_law::data::MonitorData;
+use hoare_law::monitor::Monitor;
+use hoare_law::waits::Waits;
+use std::alloc::Global;
+use std::marker::Model;
+use std::sync::Wait;
+
+/// The most cells that a buffer has.
+pub const MOST_CELLS: usize = 4096;
+
+/// Why no buffer was made.
+#[derive(Clone, Copy, Debug, PartialEq, Eq, thiserror::Error)]
+pub enum BufferRefused {
+    #[error("a buffer has 1 to 4096 cells")]
+    BadSize,
+    #[error("out of memory")]
+    Memory,
+}
+
+/// A bounded buffer ("Monitors", Example: Bounded Buffer): items come out in the order in which they went in. Condition 0 is *nonempty*,
+/// condition 1 is *nonfull*. `last` is the cell that the next item goes in, and the items lie in the `count` cells before it,
+/// around the end.
+#[derive(Drop)]
+pub struct Buffer<T> {
+    cells: Vec<Option<T>>,
+    last: usize,
+    count: usize,
+}
+
+impl<T> Model for Buffer<T> {
+    ghost use Rattle.plain_schedulers.specs.Buffers.{Buffered};
+    ghost use Rattle.plain_schedulers.specs.Ring.{IsRing, ring_view};
+
+    ghost Value = { Buffered T };
+
+    ghost view = { λ b. ring_view b.cells.items b.last };
+
+    ghost invariant = { λ b. IsRing b.cells.items b.last b.count };
+}
+
+impl<T: Drop> MonitorData for Buffer<T> {
+    ghost use Rattle.plain_schedulers.specs.Buffers.{BufferHolds, BufferRests, BufferReady, inv_of_ready};
+
+    const CONDITIONS: usize = 2;
+
+    ghost CONDITIONS = { 2 };
+
+    ghost inv = { λ b. BufferHolds b };
+
+    ghost rest = { λ b q. BufferRests b q };
+
+    ghost ready = { λ c p b q. BufferReady c b q };
+
+    fn rest_holds<W: Waits>(&self, lists: &W) -> bool {
+        let (count, size) = (self.len(), self.size());
+        (lists.count(0) == 0 || count == 0) && (lists.count(1) == 0 || count == size)
+    }
+
+    fn ready_holds<W: Waits>(&self, condition: usize, priority: u64, lists: &W) -> bool {
+        let (count, size) = (self.len(), self.size());
+        if condition == 0 {
+            count > 0
+                && (lists.count(0) == 0 || count == 1)
+                && (lists.count(1) == 0 || count == size)
+        } else {
+            count < size
+                && (lists.count(1) == 0 || count == size - 1)
+                && (lists.count(0) == 0 || count == 0)
+        }
+    }
+
+    ghost rest_inv = { λ b q h. h.inv };
+
+    ghost ready_inv = { λ c p b q h. inv_of_ready c b q h };
+}
+
+impl<T: Drop> Buffer<T> {
+    /// A buffer of 1 to 4096 cells with no item. Refused: `BadSize` exactly where `n` is out of range, and else `Memory` where
+    /// the cells can't be had. No procedure takes memory.
+    pub fn make(alloc: Global, n: usize) -> Result<Buffer<T>, BufferRefused>
+        ensures made { Makes n result }
+        ensures rest { IfOk result (λ b. BufferRests b nobody) }
+    {
+        if n == 0 || n > MOST_CELLS {
+            return Err(BufferRefused::BadSize);
+        }
+        let Ok(cells) = empty_cells(alloc, n) else {
+            return Err(BufferRefused::Memory);
+        };
+        Ok(Buffer {
+            cells,
+            last: 0,
+            count: 0,
+        })
+    }
+
+    /// Puts an item in, once there is room, and resumes a process that waits for one.
+    pub fn append<R: Wait, M: Monitor<Buffer<T>>>(m: &M, rt: &R, out: M::Out, item: T) -> M::Out
+        requires { M.is_of m.now out }
+        ensures of { M.is_of m.now result }
+        ensures place { M.place result ≡ M.place out }
+        ensures trace { Appends (M.place out) item (M.front out) (M.front result) }
+    {
+        let mut inside = m.enter(rt, out);
+        if m.state(&inside).is_full() {
+            inside = m.wait(rt, inside, 1, 0);
+        }
+        M::state_mut(&mut inside, m).push(item);
+        let (out, _resumed) = m.signal_leave(rt, inside, 0);
+        out
+    }
+
+    /// Takes the oldest item out, once there is one, and resumes a process that waits for room.
+    pub fn remove<R: Wait, M: Monitor<Buffer<T>>>(m: &M, rt: &R, out: M::Out) -> (M::Out, T)
+        requires { M.is_of m.now out }
+        ensures of { M.is_of m.now result.0 }
+        ensures place { M.place result.0 ≡ M.place out }
+        ensures trace { Removes (M.place out) result.1 (M.front out) (M.front result.0) }
+    {
+        let mut inside = m.enter(rt, out);
+        if m.state(&inside).is_empty() {
+            inside = m.wait(rt, inside, 0, 0);
+        }
+        let item = M::state_mut(&mut inside, m).pop();
+        let (out, _resumed) = m.signal_leave(rt, inside, 1);
+        (out, item)
+    }
+}

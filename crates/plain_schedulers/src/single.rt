@@ -1,0 +1,135 @@
+ghost use Rattle.std.specs.Prelude.{◌≡◌, ◌↔◌, ◌<◌, ℕ, IsSome, IsTrue, Some, None};
+ghost use Rattle.plain_schedulers.specs.SingleTraces.{Acquires, Releases};
+
+use hoare_law::data::MonitorData;
+use hoare_law::monitor::Monitor;
+use hoare_law::waits::Waits;
+use std::marker::Model;
+use std::sync::Wait;
+use std::{error, fmt};
+
+/// A single item that one process at a time has out ("Monitors", Introduction: the single resource scheduler). Condition 0 is
+/// *nonbusy*; busy means that the item is out.
+#[derive(Drop)]
+pub struct Single<T> {
+    item: Option<T>,
+}
+
+impl<T> Model for Single<T> {
+    ghost use Rattle.std.specs.Prelude.{Option};
+
+    ghost Value = { Option T };
+
+    ghost view = { λ s. s.item };
+}
+
+/// The item is in, so none can be put in. What was handed in comes back.
+#[derive(Debug, Drop)]
+pub struct NotOut<T> {
+    pub item: T,
+}
+
+impl<T> fmt::Display for NotOut<T> {
+    fn fmt<W: fmt::Write>(&self, f: &mut fmt::Formatter<W>) -> fmt::Result {
+        write!(f, "no item is out")
+    }
+}
+
+impl<T: fmt::Debug + Drop> error::Error for NotOut<T> {}
+
+impl<T: Drop> MonitorData for Single<T> {
+    ghost use Rattle.std.specs.Prelude.{⊤};
+    ghost use Rattle.plain_schedulers.specs.Singles.{SingleRests, SingleReady};
+
+    const CONDITIONS: usize = 1;
+
+    ghost CONDITIONS = { 1 };
+
+    ghost inv = { λ s. ⊤ };
+
+    ghost rest = { λ s q. SingleRests s q };
+
+    ghost ready = { λ c p s q. SingleReady s };
+
+    fn rest_holds<W: Waits>(&self, lists: &W) -> bool {
+        self.item.is_none() || lists.count(0) == 0
+    }
+
+    fn ready_holds<W: Waits>(&self, condition: usize, priority: u64, lists: &W) -> bool {
+        self.is_in()
+    }
+
+    ghost rest_inv = { λ s q h. tt };
+
+    ghost ready_inv = { λ c p s q h. tt };
+}
+
+impl<T: Drop> Single<T> {
+    /// A single with this item in.
+    pub fn with(item: T) -> Single<T>
+        ensures { result ≡ Some item }
+    {
+        Single { item: Some(item) }
+    }
+
+    // Whether the item is in.
+    fn is_in(&self) -> bool
+        ensures { IsTrue result ↔ IsSome self.now }
+    {
+        self.item.is_some()
+    }
+
+    // Takes the item out.
+    fn take(&mut self) -> Option<T>
+        ensures value { result ≡ self.old }
+        ensures after { self.new ≡ None }
+    {
+        self.item.take()
+    }
+
+    // Puts an item in.
+    fn put(&mut self, item: T)
+        ensures { self.new ≡ Some item }
+    {
+        self.item = Some(item);
+    }
+
+    /// Takes the item out, once it is in.
+    pub fn acquire<R: Wait, M: Monitor<Single<T>>>(m: &M, rt: &R, out: M::Out) -> (M::Out, T)
+        requires { M.is_of m.now out }
+        ensures of { M.is_of m.now result.0 }
+        ensures place { M.place result.0 ≡ M.place out }
+        ensures trace { Acquires (M.place out) result.1 (M.front out) (M.front result.0) }
+    {
+        let mut inside = m.enter(rt, out);
+        if !m.state(&inside).is_in() {
+            inside = m.wait(rt, inside, 0, 0);
+        }
+        match M::state_mut(&mut inside, m).take() {
+            Some(item) => (m.leave(rt, inside), item),
+            None => unreachable!(),
+        }
+    }
+
+    /// Puts an item in and resumes a process that waits for it. Refused exactly where an item is in: then nothing changed and
+    /// the handed item comes back. (An item isn't bound to its monitor: any may be put in.)
+    pub fn release<R: Wait, M: Monitor<Single<T>>>(
+        m: &M,
+        rt: &R,
+        out: M::Out,
+        item: T,
+    ) -> (M::Out, Result<(), NotOut<T>>)
+        requires { M.is_of m.now out }
+        ensures of { M.is_of m.now result.0 }
+        ensures place { M.place result.0 ≡ M.place out }
+        ensures trace { Releases (M.place out) item (M.front out) (M.front result.0) result.1 }
+    {
+        let mut inside = m.enter(rt, out);
+        if m.state(&inside).is_in() {
+            return (m.leave(rt, inside), Err(NotOut { item }));
+        }
+        M::state_mut(&mut inside, m).put(item);
+        let (out, _resumed) = m.signal_leave(rt, inside, 0);
+        (out, Ok(()))
+    }
+}

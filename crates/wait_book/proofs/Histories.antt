@@ -1,0 +1,305 @@
+-- What each call does to the histories that a book is of.
+use Rattle.std.proofs.Common.{◌≡◌, ◌==◌, ℕ, ◌+◌, ◌<◌, Bool, true, false, eqb-true, cond, not, List, [], ◌∷◌, ◌++◌, map, Option, Some, None, refl, ap, sym, ◌∙◌, subst, arith, drop}
+use Rattle.std.specs.List.{filter}
+use Rattle.std.specs.Prelude.{IsSomeAnd}
+use Rattle.std.proofs.lemmas.Bool.Decides.{nat_tests}
+use Rattle.std.proofs.lemmas.List.{append-nil}
+use Rattle.hoare_law.specs.declared.event.Event.{Event}
+use Rattle.hoare_law.specs.declared.event.History.{History}
+use Rattle.hoare_law.specs.declared.event.Event.TheVariants.{Admit, Signal, Pass, Leave, Resume, Back}
+use Rattle.hoare_law.specs.declared.turn.Turn.{Turn}
+use Rattle.hoare_law.specs.declared.turn.Turn.TheVariants.{Free, Held, Owed, Return}
+use Rattle.hoare_law.specs.Events.{place_of, with_event}
+use Rattle.hoare_law.specs.Waiting.{waiting, waits_on, concerns, priority_of, chosen, Chooses}
+use Rattle.hoare_law.specs.Turns.{urgent, turn, turn_by, outside, is_out, is_signal}
+use Rattle.hoare_law.specs.Priorities.{put_in, in_order, behind_first}
+use Rattle.hoare_law.specs.Legal.{Allowed}
+use Rattle.hoare_law.proofs.Waiting.{waiting-push}
+use Rattle.hoare_law.proofs.Turns.{urgent-push, turn-push, outside-push, filter-map}
+use Rattle.hoare_law.proofs.Legal.{IsLegal-push, IsLegal-none}
+use Rattle.hoare_law.proofs.Filters.{filter-filter}
+use Rattle.hoare_law.proofs.Orders.{in_order-filter}
+use Rattle.hoare_law.proofs.InOrder.{in_order-push, map-filter_put_in}
+use Rattle.hoare_law.proofs.Chosen as law
+use Rattle.wait_book.specs.declared.waiter.Waiter.{Waiter}
+use Rattle.wait_book.specs.Contents.{Contents, IsOf, next_of, one, times, times_in, wait_of, waiters_on, unused}
+use Rattle.wait_book.specs.declared.steps.Next.TheVariants as next
+use Rattle.wait_book.specs.Stepping.{after_claim, after_signal, after_pass, settled}
+use Rattle.wait_book.specs.Insides.{IsSound}
+use Rattle.wait_book.specs.Queues.{TakesFirst}
+use Rattle.wait_book.proofs.Times.{eq_self, eq_swap, one_same, one_apart, filter-apart, filter-others}
+use Rattle.wait_book.proofs.Waiters.{on, places, key, times-taken, filter-taken, filter-taken_on}
+use Rattle.wait_book.proofs.Sound.{admitted, waited, left, resumed, returned, hand_apart, held_hand, owed_hand, held_in_range, owed_in_range, return_in_range, return_in, return_front, owed_condition, waited_times, left_times, admitted_times, owed_times, returned_times, signalled_times, passed_times}
+
+-- a history and an event without data
+abbrev Log : Type 0
+Log = History (Unit {0})
+
+abbrev Act : Type 0
+Act = Event (Unit {0})
+
+-- an equal book is of the same histories
+pub IsOf-same : (b d : Contents) (h : Log) → b ≡ d → IsOf b h → IsOf d h
+IsOf-same b d h e o = subst (λ (v : Contents). IsOf v h) e o
+
+-- a book where nothing happened
+pub IsOf-unused : (n m : ℕ) → IsOf (record { places = n; conditions = m; waiters = []; signallers = []; turn = Free }) (unused n m)
+unfolding waiting urgent turn outside
+IsOf-unused n m = record { legal = IsLegal-none (unused n m) refl; places = refl; conditions = refl; waiters = λ c. refl; signallers = refl; turn_is = refl; outside_are = λ k. refl }
+
+-- who waits, after an event that leaves these alone
+
+-- those who waited and stay
+waiters_stay : (b : Contents) (h : Log) (e : Act) (ws : List Waiter) → filter (λ (w : Waiter). not (concerns w.place e)) b.waiters ≡ ws → IsOf b h → (c : ℕ) → map wait_of (filter (on c) ws) ≡ in_order priority_of (filter (λ x. not (concerns (place_of x) e)) (waiting c h.events))
+waiters_stay b h e ws f o c =
+    let p : Waiter → Bool = λ w. not (concerns w.place e) in
+    ap (λ l. map wait_of (filter (on c) l)) (sym f)
+    ∙ ap (map wait_of) (filter-filter (on c) p b.waiters)
+    ∙ sym (filter-map wait_of (λ x. not (concerns (place_of x) e)) (waiters_on c b))
+    ∙ ap (filter (λ x. not (concerns (place_of x) e))) (o.waiters c)
+    ∙ sym (in_order-filter priority_of (λ x. not (concerns (place_of x) e)) (waiting c h.events))
+
+-- no event but a wait adds one who waits
+waiters_kept : (b : Contents) (h : Log) (e : Act) (ws : List Waiter) → ((c : ℕ) → waits_on c e ≡ false) → filter (λ (w : Waiter). not (concerns w.place e)) b.waiters ≡ ws → IsOf b h → (c : ℕ) → map wait_of (filter (on c) ws) ≡ in_order priority_of (waiting c (h.events ++ e ∷ []))
+waiters_kept b h e ws n f o c =
+    waiters_stay b h e ws f o c
+    ∙ ap (in_order priority_of) (sym (waiting-push c h.events e ∙ ap (λ t. filter (λ x. not (concerns (place_of x) e)) (waiting c h.events) ++ cond t (e ∷ []) []) (n c) ∙ append-nil _))
+
+-- a wait adds its own to those who wait
+waiters_joined : (b : Contents) (h : Log) (w : Waiter) → in_order key b.waiters ≡ b.waiters → filter (λ (v : Waiter). not (concerns v.place (wait_of w))) b.waiters ≡ b.waiters → IsOf b h → (c : ℕ) → map wait_of (filter (on c) (put_in key w b.waiters)) ≡ in_order priority_of (waiting c (h.events ++ wait_of w ∷ []))
+waiters_joined b h w r f o c =
+    let kept : List Act = filter (λ x. not (concerns (place_of x) (wait_of w))) (waiting c h.events) in
+    map-filter_put_in wait_of priority_of (on c) w b.waiters r
+    ∙ ap (λ l. cond (on c w) (put_in priority_of (wait_of w) l) l) (waiters_stay b h (wait_of w) b.waiters f o c)
+    ∙ sym (in_order-push priority_of (on c w) (wait_of w) kept)
+    ∙ ap (in_order priority_of) (sym (waiting-push c h.events (wait_of w)))
+
+-- who is outside
+
+outside_by : (t : Bool) (k : ℕ) (e : Act) (o : Bool) (n m : ℕ) → (place_of e == k) ≡ t → o ≡ (n == 0) → (place_of e ≡ k → is_out (Some e) ≡ (m == 0)) → ((place_of e == k) ≡ false → n ≡ m) → cond t (is_out (Some e)) o ≡ (m == 0)
+outside_by true k e o n m h p here off = here (eqb-true (place_of e) k h)
+outside_by false k e o n m h p here off = p ∙ ap (λ v. v == 0) (off h)
+
+-- who is outside, after one more event
+outside_kept : (b d : Contents) (h : Log) (e : Act) → ((k : ℕ) → outside k h.events ≡ (times_in k b == 0)) → is_out (Some e) ≡ (times_in (place_of e) d == 0) → ((k : ℕ) → (place_of e == k) ≡ false → times_in k b ≡ times_in k d) → (k : ℕ) → outside k (h.events ++ e ∷ []) ≡ (times_in k d == 0)
+outside_kept b d h e o here off k =
+    outside-push k h.events e
+    ∙ outside_by (place_of e == k) k e (outside k h.events) (times_in k b) (times_in k d) refl (o k) (λ q. subst (λ (j : ℕ). is_out (Some e) ≡ (times_in j d == 0)) q here) (off k)
+
+-- one more event, allowed, with what it does to each part
+pub IsOf-push : (b d : Contents) (h : Log) (e : Act) → IsOf b h → d.places ≡ b.places → d.conditions ≡ b.conditions → Allowed h e
+    → ((c : ℕ) → map wait_of (waiters_on c d) ≡ in_order priority_of (waiting c (h.events ++ e ∷ [])))
+    → filter (λ u. not (place_of e == u)) b.signallers ++ cond (is_signal e) (place_of e ∷ []) [] ≡ d.signallers
+    → turn_by e d.signallers ≡ d.turn
+    → is_out (Some e) ≡ (times_in (place_of e) d == 0)
+    → ((k : ℕ) → (place_of e == k) ≡ false → times_in k b ≡ times_in k d)
+    → IsOf d (with_event h e)
+unfolding with_event
+IsOf-push b d h e o p q allowed ws us t here off =
+    let signallers : urgent (h.events ++ e ∷ []) ≡ d.signallers = urgent-push h.events e ∙ ap (λ l. filter (λ u. not (place_of e == u)) l ++ cond (is_signal e) (place_of e ∷ []) []) o.signallers ∙ us in
+    record {
+      legal = IsLegal-push e o.legal allowed;
+      places = o.places ∙ sym p;
+      conditions = o.conditions ∙ sym q;
+      waiters = ws;
+      signallers = signallers;
+      turn_is = turn-push h.events e ∙ ap (turn_by e) signallers ∙ t;
+      outside_are = outside_kept b d h e o.outside_are here off;
+    }
+
+positive : (n : ℕ) → 0 < n → false ≡ (n == 0)
+positive n h = grind (arith, nat_tests)
+
+zero_is : (n : ℕ) → n ≡ 0 → true ≡ (n == 0)
+zero_is n h = sym (ap (λ v. v == 0) h)
+
+no_data : (x : Unit {0}) → tt ≡ x
+no_data x = refl
+
+place_fits : (b : Contents) (h : Log) (k : ℕ) → IsOf b h → k < b.places → k < h.places
+place_fits b h k o l = omega (arith, o.places)
+
+condition_fits : (b : Contents) (h : Log) (c : ℕ) → IsOf b h → c < b.conditions → c < h.conditions
+condition_fits b h c o l = omega (arith, o.conditions)
+
+-- nobody who waits goes where only place k acts, who doesn't wait
+waiters_apart : (b : Contents) (k : ℕ) (e : Act) → ((j : ℕ) → (k == j) ≡ false → not (concerns j e) ≡ true) → times k (places b.waiters) ≡ 0 → filter (λ (w : Waiter). not (concerns w.place e)) b.waiters ≡ b.waiters
+waiters_apart b k e t z = filter-apart (λ (w : Waiter). w.place) k (λ (w : Waiter). not (concerns w.place e)) b.waiters (λ v. t v.place) z
+
+signallers_apart : (b : Contents) (k : ℕ) → times k b.signallers ≡ 0 → filter (λ u. not (k == u)) b.signallers ++ [] ≡ b.signallers
+signallers_apart b k z = append-nil _ ∙ filter-others k b.signallers z
+
+-- a newcomer
+pub admitted_of : (b : Contents) (k : ℕ) (h : Log) → IsSound b → b.turn ≡ Free → k < b.places → times_in k b ≡ 0 → IsOf b h → IsOf (admitted k b) (with_event h (Admit k tt))
+admitted_of b k h s e r z o =
+    let act : Act = Admit k tt in
+    IsOf-push b (admitted k b) h act o refl refl
+    (record { in_range = place_fits b h k o r; fits = (o.turn_is ∙ e, o.outside_are k ∙ sym (zero_is _ z), no_data _) })
+    (waiters_kept b h act b.waiters (λ c. refl) (waiters_apart b k act (λ j t. ap not t) (omega arith)) o)
+    (signallers_apart b k (omega arith)) refl
+    (positive _ (omega (arith, admitted_times b k k e, one_same k)))
+    (λ j t. omega (arith, admitted_times b k j e, one_apart j k (eq_swap j k ∙ t)))
+
+-- a wait
+pub waited_of : (b : Contents) (w : Waiter) (h : Log) → IsSound b → b.turn ≡ Held w.place → w.condition < b.conditions → IsOf b h → IsOf (waited w b) (with_event h (wait_of w))
+waited_of b w h s e l o =
+    let apart : (times w.place (places b.waiters) ≡ 0) × (times w.place b.signallers ≡ 0) = hand_apart b w.place s (held_hand b w.place e) in
+    IsOf-push b (waited w b) h (wait_of w) o refl refl
+    (record { in_range = (place_fits b h w.place o (held_in_range b w.place s e), condition_fits b h w.condition o l); fits = o.turn_is ∙ e })
+    (waiters_joined b h w s.ordered (waiters_apart b w.place (wait_of w) (λ j t. ap not t) apart.0) o)
+    (signallers_apart b w.place apart.1) refl
+    (positive _ (omega (arith, waited_times b w w.place e, held_hand b w.place e)))
+    (λ j t. sym (waited_times b w j e))
+
+-- a leave
+pub left_of : (b : Contents) (k : ℕ) (h : Log) → IsSound b → b.turn ≡ Held k → IsOf b h → IsOf (left b) (with_event h (Leave k tt))
+left_of b k h s e o =
+    let act : Act = Leave k tt in
+    let apart : (times k (places b.waiters) ≡ 0) × (times k b.signallers ≡ 0) = hand_apart b k s (held_hand b k e) in
+    IsOf-push b (left b) h act o refl refl
+    (record { in_range = place_fits b h k o (held_in_range b k s e); fits = o.turn_is ∙ e })
+    (waiters_kept b h act b.waiters (λ c. refl) (waiters_apart b k act (λ j t. ap not t) apart.0) o)
+    (signallers_apart b k apart.1) refl
+    (zero_is _ (omega (arith, left_times b k k e, s.once k, one_same k)))
+    (λ j t. omega (arith, left_times b k j e, one_apart j k (eq_swap j k ∙ t)))
+
+-- the one resumed goes on
+pub owed_of : (b : Contents) (k c : ℕ) (h : Log) → IsSound b → b.turn ≡ Owed k c → IsOf b h → IsOf (admitted k b) (with_event h (Resume k c tt))
+owed_of b k c h s e o =
+    let act : Act = Resume k c tt in
+    let apart : (times k (places b.waiters) ≡ 0) × (times k b.signallers ≡ 0) = hand_apart b k s (owed_hand b k c e) in
+    IsOf-push b (admitted k b) h act o refl refl
+    (record { in_range = (place_fits b h k o (owed_in_range b k c s e), condition_fits b h c o (owed_condition b k c s e)); fits = (o.turn_is ∙ e, no_data _) })
+    (waiters_kept b h act b.waiters (λ d. refl) (waiters_apart b k act (λ j t. ap not t) apart.0) o)
+    (signallers_apart b k apart.1) refl
+    (positive _ (omega (arith, owed_times b k c k e, owed_hand b k c e)))
+    (λ j t. sym (owed_times b k c j e))
+
+-- the first of a list whose places stand once
+front_goes : (k : ℕ) (us : List ℕ) → times k us ≡ 0 → filter (λ u. not (k == u)) (k ∷ us) ≡ us
+front_goes k us z = rw (eq_self k) (filter-others k us z)
+
+-- the first signaller goes on
+pub returned_of : (b : Contents) (k : ℕ) (h : Log) → IsSound b → b.turn ≡ Return k → IsOf b h → IsOf (returned k b) (with_event h (Back k tt))
+returned_of b k h s e o =
+    let act : Act = Back k tt in
+    let rest : List ℕ = behind_first b.signallers in
+    let front : b.signallers ≡ k ∷ rest = return_front b k s e in
+    let count : times k b.signallers ≡ one k k + times k rest = ap (times k) front in
+    IsOf-push b (returned k b) h act o refl refl
+    (record { in_range = place_fits b h k o (return_in_range b k s e); fits = (o.turn_is ∙ e, no_data _) })
+    (waiters_kept b h act b.waiters (λ d. refl) (waiters_apart b k act (λ j t. ap not t) (omega (arith, s.once k, one_same k))) o)
+    (append-nil _ ∙ ap (filter (λ u. not (k == u))) front ∙ front_goes k rest (omega (arith, s.once k, one_same k))) refl
+    (positive _ (omega (arith, returned_times b k k s e, return_in b k s e)))
+    (λ j t. sym (returned_times b k j s e))
+
+-- the first on c is chosen
+pub chosen-first_on : (b : Contents) (h : Log) (c : ℕ) → IsOf b h → chosen c h.events ≡ law.first_of (map wait_of (waiters_on c b))
+unfolding chosen
+chosen-first_on b h c o = law.chosen-first priority_of (waiting c h.events) ∙ ap law.first_of (sym (o.waiters c))
+
+-- who is taken was chosen
+pub chosen-taken : (b : Contents) (h : Log) (c w : ℕ) (ws : List Waiter) → IsOf b h → (t : TakesFirst c b.waiters ws w) → chosen c h.events ≡ Some (wait_of t.first)
+chosen-taken b h c w ws o t = chosen-first_on b h c o ∙ ap (λ l. law.first_of (map wait_of l)) (filter-taken_on c b.waiters ws w t)
+
+-- where nobody waits, nobody is chosen
+pub chosen-nobody : (b : Contents) (h : Log) (c : ℕ) → IsOf b h → waiters_on c b ≡ [] → chosen c h.events ≡ None
+chosen-nobody b h c o e = chosen-first_on b h c o ∙ ap (λ l. law.first_of (map wait_of l)) e
+
+chooses : (b : Contents) (h : Log) (c w : ℕ) (ws : List Waiter) → IsOf b h → TakesFirst c b.waiters ws w → Chooses c h.events w
+unfolding Chooses
+chooses b h c w ws o t = subst (λ (x : Option Act). IsSomeAnd x (λ e. place_of e ≡ w)) (sym (chosen-taken b h c w ws o t)) t.place
+
+taken_in_range : (b : Contents) (c w : ℕ) (ws : List Waiter) → IsSound b → TakesFirst c b.waiters ws w → w < b.places
+taken_in_range b c w ws s t = s.in_range w (omega (arith, times-taken w c b.waiters ws w t, one_same w))
+
+-- a signal that resumes one
+signalled_of : (b : Contents) (k c w : ℕ) (ws : List Waiter) (h : Log) → IsSound b → b.turn ≡ Held k → c < b.conditions → TakesFirst c b.waiters ws w → IsOf b h → IsOf (resumed ws (b.signallers ++ k ∷ []) w c b) (with_event h (Signal k c w tt))
+signalled_of b k c w ws h s e l t o =
+    let act : Act = Signal k c w tt in
+    let apart : (times k (places b.waiters) ≡ 0) × (times k b.signallers ≡ 0) = hand_apart b k s (held_hand b k e) in
+    IsOf-push b (resumed ws (b.signallers ++ k ∷ []) w c b) h act o refl refl
+    (record { in_range = (place_fits b h k o (held_in_range b k s e), condition_fits b h c o l, place_fits b h w o (taken_in_range b c w ws s t)); fits = (o.turn_is ∙ e, chooses b h c w ws o t) })
+    (waiters_kept b h act ws (λ d. refl) (filter-taken k c b.waiters ws w t apart.0 (omega (arith, s.once w))) o)
+    (ap (λ l2. l2 ++ k ∷ []) (filter-others k b.signallers apart.1)) refl
+    (positive _ (omega (arith, signalled_times b k c w k ws e t, held_hand b k e)))
+    (λ j q. sym (signalled_times b k c w j ws e t))
+
+-- a pass that resumes one
+passed_of : (b : Contents) (k c w : ℕ) (ws : List Waiter) (h : Log) → IsSound b → b.turn ≡ Held k → c < b.conditions → TakesFirst c b.waiters ws w → IsOf b h → IsOf (resumed ws b.signallers w c b) (with_event h (Pass k c w tt))
+passed_of b k c w ws h s e l t o =
+    let act : Act = Pass k c w tt in
+    let apart : (times k (places b.waiters) ≡ 0) × (times k b.signallers ≡ 0) = hand_apart b k s (held_hand b k e) in
+    IsOf-push b (resumed ws b.signallers w c b) h act o refl refl
+    (record { in_range = (place_fits b h k o (held_in_range b k s e), condition_fits b h c o l, place_fits b h w o (taken_in_range b c w ws s t)); fits = (o.turn_is ∙ e, chooses b h c w ws o t) })
+    (waiters_kept b h act ws (λ d. refl) (filter-taken k c b.waiters ws w t apart.0 (omega (arith, s.once w))) o)
+    (signallers_apart b k apart.1) refl
+    (zero_is _ (omega (arith, passed_times b k c w k ws e t, s.once k, one_same k)))
+    (λ j q. omega (arith, passed_times b k c w j ws e t, one_apart j k (eq_swap j k ∙ q)))
+
+-- what a signal adds, where one is taken
+pub after_signal-taken : (b : Contents) (k c w : ℕ) (ws : List Waiter) (h : Log) → IsSound b → b.turn ≡ Held k → c < b.conditions → TakesFirst c b.waiters ws w → IsOf b h → IsOf (resumed ws (b.signallers ++ k ∷ []) w c b) (after_signal h k c (chosen c h.events))
+after_signal-taken b k c w ws h s e l t o =
+    let d : Contents = resumed ws (b.signallers ++ k ∷ []) w c b in
+    subst (λ (x : Option Act). IsOf d (after_signal h k c x)) (sym (chosen-taken b h c w ws o t))
+    (subst (λ (j : ℕ). IsOf d (with_event h (Signal k c j tt))) (sym t.place) (signalled_of b k c w ws h s e l t o))
+
+-- and where nobody waits
+pub after_signal-nobody : (b : Contents) (k c : ℕ) (h : Log) → waiters_on c b ≡ [] → IsOf b h → IsOf b (after_signal h k c (chosen c h.events))
+after_signal-nobody b k c h n o = subst (λ (x : Option Act). IsOf b (after_signal h k c x)) (sym (chosen-nobody b h c o n)) o
+
+-- what a pass adds, where one is taken
+pub after_pass-taken : (b : Contents) (k c w : ℕ) (ws : List Waiter) (h : Log) → IsSound b → b.turn ≡ Held k → c < b.conditions → TakesFirst c b.waiters ws w → IsOf b h → IsOf (resumed ws b.signallers w c b) (after_pass h k c (chosen c h.events))
+after_pass-taken b k c w ws h s e l t o =
+    let d : Contents = resumed ws b.signallers w c b in
+    subst (λ (x : Option Act). IsOf d (after_pass h k c x)) (sym (chosen-taken b h c w ws o t))
+    (subst (λ (j : ℕ). IsOf d (with_event h (Pass k c j tt))) (sym t.place) (passed_of b k c w ws h s e l t o))
+
+-- and where nobody waits
+pub after_pass-nobody : (b d : Contents) (k c : ℕ) (h : Log) → waiters_on c b ≡ [] → IsOf b h → IsOf d (with_event h (Leave k tt)) → IsOf d (after_pass h k c (chosen c h.events))
+after_pass-nobody b d k c h n o x = subst (λ (y : Option Act). IsOf d (after_pass h k c y)) (sym (chosen-nobody b h c o n)) x
+
+-- whoever is owed the monitor goes on
+
+-- by a resumption
+pub settled-owed : (b : Contents) (k c : ℕ) (h : Log) → IsSound b → b.turn ≡ Owed k c → IsOf b h → IsOf (admitted k b) (settled h)
+settled-owed b k c h s e o = subst (λ (t : Turn). IsOf (admitted k b) (after_claim h t)) (sym (o.turn_is ∙ e)) (owed_of b k c h s e o)
+
+-- or a return
+pub settled-returned : (b : Contents) (k : ℕ) (h : Log) → IsSound b → b.turn ≡ Return k → IsOf b h → IsOf (returned k b) (settled h)
+settled-returned b k h s e o = subst (λ (t : Turn). IsOf (returned k b) (after_claim h t)) (sym (o.turn_is ∙ e)) (returned_of b k h s e o)
+
+drop_first : (us : List ℕ) → drop 1 us ≡ behind_first us
+drop_first [] = refl
+drop_first (u ∷ us) = refl
+
+-- the claim of the one who is owed, or who returns
+pub claim-owed : (t : Turn) (b : Contents) (k : ℕ) (h : Log) → b.turn ≡ t → next_of t ≡ next.For k → ((x : ℕ) → t ≡ Return x → ⊥) → IsSound b → IsOf b h → IsOf (admitted k b) (settled h)
+claim-owed Free b k h e n r s o = absurd (cc)
+claim-owed (Held j) b k h e n r s o = absurd (cc)
+claim-owed (Owed j c) b k h e n r s o = let q : j ≡ k = cc in subst (λ (i : ℕ). IsOf (admitted i b) (settled h)) q (settled-owed b j c h s e o)
+claim-owed (Return j) b k h e n r s o = absurd (r j refl)
+
+-- (with the list as the code leaves it)
+pub claim-returned : (b : Contents) (j k : ℕ) (us : List ℕ) (h : Log) → b.turn ≡ Return j → next_of b.turn ≡ next.For k → us ≡ drop 1 b.signallers → IsSound b → IsOf b h → IsOf (record b { signallers = us; turn = Held k }) (settled h)
+claim-returned b j k us h e n f s o =
+    let m : next.For j ≡ next.For k = ap next_of (sym e) ∙ n in
+    let q : j ≡ k = cc in
+    let g : behind_first b.signallers ≡ us = sym (f ∙ drop_first b.signallers) in
+    subst (λ (v : List ℕ). IsOf (record b { signallers = v; turn = Held k }) (settled h)) g
+    (subst (λ (i : ℕ). IsOf (returned i b) (settled h)) q (settled-returned b j h s e o))
+
+-- what the counts of a place say
+pub record SaysOutside (b : Contents) (k : ℕ) (r : Bool) : Type 0 where
+  pub nowhere : r ≡ (times_in k b == 0)
+  pub of : (h : Log) → IsOf b h → r ≡ outside k h.events
+
+-- from the counts of an equal book
+pub outside-by_times : (b d : Contents) (k : ℕ) (r : Bool) → b ≡ d → r ≡ (times_in k b == 0) → SaysOutside d k r
+outside-by_times b d k r e q =
+    let m : r ≡ (times_in k d == 0) = q ∙ ap (λ (v : Contents). times_in k v == 0) e in
+    record { nowhere = m; of = λ h o. m ∙ sym (o.outside_are k) }
+
+-- a place that the history has outside stands nowhere
+pub times_in-outside : (b : Contents) (k : ℕ) (h : Log) → IsOf b h → outside k h.events ≡ true → times_in k b ≡ 0
+times_in-outside b k h o e = eqb-true (times_in k b) 0 (sym (o.outside_are k) ∙ e)

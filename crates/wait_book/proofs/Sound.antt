@@ -1,0 +1,242 @@
+-- What keeps a book sound.
+use Rattle.std.proofs.Common.{◌≡◌, ℕ, ◌+◌, ◌≤◌, ◌<◌, Bool, true, false, eqb, eqb-true, ltb, List, [], ◌∷◌, ◌++◌, length, refl, ap, sym, ◌∙◌, subst, arith}
+use Rattle.std.specs.List.{list_all}
+use Rattle.std.proofs.lemmas.Bool.Decides.{nat_tests}
+use Rattle.std.proofs.lemmas.List.{length-map}
+use Rattle.hoare_law.specs.declared.turn.Turn.{Turn}
+use Rattle.hoare_law.specs.declared.turn.Turn.TheVariants.{Free, Held, Owed, Return}
+use Rattle.hoare_law.specs.Turns.{turn_given_up}
+use Rattle.hoare_law.specs.Priorities.{put_in, in_order, behind_first}
+use Rattle.hoare_law.proofs.Orders.{list_all-put_in}
+use Rattle.hoare_law.proofs.InOrder.{in_order-put_in, in_order-filtered}
+use Rattle.wait_book.specs.declared.waiter.Waiter.{Waiter}
+use Rattle.wait_book.specs.Contents.{Contents, one, times, times_in, times_in_hand}
+use Rattle.wait_book.specs.Insides.{IsSound, IsTurnBeside}
+use Rattle.wait_book.specs.Queues.{TakesFirst}
+use Rattle.wait_book.proofs.Times.{one_same, one_apart, one_le, times-append, few_once}
+use Rattle.wait_book.proofs.Waiters.{places, key, times-put_in, times-taken, filter-taken, list_all-taken}
+
+-- what each call leaves
+
+-- place k comes in, or goes on
+abbrev pub admitted : ℕ → Contents → Contents
+admitted k b = record b { turn = Held k }
+
+-- the one inside waits
+abbrev pub waited : Waiter → Contents → Contents
+waited w b = record b { waiters = put_in key w b.waiters; turn = turn_given_up b.signallers }
+
+-- the one inside goes out
+abbrev pub left : Contents → Contents
+left b = record b { turn = turn_given_up b.signallers }
+
+-- place w is resumed on c, with these lists left
+abbrev pub resumed : List Waiter → List ℕ → ℕ → ℕ → Contents → Contents
+resumed ws us w c b = record b { waiters = ws; signallers = us; turn = Owed w c }
+
+-- the first signaller goes on
+abbrev pub returned : ℕ → Contents → Contents
+returned k b = record b { signallers = behind_first b.signallers; turn = Held k }
+
+-- whose turn it is
+
+-- a turn given up is in nobody's hand
+given_up_hand : (k : ℕ) (us : List ℕ) → times_in_hand k (turn_given_up us) ≡ 0
+given_up_hand k [] = refl
+given_up_hand k (u ∷ us) = refl
+
+-- and stands beside its signallers
+given_up_fits : (us : List ℕ) (n : ℕ) → IsTurnBeside us n (turn_given_up us)
+given_up_fits [] n = refl
+given_up_fits (u ∷ us) n = refl
+
+-- by the turn that is known
+pub hand_of : (j : ℕ) (b : Contents) (t : Turn) → b.turn ≡ t → times_in_hand j b.turn ≡ times_in_hand j t
+hand_of j b t e = ap (times_in_hand j) e
+
+-- who is inside or resumed stands in no list
+pub hand_apart : (b : Contents) (k : ℕ) → IsSound b → times_in_hand k b.turn ≡ 1 → (times k (places b.waiters) ≡ 0) × (times k b.signallers ≡ 0)
+hand_apart b k s e = (omega (arith, s.once k), omega (arith, s.once k))
+
+-- who is inside has the turn by hand
+pub held_hand : (b : Contents) (k : ℕ) → b.turn ≡ Held k → times_in_hand k b.turn ≡ 1
+held_hand b k e = hand_of k b (Held k) e ∙ one_same k
+
+-- so does who is resumed
+pub owed_hand : (b : Contents) (k c : ℕ) → b.turn ≡ Owed k c → times_in_hand k b.turn ≡ 1
+owed_hand b k c e = hand_of k b (Owed k c) e ∙ one_same k
+
+-- and is a place of the book
+pub hand_in_range : (b : Contents) (k : ℕ) → IsSound b → times_in_hand k b.turn ≡ 1 → k < b.places
+hand_in_range b k s e = s.in_range k (omega arith)
+
+front_of : (us : List ℕ) (n k : ℕ) → IsTurnBeside us n (Return k) → us ≡ k ∷ behind_first us
+front_of [] n k h = absurd h
+front_of (u ∷ us) n k h = ap (λ v. v ∷ us) h
+
+-- who returns is the first signaller
+pub return_front : (b : Contents) (k : ℕ) → IsSound b → b.turn ≡ Return k → b.signallers ≡ k ∷ behind_first b.signallers
+return_front b k s e = front_of b.signallers b.conditions k (subst (λ (t : Turn). IsTurnBeside b.signallers b.conditions t) e s.turn_fits)
+
+-- how often a place stands among the signallers, where the first returns
+return_times : (b : Contents) (k j : ℕ) → IsSound b → b.turn ≡ Return k → times j b.signallers ≡ one j k + times j (behind_first b.signallers)
+return_times b k j s e = ap (times j) (return_front b k s e)
+
+-- who returns stands in the book
+pub return_in : (b : Contents) (k : ℕ) → IsSound b → b.turn ≡ Return k → 0 < times_in k b
+return_in b k s e = omega (arith, return_times b k k s e, one_same k)
+
+-- the place that goes on is in range
+pub owed_in_range : (b : Contents) (k c : ℕ) → IsSound b → b.turn ≡ Owed k c → k < b.places
+owed_in_range b k c s e = hand_in_range b k s (owed_hand b k c e)
+
+-- so is the one inside
+pub held_in_range : (b : Contents) (k : ℕ) → IsSound b → b.turn ≡ Held k → k < b.places
+held_in_range b k s e = hand_in_range b k s (held_hand b k e)
+
+-- and the one that returns
+pub return_in_range : (b : Contents) (k : ℕ) → IsSound b → b.turn ≡ Return k → k < b.places
+return_in_range b k s e = s.in_range k (return_in b k s e)
+
+-- the condition of the one resumed is the book's
+pub owed_condition : (b : Contents) (k c : ℕ) → IsSound b → b.turn ≡ Owed k c → c < b.conditions
+owed_condition b k c s e = subst (λ (t : Turn). IsTurnBeside b.signallers b.conditions t) e s.turn_fits
+
+-- a book that holds no place more often, with the same sizes
+
+pub sound_fewer : (b d : Contents) → IsSound b → d.places ≡ b.places → d.conditions ≡ b.conditions → ((k : ℕ) → times_in k d ≤ times_in k b)
+    → list_all (λ (w : Waiter). ltb w.condition b.conditions) d.waiters ≡ true → in_order key d.waiters ≡ d.waiters → IsTurnBeside d.signallers d.conditions d.turn → IsSound d
+sound_fewer b d s e f o a r t = record {
+  some_places = omega (arith, s.some_places);
+  few_places = omega (arith, s.few_places);
+  some_conditions = omega (arith, s.some_conditions);
+  few_conditions = omega (arith, s.few_conditions);
+  once = λ k. omega (arith, o k, s.once k);
+  in_range = λ k p. omega (arith, o k, s.in_range k (omega (arith, o k)));
+  on_conditions = subst (λ (n : ℕ). list_all (λ (w : Waiter). ltb w.condition n) d.waiters ≡ true) (sym f) a;
+  ordered = r;
+  turn_fits = t;
+}
+
+-- wait
+
+-- a wait moves its place
+pub waited_times : (b : Contents) (w : Waiter) (j : ℕ) → b.turn ≡ Held w.place → times_in j (waited w b) ≡ times_in j b
+waited_times b w j e = omega (arith, times-put_in j w b.waiters, given_up_hand j b.signallers, hand_of j b (Held w.place) e)
+
+-- and keeps the book sound
+pub waited_sound : (b : Contents) (w : Waiter) → IsSound b → b.turn ≡ Held w.place → w.condition < b.conditions → IsSound (waited w b)
+waited_sound b w s e l = sound_fewer b (waited w b) s refl refl (λ j. omega (arith, waited_times b w j e))
+    (list_all-put_in key (λ (v : Waiter). ltb v.condition b.conditions) w b.waiters (grind (arith, nat_tests)) s.on_conditions)
+    (in_order-put_in key w b.waiters s.ordered) (given_up_fits b.signallers b.conditions)
+
+-- there is room for the one inside in both lists
+pub room_waiters : (b : Contents) (k : ℕ) → IsSound b → b.turn ≡ Held k → length b.waiters < b.places
+room_waiters b k s e =
+    let all : length (k ∷ places b.waiters) ≤ b.places = few_once (k ∷ places b.waiters) b.places
+    (λ j. omega (arith, s.once j, hand_of j b (Held k) e)) (λ j p. s.in_range j (omega (arith, hand_of j b (Held k) e))) in
+    omega (arith, length-map b.waiters (λ (w : Waiter). w.place))
+
+pub room_signallers : (b : Contents) (k : ℕ) → IsSound b → b.turn ≡ Held k → length b.signallers < b.places
+room_signallers b k s e =
+    let all : length (k ∷ b.signallers) ≤ b.places = few_once (k ∷ b.signallers) b.places
+    (λ j. omega (arith, s.once j, hand_of j b (Held k) e)) (λ j p. s.in_range j (omega (arith, hand_of j b (Held k) e))) in
+    omega arith
+
+-- leave
+
+-- a leave takes its place away
+pub left_times : (b : Contents) (k j : ℕ) → b.turn ≡ Held k → times_in j (left b) + one j k ≡ times_in j b
+left_times b k j e = omega (arith, given_up_hand j b.signallers, hand_of j b (Held k) e)
+
+-- admit
+
+-- a newcomer stands once more
+pub admitted_times : (b : Contents) (k j : ℕ) → b.turn ≡ Free → times_in j (admitted k b) ≡ times_in j b + one j k
+admitted_times b k j e = omega (arith, hand_of j b Free e)
+
+-- so once at most, where it stood nowhere
+once_more : (t : Bool) (b : Contents) (k j : ℕ) → eqb j k ≡ t → times_in k b ≡ 0 → times_in j b ≤ 1 → times_in j b + one j k ≤ 1
+once_more true b k j h z o = let z2 : times_in j b ≡ 0 = ap (λ v. times_in v b) (eqb-true j k h) ∙ z in omega (arith, one_le j k)
+once_more false b k j h z o = omega (arith, one_apart j k h)
+
+-- and in range
+ranged_more : (t : Bool) (b : Contents) (k j n : ℕ) → eqb j k ≡ t → k < n → (0 < times_in j b → j < n) → 0 < times_in j b + one j k → j < n
+ranged_more true b k j n h r o p = let q : j ≡ k = eqb-true j k h in omega arith
+ranged_more false b k j n h r o p = o (omega (arith, one_apart j k h))
+
+-- a newcomer keeps the book sound
+pub admitted_sound : (b : Contents) (k : ℕ) → IsSound b → b.turn ≡ Free → k < b.places → times_in k b ≡ 0 → IsSound (admitted k b)
+admitted_sound b k s e r z = record {
+  some_places = s.some_places;
+  few_places = s.few_places;
+  some_conditions = s.some_conditions;
+  few_conditions = s.few_conditions;
+  once = λ j. omega (arith, admitted_times b k j e, once_more (eqb j k) b k j refl z (s.once j));
+  in_range = λ j p. ranged_more (eqb j k) b k j b.places refl r (s.in_range j) (omega (arith, admitted_times b k j e));
+  on_conditions = s.on_conditions;
+  ordered = s.ordered;
+  turn_fits = tt;
+}
+
+-- claim
+
+-- who is resumed goes on as often as it stood
+pub owed_times : (b : Contents) (k c j : ℕ) → b.turn ≡ Owed k c → times_in j (admitted k b) ≡ times_in j b
+owed_times b k c j e = omega (arith, hand_of j b (Owed k c) e)
+
+-- the first signaller goes on as often as it stood
+pub returned_times : (b : Contents) (k j : ℕ) → IsSound b → b.turn ≡ Return k → times_in j (returned k b) ≡ times_in j b
+returned_times b k j s e = omega (arith, hand_of j b (Return k) e, return_times b k j s e)
+
+-- signal and pass
+
+-- the one resumed goes, and the rest stays in order
+pub taken_ordered : (b : Contents) (k c w : ℕ) (ws : List Waiter) → IsSound b → b.turn ≡ Held k → TakesFirst c b.waiters ws w → in_order key ws ≡ ws
+taken_ordered b k c w ws s e t =
+    let gone = filter-taken k c b.waiters ws w t (hand_apart b k s (held_hand b k e)).0 (omega (arith, s.once w)) in
+    ap (in_order key) (sym gone) ∙ in_order-filtered key _ b.waiters s.ordered ∙ gone
+
+-- a signal moves both places
+pub signalled_times : (b : Contents) (k c w j : ℕ) (ws : List Waiter) → b.turn ≡ Held k → TakesFirst c b.waiters ws w → times_in j (resumed ws (b.signallers ++ k ∷ []) w c b) ≡ times_in j b
+signalled_times b k c w j ws e t = omega (arith, hand_of j b (Held k) e, times-taken j c b.waiters ws w t, times-append j b.signallers (k ∷ []))
+
+-- a pass takes its caller away
+pub passed_times : (b : Contents) (k c w j : ℕ) (ws : List Waiter) → b.turn ≡ Held k → TakesFirst c b.waiters ws w → times_in j (resumed ws b.signallers w c b) + one j k ≡ times_in j b
+passed_times b k c w j ws e t = omega (arith, hand_of j b (Held k) e, times-taken j c b.waiters ws w t)
+
+-- either keeps the book sound, where no place stands more often
+resumed_sound : (b : Contents) (k c w : ℕ) (ws : List Waiter) (us : List ℕ) → IsSound b → b.turn ≡ Held k → c < b.conditions → TakesFirst c b.waiters ws w → ((j : ℕ) → times_in j (resumed ws us w c b) ≤ times_in j b) → IsSound (resumed ws us w c b)
+resumed_sound b k c w ws us s e l t o = sound_fewer b (resumed ws us w c b) s refl refl o
+    (list_all-taken (λ (v : Waiter). ltb v.condition b.conditions) c b.waiters ws w t s.on_conditions) (taken_ordered b k c w ws s e t) l
+
+-- so does a signal
+pub signalled_sound : (b : Contents) (k c w : ℕ) (ws : List Waiter) → IsSound b → b.turn ≡ Held k → c < b.conditions → TakesFirst c b.waiters ws w → IsSound (resumed ws (b.signallers ++ k ∷ []) w c b)
+signalled_sound b k c w ws s e l t = resumed_sound b k c w ws (b.signallers ++ k ∷ []) s e l t (λ j. omega (arith, signalled_times b k c w j ws e t))
+
+-- and a pass
+pub passed_sound : (b : Contents) (k c w : ℕ) (ws : List Waiter) → IsSound b → b.turn ≡ Held k → c < b.conditions → TakesFirst c b.waiters ws w → IsSound (resumed ws b.signallers w c b)
+passed_sound b k c w ws s e l t = resumed_sound b k c w ws b.signallers s e l t (λ j. omega (arith, passed_times b k c w j ws e t))
+
+-- what a call is given, of the fields
+
+-- the turn
+pub same_turn : (b d : Contents) (t : Turn) → b ≡ d → d.turn ≡ t → b.turn ≡ t
+same_turn b d t e h = ap (λ (v : Contents). v.turn) e ∙ h
+
+-- a condition
+pub same_condition : (b d : Contents) (c : ℕ) → b ≡ d → c < d.conditions → c < b.conditions
+same_condition b d c e h = subst (λ (v : Contents). c < v.conditions) (sym e) h
+
+-- the one inside doesn't wait
+pub apart_same : (b d : Contents) (k : ℕ) → b ≡ d → IsSound b → b.turn ≡ Held k → times k (places d.waiters) ≡ 0
+apart_same b d k e s h = subst (λ (v : Contents). times k (places v.waiters) ≡ 0) e (hand_apart b k s (held_hand b k h)).0
+
+-- a book with these parts
+pub parts : (n m : ℕ) (ws vs : List Waiter) (us zs : List ℕ) (t r : Turn) → ws ≡ vs → us ≡ zs → t ≡ r
+    → (let b : Contents = record { places = n; conditions = m; waiters = ws; signallers = us; turn = t } in let d : Contents = record { places = n; conditions = m; waiters = vs; signallers = zs; turn = r } in d ≡ b)
+parts n m ws vs us zs t r a b e = cc
+
+-- an equal book is sound
+pub IsSound-same : (b d : Contents) → d ≡ b → IsSound d → IsSound b
+IsSound-same b d e s = subst IsSound e s

@@ -1,0 +1,16 @@
+use Rattle.std.proofs.Common.{refl, ap, sym, ◌∙◌}
+use Rattle.hoare_law.specs.Turns.{turn_given_up}
+use Rattle.wait_book.specs.Contents.{Contents}
+use Rattle.wait_book.specs.Insides.{view_of}
+use Rattle.wait_book.proofs.Sound as sound
+use Rattle.wait_book.proofs.Histories as histories
+use Rattle.wait_book.proofs.book.Book.leave.Goals as goal
+
+pub returns-clause-of : goal.returns-clause-of
+returns-clause-of c = λ h o.
+    let b : Contents = view_of c.self.inside in
+    histories.IsOf-same _ _ _ (sound.parts _ _ _ _ _ _ _ _ refl refl (c.turn_given_up-self-inside.ensures ∙ ap turn_given_up c.deref.ensures.value))
+    (histories.left_of b c.args.place h c.self.invariant.sound (sound.same_turn b _ _ c.self.view_is c.requires) (histories.IsOf-same _ b h (sym c.self.view_is) o))
+
+pub returns-clause-apart : goal.returns-clause-apart
+returns-clause-apart c = sound.apart_same (view_of c.self.inside) _ c.args.place c.self.view_is c.self.invariant.sound (sound.same_turn _ _ _ c.self.view_is c.requires)

@@ -1,0 +1,91 @@
+-- What a book holds, and of which histories it is.
+use Rattle.std.specs.Prelude.{ℕ, ◌≡◌, ◌<◌, ◌+◌, ◌==◌, nat_le, ◌&&◌, if◌then◌else◌, List, [], ◌∷◌, map, Option, Some, None, ⊤}
+use Rattle.std.specs.List.{filter}
+use Rattle.hoare_law.specs.declared.event.Event.{Event}
+use Rattle.hoare_law.specs.declared.event.History.{History}
+use Rattle.hoare_law.specs.declared.event.Event.TheVariants.{Wait}
+use Rattle.hoare_law.specs.declared.turn.Turn.{Turn}
+use Rattle.hoare_law.specs.declared.turn.Turn.TheVariants.{Free, Held, Owed, Return}
+use Rattle.hoare_law.specs.Waiting.{waiting, priority_of}
+use Rattle.hoare_law.specs.Turns.{urgent, turn, outside}
+use Rattle.hoare_law.specs.Priorities.{in_order}
+use Rattle.hoare_law.specs.Legal.{IsLegal}
+use Rattle.wait_book.specs.declared.waiter.Waiter.{Waiter}
+use Rattle.wait_book.specs.declared.steps.Next.{Next}
+use Rattle.wait_book.specs.declared.steps.Next.TheVariants as next
+use Rattle.wait_book.specs.declared.steps.MakeRefused.{MakeRefused}
+use Rattle.wait_book.specs.declared.steps.MakeRefused.TheVariants.{BadPlaces, BadConditions}
+
+-- what a book holds: so many places and conditions, who waits by rising priority (equal ones by time), the signallers (the
+-- longest waiting first), and whose turn it is
+pub record Contents : Type 0 where
+  pub places : ℕ
+  pub conditions : ℕ
+  pub waiters : List Waiter
+  pub signallers : List ℕ
+  pub turn : Turn
+
+-- who waits on c, in the order in which signals would resume them
+abbrev pub waiters_on : ℕ → Contents → List Waiter
+waiters_on c b = filter (λ w. w.condition == c) b.waiters
+
+-- the waiting priorities of c
+abbrev pub priorities_on : Contents → ℕ → List ℕ
+priorities_on b c = in_order (λ p. p) (map (λ (w : Waiter). w.priority) (waiters_on c b))
+
+-- 1 where both are one place, else 0
+unfoldable pub one : ℕ → ℕ → ℕ
+one k j = if k == j then 1 else 0
+
+-- how often place k stands in a list
+abbrev pub times : ℕ → List ℕ → ℕ
+times k [] = 0
+times k (j ∷ js) = one k j + times k js
+
+-- how often place k has the turn by hand: it is inside, or was resumed
+abbrev pub times_in_hand : ℕ → Turn → ℕ
+times_in_hand k Free = 0
+times_in_hand k (Held j) = one k j
+times_in_hand k (Owed j c) = one k j
+times_in_hand k (Return j) = 0
+
+-- how often place k stands anywhere in the book
+abbrev pub times_in : ℕ → Contents → ℕ
+times_in k b = times k (map (λ (w : Waiter). w.place) b.waiters) + (times k b.signallers + times_in_hand k b.turn)
+
+-- the waiter as the event by which it began to wait
+abbrev pub wait_of : Waiter → Event (Unit {0})
+wait_of w = Wait w.place w.condition w.priority tt
+
+-- the book is of the history: its lists, its turn and its places are what the history says
+pub record IsOf (b : Contents) (h : History (Unit {0})) : Type 0 where
+  pub legal : IsLegal h
+  pub places : h.places ≡ b.places
+  pub conditions : h.conditions ≡ b.conditions
+  pub waiters : (c : ℕ) → map wait_of (waiters_on c b) ≡ in_order priority_of (waiting c h.events)
+  pub signallers : urgent h.events ≡ b.signallers
+  pub turn_is : turn h.events ≡ b.turn
+  pub outside_are : (k : ℕ) → outside k h.events ≡ (times_in k b == 0)
+
+-- who goes on, as callers see the turn
+abbrev pub next_of : Turn → Next
+next_of Free = next.Free
+next_of (Held k) = next.Held k
+next_of (Owed k c) = next.For k
+next_of (Return k) = next.For k
+
+-- the place that is answered is one of so many
+abbrev pub IsPlaceBelow : ℕ → Next → Type 0
+IsPlaceBelow n next.Free = ⊤
+IsPlaceBelow n (next.For k) = k < n
+IsPlaceBelow n (next.Held k) = k < n
+
+-- where nothing happened
+abbrev pub unused : ℕ → ℕ → History (Unit {0})
+unused places conditions = record { places = places; conditions = conditions; opening = tt; events = [] }
+
+-- the first refusal of so many places and conditions, if memory is there
+abbrev pub make_refusal : ℕ → ℕ → Option MakeRefused
+make_refusal places conditions =
+    if nat_le 1 places && nat_le places 64 then (if nat_le 1 conditions && nat_le conditions 8 then None else Some BadConditions)
+    else Some BadPlaces

@@ -1,0 +1,4 @@
+pub mod Contents
+pub mod Stepping
+pub mod Queues
+pub mod Insides

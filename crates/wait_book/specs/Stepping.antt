@@ -1,0 +1,79 @@
+-- What one step does to a history, and when it is refused.
+use Rattle.std.specs.Prelude.{ℕ, ◌==◌, nat_lt, Bool, true, false, if◌then◌else◌, Option, Some, None, ⊤}
+use Rattle.hoare_law.specs.declared.event.Event.{Event}
+use Rattle.hoare_law.specs.declared.event.History.{History}
+use Rattle.hoare_law.specs.declared.event.Event.TheVariants as event
+use Rattle.hoare_law.specs.declared.turn.Turn.{Turn}
+use Rattle.hoare_law.specs.declared.turn.Turn.TheVariants.{Free, Held, Owed, Return}
+use Rattle.hoare_law.specs.Events.{place_of, with_event}
+use Rattle.hoare_law.specs.Waiting.{chosen}
+use Rattle.hoare_law.specs.Turns.{turn, outside}
+use Rattle.wait_book.specs.declared.steps.Step.{Step}
+use Rattle.wait_book.specs.declared.steps.Step.TheVariants.{Enter, Wait, Signal, Pass, Leave}
+use Rattle.wait_book.specs.declared.steps.StepRefused.{StepRefused}
+use Rattle.wait_book.specs.declared.steps.StepRefused.TheVariants.{NoPlace, NotFree, NotOutside, NotInside, NoCondition}
+use Rattle.wait_book.specs.declared.steps.Next.{Next}
+use Rattle.wait_book.specs.declared.steps.Next.TheVariants as next
+
+abbrev pub is_free : Turn → Bool
+is_free Free = true
+is_free _ = false
+
+abbrev pub is_held_by : ℕ → Turn → Bool
+is_held_by k (Held j) = j == k
+is_held_by k _ = false
+
+-- k comes in where it is a place, the monitor is free and k is outside
+abbrev pub enter_refusal : History (Unit {0}) → ℕ → Option StepRefused
+enter_refusal h k =
+    if nat_lt k h.places then (if is_free (turn h.events) then (if outside k h.events then None else Some NotOutside) else Some NotFree)
+    else Some NoPlace
+
+-- k acts where it is a place and inside; else what refuses it further
+abbrev pub act_refusal : History (Unit {0}) → ℕ → Option StepRefused → Option StepRefused
+act_refusal h k further = if nat_lt k h.places then (if is_held_by k (turn h.events) then further else Some NotInside) else Some NoPlace
+
+abbrev pub condition_refusal : History (Unit {0}) → ℕ → Option StepRefused
+condition_refusal h c = if nat_lt c h.conditions then None else Some NoCondition
+
+-- the first refusal that applies
+abbrev pub refusal_of : History (Unit {0}) → Step → Option StepRefused
+refusal_of h (Enter k) = enter_refusal h k
+refusal_of h (Wait k c p) = act_refusal h k (condition_refusal h c)
+refusal_of h (Signal k c) = act_refusal h k (condition_refusal h c)
+refusal_of h (Pass k c) = act_refusal h k (condition_refusal h c)
+refusal_of h (Leave k) = act_refusal h k None
+
+-- a signal resumes whom it should; where nobody waits it adds nothing
+abbrev pub after_signal : History (Unit {0}) → ℕ → ℕ → Option (Event (Unit {0})) → History (Unit {0})
+after_signal h k c None = h
+after_signal h k c (Some e) = with_event h (event.Signal k c (place_of e) tt)
+
+-- a pass likewise; where nobody waits it leaves
+abbrev pub after_pass : History (Unit {0}) → ℕ → ℕ → Option (Event (Unit {0})) → History (Unit {0})
+after_pass h k c None = with_event h (event.Leave k tt)
+after_pass h k c (Some e) = with_event h (event.Pass k c (place_of e) tt)
+
+-- whoever is owed the monitor goes on
+abbrev pub after_claim : History (Unit {0}) → Turn → History (Unit {0})
+after_claim h Free = h
+after_claim h (Held k) = h
+after_claim h (Owed k c) = with_event h (event.Resume k c tt)
+after_claim h (Return k) = with_event h (event.Back k tt)
+
+abbrev pub settled : History (Unit {0}) → History (Unit {0})
+settled h = after_claim h (turn h.events)
+
+-- the step, and whoever is then owed the monitor goes on
+abbrev pub after_step : History (Unit {0}) → Step → History (Unit {0})
+after_step h (Enter k) = with_event h (event.Admit k tt)
+after_step h (Wait k c p) = settled (with_event h (event.Wait k c p tt))
+after_step h (Signal k c) = settled (after_signal h k c (chosen c h.events))
+after_step h (Pass k c) = settled (after_pass h k c (chosen c h.events))
+after_step h (Leave k) = settled (with_event h (event.Leave k tt))
+
+-- nobody is owed the monitor
+abbrev pub IsSettled : Next → Type 0
+IsSettled next.Free = ⊤
+IsSettled (next.Held k) = ⊤
+IsSettled (next.For k) = ⊥

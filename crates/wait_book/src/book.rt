@@ -1,0 +1,237 @@
+mod stepping;
+mod waits;
+
+use crate::queues::{first_priority, is_in_hand, is_waiting, rank_of, take_first, turn_given_up};
+use crate::steps::{MakeRefused, Next};
+use crate::waiter::Waiter;
+use hoare_law::turn::Turn;
+use std::alloc::Global;
+use std::marker::Model;
+
+/// The most places that a book has.
+pub const MOST_PLACES: usize = 64;
+
+/// The most conditions that a book has.
+pub const MOST_CONDITIONS: usize = 8;
+
+/// The queues of one monitor: who waits on each condition, who waits as a signaller, and whose turn it is ("Monitors",
+/// sections 1, 2 and 4). It is for one thread, and holds no data.
+///
+/// A clause of a call that changes it reads: for every history that the book was of, it is afterwards of that history with
+/// the call's event. No call but `make` takes memory.
+#[derive(Drop)]
+pub struct Book {
+    places: usize,
+    conditions: usize,
+    waiters: Vec<Waiter>,
+    signallers: Vec<usize>,
+    turn: Turn,
+}
+
+impl Model for Book {
+    ghost use Rattle.wait_book.specs.Contents.{Contents};
+
+    ghost Value = { Contents };
+
+    ghost use Rattle.wait_book.specs.Insides.{view_of, IsGood};
+
+    ghost view = { view_of };
+
+    ghost invariant = { IsGood };
+}
+
+impl Book {
+    ghost use Rattle.std.specs.Prelude.{◌≡◌, ◌≢◌, ◌<◌, ◌==◌, ◌↔◌, ℕ, [], IsTrue, MatchResult, MatchOption, IfOk, OnErr, ◌⊎◌, Some, None, slice_index, map};
+    ghost use Rattle.std.specs.Option.{option_map};
+    ghost use Rattle.hoare_law.specs.declared.event.History.{History};
+    ghost use Rattle.hoare_law.specs.declared.event.Event.TheVariants as event;
+    ghost use Rattle.hoare_law.specs.declared.turn.Turn.TheVariants as turns;
+    ghost use Rattle.hoare_law.specs.Events.{with_event};
+    ghost use Rattle.hoare_law.specs.Waiting.{waiting, chosen, priority_of};
+    ghost use Rattle.hoare_law.specs.Turns.{turn, outside};
+    ghost use Rattle.hoare_law.specs.Priorities.{joined, taken};
+    ghost use Rattle.wait_book.specs.Contents.{IsOf, IsPlaceBelow, make_refusal, next_of, priorities_on, times, times_in, unused};
+    ghost use Rattle.wait_book.specs.Stepping.{IsSettled, after_pass, after_signal, after_step, refusal_of, settled};
+
+    /// A book of 1 to 64 places and 1 to 8 conditions where nothing happened yet. Refused, in this order: `BadPlaces`,
+    /// `BadConditions`, and `Memory` where the room for all places to wait or to be waiting signallers can't be had.
+    pub fn make(alloc: Global, places: usize, conditions: usize) -> Result<Book, MakeRefused>
+        ensures made { MatchResult result
+            (λ b. (make_refusal places conditions ≡ None) × IsOf b (unused places conditions))
+            (λ e. (make_refusal places conditions ≡ Some e) ⊎ ((make_refusal places conditions ≡ None) × (e ≡ MakeRefused.Memory))) }
+    {
+        if places == 0 || places > MOST_PLACES {
+            return Err(MakeRefused::BadPlaces);
+        }
+        if conditions == 0 || conditions > MOST_CONDITIONS {
+            return Err(MakeRefused::BadConditions);
+        }
+        let Ok(waiters) = Vec::with_capacity(alloc, places) else {
+            return Err(MakeRefused::Memory);
+        };
+        let Ok(signallers) = Vec::with_capacity(alloc, places) else {
+            return Err(MakeRefused::Memory);
+        };
+        Ok(Book {
+            places,
+            conditions,
+            waiters,
+            signallers,
+            turn: Turn::Free,
+        })
+    }
+
+    /// Who goes on.
+    pub fn now(&self) -> Next
+        ensures turn { result ≡ next_of self.now.turn }
+        ensures of { (h : History (Unit {0})) → IsOf self.now h → result ≡ next_of (turn h.events) }
+        ensures place { IsPlaceBelow self.now.places result }
+    {
+        match self.turn {
+            Turn::Free => Next::Free,
+            Turn::Held(k) => Next::Held(k),
+            Turn::Owed(k, _) => Next::For(k),
+            Turn::Return(k) => Next::For(k),
+        }
+    }
+
+    /// Whether a place is outside: not inside, not waiting on a condition and no waiting signaller.
+    pub fn outside(&self, place: usize) -> bool
+        requires { place < self.now.places }
+        ensures nowhere { result ≡ (times_in place self.now == 0) }
+        ensures of { (h : History (Unit {0})) → IsOf self.now h → result ≡ outside place h.events }
+    {
+        if is_waiting(&self.waiters, place) {
+            return false;
+        }
+        if self.signallers.contains(&place) {
+            return false;
+        }
+        !is_in_hand(self.turn, place)
+    }
+
+    /// Whether somebody waits on a condition (Hoare's `queue`).
+    pub fn queue(&self, condition: usize) -> bool
+        requires { condition < self.now.conditions }
+        ensures lists { IsTrue result ↔ (priorities_on self.now condition ≢ []) }
+        ensures of { (h : History (Unit {0})) → IsOf self.now h → (IsTrue result ↔ (waiting condition h.events ≢ [])) }
+    {
+        self.first(condition).is_some()
+    }
+
+    /// The priority of the process that a signal on a condition would resume, if somebody waits there.
+    pub fn first(&self, condition: usize) -> Option<u64>
+        requires { condition < self.now.conditions }
+        ensures lists { MatchOption result (priorities_on self.now condition ≡ []) (λ p. (priorities_on self.now condition ≢ []) × (p ≡ slice_index (priorities_on self.now condition) 0)) }
+        ensures of { (h : History (Unit {0})) → IsOf self.now h → result ≡ option_map priority_of (chosen condition h.events) }
+    {
+        first_priority(&self.waiters, condition)
+    }
+
+    /// A newcomer comes in, where the monitor is free and its place is outside.
+    pub fn admit(&mut self, place: usize)
+        requires free { self.old.turn ≡ turns.Free }
+        requires place { place < self.old.places }
+        requires outside { times_in place self.old ≡ 0 }
+        ensures inside { self.new.turn ≡ turns.Held place }
+        ensures of { (h : History (Unit {0})) → IsOf self.old h → IsOf self.new (with_event h (event.Admit place tt)) }
+        ensures priorities { (c : ℕ) → priorities_on self.new c ≡ priorities_on self.old c }
+        ensures sizes { (self.new.places ≡ self.old.places) × (self.new.conditions ≡ self.old.conditions) }
+    {
+        self.turn = Turn::Held(place); // free before
+    }
+
+    /// The place that is handed the monitor goes on: it returns from a wait or from a signal.
+    pub fn claim(&mut self, place: usize)
+        requires { next_of self.old.turn ≡ Next.For place }
+        ensures inside { self.new.turn ≡ turns.Held place }
+        ensures of { (h : History (Unit {0})) → IsOf self.old h → IsOf self.new (settled h) }
+        ensures priorities { (c : ℕ) → priorities_on self.new c ≡ priorities_on self.old c }
+        ensures sizes { (self.new.places ≡ self.old.places) × (self.new.conditions ≡ self.old.conditions) }
+    {
+        if let Turn::Return(_) = self.turn {
+            self.signallers.remove(0);
+        }
+        self.turn = Turn::Held(place);
+    }
+
+    /// The place inside waits on a condition with a priority. The longest waiting signaller goes on, or nobody.
+    pub fn wait(&mut self, place: usize, condition: usize, priority: u64) -> Next
+        requires inside { self.old.turn ≡ turns.Held place }
+        requires condition { condition < self.old.conditions }
+        ensures of { (h : History (Unit {0})) → IsOf self.old h → IsOf self.new (with_event h (event.Wait place condition priority tt)) }
+        ensures next { result ≡ next_of self.new.turn }
+        ensures answered { IsPlaceBelow self.new.places result }
+        ensures apart { times place (map (λ w. w.place) self.old.waiters) ≡ 0 }
+        ensures priorities { (c : ℕ) → priorities_on self.new c ≡ joined (priorities_on self.old) condition priority c }
+        ensures sizes { (self.new.places ≡ self.old.places) × (self.new.conditions ≡ self.old.conditions) }
+    {
+        let waiter = Waiter {
+            place,
+            condition,
+            priority,
+        };
+        let rank = rank_of(&self.waiters, priority);
+        let Ok(()) = self.waiters.insert(rank, waiter) else {
+            unreachable!();
+        };
+        self.turn = turn_given_up(&self.signallers);
+        self.now()
+    }
+
+    /// The place inside goes out. The longest waiting signaller goes on, or nobody.
+    pub fn leave(&mut self, place: usize) -> Next
+        requires { self.old.turn ≡ turns.Held place }
+        ensures of { (h : History (Unit {0})) → IsOf self.old h → IsOf self.new (with_event h (event.Leave place tt)) }
+        ensures next { result ≡ next_of self.new.turn }
+        ensures answered { IsPlaceBelow self.new.places result }
+        ensures apart { times place (map (λ w. w.place) self.old.waiters) ≡ 0 }
+        ensures priorities { (c : ℕ) → priorities_on self.new c ≡ priorities_on self.old c }
+        ensures sizes { (self.new.places ≡ self.old.places) × (self.new.conditions ≡ self.old.conditions) }
+    {
+        self.turn = turn_given_up(&self.signallers);
+        self.now()
+    }
+
+    /// The place inside signals a condition: the longest waiting of least priority is handed the monitor, and the place is
+    /// held up as a signaller. Where nobody waits, nothing changes.
+    pub fn signal(&mut self, place: usize, condition: usize) -> Next
+        requires inside { self.old.turn ≡ turns.Held place }
+        requires condition { condition < self.old.conditions }
+        ensures of { (h : History (Unit {0})) → IsOf self.old h → IsOf self.new (after_signal h place condition (chosen condition h.events)) }
+        ensures next { result ≡ next_of self.new.turn }
+        ensures nobody { priorities_on self.old condition ≡ [] → self.new ≡ self.old }
+        ensures somebody { priorities_on self.old condition ≢ [] → (w : ℕ) × (self.new.turn ≡ turns.Owed w condition) }
+        ensures answered { IsPlaceBelow self.new.places result }
+        ensures apart { times place (map (λ w. w.place) self.old.waiters) ≡ 0 }
+        ensures priorities { (c : ℕ) → priorities_on self.new c ≡ taken (priorities_on self.old) condition c }
+        ensures sizes { (self.new.places ≡ self.old.places) × (self.new.conditions ≡ self.old.conditions) }
+    {
+        let Some(resumed) = take_first(&mut self.waiters, condition) else {
+            return self.now();
+        };
+        self.signallers.push_reserved(place);
+        self.turn = Turn::Owed(resumed, condition);
+        self.now()
+    }
+
+    /// The place inside signals a condition as its last act: who is resumed is handed the monitor, and the place is outside.
+    /// Where nobody waits, it leaves.
+    pub fn pass(&mut self, place: usize, condition: usize) -> Next
+        requires inside { self.old.turn ≡ turns.Held place }
+        requires condition { condition < self.old.conditions }
+        ensures of { (h : History (Unit {0})) → IsOf self.old h → IsOf self.new (after_pass h place condition (chosen condition h.events)) }
+        ensures next { result ≡ next_of self.new.turn }
+        ensures somebody { priorities_on self.old condition ≢ [] → (w : ℕ) × (self.new.turn ≡ turns.Owed w condition) }
+        ensures answered { IsPlaceBelow self.new.places result }
+        ensures apart { times place (map (λ w. w.place) self.old.waiters) ≡ 0 }
+        ensures priorities { (c : ℕ) → priorities_on self.new c ≡ taken (priorities_on self.old) condition c }
+        ensures sizes { (self.new.places ≡ self.old.places) × (self.new.conditions ≡ self.old.conditions) }
+    {
+        let Some(resumed) = take_first(&mut self.waiters, condition) else {
+            return self.leave(place);
+        };
+        self.turn = Turn::Owed(resumed, condition);
+        self.now()
+    }
+}

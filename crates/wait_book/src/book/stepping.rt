@@ -1,0 +1,110 @@
+//! A book moved by any step, with what is refused.
+ghost use Rattle.std.specs.Prelude.{ℕ};
+
+use super::Book;
+use crate::steps::{Next, Step, StepRefused};
+use hoare_law::turn::Turn;
+
+impl Book {
+    ghost use Rattle.std.specs.Prelude.{◌≡◌, ◌<◌, ◌==◌, ℕ, MatchResult, IfOk, OnErr, Some, None, Option};
+    ghost use Rattle.hoare_law.specs.declared.event.History.{History};
+    ghost use Rattle.hoare_law.specs.declared.turn.Turn.TheVariants as turns;
+    ghost use Rattle.wait_book.specs.declared.steps.StepRefused.{StepRefused};
+    ghost use Rattle.wait_book.specs.Contents.{IsOf, next_of, times_in};
+    ghost use Rattle.wait_book.specs.Stepping.{IsSettled, act_refusal, after_step, condition_refusal, enter_refusal, refusal_of, settled};
+
+    // Whoever is owed the monitor goes on.
+    fn settle(&mut self) -> Next
+        ensures next { result ≡ next_of self.new.turn }
+        ensures settled { IsSettled result }
+        ensures of { (h : History (Unit {0})) → IsOf self.old h → IsOf self.new (settled h) }
+        ensures sizes { (self.new.places ≡ self.old.places) × (self.new.conditions ≡ self.old.conditions) }
+    {
+        if let Next::For(place) = self.now() {
+            self.claim(place);
+        }
+        self.now()
+    }
+
+    // The place, if it may come in.
+    fn newcomer(&self, place: u64) -> Result<usize, StepRefused>
+        ensures ok { IfOk result (λ k. (k ≡ place) × (self.now.turn ≡ turns.Free) × (k < self.now.places) × (times_in k self.now ≡ 0)) }
+        ensures of { (h : History (Unit {0})) → IsOf self.now h → MatchResult result (λ _. enter_refusal h place ≡ None) (λ r. enter_refusal h place ≡ Some r) }
+    {
+        if place >= self.places as u64 {
+            return Err(StepRefused::NoPlace);
+        }
+        let place = place as usize;
+        if self.turn != Turn::Free {
+            return Err(StepRefused::NotFree);
+        }
+        if !self.outside(place) {
+            return Err(StepRefused::NotOutside);
+        }
+        Ok(place)
+    }
+
+    // The place, if it is inside.
+    fn holder(&self, place: u64) -> Result<usize, StepRefused>
+        ensures ok { IfOk result (λ k. (k ≡ place) × (self.now.turn ≡ turns.Held k)) }
+        ensures of { (h : History (Unit {0})) (further : Option StepRefused) → IsOf self.now h → MatchResult result (λ _. act_refusal h place further ≡ further) (λ r. act_refusal h place further ≡ Some r) }
+    {
+        if place >= self.places as u64 {
+            return Err(StepRefused::NoPlace);
+        }
+        match self.turn {
+            Turn::Held(k) if k as u64 == place => Ok(k),
+            _ => Err(StepRefused::NotInside),
+        }
+    }
+
+    // The condition, if there is one of this number.
+    fn condition(&self, condition: u64) -> Result<usize, StepRefused>
+        ensures ok { IfOk result (λ c. (c ≡ condition) × (c < self.now.conditions)) }
+        ensures of { (h : History (Unit {0})) → IsOf self.now h → MatchResult result (λ _. condition_refusal h condition ≡ None) (λ r. condition_refusal h condition ≡ Some r) }
+    {
+        if condition >= self.conditions as u64 {
+            return Err(StepRefused::NoCondition);
+        }
+        Ok(condition as usize)
+    }
+
+    /// Does a step, and then lets the place that is owed the monitor go on, so that the answer is who is inside, or that the
+    /// monitor is free. Refused, in this order: `NoPlace`; `NotFree` and `NotOutside` (an `Enter`); `NotInside` and
+    /// `NoCondition` (the others). A refusal changes nothing.
+    pub fn try_step(&mut self, step: Step) -> Result<Next, StepRefused>
+        ensures of { (h : History (Unit {0})) → IsOf self.old h → MatchResult result
+            (λ _. (refusal_of h step ≡ None) × IsOf self.new (after_step h step))
+            (λ r. refusal_of h step ≡ Some r) }
+        ensures next { IfOk result (λ next. (next ≡ next_of self.new.turn) × IsSettled next) }
+        ensures sizes { (self.new.places ≡ self.old.places) × (self.new.conditions ≡ self.old.conditions) }
+        ensures err { OnErr result (self.new ≡ self.old) }
+    {
+        match step {
+            Step::Enter(place) => {
+                let place = self.newcomer(place)?;
+                self.admit(place);
+            }
+            Step::Wait(place, condition, priority) => {
+                let place = self.holder(place)?;
+                let condition = self.condition(condition)?;
+                self.wait(place, condition, priority);
+            }
+            Step::Signal(place, condition) => {
+                let place = self.holder(place)?;
+                let condition = self.condition(condition)?;
+                self.signal(place, condition);
+            }
+            Step::Pass(place, condition) => {
+                let place = self.holder(place)?;
+                let condition = self.condition(condition)?;
+                self.pass(place, condition);
+            }
+            Step::Leave(place) => {
+                let place = self.holder(place)?;
+                self.leave(place);
+            }
+        }
+        Ok(self.settle())
+    }
+}

@@ -1,0 +1,33 @@
+//! The waiting priorities of a book.
+ghost use Rattle.std.specs.Prelude.{◌≡◌, ◌<◌, ℕ, length, slice_index};
+
+use super::Book;
+use crate::queues::{count_on, nth_priority};
+use hoare_law::waits::Waits;
+
+impl Waits for Book {
+    ghost use Rattle.std.specs.Prelude.{◌≡◌, ◌<◌, ℕ, length, map};
+    ghost use Rattle.hoare_law.specs.declared.event.History.{History};
+    ghost use Rattle.hoare_law.specs.Priorities.{priorities};
+    ghost use Rattle.wait_book.specs.declared.waiter.Waiter.{Waiter};
+    ghost use Rattle.wait_book.specs.Contents.{IsOf, priorities_on, waiters_on};
+    ghost use Rattle.hoare_law.proofs.Risings.{IsNonDecreasing-in_order};
+
+    ghost waiting_priorities = { priorities_on };
+
+    fn count(&self, condition: usize) -> usize
+        ensures lists { result ≡ length (priorities_on self.now condition) }
+        ensures of { (h : History (Unit {0})) → IsOf self.now h → priorities_on self.now condition ≡ priorities h.events condition }
+    {
+        count_on(&self.waiters, condition)
+    }
+
+    fn priority(&self, condition: usize, i: usize) -> u64 {
+        let Some(priority) = nth_priority(&self.waiters, condition, i) else {
+            unreachable!();
+        };
+        priority
+    }
+
+    ghost rise = { λ w c. IsNonDecreasing-in_order (map (λ (v : Waiter). v.priority) (waiters_on c w)) };
+}

@@ -1,0 +1,9 @@
+//! The book of a monitor's queues: the machine of entry, signallers and conditions for one thread.
+#![tactic(auto)]
+
+pub mod book;
+mod queues;
+pub mod steps;
+#[cfg(test)]
+mod tests;
+pub mod waiter;

@@ -1,0 +1,51 @@
+/// Who goes on at the monitor.
+#[derive(Clone, Copy, Debug, PartialEq, Eq)]
+pub enum Next {
+    /// Nobody is inside and nobody is owed the monitor: a newcomer may come in.
+    Free,
+    /// The monitor is handed to this place, which hasn't gone on yet.
+    For(usize),
+    /// This place is inside.
+    Held(usize),
+}
+
+/// Why no book was made. The first that applies is answered.
+#[derive(Clone, Copy, Debug, PartialEq, Eq, thiserror::Error)]
+pub enum MakeRefused {
+    #[error("a monitor has 1 to 64 places")]
+    BadPlaces,
+    #[error("a monitor has 1 to 8 conditions")]
+    BadConditions,
+    #[error("out of memory")]
+    Memory,
+}
+
+/// One step of a place, as a script spells it. All numbers are any numbers: a step out of range is refused.
+#[derive(Clone, Copy, Debug, PartialEq, Eq)]
+pub enum Step {
+    /// A place comes in.
+    Enter(u64),
+    /// A place waits on a condition, with a priority.
+    Wait(u64, u64, u64),
+    /// A place signals a condition, and is held up as a signaller where somebody waits there.
+    Signal(u64, u64),
+    /// A place signals a condition and goes out.
+    Pass(u64, u64),
+    /// A place goes out.
+    Leave(u64),
+}
+
+/// Why a step isn't done. The first that applies is answered, and nothing changes.
+#[derive(Clone, Copy, Debug, PartialEq, Eq, thiserror::Error)]
+pub enum StepRefused {
+    #[error("there is no such place")]
+    NoPlace,
+    #[error("the monitor isn't free")]
+    NotFree,
+    #[error("the place waits on a condition")]
+    NotOutside,
+    #[error("the place isn't inside")]
+    NotInside,
+    #[error("there is no such condition")]
+    NoCondition,
+}

@@ -1,0 +1,115 @@
+-- The book in hand, and the history that it is of.
+use Rattle.std.proofs.Common.{◌≡◌, ◌≢◌, ℕ, Bool, true, false, IsTrue, true≢false, List, [], ◌∷◌, map, Option, Some, None, refl, ap, sym, ◌∙◌, subst, eqb-true}
+use Rattle.std.specs.Option.{option_map}
+use Rattle.hoare_law.specs.declared.event.Event.{Event}
+use Rattle.hoare_law.specs.declared.event.History.{History}
+use Rattle.hoare_law.specs.declared.event.Event.TheVariants.{Signal, Pass, Resume, Back}
+use Rattle.hoare_law.specs.declared.turn.Turn.{Turn}
+use Rattle.hoare_law.specs.declared.turn.Turn.TheVariants.{Owed, Return}
+use Rattle.hoare_law.specs.Erasure.{erased, without_data}
+use Rattle.hoare_law.specs.Events.{place_of, with_event}
+use Rattle.hoare_law.specs.Priorities.{in_order, priorities}
+use Rattle.hoare_law.specs.Turns.{turn, outside}
+use Rattle.hoare_law.specs.Waiting.{priority_of, waiting, chosen}
+use Rattle.hoare_law.proofs.Erasure.{turn-erased, outside-erased, priorities-erased, erased-push, chosen-erased, place_of-erased, priority_of-erased}
+use Rattle.hoare_law.proofs.Priorities.{waiting-unchosen, waiting-no_priority, priorities-nobody}
+use Rattle.hoare_law.proofs.InOrder.{in_order-in_order}
+use Rattle.hoare_law.proofs.Risings.{map-in_order}
+use Rattle.hoare_law.proofs.Turns.{turn-push}
+use Rattle.wait_book.specs.declared.waiter.Waiter.{Waiter}
+use Rattle.wait_book.specs.declared.steps.Next.{Next}
+use Rattle.wait_book.specs.Contents.{Contents, IsOf, next_of, priorities_on, times_in, wait_of, waiters_on}
+use Rattle.wait_book.specs.Stepping.{after_claim, after_pass, after_signal, settled}
+use Rattle.baton_door.specs.Rule.{word_of}
+use Rattle.baton_door.specs.Words.{place_for, word_of_next}
+use Rattle.baton_door.proofs.Words.{word_of-next}
+
+priorities_of : (ws : List Waiter) → map priority_of (map wait_of ws) ≡ map (λ (w : Waiter). w.priority) ws
+priorities_of [] = refl
+priorities_of (w ∷ ws) = ap (λ l. w.priority ∷ l) (priorities_of ws)
+
+module _ {D : Type 0} where
+  listed : (b : Contents) (h : History D) (c : ℕ) → IsOf b (erased h) → map (λ (w : Waiter). w.priority) (waiters_on c b) ≡ priorities h.events c
+  unfolding priorities
+  listed b h c o = sym (priorities_of (waiters_on c b)) ∙ ap (map priority_of) (o.waiters c) ∙ ap (λ q. q c) (priorities-erased h.events)
+
+  -- the waiting priorities are in order
+  in_order-priorities : (h : List (Event D)) (c : ℕ) → in_order (λ n. n) (priorities h c) ≡ priorities h c
+  unfolding priorities
+  in_order-priorities h c =
+      let mapped = map-in_order priority_of (waiting c h) in
+      ap (in_order (λ n. n)) mapped ∙ in_order-in_order (λ n. n) (map priority_of (waiting c h)) ∙ sym mapped
+
+  -- the priorities of the book are those of the history
+  pub priorities_on-history : (b : Contents) (h : History D) → IsOf b (erased h) → priorities_on b ≡ priorities h.events
+  priorities_on-history b h o = λ i c. (ap (in_order (λ n. n)) (listed b h c o) ∙ in_order-priorities h.events c) i
+
+  pub turn-history : (b : Contents) (h : History D) → IsOf b (erased h) → b.turn ≡ turn h.events
+  turn-history b h o = sym o.turn_is ∙ turn-erased h.events
+
+  -- the word that the book's answer stands for says whose turn it is
+  pub word-history : (b : Contents) (h : History D) (next : Next) → IsOf b (erased h) → next ≡ next_of b.turn → word_of_next next ≡ word_of (turn h.events)
+  word-history b h next o is = ap word_of_next is ∙ word_of-next b.turn ∙ ap word_of (turn-history b h o)
+
+  -- who is outside stands nowhere in the book
+  pub times_in-outside : (b : Contents) (h : History D) (k : ℕ) → IsOf b (erased h) → outside k h.events ≡ true → times_in k b ≡ 0
+  times_in-outside b h k o out = eqb-true (times_in k b) 0 (sym (o.outside_are k) ∙ outside-erased k h.events ∙ out)
+
+  -- a book of the history without data, and one event more
+  pub IsOf-event : (b : Contents) (h : History D) (e : Event D) → IsOf b (with_event (erased h) (without_data e)) → IsOf b (erased (with_event h e))
+  IsOf-event b h e o = subst (IsOf b) (sym (erased-push h e)) o
+
+  settled_as : (b : Contents) (h : History D) (t : Turn) → turn h.events ≡ t → IsOf b (settled (erased h)) → IsOf b (after_claim (erased h) t)
+  settled_as b h t is o = subst (λ (u : Turn). IsOf b (after_claim (erased h) u)) (turn-erased h.events ∙ is) o
+
+  pub IsOf-resumed : (b : Contents) (h : History D) (k c : ℕ) (s : D) → turn h.events ≡ Owed k c → IsOf b (settled (erased h)) → IsOf b (erased (with_event h (Resume k c s)))
+  IsOf-resumed b h k c s is o = IsOf-event b h (Resume k c s) (settled_as b h (Owed k c) is o)
+
+  pub IsOf-returned : (b : Contents) (h : History D) (k : ℕ) (s : D) → turn h.events ≡ Return k → IsOf b (settled (erased h)) → IsOf b (erased (with_event h (Back k s)))
+  IsOf-returned b h k s is o = IsOf-event b h (Back k s) (settled_as b h (Return k) is o)
+
+  -- somebody is chosen where a priority stands
+  pub somebody : (c : ℕ) (h : List (Event D)) → priorities h c ≢ [] → (x : Event D) × (chosen c h ≡ Some x)
+  somebody c h some = by (chosen c h) refl
+    where
+      by : (o : Option (Event D)) → chosen c h ≡ o → (x : Event D) × (chosen c h ≡ Some x)
+      by (Some x) is = (x, is)
+      by None is = absurd (some (priorities-nobody c h (waiting-unchosen c h is)))
+
+  pub IsOf-signalled : (b : Contents) (h : History D) (k c : ℕ) (x : Event D) (s : D) → chosen c h.events ≡ Some x → IsOf b (after_signal (erased h) k c (chosen c (erased h).events)) → IsOf b (erased (with_event h (Signal k c (place_of x) s)))
+  IsOf-signalled b h k c x s is o = IsOf-event b h (Signal k c (place_of x) s)
+      (subst (λ (w : ℕ). IsOf b (with_event (erased h) (Signal k c w tt))) (place_of-erased x)
+      (subst (λ (p : Option (Event (Unit {0}))). IsOf b (after_signal (erased h) k c p)) (chosen-erased c h.events ∙ ap (option_map without_data) is) o))
+
+  pub IsOf-passed : (b : Contents) (h : History D) (k c : ℕ) (x : Event D) (s : D) → chosen c h.events ≡ Some x → IsOf b (after_pass (erased h) k c (chosen c (erased h).events)) → IsOf b (erased (with_event h (Pass k c (place_of x) s)))
+  IsOf-passed b h k c x s is o = IsOf-event b h (Pass k c (place_of x) s)
+      (subst (λ (w : ℕ). IsOf b (with_event (erased h) (Pass k c w tt))) (place_of-erased x)
+      (subst (λ (p : Option (Event (Unit {0}))). IsOf b (after_pass (erased h) k c p)) (chosen-erased c h.events ∙ ap (option_map without_data) is) o))
+
+  -- somebody waits where a priority stands
+  pub waits_too : (b : Bool) (h : List (Event D)) (c : ℕ) → (IsTrue b → priorities h c ≢ []) × (priorities h c ≢ [] → IsTrue b) → (IsTrue b → waiting c h ≢ []) × (waiting c h ≢ [] → IsTrue b)
+  waits_too b h c told = ((λ is none. told.0 is (priorities-nobody c h none)), λ some. told.1 (λ none. some (waiting-no_priority c h none)))
+
+  kept_priority : (o : Option (Event D)) → option_map priority_of (option_map without_data o) ≡ option_map priority_of o
+  kept_priority None = refl
+  kept_priority (Some x) = ap (λ p. Some p) (priority_of-erased x)
+
+  pub first-history : (r : Option ℕ) (h : History D) (c : ℕ) → r ≡ option_map priority_of (chosen c (erased h).events) → r ≡ option_map priority_of (chosen c h.events)
+  first-history r h c is = is ∙ ap (option_map priority_of) (chosen-erased c h.events) ∙ kept_priority (chosen c h.events)
+
+  -- the turn after a signal or a pass
+  pub turn_signalled : (h : History D) (k c w : ℕ) (s : D) → turn (with_event h (Signal k c w s)).events ≡ Owed w c
+  unfolding with_event
+  turn_signalled h k c w s = turn-push h.events (Signal k c w s)
+
+  pub turn_passed : (h : History D) (k c w : ℕ) (s : D) → turn (with_event h (Pass k c w s)).events ≡ Owed w c
+  unfolding with_event
+  turn_passed h k c w s = turn-push h.events (Pass k c w s)
+
+  -- the book answers the place that is handed the monitor
+  pub handed_to : (h : History D) (e : Event D) (w c : ℕ) (b : Contents) (next : Next) → IsOf b (erased (with_event h e)) → turn (with_event h e).events ≡ Owed w c → next ≡ next_of b.turn → place_for next ≡ w
+  handed_to h e w c b next o is answered = ap place_for (answered ∙ ap next_of (turn-history b (with_event h e) o ∙ is))
+
+pub no_priority : (b : Bool) (q : List ℕ) (n : b ≡ false) → (IsTrue b → q ≢ []) × (q ≢ [] → IsTrue b) → q ≡ []
+no_priority b [] n told = refl
+no_priority b (x ∷ q) n told = let yes : b ≡ true = told.1 (λ e. cc) in absurd (true≢false (sym yes ∙ n))

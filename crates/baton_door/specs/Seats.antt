@@ -1,0 +1,16 @@
+-- How a seat stands for a place outside or inside.
+use Rattle.std.specs.Prelude.{◌≡◌, ℕ, [], ◌∷◌, None}
+use Rattle.hoare_law.specs.declared.event.History.{History}
+use Rattle.hoare_law.specs.Erasure.{erased}
+use Rattle.wait_book.specs.Contents.{Contents, IsOf}
+use Rattle.baton_door.specs.Steps.{Sat}
+use Rattle.baton_door.specs.Views.{alone}
+
+module _ {D : Type 0} where
+  -- the seat of the place k, which knows f, without the slot
+  abbrev pub IsAway : ℕ → History D → Sat D → Type 0
+  IsAway k f me = me ≡ (alone k f, [])
+
+  -- the same with the slot, empty: the book in hand is of f
+  abbrev pub IsInside : ℕ → History D → Sat D → Contents → Type 0
+  IsInside k f me b = (me ≡ (alone k f, (0, None) ∷ [])) × IsOf b (erased f)

@@ -1,0 +1,10 @@
+//! The running monitor: one word, one slot, and sleeping places. Its history stands in the proofs alone.
+#![tactic(auto)]
+
+pub mod door;
+mod monitor;
+mod parcel;
+mod parking;
+pub mod place;
+mod rule;
+mod view;

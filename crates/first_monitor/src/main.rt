@@ -1,0 +1,90 @@
+//! A first monitor, to be copied: a pool of permits, its workers, and a desk that looks on.
+#![tactic(auto)]
+
+mod permits;
+
+ghost use Rattle.std.specs.Prelude.{All};
+ghost use Rattle.baton_door.specs.Places.{IsOut};
+ghost use Rattle.first_monitor.specs.Rests.{PermitsRest, PermitsReady};
+
+use crate::permits::{Class, Permits};
+use baton_door::door::Door;
+use baton_door::place::DoorOut;
+use hoare_law::monitor::Monitor;
+use std::alloc::{AllocError, Global};
+use std::sync::Wait;
+use std::sync::atomic::{AtomicU32, Ordering};
+use std::thread::Threads;
+use std::{io, thread};
+
+const WORKERS: u32 = 4;
+
+const PERMITS: u32 = 2;
+
+const JOBS: u32 = 1000;
+
+// What one thread does, over its own place: so many jobs, each with a permit. The place is handed in, since no two threads may
+// use one place; the door is shared.
+fn work<R: Wait>(rt: &R, door: &Door<Permits>, out: DoorOut<Permits>, class: Class) -> u32
+    requires { ⟦<Door<Permits> as Monitor<Permits>>⟧.is_of door.now out }
+{
+    let mut out = out;
+    let mut done = 0u32;
+    for _ in 0..JOBS {
+        out = Permits::take(door, rt, out, class);
+        // (here the worker does its job, outside the monitor and with a permit)
+        let (again, given) = Permits::give(door, rt, out);
+        out = again;
+        if given.is_ok() {
+            done = done.saturating_add(1);
+        }
+    }
+    done
+}
+
+// One thread for each place. The closure says what it needs of the place that it is handed: that it is one of the door's.
+fn work_all<R: Threads + Wait + Sync>(
+    rt: &R,
+    door: &Door<Permits>,
+    places: Vec<DoorOut<Permits>>,
+) -> io::Result<u32>
+    requires { All (λ o. IsOut (λ s q. PermitsRest s.total s.free q) (λ c p s q. PermitsReady s.total s.free q) 1 door.now.table.shared.table_id door.now.table.shared.key o) places.items }
+{
+    let number = AtomicU32::new(0);
+    let done = thread::map_vec(
+        rt,
+        places,
+        &|out| -> u32
+            requires { IsOut (λ s q. PermitsRest s.total s.free q) (λ c p s q. PermitsReady s.total s.free q) 1 door.now.table.shared.table_id door.now.table.shared.key out }
+        {
+            let class = if number.fetch_add(1, Ordering::SeqCst) % 2 == 0 {
+                Class::Express
+            } else {
+                Class::Standard
+            };
+            work(rt, door, out, class)
+        },
+    )?;
+    Ok(
+        done.iter()
+            .fold(0u32, |sum, jobs| sum.saturating_add(*jobs)),
+    )
+}
+
+fn run<R: Threads + Wait + Print + Sync>(rt: &R, alloc: Global) -> io::Result<()> {
+    // One place for each worker, and one for the desk. (Making a door can be refused: out of memory, or a number out of range.)
+    let Ok((door, mut places)) = Door::make(alloc, Permits::new(PERMITS), WORKERS as usize + 1)
+    else {
+        return Err(io::Error::from(AllocError));
+    };
+    let Some(desk) = places.pop() else {
+        return Err(io::Error::from(AllocError));
+    };
+    let done = work_all(rt, &door, places)?;
+    let (_desk, free) = Permits::free(&door, rt, desk);
+    println!(rt; "{WORKERS} workers did {done} jobs with {PERMITS} permits; {free} are free")
+}
+
+fn main(rt: HostRuntime) -> io::Result<()> {
+    run(&rt, rt.alloc())
+}

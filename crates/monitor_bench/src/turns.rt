@@ -1,0 +1,157 @@
+//! What the threads do, over any monitor.
+ghost use Rattle.std.specs.Prelude.{◌<◌, ◌≡◌};
+
+use crate::counter::Counter;
+use hoare_law::monitor::Monitor;
+use hoare_law::waits::Waits;
+use plain_schedulers::buffer::Buffer;
+use std::sync::Wait;
+
+/// Comes in, adds one and goes out, so many times.
+pub fn add_many<const N: usize, R: Wait, M: Monitor<Counter<N>>>(
+    rt: &R,
+    m: &M,
+    out: M::Out,
+    turns: u64,
+)
+    requires { M.is_of m.now out }
+{
+    let mut out = out;
+    for _ in 0..turns {
+        let mut inside = m.enter(rt, out);
+        let counter = M::state_mut(&mut inside, m);
+        counter.value = counter.value.wrapping_add(1);
+        out = m.leave(rt, inside);
+    }
+}
+
+/// Waits on condition 0, so many times.
+pub fn wait_many<const N: usize, R: Wait, M: Monitor<Counter<N>>>(
+    rt: &R,
+    m: &M,
+    out: M::Out,
+    turns: u64,
+    priority: u64,
+)
+    requires of { M.is_of m.now out }
+    requires condition { 0 < N }
+{
+    let mut inside = m.enter(rt, out);
+    for _ in 0..turns {
+        inside = m.wait(rt, inside, 0, priority);
+    }
+    m.leave(rt, inside);
+}
+
+/// Signals condition 0 until so many processes were resumed.
+pub fn signal_many<const N: usize, R: Wait, M: Monitor<Counter<N>>>(
+    rt: &R,
+    m: &M,
+    out: M::Out,
+    turns: u64,
+)
+    requires of { M.is_of m.now out }
+    requires condition { 0 < N }
+{
+    let mut out = out;
+    let mut resumed = 0;
+    for _ in rt.forever() {
+        if resumed >= turns {
+            return;
+        }
+        let inside = m.enter(rt, out);
+        if m.queue(&inside, 0) {
+            resumed += 1;
+            let (inside, _resumed) = m.signal(rt, inside, 0);
+            out = m.leave(rt, inside);
+        } else {
+            out = m.leave(rt, inside);
+        }
+    }
+    unreachable!()
+}
+
+/// Waits on a condition and then signals the next, so many times: a link of a chain.
+pub fn link_many<const N: usize, R: Wait, M: Monitor<Counter<N>>>(
+    rt: &R,
+    m: &M,
+    out: M::Out,
+    turns: u64,
+    condition: usize,
+)
+    requires of { M.is_of m.now out }
+    requires condition { condition < N }
+{
+    let mut out = out;
+    for _ in 0..turns {
+        let inside = m.enter(rt, out);
+        let inside = m.wait(rt, inside, condition, 0);
+        let next = condition + 1;
+        if next < N {
+            let (inside, _resumed) = m.signal(rt, inside, next);
+            out = m.leave(rt, inside);
+        } else {
+            out = m.leave(rt, inside);
+        }
+    }
+}
+
+// Whether a process waits on each condition.
+fn is_chain_ready<const N: usize, M: Monitor<Counter<N>>>(m: &M, inside: &M::In) -> bool
+    requires { M.is_of_in m.now inside.now }
+{
+    let lists = m.lists(inside);
+    (0..N).all(|c| lists.count(c) > 0)
+}
+
+/// Signals the first link of a chain once all its links wait, so many times.
+pub fn pull_many<const N: usize, R: Wait, M: Monitor<Counter<N>>>(
+    rt: &R,
+    m: &M,
+    out: M::Out,
+    turns: u64,
+)
+    requires of { M.is_of m.now out }
+    requires condition { 0 < N }
+{
+    let mut out = out;
+    let mut pulled = 0;
+    for _ in rt.forever() {
+        if pulled >= turns {
+            return;
+        }
+        let inside = m.enter(rt, out);
+        if is_chain_ready(m, &inside) {
+            pulled += 1;
+            let (inside, _resumed) = m.signal(rt, inside, 0);
+            out = m.leave(rt, inside);
+        } else {
+            out = m.leave(rt, inside);
+        }
+    }
+    unreachable!()
+}
+
+/// Appends the numbers below `turns`.
+pub fn append_many<R: Wait, M: Monitor<Buffer<u64>>>(rt: &R, m: &M, out: M::Out, turns: u64)
+    requires { M.is_of m.now out }
+{
+    let mut out = out;
+    for item in 0..turns {
+        out = Buffer::append(m, rt, out, item);
+    }
+}
+
+/// Removes so many items, and adds them up.
+pub fn remove_many<R: Wait, M: Monitor<Buffer<u64>>>(rt: &R, m: &M, out: M::Out, turns: u64) -> u64
+    requires { M.is_of m.now out }
+{
+    let mut out = out;
+    let mut sum = 0u64;
+    for _ in 0..turns {
+        let (again, item) = Buffer::remove(m, rt, out);
+        out = again;
+        sum = sum.wrapping_add(item);
+    }
+    sum
+}

@@ -1,0 +1,130 @@
+//! Rows and lanes: what each place does after each step, read off the answers.
+ghost use Rattle.std.specs.Prelude.{◌≡◌, ◌<◌, ℕ, length, slice_index_or};
+ghost use Rattle.script_picture.specs.declared.chart.Lane.TheVariants as states;
+ghost use Rattle.script_picture.specs.Lanes.{actor, hand_over, lane_after, left_as};
+
+use arrayvec::ArrayVec;
+use hoare_script::answers::Answer;
+use hoare_script::lines::{Command, Header};
+use wait_book::steps::Step;
+
+/// What a place does.
+#[derive(Clone, Copy, Debug, PartialEq, Eq, Default)]
+pub enum Lane {
+    #[default]
+    Outside,
+    Inside,
+    /// It waits on this condition, with this priority.
+    Waiting(u64, u64),
+    /// It signalled, and waits for its return.
+    Signalling,
+}
+
+/// What each of at most 64 places does.
+pub type Lanes = ArrayVec<Lane, 64>;
+
+/// A command with its answer.
+#[derive(Clone, Copy, Debug, PartialEq, Eq)]
+pub struct Row {
+    pub command: Command,
+    pub answer: Answer,
+}
+
+/// A script that was read: its header, and its rows in order.
+#[derive(Drop)]
+pub struct Chart {
+    pub header: Header,
+    pub rows: Vec<Row>,
+}
+
+/// One place gives the monitor up, and another goes on.
+#[derive(Clone, Copy, Debug, PartialEq, Eq)]
+pub struct HandOver {
+    pub from: u64,
+    pub to: u64,
+}
+
+/// The place that does a step.
+fn actor(step: Step) -> u64
+    ensures { result ≡ actor step }
+{
+    match step {
+        Step::Enter(place) => place,
+        Step::Wait(place, _, _) => place,
+        Step::Signal(place, _) => place,
+        Step::Pass(place, _) => place,
+        Step::Leave(place) => place,
+    }
+}
+
+/// What the place that does a step does then, unless it is inside.
+fn left_as(step: Step) -> Lane
+    ensures { result ≡ left_as step }
+{
+    match step {
+        Step::Enter(_) => Lane::Inside,
+        Step::Wait(_, condition, priority) => Lane::Waiting(condition, priority),
+        Step::Signal(_, _) => Lane::Signalling,
+        Step::Pass(_, _) => Lane::Outside,
+        Step::Leave(_) => Lane::Outside,
+    }
+}
+
+/// What a place does after a row, by what it did before: the place of the answer is inside, the place of the step as the
+/// step leaves it, and each other as before. A refused step changes nothing, nor does a question.
+pub fn lane_after(row: Row, place: u64, before: Lane) -> Lane
+    ensures { result ≡ lane_after row place before }
+{
+    let Command::Do(step) = row.command else {
+        return before;
+    };
+    if let Answer::Refused(_) = row.answer {
+        return before;
+    }
+    if let Answer::Inside(inside) = row.answer {
+        if inside as u64 == place {
+            return Lane::Inside;
+        }
+    }
+    if actor(step) == place {
+        return left_as(step);
+    }
+    before
+}
+
+/// The hand-over of a row: from the place of the step to the place of the answer, if that is another.
+pub fn hand_over(row: Row) -> Option<HandOver>
+    ensures { result ≡ hand_over row }
+{
+    let Command::Do(step) = row.command else {
+        return None;
+    };
+    let Answer::Inside(inside) = row.answer else {
+        return None;
+    };
+    let from = actor(step);
+    let to = inside as u64;
+    if from == to {
+        return None;
+    }
+    Some(HandOver { from, to })
+}
+
+/// All places as they begin.
+pub fn outside_lanes(header: Header) -> Lanes {
+    let mut lanes = ArrayVec::new();
+    for _ in 0..header.places {
+        let _ = lanes.try_push(Lane::Outside);
+    }
+    lanes
+}
+
+/// Takes all lanes past a row.
+pub fn advance(lanes: &mut [Lane], row: Row)
+    ensures length { length lanes.new ≡ length lanes.old }
+    ensures each { (k : ℕ) → k < length lanes.old → slice_index_or lanes.new k states.Outside ≡ lane_after row k (slice_index_or lanes.old k states.Outside) }
+{
+    'places: for place in 0..lanes.len() {
+        lanes[place] = lane_after(row, place as u64, lanes[place]);
+    }
+}

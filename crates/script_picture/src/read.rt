@@ -1,0 +1,119 @@
+//! Reads a script row by row, as `hoare_script` answers it.
+ghost use Rattle.std.specs.Prelude.{◌≡◌, ◌||◌, false};
+ghost use Rattle.script_picture.specs.Marks.{is_read_fault};
+
+use crate::chart::{Chart, Row};
+use arrayvec::ArrayVec;
+use hoare_script::ScriptFault;
+use hoare_script::lines::{Header, parse_command, parse_header};
+use hoare_script::opened::Opened;
+use hoare_script::streams::{Ended, LineFault, WatchedReader, read_line};
+use std::alloc::Global;
+use std::io::Read;
+use wait_book::steps::MakeRefused;
+
+/// The most bytes of a script.
+const MOST_BYTES: usize = 1_048_576;
+
+/// A script that was opened by its header: what was read of it, its book, the bytes that may follow, and whether any do.
+#[derive(Drop)]
+pub struct Script {
+    pub chart: Chart,
+    opened: Opened,
+    room: usize,
+    ended: Ended,
+}
+
+/// Reads the header. Refused: `NoHeader`, `BadHeader`, `LineTooLong`, `ReadFault`, and `Memory` where the book can't be had.
+pub fn open_script<R: Read>(
+    alloc: Global,
+    reader: &mut WatchedReader<'_, R>,
+) -> Result<Script, ScriptFault>
+    ensures { reader.new.failed ≡ (reader.old.failed || is_read_fault result) }
+{
+    let mut line = ArrayVec::new();
+    let ended = read_numbered(reader, &mut line, MOST_BYTES, 1)?;
+    if ended == Ended::Last && line.is_empty() {
+        return Err(ScriptFault::NoHeader);
+    }
+    let Some(header) = parse_header(line.as_slice()) else {
+        return Err(ScriptFault::BadHeader(1));
+    };
+    let opened = open_book(alloc, header)?;
+    Ok(Script {
+        chart: Chart {
+            header,
+            rows: Vec::new(alloc),
+        },
+        opened,
+        room: MOST_BYTES.saturating_sub(line.len()).saturating_sub(1),
+        ended,
+    })
+}
+
+// The book of a header.
+fn open_book(alloc: Global, header: Header) -> Result<Opened, ScriptFault>
+    ensures { is_read_fault result ≡ false }
+{
+    match Opened::make(alloc, header) {
+        Ok(opened) => Ok(opened),
+        Err(MakeRefused::Memory) => Err(ScriptFault::Memory),
+        Err(_) => Err(ScriptFault::BadHeader(1)),
+    }
+}
+
+// The line with a number, where there is room for so many bytes.
+fn read_numbered<R: Read>(
+    reader: &mut WatchedReader<'_, R>,
+    line: &mut ArrayVec<u8, 256>,
+    room: usize,
+    number: u64,
+) -> Result<Ended, ScriptFault>
+    ensures { reader.new.failed ≡ (reader.old.failed || is_read_fault result) }
+{
+    match read_line(reader, line, room) {
+        Ok(ended) => Ok(ended),
+        Err(LineFault::Failed) => Err(ScriptFault::ReadFault),
+        Err(LineFault::TooLong) => Err(ScriptFault::LineTooLong(number)),
+        Err(LineFault::TooMuch) => Err(ScriptFault::TooMuch),
+    }
+}
+
+impl Script {
+    /// Reads the rows, up to the end or the first fault: `BadLine`, `LineTooLong`, `TooMuch`, `ReadFault`, or `Memory`
+    /// where no row can be added. What was read stays in the chart.
+    pub fn read_rows<R: Read>(
+        &mut self,
+        reader: &mut WatchedReader<'_, R>,
+    ) -> Result<(), ScriptFault>
+        ensures { reader.new.failed ≡ (reader.old.failed || is_read_fault result) }
+    {
+        let mut line = ArrayVec::new();
+        'rows: for number in 2..1_048_579 {
+            if self.ended == Ended::Last {
+                break;
+            }
+            self.ended = read_numbered(reader, &mut line, self.room, number)?;
+            if self.ended == Ended::Last && line.is_empty() {
+                break;
+            }
+            self.room = self.room.saturating_sub(line.len()).saturating_sub(1);
+            self.add_row(line.as_slice(), number)?;
+        }
+        Ok(())
+    }
+
+    // Does what a line asks, and adds it with its answer.
+    fn add_row(&mut self, line: &[u8], number: u64) -> Result<(), ScriptFault>
+        ensures { is_read_fault result ≡ false }
+    {
+        let Some(command) = parse_command(line) else {
+            return Err(ScriptFault::BadLine(number));
+        };
+        let answer = self.opened.answer(command);
+        match self.chart.rows.push(Row { command, answer }) {
+            Ok(()) => Ok(()),
+            Err(_) => Err(ScriptFault::Memory),
+        }
+    }
+}

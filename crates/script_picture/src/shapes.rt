@@ -1,0 +1,104 @@
+//! The shapes of an SVG: boxes and arrows.
+use crate::chart::Lane;
+use std::io;
+use std::io::Write;
+
+/// Where a box stands: its middle, half its width, its top and its height.
+#[derive(Clone, Copy, Debug, PartialEq, Eq)]
+pub struct Area {
+    pub middle: u64,
+    pub half: u64,
+    pub top: u64,
+    pub height: u64,
+}
+
+/// An arrow along a row: from here to there, at this height. A return is dashed.
+#[derive(Clone, Copy, Debug, PartialEq, Eq)]
+pub struct Arrow {
+    pub from: u64,
+    pub to: u64,
+    pub middle: u64,
+    pub returns: bool,
+}
+
+/// Writes the box of what a place does. Outside it has none.
+pub fn write_box<W: Write>(writer: &mut W, lane: Lane, area: Area) -> io::Result<()> {
+    match lane {
+        Lane::Outside => Ok(()),
+        Lane::Inside => {
+            write_rectangle(writer, "inside", area)?;
+            write_label(writer, area, "light")?;
+            writer.write_all(b"inside</text>\n")
+        }
+        Lane::Waiting(condition, priority) => {
+            write_rectangle(writer, "waits", area)?;
+            write_label(writer, area, "dark")?;
+            write!(writer, "c{condition} p{priority}</text>\n")
+        }
+        Lane::Signalling => {
+            write_half_filled(writer, area)?;
+            write_label(writer, area, "dark")?;
+            writer.write_all(b"signals</text>\n")
+        }
+    }
+}
+
+// A box whose left half is filled.
+fn write_half_filled<W: Write>(writer: &mut W, area: Area) -> io::Result<()> {
+    let half = Area {
+        middle: area.middle.saturating_sub(area.half / 2),
+        half: area.half / 2,
+        ..area
+    };
+    write_rectangle(writer, "blank", area)?;
+    write_rectangle(writer, "half", half)?;
+    write_rectangle(writer, "signals", area)
+}
+
+// A box of a class.
+fn write_rectangle<W: Write>(writer: &mut W, class: &str, area: Area) -> io::Result<()> {
+    let left = area.middle.saturating_sub(area.half);
+    let top = area.top;
+    let width = area.half.saturating_mul(2);
+    let height = area.height;
+    write!(
+        writer,
+        "<rect class=\"{class}\" x=\"{left}\" y=\"{top}\" width=\"{width}\" height=\"{height}\" rx=\"4\"/>\n"
+    )
+}
+
+// The beginning of a box's text.
+fn write_label<W: Write>(writer: &mut W, area: Area, class: &str) -> io::Result<()> {
+    let middle = area.middle;
+    let line = area.top.saturating_add(15);
+    write!(
+        writer,
+        "<text class=\"{class}\" x=\"{middle}\" y=\"{line}\">"
+    )
+}
+
+/// Writes an arrow over a white edge.
+pub fn write_arrow<W: Write>(writer: &mut W, arrow: Arrow) -> io::Result<()> {
+    let from = arrow.from;
+    let to = arrow.to;
+    let y = arrow.middle;
+    let class = if arrow.returns { "arrow back" } else { "arrow" };
+    if from < to {
+        let begin = from.saturating_add(4);
+        let neck = to.saturating_sub(8);
+        write!(writer, "<path class=\"edge\" d=\"M{begin} {y}H{neck}\"/>")?;
+        write!(writer, "<path class=\"{class}\" d=\"M{from} {y}H{neck}\"/>")?;
+        write!(writer, "<path d=\"M{to} {y}l-9-5v10z\"/>\n")
+    } else {
+        let begin = from.saturating_sub(4);
+        let neck = to.saturating_add(8);
+        write!(writer, "<path class=\"edge\" d=\"M{begin} {y}H{neck}\"/>")?;
+        write!(writer, "<path class=\"{class}\" d=\"M{from} {y}H{neck}\"/>")?;
+        write!(writer, "<path d=\"M{to} {y}l9-5v10z\"/>\n")
+    }
+}
+
+/// Writes the dot of a place that went out.
+pub fn write_dot<W: Write>(writer: &mut W, x: u64, y: u64) -> io::Result<()> {
+    write!(writer, "<circle cx=\"{x}\" cy=\"{y}\" r=\"4\"/>\n")
+}

@@ -1,0 +1,109 @@
+//! How commands, lanes and answers are spelled.
+use crate::chart::Lane;
+use arrayvec::ArrayVec;
+use hoare_script::answers::{Answer, answer_line};
+use hoare_script::lines::{Command, Header};
+use itoa::Buffer;
+use std::io;
+use std::io::Write;
+use wait_book::steps::Step;
+
+/// Room for the longest of these texts.
+pub type Text = ArrayVec<u8, 128>;
+
+// A word, and numbers after single spaces.
+fn spelled(word: &[u8], numbers: &[u64]) -> Text {
+    let mut text = ArrayVec::new();
+    let _ = text.try_extend_from_slice(word);
+    for number in numbers {
+        let _ = text.try_extend_from_slice(b" ");
+        append_number(&mut text, *number);
+    }
+    text
+}
+
+fn append_number(text: &mut Text, number: u64) {
+    let mut buffer = Buffer::new();
+    let _ = text.try_extend_from_slice(buffer.format(number).as_bytes());
+}
+
+/// The line that spells a header.
+pub fn header_text(header: Header) -> Text {
+    spelled(b"monitor", &[header.places, header.conditions])
+}
+
+/// The line that spells a command.
+pub fn command_text(command: Command) -> Text {
+    match command {
+        Command::Do(Step::Enter(place)) => spelled(b"enter", &[place]),
+        Command::Do(Step::Wait(place, condition, priority)) => {
+            spelled(b"wait", &[place, condition, priority])
+        }
+        Command::Do(Step::Signal(place, condition)) => spelled(b"signal", &[place, condition]),
+        Command::Do(Step::Pass(place, condition)) => spelled(b"pass", &[place, condition]),
+        Command::Do(Step::Leave(place)) => spelled(b"leave", &[place]),
+        Command::Queue(condition) => spelled(b"queue", &[condition]),
+        Command::First(condition) => spelled(b"first", &[condition]),
+    }
+}
+
+/// What a lane shows: `.`, `[in]`, `sig`, or `cC:P` for a wait on condition C with priority P.
+pub fn lane_text(lane: Lane) -> Text {
+    let mut text = ArrayVec::new();
+    match lane {
+        Lane::Outside => {
+            let _ = text.try_extend_from_slice(b".");
+        }
+        Lane::Inside => {
+            let _ = text.try_extend_from_slice(b"[in]");
+        }
+        Lane::Signalling => {
+            let _ = text.try_extend_from_slice(b"sig");
+        }
+        Lane::Waiting(condition, priority) => {
+            let _ = text.try_extend_from_slice(b"c");
+            append_number(&mut text, condition);
+            let _ = text.try_extend_from_slice(b":");
+            append_number(&mut text, priority);
+        }
+    }
+    text
+}
+
+/// A place's number.
+pub fn place_text(place: u64) -> Text {
+    let mut text = ArrayVec::new();
+    append_number(&mut text, place);
+    text
+}
+
+/// Whether the lanes show all that was answered: a place is inside.
+pub fn is_in_lanes(answer: Answer) -> bool {
+    matches!(answer, Answer::Inside(_))
+}
+
+// An answer as a script is told it, with its arrow.
+fn answer_text(answer: Answer) -> Text {
+    let mut text = ArrayVec::new();
+    let line = answer_line(b"", answer);
+    let _ = text.try_extend_from_slice(line.as_slice().trim_ascii());
+    text
+}
+
+/// Writes `-> ANSWER`, and why a step is refused.
+pub fn write_remark<W: Write>(writer: &mut W, answer: Answer) -> io::Result<()> {
+    writer.write_all(answer_text(answer).as_slice())?;
+    match answer {
+        Answer::Refused(refused) => write!(writer, " ({refused})"),
+        _ => Ok(()),
+    }
+}
+
+/// The most bytes of what `write_remark` writes.
+pub fn remark_length(answer: Answer) -> usize {
+    let length = answer_text(answer).len();
+    match answer {
+        Answer::Refused(_) => length + 33,
+        _ => length,
+    }
+}

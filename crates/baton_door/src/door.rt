@@ -20,7 +20,7 @@ use wait_book::steps::MakeRefused;
 /// A monitor for running threads: it implements `Monitor`. Threads share it by reference, each with its own place.
 ///
 /// After `make` no call takes memory. One word says whether the monitor is free, held, or owed to a place; one slot has the
-/// data and the queues. The door isn't dropped: `close` takes it apart, with all of its places.
+/// data and the queues. A door can be dropped where its data can, and then its data are dropped too; `close` gives them back.
 #[derive(Drop)]
 pub struct Door<D: MonitorData> {
     pub(crate) table: DoorTable<D>,

@@ -7,4 +7,6 @@ mod parcel;
 mod parking;
 pub mod place;
 mod rule;
+#[cfg(test)]
+mod tests;
 mod view;

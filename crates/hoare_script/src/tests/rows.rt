@@ -188,3 +188,33 @@ fn sixty_three_priorities(rt: HostRuntime) -> Result<(), Fail> {
     assert_eq!(rt; written.as_slice(), answers.as_slice());
     Ok(())
 }
+
+// The script of docs/DEFINITIONS.md that has every step, worked there by hand.
+#[test]
+fn every_step(rt: HostRuntime) -> Result<(), Fail> {
+    let rows = [
+        "enter 0 -> 0",
+        "wait 0 0 7 -> free",
+        "enter 1 -> 1",
+        "wait 1 0 7 -> free",
+        "enter 2 -> 2",
+        "wait 2 1 0 -> free",
+        "enter 3 -> 3",
+        "first 0 -> 7",
+        "queue 1 -> true",
+        "signal 3 0 -> 0",
+        "first 0 -> 7",
+        "pass 0 1 -> 2",
+        "enter 0 -> refused 2",
+        "leave 2 -> 3",
+        "pass 3 1 -> free",
+        "enter 0 -> 0",
+        "signal 0 0 -> 1",
+        "wait 1 1 5 -> 0",
+        "queue 0 -> false",
+        "first 1 -> 5",
+        "leave 0 -> free",
+        "enter 1 -> refused 3",
+    ];
+    check(&rt, "monitor 4 2", &rows)
+}

@@ -15,7 +15,7 @@ pub const MOST_PLACES: usize = 64;
 pub const MOST_CONDITIONS: usize = 8;
 
 /// The queues of one monitor: who waits on each condition, who waits as a signaller, and whose turn it is ("Monitors",
-/// sections 1, 2 and 4). It is for one thread, and holds no data.
+/// Introduction, Interpretation and Scheduled Waits). It is for one thread, and holds no data.
 ///
 /// A clause of a call that changes it reads: for every history that the book was of, it is afterwards of that history with
 /// the call's event. No call but `make` takes memory.

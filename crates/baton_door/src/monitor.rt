@@ -67,6 +67,7 @@ impl<D: MonitorData + Send> Monitor<D> for Door<D> {
                     };
                 }
             }
+            self.spin(0);
             backoff.snooze();
         }
         unreachable!()

@@ -18,7 +18,7 @@ use std::hint;
 use std::sync::Wait;
 use wait_book::steps::Next;
 
-/// How often a place that waits for its turn looks at the word before it sleeps.
+/// How often a place looks at the word before it sleeps, or, as a newcomer, before it yields.
 const SPINS: u32 = 300;
 
 /// The door's word for who goes on: 0 nobody, 2 + k the place k.
@@ -36,7 +36,7 @@ pub(crate) fn word_of(next: Next) -> u64
 
 impl<D: MonitorData> Door<D> {
     /// Looks at the word, a while, until it has this number.
-    fn spin(&self, mine: u64) {
+    pub(crate) fn spin(&self, mine: u64) {
         for _ in 0..SPINS {
             if self.table.shared.peek(0) == mine {
                 return;

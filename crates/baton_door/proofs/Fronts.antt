@@ -30,7 +30,7 @@ use Rattle.baton_door.specs.declared.view.Stand.{Stand}
 use Rattle.baton_door.specs.declared.view.View.{View}
 use Rattle.baton_door.specs.declared.view.View.TheVariants.{Unopened, Opening, Places}
 use Rattle.baton_door.specs.Places.{opened}
-use Rattle.baton_door.specs.Rule.{word_of, Cells, Fits, Lies, Running, Kept, raw, lent, runs}
+use Rattle.baton_door.specs.Rule.{words_from, word_of, Cells, Fits, Lies, Running, Kept, raw, lent, runs}
 use Rattle.baton_door.specs.Steps.{Sat, due, due_by, begins, opens, gives_as, Gives, Came, comes, admits, claims}
 use Rattle.baton_door.specs.Views.{stand, alone, stands_from, Each, EachOf, places_behind, first_place, no_places}
 use Rattle.baton_door.proofs.Lawful.{admits_owes, resumes_owes, returns_owes}
@@ -90,12 +90,12 @@ module _ {D : Type 0} (rest : Rest D) (ready : Ready D) (conditions : ℕ) where
 
   -- one event more, of the place k
   adds : (n : ℕ) (s : Cells D) (r : R n s) (id k : ℕ) (f : History D) (e : Event D) (words' : List ℕ) (homes' : Homes D) → get_elem? s.views id ≡ some (alone k f) → place_of e ≡ k → Allowed r.log e → Owes rest ready r.log.events e
-      → length words' ≡ 1 → length homes' ≡ 1 → get_or words' 0 0 ≡ word_of (turn (with_event r.log e).events) → (get_or words' 0 0 ≢ 1 → (x : Lodged D) × (get_elem? homes' 0 ≡ some (some (Some x))) × Lies (with_event r.log e) x)
+      → length words' ≡ 8 → length homes' ≡ 1 → get_or words' 0 0 ≡ word_of (turn (with_event r.log e).events) → (get_or words' 0 0 ≢ 1 → (x : Lodged D) × (get_elem? homes' 0 ≡ some (some (Some x))) × Lies (with_event r.log e) x)
       → R n record { words = words'; homes = homes'; views = set s.views id (alone k (with_event r.log e)) }
   adds n s r id k f e words' homes' at mine may owes long deep word home = let fit = (r.fronts id (alone k f) at).0 in let h : History D = with_event r.log e in let w : View D = alone k h in let kept = places_kept n conditions r.log e r.places r.conditions_are in record {
     log = h;
     owner = r.owner;
-    one_word = long;
+    words_are = long;
     one_slot = deep;
     places = kept.0;
     conditions_are = kept.1;
@@ -130,7 +130,7 @@ module _ {D : Type 0} (rest : Rest D) (ready : Ready D) (conditions : ℕ) where
       → ((log : History D) → Stands rest ready log → k < log.places → own k log.events ≡ own k f.events → word_of (turn log.events) ≡ expected → BringsIn k log (latest_data log) (event k f (latest_data log)))
       → Allows (K n) slots id (alone k f, []) 0 (λ x. either (eqb x expected) 1 x) (λ r m'. comes rest ready event (step slots 0 expected 1 none) (alone k f, []) r m')
   comes_ok n slots id k expected f event not1 brings s kept wide at small = let r = running n s kept id (stand k f ∷ []) at in let x : ℕ = get_or s.words 0 0 in let v : View D = alone k f in
-      let long = r.one_word in let deep = r.one_slot in let fit = (r.fronts id v at).0 in dite (ℕ_discrete x expected)
+      let long = r.words_are in let deep = r.one_slot in let fit = (r.fronts id v at).0 in dite (ℕ_discrete x expected)
       (λ hit. let home = r.home (λ (is : x ≡ 1). not1 (sym hit ∙ is)) in let l : Lodged D = home.0 in let e : Event D = event k f l.state in let h : History D = with_event r.log e in let w : View D = alone k h in
       let b : BringsIn k r.log (latest_data r.log) e = subst (λ (d : D). BringsIn k r.log (latest_data r.log) (event k f d)) (sym home.2.latest) (brings r.log r.stands (subst (λ (m : ℕ). k < m) (sym r.places) fit.below) fit.own_are (sym r.word ∙ hit)) in
       let one : get_or (set s.words 0 1) 0 0 ≡ 1 = get_or-set_same s.words 0 1 0 (omega arith) in (
@@ -187,7 +187,7 @@ module _ {D : Type 0} (rest : Rest D) (ready : Ready D) (conditions : ℕ) where
   pub gives_ok : (n slots id k word : ℕ) (f : History D) (x : Lodged D) (event : D → Event D) → Gives rest ready event k f x word
       → Allows (K n) slots id (alone k f, (0, Some x) ∷ []) 0 (λ _. word) (λ _. gives_as event (step slots 0 word 0 none) (alone k f, (0, Some x) ∷ []) word)
   gives_ok n slots id k word f x event p s kept wide at small = let r = running n s kept id (stand k f ∷ []) at in
-      let long = r.one_word in let deep = r.one_slot in let fit = (r.fronts id (alone k f) at).0 in let e : Event D = event x.state in
+      let long = r.words_are in let deep = r.one_slot in let fit = (r.fronts id (alone k f) at).0 in let e : Event D = event x.state in
       let same : r.log ≡ f = still_held k f r.log r.stands.legal p.inside fit.begins fit.own_are in let w : View D = alone k (with_event r.log e) in
       let now : get_or (set s.words 0 word) 0 0 ≡ word = get_or-set_same s.words 0 word 0 (omega arith) in
       let lies : Lies (with_event r.log e) x = subst (λ (h : History D). Lies (with_event h e) x) (sym same) (lies_of f e x p.same_data p.book) in (
@@ -208,7 +208,7 @@ module _ {D : Type 0} (rest : Rest D) (ready : Ready D) (conditions : ℕ) where
     Opening n,
     takes 0 None,
     ap (λ (x : Cells D). get_elem? x.homes 0) e,
-    lent (ap (λ (x : Cells D). stepped x 0 (get_or x.words 0 0) id [] (Opening n) (takes 0 None)) e ∙ ap (λ (vs : List (View D)). record { words = 1 ∷ []; homes = none ∷ []; views = vs }) (set_only (Unopened n) (Opening n) (Unopened n) id at')),
+    lent (ap (λ (x : Cells D). stepped x 0 (get_or x.words 0 0) id [] (Opening n) (takes 0 None)) e ∙ ap (λ (vs : List (View D)). record { words = words_from 1; homes = none ∷ []; views = vs }) (set_only (Unopened n) (Opening n) (Unopened n) id at')),
     λ m is. λ i. (Opening (count (is i)), (0, None) ∷ []),
   )
     where
@@ -223,12 +223,12 @@ module _ {D : Type 0} (rest : Rest D) (ready : Ready D) (conditions : ℕ) where
   all_fit n h (suc count) k b = (record { below = omega arith; owned = refl; begins = Begins-refl h; own_are = refl }, all_fit n h count (suc k) (omega arith))
 
   -- the door as it opens
-  opens_running : (n : ℕ) (x : Lodged D) → Stands rest ready (opened n conditions x.state) → IsOf x.book (unused n conditions) → R n (record { words = 0 ∷ []; homes = some (Some x) ∷ []; views = Places (stands_from 0 n (opened n conditions x.state)) ∷ [] })
+  opens_running : (n : ℕ) (x : Lodged D) → Stands rest ready (opened n conditions x.state) → IsOf x.book (unused n conditions) → R n (record { words = words_from 0; homes = some (Some x) ∷ []; views = Places (stands_from 0 n (opened n conditions x.state)) ∷ [] })
   unfolding turn urgent latest_data
   opens_running n x stands book = record {
     log = opened n conditions x.state;
     owner = λ _. 0;
-    one_word = refl;
+    words_are = refl;
     one_slot = refl;
     places = refl;
     conditions_are = refl;
@@ -244,8 +244,8 @@ module _ {D : Type 0} (rest : Rest D) (ready : Ready D) (conditions : ℕ) where
   opens_ok n slots id x stands book s (runs r) wide at small = absurd (r.fronts id (Opening n) at)
   opens_ok n slots id x stands book s (lent e) wide at small = let at' : get_elem? (Opening n ∷ []) id ≡ some (Opening n) = ap (λ (y : Cells D). get_elem? y.views id) (sym e) ∙ at in
       let h : History D = opened n conditions x.state in let w : View D = Places (stands_from 0 n h) in
-      let s' : Cells D = record { words = 0 ∷ []; homes = some (Some x) ∷ []; views = w ∷ [] } in
-      let now : stepped s 0 0 id ((0, Some x) ∷ []) w gives ≡ s' = ap (λ (y : Cells D). stepped y 0 0 id ((0, Some x) ∷ []) w gives) e ∙ ap (λ (vs : List (View D)). record { words = 0 ∷ []; homes = some (Some x) ∷ []; views = vs }) (set_only (Opening n) w (Opening n) id at') in (
+      let s' : Cells D = record { words = words_from 0; homes = some (Some x) ∷ []; views = w ∷ [] } in
+      let now : stepped s 0 0 id ((0, Some x) ∷ []) w gives ≡ s' = ap (λ (y : Cells D). stepped y 0 0 id ((0, Some x) ∷ []) w gives) e ∙ ap (λ (vs : List (View D)). record { words = words_from 0; homes = some (Some x) ∷ []; views = vs }) (set_only (Opening n) w (Opening n) id at') in (
         w,
         gives,
         tt,
@@ -270,7 +270,7 @@ module _ {D : Type 0} (rest : Rest D) (ready : Ready D) (conditions : ℕ) where
   views_to n s r owner' views' fronts = record {
     log = r.log;
     owner = owner';
-    one_word = r.one_word;
+    words_are = r.words_are;
     one_slot = r.one_slot;
     places = r.places;
     conditions_are = r.conditions_are;

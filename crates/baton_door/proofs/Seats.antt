@@ -40,10 +40,6 @@ module _ {D : Type 0} where
           book = c.book;
         })
 
-  -- the same, said of what its box lends
-  pub took_as : (calm : Rest D) (ready : Ready D) (k : ℕ) (f : History D) (event : D → Event D) (x y z : Lodged D) (o : Option (Lodged D)) (m n : Sat D) → Came calm ready k f event x (Some x) m → m.1 ≡ (0, o) ∷ rest m.1 → n ≡ (m.0, (0, None) ∷ rest m.1) → o ≡ Some y → z ≡ y → Came calm ready k f event z None n
-  took_as calm ready k f event x y z o m n c out now is same = subst (λ (w : Lodged D). Came calm ready k f event w None n) (sym same) (took calm ready k f event x y o m n c out now is)
-
   pub is_alone-seat : (m : Sat D) (k : ℕ) (f : History D) (c : List (ℕ × Option (Lodged D))) → m ≡ (alone k f, c) → is_alone m.0 ≡ true
   is_alone-seat m k f c e = ap (λ (z : Sat D). is_alone z.0) e
 

@@ -1,5 +1,5 @@
 -- The rule over the door's word, its slot, and what each seat knows.
-use Rattle.std.specs.Prelude.{◌≡◌, ◌≢◌, ℕ, ◌+◌, ◌<◌, [], ◌∷◌, Option, Some, None, slice_index, length}
+use Rattle.std.specs.Prelude.{◌≡◌, ◌≢◌, ℕ, ◌+◌, ◌<◌, List, [], ◌∷◌, Option, Some, None, slice_index, length}
 use mathlib.Core.Option.{some, none}
 use lib.ListN.{get_elem?}
 use Rattle.atomic_table.specs.Table.{State}
@@ -25,6 +25,10 @@ word_of (Held k) = 1
 word_of (Owed k c) = k + 2
 word_of (Return k) = k + 2
 
+-- the words of the table, from the door's word on: nobody uses the other seven, which keep most other data off its line of the cache
+abbrev pub words_from : ℕ → List ℕ
+words_from word = word ∷ 0 ∷ 0 ∷ 0 ∷ 0 ∷ 0 ∷ 0 ∷ 0 ∷ []
+
 -- the door's word, slot and views
 abbrev pub Cells : Type 0 → Type 0
 Cells D = State (Option (Lodged D)) (View D)
@@ -47,7 +51,7 @@ module _ {D : Type 0} where
     pub record Running (n : ℕ) (s : Cells D) : Type 0 where
       pub log : History D
       pub owner : ℕ → ℕ
-      pub one_word : length s.words ≡ 1
+      pub words_are : length s.words ≡ 8
       pub one_slot : length s.homes ≡ 1
       pub places : log.places ≡ n
       pub conditions_are : log.conditions ≡ conditions
@@ -61,6 +65,6 @@ module _ {D : Type 0} where
       pub home : slice_index s.words 0 ≢ 1 → (x : Lodged D) × (get_elem? s.homes 0 ≡ some (some (Some x))) × Lies log x
 
     pub data Kept (n : ℕ) (s : Cells D) : Type 0 where
-      raw : s ≡ record { words = 1 ∷ []; homes = some None ∷ []; views = Unopened n ∷ [] } → Kept n s
-      lent : s ≡ record { words = 1 ∷ []; homes = none ∷ []; views = Opening n ∷ [] } → Kept n s
+      raw : s ≡ record { words = words_from 1; homes = some None ∷ []; views = Unopened n ∷ [] } → Kept n s
+      lent : s ≡ record { words = words_from 1; homes = none ∷ []; views = Opening n ∷ [] } → Kept n s
       runs : Running n s → Kept n s

@@ -25,7 +25,7 @@ use wait_book::steps::MakeRefused;
 pub struct Door<D: MonitorData> {
     pub(crate) table: DoorTable<D>,
     pub(crate) bells: Vec<Unparker>,
-    ghost sized: { (table.shared.table_id.words ≡ 1) × (table.shared.table_id.slots ≡ 1) × (0 < table.shared.key) × (table.shared.key ≤ 64) },
+    ghost sized: { (table.shared.table_id.words ≡ 8) × (table.shared.table_id.slots ≡ 1) × (0 < table.shared.key) × (table.shared.key ≤ 64) },
 }
 
 /// A parker for each place, the last place's first, and what wakes them, the first place's first.
@@ -88,12 +88,14 @@ impl<D: MonitorData> Door<D> {
     ) -> Result<(DoorTable<D>, DoorSeat<D>), D>
         requires rest { D.rest state nobody }
         requires book { IsOf book (unused places D.CONDITIONS) }
-        ensures table { IfOk result (λ r. (r.0.shared.table_id.words ≡ 1) × (r.0.shared.table_id.slots ≡ 1) × (r.0.shared.key ≡ places)) }
+        ensures table { IfOk result (λ r. (r.0.shared.table_id.words ≡ 8) × (r.0.shared.table_id.slots ≡ 1) × (r.0.shared.key ≡ places)) }
         ensures seat { IfOk result (λ r. (r.1.table_id ≡ r.0.shared.table_id) × (r.1.me ≡ (Places (stands_from 0 places (opened places D.CONDITIONS state)), []))) }
         ensures returned { IfErr result (λ s. s ≡ state) }
     {
         let parcel = Parcel::new(alloc, state, book)?;
-        let (table, mut seat) = match Table::vacant(alloc, &[1], 1, &places) {
+        // The door's word, and seven more that nobody uses: they keep most other data off the word's line of the cache.
+        let words = [1, 0, 0, 0, 0, 0, 0, 0];
+        let (table, mut seat) = match Table::vacant(alloc, &words, 1, &places) {
             Ok(made) => made,
             Err(_) => return Err(parcel.into_data()),
         };

@@ -3,6 +3,7 @@
 
 pub mod door;
 mod monitor;
+mod newcomers;
 mod parcel;
 mod parking;
 pub mod place;

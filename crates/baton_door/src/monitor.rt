@@ -3,8 +3,6 @@ ghost use Rattle.std.specs.Prelude.{◌≡◌};
 
 use crate::door::Door;
 use crate::place::{DoorIn, DoorOut};
-use crate::rule::Admit;
-use crossbeam_utils::Backoff;
 use hoare_law::data::MonitorData;
 use hoare_law::monitor::Monitor;
 use std::marker::Brand;
@@ -49,28 +47,14 @@ impl<D: MonitorData + Send> Monitor<D> for Door<D> {
             place,
             parker,
         } = out;
-        let backoff = Backoff::new();
-        for _ in rt.forever() {
-            if self.table.shared.peek(0) == 0 {
-                let found = self
-                    .table
-                    .shared
-                    .compare_exchange::<Admit>(&mut seat, 0, 0, 1);
-                if found == 0 {
-                    let mut parcel = self.table.shared.exchange(&mut seat, 0, None).unwrap();
-                    parcel.held.book.admit(place);
-                    return DoorIn {
-                        seat,
-                        place,
-                        parker,
-                        parcel,
-                    };
-                }
-            }
-            self.spin(0);
-            backoff.snooze();
+        let mut parcel = self.admit(rt, &mut seat);
+        parcel.held.book.admit(place);
+        DoorIn {
+            seat,
+            place,
+            parker,
+            parcel,
         }
-        unreachable!()
     }
 
     #[inline]

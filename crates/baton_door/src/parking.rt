@@ -19,7 +19,7 @@ use std::sync::Wait;
 use wait_book::steps::Next;
 
 /// How often a place looks at the word before it sleeps, or, as a newcomer, before it yields.
-const SPINS: u32 = 300;
+const SPINS: u32 = 500;
 
 /// The door's word for who goes on: 0 nobody, 2 + k the place k.
 #[inline]
@@ -35,14 +35,15 @@ pub(crate) fn word_of(next: Next) -> u64
 }
 
 impl<D: MonitorData> Door<D> {
-    /// Looks at the word, a while, until it has this number.
-    pub(crate) fn spin(&self, mine: u64) {
+    /// Looks at the word a while, until it has this number: whether it was seen.
+    pub(crate) fn spin(&self, mine: u64) -> bool {
         for _ in 0..SPINS {
             if self.table.shared.peek(0) == mine {
-                return;
+                return true;
             }
             hint::spin_loop();
         }
+        false
     }
 
     /// Waits until the monitor is owed to the place, comes in and takes the parcel.

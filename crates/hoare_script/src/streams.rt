@@ -1,7 +1,7 @@
 //! Lines from a reader, and answers to a writer, each of which remembers whether it failed.
 ghost use Rattle.std.specs.Prelude.{◌≡◌, ◌≤◌, ◌||◌, length, false, OnOk, OnErr};
 ghost use Rattle.std.specs.Io.{ReadsAtMost, WritesAtMost};
-ghost use Rattle.std.specs.Io.KnownBytes.{Appends, ReadConsumes, WriteAppends, Keeps};
+ghost use Rattle.std.specs.Io.KnownBytes.{Appends, ReadConsumes, WriteAppends};
 ghost use Rattle.hoare_script.specs.Marks.{is_error, is_failed_read, is_shortfall};
 ghost use Rattle.hoare_script.specs.Streams.{AppendsFront, IsLineFor, NoNewline, Reads, ReadsByte, ReadsLine};
 
@@ -9,7 +9,7 @@ use arrayvec::ArrayVec;
 use std::io;
 use std::io::{Read, Write};
 
-/// A reader around another that remembers whether a read of it failed.
+/// Another reader, and whether a read of it failed.
 #[derive(Drop)]
 pub struct WatchedReader<'a, R> {
     inner: &'a mut R,
@@ -30,10 +30,8 @@ impl<'a, R> WatchedReader<'a, R> {
     }
 }
 
-impl<'a, R: Read> Read for WatchedReader<'a, R> {
-    ghost remaining = { λ w. R.remaining w.inner.now };
-
-    // One read of the reader inside. It sets the mark exactly where that read fails.
+impl<'a, R: Read> WatchedReader<'a, R> {
+    /// One read of the reader inside. It sets the mark exactly where that read fails.
     fn read(&mut self, buf: &mut [u8]) -> io::Result<usize>
         ensures bound { ReadsAtMost result buf.new }
         ensures bytes { ReadConsumes (R.remaining self.old.inner.now) (R.remaining self.new.inner.now) result buf.new }
@@ -48,7 +46,7 @@ impl<'a, R: Read> Read for WatchedReader<'a, R> {
     }
 }
 
-/// A writer around another that remembers whether a write of it failed or took nothing.
+/// Another writer, and whether a write of it failed or took nothing. There is no flush: who owns the writer flushes it.
 #[derive(Drop)]
 pub struct WatchedWriter<'a, W> {
     inner: &'a mut W,
@@ -69,10 +67,8 @@ impl<'a, W> WatchedWriter<'a, W> {
     }
 }
 
-impl<'a, W: Write> Write for WatchedWriter<'a, W> {
-    ghost contents = { λ w. W.contents w.inner.now };
-
-    // One write of the writer inside. It sets the mark exactly where that write fails or takes no bytes.
+impl<'a, W: Write> WatchedWriter<'a, W> {
+    /// One write of the writer inside. It sets the mark exactly where that write fails or takes no bytes.
     fn write(&mut self, buf: &[u8]) -> io::Result<usize>
         ensures bound { WritesAtMost result buf.now }
         ensures bytes { WriteAppends (W.contents self.old.inner.now) (W.contents self.new.inner.now) result buf.now }
@@ -84,14 +80,6 @@ impl<'a, W: Write> Write for WatchedWriter<'a, W> {
             self.failed = true;
         }
         result
-    }
-
-    fn flush(&mut self) -> io::Result<()>
-        ensures bytes { Keeps (W.contents self.old.inner.now) (W.contents self.new.inner.now) }
-        ensures same_reference { self.new.inner.ghost_name ≡ self.old.inner.ghost_name }
-        ensures mark { self.new.failed ≡ self.old.failed }
-    {
-        self.inner.flush()
     }
 }
 

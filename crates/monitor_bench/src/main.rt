@@ -39,9 +39,10 @@ fn show(rt: &impl Print) -> io::Result<()> {
     Ok(())
 }
 
-// Nanoseconds for each of so many.
+// Nanoseconds for each of so many, to the nearest.
 fn each(spent: Duration, count: u64) -> u128 {
-    spent.as_nanos() / u128::from(count.max(1))
+    let count = u128::from(count.max(1));
+    spent.as_nanos().saturating_add(count / 2) / count
 }
 
 fn tell<R: Print + Eprint>(rt: &R, name: &str, spent: Duration, count: u64) -> io::Result<()> {

@@ -4,11 +4,15 @@
 #[cfg(test)]
 mod diary;
 pub mod fake;
+#[cfg(test)]
+mod limit;
+#[cfg(test)]
+mod schedulers_on_door;
 mod steps;
 #[cfg(test)]
 mod stress;
 pub mod tally;
 #[cfg(test)]
-mod tests;
+mod tally_on_door;
 #[cfg(test)]
-mod tests_on_door;
+mod tests;

@@ -1,14 +1,16 @@
-//! Eight processes wait with priorities, signal and pass on three conditions, some hundred thousand calls; the diary that they
+//! Eight processes wait with priorities, signal and pass on three conditions, some two hundred thousand calls; the diary that they
 //! write is checked against the book of queues.
 ghost use Rattle.std.specs.Prelude.{All, ⊤, ◌<◌};
 ghost use Rattle.baton_door.specs.Places.{IsOut};
 
 use crate::diary::{Diary, Line};
+use crate::limit::within;
 use baton_door::door::Door;
 use baton_door::place::DoorOut;
 use hoare_law::monitor::Monitor;
 use hoare_law::waits::Waits;
 use std::alloc::{AllocError, Global};
+use std::process::Abort;
 use std::sync::Wait;
 use std::sync::atomic::{AtomicU64, Ordering};
 use std::test::Fail;
@@ -19,7 +21,10 @@ use wait_book::steps::Step;
 
 const WORKERS: usize = 8;
 
-const ROUNDS: u64 = 3000;
+const ROUNDS: u64 = 10_000;
+
+// How many turns the test waits for them.
+const TURNS: u64 = 100_000_000;
 
 // The next of a row of numbers that look as if drawn by lot.
 fn draw(seed: u64) -> u64 {
@@ -159,6 +164,22 @@ fn run_all<R: Threads + Wait + Sync>(
     Ok(())
 }
 
+fn run_within<R: Threads + Wait + Abort + Sync>(
+    rt: &R,
+    door: &Door<Diary>,
+    places: Vec<DoorOut<Diary>>,
+) -> Result<(), AllocError>
+    requires { All (λ o. IsOut (λ s q. ⊤) (λ c p s q. ⊤) 3 door.now.table.shared.table_id door.now.table.shared.key o) places.items }
+{
+    within(
+        rt,
+        TURNS,
+        || -> Result<(), AllocError>
+            requires { All (λ o. IsOut (λ s q. ⊤) (λ c p s q. ⊤) 3 door.now.table.shared.table_id door.now.table.shared.key o) places.items }
+        { run_all(rt, door, places) },
+    )
+}
+
 #[test]
 fn the_diary_is_a_legal_history(rt: HostRuntime) -> Result<(), Fail> {
     let alloc = rt.alloc();
@@ -169,7 +190,7 @@ fn the_diary_is_a_legal_history(rt: HostRuntime) -> Result<(), Fail> {
     let Some(reader) = places.pop() else {
         panic!(rt; "no place")
     };
-    run_all(&rt, &door, places)?;
+    run_within(&rt, &door, places)?;
     let mut book = Book::make(alloc, WORKERS + 1, 3)?;
     let inside = door.enter(&rt, reader);
     let diary = door.state(&inside);
@@ -179,6 +200,6 @@ fn the_diary_is_a_legal_history(rt: HostRuntime) -> Result<(), Fail> {
     let _reader = door.leave(&rt, inside);
     assert_eq!(rt; finished, WORKERS as u64);
     assert!(rt; agrees);
-    assert!(rt; calls > 50_000);
+    assert!(rt; calls > 160_000);
     Ok(())
 }

@@ -4,19 +4,21 @@ ghost use Rattle.baton_door.specs.Places.{IsOut};
 ghost use Rattle.plain_schedulers.specs.Singles.{SingleRests, SingleReady};
 ghost use Rattle.plain_schedulers.specs.Buffers.{BufferRests, BufferReady};
 
+use crate::limit::both_within;
 use baton_door::door::Door;
 use baton_door::place::DoorOut;
 use hoare_law::data::MonitorData;
 use hoare_law::monitor::Monitor;
 use plain_schedulers::buffer::Buffer;
 use plain_schedulers::single::{NotOut, Single};
+use std::process::Abort;
 use std::sync::Wait;
 use std::test::Fail;
 use std::thread;
 use std::thread::Threads;
 
-/// Comes in and goes out until somebody waits on condition 0, or a million times.
-fn watch<D: MonitorData, R: Wait, M: Monitor<D>>(rt: &R, m: &M, out: M::Out) -> M::Out
+/// Comes in and goes out until somebody waits on condition 0. The test fails after a million times.
+fn watch<D: MonitorData, R: Wait + Abort, M: Monitor<D>>(rt: &R, m: &M, out: M::Out) -> M::Out
     requires of { M.is_of m.now out }
     requires condition { 0 < D.CONDITIONS }
     ensures { M.is_of m.now result }
@@ -31,11 +33,15 @@ fn watch<D: MonitorData, R: Wait, M: Monitor<D>>(rt: &R, m: &M, out: M::Out) -> 
         }
         thread::yield_now();
     }
-    out
+    panic!(rt; "nobody waits")
 }
 
 /// Puts the item in once somebody waits for it; and whether it was taken.
-fn release_to_waiter<R: Wait, M: Monitor<Single<u8>>>(rt: &R, m: &M, out: M::Out) -> (M::Out, bool)
+fn release_to_waiter<R: Wait + Abort, M: Monitor<Single<u8>>>(
+    rt: &R,
+    m: &M,
+    out: M::Out,
+) -> (M::Out, bool)
     requires { M.is_of m.now out }
     ensures { M.is_of m.now result.0 }
 {
@@ -45,7 +51,7 @@ fn release_to_waiter<R: Wait, M: Monitor<Single<u8>>>(rt: &R, m: &M, out: M::Out
 }
 
 /// Two places, on a thread each: one puts the item in once the other waits for it.
-fn release_and_acquire<R: Threads + Wait + Sync>(
+fn release_and_acquire<R: Threads + Wait + Abort + Sync>(
     rt: &R,
     door: &Door<Single<u8>>,
     a: DoorOut<Single<u8>>,
@@ -56,7 +62,7 @@ fn release_and_acquire<R: Threads + Wait + Sync>(
     ensures a { IsOut (λ s q. SingleRests s q) (λ c p s q. SingleReady s) 1 door.now.table.shared.table_id door.now.table.shared.key result.0.0 }
     ensures b { IsOut (λ s q. SingleRests s q) (λ c p s q. SingleReady s) 1 door.now.table.shared.table_id door.now.table.shared.key result.1.0 }
 {
-    thread::join(
+    both_within(
         rt,
         || -> (DoorOut<Single<u8>>, bool)
             requires { IsOut (λ s q. SingleRests s q) (λ c p s q. SingleReady s) 1 door.now.table.shared.table_id door.now.table.shared.key a }
@@ -91,7 +97,7 @@ fn remove_four<R: Wait, M: Monitor<Buffer<u8>>>(rt: &R, m: &M, out: M::Out) -> (
 }
 
 /// Two places, on a thread each: one puts four items in, the other takes them out.
-fn append_and_remove<R: Threads + Wait + Sync>(
+fn append_and_remove<R: Threads + Wait + Abort + Sync>(
     rt: &R,
     door: &Door<Buffer<u8>>,
     a: DoorOut<Buffer<u8>>,
@@ -100,7 +106,7 @@ fn append_and_remove<R: Threads + Wait + Sync>(
     requires a { IsOut (λ b q. BufferRests b q) (λ c p b q. BufferReady c b q) 2 door.now.table.shared.table_id door.now.table.shared.key a }
     requires b { IsOut (λ b q. BufferRests b q) (λ c p b q. BufferReady c b q) 2 door.now.table.shared.table_id door.now.table.shared.key b }
 {
-    let ((), items) = thread::join(
+    let ((), items) = both_within(
         rt,
         || -> ()
             requires { IsOut (λ b q. BufferRests b q) (λ c p b q. BufferReady c b q) 2 door.now.table.shared.table_id door.now.table.shared.key a }
@@ -115,7 +121,7 @@ fn append_and_remove<R: Threads + Wait + Sync>(
 #[test]
 fn single_on_door(rt: HostRuntime) -> Result<(), Fail> {
     let Ok((door, mut outs)) = Door::make(rt.alloc(), Single::with(7u8), 2) else {
-        return Ok(());
+        panic!(rt; "no memory")
     };
     let b = outs.pop().unwrap();
     let a = outs.pop().unwrap();
@@ -136,10 +142,10 @@ fn single_on_door(rt: HostRuntime) -> Result<(), Fail> {
 #[test]
 fn buffer_of_one_cell_on_door(rt: HostRuntime) -> Result<(), Fail> {
     let Ok(buffer) = Buffer::make(rt.alloc(), 1) else {
-        return Ok(());
+        panic!(rt; "no memory")
     };
     let Ok((door, mut outs)) = Door::make(rt.alloc(), buffer, 2) else {
-        return Ok(());
+        panic!(rt; "no memory")
     };
     let b = outs.pop().unwrap();
     let a = outs.pop().unwrap();

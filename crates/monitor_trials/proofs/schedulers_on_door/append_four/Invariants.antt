@@ -1,4 +1,4 @@
-use Rattle.monitor_trials.proofs.tests_on_door.append_four.Given as goal
+use Rattle.monitor_trials.proofs.schedulers_on_door.append_four.Given as goal
 
 -- the place stays one of the monitor's
 abbrev pub invariant-loop-item : goal.invariant-loop-item

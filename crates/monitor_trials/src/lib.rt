@@ -16,3 +16,5 @@ pub mod tally;
 mod tally_on_door;
 #[cfg(test)]
 mod tests;
+#[cfg(test)]
+mod texts;

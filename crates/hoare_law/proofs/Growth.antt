@@ -1,11 +1,11 @@
 -- How fronts grow, step upon step.
-use Rattle.std.proofs.Common.{◌≡◌, ◌==◌, ℕ, List, [], ◌∷◌, ◌++◌, Bool, refl, sym, ap, ◌∙◌, append_assoc, append-nil, arith}
+use Rattle.std.proofs.Common.{◌≡◌, ◌==◌, ℕ, List, [], ◌∷◌, ◌++◌, Bool, false, refl, sym, ap, ◌∙◌, append_assoc, append-nil, arith}
 use Rattle.std.proofs.lemmas.List.Elements.{filter-append}
 use Rattle.hoare_law.specs.declared.event.Event.{Event}
 use Rattle.hoare_law.specs.declared.event.History.{History}
-use Rattle.hoare_law.specs.declared.event.Event.TheVariants.{Pass, Leave}
+use Rattle.hoare_law.specs.declared.event.Event.TheVariants.{Admit, Wait, Leave, Resume}
 use Rattle.hoare_law.specs.Events.{own, place_of, with_event}
-use Rattle.hoare_law.specs.Growth.{Begins, Grows, Exits, passed_on, just_left, Signals, resumed_one, nobody_waited, Finishes, passed, left, signalled}
+use Rattle.hoare_law.specs.Growth.{Begins, Grows, AddsLast, AddsTwo, ComesTo, waited, Exits, just_left, Signals, resumed_one, nobody_waited, Finishes, exited, signalled}
 
 pub Begins-refl : {S : Type 0} (h : History S) → Begins h h
 Begins-refl h = record { places = refl; conditions = refl; opening = refl; later = []; is = append-nil h.events }
@@ -40,14 +40,23 @@ Grows-one e f h is = rw is (record {
   adds = filter-append (λ x. place_of x == place_of e) f.events (e ∷ []) ∙ ap (λ x. own (place_of e) f.events ++ x) (own-one e);
 })
 
--- what a signal joined with the exit adds, behind start
-pub Finishes-by_exit : {S : Type 0} {k c : ℕ} {s : S} {start : List (Event S)} {f g h : History S} {b : Bool} → Grows k start f g → Exits k c s g h b → Finishes k c s start f h
-Finishes-by_exit {k = k} {c = c} {s = s} {g = g} {h = h} grows (passed_on w chooses is) = passed w (Grows-trans grows (Grows-one (Pass k c w s) g h is))
-Finishes-by_exit {k = k} {s = s} {g = g} {h = h} grows (just_left none is) = left g is none (Grows-trans grows (Grows-one (Leave k s) g h is))
+-- What a procedure adds, from the clauses of its calls. Each lemma takes a call's clause as it stands, and an equation for each of
+-- the place, the data and the front that the clause names by other words.
+module _ {S : Type 0} {k k1 : ℕ} {s s1 : S} {g g1 h : History S} where
+  -- it came in, was held up, and waited
+  pub ComesTo-waited : {held_up : History S → S → Type 0} {condition priority : S → ℕ} {c p : ℕ} {d : S} {f : History S} → AddsLast f (Admit k s) g → held_up g s
+    → AddsTwo g1 (Wait k1 c p s1) (Resume k1 c d) h → k1 ≡ k → s1 ≡ s → g1 ≡ g → c ≡ condition s → p ≡ priority s → ComesTo k held_up condition priority f h d
+  ComesTo-waited enters held waits place state front on with = waited g s enters held (rw (place, state, front, on, with) at waits)
 
--- what a signal and then an exit add, behind start
-pub Finishes-by_signal : {S : Type 0} {k c : ℕ} {s t : S} {start : List (Event S)} {f g g1 h : History S} {b : Bool} → Grows k start f g → Signals k c s t g g1 b → h ≡ with_event g1 (Leave k t) → Finishes k c s start f h
-Finishes-by_signal {k = k} {t = t} {g1 = g1} {h = h} grows (resumed_one w chooses adds) is = signalled w t (rw append_assoc at (Grows-trans (Grows-trans grows adds.grows) (Grows-one (Leave k t) g1 h is)))
-Finishes-by_signal {k = k} {s = s} {t = t} {g = g} {g1 = g1} {h = h} grows (nobody_waited none same kept) is =
-    let here : h ≡ with_event g (Leave k s) = rw (← same, ← kept) is in
-    left g here none (Grows-trans grows (Grows-one (Leave k s) g h here))
+  -- it left
+  pub leaves-as : h ≡ with_event g1 (Leave k1 s1) → k1 ≡ k → s1 ≡ s → g1 ≡ g → h ≡ with_event g (Leave k s)
+  leaves-as leaves place state front = rw (place, state, front) at leaves
+
+  -- its last act was a signal joined with the exit
+  pub Finishes-exit : {c : ℕ} {b : Bool} → Exits k1 c s1 g1 h b → k1 ≡ k → s1 ≡ s → g1 ≡ g → Finishes k c s g h
+  Finishes-exit exits place state front = exited _ (rw (place, state, front) at exits)
+
+-- a signal and then an exit
+pub Finishes-signal : {S : Type 0} {k c : ℕ} {s t : S} {f g h : History S} {b : Bool} → Signals k c s t f g b → h ≡ with_event g (Leave k t) → Finishes k c s f h
+Finishes-signal {t = t} {g = g} (resumed_one w chooses adds) is = signalled w t g chooses adds is
+Finishes-signal (nobody_waited none same kept) is = exited false (just_left none (rw (← same, ← kept) is))

@@ -2,7 +2,7 @@
 use Rattle.std.specs.Prelude.{ℕ, List, [], ◌∷◌, ◌++◌, ◌≡◌, Bool, true, false, Some}
 use Rattle.hoare_law.specs.declared.event.Event.{Event}
 use Rattle.hoare_law.specs.declared.event.History.{History}
-use Rattle.hoare_law.specs.declared.event.Event.TheVariants.{Signal, Pass, Leave, Back}
+use Rattle.hoare_law.specs.declared.event.Event.TheVariants.{Admit, Wait, Signal, Pass, Leave, Resume, Back}
 use Rattle.hoare_law.specs.Events.{place_of, own, newest, with_event}
 use Rattle.hoare_law.specs.Waiting.{waiting, Chooses}
 
@@ -40,9 +40,16 @@ pub data Exits {S : Type 0} (k c : ℕ) (s : S) (f h : History S) : Bool → Typ
   passed_on : (w : ℕ) → Chooses c f.events w → h ≡ with_event f (Pass k c w s) → Exits k c s f h true
   just_left : waiting c f.events ≡ [] → h ≡ with_event f (Leave k s) → Exits k c s f h false
 
--- k does what start has, and gives the monitor up with s by its last act: a signal on c and then a plain exit, a signal on c
--- joined with the exit, or, where nobody waits on c, a plain exit
-pub data Finishes {S : Type 0} (k c : ℕ) (s : S) (start : List (Event S)) (f h : History S) : Type 0 where
-  signalled : (w : ℕ) (t : S) → Grows k (start ++ Signal k c w s ∷ Back k t ∷ Leave k t ∷ []) f h → Finishes k c s start f h
-  passed : (w : ℕ) → Grows k (start ++ Pass k c w s ∷ []) f h → Finishes k c s start f h
-  left : (g : History S) → h ≡ with_event g (Leave k s) → waiting c g.events ≡ [] → Grows k (start ++ Leave k s ∷ []) f h → Finishes k c s start f h
+-- k came in, and goes on with what it then finds; g is its front then. Where what it first found held it up (of its front at that
+-- moment and of the data), it waited once, on the condition and with the priority that those data say
+pub data ComesTo {S : Type 0} (k : ℕ) (held_up : History S → S → Type 0) (condition priority : S → ℕ) (f g : History S) (found : S) : Type 0 where
+  at_once : AddsLast f (Admit k found) g → (held_up g found → ⊥) → ComesTo k held_up condition priority f g found
+  waited : (e : History S) (a : S) → AddsLast f (Admit k a) e → held_up e a
+    → AddsTwo e (Wait k (condition a) (priority a) a) (Resume k (condition a) found) g → ComesTo k held_up condition priority f g found
+
+-- k gives the monitor up with s by its last act: a signal on c joined with the exit, or a signal on c that resumed somebody, and
+-- then a plain exit
+pub data Finishes {S : Type 0} (k c : ℕ) (s : S) (f h : History S) : Type 0 where
+  exited : (b : Bool) → Exits k c s f h b → Finishes k c s f h
+  signalled : (w : ℕ) (t : S) (g : History S) → Chooses c f.events w → AddsTwo f (Signal k c w s) (Back k t) g
+    → h ≡ with_event g (Leave k t) → Finishes k c s f h

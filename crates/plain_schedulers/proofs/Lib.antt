@@ -1,3 +1,1 @@
-pub mod SingleSteps
 pub mod Ring
-pub mod BufferSteps

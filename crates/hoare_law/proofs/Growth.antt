@@ -45,7 +45,7 @@ Grows-one e f h is = rw is (record {
 module _ {S : Type 0} {k k1 : ℕ} {s s1 : S} {g g1 h : History S} where
   -- it came in, was held up, and waited
   pub ComesTo-waited : {held_up : History S → S → Type 0} {condition priority : S → ℕ} {c p : ℕ} {d : S} {f : History S} → AddsLast f (Admit k s) g → held_up g s
-    → AddsTwo g1 (Wait k1 c p s1) (Resume k1 c d) h → k1 ≡ k → s1 ≡ s → g1 ≡ g → c ≡ condition s → p ≡ priority s → ComesTo k held_up condition priority f h d
+      → AddsTwo g1 (Wait k1 c p s1) (Resume k1 c d) h → k1 ≡ k → s1 ≡ s → g1 ≡ g → c ≡ condition s → p ≡ priority s → ComesTo k held_up condition priority f h d
   ComesTo-waited enters held waits place state front on with = waited g s enters held (rw (place, state, front, on, with) at waits)
 
   -- it left

@@ -45,11 +45,11 @@ pub data Exits {S : Type 0} (k c : ℕ) (s : S) (f h : History S) : Bool → Typ
 pub data ComesTo {S : Type 0} (k : ℕ) (held_up : History S → S → Type 0) (condition priority : S → ℕ) (f g : History S) (found : S) : Type 0 where
   at_once : AddsLast f (Admit k found) g → (held_up g found → ⊥) → ComesTo k held_up condition priority f g found
   waited : (e : History S) (a : S) → AddsLast f (Admit k a) e → held_up e a
-    → AddsTwo e (Wait k (condition a) (priority a) a) (Resume k (condition a) found) g → ComesTo k held_up condition priority f g found
+      → AddsTwo e (Wait k (condition a) (priority a) a) (Resume k (condition a) found) g → ComesTo k held_up condition priority f g found
 
 -- k gives the monitor up with s by its last act: a signal on c joined with the exit, or a signal on c that resumed somebody, and
 -- then a plain exit
 pub data Finishes {S : Type 0} (k c : ℕ) (s : S) (f h : History S) : Type 0 where
   exited : (b : Bool) → Exits k c s f h b → Finishes k c s f h
   signalled : (w : ℕ) (t : S) (g : History S) → Chooses c f.events w → AddsTwo f (Signal k c w s) (Back k t) g
-    → h ≡ with_event g (Leave k t) → Finishes k c s f h
+      → h ≡ with_event g (Leave k t) → Finishes k c s f h

@@ -3,7 +3,7 @@ ghost use Rattle.std.specs.Prelude.{◌≡◌, ◌≤◌, ◌<◌, ◌++◌, ◌
 ghost use Rattle.hoare_law.specs.declared.event.Event.{Event};
 ghost use Rattle.hoare_law.specs.declared.event.History.{History};
 ghost use Rattle.hoare_law.specs.declared.event.Event.TheVariants.{Admit, Signal, Pass, Resume, Back};
-ghost use Rattle.hoare_law.specs.declared.turn.Turn.TheVariants.{Held};
+ghost use Rattle.hoare_law.specs.declared.turn.Turn.TheVariants.{Free, Held};
 ghost use Rattle.hoare_law.specs.Events.{latest_data, with_event};
 ghost use Rattle.hoare_law.specs.Waiting.{priority_of, waiting, chosen};
 ghost use Rattle.hoare_law.specs.Turns.{turn, urgent, outside};
@@ -26,6 +26,12 @@ pub fn nothing_intervenes<S>()
 /// A newcomer comes in only where no signaller waits to return ("Monitors", Interpretation).
 pub fn signallers_first<S>()
     ensures { (h : History S) (k : ℕ) (s : S) → Allowed h (Admit k s) → urgent h.events ≡ [] }
+{}
+
+/// Who is admitted was outside, and nobody was inside ("Monitors", Introduction).
+pub fn admitted_from_outside<S>()
+    ensures outside { (h : History S) (k : ℕ) (s : S) → Allowed h (Admit k s) → outside k h.events ≡ true }
+    ensures free { (h : History S) (k : ℕ) (s : S) → Allowed h (Admit k s) → turn h.events ≡ Free }
 {}
 
 /// A signal resumes a process of the least priority, and among equal ones that which waits longest ("Monitors", Scheduled
@@ -59,6 +65,7 @@ mod tests {
         one_is_inside::<u8>();
         nothing_intervenes::<u8>();
         signallers_first::<u8>();
+        admitted_from_outside::<u8>();
         least_is_chosen::<u8>();
         data_as_left::<u8>();
         legal_grows::<u8>();

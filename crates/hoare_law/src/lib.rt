@@ -7,4 +7,5 @@ pub mod event;
 pub mod laws;
 pub mod monitor;
 pub mod turn;
+pub mod unasked;
 pub mod waits;

@@ -169,14 +169,14 @@ fn append_and_remove<R: Threads + Wait + Sync>(
     places: Vec<DoorOut<Buffer<u64>>>,
     turns: u64,
 ) -> io::Result<u64>
-    requires { All (λ o. IsOut (λ b q. BufferRests b q) (λ c p b q. BufferReady c b q) 2 door.now.table.shared.table_id door.now.table.shared.key o) places.items }
+    requires { All (λ o. IsOut (λ b q. BufferRests b (q 0) (q 1)) (λ c p b q. BufferReady c b (q 0) (q 1)) 2 door.now.table.shared.table_id door.now.table.shared.key o) places.items }
 {
     let roles = AtomicU64::new(0);
     let sums = thread::map_vec(
         rt,
         places,
         &|out| -> u64
-            requires { IsOut (λ b q. BufferRests b q) (λ c p b q. BufferReady c b q) 2 door.now.table.shared.table_id door.now.table.shared.key out }
+            requires { IsOut (λ b q. BufferRests b (q 0) (q 1)) (λ c p b q. BufferReady c b (q 0) (q 1)) 2 door.now.table.shared.table_id door.now.table.shared.key out }
         {
             if roles.fetch_add(1, Ordering::SeqCst) % 2 == 0 {
                 append_many(rt, door, out, turns);

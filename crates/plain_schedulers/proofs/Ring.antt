@@ -95,7 +95,7 @@ ring_view-none {T = T} {cells = cells} {n = n} none =
     rw (size, items) refl
 
 -- rest holds of a buffer with no item and nobody waiting
-pub BufferRests-empty : {T : Type 0} (n : ℕ) → 1 ≤ n → n ≤ 4096 → BufferRests (empty {T = T} n) nobody
+pub BufferRests-empty : {T : Type 0} (n : ℕ) → 1 ≤ n → n ≤ 4096 → BufferRests (empty {T = T} n) (nobody 0) (nobody 1)
 BufferRests-empty n least most = record {
   inv = record { least = least; most = most; fits = omega arith };
   nonempty = λ some. absurd (some refl);

@@ -26,30 +26,30 @@ pub record BufferHolds {T : Type 0} (b : Buffered T) : Type 0 where
   pub most : b.size ≤ 4096
   pub fits : length b.items ≤ b.size
 
--- who waits for an item finds none, and who waits for room finds none
-pub record BufferRests {T : Type 0} (b : Buffered T) (q : ℕ → List ℕ) : Type 0 where
+-- who waits for an item (the takers) finds none, and who waits for room (the putters) finds none
+pub record BufferRests {T : Type 0} (b : Buffered T) (takers putters : List ℕ) : Type 0 where
   pub inv : BufferHolds b
-  pub nonempty : q 0 ≢ [] → length b.items ≡ 0
-  pub nonfull : q 1 ≢ [] → length b.items ≡ b.size
+  pub nonempty : takers ≢ [] → length b.items ≡ 0
+  pub nonfull : putters ≢ [] → length b.items ≡ b.size
 
 -- who waited for an item finds one, and rest will hold again once it is taken out
-pub record ReadyNonempty {T : Type 0} (b : Buffered T) (q : ℕ → List ℕ) : Type 0 where
+pub record ReadyNonempty {T : Type 0} (b : Buffered T) (takers putters : List ℕ) : Type 0 where
   pub inv : BufferHolds b
   pub some : 0 < length b.items
-  pub others : q 0 ≢ [] → length b.items ≡ 1
-  pub nonfull : q 1 ≢ [] → length b.items ≡ b.size
+  pub others : takers ≢ [] → length b.items ≡ 1
+  pub nonfull : putters ≢ [] → length b.items ≡ b.size
 
 -- who waited for room finds some, and rest will hold again once an item is put in
-pub record ReadyNonfull {T : Type 0} (b : Buffered T) (q : ℕ → List ℕ) : Type 0 where
+pub record ReadyNonfull {T : Type 0} (b : Buffered T) (takers putters : List ℕ) : Type 0 where
   pub inv : BufferHolds b
   pub room : length b.items < b.size
-  pub others : q 1 ≢ [] → length b.items ≡ b.size - 1
-  pub nonempty : q 0 ≢ [] → length b.items ≡ 0
+  pub others : putters ≢ [] → length b.items ≡ b.size - 1
+  pub nonempty : takers ≢ [] → length b.items ≡ 0
 
 -- what a process that waited on the condition finds
-abbrev pub BufferReady : {T : Type 0} → ℕ → Buffered T → (ℕ → List ℕ) → Type 0
-BufferReady zero b q = ReadyNonempty b q
-BufferReady (suc c) b q = ReadyNonfull b q
+abbrev pub BufferReady : {T : Type 0} → ℕ → Buffered T → List ℕ → List ℕ → Type 0
+BufferReady zero b takers putters = ReadyNonempty b takers putters
+BufferReady (suc c) b takers putters = ReadyNonfull b takers putters
 
 -- the answers to a request for a buffer of n cells
 pub data Makes {T : Type 0} (n : ℕ) : Result (Buffered T) BufferRefused → Type 0 where
@@ -59,6 +59,6 @@ pub data Makes {T : Type 0} (n : ℕ) : Result (Buffered T) BufferRefused → Ty
   made : 1 ≤ n → n ≤ 4096 → Makes n (Ok (empty n))
 
 -- ready holds of nothing of which what always holds does not
-pub inv_of_ready : {T : Type 0} (c : ℕ) (b : Buffered T) (q : ℕ → List ℕ) → BufferReady c b q → BufferHolds b
-inv_of_ready zero b q h = h.inv
-inv_of_ready (suc c) b q h = h.inv
+pub inv_of_ready : {T : Type 0} (c : ℕ) (b : Buffered T) (takers putters : List ℕ) → BufferReady c b takers putters → BufferHolds b
+inv_of_ready zero b takers putters h = h.inv
+inv_of_ready (suc c) b takers putters h = h.inv

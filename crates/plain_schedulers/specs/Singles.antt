@@ -2,8 +2,8 @@
 use Rattle.std.specs.Prelude.{ℕ, List, [], ◌≡◌, ◌≢◌, Option, None, IsSome}
 
 -- if somebody waits, the item is out
-abbrev pub SingleRests : {T : Type 0} → Option T → (ℕ → List ℕ) → Type 0
-SingleRests item q = q 0 ≢ [] → item ≡ None
+abbrev pub SingleRests : {T : Type 0} → Option T → List ℕ → Type 0
+SingleRests item waiting = waiting ≢ [] → item ≡ None
 
 -- who is resumed finds the item in: the signaller put it in, and rest will hold again once it is taken out
 abbrev pub SingleReady : {T : Type 0} → Option T → Type 0

@@ -55,9 +55,9 @@ impl<T: Drop> MonitorData for Buffer<T> {
 
     ghost inv = { λ b. BufferHolds b };
 
-    ghost rest = { λ b q. BufferRests b q };
+    ghost rest = { λ b q. BufferRests b (q 0) (q 1) };
 
-    ghost ready = { λ c p b q. BufferReady c b q };
+    ghost ready = { λ c p b q. BufferReady c b (q 0) (q 1) };
 
     fn rest_holds<W: Waits>(&self, lists: &W) -> bool {
         let (count, size) = (self.len(), self.size());
@@ -79,7 +79,7 @@ impl<T: Drop> MonitorData for Buffer<T> {
 
     ghost rest_inv = { λ b q h. h.inv };
 
-    ghost ready_inv = { λ c p b q h. inv_of_ready c b q h };
+    ghost ready_inv = { λ c p b q h. inv_of_ready c b (q 0) (q 1) h };
 }
 
 impl<T: Drop> Buffer<T> {
@@ -87,7 +87,7 @@ impl<T: Drop> Buffer<T> {
     /// the cells can't be had. No procedure takes memory.
     pub fn make(alloc: Global, n: usize) -> Result<Buffer<T>, BufferRefused>
         ensures made { Makes n result }
-        ensures rest { IfOk result (λ b. BufferRests b nobody) }
+        ensures rest { IfOk result (λ b. BufferRests b (nobody 0) (nobody 1)) }
     {
         if n == 0 || n > MOST_CELLS {
             return Err(BufferRefused::BadSize);

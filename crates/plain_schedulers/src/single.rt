@@ -1,4 +1,6 @@
 ghost use Rattle.std.specs.Prelude.{◌≡◌, ◌↔◌, ◌<◌, ℕ, IsSome, IsTrue, Some, None};
+ghost use Rattle.hoare_law.specs.Priorities.{nobody};
+ghost use Rattle.plain_schedulers.specs.Singles.{SingleRests};
 ghost use Rattle.plain_schedulers.specs.SingleTraces.{Acquires, Releases};
 
 use hoare_law::data::MonitorData;
@@ -47,7 +49,7 @@ impl<T: Drop> MonitorData for Single<T> {
 
     ghost inv = { λ s. ⊤ };
 
-    ghost rest = { λ s q. SingleRests s q };
+    ghost rest = { λ s q. SingleRests s (q 0) };
 
     ghost ready = { λ c p s q. SingleReady s };
 
@@ -67,7 +69,8 @@ impl<T: Drop> MonitorData for Single<T> {
 impl<T: Drop> Single<T> {
     /// A single with this item in.
     pub fn with(item: T) -> Single<T>
-        ensures { result ≡ Some item }
+        ensures item { result ≡ Some item }
+        ensures rest { SingleRests result (nobody 0) }
     {
         Single { item: Some(item) }
     }

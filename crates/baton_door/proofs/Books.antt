@@ -13,8 +13,7 @@ use Rattle.hoare_law.specs.Turns.{turn, outside}
 use Rattle.hoare_law.specs.Waiting.{priority_of, waiting, chosen}
 use Rattle.hoare_law.proofs.Erasure.{turn-erased, outside-erased, priorities-erased, erased-push, chosen-erased, place_of-erased, priority_of-erased}
 use Rattle.hoare_law.proofs.Priorities.{waiting-unchosen, waiting-no_priority, priorities-nobody}
-use Rattle.hoare_law.proofs.InOrder.{in_order-in_order}
-use Rattle.hoare_law.proofs.Risings.{map-in_order}
+use Rattle.hoare_law.proofs.Sorted.{in_order-in_order, map-in_order}
 use Rattle.hoare_law.proofs.Turns.{turn-push}
 use Rattle.wait_book.specs.declared.waiter.Waiter.{Waiter}
 use Rattle.wait_book.specs.declared.steps.Next.{Next}

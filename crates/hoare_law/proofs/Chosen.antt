@@ -6,11 +6,7 @@ use Rattle.std.proofs.lemmas.List.{append-nil}
 use Rattle.hoare_law.specs.Priorities.{put_in, in_order}
 use Rattle.hoare_law.proofs.Tests.{both_true, and_false, not_below, above, self_least, list_all-push}
 use Rattle.hoare_law.proofs.Filters.{find-same}
-use Rattle.hoare_law.proofs.Orders.{put_all-push, list_all-lower}
-
-abbrev pub first_of : {X : Type 0} → List X → Option X
-first_of [] = None
-first_of (x ∷ xs) = Some x
+use Rattle.hoare_law.proofs.Sorted.{first_of, put_all-push, list_all-lower}
 
 module _ {X : Type 0} (key : X → ℕ) where
   abbrev pub is_least_of : List X → X → Bool

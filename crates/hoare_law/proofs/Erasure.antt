@@ -18,7 +18,7 @@ use Rattle.hoare_law.specs.Growth.{Begins}
 use Rattle.hoare_law.specs.Erasure.{without_data, all_without_data, erased}
 use Rattle.hoare_law.proofs.Turns.{filter-map}
 use Rattle.hoare_law.proofs.Filters.{list_all-same, find-same}
-use Rattle.hoare_law.proofs.Risings.{map-in_order}
+use Rattle.hoare_law.proofs.Sorted.{map-in_order}
 
 -- maps and filters change places
 newest-map : {X Y : Type 0} (f : X → Y) (xs : List X) → newest (map f xs) ≡ option_map f (newest xs)

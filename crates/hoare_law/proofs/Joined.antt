@@ -1,8 +1,9 @@
--- Where a priority stands that is put in its rising place.
-use Rattle.std.proofs.Common.{◌≡◌, ℕ, zero, suc, ◌-◌, ◌<◌, ◌≤◌, List, [], ◌∷◌, length, get_or, true, false, cond, leb, refl, arith, sub-one}
+-- Where a priority stands that is put in its rising place, and what users ask of joined and taken lists.
+use Rattle.std.proofs.Common.{◌≡◌, ◌≢◌, Bool, ℕ, zero, suc, ◌-◌, ◌<◌, ◌≤◌, List, [], ◌∷◌, length, get_or, true, false, cond, leb, refl, arith, sub-one}
 use Rattle.std.proofs.lemmas.Grind.{common_steps}
-use Rattle.hoare_law.specs.Priorities.{put_in}
-use Rattle.hoare_law.proofs.Risings.{length-put_in}
+use Rattle.hoare_law.specs.Priorities.{put_in, behind_first}
+use Rattle.std.proofs.lemmas.Bool.Decides.{nat_tests}
+use Rattle.hoare_law.proofs.Sorted.{length-put_in, put_in-some}
 
 pub put_in_before : (p : ℕ) (qs : List ℕ) (i : ℕ) → i < length qs → ((j : ℕ) → j < i → get_or qs j 0 ≤ p) → get_or qs i 0 ≤ p → get_or (put_in (λ n. n) p qs) i 0 ≡ get_or qs i 0
 put_in_before p [] i h below here = grind (arith, common_steps)
@@ -34,3 +35,29 @@ put_in_behind_one p qs (suc i) j h l above =
     rw sub-one (put_in_behind p qs i j (omega arith) (omega (arith, length-put_in (λ n. n) p qs)) above)
 
 pub ruleset joined_steps = (length-put_in, put_in_before, put_in_at, put_in_behind_one)
+
+-- What waits of one's own ask of lists: how many wait after a wait or a signal, and that somebody does. A function whose `rest` or
+-- `ready` counts who waits closes with the attribute
+--     #[tactic(auto, using(hoare_law::proofs::Joined::waiting_steps))]
+-- (`joined q c p c` computes to `put_in (λ n. n) p (q c)`, and `taken q c c` to `behind_first (q c)`.)
+pub length-behind_first : (xs : List ℕ) → length (behind_first xs) ≡ length xs - 1
+length-behind_first [] = refl
+length-behind_first (x ∷ xs) = grind (arith, common_steps)
+
+pub length-some : (xs : List ℕ) → xs ≢ [] → 0 < length xs
+length-some [] some = absurd (some refl)
+length-some (x ∷ xs) some = grind (arith, common_steps)
+
+pub length-none : (xs : List ℕ) → xs ≡ [] → length xs ≡ 0
+length-none xs none = rw none refl
+
+-- the first of a list with p is p or less
+pub first-put_in : (p : ℕ) (qs : List ℕ) → get_or (put_in (λ n. n) p qs) 0 0 ≤ p
+first-put_in p [] = omega arith
+first-put_in p (q ∷ qs) = by (leb q p) refl
+  where
+    by : (t : Bool) → leb q p ≡ t → get_or (cond t (q ∷ put_in (λ n. n) p qs) (p ∷ q ∷ qs)) 0 0 ≤ p
+    by true is = grind (arith, nat_tests)
+    by false is = omega arith
+
+pub ruleset waiting_steps = (length-put_in, put_in-some, length-behind_first, length-some, length-none, first-put_in)

@@ -3,16 +3,14 @@ pub mod Events
 pub mod Waiting
 pub mod Turns
 pub mod Legal
-pub mod Orders
 pub mod Chosen
 pub mod Growth
 pub mod Filters
 pub mod Held
 pub mod Waiters
-pub mod Risings
+pub mod Sorted
 pub mod Priorities
 pub mod Fronts
 pub mod Erasure
 pub mod Rules
 pub mod Joined
-pub mod InOrder

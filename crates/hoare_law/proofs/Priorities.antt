@@ -14,12 +14,11 @@ use Rattle.hoare_law.specs.Turns.{is_signal, turn, is_out, outside}
 use Rattle.hoare_law.specs.Priorities.{put_in, in_order, priorities, joined, taken, behind_first}
 use Rattle.hoare_law.proofs.Tests.{both_true}
 use Rattle.hoare_law.proofs.Waiting.{waiting-push}
-use Rattle.hoare_law.proofs.Orders.{put_all-push, in_order-filter}
-use Rattle.hoare_law.proofs.Chosen.{first_of, chosen-first}
+use Rattle.hoare_law.proofs.Sorted.{first_of, put_all-push, in_order-filter, map-put_in, map-in_order, in_order-none, in_order-short, IsNonDecreasing-in_order}
+use Rattle.hoare_law.proofs.Chosen.{chosen-first}
 use Rattle.hoare_law.proofs.Filters.{map-none, filter-all, filter-or, list_all-filter_own, list_all-filter_none, list_all-same, list_all-from_All}
 use Rattle.hoare_law.proofs.Held.{hands_to, turn-owed, waiting-held}
 use Rattle.hoare_law.proofs.Waiters.{Waits, LastSignals, All-waiting, own-return, chosen-waits, waiting-elsewhere, waiting-once}
-use Rattle.hoare_law.proofs.Risings.{map-put_in, map-in_order, in_order-none, in_order-short, IsNonDecreasing-in_order}
 
 some_and : {X : Type 0} (P : X → Type 0) (o : Option X) → IsSomeAnd o P → (x : X) × (o ≡ Some x) × P x
 some_and P None p = absurd p

@@ -18,9 +18,9 @@ use Rattle.hoare_law.proofs.Waiting.{waiting-push}
 use Rattle.hoare_law.proofs.Turns.{urgent-push, turn-push, outside-push, filter-map}
 use Rattle.hoare_law.proofs.Legal.{IsLegal-push, IsLegal-none}
 use Rattle.hoare_law.proofs.Filters.{filter-filter}
-use Rattle.hoare_law.proofs.Orders.{in_order-filter}
-use Rattle.hoare_law.proofs.InOrder.{in_order-push, map-filter_put_in}
+use Rattle.hoare_law.proofs.Sorted.{in_order-filter, in_order-push, map-filter_put_in}
 use Rattle.hoare_law.proofs.Chosen as law
+use Rattle.hoare_law.proofs.Sorted as sorted
 use Rattle.wait_book.specs.declared.waiter.Waiter.{Waiter}
 use Rattle.wait_book.specs.Contents.{Contents, IsOf, next_of, one, times, times_in, wait_of, waiters_on, unused}
 use Rattle.wait_book.specs.declared.steps.Next.TheVariants as next
@@ -194,17 +194,17 @@ returned_of b k h s e o =
     (λ j t. sym (returned_times b k j s e))
 
 -- the first on c is chosen
-pub chosen-first_on : (b : Contents) (h : Log) (c : ℕ) → IsOf b h → chosen c h.events ≡ law.first_of (map wait_of (waiters_on c b))
+pub chosen-first_on : (b : Contents) (h : Log) (c : ℕ) → IsOf b h → chosen c h.events ≡ sorted.first_of (map wait_of (waiters_on c b))
 unfolding chosen
-chosen-first_on b h c o = law.chosen-first priority_of (waiting c h.events) ∙ ap law.first_of (sym (o.waiters c))
+chosen-first_on b h c o = law.chosen-first priority_of (waiting c h.events) ∙ ap sorted.first_of (sym (o.waiters c))
 
 -- who is taken was chosen
 pub chosen-taken : (b : Contents) (h : Log) (c w : ℕ) (ws : List Waiter) → IsOf b h → (t : TakesFirst c b.waiters ws w) → chosen c h.events ≡ Some (wait_of t.first)
-chosen-taken b h c w ws o t = chosen-first_on b h c o ∙ ap (λ l. law.first_of (map wait_of l)) (filter-taken_on c b.waiters ws w t)
+chosen-taken b h c w ws o t = chosen-first_on b h c o ∙ ap (λ l. sorted.first_of (map wait_of l)) (filter-taken_on c b.waiters ws w t)
 
 -- where nobody waits, nobody is chosen
 pub chosen-nobody : (b : Contents) (h : Log) (c : ℕ) → IsOf b h → waiters_on c b ≡ [] → chosen c h.events ≡ None
-chosen-nobody b h c o e = chosen-first_on b h c o ∙ ap (λ l. law.first_of (map wait_of l)) e
+chosen-nobody b h c o e = chosen-first_on b h c o ∙ ap (λ l. sorted.first_of (map wait_of l)) e
 
 chooses : (b : Contents) (h : Log) (c w : ℕ) (ws : List Waiter) → IsOf b h → TakesFirst c b.waiters ws w → Chooses c h.events w
 unfolding Chooses

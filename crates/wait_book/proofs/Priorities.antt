@@ -10,9 +10,9 @@ use Rattle.hoare_law.specs.declared.turn.Turn.TheVariants.{Held}
 use Rattle.hoare_law.specs.Waiting.{waiting, priority_of, chosen}
 use Rattle.hoare_law.specs.Priorities.{put_in, in_order, priorities, joined, taken, behind_first}
 use Rattle.hoare_law.proofs.Chosen as law
+use Rattle.hoare_law.proofs.Sorted as sorted
 use Rattle.hoare_law.proofs.Filters.{map-none}
-use Rattle.hoare_law.proofs.Risings.{map-in_order, in_order-none}
-use Rattle.hoare_law.proofs.InOrder.{in_order-put_in, in_order-filtered, map-filter_put_in, find-filter}
+use Rattle.hoare_law.proofs.Sorted.{map-in_order, in_order-none, in_order-put_in, in_order-filtered, map-filter_put_in, find-filter}
 use Rattle.wait_book.specs.declared.waiter.Waiter.{Waiter}
 use Rattle.wait_book.specs.Contents.{Contents, IsOf, priorities_on, wait_of, waiters_on}
 use Rattle.wait_book.specs.Insides.{IsSound}
@@ -54,18 +54,18 @@ waiters_on-none b h c o n = map-none wait_of (waiters_on c b) (o.waiters c ∙ a
 -- the first
 
 -- the first of a list, through a map
-first_of-map : {X Y : Type 0} (f : X → Y) (xs : List X) → law.first_of (map f xs) ≡ option_map f (law.first_of xs)
+first_of-map : {X Y : Type 0} (f : X → Y) (xs : List X) → sorted.first_of (map f xs) ≡ option_map f (sorted.first_of xs)
 first_of-map f [] = refl
 first_of-map f (x ∷ xs) = refl
 
 -- its priority is the chosen one's
 pub first-chosen : (b : Contents) (h : History (Unit {0})) (c : ℕ) → IsOf b h → option_map key (find (on c) b.waiters) ≡ option_map priority_of (chosen c h.events)
-first-chosen b h c o = ap (option_map key) (find-filter (on c) b.waiters) ∙ sym (first_of-map key (waiters_on c b)) ∙ ap law.first_of (sym (map-map priority_of wait_of (waiters_on c b)))
+first-chosen b h c o = ap (option_map key) (find-filter (on c) b.waiters) ∙ sym (first_of-map key (waiters_on c b)) ∙ ap sorted.first_of (sym (map-map priority_of wait_of (waiters_on c b)))
     ∙ first_of-map priority_of (map wait_of (waiters_on c b)) ∙ ap (option_map priority_of) (sym (chosen-first_on b h c o))
 
 -- and the first of the priorities
-pub first-priority : (b : Contents) (c : ℕ) → IsSound b → option_map key (find (on c) b.waiters) ≡ law.first_of (priorities_on b c)
-first-priority b c s = ap (option_map key) (find-filter (on c) b.waiters) ∙ sym (first_of-map key (waiters_on c b)) ∙ ap law.first_of (sym (priorities_on-are b c s.ordered))
+pub first-priority : (b : Contents) (c : ℕ) → IsSound b → option_map key (find (on c) b.waiters) ≡ sorted.first_of (priorities_on b c)
+first-priority b c s = ap (option_map key) (find-filter (on c) b.waiters) ∙ sym (first_of-map key (waiters_on c b)) ∙ ap sorted.first_of (sym (priorities_on-are b c s.ordered))
 
 -- what a wait and a signal do
 
@@ -113,7 +113,7 @@ nth-priority b d c i o e s r l =
 
 -- what the first one says
 
-pub first-lists : (o : Option ℕ) (xs : List ℕ) → o ≡ law.first_of xs → MatchOption o (xs ≡ []) (λ p. (xs ≢ []) × (p ≡ slice_index xs 0))
+pub first-lists : (o : Option ℕ) (xs : List ℕ) → o ≡ sorted.first_of xs → MatchOption o (xs ≡ []) (λ p. (xs ≢ []) × (p ≡ slice_index xs 0))
 first-lists None [] e = refl
 first-lists None (x ∷ xs) e = absurd (cc)
 first-lists (Some p) [] e = absurd (cc)
@@ -125,7 +125,7 @@ queue_by [] b h c f r e o q i =
     let m : r ≡ false = i ∙ ap is_some (q ∙ n) in
     ((λ t. absurd (cc)), (λ w. absurd (w (waiting-none b h c o e))))
 queue_by (w ∷ ws) b h c f r e o q i =
-    let n : option_map priority_of (chosen c h.events) ≡ Some w.priority = ap (option_map priority_of) (chosen-first_on b h c o ∙ ap (λ l. law.first_of (map wait_of l)) e) in
+    let n : option_map priority_of (chosen c h.events) ≡ Some w.priority = ap (option_map priority_of) (chosen-first_on b h c o ∙ ap (λ l. sorted.first_of (map wait_of l)) e) in
     let m : r ≡ true = i ∙ ap is_some (q ∙ n) in
     ((λ t z. absurd (let a = waiters_on-none b h c o z in cc)), (λ z. m))
 

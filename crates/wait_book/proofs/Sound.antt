@@ -7,8 +7,7 @@ use Rattle.hoare_law.specs.declared.turn.Turn.{Turn}
 use Rattle.hoare_law.specs.declared.turn.Turn.TheVariants.{Free, Held, Owed, Return}
 use Rattle.hoare_law.specs.Turns.{turn_given_up}
 use Rattle.hoare_law.specs.Priorities.{put_in, in_order, behind_first}
-use Rattle.hoare_law.proofs.Orders.{list_all-put_in}
-use Rattle.hoare_law.proofs.InOrder.{in_order-put_in, in_order-filtered}
+use Rattle.hoare_law.proofs.Sorted.{list_all-put_in, in_order-put_in, in_order-filtered}
 use Rattle.wait_book.specs.declared.waiter.Waiter.{Waiter}
 use Rattle.wait_book.specs.Contents.{Contents, one, times, times_in, times_in_hand}
 use Rattle.wait_book.specs.Insides.{IsSound, IsTurnBeside}

@@ -11,7 +11,7 @@ impl Waits for Book {
     ghost use Rattle.hoare_law.specs.Priorities.{priorities};
     ghost use Rattle.wait_book.specs.declared.waiter.Waiter.{Waiter};
     ghost use Rattle.wait_book.specs.Contents.{IsOf, priorities_on, waiters_on};
-    ghost use Rattle.hoare_law.proofs.Risings.{IsNonDecreasing-in_order};
+    ghost use Rattle.hoare_law.proofs.Sorted.{IsNonDecreasing-in_order};
 
     ghost waiting_priorities = { priorities_on };
 

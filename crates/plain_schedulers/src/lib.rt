@@ -3,3 +3,5 @@
 
 pub mod buffer;
 pub mod single;
+#[cfg(test)]
+mod tests;

@@ -6,4 +6,4 @@ pub mod Priorities
 pub mod Lawful
 pub mod Growth
 pub mod Erasure
-pub mod Rising
+pub mod Beside

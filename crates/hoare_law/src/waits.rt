@@ -103,7 +103,7 @@ impl<'a, W: Waits> Waits for Joined<'a, W> {
         self.priority
     }
 
-    ghost use Rattle.hoare_law.specs.Rising.{IsNonDecreasing-joined};
+    ghost use Rattle.hoare_law.specs.Beside.Rising.{IsNonDecreasing-joined};
 
     ghost rise = { λ j c. IsNonDecreasing-joined (W.waiting_priorities j.lists.now) j.condition j.priority c (W.rise j.lists.now c) };
 }
@@ -149,7 +149,7 @@ impl<'a, W: Waits> Waits for Taken<'a, W> {
         }
     }
 
-    ghost use Rattle.hoare_law.specs.Rising.{IsNonDecreasing-taken};
+    ghost use Rattle.hoare_law.specs.Beside.Rising.{IsNonDecreasing-taken};
 
     ghost rise = { λ t c. IsNonDecreasing-taken (W.waiting_priorities t.lists.now) t.condition c (W.rise t.lists.now c) };
 }

@@ -1,0 +1,2 @@
+-- What the crates need beside the definitions.
+pub mod Rising

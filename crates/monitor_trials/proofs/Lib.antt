@@ -1,1 +1,2 @@
-pub mod Stages
+mod Answers
+mod Stages

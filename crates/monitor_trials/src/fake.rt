@@ -1,6 +1,7 @@
 ghost use Rattle.std.specs.Prelude.{◌≡◌, ◌<◌, ◌≤◌, IfOk, IfSome};
 ghost use Rattle.hoare_law.specs.Priorities.{nobody};
 ghost use Rattle.monitor_trials.specs.Stage.{opened};
+ghost use Rattle.monitor_trials.specs.Answers.{FirstReady};
 
 use crate::steps::{Deed, Opening};
 use atomic_table::{Seat, Table};
@@ -10,6 +11,7 @@ use hoare_law::monitor::Monitor;
 use hoare_law::waits::Nobody;
 use std::alloc::{AllocError, Global};
 use std::collections::VecDeque;
+use std::snapshot::Snapshot;
 use std::sync::Wait;
 
 /// A monitor for tests, of two places: place 0 is one thread's, and nobody has place 1, in whose name the answers come.
@@ -19,6 +21,7 @@ use std::sync::Wait;
 #[derive(Drop)]
 pub struct Fake<D: MonitorData> {
     pub(crate) table: Table<(), History<D>, D, Opening, Global>,
+    given: Snapshot<VecDeque<D>>,
     ghost sized: { table.shared.table_id.words ≡ 1 },
 }
 
@@ -38,14 +41,14 @@ pub struct FakeIn<D> {
     lists: Nobody,
 }
 
-// Drops answers up to the first that is ready, which comes back.
+// The first answer that is ready. Those before it are dropped.
 fn next_ready<D: MonitorData + Drop>(
     answers: &mut VecDeque<D>,
     condition: usize,
     priority: u64,
 ) -> Option<D>
     requires { condition < D.CONDITIONS }
-    ensures { IfSome result (λ a. D.ready condition priority a nobody) }
+    ensures { IfSome result (λ a. FirstReady (λ d. D.ready condition priority d nobody) answers.old.items a answers.new.items) }
 {
     while let Some(answer) = answers.pop_front() {
         if answer.ready_holds(condition, priority, &Nobody) {
@@ -66,16 +69,18 @@ impl<D: MonitorData + Drop + Send> Fake<D> {
         requires rest { D.rest state nobody }
         requires conditions { (1 ≤ D.CONDITIONS) × (D.CONDITIONS ≤ 8) }
         ensures of { IfOk result (λ r. ⟦<Fake<D> as Monitor<D>>⟧.is_of r.0 r.1) }
+        ensures given { IfOk result (λ r. r.0.given.value.items ≡ answers.items) }
         ensures place { IfOk result (λ r. ⟦<Fake<D> as Monitor<D>>⟧.place r.1 ≡ 0) }
         ensures front { IfOk result (λ r. ⟦<Fake<D> as Monitor<D>>⟧.front r.1 ≡ opened D.CONDITIONS state) }
     {
         let (table, seat) = Table::of_words(alloc, &[0], &state)?;
+        let given = Snapshot::of(&answers);
         let out = FakeOut {
             state,
             answers,
             seat,
         };
-        Ok((Fake { table }, out))
+        Ok((Fake { table, given }, out))
     }
 }
 
@@ -83,6 +88,7 @@ impl<D: MonitorData + Drop + Send> Monitor<D> for Fake<D> {
     ghost use Rattle.std.specs.Prelude.{◌≡◌, ◌≢◌, ◌<◌, ℕ, [], refl};
     ghost use Rattle.hoare_law.specs.Priorities.{nobody};
     ghost use Rattle.monitor_trials.specs.Stage.{IsOutside, IsInside};
+    ghost use Rattle.monitor_trials.specs.Answers.{IsLeft};
     ghost use Rattle.monitor_trials.specs.Facts.{outside_stands, inside_stands, lists_are, rise};
 
     type Out = FakeOut<D>;
@@ -91,9 +97,13 @@ impl<D: MonitorData + Drop + Send> Monitor<D> for Fake<D> {
 
     type Lists = Nobody;
 
-    ghost is_of = { λ m o. (o.seat.table_id ≡ m.table.shared.table_id) × IsOutside D.rest D.ready D.CONDITIONS o.state o.seat.me.0 };
+    ghost is_of = { λ m o. (o.seat.table_id ≡ m.table.shared.table_id)
+        × IsOutside D.rest D.ready D.CONDITIONS o.state o.seat.me.0
+        × IsLeft D.ready m.given.value.items o.seat.me.0.events o.answers.items };
 
-    ghost is_of_in = { λ m i. (i.seat.table_id ≡ m.table.shared.table_id) × IsInside D.rest D.ready D.CONDITIONS i.seat.me.0 };
+    ghost is_of_in = { λ m i. (i.seat.table_id ≡ m.table.shared.table_id)
+        × IsInside D.rest D.ready D.CONDITIONS i.seat.me.0
+        × IsLeft D.ready m.given.value.items i.seat.me.0.events i.answers.items };
 
     ghost place = { λ o. 0 };
 

@@ -14,3 +14,5 @@ pub mod Fronts
 pub mod Erasure
 pub mod Rules
 pub mod Joined
+pub mod Searches
+pub mod Firsts

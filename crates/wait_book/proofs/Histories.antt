@@ -1,5 +1,6 @@
 -- What each call does to the histories that a book is of.
-use Rattle.std.proofs.Common.{◌≡◌, ◌==◌, ℕ, ◌+◌, ◌<◌, Bool, true, false, eqb-true, cond, not, List, [], ◌∷◌, ◌++◌, map, Option, Some, None, refl, ap, sym, ◌∙◌, subst, arith, drop}
+use Rattle.std.proofs.Common.{◌≡◌, ◌==◌, ℕ, ◌+◌, ◌<◌, Bool, true, false, eqb-true, cond, not, ◌||◌, arith}
+use Rattle.std.proofs.Common.{List, [], ◌∷◌, ◌++◌, map, Option, Some, None, refl, ap, sym, ◌∙◌, subst}
 use Rattle.std.specs.List.{filter}
 use Rattle.std.specs.Prelude.{IsSomeAnd}
 use Rattle.std.proofs.lemmas.Bool.Decides.{nat_tests}
@@ -29,7 +30,9 @@ use Rattle.wait_book.specs.Insides.{IsSound}
 use Rattle.wait_book.specs.Queues.{TakesFirst}
 use Rattle.wait_book.proofs.Times.{eq_self, eq_swap, one_same, one_apart, filter-apart, filter-others}
 use Rattle.wait_book.proofs.Waiters.{on, places, key, times-taken, filter-taken, filter-taken_on}
-use Rattle.wait_book.proofs.Sound.{admitted, waited, left, resumed, returned, hand_apart, held_hand, owed_hand, held_in_range, owed_in_range, return_in_range, return_in, return_front, owed_condition, waited_times, left_times, admitted_times, owed_times, returned_times, signalled_times, passed_times}
+use Rattle.wait_book.proofs.Sound.{admitted, waited, left, resumed, returned, Enters, Holds, Resumes, holder_apart, hand_apart, held_hand, owed_hand, owed_condition}
+use Rattle.wait_book.proofs.Sound.{held_in_range, owed_in_range, return_in_range, return_in, return_front}
+use Rattle.wait_book.proofs.Sound.{waited_times, left_times, admitted_times, owed_times, returned_times, signalled_times, passed_times}
 
 -- a history and an event without data
 abbrev Log : Type 0
@@ -43,14 +46,23 @@ pub IsOf-same : (b d : Contents) (h : Log) → b ≡ d → IsOf b h → IsOf d h
 IsOf-same b d h e o = subst (λ (v : Contents). IsOf v h) e o
 
 -- a book where nothing happened
-pub IsOf-unused : (n m : ℕ) → IsOf (record { places = n; conditions = m; waiters = []; signallers = []; turn = Free }) (unused n m)
+pub IsOf-unused : (n m x y : ℕ) → IsOf (record { places = n; conditions = m; room_to_wait = x; room_to_signal = y; waiters = []; signallers = []; turn = Free }) (unused n m)
 unfolding waiting urgent turn outside
-IsOf-unused n m = record { legal = IsLegal-none (unused n m) refl; places = refl; conditions = refl; waiters = λ c. refl; signallers = refl; turn_is = refl; outside_are = λ k. refl }
+IsOf-unused n m x y = record { legal = IsLegal-none (unused n m) refl; places = refl; conditions = refl; waiters = λ c. refl; signallers = refl; turn_is = refl; outside_are = λ k. refl }
 
 -- who waits, after an event that leaves these alone
 
+-- those whom an event leaves alone
+abbrev spared : Act → List Waiter → List Waiter
+spared e ws = filter (λ (w : Waiter). not (concerns w.place e)) ws
+
+-- they are those who wait by the events
+abbrev AreWaiting : List Waiter → List Act → Type 0
+AreWaiting ws h = (c : ℕ) → map wait_of (filter (on c) ws) ≡ in_order priority_of (waiting c h)
+
 -- those who waited and stay
-waiters_stay : (b : Contents) (h : Log) (e : Act) (ws : List Waiter) → filter (λ (w : Waiter). not (concerns w.place e)) b.waiters ≡ ws → IsOf b h → (c : ℕ) → map wait_of (filter (on c) ws) ≡ in_order priority_of (filter (λ x. not (concerns (place_of x) e)) (waiting c h.events))
+waiters_stay : (b : Contents) (h : Log) (e : Act) (ws : List Waiter) → spared e b.waiters ≡ ws → IsOf b h
+    → (c : ℕ) → map wait_of (filter (on c) ws) ≡ in_order priority_of (filter (λ x. not (concerns (place_of x) e)) (waiting c h.events))
 waiters_stay b h e ws f o c =
     let p : Waiter → Bool = λ w. not (concerns w.place e) in
     ap (λ l. map wait_of (filter (on c) l)) (sym f)
@@ -60,13 +72,16 @@ waiters_stay b h e ws f o c =
     ∙ sym (in_order-filter priority_of (λ x. not (concerns (place_of x) e)) (waiting c h.events))
 
 -- no event but a wait adds one who waits
-waiters_kept : (b : Contents) (h : Log) (e : Act) (ws : List Waiter) → ((c : ℕ) → waits_on c e ≡ false) → filter (λ (w : Waiter). not (concerns w.place e)) b.waiters ≡ ws → IsOf b h → (c : ℕ) → map wait_of (filter (on c) ws) ≡ in_order priority_of (waiting c (h.events ++ e ∷ []))
+waiters_kept : (b : Contents) (h : Log) (e : Act) (ws : List Waiter) → ((c : ℕ) → waits_on c e ≡ false) → spared e b.waiters ≡ ws → IsOf b h
+    → AreWaiting ws (h.events ++ e ∷ [])
 waiters_kept b h e ws n f o c =
+    let kept : List Act = filter (λ x. not (concerns (place_of x) e)) (waiting c h.events) in
     waiters_stay b h e ws f o c
-    ∙ ap (in_order priority_of) (sym (waiting-push c h.events e ∙ ap (λ t. filter (λ x. not (concerns (place_of x) e)) (waiting c h.events) ++ cond t (e ∷ []) []) (n c) ∙ append-nil _))
+    ∙ ap (in_order priority_of) (sym (waiting-push c h.events e ∙ ap (λ t. kept ++ cond t (e ∷ []) []) (n c) ∙ append-nil _))
 
 -- a wait adds its own to those who wait
-waiters_joined : (b : Contents) (h : Log) (w : Waiter) → in_order key b.waiters ≡ b.waiters → filter (λ (v : Waiter). not (concerns v.place (wait_of w))) b.waiters ≡ b.waiters → IsOf b h → (c : ℕ) → map wait_of (filter (on c) (put_in key w b.waiters)) ≡ in_order priority_of (waiting c (h.events ++ wait_of w ∷ []))
+waiters_joined : (b : Contents) (h : Log) (w : Waiter) → in_order key b.waiters ≡ b.waiters → spared (wait_of w) b.waiters ≡ b.waiters → IsOf b h
+    → AreWaiting (put_in key w b.waiters) (h.events ++ wait_of w ∷ [])
 waiters_joined b h w r f o c =
     let kept : List Act = filter (λ x. not (concerns (place_of x) (wait_of w))) (waiting c h.events) in
     map-filter_put_in wait_of priority_of (on c) w b.waiters r
@@ -76,19 +91,22 @@ waiters_joined b h w r f o c =
 
 -- who is outside
 
-outside_by : (t : Bool) (k : ℕ) (e : Act) (o : Bool) (n m : ℕ) → (place_of e == k) ≡ t → o ≡ (n == 0) → (place_of e ≡ k → is_out (Some e) ≡ (m == 0)) → ((place_of e == k) ≡ false → n ≡ m) → cond t (is_out (Some e)) o ≡ (m == 0)
+outside_by : (t : Bool) (k : ℕ) (e : Act) (o : Bool) (n m : ℕ) → (place_of e == k) ≡ t → o ≡ (n == 0) → (place_of e ≡ k → is_out (Some e) ≡ (m == 0))
+    → ((place_of e == k) ≡ false → n ≡ m) → cond t (is_out (Some e)) o ≡ (m == 0)
 outside_by true k e o n m h p here off = here (eqb-true (place_of e) k h)
 outside_by false k e o n m h p here off = p ∙ ap (λ v. v == 0) (off h)
 
 -- who is outside, after one more event
-outside_kept : (b d : Contents) (h : Log) (e : Act) → ((k : ℕ) → outside k h.events ≡ (times_in k b == 0)) → is_out (Some e) ≡ (times_in (place_of e) d == 0) → ((k : ℕ) → (place_of e == k) ≡ false → times_in k b ≡ times_in k d) → (k : ℕ) → outside k (h.events ++ e ∷ []) ≡ (times_in k d == 0)
+outside_kept : (b d : Contents) (h : Log) (e : Act) → ((k : ℕ) → outside k h.events ≡ (times_in k b == 0)) → is_out (Some e) ≡ (times_in (place_of e) d == 0)
+    → ((k : ℕ) → (place_of e == k) ≡ false → times_in k b ≡ times_in k d) → (k : ℕ) → outside k (h.events ++ e ∷ []) ≡ (times_in k d == 0)
 outside_kept b d h e o here off k =
     outside-push k h.events e
-    ∙ outside_by (place_of e == k) k e (outside k h.events) (times_in k b) (times_in k d) refl (o k) (λ q. subst (λ (j : ℕ). is_out (Some e) ≡ (times_in j d == 0)) q here) (off k)
+    ∙ outside_by (place_of e == k) k e (outside k h.events) (times_in k b) (times_in k d) refl (o k)
+    (λ q. subst (λ (j : ℕ). is_out (Some e) ≡ (times_in j d == 0)) q here) (off k)
 
 -- one more event, allowed, with what it does to each part
 pub IsOf-push : (b d : Contents) (h : Log) (e : Act) → IsOf b h → d.places ≡ b.places → d.conditions ≡ b.conditions → Allowed h e
-    → ((c : ℕ) → map wait_of (waiters_on c d) ≡ in_order priority_of (waiting c (h.events ++ e ∷ [])))
+    → AreWaiting d.waiters (h.events ++ e ∷ [])
     → filter (λ u. not (place_of e == u)) b.signallers ++ cond (is_signal e) (place_of e ∷ []) [] ≡ d.signallers
     → turn_by e d.signallers ≡ d.turn
     → is_out (Some e) ≡ (times_in (place_of e) d == 0)
@@ -96,7 +114,8 @@ pub IsOf-push : (b d : Contents) (h : Log) (e : Act) → IsOf b h → d.places �
     → IsOf d (with_event h e)
 unfolding with_event
 IsOf-push b d h e o p q allowed ws us t here off =
-    let signallers : urgent (h.events ++ e ∷ []) ≡ d.signallers = urgent-push h.events e ∙ ap (λ l. filter (λ u. not (place_of e == u)) l ++ cond (is_signal e) (place_of e ∷ []) []) o.signallers ∙ us in
+    let signallers : urgent (h.events ++ e ∷ []) ≡ d.signallers =
+    urgent-push h.events e ∙ ap (λ l. filter (λ u. not (place_of e == u)) l ++ cond (is_signal e) (place_of e ∷ []) []) o.signallers ∙ us in
     record {
       legal = IsLegal-push e o.legal allowed;
       places = o.places ∙ sym p;
@@ -123,27 +142,32 @@ condition_fits : (b : Contents) (h : Log) (c : ℕ) → IsOf b h → c < b.condi
 condition_fits b h c o l = omega (arith, o.conditions)
 
 -- nobody who waits goes where only place k acts, who doesn't wait
-waiters_apart : (b : Contents) (k : ℕ) (e : Act) → ((j : ℕ) → (k == j) ≡ false → not (concerns j e) ≡ true) → times k (places b.waiters) ≡ 0 → filter (λ (w : Waiter). not (concerns w.place e)) b.waiters ≡ b.waiters
+waiters_apart : (b : Contents) (k : ℕ) (e : Act) → ((j : ℕ) → (k == j) ≡ false → not (concerns j e) ≡ true) → times k (places b.waiters) ≡ 0
+    → spared e b.waiters ≡ b.waiters
 waiters_apart b k e t z = filter-apart (λ (w : Waiter). w.place) k (λ (w : Waiter). not (concerns w.place e)) b.waiters (λ v. t v.place) z
 
 signallers_apart : (b : Contents) (k : ℕ) → times k b.signallers ≡ 0 → filter (λ u. not (k == u)) b.signallers ++ [] ≡ b.signallers
 signallers_apart b k z = append-nil _ ∙ filter-others k b.signallers z
 
 -- a newcomer
-pub admitted_of : (b : Contents) (k : ℕ) (h : Log) → IsSound b → b.turn ≡ Free → k < b.places → times_in k b ≡ 0 → IsOf b h → IsOf (admitted k b) (with_event h (Admit k tt))
-admitted_of b k h s e r z o =
+pub admitted_of : (b : Contents) (k : ℕ) (h : Log) → Enters b k → IsOf b h → IsOf (admitted k b) (with_event h (Admit k tt))
+admitted_of b k h i o =
     let act : Act = Admit k tt in
+    let e : b.turn ≡ Free = i.free in
+    let z : times_in k b ≡ 0 = i.outside in
     IsOf-push b (admitted k b) h act o refl refl
-    (record { in_range = place_fits b h k o r; fits = (o.turn_is ∙ e, o.outside_are k ∙ sym (zero_is _ z), no_data _) })
+    (record { in_range = place_fits b h k o i.place; fits = (o.turn_is ∙ e, o.outside_are k ∙ sym (zero_is _ z), no_data _) })
     (waiters_kept b h act b.waiters (λ c. refl) (waiters_apart b k act (λ j t. ap not t) (omega arith)) o)
     (signallers_apart b k (omega arith)) refl
     (positive _ (omega (arith, admitted_times b k k e, one_same k)))
     (λ j t. omega (arith, admitted_times b k j e, one_apart j k (eq_swap j k ∙ t)))
 
 -- a wait
-pub waited_of : (b : Contents) (w : Waiter) (h : Log) → IsSound b → b.turn ≡ Held w.place → w.condition < b.conditions → IsOf b h → IsOf (waited w b) (with_event h (wait_of w))
-waited_of b w h s e l o =
-    let apart : (times w.place (places b.waiters) ≡ 0) × (times w.place b.signallers ≡ 0) = hand_apart b w.place s (held_hand b w.place e) in
+pub waited_of : (b : Contents) (w : Waiter) (h : Log) → Holds b w.place → w.condition < b.conditions → IsOf b h → IsOf (waited w b) (with_event h (wait_of w))
+waited_of b w h i l o =
+    let s : IsSound b = i.sound in
+    let e : b.turn ≡ Held w.place = i.inside in
+    let apart : (times w.place (places b.waiters) ≡ 0) × (times w.place b.signallers ≡ 0) = holder_apart b w.place i in
     IsOf-push b (waited w b) h (wait_of w) o refl refl
     (record { in_range = (place_fits b h w.place o (held_in_range b w.place s e), condition_fits b h w.condition o l); fits = o.turn_is ∙ e })
     (waiters_joined b h w s.ordered (waiters_apart b w.place (wait_of w) (λ j t. ap not t) apart.0) o)
@@ -152,10 +176,12 @@ waited_of b w h s e l o =
     (λ j t. sym (waited_times b w j e))
 
 -- a leave
-pub left_of : (b : Contents) (k : ℕ) (h : Log) → IsSound b → b.turn ≡ Held k → IsOf b h → IsOf (left b) (with_event h (Leave k tt))
-left_of b k h s e o =
+pub left_of : (b : Contents) (k : ℕ) (h : Log) → Holds b k → IsOf b h → IsOf (left b) (with_event h (Leave k tt))
+left_of b k h i o =
+    let s : IsSound b = i.sound in
+    let e : b.turn ≡ Held k = i.inside in
     let act : Act = Leave k tt in
-    let apart : (times k (places b.waiters) ≡ 0) × (times k b.signallers ≡ 0) = hand_apart b k s (held_hand b k e) in
+    let apart : (times k (places b.waiters) ≡ 0) × (times k b.signallers ≡ 0) = holder_apart b k i in
     IsOf-push b (left b) h act o refl refl
     (record { in_range = place_fits b h k o (held_in_range b k s e); fits = o.turn_is ∙ e })
     (waiters_kept b h act b.waiters (λ c. refl) (waiters_apart b k act (λ j t. ap not t) apart.0) o)
@@ -213,49 +239,54 @@ chooses b h c w ws o t = subst (λ (x : Option Act). IsSomeAnd x (λ e. place_of
 taken_in_range : (b : Contents) (c w : ℕ) (ws : List Waiter) → IsSound b → TakesFirst c b.waiters ws w → w < b.places
 taken_in_range b c w ws s t = s.in_range w (omega (arith, times-taken w c b.waiters ws w t, one_same w))
 
--- a signal that resumes one
-signalled_of : (b : Contents) (k c w : ℕ) (ws : List Waiter) (h : Log) → IsSound b → b.turn ≡ Held k → c < b.conditions → TakesFirst c b.waiters ws w → IsOf b h → IsOf (resumed ws (b.signallers ++ k ∷ []) w c b) (with_event h (Signal k c w tt))
-signalled_of b k c w ws h s e l t o =
-    let act : Act = Signal k c w tt in
-    let apart : (times k (places b.waiters) ≡ 0) × (times k b.signallers ≡ 0) = hand_apart b k s (held_hand b k e) in
-    IsOf-push b (resumed ws (b.signallers ++ k ∷ []) w c b) h act o refl refl
-    (record { in_range = (place_fits b h k o (held_in_range b k s e), condition_fits b h c o l, place_fits b h w o (taken_in_range b c w ws s t)); fits = (o.turn_is ∙ e, chooses b h c w ws o t) })
-    (waiters_kept b h act ws (λ d. refl) (filter-taken k c b.waiters ws w t apart.0 (omega (arith, s.once w))) o)
-    (ap (λ l2. l2 ++ k ∷ []) (filter-others k b.signallers apart.1)) refl
-    (positive _ (omega (arith, signalled_times b k c w k ws e t, held_hand b k e)))
-    (λ j q. sym (signalled_times b k c w j ws e t))
+module _ (b : Contents) (k c w : ℕ) (ws : List Waiter) (r : Resumes b k c w ws) (h : Log) (o : IsOf b h) where
+  -- whoever signals is in range, and so are the condition and the one resumed
+  ranges : (k < h.places) × (c < h.conditions) × (w < h.places)
+  ranges = (place_fits b h k o (held_in_range b k r.by.sound r.by.inside), condition_fits b h c o r.fits, place_fits b h w o (taken_in_range b c w ws r.by.sound r.took))
 
--- a pass that resumes one
-passed_of : (b : Contents) (k c w : ℕ) (ws : List Waiter) (h : Log) → IsSound b → b.turn ≡ Held k → c < b.conditions → TakesFirst c b.waiters ws w → IsOf b h → IsOf (resumed ws b.signallers w c b) (with_event h (Pass k c w tt))
-passed_of b k c w ws h s e l t o =
-    let act : Act = Pass k c w tt in
-    let apart : (times k (places b.waiters) ≡ 0) × (times k b.signallers ≡ 0) = hand_apart b k s (held_hand b k e) in
-    IsOf-push b (resumed ws b.signallers w c b) h act o refl refl
-    (record { in_range = (place_fits b h k o (held_in_range b k s e), condition_fits b h c o l, place_fits b h w o (taken_in_range b c w ws s t)); fits = (o.turn_is ∙ e, chooses b h c w ws o t) })
-    (waiters_kept b h act ws (λ d. refl) (filter-taken k c b.waiters ws w t apart.0 (omega (arith, s.once w))) o)
-    (signallers_apart b k apart.1) refl
-    (zero_is _ (omega (arith, passed_times b k c w k ws e t, s.once k, one_same k)))
-    (λ j q. omega (arith, passed_times b k c w j ws e t, one_apart j k (eq_swap j k ∙ q)))
+  -- who waits once the two places acted
+  waiters_left : filter (λ (v : Waiter). not (k == v.place || w == v.place)) b.waiters ≡ ws
+  waiters_left = filter-taken k c b.waiters ws w r.took (holder_apart b k r.by).0 (omega (arith, r.by.sound.once w))
 
--- what a signal adds, where one is taken
-pub after_signal-taken : (b : Contents) (k c w : ℕ) (ws : List Waiter) (h : Log) → IsSound b → b.turn ≡ Held k → c < b.conditions → TakesFirst c b.waiters ws w → IsOf b h → IsOf (resumed ws (b.signallers ++ k ∷ []) w c b) (after_signal h k c (chosen c h.events))
-after_signal-taken b k c w ws h s e l t o =
-    let d : Contents = resumed ws (b.signallers ++ k ∷ []) w c b in
-    subst (λ (x : Option Act). IsOf d (after_signal h k c x)) (sym (chosen-taken b h c w ws o t))
-    (subst (λ (j : ℕ). IsOf d (with_event h (Signal k c j tt))) (sym t.place) (signalled_of b k c w ws h s e l t o))
+  -- a signal that resumes one
+  signalled_of : IsOf (resumed ws (b.signallers ++ k ∷ []) w c b) (with_event h (Signal k c w tt))
+  signalled_of =
+      IsOf-push b (resumed ws (b.signallers ++ k ∷ []) w c b) h (Signal k c w tt) o refl refl
+      (record { in_range = ranges; fits = (o.turn_is ∙ r.by.inside, chooses b h c w ws o r.took) })
+      (waiters_kept b h (Signal k c w tt) ws (λ d. refl) waiters_left o)
+      (ap (λ l. l ++ k ∷ []) (filter-others k b.signallers (holder_apart b k r.by).1)) refl
+      (positive _ (omega (arith, signalled_times b k c w k ws r, held_hand b k r.by.inside)))
+      (λ j q. sym (signalled_times b k c w j ws r))
 
--- and where nobody waits
+  -- a pass that resumes one
+  passed_of : IsOf (resumed ws b.signallers w c b) (with_event h (Pass k c w tt))
+  passed_of =
+      IsOf-push b (resumed ws b.signallers w c b) h (Pass k c w tt) o refl refl
+      (record { in_range = ranges; fits = (o.turn_is ∙ r.by.inside, chooses b h c w ws o r.took) })
+      (waiters_kept b h (Pass k c w tt) ws (λ d. refl) waiters_left o)
+      (signallers_apart b k (holder_apart b k r.by).1) refl
+      (zero_is _ (omega (arith, passed_times b k c w k ws r, r.by.sound.once k, one_same k)))
+      (λ j q. omega (arith, passed_times b k c w j ws r, one_apart j k (eq_swap j k ∙ q)))
+
+  -- what a signal adds, where one is taken
+  pub after_signal-taken : IsOf (resumed ws (b.signallers ++ k ∷ []) w c b) (after_signal h k c (chosen c h.events))
+  after_signal-taken =
+      let d : Contents = resumed ws (b.signallers ++ k ∷ []) w c b in
+      subst (λ (x : Option Act). IsOf d (after_signal h k c x)) (sym (chosen-taken b h c w ws o r.took))
+      (subst (λ (j : ℕ). IsOf d (with_event h (Signal k c j tt))) (sym r.took.place) signalled_of)
+
+  -- what a pass adds, where one is taken
+  pub after_pass-taken : IsOf (resumed ws b.signallers w c b) (after_pass h k c (chosen c h.events))
+  after_pass-taken =
+      let d : Contents = resumed ws b.signallers w c b in
+      subst (λ (x : Option Act). IsOf d (after_pass h k c x)) (sym (chosen-taken b h c w ws o r.took))
+      (subst (λ (j : ℕ). IsOf d (with_event h (Pass k c j tt))) (sym r.took.place) passed_of)
+
+-- what a signal adds where nobody waits
 pub after_signal-nobody : (b : Contents) (k c : ℕ) (h : Log) → waiters_on c b ≡ [] → IsOf b h → IsOf b (after_signal h k c (chosen c h.events))
 after_signal-nobody b k c h n o = subst (λ (x : Option Act). IsOf b (after_signal h k c x)) (sym (chosen-nobody b h c o n)) o
 
--- what a pass adds, where one is taken
-pub after_pass-taken : (b : Contents) (k c w : ℕ) (ws : List Waiter) (h : Log) → IsSound b → b.turn ≡ Held k → c < b.conditions → TakesFirst c b.waiters ws w → IsOf b h → IsOf (resumed ws b.signallers w c b) (after_pass h k c (chosen c h.events))
-after_pass-taken b k c w ws h s e l t o =
-    let d : Contents = resumed ws b.signallers w c b in
-    subst (λ (x : Option Act). IsOf d (after_pass h k c x)) (sym (chosen-taken b h c w ws o t))
-    (subst (λ (j : ℕ). IsOf d (with_event h (Pass k c j tt))) (sym t.place) (passed_of b k c w ws h s e l t o))
-
--- and where nobody waits
+-- and a pass
 pub after_pass-nobody : (b d : Contents) (k c : ℕ) (h : Log) → waiters_on c b ≡ [] → IsOf b h → IsOf d (with_event h (Leave k tt)) → IsOf d (after_pass h k c (chosen c h.events))
 after_pass-nobody b d k c h n o x = subst (λ (y : Option Act). IsOf d (after_pass h k c y)) (sym (chosen-nobody b h c o n)) x
 
@@ -269,25 +300,19 @@ settled-owed b k c h s e o = subst (λ (t : Turn). IsOf (admitted k b) (after_cl
 pub settled-returned : (b : Contents) (k : ℕ) (h : Log) → IsSound b → b.turn ≡ Return k → IsOf b h → IsOf (returned k b) (settled h)
 settled-returned b k h s e o = subst (λ (t : Turn). IsOf (returned k b) (after_claim h t)) (sym (o.turn_is ∙ e)) (returned_of b k h s e o)
 
-drop_first : (us : List ℕ) → drop 1 us ≡ behind_first us
-drop_first [] = refl
-drop_first (u ∷ us) = refl
-
 -- the claim of the one who is owed, or who returns
-pub claim-owed : (t : Turn) (b : Contents) (k : ℕ) (h : Log) → b.turn ≡ t → next_of t ≡ next.For k → ((x : ℕ) → t ≡ Return x → ⊥) → IsSound b → IsOf b h → IsOf (admitted k b) (settled h)
+pub claim-owed : (t : Turn) (b : Contents) (k : ℕ) (h : Log) → b.turn ≡ t → next_of t ≡ next.For k → ((x : ℕ) → t ≡ Return x → ⊥) → IsSound b → IsOf b h
+    → IsOf (admitted k b) (settled h)
 claim-owed Free b k h e n r s o = absurd (cc)
 claim-owed (Held j) b k h e n r s o = absurd (cc)
 claim-owed (Owed j c) b k h e n r s o = let q : j ≡ k = cc in subst (λ (i : ℕ). IsOf (admitted i b) (settled h)) q (settled-owed b j c h s e o)
 claim-owed (Return j) b k h e n r s o = absurd (r j refl)
 
--- (with the list as the code leaves it)
-pub claim-returned : (b : Contents) (j k : ℕ) (us : List ℕ) (h : Log) → b.turn ≡ Return j → next_of b.turn ≡ next.For k → us ≡ drop 1 b.signallers → IsSound b → IsOf b h → IsOf (record b { signallers = us; turn = Held k }) (settled h)
-claim-returned b j k us h e n f s o =
+pub claim-returned : (b : Contents) (j k : ℕ) (h : Log) → b.turn ≡ Return j → next_of b.turn ≡ next.For k → IsSound b → IsOf b h → IsOf (returned k b) (settled h)
+claim-returned b j k h e n s o =
     let m : next.For j ≡ next.For k = ap next_of (sym e) ∙ n in
     let q : j ≡ k = cc in
-    let g : behind_first b.signallers ≡ us = sym (f ∙ drop_first b.signallers) in
-    subst (λ (v : List ℕ). IsOf (record b { signallers = v; turn = Held k }) (settled h)) g
-    (subst (λ (i : ℕ). IsOf (returned i b) (settled h)) q (settled-returned b j h s e o))
+    subst (λ (i : ℕ). IsOf (returned i b) (settled h)) q (settled-returned b j h s e o)
 
 -- what the counts of a place say
 pub record SaysOutside (b : Contents) (k : ℕ) (r : Bool) : Type 0 where
@@ -295,8 +320,8 @@ pub record SaysOutside (b : Contents) (k : ℕ) (r : Bool) : Type 0 where
   pub of : (h : Log) → IsOf b h → r ≡ outside k h.events
 
 -- from the counts of an equal book
-pub outside-by_times : (b d : Contents) (k : ℕ) (r : Bool) → b ≡ d → r ≡ (times_in k b == 0) → SaysOutside d k r
-outside-by_times b d k r e q =
+pub outside-by_times : {b d : Contents} (k : ℕ) {r : Bool} → b ≡ d → r ≡ (times_in k b == 0) → SaysOutside d k r
+outside-by_times {d = d} k {r = r} e q =
     let m : r ≡ (times_in k d == 0) = q ∙ ap (λ (v : Contents). times_in k v == 0) e in
     record { nowhere = m; of = λ h o. m ∙ sym (o.outside_are k) }
 

@@ -1,17 +1,17 @@
 -- The waiting priorities of a book, and what each call does to them.
-use Rattle.std.proofs.Common.{◌≡◌, ◌≢◌, ◌==◌, ℕ, zero, suc, ◌<◌, Bool, true, false, eqb-true, cond, is_some, length, arith, List, [], ◌∷◌, map, Option, Some, None, refl, ap, sym, ◌∙◌, subst}
-use Rattle.std.specs.Prelude.{MatchOption, slice_index}
+use Rattle.std.proofs.Common.{◌≡◌, ◌≢◌, ◌==◌, ℕ, ◌<◌, Bool, true, false, eqb-true, cond, is_some, length, arith}
+use Rattle.std.proofs.Common.{List, [], ◌∷◌, map, Option, Some, None, refl, ap, sym, ◌∙◌, subst}
+use Rattle.std.specs.Prelude.{slice_index}
 use Rattle.std.specs.List.{filter, find, slice_get}
 use Rattle.std.specs.Option.{option_map}
 use Rattle.std.proofs.lemmas.List.{length-map}
 use Rattle.std.proofs.lemmas.Simd.{map-map}
 use Rattle.hoare_law.specs.declared.event.History.{History}
-use Rattle.hoare_law.specs.declared.turn.Turn.TheVariants.{Held}
 use Rattle.hoare_law.specs.Waiting.{waiting, priority_of, chosen}
 use Rattle.hoare_law.specs.Priorities.{put_in, in_order, priorities, joined, taken, behind_first}
-use Rattle.hoare_law.proofs.Chosen as law
 use Rattle.hoare_law.proofs.Sorted as sorted
 use Rattle.hoare_law.proofs.Filters.{map-none}
+use Rattle.hoare_law.proofs.Firsts.{first_of-map, slice_index-map}
 use Rattle.hoare_law.proofs.Sorted.{map-in_order, in_order-none, in_order-put_in, in_order-filtered, map-filter_put_in, find-filter}
 use Rattle.wait_book.specs.declared.waiter.Waiter.{Waiter}
 use Rattle.wait_book.specs.Contents.{Contents, IsOf, priorities_on, wait_of, waiters_on}
@@ -19,7 +19,7 @@ use Rattle.wait_book.specs.Insides.{IsSound}
 use Rattle.wait_book.specs.Queues.{TakesFirst}
 use Rattle.wait_book.proofs.Times.{eq_swap}
 use Rattle.wait_book.proofs.Waiters.{on, key, filter-taken_on, filter-taken_off}
-use Rattle.wait_book.proofs.Sound.{waited, resumed, taken_ordered}
+use Rattle.wait_book.proofs.Sound.{waited, resumed, Resumes, taken_ordered}
 use Rattle.wait_book.proofs.Histories.{chosen-first_on, chosen-nobody}
 
 -- they are those of the waiters as they stand
@@ -34,14 +34,23 @@ priorities_on-nobody b c n = ap (λ l. in_order (λ p. p) (map key l)) n
 pub priorities_on-none : (b : Contents) (c : ℕ) → in_order key b.waiters ≡ b.waiters → priorities_on b c ≡ [] → waiters_on c b ≡ []
 priorities_on-none b c r e = map-none key (waiters_on c b) (sym (priorities_on-are b c r) ∙ e)
 
+-- of an equal book
+pub no_priority_on : {b d : Contents} (c : ℕ) → b ≡ d → waiters_on c b ≡ [] → priorities_on d c ≡ []
+no_priority_on {b = b} c e n = subst (λ (v : Contents). priorities_on v c ≡ []) e (priorities_on-nobody b c n)
+
 -- some, where one is taken
-pub priorities_on-taken : (b : Contents) (c w : ℕ) (ws : List Waiter) → IsSound b → TakesFirst c b.waiters ws w → priorities_on b c ≢ []
-priorities_on-taken b c w ws s t = λ e. absurd (let a = filter-taken_on c b.waiters ws w t in let n : waiters_on c b ≡ [] = priorities_on-none b c s.ordered e in cc)
+pub priorities_on-taken : {b d : Contents} {k c w : ℕ} {ws : List Waiter} → Resumes b k c w ws → b ≡ d → priorities_on d c ≢ []
+priorities_on-taken {b = b} {c = c} {w = w} {ws = ws} r e = λ none.
+    let a = filter-taken_on c b.waiters ws w r.took in
+    let n : waiters_on c b ≡ [] = priorities_on-none b c r.by.sound.ordered (ap (λ (v : Contents). priorities_on v c) e ∙ none) in
+    absurd (cc)
 
 -- they are those of the history
-pub priorities_on-history : (b : Contents) (h : History (Unit {0})) (c : ℕ) → IsSound b → IsOf b h → priorities_on b c ≡ priorities h.events c
+pub priorities_on-history : {b d : Contents} (h : History (Unit {0})) (c : ℕ) → b ≡ d → IsSound b → IsOf d h → priorities_on d c ≡ priorities h.events c
 unfolding priorities
-priorities_on-history b h c s o = priorities_on-are b c s.ordered ∙ sym (map-map priority_of wait_of (waiters_on c b)) ∙ ap (map priority_of) (o.waiters c)
+priorities_on-history {b = b} {d = d} h c e s o =
+    ap (λ (v : Contents). priorities_on v c) (sym e) ∙ priorities_on-are b c s.ordered ∙ ap (λ (v : Contents). map key (waiters_on c v)) e
+    ∙ sym (map-map priority_of wait_of (waiters_on c d)) ∙ ap (map priority_of) (o.waiters c)
 
 -- nobody waits on c in the book where nobody does in the history
 pub waiting-none : (b : Contents) (h : History (Unit {0})) (c : ℕ) → IsOf b h → waiters_on c b ≡ [] → waiting c h.events ≡ []
@@ -53,42 +62,48 @@ waiters_on-none b h c o n = map-none wait_of (waiters_on c b) (o.waiters c ∙ a
 
 -- the first
 
--- the first of a list, through a map
-first_of-map : {X Y : Type 0} (f : X → Y) (xs : List X) → sorted.first_of (map f xs) ≡ option_map f (sorted.first_of xs)
-first_of-map f [] = refl
-first_of-map f (x ∷ xs) = refl
-
 -- its priority is the chosen one's
 pub first-chosen : (b : Contents) (h : History (Unit {0})) (c : ℕ) → IsOf b h → option_map key (find (on c) b.waiters) ≡ option_map priority_of (chosen c h.events)
 first-chosen b h c o = ap (option_map key) (find-filter (on c) b.waiters) ∙ sym (first_of-map key (waiters_on c b)) ∙ ap sorted.first_of (sym (map-map priority_of wait_of (waiters_on c b)))
     ∙ first_of-map priority_of (map wait_of (waiters_on c b)) ∙ ap (option_map priority_of) (sym (chosen-first_on b h c o))
 
 -- and the first of the priorities
-pub first-priority : (b : Contents) (c : ℕ) → IsSound b → option_map key (find (on c) b.waiters) ≡ sorted.first_of (priorities_on b c)
-first-priority b c s = ap (option_map key) (find-filter (on c) b.waiters) ∙ sym (first_of-map key (waiters_on c b)) ∙ ap sorted.first_of (sym (priorities_on-are b c s.ordered))
+pub first-priority : (b d : Contents) (c : ℕ) → b ≡ d → IsSound b → option_map key (find (on c) b.waiters) ≡ sorted.first_of (priorities_on d c)
+first-priority b d c e s =
+    ap (option_map key) (find-filter (on c) b.waiters) ∙ sym (first_of-map key (waiters_on c b)) ∙ ap sorted.first_of (sym (priorities_on-are b c s.ordered))
+    ∙ ap (λ (v : Contents). sorted.first_of (priorities_on v c)) e
 
 -- what a wait and a signal do
 
 -- a wait puts its priority in
-pub priorities_on-joined : (b : Contents) (w : Waiter) (c : ℕ) → IsSound b → priorities_on (waited w b) c ≡ joined (priorities_on b) w.condition w.priority c
-priorities_on-joined b w c s =
+pub priorities_on-joined : {b d : Contents} (w : Waiter) (c : ℕ) → b ≡ d → IsSound b → priorities_on (waited w b) c ≡ joined (priorities_on d) w.condition w.priority c
+priorities_on-joined {b = b} w c e s =
     priorities_on-are (waited w b) c (in_order-put_in key w b.waiters s.ordered)
     ∙ map-filter_put_in key (λ n. n) (on c) w b.waiters s.ordered
     ∙ ap (λ l. cond (on c w) (put_in (λ n. n) w.priority l) l) (sym (priorities_on-are b c s.ordered))
     ∙ ap (λ t. cond t (put_in (λ n. n) w.priority (priorities_on b c)) (priorities_on b c)) (eq_swap w.condition c)
+    ∙ ap (λ (v : Contents). joined (priorities_on v) w.condition w.priority c) e
 
-taken_by : (t : Bool) (c d : ℕ) (b : Contents) (ws : List Waiter) (w : ℕ) → (d == c) ≡ t → TakesFirst c b.waiters ws w → map key (filter (on d) ws) ≡ cond t (behind_first (map key (waiters_on d b))) (map key (waiters_on d b))
+taken_by : (t : Bool) (c d : ℕ) (b : Contents) (ws : List Waiter) (w : ℕ) → (d == c) ≡ t → TakesFirst c b.waiters ws w
+    → map key (filter (on d) ws) ≡ cond t (behind_first (map key (waiters_on d b))) (map key (waiters_on d b))
 taken_by true c d b ws w e t =
     subst (λ (a : ℕ). map key (filter (on a) ws) ≡ behind_first (map key (waiters_on a b))) (sym (eqb-true d c e))
     (sym (ap (λ l. behind_first (map key l)) (filter-taken_on c b.waiters ws w t)))
 taken_by false c d b ws w e t = ap (map key) (sym (filter-taken_off c d b.waiters ws w t (eq_swap c d ∙ e)))
 
 -- a signal and a pass take the first away
-pub priorities_on-after : (b : Contents) (us : List ℕ) (k c w d : ℕ) (ws : List Waiter) → IsSound b → b.turn ≡ Held k → TakesFirst c b.waiters ws w → priorities_on (resumed ws us w c b) d ≡ taken (priorities_on b) c d
-priorities_on-after b us k c w d ws s e t =
-    priorities_on-are (resumed ws us w c b) d (taken_ordered b k c w ws s e t)
-    ∙ taken_by (d == c) c d b ws w refl t
-    ∙ ap (λ l. cond (d == c) (behind_first l) l) (sym (priorities_on-are b d s.ordered))
+priorities_after : (b : Contents) (us : List ℕ) (k c w d : ℕ) (ws : List Waiter) → Resumes b k c w ws
+    → priorities_on (resumed ws us w c b) d ≡ taken (priorities_on b) c d
+priorities_after b us k c w d ws r =
+    priorities_on-are (resumed ws us w c b) d (taken_ordered b k c w ws r)
+    ∙ taken_by (d == c) c d b ws w refl r.took
+    ∙ ap (λ l. cond (d == c) (behind_first l) l) (sym (priorities_on-are b d r.by.sound.ordered))
+
+-- (of an equal book)
+pub priorities_on-after : {b e : Contents} {k c w : ℕ} {ws : List Waiter} (us : List ℕ) → b ≡ e → Resumes b k c w ws → (d : ℕ)
+    → priorities_on (resumed ws us w c b) d ≡ taken (priorities_on e) c d
+priorities_on-after {b = b} {k = k} {c = c} {w = w} {ws = ws} us q r d =
+    priorities_after b us k c w d ws r ∙ ap (λ (v : Contents). taken (priorities_on v) c d) q
 
 -- how many wait, and the priority of the i-th
 
@@ -100,35 +115,32 @@ length-priorities_on b d c e s = sym (length-map (waiters_on c b) key) ∙ ap le
 pub length-waiters_on : (b d : Contents) (c i : ℕ) → b ≡ d → IsSound b → i < length (priorities_on d c) → i < length (waiters_on c b)
 length-waiters_on b d c i e s l = omega (arith, length-priorities_on b d c e s)
 
-get_by : (ws : List Waiter) (i : ℕ) (o : Option ℕ) → o ≡ option_map key (slice_get ws i) → i < length ws → o ≡ Some (slice_index (map key ws) i)
-get_by [] i o e l = absurd (omega arith)
-get_by (w ∷ ws) zero o e l = e
-get_by (w ∷ ws) (suc i) o e l = get_by ws i o e (omega arith)
-
--- the i-th
-pub nth-priority : (b d : Contents) (c i : ℕ) (o : Option ℕ) → b ≡ d → IsSound b → o ≡ option_map key (slice_get (waiters_on c b) i) → i < length (priorities_on d c) → o ≡ Some (slice_index (priorities_on d c) i)
-nth-priority b d c i o e s r l =
-    get_by (waiters_on c b) i o r (length-waiters_on b d c i e s l)
+-- the i-th, as the code found it
+pub nth-priority : {b d : Contents} (c i : ℕ) {o : Option ℕ} {ws : List Waiter} → b ≡ d → IsSound b → o ≡ option_map key (slice_get (filter (on c) ws) i) → ws ≡ b.waiters
+    → i < length (priorities_on d c) → o ≡ Some (slice_index (priorities_on d c) i)
+nth-priority {b = b} {d = d} c i {o = o} e s r q l =
+    slice_index-map key (waiters_on c b) i o (r ∙ ap (λ v. option_map key (slice_get (filter (on c) v) i)) q) (length-waiters_on b d c i e s l)
     ∙ ap (λ x. Some (slice_index x i)) (sym (priorities_on-are b c s.ordered)) ∙ ap (λ (v : Contents). Some (slice_index (priorities_on v c) i)) e
 
--- what the first one says
+-- whether somebody waits
 
-pub first-lists : (o : Option ℕ) (xs : List ℕ) → o ≡ sorted.first_of xs → MatchOption o (xs ≡ []) (λ p. (xs ≢ []) × (p ≡ slice_index xs 0))
-first-lists None [] e = refl
-first-lists None (x ∷ xs) e = absurd (cc)
-first-lists (Some p) [] e = absurd (cc)
-first-lists (Some p) (x ∷ xs) e = ((λ q. absurd (cc)), cc)
+-- an answer that is something where somebody waits
+abbrev SaysWaiting : ℕ → History (Unit {0}) → Bool → Type 0
+SaysWaiting c h r = (r ≡ true → waiting c h.events ≡ [] → ⊥) × ((waiting c h.events ≢ []) → r ≡ true)
 
-queue_by : (ws : List Waiter) (b : Contents) (h : History (Unit {0})) (c : ℕ) (f : Option ℕ) (r : Bool) → waiters_on c b ≡ ws → IsOf b h → f ≡ option_map priority_of (chosen c h.events) → r ≡ is_some f → (r ≡ true → waiting c h.events ≡ [] → ⊥) × ((waiting c h.events ≢ []) → r ≡ true)
+queue_by : (ws : List Waiter) (b : Contents) (h : History (Unit {0})) (c : ℕ) (f : Option ℕ) (r : Bool) → waiters_on c b ≡ ws → IsOf b h
+    → f ≡ option_map priority_of (chosen c h.events) → r ≡ is_some f → SaysWaiting c h r
 queue_by [] b h c f r e o q i =
     let n : option_map priority_of (chosen c h.events) ≡ None = ap (option_map priority_of) (chosen-nobody b h c o e) in
     let m : r ≡ false = i ∙ ap is_some (q ∙ n) in
     ((λ t. absurd (cc)), (λ w. absurd (w (waiting-none b h c o e))))
 queue_by (w ∷ ws) b h c f r e o q i =
-    let n : option_map priority_of (chosen c h.events) ≡ Some w.priority = ap (option_map priority_of) (chosen-first_on b h c o ∙ ap (λ l. sorted.first_of (map wait_of l)) e) in
+    let n : option_map priority_of (chosen c h.events) ≡ Some w.priority =
+    ap (option_map priority_of) (chosen-first_on b h c o ∙ ap (λ l. sorted.first_of (map wait_of l)) e) in
     let m : r ≡ true = i ∙ ap is_some (q ∙ n) in
     ((λ t z. absurd (let a = waiters_on-none b h c o z in cc)), (λ z. m))
 
 -- somebody is chosen where somebody waits
-pub queue-waiting : (b : Contents) (h : History (Unit {0})) (c : ℕ) (f : Option ℕ) (r : Bool) → IsOf b h → f ≡ option_map priority_of (chosen c h.events) → r ≡ is_some f → (r ≡ true → waiting c h.events ≡ [] → ⊥) × ((waiting c h.events ≢ []) → r ≡ true)
+pub queue-waiting : (b : Contents) (h : History (Unit {0})) (c : ℕ) (f : Option ℕ) (r : Bool) → IsOf b h → f ≡ option_map priority_of (chosen c h.events) → r ≡ is_some f
+    → SaysWaiting c h r
 queue-waiting b h c f r o q i = queue_by (waiters_on c b) b h c f r refl o q i

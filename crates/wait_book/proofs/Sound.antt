@@ -1,15 +1,17 @@
 -- What keeps a book sound.
-use Rattle.std.proofs.Common.{◌≡◌, ℕ, ◌+◌, ◌≤◌, ◌<◌, Bool, true, false, eqb, eqb-true, ltb, List, [], ◌∷◌, ◌++◌, length, refl, ap, sym, ◌∙◌, subst, arith}
+use Rattle.std.proofs.Common.{◌≡◌, ℕ, ◌+◌, ◌≤◌, ◌<◌, Bool, true, false, eqb, eqb-true, ltb, List, [], ◌∷◌, ◌++◌, length, Option, Some, refl, ap, sym, ◌∙◌, subst, arith}
+use Rattle.std.specs.Prelude.{MatchOption}
 use Rattle.std.specs.List.{list_all}
 use Rattle.std.proofs.lemmas.Bool.Decides.{nat_tests}
 use Rattle.std.proofs.lemmas.List.{length-map}
+use Rattle.std.proofs.lemmas.Option.{MatchOption-at_some}
 use Rattle.hoare_law.specs.declared.turn.Turn.{Turn}
 use Rattle.hoare_law.specs.declared.turn.Turn.TheVariants.{Free, Held, Owed, Return}
 use Rattle.hoare_law.specs.Turns.{turn_given_up}
 use Rattle.hoare_law.specs.Priorities.{put_in, in_order, behind_first}
 use Rattle.hoare_law.proofs.Sorted.{list_all-put_in, in_order-put_in, in_order-filtered}
 use Rattle.wait_book.specs.declared.waiter.Waiter.{Waiter}
-use Rattle.wait_book.specs.Contents.{Contents, one, times, times_in, times_in_hand}
+use Rattle.wait_book.specs.Contents.{Contents, SameSizes, one, times, times_in, times_in_hand}
 use Rattle.wait_book.specs.Insides.{IsSound, IsTurnBeside}
 use Rattle.wait_book.specs.Queues.{TakesFirst}
 use Rattle.wait_book.proofs.Times.{one_same, one_apart, one_le, times-append, few_once}
@@ -101,21 +103,80 @@ return_in_range b k s e = s.in_range k (return_in b k s e)
 pub owed_condition : (b : Contents) (k c : ℕ) → IsSound b → b.turn ≡ Owed k c → c < b.conditions
 owed_condition b k c s e = subst (λ (t : Turn). IsTurnBeside b.signallers b.conditions t) e s.turn_fits
 
+-- what a call by the one inside is given
+
+-- a condition of an equal book
+pub same_condition : (b d : Contents) (c : ℕ) → b ≡ d → c < d.conditions → c < b.conditions
+same_condition b d c e h = subst (λ (v : Contents). c < v.conditions) (sym e) h
+
+-- a sound book, with place k inside
+pub record Holds (b : Contents) (k : ℕ) : Type 0 where
+  pub sound : IsSound b
+  pub inside : b.turn ≡ Held k
+
+-- from what a call asks for
+pub holds : {b d : Contents} {k : ℕ} → b ≡ d → IsSound b → d.turn ≡ Held k → Holds b k
+holds e s h = record { sound = s; inside = ap (λ (v : Contents). v.turn) e ∙ h }
+
+-- k is inside, and w, who is the first of those who wait on c, is taken out of them, which leaves ws
+pub record Resumes (b : Contents) (k c w : ℕ) (ws : List Waiter) : Type 0 where
+  pub by : Holds b k
+  pub fits : c < b.conditions
+  pub took : TakesFirst c b.waiters ws w
+
+-- from what a call asks for, and what taking the first answered
+pub resumes : {b d : Contents} {k c w : ℕ} {ws : List Waiter} {o : Option ℕ} (P : Type 0) → b ≡ d → IsSound b → d.turn ≡ Held k → c < d.conditions → o ≡ Some w
+    → MatchOption o P (λ j. TakesFirst c b.waiters ws j) → Resumes b k c w ws
+resumes {b = b} {c = c} {w = w} {ws = ws} P e s h l some m = record {
+  by = holds e s h;
+  fits = same_condition b _ c e l;
+  took = MatchOption-at_some P (λ j. TakesFirst c b.waiters ws j) w some m;
+}
+
+-- the one inside stands in no list
+pub holder_apart : (b : Contents) (k : ℕ) → Holds b k → (times k (places b.waiters) ≡ 0) × (times k b.signallers ≡ 0)
+holder_apart b k o = hand_apart b k o.sound (held_hand b k o.inside)
+
+-- and doesn't wait in an equal book
+pub apart_same : {b d : Contents} {k : ℕ} → b ≡ d → IsSound b → d.turn ≡ Held k → times k (places d.waiters) ≡ 0
+apart_same {b = b} {k = k} e s h = subst (λ (v : Contents). times k (places v.waiters) ≡ 0) e (holder_apart b k (holds e s h)).0
+
+-- what a newcomer is given: a sound book where the monitor is free, and place k stands nowhere
+pub record Enters (b : Contents) (k : ℕ) : Type 0 where
+  pub sound : IsSound b
+  pub free : b.turn ≡ Free
+  pub place : k < b.places
+  pub outside : times_in k b ≡ 0
+
+-- from what a call asks for
+pub enters : {b d : Contents} {k : ℕ} → b ≡ d → IsSound b → d.turn ≡ Free → k < d.places → times_in k d ≡ 0 → Enters b k
+enters {k = k} e s f l z = record {
+  sound = s;
+  free = ap (λ (v : Contents). v.turn) e ∙ f;
+  place = subst (λ (v : Contents). k < v.places) (sym e) l;
+  outside = ap (times_in k) e ∙ z;
+}
+
 -- a book that holds no place more often, with the same sizes
 
-pub sound_fewer : (b d : Contents) → IsSound b → d.places ≡ b.places → d.conditions ≡ b.conditions → ((k : ℕ) → times_in k d ≤ times_in k b)
+sound_fewer : (b d : Contents) → IsSound b → SameSizes b d → ((k : ℕ) → times_in k d ≤ times_in k b)
     → list_all (λ (w : Waiter). ltb w.condition b.conditions) d.waiters ≡ true → in_order key d.waiters ≡ d.waiters → IsTurnBeside d.signallers d.conditions d.turn → IsSound d
-sound_fewer b d s e f o a r t = record {
-  some_places = omega (arith, s.some_places);
-  few_places = omega (arith, s.few_places);
-  some_conditions = omega (arith, s.some_conditions);
-  few_conditions = omega (arith, s.few_conditions);
+sound_fewer b d s e o a r t = record {
+  some_places = omega (arith, e.0, s.some_places);
+  few_places = omega (arith, e.0, s.few_places);
+  some_conditions = omega (arith, e.1, s.some_conditions);
+  few_conditions = omega (arith, e.1, s.few_conditions);
+  waiters_fit = omega (arith, e.0, e.2, s.waiters_fit);
+  signallers_fit = omega (arith, e.0, e.3, s.signallers_fit);
   once = λ k. omega (arith, o k, s.once k);
-  in_range = λ k p. omega (arith, o k, s.in_range k (omega (arith, o k)));
-  on_conditions = subst (λ (n : ℕ). list_all (λ (w : Waiter). ltb w.condition n) d.waiters ≡ true) (sym f) a;
+  in_range = λ k p. omega (arith, o k, e.0, s.in_range k (omega (arith, o k)));
+  on_conditions = subst (λ (n : ℕ). list_all (λ (w : Waiter). ltb w.condition n) d.waiters ≡ true) (sym e.1) a;
   ordered = r;
   turn_fits = t;
 }
+
+same : (b : Contents) → SameSizes b b
+same b = (refl, refl, refl, refl)
 
 -- wait
 
@@ -124,23 +185,23 @@ pub waited_times : (b : Contents) (w : Waiter) (j : ℕ) → b.turn ≡ Held w.p
 waited_times b w j e = omega (arith, times-put_in j w b.waiters, given_up_hand j b.signallers, hand_of j b (Held w.place) e)
 
 -- and keeps the book sound
-pub waited_sound : (b : Contents) (w : Waiter) → IsSound b → b.turn ≡ Held w.place → w.condition < b.conditions → IsSound (waited w b)
-waited_sound b w s e l = sound_fewer b (waited w b) s refl refl (λ j. omega (arith, waited_times b w j e))
-    (list_all-put_in key (λ (v : Waiter). ltb v.condition b.conditions) w b.waiters (grind (arith, nat_tests)) s.on_conditions)
-    (in_order-put_in key w b.waiters s.ordered) (given_up_fits b.signallers b.conditions)
+pub waited_sound : (b : Contents) (w : Waiter) → Holds b w.place → w.condition < b.conditions → IsSound (waited w b)
+waited_sound b w o l = sound_fewer b (waited w b) o.sound (same b) (λ j. omega (arith, waited_times b w j o.inside))
+    (list_all-put_in key (λ (v : Waiter). ltb v.condition b.conditions) w b.waiters (grind (arith, nat_tests)) o.sound.on_conditions)
+    (in_order-put_in key w b.waiters o.sound.ordered) (given_up_fits b.signallers b.conditions)
 
 -- there is room for the one inside in both lists
-pub room_waiters : (b : Contents) (k : ℕ) → IsSound b → b.turn ≡ Held k → length b.waiters < b.places
-room_waiters b k s e =
+pub room_waiters : (b : Contents) (k : ℕ) → Holds b k → length b.waiters < b.room_to_wait
+room_waiters b k o =
     let all : length (k ∷ places b.waiters) ≤ b.places = few_once (k ∷ places b.waiters) b.places
-    (λ j. omega (arith, s.once j, hand_of j b (Held k) e)) (λ j p. s.in_range j (omega (arith, hand_of j b (Held k) e))) in
-    omega (arith, length-map b.waiters (λ (w : Waiter). w.place))
+    (λ j. omega (arith, o.sound.once j, hand_of j b (Held k) o.inside)) (λ j p. o.sound.in_range j (omega (arith, hand_of j b (Held k) o.inside))) in
+    omega (arith, o.sound.waiters_fit, length-map b.waiters (λ (w : Waiter). w.place))
 
-pub room_signallers : (b : Contents) (k : ℕ) → IsSound b → b.turn ≡ Held k → length b.signallers < b.places
-room_signallers b k s e =
+pub room_signallers : (b : Contents) (k : ℕ) → Holds b k → length b.signallers < b.room_to_signal
+room_signallers b k o =
     let all : length (k ∷ b.signallers) ≤ b.places = few_once (k ∷ b.signallers) b.places
-    (λ j. omega (arith, s.once j, hand_of j b (Held k) e)) (λ j p. s.in_range j (omega (arith, hand_of j b (Held k) e))) in
-    omega arith
+    (λ j. omega (arith, o.sound.once j, hand_of j b (Held k) o.inside)) (λ j p. o.sound.in_range j (omega (arith, hand_of j b (Held k) o.inside))) in
+    omega (arith, o.sound.signallers_fit)
 
 -- leave
 
@@ -165,16 +226,18 @@ ranged_more true b k j n h r o p = let q : j ≡ k = eqb-true j k h in omega ari
 ranged_more false b k j n h r o p = o (omega (arith, one_apart j k h))
 
 -- a newcomer keeps the book sound
-pub admitted_sound : (b : Contents) (k : ℕ) → IsSound b → b.turn ≡ Free → k < b.places → times_in k b ≡ 0 → IsSound (admitted k b)
-admitted_sound b k s e r z = record {
-  some_places = s.some_places;
-  few_places = s.few_places;
-  some_conditions = s.some_conditions;
-  few_conditions = s.few_conditions;
-  once = λ j. omega (arith, admitted_times b k j e, once_more (eqb j k) b k j refl z (s.once j));
-  in_range = λ j p. ranged_more (eqb j k) b k j b.places refl r (s.in_range j) (omega (arith, admitted_times b k j e));
-  on_conditions = s.on_conditions;
-  ordered = s.ordered;
+pub admitted_sound : (b : Contents) (k : ℕ) → Enters b k → IsSound (admitted k b)
+admitted_sound b k i = record {
+  some_places = i.sound.some_places;
+  few_places = i.sound.few_places;
+  some_conditions = i.sound.some_conditions;
+  few_conditions = i.sound.few_conditions;
+  waiters_fit = i.sound.waiters_fit;
+  signallers_fit = i.sound.signallers_fit;
+  once = λ j. omega (arith, admitted_times b k j i.free, once_more (eqb j k) b k j refl i.outside (i.sound.once j));
+  in_range = λ j p. ranged_more (eqb j k) b k j b.places refl i.place (i.sound.in_range j) (omega (arith, admitted_times b k j i.free));
+  on_conditions = i.sound.on_conditions;
+  ordered = i.sound.ordered;
   turn_fits = tt;
 }
 
@@ -191,50 +254,41 @@ returned_times b k j s e = omega (arith, hand_of j b (Return k) e, return_times 
 -- signal and pass
 
 -- the one resumed goes, and the rest stays in order
-pub taken_ordered : (b : Contents) (k c w : ℕ) (ws : List Waiter) → IsSound b → b.turn ≡ Held k → TakesFirst c b.waiters ws w → in_order key ws ≡ ws
-taken_ordered b k c w ws s e t =
-    let gone = filter-taken k c b.waiters ws w t (hand_apart b k s (held_hand b k e)).0 (omega (arith, s.once w)) in
-    ap (in_order key) (sym gone) ∙ in_order-filtered key _ b.waiters s.ordered ∙ gone
+pub taken_ordered : (b : Contents) (k c w : ℕ) (ws : List Waiter) → Resumes b k c w ws → in_order key ws ≡ ws
+taken_ordered b k c w ws r =
+    let gone = filter-taken k c b.waiters ws w r.took (holder_apart b k r.by).0 (omega (arith, r.by.sound.once w)) in
+    ap (in_order key) (sym gone) ∙ in_order-filtered key _ b.waiters r.by.sound.ordered ∙ gone
 
 -- a signal moves both places
-pub signalled_times : (b : Contents) (k c w j : ℕ) (ws : List Waiter) → b.turn ≡ Held k → TakesFirst c b.waiters ws w → times_in j (resumed ws (b.signallers ++ k ∷ []) w c b) ≡ times_in j b
-signalled_times b k c w j ws e t = omega (arith, hand_of j b (Held k) e, times-taken j c b.waiters ws w t, times-append j b.signallers (k ∷ []))
+pub signalled_times : (b : Contents) (k c w j : ℕ) (ws : List Waiter) → Resumes b k c w ws → times_in j (resumed ws (b.signallers ++ k ∷ []) w c b) ≡ times_in j b
+signalled_times b k c w j ws r =
+    omega (arith, hand_of j b (Held k) r.by.inside, times-taken j c b.waiters ws w r.took, times-append j b.signallers (k ∷ []))
 
 -- a pass takes its caller away
-pub passed_times : (b : Contents) (k c w j : ℕ) (ws : List Waiter) → b.turn ≡ Held k → TakesFirst c b.waiters ws w → times_in j (resumed ws b.signallers w c b) + one j k ≡ times_in j b
-passed_times b k c w j ws e t = omega (arith, hand_of j b (Held k) e, times-taken j c b.waiters ws w t)
+pub passed_times : (b : Contents) (k c w j : ℕ) (ws : List Waiter) → Resumes b k c w ws → times_in j (resumed ws b.signallers w c b) + one j k ≡ times_in j b
+passed_times b k c w j ws r = omega (arith, hand_of j b (Held k) r.by.inside, times-taken j c b.waiters ws w r.took)
 
 -- either keeps the book sound, where no place stands more often
-resumed_sound : (b : Contents) (k c w : ℕ) (ws : List Waiter) (us : List ℕ) → IsSound b → b.turn ≡ Held k → c < b.conditions → TakesFirst c b.waiters ws w → ((j : ℕ) → times_in j (resumed ws us w c b) ≤ times_in j b) → IsSound (resumed ws us w c b)
-resumed_sound b k c w ws us s e l t o = sound_fewer b (resumed ws us w c b) s refl refl o
-    (list_all-taken (λ (v : Waiter). ltb v.condition b.conditions) c b.waiters ws w t s.on_conditions) (taken_ordered b k c w ws s e t) l
+resumed_sound : (b : Contents) (k c w : ℕ) (ws : List Waiter) (us : List ℕ) → Resumes b k c w ws
+    → ((j : ℕ) → times_in j (resumed ws us w c b) ≤ times_in j b) → IsSound (resumed ws us w c b)
+resumed_sound b k c w ws us r o = sound_fewer b (resumed ws us w c b) r.by.sound (same b) o
+    (list_all-taken (λ (v : Waiter). ltb v.condition b.conditions) c b.waiters ws w r.took r.by.sound.on_conditions) (taken_ordered b k c w ws r) r.fits
 
 -- so does a signal
-pub signalled_sound : (b : Contents) (k c w : ℕ) (ws : List Waiter) → IsSound b → b.turn ≡ Held k → c < b.conditions → TakesFirst c b.waiters ws w → IsSound (resumed ws (b.signallers ++ k ∷ []) w c b)
-signalled_sound b k c w ws s e l t = resumed_sound b k c w ws (b.signallers ++ k ∷ []) s e l t (λ j. omega (arith, signalled_times b k c w j ws e t))
+pub signalled_sound : (b : Contents) (k c w : ℕ) (ws : List Waiter) → Resumes b k c w ws → IsSound (resumed ws (b.signallers ++ k ∷ []) w c b)
+signalled_sound b k c w ws r = resumed_sound b k c w ws (b.signallers ++ k ∷ []) r (λ j. omega (arith, signalled_times b k c w j ws r))
 
 -- and a pass
-pub passed_sound : (b : Contents) (k c w : ℕ) (ws : List Waiter) → IsSound b → b.turn ≡ Held k → c < b.conditions → TakesFirst c b.waiters ws w → IsSound (resumed ws b.signallers w c b)
-passed_sound b k c w ws s e l t = resumed_sound b k c w ws b.signallers s e l t (λ j. omega (arith, passed_times b k c w j ws e t))
+pub passed_sound : (b : Contents) (k c w : ℕ) (ws : List Waiter) → Resumes b k c w ws → IsSound (resumed ws b.signallers w c b)
+passed_sound b k c w ws r = resumed_sound b k c w ws b.signallers r (λ j. omega (arith, passed_times b k c w j ws r))
 
--- what a call is given, of the fields
-
--- the turn
-pub same_turn : (b d : Contents) (t : Turn) → b ≡ d → d.turn ≡ t → b.turn ≡ t
-same_turn b d t e h = ap (λ (v : Contents). v.turn) e ∙ h
-
--- a condition
-pub same_condition : (b d : Contents) (c : ℕ) → b ≡ d → c < d.conditions → c < b.conditions
-same_condition b d c e h = subst (λ (v : Contents). c < v.conditions) (sym e) h
-
--- the one inside doesn't wait
-pub apart_same : (b d : Contents) (k : ℕ) → b ≡ d → IsSound b → b.turn ≡ Held k → times k (places d.waiters) ≡ 0
-apart_same b d k e s h = subst (λ (v : Contents). times k (places v.waiters) ≡ 0) e (hand_apart b k s (held_hand b k h)).0
+-- an equal book
 
 -- a book with these parts
-pub parts : (n m : ℕ) (ws vs : List Waiter) (us zs : List ℕ) (t r : Turn) → ws ≡ vs → us ≡ zs → t ≡ r
-    → (let b : Contents = record { places = n; conditions = m; waiters = ws; signallers = us; turn = t } in let d : Contents = record { places = n; conditions = m; waiters = vs; signallers = zs; turn = r } in d ≡ b)
-parts n m ws vs us zs t r a b e = cc
+pub parts : {n m : ℕ} {x y p q : ℕ} {ws vs : List Waiter} {us zs : List ℕ} {t r : Turn} → x ≡ y → p ≡ q → ws ≡ vs → us ≡ zs → t ≡ r
+    → (let b : Contents = record { places = n; conditions = m; room_to_wait = x; room_to_signal = p; waiters = ws; signallers = us; turn = t } in
+    let d : Contents = record { places = n; conditions = m; room_to_wait = y; room_to_signal = q; waiters = vs; signallers = zs; turn = r } in d ≡ b)
+parts e f a b t = cc
 
 -- an equal book is sound
 pub IsSound-same : (b d : Contents) → d ≡ b → IsSound d → IsSound b

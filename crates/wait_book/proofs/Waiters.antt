@@ -1,7 +1,7 @@
 -- The list of those who wait: what taking one out and putting one in does to the places and to each condition.
-use Rattle.std.proofs.Common.{◌≡◌, ◌==◌, ℕ, suc, ◌+◌, ◌≤◌, ◌<◌, Bool, true, false, cond, not, eqb, eqb-true, ltb, leb, ◌&&◌, ◌||◌, List, [], ◌∷◌, ◌++◌, length, get_or, map, Some, None, refl, ap, sym, ◌∙◌, subst, arith}
-use Rattle.std.specs.List.{list_all, filter, remove, position, position_or_len}
-use Rattle.std.specs.Option.{unwrap_or}
+use Rattle.std.proofs.Common.{◌≡◌, ◌==◌, ℕ, suc, ◌+◌, ◌≤◌, ◌<◌, Bool, true, false, cond, not, eqb, eqb-true, ltb, leb, ◌&&◌, ◌||◌}
+use Rattle.std.proofs.Common.{List, [], ◌∷◌, ◌++◌, length, get_or, map, Some, None, refl, ap, sym, ◌∙◌, subst, arith}
+use Rattle.std.specs.List.{list_all, filter, remove, position}
 use Rattle.std.proofs.lemmas.Bool.Decides.{nat_tests}
 use Rattle.std.proofs.lemmas.List.{get_or_default, map-append}
 use Rattle.std.proofs.lemmas.List.Elements.{filter-append}
@@ -9,10 +9,10 @@ use Rattle.std.proofs.lemmas.List.Folds.{list_all-append}
 use Rattle.hoare_law.specs.Priorities.{put_in}
 use Rattle.hoare_law.proofs.Tests.{both_true}
 use Rattle.hoare_law.proofs.Filters.{filter-or}
+use Rattle.hoare_law.proofs.Searches.{at_first, position-found}
 use Rattle.wait_book.specs.declared.waiter.Waiter.{Waiter}
 use Rattle.wait_book.specs.Contents.{one, times}
 use Rattle.wait_book.specs.Queues.{TakesFirst}
-use Rattle.wait_book.proofs.Orders.{at_first, at_first-is}
 use Rattle.wait_book.proofs.Times.{eq_self, one_same, times-append, list_all-apart, filter-apart}
 
 -- it waits on c
@@ -27,13 +27,25 @@ places ws = map (λ (w : Waiter). w.place) ws
 abbrev pub key : Waiter → ℕ
 key = λ (w : Waiter). w.priority
 
--- the first that passes, found and taken out
+-- the first on a condition, found and taken out
 
-taken_by : (t : Bool) (c : ℕ) (w : Waiter) (ws : List Waiter) (i : ℕ) → on c w ≡ t → cond t 0 (suc i) < suc (length ws) → (i < length ws → TakesFirst c ws (remove ws i) (get_or ws i w).place) → TakesFirst c (w ∷ ws) (remove (w ∷ ws) (cond t 0 (suc i))) (get_or (w ∷ ws) (cond t 0 (suc i)) w).place
-taken_by true c w ws i t l r = record { before = []; first = w; after = ws; was = refl; is = refl; none_before = refl; on = eqb-true w.condition c t; place = refl }
+taken_by : (t : Bool) (c : ℕ) (w : Waiter) (ws : List Waiter) (i : ℕ) → on c w ≡ t → cond t 0 (suc i) < suc (length ws)
+    → (i < length ws → TakesFirst c ws (remove ws i) (get_or ws i w).place)
+    → TakesFirst c (w ∷ ws) (remove (w ∷ ws) (cond t 0 (suc i))) (get_or (w ∷ ws) (cond t 0 (suc i)) w).place
+taken_by true c w ws i t l r =
+    record { before = []; first = w; after = ws; was = refl; is = refl; none_before = refl; on = eqb-true w.condition c t; place = refl }
 taken_by false c w ws i t l r =
     let s : TakesFirst c ws (remove ws i) (get_or ws i w).place = r (omega arith) in
-    record { before = w ∷ s.before; first = s.first; after = s.after; was = ap (λ v. w ∷ v) s.was; is = ap (λ v. w ∷ v) s.is; none_before = rw t s.none_before; on = s.on; place = s.place }
+    record {
+      before = w ∷ s.before;
+      first = s.first;
+      after = s.after;
+      was = ap (λ v. w ∷ v) s.was;
+      is = ap (λ v. w ∷ v) s.is;
+      none_before = rw t s.none_before;
+      on = s.on;
+      place = s.place;
+    }
 
 taken_at : (c : ℕ) (ws : List Waiter) (d : Waiter) → at_first (on c) ws < length ws → TakesFirst c ws (remove ws (at_first (on c) ws)) (get_or ws (at_first (on c) ws) d).place
 taken_at c [] d l = absurd (omega arith)
@@ -42,23 +54,15 @@ taken_at c (w ∷ ws) d l =
     let r : TakesFirst c (w ∷ ws) (remove (w ∷ ws) i) (get_or (w ∷ ws) i w).place = taken_by (on c w) c w ws (at_first (on c) ws) refl l (λ m. taken_at c ws w m) in
     subst (λ (x : Waiter). TakesFirst c (w ∷ ws) (remove (w ∷ ws) i) x.place) (get_or_default (w ∷ ws) i w d l) r
 
--- the one that a search finds is the first on c
-pub TakesFirst-position : (c : ℕ) (ws : List Waiter) (d : Waiter) (i : ℕ) → i ≡ position_or_len (on c) ws → i < length ws → TakesFirst c ws (remove ws i) (get_or ws i d).place
-TakesFirst-position c ws d i e l =
-    let q : at_first (on c) ws ≡ i = at_first-is (on c) ws ∙ sym e in
-    subst (λ (n : ℕ). TakesFirst c ws (remove ws n) (get_or ws n d).place) q (taken_at c ws d (omega arith))
-
-none_by : (t : Bool) (c : ℕ) (w : Waiter) (ws : List Waiter) (i : ℕ) → suc (length ws) ≤ cond t 0 (suc i) → (length ws ≤ i → filter (on c) ws ≡ []) → cond t (w ∷ filter (on c) ws) (filter (on c) ws) ≡ []
-none_by true c w ws i l r = absurd (omega arith)
-none_by false c w ws i l r = r (omega arith)
-
-none_at : (c : ℕ) (ws : List Waiter) → length ws ≤ at_first (on c) ws → filter (on c) ws ≡ []
-none_at c [] l = refl
-none_at c (w ∷ ws) l = none_by (on c w) c w ws (at_first (on c) ws) l (none_at c ws)
-
--- a search that finds none
-pub none_on : (c : ℕ) (ws : List Waiter) → length ws ≤ position_or_len (on c) ws → filter (on c) ws ≡ []
-none_on c ws l = none_at c ws (omega (arith, at_first-is (on c) ws))
+-- what is removed where a search finds it is the first on c
+pub TakesFirst-removed : (c : ℕ) (old new : List Waiter) (w : Waiter) (i : ℕ) → position (on c) old ≡ Some i → new ≡ remove old i → w ≡ get_or old i w
+    → TakesFirst c old new w.place
+TakesFirst-removed c old new w i h e g =
+    let q : (i ≡ at_first (on c) old) × (i < length old) = position-found (on c) old i h in
+    let t : TakesFirst c old (remove old i) (get_or old i w).place =
+    subst (λ (n : ℕ). TakesFirst c old (remove old n) (get_or old n w).place) (sym q.0) (taken_at c old w (omega (arith, q.0, q.1))) in
+    subst (λ (x : Waiter). TakesFirst c old new x.place) (sym g)
+    (subst (λ (l : List Waiter). TakesFirst c old l (get_or old i w).place) (sym e) t)
 
 -- what was taken, by condition
 
@@ -67,7 +71,8 @@ pub filter-taken_on : (c : ℕ) (old new : List Waiter) (k : ℕ) (t : TakesFirs
 filter-taken_on c old new k t =
     let here : on c t.first ≡ true = ap (λ d. d == c) t.on ∙ eq_self c in
     let cut : filter (on c) (t.first ∷ t.after) ≡ t.first ∷ filter (on c) t.after = (rw here refl) in
-    let left : filter (on c) old ≡ t.first ∷ filter (on c) t.after = ap (filter (on c)) t.was ∙ filter-append (on c) t.before (t.first ∷ t.after) ∙ ap (λ l. l ++ filter (on c) (t.first ∷ t.after)) t.none_before ∙ cut in
+    let left : filter (on c) old ≡ t.first ∷ filter (on c) t.after =
+    ap (filter (on c)) t.was ∙ filter-append (on c) t.before (t.first ∷ t.after) ∙ ap (λ l. l ++ filter (on c) (t.first ∷ t.after)) t.none_before ∙ cut in
     let right : filter (on c) new ≡ filter (on c) t.after = ap (filter (on c)) t.is ∙ filter-append (on c) t.before t.after ∙ ap (λ l. l ++ filter (on c) t.after) t.none_before in
     left ∙ ap (λ l. t.first ∷ l) (sym right)
 
@@ -76,7 +81,8 @@ pub filter-taken_off : (c d : ℕ) (old new : List Waiter) (k : ℕ) → TakesFi
 filter-taken_off c d old new k t apart =
     let there : on d t.first ≡ false = ap (λ e. e == d) t.on ∙ apart in
     let cut : filter (on d) (t.first ∷ t.after) ≡ filter (on d) t.after = (rw there refl) in
-    ap (filter (on d)) t.was ∙ filter-append (on d) t.before (t.first ∷ t.after) ∙ ap (λ l. filter (on d) t.before ++ l) cut ∙ sym (ap (filter (on d)) t.is ∙ filter-append (on d) t.before t.after)
+    ap (filter (on d)) t.was ∙ filter-append (on d) t.before (t.first ∷ t.after) ∙ ap (λ l. filter (on d) t.before ++ l) cut
+    ∙ sym (ap (filter (on d)) t.is ∙ filter-append (on d) t.before t.after)
 
 -- what was taken, by place
 
@@ -97,12 +103,14 @@ pub times-put_in : (j : ℕ) (w : Waiter) (ws : List Waiter) → times j (places
 times-put_in j w [] = omega arith
 times-put_in j w (v ∷ vs) =
     let r : times j (places (put_in key w vs)) ≡ times j (places vs) + one j w.place = times-put_in j w vs in
-    elim (leb v.priority w.priority) as (λ b. times j (places (cond b (v ∷ put_in key w vs) (w ∷ v ∷ vs))) ≡ times j (places (v ∷ vs)) + one j w.place) [ true ↦ omega arith | false ↦ omega arith ]
+    elim (leb v.priority w.priority) as (λ b. times j (places (cond b (v ∷ put_in key w vs) (w ∷ v ∷ vs))) ≡ times j (places (v ∷ vs)) + one j w.place)
+    [ true ↦ omega arith | false ↦ omega arith ]
 
 -- a filter by place that two places alone fail
 pub filter-two_apart : (k w : ℕ) (ws : List Waiter) → times k (places ws) ≡ 0 → times w (places ws) ≡ 0 → filter (λ (v : Waiter). not (eqb k v.place || eqb w v.place)) ws ≡ ws
 filter-two_apart k w ws y z =
-    filter-or (λ (v : Waiter). eqb k v.place) (λ (v : Waiter). eqb w v.place) ws (list_all-apart (λ (v : Waiter). v.place) k (λ (v : Waiter). not (eqb k v.place)) ws (λ v t. ap not t) y)
+    filter-or (λ (v : Waiter). eqb k v.place) (λ (v : Waiter). eqb w v.place) ws
+    (list_all-apart (λ (v : Waiter). v.place) k (λ (v : Waiter). not (eqb k v.place)) ws (λ v t. ap not t) y)
     ∙ filter-apart (λ (v : Waiter). v.place) w (λ (v : Waiter). not (eqb w v.place)) ws (λ v t. ap not t) z
 
 or_true : (a b : Bool) → b ≡ true → not (a || b) ≡ false
@@ -110,7 +118,8 @@ or_true true b h = refl
 or_true false b h = rw h refl
 
 -- where k doesn't wait and who is taken waits once, only who is taken goes
-pub filter-taken : (k c : ℕ) (old new : List Waiter) (w : ℕ) → TakesFirst c old new w → times k (places old) ≡ 0 → times w (places old) ≤ 1 → filter (λ (v : Waiter). not (eqb k v.place || eqb w v.place)) old ≡ new
+pub filter-taken : (k c : ℕ) (old new : List Waiter) (w : ℕ) → TakesFirst c old new w → times k (places old) ≡ 0 → times w (places old) ≤ 1
+    → filter (λ (v : Waiter). not (eqb k v.place || eqb w v.place)) old ≡ new
 filter-taken k c old new w t y z =
     let p : Waiter → Bool = λ v. not (eqb k v.place || eqb w v.place) in
     let a : times k (places old) ≡ times k (places new) + one k w = times-taken k c old new w t in
@@ -140,43 +149,3 @@ nowhere a b t x y z p q e f g =
 -- a place that stands somewhere, by one of its counts
 pub somewhere : (a : Bool) (x n : ℕ) → a ≡ true → not a ≡ (x == 0) → x ≤ n → false ≡ (n == 0)
 somewhere a x n p e l = let m : (x == 0) ≡ false = sym e ∙ ap not p in grind (arith, nat_tests)
-
--- what a search answers
-
-position_by : {X : Type 0} (p : X → Bool) (t : Bool) (n m : ℕ) → ltb n m ≡ t → n ≤ m → unwrap_or (cond t (Some n) None) m ≡ n
-position_by p true n m e l = refl
-position_by p false n m e l = grind (arith, nat_tests)
-
-at_most : {X : Type 0} (p : X → Bool) (xs : List X) → at_first p xs ≤ length xs
-at_most p [] = omega arith
-at_most p (x ∷ xs) = let r : at_first p xs ≤ length xs = at_most p xs in elim (p x) as (λ b. cond b 0 (suc (at_first p xs)) ≤ suc (length xs)) [ true ↦ omega arith | false ↦ omega arith ]
-
--- at most the length
-pub position_or_len-le : {X : Type 0} (p : X → Bool) (xs : List X) → position_or_len p xs ≤ length xs
-position_or_len-le p xs = omega (arith, at_most p xs, at_first-is p xs)
-
--- a search's answer, or the length
-pub position-unwrap_or : {X : Type 0} (p : X → Bool) (xs : List X) → unwrap_or (position p xs) (length xs) ≡ position_or_len p xs
-position-unwrap_or p xs = position_by p (ltb (position_or_len p xs) (length xs)) (position_or_len p xs) (length xs) refl (position_or_len-le p xs)
-
-found_by : (t : Bool) (n m : ℕ) (i : ℕ) → ltb n m ≡ t → cond t (Some n) None ≡ Some i → (i ≡ n) × (i < m)
-found_by true n m i e h = let q : i ≡ n = cc in (q, grind (arith, nat_tests))
-found_by false n m i e h = absurd (cc)
-
--- where a search finds one
-pub position-found : {X : Type 0} (p : X → Bool) (xs : List X) (i : ℕ) → position p xs ≡ Some i → (i ≡ position_or_len p xs) × (i < length xs)
-position-found p xs i h = found_by (ltb (position_or_len p xs) (length xs)) (position_or_len p xs) (length xs) i refl h
-
-lost_by : (t : Bool) (n m : ℕ) → ltb n m ≡ t → cond t (Some n) None ≡ None → m ≤ n
-lost_by true n m e h = absurd (cc)
-lost_by false n m e h = grind (arith, nat_tests)
-
--- where a search finds none
-pub position-none : (c : ℕ) (ws : List Waiter) → position (on c) ws ≡ None → filter (on c) ws ≡ []
-position-none c ws h = none_on c ws (lost_by (ltb (position_or_len (on c) ws) (length ws)) _ _ refl h)
-
--- what is removed where a search finds it
-pub TakesFirst-removed : (c : ℕ) (old new : List Waiter) (w : Waiter) (i : ℕ) → position (on c) old ≡ Some i → new ≡ remove old i → w ≡ get_or old i w → TakesFirst c old new w.place
-TakesFirst-removed c old new w i h e g =
-    let q : (i ≡ position_or_len (on c) old) × (i < length old) = position-found (on c) old i h in
-    subst (λ (x : Waiter). TakesFirst c old new x.place) (sym g) (subst (λ (l : List Waiter). TakesFirst c old l (get_or old i w).place) (sym e) (TakesFirst-position c old w i q.0 q.1))

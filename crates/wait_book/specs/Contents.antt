@@ -16,14 +16,23 @@ use Rattle.wait_book.specs.declared.steps.Next.TheVariants as next
 use Rattle.wait_book.specs.declared.steps.MakeRefused.{MakeRefused}
 use Rattle.wait_book.specs.declared.steps.MakeRefused.TheVariants.{BadPlaces, BadConditions}
 
--- what a book holds: so many places and conditions, who waits by rising priority (equal ones by time), the signallers (the
--- longest waiting first), and whose turn it is
+-- what a book holds: so many places and conditions, memory for so many to wait and for so many waiting signallers (it may be
+-- one memory for both), who waits by rising priority (equal ones by time), the signallers (the longest waiting first), and
+-- whose turn it is
 pub record Contents : Type 0 where
   pub places : ℕ
   pub conditions : ℕ
+  pub room_to_wait : ℕ
+  pub room_to_signal : ℕ
   pub waiters : List Waiter
   pub signallers : List ℕ
   pub turn : Turn
+
+-- as many places and conditions as before, and the memory that was there: no more was taken
+abbrev pub SameSizes : Contents → Contents → Type 0
+SameSizes old new =
+    (new.places ≡ old.places) × (new.conditions ≡ old.conditions)
+    × (new.room_to_wait ≡ old.room_to_wait) × (new.room_to_signal ≡ old.room_to_signal)
 
 -- who waits on c, in the order in which signals would resume them
 abbrev pub waiters_on : ℕ → Contents → List Waiter

@@ -1,7 +1,9 @@
 mod stepping;
 mod waits;
 
-use crate::queues::{first_priority, is_in_hand, is_waiting, rank_of, take_first, turn_given_up};
+use crate::queues::{
+    first_priority, is_in_hand, is_waiting, rank_of, take_first, take_longest, turn_given_up,
+};
 use crate::steps::{MakeRefused, Next};
 use crate::waiter::Waiter;
 use hoare_law::turn::Turn;
@@ -18,7 +20,7 @@ pub const MOST_CONDITIONS: usize = 8;
 /// Introduction, Interpretation and Scheduled Waits). It is for one thread, and holds no data.
 ///
 /// A clause of a call that changes it reads: for every history that the book was of, it is afterwards of that history with
-/// the call's event. No call but `make` takes memory.
+/// the call's event. `sizes` says that the call kept the places, the conditions and the memory that `make` took.
 #[derive(Drop)]
 pub struct Book {
     places: usize,
@@ -41,7 +43,7 @@ impl Model for Book {
 }
 
 impl Book {
-    ghost use Rattle.std.specs.Prelude.{◌≡◌, ◌≢◌, ◌<◌, ◌==◌, ◌↔◌, ℕ, [], IsTrue, MatchResult, MatchOption, IfOk, OnErr, ◌⊎◌, Some, None, slice_index, map};
+    ghost use Rattle.std.specs.Prelude.{◌≡◌, ◌≢◌, ◌<◌, ◌≤◌, ◌==◌, ◌↔◌, ℕ, [], IsTrue, MatchResult, MatchOption, IfOk, OnErr, ◌⊎◌, Some, None, slice_index, map};
     ghost use Rattle.std.specs.Option.{option_map};
     ghost use Rattle.hoare_law.specs.declared.event.History.{History};
     ghost use Rattle.hoare_law.specs.declared.event.Event.TheVariants as event;
@@ -50,7 +52,7 @@ impl Book {
     ghost use Rattle.hoare_law.specs.Waiting.{waiting, chosen, priority_of};
     ghost use Rattle.hoare_law.specs.Turns.{turn, outside};
     ghost use Rattle.hoare_law.specs.Priorities.{joined, taken};
-    ghost use Rattle.wait_book.specs.Contents.{IsOf, IsPlaceBelow, make_refusal, next_of, priorities_on, times, times_in, unused};
+    ghost use Rattle.wait_book.specs.Contents.{IsOf, IsPlaceBelow, SameSizes, make_refusal, next_of, priorities_on, times, times_in, unused};
     ghost use Rattle.wait_book.specs.Stepping.{IsSettled, after_pass, after_signal, after_step, refusal_of, settled};
 
     /// A book of 1 to 64 places and 1 to 8 conditions where nothing happened yet. Refused, in this order: `BadPlaces`,
@@ -58,7 +60,10 @@ impl Book {
     pub fn make(alloc: Global, places: usize, conditions: usize) -> Result<Book, MakeRefused>
         ensures made { MatchResult result
             (λ b. (make_refusal places conditions ≡ None) × IsOf b (unused places conditions))
-            (λ e. (make_refusal places conditions ≡ Some e) ⊎ ((make_refusal places conditions ≡ None) × (e ≡ MakeRefused.Memory))) }
+            (λ e. (make_refusal places conditions ≡ Some e)
+            ⊎ ((make_refusal places conditions ≡ None) × (e ≡ MakeRefused.Memory))) }
+        ensures room { IfOk result
+            (λ b. (places ≤ b.room_to_wait) × (places ≤ b.room_to_signal)) }
     {
         if places == 0 || places > MOST_PLACES {
             return Err(MakeRefused::BadPlaces);
@@ -84,7 +89,8 @@ impl Book {
     /// Who goes on.
     pub fn now(&self) -> Next
         ensures turn { result ≡ next_of self.now.turn }
-        ensures of { (h : History (Unit {0})) → IsOf self.now h → result ≡ next_of (turn h.events) }
+        ensures of { (h : History (Unit {0})) → IsOf self.now h
+            → result ≡ next_of (turn h.events) }
         ensures place { IsPlaceBelow self.now.places result }
     {
         match self.turn {
@@ -99,7 +105,8 @@ impl Book {
     pub fn outside(&self, place: usize) -> bool
         requires { place < self.now.places }
         ensures nowhere { result ≡ (times_in place self.now == 0) }
-        ensures of { (h : History (Unit {0})) → IsOf self.now h → result ≡ outside place h.events }
+        ensures of { (h : History (Unit {0})) → IsOf self.now h
+            → result ≡ outside place h.events }
     {
         if is_waiting(&self.waiters, place) {
             return false;
@@ -114,7 +121,8 @@ impl Book {
     pub fn queue(&self, condition: usize) -> bool
         requires { condition < self.now.conditions }
         ensures lists { IsTrue result ↔ (priorities_on self.now condition ≢ []) }
-        ensures of { (h : History (Unit {0})) → IsOf self.now h → (IsTrue result ↔ (waiting condition h.events ≢ [])) }
+        ensures of { (h : History (Unit {0})) → IsOf self.now h
+            → (IsTrue result ↔ (waiting condition h.events ≢ [])) }
     {
         self.first(condition).is_some()
     }
@@ -122,8 +130,12 @@ impl Book {
     /// The priority of the process that a signal on a condition would resume, if somebody waits there.
     pub fn first(&self, condition: usize) -> Option<u64>
         requires { condition < self.now.conditions }
-        ensures lists { MatchOption result (priorities_on self.now condition ≡ []) (λ p. (priorities_on self.now condition ≢ []) × (p ≡ slice_index (priorities_on self.now condition) 0)) }
-        ensures of { (h : History (Unit {0})) → IsOf self.now h → result ≡ option_map priority_of (chosen condition h.events) }
+        ensures lists { MatchOption result
+            (priorities_on self.now condition ≡ [])
+            (λ p. (priorities_on self.now condition ≢ [])
+            × (p ≡ slice_index (priorities_on self.now condition) 0)) }
+        ensures of { (h : History (Unit {0})) → IsOf self.now h
+            → result ≡ option_map priority_of (chosen condition h.events) }
     {
         first_priority(&self.waiters, condition)
     }
@@ -134,9 +146,10 @@ impl Book {
         requires place { place < self.old.places }
         requires outside { times_in place self.old ≡ 0 }
         ensures inside { self.new.turn ≡ turns.Held place }
-        ensures of { (h : History (Unit {0})) → IsOf self.old h → IsOf self.new (with_event h (event.Admit place tt)) }
+        ensures of { (h : History (Unit {0})) → IsOf self.old h
+            → IsOf self.new (with_event h (event.Admit place tt)) }
         ensures priorities { (c : ℕ) → priorities_on self.new c ≡ priorities_on self.old c }
-        ensures sizes { (self.new.places ≡ self.old.places) × (self.new.conditions ≡ self.old.conditions) }
+        ensures sizes { SameSizes self.old self.new }
     {
         self.turn = Turn::Held(place); // free before
     }
@@ -145,26 +158,29 @@ impl Book {
     pub fn claim(&mut self, place: usize)
         requires { next_of self.old.turn ≡ Next.For place }
         ensures inside { self.new.turn ≡ turns.Held place }
-        ensures of { (h : History (Unit {0})) → IsOf self.old h → IsOf self.new (settled h) }
+        ensures of { (h : History (Unit {0})) → IsOf self.old h
+            → IsOf self.new (settled h) }
         ensures priorities { (c : ℕ) → priorities_on self.new c ≡ priorities_on self.old c }
-        ensures sizes { (self.new.places ≡ self.old.places) × (self.new.conditions ≡ self.old.conditions) }
+        ensures sizes { SameSizes self.old self.new }
     {
         if let Turn::Return(_) = self.turn {
-            self.signallers.remove(0);
+            take_longest(&mut self.signallers);
         }
-        self.turn = Turn::Held(place);
+        self.turn = Turn::Held(place); // owed before
     }
 
     /// The place inside waits on a condition with a priority. The longest waiting signaller goes on, or nobody.
     pub fn wait(&mut self, place: usize, condition: usize, priority: u64) -> Next
         requires inside { self.old.turn ≡ turns.Held place }
         requires condition { condition < self.old.conditions }
-        ensures of { (h : History (Unit {0})) → IsOf self.old h → IsOf self.new (with_event h (event.Wait place condition priority tt)) }
+        ensures of { (h : History (Unit {0})) → IsOf self.old h
+            → IsOf self.new (with_event h (event.Wait place condition priority tt)) }
         ensures next { result ≡ next_of self.new.turn }
         ensures answered { IsPlaceBelow self.new.places result }
         ensures apart { times place (map (λ w. w.place) self.old.waiters) ≡ 0 }
-        ensures priorities { (c : ℕ) → priorities_on self.new c ≡ joined (priorities_on self.old) condition priority c }
-        ensures sizes { (self.new.places ≡ self.old.places) × (self.new.conditions ≡ self.old.conditions) }
+        ensures priorities { (c : ℕ)
+            → priorities_on self.new c ≡ joined (priorities_on self.old) condition priority c }
+        ensures sizes { SameSizes self.old self.new }
     {
         let waiter = Waiter {
             place,
@@ -175,21 +191,22 @@ impl Book {
         let Ok(()) = self.waiters.insert(rank, waiter) else {
             unreachable!();
         };
-        self.turn = turn_given_up(&self.signallers);
+        self.turn = turn_given_up(&self.signallers); // the place waits
         self.now()
     }
 
     /// The place inside goes out. The longest waiting signaller goes on, or nobody.
     pub fn leave(&mut self, place: usize) -> Next
         requires { self.old.turn ≡ turns.Held place }
-        ensures of { (h : History (Unit {0})) → IsOf self.old h → IsOf self.new (with_event h (event.Leave place tt)) }
+        ensures of { (h : History (Unit {0})) → IsOf self.old h
+            → IsOf self.new (with_event h (event.Leave place tt)) }
         ensures next { result ≡ next_of self.new.turn }
         ensures answered { IsPlaceBelow self.new.places result }
         ensures apart { times place (map (λ w. w.place) self.old.waiters) ≡ 0 }
         ensures priorities { (c : ℕ) → priorities_on self.new c ≡ priorities_on self.old c }
-        ensures sizes { (self.new.places ≡ self.old.places) × (self.new.conditions ≡ self.old.conditions) }
+        ensures sizes { SameSizes self.old self.new }
     {
-        self.turn = turn_given_up(&self.signallers);
+        self.turn = turn_given_up(&self.signallers); // the place is out
         self.now()
     }
 
@@ -198,14 +215,17 @@ impl Book {
     pub fn signal(&mut self, place: usize, condition: usize) -> Next
         requires inside { self.old.turn ≡ turns.Held place }
         requires condition { condition < self.old.conditions }
-        ensures of { (h : History (Unit {0})) → IsOf self.old h → IsOf self.new (after_signal h place condition (chosen condition h.events)) }
+        ensures of { (h : History (Unit {0})) → IsOf self.old h
+            → IsOf self.new (after_signal h place condition (chosen condition h.events)) }
         ensures next { result ≡ next_of self.new.turn }
         ensures nobody { priorities_on self.old condition ≡ [] → self.new ≡ self.old }
-        ensures somebody { priorities_on self.old condition ≢ [] → (w : ℕ) × (self.new.turn ≡ turns.Owed w condition) }
+        ensures somebody { priorities_on self.old condition ≢ []
+            → (w : ℕ) × (self.new.turn ≡ turns.Owed w condition) }
         ensures answered { IsPlaceBelow self.new.places result }
         ensures apart { times place (map (λ w. w.place) self.old.waiters) ≡ 0 }
-        ensures priorities { (c : ℕ) → priorities_on self.new c ≡ taken (priorities_on self.old) condition c }
-        ensures sizes { (self.new.places ≡ self.old.places) × (self.new.conditions ≡ self.old.conditions) }
+        ensures priorities { (c : ℕ)
+            → priorities_on self.new c ≡ taken (priorities_on self.old) condition c }
+        ensures sizes { SameSizes self.old self.new }
     {
         let Some(resumed) = take_first(&mut self.waiters, condition) else {
             return self.now();
@@ -220,18 +240,21 @@ impl Book {
     pub fn pass(&mut self, place: usize, condition: usize) -> Next
         requires inside { self.old.turn ≡ turns.Held place }
         requires condition { condition < self.old.conditions }
-        ensures of { (h : History (Unit {0})) → IsOf self.old h → IsOf self.new (after_pass h place condition (chosen condition h.events)) }
+        ensures of { (h : History (Unit {0})) → IsOf self.old h
+            → IsOf self.new (after_pass h place condition (chosen condition h.events)) }
         ensures next { result ≡ next_of self.new.turn }
-        ensures somebody { priorities_on self.old condition ≢ [] → (w : ℕ) × (self.new.turn ≡ turns.Owed w condition) }
+        ensures somebody { priorities_on self.old condition ≢ []
+            → (w : ℕ) × (self.new.turn ≡ turns.Owed w condition) }
         ensures answered { IsPlaceBelow self.new.places result }
         ensures apart { times place (map (λ w. w.place) self.old.waiters) ≡ 0 }
-        ensures priorities { (c : ℕ) → priorities_on self.new c ≡ taken (priorities_on self.old) condition c }
-        ensures sizes { (self.new.places ≡ self.old.places) × (self.new.conditions ≡ self.old.conditions) }
+        ensures priorities { (c : ℕ)
+            → priorities_on self.new c ≡ taken (priorities_on self.old) condition c }
+        ensures sizes { SameSizes self.old self.new }
     {
-        let Some(resumed) = take_first(&mut self.waiters, condition) else {
+        let Some(successor) = take_first(&mut self.waiters, condition) else {
             return self.leave(place);
         };
-        self.turn = Turn::Owed(resumed, condition);
+        self.turn = Turn::Owed(successor, condition);
         self.now()
     }
 }

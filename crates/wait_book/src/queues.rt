@@ -1,7 +1,8 @@
 //! What a book asks of its two lists and of its turn.
-ghost use Rattle.std.specs.Prelude.{◌≡◌, ◌==◌, nat_lt, not, [], filter, length, MatchOption, vec_capacity};
+ghost use Rattle.std.specs.Prelude.{◌≡◌, ◌≢◌, ◌==◌, nat_lt, not, [], filter, length, MatchOption, vec_capacity};
 ghost use Rattle.std.specs.List.{find, list_any, position, slice_get};
 ghost use Rattle.std.specs.Option.{option_map, unwrap_or};
+ghost use Rattle.hoare_law.specs.Priorities.{behind_first};
 ghost use Rattle.hoare_law.specs.Turns.{turn_given_up};
 ghost use Rattle.wait_book.specs.declared.waiter.Waiter.{Waiter};
 ghost use Rattle.wait_book.specs.Contents.{times_in_hand};
@@ -18,6 +19,15 @@ pub(crate) fn turn_given_up(signallers: &[usize]) -> Turn
         Some(place) => Turn::Return(*place),
         None => Turn::Free,
     }
+}
+
+/// Takes the longest waiting signaller out, whom `turn_given_up` chose.
+pub(crate) fn take_longest(signallers: &mut Vec<usize>)
+    requires { signallers.old.items ≢ [] }
+    ensures items { signallers.new.items ≡ behind_first signallers.old.items }
+    ensures capacity { vec_capacity signallers.new ≡ vec_capacity signallers.old }
+{
+    signallers.remove(0);
 }
 
 /// Whether a place is the one inside, or was resumed.
@@ -47,7 +57,9 @@ fn first_above(waiters: &[Waiter], priority: u64) -> Option<usize>
 
 /// Where a new waiter stands: behind those whose priority is its own or less.
 pub(crate) fn rank_of(waiters: &[Waiter], priority: u64) -> usize
-    ensures { result ≡ unwrap_or (position (λ (w : Waiter). nat_lt priority w.priority) waiters.now) (length waiters.now) }
+    ensures { result ≡ unwrap_or
+        (position (λ (w : Waiter). nat_lt priority w.priority) waiters.now)
+        (length waiters.now) }
 {
     first_above(waiters, priority).unwrap_or(waiters.len())
 }
@@ -68,7 +80,8 @@ pub(crate) fn position_on(waiters: &[Waiter], condition: usize) -> Option<usize>
 
 /// The priority of the first that waits on a condition.
 pub(crate) fn first_priority(waiters: &[Waiter], condition: usize) -> Option<u64>
-    ensures { result ≡ option_map (λ (w : Waiter). w.priority) (find (λ (w : Waiter). w.condition == condition) waiters.now) }
+    ensures { result ≡ option_map (λ (w : Waiter). w.priority)
+        (find (λ (w : Waiter). w.condition == condition) waiters.now) }
 {
     waiters
         .iter()
@@ -78,7 +91,8 @@ pub(crate) fn first_priority(waiters: &[Waiter], condition: usize) -> Option<u64
 
 /// The priority of the `i`-th that waits on a condition, counted from 0.
 pub(crate) fn nth_priority(waiters: &[Waiter], condition: usize, i: usize) -> Option<u64>
-    ensures { result ≡ option_map (λ (w : Waiter). w.priority) (slice_get (filter (λ (w : Waiter). w.condition == condition) waiters.now) i) }
+    ensures { result ≡ option_map (λ (w : Waiter). w.priority)
+        (slice_get (filter (λ (w : Waiter). w.condition == condition) waiters.now) i) }
 {
     let mut before = i;
     let mut rest = waiters;
@@ -97,7 +111,8 @@ pub(crate) fn nth_priority(waiters: &[Waiter], condition: usize, i: usize) -> Op
 /// Takes the first that waits on a condition out of the list, and answers its place.
 pub(crate) fn take_first(waiters: &mut Vec<Waiter>, condition: usize) -> Option<usize>
     ensures taken { MatchOption result
-        ((filter (λ (w : Waiter). w.condition == condition) waiters.old.items ≡ []) × (waiters.new ≡ waiters.old))
+        ((filter (λ (w : Waiter). w.condition == condition) waiters.old.items ≡ [])
+        × (waiters.new ≡ waiters.old))
         (λ place. TakesFirst condition waiters.old.items waiters.new.items place) }
     ensures capacity { vec_capacity waiters.new ≡ vec_capacity waiters.old }
 {

@@ -118,3 +118,49 @@ fn calls_hand_the_monitor_on(rt: HostRuntime) -> Result<(), Fail> {
     assert_eq!(rt; book.leave(0), Next::Free);
     Ok(())
 }
+
+// The next number of a fixed generator.
+fn next_number(number: u64) -> u64 {
+    number
+        .wrapping_mul(6364136223846793005)
+        .wrapping_add(1442695040888963407)
+}
+
+// A newcomer's step, or one of the place inside, which waits in `waits` of 8 cases. Place 0 never waits, so that there is
+// always somebody who can come in.
+fn mixed_step(now: Next, waits: u64, number: u64) -> Step {
+    let condition = (number >> 16) % 8;
+    let priority = (number >> 24) % 4;
+    match now {
+        Next::Free => Step::Enter((number >> 32) % 64),
+        Next::For(k) | Next::Held(k) => {
+            let place = k as u64;
+            let act = (number >> 40) % 8;
+            if act < waits && place != 0 {
+                return Step::Wait(place, condition, priority);
+            }
+            match act {
+                6 => Step::Pass(place, condition),
+                7 => Step::Leave(place),
+                _ => Step::Signal(place, condition),
+            }
+        }
+    }
+}
+
+// 10,000 steps of 64 places on 8 conditions, by turns with many and with few waits. The place inside is never refused, and a
+// newcomer only where its place waits. No step asks for memory: `rt try --test --fail-alloc N` passes with this test from the
+// same N on as without.
+#[test]
+fn long_mixed_run(rt: HostRuntime) -> Result<(), Fail> {
+    let mut book = Book::make(rt.alloc(), MOST_PLACES, MOST_CONDITIONS)?;
+    let mut number = 1;
+    for i in 0..10_000 {
+        number = next_number(number);
+        let waits = if i % 2_000 < 1_000 { 5 } else { 2 };
+        let step = mixed_step(book.now(), waits, number);
+        let refused = book.try_step(step).err();
+        assert!(rt; refused.is_none() || refused == Some(StepRefused::NotOutside));
+    }
+    Ok(())
+}

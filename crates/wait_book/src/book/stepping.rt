@@ -10,7 +10,7 @@ impl Book {
     ghost use Rattle.hoare_law.specs.declared.event.History.{History};
     ghost use Rattle.hoare_law.specs.declared.turn.Turn.TheVariants as turns;
     ghost use Rattle.wait_book.specs.declared.steps.StepRefused.{StepRefused};
-    ghost use Rattle.wait_book.specs.Contents.{IsOf, next_of, times_in};
+    ghost use Rattle.wait_book.specs.Contents.{IsOf, SameSizes, next_of, times_in};
     ghost use Rattle.wait_book.specs.Stepping.{IsSettled, act_refusal, after_step, condition_refusal, enter_refusal, refusal_of, settled};
 
     // Whoever is owed the monitor goes on.
@@ -18,7 +18,7 @@ impl Book {
         ensures next { result ≡ next_of self.new.turn }
         ensures settled { IsSettled result }
         ensures of { (h : History (Unit {0})) → IsOf self.old h → IsOf self.new (settled h) }
-        ensures sizes { (self.new.places ≡ self.old.places) × (self.new.conditions ≡ self.old.conditions) }
+        ensures sizes { SameSizes self.old self.new }
     {
         if let Next::For(place) = self.now() {
             self.claim(place);
@@ -28,8 +28,11 @@ impl Book {
 
     // The place, if it may come in.
     fn newcomer(&self, place: u64) -> Result<usize, StepRefused>
-        ensures ok { IfOk result (λ k. (k ≡ place) × (self.now.turn ≡ turns.Free) × (k < self.now.places) × (times_in k self.now ≡ 0)) }
-        ensures of { (h : History (Unit {0})) → IsOf self.now h → MatchResult result (λ _. enter_refusal h place ≡ None) (λ r. enter_refusal h place ≡ Some r) }
+        ensures ok { IfOk result (λ k. (k ≡ place) × (self.now.turn ≡ turns.Free)
+            × (k < self.now.places) × (times_in k self.now ≡ 0)) }
+        ensures of { (h : History (Unit {0})) → IsOf self.now h → MatchResult result
+            (λ _. enter_refusal h place ≡ None)
+            (λ r. enter_refusal h place ≡ Some r) }
     {
         if place >= self.places as u64 {
             return Err(StepRefused::NoPlace);
@@ -47,7 +50,10 @@ impl Book {
     // The place, if it is inside.
     fn holder(&self, place: u64) -> Result<usize, StepRefused>
         ensures ok { IfOk result (λ k. (k ≡ place) × (self.now.turn ≡ turns.Held k)) }
-        ensures of { (h : History (Unit {0})) (further : Option StepRefused) → IsOf self.now h → MatchResult result (λ _. act_refusal h place further ≡ further) (λ r. act_refusal h place further ≡ Some r) }
+        ensures of { (h : History (Unit {0})) (further : Option StepRefused) → IsOf self.now h
+            → MatchResult result
+            (λ _. act_refusal h place further ≡ further)
+            (λ r. act_refusal h place further ≡ Some r) }
     {
         if place >= self.places as u64 {
             return Err(StepRefused::NoPlace);
@@ -61,7 +67,9 @@ impl Book {
     // The condition, if there is one of this number.
     fn condition(&self, condition: u64) -> Result<usize, StepRefused>
         ensures ok { IfOk result (λ c. (c ≡ condition) × (c < self.now.conditions)) }
-        ensures of { (h : History (Unit {0})) → IsOf self.now h → MatchResult result (λ _. condition_refusal h condition ≡ None) (λ r. condition_refusal h condition ≡ Some r) }
+        ensures of { (h : History (Unit {0})) → IsOf self.now h → MatchResult result
+            (λ _. condition_refusal h condition ≡ None)
+            (λ r. condition_refusal h condition ≡ Some r) }
     {
         if condition >= self.conditions as u64 {
             return Err(StepRefused::NoCondition);
@@ -77,7 +85,7 @@ impl Book {
             (λ _. (refusal_of h step ≡ None) × IsOf self.new (after_step h step))
             (λ r. refusal_of h step ≡ Some r) }
         ensures next { IfOk result (λ next. (next ≡ next_of self.new.turn) × IsSettled next) }
-        ensures sizes { (self.new.places ≡ self.old.places) × (self.new.conditions ≡ self.old.conditions) }
+        ensures sizes { SameSizes self.old self.new }
         ensures err { OnErr result (self.new ≡ self.old) }
     {
         match step {

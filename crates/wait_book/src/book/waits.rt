@@ -17,7 +17,8 @@ impl Waits for Book {
 
     fn count(&self, condition: usize) -> usize
         ensures lists { result ≡ length (priorities_on self.now condition) }
-        ensures of { (h : History (Unit {0})) → IsOf self.now h → priorities_on self.now condition ≡ priorities h.events condition }
+        ensures of { (h : History (Unit {0})) → IsOf self.now h
+            → priorities_on self.now condition ≡ priorities h.events condition }
     {
         count_on(&self.waiters, condition)
     }

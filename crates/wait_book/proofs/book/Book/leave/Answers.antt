@@ -9,8 +9,8 @@ use Rattle.wait_book.proofs.book.Book.leave.Goals as goal
 pub returns-clause-of : goal.returns-clause-of
 returns-clause-of c = λ h o.
     let b : Contents = view_of c.self.inside in
-    histories.IsOf-same _ _ _ (sound.parts _ _ _ _ _ _ _ _ refl refl (c.turn_given_up-self-inside.ensures ∙ ap turn_given_up c.deref.ensures.value))
-    (histories.left_of b c.args.place h c.self.invariant.sound (sound.same_turn b _ _ c.self.view_is c.requires) (histories.IsOf-same _ b h (sym c.self.view_is) o))
+    histories.IsOf-same _ _ _ (sound.parts refl refl refl refl (c.turn_given_up-self-inside.ensures ∙ ap turn_given_up c.deref.ensures.value))
+    (histories.left_of b c.args.place h (sound.holds c.self.view_is c.self.invariant c.requires) (histories.IsOf-same _ b h (sym c.self.view_is) o))
 
 pub returns-clause-apart : goal.returns-clause-apart
-returns-clause-apart c = sound.apart_same (view_of c.self.inside) _ c.args.place c.self.view_is c.self.invariant.sound (sound.same_turn _ _ _ c.self.view_is c.requires)
+returns-clause-apart c = sound.apart_same c.self.view_is c.self.invariant c.requires

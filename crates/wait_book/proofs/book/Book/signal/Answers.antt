@@ -1,7 +1,6 @@
-use Rattle.std.proofs.Common.{arith, rules, ◌≡◌, [], refl, ap, sym, ◌∙◌, subst}
+use Rattle.std.proofs.Common.{arith, rules, refl, ap, sym}
 use Rattle.std.specs.Vec.{vec_items, vec_capacity}
-use Rattle.hoare_law.specs.Priorities as law
-use Rattle.wait_book.specs.Contents.{Contents, priorities_on, waiters_on}
+use Rattle.wait_book.specs.Contents.{Contents}
 use Rattle.wait_book.specs.Insides.{view_of}
 use Rattle.wait_book.proofs.Options.{MatchOption-unless_some}
 use Rattle.wait_book.proofs.Sound as sound

@@ -1,6 +1,6 @@
 use Rattle.std.proofs.Common.{arith, rules, ◌≡◌, ◌<◌, ℕ, List, length, refl, ap, sym, ◌∙◌}
 use Rattle.std.specs.Prelude.{nat_lt}
-use Rattle.std.specs.List.{insert, position, position_or_len}
+use Rattle.std.specs.List.{insert, position}
 use Rattle.std.specs.Option.{unwrap_or}
 use Rattle.hoare_law.specs.Turns.{turn_given_up}
 use Rattle.hoare_law.specs.Priorities as law

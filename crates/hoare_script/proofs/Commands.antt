@@ -17,9 +17,8 @@ use Rattle.hoare_script.specs.declared.lines.Command.{Command}
 use Rattle.hoare_script.specs.declared.lines.Command.TheVariants.{Do, Queue, First}
 use Rattle.hoare_script.specs.declared.answers.Answer.{Answer}
 use Rattle.hoare_script.specs.declared.answers.Answer.TheVariants.{Waiting, Nobody, Priority, Refused}
-use Rattle.hoare_script.specs.Answers.{outcome_answer}
-use Rattle.hoare_script.specs.Scripts.{answer_to, history_after, history_by, step_answer, queue_answer, first_answer, turn_answer, priority_answer, is_nonempty}
-use Rattle.hoare_script.proofs.Numbers.{nat_lt-true, nat_lt-false}
+use Rattle.hoare_script.specs.Answers.{outcome_answer, answer_to, history_after, history_by, step_answer, queue_answer, first_answer, turn_answer, priority_answer, is_nonempty}
+use Rattle.std.proofs.lemmas.Bool.{lt-ltb, le-ltb}
 
 -- who goes on is who is inside
 outcome_answer-next_of : (t : Turn) → outcome_answer (Ok (next_of t)) ≡ turn_answer t
@@ -29,7 +28,10 @@ outcome_answer-next_of (turns.Owed k c) = refl
 outcome_answer-next_of (turns.Return k) = refl
 
 -- a step of a book of h
-pub answer_to-Do : (old new : Contents) (h : History (Unit {0})) (s : Step) (r : Result Next StepRefused) → IsOf old h → MatchResult r (λ _. (refusal_of h s ≡ None) × IsOf new (after_step h s)) (λ e. refusal_of h s ≡ Some e) → IfOk r (λ n. (n ≡ next_of new.turn) × IsSettled n) → OnErr r (new ≡ old) → (outcome_answer r ≡ answer_to h (Do s)) × IsOf new (history_after h (Do s))
+pub answer_to-Do : (old new : Contents) (h : History (Unit {0})) (s : Step) (r : Result Next StepRefused) → IsOf old h
+    → MatchResult r (λ _. (refusal_of h s ≡ None) × IsOf new (after_step h s)) (λ e. refusal_of h s ≡ Some e)
+    → IfOk r (λ n. (n ≡ next_of new.turn) × IsSettled n) → OnErr r (new ≡ old)
+    → (outcome_answer r ≡ answer_to h (Do s)) × IsOf new (history_after h (Do s))
 unfolding answer_to history_after
 answer_to-Do old new h s (Ok n) o m t e = (
   ap (λ v. outcome_answer (Ok v)) t.0 ∙ outcome_answer-next_of new.turn ∙ sym (ap turn_answer m.1.turn_is) ∙ sym (ap (step_answer h s) m.0),
@@ -41,10 +43,10 @@ answer_to-Do old new h s (Err r) o m t e = (
 )
 
 condition_refusal-none : (b : Contents) (h : History (Unit {0})) (c : ℕ) → IsOf b h → c < b.conditions → condition_refusal h c ≡ None
-condition_refusal-none b h c o l = ap (λ t. cond t None (Some NoCondition)) (nat_lt-true c h.conditions (subst (λ (n : ℕ). c < n) (sym o.conditions) l))
+condition_refusal-none b h c o l = ap (λ t. cond t None (Some NoCondition)) (lt-ltb c h.conditions (subst (λ (n : ℕ). c < n) (sym o.conditions) l))
 
 condition_refusal-some : (b : Contents) (h : History (Unit {0})) (c : ℕ) → IsOf b h → b.conditions ≤ c → condition_refusal h c ≡ Some NoCondition
-condition_refusal-some b h c o l = ap (λ t. cond t None (Some NoCondition)) (nat_lt-false c h.conditions (subst (λ (n : ℕ). n ≤ c) (sym o.conditions) l))
+condition_refusal-some b h c o l = ap (λ t. cond t None (Some NoCondition)) (le-ltb c h.conditions (subst (λ (n : ℕ). n ≤ c) (sym o.conditions) l))
 
 -- no such condition
 pub answer_to-Queue_refused : (b : Contents) (h : History (Unit {0})) (c : ℕ) → IsOf b h → b.conditions ≤ c → Refused NoCondition ≡ answer_to h (Queue c)
@@ -61,7 +63,8 @@ is_nonempty-test false [] f g = refl
 is_nonempty-test true (x ∷ xs) f g = refl
 is_nonempty-test false (x ∷ xs) f g = g (λ e. cc)
 
-pub answer_to-Queue : (b : Contents) (h : History (Unit {0})) (c : ℕ) (t : Bool) → IsOf b h → c < b.conditions → (IsTrue t → waiting c h.events ≢ []) × (waiting c h.events ≢ [] → IsTrue t) → Waiting t ≡ answer_to h (Queue c)
+pub answer_to-Queue : (b : Contents) (h : History (Unit {0})) (c : ℕ) (t : Bool) → IsOf b h → c < b.conditions
+    → (IsTrue t → waiting c h.events ≢ []) × (waiting c h.events ≢ [] → IsTrue t) → Waiting t ≡ answer_to h (Queue c)
 unfolding answer_to
 answer_to-Queue b h c t o l w = ap Waiting (is_nonempty-test t (waiting c h.events) w.0 w.1) ∙ sym (ap (queue_answer h c) (condition_refusal-none b h c o l))
 
@@ -74,9 +77,11 @@ priority_or_none-option_map : (e : Option (Event (Unit {0}))) → priority_or_no
 priority_or_none-option_map None = refl
 priority_or_none-option_map (Some e) = refl
 
-pub answer_to-First : (b : Contents) (h : History (Unit {0})) (c : ℕ) (p q : Option ℕ) → IsOf b h → c < b.conditions → p ≡ option_map priority_of (chosen c h.events) → p ≡ q → priority_or_none q ≡ answer_to h (First c)
+pub answer_to-First : (b : Contents) (h : History (Unit {0})) (c : ℕ) (p q : Option ℕ) → IsOf b h → c < b.conditions
+    → p ≡ option_map priority_of (chosen c h.events) → p ≡ q → priority_or_none q ≡ answer_to h (First c)
 unfolding answer_to
-answer_to-First b h c p q o l e f = ap priority_or_none (sym f ∙ e) ∙ priority_or_none-option_map (chosen c h.events) ∙ sym (ap (first_answer h c) (condition_refusal-none b h c o l))
+answer_to-First b h c p q o l e f =
+    ap priority_or_none (sym f ∙ e) ∙ priority_or_none-option_map (chosen c h.events) ∙ sym (ap (first_answer h c) (condition_refusal-none b h c o l))
 
 pub history_after-Queue : (h : History (Unit {0})) (c : ℕ) → history_after h (Queue c) ≡ h
 unfolding history_after
@@ -87,6 +92,7 @@ unfolding history_after
 history_after-First h c = refl
 
 -- a command that adds nothing to the history
-pub answer_to-unchanged : (b : Contents) (h : History (Unit {0})) (command asked : Command) (r : Answer) → IsOf b h → history_after h asked ≡ h → command ≡ asked → r ≡ answer_to h asked → (r ≡ answer_to h command) × IsOf b (history_after h command)
+pub answer_to-unchanged : (b : Contents) (h : History (Unit {0})) (command asked : Command) (r : Answer) → IsOf b h
+    → history_after h asked ≡ h → command ≡ asked → r ≡ answer_to h asked → (r ≡ answer_to h command) × IsOf b (history_after h command)
 answer_to-unchanged b h command asked r o e f a =
     (a ∙ sym (ap (answer_to h) f), subst (λ (v : History (Unit {0})). IsOf b v) (sym (ap (history_after h) f ∙ e)) o)

@@ -1,6 +1,4 @@
-pub mod Numbers
 pub mod Spelling
-pub mod Known
 pub mod Commands
 pub mod Answering
 pub mod Scripts

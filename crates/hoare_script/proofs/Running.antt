@@ -1,24 +1,30 @@
 -- How a run goes on, line by line.
-use Rattle.std.proofs.Common.{◌≡◌, ◌≢◌, ℕ, ◌+◌, ◌-◌, ◌<◌, ◌≤◌, min, List, [], ◌∷◌, ◌++◌, length, take, Option, Some, None, Result, Ok, Err, refl, ap, sym, ◌∙◌, append_assoc, subst, eqb, cond, true, false, arith}
-use Rattle.std.proofs.Math.Seq.{take-append-add}
-use Rattle.std.proofs.lemmas.List.{append-nil}
-use Rattle.std.proofs.lemmas.Grind.{common_steps}
+use Rattle.std.proofs.Common.{◌≡◌, ◌≢◌, ℕ, zero, suc, ◌+◌, ◌-◌, ◌<◌, ◌≤◌, List, [], ◌∷◌, ◌++◌, length, take, drop, Option, Some, None, Result, Ok, Err}
+use Rattle.std.proofs.Common.{refl, ap, sym, ◌∙◌, append_assoc, subst, eqb, cond, true, false, arith, length-append, add-one}
+use Rattle.std.proofs.KnownBytes.{Appends-nil, Appends-trans}
+use Rattle.std.proofs.Math.Seq.{take-append-add, drop-append_seam}
+use Rattle.std.proofs.lemmas.Bool.{ne_eqb}
+use Rattle.std.proofs.lemmas.Bool.Decides.{nat_tests}
+use Rattle.std.proofs.lemmas.List.{append-nil, take-append-le}
 use Rattle.std.specs.Result.{IsOkAnd}
-use Rattle.std.specs.Option.{IfSome}
+use Rattle.std.specs.Io.BufRead.{drop_through}
 use Rattle.std.specs.Io.KnownBytes.{Appends}
+use Rattle.line_text.proofs.AfterLines.{drop_through-line, drop_through-last}
+use Rattle.line_text.proofs.Streams.{Reads-trans}
+use Rattle.line_text.specs.declared.line.Ended.{Ended}
+use Rattle.line_text.specs.declared.line.Ended.TheVariants as how
+use Rattle.line_text.specs.declared.line.LineFault.{LineFault}
+use Rattle.line_text.specs.declared.line.LineFault.TheVariants as why
+use Rattle.line_text.specs.declared.line.TheConstants.{LONGEST_LINE}
+use Rattle.line_text.specs.Line.{ReadsLine, IsLineFor, NoNewline, after_lines}
+use Rattle.line_text.specs.Streams.{Reads, AppendsPrefix}
 use Rattle.wait_book.specs.Contents.{Contents}
 use Rattle.hoare_script.specs.declared.fault.ScriptFault.{ScriptFault}
 use Rattle.hoare_script.specs.declared.fault.ScriptFault.TheVariants as faults
-use Rattle.hoare_script.specs.declared.streams.Ended.{Ended}
-use Rattle.hoare_script.specs.declared.streams.Ended.TheVariants as how
-use Rattle.hoare_script.specs.declared.streams.LineFault.{LineFault}
-use Rattle.hoare_script.specs.declared.streams.LineFault.TheVariants as why
-use Rattle.hoare_script.specs.Streams.{Reads, ReadsLine, IsLineFor, NoNewline, AppendsFront}
+use Rattle.hoare_script.specs.declared.runs.TheConstants.{MOST_BYTES}
 use Rattle.hoare_script.specs.Scripts.{State, Start, Running, Told, Ending, Outcome, told, told_from, prepend, stop, done, then_on, one_line, at_end, at_cut}
-use Rattle.hoare_script.specs.Answering.{Stands, Follows, OnFault}
-use Rattle.hoare_script.specs.Runs.{Tells, Whole}
-use Rattle.hoare_script.proofs.Numbers.{nat_eq-true, nat_eq-false}
-use Rattle.hoare_script.proofs.Known.{Appends-none, Appends-more, Reads-more}
+use Rattle.hoare_script.specs.Runs.{IsAt, Follows, OnFault, Tells, Whole}
+use Rattle.hoare_script.proofs.Answering.{one_line-number}
 use Rattle.hoare_script.proofs.Scripts.{told_from-line, told_from-long_line, told_from-past_limit, told_from-end}
 
 -- how far a run is: of the input t0 it has t left, and what it wrote and will write is what the input is told
@@ -26,222 +32,362 @@ pub record Going (number room : ℕ) (opened : Option Contents) (old now : Optio
   pub state : State
   pub written : List ℕ
   pub read : List ℕ
+  pub lines : ℕ
   pub whole : t0 ≡ read ++ t
-  pub stands : Stands opened state
+  pub at : IsAt opened state
   pub appends : Appends old now written
   pub goes : (e : Ending) (x : List ℕ) → told e (read ++ x) ≡ prepend written (told_from e state number room x)
-  pub fresh : state ≡ Start → written ≡ []
+  pub fresh : state ≡ Start → (written ≡ []) × (lines ≡ 0)
+  pub numbered : number ≡ suc lines
+  pub behind : t ≡ after_lines lines t0
+  pub counted : length read + room ≡ MOST_BYTES
 
 -- nothing was read or written yet
-pub Going-start : (old : Option (List ℕ)) (t : List ℕ) → Going 1 1048576 None old old t t
-Going-start old t = record { state = Start; written = []; read = []; whole = refl; stands = tt; appends = Appends-none old; goes = λ e x. refl; fresh = λ h. refl }
-
--- the rest of what is told, from where the run is
-told-rest : (number room : ℕ) (opened : Option Contents) (old now : Option (List ℕ)) (t0 t : List ℕ) (g : Going number room opened old now t0 t) → (e : Ending) → told e t0 ≡ prepend g.written (told_from e g.state number room t)
-told-rest number room opened old now t0 t g e = ap (told e) g.whole ∙ g.goes e t
+Going-start : (old : Option (List ℕ)) (t : List ℕ) → Going 1 MOST_BYTES None old old t t
+Going-start old t = record {
+  state = Start;
+  written = [];
+  read = [];
+  lines = 0;
+  whole = refl;
+  at = tt;
+  appends = Appends-nil old;
+  goes = λ e x. refl;
+  fresh = λ h. (refl, refl);
+  numbered = refl;
+  behind = refl;
+  counted = omega arith;
+}
 
 -- nothing more is written, and a fault is told
-Whole-fault : (old now new : Option (List ℕ)) (w : List ℕ) (t : Told) (f : ScriptFault) → Appends old now w → Appends now new [] → t ≡ prepend w (stop f) → Whole t old new (Some f)
+Whole-fault : (old now new : Option (List ℕ)) (w : List ℕ) (t : Told) (f : ScriptFault)
+    → Appends old now w → Appends now new [] → t ≡ prepend w (stop f) → Whole t old new (Some f)
 Whole-fault old now new w t f p q e =
-    (subst (λ (v : Told). Appends old new v.written) (sym e) (Appends-more old now new w [] p q), ap (λ (v : Told). v.fault) e)
-
--- the line was too long
-pub Tells-long_line : (number room : ℕ) (opened : Option Contents) (old now : Option (List ℕ)) (t0 t l x : List ℕ) (left : Option (List ℕ)) (b : ℕ) → Going number room opened old now t0 t → NoNewline l → b ≢ 10 → length l ≡ 256 → 256 < room → t ≡ l ++ b ∷ x → Tells t0 left old now (Err (faults.LineTooLong number))
-Tells-long_line number room opened old now t0 t l x left b g n d h r e =
-    Whole-fault old now now g.written (told at_end t0) (faults.LineTooLong number) g.appends (Appends-none now)
-    (told-rest number room opened old now t0 t g at_end ∙ ap (prepend g.written) (ap (told_from at_end g.state number room) e ∙ told_from-long_line at_end g.state number room l b x n d h r))
-
--- a byte past the limit
-pub Tells-past_limit : (number room : ℕ) (opened : Option Contents) (old now : Option (List ℕ)) (t0 t l x : List ℕ) (left : Option (List ℕ)) (b : ℕ) → Going number room opened old now t0 t → NoNewline l → length l ≤ 256 → length l ≡ room → t ≡ l ++ b ∷ x → Tells t0 left old now (Err faults.TooMuch)
-Tells-past_limit number room opened old now t0 t l x left b g n h r e =
-    Whole-fault old now now g.written (told at_end t0) faults.TooMuch g.appends (Appends-none now)
-    (told-rest number room opened old now t0 t g at_end ∙ ap (prepend g.written) (ap (told_from at_end g.state number room) e ∙ told_from-past_limit at_end g.state number room l b x n h r))
-
--- a read failed
-pub Tells-cut : (number room : ℕ) (opened : Option Contents) (old now : Option (List ℕ)) (t0 t l x : List ℕ) → Going number room opened old now t0 t → NoNewline l → length l ≤ 256 → length l ≤ room → t ≡ l ++ x → Tells t0 (Some x) old now (Err faults.ReadFault)
-Tells-cut number room opened old now t0 t l x g n h r e = (
-  g.read ++ l,
-  g.whole ∙ ap (λ v. g.read ++ v) e ∙ sym (append_assoc g.read l x),
-  Whole-fault old now now g.written (told at_cut (g.read ++ l)) faults.ReadFault g.appends (Appends-none now)
-      (g.goes at_cut l ∙ ap (prepend g.written) (told_from-end at_cut g.state number room l n h r)),
-)
+    (subst (λ (v : Told). Appends old new v.written) (sym e) (Appends-trans old now new w [] p q), ap (λ (v : Told). v.fault) e)
 
 -- what a line wrote, and where the script then stands
-pub IsOkAnd-parts : (out : Outcome) (P : List ℕ × State → Type 0) → IsOkAnd out P → (p : List ℕ × State) × (out ≡ Ok p) × P p
+IsOkAnd-parts : (out : Outcome) (P : List ℕ × State → Type 0) → IsOkAnd out P → (p : List ℕ × State) × (out ≡ Ok p) × P p
 IsOkAnd-parts (Ok p) P h = (p, refl, h)
 IsOkAnd-parts (Err f) P h = absurd h
-
--- the first bytes of two texts, within the first
-take-front : (p r : List ℕ) (n : ℕ) → take (min n (length p)) (p ++ r) ≡ take n p
-take-front p r n = grind (arith, common_steps)
-
--- all of one text and the first bytes of the next
-append-take_front : (w p r : List ℕ) (n : ℕ) → w ++ take n p ≡ take (length w + min n (length p)) (w ++ (p ++ r))
-append-take_front w p r n = sym (take-append-add w (p ++ r) (min n (length p)) ∙ ap (λ v. w ++ v) (take-front p r n))
-
--- a write fails: a front of the answers is written
-AppendsFront-line : (old now new : Option (List ℕ)) (w : List ℕ) (t : Told) (out : Outcome) (go : State → Told) → Appends old now w → t ≡ prepend w (then_on out go) → IsOkAnd out (λ p. AppendsFront now new p.0) → AppendsFront old new t.written
-AppendsFront-line old now new w t out go a e o =
-    let q : (p : List ℕ × State) × (out ≡ Ok p) × AppendsFront now new p.0 = IsOkAnd-parts out (λ p. AppendsFront now new p.0) o in
-    let r : List ℕ = (go q.0.1).written in
-    let told_is : t.written ≡ w ++ (q.0.0 ++ r) = ap (λ (v : Told). v.written) (e ∙ ap (λ (v : Outcome). prepend w (then_on v go)) q.1) in (
-      length w + min q.2.0 (length q.0.0),
-      subst (λ (v : List ℕ). Appends old new v) (append-take_front w q.0.0 r q.2.0 ∙ sym (ap (take (length w + min q.2.0 (length q.0.0))) told_is)) (Appends-more old now new w (take q.2.0 q.0.0) a q.2.1),
-    )
-
--- a line's fault
-pub Tells-fault : (number room : ℕ) (opened : Option Contents) (old now new : Option (List ℕ)) (t0 t : List ℕ) (left : Option (List ℕ)) (out : Outcome) (go : State → Told) (f : ScriptFault) (g : Going number room opened old now t0 t) → told_from at_end g.state number room t ≡ then_on out go → OnFault out now new f → (f ≡ faults.Memory → g.state ≡ Start) → Tells t0 left old new (Err f)
-Tells-fault number room opened old now new t0 t left out go faults.NoHeader g e o m = absurd o
-Tells-fault number room opened old now new t0 t left out go (faults.BadLine n) g e o m =
-    Whole-fault old now new g.written (told at_end t0) (faults.BadLine n) g.appends o.1 (told-rest number room opened old now t0 t g at_end ∙ ap (prepend g.written) (e ∙ ap (λ (v : Outcome). then_on v go) o.0))
-Tells-fault number room opened old now new t0 t left out go (faults.BadHeader n) g e o m =
-    Whole-fault old now new g.written (told at_end t0) (faults.BadHeader n) g.appends o.1 (told-rest number room opened old now t0 t g at_end ∙ ap (prepend g.written) (e ∙ ap (λ (v : Outcome). then_on v go) o.0))
-Tells-fault number room opened old now new t0 t left out go faults.ReadFault g e o m = absurd o
-Tells-fault number room opened old now new t0 t left out go faults.WriteFault g e o m =
-    AppendsFront-line old now new g.written (told at_end t0) out go g.appends (told-rest number room opened old now t0 t g at_end ∙ ap (prepend g.written) e) o
-Tells-fault number room opened old now new t0 t left out go faults.Memory g e o m =
-    Appends-more old now new [] [] (subst (λ (v : List ℕ). Appends old now v) (g.fresh (m refl)) g.appends) o
-Tells-fault number room opened old now new t0 t left out go (faults.LineTooLong n) g e o m = absurd o
-Tells-fault number room opened old now new t0 t left out go faults.TooMuch g e o m = absurd o
 
 -- two texts before what is told
 prepend-prepend : (w p : List ℕ) (t : Told) → prepend w (prepend p t) ≡ prepend (w ++ p) t
 prepend-prepend w p t = ap (λ (v : List ℕ). record { written = v; fault = t.fault }) (sym (append_assoc w p t.written))
 
--- no line leads back to the start
-Stands-start : (o : Option Contents) (s : State) → Stands o s → s ≡ Start → o ≡ None
-Stands-start None s h e = refl
-Stands-start (Some b) Start h e = absurd h
-Stands-start (Some b) (Running h) st e = cc
+-- all of one text and a prefix of the next
+append-take_prefix : (w p r : List ℕ) (n : ℕ) → n ≤ length p → w ++ take n p ≡ take (length w + n) (w ++ (p ++ r))
+append-take_prefix w p r n h = sym (take-append-add w (p ++ r) n ∙ ap (λ v. w ++ v) (take-append-le n p r h))
 
--- a whole line is answered
-pub Going-line : (number room : ℕ) (opened : Option Contents) (d : Contents) (old now new : Option (List ℕ)) (t0 t l x : List ℕ) (g : Going number room opened old now t0 t) → NoNewline l → length l ≤ 256 → length l < room → t ≡ l ++ 10 ∷ x → IsOkAnd (one_line g.state number l) (λ p. Appends now new p.0 × Stands (Some d) p.1) → Going (number + 1) (room - (length l + 1)) (Some d) old new t0 x
-Going-line number room opened d old now new t0 t l x g n h r e o =
-    let q : (p : List ℕ × State) × (one_line g.state number l ≡ Ok p) × (Appends now new p.0 × Stands (Some d) p.1) = IsOkAnd-parts _ (λ p. Appends now new p.0 × Stands (Some d) p.1) o in
-    record {
-      state = q.0.1;
-      written = g.written ++ q.0.0;
-      read = g.read ++ (l ++ 10 ∷ []);
-      whole = g.whole ∙ ap (λ v. g.read ++ v) (e ∙ sym (append_assoc l (10 ∷ []) x)) ∙ sym (append_assoc g.read (l ++ 10 ∷ []) x);
-      stands = q.2.1;
-      appends = Appends-more old now new g.written q.0.0 g.appends q.2.0;
-      goes = λ f y.
-          ap (told f) (append_assoc g.read (l ++ 10 ∷ []) y ∙ ap (λ v. g.read ++ v) (append_assoc l (10 ∷ []) y))
-          ∙ g.goes f (l ++ 10 ∷ y)
-          ∙ ap (prepend g.written) (told_from-line f g.state number room l y n h r ∙ ap (λ (v : Outcome). then_on v (λ s. told_from f s (number + 1) (room - (length l + 1)) y)) q.1)
-          ∙ prepend-prepend g.written q.0.0 (told_from f q.0.1 (number + 1) (room - (length l + 1)) y);
-      fresh = λ z. let bad : Some d ≡ None = Stands-start (Some d) q.0.1 q.2.1 z in absurd (cc);
-    }
+-- the bytes behind the first n
+drop-read : (n : ℕ) (p x : List ℕ) → length p ≡ n → drop n (p ++ x) ≡ x
+drop-read n p x h = subst (λ (m : ℕ). drop m (p ++ x) ≡ x) h (drop-append_seam p x)
+
+-- a state in which there is a book isn't the first
+IsAt-start : (o : Option Contents) (s : State) → IsAt o s → s ≡ Start → o ≡ None
+IsAt-start None s h e = refl
+IsAt-start (Some b) Start h e = absurd h
+IsAt-start (Some b) (Running h) st e = cc
 
 -- the last line, where it isn't empty
 at_end-some : (s : State) (i : ℕ) (l : List ℕ) → (l ≡ [] → ⊥) → at_end s i l ≡ then_on (one_line s i l) (λ _. done)
 at_end-some s i [] n = absurd (n refl)
 at_end-some s i (b ∷ bs) n = refl
 
--- what the last line is told
-pub told_from-last : (s : State) (number room : ℕ) (t l : List ℕ) → NoNewline l → length l ≤ 256 → length l ≤ room → t ≡ l → (l ≡ [] → ⊥) → told_from at_end s number room t ≡ then_on (one_line s number l) (λ _. done)
-told_from-last s number room t l n h r e z = ap (told_from at_end s number room) e ∙ told_from-end at_end s number room l n h r ∙ at_end-some s number l z
+module _ (number room : ℕ) (opened : Option Contents) (old now : Option (List ℕ)) (t0 t : List ℕ) (g : Going number room opened old now t0 t) where
+  -- the rest of what is told, from where the run is
+  told-rest : (e : Ending) → told e t0 ≡ prepend g.written (told_from e g.state number room t)
+  told-rest e = ap (told e) g.whole ∙ g.goes e t
 
--- the last line is answered
-pub Tells-end : (number room : ℕ) (opened : Option Contents) (old now new : Option (List ℕ)) (t0 t : List ℕ) (left : Option (List ℕ)) (out : Outcome) (P : State → Type 0) (g : Going number room opened old now t0 t) → told_from at_end g.state number room t ≡ then_on out (λ _. done) → IsOkAnd out (λ p. Appends now new p.0 × P p.1) → Tells t0 left old new (Ok tt)
-Tells-end number room opened old now new t0 t left out P g e o =
-    let q : (p : List ℕ × State) × (out ≡ Ok p) × (Appends now new p.0 × P p.1) = IsOkAnd-parts out (λ p. Appends now new p.0 × P p.1) o in
-    let all : told at_end t0 ≡ prepend g.written (prepend q.0.0 done) = told-rest number room opened old now t0 t g at_end ∙ ap (prepend g.written) (e ∙ ap (λ (v : Outcome). then_on v (λ _. done)) q.1) in (
-      subst (λ (v : List ℕ). Appends old new v) (ap (λ v. g.written ++ v) (sym (append-nil q.0.0)) ∙ sym (ap (λ (v : Told). v.written) all)) (Appends-more old now new g.written q.0.0 g.appends q.2.0),
-      ap (λ (v : Told). v.fault) all,
-    )
+  -- a fault is told, and nothing more is written
+  Whole-stop : (new : Option (List ℕ)) (f : ScriptFault) → Appends now new []
+      → told_from at_end g.state number room t ≡ stop f → Whole (told at_end t0) old new (Some f)
+  Whole-stop new f a e =
+      Whole-fault old now new g.written (told at_end t0) f g.appends a (told-rest at_end ∙ ap (prepend g.written) e)
 
--- nothing follows the last whole line
-told_from-nothing : (s : State) (number room : ℕ) (t : List ℕ) → t ≡ [] → told_from at_end s number room t ≡ at_end s number []
-told_from-nothing s number room t e = ap (told_from at_end s number room) e ∙ told_from-end at_end s number room [] (λ k d h. absurd (omega arith)) (omega arith) (omega arith)
+  -- what follows the line at hand and its end
+  behind-line : (l x : List ℕ) → NoNewline l → t ≡ l ++ 10 ∷ x → x ≡ after_lines (suc g.lines) t0
+  behind-line l x n e = sym (ap (drop_through 10) (sym g.behind ∙ e) ∙ drop_through-line l x n)
 
--- the input is empty
-pub Tells-no_header : (number room : ℕ) (opened : Option Contents) (old now : Option (List ℕ)) (t0 t : List ℕ) (left : Option (List ℕ)) → Going number room opened old now t0 t → t ≡ [] → eqb number 1 ≡ true → Tells t0 left old now (Err faults.NoHeader)
-Tells-no_header number room opened old now t0 t left g e h =
-    Whole-fault old now now g.written (told at_end t0) faults.NoHeader g.appends (Appends-none now)
-    (told-rest number room opened old now t0 t g at_end ∙ ap (prepend g.written) (told_from-nothing g.state number room t e ∙ ap (λ b. cond b (stop faults.NoHeader) done) h))
+  behind-last : (l x : List ℕ) → NoNewline l → t ≡ l → x ≡ [] → x ≡ after_lines (suc g.lines) t0
+  behind-last l x n e z = z ∙ sym (ap (drop_through 10) (sym g.behind ∙ e) ∙ drop_through-last l n)
 
--- the input ends after a whole line
-pub Tells-done : (number room : ℕ) (opened : Option Contents) (old now : Option (List ℕ)) (t0 t : List ℕ) (left : Option (List ℕ)) → Going number room opened old now t0 t → t ≡ [] → eqb number 1 ≡ false → Tells t0 left old now (Ok tt)
-Tells-done number room opened old now t0 t left g e h =
-    let all : told at_end t0 ≡ prepend g.written done = told-rest number room opened old now t0 t g at_end ∙ ap (prepend g.written) (told_from-nothing g.state number room t e ∙ ap (λ b. cond b (stop faults.NoHeader) done) h) in
-    (subst (λ (v : List ℕ). Appends old now v) (sym (append-nil g.written) ∙ sym (ap (λ (v : Told). v.written) all)) g.appends, ap (λ (v : Told). v.fault) all)
+  -- what the lines before were answered
+  told-before : (told at_cut g.read).written ≡ g.written
+  told-before =
+      let none : told_from at_cut g.state number room [] ≡ stop faults.ReadFault = told_from-end at_cut g.state number room [] (λ k d h. absurd (omega arith)) (omega arith) (omega arith) in
+      let all : told at_cut g.read ≡ prepend g.written (stop faults.ReadFault) = ap (told at_cut) (sym (append-nil g.read)) ∙ g.goes at_cut [] ∙ ap (prepend g.written) none in
+      ap (λ (v : Told). v.written) all ∙ append-nil g.written
 
--- what holds of the known bytes of a reader, after one more read
-pub after : (k0 k m : Option (List ℕ)) (P Q : List ℕ → List ℕ → Type 0) (T : List ℕ → Type 0) → ((t0 t x : List ℕ) → m ≡ Some x → P t0 t → Q t x → T t0) → Reads k0 k P → Reads k m Q → IfSome k0 T
-after None k m P Q T f p q = tt
-after (Some t0) None m P Q T f p q = absurd p
-after (Some t0) (Some t) None P Q T f p q = absurd q
-after (Some t0) (Some t) (Some x) P Q T f p q = f t0 t x refl p q
+  -- the line was too long
+  Tells-long_line : (l x : List ℕ) (b : ℕ) → NoNewline l → b ≢ 10 → length l ≡ LONGEST_LINE → LONGEST_LINE < room → t ≡ l ++ b ∷ x
+      → Tells t0 x old now (Err (faults.LineTooLong number))
+  Tells-long_line l x b n d h r e =
+      let line : number - 1 ≡ g.lines = omega (arith, g.numbered) in
+      let bytes : after_lines (number - 1) t0 ≡ (l ++ b ∷ []) ++ x =
+          ap (λ i. after_lines i t0) line ∙ sym g.behind ∙ e ∙ sym (append_assoc l (b ∷ []) x) in (
+        Whole-stop now (faults.LineTooLong number) (Appends-nil now)
+        (ap (told_from at_end g.state number room) e ∙ told_from-long_line at_end g.state number room l b x n d h r),
+        sym (ap (drop 257) bytes ∙ drop-read 257 (l ++ b ∷ []) x (omega (arith, length-append l (b ∷ []), h))),
+      )
 
--- before the first read
-pub Reads-start : (k old : Option (List ℕ)) → Reads k k (Going 1 1048576 None old old)
+  -- a byte past the limit
+  Tells-past_limit : (l x : List ℕ) (b : ℕ) → NoNewline l → length l ≤ LONGEST_LINE → length l ≡ room → t ≡ l ++ b ∷ x
+      → Tells t0 x old now (Err faults.TooMuch)
+  Tells-past_limit l x b n h r e =
+      let front : List ℕ = g.read ++ (l ++ b ∷ []) in
+      let bytes : t0 ≡ front ++ x =
+          g.whole ∙ ap (λ v. g.read ++ v) (e ∙ sym (append_assoc l (b ∷ []) x)) ∙ sym (append_assoc g.read (l ++ b ∷ []) x) in
+      let count : length front ≡ MOST_BYTES + 1 =
+          omega (arith, length-append g.read (l ++ b ∷ []), length-append l (b ∷ []), g.counted, r) in (
+        Whole-stop now faults.TooMuch (Appends-nil now)
+        (ap (told_from at_end g.state number room) e ∙ told_from-past_limit at_end g.state number room l b x n h r),
+        sym (ap (drop (MOST_BYTES + 1)) bytes ∙ drop-read (MOST_BYTES + 1) front x count),
+      )
+
+  -- a read failed
+  Tells-cut : (l x : List ℕ) → NoNewline l → length l ≤ LONGEST_LINE → length l ≤ room → t ≡ l ++ x
+      → Tells t0 x old now (Err faults.ReadFault)
+  Tells-cut l x n h r e =
+      let bytes : t0 ≡ (g.read ++ l) ++ x = g.whole ∙ ap (λ v. g.read ++ v) e ∙ sym (append_assoc g.read l x) in
+      let fault : told at_cut (g.read ++ l) ≡ prepend g.written (stop faults.ReadFault) =
+          g.goes at_cut l ∙ ap (prepend g.written) (told_from-end at_cut g.state number room l n h r) in (
+        (g.read ++ l, bytes, Whole-fault old now now g.written (told at_cut (g.read ++ l)) faults.ReadFault g.appends (Appends-nil now) fault),
+        (g.read ++ l, bytes),
+      )
+
+  -- a write fails in the middle of a line's answer
+  Tells-break : (new : Option (List ℕ)) (x : List ℕ) (out : Outcome) (go : State → Told)
+      → told_from at_end g.state number room t ≡ then_on out go → x ≡ after_lines (suc g.lines) t0
+      → IsOkAnd out (λ p. AppendsPrefix now new p.0) → Tells t0 x old new (Err faults.WriteFault)
+  Tells-break new x out go e b o =
+      let q : (p : List ℕ × State) × (out ≡ Ok p) × AppendsPrefix now new p.0 = IsOkAnd-parts out (λ p. AppendsPrefix now new p.0) o in
+      let w : List ℕ = g.written in
+      let p : List ℕ = q.0.0 in
+      let r : List ℕ = (go q.0.1).written in
+      let n : ℕ = q.2.0 in
+      let all : (told at_end t0).written ≡ w ++ (p ++ r) =
+          ap (λ (v : Told). v.written) (told-rest at_end ∙ ap (prepend w) (e ∙ ap (λ (v : Outcome). then_on v go) q.1)) in
+      let some : take (length w + n) (told at_end t0).written ≡ w ++ take n p =
+          ap (take (length w + n)) all ∙ sym (append-take_prefix w p r n (omega (arith, q.2.1))) in (
+        (g.lines, (
+          g.read,
+          length w + n,
+          g.whole ∙ ap (λ v. g.read ++ v) g.behind,
+          b,
+          omega (arith, ap length told-before),
+          omega (arith, ap length all, length-append w (p ++ r), length-append p r, q.2.1),
+          subst (λ (v : List ℕ). Appends old new v) (sym some) (Appends-trans old now new w (take n p) g.appends q.2.2),
+        )),
+        (suc g.lines, b),
+      )
+
+  -- a line's fault
+  Tells-fault : (new : Option (List ℕ)) (l x : List ℕ) (go : State → Told) (f : ScriptFault)
+      → told_from at_end g.state number room t ≡ then_on (one_line g.state number l) go → x ≡ after_lines (suc g.lines) t0
+      → OnFault (one_line g.state number l) now new f → (f ≡ faults.Memory → g.state ≡ Start) → Tells t0 x old new (Err f)
+  Tells-fault new l x go faults.NoHeader e b o m = absurd o
+  Tells-fault new l x go (faults.BadLine i) e b o m = (
+    Whole-stop new (faults.BadLine i) o.1 (e ∙ ap (λ (v : Outcome). then_on v go) o.0),
+    b ∙ ap (λ n. after_lines n t0) (sym g.numbered ∙ sym (one_line-number g.state number l (faults.BadLine i) o.0)),
+  )
+  Tells-fault new l x go (faults.BadHeader i) e b o m = (
+    Whole-stop new (faults.BadHeader i) o.1 (e ∙ ap (λ (v : Outcome). then_on v go) o.0),
+    b ∙ ap (λ n. after_lines n t0) (sym g.numbered ∙ sym (one_line-number g.state number l (faults.BadHeader i) o.0)),
+  )
+  Tells-fault new l x go faults.ReadFault e b o m = absurd o
+  Tells-fault new l x go faults.WriteFault e b o m = Tells-break new x (one_line g.state number l) go e b o
+  Tells-fault new l x go faults.Memory e b o m = (
+    Appends-trans old now new [] [] (subst (λ (v : List ℕ). Appends old now v) (g.fresh (m refl)).0 g.appends) o,
+    b ∙ ap (λ n. after_lines (suc n) t0) (g.fresh (m refl)).1,
+  )
+  Tells-fault new l x go (faults.LineTooLong i) e b o m = absurd o
+  Tells-fault new l x go faults.TooMuch e b o m = absurd o
+
+  -- the last line is answered
+  Tells-end : (new : Option (List ℕ)) (x : List ℕ) (out : Outcome) (P : State → Type 0)
+      → told_from at_end g.state number room t ≡ then_on out (λ _. done) → x ≡ [] → IsOkAnd out (λ p. Appends now new p.0 × P p.1)
+      → Tells t0 x old new (Ok tt)
+  Tells-end new x out P e z o =
+      let q : (p : List ℕ × State) × (out ≡ Ok p) × (Appends now new p.0 × P p.1) = IsOkAnd-parts out (λ p. Appends now new p.0 × P p.1) o in
+      let all : told at_end t0 ≡ prepend g.written (prepend q.0.0 done) =
+          told-rest at_end ∙ ap (prepend g.written) (e ∙ ap (λ (v : Outcome). then_on v (λ _. done)) q.1) in
+      let text : g.written ++ q.0.0 ≡ (told at_end t0).written =
+          ap (λ v. g.written ++ v) (sym (append-nil q.0.0)) ∙ sym (ap (λ (v : Told). v.written) all) in (
+        (subst (λ (v : List ℕ). Appends old new v) text (Appends-trans old now new g.written q.0.0 g.appends q.2.0), ap (λ (v : Told). v.fault) all),
+        z,
+      )
+
+  -- nothing follows the last whole line
+  told_from-nothing : t ≡ [] → told_from at_end g.state number room t ≡ cond (eqb number 1) (stop faults.NoHeader) done
+  told_from-nothing e =
+      ap (told_from at_end g.state number room) e
+      ∙ told_from-end at_end g.state number room [] (λ k d h. absurd (omega arith)) (omega arith) (omega arith)
+
+  -- the input is empty
+  Tells-no_header : (x : List ℕ) → t ≡ [] → x ≡ [] → number ≡ 1 → Tells t0 x old now (Err faults.NoHeader)
+  Tells-no_header x e z n =
+      let test : eqb number 1 ≡ true = grind (arith, nat_tests) in
+      (Whole-stop now faults.NoHeader (Appends-nil now) (told_from-nothing e ∙ ap (λ b. cond b (stop faults.NoHeader) done) test), z)
+
+  -- the input ends after a whole line
+  Tells-done : (x : List ℕ) → t ≡ [] → x ≡ [] → (number ≡ 1 → ⊥) → Tells t0 x old now (Ok tt)
+  Tells-done x e z n =
+      let rest : told_from at_end g.state number room t ≡ done =
+          told_from-nothing e ∙ ap (λ b. cond b (stop faults.NoHeader) done) (ne_eqb number 1 n) in
+      let all : told at_end t0 ≡ prepend g.written done = told-rest at_end ∙ ap (prepend g.written) rest in
+      let text : g.written ≡ (told at_end t0).written = sym (append-nil g.written) ∙ sym (ap (λ (v : Told). v.written) all) in
+      ((subst (λ (v : List ℕ). Appends old now v) text g.appends, ap (λ (v : Told). v.fault) all), z)
+
+  -- a whole line is answered
+  Going-line : (d : Contents) (new : Option (List ℕ)) (l x : List ℕ) → NoNewline l → length l ≤ LONGEST_LINE → length l < room → t ≡ l ++ 10 ∷ x
+      → IsOkAnd (one_line g.state number l) (λ p. Appends now new p.0 × IsAt (Some d) p.1)
+      → Going (number + 1) (room - (length l + 1)) (Some d) old new t0 x
+  Going-line d new l x n h r e o =
+      let q : (p : List ℕ × State) × (one_line g.state number l ≡ Ok p) × (Appends now new p.0 × IsAt (Some d) p.1) =
+          IsOkAnd-parts _ (λ p. Appends now new p.0 × IsAt (Some d) p.1) o in
+      let line : List ℕ = l ++ 10 ∷ [] in
+      record {
+        state = q.0.1;
+        written = g.written ++ q.0.0;
+        read = g.read ++ line;
+        lines = suc g.lines;
+        whole = g.whole ∙ ap (λ v. g.read ++ v) (e ∙ sym (append_assoc l (10 ∷ []) x)) ∙ sym (append_assoc g.read line x);
+        at = q.2.1;
+        appends = Appends-trans old now new g.written q.0.0 g.appends q.2.0;
+        goes = λ f y.
+            ap (told f) (append_assoc g.read line y ∙ ap (λ v. g.read ++ v) (append_assoc l (10 ∷ []) y))
+            ∙ g.goes f (l ++ 10 ∷ y)
+            ∙ ap (prepend g.written) (told_from-line f g.state number room l y n h r
+                ∙ ap (λ (v : Outcome). then_on v (λ s. told_from f s (number + 1) (room - (length l + 1)) y)) q.1)
+            ∙ prepend-prepend g.written q.0.0 (told_from f q.0.1 (number + 1) (room - (length l + 1)) y);
+        fresh = λ z. let bad : Some d ≡ None = IsAt-start (Some d) q.0.1 q.2.1 z in absurd (cc);
+        numbered = omega (arith, g.numbered);
+        behind = behind-line l x n e;
+        counted = omega (arith, length-append g.read line, length-append l (10 ∷ []), g.counted, r);
+      }
+
+-- where a reader's bytes are known, the run is so far: of k0 it had, k is left
+pub record Known (k0 k old now : Option (List ℕ)) (number room : ℕ) (opened : Option Contents) : Type 0 where
+  pub goes : Reads k0 k (Going number room opened old now)
+
+Reads-start : (k old : Option (List ℕ)) → Reads k k (Going 1 MOST_BYTES None old old)
 Reads-start None old = tt
 Reads-start (Some t) old = Going-start old t
 
--- The ways out of the loop, and its turn. Of the input k0 a reader had k left at the loop's head, and has m left now.
-module _ (k0 k m old now : Option (List ℕ)) (number room : ℕ) (opened : Option Contents) (l : List ℕ) (h : Reads k0 k (Going number room opened old now)) (one : NoNewline l) (short : length l ≤ 256) where
-  pub exit_failed : (f : LineFault) → f ≡ why.Failed → Reads k m (ReadsLine room l (Err f)) → IsLineFor room l (Err f) → IfSome k0 (λ text. Tells text m old now (Err faults.ReadFault))
-  exit_failed f e r s =
-      let fits : length l ≤ room = subst (λ (v : LineFault). IsLineFor room l (Err v)) e s in
-      after k0 k m (Going number room opened old now) (ReadsLine room l (Err why.Failed)) (λ text. Tells text m old now (Err faults.ReadFault))
-      (λ t0 t x q g p. subst (λ (v : Option (List ℕ)). Tells t0 v old now (Err faults.ReadFault)) (sym q) (Tells-cut number room opened old now t0 t l x g one short fits p))
-      h (subst (λ (v : LineFault). Reads k m (ReadsLine room l (Err v))) e r)
+-- before the first read
+pub Known-start : (k old : Option (List ℕ)) → Known k k old old 1 MOST_BYTES None
+Known-start k old = record { goes = Reads-start k old }
 
-  pub exit_long : (f : LineFault) → f ≡ why.TooLong → Reads k m (ReadsLine room l (Err f)) → IsLineFor room l (Err f) → IfSome k0 (λ text. Tells text m old now (Err (faults.LineTooLong number)))
+-- a verdict tells two things: what is written, and what is read
+pub Reads-map : (k m : Option (List ℕ)) (P Q : List ℕ → List ℕ → Type 0) → ((t x : List ℕ) → P t x → Q t x) → Reads k m P → Reads k m Q
+Reads-map None m P Q f p = tt
+Reads-map (Some t) None P Q f p = absurd p
+Reads-map (Some t) (Some x) P Q f p = f t x p
+
+-- The ways out of the loop, and its turn: a line l was read, and m is left.
+module _ {k0 k old now : Option (List ℕ)} {number room : ℕ} {opened : Option Contents} (h : Known k0 k old now number room opened) (m : Option (List ℕ)) (l : List ℕ) (one : NoNewline l) (short : length l ≤ LONGEST_LINE) (within : length l ≤ room) where
+  pub exit_failed : (f : LineFault) → f ≡ why.Failed → Reads k m (ReadsLine l (Err f))
+      → Reads k0 m (λ text left. Tells text left old now (Err faults.ReadFault))
+  exit_failed f e r =
+      Reads-trans k0 k m (Going number room opened old now) (ReadsLine l (Err f)) (λ text left. Tells text left old now (Err faults.ReadFault))
+      (λ t0 t x g p. Tells-cut number room opened old now t0 t g l x one short within (subst (λ (v : LineFault). ReadsLine l (Err v) t x) e p))
+      h.goes r
+
+  pub exit_long : (f : LineFault) → f ≡ why.TooLong → Reads k m (ReadsLine l (Err f)) → IsLineFor room l (Err f)
+      → Reads k0 m (λ text left. Tells text left old now (Err (faults.LineTooLong number)))
   exit_long f e r s =
-      let fits : (length l ≡ 256) × (256 < room) = subst (λ (v : LineFault). IsLineFor room l (Err v)) e s in
-      after k0 k m (Going number room opened old now) (ReadsLine room l (Err why.TooLong)) (λ text. Tells text m old now (Err (faults.LineTooLong number)))
-      (λ t0 t x q g p. Tells-long_line number room opened old now t0 t l x m p.0 g one p.1 fits.0 fits.1 p.2)
-      h (subst (λ (v : LineFault). Reads k m (ReadsLine room l (Err v))) e r)
+      let fits : (length l ≡ LONGEST_LINE) × (LONGEST_LINE < room) = subst (λ (v : LineFault). IsLineFor room l (Err v)) e s in
+      Reads-trans k0 k m (Going number room opened old now) (ReadsLine l (Err f)) (λ text left. Tells text left old now (Err (faults.LineTooLong number)))
+      (λ t0 t x g p.
+          let b : (b : ℕ) × (b ≢ 10) × (t ≡ l ++ b ∷ x) = subst (λ (v : LineFault). ReadsLine l (Err v) t x) e p in
+          Tells-long_line number room opened old now t0 t g l x b.0 one b.1 fits.0 fits.1 b.2)
+      h.goes r
 
-  pub exit_much : (f : LineFault) → f ≡ why.TooMuch → Reads k m (ReadsLine room l (Err f)) → IsLineFor room l (Err f) → IfSome k0 (λ text. Tells text m old now (Err faults.TooMuch))
+  pub exit_much : (f : LineFault) → f ≡ why.TooMuch → Reads k m (ReadsLine l (Err f)) → IsLineFor room l (Err f)
+      → Reads k0 m (λ text left. Tells text left old now (Err faults.TooMuch))
   exit_much f e r s =
       let fits : length l ≡ room = subst (λ (v : LineFault). IsLineFor room l (Err v)) e s in
-      after k0 k m (Going number room opened old now) (ReadsLine room l (Err why.TooMuch)) (λ text. Tells text m old now (Err faults.TooMuch))
-      (λ t0 t x q g p. Tells-past_limit number room opened old now t0 t l x m p.0 g one short fits p.1)
-      h (subst (λ (v : LineFault). Reads k m (ReadsLine room l (Err v))) e r)
+      Reads-trans k0 k m (Going number room opened old now) (ReadsLine l (Err f)) (λ text left. Tells text left old now (Err faults.TooMuch))
+      (λ t0 t x g p.
+          let b : (b : ℕ) × (t ≡ l ++ b ∷ x) = subst (λ (v : LineFault). ReadsLine l (Err v) t x) e p in
+          Tells-past_limit number room opened old now t0 t g l x b.0 one short fits b.1)
+      h.goes r
 
-  last_line : (n : Option (List ℕ)) (d : Option Contents) (res : Result (Unit {0}) ScriptFault) (t0 t : List ℕ) → (g : Going number room opened old now t0 t) → length l ≤ room → t ≡ l → (l ≡ [] → ⊥) → Follows (one_line g.state number l) now n d res → (res ≡ Err faults.Memory → g.state ≡ Start) → Tells t0 m old n res
-  last_line n d (Ok tt) t0 t g s e z o c = Tells-end number room opened old now n t0 t m (one_line g.state number l) (Stands d) g (told_from-last g.state number room t l one short s e z) o
-  last_line n d (Err f) t0 t g s e z o c = Tells-fault number room opened old now n t0 t m (one_line g.state number l) (λ _. done) f g (told_from-last g.state number room t l one short s e z) o (λ q. c (ap Err q))
-
-  pub exit_last : (n : Option (List ℕ)) (d : Option Contents) (res : Result (Unit {0}) ScriptFault) (f : Ended) → f ≡ how.Last → Reads k m (ReadsLine room l (Ok f)) → IsLineFor room l (Ok f) → (l ≡ [] → ⊥) → ((s : State) → Stands opened s → Follows (one_line s number l) now n d res) → ((s : State) → Stands opened s → res ≡ Err faults.Memory → s ≡ Start) → IfSome k0 (λ text. Tells text m old n res)
-  exit_last n d res f e r s z o c =
-      let fits : length l ≤ room = subst (λ (v : Ended). IsLineFor room l (Ok v)) e s in
-      after k0 k m (Going number room opened old now) (ReadsLine room l (Ok how.Last)) (λ text. Tells text m old n res)
-      (λ t0 t x q g p. last_line n d res t0 t g fits p.0 z (o g.state g.stands) (c g.state g.stands))
-      h (subst (λ (v : Ended). Reads k m (ReadsLine room l (Ok v))) e r)
-
-  pub exit_empty : (f : Ended) → f ≡ how.Last → Reads k m (ReadsLine room l (Ok f)) → l ≡ [] → number ≡ 1 → IfSome k0 (λ text. Tells text m old now (Err faults.NoHeader))
+  pub exit_empty : (f : Ended) → f ≡ how.Last → Reads k m (ReadsLine l (Ok f)) → l ≡ [] → number ≡ 1
+      → Reads k0 m (λ text left. Tells text left old now (Err faults.NoHeader))
   exit_empty f e r z n =
-      let test : eqb number 1 ≡ true = nat_eq-true number 1 n in
-      after k0 k m (Going number room opened old now) (ReadsLine room l (Ok how.Last)) (λ text. Tells text m old now (Err faults.NoHeader))
-      (λ t0 t x q g p. Tells-no_header number room opened old now t0 t m g (p.0 ∙ z) test)
-      h (subst (λ (v : Ended). Reads k m (ReadsLine room l (Ok v))) e r)
+      Reads-trans k0 k m (Going number room opened old now) (ReadsLine l (Ok f)) (λ text left. Tells text left old now (Err faults.NoHeader))
+      (λ t0 t x g p.
+          let b : (t ≡ l) × (x ≡ []) = subst (λ (v : Ended). ReadsLine l (Ok v) t x) e p in
+          Tells-no_header number room opened old now t0 t g x (b.0 ∙ z) b.1 n)
+      h.goes r
 
-  pub exit_done : (f : Ended) → f ≡ how.Last → Reads k m (ReadsLine room l (Ok f)) → l ≡ [] → (number ≡ 1 → ⊥) → IfSome k0 (λ text. Tells text m old now (Ok tt))
+  pub exit_done : (f : Ended) → f ≡ how.Last → Reads k m (ReadsLine l (Ok f)) → l ≡ [] → (number ≡ 1 → ⊥)
+      → Reads k0 m (λ text left. Tells text left old now (Ok tt))
   exit_done f e r z n =
-      let test : eqb number 1 ≡ false = nat_eq-false number 1 n in
-      after k0 k m (Going number room opened old now) (ReadsLine room l (Ok how.Last)) (λ text. Tells text m old now (Ok tt))
-      (λ t0 t x q g p. Tells-done number room opened old now t0 t m g (p.0 ∙ z) test)
-      h (subst (λ (v : Ended). Reads k m (ReadsLine room l (Ok v))) e r)
+      Reads-trans k0 k m (Going number room opened old now) (ReadsLine l (Ok f)) (λ text left. Tells text left old now (Ok tt))
+      (λ t0 t x g p.
+          let b : (t ≡ l) × (x ≡ []) = subst (λ (v : Ended). ReadsLine l (Ok v) t x) e p in
+          Tells-done number room opened old now t0 t g x (b.0 ∙ z) b.1 n)
+      h.goes r
 
-  pub exit_fault : (n : Option (List ℕ)) (bad : ScriptFault) (f : Ended) → f ≡ how.Line → Reads k m (ReadsLine room l (Ok f)) → IsLineFor room l (Ok f) → ((s : State) → Stands opened s → OnFault (one_line s number l) now n bad) → ((s : State) → Stands opened s → bad ≡ faults.Memory → s ≡ Start) → IfSome k0 (λ text. Tells text m old n (Err bad))
-  exit_fault n bad f e r s o c =
-      let fits : length l < room = subst (λ (v : Ended). IsLineFor room l (Ok v)) e s in
-      after k0 k m (Going number room opened old now) (ReadsLine room l (Ok how.Line)) (λ text. Tells text m old n (Err bad))
-      (λ t0 t x q g p. Tells-fault number room opened old now n t0 t m (one_line g.state number l) (λ v. told_from at_end v (number + 1) (room - (length l + 1)) x) bad g
-      (ap (told_from at_end g.state number room) p ∙ told_from-line at_end g.state number room l x one short fits) (o g.state g.stands) (c g.state g.stands))
-      h (subst (λ (v : Ended). Reads k m (ReadsLine room l (Ok v))) e r)
+  -- what the last line is told
+  told_from-last : (s : State) (t : List ℕ) → t ≡ l → (l ≡ [] → ⊥) → told_from at_end s number room t ≡ then_on (one_line s number l) (λ _. done)
+  told_from-last s t e z =
+      ap (told_from at_end s number room) e ∙ told_from-end at_end s number room l one short within ∙ at_end-some s number l z
 
-  Going-next : (n : Option (List ℕ)) (d : Option Contents) (t0 t x : List ℕ) → (d ≡ None → ⊥) → (g : Going number room opened old now t0 t) → length l < room → t ≡ l ++ 10 ∷ x → IsOkAnd (one_line g.state number l) (λ p. Appends now n p.0 × Stands d p.1) → Going (number + 1) (room - (length l + 1)) d old n t0 x
+  last_line : (n : Option (List ℕ)) (d : Option Contents) (res : Result (Unit {0}) ScriptFault) (t0 t x : List ℕ)
+      → (g : Going number room opened old now t0 t) → t ≡ l → x ≡ [] → (l ≡ [] → ⊥) → Follows (one_line g.state number l) now n d res
+      → (res ≡ Err faults.Memory → g.state ≡ Start) → Tells t0 x old n res
+  last_line n d (Ok tt) t0 t x g e y z o c =
+      Tells-end number room opened old now t0 t g n x (one_line g.state number l) (IsAt d) (told_from-last g.state t e z) y o
+  last_line n d (Err f) t0 t x g e y z o c =
+      Tells-fault number room opened old now t0 t g n l x (λ _. done) f (told_from-last g.state t e z)
+      (behind-last number room opened old now t0 t g l x one e y) o (λ q. c (ap Err q))
+
+  pub exit_last : (n : Option (List ℕ)) (d : Option Contents) (res : Result (Unit {0}) ScriptFault) (f : Ended) (line : List ℕ)
+      → f ≡ how.Last → line ≡ l → Reads k m (ReadsLine l (Ok f)) → (l ≡ [] → ⊥)
+      → ((s : State) → IsAt opened s → Follows (one_line s number line) now n d res)
+      → ((s : State) → IsAt opened s → res ≡ Err faults.Memory → s ≡ Start)
+      → Reads k0 m (λ text left. Tells text left old n res)
+  exit_last n d res f line e i r z o c =
+      Reads-trans k0 k m (Going number room opened old now) (ReadsLine l (Ok f)) (λ text left. Tells text left old n res)
+      (λ t0 t x g p.
+          let b : (t ≡ l) × (x ≡ []) = subst (λ (v : Ended). ReadsLine l (Ok v) t x) e p in
+          last_line n d res t0 t x g b.0 b.1 z (subst (λ (v : List ℕ). Follows (one_line g.state number v) now n d res) i (o g.state g.at)) (c g.state g.at))
+      h.goes r
+
+  pub exit_fault : (n : Option (List ℕ)) (bad : ScriptFault) (f : Ended) (line : List ℕ)
+      → f ≡ how.Line → line ≡ l → Reads k m (ReadsLine l (Ok f)) → length l < room
+      → ((s : State) → IsAt opened s → OnFault (one_line s number line) now n bad)
+      → ((s : State) → IsAt opened s → bad ≡ faults.Memory → s ≡ Start)
+      → Reads k0 m (λ text left. Tells text left old n (Err bad))
+  exit_fault n bad f line e i r fits o c =
+      Reads-trans k0 k m (Going number room opened old now) (ReadsLine l (Ok f)) (λ text left. Tells text left old n (Err bad))
+      (λ t0 t x g p.
+          let b : t ≡ l ++ 10 ∷ x = subst (λ (v : Ended). ReadsLine l (Ok v) t x) e p in
+          Tells-fault number room opened old now t0 t g n l x (λ v. told_from at_end v (number + 1) (room - (length l + 1)) x) bad
+          (ap (told_from at_end g.state number room) b ∙ told_from-line at_end g.state number room l x one short fits)
+          (behind-line number room opened old now t0 t g l x one b)
+          (subst (λ (v : List ℕ). OnFault (one_line g.state number v) now n bad) i (o g.state g.at)) (c g.state g.at))
+      h.goes r
+
+  Going-next : (n : Option (List ℕ)) (d : Option Contents) (t0 t x : List ℕ) → (d ≡ None → ⊥) → (g : Going number room opened old now t0 t)
+      → length l < room → t ≡ l ++ 10 ∷ x → IsOkAnd (one_line g.state number l) (λ p. Appends now n p.0 × IsAt d p.1)
+      → Going (number + 1) (room - (length l + 1)) d old n t0 x
   Going-next n None t0 t x i g r e o = absurd (i refl)
-  Going-next n (Some d) t0 t x i g r e o = Going-line number room opened d old now n t0 t l x g one short r e o
+  Going-next n (Some d) t0 t x i g r e o = Going-line number room opened old now t0 t g d n l x one short r e o
 
-  pub next_line : (n : Option (List ℕ)) (d : Option Contents) (f : Ended) → f ≡ how.Line → (d ≡ None → ⊥) → Reads k m (ReadsLine room l (Ok f)) → IsLineFor room l (Ok f) → ((s : State) → Stands opened s → IsOkAnd (one_line s number l) (λ p. Appends now n p.0 × Stands d p.1)) → Reads k0 m (Going (number + 1) (room - (length l + 1)) d old n)
-  next_line n d f e i r s o =
-      let fits : length l < room = subst (λ (v : Ended). IsLineFor room l (Ok v)) e s in
-      Reads-more k0 k m (Going number room opened old now) (ReadsLine room l (Ok how.Line)) (Going (number + 1) (room - (length l + 1)) d old n)
-      (λ t0 t x g p. Going-next n d t0 t x i g fits p (o g.state g.stands))
-      h (subst (λ (v : Ended). Reads k m (ReadsLine room l (Ok v))) e r)
+  pub next_line : (n : Option (List ℕ)) (d : Option Contents) (f : Ended) (line : List ℕ) (size : ℕ)
+      → f ≡ how.Line → line ≡ l → size ≡ length l → (d ≡ None → ⊥) → Reads k m (ReadsLine l (Ok f)) → length l < room
+      → ((s : State) → IsAt opened s → IsOkAnd (one_line s number line) (λ p. Appends now n p.0 × IsAt d p.1))
+      → Known k0 m old n (number + 1) (room - (size + 1)) d
+  next_line n d f line size e j z i r fits o =
+      let goes : Reads k0 m (Going (number + 1) (room - (length l + 1)) d old n) =
+          Reads-trans k0 k m (Going number room opened old now) (ReadsLine l (Ok f)) (Going (number + 1) (room - (length l + 1)) d old n)
+          (λ t0 t x g p.
+              let b : t ≡ l ++ 10 ∷ x = subst (λ (v : Ended). ReadsLine l (Ok v) t x) e p in
+              Going-next n d t0 t x i g fits b
+              (subst (λ (v : List ℕ). IsOkAnd (one_line g.state number v) (λ p. Appends now n p.0 × IsAt d p.1)) j (o g.state g.at)))
+          h.goes r in
+      record { goes = subst (λ (u : ℕ). Reads k0 m (Going (number + 1) (room - (u + 1)) d old n)) (sym z) goes }

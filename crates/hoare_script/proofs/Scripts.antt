@@ -2,79 +2,104 @@
 use Rattle.std.proofs.Common.{◌≡◌, ◌≢◌, ℕ, suc, ◌+◌, ◌-◌, ◌<◌, ◌≤◌, Bool, true, false, cond, ltb, List, [], ◌∷◌, ◌++◌, length, take, refl, ap, sym, ◌∙◌, append_assoc, length-append, arith}
 use Rattle.std.specs.List.{slice_split, onto_first}
 use Rattle.std.proofs.Math.Seq.{take-append-add, take-append_seam}
+use Rattle.std.proofs.lemmas.Bool.{lt-ltb, le-ltb, ne_eqb}
+use Rattle.std.proofs.lemmas.Bool.Decides.{nat_tests}
+use Rattle.std.proofs.lemmas.List.{take_all}
 use Rattle.std.proofs.lemmas.List.Elements.{All-tail, All-head, All-push}
 use Rattle.std.proofs.lemmas.List.Splits.{slice_split_at, slice_split_none, slice_split-cons_no}
 use Rattle.hoare_script.specs.declared.fault.ScriptFault.TheVariants as faults
-use Rattle.hoare_script.specs.Streams.{NoNewline, is_newline}
+use Rattle.line_text.proofs.Spelling.{slice_split-some}
+use Rattle.line_text.specs.Line.{NoNewline, is_newline}
 use Rattle.hoare_script.specs.Scripts.{State, Ending, stop, one_line, then_on, told_lines, told_from}
-use Rattle.hoare_script.proofs.Numbers.{nat_lt-true, nat_lt-false, nat_lt-same, nat_eq-false}
-use Rattle.hoare_script.proofs.Spelling.{slice_split-some, take-all}
+
+-- two tests that tell the same
+ltb-same : (a b c d : ℕ) → (a < b → c < d) → (c < d → a < b) → ltb a b ≡ ltb c d
+ltb-same a b c d f g = grind (arith, nat_tests)
 
 -- a line that others follow
-told_lines-line : (e : Ending) (over : Bool) (s : State) (i : ℕ) (l : List ℕ) (parts : List (List ℕ)) → (parts ≡ [] → ⊥) → length l ≤ 256 → told_lines e over s i (l ∷ parts) ≡ then_on (one_line s i l) (λ t. told_lines e over t (i + 1) parts)
+told_lines-line : (e : Ending) (over : Bool) (s : State) (i : ℕ) (l : List ℕ) (parts : List (List ℕ)) → (parts ≡ [] → ⊥) → length l ≤ 256
+    → told_lines e over s i (l ∷ parts) ≡ then_on (one_line s i l) (λ t. told_lines e over t (i + 1) parts)
 told_lines-line e over s i l [] n h = absurd (n refl)
-told_lines-line e over s i l (p ∷ ps) n h = rw (nat_lt-false 256 (length l) h) refl
+told_lines-line e over s i l (p ∷ ps) n h = rw (le-ltb 256 (length l) h) refl
 
 -- a line of over 256 bytes
-told_lines-long : (e : Ending) (over : Bool) (s : State) (i : ℕ) (l : List ℕ) (parts : List (List ℕ)) → 256 < length l → told_lines e over s i (l ∷ parts) ≡ stop (faults.LineTooLong i)
-told_lines-long e over s i l [] h = rw (nat_lt-true 256 (length l) h) refl
-told_lines-long e over s i l (p ∷ ps) h = rw (nat_lt-true 256 (length l) h) refl
+told_lines-long : (e : Ending) (over : Bool) (s : State) (i : ℕ) (l : List ℕ) (parts : List (List ℕ)) → 256 < length l
+    → told_lines e over s i (l ∷ parts) ≡ stop (faults.LineTooLong i)
+told_lines-long e over s i l [] h = rw (lt-ltb 256 (length l) h) refl
+told_lines-long e over s i l (p ∷ ps) h = rw (lt-ltb 256 (length l) h) refl
 
 -- the line and its end, where there is room for both
-take-line : (room : ℕ) (l : List ℕ) (b : ℕ) (x : List ℕ) → length l < room → take room (l ++ b ∷ x) ≡ l ++ b ∷ take (room - (length l + 1)) x
+take-line : (room : ℕ) (l : List ℕ) (b : ℕ) (x : List ℕ) → length l < room
+    → take room (l ++ b ∷ x) ≡ l ++ b ∷ take (room - (length l + 1)) x
 take-line room l b x h =
     let e : room ≡ length l + suc (room - (length l + 1)) = omega arith in
     ap (λ n. take n (l ++ b ∷ x)) e ∙ take-append-add l (b ∷ x) (suc (room - (length l + 1)))
 
 -- a line that its end of line ends
-pub told_from-line : (e : Ending) (s : State) (i room : ℕ) (l x : List ℕ) → NoNewline l → length l ≤ 256 → length l < room → told_from e s i room (l ++ 10 ∷ x) ≡ then_on (one_line s i l) (λ t. told_from e t (i + 1) (room - (length l + 1)) x)
+pub told_from-line : (e : Ending) (s : State) (i room : ℕ) (l x : List ℕ) → NoNewline l → length l ≤ 256 → length l < room
+    → told_from e s i room (l ++ 10 ∷ x) ≡ then_on (one_line s i l) (λ t. told_from e t (i + 1) (room - (length l + 1)) x)
 unfolding told_from
 told_from-line e s i room l x n h r =
     let m : ℕ = room - (length l + 1) in
-    let parts : slice_split is_newline (take room (l ++ 10 ∷ x)) ≡ l ∷ slice_split is_newline (take m x) = ap (slice_split is_newline) (take-line room l 10 x r) ∙ slice_split_at is_newline l 10 (take m x) n refl in
-    let over : ltb room (length (l ++ 10 ∷ x)) ≡ ltb m (length x) = nat_lt-same _ _ _ _ (λ a. omega (arith, length-append l (10 ∷ x))) (λ a. omega (arith, length-append l (10 ∷ x))) in
-    rw (parts, over) (told_lines-line e (ltb m (length x)) s i l (slice_split is_newline (take m x)) (slice_split-some is_newline (take m x)) h)
+    let parts : slice_split is_newline (take room (l ++ 10 ∷ x)) ≡ l ∷ slice_split is_newline (take m x) =
+        ap (slice_split is_newline) (take-line room l 10 x r) ∙ slice_split_at is_newline l 10 (take m x) n refl in
+    let over : ltb room (length (l ++ 10 ∷ x)) ≡ ltb m (length x) =
+        ltb-same _ _ _ _ (λ a. omega (arith, length-append l (10 ∷ x))) (λ a. omega (arith, length-append l (10 ∷ x))) in
+    rw (parts, over) (told_lines-line e (ltb m (length x)) s i l (slice_split is_newline (take m x))
+    (slice_split-some is_newline (take m x)) h)
 
 -- the first part and the others
 cons_of : (parts : List (List ℕ)) → (parts ≡ [] → ⊥) → (p : List ℕ) × (ps : List (List ℕ)) × (parts ≡ p ∷ ps)
 cons_of [] n = absurd (n refl)
 cons_of (p ∷ ps) n = (p, ps, refl)
 
--- the first part Reads-start with what has no separator
-slice_split-front : (l y : List ℕ) → NoNewline l → (p : List ℕ) × (ps : List (List ℕ)) × (slice_split is_newline (l ++ y) ≡ (l ++ p) ∷ ps)
-slice_split-front [] y n = cons_of (slice_split is_newline y) (slice_split-some is_newline y)
-slice_split-front (c ∷ l) y n =
-    let r : (p : List ℕ) × (ps : List (List ℕ)) × (slice_split is_newline (l ++ y) ≡ (l ++ p) ∷ ps) = slice_split-front l y (All-tail (λ b. is_newline b ≡ false) c l n) in
-    (r.0, r.1, slice_split-cons_no is_newline c (l ++ y) (All-head (λ b. is_newline b ≡ false) c l n) ∙ ap (onto_first c) r.2)
+-- the first part begins with what has no separator
+slice_split-prefix : (l y : List ℕ) → NoNewline l
+    → (p : List ℕ) × (ps : List (List ℕ)) × (slice_split is_newline (l ++ y) ≡ (l ++ p) ∷ ps)
+slice_split-prefix [] y n = cons_of (slice_split is_newline y) (slice_split-some is_newline y)
+slice_split-prefix (c ∷ l) y n =
+    let r : (p : List ℕ) × (ps : List (List ℕ)) × (slice_split is_newline (l ++ y) ≡ (l ++ p) ∷ ps) =
+        slice_split-prefix l y (All-tail (λ b. is_newline b ≡ false) c l n) in
+    (r.0, r.1, slice_split-cons_no is_newline c (l ++ y) (All-head (λ b. is_newline b ≡ false) c l n)
+        ∙ ap (onto_first c) r.2)
 
 -- a line that is too long
-pub told_from-long_line : (e : Ending) (s : State) (i room : ℕ) (l : List ℕ) (b : ℕ) (x : List ℕ) → NoNewline l → b ≢ 10 → length l ≡ 256 → 256 < room → told_from e s i room (l ++ b ∷ x) ≡ stop (faults.LineTooLong i)
+pub told_from-long_line : (e : Ending) (s : State) (i room : ℕ) (l : List ℕ) (b : ℕ) (x : List ℕ) → NoNewline l → b ≢ 10 → length l ≡ 256 → 256 < room
+    → told_from e s i room (l ++ b ∷ x) ≡ stop (faults.LineTooLong i)
 unfolding told_from
 told_from-long_line e s i room l b x n d h r =
     let y : List ℕ = take (room - (length l + 1)) x in
     let bytes : take room (l ++ b ∷ x) ≡ (l ++ b ∷ []) ++ y = take-line room l b x (omega arith) ∙ sym (append_assoc l (b ∷ []) y) in
-    let f : (p : List ℕ) × (ps : List (List ℕ)) × (slice_split is_newline ((l ++ b ∷ []) ++ y) ≡ ((l ++ b ∷ []) ++ p) ∷ ps) = slice_split-front (l ++ b ∷ []) y (All-push (λ c. is_newline c ≡ false) l b n (nat_eq-false b 10 d)) in
-    let parts : slice_split is_newline (take room (l ++ b ∷ x)) ≡ ((l ++ b ∷ []) ++ f.0) ∷ f.1 = ap (slice_split is_newline) bytes ∙ f.2 in
+    let f : (p : List ℕ) × (ps : List (List ℕ)) × (slice_split is_newline ((l ++ b ∷ []) ++ y) ≡ ((l ++ b ∷ []) ++ p) ∷ ps) =
+        slice_split-prefix (l ++ b ∷ []) y (All-push (λ c. is_newline c ≡ false) l b n (ne_eqb b 10 d)) in
+    let parts : slice_split is_newline (take room (l ++ b ∷ x)) ≡ ((l ++ b ∷ []) ++ f.0) ∷ f.1 =
+        ap (slice_split is_newline) bytes ∙ f.2 in
     ap (told_lines e (ltb room (length (l ++ b ∷ x))) s i) parts
-    ∙ told_lines-long e (ltb room (length (l ++ b ∷ x))) s i ((l ++ b ∷ []) ++ f.0) f.1 (omega (arith, length-append (l ++ b ∷ []) f.0, length-append l (b ∷ [])))
+    ∙ told_lines-long e (ltb room (length (l ++ b ∷ x))) s i ((l ++ b ∷ []) ++ f.0) f.1
+    (omega (arith, length-append (l ++ b ∷ []) f.0, length-append l (b ∷ [])))
 
 -- what follows the last whole line
-told_lines-last : (e : Ending) (over : Bool) (s : State) (i : ℕ) (l : List ℕ) → length l ≤ 256 → told_lines e over s i (l ∷ []) ≡ cond over (stop faults.TooMuch) (e s i l)
-told_lines-last e over s i l h = rw (nat_lt-false 256 (length l) h) refl
+told_lines-last : (e : Ending) (over : Bool) (s : State) (i : ℕ) (l : List ℕ) → length l ≤ 256
+    → told_lines e over s i (l ∷ []) ≡ cond over (stop faults.TooMuch) (e s i l)
+told_lines-last e over s i l h = rw (le-ltb 256 (length l) h) refl
 
 -- a byte past the limit
-pub told_from-past_limit : (e : Ending) (s : State) (i room : ℕ) (l : List ℕ) (b : ℕ) (x : List ℕ) → NoNewline l → length l ≤ 256 → length l ≡ room → told_from e s i room (l ++ b ∷ x) ≡ stop faults.TooMuch
+pub told_from-past_limit : (e : Ending) (s : State) (i room : ℕ) (l : List ℕ) (b : ℕ) (x : List ℕ) → NoNewline l → length l ≤ 256 → length l ≡ room
+    → told_from e s i room (l ++ b ∷ x) ≡ stop faults.TooMuch
 unfolding told_from
 told_from-past_limit e s i room l b x n h r =
     let bytes : take room (l ++ b ∷ x) ≡ l = ap (λ m. take m (l ++ b ∷ x)) (sym r) ∙ take-append_seam l (b ∷ x) in
-    let parts : slice_split is_newline (take room (l ++ b ∷ x)) ≡ l ∷ [] = ap (slice_split is_newline) bytes ∙ slice_split_none is_newline l n in
-    let over : ltb room (length (l ++ b ∷ x)) ≡ true = nat_lt-true _ _ (omega (arith, length-append l (b ∷ x))) in
+    let parts : slice_split is_newline (take room (l ++ b ∷ x)) ≡ l ∷ [] =
+        ap (slice_split is_newline) bytes ∙ slice_split_none is_newline l n in
+    let over : ltb room (length (l ++ b ∷ x)) ≡ true = lt-ltb _ _ (omega (arith, length-append l (b ∷ x))) in
     rw (parts, over) (told_lines-last e true s i l h)
 
 -- the end of the input, or of what could be read
-pub told_from-end : (e : Ending) (s : State) (i room : ℕ) (l : List ℕ) → NoNewline l → length l ≤ 256 → length l ≤ room → told_from e s i room l ≡ e s i l
+pub told_from-end : (e : Ending) (s : State) (i room : ℕ) (l : List ℕ) → NoNewline l → length l ≤ 256 → length l ≤ room
+    → told_from e s i room l ≡ e s i l
 unfolding told_from
 told_from-end e s i room l n h r =
-    let parts : slice_split is_newline (take room l) ≡ l ∷ [] = ap (slice_split is_newline) (take-all l room r) ∙ slice_split_none is_newline l n in
-    let over : ltb room (length l) ≡ false = nat_lt-false _ _ r in
+    let parts : slice_split is_newline (take room l) ≡ l ∷ [] =
+        ap (slice_split is_newline) (take_all room l r) ∙ slice_split_none is_newline l n in
+    let over : ltb room (length l) ≡ false = le-ltb _ _ r in
     rw (parts, over) (told_lines-last e false s i l h)

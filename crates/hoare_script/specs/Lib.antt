@@ -1,9 +1,4 @@
 pub mod Lines
-pub mod Words
 pub mod Answers
-pub mod Streams
-pub mod Marks
 pub mod Scripts
-pub mod Answering
 pub mod Runs
-pub mod Status

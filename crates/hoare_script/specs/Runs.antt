@@ -1,25 +1,98 @@
--- What a run writes and answers, by the input.
-use Rattle.std.specs.Prelude.{ℕ, ◌≡◌, List, [], Option, Some, None, Result, Ok, Err}
-use Rattle.std.specs.Io.KnownBytes.{Appends, Consumes}
+-- What a run reads, writes and answers, by the input; and the status of a fault.
+use Rattle.std.specs.Prelude.{ℕ, zero, suc, ◌≡◌, ◌≤◌, ◌<◌, ◌+◌, ◌-◌, Bool, true, false, List, [], ◌++◌, length, take, drop, Option, Some, None, Result, Ok, Err, IsOkAnd, ⊤}
+use Rattle.std.specs.Io.KnownBytes.{Appends}
+use Rattle.line_text.specs.declared.line.TheConstants.{LONGEST_LINE}
+use Rattle.line_text.specs.Line.{after_lines}
+use Rattle.line_text.specs.Streams.{AppendsPrefix}
+use Rattle.wait_book.specs.Contents.{Contents, IsOf}
+use Rattle.hoare_script.specs.declared.runs.TheConstants.{MOST_BYTES}
 use Rattle.hoare_script.specs.declared.fault.ScriptFault.{ScriptFault}
 use Rattle.hoare_script.specs.declared.fault.ScriptFault.TheVariants as faults
-use Rattle.hoare_script.specs.Streams.{AppendsFront}
-use Rattle.hoare_script.specs.Scripts.{Told, told, at_end, at_cut}
+use Rattle.hoare_script.specs.Scripts.{State, Start, Running, Outcome, Told, told, at_end, at_cut}
 
 -- all that is told is written, and the fault is the one told
 abbrev pub Whole : Told → Option (List ℕ) → Option (List ℕ) → Option ScriptFault → Type 0
 Whole t old new f = Appends old new t.written × (t.fault ≡ f)
 
--- a run over text that leaves a reader's bytes left, and a writer's bytes new
-abbrev pub Tells : List ℕ → Option (List ℕ) → Option (List ℕ) → Option (List ℕ) → Result (Unit {0}) ScriptFault → Type 0
-Tells text left old new (Ok u) = Whole (told at_end text) old new None
+-- after i lines of text one more was read: what the i are answered is written, and not all that the text is
+abbrev pub BreaksOff : ℕ → List ℕ → List ℕ → Option (List ℕ) → Option (List ℕ) → Type 0
+BreaksOff i text left old new =
+    (read : List ℕ) × (n : ℕ) × (text ≡ read ++ after_lines i text) × (left ≡ after_lines (suc i) text)
+    × (length (told at_cut read).written ≤ n) × (n < length (told at_end text).written)
+    × Appends old new (take n (told at_end text).written)
+
+-- what a run over text writes, by its verdict, where it leaves left of the text
+abbrev pub Writes : List ℕ → List ℕ → Option (List ℕ) → Option (List ℕ) → Result (Unit {0}) ScriptFault → Type 0
+Writes text left old new (Ok u) = Whole (told at_end text) old new None
 -- the answers to the lines that were read whole
-Tells text left old new (Err faults.ReadFault) = (read : List ℕ) × Consumes (Some text) left read × Whole (told at_cut read) old new (Some faults.ReadFault)
--- a front of the answers
-Tells text left old new (Err faults.WriteFault) = AppendsFront old new (told at_end text).written
-Tells text left old new (Err faults.Memory) = Appends old new []
-Tells text left old new (Err faults.NoHeader) = Whole (told at_end text) old new (Some faults.NoHeader)
-Tells text left old new (Err (faults.BadLine n)) = Whole (told at_end text) old new (Some (faults.BadLine n))
-Tells text left old new (Err (faults.BadHeader n)) = Whole (told at_end text) old new (Some (faults.BadHeader n))
-Tells text left old new (Err (faults.LineTooLong n)) = Whole (told at_end text) old new (Some (faults.LineTooLong n))
-Tells text left old new (Err faults.TooMuch) = Whole (told at_end text) old new (Some faults.TooMuch)
+Writes text left old new (Err faults.ReadFault) =
+    (read : List ℕ) × (text ≡ read ++ left) × Whole (told at_cut read) old new (Some faults.ReadFault)
+Writes text left old new (Err faults.WriteFault) = (i : ℕ) × BreaksOff i text left old new
+Writes text left old new (Err faults.Memory) = Appends old new []
+Writes text left old new (Err faults.NoHeader) = Whole (told at_end text) old new (Some faults.NoHeader)
+Writes text left old new (Err (faults.BadLine i)) = Whole (told at_end text) old new (Some (faults.BadLine i))
+Writes text left old new (Err (faults.BadHeader i)) = Whole (told at_end text) old new (Some (faults.BadHeader i))
+Writes text left old new (Err (faults.LineTooLong i)) = Whole (told at_end text) old new (Some (faults.LineTooLong i))
+Writes text left old new (Err faults.TooMuch) = Whole (told at_end text) old new (Some faults.TooMuch)
+
+-- what a run leaves of a text, by its verdict: nothing behind the byte at which the verdict stands is read
+abbrev pub Leaves : List ℕ → List ℕ → Result (Unit {0}) ScriptFault → Type 0
+Leaves text left (Ok u) = left ≡ []
+Leaves text left (Err faults.NoHeader) = left ≡ []
+Leaves text left (Err faults.TooMuch) = left ≡ drop (MOST_BYTES + 1) text
+-- of its line the byte that is too many is the last
+Leaves text left (Err (faults.LineTooLong i)) = left ≡ drop (LONGEST_LINE + 1) (after_lines (i - 1) text)
+-- its line and the end of it are read
+Leaves text left (Err (faults.BadLine i)) = left ≡ after_lines i text
+Leaves text left (Err (faults.BadHeader i)) = left ≡ after_lines i text
+Leaves text left (Err faults.Memory) = left ≡ after_lines 1 text
+-- the line whose answer can't be written is the last that was read
+Leaves text left (Err faults.WriteFault) = (i : ℕ) × (left ≡ after_lines i text)
+Leaves text left (Err faults.ReadFault) = (read : List ℕ) × (text ≡ read ++ left)
+
+-- both
+abbrev pub Tells : List ℕ → List ℕ → Option (List ℕ) → Option (List ℕ) → Result (Unit {0}) ScriptFault → Type 0
+Tells text left old new r = Writes text left old new r × Leaves text left r
+
+-- the book, if there is one, is where the script is
+abbrev pub IsAt : Option Contents → State → Type 0
+IsAt None Start = ⊤
+IsAt None (Running h) = ⊥
+IsAt (Some b) Start = ⊥
+IsAt (Some b) (Running h) = IsOf b h
+
+-- what a fault at a line leaves written
+abbrev pub OnFault : Outcome → Option (List ℕ) → Option (List ℕ) → ScriptFault → Type 0
+OnFault out old new faults.WriteFault = IsOkAnd out (λ p. AppendsPrefix old new p.0)
+OnFault out old new faults.Memory = Appends old new []
+OnFault out old new faults.NoHeader = ⊥
+OnFault out old new (faults.BadLine i) = (out ≡ Err (faults.BadLine i)) × Appends old new []
+OnFault out old new (faults.BadHeader i) = (out ≡ Err (faults.BadHeader i)) × Appends old new []
+OnFault out old new faults.ReadFault = ⊥
+OnFault out old new (faults.LineTooLong i) = ⊥
+OnFault out old new faults.TooMuch = ⊥
+
+-- what a line leaves: its answer, and a book that goes on
+abbrev pub Follows : Outcome → Option (List ℕ) → Option (List ℕ) → Option Contents → Result (Unit {0}) ScriptFault → Type 0
+Follows out old new book (Ok u) = IsOkAnd out (λ p. Appends old new p.0 × IsAt book p.1)
+Follows out old new book (Err f) = OnFault out old new f
+
+-- a read failed, or a write
+abbrev pub is_read_fault : {X : Type 0} → Result X ScriptFault → Bool
+is_read_fault (Err faults.ReadFault) = true
+is_read_fault _ = false
+
+abbrev pub is_write_fault : {X : Type 0} → Result X ScriptFault → Bool
+is_write_fault (Err faults.WriteFault) = true
+is_write_fault _ = false
+
+-- 2 where the text is at fault, 3 where the reader, the writer or memory is
+abbrev pub status_of : ScriptFault → ℕ
+status_of faults.NoHeader = 2
+status_of (faults.BadLine i) = 2
+status_of (faults.BadHeader i) = 2
+status_of faults.ReadFault = 3
+status_of faults.WriteFault = 3
+status_of faults.Memory = 3
+status_of (faults.LineTooLong i) = 2
+status_of faults.TooMuch = 2

@@ -1,72 +1,18 @@
 -- What a script is answered: line by line, by the history that its commands make.
-use Rattle.std.specs.Prelude.{ℕ, ◌+◌, ◌==◌, nat_lt, Bool, true, false, if◌then◌else◌, List, [], ◌∷◌, ◌++◌, length, take, Option, Some, None, Result, Ok, Err}
+use Rattle.std.specs.Prelude.{ℕ, ◌+◌, ◌==◌, nat_lt, Bool, if◌then◌else◌, List, [], ◌∷◌, ◌++◌, length, take, Option, Some, None, Result, Ok, Err}
 use Rattle.std.specs.List.{slice_split}
-use Rattle.hoare_law.specs.declared.event.Event.{Event}
 use Rattle.hoare_law.specs.declared.event.History.{History}
-use Rattle.hoare_law.specs.declared.turn.Turn.{Turn}
-use Rattle.hoare_law.specs.declared.turn.Turn.TheVariants as turns
-use Rattle.hoare_law.specs.Turns.{turn}
-use Rattle.hoare_law.specs.Waiting.{waiting, chosen, priority_of}
-use Rattle.wait_book.specs.declared.steps.Step.{Step}
-use Rattle.wait_book.specs.declared.steps.StepRefused.{StepRefused}
+use Rattle.line_text.specs.declared.line.TheConstants.{LONGEST_LINE}
+use Rattle.line_text.specs.Line.{is_newline}
 use Rattle.wait_book.specs.declared.steps.MakeRefused.{MakeRefused}
 use Rattle.wait_book.specs.Contents.{make_refusal, unused}
-use Rattle.wait_book.specs.Stepping.{refusal_of, condition_refusal, after_step}
+use Rattle.hoare_script.specs.declared.runs.TheConstants.{MOST_BYTES}
 use Rattle.hoare_script.specs.declared.fault.ScriptFault.{ScriptFault}
 use Rattle.hoare_script.specs.declared.fault.ScriptFault.TheVariants as faults
 use Rattle.hoare_script.specs.declared.lines.Header.{Header}
 use Rattle.hoare_script.specs.declared.lines.Command.{Command}
-use Rattle.hoare_script.specs.declared.lines.Command.TheVariants.{Do, Queue, First}
-use Rattle.hoare_script.specs.declared.answers.Answer.{Answer}
-use Rattle.hoare_script.specs.declared.answers.Answer.TheVariants.{Free, Inside, Waiting, Nobody, Priority, Refused}
 use Rattle.hoare_script.specs.Lines.{command_of, header_of}
-use Rattle.hoare_script.specs.Answers.{answer_line}
-use Rattle.hoare_script.specs.Streams.{is_newline}
-
--- the place inside, or that the monitor is free
-abbrev pub turn_answer : Turn → Answer
-turn_answer turns.Free = Free
-turn_answer (turns.Held k) = Inside k
-turn_answer (turns.Owed k c) = Inside k
-turn_answer (turns.Return k) = Inside k
-
--- a step's answer and the history after it, by what refuses it
-abbrev pub step_answer : History (Unit {0}) → Step → Option StepRefused → Answer
-step_answer h s None = turn_answer (turn (after_step h s).events)
-step_answer h s (Some r) = Refused r
-
-abbrev pub history_by : History (Unit {0}) → Step → Option StepRefused → History (Unit {0})
-history_by h s None = after_step h s
-history_by h s (Some r) = h
-
-abbrev pub is_nonempty : {X : Type 0} → List X → Bool
-is_nonempty [] = false
-is_nonempty (x ∷ xs) = true
-
--- whether somebody waits on c
-abbrev pub queue_answer : History (Unit {0}) → ℕ → Option StepRefused → Answer
-queue_answer h c None = Waiting (is_nonempty (waiting c h.events))
-queue_answer h c (Some r) = Refused r
-
-abbrev pub priority_answer : Option (Event (Unit {0})) → Answer
-priority_answer None = Nobody
-priority_answer (Some e) = Priority (priority_of e)
-
--- the priority of whom a signal on c would resume
-abbrev pub first_answer : History (Unit {0}) → ℕ → Option StepRefused → Answer
-first_answer h c None = priority_answer (chosen c h.events)
-first_answer h c (Some r) = Refused r
-
--- what a command is answered where h happened, and what then happened
-unfoldable pub answer_to : History (Unit {0}) → Command → Answer
-answer_to h (Do s) = step_answer h s (refusal_of h s)
-answer_to h (Queue c) = queue_answer h c (condition_refusal h c)
-answer_to h (First c) = first_answer h c (condition_refusal h c)
-
-unfoldable pub history_after : History (Unit {0}) → Command → History (Unit {0})
-history_after h (Do s) = history_by h s (refusal_of h s)
-history_after h (Queue c) = h
-history_after h (First c) = h
+use Rattle.hoare_script.specs.Answers.{answer_line, answer_to, history_after}
 
 -- how far a script is: before its header, or where a history happened
 pub data State : Type 0 where
@@ -129,9 +75,9 @@ at_cut s i last = stop faults.ReadFault
 abbrev pub told_lines : Ending → Bool → State → ℕ → List (List ℕ) → Told
 told_lines e over s i [] = done
 told_lines e over s i (last ∷ []) =
-    if nat_lt 256 (length last) then stop (faults.LineTooLong i) else (if over then stop faults.TooMuch else e s i last)
+    if nat_lt LONGEST_LINE (length last) then stop (faults.LineTooLong i) else (if over then stop faults.TooMuch else e s i last)
 told_lines e over s i (line ∷ next ∷ lines) =
-    if nat_lt 256 (length line) then stop (faults.LineTooLong i) else then_on (one_line s i line) (λ t. told_lines e over t (i + 1) (next ∷ lines))
+    if nat_lt LONGEST_LINE (length line) then stop (faults.LineTooLong i) else then_on (one_line s i line) (λ t. told_lines e over t (i + 1) (next ∷ lines))
 
 -- from line i on, with room for so many bytes
 unfoldable pub told_from : Ending → State → ℕ → ℕ → List ℕ → Told
@@ -139,4 +85,4 @@ told_from e s i room text = told_lines e (nat_lt room (length text)) s i (slice_
 
 -- what a script writes, and its fault
 abbrev pub told : Ending → List ℕ → Told
-told e text = told_from e Start 1 1048576 text
+told e text = told_from e Start 1 MOST_BYTES text

@@ -1,5 +1,5 @@
 ghost use Rattle.std.specs.Prelude.{◌≡◌};
-ghost use Rattle.hoare_script.specs.Status.{status_of};
+ghost use Rattle.hoare_script.specs.Runs.{status_of};
 
 use thiserror::Error;
 

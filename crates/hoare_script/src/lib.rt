@@ -6,9 +6,8 @@ pub mod fault;
 pub mod lines;
 pub mod opened;
 pub mod runs;
-pub mod streams;
 #[cfg(test)]
 mod tests;
 
 pub use fault::ScriptFault;
-pub use runs::run;
+pub use runs::{run, run_watched};

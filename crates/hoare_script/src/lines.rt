@@ -1,8 +1,8 @@
 //! How a line spells a header or a command.
 ghost use Rattle.std.specs.Prelude.{◌≡◌};
-ghost use Rattle.hoare_script.specs.Lines.{begins_well, command_of, command_of_one, command_of_three, command_of_two, digits_of, header_of, number_of, words_of};
-ghost use Rattle.hoare_script.specs.Words.{words_from};
+ghost use Rattle.hoare_script.specs.Lines.{command_of, command_of_one, command_of_three, command_of_two, header_of};
 
+use line_text::words::{first_word, number};
 use wait_book::steps::Step;
 
 /// The first line of a script: so many places, and so many conditions.
@@ -21,61 +21,6 @@ pub enum Command {
     Queue(u64),
     /// The priority of the process that a signal on a condition would resume.
     First(u64),
-}
-
-// The first word of a line, and what follows its space.
-fn first_word(line: &[u8]) -> (&[u8], Option<&[u8]>)
-    ensures { words_of line.now ≡ words_from result.0 result.1 }
-{
-    for (i, b) in line.iter().enumerate() {
-        if *b == b' ' {
-            return (&line[..i], Some(&line[i + 1..]));
-        }
-    }
-    (line, None)
-}
-
-// What digits stand for, if they are digits and it has 64 bits.
-fn digits(word: &[u8]) -> Option<u64>
-    ensures { result ≡ digits_of word.now }
-{
-    let mut value: u64 = 0;
-    for b in word {
-        if *b < b'0' || *b > b'9' {
-            return None;
-        }
-        let Some(tens) = value.checked_mul(10) else {
-            return None;
-        };
-        let Some(more) = tens.checked_add((*b - b'0') as u64) else {
-            return None;
-        };
-        value = more;
-    }
-    Some(value)
-}
-
-// No digit is missing, and no leading 0 is in vain.
-fn begins_well(word: &[u8]) -> bool
-    ensures { result ≡ begins_well word.now }
-{
-    match word {
-        [] => false,
-        [_] => true,
-        [first, ..] => *first != b'0',
-    }
-}
-
-// A word that is a number.
-#[tactic(auto, unfolding(crate::specs::Lines::number_of))]
-fn number(word: &[u8]) -> Option<u64>
-    ensures { result ≡ number_of word.now }
-{
-    if begins_well(word) {
-        digits(word)
-    } else {
-        None
-    }
 }
 
 // A command with one number.

@@ -3,7 +3,7 @@ ghost use Rattle.std.specs.Prelude.{◌≡◌, MatchResult, None, Some, ◌⊎�
 ghost use Rattle.hoare_law.specs.declared.event.History.{History};
 ghost use Rattle.wait_book.specs.Contents.{IsOf, make_refusal, unused};
 ghost use Rattle.hoare_script.specs.declared.lines.Command.TheVariants as commands;
-ghost use Rattle.hoare_script.specs.Scripts.{answer_to, history_after};
+ghost use Rattle.hoare_script.specs.Answers.{answer_to, history_after};
 
 use crate::answers::{Answer, outcome_answer};
 use crate::lines::{Command, Header};
@@ -34,8 +34,10 @@ impl Opened {
     /// A book of so many places and conditions. Refused as `Book::make` refuses.
     pub fn make(alloc: Global, header: Header) -> Result<Opened, MakeRefused>
         ensures { MatchResult result
-            (λ b. (make_refusal header.places header.conditions ≡ None) × IsOf b (unused header.places header.conditions))
-            (λ e. (make_refusal header.places header.conditions ≡ Some e) ⊎ ((make_refusal header.places header.conditions ≡ None) × (e ≡ MakeRefused.Memory))) }
+            (λ b. (make_refusal header.places header.conditions ≡ None)
+                × IsOf b (unused header.places header.conditions))
+            (λ e. (make_refusal header.places header.conditions ≡ Some e)
+                ⊎ ((make_refusal header.places header.conditions ≡ None) × (e ≡ MakeRefused.Memory))) }
     {
         match Book::make(alloc, header.places as usize, header.conditions as usize) {
             Ok(book) => Ok(Opened {
@@ -48,7 +50,8 @@ impl Opened {
 
     /// Does what a command asks, and answers it.
     pub fn answer(&mut self, command: Command) -> Answer
-        ensures { (h : History (Unit {0})) → IsOf self.old h → (result ≡ answer_to h command) × IsOf self.new (history_after h command) }
+        ensures { (h : History (Unit {0})) → IsOf self.old h →
+            (result ≡ answer_to h command) × IsOf self.new (history_after h command) }
     {
         match command {
             Command::Do(step) => self.step(step),
@@ -59,7 +62,8 @@ impl Opened {
 
     // Does a step.
     fn step(&mut self, step: Step) -> Answer
-        ensures { (h : History (Unit {0})) → IsOf self.old h → (result ≡ answer_to h (commands.Do step)) × IsOf self.new (history_after h (commands.Do step)) }
+        ensures { (h : History (Unit {0})) → IsOf self.old h →
+            (result ≡ answer_to h (commands.Do step)) × IsOf self.new (history_after h (commands.Do step)) }
     {
         let outcome = self.book.try_step(step);
         outcome_answer(outcome)

@@ -1,52 +1,63 @@
 //! A whole script.
-ghost use Rattle.std.specs.Prelude.{◌≡◌, ◌≢◌, ◌≤◌, ◌||◌, [], length, false, IfSome, IsOkAnd, MatchResult, None, Some, Ok, Err, OnOk, ◌⊎◌};
+ghost use Rattle.std.specs.Prelude.{◌≡◌, ◌≢◌, ◌≤◌, ◌+◌, ◌||◌, [], length, false, IsOkAnd, MatchResult, None, Some, Ok, Err, OnOk, ◌⊎◌};
 ghost use Rattle.hoare_law.specs.declared.event.History.{History};
+ghost use Rattle.line_text.specs.declared.line.TheConstants.{LONGEST_LINE};
+ghost use Rattle.line_text.specs.Streams.{HasRead, Reads, has_read_failed, has_write_failed, reader_inside, reader_name, writer_inside, writer_name};
 ghost use Rattle.wait_book.specs.Contents.{IsOf};
-ghost use Rattle.hoare_script.specs.Answering.{Follows, Stands};
 ghost use Rattle.hoare_script.specs.Lines.{command_of, header_of};
-ghost use Rattle.hoare_script.specs.Marks.{is_read_fault, is_write_fault};
-ghost use Rattle.hoare_script.specs.Runs.{Tells};
+ghost use Rattle.hoare_script.specs.Runs.{Follows, IsAt, Leaves, Tells, Writes, is_read_fault, is_write_fault};
 ghost use Rattle.hoare_script.specs.Scripts.{Start, State, command_line, header_line, one_line};
 
 use crate::answers::answer_line;
 use crate::fault::ScriptFault;
 use crate::lines::{parse_command, parse_header};
 use crate::opened::Opened;
-use crate::streams::{Ended, LineFault, WatchedReader, WatchedWriter, read_line, write_whole};
 use arrayvec::ArrayVec;
+use line_text::line::{Ended, LineFault, read_line};
+use line_text::reader::WatchedReader;
+use line_text::writer::WatchedWriter;
 use std::alloc::Global;
 use std::io::{Read, Write};
 use wait_book::steps::MakeRefused;
 
+/// The most bytes of a script.
+pub const MOST_BYTES: usize = 1_048_576;
+
 /// Reads a script and writes the answer to each line after the header, before it answers the next. A fault ends it: its
-/// answer is the earliest of the text, unless a read, a write or memory fails first. It reads at most 1,048,577 bytes. An
-/// interrupted read or write counts as failed, and nothing is flushed.
+/// answer is the earliest of the text, unless a read, a write or memory fails first. No byte behind the one at which the
+/// verdict stands is read, so at most `MOST_BYTES` and one more. An interrupted read or write counts as failed, and nothing is
+/// flushed.
 pub fn run<R: Read, W: Write>(
     alloc: Global,
     reader: &mut R,
     writer: &mut W,
 ) -> Result<(), ScriptFault>
-    ensures told { IfSome (R.remaining reader.old) (λ text.
-        Tells text (R.remaining reader.new) (W.contents writer.old) (W.contents writer.new) result) }
+    ensures written { Reads (R.remaining reader.old) (R.remaining reader.new) (λ text left.
+        Writes text left (W.contents writer.old) (W.contents writer.new) result) }
+    ensures read { Reads (R.remaining reader.old) (R.remaining reader.new) (λ text left. Leaves text left result) }
 {
     let mut watched_reader = WatchedReader::new(reader);
     let mut watched_writer = WatchedWriter::new(writer);
     run_watched(alloc, &mut watched_reader, &mut watched_writer)
 }
 
-/// `run`, with a reader and a writer that remember whether they failed: `ReadFault` is answered exactly where a read failed,
-/// and `WriteFault` exactly where a write failed or took no bytes.
+/// `run`, with a reader and a writer that are watched: `ReadFault` is answered exactly where a read failed, `WriteFault` exactly
+/// where a write failed or took no bytes, and at most `MOST_BYTES` and one more reads are made, which give at most so many
+/// bytes, whatever the reader is.
 pub fn run_watched<R: Read, W: Write>(
     alloc: Global,
     reader: &mut WatchedReader<'_, R>,
     writer: &mut WatchedWriter<'_, W>,
 ) -> Result<(), ScriptFault>
-    ensures told { IfSome (R.remaining reader.old.inner.now) (λ text.
-        Tells text (R.remaining reader.new.inner.now) (W.contents writer.old.inner.now) (W.contents writer.new.inner.now) result) }
-    ensures read_fault { reader.new.failed ≡ (reader.old.failed || is_read_fault result) }
-    ensures write_fault { writer.new.failed ≡ (writer.old.failed || is_write_fault result) }
-    ensures same_reader { reader.new.inner.ghost_name ≡ reader.old.inner.ghost_name }
-    ensures same_writer { writer.new.inner.ghost_name ≡ writer.old.inner.ghost_name }
+    ensures written { Reads (R.remaining (reader_inside reader.old)) (R.remaining (reader_inside reader.new)) (λ text left.
+        Writes text left (W.contents (writer_inside writer.old)) (W.contents (writer_inside writer.new)) result) }
+    ensures read { Reads (R.remaining (reader_inside reader.old)) (R.remaining (reader_inside reader.new)) (λ text left.
+        Leaves text left result) }
+    ensures counts { HasRead reader.old reader.new (MOST_BYTES + 1) (MOST_BYTES + 1) }
+    ensures read_fault { has_read_failed reader.new ≡ (has_read_failed reader.old || is_read_fault result) }
+    ensures write_fault { has_write_failed writer.new ≡ (has_write_failed writer.old || is_write_fault result) }
+    ensures same_reader { reader_name reader.new ≡ reader_name reader.old }
+    ensures same_writer { writer_name writer.new ≡ writer_name writer.old }
 {
     let mut opened = None;
     answer_lines(alloc, reader, writer, &mut opened)
@@ -60,15 +71,16 @@ fn answer_lines<R: Read, W: Write>(
     opened: &mut Option<Opened>,
 ) -> Result<(), ScriptFault>
     requires { opened.old ≡ None }
-    ensures told { IfSome (R.remaining reader.old.inner.now) (λ text.
-        Tells text (R.remaining reader.new.inner.now) (W.contents writer.old.inner.now) (W.contents writer.new.inner.now) result) }
-    ensures read_fault { reader.new.failed ≡ (reader.old.failed || is_read_fault result) }
-    ensures write_fault { writer.new.failed ≡ (writer.old.failed || is_write_fault result) }
-    ensures same_reader { reader.new.inner.ghost_name ≡ reader.old.inner.ghost_name }
-    ensures same_writer { writer.new.inner.ghost_name ≡ writer.old.inner.ghost_name }
+    ensures told { Reads (R.remaining (reader_inside reader.old)) (R.remaining (reader_inside reader.new)) (λ text left.
+        Tells text left (W.contents (writer_inside writer.old)) (W.contents (writer_inside writer.new)) result) }
+    ensures counts { HasRead reader.old reader.new (MOST_BYTES + 1) (MOST_BYTES + 1) }
+    ensures read_fault { has_read_failed reader.new ≡ (has_read_failed reader.old || is_read_fault result) }
+    ensures write_fault { has_write_failed writer.new ≡ (has_write_failed writer.old || is_write_fault result) }
+    ensures same_reader { reader_name reader.new ≡ reader_name reader.old }
+    ensures same_writer { writer_name writer.new ≡ writer_name writer.old }
 {
     let mut line = ArrayVec::new();
-    let mut room: usize = 1_048_576;
+    let mut room = MOST_BYTES;
     let mut number: u64 = 1;
     'lines: loop {
         match read_line(reader, &mut line, room) {
@@ -103,14 +115,14 @@ fn one_line<W: Write>(
     number: u64,
     line: &[u8],
 ) -> Result<(), ScriptFault>
-    requires { length line.now ≤ 256 }
-    ensures of { (s : State) → Stands opened.old s → Follows (one_line s number line.now)
-        (W.contents writer.old.inner.now) (W.contents writer.new.inner.now) opened.new result }
+    requires { length line.now ≤ LONGEST_LINE }
+    ensures of { (s : State) → IsAt opened.old s → Follows (one_line s number line.now)
+        (W.contents (writer_inside writer.old)) (W.contents (writer_inside writer.new)) opened.new result }
     ensures opened { OnOk result (opened.new ≢ None) }
-    ensures memory { (s : State) → Stands opened.old s → result ≡ Err ScriptFault.Memory → s ≡ Start }
+    ensures memory { (s : State) → IsAt opened.old s → result ≡ Err ScriptFault.Memory → s ≡ Start }
     ensures no_read { is_read_fault result ≡ false }
-    ensures write_fault { writer.new.failed ≡ (writer.old.failed || is_write_fault result) }
-    ensures same_writer { writer.new.inner.ghost_name ≡ writer.old.inner.ghost_name }
+    ensures write_fault { has_write_failed writer.new ≡ (has_write_failed writer.old || is_write_fault result) }
+    ensures same_writer { writer_name writer.new ≡ writer_name writer.old }
 {
     match opened {
         Some(monitor) => command_line(writer, monitor, number, line),
@@ -127,8 +139,9 @@ fn one_line<W: Write>(
 // Opens a book by a header.
 fn header_line(alloc: Global, number: u64, line: &[u8]) -> Result<Opened, ScriptFault>
     ensures { MatchResult result
-        (λ b. IsOkAnd (header_line number (header_of line.now)) (λ p. (p.0 ≡ []) × Stands (Some b) p.1))
-        (λ f. (f ≡ ScriptFault.Memory) ⊎ ((header_line number (header_of line.now) ≡ Err f) × (f ≡ ScriptFault.BadHeader number))) }
+        (λ b. IsOkAnd (header_line number (header_of line.now)) (λ p. (p.0 ≡ []) × IsAt (Some b) p.1))
+        (λ f. (f ≡ ScriptFault.Memory)
+            ⊎ ((header_line number (header_of line.now) ≡ Err f) × (f ≡ ScriptFault.BadHeader number))) }
 {
     let Some(header) = parse_header(line) else {
         return Err(ScriptFault::BadHeader(number));
@@ -147,20 +160,21 @@ fn command_line<W: Write>(
     number: u64,
     line: &[u8],
 ) -> Result<(), ScriptFault>
-    requires { length line.now ≤ 256 }
-    ensures of { (h : History (Unit {0})) → IsOf opened.old h → Follows (command_line h number line.now (command_of line.now))
-        (W.contents writer.old.inner.now) (W.contents writer.new.inner.now) (Some opened.new) result }
+    requires { length line.now ≤ LONGEST_LINE }
+    ensures of { (h : History (Unit {0})) → IsOf opened.old h →
+        Follows (command_line h number line.now (command_of line.now))
+        (W.contents (writer_inside writer.old)) (W.contents (writer_inside writer.new)) (Some opened.new) result }
     ensures no_memory { result ≢ Err ScriptFault.Memory }
     ensures no_read { is_read_fault result ≡ false }
-    ensures write_fault { writer.new.failed ≡ (writer.old.failed || is_write_fault result) }
-    ensures same_writer { writer.new.inner.ghost_name ≡ writer.old.inner.ghost_name }
+    ensures write_fault { has_write_failed writer.new ≡ (has_write_failed writer.old || is_write_fault result) }
+    ensures same_writer { writer_name writer.new ≡ writer_name writer.old }
 {
     let Some(command) = parse_command(line) else {
         return Err(ScriptFault::BadLine(number));
     };
     let answer = opened.answer(command);
     let text = answer_line(line, answer);
-    match write_whole(writer, text.as_slice()) {
+    match writer.write_whole(text.as_slice()) {
         Ok(()) => Ok(()),
         Err(_) => Err(ScriptFault::WriteFault),
     }

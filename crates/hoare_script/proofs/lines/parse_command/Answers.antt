@@ -1,5 +1,6 @@
 use Rattle.std.proofs.Common.{◌∷◌, ap, ◌∙◌}
-use Rattle.hoare_script.proofs.Spelling.{command_of-long, words_of-next}
+use Rattle.line_text.proofs.Spelling.{words_of-next}
+use Rattle.hoare_script.proofs.Spelling.{command_of-long}
 use Rattle.hoare_script.proofs.lines.parse_command.Goals as goal
 
 pub returns-in-Some-rest-2 : goal.returns-in-Some-rest-2

@@ -1,48 +1,55 @@
-use Rattle.std.proofs.Common.{◌≡◌, ◌<◌, ℕ, ◌+◌, ◌-◌, List, [], length, ap, sym, subst, refl, arith, rules, Option, Bool, true, false, eqb, ◌∷◌, Err, Ok}
+use Rattle.std.proofs.Common.{◌≡◌, ◌<◌, ℕ, List, [], ◌∷◌, length, ap, sym, subst, refl, arith, rules, Option, Bool, true, false, eqb, Err, Ok}
 use Rattle.std.proofs.lemmas.Bool.Decides.{nat_tests}
+use Rattle.line_text.specs.declared.line.Ended.{Ended}
+use Rattle.line_text.specs.declared.line.Ended.TheVariants as how
+use Rattle.line_text.specs.Line.{IsLineFor}
+use Rattle.line_text.specs.Streams.{reader_inside, writer_inside}
 use Rattle.wait_book.specs.Contents.{Contents}
-use Rattle.hoare_script.specs.Streams.{Reads, IsLineFor}
-use Rattle.hoare_script.specs.declared.streams.Ended.{Ended}
-use Rattle.hoare_script.specs.declared.streams.Ended.TheVariants as how
-use Rattle.std.specs.Result.{IsOkAnd}
-use Rattle.std.specs.Io.KnownBytes.{Appends}
-use Rattle.hoare_script.specs.Scripts.{one_line}
-use Rattle.hoare_script.specs.Answering.{Follows, OnFault, Stands}
+use Rattle.hoare_script.specs.declared.runs.TheConstants.{MOST_BYTES}
 use Rattle.hoare_script.proofs.Running as running
-use Rattle.hoare_script.proofs.Running.{Going}
+use Rattle.hoare_script.proofs.Running.{Known}
 use Rattle.hoare_script.proofs.runs.answer_lines.Goals as goal
 
+-- a line that its end of line ends leaves room for the end
 line_room : (room : ℕ) (l : List ℕ) (f : Ended) → f ≡ how.Line → IsLineFor room l (Ok f) → length l < room
 line_room room l f e s = subst (λ (v : Ended). IsLineFor room l (Ok v)) e s
 
 pub lines-init : goal.lines-init
-lines-init g c = record {
-  numbered = omega arith;
-  goes = subst (λ (b : Option Contents). Reads (g.R.Read.remaining c.args.reader.now.inner.now) (g.R.Read.remaining c.args.reader.now.inner.now) (Going 1 1048576 b (g.W.Write.contents c.args.writer.now.inner.now) (g.W.Write.contents c.args.writer.now.inner.now))) (sym c.requires)
-      (running.Reads-start (g.R.Read.remaining c.args.reader.now.inner.now) (g.W.Write.contents c.args.writer.now.inner.now));
-  same_reader = search rules;
-  same_writer = search rules;
-  read_mark = search rules;
-  write_mark = search rules;
-}
+lines-init g c =
+    let k = g.R.Read.remaining (reader_inside c.args.reader.now) in
+    let w = g.W.Write.contents (writer_inside c.args.writer.now) in
+    record {
+      numbered = omega arith;
+      goes = subst (λ (b : Option Contents). Known k k w w 1 MOST_BYTES b) (sym c.requires) (running.Known-start k w);
+      calls = omega arith;
+      bytes = omega arith;
+      same_reader = search rules;
+      same_writer = search rules;
+      read_mark = search rules;
+      write_mark = search rules;
+    }
 
 pub returns-in-Err-Failed-clause-told : goal.returns-in-Err-Failed-clause-told
 returns-in-Err-Failed-clause-told g c =
-    running.exit_failed (g.R.Read.remaining c.args.reader.now.inner.now) (g.R.Read.remaining c.lines.reader.inner.now) (g.R.Read.remaining c.read_line.new.reader.inner.now) (g.W.Write.contents c.args.writer.now.inner.now) (g.W.Write.contents c.lines.writer.inner.now) c.lines.number c.lines.room c.lines.opened c.read_line.new.line.items
-    c.lines.invariant.goes c.in-Err-Failed.ensures.one c.in-Err-Failed.ensures.short c.in-Err-Failed.field-0 c.in-Err-Failed.field-0-is c.in-Err-Failed.ensures.known c.in-Err-Failed.ensures.fits
+    let e = c.in-Err-Failed.ensures in
+    running.exit_failed c.lines.invariant.goes (g.R.Read.remaining (reader_inside c.read_line.new.reader)) c.read_line.new.line.items
+    e.one e.short e.within c.in-Err-Failed.field-0 c.in-Err-Failed.field-0-is e.known
 
 pub returns-in-Err-TooLong-clause-told : goal.returns-in-Err-TooLong-clause-told
 returns-in-Err-TooLong-clause-told g c =
-    running.exit_long (g.R.Read.remaining c.args.reader.now.inner.now) (g.R.Read.remaining c.lines.reader.inner.now) (g.R.Read.remaining c.read_line.new.reader.inner.now) (g.W.Write.contents c.args.writer.now.inner.now) (g.W.Write.contents c.lines.writer.inner.now) c.lines.number c.lines.room c.lines.opened c.read_line.new.line.items
-    c.lines.invariant.goes c.in-Err-TooLong.ensures.one c.in-Err-TooLong.ensures.short c.in-Err-TooLong.field-0 c.in-Err-TooLong.field-0-is c.in-Err-TooLong.ensures.known c.in-Err-TooLong.ensures.fits
+    let e = c.in-Err-TooLong.ensures in
+    running.exit_long c.lines.invariant.goes (g.R.Read.remaining (reader_inside c.read_line.new.reader)) c.read_line.new.line.items
+    e.one e.short e.within c.in-Err-TooLong.field-0 c.in-Err-TooLong.field-0-is e.known e.fits
 
 pub returns-in-Err-TooMuch-clause-told : goal.returns-in-Err-TooMuch-clause-told
 returns-in-Err-TooMuch-clause-told g c =
-    running.exit_much (g.R.Read.remaining c.args.reader.now.inner.now) (g.R.Read.remaining c.lines.reader.inner.now) (g.R.Read.remaining c.read_line.new.reader.inner.now) (g.W.Write.contents c.args.writer.now.inner.now) (g.W.Write.contents c.lines.writer.inner.now) c.lines.number c.lines.room c.lines.opened c.read_line.new.line.items
-    c.lines.invariant.goes c.in-Err-TooMuch.ensures.one c.in-Err-TooMuch.ensures.short c.in-Err-TooMuch.field-0 c.in-Err-TooMuch.field-0-is c.in-Err-TooMuch.ensures.known c.in-Err-TooMuch.ensures.fits
+    let e = c.in-Err-TooMuch.ensures in
+    running.exit_much c.lines.invariant.goes (g.R.Read.remaining (reader_inside c.read_line.new.reader)) c.read_line.new.line.items
+    e.one e.short e.within c.in-Err-TooMuch.field-0 c.in-Err-TooMuch.field-0-is e.known e.fits
 
-no_items : (xs : List ℕ) (b : Bool) → b ≡ eqb (length xs) 0 → b ≡ false → xs ≡ [] → ⊥
-no_items xs b e f z = let n : length xs ≡ 0 = ap length z in absurd (grind (arith, nat_tests))
+-- whether a list is empty, by the test of its length
+some_items : (xs : List ℕ) (b : Bool) → b ≡ eqb (length xs) 0 → b ≡ false → xs ≡ [] → ⊥
+some_items xs b e f z = let n : length xs ≡ 0 = ap length z in absurd (grind (arith, nat_tests))
 
 no_item : (xs : List ℕ) (b : Bool) → b ≡ eqb (length xs) 0 → b ≡ true → xs ≡ []
 no_item [] b e f = refl
@@ -50,38 +57,51 @@ no_item (x ∷ xs) b e f = absurd (grind (arith, nat_tests))
 
 pub returns-then-not-is_empty-clause-told : goal.returns-then-not-is_empty-clause-told
 returns-then-not-is_empty-clause-told g c =
-    running.exit_last (g.R.Read.remaining c.args.reader.now.inner.now) (g.R.Read.remaining c.lines.reader.inner.now) (g.R.Read.remaining c.read_line.new.reader.inner.now) (g.W.Write.contents c.args.writer.now.inner.now) (g.W.Write.contents c.lines.writer.inner.now) c.lines.number c.lines.room c.lines.opened c.read_line.new.line.items
-    c.lines.invariant.goes c.in-Ok-Last.ensures.one c.in-Ok-Last.ensures.short (g.W.Write.contents c.one_line.new.writer.inner.now) c.one_line.new.opened c.one_line.result c.in-Ok-Last.field-0 c.in-Ok-Last.field-0-is c.in-Ok-Last.ensures.known c.in-Ok-Last.ensures.fits
-    (no_items c.read_line.new.line.items c.is_empty.result c.is_empty.ensures c.if-not-is_empty.true)
-    (λ s st. subst (λ (v : List ℕ). Follows (one_line s c.lines.number v) (g.W.Write.contents c.lines.writer.inner.now) (g.W.Write.contents c.one_line.new.writer.inner.now) c.one_line.new.opened c.one_line.result) c.as_slice.ensures.value (c.one_line.ensures.of s st))
-    c.one_line.ensures.memory
+    let e = c.in-Ok-Last.ensures in
+    running.exit_last c.lines.invariant.goes (g.R.Read.remaining (reader_inside c.read_line.new.reader)) c.read_line.new.line.items
+    e.one e.short e.within (g.W.Write.contents (writer_inside c.one_line.new.writer)) c.one_line.new.opened c.one_line.result
+    c.in-Ok-Last.field-0 _ c.in-Ok-Last.field-0-is c.as_slice.ensures.value e.known
+    (some_items c.read_line.new.line.items c.is_empty.result c.is_empty.ensures c.if-not-is_empty.true)
+    c.one_line.ensures.of c.one_line.ensures.memory
 
 pub returns-then-number-eq1-clause-told : goal.returns-then-number-eq1-clause-told
 returns-then-number-eq1-clause-told g c =
-    running.exit_empty (g.R.Read.remaining c.args.reader.now.inner.now) (g.R.Read.remaining c.lines.reader.inner.now) (g.R.Read.remaining c.read_line.new.reader.inner.now) (g.W.Write.contents c.args.writer.now.inner.now) (g.W.Write.contents c.lines.writer.inner.now) c.lines.number c.lines.room c.lines.opened c.read_line.new.line.items
-    c.lines.invariant.goes c.in-Ok-Last.ensures.one c.in-Ok-Last.ensures.short c.in-Ok-Last.field-0 c.in-Ok-Last.field-0-is c.in-Ok-Last.ensures.known (no_item c.read_line.new.line.items c.is_empty.result c.is_empty.ensures c.if-not-is_empty.false) c.if-number-eq1.true
+    let e = c.in-Ok-Last.ensures in
+    running.exit_empty c.lines.invariant.goes (g.R.Read.remaining (reader_inside c.read_line.new.reader)) c.read_line.new.line.items
+    e.one e.short e.within c.in-Ok-Last.field-0 c.in-Ok-Last.field-0-is e.known
+    (no_item c.read_line.new.line.items c.is_empty.result c.is_empty.ensures c.if-not-is_empty.false) c.if-number-eq1.true
 
 pub returns-in-Ok-Last-clause-told : goal.returns-in-Ok-Last-clause-told
 returns-in-Ok-Last-clause-told g c =
-    running.exit_done (g.R.Read.remaining c.args.reader.now.inner.now) (g.R.Read.remaining c.lines.reader.inner.now) (g.R.Read.remaining c.read_line.new.reader.inner.now) (g.W.Write.contents c.args.writer.now.inner.now) (g.W.Write.contents c.lines.writer.inner.now) c.lines.number c.lines.room c.lines.opened c.read_line.new.line.items
-    c.lines.invariant.goes c.in-Ok-Last.ensures.one c.in-Ok-Last.ensures.short c.in-Ok-Last.field-0 c.in-Ok-Last.field-0-is c.in-Ok-Last.ensures.known (no_item c.read_line.new.line.items c.is_empty.result c.is_empty.ensures c.if-not-is_empty.false) c.if-number-eq1.false
+    let e = c.in-Ok-Last.ensures in
+    running.exit_done c.lines.invariant.goes (g.R.Read.remaining (reader_inside c.read_line.new.reader)) c.read_line.new.line.items
+    e.one e.short e.within c.in-Ok-Last.field-0 c.in-Ok-Last.field-0-is e.known
+    (no_item c.read_line.new.line.items c.is_empty.result c.is_empty.ensures c.if-not-is_empty.false) c.if-number-eq1.false
 
 pub returns-in-Err-clause-told : goal.returns-in-Err-clause-told
 returns-in-Err-clause-told g c =
-    running.exit_fault (g.R.Read.remaining c.args.reader.now.inner.now) (g.R.Read.remaining c.lines.reader.inner.now) (g.R.Read.remaining c.read_line.new.reader.inner.now) (g.W.Write.contents c.args.writer.now.inner.now) (g.W.Write.contents c.lines.writer.inner.now) c.lines.number c.lines.room c.lines.opened c.read_line.new.line.items
-    c.lines.invariant.goes c.in-Ok-Line.ensures.one c.in-Ok-Line.ensures.short (g.W.Write.contents c.one_line-in-Ok-Line.new.writer.inner.now) c.in-Err.fault c.in-Ok-Line.field-0 c.in-Ok-Line.field-0-is c.in-Ok-Line.ensures.known c.in-Ok-Line.ensures.fits
-    (λ s st. subst (λ (v : List ℕ). OnFault (one_line s c.lines.number v) (g.W.Write.contents c.lines.writer.inner.now) (g.W.Write.contents c.one_line-in-Ok-Line.new.writer.inner.now) c.in-Err.fault) c.as_slice-in-Ok-Line.ensures.value (c.in-Err.ensures.of s st))
-    (λ s st m. c.in-Err.ensures.memory s st (ap Err m))
+    let e = c.in-Ok-Line.ensures in
+    running.exit_fault c.lines.invariant.goes (g.R.Read.remaining (reader_inside c.read_line.new.reader)) c.read_line.new.line.items
+    e.one e.short e.within (g.W.Write.contents (writer_inside c.one_line-in-Ok-Line.new.writer)) c.in-Err.fault
+    c.in-Ok-Line.field-0 _ c.in-Ok-Line.field-0-is c.as_slice-in-Ok-Line.ensures.value e.known
+    (line_room c.lines.room c.read_line.new.line.items c.in-Ok-Line.field-0 c.in-Ok-Line.field-0-is e.fits)
+    c.in-Err.ensures.of (λ s st m. c.in-Err.ensures.memory s st (ap Err m))
 
 pub lines-preserved : goal.lines-preserved
-lines-preserved g c = record {
-  numbered = omega (arith, c.in-Ok-Line.ensures.fits, c.len.ensures.value, line_room c.lines.room c.read_line.new.line.items c.in-Ok-Line.field-0 c.in-Ok-Line.field-0-is c.in-Ok-Line.ensures.fits);
-  goes = subst (λ (n : ℕ). Reads (g.R.Read.remaining c.args.reader.now.inner.now) (g.R.Read.remaining c.read_line.new.reader.inner.now) (Going (c.lines.number + 1) (c.lines.room - (n + 1)) c.one_line-in-Ok-Line.new.opened (g.W.Write.contents c.args.writer.now.inner.now) (g.W.Write.contents c.one_line-in-Ok-Line.new.writer.inner.now))) (sym c.len.ensures.value)
-      (running.next_line (g.R.Read.remaining c.args.reader.now.inner.now) (g.R.Read.remaining c.lines.reader.inner.now) (g.R.Read.remaining c.read_line.new.reader.inner.now) (g.W.Write.contents c.args.writer.now.inner.now) (g.W.Write.contents c.lines.writer.inner.now) c.lines.number c.lines.room c.lines.opened c.read_line.new.line.items
-      c.lines.invariant.goes c.in-Ok-Line.ensures.one c.in-Ok-Line.ensures.short (g.W.Write.contents c.one_line-in-Ok-Line.new.writer.inner.now) c.one_line-in-Ok-Line.new.opened c.in-Ok-Line.field-0 c.in-Ok-Line.field-0-is c.in_default.ensures.opened c.in-Ok-Line.ensures.known c.in-Ok-Line.ensures.fits
-      (λ s st. subst (λ (v : List ℕ). IsOkAnd (one_line s c.lines.number v) (λ p. Appends (g.W.Write.contents c.lines.writer.inner.now) (g.W.Write.contents c.one_line-in-Ok-Line.new.writer.inner.now) p.0 × Stands c.one_line-in-Ok-Line.new.opened p.1)) c.as_slice-in-Ok-Line.ensures.value (c.in_default.ensures.of s st)));
-  same_reader = search rules;
-  same_writer = search rules;
-  read_mark = search rules;
-  write_mark = search rules;
-}
+lines-preserved g c =
+    let e = c.in-Ok-Line.ensures in
+    let room : length c.read_line.new.line.items < c.lines.room =
+        line_room c.lines.room c.read_line.new.line.items c.in-Ok-Line.field-0 c.in-Ok-Line.field-0-is e.fits in
+    record {
+      numbered = omega (arith, c.len.ensures.value, room);
+      goes = running.next_line c.lines.invariant.goes (g.R.Read.remaining (reader_inside c.read_line.new.reader)) c.read_line.new.line.items
+          e.one e.short e.within (g.W.Write.contents (writer_inside c.one_line-in-Ok-Line.new.writer)) c.one_line-in-Ok-Line.new.opened
+          c.in-Ok-Line.field-0 _ c.len.result c.in-Ok-Line.field-0-is c.as_slice-in-Ok-Line.ensures.value c.len.ensures.value
+          c.in_default.ensures.opened e.known room c.in_default.ensures.of;
+      calls = omega (arith, c.len.ensures.value, room, e.counts.0, c.lines.invariant.calls);
+      bytes = omega (arith, c.len.ensures.value, room, e.counts.1, c.lines.invariant.bytes);
+      same_reader = search rules;
+      same_writer = search rules;
+      read_mark = search rules;
+      write_mark = search rules;
+    }

@@ -1,6 +1,6 @@
 use Rattle.std.proofs.Common.{◌-◌, length, arith, rules, length-take, length-drop}
-use Rattle.hoare_script.proofs.Known.{Appends-take}
-use Rattle.hoare_script.proofs.streams.write_whole.Goals as goal
+use Rattle.line_text.proofs.Streams.{Appends-take}
+use Rattle.line_text.proofs.writer.WatchedWriter.write_whole.Goals as goal
 
 pub loop-at-preserved : goal.loop-at-preserved
 loop-at-preserved g c =

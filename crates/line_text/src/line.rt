@@ -1,0 +1,68 @@
+//! One line, with limits on its length and on the text.
+ghost use Rattle.std.specs.Prelude.{◌≡◌, ◌+◌, ◌≤◌, ◌||◌, length};
+ghost use Rattle.line_text.specs.Line.{IsLineFor, NoNewline, ReadsLine, is_failed_read};
+ghost use Rattle.line_text.specs.Streams.{HasRead, Reads, has_read_failed, reader_inside, reader_name};
+
+use crate::reader::WatchedReader;
+use arrayvec::ArrayVec;
+use std::io::Read;
+
+/// The most bytes of a line, its end not counted.
+pub const LONGEST_LINE: usize = 256;
+
+/// Room for a line.
+pub type Line = ArrayVec<u8, LONGEST_LINE>;
+
+/// How a line ended: by its byte 10, or with the input.
+#[derive(Clone, Copy, Debug, PartialEq, Eq)]
+pub enum Ended {
+    Line,
+    Last,
+}
+
+/// Why no line was read.
+#[derive(Clone, Copy, Debug, PartialEq, Eq)]
+pub enum LineFault {
+    /// A read failed.
+    Failed,
+    /// The line has over `LONGEST_LINE` bytes.
+    TooLong,
+    /// The line goes on past the room.
+    TooMuch,
+}
+
+/// Reads a line of at most `LONGEST_LINE` bytes, where there is room for so many bytes with its end. It reads byte by byte, and
+/// none behind the end of the line, or the byte that is too many. A byte past the room is looked at before anything else.
+pub fn read_line<R: Read>(
+    reader: &mut WatchedReader<'_, R>,
+    line: &mut Line,
+    room: usize,
+) -> Result<Ended, LineFault>
+    ensures known { Reads (R.remaining (reader_inside reader.old)) (R.remaining (reader_inside reader.new)) (ReadsLine line.new.items result) }
+    ensures fits { IsLineFor room line.new.items result }
+    ensures short { length line.new.items ≤ LONGEST_LINE }
+    ensures within { length line.new.items ≤ room }
+    ensures one { NoNewline line.new.items }
+    ensures counts { HasRead reader.old reader.new (length line.new.items + 1) (length line.new.items + 1) }
+    ensures same_reference { reader_name reader.new ≡ reader_name reader.old }
+    ensures mark { has_read_failed reader.new ≡ (has_read_failed reader.old || is_failed_read result) }
+{
+    line.clear();
+    loop {
+        let byte = match reader.read_byte() {
+            Err(_) => return Err(LineFault::Failed),
+            Ok(None) => return Ok(Ended::Last),
+            Ok(Some(byte)) => byte,
+        };
+        if line.len() >= room {
+            return Err(LineFault::TooMuch);
+        }
+        if byte == b'\n' {
+            return Ok(Ended::Line);
+        }
+        if line.is_full() {
+            return Err(LineFault::TooLong);
+        }
+        line.push(byte);
+    }
+}

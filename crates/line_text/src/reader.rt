@@ -1,0 +1,95 @@
+//! A reader that is watched.
+ghost use Rattle.std.specs.Prelude.{◌≡◌, ◌+◌, ◌≤◌, ◌||◌, false};
+ghost use Rattle.std.specs.Io.{ReadsAtMost};
+ghost use Rattle.std.specs.Io.KnownBytes.{ReadConsumes};
+ghost use Rattle.line_text.specs.Streams.{HasRead, Reads, ReadsByte, bytes_given, count_of, has_read_failed, is_error, read_calls, reader_inside, reader_name};
+
+use std::io;
+use std::io::Read;
+
+/// Another reader, with whether a read of it failed, and how many reads were made and how many bytes they gave: both counts
+/// stay at the greatest number of 64 bits.
+#[derive(Drop)]
+pub struct WatchedReader<'a, R> {
+    inner: &'a mut R,
+    failed: bool,
+    calls: u64,
+    bytes: u64,
+}
+
+/// A read failed.
+#[derive(Clone, Copy, Debug, PartialEq, Eq)]
+pub struct ReadFailed;
+
+impl<'a, R> WatchedReader<'a, R> {
+    /// Around a reader, none of whose reads is counted yet.
+    pub fn new(inner: &'a mut R) -> WatchedReader<'a, R>
+        ensures same_reference { reader_name result ≡ inner.entry.ghost_name }
+        ensures inner { reader_inside result ≡ inner.old }
+        ensures fresh { has_read_failed result ≡ false }
+        ensures no_calls { read_calls result ≡ 0 }
+        ensures no_bytes { bytes_given result ≡ 0 }
+    {
+        WatchedReader {
+            inner,
+            failed: false,
+            calls: 0,
+            bytes: 0,
+        }
+    }
+
+    /// Whether a read of the reader inside failed.
+    pub fn has_failed(&self) -> bool
+        ensures { result ≡ has_read_failed self.now }
+    {
+        self.failed
+    }
+
+    /// How many reads were made.
+    pub fn calls(&self) -> u64
+        ensures { result ≡ read_calls self.now }
+    {
+        self.calls
+    }
+
+    /// How many bytes they gave.
+    pub fn bytes(&self) -> u64
+        ensures { result ≡ bytes_given self.now }
+    {
+        self.bytes
+    }
+}
+
+impl<'a, R: Read> WatchedReader<'a, R> {
+    // One read of the reader inside. It sets the mark exactly where that read fails.
+    fn read(&mut self, buf: &mut [u8]) -> io::Result<usize>
+        ensures bound { ReadsAtMost result buf.new }
+        ensures bytes { ReadConsumes (R.remaining (reader_inside self.old)) (R.remaining (reader_inside self.new)) result buf.new }
+        ensures same_reference { reader_name self.new ≡ reader_name self.old }
+        ensures mark { has_read_failed self.new ≡ (has_read_failed self.old || is_error result) }
+        ensures counts { HasRead self.old self.new 1 (count_of result) }
+    {
+        let result = self.inner.read(buf);
+        self.calls = self.calls.saturating_add(1);
+        match result {
+            Ok(n) => self.bytes = self.bytes.saturating_add(n as u64),
+            Err(_) => self.failed = true,
+        }
+        result
+    }
+
+    /// The next byte, if there is one. Refused where a read fails.
+    pub fn read_byte(&mut self) -> Result<Option<u8>, ReadFailed>
+        ensures known { Reads (R.remaining (reader_inside self.old)) (R.remaining (reader_inside self.new)) (ReadsByte result) }
+        ensures same_reference { reader_name self.new ≡ reader_name self.old }
+        ensures mark { has_read_failed self.new ≡ (has_read_failed self.old || is_error result) }
+        ensures counts { HasRead self.old self.new 1 1 }
+    {
+        let mut buffer = [0u8; 1];
+        match self.read(&mut buffer) {
+            Ok(0) => Ok(None),
+            Ok(_) => Ok(Some(buffer[0])),
+            Err(_) => Err(ReadFailed),
+        }
+    }
+}

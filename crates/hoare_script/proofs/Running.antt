@@ -1,6 +1,6 @@
 -- How a run goes on, line by line.
-use Rattle.std.proofs.Common.{◌≡◌, ◌≢◌, ℕ, zero, suc, ◌+◌, ◌-◌, ◌<◌, ◌≤◌, List, [], ◌∷◌, ◌++◌, length, take, drop, Option, Some, None, Result, Ok, Err}
-use Rattle.std.proofs.Common.{refl, ap, sym, ◌∙◌, append_assoc, subst, eqb, cond, true, false, arith, length-append, add-one}
+use Rattle.std.proofs.Common.{◌≡◌, ◌≢◌, ℕ, suc, ◌+◌, ◌-◌, ◌<◌, ◌≤◌, List, [], ◌∷◌, ◌++◌, length, take, drop, Option, Some, None, Result, Ok, Err}
+use Rattle.std.proofs.Common.{refl, ap, sym, ◌∙◌, append_assoc, subst, eqb, cond, true, arith, length-append}
 use Rattle.std.proofs.KnownBytes.{Appends-nil, Appends-trans}
 use Rattle.std.proofs.Math.Seq.{take-append-add, drop-append_seam}
 use Rattle.std.proofs.lemmas.Bool.{ne_eqb}
@@ -114,8 +114,10 @@ module _ (number room : ℕ) (opened : Option Contents) (old now : Option (List 
   -- what the lines before were answered
   told-before : (told at_cut g.read).written ≡ g.written
   told-before =
-      let none : told_from at_cut g.state number room [] ≡ stop faults.ReadFault = told_from-end at_cut g.state number room [] (λ k d h. absurd (omega arith)) (omega arith) (omega arith) in
-      let all : told at_cut g.read ≡ prepend g.written (stop faults.ReadFault) = ap (told at_cut) (sym (append-nil g.read)) ∙ g.goes at_cut [] ∙ ap (prepend g.written) none in
+      let none : told_from at_cut g.state number room [] ≡ stop faults.ReadFault =
+      told_from-end at_cut g.state number room [] (λ k d h. absurd (omega arith)) (omega arith) (omega arith) in
+      let all : told at_cut g.read ≡ prepend g.written (stop faults.ReadFault) =
+      ap (told at_cut) (sym (append-nil g.read)) ∙ g.goes at_cut [] ∙ ap (prepend g.written) none in
       ap (λ (v : Told). v.written) all ∙ append-nil g.written
 
   -- the line was too long
@@ -124,10 +126,10 @@ module _ (number room : ℕ) (opened : Option Contents) (old now : Option (List 
   Tells-long_line l x b n d h r e =
       let line : number - 1 ≡ g.lines = omega (arith, g.numbered) in
       let bytes : after_lines (number - 1) t0 ≡ (l ++ b ∷ []) ++ x =
-          ap (λ i. after_lines i t0) line ∙ sym g.behind ∙ e ∙ sym (append_assoc l (b ∷ []) x) in (
+      ap (λ i. after_lines i t0) line ∙ sym g.behind ∙ e ∙ sym (append_assoc l (b ∷ []) x) in (
         Whole-stop now (faults.LineTooLong number) (Appends-nil now)
-        (ap (told_from at_end g.state number room) e ∙ told_from-long_line at_end g.state number room l b x n d h r),
-        sym (ap (drop 257) bytes ∙ drop-read 257 (l ++ b ∷ []) x (omega (arith, length-append l (b ∷ []), h))),
+            (ap (told_from at_end g.state number room) e ∙ told_from-long_line at_end g.state number room l b x n d h r),
+        sym (ap (drop (LONGEST_LINE + 1)) bytes ∙ drop-read (LONGEST_LINE + 1) (l ++ b ∷ []) x (omega (arith, length-append l (b ∷ []), h))),
       )
 
   -- a byte past the limit
@@ -136,11 +138,11 @@ module _ (number room : ℕ) (opened : Option Contents) (old now : Option (List 
   Tells-past_limit l x b n h r e =
       let front : List ℕ = g.read ++ (l ++ b ∷ []) in
       let bytes : t0 ≡ front ++ x =
-          g.whole ∙ ap (λ v. g.read ++ v) (e ∙ sym (append_assoc l (b ∷ []) x)) ∙ sym (append_assoc g.read (l ++ b ∷ []) x) in
+      g.whole ∙ ap (λ v. g.read ++ v) (e ∙ sym (append_assoc l (b ∷ []) x)) ∙ sym (append_assoc g.read (l ++ b ∷ []) x) in
       let count : length front ≡ MOST_BYTES + 1 =
-          omega (arith, length-append g.read (l ++ b ∷ []), length-append l (b ∷ []), g.counted, r) in (
+      omega (arith, length-append g.read (l ++ b ∷ []), length-append l (b ∷ []), g.counted, r) in (
         Whole-stop now faults.TooMuch (Appends-nil now)
-        (ap (told_from at_end g.state number room) e ∙ told_from-past_limit at_end g.state number room l b x n h r),
+            (ap (told_from at_end g.state number room) e ∙ told_from-past_limit at_end g.state number room l b x n h r),
         sym (ap (drop (MOST_BYTES + 1)) bytes ∙ drop-read (MOST_BYTES + 1) front x count),
       )
 
@@ -150,7 +152,7 @@ module _ (number room : ℕ) (opened : Option Contents) (old now : Option (List 
   Tells-cut l x n h r e =
       let bytes : t0 ≡ (g.read ++ l) ++ x = g.whole ∙ ap (λ v. g.read ++ v) e ∙ sym (append_assoc g.read l x) in
       let fault : told at_cut (g.read ++ l) ≡ prepend g.written (stop faults.ReadFault) =
-          g.goes at_cut l ∙ ap (prepend g.written) (told_from-end at_cut g.state number room l n h r) in (
+      g.goes at_cut l ∙ ap (prepend g.written) (told_from-end at_cut g.state number room l n h r) in (
         (g.read ++ l, bytes, Whole-fault old now now g.written (told at_cut (g.read ++ l)) faults.ReadFault g.appends (Appends-nil now) fault),
         (g.read ++ l, bytes),
       )
@@ -166,18 +168,21 @@ module _ (number room : ℕ) (opened : Option Contents) (old now : Option (List 
       let r : List ℕ = (go q.0.1).written in
       let n : ℕ = q.2.0 in
       let all : (told at_end t0).written ≡ w ++ (p ++ r) =
-          ap (λ (v : Told). v.written) (told-rest at_end ∙ ap (prepend w) (e ∙ ap (λ (v : Outcome). then_on v go) q.1)) in
+      ap (λ (v : Told). v.written) (told-rest at_end ∙ ap (prepend w) (e ∙ ap (λ (v : Outcome). then_on v go) q.1)) in
       let some : take (length w + n) (told at_end t0).written ≡ w ++ take n p =
-          ap (take (length w + n)) all ∙ sym (append-take_prefix w p r n (omega (arith, q.2.1))) in (
-        (g.lines, (
-          g.read,
-          length w + n,
-          g.whole ∙ ap (λ v. g.read ++ v) g.behind,
-          b,
-          omega (arith, ap length told-before),
-          omega (arith, ap length all, length-append w (p ++ r), length-append p r, q.2.1),
-          subst (λ (v : List ℕ). Appends old new v) (sym some) (Appends-trans old now new w (take n p) g.appends q.2.2),
-        )),
+      ap (take (length w + n)) all ∙ sym (append-take_prefix w p r n (omega (arith, q.2.1))) in (
+        (
+          g.lines,
+          (
+            g.read,
+            length w + n,
+            g.whole ∙ ap (λ v. g.read ++ v) g.behind,
+            b,
+            omega (arith, ap length told-before),
+            omega (arith, ap length all, length-append w (p ++ r), length-append p r, q.2.1),
+            subst (λ (v : List ℕ). Appends old new v) (sym some) (Appends-trans old now new w (take n p) g.appends q.2.2),
+          ),
+        ),
         (suc g.lines, b),
       )
 
@@ -210,9 +215,9 @@ module _ (number room : ℕ) (opened : Option Contents) (old now : Option (List 
   Tells-end new x out P e z o =
       let q : (p : List ℕ × State) × (out ≡ Ok p) × (Appends now new p.0 × P p.1) = IsOkAnd-parts out (λ p. Appends now new p.0 × P p.1) o in
       let all : told at_end t0 ≡ prepend g.written (prepend q.0.0 done) =
-          told-rest at_end ∙ ap (prepend g.written) (e ∙ ap (λ (v : Outcome). then_on v (λ _. done)) q.1) in
+      told-rest at_end ∙ ap (prepend g.written) (e ∙ ap (λ (v : Outcome). then_on v (λ _. done)) q.1) in
       let text : g.written ++ q.0.0 ≡ (told at_end t0).written =
-          ap (λ v. g.written ++ v) (sym (append-nil q.0.0)) ∙ sym (ap (λ (v : Told). v.written) all) in (
+      ap (λ v. g.written ++ v) (sym (append-nil q.0.0)) ∙ sym (ap (λ (v : Told). v.written) all) in (
         (subst (λ (v : List ℕ). Appends old new v) text (Appends-trans old now new g.written q.0.0 g.appends q.2.0), ap (λ (v : Told). v.fault) all),
         z,
       )
@@ -233,7 +238,7 @@ module _ (number room : ℕ) (opened : Option Contents) (old now : Option (List 
   Tells-done : (x : List ℕ) → t ≡ [] → x ≡ [] → (number ≡ 1 → ⊥) → Tells t0 x old now (Ok tt)
   Tells-done x e z n =
       let rest : told_from at_end g.state number room t ≡ done =
-          told_from-nothing e ∙ ap (λ b. cond b (stop faults.NoHeader) done) (ne_eqb number 1 n) in
+      told_from-nothing e ∙ ap (λ b. cond b (stop faults.NoHeader) done) (ne_eqb number 1 n) in
       let all : told at_end t0 ≡ prepend g.written done = told-rest at_end ∙ ap (prepend g.written) rest in
       let text : g.written ≡ (told at_end t0).written = sym (append-nil g.written) ∙ sym (ap (λ (v : Told). v.written) all) in
       ((subst (λ (v : List ℕ). Appends old now v) text g.appends, ap (λ (v : Told). v.fault) all), z)
@@ -244,7 +249,7 @@ module _ (number room : ℕ) (opened : Option Contents) (old now : Option (List 
       → Going (number + 1) (room - (length l + 1)) (Some d) old new t0 x
   Going-line d new l x n h r e o =
       let q : (p : List ℕ × State) × (one_line g.state number l ≡ Ok p) × (Appends now new p.0 × IsAt (Some d) p.1) =
-          IsOkAnd-parts _ (λ p. Appends now new p.0 × IsAt (Some d) p.1) o in
+      IsOkAnd-parts _ (λ p. Appends now new p.0 × IsAt (Some d) p.1) o in
       let line : List ℕ = l ++ 10 ∷ [] in
       record {
         state = q.0.1;
@@ -258,7 +263,7 @@ module _ (number room : ℕ) (opened : Option Contents) (old now : Option (List 
             ap (told f) (append_assoc g.read line y ∙ ap (λ v. g.read ++ v) (append_assoc l (10 ∷ []) y))
             ∙ g.goes f (l ++ 10 ∷ y)
             ∙ ap (prepend g.written) (told_from-line f g.state number room l y n h r
-                ∙ ap (λ (v : Outcome). then_on v (λ s. told_from f s (number + 1) (room - (length l + 1)) y)) q.1)
+            ∙ ap (λ (v : Outcome). then_on v (λ s. told_from f s (number + 1) (room - (length l + 1)) y)) q.1)
             ∙ prepend-prepend g.written q.0.0 (told_from f q.0.1 (number + 1) (room - (length l + 1)) y);
         fresh = λ z. let bad : Some d ≡ None = IsAt-start (Some d) q.0.1 q.2.1 z in absurd (cc);
         numbered = omega (arith, g.numbered);
@@ -278,14 +283,9 @@ Reads-start (Some t) old = Going-start old t
 pub Known-start : (k old : Option (List ℕ)) → Known k k old old 1 MOST_BYTES None
 Known-start k old = record { goes = Reads-start k old }
 
--- a verdict tells two things: what is written, and what is read
-pub Reads-map : (k m : Option (List ℕ)) (P Q : List ℕ → List ℕ → Type 0) → ((t x : List ℕ) → P t x → Q t x) → Reads k m P → Reads k m Q
-Reads-map None m P Q f p = tt
-Reads-map (Some t) None P Q f p = absurd p
-Reads-map (Some t) (Some x) P Q f p = f t x p
-
 -- The ways out of the loop, and its turn: a line l was read, and m is left.
-module _ {k0 k old now : Option (List ℕ)} {number room : ℕ} {opened : Option Contents} (h : Known k0 k old now number room opened) (m : Option (List ℕ)) (l : List ℕ) (one : NoNewline l) (short : length l ≤ LONGEST_LINE) (within : length l ≤ room) where
+module _ {k0 k old now : Option (List ℕ)} {number room : ℕ} {opened : Option Contents} (h : Known k0 k old now number room opened)
+    (m : Option (List ℕ)) (l : List ℕ) (one : NoNewline l) (short : length l ≤ LONGEST_LINE) (within : length l ≤ room) where
   pub exit_failed : (f : LineFault) → f ≡ why.Failed → Reads k m (ReadsLine l (Err f))
       → Reads k0 m (λ text left. Tells text left old now (Err faults.ReadFault))
   exit_failed f e r =
@@ -299,8 +299,8 @@ module _ {k0 k old now : Option (List ℕ)} {number room : ℕ} {opened : Option
       let fits : (length l ≡ LONGEST_LINE) × (LONGEST_LINE < room) = subst (λ (v : LineFault). IsLineFor room l (Err v)) e s in
       Reads-trans k0 k m (Going number room opened old now) (ReadsLine l (Err f)) (λ text left. Tells text left old now (Err (faults.LineTooLong number)))
       (λ t0 t x g p.
-          let b : (b : ℕ) × (b ≢ 10) × (t ≡ l ++ b ∷ x) = subst (λ (v : LineFault). ReadsLine l (Err v) t x) e p in
-          Tells-long_line number room opened old now t0 t g l x b.0 one b.1 fits.0 fits.1 b.2)
+      let b : (b : ℕ) × (b ≢ 10) × (t ≡ l ++ b ∷ x) = subst (λ (v : LineFault). ReadsLine l (Err v) t x) e p in
+      Tells-long_line number room opened old now t0 t g l x b.0 one b.1 fits.0 fits.1 b.2)
       h.goes r
 
   pub exit_much : (f : LineFault) → f ≡ why.TooMuch → Reads k m (ReadsLine l (Err f)) → IsLineFor room l (Err f)
@@ -309,8 +309,8 @@ module _ {k0 k old now : Option (List ℕ)} {number room : ℕ} {opened : Option
       let fits : length l ≡ room = subst (λ (v : LineFault). IsLineFor room l (Err v)) e s in
       Reads-trans k0 k m (Going number room opened old now) (ReadsLine l (Err f)) (λ text left. Tells text left old now (Err faults.TooMuch))
       (λ t0 t x g p.
-          let b : (b : ℕ) × (t ≡ l ++ b ∷ x) = subst (λ (v : LineFault). ReadsLine l (Err v) t x) e p in
-          Tells-past_limit number room opened old now t0 t g l x b.0 one short fits b.1)
+      let b : (b : ℕ) × (t ≡ l ++ b ∷ x) = subst (λ (v : LineFault). ReadsLine l (Err v) t x) e p in
+      Tells-past_limit number room opened old now t0 t g l x b.0 one short fits b.1)
       h.goes r
 
   pub exit_empty : (f : Ended) → f ≡ how.Last → Reads k m (ReadsLine l (Ok f)) → l ≡ [] → number ≡ 1
@@ -318,8 +318,8 @@ module _ {k0 k old now : Option (List ℕ)} {number room : ℕ} {opened : Option
   exit_empty f e r z n =
       Reads-trans k0 k m (Going number room opened old now) (ReadsLine l (Ok f)) (λ text left. Tells text left old now (Err faults.NoHeader))
       (λ t0 t x g p.
-          let b : (t ≡ l) × (x ≡ []) = subst (λ (v : Ended). ReadsLine l (Ok v) t x) e p in
-          Tells-no_header number room opened old now t0 t g x (b.0 ∙ z) b.1 n)
+      let b : (t ≡ l) × (x ≡ []) = subst (λ (v : Ended). ReadsLine l (Ok v) t x) e p in
+      Tells-no_header number room opened old now t0 t g x (b.0 ∙ z) b.1 n)
       h.goes r
 
   pub exit_done : (f : Ended) → f ≡ how.Last → Reads k m (ReadsLine l (Ok f)) → l ≡ [] → (number ≡ 1 → ⊥)
@@ -327,8 +327,8 @@ module _ {k0 k old now : Option (List ℕ)} {number room : ℕ} {opened : Option
   exit_done f e r z n =
       Reads-trans k0 k m (Going number room opened old now) (ReadsLine l (Ok f)) (λ text left. Tells text left old now (Ok tt))
       (λ t0 t x g p.
-          let b : (t ≡ l) × (x ≡ []) = subst (λ (v : Ended). ReadsLine l (Ok v) t x) e p in
-          Tells-done number room opened old now t0 t g x (b.0 ∙ z) b.1 n)
+      let b : (t ≡ l) × (x ≡ []) = subst (λ (v : Ended). ReadsLine l (Ok v) t x) e p in
+      Tells-done number room opened old now t0 t g x (b.0 ∙ z) b.1 n)
       h.goes r
 
   -- what the last line is told
@@ -353,8 +353,8 @@ module _ {k0 k old now : Option (List ℕ)} {number room : ℕ} {opened : Option
   exit_last n d res f line e i r z o c =
       Reads-trans k0 k m (Going number room opened old now) (ReadsLine l (Ok f)) (λ text left. Tells text left old n res)
       (λ t0 t x g p.
-          let b : (t ≡ l) × (x ≡ []) = subst (λ (v : Ended). ReadsLine l (Ok v) t x) e p in
-          last_line n d res t0 t x g b.0 b.1 z (subst (λ (v : List ℕ). Follows (one_line g.state number v) now n d res) i (o g.state g.at)) (c g.state g.at))
+      let b : (t ≡ l) × (x ≡ []) = subst (λ (v : Ended). ReadsLine l (Ok v) t x) e p in
+      last_line n d res t0 t x g b.0 b.1 z (subst (λ (v : List ℕ). Follows (one_line g.state number v) now n d res) i (o g.state g.at)) (c g.state g.at))
       h.goes r
 
   pub exit_fault : (n : Option (List ℕ)) (bad : ScriptFault) (f : Ended) (line : List ℕ)
@@ -365,11 +365,11 @@ module _ {k0 k old now : Option (List ℕ)} {number room : ℕ} {opened : Option
   exit_fault n bad f line e i r fits o c =
       Reads-trans k0 k m (Going number room opened old now) (ReadsLine l (Ok f)) (λ text left. Tells text left old n (Err bad))
       (λ t0 t x g p.
-          let b : t ≡ l ++ 10 ∷ x = subst (λ (v : Ended). ReadsLine l (Ok v) t x) e p in
-          Tells-fault number room opened old now t0 t g n l x (λ v. told_from at_end v (number + 1) (room - (length l + 1)) x) bad
-          (ap (told_from at_end g.state number room) b ∙ told_from-line at_end g.state number room l x one short fits)
-          (behind-line number room opened old now t0 t g l x one b)
-          (subst (λ (v : List ℕ). OnFault (one_line g.state number v) now n bad) i (o g.state g.at)) (c g.state g.at))
+      let b : t ≡ l ++ 10 ∷ x = subst (λ (v : Ended). ReadsLine l (Ok v) t x) e p in
+      Tells-fault number room opened old now t0 t g n l x (λ v. told_from at_end v (number + 1) (room - (length l + 1)) x) bad
+      (ap (told_from at_end g.state number room) b ∙ told_from-line at_end g.state number room l x one short fits)
+      (behind-line number room opened old now t0 t g l x one b)
+      (subst (λ (v : List ℕ). OnFault (one_line g.state number v) now n bad) i (o g.state g.at)) (c g.state g.at))
       h.goes r
 
   Going-next : (n : Option (List ℕ)) (d : Option Contents) (t0 t x : List ℕ) → (d ≡ None → ⊥) → (g : Going number room opened old now t0 t)
@@ -384,10 +384,10 @@ module _ {k0 k old now : Option (List ℕ)} {number room : ℕ} {opened : Option
       → Known k0 m old n (number + 1) (room - (size + 1)) d
   next_line n d f line size e j z i r fits o =
       let goes : Reads k0 m (Going (number + 1) (room - (length l + 1)) d old n) =
-          Reads-trans k0 k m (Going number room opened old now) (ReadsLine l (Ok f)) (Going (number + 1) (room - (length l + 1)) d old n)
-          (λ t0 t x g p.
-              let b : t ≡ l ++ 10 ∷ x = subst (λ (v : Ended). ReadsLine l (Ok v) t x) e p in
-              Going-next n d t0 t x i g fits b
-              (subst (λ (v : List ℕ). IsOkAnd (one_line g.state number v) (λ p. Appends now n p.0 × IsAt d p.1)) j (o g.state g.at)))
-          h.goes r in
+      Reads-trans k0 k m (Going number room opened old now) (ReadsLine l (Ok f)) (Going (number + 1) (room - (length l + 1)) d old n)
+      (λ t0 t x g p.
+      let b : t ≡ l ++ 10 ∷ x = subst (λ (v : Ended). ReadsLine l (Ok v) t x) e p in
+      Going-next n d t0 t x i g fits b
+      (subst (λ (v : List ℕ). IsOkAnd (one_line g.state number v) (λ p. Appends now n p.0 × IsAt d p.1)) j (o g.state g.at)))
+      h.goes r in
       record { goes = subst (λ (u : ℕ). Reads k0 m (Going (number + 1) (room - (u + 1)) d old n)) (sym z) goes }

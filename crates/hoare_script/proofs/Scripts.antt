@@ -1,5 +1,6 @@
 -- What a script is told, by how its next line ends.
-use Rattle.std.proofs.Common.{◌≡◌, ◌≢◌, ℕ, suc, ◌+◌, ◌-◌, ◌<◌, ◌≤◌, Bool, true, false, cond, ltb, List, [], ◌∷◌, ◌++◌, length, take, refl, ap, sym, ◌∙◌, append_assoc, length-append, arith}
+use Rattle.std.proofs.Common.{◌≡◌, ◌≢◌, ℕ, suc, ◌+◌, ◌-◌, ◌<◌, ◌≤◌, Bool, true, false, cond, ltb, List, [], ◌∷◌, ◌++◌, length, take}
+use Rattle.std.proofs.Common.{refl, ap, sym, ◌∙◌, append_assoc, length-append, arith}
 use Rattle.std.specs.List.{slice_split, onto_first}
 use Rattle.std.proofs.Math.Seq.{take-append-add, take-append_seam}
 use Rattle.std.proofs.lemmas.Bool.{lt-ltb, le-ltb, ne_eqb}
@@ -42,9 +43,9 @@ unfolding told_from
 told_from-line e s i room l x n h r =
     let m : ℕ = room - (length l + 1) in
     let parts : slice_split is_newline (take room (l ++ 10 ∷ x)) ≡ l ∷ slice_split is_newline (take m x) =
-        ap (slice_split is_newline) (take-line room l 10 x r) ∙ slice_split_at is_newline l 10 (take m x) n refl in
+    ap (slice_split is_newline) (take-line room l 10 x r) ∙ slice_split_at is_newline l 10 (take m x) n refl in
     let over : ltb room (length (l ++ 10 ∷ x)) ≡ ltb m (length x) =
-        ltb-same _ _ _ _ (λ a. omega (arith, length-append l (10 ∷ x))) (λ a. omega (arith, length-append l (10 ∷ x))) in
+    ltb-same _ _ _ _ (λ a. omega (arith, length-append l (10 ∷ x))) (λ a. omega (arith, length-append l (10 ∷ x))) in
     rw (parts, over) (told_lines-line e (ltb m (length x)) s i l (slice_split is_newline (take m x))
     (slice_split-some is_newline (take m x)) h)
 
@@ -59,9 +60,12 @@ slice_split-prefix : (l y : List ℕ) → NoNewline l
 slice_split-prefix [] y n = cons_of (slice_split is_newline y) (slice_split-some is_newline y)
 slice_split-prefix (c ∷ l) y n =
     let r : (p : List ℕ) × (ps : List (List ℕ)) × (slice_split is_newline (l ++ y) ≡ (l ++ p) ∷ ps) =
-        slice_split-prefix l y (All-tail (λ b. is_newline b ≡ false) c l n) in
-    (r.0, r.1, slice_split-cons_no is_newline c (l ++ y) (All-head (λ b. is_newline b ≡ false) c l n)
-        ∙ ap (onto_first c) r.2)
+    slice_split-prefix l y (All-tail (λ b. is_newline b ≡ false) c l n) in (
+      r.0,
+      r.1,
+      slice_split-cons_no is_newline c (l ++ y) (All-head (λ b. is_newline b ≡ false) c l n)
+          ∙ ap (onto_first c) r.2,
+    )
 
 -- a line that is too long
 pub told_from-long_line : (e : Ending) (s : State) (i room : ℕ) (l : List ℕ) (b : ℕ) (x : List ℕ) → NoNewline l → b ≢ 10 → length l ≡ 256 → 256 < room
@@ -71,9 +75,9 @@ told_from-long_line e s i room l b x n d h r =
     let y : List ℕ = take (room - (length l + 1)) x in
     let bytes : take room (l ++ b ∷ x) ≡ (l ++ b ∷ []) ++ y = take-line room l b x (omega arith) ∙ sym (append_assoc l (b ∷ []) y) in
     let f : (p : List ℕ) × (ps : List (List ℕ)) × (slice_split is_newline ((l ++ b ∷ []) ++ y) ≡ ((l ++ b ∷ []) ++ p) ∷ ps) =
-        slice_split-prefix (l ++ b ∷ []) y (All-push (λ c. is_newline c ≡ false) l b n (ne_eqb b 10 d)) in
+    slice_split-prefix (l ++ b ∷ []) y (All-push (λ c. is_newline c ≡ false) l b n (ne_eqb b 10 d)) in
     let parts : slice_split is_newline (take room (l ++ b ∷ x)) ≡ ((l ++ b ∷ []) ++ f.0) ∷ f.1 =
-        ap (slice_split is_newline) bytes ∙ f.2 in
+    ap (slice_split is_newline) bytes ∙ f.2 in
     ap (told_lines e (ltb room (length (l ++ b ∷ x))) s i) parts
     ∙ told_lines-long e (ltb room (length (l ++ b ∷ x))) s i ((l ++ b ∷ []) ++ f.0) f.1
     (omega (arith, length-append (l ++ b ∷ []) f.0, length-append l (b ∷ [])))
@@ -90,7 +94,7 @@ unfolding told_from
 told_from-past_limit e s i room l b x n h r =
     let bytes : take room (l ++ b ∷ x) ≡ l = ap (λ m. take m (l ++ b ∷ x)) (sym r) ∙ take-append_seam l (b ∷ x) in
     let parts : slice_split is_newline (take room (l ++ b ∷ x)) ≡ l ∷ [] =
-        ap (slice_split is_newline) bytes ∙ slice_split_none is_newline l n in
+    ap (slice_split is_newline) bytes ∙ slice_split_none is_newline l n in
     let over : ltb room (length (l ++ b ∷ x)) ≡ true = lt-ltb _ _ (omega (arith, length-append l (b ∷ x))) in
     rw (parts, over) (told_lines-last e true s i l h)
 
@@ -100,6 +104,6 @@ pub told_from-end : (e : Ending) (s : State) (i room : ℕ) (l : List ℕ) → N
 unfolding told_from
 told_from-end e s i room l n h r =
     let parts : slice_split is_newline (take room l) ≡ l ∷ [] =
-        ap (slice_split is_newline) (take_all room l r) ∙ slice_split_none is_newline l n in
+    ap (slice_split is_newline) (take_all room l r) ∙ slice_split_none is_newline l n in
     let over : ltb room (length l) ≡ false = le-ltb _ _ r in
     rw (parts, over) (told_lines-last e false s i l h)

@@ -1,4 +1,4 @@
--- The grammar: how a line spells a header or a command. Its words and numbers are those of line_text.
+-- How a line spells a header or a command. Its words and numbers are those of line_text.
 use Rattle.std.specs.Prelude.{ℕ, if◌then◌else◌, List, [], ◌∷◌, Option, Some, None, codes}
 use Rattle.std.specs.Str.{bytes_eq}
 use Rattle.line_text.specs.Words.{number_of, with_number, words_of}
@@ -31,7 +31,9 @@ abbrev pub command_of_two : List ℕ → List ℕ → List ℕ → Option Comman
 command_of_two w a b = with_number (number_of a) (λ k. with_number (number_of b) (named_two w k))
 
 abbrev pub command_of_three : List ℕ → List ℕ → List ℕ → List ℕ → Option Command
-command_of_three w a b p = with_number (number_of a) (λ k. with_number (number_of b) (λ c. with_number (number_of p) (named_three w k c)))
+command_of_three w a b p =
+    with_number (number_of a) (λ k. with_number (number_of b) (λ c.
+    with_number (number_of p) (named_three w k c)))
 
 abbrev pub command_of_words : List (List ℕ) → Option Command
 command_of_words [] = None
@@ -53,7 +55,8 @@ header_of_words [] = None
 header_of_words (w ∷ []) = None
 header_of_words (w ∷ a ∷ []) = None
 header_of_words (w ∷ a ∷ b ∷ []) =
-    if bytes_eq w (codes "monitor") then with_number (number_of a) (λ p. with_number (number_of b) (header_with p)) else None
+    if bytes_eq w (codes "monitor") then with_number (number_of a) (λ p. with_number (number_of b) (header_with p))
+    else None
 header_of_words (w ∷ a ∷ b ∷ p ∷ xs) = None
 
 -- the header that a line spells, with any numbers

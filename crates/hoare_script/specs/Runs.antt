@@ -1,5 +1,6 @@
 -- What a run reads, writes and answers, by the input; and the status of a fault.
-use Rattle.std.specs.Prelude.{ℕ, zero, suc, ◌≡◌, ◌≤◌, ◌<◌, ◌+◌, ◌-◌, Bool, true, false, List, [], ◌++◌, length, take, drop, Option, Some, None, Result, Ok, Err, IsOkAnd, ⊤}
+use Rattle.std.specs.Prelude.{ℕ, suc, ◌≡◌, ◌≤◌, ◌<◌, ◌+◌, ◌-◌, Bool, true, false, List, [], ◌++◌, length, take, drop}
+use Rattle.std.specs.Prelude.{Option, Some, None, Result, Ok, Err, IsOkAnd, ⊤}
 use Rattle.std.specs.Io.KnownBytes.{Appends}
 use Rattle.line_text.specs.declared.line.TheConstants.{LONGEST_LINE}
 use Rattle.line_text.specs.Line.{after_lines}
@@ -14,34 +15,37 @@ use Rattle.hoare_script.specs.Scripts.{State, Start, Running, Outcome, Told, tol
 abbrev pub Whole : Told → Option (List ℕ) → Option (List ℕ) → Option ScriptFault → Type 0
 Whole t old new f = Appends old new t.written × (t.fault ≡ f)
 
--- after i lines of text one more was read: what the i are answered is written, and not all that the text is
+-- after i lines of text the next one is read: the answers to the i are written, and not all answers
 abbrev pub BreaksOff : ℕ → List ℕ → List ℕ → Option (List ℕ) → Option (List ℕ) → Type 0
 BreaksOff i text left old new =
-    (read : List ℕ) × (n : ℕ) × (text ≡ read ++ after_lines i text) × (left ≡ after_lines (suc i) text)
+    (read : List ℕ) × (n : ℕ)
+    × (text ≡ read ++ after_lines i text) × (left ≡ after_lines (suc i) text)
     × (length (told at_cut read).written ≤ n) × (n < length (told at_end text).written)
     × Appends old new (take n (told at_end text).written)
 
+-- a run's verdict
+abbrev pub Verdict : Type 0
+Verdict = Result (Unit {0}) ScriptFault
+
 -- what a run over text writes, by its verdict, where it leaves left of the text
-abbrev pub Writes : List ℕ → List ℕ → Option (List ℕ) → Option (List ℕ) → Result (Unit {0}) ScriptFault → Type 0
+abbrev pub Writes : List ℕ → List ℕ → Option (List ℕ) → Option (List ℕ) → Verdict → Type 0
 Writes text left old new (Ok u) = Whole (told at_end text) old new None
 -- the answers to the lines that were read whole
 Writes text left old new (Err faults.ReadFault) =
     (read : List ℕ) × (text ≡ read ++ left) × Whole (told at_cut read) old new (Some faults.ReadFault)
 Writes text left old new (Err faults.WriteFault) = (i : ℕ) × BreaksOff i text left old new
 Writes text left old new (Err faults.Memory) = Appends old new []
-Writes text left old new (Err faults.NoHeader) = Whole (told at_end text) old new (Some faults.NoHeader)
-Writes text left old new (Err (faults.BadLine i)) = Whole (told at_end text) old new (Some (faults.BadLine i))
-Writes text left old new (Err (faults.BadHeader i)) = Whole (told at_end text) old new (Some (faults.BadHeader i))
-Writes text left old new (Err (faults.LineTooLong i)) = Whole (told at_end text) old new (Some (faults.LineTooLong i))
-Writes text left old new (Err faults.TooMuch) = Whole (told at_end text) old new (Some faults.TooMuch)
+-- the answers to the lines before it, and it is the fault that the text has
+Writes text left old new (Err f) = Whole (told at_end text) old new (Some f)
 
--- what a run leaves of a text, by its verdict: nothing behind the byte at which the verdict stands is read
-abbrev pub Leaves : List ℕ → List ℕ → Result (Unit {0}) ScriptFault → Type 0
+-- what a run leaves of a text, by its verdict: nothing behind the byte at which it stands is read
+abbrev pub Leaves : List ℕ → List ℕ → Verdict → Type 0
 Leaves text left (Ok u) = left ≡ []
 Leaves text left (Err faults.NoHeader) = left ≡ []
 Leaves text left (Err faults.TooMuch) = left ≡ drop (MOST_BYTES + 1) text
 -- of its line the byte that is too many is the last
-Leaves text left (Err (faults.LineTooLong i)) = left ≡ drop (LONGEST_LINE + 1) (after_lines (i - 1) text)
+Leaves text left (Err (faults.LineTooLong i)) =
+    left ≡ drop (LONGEST_LINE + 1) (after_lines (i - 1) text)
 -- its line and the end of it are read
 Leaves text left (Err (faults.BadLine i)) = left ≡ after_lines i text
 Leaves text left (Err (faults.BadHeader i)) = left ≡ after_lines i text
@@ -51,7 +55,7 @@ Leaves text left (Err faults.WriteFault) = (i : ℕ) × (left ≡ after_lines i 
 Leaves text left (Err faults.ReadFault) = (read : List ℕ) × (text ≡ read ++ left)
 
 -- both
-abbrev pub Tells : List ℕ → List ℕ → Option (List ℕ) → Option (List ℕ) → Result (Unit {0}) ScriptFault → Type 0
+abbrev pub Tells : List ℕ → List ℕ → Option (List ℕ) → Option (List ℕ) → Verdict → Type 0
 Tells text left old new r = Writes text left old new r × Leaves text left r
 
 -- the book, if there is one, is where the script is
@@ -73,7 +77,7 @@ OnFault out old new (faults.LineTooLong i) = ⊥
 OnFault out old new faults.TooMuch = ⊥
 
 -- what a line leaves: its answer, and a book that goes on
-abbrev pub Follows : Outcome → Option (List ℕ) → Option (List ℕ) → Option Contents → Result (Unit {0}) ScriptFault → Type 0
+abbrev pub Follows : Outcome → Option (List ℕ) → Option (List ℕ) → Option Contents → Verdict → Type 0
 Follows out old new book (Ok u) = IsOkAnd out (λ p. Appends old new p.0 × IsAt book p.1)
 Follows out old new book (Err f) = OnFault out old new f
 

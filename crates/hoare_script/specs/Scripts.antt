@@ -75,13 +75,16 @@ at_cut s i last = stop faults.ReadFault
 abbrev pub told_lines : Ending → Bool → State → ℕ → List (List ℕ) → Told
 told_lines e over s i [] = done
 told_lines e over s i (last ∷ []) =
-    if nat_lt LONGEST_LINE (length last) then stop (faults.LineTooLong i) else (if over then stop faults.TooMuch else e s i last)
+    if nat_lt LONGEST_LINE (length last) then stop (faults.LineTooLong i)
+    else (if over then stop faults.TooMuch else e s i last)
 told_lines e over s i (line ∷ next ∷ lines) =
-    if nat_lt LONGEST_LINE (length line) then stop (faults.LineTooLong i) else then_on (one_line s i line) (λ t. told_lines e over t (i + 1) (next ∷ lines))
+    if nat_lt LONGEST_LINE (length line) then stop (faults.LineTooLong i)
+    else then_on (one_line s i line) (λ t. told_lines e over t (i + 1) (next ∷ lines))
 
 -- from line i on, with room for so many bytes
 unfoldable pub told_from : Ending → State → ℕ → ℕ → List ℕ → Told
-told_from e s i room text = told_lines e (nat_lt room (length text)) s i (slice_split is_newline (take room text))
+told_from e s i room text =
+    told_lines e (nat_lt room (length text)) s i (slice_split is_newline (take room text))
 
 -- what a script writes, and its fault
 abbrev pub told : Ending → List ℕ → Told

@@ -35,9 +35,9 @@ impl Opened {
     pub fn make(alloc: Global, header: Header) -> Result<Opened, MakeRefused>
         ensures { MatchResult result
             (λ b. (make_refusal header.places header.conditions ≡ None)
-                × IsOf b (unused header.places header.conditions))
+            × IsOf b (unused header.places header.conditions))
             (λ e. (make_refusal header.places header.conditions ≡ Some e)
-                ⊎ ((make_refusal header.places header.conditions ≡ None) × (e ≡ MakeRefused.Memory))) }
+            ⊎ ((make_refusal header.places header.conditions ≡ None) × (e ≡ MakeRefused.Memory))) }
     {
         match Book::make(alloc, header.places as usize, header.conditions as usize) {
             Ok(book) => Ok(Opened {
@@ -63,7 +63,8 @@ impl Opened {
     // Does a step.
     fn step(&mut self, step: Step) -> Answer
         ensures { (h : History (Unit {0})) → IsOf self.old h →
-            (result ≡ answer_to h (commands.Do step)) × IsOf self.new (history_after h (commands.Do step)) }
+            (result ≡ answer_to h (commands.Do step))
+            × IsOf self.new (history_after h (commands.Do step)) }
     {
         let outcome = self.book.try_step(step);
         outcome_answer(outcome)
@@ -71,7 +72,8 @@ impl Opened {
 
     // Whether somebody waits.
     fn queue(&self, condition: u64) -> Answer
-        ensures { (h : History (Unit {0})) → IsOf self.now h → result ≡ answer_to h (commands.Queue condition) }
+        ensures { (h : History (Unit {0})) → IsOf self.now h →
+            result ≡ answer_to h (commands.Queue condition) }
     {
         if condition >= self.conditions {
             return Answer::Refused(StepRefused::NoCondition);
@@ -81,7 +83,8 @@ impl Opened {
 
     // The priority of whom a signal would resume.
     fn first(&self, condition: u64) -> Answer
-        ensures { (h : History (Unit {0})) → IsOf self.now h → result ≡ answer_to h (commands.First condition) }
+        ensures { (h : History (Unit {0})) → IsOf self.now h →
+            result ≡ answer_to h (commands.First condition) }
     {
         if condition >= self.conditions {
             return Answer::Refused(StepRefused::NoCondition);

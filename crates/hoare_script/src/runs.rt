@@ -2,7 +2,7 @@
 ghost use Rattle.std.specs.Prelude.{◌≡◌, ◌≢◌, ◌≤◌, ◌+◌, ◌||◌, [], length, false, IsOkAnd, MatchResult, None, Some, Ok, Err, OnOk, ◌⊎◌};
 ghost use Rattle.hoare_law.specs.declared.event.History.{History};
 ghost use Rattle.line_text.specs.declared.line.TheConstants.{LONGEST_LINE};
-ghost use Rattle.line_text.specs.Streams.{HasRead, Reads, has_read_failed, has_write_failed, reader_inside, reader_name, writer_inside, writer_name};
+ghost use Rattle.line_text.specs.Streams.{HasRead, Reads, ReadsFrom, has_read_failed, has_write_failed, reader_name, writer_inside, writer_name};
 ghost use Rattle.wait_book.specs.Contents.{IsOf};
 ghost use Rattle.hoare_script.specs.Lines.{command_of, header_of};
 ghost use Rattle.hoare_script.specs.Runs.{Follows, IsAt, Leaves, Tells, Writes, is_read_fault, is_write_fault};
@@ -34,7 +34,8 @@ pub fn run<R: Read, W: Write>(
 ) -> Result<(), ScriptFault>
     ensures written { Reads (R.remaining reader.old) (R.remaining reader.new) (λ text left.
         Writes text left (W.contents writer.old) (W.contents writer.new) result) }
-    ensures read { Reads (R.remaining reader.old) (R.remaining reader.new) (λ text left. Leaves text left result) }
+    ensures read { Reads (R.remaining reader.old) (R.remaining reader.new) (λ text left.
+        Leaves text left result) }
 {
     let mut watched_reader = WatchedReader::new(reader);
     let mut watched_writer = WatchedWriter::new(writer);
@@ -49,13 +50,15 @@ pub fn run_watched<R: Read, W: Write>(
     reader: &mut WatchedReader<'_, R>,
     writer: &mut WatchedWriter<'_, W>,
 ) -> Result<(), ScriptFault>
-    ensures written { Reads (R.remaining (reader_inside reader.old)) (R.remaining (reader_inside reader.new)) (λ text left.
+    ensures written { ReadsFrom R.remaining reader.old reader.new (λ text left.
         Writes text left (W.contents (writer_inside writer.old)) (W.contents (writer_inside writer.new)) result) }
-    ensures read { Reads (R.remaining (reader_inside reader.old)) (R.remaining (reader_inside reader.new)) (λ text left.
+    ensures read { ReadsFrom R.remaining reader.old reader.new (λ text left.
         Leaves text left result) }
     ensures counts { HasRead reader.old reader.new (MOST_BYTES + 1) (MOST_BYTES + 1) }
-    ensures read_fault { has_read_failed reader.new ≡ (has_read_failed reader.old || is_read_fault result) }
-    ensures write_fault { has_write_failed writer.new ≡ (has_write_failed writer.old || is_write_fault result) }
+    ensures read_fault { has_read_failed reader.new
+        ≡ (has_read_failed reader.old || is_read_fault result) }
+    ensures write_fault { has_write_failed writer.new
+        ≡ (has_write_failed writer.old || is_write_fault result) }
     ensures same_reader { reader_name reader.new ≡ reader_name reader.old }
     ensures same_writer { writer_name writer.new ≡ writer_name writer.old }
 {
@@ -71,11 +74,13 @@ fn answer_lines<R: Read, W: Write>(
     opened: &mut Option<Opened>,
 ) -> Result<(), ScriptFault>
     requires { opened.old ≡ None }
-    ensures told { Reads (R.remaining (reader_inside reader.old)) (R.remaining (reader_inside reader.new)) (λ text left.
+    ensures told { ReadsFrom R.remaining reader.old reader.new (λ text left.
         Tells text left (W.contents (writer_inside writer.old)) (W.contents (writer_inside writer.new)) result) }
     ensures counts { HasRead reader.old reader.new (MOST_BYTES + 1) (MOST_BYTES + 1) }
-    ensures read_fault { has_read_failed reader.new ≡ (has_read_failed reader.old || is_read_fault result) }
-    ensures write_fault { has_write_failed writer.new ≡ (has_write_failed writer.old || is_write_fault result) }
+    ensures read_fault { has_read_failed reader.new
+        ≡ (has_read_failed reader.old || is_read_fault result) }
+    ensures write_fault { has_write_failed writer.new
+        ≡ (has_write_failed writer.old || is_write_fault result) }
     ensures same_reader { reader_name reader.new ≡ reader_name reader.old }
     ensures same_writer { writer_name writer.new ≡ writer_name writer.old }
 {
@@ -121,7 +126,8 @@ fn one_line<W: Write>(
     ensures opened { OnOk result (opened.new ≢ None) }
     ensures memory { (s : State) → IsAt opened.old s → result ≡ Err ScriptFault.Memory → s ≡ Start }
     ensures no_read { is_read_fault result ≡ false }
-    ensures write_fault { has_write_failed writer.new ≡ (has_write_failed writer.old || is_write_fault result) }
+    ensures write_fault { has_write_failed writer.new
+        ≡ (has_write_failed writer.old || is_write_fault result) }
     ensures same_writer { writer_name writer.new ≡ writer_name writer.old }
 {
     match opened {
@@ -139,9 +145,10 @@ fn one_line<W: Write>(
 // Opens a book by a header.
 fn header_line(alloc: Global, number: u64, line: &[u8]) -> Result<Opened, ScriptFault>
     ensures { MatchResult result
-        (λ b. IsOkAnd (header_line number (header_of line.now)) (λ p. (p.0 ≡ []) × IsAt (Some b) p.1))
+        (λ b. IsOkAnd (header_line number (header_of line.now))
+        (λ p. (p.0 ≡ []) × IsAt (Some b) p.1))
         (λ f. (f ≡ ScriptFault.Memory)
-            ⊎ ((header_line number (header_of line.now) ≡ Err f) × (f ≡ ScriptFault.BadHeader number))) }
+        ⊎ ((header_line number (header_of line.now) ≡ Err f) × (f ≡ ScriptFault.BadHeader number))) }
 {
     let Some(header) = parse_header(line) else {
         return Err(ScriptFault::BadHeader(number));
@@ -166,7 +173,8 @@ fn command_line<W: Write>(
         (W.contents (writer_inside writer.old)) (W.contents (writer_inside writer.new)) (Some opened.new) result }
     ensures no_memory { result ≢ Err ScriptFault.Memory }
     ensures no_read { is_read_fault result ≡ false }
-    ensures write_fault { has_write_failed writer.new ≡ (has_write_failed writer.old || is_write_fault result) }
+    ensures write_fault { has_write_failed writer.new
+        ≡ (has_write_failed writer.old || is_write_fault result) }
     ensures same_writer { writer_name writer.new ≡ writer_name writer.old }
 {
     let Some(command) = parse_command(line) else {

@@ -1,7 +1,6 @@
--- What a watched reader and a watched writer remember, and what reading and writing do to known bytes.
-use Rattle.std.specs.Prelude.{ℕ, ◌≡◌, ◌+◌, ◌≤◌, ◌<◌, ◌==◌, List, [], ◌∷◌, length, take, Bool, true, false, Option, Some, None, Result, Ok, Err, ⊤}
+-- What a watched reader and writer remember, and what reading and writing do to known bytes.
+use Rattle.std.specs.Prelude.{ℕ, ◌≡◌, ◌+◌, ◌-◌, ◌^◌, ◌≤◌, ◌<◌, ◌==◌, min, List, [], ◌∷◌, length, take, Bool, true, false, Option, Some, None, Result, Ok, Err, ⊤}
 use Rattle.std.specs.Io.KnownBytes.{Appends}
-use Rattle.std.specs.Borrow.{Bor}
 use Rattle.line_text.specs.declared.reader.ReadFailed.{ReadFailed}
 use Rattle.line_text.specs.declared.reader.WatchedReader.{WatchedReader}
 use Rattle.line_text.specs.declared.writer.WatchedWriter.{WatchedWriter}
@@ -23,9 +22,16 @@ read_calls r = r.calls
 abbrev pub bytes_given : {R : Type 0} → WatchedReader R → ℕ
 bytes_given r = r.bytes
 
+-- one read more, which gave n bytes: both counts stay at the greatest number
+abbrev pub CountsRead : {R : Type 0} → WatchedReader R → WatchedReader R → ℕ → Type 0
+CountsRead old new n =
+    (read_calls new ≡ min (read_calls old + 1) (2 ^ 64 - 1))
+    × (bytes_given new ≡ min (bytes_given old + n) (2 ^ 64 - 1))
+
 -- at most so many reads and so many bytes more
 abbrev pub HasRead : {R : Type 0} → WatchedReader R → WatchedReader R → ℕ → ℕ → Type 0
-HasRead old new calls bytes = (read_calls new ≤ read_calls old + calls) × (bytes_given new ≤ bytes_given old + bytes)
+HasRead old new calls bytes =
+    (read_calls new ≤ read_calls old + calls) × (bytes_given new ≤ bytes_given old + bytes)
 
 -- the writer inside, the name of the reference to it, and whether a write failed or took nothing
 abbrev pub writer_inside : {W : Type 0} → WatchedWriter W → W
@@ -46,6 +52,12 @@ abbrev pub count_of : {E : Type 0} → Result ℕ E → ℕ
 count_of (Ok n) = n
 count_of (Err e) = 0
 
+-- how many bytes a read of one byte gave
+abbrev pub byte_count : {E : Type 0} → Result (Option ℕ) E → ℕ
+byte_count (Ok (Some b)) = 1
+byte_count (Ok None) = 0
+byte_count (Err e) = 0
+
 -- a write failed, or took nothing
 abbrev pub is_shortfall : {E : Type 0} → Result ℕ E → Bool
 is_shortfall (Ok n) = n == 0
@@ -56,6 +68,11 @@ abbrev pub Reads : Option (List ℕ) → Option (List ℕ) → (List ℕ → Lis
 Reads None new P = ⊤
 Reads (Some t) None P = ⊥
 Reads (Some t) (Some x) P = P t x
+
+-- the same of the bytes that a watched reader has left, by what its type tells of them
+abbrev pub ReadsFrom : {R : Type 0} → (R → Option (List ℕ)) → WatchedReader R → WatchedReader R
+    → (List ℕ → List ℕ → Type 0) → Type 0
+ReadsFrom remaining old new P = Reads (remaining (reader_inside old)) (remaining (reader_inside new)) P
 
 -- what of t the byte was, where x is left
 abbrev pub ReadsByte : Result (Option ℕ) ReadFailed → List ℕ → List ℕ → Type 0

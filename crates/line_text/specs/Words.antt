@@ -35,7 +35,8 @@ value_after n (c ∷ cs) = value_after (10 * n + (c - 48)) cs
 
 -- digits that stand for a number of 64 bits
 unfoldable pub digits_of : List ℕ → Option ℕ
-digits_of w = if all_digits w && nat_lt (value_after 0 w) (2 ^ 64) then Some (value_after 0 w) else None
+digits_of w =
+    if all_digits w && nat_lt (value_after 0 w) (2 ^ 64) then Some (value_after 0 w) else None
 
 -- a word that is a number
 unfoldable pub number_of : List ℕ → Option ℕ

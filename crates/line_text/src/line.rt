@@ -1,7 +1,7 @@
 //! One line, with limits on its length and on the text.
 ghost use Rattle.std.specs.Prelude.{◌≡◌, ◌+◌, ◌≤◌, ◌||◌, length};
 ghost use Rattle.line_text.specs.Line.{IsLineFor, NoNewline, ReadsLine, is_failed_read};
-ghost use Rattle.line_text.specs.Streams.{HasRead, Reads, has_read_failed, reader_inside, reader_name};
+ghost use Rattle.line_text.specs.Streams.{HasRead, ReadsFrom, has_read_failed, reader_name};
 
 use crate::reader::WatchedReader;
 use arrayvec::ArrayVec;
@@ -38,14 +38,15 @@ pub fn read_line<R: Read>(
     line: &mut Line,
     room: usize,
 ) -> Result<Ended, LineFault>
-    ensures known { Reads (R.remaining (reader_inside reader.old)) (R.remaining (reader_inside reader.new)) (ReadsLine line.new.items result) }
+    ensures known { ReadsFrom R.remaining reader.old reader.new (ReadsLine line.new.items result) }
     ensures fits { IsLineFor room line.new.items result }
     ensures short { length line.new.items ≤ LONGEST_LINE }
     ensures within { length line.new.items ≤ room }
     ensures one { NoNewline line.new.items }
-    ensures counts { HasRead reader.old reader.new (length line.new.items + 1) (length line.new.items + 1) }
+    ensures counts { let n = length line.new.items + 1 in HasRead reader.old reader.new n n }
     ensures same_reference { reader_name reader.new ≡ reader_name reader.old }
-    ensures mark { has_read_failed reader.new ≡ (has_read_failed reader.old || is_failed_read result) }
+    ensures mark { has_read_failed reader.new
+        ≡ (has_read_failed reader.old || is_failed_read result) }
 {
     line.clear();
     loop {

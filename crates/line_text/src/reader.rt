@@ -1,8 +1,8 @@
 //! A reader that is watched.
-ghost use Rattle.std.specs.Prelude.{◌≡◌, ◌+◌, ◌≤◌, ◌||◌, false};
+ghost use Rattle.std.specs.Prelude.{◌≡◌, ◌||◌, false};
 ghost use Rattle.std.specs.Io.{ReadsAtMost};
 ghost use Rattle.std.specs.Io.KnownBytes.{ReadConsumes};
-ghost use Rattle.line_text.specs.Streams.{HasRead, Reads, ReadsByte, bytes_given, count_of, has_read_failed, is_error, read_calls, reader_inside, reader_name};
+ghost use Rattle.line_text.specs.Streams.{CountsRead, ReadsByte, ReadsFrom, byte_count, bytes_given, count_of, has_read_failed, is_error, read_calls, reader_inside, reader_name};
 
 use std::io;
 use std::io::Read;
@@ -64,26 +64,29 @@ impl<'a, R: Read> WatchedReader<'a, R> {
     // One read of the reader inside. It sets the mark exactly where that read fails.
     fn read(&mut self, buf: &mut [u8]) -> io::Result<usize>
         ensures bound { ReadsAtMost result buf.new }
-        ensures bytes { ReadConsumes (R.remaining (reader_inside self.old)) (R.remaining (reader_inside self.new)) result buf.new }
+        ensures bytes { ReadConsumes (R.remaining (reader_inside self.old))
+            (R.remaining (reader_inside self.new)) result buf.new }
         ensures same_reference { reader_name self.new ≡ reader_name self.old }
         ensures mark { has_read_failed self.new ≡ (has_read_failed self.old || is_error result) }
-        ensures counts { HasRead self.old self.new 1 (count_of result) }
+        ensures counts { CountsRead self.old self.new (count_of result) }
     {
         let result = self.inner.read(buf);
         self.calls = self.calls.saturating_add(1);
-        match result {
-            Ok(n) => self.bytes = self.bytes.saturating_add(n as u64),
-            Err(_) => self.failed = true,
-        }
+        let given = match result {
+            Ok(n) => n,
+            Err(_) => 0,
+        };
+        self.bytes = self.bytes.saturating_add(given as u64);
+        self.failed |= result.is_err();
         result
     }
 
     /// The next byte, if there is one. Refused where a read fails.
     pub fn read_byte(&mut self) -> Result<Option<u8>, ReadFailed>
-        ensures known { Reads (R.remaining (reader_inside self.old)) (R.remaining (reader_inside self.new)) (ReadsByte result) }
+        ensures known { ReadsFrom R.remaining self.old self.new (ReadsByte result) }
         ensures same_reference { reader_name self.new ≡ reader_name self.old }
         ensures mark { has_read_failed self.new ≡ (has_read_failed self.old || is_error result) }
-        ensures counts { HasRead self.old self.new 1 1 }
+        ensures counts { CountsRead self.old self.new (byte_count result) }
     {
         let mut buffer = [0u8; 1];
         match self.read(&mut buffer) {

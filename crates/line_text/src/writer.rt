@@ -43,9 +43,11 @@ impl<'a, W: Write> WatchedWriter<'a, W> {
     // One write of the writer inside. It sets the mark exactly where that write fails or takes no bytes.
     fn write(&mut self, buf: &[u8]) -> io::Result<usize>
         ensures bound { WritesAtMost result buf.now }
-        ensures bytes { WriteAppends (W.contents (writer_inside self.old)) (W.contents (writer_inside self.new)) result buf.now }
+        ensures bytes { WriteAppends (W.contents (writer_inside self.old))
+            (W.contents (writer_inside self.new)) result buf.now }
         ensures same_reference { writer_name self.new ≡ writer_name self.old }
-        ensures mark { has_write_failed self.new ≡ (has_write_failed self.old || is_shortfall result) }
+        ensures mark { has_write_failed self.new
+            ≡ (has_write_failed self.old || is_shortfall result) }
     {
         let result = self.inner.write(buf);
         if !matches!(result, Ok(1..)) {
@@ -56,8 +58,10 @@ impl<'a, W: Write> WatchedWriter<'a, W> {
 
     /// Writes all of the bytes. Where a write fails or takes nothing, a prefix of them is written, and not all.
     pub fn write_whole(&mut self, bytes: &[u8]) -> Result<(), WriteFailed>
-        ensures ok { OnOk result (Appends (W.contents (writer_inside self.old)) (W.contents (writer_inside self.new)) bytes.now) }
-        ensures err { OnErr result (AppendsPrefix (W.contents (writer_inside self.old)) (W.contents (writer_inside self.new)) bytes.now) }
+        ensures ok { OnOk result
+            (Appends (W.contents (writer_inside self.old)) (W.contents (writer_inside self.new)) bytes.now) }
+        ensures err { OnErr result
+            (AppendsPrefix (W.contents (writer_inside self.old)) (W.contents (writer_inside self.new)) bytes.now) }
         ensures same_reference { writer_name self.new ≡ writer_name self.old }
         ensures mark { has_write_failed self.new ≡ (has_write_failed self.old || is_error result) }
     {

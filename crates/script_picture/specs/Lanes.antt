@@ -34,7 +34,8 @@ lane_left s place before = if actor s == place then left_as s else before
 -- a place after a step, by the step's answer
 abbrev pub lane_answered : Step → ℕ → Lane → Answer → Lane
 lane_answered s place before (answers.Refused r) = before
-lane_answered s place before (answers.Inside k) = if k == place then lanes.Inside else lane_left s place before
+lane_answered s place before (answers.Inside k) =
+    if k == place then lanes.Inside else lane_left s place before
 lane_answered s place before answers.Free = lane_left s place before
 lane_answered s place before (answers.Waiting b) = lane_left s place before
 lane_answered s place before answers.Nobody = lane_left s place before

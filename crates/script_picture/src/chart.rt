@@ -122,7 +122,8 @@ pub fn outside_lanes(header: Header) -> Lanes {
 /// Takes all lanes past a row.
 pub fn advance(lanes: &mut [Lane], row: Row)
     ensures length { length lanes.new ≡ length lanes.old }
-    ensures each { (k : ℕ) → k < length lanes.old → slice_index_or lanes.new k states.Outside ≡ lane_after row k (slice_index_or lanes.old k states.Outside) }
+    ensures each { (k : ℕ) → k < length lanes.old → slice_index_or lanes.new k states.Outside
+        ≡ lane_after row k (slice_index_or lanes.old k states.Outside) }
 {
     'places: for place in 0..lanes.len() {
         lanes[place] = lane_after(row, place as u64, lanes[place]);

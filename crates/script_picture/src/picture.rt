@@ -1,12 +1,13 @@
 //! A whole picture, from a script to its drawing.
 ghost use Rattle.std.specs.Prelude.{◌≡◌, ◌||◌};
-ghost use Rattle.script_picture.specs.Marks.{is_read_fault};
+ghost use Rattle.hoare_script.specs.Runs.{is_read_fault};
+ghost use Rattle.line_text.specs.Streams.{has_read_failed};
 
 use crate::chart::Chart;
 use crate::read::open_script;
 use crate::{svg, text};
 use hoare_script::ScriptFault;
-use hoare_script::streams::WatchedReader;
+use line_text::reader::WatchedReader;
 use std::alloc::Global;
 use std::io;
 use std::io::{Read, Write};
@@ -38,7 +39,7 @@ pub fn draw_watched<R: Read, W: Write>(
     writer: &mut W,
     form: Form,
 ) -> Result<(), ScriptFault>
-    ensures { reader.new.failed ≡ (reader.old.failed || is_read_fault result) }
+    ensures { has_read_failed reader.new ≡ (has_read_failed reader.old || is_read_fault result) }
 {
     let mut script = open_script(alloc, reader)?;
     let read = script.read_rows(reader);

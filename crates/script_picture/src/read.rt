@@ -1,19 +1,19 @@
 //! Reads a script row by row, as `hoare_script` answers it.
 ghost use Rattle.std.specs.Prelude.{◌≡◌, ◌||◌, false};
-ghost use Rattle.script_picture.specs.Marks.{is_read_fault};
+ghost use Rattle.hoare_script.specs.Runs.{is_read_fault};
+ghost use Rattle.line_text.specs.Streams.{has_read_failed};
 
 use crate::chart::{Chart, Row};
 use arrayvec::ArrayVec;
 use hoare_script::ScriptFault;
 use hoare_script::lines::{Header, parse_command, parse_header};
 use hoare_script::opened::Opened;
-use hoare_script::streams::{Ended, LineFault, WatchedReader, read_line};
+use hoare_script::runs::MOST_BYTES;
+use line_text::line::{Ended, Line, LineFault, read_line};
+use line_text::reader::WatchedReader;
 use std::alloc::Global;
 use std::io::Read;
 use wait_book::steps::MakeRefused;
-
-/// The most bytes of a script.
-const MOST_BYTES: usize = 1_048_576;
 
 /// A script that was opened by its header: what was read of it, its book, the bytes that may follow, and whether any do.
 #[derive(Drop)]
@@ -29,7 +29,7 @@ pub fn open_script<R: Read>(
     alloc: Global,
     reader: &mut WatchedReader<'_, R>,
 ) -> Result<Script, ScriptFault>
-    ensures { reader.new.failed ≡ (reader.old.failed || is_read_fault result) }
+    ensures { has_read_failed reader.new ≡ (has_read_failed reader.old || is_read_fault result) }
 {
     let mut line = ArrayVec::new();
     let ended = read_numbered(reader, &mut line, MOST_BYTES, 1)?;
@@ -65,11 +65,11 @@ fn open_book(alloc: Global, header: Header) -> Result<Opened, ScriptFault>
 // The line with a number, where there is room for so many bytes.
 fn read_numbered<R: Read>(
     reader: &mut WatchedReader<'_, R>,
-    line: &mut ArrayVec<u8, 256>,
+    line: &mut Line,
     room: usize,
     number: u64,
 ) -> Result<Ended, ScriptFault>
-    ensures { reader.new.failed ≡ (reader.old.failed || is_read_fault result) }
+    ensures { has_read_failed reader.new ≡ (has_read_failed reader.old || is_read_fault result) }
 {
     match read_line(reader, line, room) {
         Ok(ended) => Ok(ended),
@@ -86,7 +86,8 @@ impl Script {
         &mut self,
         reader: &mut WatchedReader<'_, R>,
     ) -> Result<(), ScriptFault>
-        ensures { reader.new.failed ≡ (reader.old.failed || is_read_fault result) }
+        ensures { has_read_failed reader.new
+            ≡ (has_read_failed reader.old || is_read_fault result) }
     {
         let mut line = ArrayVec::new();
         'rows: for number in 2..1_048_579 {

@@ -2,7 +2,7 @@
 use crate::picture::{Form, draw_script};
 use crate::read::open_script;
 use hoare_script::ScriptFault;
-use hoare_script::streams::WatchedReader;
+use line_text::reader::WatchedReader;
 use std::alloc::Global;
 use std::io;
 use std::io::{Read, Write};

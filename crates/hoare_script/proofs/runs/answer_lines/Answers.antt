@@ -91,7 +91,7 @@ pub lines-preserved : goal.lines-preserved
 lines-preserved g c =
     let e = c.in-Ok-Line.ensures in
     let room : length c.read_line.new.line.items < c.lines.room =
-        line_room c.lines.room c.read_line.new.line.items c.in-Ok-Line.field-0 c.in-Ok-Line.field-0-is e.fits in
+    line_room c.lines.room c.read_line.new.line.items c.in-Ok-Line.field-0 c.in-Ok-Line.field-0-is e.fits in
     record {
       numbered = omega (arith, c.len.ensures.value, room);
       goes = running.next_line c.lines.invariant.goes (g.R.Read.remaining (reader_inside c.read_line.new.reader)) c.read_line.new.line.items

@@ -1,5 +1,6 @@
 use Rattle.std.proofs.Common.{◌≡◌}
+use Rattle.line_text.specs.Streams.{has_read_failed}
 use Rattle.script_picture.proofs.read.Script.read_rows.Given as goal
 
 abbrev pub invariant-rows : goal.invariant-rows
-invariant-rows g l = l.reader.failed ≡ l.initial.reader.failed
+invariant-rows g l = has_read_failed l.reader ≡ has_read_failed l.initial.reader

@@ -3,5 +3,7 @@
 
 pub mod line;
 pub mod reader;
+#[cfg(test)]
+mod tests;
 pub mod words;
 pub mod writer;

@@ -1,6 +1,8 @@
 mod failures;
 mod faults;
 mod limits;
+mod parts;
+mod reading;
 mod rows;
 
 use crate::{ScriptFault, run};

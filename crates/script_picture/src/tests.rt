@@ -67,6 +67,40 @@ leave 3           [in]        .    .       -> refused 1 (there is no such place)
     assert_eq!(rt; text.as_slice(), lines.as_slice());
 }
 
+// The chart of the script of docs/DEFINITIONS.md that has every step, drawn by hand from the table there.
+#[test]
+fn every_step_as_text(rt: HostRuntime) {
+    let script =
+        b"monitor 4 2\nenter 0\nwait 0 0 7\nenter 1\nwait 1 0 7\nenter 2\nwait 2 1 0\nenter 3\nfirst 0\nqueue 1\nsignal 3 0\nfirst 0\npass 0 1\nenter 0\nleave 2\npass 3 1\nenter 0\nsignal 0 0\nwait 1 1 5\nqueue 0\nfirst 1\nleave 0\nenter 1\n";
+    let (result, text) = drawn(rt.alloc(), script, Form::Text);
+    assert_eq!(rt; result, Ok(()));
+    let lines = b"monitor 4 2    0       1       2       3
+enter 0        [in]    .       .       .
+wait 0 0 7     c0:7    .       .       .       -> free
+enter 1        c0:7    [in]    .       .
+wait 1 0 7     c0:7    c0:7    .       .       -> free
+enter 2        c0:7    c0:7    [in]    .
+wait 2 1 0     c0:7    c0:7    c1:0    .       -> free
+enter 3        c0:7    c0:7    c1:0    [in]
+first 0        c0:7    c0:7    c1:0    [in]    -> 7
+queue 1        c0:7    c0:7    c1:0    [in]    -> true
+signal 3 0     [in] <- c0:7 -- c1:0 -- sig
+first 0        [in]    c0:7    c1:0    sig     -> 7
+pass 0 1       . ----- c0:7 -> [in]    sig
+enter 0        .       c0:7    [in]    sig     -> refused 2 (the monitor isn't free)
+leave 2        .       c0:7    . ----> [in]
+pass 3 1       .       c0:7    .       .       -> free
+enter 0        [in]    c0:7    .       .
+signal 0 0     sig --> [in]    .       .
+wait 1 1 5     [in] <- c1:5    .       .
+queue 0        [in]    c1:5    .       .       -> false
+first 1        [in]    c1:5    .       .       -> 5
+leave 0        .       c1:5    .       .       -> free
+enter 1        .       c1:5    .       .       -> refused 3 (the place waits on a condition)
+";
+    assert_eq!(rt; text.as_slice(), lines.as_slice());
+}
+
 #[test]
 fn hand_over_as_svg(rt: HostRuntime) {
     let (result, text) = drawn(rt.alloc(), HAND_OVER, Form::Svg);
@@ -87,6 +121,35 @@ fn hand_over_as_svg(rt: HostRuntime) {
         ("<circle", 1),
     ] {
         assert_eq!(rt; times(text.as_slice(), part.as_bytes()), want, "at {part}");
+    }
+}
+
+// The boxes and arrows of the same script, placed by hand. Rows are 28 high from 64 on. The longest step has 11 letters of 8
+// after a margin of 20, and a box is 68 wide: so the lanes stand at 20 + 88 + 24 + 34 = 166 and 68 + 44 = 112 further, at 278. A
+// box has 3 free above and below; an arrow runs along a row's middle, and its head is 8 long.
+#[test]
+fn shapes_of_hand_over(rt: HostRuntime) {
+    let (result, text) = drawn(rt.alloc(), HAND_OVER, Form::Svg);
+    assert_eq!(rt; result, Ok(()));
+    for part in [
+        // place 0: inside in row 0, waits in rows 1 and 2, inside in row 3
+        "<rect class=\"inside\" x=\"132\" y=\"67\" width=\"68\" height=\"22\" rx=\"4\"/>",
+        "<rect class=\"waits\" x=\"132\" y=\"95\" width=\"68\" height=\"50\" rx=\"4\"/>",
+        "<text class=\"dark\" x=\"166\" y=\"110\">c0 p0</text>",
+        "<rect class=\"inside\" x=\"132\" y=\"151\" width=\"68\" height=\"22\" rx=\"4\"/>",
+        // place 1: inside in row 2, signals in row 3, inside in row 4
+        "<rect class=\"inside\" x=\"244\" y=\"123\" width=\"68\" height=\"22\" rx=\"4\"/>",
+        "<rect class=\"signals\" x=\"244\" y=\"151\" width=\"68\" height=\"22\" rx=\"4\"/>",
+        "<rect class=\"inside\" x=\"244\" y=\"179\" width=\"68\" height=\"22\" rx=\"4\"/>",
+        // the signal, from 1 to 0 in row 3; and the signaller's return in row 4, from where 0 went out
+        "<path class=\"arrow\" d=\"M244 162H208\"/><path d=\"M200 162l9-5v10z\"/>",
+        "<circle cx=\"166\" cy=\"190\" r=\"4\"/>",
+        "<path class=\"arrow back\" d=\"M166 190H236\"/><path d=\"M244 190l-9-5v10z\"/>",
+        // what the lanes don't show
+        "<text class=\"step\" x=\"20\" y=\"110\">wait 0 0 0</text>",
+        "<text class=\"step\" x=\"328\" y=\"110\">-> free</text>",
+    ] {
+        assert_eq!(rt; times(text.as_slice(), part.as_bytes()), 1, "at {part}");
     }
 }
 

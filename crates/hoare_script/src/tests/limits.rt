@@ -6,12 +6,18 @@ use std::io::Read;
 use std::process::Abort;
 use std::test::Fail;
 
-// Gives the letter e for ever.
+// Gives the letter e, up to a limit of calls, where it fails: so a run that reads on is seen, and doesn't read for ever.
 #[derive(Drop)]
-struct Endless;
+struct Endless {
+    calls: u64,
+}
 
 impl Read for Endless {
     fn read(&mut self, buf: &mut [u8]) -> io::Result<usize> {
+        if self.calls == 0 {
+            return Err(io::Error::from(io::ErrorKind::BrokenPipe));
+        }
+        self.calls -= 1;
         buf.fill(b'e');
         Ok(buf.len())
     }
@@ -86,10 +92,16 @@ fn long_line_and_large_script(rt: HostRuntime) -> Result<(), Fail> {
     Ok(())
 }
 
+// The 257th byte tells that the line is too long; with a call less the limit of the reader fires.
 #[test]
 fn endless_line(rt: HostRuntime) {
-    let mut written = Vec::new(rt.alloc());
-    let result = run(rt.alloc(), &mut Endless, &mut written);
-    assert_eq!(rt; result, Err(ScriptFault::LineTooLong(1)));
-    assert_eq!(rt; written.len(), 0);
+    for (calls, fault) in [
+        (257, ScriptFault::LineTooLong(1)),
+        (256, ScriptFault::ReadFault),
+    ] {
+        let mut written = Vec::new(rt.alloc());
+        let result = run(rt.alloc(), &mut Endless { calls }, &mut written);
+        assert_eq!(rt; result, Err(fault));
+        assert_eq!(rt; written.len(), 0);
+    }
 }

@@ -136,14 +136,14 @@ module _ (number room : ℕ) (opened : Option Contents) (old now : Option (List 
   Tells-past_limit : (l x : List ℕ) (b : ℕ) → NoNewline l → length l ≤ LONGEST_LINE → length l ≡ room → t ≡ l ++ b ∷ x
       → Tells t0 x old now (Err faults.TooMuch)
   Tells-past_limit l x b n h r e =
-      let front : List ℕ = g.read ++ (l ++ b ∷ []) in
-      let bytes : t0 ≡ front ++ x =
+      let consumed : List ℕ = g.read ++ (l ++ b ∷ []) in
+      let bytes : t0 ≡ consumed ++ x =
       g.whole ∙ ap (λ v. g.read ++ v) (e ∙ sym (append_assoc l (b ∷ []) x)) ∙ sym (append_assoc g.read (l ++ b ∷ []) x) in
-      let count : length front ≡ MOST_BYTES + 1 =
+      let count : length consumed ≡ MOST_BYTES + 1 =
       omega (arith, length-append g.read (l ++ b ∷ []), length-append l (b ∷ []), g.counted, r) in (
         Whole-stop now faults.TooMuch (Appends-nil now)
             (ap (told_from at_end g.state number room) e ∙ told_from-past_limit at_end g.state number room l b x n h r),
-        sym (ap (drop (MOST_BYTES + 1)) bytes ∙ drop-read (MOST_BYTES + 1) front x count),
+        sym (ap (drop (MOST_BYTES + 1)) bytes ∙ drop-read (MOST_BYTES + 1) consumed x count),
       )
 
   -- a read failed

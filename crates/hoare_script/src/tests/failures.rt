@@ -104,10 +104,20 @@ fn script_reader_fails(rt: HostRuntime) -> Result<(), Fail> {
 
 // Takes a byte a call while there is room, and then fails or takes nothing.
 #[derive(Drop)]
-struct Filling {
+pub struct Filling {
     taken: ArrayVec<u8, 90>,
     room: usize,
     fails: bool,
+}
+
+impl Filling {
+    pub fn new(room: usize, fails: bool) -> Filling {
+        Filling {
+            taken: ArrayVec::new(),
+            room,
+            fails,
+        }
+    }
 }
 
 impl Write for Filling {
@@ -130,11 +140,7 @@ impl Write for Filling {
 fn script_writer_fails(rt: HostRuntime) -> Result<(), Fail> {
     for fails in [true, false] {
         for room in 0..=90usize {
-            let mut writer = Filling {
-                taken: ArrayVec::new(),
-                room,
-                fails,
-            };
+            let mut writer = Filling::new(room, fails);
             let mut reader = SCRIPT;
             let result = run(rt.alloc(), &mut reader, &mut writer);
             let wanted = if room < 90 {
@@ -143,8 +149,8 @@ fn script_writer_fails(rt: HostRuntime) -> Result<(), Fail> {
                 Ok(())
             };
             assert_eq!(rt; result, wanted, "after {room}");
-            let front = ANSWERS.get(..room).ok_or("shorter answers")?;
-            assert_eq!(rt; writer.taken.as_slice(), front, "after {room}");
+            let prefix = ANSWERS.get(..room).ok_or("shorter answers")?;
+            assert_eq!(rt; writer.taken.as_slice(), prefix, "after {room}");
         }
     }
     Ok(())

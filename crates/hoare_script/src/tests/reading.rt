@@ -1,10 +1,11 @@
 // What a run reads of its text, and what it leaves.
+use super::failures::Filling;
 use crate::runs::MOST_BYTES;
 use crate::{ScriptFault, run, run_watched};
 use line_text::reader::WatchedReader;
 use line_text::writer::WatchedWriter;
 use std::io;
-use std::io::{Read, Write};
+use std::io::Read;
 use std::process::Abort;
 use std::test::Fail;
 
@@ -115,25 +116,11 @@ fn endless_reader_ends(rt: HostRuntime) {
     assert_eq!(rt; end, (Err(ScriptFault::ReadFault), 21, 20));
 }
 
-// Takes nothing.
-#[derive(Drop)]
-struct Full;
-
-impl Write for Full {
-    fn write(&mut self, _buf: &[u8]) -> io::Result<usize> {
-        Ok(0)
-    }
-
-    fn flush(&mut self) -> io::Result<()> {
-        Ok(())
-    }
-}
-
 // A line whose answer can't be written is the last that is read, and both marks are what happened.
 #[test]
 fn marks_of_a_full_writer(rt: HostRuntime) -> Result<(), Fail> {
     let mut rest = b"monitor 1 1\nenter 0\nleave 0\n".as_slice();
-    let mut full = Full;
+    let mut full = Filling::new(0, false);
     let mut reader = WatchedReader::new(&mut rest);
     let mut writer = WatchedWriter::new(&mut full);
     let result = run_watched(rt.alloc(), &mut reader, &mut writer);

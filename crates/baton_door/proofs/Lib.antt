@@ -1,10 +1,2 @@
 pub mod Words
-pub mod Views
-pub mod Lawful
-pub mod Fronts
-pub mod Seats
-pub mod Books
-pub mod Departures
-pub mod Arrivals
-pub mod Inside
-pub mod Close
+pub mod Steps

@@ -1,9 +1,10 @@
 -- The door's word, and whose turn it is.
-use Rattle.std.proofs.Common.{◌≡◌, ◌≢◌, ℕ, ◌+◌, refl, arith, ap}
+use Rattle.std.proofs.Common.{◌≡◌, ℕ, ◌+◌, refl, arith, ap}
 use Rattle.hoare_law.specs.declared.turn.Turn.{Turn}
 use Rattle.hoare_law.specs.declared.turn.Turn.TheVariants.{Free, Held, Owed, Return}
 use Rattle.wait_book.specs.Contents.{next_of}
 use Rattle.baton_door.specs.Rule.{word_of}
+use Rattle.door_frame.proofs.Steps.{IsDue, owed, returning}
 use Rattle.baton_door.specs.Words.{word_of_next}
 
 pub word_of-next : (t : Turn) → word_of_next (next_of t) ≡ word_of t
@@ -20,19 +21,8 @@ word_of-free (Owed k c) e = absurd (omega arith)
 word_of-free (Return k) e = absurd (omega arith)
 
 -- the word 2 + k owes place k the monitor
-pub data IsDue (k : ℕ) (t : Turn) : Type 0 where
-  owed : (c : ℕ) → t ≡ Owed k c → IsDue k t
-  returning : t ≡ Return k → IsDue k t
-
 pub word_of-due : (t : Turn) (k : ℕ) → word_of t ≡ k + 2 → IsDue k t
 word_of-due Free k e = absurd (omega arith)
 word_of-due (Held j) k e = absurd (omega arith)
 word_of-due (Owed j c) k e = owed c (let same : j ≡ k = omega arith in ap (λ i. Owed i c) same)
 word_of-due (Return j) k e = returning (let same : j ≡ k = omega arith in ap (λ i. Return i) same)
-
--- the word is 1 only where somebody is inside
-pub word_of-home : (t : Turn) → ((k : ℕ) → t ≢ Held k) → word_of t ≢ 1
-word_of-home Free a e = omega arith
-word_of-home (Held k) a e = a k refl
-word_of-home (Owed k c) a e = omega arith
-word_of-home (Return k) a e = omega arith

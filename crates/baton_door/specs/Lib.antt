@@ -1,6 +1,5 @@
-pub mod Views
 pub mod Words
-pub mod Places
 pub mod Rule
 pub mod Steps
-pub mod Seats
+pub mod Newcomers
+pub mod Places

@@ -1,19 +1,24 @@
 //! The running door: how it is made and closed.
-ghost use Rattle.std.specs.Prelude.{◌≡◌, ◌≢◌, ◌<◌, ◌≤◌, ◌⊎◌, ℕ, [], ◌∷◌, vec_len, vec_capacity, IfOk, IfErr, Some, None, All};
+ghost use Rattle.std.specs.Prelude.{◌≡◌, ◌<◌, ◌≤◌, ◌⊎◌, ℕ, [], IfOk, IfErr, Some, None, All};
+ghost use Rattle.hoare_law.specs.Events.{opened};
 ghost use Rattle.hoare_law.specs.Priorities.{nobody};
-ghost use Rattle.hoare_law.specs.declared.event.History.{History};
-ghost use Rattle.wait_book.specs.Contents.{IsOf, make_refusal, unused};
-ghost use Rattle.baton_door.specs.declared.view.View.TheVariants.{Places};
-ghost use Rattle.baton_door.specs.Views.{stands_from};
-ghost use Rattle.baton_door.specs.Places.{opened, places_from, HasPlace, IsOut, Closes};
+ghost use Rattle.wait_book.specs.Contents.{IsOf, make_refusal};
+ghost use Rattle.door_frame.specs.declared.view.View.TheVariants.{Unopened, Places};
+ghost use Rattle.door_frame.specs.Views.{all_know};
+ghost use Rattle.door_frame.specs.Places.{places_from, HasPlace, Closes};
 
-use crate::parcel::Parcel;
 use crate::place::DoorOut;
-use crate::rule::{Begin, Deal, DoorSeat, DoorTable, Gather, Open};
-use atomic_table::Table;
-use crossbeam_utils::sync::{Parker, Unparker};
+use crate::rule::{BatonWords, DoorTable};
+use crate::word::{DOOR, FREE, HELD};
+use crossbeam_utils::sync::Unparker;
+use door_frame::making::{closed, deal, parkers, vacant};
+use door_frame::parcel::Parcel;
+use door_frame::plays::{Begin, DoorSeat, Open};
+use door_frame::slot::lay_parcel;
 use hoare_law::data::MonitorData;
-use std::alloc::{AllocError, Global};
+use hoare_law::monitor::Monitor;
+use std::alloc::Global;
+use std::marker::Model;
 use wait_book::book::Book;
 use wait_book::steps::MakeRefused;
 
@@ -23,27 +28,47 @@ use wait_book::steps::MakeRefused;
 /// data and the queues. A door can be dropped where its data can, and then its data are dropped too; `close` gives them back.
 #[derive(Drop)]
 pub struct Door<D: MonitorData> {
+    /// Of its eight words one is in use. The others keep most other data off that one's line of the cache.
+    ///
+    /// | The word | says | and is changed by |
+    /// |---|---|---|
+    /// | `FREE` (0) | nobody is inside, nobody is owed the monitor | a newcomer, to `HELD` |
+    /// | `HELD` (1) | a place is inside, and has what lies in the slot | that place alone: to `FREE`, or owed to who goes on |
+    /// | `owed(k)` (2 + k) | place k was resumed, or its signal is over | place k alone, to `HELD` |
     pub(crate) table: DoorTable<D>,
-    pub(crate) bells: Vec<Unparker>,
-    ghost sized: { (table.shared.table_id.words ≡ 8) × (table.shared.table_id.slots ≡ 1) × (0 < table.shared.key) × (table.shared.key ≤ 64) },
+    /// What wakes each place, in order.
+    pub(crate) wakers: Vec<Unparker>,
 }
 
-/// A parker for each place, the last place's first, and what wakes them, the first place's first.
-fn parkers(alloc: Global, places: usize) -> Result<(Vec<Parker>, Vec<Unparker>), AllocError>
-    ensures { IfOk result (λ r. vec_len r.0 ≡ places) }
+impl<D: MonitorData> Model for Door<D> {
+    ghost use Rattle.door_frame.specs.Places.{DoorId};
+    ghost use Rattle.std.specs.Prelude.{vec_len};
+    ghost use Rattle.baton_door.specs.Rule.{Sized};
+
+    ghost Value = { DoorId };
+
+    ghost view = { λ d. record { table = d.table.shared.table_id; places = d.table.shared.key } };
+
+    ghost invariant = { λ d. Sized d.table.shared.table_id.words d.table.shared.table_id.slots d.table.shared.key (vec_len d.wakers) };
+}
+
+/// The door opens: the first seat takes the empty slot, and gives it back with the data.
+fn open<D: MonitorData>(table: &DoorTable<D>, seat: &mut DoorSeat<D>, parcel: Parcel<D>)
+    requires table { (seat.old.table_id ≡ table.now.shared.table_id) × (0 < table.now.shared.table_id.words) }
+    requires seat { seat.old.me ≡ (Unopened table.now.shared.key, []) }
+    requires rest { D.rest parcel.state nobody }
+    requires book { IsOf parcel.book (opened table.now.shared.key D.CONDITIONS tt) }
+    ensures table { seat.new.table_id ≡ seat.old.table_id }
+    ensures opened { seat.new.me ≡ (Places (all_know 0 table.now.shared.key (opened table.now.shared.key D.CONDITIONS parcel.state)), []) }
 {
-    let mut parkers = Vec::with_capacity(alloc, places)?;
-    let mut bells = Vec::with_capacity(alloc, places)?;
-    for made in 0..places {
-        let parker = Parker::new(alloc)?;
-        bells.push(parker.unparker().clone()?)?;
-        parkers.push(parker)?;
-    }
-    parkers.reverse();
-    Ok((parkers, bells))
+    table
+        .shared
+        .compare_exchange::<Begin>(seat, DOOR, FREE, HELD);
+    lay_parcel(table, seat, parcel);
+    table.shared.store::<Open>(seat, DOOR, FREE);
 }
 
-impl<D: MonitorData> Door<D> {
+impl<D: MonitorData + Send> Door<D> {
     /// A door of 1 to 64 places and `D::CONDITIONS` conditions, 1 to 8, opened with the data, and its places, in order. The
     /// caller owes `rest` with nobody waiting. Refused, in this order: `BadPlaces`, `BadConditions`, and `Memory` where the
     /// room for all that the door will ever need can't be had. The data come back with each refusal.
@@ -53,105 +78,45 @@ impl<D: MonitorData> Door<D> {
         places: usize,
     ) -> Result<(Door<D>, Vec<DoorOut<D>>), (D, MakeRefused)>
         requires rest { D.rest state nobody }
-        ensures made { IfOk result (λ r. (make_refusal places D.CONDITIONS ≡ None) × (r.0.table.shared.key ≡ places)) }
-        ensures places { IfOk result (λ r. r.1.items ≡ places_from r.0.table.shared.table_id 0 places (opened places D.CONDITIONS state)) }
-        ensures of { IfOk result (λ r. All (IsOut D.rest D.ready D.CONDITIONS r.0.table.shared.table_id r.0.table.shared.key) r.1.items) }
+        ensures made { IfOk result (λ r. (make_refusal places D.CONDITIONS ≡ None) × (r.0.places ≡ places)) }
+        ensures of { IfOk result (λ r. All (⟦<Door<D> as Monitor<D>>⟧.is_of r.0) r.1.items) }
+        ensures places { IfOk result (λ r. r.1.items ≡ places_from r.0.table 0 places (opened places D.CONDITIONS state)) }
         ensures returned { IfErr result (λ e. e.0 ≡ state) }
-        ensures refused { IfErr result (λ e. (make_refusal places D.CONDITIONS ≡ Some e.1) ⊎ ((make_refusal places D.CONDITIONS ≡ None) × (e.1 ≡ MakeRefused.Memory))) }
+        ensures refused { IfErr result (λ e. (make_refusal places D.CONDITIONS ≡ Some e.1)
+            ⊎ ((make_refusal places D.CONDITIONS ≡ None) × (e.1 ≡ MakeRefused.Memory))) }
     {
         let book = match Book::make(alloc, places, D::CONDITIONS) {
             Ok(book) => book,
             Err(refused) => return Err((state, refused)),
         };
-        let Ok((parkers, bells)) = parkers(alloc, places) else {
+        let Ok((parkers, wakers)) = parkers(alloc, places) else {
             return Err((state, MakeRefused::Memory));
         };
         let Ok(outs) = Vec::with_capacity(alloc, places) else {
             return Err((state, MakeRefused::Memory));
         };
-        let (table, seat) = match Door::opening(alloc, state, book, places) {
+        let (table, mut seat, parcel) = match vacant::<D, usize, BatonWords>(
+            alloc, state, book, &[FREE; 8], &places,
+        ) {
             Ok(made) => made,
             Err(state) => return Err((state, MakeRefused::Memory)),
         };
-        let door = Door { table, bells };
-        let outs = door.deal(seat, parkers, outs, places);
-        Ok((door, outs))
+        open(&table, &mut seat, parcel);
+        let outs = deal(&table, seat, parkers, outs, places);
+        Ok((Door { table, wakers }, outs))
     }
 
-    /// The table with data and queues in its slot, and a seat that stands for all places. Where memory is refused, the data
-    /// come back: so the first seat takes the empty slot first, and then gives it back with the data.
-    fn opening(
-        alloc: Global,
-        state: D,
-        book: Book,
-        places: usize,
-    ) -> Result<(DoorTable<D>, DoorSeat<D>), D>
-        requires rest { D.rest state nobody }
-        requires book { IsOf book (unused places D.CONDITIONS) }
-        ensures table { IfOk result (λ r. (r.0.shared.table_id.words ≡ 8) × (r.0.shared.table_id.slots ≡ 1) × (r.0.shared.key ≡ places)) }
-        ensures seat { IfOk result (λ r. (r.1.table_id ≡ r.0.shared.table_id) × (r.1.me ≡ (Places (stands_from 0 places (opened places D.CONDITIONS state)), []))) }
-        ensures returned { IfErr result (λ s. s ≡ state) }
+    /// Takes the door apart: all of its places are handed in, in any order. The data are at rest with nobody waiting, and
+    /// those that one legal and lawful history left, which begins with what each place knows and in which no place did
+    /// anything else.
+    pub fn close(self, outs: Vec<DoorOut<D>>) -> D
+        requires of { All (⟦<Door<D> as Monitor<D>>⟧.is_of self) outs.items }
+        requires places { (k : ℕ) → k < self.places → HasPlace k outs.items }
+        ensures closes { Closes D.rest D.ready D.CONDITIONS self outs.items result }
+        ensures rest { D.rest result nobody }
     {
-        let parcel = Parcel::new(alloc, state, book)?;
-        // The door's word, and seven more that nobody uses: they keep most other data off the word's line of the cache.
-        let words = [1, 0, 0, 0, 0, 0, 0, 0];
-        let (table, mut seat) = match Table::vacant(alloc, &words, 1, &places) {
-            Ok(made) => made,
-            Err(_) => return Err(parcel.into_data()),
-        };
-        table.shared.load::<Begin>(&mut seat, 0);
-        let old = table.shared.exchange(&mut seat, 0, Some(parcel));
-        let None = old else { unreachable!() };
-        table.shared.store::<Open>(&mut seat, 0, 0);
-        Ok((table, seat))
-    }
-
-    /// The places, each with its parker, of a seat that stands for all of them.
-    fn deal(
-        &self,
-        mut seat: DoorSeat<D>,
-        mut parkers: Vec<Parker>,
-        mut outs: Vec<DoorOut<D>>,
-        places: usize,
-    ) -> Vec<DoorOut<D>>
-        requires table { seat.table_id ≡ self.now.table.shared.table_id }
-        requires room { (vec_len outs ≡ 0) × (places ≤ vec_capacity outs) × (vec_len parkers ≡ places) }
-        requires seat { (f : History D) × (seat.me ≡ (Places (stands_from 0 places f), [])) }
-        ensures { (f : History D) → seat.me ≡ (Places (stands_from 0 places f), []) → result.items ≡ places_from self.now.table.shared.table_id 0 places f }
-    {
-        for place in 0..places {
-            let cut = self.table.shared.split_seat::<Deal>(&mut seat);
-            let parker = parkers.pop().unwrap();
-            let out = DoorOut {
-                seat: cut,
-                place,
-                parker,
-            };
-            outs.push_reserved(out);
-        }
-        outs
-    }
-
-    /// Takes the door apart: all of its places are handed in, in any order. The data are those that one legal and lawful
-    /// history left, which begins with what each place knows and in which no place did anything else.
-    pub fn close(self, mut outs: Vec<DoorOut<D>>) -> D
-        requires of { All (IsOut D.rest D.ready D.CONDITIONS self.table.shared.table_id self.table.shared.key) outs.items }
-        requires places { (k : ℕ) → k < self.table.shared.key → HasPlace k outs.items }
-        ensures { Closes D.rest D.ready D.CONDITIONS self.table.shared.key outs.items result }
-    {
-        let Door { table, bells: _ } = self;
-        let Some(first) = outs.pop() else {
-            unreachable!()
-        };
-        let mut seat = first.into_seat();
-        while let Some(out) = outs.pop() {
-            let other = out.into_seat();
-            table.shared.join_seat::<Gather>(&mut seat, other);
-        }
-        let mut closed = table.close_with(seat);
-        let parcel = closed.take(0).unwrap();
-        closed.free();
-        parcel.into_data()
+        let Door { table, wakers: _ } = self;
+        closed(table, outs)
     }
 }
 

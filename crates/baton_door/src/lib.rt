@@ -4,10 +4,9 @@
 pub mod door;
 mod monitor;
 mod newcomers;
-mod parcel;
 mod parking;
 pub mod place;
 mod rule;
 #[cfg(test)]
 mod tests;
-mod view;
+mod word;

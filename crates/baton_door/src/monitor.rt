@@ -1,8 +1,24 @@
 //! The calls of a monitor, on a door.
-ghost use Rattle.std.specs.Prelude.{◌≡◌};
+ghost use Rattle.std.specs.Prelude.{◌≡◌, ℕ, [], ◌∷◌, None};
+ghost use Rattle.hoare_law.specs.declared.event.History.{History};
+ghost use Rattle.hoare_law.specs.Events.{with_event};
+ghost use Rattle.wait_book.specs.Contents.{IsPlaceBelow};
+ghost use Rattle.door_frame.specs.Views.{alone};
+ghost use Rattle.door_frame.specs.Steps.{MayGive};
+ghost use Rattle.door_frame.specs.Seats.{IsAway};
+ghost use Rattle.door_frame.specs.Departures.{event_of};
 
 use crate::door::Door;
 use crate::place::{DoorIn, DoorOut};
+use crate::rule::Claim;
+use crate::word::{DOOR, HELD, owed};
+use crossbeam_utils::sync::Parker;
+use door_frame::calls;
+use door_frame::departure::Departure;
+use door_frame::parcel::Parcel;
+use door_frame::plays::DoorSeat;
+use door_frame::slot::take_parcel;
+use door_frame::turnstile::Turnstile;
 use hoare_law::data::MonitorData;
 use hoare_law::monitor::Monitor;
 use std::marker::Brand;
@@ -10,11 +26,67 @@ use std::sync::Wait;
 use wait_book::book::Book;
 use wait_book::steps::Next;
 
+impl<D: MonitorData> Turnstile<D> for Door<D> {
+    ghost id = { λ d. d };
+
+    /// The first try stands alone: it is short enough to be inlined.
+    #[inline]
+    fn admit<R: Wait>(&self, rt: &R, seat: &mut DoorSeat<D>, place: usize) -> Parcel<D> {
+        if self.try_enter(seat) {
+            return take_parcel(&self.table, seat);
+        }
+        self.keep_trying(rt, seat);
+        take_parcel(&self.table, seat)
+    }
+
+    /// It looks a while, then tests the word and parks, until the test finds that the monitor is owed to the place.
+    fn claim<R: Wait>(
+        &self,
+        rt: &R,
+        seat: &mut DoorSeat<D>,
+        place: usize,
+        parker: &Parker,
+    ) -> Parcel<D> {
+        let table = &self.table;
+        let mine = owed(place);
+        self.look_for(mine);
+        for _ in rt.forever() {
+            if table
+                .shared
+                .compare_exchange::<Claim>(seat, DOOR, mine, HELD)
+                == mine
+            {
+                return take_parcel(table, seat);
+            }
+            parker.park(rt);
+        }
+        unreachable!()
+    }
+
+    #[inline]
+    fn hand_on(
+        &self,
+        seat: &mut DoorSeat<D>,
+        parcel: Parcel<D>,
+        place: usize,
+        departure: Departure,
+        next: Next,
+    )
+        requires table { seat.old.table_id ≡ self.now.table }
+        requires next { IsPlaceBelow self.now.places next }
+        requires event { MayGive D.rest D.ready (event_of place departure next) place seat.old.me parcel next }
+        ensures table { seat.new.table_id ≡ seat.old.table_id }
+        ensures away { (f : History D) → seat.old.me ≡ (alone place f, (0, None) ∷ []) → IsAway place (with_event f (event_of place departure next parcel.state)) seat.new.me }
+    {
+        self.give::<Brand>(seat, parcel, place, departure, next);
+    }
+}
+
 impl<D: MonitorData + Send> Monitor<D> for Door<D> {
     ghost use Rattle.std.specs.Prelude.{◌≡◌, ◌≢◌, ◌<◌, ℕ, refl};
     ghost use Rattle.hoare_law.specs.Priorities.{priorities};
     ghost use Rattle.hoare_law.proofs.Priorities.{IsNonDecreasing-priorities};
-    ghost use Rattle.baton_door.specs.Places.{PlaceIn, IsOut, IsIn, with_state};
+    ghost use Rattle.door_frame.specs.Places.{PlaceIn, IsOut, IsIn, with_state};
 
     type Out = DoorOut<D>;
 
@@ -22,9 +94,9 @@ impl<D: MonitorData + Send> Monitor<D> for Door<D> {
 
     type Lists = Book;
 
-    ghost is_of = { λ m o. IsOut D.rest D.ready D.CONDITIONS m.table.shared.table_id m.table.shared.key o };
+    ghost is_of = { λ m o. IsOut D.rest D.ready D.CONDITIONS m o };
 
-    ghost is_of_in = { λ m i. IsIn D.rest D.ready D.CONDITIONS m.table.shared.table_id m.table.shared.key i };
+    ghost is_of_in = { λ m i. IsIn D.rest D.ready D.CONDITIONS m i };
 
     ghost place = { λ o. o.place };
 
@@ -42,36 +114,12 @@ impl<D: MonitorData + Send> Monitor<D> for Door<D> {
 
     #[inline]
     fn enter<R: Wait>(&self, rt: &R, out: DoorOut<D>) -> DoorIn<D> {
-        let DoorOut {
-            mut seat,
-            place,
-            parker,
-        } = out;
-        let mut parcel = self.admit(rt, &mut seat);
-        parcel.held.book.admit(place);
-        DoorIn {
-            seat,
-            place,
-            parker,
-            parcel,
-        }
+        calls::enter(self, rt, out)
     }
 
     #[inline]
     fn leave<R: Wait>(&self, rt: &R, inside: DoorIn<D>) -> DoorOut<D> {
-        let DoorIn {
-            mut seat,
-            place,
-            parker,
-            mut parcel,
-        } = inside;
-        let next = parcel.held.book.leave(place);
-        self.hand_on::<Brand>(&mut seat, parcel, place, 0, 0, next);
-        DoorOut {
-            seat,
-            place,
-            parker,
-        }
+        calls::leave(self, inside)
     }
 
     fn wait<R: Wait>(
@@ -81,45 +129,11 @@ impl<D: MonitorData + Send> Monitor<D> for Door<D> {
         condition: usize,
         priority: u64,
     ) -> DoorIn<D> {
-        let DoorIn {
-            mut seat,
-            place,
-            parker,
-            mut parcel,
-        } = inside;
-        let next = parcel.held.book.wait(place, condition, priority);
-        self.hand_on::<Brand>(&mut seat, parcel, place, condition, priority, next);
-        let mut parcel = self.claim(rt, &mut seat, place, &parker);
-        parcel.held.book.claim(place);
-        DoorIn {
-            seat,
-            place,
-            parker,
-            parcel,
-        }
+        calls::wait(self, rt, inside, condition, priority)
     }
 
     fn signal<R: Wait>(&self, rt: &R, inside: DoorIn<D>, condition: usize) -> (DoorIn<D>, bool) {
-        if !self.queue(&inside, condition) {
-            return (inside, false);
-        }
-        let DoorIn {
-            mut seat,
-            place,
-            parker,
-            mut parcel,
-        } = inside;
-        let next = parcel.held.book.signal(place, condition);
-        self.hand_on::<Brand>(&mut seat, parcel, place, condition, 0, next);
-        let mut parcel = self.claim(rt, &mut seat, place, &parker);
-        parcel.held.book.claim(place);
-        let inside = DoorIn {
-            seat,
-            place,
-            parker,
-            parcel,
-        };
-        (inside, true)
+        calls::signal(self, rt, inside, condition)
     }
 
     fn signal_leave<R: Wait>(
@@ -128,27 +142,11 @@ impl<D: MonitorData + Send> Monitor<D> for Door<D> {
         inside: DoorIn<D>,
         condition: usize,
     ) -> (DoorOut<D>, bool) {
-        if !self.queue(&inside, condition) {
-            return (self.leave(rt, inside), false);
-        }
-        let DoorIn {
-            mut seat,
-            place,
-            parker,
-            mut parcel,
-        } = inside;
-        let next = parcel.held.book.pass(place, condition);
-        self.hand_on::<Brand>(&mut seat, parcel, place, condition, 0, next);
-        let out = DoorOut {
-            seat,
-            place,
-            parker,
-        };
-        (out, true)
+        calls::signal_leave(self, inside, condition)
     }
 
     fn state<'a>(&self, inside: &'a DoorIn<D>) -> &'a D {
-        &inside.parcel.held.state
+        inside.state()
     }
 
     fn state_mut<'a>(inside: &'a mut DoorIn<D>, monitor: &Self) -> &'a mut D {
@@ -157,15 +155,15 @@ impl<D: MonitorData + Send> Monitor<D> for Door<D> {
     }
 
     fn lists<'a>(&self, inside: &'a DoorIn<D>) -> &'a Book {
-        inside.parcel.book()
+        inside.lists()
     }
 
     fn queue(&self, inside: &DoorIn<D>, condition: usize) -> bool {
-        inside.parcel.book().queue(condition)
+        inside.queue(condition)
     }
 
     fn first(&self, inside: &DoorIn<D>, condition: usize) -> Option<u64> {
-        inside.parcel.book().first(condition)
+        inside.first(condition)
     }
 
     ghost stands = { λ m o h. (h.stands, h.conditions_are, h.is_outside) };

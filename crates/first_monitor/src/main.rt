@@ -48,14 +48,14 @@ fn work_all<R: Threads + Wait + Sync>(
     door: &Door<Permits>,
     places: Vec<DoorOut<Permits>>,
 ) -> io::Result<u32>
-    requires { All (λ o. IsOut (λ s q. PermitsRest s.total s.free q) (λ c p s q. PermitsReady s.total s.free q) 1 door.now.table.shared.table_id door.now.table.shared.key o) places.items }
+    requires { All (λ o. IsOut (λ s q. PermitsRest s.total s.free q) (λ c p s q. PermitsReady s.total s.free q) 1 door.now o) places.items }
 {
     let number = AtomicU32::new(0);
     let done = thread::map_vec(
         rt,
         places,
         &|out| -> u32
-            requires { IsOut (λ s q. PermitsRest s.total s.free q) (λ c p s q. PermitsReady s.total s.free q) 1 door.now.table.shared.table_id door.now.table.shared.key out }
+            requires { IsOut (λ s q. PermitsRest s.total s.free q) (λ c p s q. PermitsReady s.total s.free q) 1 door.now out }
         {
             let class = if number.fetch_add(1, Ordering::SeqCst) % 2 == 0 {
                 Class::Express

@@ -16,3 +16,8 @@ pub mod Rules
 pub mod Joined
 pub mod Searches
 pub mod Firsts
+pub mod Opening
+pub mod Entering
+pub mod Leaving
+pub mod Ended
+pub mod Admissions

@@ -48,3 +48,7 @@ with_event h e = record h { events = h.events ++ e ∷ [] }
 -- h at the time of its first events
 abbrev pub cut_to : {S : Type 0} → History S → List (Event S) → History S
 cut_to h f = record h { events = f }
+
+-- a history in which nothing happened yet
+abbrev pub opened : {S : Type 0} → ℕ → ℕ → S → History S
+opened places conditions s = record { places = places; conditions = conditions; opening = s; events = [] }

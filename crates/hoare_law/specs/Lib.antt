@@ -7,3 +7,4 @@ pub mod Lawful
 pub mod Growth
 pub mod Erasure
 pub mod Beside
+pub mod Admissions

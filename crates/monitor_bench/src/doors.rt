@@ -32,13 +32,13 @@ fn add_all<const N: usize, R: Threads + Wait + Sync>(
     places: Vec<DoorOut<Counter<N>>>,
     turns: u64,
 ) -> io::Result<()>
-    requires { All (λ o. IsOut (λ s q. ⊤) (λ c p s q. ⊤) N door.now.table.shared.table_id door.now.table.shared.key o) places.items }
+    requires { All (λ o. IsOut (λ s q. ⊤) (λ c p s q. ⊤) N door.now o) places.items }
 {
     thread::map_vec(
         rt,
         places,
         &|out| -> ()
-            requires { IsOut (λ s q. ⊤) (λ c p s q. ⊤) N door.now.table.shared.table_id door.now.table.shared.key out }
+            requires { IsOut (λ s q. ⊤) (λ c p s q. ⊤) N door.now out }
         { add_many(rt, door, out, turns) },
     )?;
     Ok(())
@@ -85,14 +85,14 @@ fn wait_and_signal<R: Threads + Wait + Sync>(
     waiters: u64,
     turns: u64,
 ) -> io::Result<()>
-    requires { All (λ o. IsOut (λ s q. ⊤) (λ c p s q. ⊤) 1 door.now.table.shared.table_id door.now.table.shared.key o) places.items }
+    requires { All (λ o. IsOut (λ s q. ⊤) (λ c p s q. ⊤) 1 door.now o) places.items }
 {
     let roles = AtomicU64::new(0);
     thread::map_vec(
         rt,
         places,
         &|out| -> ()
-            requires { IsOut (λ s q. ⊤) (λ c p s q. ⊤) 1 door.now.table.shared.table_id door.now.table.shared.key out }
+            requires { IsOut (λ s q. ⊤) (λ c p s q. ⊤) 1 door.now out }
         {
             let role = roles.fetch_add(1, Ordering::SeqCst);
             if role < waiters {
@@ -128,14 +128,14 @@ fn pull_chain<R: Threads + Wait + Sync>(
     places: Vec<DoorOut<Counter<8>>>,
     turns: u64,
 ) -> io::Result<()>
-    requires { All (λ o. IsOut (λ s q. ⊤) (λ c p s q. ⊤) 8 door.now.table.shared.table_id door.now.table.shared.key o) places.items }
+    requires { All (λ o. IsOut (λ s q. ⊤) (λ c p s q. ⊤) 8 door.now o) places.items }
 {
     let roles = AtomicU64::new(0);
     thread::map_vec(
         rt,
         places,
         &|out| -> ()
-            requires { IsOut (λ s q. ⊤) (λ c p s q. ⊤) 8 door.now.table.shared.table_id door.now.table.shared.key out }
+            requires { IsOut (λ s q. ⊤) (λ c p s q. ⊤) 8 door.now out }
         {
             let role = roles.fetch_add(1, Ordering::SeqCst);
             if role < 8 {
@@ -169,14 +169,14 @@ fn append_and_remove<R: Threads + Wait + Sync>(
     places: Vec<DoorOut<Buffer<u64>>>,
     turns: u64,
 ) -> io::Result<u64>
-    requires { All (λ o. IsOut (λ b q. BufferRests b (q 0) (q 1)) (λ c p b q. BufferReady c b (q 0) (q 1)) 2 door.now.table.shared.table_id door.now.table.shared.key o) places.items }
+    requires { All (λ o. IsOut (λ b q. BufferRests b (q 0) (q 1)) (λ c p b q. BufferReady c b (q 0) (q 1)) 2 door.now o) places.items }
 {
     let roles = AtomicU64::new(0);
     let sums = thread::map_vec(
         rt,
         places,
         &|out| -> u64
-            requires { IsOut (λ b q. BufferRests b (q 0) (q 1)) (λ c p b q. BufferReady c b (q 0) (q 1)) 2 door.now.table.shared.table_id door.now.table.shared.key out }
+            requires { IsOut (λ b q. BufferRests b (q 0) (q 1)) (λ c p b q. BufferReady c b (q 0) (q 1)) 2 door.now out }
         {
             if roles.fetch_add(1, Ordering::SeqCst) % 2 == 0 {
                 append_many(rt, door, out, turns);

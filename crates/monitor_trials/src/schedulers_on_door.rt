@@ -57,20 +57,20 @@ fn release_and_acquire<R: Threads + Wait + Abort + Sync>(
     a: DoorOut<Single<u8>>,
     b: DoorOut<Single<u8>>,
 ) -> ((DoorOut<Single<u8>>, bool), (DoorOut<Single<u8>>, u8))
-    requires a { IsOut (λ s q. SingleRests s (q 0)) (λ c p s q. SingleReady s) 1 door.now.table.shared.table_id door.now.table.shared.key a }
-    requires b { IsOut (λ s q. SingleRests s (q 0)) (λ c p s q. SingleReady s) 1 door.now.table.shared.table_id door.now.table.shared.key b }
-    ensures a { IsOut (λ s q. SingleRests s (q 0)) (λ c p s q. SingleReady s) 1 door.now.table.shared.table_id door.now.table.shared.key result.0.0 }
-    ensures b { IsOut (λ s q. SingleRests s (q 0)) (λ c p s q. SingleReady s) 1 door.now.table.shared.table_id door.now.table.shared.key result.1.0 }
+    requires a { IsOut (λ s q. SingleRests s (q 0)) (λ c p s q. SingleReady s) 1 door.now a }
+    requires b { IsOut (λ s q. SingleRests s (q 0)) (λ c p s q. SingleReady s) 1 door.now b }
+    ensures a { IsOut (λ s q. SingleRests s (q 0)) (λ c p s q. SingleReady s) 1 door.now result.0.0 }
+    ensures b { IsOut (λ s q. SingleRests s (q 0)) (λ c p s q. SingleReady s) 1 door.now result.1.0 }
 {
     both_within(
         rt,
         || -> (DoorOut<Single<u8>>, bool)
-            requires { IsOut (λ s q. SingleRests s (q 0)) (λ c p s q. SingleReady s) 1 door.now.table.shared.table_id door.now.table.shared.key a }
-            ensures { IsOut (λ s q. SingleRests s (q 0)) (λ c p s q. SingleReady s) 1 door.entry.now.table.shared.table_id door.entry.now.table.shared.key result.0 }
+            requires { IsOut (λ s q. SingleRests s (q 0)) (λ c p s q. SingleReady s) 1 door.now a }
+            ensures { IsOut (λ s q. SingleRests s (q 0)) (λ c p s q. SingleReady s) 1 door.entry.now result.0 }
         { release_to_waiter(rt, door, a) },
         || -> (DoorOut<Single<u8>>, u8)
-            requires { IsOut (λ s q. SingleRests s (q 0)) (λ c p s q. SingleReady s) 1 door.now.table.shared.table_id door.now.table.shared.key b }
-            ensures { IsOut (λ s q. SingleRests s (q 0)) (λ c p s q. SingleReady s) 1 door.entry.now.table.shared.table_id door.entry.now.table.shared.key result.0 }
+            requires { IsOut (λ s q. SingleRests s (q 0)) (λ c p s q. SingleReady s) 1 door.now b }
+            ensures { IsOut (λ s q. SingleRests s (q 0)) (λ c p s q. SingleReady s) 1 door.entry.now result.0 }
         { Single::acquire(door, rt, b) },
     )
 }
@@ -103,16 +103,16 @@ fn append_and_remove<R: Threads + Wait + Abort + Sync>(
     a: DoorOut<Buffer<u8>>,
     b: DoorOut<Buffer<u8>>,
 ) -> (u8, u8, u8, u8)
-    requires a { IsOut (λ b q. BufferRests b (q 0) (q 1)) (λ c p b q. BufferReady c b (q 0) (q 1)) 2 door.now.table.shared.table_id door.now.table.shared.key a }
-    requires b { IsOut (λ b q. BufferRests b (q 0) (q 1)) (λ c p b q. BufferReady c b (q 0) (q 1)) 2 door.now.table.shared.table_id door.now.table.shared.key b }
+    requires a { IsOut (λ b q. BufferRests b (q 0) (q 1)) (λ c p b q. BufferReady c b (q 0) (q 1)) 2 door.now a }
+    requires b { IsOut (λ b q. BufferRests b (q 0) (q 1)) (λ c p b q. BufferReady c b (q 0) (q 1)) 2 door.now b }
 {
     let ((), items) = both_within(
         rt,
         || -> ()
-            requires { IsOut (λ b q. BufferRests b (q 0) (q 1)) (λ c p b q. BufferReady c b (q 0) (q 1)) 2 door.now.table.shared.table_id door.now.table.shared.key a }
+            requires { IsOut (λ b q. BufferRests b (q 0) (q 1)) (λ c p b q. BufferReady c b (q 0) (q 1)) 2 door.now a }
         { append_four(rt, door, a) },
         || -> (u8, u8, u8, u8)
-            requires { IsOut (λ b q. BufferRests b (q 0) (q 1)) (λ c p b q. BufferReady c b (q 0) (q 1)) 2 door.now.table.shared.table_id door.now.table.shared.key b }
+            requires { IsOut (λ b q. BufferRests b (q 0) (q 1)) (λ c p b q. BufferReady c b (q 0) (q 1)) 2 door.now b }
         { remove_four(rt, door, b) },
     );
     items

@@ -144,14 +144,14 @@ fn run_all<R: Threads + Wait + Sync>(
     door: &Door<Diary>,
     places: Vec<DoorOut<Diary>>,
 ) -> Result<(), AllocError>
-    requires { All (λ o. IsOut (λ s q. ⊤) (λ c p s q. ⊤) 3 door.now.table.shared.table_id door.now.table.shared.key o) places.items }
+    requires { All (λ o. IsOut (λ s q. ⊤) (λ c p s q. ⊤) 3 door.now o) places.items }
 {
     let roles = AtomicU64::new(0);
     thread::map_vec(
         rt,
         places,
         &|out| -> ()
-            requires { IsOut (λ s q. ⊤) (λ c p s q. ⊤) 3 door.now.table.shared.table_id door.now.table.shared.key out }
+            requires { IsOut (λ s q. ⊤) (λ c p s q. ⊤) 3 door.now out }
         {
             let me = roles.fetch_add(1, Ordering::SeqCst);
             if me < WORKERS as u64 {
@@ -169,13 +169,13 @@ fn run_within<R: Threads + Wait + Abort + Sync>(
     door: &Door<Diary>,
     places: Vec<DoorOut<Diary>>,
 ) -> Result<(), AllocError>
-    requires { All (λ o. IsOut (λ s q. ⊤) (λ c p s q. ⊤) 3 door.now.table.shared.table_id door.now.table.shared.key o) places.items }
+    requires { All (λ o. IsOut (λ s q. ⊤) (λ c p s q. ⊤) 3 door.now o) places.items }
 {
     within(
         rt,
         TURNS,
         || -> Result<(), AllocError>
-            requires { All (λ o. IsOut (λ s q. ⊤) (λ c p s q. ⊤) 3 door.now.table.shared.table_id door.now.table.shared.key o) places.items }
+            requires { All (λ o. IsOut (λ s q. ⊤) (λ c p s q. ⊤) 3 door.now o) places.items }
         { run_all(rt, door, places) },
     )
 }

@@ -101,23 +101,23 @@ fn wait_and_signal<R: Threads + Wait + Abort + Sync>(
     a: DoorOut<Tally>,
     b: DoorOut<Tally>,
 ) -> ((DoorOut<Tally>, u64, u64), (DoorOut<Tally>, bool))
-    requires a { IsOut (λ s q. ⊤) (λ c p s q. ⊤) 1 door.now.table.shared.table_id door.now.table.shared.key a }
-    requires b { IsOut (λ s q. ⊤) (λ c p s q. ⊤) 1 door.now.table.shared.table_id door.now.table.shared.key b }
-    ensures a { IsOut (λ s q. ⊤) (λ c p s q. ⊤) 1 door.now.table.shared.table_id door.now.table.shared.key result.0.0 }
+    requires a { IsOut (λ s q. ⊤) (λ c p s q. ⊤) 1 door.now a }
+    requires b { IsOut (λ s q. ⊤) (λ c p s q. ⊤) 1 door.now b }
+    ensures a { IsOut (λ s q. ⊤) (λ c p s q. ⊤) 1 door.now result.0.0 }
     ensures place_a { result.0.0.place ≡ a.place }
-    ensures b { IsOut (λ s q. ⊤) (λ c p s q. ⊤) 1 door.now.table.shared.table_id door.now.table.shared.key result.1.0 }
+    ensures b { IsOut (λ s q. ⊤) (λ c p s q. ⊤) 1 door.now result.1.0 }
     ensures place_b { result.1.0.place ≡ b.place }
 {
     both_within(
         rt,
         || -> (DoorOut<Tally>, u64, u64)
-            requires { IsOut (λ s q. ⊤) (λ c p s q. ⊤) 1 door.now.table.shared.table_id door.now.table.shared.key a }
-            ensures of { IsOut (λ s q. ⊤) (λ c p s q. ⊤) 1 door.entry.now.table.shared.table_id door.entry.now.table.shared.key result.0 }
+            requires { IsOut (λ s q. ⊤) (λ c p s q. ⊤) 1 door.now a }
+            ensures of { IsOut (λ s q. ⊤) (λ c p s q. ⊤) 1 door.entry.now result.0 }
             ensures place { result.0.place ≡ a.place }
         { writes_and_waits(rt, door, a) },
         || -> (DoorOut<Tally>, bool)
-            requires { IsOut (λ s q. ⊤) (λ c p s q. ⊤) 1 door.now.table.shared.table_id door.now.table.shared.key b }
-            ensures of { IsOut (λ s q. ⊤) (λ c p s q. ⊤) 1 door.entry.now.table.shared.table_id door.entry.now.table.shared.key result.0 }
+            requires { IsOut (λ s q. ⊤) (λ c p s q. ⊤) 1 door.now b }
+            ensures of { IsOut (λ s q. ⊤) (λ c p s q. ⊤) 1 door.entry.now result.0 }
             ensures place { result.0.place ≡ b.place }
         { adds_and_signals(rt, door, b) },
     )
@@ -130,23 +130,23 @@ fn add_both<R: Threads + Wait + Abort + Sync>(
     a: DoorOut<Tally>,
     b: DoorOut<Tally>,
 ) -> (DoorOut<Tally>, DoorOut<Tally>)
-    requires a { IsOut (λ s q. ⊤) (λ c p s q. ⊤) 1 door.now.table.shared.table_id door.now.table.shared.key a }
-    requires b { IsOut (λ s q. ⊤) (λ c p s q. ⊤) 1 door.now.table.shared.table_id door.now.table.shared.key b }
-    ensures a { IsOut (λ s q. ⊤) (λ c p s q. ⊤) 1 door.now.table.shared.table_id door.now.table.shared.key result.0 }
+    requires a { IsOut (λ s q. ⊤) (λ c p s q. ⊤) 1 door.now a }
+    requires b { IsOut (λ s q. ⊤) (λ c p s q. ⊤) 1 door.now b }
+    ensures a { IsOut (λ s q. ⊤) (λ c p s q. ⊤) 1 door.now result.0 }
     ensures place_a { result.0.place ≡ a.place }
-    ensures b { IsOut (λ s q. ⊤) (λ c p s q. ⊤) 1 door.now.table.shared.table_id door.now.table.shared.key result.1 }
+    ensures b { IsOut (λ s q. ⊤) (λ c p s q. ⊤) 1 door.now result.1 }
     ensures place_b { result.1.place ≡ b.place }
 {
     both_within(
         rt,
         || -> DoorOut<Tally>
-            requires { IsOut (λ s q. ⊤) (λ c p s q. ⊤) 1 door.now.table.shared.table_id door.now.table.shared.key a }
-            ensures of { IsOut (λ s q. ⊤) (λ c p s q. ⊤) 1 door.entry.now.table.shared.table_id door.entry.now.table.shared.key result }
+            requires { IsOut (λ s q. ⊤) (λ c p s q. ⊤) 1 door.now a }
+            ensures of { IsOut (λ s q. ⊤) (λ c p s q. ⊤) 1 door.entry.now result }
             ensures place { result.place ≡ a.place }
         { add_thousand(rt, door, a) },
         || -> DoorOut<Tally>
-            requires { IsOut (λ s q. ⊤) (λ c p s q. ⊤) 1 door.now.table.shared.table_id door.now.table.shared.key b }
-            ensures of { IsOut (λ s q. ⊤) (λ c p s q. ⊤) 1 door.entry.now.table.shared.table_id door.entry.now.table.shared.key result }
+            requires { IsOut (λ s q. ⊤) (λ c p s q. ⊤) 1 door.now b }
+            ensures of { IsOut (λ s q. ⊤) (λ c p s q. ⊤) 1 door.entry.now result }
             ensures place { result.place ≡ b.place }
         { add_thousand(rt, door, b) },
     )
@@ -197,23 +197,23 @@ fn wait_and_signal_both<R: Threads + Wait + Abort + Sync>(
     b: DoorOut<Tally>,
     c: DoorOut<Tally>,
 ) -> (DoorOut<Tally>, DoorOut<Tally>)
-    requires b { IsOut (λ s q. ⊤) (λ c p s q. ⊤) 1 door.now.table.shared.table_id door.now.table.shared.key b }
-    requires c { IsOut (λ s q. ⊤) (λ c p s q. ⊤) 1 door.now.table.shared.table_id door.now.table.shared.key c }
-    ensures b { IsOut (λ s q. ⊤) (λ c p s q. ⊤) 1 door.now.table.shared.table_id door.now.table.shared.key result.0 }
+    requires b { IsOut (λ s q. ⊤) (λ c p s q. ⊤) 1 door.now b }
+    requires c { IsOut (λ s q. ⊤) (λ c p s q. ⊤) 1 door.now c }
+    ensures b { IsOut (λ s q. ⊤) (λ c p s q. ⊤) 1 door.now result.0 }
     ensures place_b { result.0.place ≡ b.place }
-    ensures c { IsOut (λ s q. ⊤) (λ c p s q. ⊤) 1 door.now.table.shared.table_id door.now.table.shared.key result.1 }
+    ensures c { IsOut (λ s q. ⊤) (λ c p s q. ⊤) 1 door.now result.1 }
     ensures place_c { result.1.place ≡ c.place }
 {
     thread::join(
         rt,
         || -> DoorOut<Tally>
-            requires { IsOut (λ s q. ⊤) (λ c p s q. ⊤) 1 door.now.table.shared.table_id door.now.table.shared.key b }
-            ensures of { IsOut (λ s q. ⊤) (λ c p s q. ⊤) 1 door.entry.now.table.shared.table_id door.entry.now.table.shared.key result }
+            requires { IsOut (λ s q. ⊤) (λ c p s q. ⊤) 1 door.now b }
+            ensures of { IsOut (λ s q. ⊤) (λ c p s q. ⊤) 1 door.entry.now result }
             ensures place { result.place ≡ b.place }
         { waits_second(rt, door, b) },
         || -> DoorOut<Tally>
-            requires { IsOut (λ s q. ⊤) (λ c p s q. ⊤) 1 door.now.table.shared.table_id door.now.table.shared.key c }
-            ensures of { IsOut (λ s q. ⊤) (λ c p s q. ⊤) 1 door.entry.now.table.shared.table_id door.entry.now.table.shared.key result }
+            requires { IsOut (λ s q. ⊤) (λ c p s q. ⊤) 1 door.now c }
+            ensures of { IsOut (λ s q. ⊤) (λ c p s q. ⊤) 1 door.entry.now result }
             ensures place { result.place ≡ c.place }
         { signals_both(rt, door, c) },
     )
@@ -227,29 +227,29 @@ fn signal_on<R: Threads + Wait + Abort + Sync>(
     b: DoorOut<Tally>,
     c: DoorOut<Tally>,
 ) -> (DoorOut<Tally>, (DoorOut<Tally>, DoorOut<Tally>))
-    requires a { IsOut (λ s q. ⊤) (λ c p s q. ⊤) 1 door.now.table.shared.table_id door.now.table.shared.key a }
-    requires b { IsOut (λ s q. ⊤) (λ c p s q. ⊤) 1 door.now.table.shared.table_id door.now.table.shared.key b }
-    requires c { IsOut (λ s q. ⊤) (λ c p s q. ⊤) 1 door.now.table.shared.table_id door.now.table.shared.key c }
-    ensures a { IsOut (λ s q. ⊤) (λ c p s q. ⊤) 1 door.now.table.shared.table_id door.now.table.shared.key result.0 }
+    requires a { IsOut (λ s q. ⊤) (λ c p s q. ⊤) 1 door.now a }
+    requires b { IsOut (λ s q. ⊤) (λ c p s q. ⊤) 1 door.now b }
+    requires c { IsOut (λ s q. ⊤) (λ c p s q. ⊤) 1 door.now c }
+    ensures a { IsOut (λ s q. ⊤) (λ c p s q. ⊤) 1 door.now result.0 }
     ensures place_a { result.0.place ≡ a.place }
-    ensures b { IsOut (λ s q. ⊤) (λ c p s q. ⊤) 1 door.now.table.shared.table_id door.now.table.shared.key result.1.0 }
+    ensures b { IsOut (λ s q. ⊤) (λ c p s q. ⊤) 1 door.now result.1.0 }
     ensures place_b { result.1.0.place ≡ b.place }
-    ensures c { IsOut (λ s q. ⊤) (λ c p s q. ⊤) 1 door.now.table.shared.table_id door.now.table.shared.key result.1.1 }
+    ensures c { IsOut (λ s q. ⊤) (λ c p s q. ⊤) 1 door.now result.1.1 }
     ensures place_c { result.1.1.place ≡ c.place }
 {
     both_within(
         rt,
         || -> DoorOut<Tally>
-            requires { IsOut (λ s q. ⊤) (λ c p s q. ⊤) 1 door.now.table.shared.table_id door.now.table.shared.key a }
-            ensures of { IsOut (λ s q. ⊤) (λ c p s q. ⊤) 1 door.entry.now.table.shared.table_id door.entry.now.table.shared.key result }
+            requires { IsOut (λ s q. ⊤) (λ c p s q. ⊤) 1 door.now a }
+            ensures of { IsOut (λ s q. ⊤) (λ c p s q. ⊤) 1 door.entry.now result }
             ensures place { result.place ≡ a.place }
         { waits_first(rt, door, a) },
         || -> (DoorOut<Tally>, DoorOut<Tally>)
-            requires second { IsOut (λ s q. ⊤) (λ c p s q. ⊤) 1 door.now.table.shared.table_id door.now.table.shared.key b }
-            requires third { IsOut (λ s q. ⊤) (λ c p s q. ⊤) 1 door.now.table.shared.table_id door.now.table.shared.key c }
-            ensures second { IsOut (λ s q. ⊤) (λ c p s q. ⊤) 1 door.entry.now.table.shared.table_id door.entry.now.table.shared.key result.0 }
+            requires second { IsOut (λ s q. ⊤) (λ c p s q. ⊤) 1 door.now b }
+            requires third { IsOut (λ s q. ⊤) (λ c p s q. ⊤) 1 door.now c }
+            ensures second { IsOut (λ s q. ⊤) (λ c p s q. ⊤) 1 door.entry.now result.0 }
             ensures second_place { result.0.place ≡ b.place }
-            ensures third { IsOut (λ s q. ⊤) (λ c p s q. ⊤) 1 door.entry.now.table.shared.table_id door.entry.now.table.shared.key result.1 }
+            ensures third { IsOut (λ s q. ⊤) (λ c p s q. ⊤) 1 door.entry.now result.1 }
             ensures third_place { result.1.place ≡ c.place }
         { wait_and_signal_both(rt, door, b, c) },
     )

@@ -4,3 +4,4 @@ pub mod Waiters
 pub mod Sound
 pub mod Histories
 pub mod Priorities
+pub mod WithData

@@ -4,4 +4,4 @@ use Rattle.first_monitor.proofs.work.Given as goal
 
 -- the place stays one of the door's
 abbrev pub invariant-loop : goal.invariant-loop
-invariant-loop g l = IsOut (λ s q. PermitsRest s.total s.free q) (λ c p s q. PermitsReady s.total s.free q) 1 l.door.table.shared.table_id l.door.table.shared.key l.out
+invariant-loop g l = IsOut (λ s q. PermitsRest s.total s.free q) (λ c p s q. PermitsReady s.total s.free q) 1 l.door l.out

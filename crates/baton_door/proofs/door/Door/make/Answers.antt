@@ -1,10 +1,26 @@
-use Rattle.std.proofs.Common.{ℕ, sym, subst, arith}
-use Rattle.std.specs.Prelude.{All}
-use Rattle.baton_door.specs.Places.{IsOut, opened, places_from}
-use Rattle.baton_door.proofs.Lawful.{opened_out}
+use Rattle.std.proofs.Common.{ℕ, ap, sym, ◌∙◌, [], subst}
+use Rattle.hoare_law.specs.Events.{opened}
+use Rattle.hoare_law.specs.Priorities.{nobody}
+use Rattle.door_frame.specs.Places.{DoorId, places_from}
+use Rattle.door_frame.specs.declared.view.View.TheVariants.{Places}
+use Rattle.door_frame.specs.Views.{all_know}
+use Rattle.door_frame.proofs.Opened.{made_outside}
 use Rattle.baton_door.proofs.door.Door.make.Goals as goal
 
+pub deal-outs-requires-clause-seat : goal.deal-outs-requires-clause-seat
+deal-outs-requires-clause-seat g c =
+    let key = c.in-Ok-vacant.ensures.table.2 in
+    let h = opened c.in-Ok-vacant.made.0.shared.key g.D.MonitorData.CONDITIONS c.in-Ok-vacant.made.2.state in
+    (h, c.open.ensures.opened ∙ ap (λ (n : ℕ). (Places (all_know 0 n h), [])) key)
+
 pub returns-clause-of : goal.returns-clause-of
-returns-clause-of g c = let D = g.D.MonitorData in let t = c.in-Ok-opening.made.0.shared in let e = c.in-Ok-opening.ensures in let n = c.args.places in let first = opened n D.CONDITIONS c.args.state in
-    subst (All (IsOut D.rest D.ready D.CONDITIONS t.table_id t.key)) (sym (c.deal-outs.ensures first e.seat.1))
-    (subst (λ (m : ℕ). All (IsOut D.rest D.ready D.CONDITIONS t.table_id m) (places_from t.table_id 0 n first)) (sym e.table.2) (opened_out D.rest D.ready D.CONDITIONS t.table_id n c.args.state 0 n (omega arith) c.requires.rest))
+returns-clause-of g c =
+    let D = g.D.MonitorData in
+    let made = c.in-Ok-vacant.ensures in
+    let t = c.in-Ok-vacant.made.0.shared in
+    let s = c.in-Ok-vacant.made.2.state in
+    let h = opened t.key D.CONDITIONS s in
+    let d : DoorId = record { table = t.table_id; places = t.key } in
+    let dealt = c.deal-outs.ensures h (c.open.ensures.opened ∙ ap (λ (n : ℕ). (Places (all_know 0 n h), [])) made.table.2) in
+    made_outside D.rest D.ready D.CONDITIONS d s _ (dealt ∙ ap (λ (n : ℕ). places_from t.table_id 0 n h) (sym made.table.2))
+    (subst (λ (r : g.row.D.Denot). D.rest r nobody) (sym made.parcel.0) c.requires.rest)

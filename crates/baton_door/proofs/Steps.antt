@@ -1,0 +1,145 @@
+-- Each step on the door's word keeps the rule.
+use Rattle.std.proofs.Common.{◌≡◌, ◌≢◌, ℕ, ◌+◌, ◌<◌, eqb, true, false, List, [], ◌∷◌, get_or, set, length, length-set, get_or-set_same, Some, None, refl, sym, ap, ◌∙◌}
+use Rattle.std.proofs.Common.{subst, arith, eq-eqb, ne_eqb}
+use mathlib.Core.Option.{none}
+use native.Mathlib.Decide.{ℕ_discrete}
+use prog.Atomic.{either}
+use Rattle.atomic_table.specs.Table.{step, Allows}
+use Rattle.hoare_law.specs.declared.event.Event.{Event}
+use Rattle.hoare_law.specs.declared.event.History.{History}
+use Rattle.hoare_law.specs.declared.event.Event.TheVariants.{Admit}
+use Rattle.hoare_law.specs.Events.{own, latest_data, opened, with_event}
+use Rattle.hoare_law.specs.Lawful.{Rest, Ready, Stands}
+use Rattle.hoare_law.specs.Priorities.{nobody}
+use Rattle.hoare_law.specs.Turns.{turn, outside, urgent}
+use Rattle.hoare_law.proofs.Entering.{outside-same}
+use Rattle.wait_book.specs.declared.steps.Next.{Next}
+use Rattle.wait_book.specs.Contents.{IsOf}
+use Rattle.door_frame.specs.declared.parcel.Lodged.{Lodged}
+use Rattle.door_frame.specs.declared.view.View.TheVariants.{Unopened, Opening}
+use Rattle.door_frame.specs.Rule.{Cells, Tickets, IsGivenUp, Kept}
+use Rattle.door_frame.specs.Steps.{Sat, Gives, begins, opens, gives_as, due}
+use Rattle.door_frame.specs.Views.{alone}
+use Rattle.door_frame.proofs.Steps as frame
+use Rattle.baton_door.specs.Rule.{Starts, Tells, word_of}
+use Rattle.baton_door.specs.Steps.{ComesAt, comes, admits, claims}
+use Rattle.baton_door.specs.Words.{word_of_next}
+use Rattle.baton_door.proofs.Words.{word_of-next, word_of-free, word_of-due}
+
+-- the word after an exchange for 1 that expects a number
+abbrev pub taken_at : ℕ → ℕ → ℕ
+taken_at expected x = either (eqb x expected) 1 x
+
+taken_at-hit : (expected x : ℕ) → x ≡ expected → taken_at expected x ≡ 1
+taken_at-hit expected x hit = ap (λ b. either b 1 x) (eq-eqb x expected hit)
+
+taken_at-miss : (expected x : ℕ) → x ≢ expected → taken_at expected x ≡ x
+taken_at-miss expected x miss = ap (λ b. either b 1 x) (ne_eqb x expected miss)
+
+written : (ws : List ℕ) (w : ℕ) → length ws ≡ 8 → get_or (set ws 0 w) 0 0 ≡ w
+written ws w wide = get_or-set_same ws 0 w 0 (omega (arith, wide))
+
+-- the word is held once the first seat has the slot
+begun : (ws : List ℕ) → Starts false ws → Starts true (set ws 0 (taken_at 0 (get_or ws 0 0)))
+begun ws b = record {
+  words_are = length-set ws 0 (taken_at 0 (get_or ws 0 0)) ∙ b.words_are;
+  word = written ws (taken_at 0 (get_or ws 0 0)) b.words_are ∙ taken_at-hit 0 (get_or ws 0 0) b.word;
+}
+
+module _ {D : Type 0} where
+  -- and free where nothing happened yet
+  opened_tells : (n conditions : ℕ) (s : D) (ws : List ℕ) → Starts true ws → Tells (opened n conditions s) (λ _. None) (set ws 0 0)
+  unfolding turn urgent
+  opened_tells n conditions s ws b = record {
+    words_are = length-set ws 0 0 ∙ b.words_are;
+    word = written ws 0 b.words_are;
+    no_tickets = λ k. refl;
+  }
+
+  -- the word is set to what the turn after is
+  rewritten : (f h : History D) (tickets : Tickets) (ws : List ℕ) (w : ℕ) → word_of (turn h.events) ≡ w → Tells f tickets ws
+      → Tells h tickets (set ws 0 w)
+  rewritten f h tickets ws w is t = record {
+    words_are = length-set ws 0 w ∙ t.words_are;
+    word = written ws w t.words_are ∙ sym is;
+    no_tickets = t.no_tickets;
+  }
+
+  module _ (rest : Rest D) (ready : Ready D) (conditions n : ℕ) where
+    abbrev K : Cells D → Type 0
+    K = Kept Starts Tells rest ready conditions n
+
+    -- the two opening steps
+    pub begins_at : (slots id : ℕ) (m : Sat D) → m ≡ (Unopened n, [])
+        → Allows K slots id m 0 (taken_at 0) (begins (step slots 0 0 1 none) m)
+    begins_at slots id m is = frame.begins_at Starts Tells rest ready conditions n slots id 0 (taken_at 0) (step slots 0 0 1 none) m is begun
+
+    pub opens_at : (slots id : ℕ) (x : Lodged D) (m : Sat D) → m ≡ (Opening n, (0, Some x) ∷ []) → rest x.state nobody
+        → IsOf x.book (opened n conditions tt)
+        → Allows K slots id m 0 (λ _. 0) (λ _. opens conditions (step slots 0 0 0 none) m 0)
+    opens_at slots id x m is at_rest book =
+        frame.opens_at Starts Tells rest ready conditions n slots id 0 (λ _. 0) x (step slots 0 0 0 none) m is at_rest book
+        (λ ws b. opened_tells n conditions x.state ws b)
+
+    -- k comes in by the event where the word is as expected
+    comes_at : (slots id k expected : ℕ) (f : History D) (event : ℕ → History D → D → Event D) (m : Sat D) → m ≡ (alone k f, [])
+        → ((log : History D) → Stands rest ready log → k < log.places → own k log.events ≡ own k f.events → word_of (turn log.events) ≡ expected
+        → IsGivenUp (turn log.events) × frame.Enters rest ready k log (event k f (latest_data log)))
+        → Allows K slots id m 0 (taken_at expected) (comes rest ready event (step slots 0 expected 1 none) m)
+    comes_at slots id k expected f event m at enters =
+        subst (λ (p : Sat D). Allows K slots id p 0 (taken_at expected) (comes rest ready event (step slots 0 expected 1 none) p)) (sym at)
+        (frame.told_as K slots id me 0 (taken_at expected) _ (comes rest ready event (step slots 0 expected 1 none) me)
+        (λ r m' c j g is.
+        let q = frame.alone_is k j f g [] [] is in
+        subst (λ (p : ℕ × History D). ComesAt expected rest ready event p.0 p.1 me r m') (λ i. (q.0 i, q.1 i)) c)
+        (frame.comes_ok Starts Tells rest ready conditions n slots id k 0 f None (event k f) (taken_at expected) (λ r. r ≡ expected) (λ log. Unit {0})
+        (λ r. ℕ_discrete r expected) (λ log tickets ws small t miss. taken_at-miss expected (get_or ws 0 0) miss) brings))
+      where
+        me : Sat D
+        me = (alone k f, [])
+
+        brings : (log : History D) (tickets : Tickets) (ws : List ℕ) → Stands rest ready log → log.places ≡ n → k < n
+            → own k log.events ≡ own k f.events → tickets k ≡ None → Tells log tickets ws → get_or ws 0 0 ≡ expected
+            → frame.BringsIn Starts Tells rest ready conditions k 0 (taken_at expected) (λ log. Unit {0}) log tickets ws (event k f (latest_data log))
+        brings log tickets ws stands places small same no_ticket t hit =
+            let e = enters log stands (subst (λ (m : ℕ). k < m) (sym places) small) same (sym t.word ∙ hit) in
+            let h : History D = with_event log (event k f (latest_data log)) in record {
+              given_up = e.0;
+              allowed = e.1.allowed;
+              owes = e.1.owes;
+              mine = e.1.mine;
+              inside = e.1.inside;
+              also = tt;
+              tickets' = tickets;
+              no_ticket = no_ticket;
+              others = λ j ne. refl;
+              tells = subst (λ (w : ℕ). Tells h tickets (set ws 0 w)) (sym (taken_at-hit expected (get_or ws 0 0) hit))
+                  (rewritten log h tickets ws 1 (ap word_of e.1.inside) t);
+            }
+
+    -- a newcomer where it is nobody's turn
+    pub admits_at : (slots id k : ℕ) (f : History D) (m : Sat D) → m ≡ (alone k f, []) → outside k f.events ≡ true
+        → Allows K slots id m 0 (taken_at 0) (admits rest ready (step slots 0 0 1 none) m)
+    admits_at slots id k f m is out = comes_at slots id k 0 f (λ j g. Admit j) m is
+        (λ log stands below same w.
+        let free = word_of-free (turn log.events) w in
+        (frame.given_up_free (turn log.events) free, frame.enters_admit rest ready k log below free (outside-same k f log same out)))
+
+    -- a place to which the monitor is owed
+    pub claims_at : (slots id k : ℕ) (f : History D) (m : Sat D) (w : ℕ) → m ≡ (alone k f, []) → w ≡ k + 2
+        → Allows K slots id m 0 (taken_at w) (claims rest ready (step slots 0 w 1 none) m)
+    claims_at slots id k f m w is mine = comes_at slots id k w f due m is
+        (λ log stands below same t.
+        let due_to = word_of-due (turn log.events) k (t ∙ mine) in
+        (frame.given_up_due k (turn log.events) due_to, frame.enters_due rest ready k log f stands same due_to))
+
+    -- who is inside writes who goes on
+    pub gives_at : (slots id k : ℕ) (f : History D) (x : Lodged D) (who : Next) (event : D → Event D) (m : Sat D) (w : ℕ)
+        → m ≡ (alone k f, (0, Some x) ∷ []) → Gives rest ready event k f x who → w ≡ word_of_next who
+        → Allows K slots id m 0 (λ _. w) (λ _. gives_as event (step slots 0 w 0 none) m w)
+    gives_at slots id k f x who event m w is p word =
+        subst (λ (q : Sat D). Allows K slots id q 0 (λ _. w) (λ _. gives_as event (step slots 0 w 0 none) q w)) (sym is)
+        (frame.gives_ok Starts Tells rest ready conditions n slots id k 0 (λ _. w) f x who event (step slots 0 w 0 none) p
+        (λ tickets ws places small t.
+        let h : History D = with_event f (event x.state) in
+        rewritten f h tickets ws w (sym (word_of-next (turn h.events)) ∙ ap word_of_next (sym p.next_is) ∙ sym word) t))

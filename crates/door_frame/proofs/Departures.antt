@@ -1,0 +1,235 @@
+-- Who is inside gives the monitor up: a wait, a leave, a signal or a pass.
+use Rattle.std.proofs.Common.{◌≡◌, ◌≢◌, ℕ, ◌<◌, true, [], Some, refl, ap, sym, ◌∙◌, subst}
+use Rattle.std.specs.Prelude.{slice_index}
+use Rattle.atomic_table.specs.Seated.{TableId}
+use Rattle.hoare_law.specs.declared.event.Event.{Event}
+use Rattle.hoare_law.specs.declared.event.History.{History}
+use Rattle.hoare_law.specs.declared.event.Event.TheVariants.{Wait, Signal, Pass, Leave}
+use Rattle.hoare_law.specs.declared.turn.Turn.{Turn}
+use Rattle.hoare_law.specs.declared.turn.Turn.TheVariants.{Free, Held, Owed, Return}
+use Rattle.hoare_law.specs.Erasure.{erased}
+use Rattle.hoare_law.specs.Events.{place_of, data_of, own, with_event}
+use Rattle.hoare_law.specs.Growth.{Begins, Exits, passed_on}
+use Rattle.hoare_law.specs.Lawful.{Rest, Ready, Owes, Stands}
+use Rattle.hoare_law.specs.Legal.{Allowed}
+use Rattle.hoare_law.specs.Priorities.{priorities, joined, taken}
+use Rattle.hoare_law.specs.Turns.{turn, is_out}
+use Rattle.hoare_law.specs.Waiting.{chosen, Chooses}
+use Rattle.hoare_law.proofs.Entering.{outside-same}
+use Rattle.hoare_law.proofs.Growth.{Begins-refl}
+use Rattle.hoare_law.proofs.Entering as entering
+use Rattle.hoare_law.proofs.Leaving.{turn-left, turn-signal, turn-pass, outside-left, chosen-some, Chooses-place, Allowed-leave, Allowed-wait, Allowed-signal, Allowed-pass}
+use Rattle.hoare_law.proofs.Leaving.{Owes-leave, Owes-wait, Owes-signal, Owes-pass}
+use Rattle.hoare_law.proofs.Legal.{Stands-push}
+use Rattle.hoare_law.proofs.Waiters.{held-in_range}
+use Rattle.wait_book.specs.declared.steps.Next.{Next}
+use Rattle.wait_book.specs.declared.steps.Next.TheVariants as next
+use Rattle.wait_book.specs.Contents.{Contents, IsOf, next_of}
+use Rattle.wait_book.specs.Stepping.{after_signal, after_pass}
+use Rattle.wait_book.proofs.WithData.{next-history, turn-history, IsOf-event, IsOf-signal, IsOf-pass}
+use Rattle.door_frame.specs.declared.parcel.Lodged.{Lodged}
+use Rattle.door_frame.specs.declared.departure.Departure.TheVariants as departure
+use Rattle.door_frame.specs.Departures.{place_for, event_of}
+use Rattle.door_frame.specs.Places.{DoorId, IsOut, PlaceOut, PlaceIn, place_in, place_out}
+use Rattle.door_frame.specs.Steps.{Sat, Gives, MayGive}
+use Rattle.door_frame.proofs.Inside.{Holds}
+
+held_next : (t : Turn) (j : ℕ) → next_of t ≡ next.Held j → t ≡ Held j
+held_next Free j e = absurd (cc)
+held_next (Held k) j e = let same : k ≡ j = cc in ap (λ i. Held i) same
+held_next (Owed k c) j e = absurd (cc)
+held_next (Return k) j e = absurd (cc)
+
+module _ {D : Type 0} where
+  -- nobody is inside after the place gave the monitor up
+  pub gives_gone : (rest : Rest D) (ready : Ready D) (event : D → Event D) (k : ℕ) (f : History D) (x : Lodged D) (who : Next) (j : ℕ)
+      → Gives rest ready event k f x who → who ≡ next.Held j → ⊥
+  gives_gone rest ready event k f x who j p is =
+      turn-left f (event x.state) k j p.allowed p.inside (held_next (turn (with_event f (event x.state)).events) j (sym p.next_is ∙ is))
+
+  -- of those that wait on c, the one that is chosen goes on
+  pub record Resumes (c : ℕ) (f : History D) (who : Next) : Type 0 where
+    pub chosen_one : Event D
+    pub is : chosen c f.events ≡ Some chosen_one
+    pub goes_on : place_for who ≡ place_of chosen_one
+
+  pub chooses : (c : ℕ) (f : History D) (who : Next) → Resumes c f who → Chooses c f.events (place_for who)
+  chooses c f who r = subst (λ (w : ℕ). Chooses c f.events w) (sym r.goes_on) (Chooses-place c f.events r.chosen_one r.is)
+
+  handed_to : (h : History D) (w c : ℕ) (b : Contents) (who : Next) → IsOf b (erased h) → turn h.events ≡ Owed w c → who ≡ next_of b.turn
+      → place_for who ≡ w
+  handed_to h w c b who o is answered = ap place_for (answered ∙ ap next_of (turn-history b h o ∙ is))
+
+  -- what a call that gave the monitor up for good says of the place outside
+  pub record Left (rest : Rest D) (ready : Ready D) (conditions : ℕ) (d : DoorId) (k : ℕ) (h : History D) (o : PlaceOut D) : Type 0 where
+    pub of : IsOut rest ready conditions d o
+    pub place : o.place ≡ k
+    pub front : o.front ≡ h
+
+  -- what is owed to who is resumed
+  abbrev pub Handed : Ready D → ℕ → PlaceIn D → Type 0
+  Handed ready c j = ready c (slice_index (priorities j.front.events c) 0) j.state (taken (priorities j.front.events) c)
+
+  -- what a pass says of the place outside
+  pub record Passed (rest : Rest D) (ready : Ready D) (conditions : ℕ) (d : DoorId) (i : PlaceIn D) (c : ℕ) (o : PlaceOut D) : Type 0 where
+    pub of : IsOut rest ready conditions d o
+    pub place : o.place ≡ i.place
+    pub front : Exits i.place c i.state i.front o.front true
+
+  -- who learns the history stays outside
+  pub told_out : (rest : Rest D) (ready : Ready D) (conditions : ℕ) (d : DoorId) (t : TableId) (o : PlaceOut D) (h : History D) → t ≡ d.table
+      → IsOut rest ready conditions d o → Stands rest ready h → Begins o.front h → own o.place h.events ≡ own o.place o.front.events
+      → IsOut rest ready conditions d (place_out t o.place h)
+  told_out rest ready conditions d t o h of out stands begins same = record {
+    of = of;
+    places = sym begins.places ∙ out.places;
+    below = out.below;
+    conditions_are = sym begins.conditions ∙ out.conditions_are;
+    stands = stands;
+    is_outside = outside-same o.place o.front h same out.is_outside;
+  }
+
+  module _ {rest : Rest D} {ready : Ready D} {conditions : ℕ} {d : DoorId} {i : PlaceIn D} {t : TableId} {k : ℕ}
+      {f : History D} {me : Sat D} {x : Lodged D} where
+    -- what is asked of the place of the contract is asked of its parts
+    asked_here : (P : PlaceIn D → Type 0) → Holds rest ready conditions d i t k f me x → P i → P (place_in t k f x.state)
+    asked_here P h asked = subst P (sym h.seen) asked
+
+    asked_back : (P : PlaceIn D → Type 0) → Holds rest ready conditions d i t k f me x → P (place_in t k f x.state) → P i
+    asked_back P h told = subst P h.seen told
+
+    below : (c : ℕ) → Holds rest ready conditions d i t k f me x → c < conditions → c < f.conditions
+    below c h small = subst (λ (m : ℕ). c < m) (sym h.within.conditions_are) small
+
+    -- an event that is allowed and paid gives the monitor up
+    may_give : (event : D → Event D) (b : Contents) (who : Next) → Holds rest ready conditions d i t k f me x
+        → place_of (event x.state) ≡ k → data_of (event x.state) ≡ x.state → Allowed f (event x.state) → Owes rest ready f.events (event x.state)
+        → IsOf b (erased (with_event f (event x.state))) → who ≡ next_of b.turn
+        → MayGive rest ready event k me (record { state = x.state; book = b }) who
+    may_give event b who h mine same allowed owes book is = (
+      f,
+      h.me_is,
+      record {
+        inside = h.within.is_inside;
+        mine = mine;
+        allowed = allowed;
+        owes = owes;
+        same_data = same;
+        book = book;
+        next_is = next-history b (with_event f (event x.state)) who book is;
+      },
+    )
+
+    owes_leave : Holds rest ready conditions d i t k f me x → rest i.state (priorities i.front.events) → Owes rest ready f.events (Leave k x.state)
+    owes_leave h asked =
+        Owes-leave rest ready f k x.state h.within.is_inside (asked_here (λ j. rest j.state (priorities j.front.events)) h asked)
+
+    pub gives_leave : (b : Contents) (who : Next) → Holds rest ready conditions d i t k f me x → rest i.state (priorities i.front.events)
+        → IsOf b (with_event (erased f) (Leave k tt)) → who ≡ next_of b.turn
+        → MayGive rest ready (event_of k departure.Leave who) k me (record { state = x.state; book = b }) who
+    gives_leave b who h asked book is =
+        may_give (λ s. Leave k s) b who h refl refl (Allowed-leave f k x.state h.within.stands.legal h.within.is_inside)
+        (owes_leave h asked) (IsOf-event b f (Leave k x.state) book) is
+
+    pub gives_wait : (c p : ℕ) (b : Contents) (who : Next) → Holds rest ready conditions d i t k f me x → c < conditions
+        → rest i.state (joined (priorities i.front.events) c p) → IsOf b (with_event (erased f) (Wait k c p tt)) → who ≡ next_of b.turn
+        → MayGive rest ready (event_of k (departure.Wait c p) who) k me (record { state = x.state; book = b }) who
+    gives_wait c p b who h small asked book is =
+        may_give (λ s. Wait k c p s) b who h refl refl
+        (Allowed-wait f k c p x.state h.within.stands.legal h.within.is_inside (below c h small))
+        (Owes-wait rest ready f k c p x.state h.within.is_inside (asked_here (λ j. rest j.state (joined (priorities j.front.events) c p)) h asked))
+        (IsOf-event b f (Wait k c p x.state) book) is
+
+    some_here : (c : ℕ) → Holds rest ready conditions d i t k f me x → priorities i.front.events c ≢ [] → (e : Event D) × (chosen c f.events ≡ Some e)
+    some_here c h some = chosen-some c f.events (asked_here (λ j. priorities j.front.events c ≢ []) h some)
+
+    pub resumes_signal : (c : ℕ) (b : Contents) (who : Next) → Holds rest ready conditions d i t k f me x → priorities i.front.events c ≢ []
+        → IsOf b (after_signal (erased f) k c (chosen c (erased f).events)) → who ≡ next_of b.turn → Resumes c f who
+    resumes_signal c b who h some book is =
+        let e = some_here c h some in
+        let after = IsOf-signal b f k c e.0 x.state e.1 book in record {
+          chosen_one = e.0;
+          is = e.1;
+          goes_on = handed_to (with_event f (Signal k c (place_of e.0) x.state)) (place_of e.0) c b who after (turn-signal f k c (place_of e.0) x.state) is;
+        }
+
+    pub gives_signal : (c : ℕ) (b : Contents) (who : Next) → Holds rest ready conditions d i t k f me x → c < conditions
+        → priorities i.front.events c ≢ [] → Handed ready c i
+        → IsOf b (after_signal (erased f) k c (chosen c (erased f).events)) → who ≡ next_of b.turn
+        → MayGive rest ready (event_of k (departure.Signal c) who) k me (record { state = x.state; book = b }) who
+    gives_signal c b who h small some asked book is =
+        let r = resumes_signal c b who h some book is in
+        subst (λ (w : ℕ). MayGive rest ready (λ s. Signal k c w s) k me (record { state = x.state; book = b }) who) (sym r.goes_on)
+        (may_give (λ s. Signal k c (place_of r.chosen_one) s) b who h refl refl
+        (Allowed-signal f k c r.chosen_one x.state h.within.stands.legal h.within.is_inside (below c h small) r.is)
+        (Owes-signal rest ready f k c r.chosen_one x.state h.within.is_inside r.is (asked_here (Handed ready c) h asked))
+        (IsOf-signal b f k c r.chosen_one x.state r.is book) is)
+
+    resumes_pass : (c : ℕ) (b : Contents) (who : Next) → Holds rest ready conditions d i t k f me x → priorities i.front.events c ≢ []
+        → IsOf b (after_pass (erased f) k c (chosen c (erased f).events)) → who ≡ next_of b.turn → Resumes c f who
+    resumes_pass c b who h some book is =
+        let e = some_here c h some in
+        let after = IsOf-pass b f k c e.0 x.state e.1 book in record {
+          chosen_one = e.0;
+          is = e.1;
+          goes_on = handed_to (with_event f (Pass k c (place_of e.0) x.state)) (place_of e.0) c b who after (turn-pass f k c (place_of e.0) x.state) is;
+        }
+
+    allowed_pass : (c : ℕ) (e : Event D) → Holds rest ready conditions d i t k f me x → c < conditions → chosen c f.events ≡ Some e
+        → Allowed f (Pass k c (place_of e) x.state)
+    allowed_pass c e h small is = Allowed-pass f k c e x.state h.within.stands.legal h.within.is_inside (below c h small) is
+
+    owes_pass : (c : ℕ) (e : Event D) → Holds rest ready conditions d i t k f me x → chosen c f.events ≡ Some e → Handed ready c i
+        → Owes rest ready f.events (Pass k c (place_of e) x.state)
+    owes_pass c e h is asked = Owes-pass rest ready f k c e x.state h.within.is_inside is (asked_here (Handed ready c) h asked)
+
+    pub gives_pass : (c : ℕ) (b : Contents) (who : Next) → Holds rest ready conditions d i t k f me x → c < conditions
+        → priorities i.front.events c ≢ [] → Handed ready c i
+        → IsOf b (after_pass (erased f) k c (chosen c (erased f).events)) → who ≡ next_of b.turn
+        → MayGive rest ready (event_of k (departure.Pass c) who) k me (record { state = x.state; book = b }) who
+    gives_pass c b who h small some asked book is =
+        let r = resumes_pass c b who h some book is in
+        subst (λ (w : ℕ). MayGive rest ready (λ s. Pass k c w s) k me (record { state = x.state; book = b }) who) (sym r.goes_on)
+        (may_give (λ s. Pass k c (place_of r.chosen_one) s) b who h refl refl (allowed_pass c r.chosen_one h small r.is)
+        (owes_pass c r.chosen_one h r.is asked) (IsOf-pass b f k c r.chosen_one x.state r.is book) is)
+
+    -- the place outside after an event by which it goes out
+    went_out : (e : Event D) (z : TableId) (o : PlaceOut D) → Holds rest ready conditions d i t k f me x → place_of e ≡ k → is_out (Some e) ≡ true
+        → Allowed f e → Owes rest ready f.events e → z ≡ t → o ≡ place_out z k (with_event f e)
+        → Left rest ready conditions d k (with_event f e) o
+    went_out e z o h mine goes may owes same is =
+        let sizes = entering.sizes-with f f e d.places conditions (Begins-refl f) h.within.places h.within.conditions_are in
+        subst (Left rest ready conditions d k (with_event f e)) (sym is) (record {
+          of = record {
+            of = same ∙ h.within.of;
+            places = sizes.0;
+            below = subst (λ (m : ℕ). k < m) h.within.places (held-in_range f k h.within.stands.legal h.within.is_inside);
+            conditions_are = sizes.1;
+            stands = Stands-push e h.within.stands may owes;
+            is_outside = outside-left f k e mine goes;
+          };
+          place = refl;
+          front = refl;
+        })
+
+    pub left : (z : TableId) (o : PlaceOut D) → Holds rest ready conditions d i t k f me x → rest i.state (priorities i.front.events) → z ≡ t
+        → o ≡ place_out z k (with_event f (Leave k x.state)) → Left rest ready conditions d i.place (with_event i.front (Leave i.place i.state)) o
+    left z o h asked same is =
+        asked_back (λ j. Left rest ready conditions d j.place (with_event j.front (Leave j.place j.state)) o) h
+        (went_out (Leave k x.state) z o h refl refl (Allowed-leave f k x.state h.within.stands.legal h.within.is_inside) (owes_leave h asked) same is)
+
+    pub passed : (c : ℕ) (b : Contents) (who : Next) (z : TableId) (o : PlaceOut D) → Holds rest ready conditions d i t k f me x → c < conditions
+        → priorities i.front.events c ≢ [] → Handed ready c i → IsOf b (after_pass (erased f) k c (chosen c (erased f).events)) → who ≡ next_of b.turn
+        → z ≡ t → o ≡ place_out z k (with_event f (Pass k c (place_for who) x.state)) → Passed rest ready conditions d i c o
+    passed c b who z o h small some asked book is same gone =
+        let r = resumes_pass c b who h some book is in
+        let w : ℕ = place_for who in
+        let out : Left rest ready conditions d k (with_event f (Pass k c w x.state)) o =
+        subst (λ (j : ℕ). o ≡ place_out z k (with_event f (Pass k c j x.state)) → Left rest ready conditions d k (with_event f (Pass k c j x.state)) o)
+        (sym r.goes_on)
+        (went_out (Pass k c (place_of r.chosen_one) x.state) z o h refl refl (allowed_pass c r.chosen_one h small r.is) (owes_pass c r.chosen_one h r.is asked) same)
+        gone in record {
+          of = out.of;
+          place = asked_back (λ j. o.place ≡ j.place) h out.place;
+          front = asked_back (λ j. Exits j.place c j.state j.front o.front true) h (passed_on w (chooses c f who r) out.front);
+        }

@@ -1,0 +1,45 @@
+use Rattle.std.proofs.Common.{◌≢◌, [], true, false, IsTrue, ◌∙◌, refl}
+use Rattle.hoare_law.specs.Erasure.{erased}
+use Rattle.hoare_law.specs.Growth.{just_left}
+use Rattle.hoare_law.specs.Priorities.{priorities}
+use Rattle.hoare_law.proofs.Priorities.{waiting-no_priority}
+use Rattle.wait_book.proofs.WithData.{none-listed}
+use Rattle.door_frame.specs.Views.{front_of}
+use Rattle.door_frame.proofs.Departures.{gives_pass, passed}
+use Rattle.door_frame.proofs.Inside.{holds, turn_in_hand}
+use Rattle.door_frame.proofs.calls.signal_leave.Goals as goal
+
+pub leave-requires-clause-rest : goal.leave-requires-clause-rest
+leave-requires-clause-rest g c = c.requires.rest (none-listed false _ refl c.if-not-queue.ensures.lists)
+
+pub returns-then-not-queue-clause-told : goal.returns-then-not-queue-clause-told
+returns-then-not-queue-clause-told g c = c.if-not-queue.ensures.lists
+
+pub returns-then-not-queue-clause-front : goal.returns-then-not-queue-clause-front
+returns-then-not-queue-clause-front g c =
+    just_left (waiting-no_priority _ _ (none-listed false _ refl c.if-not-queue.ensures.lists)) c.leave.ensures.front
+
+pub pass-next-requires-clause-inside : goal.pass-next-requires-clause-inside
+pass-next-requires-clause-inside g c =
+    turn_in_hand (holds (c.deref_mut.ensures.value ∙ c.parcel.view_is) c.inside.view_is c.inside.invariant c.requires.of)
+
+pub hand_on-requires-clause-event : goal.hand_on-requires-clause-event
+hand_on-requires-clause-event g c =
+    let f = front_of c.inside.inside.seat.me.0 c.inside.inside.alone in
+    let h = holds (c.deref_mut.ensures.value ∙ c.parcel.view_is) c.inside.view_is c.inside.invariant c.requires.of in
+    let told : IsTrue true → priorities c.args.inside.front.events c.args.condition ≢ [] = (c.if-not-queue.ensures.lists).0 in
+    gives_pass _ _ _ h c.requires.in_range (told refl) (c.requires.ready (told refl))
+    (c.pass-next.ensures.of (erased f) h.book) c.pass-next.ensures.next
+
+pub of_parts-requires : goal.of_parts-requires
+of_parts-requires g c = (_, c.hand_on.ensures.away _ c.inside.invariant.0)
+
+pub returns : goal.returns
+returns g c =
+    let f = front_of c.inside.inside.seat.me.0 c.inside.inside.alone in
+    let h = holds (c.deref_mut.ensures.value ∙ c.parcel.view_is) c.inside.view_is c.inside.invariant c.requires.of in
+    let told : IsTrue true → priorities c.args.inside.front.events c.args.condition ≢ [] = (c.if-not-queue.ensures.lists).0 in
+    let o = passed c.args.condition _ _ _ _ h c.requires.in_range (told refl) (c.requires.ready (told refl))
+    (c.pass-next.ensures.of (erased f) h.book) c.pass-next.ensures.next
+    c.hand_on.ensures.table (c.of_parts.ensures _ (c.hand_on.ensures.away _ h.me_is)) in
+    record { of = o.of; place = o.place; told = ((λ _. told refl), λ _. refl); front = o.front }

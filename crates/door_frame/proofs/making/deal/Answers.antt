@@ -1,0 +1,58 @@
+use Rattle.std.proofs.Common.{rules, length, option_to_list, ◌≡◌, ℕ, ◌+◌, ◌-◌, ◌∷◌, [], ◌++◌, sym, ap, ◌∙◌, subst, arith}
+use Rattle.atomic_table.specs.Table.{Splits}
+use Rattle.door_frame.specs.declared.view.View.{View}
+use Rattle.door_frame.specs.declared.view.View.TheVariants.{Places}
+use Rattle.door_frame.specs.Places.{place_out}
+use Rattle.door_frame.specs.Rule.{Kept}
+use Rattle.door_frame.specs.Steps.{Sat}
+use Rattle.door_frame.specs.Views.{all_know, places_behind, first_place}
+use Rattle.door_frame.proofs.Steps.{deals_ok}
+use Rattle.door_frame.proofs.Seats.{cut_off}
+use Rattle.door_frame.proofs.Views.{places_more}
+use Rattle.door_frame.proofs.making.deal.Goals as goal
+
+pub split_seat-cut-requires : goal.split_seat-cut-requires
+split_seat-cut-requires g c =
+    let all = c.requires.seat in
+    let me = (c.loop-place.invariant.1 all.0 all.1).0 in
+    let D = g.D.MonitorData in
+    let W = g.W.Words in
+    let q = c.args.table.now.shared.key in
+    let K = Kept (W.starts q) (W.tells q) D.rest D.ready D.CONDITIONS (W.places q) in (
+      search rules,
+      search rules,
+      subst (λ (v : View g.row.D.Denot). Splits K c.loop-place.seat.id v (places_behind v) (first_place v)) (sym (ap (λ (m : Sat g.row.D.Denot). m.0) me))
+          (deals_ok (W.starts q) (W.tells q) D.rest D.ready D.CONDITIONS _ _ c.loop-place.place (c.args.places - c.loop-place.place) all.0
+          (omega (arith, c.loop-place-test.true))),
+    )
+
+pub of_parts-requires : goal.of_parts-requires
+of_parts-requires g c =
+    let all = c.requires.seat in
+    let k = c.loop-place.place in (
+      all.0,
+      (cut_off k (c.args.places - k) all.0 (omega (arith, c.loop-place-test.true)) (c.loop-place.invariant.1 all.0 all.1).0
+          c.split_seat-cut.ensures.4 c.split_seat-cut.ensures.2).0,
+    )
+
+pub loop-place-preserved : goal.loop-place-preserved
+loop-place-preserved g c =
+    let inv = c.loop-place.invariant in
+    let k = c.loop-place.place in
+    let less : (c.args.places - k) - 1 ≡ c.args.places - (k + 1) = omega (arith, c.loop-place-test.true) in
+    let z = c.args.table.now.shared.table_id in
+    let table : c.split_seat-cut.result.table_id ≡ z = c.split_seat-cut.ensures.3 ∙ inv.0 in
+    let same : k ≡ 0 + k = omega arith in (
+      c.split_seat-cut.ensures.0 ∙ inv.0,
+      (λ f is.
+          let m = inv.1 f is in
+          let cut = cut_off k (c.args.places - k) f (omega (arith, c.loop-place-test.true)) m.0 c.split_seat-cut.ensures.4 c.split_seat-cut.ensures.2 in (
+            cut.1 ∙ ap (λ (n : ℕ). (Places (all_know (k + 1) n f), [])) less,
+            c.push_reserved.ensures.items
+                ∙ ap (λ o. c.loop-place.outs.items ++ o ∷ []) (c.of_parts.ensures f cut.0)
+                ∙ ((λ i. m.1 i ++ place_out (table i) (same i) f ∷ []) ∙ sym (places_more z 0 k f)),
+          )),
+      search rules,
+      search rules,
+      omega (arith, c.pop.ensures.len, ap (λ o. length (option_to_list o)) c.unwrap-parker.ensures, inv.4, c.loop-place-test.true),
+    )

@@ -1,0 +1,6 @@
+pub mod Views
+pub mod Places
+pub mod Rule
+pub mod Steps
+pub mod Seats
+pub mod Departures

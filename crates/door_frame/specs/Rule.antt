@@ -1,0 +1,75 @@
+-- What the rule of every door says: of the log, of what each seat knows, and of the slot. What its words say is each door's own.
+use Rattle.std.specs.Prelude.{◌≡◌, ℕ, ◌<◌, Bool, true, false, List, [], ◌∷◌, Option, Some, None, length}
+use mathlib.Core.Option.{some, none}
+use lib.ListN.{get_elem?}
+use Rattle.atomic_table.specs.Table.{State}
+use Rattle.hoare_law.specs.declared.event.History.{History}
+use Rattle.hoare_law.specs.declared.turn.Turn.{Turn}
+use Rattle.hoare_law.specs.declared.turn.Turn.TheVariants.{Held}
+use Rattle.hoare_law.specs.Events.{own, latest_data}
+use Rattle.hoare_law.specs.Erasure.{erased}
+use Rattle.hoare_law.specs.Growth.{Begins}
+use Rattle.hoare_law.specs.Lawful.{Rest, Ready, Stands}
+use Rattle.hoare_law.specs.Turns.{turn}
+use Rattle.wait_book.specs.Contents.{IsOf}
+use Rattle.door_frame.specs.declared.parcel.Lodged.{Lodged}
+use Rattle.door_frame.specs.declared.view.Knowledge.{Knowledge}
+use Rattle.door_frame.specs.declared.view.View.{View}
+use Rattle.door_frame.specs.declared.view.View.TheVariants.{Unopened, Opening}
+use Rattle.door_frame.specs.Views.{EachOf, ApartOf}
+
+-- a door's words, slot and views
+abbrev pub Cells : Type 0 → Type 0
+Cells D = State (Option (Lodged D)) (View D)
+
+-- which ticket each place has
+abbrev pub Tickets : Type 0
+Tickets = ℕ → Option ℕ
+
+-- nobody is inside
+abbrev pub IsGivenUp : Turn → Type 0
+IsGivenUp (Held k) = ⊥
+IsGivenUp _ = Unit {0}
+
+module _ {D : Type 0} where
+  -- a place of the seat: the log begins with its front, and has no other events of it
+  pub record Agrees (n : ℕ) (log : History D) (owner : ℕ → ℕ) (tickets : Tickets) (seat : ℕ) (t : Knowledge D) : Type 0 where
+    pub below : t.place < n
+    pub owned : owner t.place ≡ seat
+    pub begins : Begins t.front log
+    pub own_are : own t.place log.events ≡ own t.place t.front.events
+    pub ticket_is : tickets t.place ≡ t.ticket
+
+  -- what lies in the slot is what the history left
+  pub record Lies (h : History D) (x : Lodged D) : Type 0 where
+    pub latest : x.state ≡ latest_data h
+    pub book : IsOf x.book (erased h)
+
+  -- Of the words: Starts is what they are before the door opens (and by then whether the first seat has the slot), Tells what
+  -- they say of the log and the tickets of an open door
+  module _ (Starts : Bool → List ℕ → Type 0) (Tells : History D → Tickets → List ℕ → Type 0) (rest : Rest D) (ready : Ready D) (conditions : ℕ) where
+    -- the door is open
+    pub record Running (n : ℕ) (s : Cells D) : Type 0 where
+      pub log : History D
+      pub owner : ℕ → ℕ
+      pub tickets : Tickets
+      pub one_slot : length s.homes ≡ 1
+      pub places : log.places ≡ n
+      pub conditions_are : log.conditions ≡ conditions
+      -- 1. what each place knows is a beginning of the log, which has no other events of it
+      pub fronts : (j : ℕ) (v : View D) → get_elem? s.views j ≡ some v → EachOf (Agrees n log owner tickets j) v
+      -- and no seat has a place twice
+      pub apart : (j : ℕ) (v : View D) → get_elem? s.views j ≡ some v → ApartOf v
+      -- 2. the log is legal and lawful
+      pub stands : Stands rest ready log
+      -- 3. what the words say of the log and of the tickets
+      pub tells : Tells log tickets s.words
+      -- 4. where nobody is inside, the slot is at home, with what the log left
+      pub home : IsGivenUp (turn log.events) → (x : Lodged D) × (get_elem? s.homes 0 ≡ some (some (Some x))) × Lies log x
+      -- and where somebody is inside, it is out
+      pub out : (k : ℕ) → turn log.events ≡ Held k → get_elem? s.homes 0 ≡ some none
+
+    pub data Kept (n : ℕ) (s : Cells D) : Type 0 where
+      raw : Starts false s.words → s.homes ≡ some None ∷ [] → s.views ≡ Unopened n ∷ [] → Kept n s
+      lent : Starts true s.words → s.homes ≡ none ∷ [] → s.views ≡ Opening n ∷ [] → Kept n s
+      runs : Running n s → Kept n s

@@ -1,0 +1,88 @@
+-- What each step tells: of the step, the seat before, the number found and the seat after.
+use Rattle.std.specs.Prelude.{◌≡◌, ℕ, List, [], ◌∷◌, Option, Some, None}
+use Rattle.atomic_table.specs.Table.{Me, Step}
+use Rattle.hoare_law.specs.declared.event.Event.{Event}
+use Rattle.hoare_law.specs.declared.event.History.{History}
+use Rattle.hoare_law.specs.declared.event.Event.TheVariants.{Wait, Resume, Back}
+use Rattle.hoare_law.specs.declared.turn.Turn.TheVariants.{Held}
+use Rattle.hoare_law.specs.Events.{own, newest, place_of, data_of, opened, with_event}
+use Rattle.hoare_law.specs.Erasure.{erased}
+use Rattle.hoare_law.specs.Growth.{Begins}
+use Rattle.hoare_law.specs.Lawful.{Rest, Ready, Owes, Stands}
+use Rattle.hoare_law.specs.Legal.{Allowed}
+use Rattle.hoare_law.specs.Turns.{turn}
+use Rattle.wait_book.specs.Contents.{IsOf, next_of}
+use Rattle.door_frame.specs.declared.parcel.Lodged.{Lodged}
+use Rattle.door_frame.specs.declared.view.View.{View}
+use Rattle.door_frame.specs.declared.view.View.TheVariants.{Unopened, Opening, Places}
+use Rattle.wait_book.specs.declared.steps.Next.{Next}
+use Rattle.door_frame.specs.Views.{alone, all_know, knowing, Each, Apart}
+use Rattle.door_frame.specs.declared.view.Knowledge.{Knowledge}
+
+-- a seat: its view, and the slot if it has it
+abbrev pub Sat : Type 0 → Type 0
+Sat D = Me (Option (Lodged D)) (View D)
+
+abbrev pub Told : Type 0 → Type 1
+Told D = Step (Option (Lodged D)) → Sat D → ℕ → Sat D → Type 0
+
+module _ {D : Type 0} where
+  -- how a place comes back, by its own last event: from a wait, or else from a signal
+  abbrev pub due_by : ℕ → Option (Event D) → D → Event D
+  due_by k (Some (Wait j c p x)) s = Resume k c s
+  due_by k _ s = Back k s
+
+  abbrev pub due : ℕ → History D → D → Event D
+  due k f s = due_by k (newest (own k f.events)) s
+
+  abbrev pub begins : Told D
+  begins st m r m' = (n : ℕ) → m.0 ≡ Unopened n → m' ≡ (Opening n, (0, None) ∷ [])
+
+  abbrev pub opens : ℕ → Told D
+  opens conditions st m r m' = (n : ℕ) (x : Lodged D) → m ≡ (Opening n, (0, Some x) ∷ []) → m' ≡ (Places (all_know 0 n (opened n conditions x.state)), [])
+
+  -- the event that the holder picked, of the data in the slot
+  abbrev pub gives_as : (D → Event D) → Told D
+  gives_as event st m r m' = (k : ℕ) (f : History D) (x : Lodged D) → m ≡ (alone k f, (0, Some x) ∷ []) → m' ≡ (alone k (with_event f (event x.state)), [])
+
+  -- the place k, inside with f, may give the slot back with x in it by the event, after which next goes on
+  pub record Gives (rest : Rest D) (ready : Ready D) (event : D → Event D) (k : ℕ) (f : History D) (x : Lodged D) (next : Next) : Type 0 where
+    pub inside : turn f.events ≡ Held k
+    pub mine : place_of (event x.state) ≡ k
+    pub allowed : Allowed f (event x.state)
+    pub owes : Owes rest ready f.events (event x.state)
+    pub same_data : data_of (event x.state) ≡ x.state
+    pub book : IsOf x.book (erased (with_event f (event x.state)))
+    pub next_is : next ≡ next_of (turn (with_event f (event x.state)).events)
+
+  -- the seat is that of the place k, inside with some f, which may do so
+  abbrev pub MayGive : Rest D → Ready D → (D → Event D) → ℕ → Sat D → Lodged D → Next → Type 0
+  MayGive rest ready event k me x next = (f : History D) × (me ≡ (alone k f, (0, None) ∷ [])) × Gives rest ready event k f x next
+
+  -- the place k, which knew f, came in by the event and found x; the slot that it holds has o
+  pub record Came (rest : Rest D) (ready : Ready D) (k : ℕ) (f : History D) (event : D → Event D) (x : Lodged D) (o : Option (Lodged D)) (me : Sat D) : Type 0 where
+    pub log : History D
+    pub me_is : me ≡ (alone k (with_event log (event x.state)), (0, o) ∷ [])
+    pub begins : Begins f log
+    pub own_are : own k log.events ≡ own k f.events
+    pub stands : Stands rest ready (with_event log (event x.state))
+    pub book : IsOf x.book (erased log)
+
+  -- what a step tells that may bring the place k in: where the number found is a hit, k comes in by the event and takes the
+  -- slot, and of the log before holds what Also says; else nothing happened
+  abbrev pub Comes : Rest D → Ready D → (ℕ → Type 0) → (History D → Type 0) → ℕ → History D → (D → Event D) → Sat D → ℕ → Sat D → Type 0
+  Comes rest ready Hit Also k f event m r m' = ((Hit r → ⊥) → m' ≡ m) × (Hit r → (x : Lodged D) × (c : Came rest ready k f event x (Some x) m') × Also c.log)
+
+  -- the history begins with what the place knew, and has no other events of it
+  abbrev pub Known : History D → Knowledge D → Type 0
+  Known log t = Begins t.front log × (own t.place log.events ≡ own t.place t.front.events)
+
+  -- the places of a seat know the whole history
+  pub record Learns (rest : Rest D) (ready : Ready D) (log : History D) (ts : List (Knowledge D)) (me : Sat D) : Type 0 where
+    pub me_is : me ≡ (Places (knowing log ts), [])
+    pub stands : Stands rest ready log
+    pub fits : Each (Known log) ts
+    pub apart : Apart ts
+
+  abbrev pub learns : Rest D → Ready D → Told D
+  learns rest ready st m r m' = (ts : List (Knowledge D)) → m ≡ (Places ts, []) → (log : History D) × Learns rest ready log ts m'

@@ -1,0 +1,90 @@
+-- What a seat knows: before the door opens how many places it is to have, then the places that it stands for.
+use Rattle.std.specs.Prelude.{◌≡◌, ◌≢◌, ℕ, zero, suc, Bool, true, false, List, [], ◌∷◌, ◌++◌, take, drop, Option, Some, None}
+use Rattle.std.proofs.Common.{true≢false, sym}
+use Rattle.hoare_law.specs.declared.event.History.{History}
+use Rattle.door_frame.specs.declared.view.Knowledge.{Knowledge}
+use Rattle.door_frame.specs.declared.view.View.{View}
+use Rattle.door_frame.specs.declared.view.View.TheVariants.{Unopened, Opening, Places}
+
+module _ {D : Type 0} where
+  abbrev pub knows : ℕ → History D → Option ℕ → Knowledge D
+  knows k f o = record { place = k; front = f; ticket = o }
+
+  -- the view of the seat of one place, with what ticket it has
+  abbrev pub sole : ℕ → History D → Option ℕ → View D
+  sole k f o = Places (knows k f o ∷ [])
+
+  -- of one place that didn't ask
+  abbrev pub alone : ℕ → History D → View D
+  alone k f = sole k f None
+
+  -- of one place that asked
+  abbrev pub asking : ℕ → History D → ℕ → View D
+  asking k f x = sole k f (Some x)
+
+  abbrev pub is_alone : View D → Bool
+  is_alone (Places (t ∷ [])) = true
+  is_alone _ = false
+
+  -- what the seat of one place knows
+  abbrev pub front_of : (v : View D) → is_alone v ≡ true → History D
+  front_of (Places (t ∷ [])) is = t.front
+  front_of (Places []) is = absurd (true≢false (sym is))
+  front_of (Places (t ∷ u ∷ ts)) is = absurd (true≢false (sym is))
+  front_of (Unopened n) is = absurd (true≢false (sym is))
+  front_of (Opening n) is = absurd (true≢false (sym is))
+
+  -- the first seat's view, of a door that is to have n places
+  abbrev pub unopened : ℕ → View D
+  unopened n = Unopened n
+
+  -- the places k, .., k + n - 1, with one front
+  abbrev pub all_know : ℕ → ℕ → History D → List (Knowledge D)
+  all_know k zero f = []
+  all_know k (suc n) f = knows k f None ∷ all_know (suc k) n f
+
+  abbrev pub no_places : View D
+  no_places = Places []
+
+  -- all but the first place
+  abbrev pub places_behind : View D → View D
+  places_behind (Places ts) = Places (drop 1 ts)
+  places_behind v = v
+
+  abbrev pub first_place : View D → View D
+  first_place (Places ts) = Places (take 1 ts)
+  first_place v = v
+
+  -- the places of another seat before those of this one
+  abbrev pub both_places : View D → View D → View D
+  both_places (Places ts) (Places us) = Places (us ++ ts)
+  both_places v w = v
+
+  abbrev pub Each : (Knowledge D → Type 0) → List (Knowledge D) → Type 0
+  Each P [] = Unit {0}
+  Each P (t ∷ ts) = P t × Each P ts
+
+  -- no place of the list is k
+  abbrev pub Without : ℕ → List (Knowledge D) → Type 0
+  Without k = Each (λ t. t.place ≢ k)
+
+  -- no place stands there twice
+  abbrev pub Apart : List (Knowledge D) → Type 0
+  Apart [] = Unit {0}
+  Apart (t ∷ ts) = Without t.place ts × Apart ts
+
+  abbrev pub ApartOf : View D → Type 0
+  ApartOf (Places ts) = Apart ts
+  ApartOf (Unopened n) = ⊥
+  ApartOf (Opening n) = ⊥
+
+  -- the places, each of which knows h
+  abbrev pub knowing : History D → List (Knowledge D) → List (Knowledge D)
+  knowing h [] = []
+  knowing h (t ∷ ts) = knows t.place h t.ticket ∷ knowing h ts
+
+  -- the seat stands for places, and each of them is as P says
+  abbrev pub EachOf : (Knowledge D → Type 0) → View D → Type 0
+  EachOf P (Places ts) = Each P ts
+  EachOf P (Unopened n) = ⊥
+  EachOf P (Opening n) = ⊥

@@ -1,0 +1,193 @@
+//! The calls of a monitor, on any door.
+ghost use Rattle.std.specs.Prelude.{◌≡◌, ◌≢◌, ◌<◌, ◌↔◌, ℕ, [], true, false, IsTrue, slice_index, None};
+ghost use Rattle.hoare_law.specs.declared.event.History.{History};
+ghost use Rattle.hoare_law.specs.declared.event.Event.TheVariants as event;
+ghost use Rattle.hoare_law.specs.Events.{with_event};
+ghost use Rattle.hoare_law.specs.Growth.{AddsLast, AddsTwo, Exits, Signals};
+ghost use Rattle.hoare_law.specs.Priorities.{joined, taken, priorities};
+ghost use Rattle.door_frame.specs.Places.{IsOut, IsIn, place_in};
+ghost use Rattle.door_frame.specs.Steps.{Came, due};
+
+use crate::departure::Departure;
+use crate::parcel::Parcel;
+use crate::place::{Inside, Outside};
+use crate::plays::DoorSeat;
+use crate::turnstile::Turnstile;
+use crossbeam_utils::sync::Parker;
+use hoare_law::data::MonitorData;
+use std::sync::Wait;
+
+/// Who was let in is inside, with the parcel.
+#[inline]
+pub fn brought_in<D: MonitorData>(
+    seat: DoorSeat<D>,
+    place: usize,
+    parker: Parker,
+    mut parcel: Parcel<D>,
+) -> Inside<D>
+    requires came { (f : History D) × Came D.rest D.ready place f (event.Admit place) parcel None seat.me }
+    ensures { (f : History D) (c : Came D.rest D.ready place f (event.Admit place) parcel None seat.me) →
+        result ≡ place_in seat.table_id place (with_event c.log (event.Admit place parcel.state)) parcel.state }
+{
+    parcel.held.book.admit(place);
+    Inside {
+        seat,
+        place,
+        parker,
+        parcel,
+    }
+}
+
+/// Who was owed the monitor is inside again, with the parcel: back from a wait or from a signal.
+#[inline]
+fn brought_back<D: MonitorData>(
+    seat: DoorSeat<D>,
+    place: usize,
+    parker: Parker,
+    mut parcel: Parcel<D>,
+) -> Inside<D>
+    requires came { (f : History D) × Came D.rest D.ready place f (due place f) parcel None seat.me }
+    ensures { (f : History D) (c : Came D.rest D.ready place f (due place f) parcel None seat.me) →
+        result ≡ place_in seat.table_id place (with_event c.log (due place f parcel.state)) parcel.state }
+{
+    parcel.held.book.claim(place);
+    Inside {
+        seat,
+        place,
+        parker,
+        parcel,
+    }
+}
+
+/// `Monitor::enter`.
+#[inline]
+pub fn enter<D: MonitorData, T: Turnstile<D>, R: Wait>(
+    door: &T,
+    rt: &R,
+    out: Outside<D>,
+) -> Inside<D>
+    requires { IsOut D.rest D.ready D.CONDITIONS (T.id door.now) out }
+    ensures of { IsIn D.rest D.ready D.CONDITIONS (T.id door.now) result }
+    ensures place { result.place ≡ out.place }
+    ensures rest { D.rest result.state (priorities result.front.events) }
+    ensures front { AddsLast out.front (event.Admit out.place result.state) result.front }
+{
+    let (mut seat, place, parker) = out.into_parts();
+    let parcel = door.admit(rt, &mut seat, place);
+    brought_in(seat, place, parker, parcel)
+}
+
+/// `Monitor::leave`.
+#[inline]
+pub fn leave<D: MonitorData, T: Turnstile<D>>(door: &T, inside: Inside<D>) -> Outside<D>
+    requires of { IsIn D.rest D.ready D.CONDITIONS (T.id door.now) inside }
+    requires rest { D.rest inside.state (priorities inside.front.events) }
+    ensures of { IsOut D.rest D.ready D.CONDITIONS (T.id door.now) result }
+    ensures place { result.place ≡ inside.place }
+    ensures front { result.front ≡ with_event inside.front (event.Leave inside.place inside.state) }
+{
+    let Inside {
+        mut seat,
+        place,
+        parker,
+        mut parcel,
+    } = inside;
+    let next = parcel.held.book.leave(place);
+    door.hand_on(&mut seat, parcel, place, Departure::Leave, next);
+    Outside::of_parts(seat, place, parker)
+}
+
+/// `Monitor::wait`.
+pub fn wait<D: MonitorData, T: Turnstile<D>, R: Wait>(
+    door: &T,
+    rt: &R,
+    inside: Inside<D>,
+    condition: usize,
+    priority: u64,
+) -> Inside<D>
+    requires of { IsIn D.rest D.ready D.CONDITIONS (T.id door.now) inside }
+    requires in_range { condition < D.CONDITIONS }
+    requires rest { D.rest inside.state (joined (priorities inside.front.events) condition priority) }
+    ensures of { IsIn D.rest D.ready D.CONDITIONS (T.id door.now) result }
+    ensures place { result.place ≡ inside.place }
+    ensures ready { D.ready condition priority result.state (priorities result.front.events) }
+    ensures front { AddsTwo inside.front (event.Wait inside.place condition priority inside.state) (event.Resume inside.place condition result.state) result.front }
+{
+    let Inside {
+        mut seat,
+        place,
+        parker,
+        mut parcel,
+    } = inside;
+    let next = parcel.held.book.wait(place, condition, priority);
+    door.hand_on(
+        &mut seat,
+        parcel,
+        place,
+        Departure::Wait(condition, priority),
+        next,
+    );
+    let parcel = door.claim(rt, &mut seat, place, &parker);
+    brought_back(seat, place, parker, parcel)
+}
+
+/// `Monitor::signal`.
+pub fn signal<D: MonitorData, T: Turnstile<D>, R: Wait>(
+    door: &T,
+    rt: &R,
+    inside: Inside<D>,
+    condition: usize,
+) -> (Inside<D>, bool)
+    requires of { IsIn D.rest D.ready D.CONDITIONS (T.id door.now) inside }
+    requires in_range { condition < D.CONDITIONS }
+    requires ready { priorities inside.front.events condition ≢ [] → D.ready condition (slice_index (priorities inside.front.events condition) 0) inside.state (taken (priorities inside.front.events) condition) }
+    ensures of { IsIn D.rest D.ready D.CONDITIONS (T.id door.now) result.0 }
+    ensures place { result.0.place ≡ inside.place }
+    ensures told { IsTrue result.1 ↔ (priorities inside.front.events condition ≢ []) }
+    ensures rest { result.1 ≡ true → D.rest result.0.state (priorities result.0.front.events) }
+    ensures same { result.1 ≡ false → result.0 ≡ inside }
+    ensures front { Signals inside.place condition inside.state result.0.state inside.front result.0.front result.1 }
+{
+    if !inside.queue(condition) {
+        return (inside, false);
+    }
+    let Inside {
+        mut seat,
+        place,
+        parker,
+        mut parcel,
+    } = inside;
+    let next = parcel.held.book.signal(place, condition);
+    door.hand_on(&mut seat, parcel, place, Departure::Signal(condition), next);
+    let parcel = door.claim(rt, &mut seat, place, &parker);
+    (brought_back(seat, place, parker, parcel), true)
+}
+
+/// `Monitor::signal_leave`.
+pub fn signal_leave<D: MonitorData, T: Turnstile<D>>(
+    door: &T,
+    inside: Inside<D>,
+    condition: usize,
+) -> (Outside<D>, bool)
+    requires of { IsIn D.rest D.ready D.CONDITIONS (T.id door.now) inside }
+    requires in_range { condition < D.CONDITIONS }
+    requires ready { priorities inside.front.events condition ≢ [] → D.ready condition (slice_index (priorities inside.front.events condition) 0) inside.state (taken (priorities inside.front.events) condition) }
+    requires rest { priorities inside.front.events condition ≡ [] → D.rest inside.state (priorities inside.front.events) }
+    ensures of { IsOut D.rest D.ready D.CONDITIONS (T.id door.now) result.0 }
+    ensures place { result.0.place ≡ inside.place }
+    ensures told { IsTrue result.1 ↔ (priorities inside.front.events condition ≢ []) }
+    ensures front { Exits inside.place condition inside.state inside.front result.0.front result.1 }
+{
+    if !inside.queue(condition) {
+        return (leave(door, inside), false);
+    }
+    let Inside {
+        mut seat,
+        place,
+        parker,
+        mut parcel,
+    } = inside;
+    let next = parcel.held.book.pass(place, condition);
+    door.hand_on(&mut seat, parcel, place, Departure::Pass(condition), next);
+    (Outside::of_parts(seat, place, parker), true)
+}

@@ -1,0 +1,14 @@
+//! What both running monitors stand on: one history, the places' fronts, and the slot with data and queues. Nothing here
+//! speaks of a word.
+#![tactic(auto)]
+
+pub mod calls;
+pub mod departure;
+pub mod making;
+pub mod parcel;
+pub mod place;
+pub mod plays;
+pub mod rule;
+pub mod slot;
+pub mod turnstile;
+pub mod view;

@@ -1,0 +1,101 @@
+//! How a door is made, and taken apart.
+ghost use Rattle.std.specs.Prelude.{◌≡◌, ◌<◌, ◌≤◌, ℕ, List, [], false, length, vec_len, vec_capacity, IfOk, IfErr, All};
+ghost use Rattle.hoare_law.specs.declared.event.History.{History};
+ghost use Rattle.hoare_law.specs.Priorities.{nobody};
+ghost use Rattle.door_frame.specs.declared.view.View.TheVariants.{Unopened, Places};
+ghost use Rattle.door_frame.specs.Views.{all_know};
+ghost use Rattle.door_frame.specs.Places.{DoorId, places_from, HasPlace, IsOut, Closes};
+
+use crate::parcel::Parcel;
+use crate::place::Outside;
+use crate::plays::{Deal, DoorSeat, Gather};
+use crate::rule::{DoorTable, Words};
+use atomic_table::Table;
+use crossbeam_utils::sync::{Parker, Unparker};
+use hoare_law::data::MonitorData;
+use std::alloc::{AllocError, Global};
+use wait_book::book::Book;
+
+/// A parker for each place, the last place's first, and what wakes them, the first place's first.
+pub fn parkers(alloc: Global, places: usize) -> Result<(Vec<Parker>, Vec<Unparker>), AllocError>
+    ensures { IfOk result (λ r. (vec_len r.0 ≡ places) × (vec_len r.1 ≡ places)) }
+{
+    let mut parkers = Vec::with_capacity(alloc, places)?;
+    let mut wakers = Vec::with_capacity(alloc, places)?;
+    for made in 0..places {
+        let parker = Parker::new(alloc)?;
+        wakers.push(parker.unparker().clone()?)?;
+        parkers.push(parker)?;
+    }
+    parkers.reverse();
+    Ok((parkers, wakers))
+}
+
+/// A table whose slot is empty, its first seat, and what is to lie in the slot. Where memory is refused, the data come back:
+/// so the slot is empty at first, and the door's own two opening steps take it and give it back with the parcel.
+pub fn vacant<D: MonitorData, K, W: Words<D, K>>(
+    alloc: Global,
+    state: D,
+    book: Book,
+    words: &[u64],
+    key: &K,
+) -> Result<(DoorTable<D, K, W>, DoorSeat<D>, Parcel<D>), D>
+    requires { W.starts key.now false words.now }
+    ensures table { IfOk result (λ r. (r.0.shared.table_id.words ≡ length words.now) × (r.0.shared.table_id.slots ≡ 1) × (r.0.shared.key ≡ key.now)) }
+    ensures seat { IfOk result (λ r. (r.1.table_id ≡ r.0.shared.table_id) × (r.1.me ≡ (Unopened (W.places key.now), []))) }
+    ensures parcel { IfOk result (λ r. (r.2.state ≡ state) × (r.2.book ≡ book)) }
+    ensures returned { IfErr result (λ s. s ≡ state) }
+{
+    let parcel = Parcel::new(alloc, state, book)?;
+    match Table::vacant(alloc, words, 1, key) {
+        Ok((table, seat)) => Ok((table, seat, parcel)),
+        Err(_) => Err(parcel.into_data()),
+    }
+}
+
+/// The places, each with its parker, of a seat that stands for all of them.
+pub fn deal<D: MonitorData, K, W: Words<D, K>>(
+    table: &DoorTable<D, K, W>,
+    mut seat: DoorSeat<D>,
+    mut parkers: Vec<Parker>,
+    mut outs: Vec<Outside<D>>,
+    places: usize,
+) -> Vec<Outside<D>>
+    requires table { (seat.table_id ≡ table.now.shared.table_id) × (0 < table.now.shared.table_id.words) }
+    requires room { (vec_len outs ≡ 0) × (places ≤ vec_capacity outs) × (vec_len parkers ≡ places) }
+    requires seat { (f : History D) × (seat.me ≡ (Places (all_know 0 places f), [])) }
+    ensures { (f : History D) → seat.me ≡ (Places (all_know 0 places f), []) → result.items ≡ places_from table.now.shared.table_id 0 places f }
+{
+    for place in 0..places {
+        let cut = table.shared.split_seat::<Deal>(&mut seat);
+        let parker = parkers.pop().unwrap();
+        outs.push_reserved(Outside::of_parts(cut, place, parker));
+    }
+    outs
+}
+
+/// Takes the table apart: all places are handed in, in any order. The data are those that one legal and lawful history left,
+/// and at rest with nobody waiting.
+pub fn closed<D: MonitorData, K, W: Words<D, K>>(
+    table: DoorTable<D, K, W>,
+    mut outs: Vec<Outside<D>>,
+) -> D
+    requires table { (0 < table.shared.table_id.words) × (table.shared.table_id.slots ≡ 1) × (0 < W.places table.shared.key) }
+    requires of { All (IsOut D.rest D.ready D.CONDITIONS record { table = table.shared.table_id; places = W.places table.shared.key }) outs.items }
+    requires places { (k : ℕ) → k < W.places table.shared.key → HasPlace k outs.items }
+    ensures closes { Closes D.rest D.ready D.CONDITIONS record { table = table.shared.table_id; places = W.places table.shared.key } outs.items result }
+    ensures rest { D.rest result nobody }
+{
+    let Some(first) = outs.pop() else {
+        unreachable!()
+    };
+    let (mut seat, _, _) = first.into_parts();
+    while let Some(out) = outs.pop() {
+        let (other, _, _) = out.into_parts();
+        table.shared.join_seat::<Gather>(&mut seat, other);
+    }
+    let mut closed = table.close_with(seat);
+    let parcel = closed.take(0).unwrap();
+    closed.free();
+    parcel.into_data()
+}

@@ -1,0 +1,128 @@
+//! A place of a door, outside and inside.
+ghost use Rattle.std.specs.Prelude.{◌≡◌, true};
+ghost use Rattle.door_frame.specs.Views.{is_alone};
+
+use crate::parcel::Parcel;
+use crate::plays::DoorSeat;
+use crossbeam_utils::sync::Parker;
+use std::marker::Model;
+use wait_book::book::Book;
+
+/// A place outside: it may enter. It moves between threads, can't be copied, and a place that is dropped is never heard of
+/// again (then its door can't be closed). A contract sees its door, its number and its front.
+#[derive(Drop)]
+pub struct Outside<D> {
+    seat: DoorSeat<D>,
+    place: usize,
+    parker: Parker,
+    ghost alone: { is_alone seat.me.0 ≡ true },
+}
+
+impl<D> Model for Outside<D> {
+    ghost use Rattle.door_frame.specs.Places.{PlaceOut, place_out};
+    ghost use Rattle.door_frame.specs.Views.{front_of};
+    ghost use Rattle.door_frame.specs.Seats.{IsAway};
+
+    ghost Value = { PlaceOut D };
+
+    ghost view = { λ o. place_out o.seat.table_id o.place (front_of o.seat.me.0 o.alone) };
+
+    ghost invariant = { λ o. IsAway o.place (front_of o.seat.me.0 o.alone) o.seat.me };
+}
+
+impl<D> Outside<D> {
+    ghost use Rattle.hoare_law.specs.declared.event.History.{History};
+    ghost use Rattle.std.specs.Prelude.{◌≡◌, true};
+    ghost use Rattle.door_frame.specs.Places.{place_out};
+    ghost use Rattle.door_frame.specs.Seats.{IsAway};
+    ghost use Rattle.door_frame.specs.Views.{is_alone, front_of};
+
+    /// A place of its parts. It is there for doors on this frame: a seat can't be had otherwise.
+    #[inline]
+    pub fn of_parts(seat: DoorSeat<D>, place: usize, parker: Parker) -> Outside<D>
+        requires { (f : History D) × IsAway place f seat.me }
+        ensures { (f : History D) → IsAway place f seat.me → result ≡ place_out seat.table_id place f }
+    {
+        Outside {
+            seat,
+            place,
+            parker,
+        }
+    }
+
+    /// The seat, the number and the parker.
+    #[inline]
+    pub fn into_parts(self) -> (DoorSeat<D>, usize, Parker)
+        ensures { (result.0.table_id ≡ self.table) × (result.1 ≡ self.place) × IsAway self.place self.front result.0.me }
+    {
+        let Outside {
+            seat,
+            place,
+            parker,
+        } = self;
+        (seat, place, parker)
+    }
+}
+
+/// A place inside, with the data in hand. It can't be dropped: who is inside leaves. A contract sees the data too.
+pub struct Inside<D> {
+    pub(crate) seat: DoorSeat<D>,
+    pub(crate) place: usize,
+    pub(crate) parker: Parker,
+    /// Data and queues. A door on this frame lends them: who changes the queues by hand can't give the place back.
+    pub parcel: Parcel<D>,
+    ghost alone: { is_alone seat.me.0 ≡ true },
+}
+
+impl<D> Model for Inside<D> {
+    ghost use Rattle.door_frame.specs.Places.{PlaceIn, place_in};
+    ghost use Rattle.door_frame.specs.Views.{front_of};
+    ghost use Rattle.door_frame.specs.Seats.{IsInside};
+
+    ghost Value = { PlaceIn D };
+
+    ghost view = { λ i. place_in i.seat.table_id i.place (front_of i.seat.me.0 i.alone) i.parcel.state };
+
+    ghost invariant = { λ i. IsInside i.place (front_of i.seat.me.0 i.alone) i.seat.me i.parcel.book };
+}
+
+impl<D> Inside<D> {
+    ghost use Rattle.std.specs.Prelude.{◌≡◌, ◌≢◌, ◌<◌, ◌↔◌, ℕ, [], IsTrue, slice_index, MatchOption};
+    ghost use Rattle.std.specs.Option.{option_map};
+    ghost use Rattle.hoare_law.specs.Priorities.{priorities};
+    ghost use Rattle.hoare_law.specs.Waiting.{waiting, chosen, priority_of};
+    ghost use Rattle.wait_book.specs.Contents.{priorities_on};
+    ghost use Rattle.door_frame.specs.Seats.{IsInside};
+
+    /// The queues, as `Monitor::lists`.
+    pub fn lists(&self) -> &Book
+        ensures { priorities_on result.now ≡ priorities self.now.front.events }
+    {
+        self.parcel.book()
+    }
+
+    /// `Monitor::queue`.
+    pub fn queue(&self, condition: usize) -> bool
+        requires { condition < self.now.front.conditions }
+        ensures lists { IsTrue result ↔ (priorities self.now.front.events condition ≢ []) }
+        ensures front { IsTrue result ↔ (waiting condition self.now.front.events ≢ []) }
+    {
+        self.parcel.book().queue(condition)
+    }
+
+    /// `Monitor::first`.
+    pub fn first(&self, condition: usize) -> Option<u64>
+        requires { condition < self.now.front.conditions }
+        ensures lists { MatchOption result (priorities self.now.front.events condition ≡ []) (λ p. (priorities self.now.front.events condition ≢ []) × (p ≡ slice_index (priorities self.now.front.events condition) 0)) }
+        ensures front { result ≡ option_map priority_of (chosen condition self.now.front.events) }
+    {
+        self.parcel.book().first(condition)
+    }
+
+    /// The data in hand.
+    pub fn state(&self) -> &D
+        ensures { result.now ≡ self.now.state }
+    {
+        &self.parcel.held.state
+    }
+}

@@ -1,0 +1,73 @@
+//! What the steps tell that every door has.
+ghost use Rattle.door_frame.specs.Views.{places_behind, first_place, both_places, no_places};
+ghost use Rattle.door_frame.specs.Steps.{begins, opens, gives_as, learns};
+
+use crate::parcel::Parcel;
+use crate::view::View;
+use atomic_table::{Join, Play, Seat, Split};
+use hoare_law::data::MonitorData;
+use std::marker::{Brand, PhantomData};
+
+/// What a thread steps with.
+pub type DoorSeat<D> = Seat<Option<Parcel<D>>, View<D>>;
+
+/// The first seat takes the empty slot.
+pub struct Begin;
+
+impl<D> Play<Option<Parcel<D>>, View<D>> for Begin {
+    ghost then = { begins };
+}
+
+/// It gives the slot back with the data: the door is open.
+pub struct Open;
+
+impl<D: MonitorData> Play<Option<Parcel<D>>, View<D>> for Open {
+    ghost then = { opens D.CONDITIONS };
+}
+
+/// The event of a step that gives the slot back, from the data in it. Each call picks it.
+pub trait PickedEvent<D> {
+    ghost use Rattle.hoare_law.specs.declared.event.Event.{Event};
+
+    ghost event: { D → Event D };
+}
+
+impl<D> PickedEvent<D> for Brand {
+    ghost use Rattle.hoare_law.specs.declared.event.Event.TheVariants.{Leave};
+
+    ghost event = { λ s. Leave 0 s };
+}
+
+/// The place inside gives the slot back.
+pub struct Give<J> {
+    of: PhantomData<J>,
+}
+
+impl<D, J: PickedEvent<D>> Play<Option<Parcel<D>>, View<D>> for Give<J> {
+    ghost then = { gives_as J.event };
+}
+
+/// The places of a seat come to know the whole history.
+pub struct Learn;
+
+impl<D: MonitorData> Play<Option<Parcel<D>>, View<D>> for Learn {
+    ghost then = { learns D.rest D.ready };
+}
+
+/// Cuts off the first place.
+pub struct Deal;
+
+impl<D> Split<View<D>> for Deal {
+    ghost left = { places_behind };
+
+    ghost right = { first_place };
+}
+
+/// Puts the places of two seats together.
+pub struct Gather;
+
+impl<D> Join<View<D>> for Gather {
+    ghost both = { both_places };
+
+    ghost spent = { no_places };
+}

@@ -1,0 +1,40 @@
+//! The rule of a door's table.
+ghost use Rattle.door_frame.specs.Rule.{Kept};
+ghost use Rattle.door_frame.specs.Views.{unopened};
+
+use crate::parcel::Parcel;
+use crate::view::View;
+use atomic_table::{Table, TableRule};
+use hoare_law::data::MonitorData;
+use std::alloc::Global;
+use std::marker::PhantomData;
+
+/// What the words of a door say, by its key.
+pub trait Words<D, K> {
+    ghost use Rattle.std.specs.Prelude.{ℕ, Bool, List};
+    ghost use Rattle.hoare_law.specs.declared.event.History.{History};
+    ghost use Rattle.door_frame.specs.Rule.{Tickets};
+
+    /// How many places the door has.
+    ghost places: { K → ℕ };
+
+    /// The words before the door opens, and by then whether the first seat has the slot.
+    ghost starts: { K → Bool → List ℕ → Type 0 };
+
+    /// What they say of the log, and of which place has which ticket.
+    ghost tells: { K → History D → Tickets → List ℕ → Type 0 };
+}
+
+/// The rule over the words, the slot and what all places know.
+pub struct Rule<W> {
+    of: PhantomData<W>,
+}
+
+impl<D: MonitorData, K, W: Words<D, K>> TableRule<Option<Parcel<D>>, View<D>, K> for Rule<W> {
+    ghost holds = { λ key. Kept (W.starts key) (W.tells key) D.rest D.ready D.CONDITIONS (W.places key) };
+
+    ghost first = { λ key. unopened (W.places key) };
+}
+
+/// The table of a door. It has one slot.
+pub type DoorTable<D, K, W> = Table<Option<Parcel<D>>, View<D>, K, Rule<W>, Global>;

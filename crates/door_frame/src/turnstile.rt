@@ -1,0 +1,66 @@
+//! What a door has to do with its words: let a newcomer in, let a place come back, and give the monitor up.
+ghost use Rattle.std.specs.Prelude.{◌≡◌, ℕ, ◌<◌, true, [], ◌∷◌, None};
+ghost use Rattle.hoare_law.specs.declared.event.History.{History};
+ghost use Rattle.hoare_law.specs.declared.event.Event.TheVariants as event;
+ghost use Rattle.hoare_law.specs.Events.{with_event};
+ghost use Rattle.wait_book.specs.Contents.{IsPlaceBelow};
+ghost use Rattle.door_frame.specs.Places.{DoorId};
+ghost use Rattle.door_frame.specs.Views.{alone};
+ghost use Rattle.door_frame.specs.Steps.{Came, MayGive, due};
+ghost use Rattle.door_frame.specs.Seats.{IsAway, IsNewcomer};
+ghost use Rattle.door_frame.specs.Departures.{event_of};
+
+use crate::departure::Departure;
+use crate::parcel::Parcel;
+use crate::plays::DoorSeat;
+use crossbeam_utils::sync::Parker;
+use hoare_law::data::MonitorData;
+use std::sync::Wait;
+use wait_book::steps::Next;
+
+/// How often a place looks at a word, with the spin hint between, before it sleeps on its parker, or as a newcomer yields. A
+/// look costs some nanoseconds and a sleep with its waking several thousand: most hand-overs come while it still looks. More
+/// looks take the processor from the place that is waited for, where there are fewer cores than threads.
+pub const LOOKS: u32 = 500;
+
+/// A door, as far as its words go.
+pub trait Turnstile<D: MonitorData> {
+    /// The table that its seats are of, and how many places it has.
+    ghost id: { Self → DoorId };
+
+    /// Lets a newcomer in as soon as it is its turn, and takes the parcel.
+    fn admit<R: Wait>(&self, rt: &R, seat: &mut DoorSeat<D>, place: usize) -> Parcel<D>
+        requires table { seat.old.table_id ≡ (id self.now).table }
+        requires outside { IsNewcomer place seat.old.me }
+        ensures table { seat.new.table_id ≡ seat.old.table_id }
+        ensures came { (f : History D) → IsAway place f seat.old.me → Came D.rest D.ready place f (event.Admit place) result None seat.new.me };
+
+    /// Waits until the monitor is owed to the place, comes in and takes the parcel.
+    fn claim<R: Wait>(
+        &self,
+        rt: &R,
+        seat: &mut DoorSeat<D>,
+        place: usize,
+        parker: &Parker,
+    ) -> Parcel<D>
+        requires table { seat.old.table_id ≡ (id self.now).table }
+        requires small { place < (id self.now).places }
+        requires away { (f : History D) × IsAway place f seat.old.me }
+        ensures table { seat.new.table_id ≡ seat.old.table_id }
+        ensures came { (f : History D) → IsAway place f seat.old.me → Came D.rest D.ready place f (due place f) result None seat.new.me };
+
+    /// Gives the parcel back by the event of the departure, and wakes the place that goes on.
+    fn hand_on(
+        &self,
+        seat: &mut DoorSeat<D>,
+        parcel: Parcel<D>,
+        place: usize,
+        departure: Departure,
+        next: Next,
+    )
+        requires table { seat.old.table_id ≡ (id self.now).table }
+        requires next { IsPlaceBelow (id self.now).places next }
+        requires event { MayGive D.rest D.ready (event_of place departure next) place seat.old.me parcel next }
+        ensures table { seat.new.table_id ≡ seat.old.table_id }
+        ensures away { (f : History D) → seat.old.me ≡ (alone place f, (0, None) ∷ []) → IsAway place (with_event f (event_of place departure next parcel.state)) seat.new.me };
+}

@@ -1,0 +1,21 @@
+//! What a seat of a door's table knows. No value of these types is ever made.
+use hoare_law::event::History;
+use std::collections::LinkedList;
+
+/// A place, with its front (the history that it knows), and the ticket that it drew, if it asked and isn't in yet. Tickets
+/// are counted from 0 here and never wrap.
+pub struct Knowledge<D> {
+    pub place: usize,
+    pub front: History<D>,
+    pub ticket: Option<u64>,
+}
+
+/// What a seat knows.
+pub enum View<D> {
+    /// The first seat, while the slot is still empty: the door is to have so many places.
+    Unopened(usize),
+    /// The first seat, with the slot in hand.
+    Opening(usize),
+    /// The places that a seat stands for.
+    Places(LinkedList<Knowledge<D>>),
+}

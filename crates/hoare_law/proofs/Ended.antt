@@ -1,0 +1,66 @@
+-- A history in which everybody is outside: it is nobody's turn, nobody waits, and the data are at rest.
+use Rattle.std.proofs.Common.{◌≡◌, ◌≢◌, ℕ, ◌<◌, true, false, List, [], Option, Some, None, refl, ap, sym, ◌∙◌, subst, true≢false}
+use Rattle.hoare_law.specs.declared.event.Event.{Event}
+use Rattle.hoare_law.specs.declared.event.History.{History}
+use Rattle.hoare_law.specs.declared.event.Event.TheVariants.{Admit, Wait, Signal, Pass, Leave, Resume, Back}
+use Rattle.hoare_law.specs.declared.turn.Turn.{Turn}
+use Rattle.hoare_law.specs.declared.turn.Turn.TheVariants.{Free, Held, Owed, Return}
+use Rattle.hoare_law.specs.Events.{place_of, own, newest, latest_data}
+use Rattle.hoare_law.specs.Lawful.{Rest, Ready, Stands}
+use Rattle.hoare_law.specs.Legal.{IsLegal}
+use Rattle.hoare_law.specs.Priorities.{priorities, nobody}
+use Rattle.hoare_law.specs.Turns.{turn, outside, is_out}
+use Rattle.hoare_law.specs.Waiting.{waiting, chosen, waits_on}
+use Rattle.hoare_law.proofs.Fronts.{rest-free, own-owed, own-returning}
+use Rattle.hoare_law.proofs.Held.{outside-held}
+use Rattle.hoare_law.proofs.Priorities.{waiting-unchosen, priorities-nobody}
+use Rattle.hoare_law.proofs.Waiters.{held-in_range, owed-in_range, return-in_range, chosen-waits, chosen-in_range, place_in_range}
+
+module _ {S : Type 0} where
+  -- everybody is outside
+  abbrev pub AllOutside : History S → Type 0
+  AllOutside h = (k : ℕ) → k < h.places → outside k h.events ≡ true
+
+  -- a place whose last event isn't its going out is not outside
+  not_outside : (h : List (Event S)) (k : ℕ) (e : Event S) → newest (own k h) ≡ Some e → is_out (Some e) ≡ false → outside k h ≢ true
+  unfolding outside
+  not_outside h k e last stays out = true≢false (sym out ∙ ap is_out last ∙ stays)
+
+  stays_in : (e : Event S) (c : ℕ) → waits_on c e ≡ true → is_out (Some e) ≡ false
+  stays_in (Wait k d p s) c is = refl
+  stays_in (Admit k s) c is = absurd (cc)
+  stays_in (Signal k d w s) c is = absurd (cc)
+  stays_in (Pass k d w s) c is = absurd (cc)
+  stays_in (Leave k s) c is = absurd (cc)
+  stays_in (Resume k d s) c is = absurd (cc)
+  stays_in (Back k s) c is = absurd (cc)
+
+  pub turn-ended : (h : History S) → IsLegal h → AllOutside h → turn h.events ≡ Free
+  turn-ended h legal out = by (turn h.events) refl
+    where
+      by : (t : Turn) → turn h.events ≡ t → t ≡ Free
+      by Free is = refl
+      by (Held k) is = absurd (true≢false (sym (out k (held-in_range h k legal is)) ∙ outside-held h.events k is))
+      by (Owed k c) is = let last = own-owed h k c legal is in
+          absurd (not_outside h.events k (Wait k c last.0 last.1) last.2 refl (out k (owed-in_range h k c legal is).0))
+      by (Return k) is = let last = own-returning h.events k is in
+          absurd (not_outside h.events k (Signal k last.0 last.1 last.2) last.3 refl (out k (return-in_range h k legal is)))
+
+  pub waiting-ended : (h : History S) (c : ℕ) → IsLegal h → AllOutside h → waiting c h.events ≡ []
+  waiting-ended h c legal out = waiting-unchosen c h.events (by (chosen c h.events) refl)
+    where
+      by : (o : Option (Event S)) → chosen c h.events ≡ o → o ≡ None
+      by None is = refl
+      by (Some x) is =
+          let w = chosen-waits c h.events x is in
+          let here = place_in_range h x (chosen-in_range c h x legal is) in
+          absurd (not_outside h.events (place_of x) x w.last (stays_in x c w.on) (out (place_of x) here))
+
+  pub priorities-ended : (h : History S) → IsLegal h → AllOutside h → priorities h.events ≡ nobody
+  priorities-ended h legal out = λ i c. priorities-nobody c h.events (waiting-ended h c legal out) i
+
+  -- the data are at rest, with nobody waiting
+  pub rest-ended : (rest : Rest S) (ready : Ready S) (h : History S) → Stands rest ready h → AllOutside h → rest (latest_data h) nobody
+  rest-ended rest ready h stands out =
+      subst (λ (q : ℕ → List ℕ). rest (latest_data h) q) (priorities-ended h stands.legal out)
+      (rest-free h stands.lawful (turn-ended h stands.legal out))

@@ -1,0 +1,121 @@
+-- A place comes in, from outside, from a wait or from a signal: its front, whose turn it is, and what it finds.
+use Rattle.std.proofs.Common.{◌≡◌, ℕ, true, cond, List, [], ◌∷◌, ◌++◌, Some, refl, ap, sym, ◌∙◌, subst, eq-eqb}
+use Rattle.hoare_law.specs.declared.event.Event.{Event}
+use Rattle.hoare_law.specs.declared.event.History.{History}
+use Rattle.hoare_law.specs.declared.event.Event.TheVariants.{Admit, Wait, Signal, Pass, Leave, Resume, Back}
+use Rattle.hoare_law.specs.declared.turn.Turn.TheVariants.{Held}
+use Rattle.hoare_law.specs.Events.{place_of, own, newest, with_event}
+use Rattle.hoare_law.specs.Growth.{Begins, Grows, AddsLast, AddsTwo}
+use Rattle.hoare_law.specs.Lawful.{Rest, Ready, Owes, Stands}
+use Rattle.hoare_law.specs.Legal.{Allowed}
+use Rattle.hoare_law.specs.Priorities.{priorities}
+use Rattle.hoare_law.specs.Turns.{turn, turn_by, urgent, outside, is_out}
+use Rattle.hoare_law.proofs.Events.{own-push, newest-push}
+use Rattle.hoare_law.proofs.Fronts.{admitted_finds, resumed_finds, back_finds}
+use Rattle.hoare_law.proofs.Growth.{Begins-trans, Begins-push, Grows-one, Grows-trans}
+use Rattle.hoare_law.proofs.Held.{brings_in}
+use Rattle.hoare_law.proofs.Legal.{IsLegal-last, Stands-front}
+use Rattle.hoare_law.proofs.Turns.{turn-push}
+
+held_by : {S : Type 0} (e : Event S) (us : List ℕ) → brings_in e ≡ true → turn_by e us ≡ Held (place_of e)
+held_by (Admit j s) us b = refl
+held_by (Resume j c s) us b = refl
+held_by (Back j s) us b = refl
+held_by (Wait j c p s) us b = absurd (cc)
+held_by (Signal j c w s) us b = absurd (cc)
+held_by (Pass j c w s) us b = absurd (cc)
+held_by (Leave j s) us b = absurd (cc)
+
+module _ {S : Type 0} where
+  -- k's own events, one more at the end
+  pub own-last : (k : ℕ) (h : List (Event S)) (e : Event S) → place_of e ≡ k → own k (h ++ e ∷ []) ≡ own k h ++ e ∷ []
+  own-last k h e mine = own-push k h e ∙ ap (λ b. own k h ++ cond b (e ∷ []) []) (eq-eqb (place_of e) k mine)
+
+  adds_one : (k : ℕ) (f h : History S) (e : Event S) → place_of e ≡ k → Begins f h → own k h.events ≡ own k f.events
+      → Grows k (e ∷ []) f (with_event h e)
+  unfolding with_event
+  adds_one k f h e mine begins same = record {
+    begins = Begins-trans begins (Begins-push h e);
+    adds = own-last k h.events e mine ∙ ap (λ l. l ++ e ∷ []) same;
+  }
+
+  ends_with : (h : History S) (e : Event S) → newest (with_event h e).events ≡ Some e
+  unfolding with_event
+  ends_with h e = newest-push h.events e
+
+  -- k is inside after an event that brings it in
+  pub turn-in : (h : History S) (k : ℕ) (e : Event S) → brings_in e ≡ true → place_of e ≡ k → turn (with_event h e).events ≡ Held k
+  unfolding with_event
+  turn-in h k e brings mine =
+      turn-push h.events e ∙ held_by e (urgent (h.events ++ e ∷ [])) brings ∙ ap (λ i. Held i) mine
+
+  -- a place is outside in each history with the same own events of it
+  pub outside-same : (k : ℕ) (f h : History S) → own k h.events ≡ own k f.events → outside k f.events ≡ true → outside k h.events ≡ true
+  unfolding outside
+  outside-same k f h same out = ap (λ l. is_out (newest l)) same ∙ out
+
+  -- places and conditions stay
+  pub sizes-with : (f h : History S) (e : Event S) (n m : ℕ) → Begins f h → f.places ≡ n → f.conditions ≡ m
+      → ((with_event h e).places ≡ n) × ((with_event h e).conditions ≡ m)
+  unfolding with_event
+  sizes-with f h e n m begins p c = (sym begins.places ∙ p, sym begins.conditions ∙ c)
+
+  -- k, which knew f, adds one event last
+  pub AddsLast-one : (k : ℕ) (f h : History S) (e : Event S) → place_of e ≡ k → Begins f h → own k h.events ≡ own k f.events
+      → AddsLast f e (with_event h e)
+  AddsLast-one k f h e mine begins same = record {
+    grows = adds_one (place_of e) f h e refl begins
+        (ap (λ j. own j h.events) mine ∙ same ∙ ap (λ j. own j f.events) (sym mine));
+    ends = ends_with h e;
+  }
+
+  -- and after an event of its own another
+  pub AddsTwo-one : (k : ℕ) (f : History S) (d : Event S) (h : History S) (e : Event S) → place_of d ≡ k → place_of e ≡ k
+      → Begins (with_event f d) h → own k h.events ≡ own k (with_event f d).events → AddsTwo f d e (with_event h e)
+  AddsTwo-one k f d h e first mine begins same =
+      let one : AddsLast (with_event f d) e (with_event h e) = AddsLast-one k (with_event f d) h e mine begins same in record {
+        grows = Grows-trans
+            (subst (λ (j : ℕ). Grows j (d ∷ []) f (with_event f d)) (first ∙ sym mine) (Grows-one d f (with_event f d) refl))
+            one.grows;
+        begins = one.grows.begins;
+        ends = one.ends;
+      }
+
+  module _ (rest : Rest S) (ready : Ready S) where
+    -- who comes in owes nothing
+    pub Owes-admit : (f : List (Event S)) (k : ℕ) (s : S) → Owes rest ready f (Admit k s)
+    unfolding Owes
+    Owes-admit f k s = tt
+
+    pub Owes-resume : (f : List (Event S)) (k c : ℕ) (s : S) → Owes rest ready f (Resume k c s)
+    unfolding Owes
+    Owes-resume f k c s = tt
+
+    pub Owes-back : (f : List (Event S)) (k : ℕ) (s : S) → Owes rest ready f (Back k s)
+    unfolding Owes
+    Owes-back f k s = tt
+
+    -- the last event was allowed
+    pub Allowed-last : (h : History S) (e : Event S) → Stands rest ready (with_event h e) → Allowed h e
+    Allowed-last h e stands = IsLegal-last h e stands.legal
+
+    stood : (h : History S) (e : Event S) → Stands rest ready (with_event h e) → Stands rest ready h
+    stood h e stands = Stands-front (Begins-push h e) stands
+
+    -- what each kind finds
+    pub finds-admit : (h : History S) (k : ℕ) (s : S) → Stands rest ready (with_event h (Admit k s))
+        → rest s (priorities (with_event h (Admit k s)).events)
+    unfolding with_event
+    finds-admit h k s stands = admitted_finds h k s (stood h (Admit k s) stands) (Allowed-last h (Admit k s) stands)
+
+    pub finds-back : (h : History S) (k : ℕ) (s : S) → Stands rest ready (with_event h (Back k s))
+        → rest s (priorities (with_event h (Back k s)).events)
+    unfolding with_event
+    finds-back h k s stands = back_finds h k s (stood h (Back k s) stands) (Allowed-last h (Back k s) stands)
+
+    pub finds-resume : (h f : History S) (k c p : ℕ) (s t : S) → own k h.events ≡ own k (with_event f (Wait k c p s)).events
+        → Stands rest ready (with_event h (Resume k c t)) → ready c p t (priorities (with_event h (Resume k c t)).events)
+    unfolding with_event
+    finds-resume h f k c p s t same stands =
+        resumed_finds h k c p s t (stood h (Resume k c t) stands) (Allowed-last h (Resume k c t) stands)
+        (ap newest (same ∙ own-last k f.events (Wait k c p s) refl) ∙ newest-push (own k f.events) (Wait k c p s))

@@ -1,0 +1,122 @@
+-- Who is inside gives the monitor up, by a wait, a leave, a signal or a pass: that it may, and what it owes.
+use Rattle.std.proofs.Common.{◌≡◌, ◌≢◌, ℕ, ◌<◌, true, cond, List, [], ◌∷◌, ◌++◌, Option, Some, None, refl, ap, sym, ◌∙◌, subst, eq-eqb}
+use Rattle.std.specs.Prelude.{IsSomeAnd, slice_index}
+use Rattle.hoare_law.specs.declared.event.Event.{Event}
+use Rattle.hoare_law.specs.declared.event.History.{History}
+use Rattle.hoare_law.specs.declared.event.Event.TheVariants.{Admit, Wait, Signal, Pass, Leave, Resume, Back}
+use Rattle.hoare_law.specs.declared.turn.Turn.{Turn}
+use Rattle.hoare_law.specs.declared.turn.Turn.TheVariants.{Free, Held, Owed, Return}
+use Rattle.hoare_law.specs.Events.{place_of, with_event}
+use Rattle.hoare_law.specs.Lawful.{Rest, Ready, Owes}
+use Rattle.hoare_law.specs.Legal.{Allowed, IsLegal}
+use Rattle.hoare_law.specs.Priorities.{priorities, joined, taken}
+use Rattle.hoare_law.specs.Turns.{turn, turn_given_up, urgent, outside, is_out}
+use Rattle.hoare_law.specs.Waiting.{priority_of, chosen, Chooses}
+use Rattle.hoare_law.proofs.Priorities.{priorities-leave, priorities-wait, priorities-signal, priorities-pass, priorities-nobody, slice_index-chosen, waiting-unchosen}
+use Rattle.hoare_law.proofs.Turns.{outside-push, turn-push}
+use Rattle.hoare_law.proofs.Waiters.{held-in_range, chosen-in_range, place_in_range}
+
+given_up_held : (us : List ℕ) (j : ℕ) → turn_given_up us ≢ Held j
+given_up_held [] j e = cc
+given_up_held (u ∷ us) j e = cc
+
+held_other : (k : ℕ) (t u : Turn) → t ≡ Held k → t ≡ u → u ≡ Held k
+held_other k t u a b = sym b ∙ a
+
+module _ {S : Type 0} where
+  -- nobody is inside after an event of the one inside
+  pub turn-left : (f : History S) (e : Event S) (k j : ℕ) → Allowed f e → turn f.events ≡ Held k → turn (with_event f e).events ≢ Held j
+  unfolding with_event
+  turn-left f (Admit i s) k j may held is = let no : Free ≡ Held k = held_other k (turn f.events) Free held may.fits.0 in cc
+  turn-left f (Resume i c s) k j may held is =
+      let no : Owed i c ≡ Held k = held_other k (turn f.events) (Owed i c) held may.fits.0 in cc
+  turn-left f (Back i s) k j may held is =
+      let no : Return i ≡ Held k = held_other k (turn f.events) (Return i) held may.fits.0 in cc
+  turn-left f (Wait i c p s) k j may held is =
+      given_up_held (urgent (f.events ++ Wait i c p s ∷ [])) j (sym (turn-push f.events (Wait i c p s)) ∙ is)
+  turn-left f (Leave i s) k j may held is =
+      given_up_held (urgent (f.events ++ Leave i s ∷ [])) j (sym (turn-push f.events (Leave i s)) ∙ is)
+  turn-left f (Signal i c w s) k j may held is =
+      let no : Owed w c ≡ Held j = sym (turn-push f.events (Signal i c w s)) ∙ is in cc
+  turn-left f (Pass i c w s) k j may held is =
+      let no : Owed w c ≡ Held j = sym (turn-push f.events (Pass i c w s)) ∙ is in cc
+
+  -- the turn is that of whom a signal or a pass resumes
+  pub turn-signal : (h : History S) (k c w : ℕ) (s : S) → turn (with_event h (Signal k c w s)).events ≡ Owed w c
+  unfolding with_event
+  turn-signal h k c w s = turn-push h.events (Signal k c w s)
+
+  pub turn-pass : (h : History S) (k c w : ℕ) (s : S) → turn (with_event h (Pass k c w s)).events ≡ Owed w c
+  unfolding with_event
+  turn-pass h k c w s = turn-push h.events (Pass k c w s)
+
+  -- k is outside after a leave or a pass
+  pub outside-left : (f : History S) (k : ℕ) (e : Event S) → place_of e ≡ k → is_out (Some e) ≡ true → outside k (with_event f e).events ≡ true
+  unfolding with_event
+  outside-left f k e mine out =
+      outside-push k f.events e ∙ ap (λ b. cond b (is_out (Some e)) (outside k f.events)) (eq-eqb (place_of e) k mine) ∙ out
+
+  -- somebody is chosen where a priority stands
+  pub chosen-some : (c : ℕ) (h : List (Event S)) → priorities h c ≢ [] → (x : Event S) × (chosen c h ≡ Some x)
+  chosen-some c h some = by (chosen c h) refl
+    where
+      by : (o : Option (Event S)) → chosen c h ≡ o → (x : Event S) × (chosen c h ≡ Some x)
+      by (Some x) is = (x, is)
+      by None is = absurd (some (priorities-nobody c h (waiting-unchosen c h is)))
+
+  pub Chooses-place : (c : ℕ) (h : List (Event S)) (x : Event S) → chosen c h ≡ Some x → Chooses c h (place_of x)
+  unfolding Chooses
+  Chooses-place c h x is = subst (λ (o : Option (Event S)). IsSomeAnd o (λ e. place_of e ≡ place_of x)) (sym is) refl
+
+  -- each kind is allowed to the one inside
+  pub Allowed-leave : (f : History S) (k : ℕ) (s : S) → IsLegal f → turn f.events ≡ Held k → Allowed f (Leave k s)
+  Allowed-leave f k s legal held = record { in_range = held-in_range f k legal held; fits = held }
+
+  pub Allowed-wait : (f : History S) (k c p : ℕ) (s : S) → IsLegal f → turn f.events ≡ Held k → c < f.conditions → Allowed f (Wait k c p s)
+  Allowed-wait f k c p s legal held below = record { in_range = (held-in_range f k legal held, below); fits = held }
+
+  pub Allowed-signal : (f : History S) (k c : ℕ) (x : Event S) (s : S) → IsLegal f → turn f.events ≡ Held k → c < f.conditions
+      → chosen c f.events ≡ Some x → Allowed f (Signal k c (place_of x) s)
+  Allowed-signal f k c x s legal held below is = record {
+    in_range = (held-in_range f k legal held, below, place_in_range f x (chosen-in_range c f x legal is));
+    fits = (held, Chooses-place c f.events x is);
+  }
+
+  pub Allowed-pass : (f : History S) (k c : ℕ) (x : Event S) (s : S) → IsLegal f → turn f.events ≡ Held k → c < f.conditions
+      → chosen c f.events ≡ Some x → Allowed f (Pass k c (place_of x) s)
+  Allowed-pass f k c x s legal held below is = record {
+    in_range = (held-in_range f k legal held, below, place_in_range f x (chosen-in_range c f x legal is));
+    fits = (held, Chooses-place c f.events x is);
+  }
+
+  module _ (rest : Rest S) (ready : Ready S) where
+    -- and pays what it owes
+    pub Owes-leave : (f : History S) (k : ℕ) (s : S) → turn f.events ≡ Held k → rest s (priorities f.events)
+        → Owes rest ready f.events (Leave k s)
+    unfolding Owes
+    Owes-leave f k s held asked = subst (rest s) (sym (priorities-leave f.events k s held)) asked
+
+    pub Owes-wait : (f : History S) (k c p : ℕ) (s : S) → turn f.events ≡ Held k → rest s (joined (priorities f.events) c p)
+        → Owes rest ready f.events (Wait k c p s)
+    unfolding Owes
+    Owes-wait f k c p s held asked = subst (rest s) (sym (priorities-wait f.events k c p s held)) asked
+
+    hands_ready : (f : History S) (c : ℕ) (x : Event S) (s : S) (after : ℕ → List ℕ) → chosen c f.events ≡ Some x
+        → after ≡ taken (priorities f.events) c → ready c (slice_index (priorities f.events c) 0) s (taken (priorities f.events) c)
+        → IsSomeAnd (chosen c f.events) (λ e. ready c (priority_of e) s after)
+    hands_ready f c x s after is same asked =
+        let first = slice_index-chosen c f.events x is in
+        subst (λ (o : Option (Event S)). IsSomeAnd o (λ e. ready c (priority_of e) s after)) (sym is)
+        (subst (ready c (priority_of x) s) (sym same) (subst (λ (p : ℕ). ready c p s (taken (priorities f.events) c)) first asked))
+
+    pub Owes-signal : (f : History S) (k c : ℕ) (x : Event S) (s : S) → turn f.events ≡ Held k → chosen c f.events ≡ Some x
+        → ready c (slice_index (priorities f.events c) 0) s (taken (priorities f.events) c) → Owes rest ready f.events (Signal k c (place_of x) s)
+    unfolding Owes
+    Owes-signal f k c x s held is asked =
+        hands_ready f c x s _ is (priorities-signal f.events k c (place_of x) s held (Chooses-place c f.events x is)) asked
+
+    pub Owes-pass : (f : History S) (k c : ℕ) (x : Event S) (s : S) → turn f.events ≡ Held k → chosen c f.events ≡ Some x
+        → ready c (slice_index (priorities f.events c) 0) s (taken (priorities f.events) c) → Owes rest ready f.events (Pass k c (place_of x) s)
+    unfolding Owes
+    Owes-pass f k c x s held is asked =
+        hands_ready f c x s _ is (priorities-pass f.events k c (place_of x) s held (Chooses-place c f.events x is)) asked

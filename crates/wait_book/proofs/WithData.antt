@@ -1,0 +1,107 @@
+-- The book, and a history with data that it is of.
+use Rattle.std.proofs.Common.{◌≡◌, ◌≢◌, ℕ, Bool, true, false, IsTrue, true≢false, List, [], ◌∷◌, map, Option, Some, None, refl, ap, sym, ◌∙◌, subst, eqb-true}
+use Rattle.std.specs.Option.{option_map}
+use Rattle.hoare_law.specs.declared.event.Event.{Event}
+use Rattle.hoare_law.specs.declared.event.History.{History}
+use Rattle.hoare_law.specs.declared.event.Event.TheVariants.{Signal, Pass, Resume, Back}
+use Rattle.hoare_law.specs.declared.turn.Turn.{Turn}
+use Rattle.hoare_law.specs.declared.turn.Turn.TheVariants.{Owed, Return}
+use Rattle.hoare_law.specs.Erasure.{erased, without_data}
+use Rattle.hoare_law.specs.Events.{place_of, with_event}
+use Rattle.hoare_law.specs.Priorities.{in_order, priorities}
+use Rattle.hoare_law.specs.Turns.{turn, outside}
+use Rattle.hoare_law.specs.Waiting.{priority_of, waiting, chosen}
+use Rattle.hoare_law.proofs.Erasure.{turn-erased, outside-erased, priorities-erased, erased-push, chosen-erased, place_of-erased, priority_of-erased}
+use Rattle.hoare_law.proofs.Priorities.{waiting-no_priority, priorities-nobody}
+use Rattle.hoare_law.proofs.Sorted.{in_order-in_order, map-in_order}
+use Rattle.wait_book.specs.declared.waiter.Waiter.{Waiter}
+use Rattle.wait_book.specs.declared.steps.Next.{Next}
+use Rattle.wait_book.specs.Contents.{Contents, IsPlaceBelow, IsOf, next_of, priorities_on, times_in, wait_of, waiters_on}
+use Rattle.wait_book.specs.Stepping.{after_claim, after_pass, after_signal, settled}
+
+priorities_of : (ws : List Waiter) → map priority_of (map wait_of ws) ≡ map (λ (w : Waiter). w.priority) ws
+priorities_of [] = refl
+priorities_of (w ∷ ws) = ap (λ l. w.priority ∷ l) (priorities_of ws)
+
+module _ {D : Type 0} where
+  listed : (b : Contents) (h : History D) (c : ℕ) → IsOf b (erased h) → map (λ (w : Waiter). w.priority) (waiters_on c b) ≡ priorities h.events c
+  unfolding priorities
+  listed b h c o = sym (priorities_of (waiters_on c b)) ∙ ap (map priority_of) (o.waiters c) ∙ ap (λ q. q c) (priorities-erased h.events)
+
+  -- the waiting priorities are in order
+  in_order-priorities : (h : List (Event D)) (c : ℕ) → in_order (λ n. n) (priorities h c) ≡ priorities h c
+  unfolding priorities
+  in_order-priorities h c =
+      let mapped = map-in_order priority_of (waiting c h) in
+      ap (in_order (λ n. n)) mapped ∙ in_order-in_order (λ n. n) (map priority_of (waiting c h)) ∙ sym mapped
+
+  -- the priorities of the book are those of the history
+  pub priorities_on-history : (b : Contents) (h : History D) → IsOf b (erased h) → priorities_on b ≡ priorities h.events
+  priorities_on-history b h o = λ i c. (ap (in_order (λ n. n)) (listed b h c o) ∙ in_order-priorities h.events c) i
+
+  pub turn-history : (b : Contents) (h : History D) → IsOf b (erased h) → b.turn ≡ turn h.events
+  turn-history b h o = sym o.turn_is ∙ turn-erased h.events
+
+  -- the book's answer is who goes on
+  pub next-history : (b : Contents) (h : History D) (next : Next) → IsOf b (erased h) → next ≡ next_of b.turn → next ≡ next_of (turn h.events)
+  next-history b h next o is = is ∙ ap next_of (turn-history b h o)
+
+  -- who is outside stands nowhere in the book
+  pub times_in-outside : (b : Contents) (h : History D) (k : ℕ) → IsOf b (erased h) → outside k h.events ≡ true → times_in k b ≡ 0
+  times_in-outside b h k o out = eqb-true (times_in k b) 0 (sym (o.outside_are k) ∙ outside-erased k h.events ∙ out)
+
+  -- a book of the history without data, and one event more
+  pub IsOf-event : (b : Contents) (h : History D) (e : Event D) → IsOf b (with_event (erased h) (without_data e)) → IsOf b (erased (with_event h e))
+  IsOf-event b h e o = subst (IsOf b) (sym (erased-push h e)) o
+
+  settled_as : (b : Contents) (h : History D) (t : Turn) → turn h.events ≡ t → IsOf b (settled (erased h)) → IsOf b (after_claim (erased h) t)
+  settled_as b h t is o = subst (λ (u : Turn). IsOf b (after_claim (erased h) u)) (turn-erased h.events ∙ is) o
+
+  -- so after a return from a wait and from a signal
+  pub IsOf-resume : (b : Contents) (h : History D) (k c : ℕ) (s : D) → turn h.events ≡ Owed k c → IsOf b (settled (erased h))
+      → IsOf b (erased (with_event h (Resume k c s)))
+  IsOf-resume b h k c s is o = IsOf-event b h (Resume k c s) (settled_as b h (Owed k c) is o)
+
+  pub IsOf-back : (b : Contents) (h : History D) (k : ℕ) (s : D) → turn h.events ≡ Return k → IsOf b (settled (erased h))
+      → IsOf b (erased (with_event h (Back k s)))
+  IsOf-back b h k s is o = IsOf-event b h (Back k s) (settled_as b h (Return k) is o)
+
+  -- and after a signal and a pass
+  pub IsOf-signal : (b : Contents) (h : History D) (k c : ℕ) (x : Event D) (s : D) → chosen c h.events ≡ Some x
+      → IsOf b (after_signal (erased h) k c (chosen c (erased h).events)) → IsOf b (erased (with_event h (Signal k c (place_of x) s)))
+  IsOf-signal b h k c x s is o = IsOf-event b h (Signal k c (place_of x) s)
+      (subst (λ (w : ℕ). IsOf b (with_event (erased h) (Signal k c w tt))) (place_of-erased x)
+      (subst (λ (p : Option (Event (Unit {0}))). IsOf b (after_signal (erased h) k c p))
+      (chosen-erased c h.events ∙ ap (option_map without_data) is) o))
+
+  pub IsOf-pass : (b : Contents) (h : History D) (k c : ℕ) (x : Event D) (s : D) → chosen c h.events ≡ Some x
+      → IsOf b (after_pass (erased h) k c (chosen c (erased h).events)) → IsOf b (erased (with_event h (Pass k c (place_of x) s)))
+  IsOf-pass b h k c x s is o = IsOf-event b h (Pass k c (place_of x) s)
+      (subst (λ (w : ℕ). IsOf b (with_event (erased h) (Pass k c w tt))) (place_of-erased x)
+      (subst (λ (p : Option (Event (Unit {0}))). IsOf b (after_pass (erased h) k c p))
+      (chosen-erased c h.events ∙ ap (option_map without_data) is) o))
+
+  -- somebody waits where a priority stands
+  pub waits-listed : (b : Bool) (h : List (Event D)) (c : ℕ) → (IsTrue b → priorities h c ≢ []) × (priorities h c ≢ [] → IsTrue b)
+      → (IsTrue b → waiting c h ≢ []) × (waiting c h ≢ [] → IsTrue b)
+  waits-listed b h c told = (
+    (λ is none. told.0 is (priorities-nobody c h none)),
+    λ some. told.1 (λ none. some (waiting-no_priority c h none)),
+  )
+
+  kept_priority : (o : Option (Event D)) → option_map priority_of (option_map without_data o) ≡ option_map priority_of o
+  kept_priority None = refl
+  kept_priority (Some x) = ap (λ p. Some p) (priority_of-erased x)
+
+  -- the first priority is that of the chosen one
+  pub first-history : (r : Option ℕ) (h : History D) (c : ℕ) → r ≡ option_map priority_of (chosen c (erased h).events)
+      → r ≡ option_map priority_of (chosen c h.events)
+  first-history r h c is = is ∙ ap (option_map priority_of) (chosen-erased c h.events) ∙ kept_priority (chosen c h.events)
+
+-- no priority stands where none was told
+pub none-listed : (b : Bool) (q : List ℕ) → b ≡ false → (IsTrue b → q ≢ []) × (q ≢ [] → IsTrue b) → q ≡ []
+none-listed b [] n told = refl
+none-listed b (x ∷ q) n told = let yes : b ≡ true = told.1 (λ e. cc) in absurd (true≢false (sym yes ∙ n))
+
+pub IsPlaceBelow-same : (m n : ℕ) (next : Next) → m ≡ n → IsPlaceBelow m next → IsPlaceBelow n next
+IsPlaceBelow-same m n next same below = subst (λ (i : ℕ). IsPlaceBelow i next) same below

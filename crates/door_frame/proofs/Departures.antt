@@ -7,7 +7,7 @@ use Rattle.hoare_law.specs.declared.event.History.{History}
 use Rattle.hoare_law.specs.declared.event.Event.TheVariants.{Wait, Signal, Pass, Leave}
 use Rattle.hoare_law.specs.declared.turn.Turn.{Turn}
 use Rattle.hoare_law.specs.declared.turn.Turn.TheVariants.{Free, Held, Owed, Return}
-use Rattle.hoare_law.specs.Erasure.{erased}
+use Rattle.hoare_law.specs.Beside.Erasure.{erased}
 use Rattle.hoare_law.specs.Events.{place_of, data_of, own, with_event}
 use Rattle.hoare_law.specs.Growth.{Begins, Exits, passed_on}
 use Rattle.hoare_law.specs.Lawful.{Rest, Ready, Owes, Stands}

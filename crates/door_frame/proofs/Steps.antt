@@ -14,7 +14,7 @@ use Rattle.hoare_law.specs.declared.event.Event.TheVariants.{Admit, Resume, Back
 use Rattle.hoare_law.specs.declared.turn.Turn.{Turn}
 use Rattle.hoare_law.specs.declared.turn.Turn.TheVariants.{Free, Held, Owed, Return}
 use Rattle.hoare_law.specs.Events.{place_of, data_of, own, newest, latest_data, opened, with_event}
-use Rattle.hoare_law.specs.Erasure.{erased}
+use Rattle.hoare_law.specs.Beside.Erasure.{erased}
 use Rattle.hoare_law.specs.Lawful.{Rest, Ready, Owes, Stands}
 use Rattle.hoare_law.specs.Legal.{Allowed}
 use Rattle.hoare_law.specs.Priorities.{nobody}

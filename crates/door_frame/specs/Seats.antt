@@ -1,7 +1,7 @@
 -- How a seat stands for a place outside or inside.
 use Rattle.std.specs.Prelude.{◌≡◌, ℕ, true, [], ◌∷◌, None}
 use Rattle.hoare_law.specs.declared.event.History.{History}
-use Rattle.hoare_law.specs.Erasure.{erased}
+use Rattle.hoare_law.specs.Beside.Erasure.{erased}
 use Rattle.hoare_law.specs.Turns.{outside}
 use Rattle.wait_book.specs.Contents.{Contents, IsOf}
 use Rattle.door_frame.specs.Steps.{Sat}

@@ -6,7 +6,7 @@ use Rattle.hoare_law.specs.declared.event.History.{History}
 use Rattle.hoare_law.specs.declared.event.Event.TheVariants.{Wait, Resume, Back}
 use Rattle.hoare_law.specs.declared.turn.Turn.TheVariants.{Held}
 use Rattle.hoare_law.specs.Events.{own, newest, place_of, data_of, opened, with_event}
-use Rattle.hoare_law.specs.Erasure.{erased}
+use Rattle.hoare_law.specs.Beside.Erasure.{erased}
 use Rattle.hoare_law.specs.Growth.{Begins}
 use Rattle.hoare_law.specs.Lawful.{Rest, Ready, Owes, Stands}
 use Rattle.hoare_law.specs.Legal.{Allowed}

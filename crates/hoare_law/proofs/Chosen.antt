@@ -25,7 +25,8 @@ module _ {X : Type 0} (key : X → ℕ) where
   first_put w (v ∷ vs) = elim (leb (key v) (key w)) as (λ b. first_of (cond b (v ∷ put_in key w vs) (w ∷ v ∷ vs)) ≡ Some (cond b v w)) [ true ↦ refl | false ↦ refl ]
 
   -- a test that holds of the first found, beside the one that finds it
-  find_both_by : (t : Bool) (p q : X → Bool) (x : X) (rest : Option X) (more : Option X) (b : X) → cond t (Some x) rest ≡ Some b → q b ≡ true → (rest ≡ Some b → more ≡ Some b) → cond (t && q x) (Some x) more ≡ Some b
+  find_both_by : (t : Bool) (p q : X → Bool) (x : X) (rest : Option X) (more : Option X) (b : X) → cond t (Some x) rest ≡ Some b → q b ≡ true
+      → (rest ≡ Some b → more ≡ Some b) → cond (t && q x) (Some x) more ≡ Some b
   find_both_by true p q x rest more b h g r = let e : x ≡ b = cc in let k : q x ≡ true = ap q e ∙ g in rw k h
   find_both_by false p q x rest more b h g r = r h
 
@@ -54,7 +55,8 @@ module _ {X : Type 0} (key : X → ℕ) where
   chosen_none : (ws : List X) (w : X) → ws ≡ [] → chosen_of (ws ++ w ∷ []) ≡ Some w
   chosen_none ws w e = ap (λ v. chosen_of (v ++ w ∷ [])) e ∙ (rw (self_least (key w)) refl)
 
-  chosen_by : (t : Bool) (ws : List X) (w b : X) → leb (key b) (key w) ≡ t → chosen_of ws ≡ Some b → is_least_of ws b ≡ true → find (λ x. is_least_of ws x && leb (key x) (key w)) (ws ++ w ∷ []) ≡ Some (cond t b w)
+  chosen_by : (t : Bool) (ws : List X) (w b : X) → leb (key b) (key w) ≡ t → chosen_of ws ≡ Some b → is_least_of ws b ≡ true
+      → find (λ x. is_least_of ws x && leb (key x) (key w)) (ws ++ w ∷ []) ≡ Some (cond t b w)
   chosen_by true ws w b t f l = find-and (is_least_of ws) (λ x. leb (key x) (key w)) ws w b f t
   chosen_by false ws w b t f l = find_last (is_least_of ws) (key b) ws w l (above (key b) (key w) t) (list_all-lower key (key b) (key w) ws (above (key b) (key w) t) l)
 

@@ -15,7 +15,7 @@ use Rattle.hoare_law.specs.Turns.{is_signal, is_last_act, urgent, turn, turn_by,
 use Rattle.hoare_law.specs.Priorities.{in_order, priorities}
 use Rattle.hoare_law.specs.Legal.{Allowed, IsLegal}
 use Rattle.hoare_law.specs.Growth.{Begins}
-use Rattle.hoare_law.specs.Erasure.{without_data, all_without_data, erased}
+use Rattle.hoare_law.specs.Beside.Erasure.{without_data, all_without_data, erased}
 use Rattle.hoare_law.proofs.Turns.{filter-map}
 use Rattle.hoare_law.proofs.Filters.{list_all-same, find-same}
 use Rattle.hoare_law.proofs.Sorted.{map-in_order}
@@ -34,11 +34,14 @@ find-map f p (x ∷ xs) = by (p (f x)) (find-map f p xs)
     by true rest = refl
     by false rest = rest
 
-filter_by_later-map : {X Y : Type 0} (f : X → Y) (test : Y → List Y → Bool) (kept : X → List X → Bool) (xs : List X) → ((x : X) (later : List X) → test (f x) (map f later) ≡ kept x later) → filter_by_later test (map f xs) ≡ map f (filter_by_later kept xs)
+filter_by_later-map : {X Y : Type 0} (f : X → Y) (test : Y → List Y → Bool) (kept : X → List X → Bool) (xs : List X)
+    → ((x : X) (later : List X) → test (f x) (map f later) ≡ kept x later) → filter_by_later test (map f xs) ≡ map f (filter_by_later kept xs)
 filter_by_later-map f test kept [] same = refl
-filter_by_later-map f test kept (x ∷ xs) same = ap (λ b. cond b (f x ∷ filter_by_later test (map f xs)) (filter_by_later test (map f xs))) (same x xs) ∙ by (kept x xs) (filter_by_later-map f test kept xs same)
+filter_by_later-map f test kept (x ∷ xs) same = ap (λ b. cond b (f x ∷ filter_by_later test (map f xs)) (filter_by_later test (map f xs))) (same x xs) ∙ by (kept x xs)
+    (filter_by_later-map f test kept xs same)
   where
-    by : (t : Bool) → filter_by_later test (map f xs) ≡ map f (filter_by_later kept xs) → cond t (f x ∷ filter_by_later test (map f xs)) (filter_by_later test (map f xs)) ≡ map f (cond t (x ∷ filter_by_later kept xs) (filter_by_later kept xs))
+    by : (t : Bool) → filter_by_later test (map f xs) ≡ map f (filter_by_later kept xs)
+        → cond t (f x ∷ filter_by_later test (map f xs)) (filter_by_later test (map f xs)) ≡ map f (cond t (x ∷ filter_by_later kept xs) (filter_by_later kept xs))
     by true rest = ap (λ l. f x ∷ l) rest
     by false rest = rest
 
@@ -223,7 +226,14 @@ module _ {S : Type 0} where
 
   -- a front stays a front
   pub Begins-erased : {f h : History S} → Begins f h → Begins (erased f) (erased h)
-  Begins-erased {f = f} b = record { places = b.places; conditions = b.conditions; opening = refl; later = all_without_data b.later; is = sym (map-append without_data f.events b.later) ∙ ap all_without_data b.is }
+  Begins-erased {f = f} b = record {
+    places = b.places;
+    conditions = b.conditions;
+    opening = refl;
+    later = all_without_data b.later;
+    is = sym
+        (map-append without_data f.events b.later) ∙ ap all_without_data b.is;
+  }
 
   -- what may come next may do so without its data
   pub Allowed-erased : (f : History S) (e : Event S) → Allowed f e → Allowed (erased f) (without_data e)

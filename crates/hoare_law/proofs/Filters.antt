@@ -134,7 +134,8 @@ All-find P p (y ∷ xs) x is all = by (p y) is (λ f. All-find P p xs x f (All-t
     by false f rest = rest f
 
 -- what holds of each that passes, by what comes later
-pub All-filter_by_later : {X : Type 0} (P : X → Type 0) (test : X → List X → Bool) (xs : List X) → ((f : List X) (x : X) (later : List X) → xs ≡ f ++ x ∷ later → test x later ≡ true → P x) → All P (filter_by_later test xs)
+pub All-filter_by_later : {X : Type 0} (P : X → Type 0) (test : X → List X → Bool) (xs : List X)
+    → ((f : List X) (x : X) (later : List X) → xs ≡ f ++ x ∷ later → test x later ≡ true → P x) → All P (filter_by_later test xs)
 All-filter_by_later P test [] holds = All-nil P
 All-filter_by_later P test (x ∷ xs) holds = by (test x xs) refl (All-filter_by_later P test xs (λ f y later is t. holds (x ∷ f) y later (ap (λ l. x ∷ l) is) t))
   where

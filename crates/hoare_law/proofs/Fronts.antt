@@ -1,5 +1,6 @@
 -- What a front, or whose turn it is, tells of a legal and lawful history.
-use Rattle.std.proofs.Common.{◌≡◌, ◌≢◌, ◌==◌, ⊎_elim, ℕ, List, [], ◌∷◌, ◌++◌, length, true, false, cond, Option, Some, None, refl, ap, sym, ◌∙◌, subst, arith, eq-eqb, eqb-true, ne_eqb, true≢false, length-append}
+use Rattle.std.proofs.Common.{◌≡◌, ◌≢◌, ◌==◌, ⊎_elim, ℕ, List, [], ◌∷◌, ◌++◌, length, true, false, cond}
+use Rattle.std.proofs.Common.{Option, Some, None, refl, ap, sym, ◌∙◌, subst, arith, eq-eqb, eqb-true, ne_eqb, true≢false, length-append}
 use Rattle.std.specs.Prelude.{IsSomeAnd}
 use Rattle.std.specs.Option.{option_map, unwrap_or}
 use Rattle.std.specs.List.{list_all}
@@ -118,10 +119,13 @@ module _ {S : Type 0} where
   unfolding latest_data
   latest_data-ends h g e is = ap (λ o. unwrap_or (option_map data_of o) h.opening) (ap newest is ∙ newest-push g e)
 
-  hand_owes : (rest : Rest S) (ready : Ready S) (g : List (Event S)) (e : Event S) (k c : ℕ) (x : Event S) → hands_to k c e → chosen c g ≡ Some x → Owes rest ready g e → ready c (priority_of x) (data_of e) (priorities (g ++ e ∷ []))
+  hand_owes : (rest : Rest S) (ready : Ready S) (g : List (Event S)) (e : Event S) (k c : ℕ) (x : Event S) → hands_to k c e → chosen c g ≡ Some x → Owes rest ready g e
+      → ready c (priority_of x) (data_of e) (priorities (g ++ e ∷ []))
   unfolding Owes
-  hand_owes rest ready g (Signal j d v s) k c x to is owes = subst (λ (b : ℕ). ready b (priority_of x) s (priorities (g ++ Signal j d v s ∷ []))) to.1 (some_at _ (chosen d g) x (ap (λ b. chosen b g) to.1 ∙ is) owes)
-  hand_owes rest ready g (Pass j d v s) k c x to is owes = subst (λ (b : ℕ). ready b (priority_of x) s (priorities (g ++ Pass j d v s ∷ []))) to.1 (some_at _ (chosen d g) x (ap (λ b. chosen b g) to.1 ∙ is) owes)
+  hand_owes rest ready g (Signal j d v s) k c x to is owes = subst (λ (b : ℕ). ready b (priority_of x) s (priorities (g ++ Signal j d v s ∷ []))) to.1
+      (some_at _ (chosen d g) x (ap (λ b. chosen b g) to.1 ∙ is) owes)
+  hand_owes rest ready g (Pass j d v s) k c x to is owes = subst (λ (b : ℕ). ready b (priority_of x) s (priorities (g ++ Pass j d v s ∷ []))) to.1
+      (some_at _ (chosen d g) x (ap (λ b. chosen b g) to.1 ∙ is) owes)
   hand_owes rest ready g (Admit j s) k c x to is owes = absurd to
   hand_owes rest ready g (Wait j d p s) k c x to is owes = absurd to
   hand_owes rest ready g (Leave j s) k c x to is owes = absurd to
@@ -145,7 +149,8 @@ module _ {S : Type 0} where
         (subst (λ (l : List (Event S)). rest (data_of e) (priorities l)) (sym is) (give_up_owes rest ready g e gives (lawful.each g [] e is)))
 
     -- whoever the monitor is owed finds what was to be ready for its wait
-    pub ready-owed : (h : History S) (k c p : ℕ) (s : S) → Stands rest ready h → turn h.events ≡ Owed k c → newest (own k h.events) ≡ Some (Wait k c p s) → ready c p (latest_data h) (priorities h.events)
+    pub ready-owed : (h : History S) (k c p : ℕ) (s : S) → Stands rest ready h → turn h.events ≡ Owed k c → newest (own k h.events) ≡ Some (Wait k c p s)
+        → ready c p (latest_data h) (priorities h.events)
     ready-owed h k c p s stands is last =
         let r : (x : Event S) × IsHanded h.events k c x = owed-handed h k c stands.legal is in
         let both : Some r.0 ≡ Some (Wait k c p s) = sym r.1.last ∙ last in
@@ -171,7 +176,8 @@ module _ {S : Type 0} where
     rest-free h lawful is = ⊎_elim (rest_opening h lawful) (λ r. given_up h r.1.0 r.0 lawful r.1.1 r.2) (turn-free h.events is)
 
     -- what one that is resumed finds, after its return
-    pub resumed_finds : (h : History S) (k c p : ℕ) (s t : S) → Stands rest ready h → Allowed h (Resume k c t) → newest (own k h.events) ≡ Some (Wait k c p s) → ready c p t (priorities (h.events ++ Resume k c t ∷ []))
+    pub resumed_finds : (h : History S) (k c p : ℕ) (s t : S) → Stands rest ready h → Allowed h (Resume k c t) → newest (own k h.events) ≡ Some (Wait k c p s)
+        → ready c p t (priorities (h.events ++ Resume k c t ∷ []))
     resumed_finds h k c p s t stands a last =
         subst (λ (ps : ℕ → List ℕ). ready c p t ps) (sym (priorities-resume h.events k c t a.fits.0))
         (subst (λ (u : S). ready c p u (priorities h.events)) (sym a.fits.1) (ready-owed h k c p s stands a.fits.0 last))

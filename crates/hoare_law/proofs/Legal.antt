@@ -26,7 +26,10 @@ IsLegal-none h none = record { each = λ f g x is. absurd (no_event f g x (sym n
     no_event (y ∷ f) g x is = cc
 
 pub IsLegal-front : {S : Type 0} {f h : History S} → Begins f h → IsLegal h → IsLegal f
-IsLegal-front {f = f} begins legal = record { each = λ a b x is. rw (begins.places, begins.conditions, begins.opening) (legal.each a (b ++ begins.later) x (sym begins.is ∙ (ap (λ y. y ++ begins.later) is ∙ append_assoc a (x ∷ b) begins.later))) }
+IsLegal-front {f = f} begins legal = record {
+  each = λ a b x is. rw (begins.places, begins.conditions, begins.opening)
+      (legal.each a (b ++ begins.later) x (sym begins.is ∙ (ap (λ y. y ++ begins.later) is ∙ append_assoc a (x ∷ b) begins.later)));
+}
 
 pub IsLegal-last : {S : Type 0} (h : History S) (e : Event S) → IsLegal (with_event h e) → Allowed h e
 unfolding with_event

@@ -1,5 +1,6 @@
 -- The waiting priorities after one more event.
-use Rattle.std.proofs.Common.{◌≡◌, ◌==◌, ◌||◌, ◌≤◌, not, ℕ, suc, List, [], ◌∷◌, ◌++◌, length, map, Bool, true, false, cond, Option, Some, None, refl, ap, sym, ◌∙◌, subst, arith, eq-eqb, eqb-true, ne_eqb, true≢false}
+use Rattle.std.proofs.Common.{◌≡◌, ◌==◌, ◌||◌, ◌≤◌, not, ℕ, suc, List, [], ◌∷◌, ◌++◌, length, map, Bool, true}
+use Rattle.std.proofs.Common.{false, cond, Option, Some, None, refl, ap, sym, ◌∙◌, subst, arith, eq-eqb, eqb-true, ne_eqb, true≢false}
 use Rattle.std.specs.Prelude.{IsSomeAnd, slice_index}
 use Rattle.std.specs.List.{filter, list_all}
 use Rattle.std.specs.List.Sorted.{IsNonDecreasing}
@@ -115,12 +116,14 @@ module _ {S : Type 0} where
   waiting-owed h k c d is =
       let r : (e : Event S) × ((g : List (Event S)) × (h ≡ g ++ e ∷ [])) × hands_to k c e = turn-owed h k c is in
       let left : waiting d h ≡ filter (λ x. not (concerns (place_of x) r.0)) (waiting d r.1.0) =
-      ap (waiting d) r.1.1 ∙ waiting-push d r.1.0 r.0 ∙ ap (λ b. filter (λ x. not (concerns (place_of x) r.0)) (waiting d r.1.0) ++ cond b (r.0 ∷ []) []) (handed_waits_not r.0 k c d r.2) ∙ append-nil _ in
+      ap (waiting d) r.1.1 ∙ waiting-push d r.1.0 r.0 ∙ ap (λ b. filter (λ x. not (concerns (place_of x) r.0)) (waiting d r.1.0) ++ cond b (r.0 ∷ []) [])
+      (handed_waits_not r.0 k c d r.2) ∙ append-nil _ in
       list_all-weaker (λ x. not (concerns (place_of x) r.0)) (λ x. not (k == place_of x)) (waiting d h) (λ x n. handed_concerned r.0 k c (place_of x) r.2 n)
       (ap (list_all (λ x. not (concerns (place_of x) r.0))) left ∙ list_all-filter_own (λ x. not (concerns (place_of x) r.0)) (waiting d r.1.0))
 
   -- an event of one that waits nowhere, which concerns no other, changes who waits only by its own wait
-  waiting-own : (h : List (Event S)) (e : Event S) (d : ℕ) → ((j : ℕ) → concerns j e ≡ (place_of e == j)) → list_all (λ x. not (place_of e == place_of x)) (waiting d h) ≡ true → waiting d (h ++ e ∷ []) ≡ waiting d h ++ cond (waits_on d e) (e ∷ []) []
+  waiting-own : (h : List (Event S)) (e : Event S) (d : ℕ) → ((j : ℕ) → concerns j e ≡ (place_of e == j))
+      → list_all (λ x. not (place_of e == place_of x)) (waiting d h) ≡ true → waiting d (h ++ e ∷ []) ≡ waiting d h ++ cond (waits_on d e) (e ∷ []) []
   waiting-own h e d own_alone apart = waiting-push d h e
       ∙ ap (λ l. l ++ cond (waits_on d e) (e ∷ []) []) (filter-all (λ x. not (concerns (place_of x) e)) (waiting d h)
       (list_all-same (λ x. not (concerns (place_of x) e)) (λ x. not (place_of e == place_of x)) (waiting d h) (λ x. ap not (own_alone (place_of x))) ∙ apart))
@@ -181,7 +184,8 @@ module _ {S : Type 0} where
   unfolding priorities
   priorities-wait_at h k c p d s is = ap (map priority_of) (in_turn-wait h k c p d s is) ∙ by (d == c)
     where
-      by : (t : Bool) → map priority_of (cond t (put_in priority_of (Wait k c p s) (in_turn h d)) (in_turn h d)) ≡ cond t (put_in (λ n. n) p (map priority_of (in_turn h d))) (map priority_of (in_turn h d))
+      by : (t : Bool) → map priority_of (cond t (put_in priority_of (Wait k c p s) (in_turn h d)) (in_turn h d)) ≡ cond t
+          (put_in (λ n. n) p (map priority_of (in_turn h d))) (map priority_of (in_turn h d))
       by true = map-put_in priority_of (Wait k c p s) (in_turn h d)
       by false = refl
 
@@ -246,7 +250,9 @@ module _ {S : Type 0} where
       let short : filter (λ y. place_of x == place_of y) (in_turn h c) ≡ filter (λ y. place_of x == place_of y) (waiting c h) =
       sym (in_order-filter priority_of (λ y. place_of x == place_of y) (waiting c h)) ∙ in_order-short priority_of _ (waiting-once c (place_of x) h) in
       let split : filter (λ y. place_of x == place_of y) (in_turn h c) ≡ x ∷ filter (λ y. place_of x == place_of y) (behind_first (in_turn h c)) =
-      ap (filter (λ y. place_of x == place_of y)) (in_turn-chosen c h x is) ∙ ap (λ b. cond b (x ∷ filter (λ y. place_of x == place_of y) (behind_first (in_turn h c))) (filter (λ y. place_of x == place_of y) (behind_first (in_turn h c)))) (eq-eqb (place_of x) (place_of x) refl) in
+      ap (filter (λ y. place_of x == place_of y)) (in_turn-chosen c h x is) ∙ ap
+      (λ b. cond b (x ∷ filter (λ y. place_of x == place_of y) (behind_first (in_turn h c))) (filter (λ y. place_of x == place_of y) (behind_first (in_turn h c))))
+      (eq-eqb (place_of x) (place_of x) refl) in
       let one : suc (length (filter (λ y. place_of x == place_of y) (behind_first (in_turn h c)))) ≡ length (filter (λ y. place_of x == place_of y) (waiting c h)) = ap length (sym split ∙ short) in
       list_all-filter_none (λ y. place_of x == place_of y) _ (no_length _ (omega (arith, one, waiting-once c (place_of x) h)))
 
@@ -255,7 +261,8 @@ module _ {S : Type 0} where
   in_turn-without c h x is =
       in_order-filter priority_of (λ y. not (place_of x == place_of y)) (waiting c h)
       ∙ ap (filter (λ y. not (place_of x == place_of y))) (in_turn-chosen c h x is)
-      ∙ ap (λ b. cond (not b) (x ∷ filter (λ y. not (place_of x == place_of y)) (behind_first (in_turn h c))) (filter (λ y. not (place_of x == place_of y)) (behind_first (in_turn h c)))) (eq-eqb (place_of x) (place_of x) refl)
+      ∙ ap (λ b. cond (not b) (x ∷ filter (λ y. not (place_of x == place_of y)) (behind_first (in_turn h c)))
+      (filter (λ y. not (place_of x == place_of y)) (behind_first (in_turn h c)))) (eq-eqb (place_of x) (place_of x) refl)
       ∙ filter-all _ _ (apart_behind c h x is)
 
   map-behind_first : (xs : List (Event S)) → map priority_of (behind_first xs) ≡ behind_first (map priority_of xs)
@@ -275,10 +282,13 @@ module _ {S : Type 0} where
       ∙ ap (λ j. filter (λ y. not (j == place_of y)) (waiting d h)) (sym r.2) in
       ap (in_order priority_of) left ∙ by r.0 r.1 (d == c) refl
     where
-      by : (x : Event S) → chosen c h ≡ Some x → (t : Bool) → (d == c) ≡ t → in_order priority_of (filter (λ y. not (place_of x == place_of y)) (waiting d h)) ≡ cond t (behind_first (in_turn h d)) (in_turn h d)
+      by : (x : Event S) → chosen c h ≡ Some x → (t : Bool) → (d == c) ≡ t
+          → in_order priority_of (filter (λ y. not (place_of x == place_of y)) (waiting d h)) ≡ cond t (behind_first (in_turn h d)) (in_turn h d)
       by x some true same = let e : d ≡ c = eqb-true d c same in
           subst (λ (b : ℕ). in_order priority_of (filter (λ y. not (place_of x == place_of y)) (waiting b h)) ≡ behind_first (in_turn h b)) (sym e) (in_turn-without c h x some)
-      by x some false other = ap (λ (l : List (Event S)). in_order priority_of l) (filter-all (λ y. not (place_of x == place_of y)) (waiting d h) (waiting-elsewhere c d h x (λ same. true≢false (sym (eq-eqb d c same) ∙ other)) (chosen-waits c h x some)))
+      by x some false other = ap (λ (l : List (Event S)). in_order priority_of l)
+          (filter-all (λ y. not (place_of x == place_of y)) (waiting d h)
+          (waiting-elsewhere c d h x (λ same. true≢false (sym (eq-eqb d c same) ∙ other)) (chosen-waits c h x some)))
 
   -- a signal takes the first from those that wait
   pub in_turn-signal : (h : List (Event S)) (k c w d : ℕ) (s : S) → turn h ≡ Held k → Chooses c h w → in_turn (h ++ Signal k c w s ∷ []) d ≡ cond (d == c) (behind_first (in_turn h d)) (in_turn h d)

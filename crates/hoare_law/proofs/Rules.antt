@@ -22,7 +22,9 @@ find-split : {X : Type 0} (p : X → Bool) (xs : List X) (x : X) → find p xs �
 find-split p [] x is = absurd (cc)
 find-split {X = X} p (y ∷ xs) x is = by (p y) refl is (λ f. find-split p xs x f)
   where
-    by : (t : Bool) → p y ≡ t → cond t (Some y) (find p xs) ≡ Some x → (find p xs ≡ Some x → (front behind : List X) × (xs ≡ front ++ x ∷ behind) × All (λ z. p z ≡ false) front) → (front behind : List X) × (y ∷ xs ≡ front ++ x ∷ behind) × All (λ z. p z ≡ false) front
+    by : (t : Bool) → p y ≡ t → cond t (Some y) (find p xs) ≡ Some x
+        → (find p xs ≡ Some x → (front behind : List X) × (xs ≡ front ++ x ∷ behind) × All (λ z. p z ≡ false) front)
+        → (front behind : List X) × (y ∷ xs ≡ front ++ x ∷ behind) × All (λ z. p z ≡ false) front
     by true t f more = let same : y ≡ x = cc in ([], xs, ap (λ z. z ∷ xs) same, All-nil (λ z. p z ≡ false))
     by false t f more = let r : (front behind : List X) × (xs ≡ front ++ x ∷ behind) × All (λ z. p z ≡ false) front = more f in
         (y ∷ r.0, r.1, ap (λ l. y ∷ l) r.2, All-cons (λ z. p z ≡ false) y r.0 t r.3)
@@ -53,7 +55,8 @@ module _ {S : Type 0} where
   chosen-no_less c h x is = least_all (waiting c h) x (chosen-least c h x is)
 
   -- and each that waits longer has a greater one
-  pub chosen-longest : (c : ℕ) (h : List (Event S)) (x : Event S) → chosen c h ≡ Some x → (longer shorter : List (Event S)) × (waiting c h ≡ longer ++ x ∷ shorter) × All (λ y. priority_of x < priority_of y) longer
+  pub chosen-longest : (c : ℕ) (h : List (Event S)) (x : Event S) → chosen c h ≡ Some x
+      → (longer shorter : List (Event S)) × (waiting c h ≡ longer ++ x ∷ shorter) × All (λ y. priority_of x < priority_of y) longer
   unfolding chosen
   chosen-longest c h x is =
       let r : (front behind : List (Event S)) × (waiting c h ≡ front ++ x ∷ behind) × All (λ y. is_least (waiting c h) y ≡ false) front = find-split (is_least (waiting c h)) (waiting c h) x is in

@@ -1,5 +1,6 @@
 -- Lists in order of their keys: what one more element, a filter and a map do to them, and that they rise.
-use Rattle.std.proofs.Common.{◌≡◌, ℕ, ◌<◌, Bool, true, false, cond, leb, ◌&&◌, List, [], ◌∷◌, ◌++◌, map, refl, ap, sym, ◌∙◌, zero, suc, ◌≤◌, length, get_or, subst, append_assoc, arith, Some, None, Option}
+use Rattle.std.proofs.Common.{◌≡◌, ℕ, ◌<◌, Bool, true, false, cond, leb, ◌&&◌, List, [], ◌∷◌, ◌++◌, map}
+use Rattle.std.proofs.Common.{refl, ap, sym, ◌∙◌, zero, suc, ◌≤◌, length, get_or, subst, append_assoc, arith, Some, None, Option}
 use Rattle.std.specs.List.{list_all, filter, find}
 use Rattle.hoare_law.specs.Priorities.{behind_first, put_in, put_all, in_order}
 use Rattle.hoare_law.proofs.Tests.{both_true, not_below, lower, above, below, list_all-filter}
@@ -32,7 +33,8 @@ module _ {X : Type 0} (key : X → ℕ) where
   Rising [] = Unit {0}
   Rising (v ∷ vs) = (list_all (λ x. leb (key v) (key x)) vs ≡ true) × Rising vs
 
-  all_put_by : (t : Bool) (q : X → Bool) (w v : X) (vs : List X) → q w ≡ true → (q v && list_all q vs) ≡ true → (list_all q vs ≡ true → list_all q (put_in key w vs) ≡ true) → list_all q (cond t (v ∷ put_in key w vs) (w ∷ v ∷ vs)) ≡ true
+  all_put_by : (t : Bool) (q : X → Bool) (w v : X) (vs : List X) → q w ≡ true → (q v && list_all q vs) ≡ true
+      → (list_all q vs ≡ true → list_all q (put_in key w vs) ≡ true) → list_all q (cond t (v ∷ put_in key w vs) (w ∷ v ∷ vs)) ≡ true
   all_put_by true q w v vs a b r = let p : (q v ≡ true) × (list_all q vs ≡ true) = both_true _ _ b in rw p.0 (r p.1)
   all_put_by false q w v vs a b r = rw a b
 
@@ -40,7 +42,8 @@ module _ {X : Type 0} (key : X → ℕ) where
   list_all-put_in q w [] a b = rw a refl
   list_all-put_in q w (v ∷ vs) a b = all_put_by (leb (key v) (key w)) q w v vs a b (list_all-put_in q w vs a)
 
-  rising_by : (t : Bool) (w v : X) (vs : List X) → leb (key v) (key w) ≡ t → list_all (λ x. leb (key v) (key x)) vs ≡ true → Rising vs → Rising (put_in key w vs) → Rising (cond t (v ∷ put_in key w vs) (w ∷ v ∷ vs))
+  rising_by : (t : Bool) (w v : X) (vs : List X) → leb (key v) (key w) ≡ t → list_all (λ x. leb (key v) (key x)) vs ≡ true → Rising vs → Rising (put_in key w vs)
+      → Rising (cond t (v ∷ put_in key w vs) (w ∷ v ∷ vs))
   rising_by true w v vs t a r p = (list_all-put_in (λ x. leb (key v) (key x)) w vs t a, p)
   rising_by false w v vs t a r p =
       ((rw (below (key v) (key w) t) (list_all-lower (key v) (key w) vs (above (key v) (key w) t) a)), (a, r))
@@ -57,7 +60,9 @@ module _ {X : Type 0} (key : X → ℕ) where
       rw (not_below n (key v) (key w) p.0 l) refl
 
   -- a filter and a waiter put in change places
-  keep_put_by : (t s : Bool) (p : X → Bool) (w v : X) (vs : List X) → p w ≡ true → p v ≡ s → leb (key v) (key w) ≡ t → list_all (λ x. leb (key v) (key x)) vs ≡ true → filter p (put_in key w vs) ≡ put_in key w (filter p vs) → filter p (cond t (v ∷ put_in key w vs) (w ∷ v ∷ vs)) ≡ put_in key w (cond s (v ∷ filter p vs) (filter p vs))
+  keep_put_by : (t s : Bool) (p : X → Bool) (w v : X) (vs : List X) → p w ≡ true → p v ≡ s → leb (key v) (key w) ≡ t → list_all (λ x. leb (key v) (key x)) vs ≡ true
+      → filter p (put_in key w vs) ≡ put_in key w (filter p vs) → filter p (cond t (v ∷ put_in key w vs) (w ∷ v ∷ vs)) ≡ put_in key w
+      (cond s (v ∷ filter p vs) (filter p vs))
   keep_put_by true true p w v vs k s t a r = rw (s, t) (ap (λ l. v ∷ l) r)
   keep_put_by true false p w v vs k s t a r = rw s r
   keep_put_by false true p w v vs k s t a r = rw (k, s, t) refl
@@ -76,7 +81,9 @@ module _ {X : Type 0} (key : X → ℕ) where
   put_in-filter_dropped p w [] k = rw k refl
   put_in-filter_dropped p w (v ∷ vs) k = drop_put_by (leb (key v) (key w)) p w v vs k (put_in-filter_dropped p w vs k)
 
-  order_by : (t : Bool) (p : X → Bool) (vs ws : List X) (w : X) → p w ≡ t → Rising vs → ((us : List X) → Rising us → put_all key (filter p us) (filter p ws) ≡ filter p (put_all key us ws)) → put_all key (filter p vs) (cond t (w ∷ filter p ws) (filter p ws)) ≡ filter p (put_all key (put_in key w vs) ws)
+  order_by : (t : Bool) (p : X → Bool) (vs ws : List X) (w : X) → p w ≡ t → Rising vs
+      → ((us : List X) → Rising us → put_all key (filter p us) (filter p ws) ≡ filter p (put_all key us ws))
+      → put_all key (filter p vs) (cond t (w ∷ filter p ws) (filter p ws)) ≡ filter p (put_all key (put_in key w vs) ws)
   order_by true p vs ws w k r f = ap (λ l. put_all key l (filter p ws)) (sym (put_in-filter_kept p w vs k r)) ∙ f (put_in key w vs) (Rising-put_in w vs r)
   order_by false p vs ws w k r f = ap (λ l. put_all key l (filter p ws)) (sym (put_in-filter_dropped p w vs k)) ∙ f (put_in key w vs) (Rising-put_in w vs r)
 

@@ -1,5 +1,6 @@
 -- What is known of a process that waits, of the one that is chosen, and of a waiting signaller.
-use Rattle.std.proofs.Common.{◌≡◌, ◌≢◌, ◌==◌, ◌&&◌, ◌||◌, ◌<◌, ◌≤◌, not, ℕ, List, [], ◌∷◌, ◌++◌, length, Bool, true, false, cond, Some, refl, ap, sym, ◌∙◌, subst, arith, eq-eqb, eqb-true, ne_eqb, true≢false}
+use Rattle.std.proofs.Common.{◌≡◌, ◌≢◌, ◌==◌, ◌&&◌, ◌||◌, ◌<◌, ◌≤◌, not, ℕ, List, [], ◌∷◌, ◌++◌, length}
+use Rattle.std.proofs.Common.{Bool, true, false, cond, Some, refl, ap, sym, ◌∙◌, subst, arith, eq-eqb, eqb-true, ne_eqb, true≢false}
 use Rattle.std.specs.Prelude.{All}
 use Rattle.std.specs.List.{filter, list_all}
 use Rattle.std.proofs.lemmas.List.Elements.{All-head, All-weaker, All-map, filter-append}
@@ -47,7 +48,8 @@ module _ {S : Type 0} where
   own_none k later a = filter-none (λ x. place_of x == k) later a
 
   -- an event behind which its place does nothing is the place's last
-  newest-own_split : (f later : List (Event S)) (x : Event S) (h : List (Event S)) → h ≡ f ++ x ∷ later → list_all (λ y. not (place_of y == place_of x)) later ≡ true → newest (own (place_of x) h) ≡ Some x
+  newest-own_split : (f later : List (Event S)) (x : Event S) (h : List (Event S)) → h ≡ f ++ x ∷ later → list_all (λ y. not (place_of y == place_of x)) later ≡ true
+      → newest (own (place_of x) h) ≡ Some x
   newest-own_split f later x h is a =
       let k : ℕ = place_of x in
       let tail : own k (x ∷ later) ≡ x ∷ [] = ap (λ b. cond b (x ∷ own k later) (own k later)) (eq-eqb k k refl) ∙ ap (λ l. x ∷ l) (own_none k later a) in
@@ -189,14 +191,18 @@ module _ {S : Type 0} where
       own_apart : is_untouched x h ≡ true → list_all (λ y. not (place_of x == place_of y)) (waiting c h) ≡ true
       own_apart a = list_all-from_All (λ y. not (place_of x == place_of y)) (waiting c h)
           (All-filter_by_later (λ y. not (place_of x == place_of y) ≡ true) (λ e later. waits_on c e && is_untouched e later) h
-          (λ f y later is t. ap not (swapped (place_of y) (place_of x) (own_is_concerned y (place_of x) (list_all-at (λ z. not (concerns (place_of x) z)) f y later (ap (list_all (λ z. not (concerns (place_of x) z))) (sym is) ∙ a))))))
+          (λ f y later is t. ap not (swapped (place_of y) (place_of x) (own_is_concerned y (place_of x)
+          (list_all-at (λ z. not (concerns (place_of x) z)) f y later (ap (list_all (λ z. not (concerns (place_of x) z))) (sym is) ∙ a))))))
 
-      first_of : (t : Bool) → (w == place_of x) ≡ t → is_untouched x h ≡ true → length (filter (λ y. w == place_of y) (waiting c h)) ≤ 1 → length (cond t (x ∷ filter (λ y. w == place_of y) (waiting c h)) (filter (λ y. w == place_of y) (waiting c h))) ≤ 1
+      first_of : (t : Bool) → (w == place_of x) ≡ t → is_untouched x h ≡ true → length (filter (λ y. w == place_of y) (waiting c h)) ≤ 1
+          → length (cond t (x ∷ filter (λ y. w == place_of y) (waiting c h)) (filter (λ y. w == place_of y) (waiting c h))) ≤ 1
       first_of true is a rest =
-          let none : filter (λ y. w == place_of y) (waiting c h) ≡ [] = filter-none (λ y. w == place_of y) (waiting c h) (ap (λ i. list_all (λ y. not (i == place_of y)) (waiting c h)) (eqb-true w (place_of x) is) ∙ own_apart a) in
+          let none : filter (λ y. w == place_of y) (waiting c h) ≡ [] = filter-none (λ y. w == place_of y) (waiting c h)
+          (ap (λ i. list_all (λ y. not (i == place_of y)) (waiting c h)) (eqb-true w (place_of x) is) ∙ own_apart a) in
           rw none (omega arith)
       first_of false is a rest = rest
 
-      by : (t : Bool) → (waits_on c x && is_untouched x h) ≡ t → length (filter (λ y. w == place_of y) (waiting c h)) ≤ 1 → length (filter (λ y. w == place_of y) (cond t (x ∷ waiting c h) (waiting c h))) ≤ 1
+      by : (t : Bool) → (waits_on c x && is_untouched x h) ≡ t → length (filter (λ y. w == place_of y) (waiting c h)) ≤ 1
+          → length (filter (λ y. w == place_of y) (cond t (x ∷ waiting c h) (waiting c h))) ≤ 1
       by true is rest = first_of (w == place_of x) refl (both_true _ _ is).1 rest
       by false is rest = rest

@@ -10,14 +10,16 @@ use Rattle.hoare_law.specs.Waiting.{filter_by_later, waits_on, concerns, waiting
 abbrev pub kept_by : {X : Type 0} → (X → Bool) → (X → X → Bool) → X → List X → Bool
 kept_by is q x later = is x && list_all (q x) later
 
-kept_step : {X : Type 0} (w a b : Bool) (p : X → Bool) (x : X) (old new t : List X) → p x ≡ b → new ≡ filter p old ++ t → cond (w && (a && (b && true))) (x ∷ new) new ≡ filter p (cond (w && a) (x ∷ old) old) ++ t
+kept_step : {X : Type 0} (w a b : Bool) (p : X → Bool) (x : X) (old new t : List X) → p x ≡ b → new ≡ filter p old ++ t
+    → cond (w && (a && (b && true))) (x ∷ new) new ≡ filter p (cond (w && a) (x ∷ old) old) ++ t
 kept_step false a b p x old new t e is = is
 kept_step true false b p x old new t e is = is
 kept_step true true true p x old new t e is = rw e (ap (λ l. x ∷ l) is)
 kept_step true true false p x old new t e is = rw e is
 
 -- those that e leaves, and e
-pub filter_by_later-push : {X : Type 0} (is : X → Bool) (q : X → X → Bool) (h : List X) (e : X) → filter_by_later (kept_by is q) (h ++ e ∷ []) ≡ filter (λ x. q x e) (filter_by_later (kept_by is q) h) ++ cond (is e) (e ∷ []) []
+pub filter_by_later-push : {X : Type 0} (is : X → Bool) (q : X → X → Bool) (h : List X) (e : X)
+    → filter_by_later (kept_by is q) (h ++ e ∷ []) ≡ filter (λ x. q x e) (filter_by_later (kept_by is q) h) ++ cond (is e) (e ∷ []) []
 filter_by_later-push is q [] e = elim (is e) as (λ b. cond (b && true) (e ∷ []) [] ≡ cond b (e ∷ []) []) [ true ↦ refl | false ↦ refl ]
 filter_by_later-push is q (x ∷ h) e =
     rw (list_all-append (q x) h (e ∷ []))

@@ -1,2 +1,3 @@
 -- What the crates need beside the definitions.
 pub mod Rising
+pub mod Erasure

@@ -5,6 +5,5 @@ pub mod Legal
 pub mod Priorities
 pub mod Lawful
 pub mod Growth
-pub mod Erasure
 pub mod Beside
 pub mod Admissions

@@ -1,9 +1,11 @@
 -- Lemmas about the cells of a buffer, which lie in a ring.
-use Rattle.std.proofs.Common.{ap, refl, ◌∙◌, ℕ, zero, suc, ◌+◌, ◌-◌, ◌%◌, ◌<◌, ◌≤◌, ◌⊎◌, inl, inr, List, [], ◌∷◌, ◌++◌, length, get_or, set, take, drop, map, replicate, ◌≡◌, ◌≢◌, Option, Some, None, append_assoc, arith, length-append}
+use Rattle.std.proofs.Common.{ap, refl, ◌∙◌, ℕ, zero, suc, ◌+◌, ◌-◌, ◌%◌, ◌<◌, ◌≤◌, ◌⊎◌, inl, inr, List, []}
+use Rattle.std.proofs.Common.{◌∷◌, ◌++◌, length, get_or, set, take, drop, map, replicate, ◌≡◌, ◌≢◌, Option, Some, None, append_assoc, arith, length-append}
 use Rattle.std.proofs.Math.Nat.{mod-eq_of_lt, mod-eq-sub-mod}
 use Rattle.std.proofs.Math.Seq.{take-set-lt}
 use Rattle.std.proofs.lemmas.Bool.{cases_lt}
-use Rattle.std.proofs.lemmas.List.{append-nil, length-set, length-take, length-drop, length-map, length-replicate, map-append, set_split, drop_all, drop-drop, drop-append-le, drop-set-lt, drop-set-add, take-set-le, take_more_set, set-append_left, set-append_right, set_at, get_or-append_right, get_or_append_left, get_or-take, get_or-drop, get_or_at, replicate_more}
+use Rattle.std.proofs.lemmas.List.{append-nil, length-set, length-take, length-drop, length-map, length-replicate, map-append, set_split, drop_all, drop-drop, drop-append-le, drop-set-lt}
+use Rattle.std.proofs.lemmas.List.{drop-set-add, take-set-le, take_more_set, set-append_left, set-append_right, set_at, get_or-append_right, get_or_append_left, get_or-take, get_or-drop, get_or_at, replicate_more}
 use Rattle.plain_schedulers.specs.Buffers.{BufferHolds, BufferRests, added, empty}
 use Rattle.hoare_law.specs.Priorities.{nobody}
 use Rattle.plain_schedulers.specs.Ring.{items_in, turned, ring_view, IsRing}
@@ -22,28 +24,64 @@ length-turned last cells within = omega (arith, length-append (drop last cells) 
 -- from the next cell on, the cell that was written is the last
 turned-next : {T : Type 0} (last : ℕ) (cells : List (Option T)) (x : Option T) → last < length cells → turned ((last + 1) % length cells) (set cells last x) ≡ drop 1 (turned last cells) ++ x ∷ []
 turned-next last cells x within = elim (mod_wraps (last + 1) (length cells) (omega arith)) [
-  | inl below ↦ rw (below.1, drop-set-lt (last + 1) cells last x (omega arith), take_more_set cells last x within, drop-append-le 1 (drop last cells) (take last cells) (omega (arith, length-drop last cells)), drop-drop 1 last cells, append_assoc (drop (last + 1) cells) (take last cells) (x ∷ [])) refl
+  | inl below ↦ rw (
+    below.1,
+    drop-set-lt (last + 1) cells last x (omega arith),
+    take_more_set cells last x within,
+    drop-append-le 1 (drop last cells) (take last cells)
+        (omega (arith, length-drop last cells)),
+    drop-drop 1 last cells,
+    append_assoc (drop (last + 1) cells) (take last cells) (x ∷ []),
+  ) refl
   | inr past ↦
       let start : (last + 1) % length cells ≡ 0 = omega arith in
-      rw (start, append-nil (set cells last x), set_split cells last x within, drop_all (suc last) cells (omega arith), drop-append-le 1 (drop last cells) (take last cells) (omega (arith, length-drop last cells)), drop-drop 1 last cells, drop_all (last + 1) cells (omega arith)) refl
+      rw (
+        start,
+        append-nil (set cells last x),
+        set_split cells last x within,
+        drop_all (suc last) cells (omega arith),
+        drop-append-le 1 (drop last cells)
+            (take last cells) (omega (arith, length-drop last cells)),
+        drop-drop 1 last cells,
+        drop_all (last + 1) cells (omega arith),
+      ) refl
 ]
 
 -- the i-th of the turned cells is the cell i places on from the first of them
-get_or-turned : {T : Type 0} (last : ℕ) (cells : List (Option T)) (i : ℕ) (d : Option T) → last < length cells → i < length cells → get_or (turned last cells) i d ≡ get_or cells ((last + i) % length cells) d
+get_or-turned : {T : Type 0} (last : ℕ) (cells : List (Option T)) (i : ℕ) (d : Option T) → last < length cells → i < length cells
+    → get_or (turned last cells) i d ≡ get_or cells ((last + i) % length cells) d
 get_or-turned last cells i d within below = elim (mod_wraps (last + i) (length cells) (omega arith)) [
   | inl low ↦ rw (low.1, get_or_append_left (drop last cells) (take last cells) d i (omega (arith, length-drop last cells)), get_or-drop last cells i d) refl
   | inr past ↦
       let at : (last + i) % length cells ≡ i - (length cells - last) = omega arith in
-      rw (at, get_or-append_right (drop last cells) (take last cells) (length cells - last) i d (length-drop last cells) (omega arith), get_or-take last cells (i - (length cells - last)) d (omega arith)) refl
+      rw (
+        at,
+        get_or-append_right (drop last cells) (take last cells) (length cells - last) i d (length-drop last cells) (omega arith),
+        get_or-take last cells
+            (i - (length cells - last)) d (omega arith),
+      ) refl
 ]
 
 -- a write i places on from the first of the turned cells is a write of the i-th
-turned-set : {T : Type 0} (last : ℕ) (cells : List (Option T)) (i : ℕ) (x : Option T) → last < length cells → i < length cells → turned last (set cells ((last + i) % length cells) x) ≡ set (turned last cells) i x
+turned-set : {T : Type 0} (last : ℕ) (cells : List (Option T)) (i : ℕ) (x : Option T) → last < length cells → i < length cells
+    → turned last (set cells ((last + i) % length cells) x) ≡ set (turned last cells) i x
 turned-set last cells i x within below = elim (mod_wraps (last + i) (length cells) (omega arith)) [
-  | inl low ↦ rw (low.1, drop-set-add last cells i x, take-set-le last cells (last + i) x (omega arith), set-append_left (drop last cells) (take last cells) i x (omega (arith, length-drop last cells))) refl
+  | inl low ↦ rw (
+    low.1,
+    drop-set-add last cells i x,
+    take-set-le last cells (last + i) x (omega arith),
+    set-append_left (drop last cells) (take last cells) i x
+        (omega (arith, length-drop last cells)),
+  ) refl
   | inr past ↦
       let at : (last + i) % length cells ≡ i - (length cells - last) = omega arith in
-      rw (at, drop-set-lt last cells (i - (length cells - last)) x (omega arith), take-set-lt last cells (i - (length cells - last)) x (omega arith), set-append_right (drop last cells) (take last cells) (length cells - last) i x (length-drop last cells) (omega arith)) refl
+      rw (
+        at,
+        drop-set-lt last cells (i - (length cells - last)) x (omega arith),
+        take-set-lt last cells (i - (length cells - last)) x (omega arith),
+        set-append_right
+            (drop last cells) (take last cells) (length cells - last) i x (length-drop last cells) (omega arith),
+      ) refl
 ]
 
 -- so many empty cells and then these items are as many together
@@ -66,7 +104,8 @@ pub BufferHolds-ring : {T : Type 0} {cells : List (Option T)} {last count : ℕ}
 BufferHolds-ring ring = record { least = ring.least; most = ring.most; fits = let n = length-items_in ring in omega arith }
 
 -- cells whose turned list is so many empty ones and then these items are in a ring
-IsRing-filled : {T : Type 0} (cells : List (Option T)) (last n : ℕ) (xs : List T) → 1 ≤ length cells → length cells ≤ 4096 → last < length cells → turned last cells ≡ replicate n None ++ map Some xs → IsRing cells last (length xs)
+IsRing-filled : {T : Type 0} (cells : List (Option T)) (last n : ℕ) (xs : List T) → 1 ≤ length cells → length cells ≤ 4096 → last < length cells
+    → turned last cells ≡ replicate n None ++ map Some xs → IsRing cells last (length xs)
 IsRing-filled {T = T} cells last n xs least most within filled =
     let items : items_in (turned last cells) ≡ xs = ap items_in filled ∙ items_in-filled n xs in
     let all : n + length xs ≡ length cells = omega (arith, ap length filled, length-turned last cells within, length-filled n xs) in
@@ -103,27 +142,33 @@ BufferRests-empty n least most = record {
 }
 
 -- an item written in the last cell, from the next cell on
-filled-push : {T : Type 0} {cells : List (Option T)} {last count : ℕ} (x : T) → IsRing cells last count → count < length cells → turned ((last + 1) % length cells) (set cells last (Some x)) ≡ replicate (length cells - count - 1) None ++ map Some (items_in (turned last cells) ++ x ∷ [])
+filled-push : {T : Type 0} {cells : List (Option T)} {last count : ℕ} (x : T) → IsRing cells last count → count < length cells
+    → turned ((last + 1) % length cells) (set cells last (Some x)) ≡ replicate (length cells - count - 1) None ++ map Some (items_in (turned last cells) ++ x ∷ [])
 filled-push {T = T} {cells = cells} {last = last} {count = count} x ring room =
     let items = items_in (turned last cells) in
     let free : length cells - count ≡ suc (length cells - count - 1) = omega arith in
     let before : turned last cells ≡ None ∷ (replicate (length cells - count - 1) None ++ map Some items) = rw free at ring.filled in
-    turned-next last cells (Some x) ring.last_within ∙ ap (λ (l : List (Option T)). drop 1 l ++ Some x ∷ []) before ∙ rw (map-append Some items (x ∷ []), append_assoc (replicate (length cells - count - 1) None) (map Some items) (Some x ∷ [])) refl
+    turned-next last cells (Some x) ring.last_within ∙ ap (λ (l : List (Option T)). drop 1 l ++ Some x ∷ []) before ∙ rw
+    (map-append Some items (x ∷ []), append_assoc (replicate (length cells - count - 1) None) (map Some items) (Some x ∷ [])) refl
 
 -- after an item is written in the last cell, the cells are in a ring with the next one as the last
-pub IsRing-push : {T : Type 0} {cells : List (Option T)} {last count n : ℕ} (x : T) → IsRing cells last count → length (items_in (turned last cells)) < length cells → n ≡ length cells → IsRing (set cells last (Some x)) ((last + 1) % n) (count + 1)
+pub IsRing-push : {T : Type 0} {cells : List (Option T)} {last count n : ℕ} (x : T) → IsRing cells last count → length (items_in (turned last cells)) < length cells
+    → n ≡ length cells → IsRing (set cells last (Some x)) ((last + 1) % n) (count + 1)
 IsRing-push {cells = cells} {last = last} {count = count} x ring room size =
     let few = length-items_in ring in
     let same = length-set cells last (Some x) in
     let items = items_in (turned last cells) in
     let more : length (items ++ x ∷ []) ≡ count + 1 = omega (arith, length-append items (x ∷ []), length-items_in ring) in
-    rw size (rw more at (IsRing-filled (set cells last (Some x)) ((last + 1) % length cells) (length cells - count - 1) (items ++ x ∷ []) (omega arith) (omega arith) (omega arith) (filled-push x ring (omega arith))))
+    rw size (rw more at (IsRing-filled (set cells last (Some x)) ((last + 1) % length cells) (length cells - count - 1) (items ++ x ∷ []) (omega arith) (omega arith)
+    (omega arith) (filled-push x ring (omega arith))))
 
 -- an item written in the last cell is the newest
-pub added-ring : {T : Type 0} {cells : List (Option T)} {last count n : ℕ} (x : T) → IsRing cells last count → length (items_in (turned last cells)) < length cells → n ≡ length cells → ring_view (set cells last (Some x)) ((last + 1) % n) ≡ added (ring_view cells last) x
+pub added-ring : {T : Type 0} {cells : List (Option T)} {last count n : ℕ} (x : T) → IsRing cells last count → length (items_in (turned last cells)) < length cells
+    → n ≡ length cells → ring_view (set cells last (Some x)) ((last + 1) % n) ≡ added (ring_view cells last) x
 added-ring {cells = cells} {last = last} {count = count} x ring room size =
     let few = length-items_in ring in
-    let items : items_in (turned ((last + 1) % length cells) (set cells last (Some x))) ≡ items_in (turned last cells) ++ x ∷ [] = ap items_in (filled-push x ring (omega arith)) ∙ items_in-filled (length cells - count - 1) (items_in (turned last cells) ++ x ∷ []) in
+    let items : items_in (turned ((last + 1) % length cells) (set cells last (Some x))) ≡ items_in (turned last cells) ++ x ∷ [] = ap items_in
+    (filled-push x ring (omega arith)) ∙ items_in-filled (length cells - count - 1) (items_in (turned last cells) ++ x ∷ []) in
     rw (size, items, length-set cells last (Some x)) refl
 
 -- the oldest item and its cell, and the turned cells once it is emptied
@@ -149,12 +194,21 @@ Oldest-ring {T = T} {cells = cells} {last = last} {count = count} ring some =
             others = others;
             items = items;
             is = λ d. rw (place, ← get_or-turned last cells n d ring.last_within below, filled) (get_or_at (replicate n None) (Some x) (map Some others) d n (length-replicate n None));
-            after = let none : Option T = None in rw (place, turned-set last cells n None ring.last_within below, filled, set_at (replicate n None) (Some x) (map Some others) None n (length-replicate n None), ← replicate_more n none, append_assoc (replicate n None) (None ∷ []) (map Some others)) refl;
+            after = let none : Option T = None in rw (
+              place,
+              turned-set last cells n None ring.last_within below,
+              filled,
+              set_at (replicate n None) (Some x)
+                  (map Some others) None n (length-replicate n None),
+              ← replicate_more n none,
+              append_assoc (replicate n None) (None ∷ []) (map Some others),
+            ) refl;
           }
     ] refl
 
 -- the cell count places before the last, around the end, isn't empty
-pub oldest_is_in : {T : Type 0} {cells : List (Option T)} {last count n : ℕ} {a : Option T} → IsRing cells last count → 0 < length (items_in (turned last cells)) → n ≡ length cells → a ≡ get_or cells ((last + n - count) % n) a → a ≢ None
+pub oldest_is_in : {T : Type 0} {cells : List (Option T)} {last count n : ℕ} {a : Option T} → IsRing cells last count → 0 < length (items_in (turned last cells))
+    → n ≡ length cells → a ≡ get_or cells ((last + n - count) % n) a → a ≢ None
 oldest_is_in {cells = cells} {last = last} {count = count} {a = a} ring some size read none =
     let few = length-items_in ring in
     let o = Oldest-ring ring (omega arith) in
@@ -164,7 +218,9 @@ oldest_is_in {cells = cells} {last = last} {count = count} {a = a} ring some siz
     cc
 
 -- the item in that cell is the oldest, and once it is taken out the others are left
-pub items_in-pop : {T : Type 0} {cells : List (Option T)} {last count n : ℕ} {a : Option T} (x : T) → IsRing cells last count → 0 < length (items_in (turned last cells)) → n ≡ length cells → a ≡ get_or cells ((last + n - count) % n) a → a ≡ Some x → items_in (turned last cells) ≡ x ∷ items_in (turned last (set cells ((last + n - count) % n) None))
+pub items_in-pop : {T : Type 0} {cells : List (Option T)} {last count n : ℕ} {a : Option T} (x : T) → IsRing cells last count → 0 < length (items_in (turned last cells))
+    → n ≡ length cells → a ≡ get_or cells ((last + n - count) % n) a → a ≡ Some x
+    → items_in (turned last cells) ≡ x ∷ items_in (turned last (set cells ((last + n - count) % n) None))
 items_in-pop {cells = cells} {last = last} {count = count} {a = a} x ring some size read is =
     let few = length-items_in ring in
     let o = Oldest-ring ring (omega arith) in
@@ -174,7 +230,8 @@ items_in-pop {cells = cells} {last = last} {count = count} {a = a} x ring some s
     rw (size, same, ap items_in o.after, items_in-filled (length cells - count + 1) o.others) o.items
 
 -- once it is taken out, the cells are in a ring with one item fewer
-pub IsRing-pop : {T : Type 0} {cells : List (Option T)} {last count n : ℕ} → IsRing cells last count → 0 < length (items_in (turned last cells)) → n ≡ length cells → IsRing (set cells ((last + n - count) % n) None) last (count - 1)
+pub IsRing-pop : {T : Type 0} {cells : List (Option T)} {last count n : ℕ} → IsRing cells last count → 0 < length (items_in (turned last cells)) → n ≡ length cells
+    → IsRing (set cells ((last + n - count) % n) None) last (count - 1)
 IsRing-pop {cells = cells} {last = last} {count = count} ring some size =
     let few = length-items_in ring in
     let o = Oldest-ring ring (omega arith) in

@@ -6,7 +6,7 @@ use Rattle.hoare_law.specs.declared.event.History.{History}
 use Rattle.hoare_law.specs.declared.event.Event.TheVariants.{Signal, Pass, Resume, Back}
 use Rattle.hoare_law.specs.declared.turn.Turn.{Turn}
 use Rattle.hoare_law.specs.declared.turn.Turn.TheVariants.{Owed, Return}
-use Rattle.hoare_law.specs.Erasure.{erased, without_data}
+use Rattle.hoare_law.specs.Beside.Erasure.{erased, without_data}
 use Rattle.hoare_law.specs.Events.{place_of, with_event}
 use Rattle.hoare_law.specs.Priorities.{in_order, priorities}
 use Rattle.hoare_law.specs.Turns.{turn, outside}

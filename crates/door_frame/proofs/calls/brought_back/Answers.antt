@@ -1,5 +1,5 @@
 use Rattle.std.proofs.Common.{ap, ◌∙◌}
-use Rattle.hoare_law.specs.Erasure.{erased}
+use Rattle.hoare_law.specs.Beside.Erasure.{erased}
 use Rattle.hoare_law.proofs.Entering.{Allowed-last}
 use Rattle.wait_book.specs.Contents.{next_of}
 use Rattle.wait_book.proofs.WithData.{turn-history}

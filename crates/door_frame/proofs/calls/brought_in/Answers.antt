@@ -1,6 +1,6 @@
 use Rattle.std.proofs.Common.{ℕ, ◌<◌, ◌∙◌, subst}
 use Rattle.hoare_law.specs.declared.event.Event.TheVariants.{Admit}
-use Rattle.hoare_law.specs.Erasure.{erased}
+use Rattle.hoare_law.specs.Beside.Erasure.{erased}
 use Rattle.hoare_law.proofs.Entering.{Allowed-last}
 use Rattle.wait_book.proofs.WithData.{turn-history, times_in-outside, IsOf-event}
 use Rattle.door_frame.specs.Seats.{IsInside}

@@ -1,5 +1,5 @@
 use Rattle.std.proofs.Common.{◌∙◌}
-use Rattle.hoare_law.specs.Erasure.{erased}
+use Rattle.hoare_law.specs.Beside.Erasure.{erased}
 use Rattle.door_frame.specs.Views.{front_of}
 use Rattle.door_frame.proofs.Departures.{gives_leave, left}
 use Rattle.door_frame.proofs.Inside.{holds, turn_in_hand}

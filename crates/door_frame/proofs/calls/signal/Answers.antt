@@ -1,5 +1,5 @@
 use Rattle.std.proofs.Common.{◌≢◌, [], true, false, IsTrue, ◌∙◌, refl}
-use Rattle.hoare_law.specs.Erasure.{erased}
+use Rattle.hoare_law.specs.Beside.Erasure.{erased}
 use Rattle.hoare_law.specs.Growth.{nobody_waited}
 use Rattle.hoare_law.specs.Priorities.{priorities}
 use Rattle.hoare_law.proofs.Priorities.{waiting-no_priority}

@@ -15,4 +15,5 @@ pub invariant_of-self : goal.invariant_of-self
 invariant_of-self g c = rw c.take-taken.ensures.after (IsRing-pop c.self.invariant (rw (← c.self.view_is) at c.requires) (omega arith))
 
 pub returns-clause-items : goal.returns-clause-items
-returns-clause-items g c = rw (← c.self.view_is, c.take-taken.ensures.after) (items_in-pop c.in-Some.item c.self.invariant (rw (← c.self.view_is) at c.requires) (omega arith) c.index_mut.ensures.value (search rules))
+returns-clause-items g c = rw (← c.self.view_is, c.take-taken.ensures.after)
+    (items_in-pop c.in-Some.item c.self.invariant (rw (← c.self.view_is) at c.requires) (omega arith) c.index_mut.ensures.value (search rules))

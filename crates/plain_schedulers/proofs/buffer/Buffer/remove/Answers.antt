@@ -9,7 +9,8 @@ returns-clause-trace g c = record {
   found = g.M.Monitor.data_in c.if-is_empty.inside;
   front = g.M.Monitor.front_in c.if-is_empty.inside;
   comes = elim c.if-is_empty.branch [
-    | then-is_empty w ↦ rw w.inside-is (ComesTo-waited c.enter-inside.ensures.front (search rules) w.wait-inside.ensures.front (search rules) (search rules) (search rules) (search rules) (search rules))
+    | then-is_empty w ↦ rw w.inside-is (ComesTo-waited c.enter-inside.ensures.front (search rules) w.wait-inside.ensures.front (search rules) (search rules)
+        (search rules) (search rules) (search rules))
     | else-is_empty w ↦ rw w.inside-is (at_once c.enter-inside.ensures.front (search rules))
   ];
   others = c.pop-item.new.self.items;

@@ -2,3 +2,4 @@
 #![tactic(auto)]
 
 pub mod alarm;
+pub mod pool;

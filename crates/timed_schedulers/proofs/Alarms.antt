@@ -1,13 +1,15 @@
 -- The rounds of a process that waits for its setting, and whom its signal resumes.
-use Rattle.std.proofs.Common.{◌≡◌, ◌≢◌, ℕ, suc, ◌+◌, ◌^◌, ◌<◌, ◌≤◌, List, [], ◌∷◌, true, false, cond, leb, ◌⊎◌, ⊎_elim, Ok, Bool, ◌∙◌, arith}
+use Rattle.std.proofs.Common.{◌≡◌, ◌≢◌, ℕ, ◌+◌, ◌^◌, ◌<◌, ◌≤◌, List, [], ◌⊎◌, ⊎_elim, Ok, Bool, ◌∙◌, arith}
 use Rattle.std.specs.Prelude.{All, slice_index}
 use Rattle.std.specs.List.Sorted.{IsNonDecreasing}
-use Rattle.std.proofs.lemmas.List.Elements.{All-cons, All-head, All-tail, All-weaker}
+use Rattle.std.proofs.lemmas.List.Elements.{All-weaker}
 use Rattle.hoare_law.specs.declared.event.History.{History}
 use Rattle.hoare_law.specs.declared.event.Event.TheVariants.{Admit, Wait, Resume}
 use Rattle.hoare_law.specs.Priorities.{put_in, behind_first}
 use Rattle.hoare_law.specs.Growth.{AddsLast, AddsTwo, Exits}
 use Rattle.hoare_law.proofs.Growth.{Finishes-exit}
+use Rattle.hoare_law.proofs.Joined.{length-some}
+use Rattle.hoare_law.proofs.Sorted.{All-put_in, All-behind_first}
 use Rattle.timed_schedulers.specs.AlarmTraces.{Rounds, none, more, Wakes, woke}
 use Rattle.timed_schedulers.specs.Alarms.{AlarmReady}
 
@@ -33,14 +35,6 @@ Waited-more {now = now} {found = found} {g = g} {h = h} w early waits place stat
   rounds = more g h found now w.rounds early (rw (place, state, front) at waits);
 }
 
-pub All-put_in : (P : ℕ → Type 0) (p : ℕ) (q : List ℕ) → P p → All P q → All P (put_in (λ n. n) p q)
-All-put_in P p [] here all = All-cons P p [] here all
-All-put_in P p (x ∷ q) here all =
-    elim (leb x p) as (λ b. All P (cond b (x ∷ put_in (λ n. n) p q) (p ∷ x ∷ q))) [
-      | true ↦ All-cons P x (put_in (λ n. n) p q) (All-head P x q all) (All-put_in P p q here (All-tail P x q all))
-      | false ↦ All-cons P p (x ∷ q) here all
-    ]
-
 -- before the setting, who waits is due later than the time, and so is the setting
 pub Early-before : {setting now : ℕ} {q : List ℕ} → Early setting now q → now < setting → All (λ r. now < r) (put_in (λ n. n) setting q)
 Early-before {setting = setting} {now = now} {q = q} e before = All-put_in (λ r. now < r) setting q before
@@ -50,13 +44,17 @@ Early-before {setting = setting} {now = now} {q = q} e before = All-put_in (λ r
 pub Early-after : {setting now : ℕ} {q : List ℕ} → Early setting now q → All (λ r. now ≤ r) q
 Early-after {setting = setting} {now = now} {q = q} e =
     let due : now ≤ setting = e.due in
-    ⊎_elim (λ all. All-weaker (λ r. now < r) (λ r. now ≤ r) (λ x l. omega arith) q all) (λ all. All-weaker (λ r. setting ≤ r) (λ r. now ≤ r) (λ x l. omega arith) q all) e.others
+    ⊎_elim
+    (λ all. All-weaker (λ r. now < r) (λ r. now ≤ r) (λ x l. omega arith) q all)
+    (λ all. All-weaker (λ r. setting ≤ r) (λ r. now ≤ r) (λ x l. omega arith) q all)
+    e.others
 
 -- where nobody who waits is overdue, the first is due no later than the others
-pub AlarmReady-first : {now now1 : ℕ} {l l1 : List ℕ} → IsNonDecreasing l → All (λ r. now ≤ r) l → now1 ≡ now → l1 ≡ l → l1 ≢ [] → AlarmReady (slice_index l1 0) now1 (behind_first l1)
-AlarmReady-first {l = []} rises all time same some = absurd (some same)
-AlarmReady-first {now = now} {l = x ∷ l} rises all time same some =
-    rw (time, same) (record { due = All-head (λ r. now ≤ r) x l all; first = λ k d below. rises 0 (suc k) d (omega arith) (omega arith) })
+pub AlarmReady-first : {now now1 : ℕ} {q q1 : List ℕ} → IsNonDecreasing q → All (λ r. now ≤ r) q → now1 ≡ now → q1 ≡ q → q1 ≢ []
+    → AlarmReady (slice_index q1 0) now1 (behind_first q1)
+AlarmReady-first {now = now} {q = q} rises all time same some =
+    let waits : q ≢ [] = λ none. some (same ∙ none) in
+    rw (time, same) (record { due = all 0 0 (length-some q waits); first = All-behind_first q rises waits })
 
 -- at its setting it signals and leaves
 pub woken : {k k1 n a setting found answer s : ℕ} {f g g1 h : History ℕ} {b : Bool} → Waited k setting a f g found → setting ≡ a + n → found ≡ setting

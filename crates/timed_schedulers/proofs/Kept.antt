@@ -1,11 +1,12 @@
 -- How a pool is kept after a buffer's owner changed, and which free buffer is the least.
 use Rattle.std.proofs.Common.{◌≡◌, ◌≢◌, ◌==◌, ℕ, suc, ◌+◌, ◌<◌, ◌≤◌, Bool, true, false, not, cond, List, [], ◌∷◌, length, get_or, set, Option, Some, None, inl, inr, refl, sym, ap, subst, ◌∙◌, arith}
 use Rattle.std.specs.Prelude.{IfSome, is_none, All}
-use Rattle.std.specs.List.{count_by, sum_by, position, position_or_len, prefix_len}
+use Rattle.std.specs.List.{count_by, position, position_or_len, prefix_len}
 use Rattle.std.proofs.lemmas.Bool.{cases_eq, cases_order, eq-eqb, ne_eqb, lt-ltb}
 use Rattle.std.proofs.lemmas.List.{get_or-set_same, get_or-set_other, length-set}
 use Rattle.std.proofs.lemmas.List.Elements.{All-set}
-use Rattle.std.proofs.lemmas.List.Sums.{sum_by-set, sum_by-cons, get_or-le-sum_by, count_by-le-length, passes_at_first, fails_before_first}
+use Rattle.std.proofs.lemmas.List.Quantifiers.{position-Some}
+use Rattle.std.proofs.lemmas.List.Sums.{sum_by-cons, get_or-le-sum_by, count_by-le-length, passes_at_first, fails_before_first}
 use Rattle.timed_schedulers.specs.Pools.{is_own}
 use Rattle.timed_schedulers.proofs.Pools.{one_if, count_by-set}
 use Rattle.timed_schedulers.specs.Marks.{mark_of, owned, IsKept}
@@ -27,35 +28,27 @@ owned-some : (o : Option ℕ) → is_none o ≡ false → owned o ≡ 1
 owned-some None is = cc
 owned-some (Some s) is = refl
 
--- b is the first free buffer
-pub record IsFirstFree (owners : List (Option ℕ)) (b : ℕ) : Type 0 where
-  pub first : position is_none owners ≡ Some b
-  pub within : b < length owners
-  pub free : get_or owners b None ≡ None
-
-IsFirstFree-position : (owners : List (Option ℕ)) (b : ℕ) → position_or_len is_none owners ≡ b → b < length owners → IsFirstFree owners b
-IsFirstFree-position owners b is within =
-    let before : position_or_len is_none owners < length owners = omega arith in
-    record {
-      first = rw (lt-ltb (position_or_len is_none owners) (length owners) before, is) refl;
-      within = within;
-      free = rw is at (is_none-None _ (passes_at_first is_none owners None before));
-    }
+-- the first free buffer is a buffer, and free
+pub free_first : (owners : List (Option ℕ)) {b : ℕ} → position is_none owners ≡ Some b → (b < length owners) × (get_or owners b None ≡ None)
+free_first owners {b = b} first =
+    let there = position-Some is_none owners b None first in
+    (there.0, is_none-None _ there.1)
 
 -- where a buffer is free, the least number with no mark is that of the first free one
-pub IsFirstFree-unmarked : {owners : List (Option ℕ)} {counts words read : List ℕ} {free b : ℕ} → IsKept owners counts free words → 0 < count_by is_none owners
-    → read ≡ words → mark_of read b ≡ 0 → ((i : ℕ) → i < b → mark_of read i ≡ 1) → IsFirstFree owners b
-IsFirstFree-unmarked {owners = owners} {words = words} {b = b} kept some same unmarked least =
+pub first_unmarked : {owners : List (Option ℕ)} {counts words read : List ℕ} {free b : ℕ} → IsKept owners counts free words → 0 < count_by is_none owners
+    → read ≡ words → mark_of read b ≡ 0 → ((i : ℕ) → i < b → mark_of read i ≡ 1) → position is_none owners ≡ Some b
+first_unmarked {owners = owners} {words = words} {b = b} kept some same unmarked least =
     let first = position_or_len is_none owners in
     let within : first < length owners = some_passes is_none owners some in
     let free : mark_of words first ≡ 0 = kept.marked first within ∙ ap owned (is_none-None _ (passes_at_first is_none owners None within)) in
     let below : (i : ℕ) → i < b → mark_of words i ≡ 1 = rw same at least in
     let here : mark_of words b ≡ 0 = rw same at unmarked in
-    elim (cases_order first b) [
-      | inl is ↦ IsFirstFree-position owners b is (omega arith)
+    let is : first ≡ b = elim (cases_order first b) [
+      | inl equal ↦ equal
       | inr (inl before) ↦ absurd (let marked = below first before in omega arith)
       | inr (inr after) ↦ absurd (let marked : mark_of words b ≡ 1 = kept.marked b (omega arith) ∙ owned-some _ (fails_before_first is_none owners b None after) in omega arith)
-    ]
+    ] in
+    rw (lt-ltb first (length owners) within, is) refl
 
 -- no stream holds more than all buffers
 pub IsKept-few : {owners : List (Option ℕ)} {counts words : List ℕ} {free : ℕ} (s : ℕ) → IsKept owners counts free words → get_or counts s 0 ≤ 1024
@@ -104,9 +97,10 @@ IsKept-own {counts = counts} {s = s} n kept within is stream more told_free as_l
 -- the owner of b is a stream, and holds a buffer
 pub IsKept-owner : {owners : List (Option ℕ)} {counts words : List ℕ} {free b s : ℕ} → IsKept owners counts free words → b < length owners
     → get_or owners b None ≡ Some s → (s < length counts) × (1 ≤ get_or counts s 0)
-IsKept-owner {owners = owners} {counts = counts} {b = b} {s = s} kept within is =
-    (rw is at (kept.streams b None within),
-     omega (arith, kept.counted s, rw (is, eq-eqb s s refl) at (get_or-le-sum_by (one_if (is_own s)) owners b None within)))
+IsKept-owner {owners = owners} {counts = counts} {b = b} {s = s} kept within is = (
+  rw is at (kept.streams b None within),
+  omega (arith, kept.counted s, rw (is, eq-eqb s s refl) at (get_or-le-sum_by (one_if (is_own s)) owners b None within)),
+)
 
 -- b became free
 pub IsKept-free : {owners : List (Option ℕ)} {counts words words1 : List ℕ} {free free1 b s : ℕ} (n : ℕ) → IsKept owners counts free words → b < length owners

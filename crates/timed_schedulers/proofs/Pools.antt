@@ -1,5 +1,5 @@
 -- What holds of a pool after a buffer was taken or became free, and what a stream found that took one.
-use Rattle.std.proofs.Common.{◌≡◌, ◌≢◌, ℕ, ◌+◌, ◌<◌, ◌≤◌, Bool, true, false, cond, List, [], length, get_or, set, Option, Some, None, Ok, Err, refl, sym, ap, ◌∙◌, arith}
+use Rattle.std.proofs.Common.{◌≡◌, ◌≢◌, ℕ, ◌+◌, ◌<◌, ◌≤◌, Bool, true, false, cond, List, [], length, get_or, set, Option, Some, None, Err, ◌∙◌, arith}
 use Rattle.std.specs.Prelude.{IfSome, is_none, ◌↔◌}
 use Rattle.std.specs.List.{count_by, position}
 use Rattle.std.proofs.lemmas.Bool.{iff_false}
@@ -12,7 +12,7 @@ use Rattle.hoare_law.specs.declared.event.Event.TheVariants.{Admit, Wait, Resume
 use Rattle.hoare_law.specs.Priorities.{behind_first}
 use Rattle.hoare_law.specs.Growth.{AddsLast, AddsTwo, Finishes}
 use Rattle.timed_schedulers.specs.Pools.{Pooled, PoolHolds, PoolRests, PoolReady, with_owner, free_count, held}
-use Rattle.timed_schedulers.specs.PoolTraces.{Takes, late, MustWait}
+use Rattle.timed_schedulers.specs.PoolTraces.{Takes, late}
 use Rattle.timed_schedulers.specs.declared.pool.NoStream.{NoStream}
 
 -- 1 where the test passes

@@ -3,3 +3,5 @@
 
 pub mod alarm;
 pub mod pool;
+#[cfg(test)]
+mod tests;

@@ -66,6 +66,14 @@ impl Pool {
         self.held[stream as usize]
     }
 
+    // The least-numbered free buffer.
+    fn least_free(&self) -> usize
+        requires { 0 < free_count self.now }
+        ensures { position is_none self.now.owners ≡ Some result }
+    {
+        least_unmarked(&self.words)
+    }
+
     // Gives the least-numbered free buffer to the stream, and answers its number.
     pub(super) fn own_least(&mut self, stream: u32) -> u32
         requires stream { stream < self.old.streams }
@@ -73,7 +81,7 @@ impl Pool {
         ensures least { position is_none self.old.owners ≡ Some result }
         ensures owned { self.new ≡ with_owner self.old result (Some stream) }
     {
-        let buffer = least_unmarked(&self.words);
+        let buffer = self.least_free();
         self.owners[buffer] = Some(stream);
         self.held[stream as usize] += 1;
         self.free -= 1;

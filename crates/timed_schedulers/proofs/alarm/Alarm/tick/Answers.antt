@@ -5,7 +5,9 @@ use Rattle.timed_schedulers.proofs.Alarms.{AlarmReady-first}
 use Rattle.timed_schedulers.proofs.alarm.Alarm.tick.Goals as goal
 
 pub returns-then-time-clause-trace : goal.returns-then-time-clause-trace
-returns-then-time-clause-trace g c = full _ _ _ c.enter-inside.ensures.front (omega (arith, c.time.ensures, c.state.ensures, c.if-time.true)) (leaves-as c.leave.ensures.front (search rules) (search rules) (search rules))
+returns-then-time-clause-trace g c = full _ _ _ c.enter-inside.ensures.front
+    (omega (arith, c.time.ensures, c.state.ensures, c.if-time.true))
+    (leaves-as c.leave.ensures.front (search rules) (search rules) (search rules))
 
 pub signal_leave-out-requires-clause-ready : goal.signal_leave-out-requires-clause-ready
 signal_leave-out-requires-clause-ready g c = AlarmReady-first (g.met.M.Monitor.rise _ _ 0 c.enter-inside.ensures.of) c.enter-inside.ensures.rest (search rules) (search rules)

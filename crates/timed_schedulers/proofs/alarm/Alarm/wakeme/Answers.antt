@@ -5,7 +5,9 @@ use Rattle.timed_schedulers.proofs.Alarms.{Waited-none, Waited-more, Early-befor
 use Rattle.timed_schedulers.proofs.alarm.Alarm.wakeme.Goals as goal
 
 pub returns-in_default-clause-trace : goal.returns-in_default-clause-trace
-returns-in_default-clause-trace g c = too_far _ _ _ c.enter-inside.ensures.front (omega (arith, c.time-start.ensures, c.state.ensures, c.in_default.ensures)) (leaves-as c.leave.ensures.front (search rules) (search rules) (search rules))
+returns-in_default-clause-trace g c = too_far _ _ _ c.enter-inside.ensures.front
+    (omega (arith, c.time-start.ensures, c.state.ensures, c.in_default.ensures))
+    (leaves-as c.leave.ensures.front (search rules) (search rules) (search rules))
 
 pub rounds-init : goal.rounds-init
 rounds-init g c = record {
@@ -19,7 +21,11 @@ pub signal_leave-out-requires-clause-ready : goal.signal_leave-out-requires-clau
 signal_leave-out-requires-clause-ready g c = AlarmReady-first (g.met.M.Monitor.rise _ _ 0 c.rounds.invariant.of) (Early-after c.rounds.invariant.early) refl refl
 
 pub returns-then-now-setting-clause-trace : goal.returns-then-now-setting-clause-trace
-returns-then-now-setting-clause-trace g c = woken c.rounds.invariant.waited (omega (arith, c.in-Some.ensures)) (omega (arith, c.rounds.invariant.early.due, c.time-now.ensures, c.state-in-rounds.ensures)) (search rules) (omega arith) c.signal_leave-out.ensures.front (search rules) (search rules) (search rules)
+returns-then-now-setting-clause-trace g c = woken c.rounds.invariant.waited
+    (omega (arith, c.in-Some.ensures))
+    (omega (arith, c.rounds.invariant.early.due, c.time-now.ensures, c.state-in-rounds.ensures))
+    (search rules) (omega arith)
+    c.signal_leave-out.ensures.front (search rules) (search rules) (search rules)
 
 pub wait-inside-requires-clause-rest : goal.wait-inside-requires-clause-rest
 wait-inside-requires-clause-rest g c = Early-before c.rounds.invariant.early (omega (arith, c.time-now.ensures, c.state-in-rounds.ensures))

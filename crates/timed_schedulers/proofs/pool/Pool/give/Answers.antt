@@ -1,4 +1,4 @@
-use Rattle.std.proofs.Common.{rules, arith}
+use Rattle.std.proofs.Common.{rules}
 use Rattle.hoare_law.proofs.Growth.{leaves-as, Finishes-exit}
 use Rattle.timed_schedulers.specs.PoolTraces.{refused, gave}
 use Rattle.timed_schedulers.proofs.Pools.{PoolReady-freed}

@@ -1,4 +1,4 @@
-use Rattle.std.proofs.Common.{rules, arith}
+use Rattle.std.proofs.Common.{arith}
 use Rattle.timed_schedulers.specs.Pools.{bad_size, no_memory, made}
 use Rattle.timed_schedulers.proofs.pool.Pool.make.Goals as goal
 

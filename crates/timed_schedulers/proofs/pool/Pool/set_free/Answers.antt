@@ -1,4 +1,4 @@
-use Rattle.std.proofs.Common.{rules, refl, sym, ◌∙◌, arith}
+use Rattle.std.proofs.Common.{refl, arith}
 use Rattle.std.proofs.lemmas.List.{get_or_read}
 use Rattle.timed_schedulers.proofs.Kept.{IsKept-owner, IsKept-free}
 use Rattle.timed_schedulers.proofs.pool.Pool.set_free.Goals as goal
@@ -14,4 +14,4 @@ invariant_of-self c =
     let held = rw (← c.self.view_is) at c.requires.held in
     let owner = IsKept-owner c.self.invariant within held in
     IsKept-free _ c.self.invariant within held (omega (arith, owner.1, get_or_read c.self.inside.held.items _ _ owner.0 c.index_mut-2.ensures.value 0))
-      refl c.unmark.ensures.length c.unmark.ensures.unmarked c.unmark.ensures.others
+    refl c.unmark.ensures.length c.unmark.ensures.unmarked c.unmark.ensures.others

@@ -44,9 +44,9 @@ pub enum GiveRefused {
     NotHeld,
 }
 
-/// Buffers that streams of work share ("Monitors", Introduction and Scheduled Waits: the allocation of buffers to streams; the
-/// details are this project's). Condition 0 is *nonfree*; a stream waits there with the number of buffers that it holds as its
-/// priority, so that who holds the fewest goes on first.
+/// Buffers that streams of work share ("Monitors", Further Examples: Buffer Allocation; the details are this project's). Condition 0
+/// is *nonfree*; a stream waits there with the number of buffers that it holds as its priority, so that who holds the fewest goes
+/// on first. The pool keeps which buffers are whose, and not the buffers.
 #[derive(Drop)]
 pub struct Pool {
     owners: Vec<Option<u32>>,

@@ -1,0 +1,181 @@
+mod marks;
+mod owners;
+
+ghost use Rattle.std.specs.Prelude.{◌≡◌, ◌<◌, IfOk};
+ghost use Rattle.hoare_law.specs.Priorities.{nobody};
+ghost use Rattle.timed_schedulers.specs.Pools.{PoolRests, Makes, Judges};
+ghost use Rattle.timed_schedulers.specs.PoolTraces.{Takes, Gives};
+
+use hoare_law::data::MonitorData;
+use hoare_law::monitor::Monitor;
+use hoare_law::waits::Waits;
+use std::alloc::Global;
+use std::marker::Model;
+use std::sync::Wait;
+
+/// The most buffers that a pool has.
+pub const MOST_BUFFERS: u32 = 1024;
+
+/// The most streams that a pool has.
+pub const MOST_STREAMS: u32 = 256;
+
+/// Why no pool was made.
+#[derive(Clone, Copy, Debug, PartialEq, Eq, thiserror::Error)]
+pub enum PoolRefused {
+    #[error("a pool has 1 to 1024 buffers and 1 to 256 streams")]
+    BadSize,
+    #[error("out of memory")]
+    Memory,
+}
+
+/// The number isn't that of a stream.
+#[derive(Clone, Copy, Debug, PartialEq, Eq, thiserror::Error)]
+#[error("no such stream")]
+pub struct NoStream;
+
+/// Why no buffer became free, the first of these that applies.
+#[derive(Clone, Copy, Debug, PartialEq, Eq, thiserror::Error)]
+pub enum GiveRefused {
+    #[error("no such stream")]
+    NoStream,
+    #[error("no such buffer")]
+    NoBuffer,
+    #[error("the stream doesn't hold the buffer")]
+    NotHeld,
+}
+
+/// Buffers that streams of work share ("Monitors", Further Examples: Buffer Allocation; the details are this project's). Condition 0
+/// is *nonfree*; a stream waits there with the number of buffers that it holds as its priority, so that who holds the fewest goes
+/// on first. The pool keeps which buffers are whose, and not the buffers.
+#[derive(Drop)]
+pub struct Pool {
+    owners: Vec<Option<u32>>,
+    held: Vec<u32>,
+    free: usize,
+    words: Vec<u64>,
+}
+
+impl Model for Pool {
+    ghost use Rattle.std.specs.Prelude.{length};
+    ghost use Rattle.timed_schedulers.specs.Pools.{Pooled};
+    ghost use Rattle.timed_schedulers.specs.Marks.{IsKept};
+
+    ghost Value = { Pooled };
+
+    ghost view = { λ p. record { streams = length p.held.items; owners = p.owners.items } };
+
+    ghost invariant = { λ p. IsKept p.owners.items p.held.items p.free p.words.items };
+}
+
+impl MonitorData for Pool {
+    ghost use Rattle.timed_schedulers.specs.Pools.{PoolHolds, PoolRests, PoolReady};
+
+    const CONDITIONS: usize = 1;
+
+    ghost CONDITIONS = { 1 };
+
+    ghost inv = { λ p. PoolHolds p };
+
+    ghost rest = { λ p q. PoolRests p (q 0) };
+
+    ghost ready = { λ c n p q. PoolReady p (q 0) };
+
+    fn rest_holds<W: Waits>(&self, lists: &W) -> bool {
+        let free = self.free();
+        lists.count(0) == 0 || free == 0
+    }
+
+    fn ready_holds<W: Waits>(&self, condition: usize, priority: u64, lists: &W) -> bool {
+        let free = self.free();
+        free > 0 && (lists.count(0) == 0 || free == 1)
+    }
+
+    ghost rest_inv = { λ p q h. h.inv };
+
+    ghost ready_inv = { λ c n p q h. h.inv };
+}
+
+impl Pool {
+    /// A pool of 1 to 1024 buffers, all free, for 1 to 256 streams. Refused: `BadSize` exactly where a number is out of range, and
+    /// else `Memory` where the entries can't be had. No procedure takes memory.
+    pub fn make(alloc: Global, buffers: u32, streams: u32) -> Result<Pool, PoolRefused>
+        ensures made { Makes buffers streams result }
+        ensures rest { IfOk result (λ p. PoolRests p (nobody 0)) }
+    {
+        if buffers == 0 || buffers > MOST_BUFFERS || streams == 0 || streams > MOST_STREAMS {
+            return Err(PoolRefused::BadSize);
+        }
+        match Pool::all_free(alloc, buffers as usize, streams as usize) {
+            Ok(pool) => Ok(pool),
+            Err(_) => Err(PoolRefused::Memory),
+        }
+    }
+
+    // Whether the stream may give the buffer back.
+    fn judge(&self, stream: u32, buffer: u32) -> Result<(), GiveRefused>
+        ensures { Judges stream buffer self.now result }
+    {
+        if !self.has_stream(stream) {
+            Err(GiveRefused::NoStream)
+        } else if !self.has_buffer(buffer) {
+            Err(GiveRefused::NoBuffer)
+        } else if !self.is_held(stream, buffer) {
+            Err(GiveRefused::NotHeld)
+        } else {
+            Ok(())
+        }
+    }
+
+    /// Takes the least-numbered free buffer for the stream, once one is free, and answers its number. Refused exactly where the
+    /// number isn't that of a stream: at once, or after a wait, where meanwhile another pool was put in this one's place; then the
+    /// monitor is handed on.
+    pub fn take<R: Wait, M: Monitor<Pool>>(
+        m: &M,
+        rt: &R,
+        out: M::Out,
+        stream: u32,
+    ) -> (M::Out, Result<u32, NoStream>)
+        requires { M.is_of m.now out }
+        ensures of { M.is_of m.now result.0 }
+        ensures place { M.place result.0 ≡ M.place out }
+        ensures trace { Takes (M.place out) stream (M.front out) (M.front result.0) result.1 }
+    {
+        let mut inside = m.enter(rt, out);
+        if !m.state(&inside).has_stream(stream) {
+            return (m.leave(rt, inside), Err(NoStream));
+        }
+        if m.state(&inside).free() == 0 {
+            let held = m.state(&inside).held(stream);
+            inside = m.wait(rt, inside, 0, u64::from(held));
+            if !m.state(&inside).has_stream(stream) {
+                let (out, _resumed) = m.signal_leave(rt, inside, 0);
+                return (out, Err(NoStream));
+            }
+        }
+        let buffer = M::state_mut(&mut inside, m).own_least(stream);
+        (m.leave(rt, inside), Ok(buffer))
+    }
+
+    /// Makes a buffer free that the stream holds, and resumes a process that waits for one. Refused, with nothing changed, by the
+    /// first that applies: `NoStream`, `NoBuffer`, and `NotHeld` where the buffer is free or another stream's.
+    pub fn give<R: Wait, M: Monitor<Pool>>(
+        m: &M,
+        rt: &R,
+        out: M::Out,
+        stream: u32,
+        buffer: u32,
+    ) -> (M::Out, Result<(), GiveRefused>)
+        requires { M.is_of m.now out }
+        ensures of { M.is_of m.now result.0 }
+        ensures place { M.place result.0 ≡ M.place out }
+        ensures trace { Gives (M.place out) stream buffer (M.front out) (M.front result.0) result.1 }
+    {
+        let mut inside = m.enter(rt, out);
+        if let Err(refused) = m.state(&inside).judge(stream, buffer) {
+            return (m.leave(rt, inside), Err(refused));
+        }
+        M::state_mut(&mut inside, m).set_free(stream, buffer);
+        let (out, _resumed) = m.signal_leave(rt, inside, 0);
+        (out, Ok(()))
+    }
+}

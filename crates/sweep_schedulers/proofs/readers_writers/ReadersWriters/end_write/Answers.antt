@@ -1,0 +1,17 @@
+use Rattle.std.proofs.Common.{◌≡◌, rules}
+use Rattle.hoare_law.proofs.Growth.{leaves-as, Finishes-exit}
+use Rattle.sweep_schedulers.specs.ReadersWritersTraces.{to_readers, to_writers, refused}
+use Rattle.sweep_schedulers.proofs.Lists.{none_told}
+use Rattle.sweep_schedulers.proofs.readers_writers.ReadersWriters.end_write.Goals as goal
+use Rattle.sweep_schedulers.proofs.readers_writers.ReadersWriters.end_write.Goals.{then-queue, else-queue}
+
+pub returns-then-not-is_busy-clause-trace : goal.returns-then-not-is_busy-clause-trace
+returns-then-not-is_busy-clause-trace g c = refused _ _ c.enter-inside.ensures.front (search rules) (leaves-as c.leave.ensures.front (search rules) (search rules) (search rules))
+
+pub returns-clause-trace : goal.returns-clause-trace
+returns-clause-trace g c =
+    let front : g.M.Monitor.front_in (g.M.Monitor.with_data c.enter-inside.result c.write.new.self) ≡ g.M.Monitor.front_in c.enter-inside.result = search rules in
+    elim c.if-queue.branch [
+      | then-queue w ↦ to_readers _ _ c.enter-inside.ensures.front (search rules) (search rules) (Finishes-exit (rw w.next-is at c.signal_leave-out.ensures.front) (search rules) (search rules) (search rules))
+      | else-queue w ↦ to_writers _ _ c.enter-inside.ensures.front (search rules) (rw (← front) (none_told _ _ c.queue.ensures.front.1 (search rules))) (Finishes-exit (rw w.next-is at c.signal_leave-out.ensures.front) (search rules) (search rules) (search rules))
+    ]

@@ -1,0 +1,8 @@
+//! Schedulers that sweep, over any monitor: a disk head, and readers and writers.
+#![tactic(auto)]
+
+pub mod direction;
+pub mod head;
+pub mod not_out;
+pub mod readers_writers;
+mod waiting;

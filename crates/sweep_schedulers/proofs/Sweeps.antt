@@ -8,11 +8,12 @@ use Rattle.hoare_law.specs.declared.event.History.{History}
 use Rattle.hoare_law.specs.declared.event.Event.TheVariants.{Wait, Resume}
 use Rattle.hoare_law.specs.Growth.{AddsTwo}
 use Rattle.hoare_law.specs.Priorities.{put_in, behind_first, joined, taken}
+use Rattle.hoare_law.proofs.Sorted.{All-put_in, All-behind_first}
 use Rattle.sweep_schedulers.specs.declared.direction.Direction.{Direction}
 use Rattle.sweep_schedulers.specs.declared.direction.Direction.TheVariants.{Up, Down}
 use Rattle.sweep_schedulers.specs.Heads.{Disk, sweep, opposite, turned, sent, toward, priority_at, HeadHolds, OnSweeps, HeadRests, HeadReady, HeadFree}
 use Rattle.sweep_schedulers.specs.HeadTraces.{Reaches, waited, HandsOn}
-use Rattle.sweep_schedulers.proofs.Lists.{All-put_in, All-behind_first, All-first, first_is_least}
+use Rattle.sweep_schedulers.proofs.Lists.{All-others, All-first}
 
 -- dest lies before the head in this direction
 abbrev IsAhead : {T : Type 0} → Disk T → Direction → ℕ → Type 0
@@ -68,30 +69,34 @@ module _ {T : Type 0} {d : Disk T} (lists : ℕ → List ℕ) where
   first_by : (dir : Direction) → d.direction ≡ dir → ((i : ℕ) → IsNonDecreasing (lists i)) → lists (sweep dir) ≢ [] → HeadFree d (lists 0) (lists 1)
       → HeadReady (sweep dir) (slice_index (lists (sweep dir)) 0) d (taken lists (sweep dir) 0) (taken lists (sweep dir) 1)
   first_by Up is rise some f = record {
-    inv = f.inv;
-    is_in = f.is_in;
-    sweeps = record {
-      ups_on_disk = All-behind_first (λ p. p ≤ d.cylmax) (lists 0) f.sweeps.ups_on_disk;
-      downs_on_disk = f.sweeps.downs_on_disk;
-      above = All-behind_first (λ p. d.headpos ≤ p) (lists 0) f.sweeps.above;
-      below = f.sweeps.below;
+    free = record {
+      inv = f.inv;
+      is_in = f.is_in;
+      sweeps = record {
+        ups_on_disk = All-others (λ p. p ≤ d.cylmax) (lists 0) f.sweeps.ups_on_disk;
+        downs_on_disk = f.sweeps.downs_on_disk;
+        above = All-others (λ p. d.headpos ≤ p) (lists 0) f.sweeps.above;
+        below = f.sweeps.below;
+      };
     };
     on_disk = All-first (λ p. p ≤ d.cylmax) (lists 0) some f.sweeps.ups_on_disk;
-    first = first_is_least (lists 0) (rise 0);
+    first = All-behind_first (lists 0) (rise 0) some;
     direction = is;
     above = All-first (λ p. d.headpos ≤ p) (lists 0) some f.sweeps.above;
   }
   first_by Down is rise some f = record {
-    inv = f.inv;
-    is_in = f.is_in;
-    sweeps = record {
-      ups_on_disk = f.sweeps.ups_on_disk;
-      downs_on_disk = All-behind_first (λ p. p ≤ d.cylmax) (lists 1) f.sweeps.downs_on_disk;
-      above = f.sweeps.above;
-      below = All-behind_first (λ p. d.cylmax - p ≤ d.headpos) (lists 1) f.sweeps.below;
+    free = record {
+      inv = f.inv;
+      is_in = f.is_in;
+      sweeps = record {
+        ups_on_disk = f.sweeps.ups_on_disk;
+        downs_on_disk = All-others (λ p. p ≤ d.cylmax) (lists 1) f.sweeps.downs_on_disk;
+        above = f.sweeps.above;
+        below = All-others (λ p. d.cylmax - p ≤ d.headpos) (lists 1) f.sweeps.below;
+      };
     };
     on_disk = All-first (λ p. p ≤ d.cylmax) (lists 1) some f.sweeps.downs_on_disk;
-    first = first_is_least (lists 1) (rise 1);
+    first = All-behind_first (lists 1) (rise 1) some;
     direction = is;
     below = All-first (λ p. d.cylmax - p ≤ d.headpos) (lists 1) some f.sweeps.below;
   }
@@ -110,10 +115,10 @@ module _ {T : Type 0} (found : Disk T) {ups downs : List ℕ} where
     up_busy = λ some. refl;
     down_busy = λ some. refl;
     sweeps = record {
-      ups_on_disk = r.sweeps.ups_on_disk;
-      downs_on_disk = r.sweeps.downs_on_disk;
+      ups_on_disk = r.free.sweeps.ups_on_disk;
+      downs_on_disk = r.free.sweeps.downs_on_disk;
       above = r.first;
-      below = All-weaker (λ p. found.cylmax - p ≤ found.headpos) (λ p. found.cylmax - p ≤ dest) (λ p l. omega (arith, r.above)) downs r.sweeps.below;
+      below = All-weaker (λ p. found.cylmax - p ≤ found.headpos) (λ p. found.cylmax - p ≤ dest) (λ p l. omega (arith, r.above)) downs r.free.sweeps.below;
     };
   }
   granted_by Down dest cylmax on same r = record {
@@ -121,9 +126,9 @@ module _ {T : Type 0} (found : Disk T) {ups downs : List ℕ} where
     up_busy = λ some. refl;
     down_busy = λ some. refl;
     sweeps = record {
-      ups_on_disk = r.sweeps.ups_on_disk;
-      downs_on_disk = r.sweeps.downs_on_disk;
-      above = All-weaker (λ p. found.headpos ≤ p) (λ p. dest ≤ p) (λ p l. omega (arith, r.below)) ups r.sweeps.above;
+      ups_on_disk = r.free.sweeps.ups_on_disk;
+      downs_on_disk = r.free.sweeps.downs_on_disk;
+      above = All-weaker (λ p. found.headpos ≤ p) (λ p. dest ≤ p) (λ p l. omega (arith, r.below)) ups r.free.sweeps.above;
       below = All-weaker (λ p. cylmax - dest ≤ p) (λ p. found.cylmax - p ≤ dest) (λ p l. omega arith) downs r.first;
     };
   }

@@ -48,7 +48,7 @@ priority_at cylmax Down dest = cylmax - dest
 abbrev pub HeadHolds : {T : Type 0} → Disk T → Type 0
 HeadHolds d = d.headpos ≤ d.cylmax
 
--- who waits for the upsweep waits for a cylinder that lies before the head on the way up, and for the downsweep on the way down
+-- who waits for the upsweep waits for a cylinder that lies before the head on the way up, who waits for the downsweep on the way down
 pub record OnSweeps {T : Type 0} (d : Disk T) (ups downs : List ℕ) : Type 0 where
   pub ups_on_disk : All (λ p. p ≤ d.cylmax) ups
   pub downs_on_disk : All (λ p. p ≤ d.cylmax) downs
@@ -62,11 +62,15 @@ pub record HeadRests {T : Type 0} (d : Disk T) (ups downs : List ℕ) : Type 0 w
   pub down_busy : downs ≢ [] → d.drive ≡ None
   pub sweeps : OnSweeps d ups downs
 
--- who waited for the upsweep finds the drive in and the head sweeping up to it, before the others
-pub record UpReady {T : Type 0} (p : ℕ) (d : Disk T) (ups downs : List ℕ) : Type 0 where
+-- the drive is in, and the cylinder of who waits lies before the head: as the drive is handed on
+pub record HeadFree {T : Type 0} (d : Disk T) (ups downs : List ℕ) : Type 0 where
   pub inv : HeadHolds d
   pub is_in : IsSome d.drive
   pub sweeps : OnSweeps d ups downs
+
+-- who waited for the upsweep finds the drive in and the head sweeping up to it, before the others
+pub record UpReady {T : Type 0} (p : ℕ) (d : Disk T) (ups downs : List ℕ) : Type 0 where
+  pub free : HeadFree d ups downs
   pub on_disk : p ≤ d.cylmax
   pub first : All (λ q. p ≤ q) ups
   pub direction : d.direction ≡ Up
@@ -74,9 +78,7 @@ pub record UpReady {T : Type 0} (p : ℕ) (d : Disk T) (ups downs : List ℕ) : 
 
 -- who waited for the downsweep finds the drive in and the head sweeping down to it, before the others
 pub record DownReady {T : Type 0} (p : ℕ) (d : Disk T) (ups downs : List ℕ) : Type 0 where
-  pub inv : HeadHolds d
-  pub is_in : IsSome d.drive
-  pub sweeps : OnSweeps d ups downs
+  pub free : HeadFree d ups downs
   pub on_disk : p ≤ d.cylmax
   pub first : All (λ q. p ≤ q) downs
   pub direction : d.direction ≡ Down
@@ -89,11 +91,5 @@ HeadReady (suc c) p d ups downs = DownReady p d ups downs
 
 -- ready holds of nothing of which what always holds does not
 pub inv_of_ready : {T : Type 0} (c p : ℕ) (d : Disk T) (ups downs : List ℕ) → HeadReady c p d ups downs → HeadHolds d
-inv_of_ready zero p d ups downs h = h.inv
-inv_of_ready (suc c) p d ups downs h = h.inv
-
--- the drive is in, and who waits waits for a cylinder before the head: so the head is handed on
-pub record HeadFree {T : Type 0} (d : Disk T) (ups downs : List ℕ) : Type 0 where
-  pub inv : HeadHolds d
-  pub is_in : IsSome d.drive
-  pub sweeps : OnSweeps d ups downs
+inv_of_ready zero p d ups downs h = h.free.inv
+inv_of_ready (suc c) p d ups downs h = h.free.inv

@@ -117,12 +117,11 @@ impl<T: Drop> Head<T> {
         ensures sweep { result.0 ≡ sweep (toward dest self.now) }
         ensures priority { result.1 ≡ priority_at self.now.cylmax (toward dest self.now) dest }
     {
-        let direction = if dest > self.headpos {
+        let going_up = self.direction == Direction::Up;
+        let direction = if self.headpos < dest || (self.headpos == dest && going_up) {
             Direction::Up
-        } else if dest < self.headpos {
-            Direction::Down
         } else {
-            self.direction
+            Direction::Down
         };
         match direction {
             Direction::Up => (0, u64::from(dest)),

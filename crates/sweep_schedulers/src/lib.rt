@@ -5,4 +5,6 @@ pub mod direction;
 pub mod head;
 pub mod not_out;
 pub mod readers_writers;
+#[cfg(test)]
+mod tests;
 mod waiting;

@@ -41,9 +41,21 @@ pub struct ReadPass {
     unspent: (),
 }
 
+impl ReadPass {
+    // A pass for a reader that comes in.
+    pub(crate) fn new() -> ReadPass {
+        ReadPass { unspent: () }
+    }
+
+    // The reader goes.
+    pub(crate) fn spend(self) {
+        let ReadPass { unspent: () } = self;
+    }
+}
+
 /// There are 1,024 readers in.
 #[derive(Clone, Copy, Debug, PartialEq, Eq, thiserror::Error)]
-#[error("as many readers are in as may be")]
+#[error("1024 readers are in")]
 pub struct TooManyReaders;
 
 /// No reader is in, so none can end. The pass that was handed in comes back. (It isn't an `Error`: an error may be dropped, and a
@@ -130,7 +142,7 @@ impl<T: Copy> ReadersWriters<T> {
             return Err(TooManyReaders);
         }
         self.readers += 1;
-        Ok((ReadPass { unspent: () }, self.value))
+        Ok((ReadPass::new(), self.value))
     }
 
     // One reader less.
@@ -197,7 +209,7 @@ impl<T: Copy> ReadersWriters<T> {
         if m.state(&inside).readers() == 0 {
             return (m.leave(rt, inside), Err(NoReader { pass }));
         }
-        let ReadPass { unspent: () } = pass;
+        pass.spend();
         M::state_mut(&mut inside, m).dismiss();
         if m.state(&inside).readers() > 0 {
             return (m.leave(rt, inside), Ok(()));

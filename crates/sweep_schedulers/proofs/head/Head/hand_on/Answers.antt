@@ -1,7 +1,7 @@
 use Rattle.std.proofs.Common.{◌≡◌, rules}
 use Rattle.hoare_law.proofs.Growth.{Finishes-exit}
 use Rattle.sweep_schedulers.specs.Heads.{sweep, opposite}
-use Rattle.sweep_schedulers.specs.HeadTraces.{sweeps, turns}
+use Rattle.sweep_schedulers.specs.HeadTraces.{keeps, turns}
 use Rattle.sweep_schedulers.proofs.Lists.{none_told}
 use Rattle.sweep_schedulers.proofs.Sweeps.{HeadReady-first}
 use Rattle.sweep_schedulers.proofs.head.Head.hand_on.Goals as goal
@@ -20,5 +20,5 @@ returns-clause-trace g c =
           turns (rw (← present) (none_told _ _ c.queue.ensures.front.1 (search rules))) (Finishes-exit (rw other at c.signal_leave-out.ensures.front) (search rules) (search rules) (search rules))
       | else-not-queue w ↦
           let same : c.sweep-sweep.result ≡ sweep (g.M.Monitor.data_in c.args.inside).direction = search rules in
-          sweeps (rw (← present) (c.queue.ensures.front.0 (search rules))) (Finishes-exit (rw same at c.signal_leave-out.ensures.front) (search rules) (search rules) (search rules))
+          keeps (rw (← present) (c.queue.ensures.front.0 (search rules))) (Finishes-exit (rw same at c.signal_leave-out.ensures.front) (search rules) (search rules) (search rules))
     ]

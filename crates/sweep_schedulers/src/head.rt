@@ -118,14 +118,10 @@ impl<T: Drop> Head<T> {
         ensures priority { result.1 ≡ priority_at self.now.cylmax (toward dest self.now) dest }
     {
         let going_up = self.direction == Direction::Up;
-        let direction = if self.headpos < dest || (self.headpos == dest && going_up) {
-            Direction::Up
+        if self.headpos < dest || (self.headpos == dest && going_up) {
+            (0, u64::from(dest))
         } else {
-            Direction::Down
-        };
-        match direction {
-            Direction::Up => (0, u64::from(dest)),
-            Direction::Down => (1, u64::from(self.cylmax - dest)),
+            (1, u64::from(self.cylmax - dest))
         }
     }
 
@@ -155,7 +151,7 @@ impl<T: Drop> Head<T> {
 
     // Whether all that wait for a sweep wait for a cylinder before the head.
     fn sweeps_hold<W: Waits>(&self, lists: &W) -> bool
-        ensures { IsTrue result ↔ OnSweeps self.now (W.waiting_priorities lists.now 0) (W.waiting_priorities lists.now 1) }
+        ensures { let q = W.waiting_priorities lists.now in IsTrue result ↔ OnSweeps self.now (q 0) (q 1) }
     {
         let last = u64::from(self.cylmax);
         none_above(lists, 0, last)
@@ -164,9 +160,10 @@ impl<T: Drop> Head<T> {
             && none_below(lists, 1, u64::from(self.cylmax - self.headpos))
     }
 
-    /// Takes the drive out, with the head at `dest`, once the drive is in and no other request is nearer in the sweep. Refused
-    /// exactly where `dest` is past the last cylinder. (If the disk is exchanged for one with another last cylinder
-    /// while the request waits, it is refused too, and hands on what it found.)
+    /// Takes the drive out, with the head at `dest`: at once where the drive is in, else after one wait for the sweep that reaches
+    /// `dest` from where the head is. Refused where `dest` is past the last cylinder: then nothing changed. A caller that has the
+    /// place inside may put another disk in place of the first; a request that waited and finds another last cylinder is
+    /// refused too, even where `dest` would fit, and hands the drive on as a release does.
     pub fn request<R: Wait, M: Monitor<Head<T>>>(
         m: &M,
         rt: &R,

@@ -20,7 +20,8 @@ abbrev IsAhead : {T : Type 0} → Disk T → Direction → ℕ → Type 0
 IsAhead d Up dest = d.headpos ≤ dest
 IsAhead d Down dest = dest ≤ d.headpos
 
-ahead_by : {T : Type 0} (d : Disk T) (dest : ℕ) (low high : Bool) (dir : Direction) → leb d.headpos dest ≡ low → leb dest d.headpos ≡ high → IsAhead d (cond low (cond high dir Up) Down) dest
+ahead_by : {T : Type 0} (d : Disk T) (dest : ℕ) (low high : Bool) (dir : Direction)
+    → leb d.headpos dest ≡ low → leb dest d.headpos ≡ high → IsAhead d (cond low (cond high dir Up) Down) dest
 ahead_by d dest true true Up e f = grind (arith, nat_tests)
 ahead_by d dest true true Down e f = grind (arith, nat_tests)
 ahead_by d dest true false dir e f = grind (arith, nat_tests)
@@ -101,7 +102,8 @@ module _ {T : Type 0} {d : Disk T} (lists : ℕ → List ℕ) where
     below = All-first (λ p. d.cylmax - p ≤ d.headpos) (lists 1) some f.sweeps.below;
   }
 
-  pub HeadReady-first : {d1 : Disk T} {c : ℕ} → HeadFree d (lists 0) (lists 1) → ((i : ℕ) → IsNonDecreasing (lists i)) → d1 ≡ d → c ≡ sweep d1.direction → lists c ≢ []
+  pub HeadReady-first : {d1 : Disk T} {c : ℕ} → HeadFree d (lists 0) (lists 1) → ((i : ℕ) → IsNonDecreasing (lists i)) → d1 ≡ d
+      → c ≡ sweep d1.direction → lists c ≢ []
       → HeadReady c (slice_index (lists c) 0) d (taken lists c 0) (taken lists c 1)
   HeadReady-first {c = c} f rise same is some =
       let on : c ≡ sweep d.direction = rw same at is in
@@ -109,7 +111,8 @@ module _ {T : Type 0} {d : Disk T} (lists : ℕ → List ℕ) where
 
 module _ {T : Type 0} (found : Disk T) {ups downs : List ℕ} where
   -- the head at the cylinder of the one that is granted, which is the first before the head
-  granted_by : (dir : Direction) (dest cylmax : ℕ) → dest ≤ cylmax → found.cylmax ≡ cylmax → HeadReady (sweep dir) (priority_at cylmax dir dest) found ups downs → HeadRests (sent found dest) ups downs
+  granted_by : (dir : Direction) (dest cylmax : ℕ) → dest ≤ cylmax → found.cylmax ≡ cylmax
+      → HeadReady (sweep dir) (priority_at cylmax dir dest) found ups downs → HeadRests (sent found dest) ups downs
   granted_by Up dest cylmax on same r = record {
     inv = omega arith;
     up_busy = λ some. refl;
@@ -118,7 +121,8 @@ module _ {T : Type 0} (found : Disk T) {ups downs : List ℕ} where
       ups_on_disk = r.free.sweeps.ups_on_disk;
       downs_on_disk = r.free.sweeps.downs_on_disk;
       above = r.first;
-      below = All-weaker (λ p. found.cylmax - p ≤ found.headpos) (λ p. found.cylmax - p ≤ dest) (λ p l. omega (arith, r.above)) downs r.free.sweeps.below;
+      below = All-weaker (λ p. found.cylmax - p ≤ found.headpos) (λ p. found.cylmax - p ≤ dest)
+          (λ p l. omega (arith, r.above)) downs r.free.sweeps.below;
     };
   }
   granted_by Down dest cylmax on same r = record {
@@ -134,13 +138,15 @@ module _ {T : Type 0} (found : Disk T) {ups downs : List ℕ} where
   }
 
   -- a request that waited is granted
-  pub HeadRests-granted : {a a1 s1 : Disk T} {c p dest : ℕ} {us ds : List ℕ} → HeadReady c p found ups downs → a1 ≡ a → c ≡ sweep (toward dest a1) → p ≡ priority_at a1.cylmax (toward dest a1) dest
-      → dest ≤ a.cylmax → found.cylmax ≡ a.cylmax → s1 ≡ sent found dest → us ≡ ups → ds ≡ downs → HeadRests s1 us ds
+  pub HeadRests-granted : {a a1 s1 : Disk T} {c p dest : ℕ} {us ds : List ℕ} → HeadReady c p found ups downs → a1 ≡ a
+      → c ≡ sweep (toward dest a1) → p ≡ priority_at a1.cylmax (toward dest a1) dest → dest ≤ a.cylmax → found.cylmax ≡ a.cylmax
+      → s1 ≡ sent found dest → us ≡ ups → ds ≡ downs → HeadRests s1 us ds
   HeadRests-granted {a = a} {dest = dest} r same to with on disk state up down =
       rw (state, up, down) (granted_by (toward dest a) dest a.cylmax on disk (rw (to, with, same) at r))
 
-  nobody_by : (us ds : List ℕ) (dest : ℕ) → us ≡ ups → ds ≡ downs → (found.drive ≡ None → ⊥) → dest ≤ found.cylmax → HeadRests found us ds → HeadRests (sent found dest) us ds
-  nobody_by [] [] dest up down is_in on r = record {
+module _ {T : Type 0} (found : Disk T) where
+  nobody_by : (us ds : List ℕ) (dest : ℕ) → (found.drive ≡ None → ⊥) → dest ≤ found.cylmax → HeadRests found us ds → HeadRests (sent found dest) us ds
+  nobody_by [] [] dest is_in on r = record {
     inv = on;
     up_busy = λ some. refl;
     down_busy = λ some. refl;
@@ -151,17 +157,18 @@ module _ {T : Type 0} (found : Disk T) {ups downs : List ℕ} where
       below = λ k d below. absurd (omega arith);
     };
   }
-  nobody_by (x ∷ us) ds dest up down is_in on r = absurd (is_in (r.up_busy (λ e. cc)))
-  nobody_by [] (x ∷ ds) dest up down is_in on r = absurd (is_in (r.down_busy (λ e. cc)))
+  nobody_by (x ∷ us) ds dest is_in on r = absurd (is_in (r.up_busy (λ e. cc)))
+  nobody_by [] (x ∷ ds) dest is_in on r = absurd (is_in (r.down_busy (λ e. cc)))
 
   -- a request that found the drive in is granted: nobody waited
-  pub HeadRests-at_once : {s1 : Disk T} {dest : ℕ} {us ds : List ℕ} → HeadRests found ups downs → (found.drive ≡ None → ⊥) → dest ≤ found.cylmax
+  pub HeadRests-at_once : {s1 : Disk T} {dest : ℕ} {us ds ups downs : List ℕ} → HeadRests found ups downs → (found.drive ≡ None → ⊥) → dest ≤ found.cylmax
       → s1 ≡ sent found dest → us ≡ ups → ds ≡ downs → HeadRests s1 us ds
-  HeadRests-at_once {dest = dest} r is_in on state up down = rw (state, up, down) (nobody_by ups downs dest refl refl is_in on r)
+  HeadRests-at_once {dest = dest} {ups = ups} {downs = downs} r is_in on state up down = rw (state, up, down) (nobody_by ups downs dest is_in on r)
 
 -- from the clause of a wait to the trace of a request
-pub Reaches-waited : {T : Type 0} {k k1 c p dest : ℕ} {a a1 s1 found : Disk T} {e g1 h : History (Disk T)} → a.drive ≡ None → AddsTwo g1 (Wait k1 c p s1) (Resume k1 c found) h
-    → k1 ≡ k → s1 ≡ a → g1 ≡ e → a1 ≡ a → c ≡ sweep (toward dest a1) → p ≡ priority_at a1.cylmax (toward dest a1) dest → Reaches k dest a e h found
+pub Reaches-waited : {T : Type 0} {k k1 c p dest : ℕ} {a a1 s1 found : Disk T} {e g1 h : History (Disk T)} → a.drive ≡ None
+    → AddsTwo g1 (Wait k1 c p s1) (Resume k1 c found) h → k1 ≡ k → s1 ≡ a → g1 ≡ e → a1 ≡ a
+    → c ≡ sweep (toward dest a1) → p ≡ priority_at a1.cylmax (toward dest a1) dest → Reaches k dest a e h found
 Reaches-waited busy waits place state front same to with = waited _ _ busy (rw (place, state, front, to, with, same) at waits)
 
 -- how the head was handed on, with place, data and front by other names

@@ -145,12 +145,14 @@ impl<T: Copy> ReadersWriters<T> {
         Ok((ReadPass::new(), self.value))
     }
 
-    // One reader less.
-    fn dismiss(&mut self)
+    // One reader less, and how many are left.
+    fn dismiss(&mut self) -> u32
         requires { 0 < self.old.readers }
-        ensures { self.new ≡ with_readers self.old (self.old.readers - 1) }
+        ensures after { self.new ≡ with_readers self.old (self.old.readers - 1) }
+        ensures left { result ≡ self.new.readers }
     {
         self.readers -= 1;
+        self.readers
     }
 
     // A writer comes in, with the value.
@@ -210,8 +212,8 @@ impl<T: Copy> ReadersWriters<T> {
             return (m.leave(rt, inside), Err(NoReader { pass }));
         }
         pass.spend();
-        M::state_mut(&mut inside, m).dismiss();
-        if m.state(&inside).readers() > 0 {
+        let left = M::state_mut(&mut inside, m).dismiss();
+        if left > 0 {
             return (m.leave(rt, inside), Ok(()));
         }
         let (out, _resumed) = m.signal_leave(rt, inside, 1);

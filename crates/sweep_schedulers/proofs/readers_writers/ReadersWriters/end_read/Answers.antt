@@ -4,10 +4,13 @@ use Rattle.sweep_schedulers.specs.ReadersWritersTraces.{no_reader, last, others}
 use Rattle.sweep_schedulers.proofs.readers_writers.ReadersWriters.end_read.Goals as goal
 
 pub returns-then-readers-eq0-clause-trace : goal.returns-then-readers-eq0-clause-trace
-returns-then-readers-eq0-clause-trace g c = no_reader _ _ c.enter-inside.ensures.front (search rules) (leaves-as c.leave.ensures.front (search rules) (search rules) (search rules))
+returns-then-readers-eq0-clause-trace g c =
+    no_reader _ _ c.enter-inside.ensures.front (search rules) (leaves-as c.leave.ensures.front (search rules) (search rules) (search rules))
 
-pub returns-then-readers-gt0-clause-trace : goal.returns-then-readers-gt0-clause-trace
-returns-then-readers-gt0-clause-trace g c = others _ _ c.enter-inside.ensures.front (search rules) (leaves-as c.leave-then-readers-gt0.ensures.front (search rules) (search rules) (search rules))
+pub returns-then-left-gt0-clause-trace : goal.returns-then-left-gt0-clause-trace
+returns-then-left-gt0-clause-trace g c =
+    others _ _ c.enter-inside.ensures.front (search rules) (leaves-as c.leave-then-left-gt0.ensures.front (search rules) (search rules) (search rules))
 
 pub returns-clause-trace : goal.returns-clause-trace
-returns-clause-trace g c = last _ _ c.enter-inside.ensures.front (search rules) (Finishes-exit c.signal_leave-out.ensures.front (search rules) (search rules) (search rules))
+returns-clause-trace g c =
+    last _ _ c.enter-inside.ensures.front (search rules) (Finishes-exit c.signal_leave-out.ensures.front (search rules) (search rules) (search rules))

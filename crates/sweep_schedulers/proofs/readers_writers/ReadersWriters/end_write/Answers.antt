@@ -7,7 +7,8 @@ use Rattle.sweep_schedulers.proofs.readers_writers.ReadersWriters.end_write.Goal
 use Rattle.sweep_schedulers.proofs.readers_writers.ReadersWriters.end_write.Goals.{then-queue, else-queue}
 
 pub returns-then-not-is_busy-clause-trace : goal.returns-then-not-is_busy-clause-trace
-returns-then-not-is_busy-clause-trace g c = refused _ _ c.enter-inside.ensures.front (search rules) (leaves-as c.leave.ensures.front (search rules) (search rules) (search rules))
+returns-then-not-is_busy-clause-trace g c =
+    refused _ _ c.enter-inside.ensures.front (search rules) (leaves-as c.leave.ensures.front (search rules) (search rules) (search rules))
 
 pub returns-clause-trace : goal.returns-clause-trace
 returns-clause-trace g c =

@@ -10,7 +10,9 @@ returns-clause-trace g c = record {
   after = c.admit-read.new.self;
   front = g.M.Monitor.front_in c.if-is_busy.inside;
   comes = elim c.if-is_busy.branch [
-    | then-is_busy w ↦ rw w.inside-is (ComesTo-waited c.enter-inside.ensures.front (search rules) w.wait-inside.ensures.front (search rules) (search rules) (search rules) (search rules) (search rules))
+    | then-is_busy w ↦
+        rw w.inside-is (ComesTo-waited c.enter-inside.ensures.front (search rules) w.wait-inside.ensures.front
+        (search rules) (search rules) (search rules) (search rules) (search rules))
     | else-is_busy+else-queue w ↦ rw w.inside-is (at_once c.enter-inside.ensures.front (search rules))
   ];
   admits = search rules;

@@ -13,7 +13,9 @@ returns-clause-trace g c = record {
   found = g.M.Monitor.data_in c.if-is_in_use.inside;
   front = g.M.Monitor.front_in c.if-is_in_use.inside;
   comes = elim c.if-is_in_use.branch [
-    | then-is_in_use w ↦ rw w.inside-is (ComesTo-waited c.enter-inside.ensures.front (search rules) w.wait-inside.ensures.front (search rules) (search rules) (search rules) (search rules) (search rules))
+    | then-is_in_use w ↦
+        rw w.inside-is (ComesTo-waited c.enter-inside.ensures.front (search rules) w.wait-inside.ensures.front
+        (search rules) (search rules) (search rules) (search rules) (search rules))
     | else-is_in_use w ↦ rw w.inside-is (at_once c.enter-inside.ensures.front (search rules))
   ];
   has = search rules;

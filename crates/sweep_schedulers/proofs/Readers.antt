@@ -1,5 +1,5 @@
 -- What readers and writers keep of those that wait, as a writer joins them.
-use Rattle.std.proofs.Common.{◌≡◌, ◌≢◌, ℕ, List, [], inr}
+use Rattle.std.proofs.Common.{ℕ, List, inr}
 use Rattle.hoare_law.specs.Priorities.{joined}
 use Rattle.sweep_schedulers.specs.ReadersWriters.{Shared, IsInUse, ReadersRest}
 use Rattle.hoare_law.proofs.Sorted.{put_in-some}

@@ -1,17 +1,17 @@
 -- What a disk head keeps of its waiting requests: as one joins, as one is granted, and as the head is handed on.
-use Rattle.std.proofs.Common.{◌≡◌, ◌≢◌, ℕ, suc, ◌-◌, ◌<◌, ◌≤◌, List, [], ◌∷◌, Bool, true, false, cond, leb, Option, None, refl, arith}
-use Rattle.std.specs.Prelude.{All, IsSome, slice_index}
+use Rattle.std.proofs.Common.{◌≡◌, ◌≢◌, ℕ, ◌-◌, ◌≤◌, List, [], ◌∷◌, Bool, true, false, cond, leb, None, refl, arith}
+use Rattle.std.specs.Prelude.{slice_index}
 use Rattle.std.specs.List.Sorted.{IsNonDecreasing}
 use Rattle.std.proofs.lemmas.Bool.Decides.{nat_tests}
 use Rattle.std.proofs.lemmas.List.Elements.{All-weaker}
 use Rattle.hoare_law.specs.declared.event.History.{History}
 use Rattle.hoare_law.specs.declared.event.Event.TheVariants.{Wait, Resume}
 use Rattle.hoare_law.specs.Growth.{AddsTwo}
-use Rattle.hoare_law.specs.Priorities.{put_in, behind_first, joined, taken}
+use Rattle.hoare_law.specs.Priorities.{joined, taken}
 use Rattle.hoare_law.proofs.Sorted.{All-put_in, All-behind_first}
 use Rattle.sweep_schedulers.specs.declared.direction.Direction.{Direction}
 use Rattle.sweep_schedulers.specs.declared.direction.Direction.TheVariants.{Up, Down}
-use Rattle.sweep_schedulers.specs.Heads.{Disk, sweep, opposite, turned, sent, toward, priority_at, HeadHolds, OnSweeps, HeadRests, HeadReady, HeadFree}
+use Rattle.sweep_schedulers.specs.Heads.{Disk, sweep, sent, toward, priority_at, HeadRests, HeadReady, HeadFree}
 use Rattle.sweep_schedulers.specs.HeadTraces.{Reaches, waited, HandsOn}
 use Rattle.sweep_schedulers.proofs.Lists.{All-others, All-first}
 

@@ -1,5 +1,5 @@
 -- What holds of a disk head and its waiting requests. Condition 0 is upsweep, condition 1 is downsweep.
-use Rattle.std.specs.Prelude.{ℕ, zero, suc, ◌-◌, ◌<◌, ◌≤◌, nat_le, if◌then◌else◌, List, [], All, ◌≡◌, ◌≢◌, Option, Some, None, IsSome}
+use Rattle.std.specs.Prelude.{ℕ, zero, suc, ◌-◌, ◌≤◌, nat_le, if◌then◌else◌, List, [], All, ◌≡◌, ◌≢◌, Option, Some, None, IsSome}
 use Rattle.sweep_schedulers.specs.declared.direction.Direction.{Direction}
 use Rattle.sweep_schedulers.specs.declared.direction.Direction.TheVariants.{Up, Down}
 

@@ -1,5 +1,5 @@
 -- What the procedures of readers and writers add to the history. Whether somebody waits is asked of the front at that moment.
-use Rattle.std.specs.Prelude.{ℕ, ◌-◌, ◌+◌, ◌<◌, ◌≤◌, [], Bool, true, false, ◌≡◌, ◌≢◌, ◌⊎◌, Result, Ok, Err}
+use Rattle.std.specs.Prelude.{ℕ, ◌-◌, ◌+◌, ◌<◌, [], true, false, ◌≡◌, ◌≢◌, ◌⊎◌, Result, Ok, Err}
 use Rattle.hoare_law.specs.declared.event.History.{History}
 use Rattle.hoare_law.specs.declared.event.Event.TheVariants.{Admit, Leave}
 use Rattle.hoare_law.specs.Events.{with_event}

@@ -1,6 +1,7 @@
-ghost use Rattle.std.specs.Prelude.{◌≡◌, ◌↔◌, ◌<◌, ◌≤◌, ℕ, IsSome, IsTrue, None};
+ghost use Rattle.std.specs.Prelude.{◌≡◌, ◌↔◌, ◌≤◌, IsTrue, None};
 ghost use Rattle.hoare_law.specs.Priorities.{nobody};
-ghost use Rattle.sweep_schedulers.specs.Heads.{Disk, HeadHolds, HeadFree, HeadRests, OnSweeps, idle, put, sent, sweep, toward, turned, priority_at};
+ghost use Rattle.sweep_schedulers.specs.Heads.{HeadFree, HeadRests, OnSweeps};
+ghost use Rattle.sweep_schedulers.specs.Heads.{idle, priority_at, put, sent, sweep, toward, turned};
 ghost use Rattle.sweep_schedulers.specs.HeadTraces.{HandsOn, Releases, Requests};
 
 use crate::direction::Direction;
@@ -160,10 +161,10 @@ impl<T: Drop> Head<T> {
             && none_below(lists, 1, u64::from(self.cylmax - self.headpos))
     }
 
-    /// Takes the drive out, with the head at `dest`: at once where the drive is in, else after one wait for the sweep that reaches
-    /// `dest` from where the head is. Refused where `dest` is past the last cylinder: then nothing changed. A caller that has the
-    /// place inside may put another disk in place of the first; a request that waited and finds another last cylinder is
-    /// refused too, even where `dest` would fit, and hands the drive on as a release does.
+    /// Takes the drive out, with the head at `dest`: at once where the drive is in, else after one wait for the sweep that
+    /// reaches `dest` from where the head is. Refused where `dest` is past the last cylinder: then nothing changed. A caller
+    /// that has the place inside may put another disk in place of the first; a request that waited and finds another
+    /// last cylinder is refused too, even where `dest` would fit, and hands the drive on as a release does.
     pub fn request<R: Wait, M: Monitor<Head<T>>>(
         m: &M,
         rt: &R,
@@ -193,9 +194,9 @@ impl<T: Drop> Head<T> {
         }
     }
 
-    /// Puts a drive in and hands it on: to the next request of the present sweep, and where there is none the head turns, to the
-    /// next one of the other sweep. Refused exactly where the drive is in: then nothing changed and the handed drive comes
-    /// back. (A drive isn't bound to its monitor: any may be put in.)
+    /// Puts a drive in and hands it on: to the next request of the present sweep, and where there is none the head turns, to
+    /// the next one of the other sweep. Refused exactly where the drive is in: then nothing changed and the handed drive
+    /// comes back. (A drive isn't bound to its monitor: any may be put in.)
     pub fn release<R: Wait, M: Monitor<Head<T>>>(
         m: &M,
         rt: &R,

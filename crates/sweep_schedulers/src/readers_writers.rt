@@ -1,4 +1,4 @@
-ghost use Rattle.std.specs.Prelude.{◌≡◌, ◌↔◌, ◌<◌, ◌+◌, ◌-◌, ℕ, IsTrue, false, true};
+ghost use Rattle.std.specs.Prelude.{◌≡◌, ◌↔◌, ◌<◌, ◌-◌, IsTrue, false};
 ghost use Rattle.hoare_law.specs.Priorities.{nobody};
 ghost use Rattle.sweep_schedulers.specs.ReadersWriters.{IsInUse, ReadersRest, unused, with_readers, with_writer, written};
 ghost use Rattle.sweep_schedulers.specs.ReadersWritersTraces.{Admits, EndsRead, EndsWrite, StartsRead, StartsWrite};
@@ -14,9 +14,9 @@ use std::sync::Wait;
 /// The most readers that are in at a time.
 pub const MOST_READERS: u32 = 1024;
 
-/// A value that many may read at a time, or one may write ("Monitors", Readers and Writers). Condition 0 is *oktoread*,
-/// condition 1 is *oktowrite*; busy means that a writer is in. No reader overtakes a waiting writer, and the readers that wait when
-/// a writer ends go before the next writer.
+/// A value that many may read at a time, or one may write ("Monitors", Example: Readers and Writers). Condition 0 is
+/// *oktoread*, condition 1 is *oktowrite*; busy means that a writer is in. No reader overtakes a waiting writer, and the
+/// readers that wait when a writer ends go before the next writer.
 #[derive(Drop)]
 pub struct ReadersWriters<T: Copy> {
     value: T,
@@ -173,8 +173,8 @@ impl<T: Copy> ReadersWriters<T> {
         self.busy = false;
     }
 
-    /// Goes in as a reader, once no writer is in or waits, and answers a pass and the value. Refused where 1,024 readers are in when
-    /// the caller could go on: then nothing changed, and after a wait the next reader is resumed all the same.
+    /// Goes in as a reader, once no writer is in or waits, and answers a pass and the value. Refused where 1,024 readers are in
+    /// when the caller could go on: then nothing changed, and after a wait the next reader is resumed all the same.
     pub fn start_read<R: Wait, M: Monitor<ReadersWriters<T>>>(
         m: &M,
         rt: &R,

@@ -1,4 +1,4 @@
-use Rattle.std.proofs.Common.{rules, arith}
+use Rattle.std.proofs.Common.{rules}
 use Rattle.hoare_law.proofs.Growth.{leaves-as, Finishes-exit}
 use Rattle.sweep_schedulers.specs.ReadersWritersTraces.{no_reader, last, others}
 use Rattle.sweep_schedulers.proofs.readers_writers.ReadersWriters.end_read.Goals as goal

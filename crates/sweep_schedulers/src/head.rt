@@ -13,7 +13,7 @@ use hoare_law::waits::Waits;
 use std::marker::Model;
 use std::sync::Wait;
 
-/// A disk drive whose head sweeps over the cylinders 0 to `cylmax` ("Monitors", Example: Disk Head Scheduler). Condition 0 is
+/// A disk drive whose head sweeps over the cylinders 0 to `cylmax` ("Monitors", Disk Head Scheduler). Condition 0 is
 /// *upsweep*, where a request waits with its cylinder as its priority; condition 1 is *downsweep*, where it waits with the
 /// distance of its cylinder from the last one. Busy means that the drive is out.
 #[derive(Drop)]

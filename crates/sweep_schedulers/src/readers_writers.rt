@@ -14,7 +14,7 @@ use std::sync::Wait;
 /// The most readers that are in at a time.
 pub const MOST_READERS: u32 = 1024;
 
-/// A value that many may read at a time, or one may write ("Monitors", Example: Readers and Writers). Condition 0 is
+/// A value that many may read at a time, or one may write ("Monitors", Readers and Writers). Condition 0 is
 /// *oktoread*, condition 1 is *oktowrite*; busy means that a writer is in. No reader overtakes a waiting writer, and the
 /// readers that wait when a writer ends go before the next writer.
 #[derive(Drop)]

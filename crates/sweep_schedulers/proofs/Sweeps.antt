@@ -1,0 +1,176 @@
+-- What a disk head keeps of its waiting requests: as one joins, as one is granted, and as the head is handed on.
+use Rattle.std.proofs.Common.{◌≡◌, ◌≢◌, ℕ, ◌-◌, ◌≤◌, List, [], ◌∷◌, Bool, true, false, cond, leb, None, refl, arith}
+use Rattle.std.specs.Prelude.{slice_index}
+use Rattle.std.specs.List.Sorted.{IsNonDecreasing}
+use Rattle.std.proofs.lemmas.Bool.Decides.{nat_tests}
+use Rattle.std.proofs.lemmas.List.Elements.{All-weaker}
+use Rattle.hoare_law.specs.declared.event.History.{History}
+use Rattle.hoare_law.specs.declared.event.Event.TheVariants.{Wait, Resume}
+use Rattle.hoare_law.specs.Growth.{AddsTwo}
+use Rattle.hoare_law.specs.Priorities.{joined, taken}
+use Rattle.hoare_law.proofs.Sorted.{All-put_in, All-behind_first}
+use Rattle.sweep_schedulers.specs.declared.direction.Direction.{Direction}
+use Rattle.sweep_schedulers.specs.declared.direction.Direction.TheVariants.{Up, Down}
+use Rattle.sweep_schedulers.specs.Heads.{Disk, sweep, sent, toward, priority_at, HeadRests, HeadReady, HeadFree}
+use Rattle.sweep_schedulers.specs.HeadTraces.{Reaches, waited, HandsOn}
+use Rattle.sweep_schedulers.proofs.Lists.{All-others, All-first}
+
+-- dest lies before the head in this direction
+abbrev IsAhead : {T : Type 0} → Disk T → Direction → ℕ → Type 0
+IsAhead d Up dest = d.headpos ≤ dest
+IsAhead d Down dest = dest ≤ d.headpos
+
+ahead_by : {T : Type 0} (d : Disk T) (dest : ℕ) (low high : Bool) (dir : Direction)
+    → leb d.headpos dest ≡ low → leb dest d.headpos ≡ high → IsAhead d (cond low (cond high dir Up) Down) dest
+ahead_by d dest true true Up e f = grind (arith, nat_tests)
+ahead_by d dest true true Down e f = grind (arith, nat_tests)
+ahead_by d dest true false dir e f = grind (arith, nat_tests)
+ahead_by d dest false high dir e f = grind (arith, nat_tests)
+
+-- the sweep that reaches dest has it before the head
+toward_ahead : {T : Type 0} (d : Disk T) (dest : ℕ) → IsAhead d (toward dest d) dest
+toward_ahead d dest = ahead_by d dest (leb d.headpos dest) (leb dest d.headpos) d.direction refl refl
+
+module _ {T : Type 0} {d : Disk T} (lists : ℕ → List ℕ) where
+  -- one more waits, for a cylinder before the head
+  rests_by : (dir : Direction) (dest : ℕ) → IsAhead d dir dest → dest ≤ d.cylmax → d.drive ≡ None → HeadRests d (lists 0) (lists 1)
+      → HeadRests d (joined lists (sweep dir) (priority_at d.cylmax dir dest) 0) (joined lists (sweep dir) (priority_at d.cylmax dir dest) 1)
+  rests_by Up dest ahead on busy r = record {
+    inv = r.inv;
+    up_busy = λ some. busy;
+    down_busy = λ some. busy;
+    sweeps = record {
+      ups_on_disk = All-put_in (λ p. p ≤ d.cylmax) dest (lists 0) on r.sweeps.ups_on_disk;
+      downs_on_disk = r.sweeps.downs_on_disk;
+      above = All-put_in (λ p. d.headpos ≤ p) dest (lists 0) ahead r.sweeps.above;
+      below = r.sweeps.below;
+    };
+  }
+  rests_by Down dest ahead on busy r = record {
+    inv = r.inv;
+    up_busy = λ some. busy;
+    down_busy = λ some. busy;
+    sweeps = record {
+      ups_on_disk = r.sweeps.ups_on_disk;
+      downs_on_disk = All-put_in (λ p. p ≤ d.cylmax) (d.cylmax - dest) (lists 1) (omega arith) r.sweeps.downs_on_disk;
+      above = r.sweeps.above;
+      below = All-put_in (λ p. d.cylmax - p ≤ d.headpos) (d.cylmax - dest) (lists 1) (omega arith) r.sweeps.below;
+    };
+  }
+
+  -- a request joins the sweep that reaches its cylinder
+  pub HeadRests-joined : {d1 : Disk T} {c p dest : ℕ} → HeadRests d (lists 0) (lists 1) → d.drive ≡ None → dest ≤ d.cylmax → d1 ≡ d → c ≡ sweep (toward dest d1)
+      → p ≡ priority_at d1.cylmax (toward dest d1) dest → HeadRests d (joined lists c p 0) (joined lists c p 1)
+  HeadRests-joined {c = c} {p = p} {dest = dest} r busy on same to with =
+      let sweeps : c ≡ sweep (toward dest d) = rw same at to in
+      let urgent : p ≡ priority_at d.cylmax (toward dest d) dest = rw same at with in
+      rw (sweeps, urgent) (rests_by (toward dest d) dest (toward_ahead d dest) on busy r)
+
+  -- with the drive in, the first of the present sweep may go on
+  first_by : (dir : Direction) → d.direction ≡ dir → ((i : ℕ) → IsNonDecreasing (lists i)) → lists (sweep dir) ≢ [] → HeadFree d (lists 0) (lists 1)
+      → HeadReady (sweep dir) (slice_index (lists (sweep dir)) 0) d (taken lists (sweep dir) 0) (taken lists (sweep dir) 1)
+  first_by Up is rise some f = record {
+    free = record {
+      inv = f.inv;
+      is_in = f.is_in;
+      sweeps = record {
+        ups_on_disk = All-others (λ p. p ≤ d.cylmax) (lists 0) f.sweeps.ups_on_disk;
+        downs_on_disk = f.sweeps.downs_on_disk;
+        above = All-others (λ p. d.headpos ≤ p) (lists 0) f.sweeps.above;
+        below = f.sweeps.below;
+      };
+    };
+    on_disk = All-first (λ p. p ≤ d.cylmax) (lists 0) some f.sweeps.ups_on_disk;
+    first = All-behind_first (lists 0) (rise 0) some;
+    direction = is;
+    above = All-first (λ p. d.headpos ≤ p) (lists 0) some f.sweeps.above;
+  }
+  first_by Down is rise some f = record {
+    free = record {
+      inv = f.inv;
+      is_in = f.is_in;
+      sweeps = record {
+        ups_on_disk = f.sweeps.ups_on_disk;
+        downs_on_disk = All-others (λ p. p ≤ d.cylmax) (lists 1) f.sweeps.downs_on_disk;
+        above = f.sweeps.above;
+        below = All-others (λ p. d.cylmax - p ≤ d.headpos) (lists 1) f.sweeps.below;
+      };
+    };
+    on_disk = All-first (λ p. p ≤ d.cylmax) (lists 1) some f.sweeps.downs_on_disk;
+    first = All-behind_first (lists 1) (rise 1) some;
+    direction = is;
+    below = All-first (λ p. d.cylmax - p ≤ d.headpos) (lists 1) some f.sweeps.below;
+  }
+
+  pub HeadReady-first : {d1 : Disk T} {c : ℕ} → HeadFree d (lists 0) (lists 1) → ((i : ℕ) → IsNonDecreasing (lists i)) → d1 ≡ d
+      → c ≡ sweep d1.direction → lists c ≢ []
+      → HeadReady c (slice_index (lists c) 0) d (taken lists c 0) (taken lists c 1)
+  HeadReady-first {c = c} f rise same is some =
+      let on : c ≡ sweep d.direction = rw same at is in
+      rw on (first_by d.direction refl rise (rw on at some) f)
+
+module _ {T : Type 0} (found : Disk T) {ups downs : List ℕ} where
+  -- the head at the cylinder of the one that is granted, which is the first before the head
+  granted_by : (dir : Direction) (dest cylmax : ℕ) → dest ≤ cylmax → found.cylmax ≡ cylmax
+      → HeadReady (sweep dir) (priority_at cylmax dir dest) found ups downs → HeadRests (sent found dest) ups downs
+  granted_by Up dest cylmax on same r = record {
+    inv = omega arith;
+    up_busy = λ some. refl;
+    down_busy = λ some. refl;
+    sweeps = record {
+      ups_on_disk = r.free.sweeps.ups_on_disk;
+      downs_on_disk = r.free.sweeps.downs_on_disk;
+      above = r.first;
+      below = All-weaker (λ p. found.cylmax - p ≤ found.headpos) (λ p. found.cylmax - p ≤ dest)
+          (λ p l. omega (arith, r.above)) downs r.free.sweeps.below;
+    };
+  }
+  granted_by Down dest cylmax on same r = record {
+    inv = omega arith;
+    up_busy = λ some. refl;
+    down_busy = λ some. refl;
+    sweeps = record {
+      ups_on_disk = r.free.sweeps.ups_on_disk;
+      downs_on_disk = r.free.sweeps.downs_on_disk;
+      above = All-weaker (λ p. found.headpos ≤ p) (λ p. dest ≤ p) (λ p l. omega (arith, r.below)) ups r.free.sweeps.above;
+      below = All-weaker (λ p. cylmax - dest ≤ p) (λ p. found.cylmax - p ≤ dest) (λ p l. omega arith) downs r.first;
+    };
+  }
+
+  -- a request that waited is granted
+  pub HeadRests-granted : {a a1 s1 : Disk T} {c p dest : ℕ} {us ds : List ℕ} → HeadReady c p found ups downs → a1 ≡ a
+      → c ≡ sweep (toward dest a1) → p ≡ priority_at a1.cylmax (toward dest a1) dest → dest ≤ a.cylmax → found.cylmax ≡ a.cylmax
+      → s1 ≡ sent found dest → us ≡ ups → ds ≡ downs → HeadRests s1 us ds
+  HeadRests-granted {a = a} {dest = dest} r same to with on disk state up down =
+      rw (state, up, down) (granted_by (toward dest a) dest a.cylmax on disk (rw (to, with, same) at r))
+
+module _ {T : Type 0} (found : Disk T) where
+  nobody_by : (us ds : List ℕ) (dest : ℕ) → (found.drive ≡ None → ⊥) → dest ≤ found.cylmax → HeadRests found us ds → HeadRests (sent found dest) us ds
+  nobody_by [] [] dest is_in on r = record {
+    inv = on;
+    up_busy = λ some. refl;
+    down_busy = λ some. refl;
+    sweeps = record {
+      ups_on_disk = λ k d below. absurd (omega arith);
+      downs_on_disk = λ k d below. absurd (omega arith);
+      above = λ k d below. absurd (omega arith);
+      below = λ k d below. absurd (omega arith);
+    };
+  }
+  nobody_by (x ∷ us) ds dest is_in on r = absurd (is_in (r.up_busy (λ e. cc)))
+  nobody_by [] (x ∷ ds) dest is_in on r = absurd (is_in (r.down_busy (λ e. cc)))
+
+  -- a request that found the drive in is granted: nobody waited
+  pub HeadRests-at_once : {s1 : Disk T} {dest : ℕ} {us ds ups downs : List ℕ} → HeadRests found ups downs → (found.drive ≡ None → ⊥) → dest ≤ found.cylmax
+      → s1 ≡ sent found dest → us ≡ ups → ds ≡ downs → HeadRests s1 us ds
+  HeadRests-at_once {dest = dest} {ups = ups} {downs = downs} r is_in on state up down = rw (state, up, down) (nobody_by ups downs dest is_in on r)
+
+-- from the clause of a wait to the trace of a request
+pub Reaches-waited : {T : Type 0} {k k1 c p dest : ℕ} {a a1 s1 found : Disk T} {e g1 h : History (Disk T)} → a.drive ≡ None
+    → AddsTwo g1 (Wait k1 c p s1) (Resume k1 c found) h → k1 ≡ k → s1 ≡ a → g1 ≡ e → a1 ≡ a
+    → c ≡ sweep (toward dest a1) → p ≡ priority_at a1.cylmax (toward dest a1) dest → Reaches k dest a e h found
+Reaches-waited busy waits place state front same to with = waited _ _ busy (rw (place, state, front, to, with, same) at waits)
+
+-- how the head was handed on, with place, data and front by other names
+pub HandsOn-as : {T : Type 0} {k k1 : ℕ} {d d1 : Disk T} {g g1 h : History (Disk T)} → HandsOn k1 d1 g1 h → k1 ≡ k → d1 ≡ d → g1 ≡ g → HandsOn k d g h
+HandsOn-as hands place state front = rw (place, state, front) at hands

@@ -1,0 +1,95 @@
+-- What holds of a disk head and its waiting requests. Condition 0 is upsweep, condition 1 is downsweep.
+use Rattle.std.specs.Prelude.{ℕ, zero, suc, ◌-◌, ◌≤◌, nat_le, if◌then◌else◌, List, [], All, ◌≡◌, ◌≢◌, Option, Some, None, IsSome}
+use Rattle.sweep_schedulers.specs.declared.direction.Direction.{Direction}
+use Rattle.sweep_schedulers.specs.declared.direction.Direction.TheVariants.{Up, Down}
+
+-- the drive, if it is in; the cylinder under the head; which way the head sweeps; the last cylinder
+pub record Disk (T : Type 0) : Type 0 where
+  pub drive : Option T
+  pub headpos : ℕ
+  pub direction : Direction
+  pub cylmax : ℕ
+
+-- a disk with its drive in and the head at cylinder 0, sweeping up
+abbrev pub idle : {T : Type 0} → T → ℕ → Disk T
+idle drive cylmax = record { drive = Some drive; headpos = 0; direction = Up; cylmax = cylmax }
+
+-- the condition of the sweep in this direction
+abbrev pub sweep : Direction → ℕ
+sweep Up = 0
+sweep Down = 1
+
+abbrev pub opposite : Direction → Direction
+opposite Up = Down
+opposite Down = Up
+
+-- the same disk, with the head sweeping the other way
+abbrev pub turned : {T : Type 0} → Disk T → Disk T
+turned d = record d { direction = opposite d.direction }
+
+-- the same disk, with this drive in
+abbrev pub put : {T : Type 0} → Disk T → T → Disk T
+put d drive = record d { drive = Some drive }
+
+-- the same disk, with the drive out and the head at dest
+abbrev pub sent : {T : Type 0} → Disk T → ℕ → Disk T
+sent d dest = record d { drive = None; headpos = dest }
+
+-- the direction of the sweep that reaches dest: where the head stands there, the present one
+abbrev pub toward : {T : Type 0} → ℕ → Disk T → Direction
+toward dest d = if nat_le d.headpos dest then (if nat_le dest d.headpos then d.direction else Up) else Down
+
+-- with which priority dest waits for that sweep: the cylinder on the way up, its distance from the last one on the way down
+abbrev pub priority_at : ℕ → Direction → ℕ → ℕ
+priority_at cylmax Up dest = dest
+priority_at cylmax Down dest = cylmax - dest
+
+-- what always holds: the head is on the disk
+abbrev pub HeadHolds : {T : Type 0} → Disk T → Type 0
+HeadHolds d = d.headpos ≤ d.cylmax
+
+-- who waits for the upsweep waits for a cylinder that lies before the head on the way up, who waits for the downsweep on the way down
+pub record OnSweeps {T : Type 0} (d : Disk T) (ups downs : List ℕ) : Type 0 where
+  pub ups_on_disk : All (λ p. p ≤ d.cylmax) ups
+  pub downs_on_disk : All (λ p. p ≤ d.cylmax) downs
+  pub above : All (λ p. d.headpos ≤ p) ups
+  pub below : All (λ p. d.cylmax - p ≤ d.headpos) downs
+
+-- who waits finds the drive out, and its cylinder lies before the head
+pub record HeadRests {T : Type 0} (d : Disk T) (ups downs : List ℕ) : Type 0 where
+  pub inv : HeadHolds d
+  pub up_busy : ups ≢ [] → d.drive ≡ None
+  pub down_busy : downs ≢ [] → d.drive ≡ None
+  pub sweeps : OnSweeps d ups downs
+
+-- the drive is in, and the cylinder of who waits lies before the head: as the drive is handed on
+pub record HeadFree {T : Type 0} (d : Disk T) (ups downs : List ℕ) : Type 0 where
+  pub inv : HeadHolds d
+  pub is_in : IsSome d.drive
+  pub sweeps : OnSweeps d ups downs
+
+-- who waited for the upsweep finds the drive in and the head sweeping up to it, before the others
+pub record UpReady {T : Type 0} (p : ℕ) (d : Disk T) (ups downs : List ℕ) : Type 0 where
+  pub free : HeadFree d ups downs
+  pub on_disk : p ≤ d.cylmax
+  pub first : All (λ q. p ≤ q) ups
+  pub direction : d.direction ≡ Up
+  pub above : d.headpos ≤ p
+
+-- who waited for the downsweep finds the drive in and the head sweeping down to it, before the others
+pub record DownReady {T : Type 0} (p : ℕ) (d : Disk T) (ups downs : List ℕ) : Type 0 where
+  pub free : HeadFree d ups downs
+  pub on_disk : p ≤ d.cylmax
+  pub first : All (λ q. p ≤ q) downs
+  pub direction : d.direction ≡ Down
+  pub below : d.cylmax - p ≤ d.headpos
+
+-- what a request that waited for the sweep finds
+abbrev pub HeadReady : {T : Type 0} → ℕ → ℕ → Disk T → List ℕ → List ℕ → Type 0
+HeadReady zero p d ups downs = UpReady p d ups downs
+HeadReady (suc c) p d ups downs = DownReady p d ups downs
+
+-- ready holds of nothing of which what always holds does not
+pub inv_of_ready : {T : Type 0} (c p : ℕ) (d : Disk T) (ups downs : List ℕ) → HeadReady c p d ups downs → HeadHolds d
+inv_of_ready zero p d ups downs h = h.free.inv
+inv_of_ready (suc c) p d ups downs h = h.free.inv

@@ -1,0 +1,4 @@
+pub mod Heads
+pub mod HeadTraces
+pub mod ReadersWriters
+pub mod ReadersWritersTraces

@@ -1,0 +1,10 @@
+//! Schedulers that sweep, over any monitor: a disk head, and readers and writers.
+#![tactic(auto)]
+
+pub mod direction;
+pub mod head;
+pub mod not_out;
+pub mod readers_writers;
+#[cfg(test)]
+mod tests;
+mod waiting;

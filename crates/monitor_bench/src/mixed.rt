@@ -1,0 +1,133 @@
+//! Nine threads that mix all calls: eight wait with priorities, signal, pass and leave on three conditions as a fixed row of
+//! numbers says, and one resumes those that wait until all are done.
+ghost use Rattle.std.specs.Prelude.{◌<◌};
+
+use hoare_law::monitor::Monitor;
+use hoare_law::unasked::Unasked;
+use hoare_law::waits::Waits;
+use std::sync::Wait;
+use std::thread;
+
+/// How many threads mix the calls.
+pub const WORKERS: u64 = 8;
+
+/// How often somebody came in or came back, and how many workers are done.
+#[derive(Drop)]
+pub struct Visits {
+    pub visits: u64,
+    pub finished: u64,
+}
+
+pub type Mixed = Unasked<Visits, 3>;
+
+// The next of a row of numbers that look as if drawn by lot.
+fn draw(seed: u64) -> u64 {
+    seed.wrapping_mul(6364136223846793005)
+        .wrapping_add(1442695040888963407)
+}
+
+fn note<M: Monitor<Mixed>>(m: &M, inside: M::In) -> M::In
+    requires { M.is_of_in m.now inside }
+    ensures { M.is_of_in m.now result }
+{
+    let mut inside = inside;
+    let data = M::state_mut(&mut inside, m);
+    data.value.visits = data.value.visits.wrapping_add(1);
+    inside
+}
+
+// Whether fewer than half of the workers wait.
+fn may_wait<M: Monitor<Mixed>>(m: &M, inside: &M::In) -> bool
+    requires { M.is_of_in m.now inside.now }
+{
+    let lists = m.lists(inside);
+    let waiting = lists
+        .count(0)
+        .saturating_add(lists.count(1))
+        .saturating_add(lists.count(2));
+    (waiting as u64) < WORKERS / 2
+}
+
+fn leave<R: Wait, M: Monitor<Mixed>>(rt: &R, m: &M, inside: M::In) -> M::Out
+    requires { M.is_of_in m.now inside }
+    ensures { M.is_of m.now result }
+{
+    let inside = note(m, inside);
+    m.leave(rt, inside)
+}
+
+// One visit of a worker: it waits, signals, passes or just leaves.
+fn visit<R: Wait, M: Monitor<Mixed>>(rt: &R, m: &M, out: M::Out, lot: u64) -> M::Out
+    requires { M.is_of m.now out }
+    ensures { M.is_of m.now result }
+{
+    let condition = (lot / 8 % 3) as usize;
+    let inside = m.enter(rt, out);
+    let inside = note(m, inside);
+    if lot % 8 < 3 && may_wait(m, &inside) {
+        let inside = m.wait(rt, inside, condition, lot / 32 % 4);
+        return leave(rt, m, inside);
+    }
+    if lot % 8 < 6 && m.queue(&inside, condition) {
+        let (inside, _resumed) = m.signal(rt, inside, condition);
+        return leave(rt, m, inside);
+    }
+    let (out, _resumed) = m.signal_leave(rt, inside, condition);
+    out
+}
+
+// So many visits, and a note that they are over.
+fn visit_many<R: Wait, M: Monitor<Mixed>>(rt: &R, m: &M, out: M::Out, me: u64, turns: u64)
+    requires { M.is_of m.now out }
+{
+    let mut out = out;
+    let mut lot = draw(me);
+    for _ in 0..turns {
+        lot = draw(lot);
+        out = visit(rt, m, out, lot / 65536);
+    }
+    let mut inside = m.enter(rt, out);
+    let data = M::state_mut(&mut inside, m);
+    data.value.finished = data.value.finished.saturating_add(1);
+    m.leave(rt, inside);
+}
+
+// Resumes those that wait until all workers are done.
+fn sweep<R: Wait, M: Monitor<Mixed>>(rt: &R, m: &M, out: M::Out)
+    requires { M.is_of m.now out }
+{
+    let mut out = out;
+    let mut condition = 0usize;
+    for _ in rt.forever() {
+        let inside = m.enter(rt, out);
+        if m.state(&inside).value.finished >= WORKERS {
+            m.leave(rt, inside);
+            return;
+        }
+        let (again, _resumed) = m.signal_leave(rt, inside, condition % 3);
+        out = again;
+        condition = condition.wrapping_add(1);
+        thread::yield_now();
+    }
+    unreachable!()
+}
+
+/// Nobody came in yet.
+pub fn unvisited() -> Mixed {
+    let none = Visits {
+        visits: 0,
+        finished: 0,
+    };
+    Unasked { value: none }
+}
+
+/// The work of one thread: a worker's, or of the last to come, who resumes those that wait.
+pub fn mix<R: Wait, M: Monitor<Mixed>>(rt: &R, m: &M, out: M::Out, role: u64, turns: u64)
+    requires { M.is_of m.now out }
+{
+    if role < WORKERS {
+        visit_many(rt, m, out, role, turns)
+    } else {
+        sweep(rt, m, out)
+    }
+}

@@ -61,7 +61,8 @@ times_in_hand k (Return j) = 0
 
 -- how often place k stands anywhere in the book
 abbrev pub times_in : ℕ → Contents → ℕ
-times_in k b = times k (map (λ (w : Waiter). w.place) b.waiters) + (times k b.signallers + times_in_hand k b.turn)
+times_in k b =
+    times k (map (λ (w : Waiter). w.place) b.waiters) + (times k b.signallers + times_in_hand k b.turn)
 
 -- the waiter as the event by which it began to wait
 abbrev pub wait_of : Waiter → Event (Unit {0})
@@ -97,5 +98,6 @@ unused places conditions = opened places conditions tt
 -- the first refusal of so many places and conditions, if memory is there
 abbrev pub make_refusal : ℕ → ℕ → Option MakeRefused
 make_refusal places conditions =
-    if nat_le 1 places && nat_le places 64 then (if nat_le 1 conditions && nat_le conditions 8 then None else Some BadConditions)
+    if nat_le 1 places && nat_le places 64 then
+    (if nat_le 1 conditions && nat_le conditions 8 then None else Some BadConditions)
     else Some BadPlaces

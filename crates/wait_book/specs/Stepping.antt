@@ -26,12 +26,15 @@ is_held_by k _ = false
 -- k comes in where it is a place, the monitor is free and k is outside
 abbrev pub enter_refusal : History (Unit {0}) → ℕ → Option StepRefused
 enter_refusal h k =
-    if nat_lt k h.places then (if is_free (turn h.events) then (if outside k h.events then None else Some NotOutside) else Some NotFree)
+    if nat_lt k h.places then
+    (if is_free (turn h.events) then (if outside k h.events then None else Some NotOutside) else Some NotFree)
     else Some NoPlace
 
 -- k acts where it is a place and inside; else what refuses it further
 abbrev pub act_refusal : History (Unit {0}) → ℕ → Option StepRefused → Option StepRefused
-act_refusal h k further = if nat_lt k h.places then (if is_held_by k (turn h.events) then further else Some NotInside) else Some NoPlace
+act_refusal h k further =
+    if nat_lt k h.places then (if is_held_by k (turn h.events) then further else Some NotInside)
+    else Some NoPlace
 
 abbrev pub condition_refusal : History (Unit {0}) → ℕ → Option StepRefused
 condition_refusal h c = if nat_lt c h.conditions then None else Some NoCondition

@@ -54,12 +54,17 @@ impl<D: MonitorData> Model for Door<D> {
 
 /// The door opens: the first seat takes the empty slot, and gives it back with the data.
 fn open<D: MonitorData>(table: &DoorTable<D>, seat: &mut DoorSeat<D>, parcel: Parcel<D>)
-    requires table { (seat.old.table_id ≡ table.now.shared.table_id) × (0 < table.now.shared.table_id.words) }
+    requires table { (seat.old.table_id ≡ table.now.shared.table_id)
+        × (0 < table.now.shared.table_id.words) }
     requires seat { seat.old.me ≡ (Unopened table.now.shared.key, []) }
     requires rest { D.rest parcel.state nobody }
     requires book { IsOf parcel.book (opened table.now.shared.key D.CONDITIONS tt) }
     ensures table { seat.new.table_id ≡ seat.old.table_id }
-    ensures opened { seat.new.me ≡ (Places (all_know 0 table.now.shared.key (opened table.now.shared.key D.CONDITIONS parcel.state)), []) }
+    ensures opened { seat.new.me ≡ (
+      Places (all_know 0 table.now.shared.key
+          (opened table.now.shared.key D.CONDITIONS parcel.state)),
+      [],
+    ) }
 {
     table
         .shared
@@ -78,9 +83,11 @@ impl<D: MonitorData + Send> Door<D> {
         places: usize,
     ) -> Result<(Door<D>, Vec<DoorOut<D>>), (D, MakeRefused)>
         requires rest { D.rest state nobody }
-        ensures made { IfOk result (λ r. (make_refusal places D.CONDITIONS ≡ None) × (r.0.places ≡ places)) }
+        ensures made { IfOk result (λ r. (make_refusal places D.CONDITIONS ≡ None)
+            × (r.0.places ≡ places)) }
         ensures of { IfOk result (λ r. All (⟦<Door<D> as Monitor<D>>⟧.is_of r.0) r.1.items) }
-        ensures places { IfOk result (λ r. r.1.items ≡ places_from r.0.table 0 places (opened places D.CONDITIONS state)) }
+        ensures places { IfOk result (λ r. r.1.items ≡ places_from r.0.table 0 places
+            (opened places D.CONDITIONS state)) }
         ensures returned { IfErr result (λ e. e.0 ≡ state) }
         ensures refused { IfErr result (λ e. (make_refusal places D.CONDITIONS ≡ Some e.1)
             ⊎ ((make_refusal places D.CONDITIONS ≡ None) × (e.1 ≡ MakeRefused.Memory))) }

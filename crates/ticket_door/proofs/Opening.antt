@@ -1,0 +1,76 @@
+-- The first seat opens the door, by two looks at SERVING.
+use Rattle.std.proofs.Common.{◌≡◌, ℕ, ◌+◌, ◌*◌, ◌<◌, ◌%◌, ◌^◌, true, false, List, [], ◌∷◌, set, length, length-set, get_or-set_same, Some, None, refl, sym, ap, ◌∙◌, subst, arith}
+use mathlib.Core.Option.{none}
+use lib.ListN.{replicate}
+use lib.Seq.{set-get_or}
+use Rattle.std.proofs.lemmas.List.{get_or-set_other, get_or-replicate, length-replicate}
+use Rattle.atomic_table.specs.Table.{step, Allows}
+use Rattle.hoare_law.specs.Admissions.{admissions}
+use Rattle.hoare_law.specs.Events.{opened}
+use Rattle.hoare_law.specs.Lawful.{Rest, Ready}
+use Rattle.hoare_law.specs.Priorities.{nobody}
+use Rattle.hoare_law.specs.Turns.{turn, urgent}
+use Rattle.wait_book.specs.Contents.{IsOf}
+use Rattle.door_frame.specs.declared.parcel.Lodged.{Lodged}
+use Rattle.door_frame.specs.declared.view.View.TheVariants.{Unopened, Opening}
+use Rattle.door_frame.specs.Rule.{Kept}
+use Rattle.door_frame.specs.Steps.{Sat, begins, opens}
+use Rattle.door_frame.proofs.Steps as frame
+use Rattle.ticket_door.specs.Rule.{Starts, Tells, next_at, serving_at, bell_at}
+
+module _ {D : Type 0} (first n : ℕ) where
+  -- nobody asked and nobody is served
+  opened_tells : (conditions : ℕ) (s : D) (ws : List ℕ) → Starts first n true ws → Tells first n (opened n conditions s) (λ _. None) ws
+  unfolding turn admissions urgent
+  opened_tells conditions s ws st = record {
+    words_are = st.words_are;
+    queue = [];
+    once = λ k. omega arith;
+    below = λ k some. absurd (omega (arith, some));
+    tickets_are = λ k. refl;
+    next = st.next ∙ ap (λ (m : ℕ). m % 2 ^ 64) (let same : first ≡ first + 0 = omega arith in same);
+    served = 0;
+    due = refl;
+    serving = st.serving ∙ ap (λ (m : ℕ). m % 2 ^ 64) (let same : first ≡ first + 0 = omega arith in same);
+    bells = st.bells;
+  }
+
+  module _ (rest : Rest D) (ready : Ready D) (conditions : ℕ) where
+    begun : (ws : List ℕ) → Starts first n false ws → Starts first n true ws
+    begun ws st = record { words_are = st.words_are; next = st.next; serving = st.serving; bells = st.bells }
+
+    pub begins_at : (slots id : ℕ) (m : Sat D) → m ≡ (Unopened n, [])
+        → Allows (Kept (Starts first n) (Tells first n) rest ready conditions n) slots id m serving_at (λ r. r) (begins (step slots serving_at 0 0 none) m)
+    begins_at slots id m is =
+        frame.begins_at (Starts first n) (Tells first n) rest ready conditions n slots id serving_at (λ r. r) (step slots serving_at 0 0 none) m is
+        (λ ws st. subst (Starts first n true) (sym (set-get_or ws serving_at 0)) (begun ws st))
+
+    pub opens_at : (slots id : ℕ) (x : Lodged D) (m : Sat D) → m ≡ (Opening n, (0, Some x) ∷ []) → rest x.state nobody
+        → IsOf x.book (opened n conditions tt)
+        → Allows (Kept (Starts first n) (Tells first n) rest ready conditions n) slots id m serving_at (λ r. r) (opens conditions (step slots serving_at 0 0 none) m)
+    opens_at slots id x m is at_rest book =
+        frame.opens_at (Starts first n) (Tells first n) rest ready conditions n slots id serving_at (λ r. r) x (step slots serving_at 0 0 none) m is at_rest book
+        (λ ws st. subst (Tells first n (opened n conditions x.state) (λ _. None)) (sym (set-get_or ws serving_at 0)) (opened_tells conditions x.state ws st))
+
+-- the words before the door opens
+pub started : (first n : ℕ) (ws : List ℕ) → first < 2 ^ 64 → ws ≡ set (set (replicate (8 * n + 16) 0) next_at first) serving_at first → Starts first n false ws
+started first n ws small is = subst (Starts first n false) (sym is) (record {
+  words_are = long;
+  next = get_or-set_other (set zeros next_at first) serving_at next_at first 0 (λ e. omega (arith, e))
+      ∙ get_or-set_same zeros next_at first 0 (omega (arith, wide)) ∙ same;
+  serving = get_or-set_same (set zeros next_at first) serving_at first 0 (omega (arith, length-set zeros next_at first, wide)) ∙ same;
+  bells = λ k b. get_or-set_other (set zeros next_at first) serving_at (bell_at k) first 0 (λ e. omega (arith, e))
+      ∙ get_or-set_other zeros next_at (bell_at k) first 0 (λ e. omega (arith, e)) ∙ get_or-replicate (8 * n + 16) (bell_at k) 0 0 (omega (arith, b));
+})
+  where
+    zeros : List ℕ
+    zeros = replicate (8 * n + 16) 0
+
+    wide : length zeros ≡ 8 * n + 16
+    wide = length-replicate (8 * n + 16) 0
+
+    long : length (set (set zeros next_at first) serving_at first) ≡ 8 * n + 16
+    long = length-set (set zeros next_at first) serving_at first ∙ length-set zeros next_at first ∙ wide
+
+    same : first ≡ first % 2 ^ 64
+    same = omega (arith, small)

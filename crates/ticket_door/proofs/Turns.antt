@@ -1,0 +1,114 @@
+-- Whose turn it is, and what SERVING and the bells have of it.
+use Rattle.std.proofs.Common.{◌≡◌, ◌≢◌, ◌⊎◌, inl, inr, ℕ, ◌+◌, ◌<◌, ◌≤◌, ◌%◌, ◌^◌, false, refl, sym, ap, ◌∙◌, subst, arith, ne_eqb}
+use mathlib.Core.Logic.{dite}
+use native.Mathlib.Decide.{ℕ_discrete}
+use Rattle.std.proofs.Math.Nat.{mod-add-mod}
+use Rattle.atomic_table.proofs.Lists.{one_turn}
+use Rattle.hoare_law.specs.declared.event.Event.{Event}
+use Rattle.hoare_law.specs.declared.event.History.{History}
+use Rattle.hoare_law.specs.declared.event.Event.TheVariants.{Admit, Wait, Signal, Pass, Leave, Resume, Back}
+use Rattle.hoare_law.specs.declared.turn.Turn.{Turn}
+use Rattle.hoare_law.specs.declared.turn.Turn.TheVariants.{Free, Held, Owed, Return}
+use Rattle.hoare_law.specs.Legal.{Allowed}
+use Rattle.hoare_law.specs.Turns.{turn}
+use Rattle.wait_book.specs.Contents.{one, next_of}
+use Rattle.wait_book.specs.declared.steps.Next.TheVariants as next
+use Rattle.wait_book.proofs.Times.{one_same, one_apart}
+use Rattle.door_frame.proofs.Steps.{IsDue, owed, returning}
+use Rattle.hoare_law.specs.Admissions.{is_admit}
+use Rattle.ticket_door.specs.Rule.{taken, rung}
+
+pub taken_le : (t : Turn) → taken t ≤ 1
+taken_le Free = omega arith
+taken_le (Held k) = omega arith
+taken_le (Owed k c) = omega arith
+taken_le (Return k) = omega arith
+
+pub taken_free : (t : Turn) → taken t ≡ 0 → t ≡ Free
+taken_free Free e = refl
+taken_free (Held k) e = absurd (omega (arith, e))
+taken_free (Owed k c) e = absurd (omega (arith, e))
+taken_free (Return k) e = absurd (omega (arith, e))
+
+pub free_next : (t : Turn) → next_of t ≡ next.Free → t ≡ Free
+free_next Free e = refl
+free_next (Held k) e = absurd (cc)
+free_next (Owed k c) e = absurd (cc)
+free_next (Return k) e = absurd (cc)
+
+-- the bell of who is owed the monitor is the one that rings
+pub record Rings (j : ℕ) (t : Turn) : Type 0 where
+  pub busy : taken t ≡ 1
+  pub here : rung t j ≡ 1
+  pub else_ : (k : ℕ) → k ≢ j → rung t k ≡ 0
+
+apart : (j k : ℕ) → k ≢ j → one j k ≡ 0
+apart j k ne = one_apart j k (ne_eqb j k (λ e. ne (sym e)))
+
+pub rings_due : (j : ℕ) (t : Turn) → IsDue j t → Rings j t
+rings_due j t (owed c is) = subst (Rings j) (sym is) (record { busy = refl; here = one_same j; else_ = apart j })
+rings_due j t (returning is) = subst (Rings j) (sym is) (record { busy = refl; here = one_same j; else_ = apart j })
+
+pub for_next : (t : Turn) (j : ℕ) → next_of t ≡ next.For j → IsDue j t
+for_next Free j e = absurd (cc)
+for_next (Held k) j e = absurd (cc)
+for_next (Owed k c) j e = owed c (let same : k ≡ j = cc in ap (λ i. Owed i c) same)
+for_next (Return k) j e = returning (let same : k ≡ j = cc in ap (λ i. Return i) same)
+
+-- a bell is 0 or 1
+pub one_bit : (j k : ℕ) → (one j k ≡ 0) ⊎ (j ≡ k)
+one_bit j k = dite (ℕ_discrete j k) (λ same. inr same) (λ ne. inl (one_apart j k (ne_eqb j k ne)))
+
+pub rung_else : (t : Turn) (k : ℕ) → rung t k ≢ 1 → rung t k ≡ 0
+rung_else Free k n = refl
+rung_else (Held j) k n = refl
+rung_else (Owed j c) k n = by (one_bit j k)
+  where
+    by : (one j k ≡ 0) ⊎ (j ≡ k) → one j k ≡ 0
+    by (inl z) = z
+    by (inr same) = absurd (n (subst (λ i. one j i ≡ 1) same (one_same j)))
+rung_else (Return j) k n = by (one_bit j k)
+  where
+    by : (one j k ≡ 0) ⊎ (j ≡ k) → one j k ≡ 0
+    by (inl z) = z
+    by (inr same) = absurd (n (subst (λ i. one j i ≡ 1) same (one_same j)))
+
+-- who hears its bell is due
+pub rung_due : (t : Turn) (k : ℕ) → rung t k ≡ 1 → IsDue k t
+rung_due Free k e = absurd (omega (arith, e))
+rung_due (Held j) k e = absurd (omega (arith, e))
+rung_due (Owed j c) k e = by (one_bit j k)
+  where
+    by : (one j k ≡ 0) ⊎ (j ≡ k) → IsDue k (Owed j c)
+    by (inl z) = absurd (omega (arith, z, e))
+    by (inr same) = owed c (ap (λ i. Owed i c) same)
+rung_due (Return j) k e = by (one_bit j k)
+  where
+    by : (one j k ≡ 0) ⊎ (j ≡ k) → IsDue k (Return j)
+    by (inl z) = absurd (omega (arith, z, e))
+    by (inr same) = returning (ap (λ i. Return i) same)
+
+pub due_busy : (k : ℕ) (t : Turn) → IsDue k t → t ≢ Free
+due_busy k t (owed c is) e = let no : Owed k c ≡ Free = sym is ∙ e in cc
+due_busy k t (returning is) e = let no : Return k ≡ Free = sym is ∙ e in cc
+
+-- nobody is admitted where the turn isn't free
+pub no_admit : {D : Type 0} (f : History D) (e : Event D) → Allowed f e → turn f.events ≢ Free → is_admit e ≡ false
+no_admit f (Admit k s) may busy = absurd (busy may.fits.0)
+no_admit f (Wait k c p s) may busy = refl
+no_admit f (Signal k c w s) may busy = refl
+no_admit f (Pass k c w s) may busy = refl
+no_admit f (Leave k s) may busy = refl
+no_admit f (Resume k c s) may busy = refl
+no_admit f (Back k s) may busy = refl
+
+pub held_busy : (k : ℕ) (t : Turn) → t ≡ Held k → t ≢ Free
+held_busy k t is e = let no : Held k ≡ Free = sym is ∙ e in cc
+
+-- the next ticket's word
+pub next_word : (first x : ℕ) → ((first + x) % 2 ^ 64 + 1) % 2 ^ 64 ≡ (first + (x + 1)) % 2 ^ 64
+next_word first x = mod-add-mod (first + x) (2 ^ 64) 1 ∙ ap (λ n. n % 2 ^ 64) (let same : first + x + 1 ≡ first + (x + 1) = omega arith in same)
+
+-- a ticket not far ahead of who is served has the word of who is served only if it is it
+pub served_only : (first served x : ℕ) → served ≤ x → x < served + 66 → (first + served) % 2 ^ 64 ≡ (first + x) % 2 ^ 64 → served ≡ x
+served_only first served x le lt e = let same = one_turn (first + served) (first + x) (2 ^ 64) (omega (arith, le)) (omega (arith, lt)) e in omega (arith, same)

@@ -1,0 +1,66 @@
+use Rattle.std.proofs.Common.{◌<◌, sym, ap, ◌∙◌, subst, Some, [], ◌∷◌, arith}
+use mathlib.Core.Option.{none}
+use Rattle.atomic_table.specs.Table.{step}
+use Rattle.wait_book.specs.Contents.{IsPlaceBelow}
+use Rattle.door_frame.specs.Steps.{Sat, Gives}
+use Rattle.door_frame.proofs.Departures.{gives_gone}
+use Rattle.ticket_door.specs.Asked.{TicketDoorId}
+use Rattle.ticket_door.proofs.Serving.{gives_open_at}
+use Rattle.ticket_door.proofs.Ringing.{gives_ring_at}
+use Rattle.ticket_door.proofs.door.TicketDoor.give.Goals as goal
+
+pub fetch_add-requires : goal.fetch_add-requires
+fetch_add-requires g c =
+    let e = c.requires.event in
+    let D = g.D.MonitorData in
+    let t = c.self.inside.table.shared in
+    let wide = c.self.invariant.words_are in
+    let laid = c.lay_parcel.ensures.laid ∙ ap (λ (m : Sat g.row.D.Denot). (m.0, (0, Some c.args.parcel) ∷ [])) e.1 in
+    let gives = subst (Gives D.rest D.ready g.J.PickedEvent.event c.args.place e.0 c.args.parcel) c.in-Free.is e.2 in (
+      c.lay_parcel.ensures.table ∙ c.requires.table ∙ ap (λ (d : TicketDoorId). d.door.table) (sym c.self.view_is),
+      omega (arith, wide),
+      gives_open_at t.key.first t.key.places D.rest D.ready D.CONDITIONS _ _ c.args.place e.0 c.args.parcel g.J.PickedEvent.event
+          (step t.table_id.slots 0 1 0 none) _ laid gives,
+    )
+
+pub bell_of-requires : goal.bell_of-requires
+bell_of-requires g c =
+    let below : c.in-For.resumed < c.args.self.now.door.places = subst (IsPlaceBelow c.args.self.now.door.places) c.in-For.is c.requires.next in
+    let places = ap (λ (d : TicketDoorId). d.door.places) c.self.view_is in
+    let most = c.self.invariant.most in
+    omega (arith, below, places, most)
+
+pub store-requires : goal.store-requires
+store-requires g c =
+    let e = c.requires.event in
+    let D = g.D.MonitorData in
+    let t = c.self.inside.table.shared in
+    let j = c.in-For.resumed in
+    let wide = c.self.invariant.words_are in
+    let places = ap (λ (d : TicketDoorId). d.door.places) c.self.view_is in
+    let asked : j < c.args.self.now.door.places = subst (IsPlaceBelow c.args.self.now.door.places) c.in-For.is c.requires.next in
+    let below : j < t.key.places = omega (arith, asked, places) in
+    let laid = c.lay_parcel.ensures.laid ∙ ap (λ (m : Sat g.row.D.Denot). (m.0, (0, Some c.args.parcel) ∷ [])) e.1 in
+    let gives = subst (Gives D.rest D.ready g.J.PickedEvent.event c.args.place e.0 c.args.parcel) c.in-For.is e.2 in (
+      c.lay_parcel.ensures.table ∙ c.requires.table ∙ ap (λ (d : TicketDoorId). d.door.table) (sym c.self.view_is),
+      omega (arith, wide, below, c.bell_of.ensures),
+      gives_ring_at t.key.first t.key.places D.rest D.ready D.CONDITIONS _ _ c.args.place j e.0 c.args.parcel g.J.PickedEvent.event _
+          _ below laid gives c.bell_of.ensures,
+    )
+
+pub wake-requires : goal.wake-requires
+wake-requires g c = subst (IsPlaceBelow c.args.self.now.door.places) c.in-For.is c.requires.next
+
+pub unreachable-requires : goal.unreachable-requires
+unreachable-requires g c =
+    let e = c.requires.event in
+    let D = g.D.MonitorData in
+    gives_gone D.rest D.ready g.J.PickedEvent.event c.args.place e.0 c.args.parcel c.args.next _ e.2 c.in-Held.is
+
+pub returns-in-Free-clause-away : goal.returns-in-Free-clause-away
+returns-in-Free-clause-away g c = λ f is.
+    c.fetch_add.ensures.2 c.args.place f c.args.parcel (c.lay_parcel.ensures.laid ∙ ap (λ (m : Sat g.row.D.Denot). (m.0, (0, Some c.args.parcel) ∷ [])) is)
+
+pub returns-in-For-clause-away : goal.returns-in-For-clause-away
+returns-in-For-clause-away g c = λ f is.
+    c.store.ensures.2 c.args.place f c.args.parcel (c.lay_parcel.ensures.laid ∙ ap (λ (m : Sat g.row.D.Denot). (m.0, (0, Some c.args.parcel) ∷ [])) is)

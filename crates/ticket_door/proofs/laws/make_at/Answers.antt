@@ -1,0 +1,28 @@
+use Rattle.std.proofs.Common.{ℕ, ap, sym, ◌∙◌, [], subst}
+use Rattle.hoare_law.specs.Events.{opened}
+use Rattle.hoare_law.specs.Priorities.{nobody}
+use Rattle.door_frame.specs.Places.{DoorId, places_from}
+use Rattle.door_frame.specs.declared.view.View.TheVariants.{Places}
+use Rattle.door_frame.specs.Views.{all_know}
+use Rattle.door_frame.proofs.Opened.{made_outside}
+use Rattle.ticket_door.specs.declared.rule.Sizes.{Sizes}
+use Rattle.ticket_door.proofs.laws.make_at.Goals as goal
+
+pub deal-outs-requires-clause-seat : goal.deal-outs-requires-clause-seat
+deal-outs-requires-clause-seat g c =
+    let key = ap (λ (z : Sizes). z.places) c.in-Ok-vacant.ensures.table.2 in
+    let h = opened c.in-Ok-vacant.made.0.shared.key.places g.D.MonitorData.CONDITIONS c.in-Ok-vacant.made.2.state in
+    (h, c.open.ensures.opened ∙ ap (λ (n : ℕ). (Places (all_know 0 n h), [])) key)
+
+pub returns-clause-of : goal.returns-clause-of
+returns-clause-of g c =
+    let D = g.D.MonitorData in
+    let made = c.in-Ok-vacant.ensures in
+    let t = c.in-Ok-vacant.made.0.shared in
+    let key = ap (λ (z : Sizes). z.places) made.table.2 in
+    let s = c.in-Ok-vacant.made.2.state in
+    let h = opened t.key.places D.CONDITIONS s in
+    let d : DoorId = record { table = t.table_id; places = t.key.places } in
+    let dealt = c.deal-outs.ensures h (c.open.ensures.opened ∙ ap (λ (n : ℕ). (Places (all_know 0 n h), [])) key) in
+    made_outside D.rest D.ready D.CONDITIONS d s _ (dealt ∙ ap (λ (n : ℕ). places_from t.table_id 0 n h) (sym key))
+    (subst (λ (r : g.row.D.Denot). D.rest r nobody) (sym made.parcel.0) c.requires.rest)

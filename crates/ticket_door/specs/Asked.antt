@@ -1,0 +1,55 @@
+-- A place that asked, as a contract sees it, and when it comes in.
+use Rattle.std.specs.Prelude.{◌≡◌, ℕ, ◌+◌, ◌%◌, ◌^◌, true, unwrap_or, [], ◌∷◌}
+use Rattle.atomic_table.specs.Seated.{TableId}
+use Rattle.hoare_law.specs.declared.event.Event.{Event}
+use Rattle.hoare_law.specs.declared.event.History.{History}
+use Rattle.hoare_law.specs.Events.{with_event}
+use Rattle.hoare_law.specs.Lawful.{Rest, Ready}
+use Rattle.door_frame.specs.declared.view.View.{View}
+use Rattle.door_frame.specs.declared.view.View.TheVariants.{Places}
+use Rattle.door_frame.specs.Places.{DoorId, PlaceOut, IsOut, place_out}
+use Rattle.door_frame.specs.Steps.{Sat}
+use Rattle.door_frame.specs.Views.{asking}
+use Rattle.hoare_law.specs.Admissions.{is_admit, admissions}
+use Rattle.ticket_door.specs.declared.rule.Sizes.{Sizes}
+
+-- a ticket door: its identity and number of places, and its first ticket
+pub record TicketDoorId : Type 0 where
+  pub door : DoorId
+  pub first : ℕ
+
+abbrev pub ticket_door : TableId → Sizes → TicketDoorId
+ticket_door z key = record { door = record { table = z; places = key.places }; first = key.first }
+
+-- a place that asked: number counts the tickets from 0, and ticket is that number with the first ticket added, modulo 2^64
+pub record PlaceAsked (D : Type 0) : Type 0 where
+  pub table : TableId
+  pub place : ℕ
+  pub front : History D
+  pub number : ℕ
+  pub ticket : ℕ
+
+module _ {D : Type 0} where
+  abbrev pub number_of : View D → ℕ
+  number_of (Places (t ∷ ts)) = unwrap_or t.ticket 0
+  number_of _ = 0
+
+  abbrev pub IsAsking : ℕ → History D → ℕ → Sat D → Type 0
+  IsAsking k f x me = me ≡ (asking k f x, [])
+
+  abbrev pub as_out : PlaceAsked D → PlaceOut D
+  as_out a = place_out a.table a.place a.front
+
+  module _ (rest : Rest D) (ready : Ready D) (conditions : ℕ) where
+    -- it is of the door and outside, and its ticket is of its number
+    pub record IsAsked (d : TicketDoorId) (a : PlaceAsked D) : Type 0 where
+      pub out : IsOut rest ready conditions d.door (as_out a)
+      pub ticket_is : a.ticket ≡ (d.first + a.number) % 2 ^ 64
+
+  -- h ends with an admission, and it is the one that is due to the ticket: the i-th, counted from 0, has the ticket first + i
+  pub record EntersBy (first ticket : ℕ) (h : History D) : Type 0 where
+    pub before : History D
+    pub event : Event D
+    pub is : h ≡ with_event before event
+    pub admits : is_admit event ≡ true
+    pub in_turn : ticket ≡ (first + admissions before.events) % 2 ^ 64

@@ -1,0 +1,5 @@
+pub mod Queue
+pub mod Rule
+pub mod Steps
+pub mod Asked
+pub mod Meeting

@@ -1,0 +1,62 @@
+-- What the words NEXT and SERVING and the bells say.
+use Rattle.std.specs.Prelude.{◌≡◌, ℕ, ◌+◌, ◌*◌, ◌%◌, ◌^◌, ◌<◌, ◌≤◌, Bool, List, slice_index, length}
+use Rattle.hoare_law.specs.declared.event.History.{History}
+use Rattle.hoare_law.specs.declared.turn.Turn.{Turn}
+use Rattle.hoare_law.specs.declared.turn.Turn.TheVariants.{Free, Held, Owed, Return}
+use Rattle.hoare_law.specs.Turns.{turn}
+use Rattle.wait_book.specs.Contents.{one, times}
+use Rattle.door_frame.specs.Rule.{Tickets}
+use Rattle.hoare_law.specs.Admissions.{admissions}
+use Rattle.ticket_door.specs.Queue.{ticket_in}
+
+-- where each word stands: one to a line of the cache
+abbrev pub next_at : ℕ
+next_at = 8
+
+abbrev pub serving_at : ℕ
+serving_at = 0
+
+abbrev pub bell_at : ℕ → ℕ
+bell_at k = 8 * k + 16
+
+-- 1 where it is somebody's turn, else 0
+abbrev pub taken : Turn → ℕ
+taken Free = 0
+taken _ = 1
+
+-- the bell of place k, by whose turn it is: 1 where the monitor is owed to k, or returns to it
+abbrev pub rung : Turn → ℕ → ℕ
+rung Free k = 0
+rung (Held j) k = 0
+rung (Owed j c) k = one j k
+rung (Return j) k = one j k
+
+-- before the door opens
+pub record Starts (first n : ℕ) (begun : Bool) (words : List ℕ) : Type 0 where
+  pub words_are : length words ≡ 8 * n + 16
+  pub next : slice_index words next_at ≡ first % 2 ^ 64
+  pub serving : slice_index words serving_at ≡ first % 2 ^ 64
+  pub bells : (k : ℕ) → k < n → slice_index words (bell_at k) ≡ 0
+
+-- of a door with n places whose first ticket is `first`. Tickets are counted from 0; the words have them with `first` added, modulo 2^64
+pub record Tells {D : Type 0} (first n : ℕ) (log : History D) (tickets : Tickets) (words : List ℕ) : Type 0 where
+  pub words_are : length words ≡ 8 * n + 16
+  -- who asked, in the order of tickets: from the number of those let in on, each once
+  pub queue : List ℕ
+  pub once : (k : ℕ) → times k queue ≤ 1
+  pub below : (k : ℕ) → 0 < times k queue → k < n
+  pub tickets_are : (k : ℕ) → tickets k ≡ ticket_in (admissions log.events) queue k
+  pub next : slice_index words next_at ≡ (first + (admissions log.events + length queue)) % 2 ^ 64
+  -- how often the monitor was opened to newcomers: as often as one was let in, but for the turn that lasts
+  pub served : ℕ
+  pub due : served + taken (turn log.events) ≡ admissions log.events
+  pub serving : slice_index words serving_at ≡ (first + served) % 2 ^ 64
+  pub bells : (k : ℕ) → k < n → slice_index words (bell_at k) ≡ rung (turn log.events) k
+
+-- the door's sizes: of a table with so many words and slots, of so many places, with so many wakers
+pub record Sized (words slots places wakers : ℕ) : Type 0 where
+  pub words_are : words ≡ 8 * places + 16
+  pub slots_are : slots ≡ 1
+  pub some : 0 < places
+  pub most : places ≤ 64
+  pub each_wakes : wakers ≡ places

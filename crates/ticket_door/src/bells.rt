@@ -1,0 +1,78 @@
+//! Who gives the monitor up opens the door to newcomers or rings a bell, and who is rung comes back.
+//!
+//! No ring is lost. Who waits tests its bell before it parks and after each waking (`Turnstile::claim`). Who hands over rings
+//! first and wakes the place then. So where the test came before the ring, the waking comes after the test; and a parker
+//! keeps one permit, so the park that follows returns at once. What a permit of an earlier wait wakes finds the bell silent,
+//! and parks again.
+ghost use Rattle.std.specs.Prelude.{◌≡◌, ℕ, ◌<◌, [], ◌∷◌, None};
+ghost use Rattle.hoare_law.specs.declared.event.History.{History};
+ghost use Rattle.hoare_law.specs.Events.{with_event};
+ghost use Rattle.wait_book.specs.Contents.{IsPlaceBelow};
+ghost use Rattle.door_frame.specs.Views.{alone};
+ghost use Rattle.door_frame.specs.Steps.{MayGive};
+ghost use Rattle.door_frame.specs.Seats.{IsAway};
+
+use crate::door::TicketDoor;
+use crate::words::{RUNG, SERVING, bell_of};
+use door_frame::departure::Departure;
+use door_frame::parcel::Parcel;
+use door_frame::plays::{DoorSeat, Give, PickedEvent};
+use door_frame::slot::lay_parcel;
+use door_frame::turnstile::LOOKS;
+use hoare_law::data::MonitorData;
+use std::hint;
+use wait_book::steps::Next;
+
+impl<D: MonitorData> TicketDoor<D> {
+    /// Looks at the bell a while, until it rings.
+    pub(crate) fn listen(&self, place: usize)
+        requires { place < self.now.door.places }
+    {
+        let table = &self.table;
+        let bell = bell_of(place);
+        for _ in 0..LOOKS {
+            if table.shared.peek(bell) == RUNG {
+                return;
+            }
+            hint::spin_loop();
+        }
+    }
+
+    /// Gives the parcel back by an event that the call picks. `departure` is there for the pick alone.
+    #[inline]
+    pub(crate) fn give<J: PickedEvent<D>>(
+        &self,
+        seat: &mut DoorSeat<D>,
+        parcel: Parcel<D>,
+        place: usize,
+        departure: Departure,
+        next: Next,
+    )
+        requires table { seat.old.table_id ≡ self.now.door.table }
+        requires next { IsPlaceBelow self.now.door.places next }
+        requires event { MayGive D.rest D.ready J.event place seat.old.me parcel next }
+        ensures table { seat.new.table_id ≡ seat.old.table_id }
+        ensures away { (f : History D) → seat.old.me ≡ (alone place f, (0, None) ∷ []) → IsAway place (with_event f (J.event parcel.state)) seat.new.me }
+    {
+        lay_parcel(&self.table, seat, parcel);
+        match next {
+            Next::Free => {
+                self.table.shared.fetch_add::<Give<J>>(seat, SERVING, 1);
+            }
+            Next::For(resumed) => {
+                self.table
+                    .shared
+                    .store::<Give<J>>(seat, bell_of(resumed), RUNG);
+                self.wake(resumed);
+            }
+            Next::Held(_) => unreachable!(),
+        }
+    }
+
+    /// Wakes a place, or lets its next park return at once.
+    fn wake(&self, place: usize)
+        requires { place < self.now.door.places }
+    {
+        self.wakers[place].unpark();
+    }
+}

@@ -1,0 +1,95 @@
+//! A door with another first ticket.
+ghost use Rattle.std.specs.Prelude.{◌≡◌, ◌≤◌, ◌<◌, ◌⊎◌, [], false, IfOk, IfErr, None, Some, All};
+ghost use Rattle.hoare_law.specs.Events.{opened};
+ghost use Rattle.hoare_law.specs.Priorities.{nobody};
+ghost use Rattle.wait_book.specs.Contents.{IsOf, make_refusal};
+ghost use Rattle.door_frame.specs.declared.view.View.TheVariants.{Unopened, Places};
+ghost use Rattle.door_frame.specs.Views.{all_know};
+ghost use Rattle.door_frame.specs.Places.{places_from};
+ghost use Rattle.ticket_door.specs.Rule.{Starts};
+
+use crate::door::TicketDoor;
+use crate::place::TicketOut;
+use crate::rule::{Sizes, TicketTable, TicketWords};
+use crate::words::{NEXT, SERVING};
+use door_frame::making::{deal, parkers, vacant};
+use door_frame::parcel::Parcel;
+use door_frame::plays::{Begin, DoorSeat, Open};
+use door_frame::slot::lay_parcel;
+use hoare_law::data::MonitorData;
+use hoare_law::monitor::Monitor;
+use std::alloc::{AllocError, Global};
+use wait_book::book::Book;
+use wait_book::steps::MakeRefused;
+
+/// NEXT and SERVING are the first ticket, and no bell was rung.
+fn first_words(alloc: Global, places: usize, first: u64) -> Result<Vec<u64>, AllocError>
+    requires { places ≤ 64 }
+    ensures { IfOk result (λ w. Starts first places false w.items) }
+{
+    let mut words = vec![in alloc; 0; 8 * places + 16]?;
+    words[NEXT] = first;
+    words[SERVING] = first;
+    Ok(words)
+}
+
+/// The door opens: the first seat takes the empty slot, and gives it back with the data. Both steps are looks.
+fn open<D: MonitorData>(table: &TicketTable<D>, seat: &mut DoorSeat<D>, parcel: Parcel<D>)
+    requires table { (seat.old.table_id ≡ table.now.shared.table_id)
+        × (0 < table.now.shared.table_id.words) }
+    requires seat { seat.old.me ≡ (Unopened table.now.shared.key.places, []) }
+    requires rest { D.rest parcel.state nobody }
+    requires book { IsOf parcel.book (opened table.now.shared.key.places D.CONDITIONS tt) }
+    ensures table { seat.new.table_id ≡ seat.old.table_id }
+    ensures opened { seat.new.me ≡ (
+      Places (all_know 0 table.now.shared.key.places
+          (opened table.now.shared.key.places D.CONDITIONS parcel.state)),
+      [],
+    ) }
+{
+    table.shared.load::<Begin>(seat, SERVING);
+    lay_parcel(table, seat, parcel);
+    table.shared.load::<Open>(seat, SERVING);
+}
+
+/// `TicketDoor::make`, with this first ticket.
+pub fn make_at<D: MonitorData + Send>(
+    alloc: Global,
+    state: D,
+    places: usize,
+    first: u64,
+) -> Result<(TicketDoor<D>, Vec<TicketOut<D>>), (D, MakeRefused)>
+    requires rest { D.rest state nobody }
+    ensures made { IfOk result (λ r. (make_refusal places D.CONDITIONS ≡ None)
+        × (r.0.door.places ≡ places) × (r.0.first ≡ first)) }
+    ensures of { IfOk result (λ r. All (⟦<TicketDoor<D> as Monitor<D>>⟧.is_of r.0) r.1.items) }
+    ensures places { IfOk result (λ r. r.1.items ≡ places_from r.0.door.table 0 places
+        (opened places D.CONDITIONS state)) }
+    ensures returned { IfErr result (λ e. e.0 ≡ state) }
+    ensures refused { IfErr result (λ e. (make_refusal places D.CONDITIONS ≡ Some e.1)
+        ⊎ ((make_refusal places D.CONDITIONS ≡ None) × (e.1 ≡ MakeRefused.Memory))) }
+{
+    let book = match Book::make(alloc, places, D::CONDITIONS) {
+        Ok(book) => book,
+        Err(refused) => return Err((state, refused)),
+    };
+    let Ok((parkers, wakers)) = parkers(alloc, places) else {
+        return Err((state, MakeRefused::Memory));
+    };
+    let Ok(outs) = Vec::with_capacity(alloc, places) else {
+        return Err((state, MakeRefused::Memory));
+    };
+    let Ok(words) = first_words(alloc, places, first) else {
+        return Err((state, MakeRefused::Memory));
+    };
+    let sizes = Sizes { places, first };
+    let (table, mut seat, parcel) = match vacant::<D, Sizes, TicketWords>(
+        alloc, state, book, &words, &sizes,
+    ) {
+        Ok(made) => made,
+        Err(state) => return Err((state, MakeRefused::Memory)),
+    };
+    open(&table, &mut seat, parcel);
+    let outs = deal(&table, seat, parkers, outs, places);
+    Ok((TicketDoor { table, wakers }, outs))
+}

@@ -1,0 +1,14 @@
+//! The running monitor by tickets and bells. Its history stands in the proofs alone.
+#![tactic(auto)]
+
+mod bells;
+pub mod door;
+pub mod laws;
+mod meeting;
+mod monitor;
+pub mod place;
+mod rule;
+#[cfg(test)]
+mod tests;
+mod tickets;
+mod words;

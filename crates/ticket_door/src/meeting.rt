@@ -1,0 +1,35 @@
+//! Two places meet.
+ghost use Rattle.std.specs.Prelude.{◌≡◌};
+ghost use Rattle.door_frame.specs.Places.{IsOut};
+ghost use Rattle.ticket_door.specs.Meeting.{Meets};
+
+use crate::door::TicketDoor;
+use crate::place::TicketOut;
+use crate::words::SERVING;
+use door_frame::place::Outside;
+use door_frame::plays::{Deal, Gather, Learn};
+use hoare_law::data::MonitorData;
+
+impl<D: MonitorData> TicketDoor<D> {
+    /// Two places outside meet: afterwards both know one history, which begins with what each of them knew, and in which
+    /// each did nothing that it doesn't know of. They come back in the order in which they were handed in.
+    pub fn meet(&self, a: TicketOut<D>, b: TicketOut<D>) -> (TicketOut<D>, TicketOut<D>)
+        requires a { IsOut D.rest D.ready D.CONDITIONS self.now.door a }
+        requires b { IsOut D.rest D.ready D.CONDITIONS self.now.door b }
+        ensures a { IsOut D.rest D.ready D.CONDITIONS self.now.door result.0 }
+        ensures b { IsOut D.rest D.ready D.CONDITIONS self.now.door result.1 }
+        ensures places { (result.0.place ≡ a.place) × (result.1.place ≡ b.place) }
+        ensures met { Meets a b result.0 result.1 }
+    {
+        let table = &self.table;
+        let (mut seat, place, parker) = a.into_parts();
+        let (other, other_place, other_parker) = b.into_parts();
+        table.shared.join_seat::<Gather>(&mut seat, other);
+        table.shared.load::<Learn>(&mut seat, SERVING);
+        let cut = table.shared.split_seat::<Deal>(&mut seat);
+        (
+            Outside::of_parts(seat, place, parker),
+            Outside::of_parts(cut, other_place, other_parker),
+        )
+    }
+}

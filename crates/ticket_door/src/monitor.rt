@@ -1,0 +1,183 @@
+//! The calls of a monitor, on a ticket door.
+ghost use Rattle.std.specs.Prelude.{◌≡◌, ℕ, [], ◌∷◌, None};
+ghost use Rattle.hoare_law.specs.declared.event.History.{History};
+ghost use Rattle.hoare_law.specs.Events.{with_event};
+ghost use Rattle.wait_book.specs.Contents.{IsPlaceBelow};
+ghost use Rattle.door_frame.specs.Views.{alone};
+ghost use Rattle.door_frame.specs.Steps.{MayGive};
+ghost use Rattle.door_frame.specs.Seats.{IsAway};
+ghost use Rattle.door_frame.specs.Departures.{event_of};
+
+use crate::door::TicketDoor;
+use crate::place::{TicketIn, TicketOut};
+use crate::rule::Hear;
+use crate::words::{RUNG, SILENT, bell_of};
+use crossbeam_utils::sync::Parker;
+use door_frame::calls;
+use door_frame::departure::Departure;
+use door_frame::parcel::Parcel;
+use door_frame::plays::DoorSeat;
+use door_frame::slot::take_parcel;
+use door_frame::turnstile::Turnstile;
+use hoare_law::data::MonitorData;
+use hoare_law::monitor::Monitor;
+use std::marker::Brand;
+use std::sync::Wait;
+use wait_book::book::Book;
+use wait_book::steps::Next;
+
+impl<D: MonitorData> Turnstile<D> for TicketDoor<D> {
+    ghost id = { λ d. d.door };
+
+    #[inline]
+    fn admit<R: Wait>(&self, rt: &R, seat: &mut DoorSeat<D>, place: usize) -> Parcel<D> {
+        let ticket = self.draw::<Brand>(seat, place);
+        self.served::<Brand, R>(rt, seat, place, ticket)
+    }
+
+    /// It listens a while, then tests its bell and parks, until the test finds that it was rung.
+    fn claim<R: Wait>(
+        &self,
+        rt: &R,
+        seat: &mut DoorSeat<D>,
+        place: usize,
+        parker: &Parker,
+    ) -> Parcel<D> {
+        let table = &self.table;
+        let bell = bell_of(place);
+        self.listen(place);
+        for _ in rt.forever() {
+            if table.shared.swap::<Hear>(seat, bell, SILENT) == RUNG {
+                return take_parcel(table, seat);
+            }
+            parker.park(rt);
+        }
+        unreachable!()
+    }
+
+    #[inline]
+    fn hand_on(
+        &self,
+        seat: &mut DoorSeat<D>,
+        parcel: Parcel<D>,
+        place: usize,
+        departure: Departure,
+        next: Next,
+    )
+        requires table { seat.old.table_id ≡ self.now.door.table }
+        requires next { IsPlaceBelow self.now.door.places next }
+        requires event { MayGive D.rest D.ready (event_of place departure next) place seat.old.me parcel next }
+        ensures table { seat.new.table_id ≡ seat.old.table_id }
+        ensures away { (f : History D) → seat.old.me ≡ (alone place f, (0, None) ∷ []) → IsAway place (with_event f (event_of place departure next parcel.state)) seat.new.me }
+    {
+        self.give::<Brand>(seat, parcel, place, departure, next);
+    }
+}
+
+impl<D: MonitorData + Send> Monitor<D> for TicketDoor<D> {
+    ghost use Rattle.std.specs.Prelude.{◌≡◌, ◌≢◌, ◌<◌, ℕ, refl};
+    ghost use Rattle.hoare_law.specs.Priorities.{priorities};
+    ghost use Rattle.hoare_law.proofs.Priorities.{IsNonDecreasing-priorities};
+    ghost use Rattle.door_frame.specs.Places.{PlaceIn, IsOut, IsIn, with_state};
+
+    type Out = TicketOut<D>;
+
+    type In = TicketIn<D>;
+
+    type Lists = Book;
+
+    ghost is_of = { λ m o. IsOut D.rest D.ready D.CONDITIONS m.door o };
+
+    ghost is_of_in = { λ m i. IsIn D.rest D.ready D.CONDITIONS m.door i };
+
+    ghost place = { λ o. o.place };
+
+    ghost place_in = { λ i. i.place };
+
+    ghost data_in = { λ i. i.state };
+
+    ghost lists_in = { λ i. priorities i.front.events };
+
+    ghost front = { λ o. o.front };
+
+    ghost front_in = { λ i. i.front };
+
+    ghost with_data = { λ i d. with_state i d };
+
+    #[inline]
+    fn enter<R: Wait>(&self, rt: &R, out: TicketOut<D>) -> TicketIn<D> {
+        calls::enter(self, rt, out)
+    }
+
+    #[inline]
+    fn leave<R: Wait>(&self, rt: &R, inside: TicketIn<D>) -> TicketOut<D> {
+        calls::leave(self, inside)
+    }
+
+    fn wait<R: Wait>(
+        &self,
+        rt: &R,
+        inside: TicketIn<D>,
+        condition: usize,
+        priority: u64,
+    ) -> TicketIn<D> {
+        calls::wait(self, rt, inside, condition, priority)
+    }
+
+    fn signal<R: Wait>(
+        &self,
+        rt: &R,
+        inside: TicketIn<D>,
+        condition: usize,
+    ) -> (TicketIn<D>, bool) {
+        calls::signal(self, rt, inside, condition)
+    }
+
+    fn signal_leave<R: Wait>(
+        &self,
+        rt: &R,
+        inside: TicketIn<D>,
+        condition: usize,
+    ) -> (TicketOut<D>, bool) {
+        calls::signal_leave(self, inside, condition)
+    }
+
+    fn state<'a>(&self, inside: &'a TicketIn<D>) -> &'a D {
+        inside.state()
+    }
+
+    fn state_mut<'a>(inside: &'a mut TicketIn<D>, monitor: &Self) -> &'a mut D {
+        let parcel = &mut inside.parcel;
+        &mut parcel.held.state
+    }
+
+    fn lists<'a>(&self, inside: &'a TicketIn<D>) -> &'a Book {
+        inside.lists()
+    }
+
+    fn queue(&self, inside: &TicketIn<D>, condition: usize) -> bool {
+        inside.queue(condition)
+    }
+
+    fn first(&self, inside: &TicketIn<D>, condition: usize) -> Option<u64> {
+        inside.first(condition)
+    }
+
+    ghost stands = { λ m o h. (h.stands, h.conditions_are, h.is_outside) };
+
+    ghost stands_in = { λ m i h. (h.stands, h.conditions_are, h.is_inside) };
+
+    ghost lists_are = { λ m i h. refl };
+
+    ghost rise = { λ m i c h. IsNonDecreasing-priorities i.front.events c };
+
+    ghost takes_data = { λ i d. refl };
+
+    ghost keeps_of = { λ m i d h. record { of = h.of; places = h.places; conditions_are = h.conditions_are; stands = h.stands; is_inside = h.is_inside } };
+
+    ghost keeps_place = { λ i d. refl };
+
+    ghost keeps_lists = { λ i d. refl };
+
+    ghost keeps_front = { λ i d. refl };
+}

@@ -1,0 +1,156 @@
+//! Newcomers: they draw a ticket, and come in when it is served.
+ghost use Rattle.std.specs.Prelude.{◌≡◌, ◌≢◌, ◌<◌, ◌↔◌, ℕ, ◌+◌, ◌%◌, ◌^◌, [], true, IsTrue, slice_index, None};
+ghost use Rattle.hoare_law.specs.Events.{with_event};
+ghost use Rattle.hoare_law.specs.Growth.{Exits};
+ghost use Rattle.hoare_law.specs.declared.event.History.{History};
+ghost use Rattle.hoare_law.specs.declared.event.Event.TheVariants as event;
+ghost use Rattle.hoare_law.specs.Growth.{AddsLast};
+ghost use Rattle.hoare_law.specs.Priorities.{priorities, taken};
+ghost use Rattle.hoare_law.specs.Turns.{outside};
+ghost use Rattle.door_frame.specs.Places.{IsOut, IsIn};
+ghost use Rattle.door_frame.specs.Seats.{IsAway};
+ghost use Rattle.door_frame.specs.Steps.{Came};
+ghost use Rattle.ticket_door.specs.Asked.{IsAsking, IsAsked, EntersBy};
+ghost use Rattle.hoare_law.specs.Admissions.{admissions};
+
+use crate::door::TicketDoor;
+use crate::place::{Asked, TicketIn, TicketOut};
+use crate::rule::{Ask, Counting, Look};
+use crate::words::{NEXT, SERVING};
+use door_frame::calls;
+use door_frame::calls::brought_in;
+use door_frame::parcel::Parcel;
+use door_frame::plays::DoorSeat;
+use door_frame::slot::take_parcel;
+use hoare_law::data::MonitorData;
+use std::marker::Brand;
+use std::sync::Wait;
+use std::{hint, thread};
+
+/// How often a newcomer whose ticket is the next looks before it yields.
+const LOOKS: u64 = 4000;
+
+/// How many tickets ahead a newcomer looks on at all.
+const NEAR: u64 = 3;
+
+impl<D: MonitorData> TicketDoor<D> {
+    /// Draws the next ticket.
+    #[inline]
+    pub(crate) fn draw<J: Counting>(&self, seat: &mut DoorSeat<D>, place: usize) -> u64
+        requires table { seat.old.table_id ≡ self.now.door.table }
+        requires first { self.now.first ≡ J.first }
+        requires away { (f : History D) × IsAway place f seat.old.me }
+        ensures table { seat.new.table_id ≡ seat.old.table_id }
+        ensures drawn { (f : History D) → IsAway place f seat.old.me → (x : ℕ)
+            × IsAsking place f x seat.new.me × (result ≡ (self.now.first + x) % 2 ^ 64) }
+    {
+        self.table.shared.fetch_add::<Ask<J>>(seat, NEXT, 1)
+    }
+
+    /// Looks until the ticket is served, and takes the parcel.
+    pub(crate) fn served<J: Counting, R: Wait>(
+        &self,
+        rt: &R,
+        seat: &mut DoorSeat<D>,
+        place: usize,
+        ticket: u64,
+    ) -> Parcel<D>
+        requires table { seat.old.table_id ≡ self.now.door.table }
+        requires first { self.now.first ≡ J.first }
+        requires asked { (f : History D) × (x : ℕ) × IsAsking place f x seat.old.me × (ticket
+            ≡ (self.now.first + x) % 2 ^ 64) × (outside place f.events ≡ true) }
+        ensures table { seat.new.table_id ≡ seat.old.table_id }
+        ensures came { (f : History D) (x : ℕ) → IsAsking place f x seat.old.me
+            → (c : Came D.rest D.ready place f (event.Admit place) result None seat.new.me)
+            × (admissions c.log.events ≡ x) }
+    {
+        let table = &self.table;
+        for _ in rt.forever() {
+            let serving = table.shared.load::<Look<J>>(seat, SERVING);
+            if serving == ticket {
+                return take_parcel(table, seat);
+            }
+            self.stand_back(ticket, serving);
+        }
+        unreachable!()
+    }
+
+    /// Who is near looks on for a while, the nearer the longer; all yield then.
+    fn stand_back(&self, ticket: u64, serving: u64) {
+        let ahead = ticket.wrapping_sub(serving);
+        if 0 < ahead && ahead <= NEAR {
+            for _ in 0..LOOKS / ahead {
+                if self.table.shared.peek(SERVING) == ticket {
+                    return;
+                }
+                hint::spin_loop();
+            }
+        }
+        thread::yield_now();
+    }
+
+    /// Draws a ticket. The place is let in by it with `come_in`.
+    pub fn ask(&self, out: TicketOut<D>) -> Asked<D>
+        requires { IsOut D.rest D.ready D.CONDITIONS self.now.door out }
+        ensures of { IsAsked D.rest D.ready D.CONDITIONS self.now result }
+        ensures place { result.place ≡ out.place }
+        ensures front { result.front ≡ out.front }
+    {
+        let (mut seat, place, parker) = out.into_parts();
+        let ticket = self.draw::<Brand>(&mut seat, place);
+        Asked {
+            seat,
+            place,
+            parker,
+            ticket,
+        }
+    }
+
+    /// Comes in, once the ticket is served.
+    pub fn come_in<R: Wait>(&self, rt: &R, asked: Asked<D>) -> TicketIn<D>
+        requires { IsAsked D.rest D.ready D.CONDITIONS self.now asked }
+        ensures of { IsIn D.rest D.ready D.CONDITIONS self.now.door result }
+        ensures place { result.place ≡ asked.place }
+        ensures rest { D.rest result.state (priorities result.front.events) }
+        ensures front { AddsLast asked.front (event.Admit asked.place result.state) result.front }
+        ensures in_turn { EntersBy self.now.first asked.ticket result.front }
+    {
+        let Asked {
+            mut seat,
+            place,
+            parker,
+            ticket,
+        } = asked;
+        let parcel = self.served::<Brand, R>(rt, &mut seat, place, ticket);
+        brought_in(seat, place, parker, parcel)
+    }
+
+    /// `leave`, which waits for nobody.
+    pub fn give_up(&self, inside: TicketIn<D>) -> TicketOut<D>
+        requires of { IsIn D.rest D.ready D.CONDITIONS self.now.door inside }
+        requires rest { D.rest inside.state (priorities inside.front.events) }
+        ensures of { IsOut D.rest D.ready D.CONDITIONS self.now.door result }
+        ensures place { result.place ≡ inside.place }
+        ensures front { result.front ≡ with_event inside.front
+            (event.Leave inside.place inside.state) }
+    {
+        calls::leave(self, inside)
+    }
+
+    /// `signal_leave`, which waits for nobody.
+    pub fn hand_up(&self, inside: TicketIn<D>, condition: usize) -> (TicketOut<D>, bool)
+        requires of { IsIn D.rest D.ready D.CONDITIONS self.now.door inside }
+        requires in_range { condition < D.CONDITIONS }
+        requires ready { priorities inside.front.events condition ≢ [] → D.ready condition
+            (slice_index (priorities inside.front.events condition) 0) inside.state
+            (taken (priorities inside.front.events) condition) }
+        requires rest { priorities inside.front.events condition ≡ []
+            → D.rest inside.state (priorities inside.front.events) }
+        ensures of { IsOut D.rest D.ready D.CONDITIONS self.now.door result.0 }
+        ensures place { result.0.place ≡ inside.place }
+        ensures told { IsTrue result.1 ↔ (priorities inside.front.events condition ≢ []) }
+        ensures front { Exits inside.place condition inside.state inside.front result.0.front result.1 }
+    {
+        calls::signal_leave(self, inside, condition)
+    }
+}

@@ -9,8 +9,8 @@ macro_rules! run_row {
     }};
 }
 
-mod baton_door;
 mod fake;
 mod limit;
+mod on_baton_door;
 mod rows;
 mod running;

@@ -131,6 +131,6 @@ fn sixty_four_places_wait_on_eight_conditions(rt: HostRuntime) -> Result<(), Fai
     let row = Row {
         value: Vec::with_capacity(rt.alloc(), PLACES)?,
     };
-    let (row, _) = run_row!(rt, baton_door, stand_in_row(), row, PLACES);
+    let (row, _) = run_row!(rt, on_baton_door, stand_in_row(), row, PLACES);
     stands_in_order(&rt, rt.alloc(), row.value.as_slice())
 }

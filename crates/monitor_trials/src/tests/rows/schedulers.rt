@@ -195,7 +195,7 @@ where
 
 #[test]
 fn an_item_is_lent_and_comes_back(rt: HostRuntime) -> Result<(), Fail> {
-    let (_, answers) = run_row!(rt, baton_door, lend_and_borrow(), Single::with(7u64), 2);
+    let (_, answers) = run_row!(rt, on_baton_door, lend_and_borrow(), Single::with(7u64), 2);
     assert_eq!(rt; answers.as_slice(), [796, 8].as_slice());
     Ok(())
 }
@@ -203,7 +203,7 @@ fn an_item_is_lent_and_comes_back(rt: HostRuntime) -> Result<(), Fail> {
 #[test]
 fn items_come_out_of_one_cell_in_order(rt: HostRuntime) -> Result<(), Fail> {
     let buffer = Buffer::make(rt.alloc(), 1)?;
-    let (_, answers) = run_row!(rt, baton_door, append_and_remove(4), buffer, 2);
+    let (_, answers) = run_row!(rt, on_baton_door, append_and_remove(4), buffer, 2);
     assert_eq!(rt; answers.as_slice(), [0, 4].as_slice());
     Ok(())
 }
@@ -211,7 +211,7 @@ fn items_come_out_of_one_cell_in_order(rt: HostRuntime) -> Result<(), Fail> {
 #[test]
 fn items_come_out_of_the_most_cells_in_order(rt: HostRuntime) -> Result<(), Fail> {
     let buffer = Buffer::make(rt.alloc(), MOST_CELLS)?;
-    let (_, answers) = run_row!(rt, baton_door, append_and_remove(5000), buffer, 2);
+    let (_, answers) = run_row!(rt, on_baton_door, append_and_remove(5000), buffer, 2);
     assert_eq!(rt; answers.as_slice(), [0, 5000].as_slice());
     Ok(())
 }

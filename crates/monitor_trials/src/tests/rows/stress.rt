@@ -254,6 +254,6 @@ fn a_diary_is_a_legal_history(rt: HostRuntime) -> Result<(), Fail> {
     let pages = Pages {
         value: Diary::new(lines),
     };
-    let (pages, _) = run_row!(rt, baton_door, work_and_sweep(), pages, WORKERS + 1);
+    let (pages, _) = run_row!(rt, on_baton_door, work_and_sweep(), pages, WORKERS + 1);
     agrees(&rt, &pages.value)
 }

@@ -226,7 +226,7 @@ where
 
 #[test]
 fn what_is_written_is_found(rt: HostRuntime) -> Result<(), Fail> {
-    let (tally, answers) = run_row!(rt, baton_door, write_and_signal(), Tally { value: 0 }, 2);
+    let (tally, answers) = run_row!(rt, on_baton_door, write_and_signal(), Tally { value: 0 }, 2);
     assert_eq!(rt; answers.as_slice(), [56, 1].as_slice());
     assert_eq!(rt; tally.value, 6);
     Ok(())
@@ -234,14 +234,14 @@ fn what_is_written_is_found(rt: HostRuntime) -> Result<(), Fail> {
 
 #[test]
 fn four_thousand_additions(rt: HostRuntime) -> Result<(), Fail> {
-    let (tally, _) = run_row!(rt, baton_door, additions(), Tally { value: 0 }, 4);
+    let (tally, _) = run_row!(rt, on_baton_door, additions(), Tally { value: 0 }, 4);
     assert_eq!(rt; tally.value, 4000);
     Ok(())
 }
 
 #[test]
 fn signallers_return_in_order(rt: HostRuntime) -> Result<(), Fail> {
-    let (tally, _) = run_row!(rt, baton_door, signal_on(), Tally { value: 0 }, 3);
+    let (tally, _) = run_row!(rt, on_baton_door, signal_on(), Tally { value: 0 }, 3);
     assert_eq!(rt; tally.value, 1234);
     Ok(())
 }

@@ -164,7 +164,7 @@ where
 
 #[test]
 fn who_waits_sleeps_until_it_is_woken(rt: HostRuntime) -> Result<(), Fail> {
-    let (tally, answers) = run_row!(rt, baton_door, wait_long(), Tally { value: 0 }, 2);
+    let (tally, answers) = run_row!(rt, on_baton_door, wait_long(), Tally { value: 0 }, 2);
     assert_eq!(rt; tally.value, 12);
     assert!(rt; answers.iter().all(|millis| *millis < 30));
     Ok(())
@@ -172,7 +172,7 @@ fn who_waits_sleeps_until_it_is_woken(rt: HostRuntime) -> Result<(), Fail> {
 
 #[test]
 fn a_newcomer_comes_in_once_nobody_is_inside(rt: HostRuntime) -> Result<(), Fail> {
-    let (tally, _) = run_row!(rt, baton_door, come_late(), Tally { value: 0 }, 2);
+    let (tally, _) = run_row!(rt, on_baton_door, come_late(), Tally { value: 0 }, 2);
     assert_eq!(rt; tally.value, 12);
     Ok(())
 }

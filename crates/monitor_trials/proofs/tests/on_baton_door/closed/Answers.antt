@@ -1,6 +1,6 @@
 use Rattle.std.proofs.Common.{rules}
 use Rattle.monitor_trials.proofs.Numbered.{HasPlace-numbered}
-use Rattle.monitor_trials.proofs.tests.baton_door.closed.Goals as goal
+use Rattle.monitor_trials.proofs.tests.on_baton_door.closed.Goals as goal
 
 pub close-requires-clause-of : goal.close-requires-clause-of
 close-requires-clause-of g c = λ _ _ k d l. let same = c.in-Ok-outs_of.ensures.same k d (search rules) in let of = c.requires.of k (d, 0) (search rules) in search rules

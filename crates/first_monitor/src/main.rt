@@ -4,12 +4,9 @@
 mod permits;
 
 ghost use Rattle.std.specs.Prelude.{All};
-ghost use Rattle.baton_door.specs.Places.{IsOut};
-ghost use Rattle.first_monitor.specs.Rests.{PermitsRest, PermitsReady};
 
 use crate::permits::{Class, Permits};
 use baton_door::door::Door;
-use baton_door::place::DoorOut;
 use hoare_law::monitor::Monitor;
 use std::alloc::{AllocError, Global};
 use std::sync::Wait;
@@ -24,16 +21,16 @@ const PERMITS: u32 = 2;
 const JOBS: u32 = 1000;
 
 // What one thread does, over its own place: so many jobs, each with a permit. The place is handed in, since no two threads may
-// use one place; the door is shared.
-fn work<R: Wait>(rt: &R, door: &Door<Permits>, out: DoorOut<Permits>, class: Class) -> u32
-    requires { ⟦<Door<Permits> as Monitor<Permits>>⟧.is_of door.now out }
+// use one place; the monitor is shared.
+fn work<R: Wait, M: Monitor<Permits>>(rt: &R, m: &M, out: M::Out, class: Class) -> u32
+    requires { M.is_of m.now out }
 {
     let mut out = out;
     let mut done = 0u32;
     for _ in 0..JOBS {
-        out = Permits::take(door, rt, out, class);
+        out = Permits::take(m, rt, out, class);
         // (here the worker does its job, outside the monitor and with a permit)
-        let (again, given) = Permits::give(door, rt, out);
+        let (again, given) = Permits::give(m, rt, out);
         out = again;
         if given.is_ok() {
             done = done.saturating_add(1);
@@ -42,27 +39,34 @@ fn work<R: Wait>(rt: &R, door: &Door<Permits>, out: DoorOut<Permits>, class: Cla
     done
 }
 
-// One thread for each place. The closure says what it needs of the place that it is handed: that it is one of the door's.
-fn work_all<R: Threads + Wait + Sync>(
+// A monitor of permits that threads share. (A closure that goes to a thread needs a bound with no parameter of its own.)
+trait SharedPermits: Monitor<Permits> + Sync {}
+
+impl<M: Monitor<Permits> + Sync> SharedPermits for M {}
+
+// One thread for each place. The closure says what it needs of the place that it is handed: that it is one of the monitor's.
+fn work_all<R: Threads + Wait + Sync, M: SharedPermits>(
     rt: &R,
-    door: &Door<Permits>,
-    places: Vec<DoorOut<Permits>>,
+    m: &M,
+    places: Vec<M::Out>,
 ) -> io::Result<u32>
-    requires { All (λ o. IsOut (λ s q. PermitsRest s.total s.free q) (λ c p s q. PermitsReady s.total s.free q) 1 door.now o) places.items }
+where
+    M::Lists: Send,
+    requires { All (M.is_of m.now) places.items }
 {
     let number = AtomicU32::new(0);
     let done = thread::map_vec(
         rt,
         places,
         &|out| -> u32
-            requires { IsOut (λ s q. PermitsRest s.total s.free q) (λ c p s q. PermitsReady s.total s.free q) 1 door.now out }
+            requires { M.is_of m.now out }
         {
             let class = if number.fetch_add(1, Ordering::SeqCst) % 2 == 0 {
                 Class::Express
             } else {
                 Class::Standard
             };
-            work(rt, door, out, class)
+            work(rt, m, out, class)
         },
     )?;
     Ok(

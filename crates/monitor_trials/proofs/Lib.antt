@@ -1,2 +1,3 @@
 mod Answers
+mod Numbered
 mod Stages

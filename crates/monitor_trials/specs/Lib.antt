@@ -1,3 +1,4 @@
 pub mod Answers
 pub mod Stage
 pub mod Facts
+pub mod Numbered

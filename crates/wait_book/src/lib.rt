@@ -6,4 +6,6 @@ mod queues;
 pub mod steps;
 #[cfg(test)]
 mod tests;
+#[cfg(test)]
+mod texts;
 pub mod waiter;

@@ -1,7 +1,5 @@
-use Rattle.baton_door.specs.Places.{IsOut}
-use Rattle.first_monitor.specs.Rests.{PermitsRest, PermitsReady}
 use Rattle.first_monitor.proofs.work.Given as goal
 
--- the place stays one of the door's
+-- the place stays one of the monitor's
 abbrev pub invariant-loop : goal.invariant-loop
-invariant-loop g l = IsOut (λ s q. PermitsRest s.total s.free q) (λ c p s q. PermitsReady s.total s.free q) 1 l.door l.out
+invariant-loop g l = g.M.Monitor.is_of l.m l.out

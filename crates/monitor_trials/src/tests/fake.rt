@@ -1,0 +1,161 @@
+//! The fake monitor, and the plain schedulers on it. A wait of it that finds no answer never returns, so each test runs within the
+//! limit.
+
+use crate::fake::Fake;
+use crate::tally::Tally;
+use crate::tests::limit::within;
+use hoare_law::monitor::Monitor;
+use plain_schedulers::buffer::{Buffer, BufferRefused};
+use plain_schedulers::single::{NotOut, Single};
+use std::alloc::{AllocError, Global};
+use std::collections::VecDeque;
+use std::mem::replace;
+use std::sync::Wait;
+use std::test::Fail;
+
+// A single whose item was acquired.
+fn with_item_out<R: Wait>(rt: &R, alloc: Global) -> Result<Single<u8>, AllocError> {
+    let (fake, out) = Fake::of(alloc, Single::with(7), VecDeque::new(alloc))?;
+    let (out, _item) = Single::acquire(&fake, rt, out);
+    let mut inside = fake.enter(rt, out);
+    let single = replace(Fake::state_mut(&mut inside, &fake), Single::with(0));
+    fake.leave(rt, inside);
+    Ok(single)
+}
+
+// Acquires twice, where answers of these items stand between one that isn't ready.
+fn acquires_twice<R: Wait>(rt: &R, alloc: Global) -> Result<(u8, u8), AllocError> {
+    let states = [with_item_out(rt, alloc)?, Single::with(8), Single::with(9)];
+    let answers = VecDeque::from_array(alloc, states)?;
+    let (fake, out) = Fake::of(alloc, with_item_out(rt, alloc)?, answers)?;
+    let (out, first) = Single::acquire(&fake, rt, out);
+    let (_out, second) = Single::acquire(&fake, rt, out);
+    Ok((first, second))
+}
+
+// Puts an item in, takes it, and tries to put in two more: what it took, and what came back.
+fn releases<R: Wait>(rt: &R, alloc: Global) -> Result<(u8, u8), AllocError> {
+    let (fake, out) = Fake::of(alloc, with_item_out(rt, alloc)?, VecDeque::new(alloc))?;
+    let (out, _put) = Single::release(&fake, rt, out, 5);
+    let (out, item) = Single::acquire(&fake, rt, out);
+    let (out, _put) = Single::release(&fake, rt, out, 6);
+    let (_out, refused) = Single::release(&fake, rt, out, 9);
+    match refused {
+        Ok(()) => Ok((item, 0)),
+        Err(NotOut { item: back }) => Ok((item, back)),
+    }
+}
+
+// Writes 2, passes, comes in again and waits: what it finds before the wait and after, and whether it resumed anybody.
+fn writes_and_waits<R: Wait>(rt: &R, alloc: Global) -> Result<(u64, u64, bool), AllocError> {
+    let answers = VecDeque::from_array(alloc, [Tally { value: 3 }])?;
+    let (fake, out) = Fake::of(alloc, Tally { value: 1 }, answers)?;
+    let mut inside = fake.enter(rt, out);
+    Fake::state_mut(&mut inside, &fake).value = 2;
+    let (out, resumed) = fake.signal_leave(rt, inside, 0);
+    let inside = fake.enter(rt, out);
+    let kept = fake.state(&inside).value;
+    let inside = fake.wait(rt, inside, 0, 0);
+    let found = fake.state(&inside).value;
+    fake.leave(rt, inside);
+    Ok((kept, found, resumed))
+}
+
+// A buffer of one cell with this item, taken from another monitor after an append.
+fn with_one_item<R: Wait>(rt: &R, alloc: Global, item: u8) -> Result<Buffer<u8>, BufferRefused> {
+    let Ok((fake, out)) = Fake::of(alloc, Buffer::make(alloc, 1)?, VecDeque::new(alloc)) else {
+        return Err(BufferRefused::Memory);
+    };
+    let out = Buffer::append(&fake, rt, out, item);
+    let spare = Buffer::make(alloc, 1)?;
+    let mut inside = fake.enter(rt, out);
+    let buffer = replace(Fake::state_mut(&mut inside, &fake), spare);
+    fake.leave(rt, inside);
+    Ok(buffer)
+}
+
+#[test]
+fn an_acquire_goes_on_with_the_first_answer_that_is_ready(rt: HostRuntime) -> Result<(), Fail> {
+    let items = within(&rt, || acquires_twice(&rt, rt.alloc()))?;
+    assert_eq!(rt; items, (8, 9));
+    Ok(())
+}
+
+#[test]
+fn a_release_too_many_is_refused(rt: HostRuntime) -> Result<(), Fail> {
+    let items = within(&rt, || releases(&rt, rt.alloc()))?;
+    assert_eq!(rt; items, (5, 9));
+    Ok(())
+}
+
+#[test]
+fn what_is_written_in_hand_is_kept(rt: HostRuntime) -> Result<(), Fail> {
+    let found = within(&rt, || writes_and_waits(&rt, rt.alloc()))?;
+    assert_eq!(rt; found, (2, 3, false));
+    Ok(())
+}
+
+// Four items through a buffer of three cells, in the order in which they came out.
+fn passes_four<R: Wait>(rt: &R, alloc: Global) -> Result<(u8, u8, u8, u8), BufferRefused> {
+    let Ok((fake, out)) = Fake::of(alloc, Buffer::make(alloc, 3)?, VecDeque::new(alloc)) else {
+        return Err(BufferRefused::Memory);
+    };
+    let out = Buffer::append(&fake, rt, out, 1u8);
+    let out = Buffer::append(&fake, rt, out, 2);
+    let (out, first) = Buffer::remove(&fake, rt, out);
+    let out = Buffer::append(&fake, rt, out, 3);
+    let out = Buffer::append(&fake, rt, out, 4);
+    let (out, second) = Buffer::remove(&fake, rt, out);
+    let (out, third) = Buffer::remove(&fake, rt, out);
+    let (_out, fourth) = Buffer::remove(&fake, rt, out);
+    Ok((first, second, third, fourth))
+}
+
+// A remove that waits for an item.
+fn removes<R: Wait>(rt: &R, alloc: Global) -> Result<u8, BufferRefused> {
+    let states = [Buffer::make(alloc, 1)?, with_one_item(rt, alloc, 5)?];
+    let Ok(answers) = VecDeque::from_array(alloc, states) else {
+        return Err(BufferRefused::Memory);
+    };
+    let Ok((fake, out)) = Fake::of(alloc, Buffer::make(alloc, 1)?, answers) else {
+        return Err(BufferRefused::Memory);
+    };
+    let (_out, item) = Buffer::remove(&fake, rt, out);
+    Ok(item)
+}
+
+// An append that waits for room, and what is in the buffer after it.
+fn appends<R: Wait>(rt: &R, alloc: Global) -> Result<u8, BufferRefused> {
+    let states = [with_one_item(rt, alloc, 5)?, Buffer::make(alloc, 1)?];
+    let Ok(answers) = VecDeque::from_array(alloc, states) else {
+        return Err(BufferRefused::Memory);
+    };
+    let Ok((fake, out)) = Fake::of(alloc, Buffer::make(alloc, 1)?, answers) else {
+        return Err(BufferRefused::Memory);
+    };
+    let out = Buffer::append(&fake, rt, out, 6);
+    let out = Buffer::append(&fake, rt, out, 7);
+    let (_out, item) = Buffer::remove(&fake, rt, out);
+    Ok(item)
+}
+
+#[test]
+fn items_come_out_in_order(rt: HostRuntime) -> Result<(), Fail> {
+    let items = within(&rt, || passes_four(&rt, rt.alloc()))?;
+    assert_eq!(rt; items, (1, 2, 3, 4));
+    Ok(())
+}
+
+#[test]
+fn a_remove_waits_for_an_item(rt: HostRuntime) -> Result<(), Fail> {
+    let item = within(&rt, || removes(&rt, rt.alloc()))?;
+    assert_eq!(rt; item, 5);
+    Ok(())
+}
+
+#[test]
+fn an_append_waits_for_room(rt: HostRuntime) -> Result<(), Fail> {
+    let item = within(&rt, || appends(&rt, rt.alloc()))?;
+    assert_eq!(rt; item, 7);
+    Ok(())
+}

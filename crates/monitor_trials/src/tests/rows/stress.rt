@@ -1,0 +1,259 @@
+//! Eight processes wait with priorities, signal and pass on three conditions, and a ninth resumes who is left. What they wrote down
+//! is held against the definitions.
+ghost use Rattle.std.specs.Prelude.{◌≡◌, ◌<◌, vec_len, All};
+ghost use Rattle.monitor_trials.specs.Numbered.{IsNumbered};
+
+use crate::tests::rows::diary::{Act, Diary};
+use crate::tests::rows::history::{choices, first_unlawful};
+use crate::tests::running::act_all;
+use hoare_law::monitor::Monitor;
+use hoare_law::unasked::Unasked;
+use hoare_law::waits::Waits;
+use std::process::Abort;
+use std::rt::Clock;
+use std::sync::Wait;
+use std::test::Fail;
+use std::thread;
+use std::thread::Threads;
+
+/// A diary, and three conditions.
+type Pages = Unasked<Diary, 3>;
+
+const WORKERS: usize = 8;
+
+const ROUNDS: u64 = 500;
+
+// The next of a row of numbers that look as if drawn by lot.
+fn draw(seed: u64) -> u64 {
+    seed.wrapping_mul(6364136223846793005)
+        .wrapping_add(1442695040888963407)
+}
+
+// It comes, and writes so.
+fn found<M: Monitor<Pages>>(m: &M, inside: M::In, place: usize, act: Act) -> M::In
+    requires { M.is_of_in m.now inside }
+    ensures of { M.is_of_in m.now result }
+    ensures place { M.place_in result ≡ M.place_in inside }
+{
+    let mut inside = inside;
+    M::state_mut(&mut inside, m).value.finds(place, act);
+    inside
+}
+
+// It is about to give the monitor up, and writes so.
+fn left<M: Monitor<Pages>>(m: &M, inside: M::In, place: usize, act: Act, stamp: u64) -> M::In
+    requires { M.is_of_in m.now inside }
+    ensures of { M.is_of_in m.now result }
+    ensures place { M.place_in result ≡ M.place_in inside }
+{
+    let mut inside = inside;
+    M::state_mut(&mut inside, m).value.leaves(place, act, stamp);
+    inside
+}
+
+fn enter<R: Wait, M: Monitor<Pages>>(rt: &R, m: &M, out: M::Out, place: usize) -> M::In
+    requires { M.is_of m.now out }
+    ensures of { M.is_of_in m.now result }
+    ensures place { M.place_in result ≡ M.place out }
+{
+    let inside = m.enter(rt, out);
+    found(m, inside, place, Act::ComesIn)
+}
+
+fn leave<R: Wait, M: Monitor<Pages>>(
+    rt: &R,
+    m: &M,
+    inside: M::In,
+    place: usize,
+    stamp: u64,
+) -> M::Out
+    requires { M.is_of_in m.now inside }
+    ensures of { M.is_of m.now result }
+    ensures place { M.place result ≡ M.place_in inside }
+{
+    let inside = left(m, inside, place, Act::Leaves, stamp);
+    m.leave(rt, inside)
+}
+
+fn pass<R: Wait, M: Monitor<Pages>>(
+    rt: &R,
+    m: &M,
+    inside: M::In,
+    place: usize,
+    condition: usize,
+    stamp: u64,
+) -> M::Out
+    requires of { M.is_of_in m.now inside }
+    requires condition { condition < 3 }
+    ensures of { M.is_of m.now result }
+    ensures place { M.place result ≡ M.place_in inside }
+{
+    let inside = left(m, inside, place, Act::Passes(condition), stamp);
+    let (out, _resumed) = m.signal_leave(rt, inside, condition);
+    out
+}
+
+fn signal<R: Wait, M: Monitor<Pages>>(
+    rt: &R,
+    m: &M,
+    inside: M::In,
+    place: usize,
+    condition: usize,
+    stamp: u64,
+) -> M::In
+    requires of { M.is_of_in m.now inside }
+    requires condition { condition < 3 }
+    ensures of { M.is_of_in m.now result }
+    ensures place { M.place_in result ≡ M.place_in inside }
+{
+    let inside = left(m, inside, place, Act::Signals(condition), stamp);
+    let (inside, resumed) = m.signal(rt, inside, condition);
+    let act = if resumed {
+        Act::IsBack
+    } else {
+        Act::HearsNobody
+    };
+    found(m, inside, place, act)
+}
+
+fn wait<R: Wait, M: Monitor<Pages>>(
+    rt: &R,
+    m: &M,
+    inside: M::In,
+    place: usize,
+    condition: usize,
+    lot: u64,
+) -> M::In
+    requires of { M.is_of_in m.now inside }
+    requires condition { condition < 3 }
+    ensures of { M.is_of_in m.now result }
+    ensures place { M.place_in result ≡ M.place_in inside }
+{
+    let priority = lot / 32 % 4;
+    let inside = left(m, inside, place, Act::Waits(condition, priority), lot);
+    let inside = m.wait(rt, inside, condition, priority);
+    found(m, inside, place, Act::GoesOn(condition))
+}
+
+// Whether fewer than half of the workers wait.
+fn may_wait<M: Monitor<Pages>>(m: &M, inside: &M::In) -> bool
+    requires { M.is_of_in m.now inside.now }
+{
+    let lists = m.lists(inside);
+    let waiting = lists
+        .count(0)
+        .saturating_add(lists.count(1))
+        .saturating_add(lists.count(2));
+    waiting < WORKERS / 2
+}
+
+// One visit of a worker: it waits, signals, passes or just leaves.
+fn visit<R: Wait, M: Monitor<Pages>>(rt: &R, m: &M, out: M::Out, place: usize, lot: u64) -> M::Out
+    requires { M.is_of m.now out }
+    ensures of { M.is_of m.now result }
+    ensures place { M.place result ≡ M.place out }
+{
+    let condition = (lot / 8 % 3) as usize;
+    let inside = enter(rt, m, out, place);
+    if lot % 8 < 3 && may_wait(m, &inside) {
+        let inside = wait(rt, m, inside, place, condition, lot);
+        return leave(rt, m, inside, place, lot);
+    }
+    if lot % 8 < 6 {
+        let inside = signal(rt, m, inside, place, condition, lot);
+        return leave(rt, m, inside, place, lot);
+    }
+    pass(rt, m, inside, place, condition, lot)
+}
+
+// So many visits, and a note that they are over.
+fn work<R: Wait, M: Monitor<Pages>>(rt: &R, m: &M, out: M::Out, place: usize) -> M::Out
+    requires { M.is_of m.now out }
+    ensures of { M.is_of m.now result }
+    ensures place { M.place result ≡ M.place out }
+{
+    let mut out = out;
+    let mut lot = draw(place as u64);
+    for _ in 0..ROUNDS {
+        lot = draw(lot);
+        out = visit(rt, m, out, place, lot / 65536);
+    }
+    let mut inside = enter(rt, m, out, place);
+    let diary = &mut M::state_mut(&mut inside, m).value;
+    diary.finished = diary.finished.saturating_add(1);
+    leave(rt, m, inside, place, 0)
+}
+
+// Resumes those that wait until all workers are done.
+fn sweep<R: Wait, M: Monitor<Pages>>(rt: &R, m: &M, out: M::Out, place: usize) -> M::Out
+    requires { M.is_of m.now out }
+    ensures of { M.is_of m.now result }
+    ensures place { M.place result ≡ M.place out }
+{
+    let mut out = out;
+    for turn in 0..1_000_000u64 {
+        let inside = enter(rt, m, out, place);
+        if m.state(&inside).value.finished >= WORKERS {
+            return leave(rt, m, inside, place, turn);
+        }
+        out = pass(rt, m, inside, place, (turn % 3) as usize, turn);
+        thread::yield_now();
+    }
+    out
+}
+
+/// A monitor for threads, whose data are a diary.
+pub trait DiaryMonitor: Monitor<Pages> + Sync {}
+
+impl<M: Monitor<Pages> + Sync> DiaryMonitor for M {}
+
+fn work_and_sweep<R: Threads + Wait + Abort + Clock + Sync, M: DiaryMonitor>(
+    rt: &R,
+    m: &M,
+    places: Vec<(usize, M::Out)>,
+) -> Vec<(M::Out, u64)>
+where
+    M::Lists: Send,
+    requires of { All (λ j. M.is_of m.now j.1) places.items }
+    requires numbered { IsNumbered (λ j. M.place j.1) places.items }
+    ensures count { vec_len result ≡ vec_len places }
+    ensures of { All (λ d. M.is_of m.now d.0) result.items }
+    ensures numbered { IsNumbered (λ d. M.place d.0) result.items }
+{
+    act_all(
+        rt,
+        places,
+        &|place| -> (M::Out, u64)
+            requires { M.is_of m.now place.1 }
+            ensures of { M.is_of m.entry.now result.0 }
+            ensures number { M.place result.0 ≡ M.place place.1 }
+        {
+            if place.0 < WORKERS {
+                (work(rt, m, place.1, place.0), 0)
+            } else {
+                (sweep(rt, m, place.1, place.0), 0)
+            }
+        },
+    )
+}
+
+// What they wrote is what the definitions allow, and they had choices.
+fn agrees<R: Abort>(rt: &R, diary: &Diary) -> Result<(), Fail> {
+    let lines = diary.lines();
+    assert!(rt; !diary.is_torn);
+    assert_eq!(rt; first_unlawful(lines), None);
+    assert_eq!(rt; diary.finished, WORKERS);
+    assert!(rt; lines.len() >= 8000);
+    assert!(rt; choices(lines) >= 10);
+    Ok(())
+}
+
+#[test]
+fn a_diary_is_a_legal_history(rt: HostRuntime) -> Result<(), Fail> {
+    let lines = Vec::with_capacity(rt.alloc(), 100_000)?;
+    let pages = Pages {
+        value: Diary::new(lines),
+    };
+    let (pages, _) = run_row!(rt, baton_door, work_and_sweep(), pages, WORKERS + 1);
+    agrees(&rt, &pages.value)
+}

@@ -2,12 +2,12 @@
 use Rattle.std.specs.Prelude.{ℕ, List, [], ◌≡◌, ◌≢◌, ◌<◌, ◌≤◌}
 
 -- whenever the monitor is given up: if somebody waits, no permit is free
-pub record PermitsRest (total free : ℕ) (q : ℕ → List ℕ) : Type 0 where
+pub record PermitsRest (total free : ℕ) (waiting : List ℕ) : Type 0 where
   pub within : free ≤ total
-  pub cause : q 0 ≢ [] → free ≡ 0
+  pub cause : waiting ≢ [] → free ≡ 0
 
 -- who is resumed finds a free permit; if others still wait it is the only one
-pub record PermitsReady (total free : ℕ) (q : ℕ → List ℕ) : Type 0 where
+pub record PermitsReady (total free : ℕ) (waiting : List ℕ) : Type 0 where
   pub within : free ≤ total
   pub some : 0 < free
-  pub others : q 0 ≢ [] → free ≡ 1
+  pub others : waiting ≢ [] → free ≡ 1

@@ -49,11 +49,11 @@ impl MonitorData for Permits {
     ghost inv = { λ s. s.free ≤ s.total };
 
     // Whenever the monitor is given up: who waits has a cause, namely that no permit is free.
-    ghost rest = { λ s q. PermitsRest s.total s.free q };
+    ghost rest = { λ s q. PermitsRest s.total s.free (q 0) };
 
     // What a process finds that waited and is resumed: a permit is free. It may be the only one if others still wait, for it
     // will take it, and then they have their cause again.
-    ghost ready = { λ c p s q. PermitsReady s.total s.free q };
+    ghost ready = { λ c p s q. PermitsReady s.total s.free (q 0) };
 
     fn rest_holds<W: Waits>(&self, lists: &W) -> bool {
         self.free <= self.total && (lists.count(0) == 0 || self.free == 0)

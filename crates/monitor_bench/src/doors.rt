@@ -4,12 +4,12 @@ ghost use Rattle.std.specs.Prelude.{All, ⊤, ◌<◌, ◌≤◌};
 ghost use Rattle.baton_door.specs.Places.{IsOut};
 ghost use Rattle.plain_schedulers.specs.Buffers.{BufferRests, BufferReady};
 
-use crate::counter::Counter;
 use crate::turns::{
     add_many, append_many, link_many, pull_many, remove_many, signal_many, wait_many,
 };
 use baton_door::door::Door;
 use baton_door::place::DoorOut;
+use hoare_law::unasked::Unasked;
 use plain_schedulers::buffer::Buffer;
 use std::alloc::{AllocError, Global};
 use std::rt::Clock;
@@ -28,8 +28,8 @@ fn no_memory() -> io::Error {
 
 fn add_all<const N: usize, R: Threads + Wait + Sync>(
     rt: &R,
-    door: &Door<Counter<N>>,
-    places: Vec<DoorOut<Counter<N>>>,
+    door: &Door<Unasked<u64, N>>,
+    places: Vec<DoorOut<Unasked<u64, N>>>,
     turns: u64,
 ) -> io::Result<()>
     requires { All (λ o. IsOut (λ s q. ⊤) (λ c p s q. ⊤) N door.now o) places.items }
@@ -51,7 +51,7 @@ pub fn contended<const N: usize, R: Threads + Wait + Clock + Sync>(
     threads: usize,
     turns: u64,
 ) -> io::Result<Duration> {
-    let Ok((door, places)) = Door::make(alloc, Counter::<N> { value: 0 }, threads) else {
+    let Ok((door, places)) = Door::make(alloc, Unasked::<u64, N> { value: 0 }, threads) else {
         return Err(no_memory());
     };
     let start = Instant::now(rt)?;
@@ -66,7 +66,7 @@ pub fn alone<const N: usize, R: Wait + Clock>(
     places: usize,
     turns: u64,
 ) -> io::Result<Duration> {
-    let Ok((door, mut places)) = Door::make(alloc, Counter::<N> { value: 0 }, places) else {
+    let Ok((door, mut places)) = Door::make(alloc, Unasked::<u64, N> { value: 0 }, places) else {
         return Err(no_memory());
     };
     let Some(out) = places.pop() else {
@@ -80,8 +80,8 @@ pub fn alone<const N: usize, R: Wait + Clock>(
 // All but the last to come wait, each with its number for a priority; the last signals them.
 fn wait_and_signal<R: Threads + Wait + Sync>(
     rt: &R,
-    door: &Door<Counter<1>>,
-    places: Vec<DoorOut<Counter<1>>>,
+    door: &Door<Unasked<u64, 1>>,
+    places: Vec<DoorOut<Unasked<u64, 1>>>,
     waiters: u64,
     turns: u64,
 ) -> io::Result<()>
@@ -113,7 +113,7 @@ pub fn waiting<R: Threads + Wait + Clock + Sync>(
     turns: u64,
 ) -> io::Result<Duration> {
     let places = usize::from(waiters) + 1;
-    let Ok((door, places)) = Door::make(alloc, Counter::<1> { value: 0 }, places) else {
+    let Ok((door, places)) = Door::make(alloc, Unasked::<u64, 1> { value: 0 }, places) else {
         return Err(no_memory());
     };
     let start = Instant::now(rt)?;
@@ -124,8 +124,8 @@ pub fn waiting<R: Threads + Wait + Clock + Sync>(
 // Eight links of a chain, and the process that signals the first.
 fn pull_chain<R: Threads + Wait + Sync>(
     rt: &R,
-    door: &Door<Counter<8>>,
-    places: Vec<DoorOut<Counter<8>>>,
+    door: &Door<Unasked<u64, 8>>,
+    places: Vec<DoorOut<Unasked<u64, 8>>>,
     turns: u64,
 ) -> io::Result<()>
     requires { All (λ o. IsOut (λ s q. ⊤) (λ c p s q. ⊤) 8 door.now o) places.items }
@@ -154,7 +154,7 @@ pub fn chained<R: Threads + Wait + Clock + Sync>(
     alloc: Global,
     turns: u64,
 ) -> io::Result<Duration> {
-    let Ok((door, places)) = Door::make(alloc, Counter::<8> { value: 0 }, 9) else {
+    let Ok((door, places)) = Door::make(alloc, Unasked::<u64, 8> { value: 0 }, 9) else {
         return Err(no_memory());
     };
     let start = Instant::now(rt)?;

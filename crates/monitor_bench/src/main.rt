@@ -3,7 +3,6 @@
 #![tactic(auto)]
 
 mod baton;
-mod counter;
 mod doors;
 mod fairness;
 mod load;

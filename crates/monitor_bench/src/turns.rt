@@ -1,14 +1,14 @@
 //! What the threads do, over any monitor.
 ghost use Rattle.std.specs.Prelude.{◌<◌, ◌≡◌};
 
-use crate::counter::Counter;
 use hoare_law::monitor::Monitor;
+use hoare_law::unasked::Unasked;
 use hoare_law::waits::Waits;
 use plain_schedulers::buffer::Buffer;
 use std::sync::Wait;
 
 /// Comes in, adds one and goes out, so many times.
-pub fn add_many<const N: usize, R: Wait, M: Monitor<Counter<N>>>(
+pub fn add_many<const N: usize, R: Wait, M: Monitor<Unasked<u64, N>>>(
     rt: &R,
     m: &M,
     out: M::Out,
@@ -26,7 +26,7 @@ pub fn add_many<const N: usize, R: Wait, M: Monitor<Counter<N>>>(
 }
 
 /// Waits on condition 0, so many times.
-pub fn wait_many<const N: usize, R: Wait, M: Monitor<Counter<N>>>(
+pub fn wait_many<const N: usize, R: Wait, M: Monitor<Unasked<u64, N>>>(
     rt: &R,
     m: &M,
     out: M::Out,
@@ -44,7 +44,7 @@ pub fn wait_many<const N: usize, R: Wait, M: Monitor<Counter<N>>>(
 }
 
 /// Signals condition 0 until so many processes were resumed.
-pub fn signal_many<const N: usize, R: Wait, M: Monitor<Counter<N>>>(
+pub fn signal_many<const N: usize, R: Wait, M: Monitor<Unasked<u64, N>>>(
     rt: &R,
     m: &M,
     out: M::Out,
@@ -72,7 +72,7 @@ pub fn signal_many<const N: usize, R: Wait, M: Monitor<Counter<N>>>(
 }
 
 /// Waits on a condition and then signals the next, so many times: a link of a chain.
-pub fn link_many<const N: usize, R: Wait, M: Monitor<Counter<N>>>(
+pub fn link_many<const N: usize, R: Wait, M: Monitor<Unasked<u64, N>>>(
     rt: &R,
     m: &M,
     out: M::Out,
@@ -97,7 +97,7 @@ pub fn link_many<const N: usize, R: Wait, M: Monitor<Counter<N>>>(
 }
 
 // Whether a process waits on each condition.
-fn is_chain_ready<const N: usize, M: Monitor<Counter<N>>>(m: &M, inside: &M::In) -> bool
+fn is_chain_ready<const N: usize, M: Monitor<Unasked<u64, N>>>(m: &M, inside: &M::In) -> bool
     requires { M.is_of_in m.now inside.now }
 {
     let lists = m.lists(inside);
@@ -105,7 +105,7 @@ fn is_chain_ready<const N: usize, M: Monitor<Counter<N>>>(m: &M, inside: &M::In)
 }
 
 /// Signals the first link of a chain once all its links wait, so many times.
-pub fn pull_many<const N: usize, R: Wait, M: Monitor<Counter<N>>>(
+pub fn pull_many<const N: usize, R: Wait, M: Monitor<Unasked<u64, N>>>(
     rt: &R,
     m: &M,
     out: M::Out,

@@ -3,8 +3,8 @@
 
 use crate::tests::rows::diary::{Act, Line};
 
-/// The most places of a diary.
-pub const PLACES: usize = 16;
+/// The places of a diary.
+pub const PLACES: usize = 9;
 
 /// What a place did last, and which line that is.
 fn last_of(past: &[Line], place: usize) -> Option<(usize, Act)> {

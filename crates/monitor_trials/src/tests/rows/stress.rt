@@ -15,6 +15,7 @@ use std::sync::Wait;
 use std::test::Fail;
 use std::thread;
 use std::thread::Threads;
+use std::time::Duration;
 
 /// A diary, and three conditions.
 type Pages = Unasked<Diary, 3>;
@@ -185,19 +186,19 @@ fn work<R: Wait, M: Monitor<Pages>>(rt: &R, m: &M, out: M::Out, place: usize) ->
 }
 
 // Resumes those that wait until all workers are done.
-fn sweep<R: Wait, M: Monitor<Pages>>(rt: &R, m: &M, out: M::Out, place: usize) -> M::Out
+fn sweep<R: Wait + Clock, M: Monitor<Pages>>(rt: &R, m: &M, out: M::Out, place: usize) -> M::Out
     requires { M.is_of m.now out }
     ensures of { M.is_of m.now result }
     ensures place { M.place result ≡ M.place out }
 {
     let mut out = out;
-    for turn in 0..1_000_000u64 {
+    for turn in 0..100_000u64 {
         let inside = enter(rt, m, out, place);
         if m.state(&inside).value.finished >= WORKERS {
             return leave(rt, m, inside, place, turn);
         }
         out = pass(rt, m, inside, place, (turn % 3) as usize, turn);
-        thread::yield_now();
+        thread::sleep(rt, Duration::from_millis(1));
     }
     out
 }

@@ -30,6 +30,7 @@ module _ {S : Type 0} {ready : Ready S} {given : List S} where
   IsLeft-untouched h e none l = untouched e none l
 
   -- a wait and its answer
-  pub IsLeft-answered : (h : History S) (c p : ℕ) (s a : S) {answers left : List S} → FirstReady (λ d. ready c p d nobody) answers a left → IsLeft ready given h.events answers → IsLeft ready given (answered c p s a h).events left
+  pub IsLeft-answered : (h : History S) (c p : ℕ) (s a : S) {answers left : List S} → FirstReady (λ d. ready c p d nobody) answers a left
+      → IsLeft ready given h.events answers → IsLeft ready given (answered c p s a h).events left
   unfolding with_event
   IsLeft-answered h c p s a first l = took c p s a first l

@@ -60,7 +60,8 @@ module _ {S : Type 0} {rest : Rest S} {ready : Ready S} {n : ℕ} where
       nothing (x ∷ f) later e is = cc
 
   -- after an event that may come next and is no signal
-  pub Stage-push : {t : Turn} {s : S} {waits : ℕ → List (Event S)} {a b : Bool} {h : History S} (e : Event S) → Stage rest ready n t s waits a b h → Allowed h e → Owes rest ready h.events e → is_signal e ≡ false
+  pub Stage-push : {t : Turn} {s : S} {waits : ℕ → List (Event S)} {a b : Bool} {h : History S} (e : Event S) → Stage rest ready n t s waits a b h → Allowed h e
+      → Owes rest ready h.events e → is_signal e ≡ false
       → Stage rest ready n (turn_by e []) (data_of e) (still_wait waits e) (cond (place_of e == 0) (is_out (Some e)) a) (cond (place_of e == 1) (is_out (Some e)) b) (with_event h e)
   unfolding with_event
   Stage-push {h = h} e stage allowed owes none =
@@ -78,7 +79,8 @@ module _ {S : Type 0} {rest : Rest S} {ready : Ready S} {n : ℕ} where
       }
 
   -- those that wait, said otherwise
-  pub Stage-waits : {t : Turn} {s : S} {waits same : ℕ → List (Event S)} {a b : Bool} {h : History S} → ((c : ℕ) → waits c ≡ same c) → Stage rest ready n t s waits a b h → Stage rest ready n t s same a b h
+  pub Stage-waits : {t : Turn} {s : S} {waits same : ℕ → List (Event S)} {a b : Bool} {h : History S} → ((c : ℕ) → waits c ≡ same c) → Stage rest ready n t s waits a b h
+      → Stage rest ready n t s same a b h
   Stage-waits {t = t} {s = s} {a = a} {b = b} {h = h} is stage = subst (λ (w : ℕ → List (Event S)). Stage rest ready n t s w a b h) (λ i c. is c i) stage
 
   -- place 0 comes in
@@ -100,26 +102,35 @@ module _ {S : Type 0} {rest : Rest S} {ready : Ready S} {n : ℕ} where
       }
 
   -- place 0 waits, and nobody else does
-  pub Stage-wait : {c : ℕ} (p : ℕ) {s : S} {h : History S} → IsInside rest ready n h → c < n → rest s (joined nobody c p) → Stage rest ready n Free s (still_wait none_wait (Wait 0 c p s)) false true (with_event h (Wait 0 c p s))
+  pub Stage-wait : {c : ℕ} (p : ℕ) {s : S} {h : History S} → IsInside rest ready n h → c < n → rest s (joined nobody c p)
+      → Stage rest ready n Free s (still_wait none_wait (Wait 0 c p s)) false true (with_event h (Wait 0 c p s))
   unfolding Owes
   Stage-wait {c = c} p {s = s} {h = h} i in_range rests =
       let lists : priorities (h.events ++ Wait 0 c p s ∷ []) ≡ joined nobody c p = priorities-wait h.events 0 c p s i.stage.turn_is ∙ ap (λ q. joined q c p) (sym (lists_are i)) in
       Stage-push (Wait 0 c p s) i.stage (record { in_range = (rw i.stage.places_are (omega arith), rw i.stage.conditions_are in_range); fits = i.stage.turn_is }) (rw lists rests) refl
 
   -- place 1 comes in
-  pub Stage-admit : {s : S} {waits : ℕ → List (Event S)} {a : Bool} {h : History S} → Stage rest ready n Free s waits a true h → Stage rest ready n (Held 1) s (still_wait waits (Admit 1 s)) a false (with_event h (Admit 1 s))
+  pub Stage-admit : {s : S} {waits : ℕ → List (Event S)} {a : Bool} {h : History S} → Stage rest ready n Free s waits a true h
+      → Stage rest ready n (Held 1) s (still_wait waits (Admit 1 s)) a false (with_event h (Admit 1 s))
   unfolding Owes
   Stage-admit {s = s} stage = Stage-push (Admit 1 s) stage (record { in_range = rw stage.places_are (omega arith); fits = (stage.turn_is, stage.second_is, sym stage.data_are) }) tt refl
 
   -- place 1 passes to the only one that waits
-  pub Stage-pass : {c p : ℕ} {s x s1 : S} {waits : ℕ → List (Event S)} {h : History S} → Stage rest ready n (Held 1) s1 waits false false h → c < n → waits c ≡ Wait 0 c p x ∷ [] → ((d : ℕ) → still_wait waits (Pass 1 c 0 s) d ≡ []) → ready c p s nobody
+  pub Stage-pass : {c p : ℕ} {s x s1 : S} {waits : ℕ → List (Event S)} {h : History S} → Stage rest ready n (Held 1) s1 waits false false h → c < n
+      → waits c ≡ Wait 0 c p x ∷ [] → ((d : ℕ) → still_wait waits (Pass 1 c 0 s) d ≡ []) → ready c p s nobody
       → Stage rest ready n (Owed 0 c) s none_wait false true (with_event h (Pass 1 c 0 s))
   unfolding Owes Chooses priorities
   Stage-pass {c = c} {p = p} {s = s} {x = x} {waits = waits} {h = h} stage in_range only none is_ready =
-      let waits_after : (d : ℕ) → waiting d (h.events ++ Pass 1 c 0 s ∷ []) ≡ [] = λ d. waiting-push d h.events (Pass 1 c 0 s) ∙ ap (λ l. filter (λ e. not (concerns (place_of e) (Pass 1 c 0 s))) l ++ []) (stage.waits_are d) ∙ none d in
+      let waits_after : (d : ℕ) → waiting d (h.events ++ Pass 1 c 0 s ∷ []) ≡ [] = λ d. waiting-push d h.events (Pass 1 c 0 s) ∙ ap
+      (λ l. filter (λ e. not (concerns (place_of e) (Pass 1 c 0 s))) l ++ []) (stage.waits_are d) ∙ none d in
       let lists : priorities (h.events ++ Pass 1 c 0 s ∷ []) ≡ nobody = λ i d. priorities-nobody d (h.events ++ Pass 1 c 0 s ∷ []) (waits_after d) i in
       let first : chosen c h.events ≡ Some (Wait 0 c p x) = chosen-only c h.events (stage.waits_are c ∙ only) in
-      Stage-waits none (Stage-push (Pass 1 c 0 s) stage (record { in_range = (rw stage.places_are (omega arith), rw stage.conditions_are in_range, rw stage.places_are (omega arith)); fits = (stage.turn_is, rw first refl) }) (rw (first, lists) is_ready) refl)
+      Stage-waits none (Stage-push (Pass 1 c 0 s) stage (record {
+        in_range =
+            (rw stage.places_are (omega arith), rw stage.conditions_are in_range, rw stage.places_are (omega arith));
+        fits = (stage.turn_is, rw first refl);
+      })
+      (rw (first, lists) is_ready) refl)
 
   -- place 0 goes on
   pub IsInside-resume : {c : ℕ} {s : S} {h : History S} → Stage rest ready n (Owed 0 c) s none_wait false true h → c < n → IsInside rest ready n (with_event h (Resume 0 c s))
@@ -134,7 +145,9 @@ module _ {S : Type 0} {rest : Rest S} {ready : Ready S} {n : ℕ} where
   IsInside-answered {c = c} {p = p} {s = s} {s1 = s1} i in_range rests is_ready =
       let before : ℕ → List (Event S) = still_wait (still_wait none_wait (Wait 0 c p s)) (Admit 1 s) in
       let only : before c ≡ Wait 0 c p s ∷ [] = rw (eq-eqb c c refl) refl in
-      let none : (d : ℕ) → still_wait before (Pass 1 c 0 s1) d ≡ [] = λ d. elim (c == d) as (λ b. filter (λ x. not (concerns (place_of x) (Pass 1 c 0 s1))) (filter (λ x. not (concerns (place_of x) (Admit 1 s))) (cond b (Wait 0 c p s ∷ []) []) ++ []) ++ [] ≡ []) [ true ↦ refl | false ↦ refl ] in
+      let none : (d : ℕ) → still_wait before (Pass 1 c 0 s1) d ≡ [] = λ d. elim (c == d) as
+      (λ b. filter (λ x. not (concerns (place_of x) (Pass 1 c 0 s1)))
+      (filter (λ x. not (concerns (place_of x) (Admit 1 s))) (cond b (Wait 0 c p s ∷ []) []) ++ []) ++ [] ≡ []) [ true ↦ refl | false ↦ refl ] in
       IsInside-resume (Stage-pass (Stage-admit (Stage-wait p i in_range rests)) in_range only none is_ready) in_range
 
 -- a front grows by an event of its place
@@ -155,7 +168,8 @@ AddsTwo-answered c p s s1 h =
     let h2 : History _ = with_event h1 (Admit 1 s) in
     let h3 : History _ = with_event h2 (Pass 1 c 0 s1) in
     record {
-      grows = Grows-trans (Grows-trans (Grows-trans (Grows-one (Wait 0 c p s) h h1 refl) (Grows-other 0 (Admit 1 s) h1 refl)) (Grows-other 0 (Pass 1 c 0 s1) h2 refl)) (Grows-one (Resume 0 c s1) h3 (with_event h3 (Resume 0 c s1)) refl);
+      grows = Grows-trans (Grows-trans (Grows-trans (Grows-one (Wait 0 c p s) h h1 refl) (Grows-other 0 (Admit 1 s) h1 refl)) (Grows-other 0 (Pass 1 c 0 s1) h2 refl))
+          (Grows-one (Resume 0 c s1) h3 (with_event h3 (Resume 0 c s1)) refl);
       begins = Begins-trans (Begins-trans (Begins-push h1 (Admit 1 s)) (Begins-push h2 (Pass 1 c 0 s1))) (Begins-push h3 (Resume 0 c s1));
       ends = newest-push h3.events (Resume 0 c s1);
     }

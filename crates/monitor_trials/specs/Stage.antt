@@ -7,15 +7,16 @@ use Rattle.hoare_law.specs.declared.turn.Turn.TheVariants.{Free, Held}
 use Rattle.hoare_law.specs.declared.event.Event.TheVariants.{Admit, Wait, Pass, Leave, Resume}
 use Rattle.monitor_trials.specs.declared.steps.Deed.{Deed}
 use Rattle.monitor_trials.specs.declared.steps.Deed.TheVariants.{Enters, Waits, Passes, GoesOn, Leaves}
+use Rattle.hoare_law.specs.Events as law
 use Rattle.hoare_law.specs.Events.{latest_data}
 use Rattle.hoare_law.specs.Waiting.{waiting}
 use Rattle.hoare_law.specs.Turns.{turn, urgent, outside}
 use Rattle.hoare_law.specs.Priorities.{nobody}
 use Rattle.hoare_law.specs.Lawful.{Rest, Ready, Stands}
 
--- nothing happened yet
+-- nothing happened yet, at two places
 abbrev pub opened : {S : Type 0} → ℕ → S → History S
-opened n s = record { places = 2; conditions = n; opening = s; events = [] }
+opened n s = law.opened 2 n s
 
 -- the event of what place k does, with the state that it found or left
 abbrev pub event_of : {S : Type 0} → ℕ → Deed → S → Event S

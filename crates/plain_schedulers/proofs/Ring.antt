@@ -5,7 +5,8 @@ use Rattle.std.proofs.Math.Nat.{mod-eq_of_lt, mod-eq-sub-mod}
 use Rattle.std.proofs.Math.Seq.{take-set-lt}
 use Rattle.std.proofs.lemmas.Bool.{cases_lt}
 use Rattle.std.proofs.lemmas.List.{append-nil, length-set, length-take, length-drop, length-map, length-replicate, map-append, set_split, drop_all, drop-drop, drop-append-le, drop-set-lt}
-use Rattle.std.proofs.lemmas.List.{drop-set-add, take-set-le, take_more_set, set-append_left, set-append_right, set_at, get_or-append_right, get_or_append_left, get_or-take, get_or-drop, get_or_at, replicate_more}
+use Rattle.std.proofs.lemmas.List.{drop-set-add, take-set-le, take_more_set, set-append_left, set-append_right, set_at}
+use Rattle.std.proofs.lemmas.List.{get_or-append_right, get_or_append_left, get_or-take, get_or-drop, get_or_at, replicate_more}
 use Rattle.plain_schedulers.specs.Buffers.{BufferHolds, BufferRests, added, empty}
 use Rattle.hoare_law.specs.Priorities.{nobody}
 use Rattle.plain_schedulers.specs.Ring.{items_in, turned, ring_view, IsRing}

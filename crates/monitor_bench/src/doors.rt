@@ -1,14 +1,12 @@
 //! The baton door, with threads. In each measurement every place has a thread of its own; the threads share out their roles in
 //! the order in which they come.
-ghost use Rattle.std.specs.Prelude.{All, ⊤, ◌<◌, ◌≤◌};
-ghost use Rattle.baton_door.specs.Places.{IsOut};
-ghost use Rattle.plain_schedulers.specs.Buffers.{BufferRests, BufferReady};
+ghost use Rattle.std.specs.Prelude.{All};
 
 use crate::turns::{
     add_many, append_many, link_many, pull_many, remove_many, signal_many, wait_many,
 };
 use baton_door::door::Door;
-use baton_door::place::DoorOut;
+use hoare_law::monitor::Monitor;
 use hoare_law::unasked::Unasked;
 use plain_schedulers::buffer::Buffer;
 use std::alloc::{AllocError, Global};
@@ -22,36 +20,53 @@ use std::{io, thread};
 // The cells of the buffer.
 const RING: usize = 16;
 
+/// A monitor of a counter that threads share, with one condition. (A closure that goes to a thread needs a bound with no parameter.)
+pub trait OneShared: Monitor<Unasked<u64, 1>> + Sync {}
+
+impl<M: Monitor<Unasked<u64, 1>> + Sync> OneShared for M {}
+
+/// The same with eight conditions.
+pub trait EightShared: Monitor<Unasked<u64, 8>> + Sync {}
+
+impl<M: Monitor<Unasked<u64, 8>> + Sync> EightShared for M {}
+
+/// The same of a buffer.
+pub trait SharedBuffer: Monitor<Buffer<u64>> + Sync {}
+
+impl<M: Monitor<Buffer<u64>> + Sync> SharedBuffer for M {}
+
 fn no_memory() -> io::Error {
     io::Error::from(AllocError)
 }
 
-fn add_all<const N: usize, R: Threads + Wait + Sync>(
+fn add_all<R: Threads + Wait + Sync, M: OneShared>(
     rt: &R,
-    door: &Door<Unasked<u64, N>>,
-    places: Vec<DoorOut<Unasked<u64, N>>>,
+    m: &M,
+    places: Vec<M::Out>,
     turns: u64,
 ) -> io::Result<()>
-    requires { All (λ o. IsOut (λ s q. ⊤) (λ c p s q. ⊤) N door.now o) places.items }
+where
+    M::Lists: Send,
+    requires { All (M.is_of m.now) places.items }
 {
     thread::map_vec(
         rt,
         places,
         &|out| -> ()
-            requires { IsOut (λ s q. ⊤) (λ c p s q. ⊤) N door.now out }
-        { add_many(rt, door, out, turns) },
+            requires { M.is_of m.now out }
+        { add_many(rt, m, out, turns) },
     )?;
     Ok(())
 }
 
-/// So many threads that come in, add one and go out, each so many times, on a door of `N` conditions and so many places.
-pub fn contended<const N: usize, R: Threads + Wait + Clock + Sync>(
+/// So many threads that come in, add one and go out, each so many times, on a door of one condition and so many places.
+pub fn contended<R: Threads + Wait + Clock + Sync>(
     rt: &R,
     alloc: Global,
     threads: usize,
     turns: u64,
 ) -> io::Result<Duration> {
-    let Ok((door, places)) = Door::make(alloc, Unasked::<u64, N> { value: 0 }, threads) else {
+    let Ok((door, places)) = Door::make(alloc, Unasked::<u64, 1> { value: 0 }, threads) else {
         return Err(no_memory());
     };
     let start = Instant::now(rt)?;
@@ -78,27 +93,29 @@ pub fn alone<const N: usize, R: Wait + Clock>(
 }
 
 // All but the last to come wait, each with its number for a priority; the last signals them.
-fn wait_and_signal<R: Threads + Wait + Sync>(
+fn wait_and_signal<R: Threads + Wait + Sync, M: OneShared>(
     rt: &R,
-    door: &Door<Unasked<u64, 1>>,
-    places: Vec<DoorOut<Unasked<u64, 1>>>,
+    m: &M,
+    places: Vec<M::Out>,
     waiters: u64,
     turns: u64,
 ) -> io::Result<()>
-    requires { All (λ o. IsOut (λ s q. ⊤) (λ c p s q. ⊤) 1 door.now o) places.items }
+where
+    M::Lists: Send,
+    requires { All (M.is_of m.now) places.items }
 {
     let roles = AtomicU64::new(0);
     thread::map_vec(
         rt,
         places,
         &|out| -> ()
-            requires { IsOut (λ s q. ⊤) (λ c p s q. ⊤) 1 door.now out }
+            requires { M.is_of m.now out }
         {
             let role = roles.fetch_add(1, Ordering::SeqCst);
             if role < waiters {
-                wait_many(rt, door, out, turns, role)
+                wait_many(rt, m, out, turns, role)
             } else {
-                signal_many(rt, door, out, turns.saturating_mul(waiters))
+                signal_many(rt, m, out, turns.saturating_mul(waiters))
             }
         },
     )?;
@@ -122,26 +139,28 @@ pub fn waiting<R: Threads + Wait + Clock + Sync>(
 }
 
 // Eight links of a chain, and the process that signals the first.
-fn pull_chain<R: Threads + Wait + Sync>(
+fn pull_chain<R: Threads + Wait + Sync, M: EightShared>(
     rt: &R,
-    door: &Door<Unasked<u64, 8>>,
-    places: Vec<DoorOut<Unasked<u64, 8>>>,
+    m: &M,
+    places: Vec<M::Out>,
     turns: u64,
 ) -> io::Result<()>
-    requires { All (λ o. IsOut (λ s q. ⊤) (λ c p s q. ⊤) 8 door.now o) places.items }
+where
+    M::Lists: Send,
+    requires { All (M.is_of m.now) places.items }
 {
     let roles = AtomicU64::new(0);
     thread::map_vec(
         rt,
         places,
         &|out| -> ()
-            requires { IsOut (λ s q. ⊤) (λ c p s q. ⊤) 8 door.now out }
+            requires { M.is_of m.now out }
         {
             let role = roles.fetch_add(1, Ordering::SeqCst);
             if role < 8 {
-                link_many(rt, door, out, turns, role as usize)
+                link_many(rt, m, out, turns, role as usize)
             } else {
-                pull_many(rt, door, out, turns)
+                pull_many(rt, m, out, turns)
             }
         },
     )?;
@@ -163,26 +182,28 @@ pub fn chained<R: Threads + Wait + Clock + Sync>(
 }
 
 // Half of the threads append, the others remove.
-fn append_and_remove<R: Threads + Wait + Sync>(
+fn append_and_remove<R: Threads + Wait + Sync, M: SharedBuffer>(
     rt: &R,
-    door: &Door<Buffer<u64>>,
-    places: Vec<DoorOut<Buffer<u64>>>,
+    m: &M,
+    places: Vec<M::Out>,
     turns: u64,
 ) -> io::Result<u64>
-    requires { All (λ o. IsOut (λ b q. BufferRests b (q 0) (q 1)) (λ c p b q. BufferReady c b (q 0) (q 1)) 2 door.now o) places.items }
+where
+    M::Lists: Send,
+    requires { All (M.is_of m.now) places.items }
 {
     let roles = AtomicU64::new(0);
     let sums = thread::map_vec(
         rt,
         places,
         &|out| -> u64
-            requires { IsOut (λ b q. BufferRests b (q 0) (q 1)) (λ c p b q. BufferReady c b (q 0) (q 1)) 2 door.now out }
+            requires { M.is_of m.now out }
         {
             if roles.fetch_add(1, Ordering::SeqCst) % 2 == 0 {
-                append_many(rt, door, out, turns);
+                append_many(rt, m, out, turns);
                 0
             } else {
-                remove_many(rt, door, out, turns)
+                remove_many(rt, m, out, turns)
             }
         },
     )?;

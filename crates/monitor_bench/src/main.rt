@@ -70,11 +70,11 @@ fn measure_entries<R: Print + Eprint + Clock + Threads + Wait + Sync>(
     let spent = doors::alone::<1, R>(rt, alloc, 1, turns)?;
     tell(rt, "enter_leave", spent, turns)?;
     let part = turns / 10;
-    let spent = doors::contended::<1, R>(rt, alloc, 2, part)?;
+    let spent = doors::contended(rt, alloc, 2, part)?;
     tell(rt, "enter_leave_2", spent, part.saturating_mul(2))?;
-    let spent = doors::contended::<1, R>(rt, alloc, 4, part)?;
+    let spent = doors::contended(rt, alloc, 4, part)?;
     tell(rt, "enter_leave_4", spent, part.saturating_mul(4))?;
-    let spent = doors::contended::<1, R>(rt, alloc, 8, part)?;
+    let spent = doors::contended(rt, alloc, 8, part)?;
     tell(rt, "enter_leave_8", spent, part.saturating_mul(8))
 }
 

@@ -148,7 +148,7 @@ fn may_wait<M: Monitor<Pages>>(m: &M, inside: &M::In) -> bool
     waiting < WORKERS / 2
 }
 
-// One visit of a worker: it waits, signals, passes or just leaves.
+// One visit of a worker: it waits (and may then signal), signals, or passes.
 fn visit<R: Wait, M: Monitor<Pages>>(rt: &R, m: &M, out: M::Out, place: usize, lot: u64) -> M::Out
     requires { M.is_of m.now out }
     ensures of { M.is_of m.now result }
@@ -157,7 +157,11 @@ fn visit<R: Wait, M: Monitor<Pages>>(rt: &R, m: &M, out: M::Out, place: usize, l
     let condition = (lot / 8 % 3) as usize;
     let inside = enter(rt, m, out, place);
     if lot % 8 < 3 && may_wait(m, &inside) {
-        let inside = wait(rt, m, inside, place, condition, lot);
+        let mut inside = wait(rt, m, inside, place, condition, lot);
+        if lot / 128 % 2 == 0 {
+            // Its own signaller may still be held up: then two are.
+            inside = signal(rt, m, inside, place, (condition + 1) % 3, lot);
+        }
         return leave(rt, m, inside, place, lot);
     }
     if lot % 8 < 6 {

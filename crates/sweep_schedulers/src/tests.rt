@@ -1,4 +1,4 @@
-//! How refusals read. What the procedures do is tested in `monitor_trials`.
+//! How refusals read.
 
 use crate::head::OffDisk;
 use crate::not_out::NotOut;

@@ -1,4 +1,4 @@
-//! The calls on one thread, once each. Tests with threads stand in `monitor_trials`.
+//! The calls on one thread, once each. There are no tests with threads yet.
 
 use crate::door::TicketDoor;
 use crate::laws::make_at;

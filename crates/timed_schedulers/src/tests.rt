@@ -1,4 +1,4 @@
-//! How refusals read. What the procedures do is tested in `monitor_trials`.
+//! How refusals read.
 
 use crate::alarm::{ClockFull, TooFar};
 use crate::pool::{GiveRefused, NoStream, PoolRefused};

@@ -2,10 +2,11 @@
 use Rattle.std.specs.Prelude.{ℕ, ◌+◌, ◌==◌, nat_lt, Bool, if◌then◌else◌, List, [], ◌∷◌, ◌++◌, length, take, Option, Some, None, Result, Ok, Err}
 use Rattle.std.specs.List.{slice_split}
 use Rattle.hoare_law.specs.declared.event.History.{History}
+use Rattle.hoare_law.specs.Events.{opened}
 use Rattle.line_text.specs.declared.line.TheConstants.{LONGEST_LINE}
 use Rattle.line_text.specs.Line.{is_newline}
 use Rattle.wait_book.specs.declared.steps.MakeRefused.{MakeRefused}
-use Rattle.wait_book.specs.Contents.{make_refusal, unused}
+use Rattle.wait_book.specs.Contents.{make_refusal}
 use Rattle.hoare_script.specs.declared.runs.TheConstants.{MOST_BYTES}
 use Rattle.hoare_script.specs.declared.fault.ScriptFault.{ScriptFault}
 use Rattle.hoare_script.specs.declared.fault.ScriptFault.TheVariants as faults
@@ -24,7 +25,7 @@ abbrev pub Outcome : Type 0
 Outcome = Result (List ℕ × State) ScriptFault
 
 abbrev pub opened_by : ℕ → Header → Option MakeRefused → Outcome
-opened_by i h None = Ok ([], Running (unused h.places h.conditions))
+opened_by i h None = Ok ([], Running (opened h.places h.conditions tt))
 opened_by i h (Some r) = Err (faults.BadHeader i)
 
 abbrev pub header_line : ℕ → Option Header → Outcome

@@ -1,7 +1,8 @@
 //! The book that a header opened, as commands ask it.
 ghost use Rattle.std.specs.Prelude.{◌≡◌, MatchResult, None, Some, ◌⊎◌};
 ghost use Rattle.hoare_law.specs.declared.event.History.{History};
-ghost use Rattle.wait_book.specs.Contents.{IsOf, make_refusal, unused};
+ghost use Rattle.hoare_law.specs.Events.{opened};
+ghost use Rattle.wait_book.specs.Contents.{IsOf, make_refusal};
 ghost use Rattle.hoare_script.specs.declared.lines.Command.TheVariants as commands;
 ghost use Rattle.hoare_script.specs.Answers.{answer_to, history_after};
 
@@ -35,7 +36,7 @@ impl Opened {
     pub fn make(alloc: Global, header: Header) -> Result<Opened, MakeRefused>
         ensures { MatchResult result
             (λ b. (make_refusal header.places header.conditions ≡ None)
-            × IsOf b (unused header.places header.conditions))
+            × IsOf b (opened header.places header.conditions tt))
             (λ e. (make_refusal header.places header.conditions ≡ Some e)
             ⊎ ((make_refusal header.places header.conditions ≡ None) × (e ≡ MakeRefused.Memory))) }
     {

@@ -10,7 +10,7 @@ use Rattle.hoare_law.specs.declared.event.History.{History}
 use Rattle.hoare_law.specs.declared.event.Event.TheVariants.{Admit, Signal, Pass, Leave, Resume, Back}
 use Rattle.hoare_law.specs.declared.turn.Turn.{Turn}
 use Rattle.hoare_law.specs.declared.turn.Turn.TheVariants.{Free, Held, Owed, Return}
-use Rattle.hoare_law.specs.Events.{place_of, with_event}
+use Rattle.hoare_law.specs.Events.{opened, place_of, with_event}
 use Rattle.hoare_law.specs.Waiting.{waiting, waits_on, concerns, priority_of, chosen, Chooses}
 use Rattle.hoare_law.specs.Turns.{urgent, turn, turn_by, outside, is_out, is_signal}
 use Rattle.hoare_law.specs.Priorities.{put_in, in_order, behind_first}
@@ -23,7 +23,7 @@ use Rattle.hoare_law.proofs.Sorted.{in_order-filter, in_order-push, map-filter_p
 use Rattle.hoare_law.proofs.Chosen as law
 use Rattle.hoare_law.proofs.Sorted as sorted
 use Rattle.wait_book.specs.declared.waiter.Waiter.{Waiter}
-use Rattle.wait_book.specs.Contents.{Contents, IsOf, next_of, one, times, times_in, wait_of, waiters_on, unused}
+use Rattle.wait_book.specs.Contents.{Contents, IsOf, next_of, one, times, times_in, wait_of, waiters_on}
 use Rattle.wait_book.specs.declared.steps.Next.TheVariants as next
 use Rattle.wait_book.specs.Stepping.{after_claim, after_signal, after_pass, settled}
 use Rattle.wait_book.specs.Insides.{IsSound}
@@ -46,9 +46,9 @@ pub IsOf-same : (b d : Contents) (h : Log) → b ≡ d → IsOf b h → IsOf d h
 IsOf-same b d h e o = subst (λ (v : Contents). IsOf v h) e o
 
 -- a book where nothing happened
-pub IsOf-unused : (n m x y : ℕ) → IsOf (record { places = n; conditions = m; room_to_wait = x; room_to_signal = y; waiters = []; signallers = []; turn = Free }) (unused n m)
+pub IsOf-opened : (n m x y : ℕ) → IsOf (record { places = n; conditions = m; room_to_wait = x; room_to_signal = y; waiters = []; signallers = []; turn = Free }) (opened n m tt)
 unfolding waiting urgent turn outside
-IsOf-unused n m x y = record { legal = IsLegal-none (unused n m) refl; places = refl; conditions = refl; waiters = λ c. refl; signallers = refl; turn_is = refl; outside_are = λ k. refl }
+IsOf-opened n m x y = record { legal = IsLegal-none (opened n m tt) refl; places = refl; conditions = refl; waiters = λ c. refl; signallers = refl; turn_is = refl; outside_are = λ k. refl }
 
 -- who waits, after an event that leaves these alone
 

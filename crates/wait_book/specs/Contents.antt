@@ -6,7 +6,6 @@ use Rattle.hoare_law.specs.declared.event.History.{History}
 use Rattle.hoare_law.specs.declared.event.Event.TheVariants.{Wait}
 use Rattle.hoare_law.specs.declared.turn.Turn.{Turn}
 use Rattle.hoare_law.specs.declared.turn.Turn.TheVariants.{Free, Held, Owed, Return}
-use Rattle.hoare_law.specs.Events.{opened}
 use Rattle.hoare_law.specs.Waiting.{waiting, priority_of}
 use Rattle.hoare_law.specs.Turns.{urgent, turn, outside}
 use Rattle.hoare_law.specs.Priorities.{in_order}
@@ -90,10 +89,6 @@ abbrev pub IsPlaceBelow : ℕ → Next → Type 0
 IsPlaceBelow n next.Free = ⊤
 IsPlaceBelow n (next.For k) = k < n
 IsPlaceBelow n (next.Held k) = k < n
-
--- where nothing happened
-abbrev pub unused : ℕ → ℕ → History (Unit {0})
-unused places conditions = opened places conditions tt
 
 -- the first refusal of so many places and conditions, if memory is there
 abbrev pub make_refusal : ℕ → ℕ → Option MakeRefused

@@ -48,18 +48,18 @@ impl Book {
     ghost use Rattle.hoare_law.specs.declared.event.History.{History};
     ghost use Rattle.hoare_law.specs.declared.event.Event.TheVariants as event;
     ghost use Rattle.hoare_law.specs.declared.turn.Turn.TheVariants as turns;
-    ghost use Rattle.hoare_law.specs.Events.{with_event};
+    ghost use Rattle.hoare_law.specs.Events.{opened, with_event};
     ghost use Rattle.hoare_law.specs.Waiting.{waiting, chosen, priority_of};
     ghost use Rattle.hoare_law.specs.Turns.{turn, outside};
     ghost use Rattle.hoare_law.specs.Priorities.{joined, taken};
-    ghost use Rattle.wait_book.specs.Contents.{IsOf, IsPlaceBelow, SameSizes, make_refusal, next_of, priorities_on, times, times_in, unused};
+    ghost use Rattle.wait_book.specs.Contents.{IsOf, IsPlaceBelow, SameSizes, make_refusal, next_of, priorities_on, times, times_in};
     ghost use Rattle.wait_book.specs.Stepping.{IsSettled, after_pass, after_signal, after_step, refusal_of, settled};
 
     /// A book of 1 to 64 places and 1 to 8 conditions where nothing happened yet. Refused, in this order: `BadPlaces`,
     /// `BadConditions`, and `Memory` where the room for all places to wait or to be waiting signallers can't be had.
     pub fn make(alloc: Global, places: usize, conditions: usize) -> Result<Book, MakeRefused>
         ensures made { MatchResult result
-            (λ b. (make_refusal places conditions ≡ None) × IsOf b (unused places conditions))
+            (λ b. (make_refusal places conditions ≡ None) × IsOf b (opened places conditions tt))
             (λ e. (make_refusal places conditions ≡ Some e)
             ⊎ ((make_refusal places conditions ≡ None) × (e ≡ MakeRefused.Memory))) }
         ensures room { IfOk result

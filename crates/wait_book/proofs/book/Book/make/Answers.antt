@@ -8,6 +8,6 @@ pub returns : goal.returns
 returns c =
     let empty = sound.parts refl refl c.in-Ok.ensures.items c.in-Ok-with_capacity.ensures.items refl in
     record {
-      made = (grind (arith, nat_tests), histories.IsOf-same _ _ _ empty (histories.IsOf-unused c.args.places c.args.conditions _ _));
+      made = (grind (arith, nat_tests), histories.IsOf-same _ _ _ empty (histories.IsOf-opened c.args.places c.args.conditions _ _));
       room = (c.in-Ok.ensures.capacity, c.in-Ok-with_capacity.ensures.capacity);
     }

@@ -30,7 +30,8 @@ pub trait MonitorData {
     /// Whether `ready` holds, of a condition in range and a priority, for the data and these waiting priorities.
     fn ready_holds<W: Waits>(&self, condition: usize, priority: u64, lists: &W) -> bool
         requires { condition < CONDITIONS }
-        ensures { IsTrue result ↔ ready condition priority self.now (W.waiting_priorities lists.now) };
+        ensures { IsTrue result
+            ↔ ready condition priority self.now (W.waiting_priorities lists.now) };
 
     ghost rest_inv: { (s : Self) (q : ℕ → List ℕ) → rest s q → inv s };
 

@@ -62,7 +62,8 @@ pub trait Monitor<D: MonitorData> {
         ensures of { is_of_in self.now result }
         ensures place { place_in result ≡ place out }
         ensures rest { D.rest (data_in result) (lists_in result) }
-        ensures front { AddsLast (front out) (event.Admit (place out) (data_in result)) (front_in result) };
+        ensures front { AddsLast (front out) (event.Admit (place out) (data_in result))
+            (front_in result) };
 
     /// Goes out. The caller owes `rest`.
     fn leave<R: Wait>(&self, rt: &R, inside: Self::In) -> Self::Out
@@ -70,7 +71,8 @@ pub trait Monitor<D: MonitorData> {
         requires rest { D.rest (data_in inside) (lists_in inside) }
         ensures of { is_of self.now result }
         ensures place { place result ≡ place_in inside }
-        ensures front { front result ≡ with_event (front_in inside) (event.Leave (place_in inside) (data_in inside)) };
+        ensures front { front result
+            ≡ with_event (front_in inside) (event.Leave (place_in inside) (data_in inside)) };
 
     /// Gives the monitor up until a signal on the condition resumes this process: of those that wait, the longest waiting of
     /// least priority. The caller owes `rest` with itself among the waiting; it finds `ready`, and the data as the signaller
@@ -82,7 +84,9 @@ pub trait Monitor<D: MonitorData> {
         ensures of { is_of_in self.now result }
         ensures place { place_in result ≡ place_in inside }
         ensures ready { D.ready condition priority (data_in result) (lists_in result) }
-        ensures front { AddsTwo (front_in inside) (event.Wait (place_in inside) condition priority (data_in inside)) (event.Resume (place_in inside) condition (data_in result)) (front_in result) };
+        ensures front { AddsTwo (front_in inside)
+            (event.Wait (place_in inside) condition priority (data_in inside))
+            (event.Resume (place_in inside) condition (data_in result)) (front_in result) };
 
     /// Hands the monitor to the process that waits on the condition, if one does, and comes back before any newcomer: then the
     /// answer is true, the caller owed `ready` for that process, and finds `rest`. Where nobody waits the answer is false and
@@ -90,25 +94,31 @@ pub trait Monitor<D: MonitorData> {
     fn signal<R: Wait>(&self, rt: &R, inside: Self::In, condition: usize) -> (Self::In, bool)
         requires of { is_of_in self.now inside }
         requires in_range { condition < D.CONDITIONS }
-        requires ready { lists_in inside condition ≢ [] → D.ready condition (slice_index (lists_in inside condition) 0) (data_in inside) (taken (lists_in inside) condition) }
+        requires ready { lists_in inside condition ≢ []
+            → D.ready condition (slice_index (lists_in inside condition) 0) (data_in inside)
+            (taken (lists_in inside) condition) }
         ensures of { is_of_in self.now result.0 }
         ensures place { place_in result.0 ≡ place_in inside }
         ensures told { IsTrue result.1 ↔ (lists_in inside condition ≢ []) }
         ensures rest { result.1 ≡ true → D.rest (data_in result.0) (lists_in result.0) }
         ensures same { result.1 ≡ false → result.0 ≡ inside }
-        ensures front { Signals (place_in inside) condition (data_in inside) (data_in result.0) (front_in inside) (front_in result.0) result.1 };
+        ensures front { Signals (place_in inside) condition (data_in inside) (data_in result.0)
+            (front_in inside) (front_in result.0) result.1 };
 
     /// A signal as the last act: who waits is resumed, and the caller is outside at once. Where nobody waits it leaves, and
     /// owed what a `leave` owes. True exactly where somebody was resumed.
     fn signal_leave<R: Wait>(&self, rt: &R, inside: Self::In, condition: usize) -> (Self::Out, bool)
         requires of { is_of_in self.now inside }
         requires in_range { condition < D.CONDITIONS }
-        requires ready { lists_in inside condition ≢ [] → D.ready condition (slice_index (lists_in inside condition) 0) (data_in inside) (taken (lists_in inside) condition) }
+        requires ready { lists_in inside condition ≢ []
+            → D.ready condition (slice_index (lists_in inside condition) 0) (data_in inside)
+            (taken (lists_in inside) condition) }
         requires rest { lists_in inside condition ≡ [] → D.rest (data_in inside) (lists_in inside) }
         ensures of { is_of self.now result.0 }
         ensures place { place result.0 ≡ place_in inside }
         ensures told { IsTrue result.1 ↔ (lists_in inside condition ≢ []) }
-        ensures front { Exits (place_in inside) condition (data_in inside) (front_in inside) (front result.0) result.1 };
+        ensures front { Exits (place_in inside) condition (data_in inside) (front_in inside)
+            (front result.0) result.1 };
 
     /// The data in hand.
     fn state<'a>(&self, inside: &'a Self::In) -> &'a D
@@ -119,14 +129,16 @@ pub trait Monitor<D: MonitorData> {
     /// first parameter can lend.)
     fn state_mut<'a>(inside: &'a mut Self::In, monitor: &Self) -> &'a mut D
         requires { is_of_in monitor.now inside.old }
-        ensures* writes { sem 𝓛 (Lends Self.In.row D.row inside.entry result (with_data inside.entry.now)) }
+        ensures* writes { sem 𝓛
+            (Lends Self.In.row D.row inside.entry result (with_data inside.entry.now)) }
         ensures value { result.now ≡ data_in inside.old };
 
     /// The waiting priorities.
     fn lists<'a>(&self, inside: &'a Self::In) -> &'a Self::Lists
         requires { is_of_in self.now inside.now }
         ensures lists { Self.Lists.waiting_priorities result.now ≡ lists_in inside.now }
-        ensures front { Self.Lists.waiting_priorities result.now ≡ priorities (front_in inside.now).events };
+        ensures front { Self.Lists.waiting_priorities result.now
+            ≡ priorities (front_in inside.now).events };
 
     /// Whether somebody waits on the condition (Hoare's `queue`).
     fn queue(&self, inside: &Self::In, condition: usize) -> bool
@@ -139,24 +151,34 @@ pub trait Monitor<D: MonitorData> {
     fn first(&self, inside: &Self::In, condition: usize) -> Option<u64>
         requires of { is_of_in self.now inside.now }
         requires in_range { condition < D.CONDITIONS }
-        ensures lists { MatchOption result (lists_in inside.now condition ≡ []) (λ p. (lists_in inside.now condition ≢ []) × (p ≡ slice_index (lists_in inside.now condition) 0)) }
-        ensures front { result ≡ option_map priority_of (chosen condition (front_in inside.now).events) };
+        ensures lists { MatchOption result (lists_in inside.now condition ≡ [])
+            (λ p. (lists_in inside.now condition ≢ [])
+            × (p ≡ slice_index (lists_in inside.now condition) 0)) }
+        ensures front { result
+            ≡ option_map priority_of (chosen condition (front_in inside.now).events) };
 
     /// What a place outside knows is legal and lawful, and has it outside.
-    ghost stands: { (m : Self) (o : Self.Out) → is_of m o → Stands D.rest D.ready (front o) × ((front o).conditions ≡ D.CONDITIONS) × (outside (place o) (front o).events ≡ true) };
+    ghost stands: { (m : Self) (o : Self.Out) → is_of m o
+        → Stands D.rest D.ready (front o) × ((front o).conditions ≡ D.CONDITIONS)
+        × (outside (place o) (front o).events ≡ true) };
 
     /// What a place inside knows is legal and lawful, and has it inside.
-    ghost stands_in: { (m : Self) (i : Self.In) → is_of_in m i → Stands D.rest D.ready (front_in i) × ((front_in i).conditions ≡ D.CONDITIONS) × (turn (front_in i).events ≡ turns.Held (place_in i)) };
+    ghost stands_in: { (m : Self) (i : Self.In) → is_of_in m i
+        → Stands D.rest D.ready (front_in i) × ((front_in i).conditions ≡ D.CONDITIONS)
+        × (turn (front_in i).events ≡ turns.Held (place_in i)) };
 
     /// The waiting priorities in hand are those of the front, and rise.
-    ghost lists_are: { (m : Self) (i : Self.In) → is_of_in m i → lists_in i ≡ priorities (front_in i).events };
+    ghost lists_are: { (m : Self) (i : Self.In) → is_of_in m i
+        → lists_in i ≡ priorities (front_in i).events };
 
-    ghost rise: { (m : Self) (i : Self.In) (c : ℕ) → is_of_in m i → IsNonDecreasing (lists_in i c) };
+    ghost rise: { (m : Self) (i : Self.In) (c : ℕ) → is_of_in m i
+        → IsNonDecreasing (lists_in i c) };
 
     /// What is written is in hand, and all else stays.
     ghost takes_data: { (i : Self.In) (d : D) → data_in (with_data i d) ≡ d };
 
-    ghost keeps_of: { (m : Self) (i : Self.In) (d : D) → is_of_in m i → is_of_in m (with_data i d) };
+    ghost keeps_of: { (m : Self) (i : Self.In) (d : D) → is_of_in m i
+        → is_of_in m (with_data i d) };
 
     ghost keeps_place: { (i : Self.In) (d : D) → place_in (with_data i d) ≡ place_in i };
 

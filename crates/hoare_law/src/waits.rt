@@ -59,7 +59,8 @@ impl<'a, W: Waits> Joined<'a, W> {
     /// The lists with the priority put in its rising place of the condition, where fewer than `usize::MAX` wait.
     pub fn of(lists: &'a W, condition: usize, priority: u64) -> Joined<'a, W>
         requires { length (W.waiting_priorities lists.now condition) < 2 ^ 64 - 1 }
-        ensures { ⟦<Joined<'a, W> as Waits>⟧.waiting_priorities result ≡ joined (W.waiting_priorities lists.now) condition priority }
+        ensures { ⟦<Joined<'a, W> as Waits>⟧.waiting_priorities result
+            ≡ joined (W.waiting_priorities lists.now) condition priority }
     {
         Joined {
             lists,
@@ -72,7 +73,8 @@ impl<'a, W: Waits> Joined<'a, W> {
 impl<'a, W: Waits> Waits for Joined<'a, W> {
     ghost use Rattle.hoare_law.specs.Priorities.{joined};
 
-    ghost waiting_priorities = { λ j. joined (W.waiting_priorities j.lists.now) j.condition j.priority };
+    ghost waiting_priorities = { λ j. joined (W.waiting_priorities j.lists.now) j.condition
+        j.priority };
 
     #[tactic(auto, using(crate::proofs::Joined::joined_steps))]
     fn count(&self, condition: usize) -> usize {
@@ -105,7 +107,8 @@ impl<'a, W: Waits> Waits for Joined<'a, W> {
 
     ghost use Rattle.hoare_law.specs.Beside.Rising.{IsNonDecreasing-joined};
 
-    ghost rise = { λ j c. IsNonDecreasing-joined (W.waiting_priorities j.lists.now) j.condition j.priority c (W.rise j.lists.now c) };
+    ghost rise = { λ j c. IsNonDecreasing-joined (W.waiting_priorities j.lists.now) j.condition
+        j.priority c (W.rise j.lists.now c) };
 }
 
 /// Lists without one process: the first of a condition. It is the test for what a signal owes.
@@ -120,7 +123,8 @@ impl<'a, W: Waits> Taken<'a, W> {
     /// The lists without the first of the condition, where somebody waits on it.
     pub fn of(lists: &'a W, condition: usize) -> Taken<'a, W>
         requires { W.waiting_priorities lists.now condition ≢ [] }
-        ensures { ⟦<Taken<'a, W> as Waits>⟧.waiting_priorities result ≡ taken (W.waiting_priorities lists.now) condition }
+        ensures { ⟦<Taken<'a, W> as Waits>⟧.waiting_priorities result
+            ≡ taken (W.waiting_priorities lists.now) condition }
     {
         Taken { lists, condition }
     }
@@ -151,7 +155,8 @@ impl<'a, W: Waits> Waits for Taken<'a, W> {
 
     ghost use Rattle.hoare_law.specs.Beside.Rising.{IsNonDecreasing-taken};
 
-    ghost rise = { λ t c. IsNonDecreasing-taken (W.waiting_priorities t.lists.now) t.condition c (W.rise t.lists.now c) };
+    ghost rise = { λ t c. IsNonDecreasing-taken (W.waiting_priorities t.lists.now) t.condition c
+        (W.rise t.lists.now c) };
 }
 
 #[cfg(test)]

@@ -51,7 +51,8 @@ pub fn run_watched<R: Read, W: Write>(
     writer: &mut WatchedWriter<'_, W>,
 ) -> Result<(), ScriptFault>
     ensures written { ReadsFrom R.remaining reader.old reader.new (λ text left.
-        Writes text left (W.contents (writer_inside writer.old)) (W.contents (writer_inside writer.new)) result) }
+        Writes text left (W.contents (writer_inside writer.old))
+        (W.contents (writer_inside writer.new)) result) }
     ensures read { ReadsFrom R.remaining reader.old reader.new (λ text left.
         Leaves text left result) }
     ensures counts { HasRead reader.old reader.new (MOST_BYTES + 1) (MOST_BYTES + 1) }
@@ -75,7 +76,8 @@ fn answer_lines<R: Read, W: Write>(
 ) -> Result<(), ScriptFault>
     requires { opened.old ≡ None }
     ensures told { ReadsFrom R.remaining reader.old reader.new (λ text left.
-        Tells text left (W.contents (writer_inside writer.old)) (W.contents (writer_inside writer.new)) result) }
+        Tells text left (W.contents (writer_inside writer.old))
+        (W.contents (writer_inside writer.new)) result) }
     ensures counts { HasRead reader.old reader.new (MOST_BYTES + 1) (MOST_BYTES + 1) }
     ensures read_fault { has_read_failed reader.new
         ≡ (has_read_failed reader.old || is_read_fault result) }
@@ -122,7 +124,8 @@ fn one_line<W: Write>(
 ) -> Result<(), ScriptFault>
     requires { length line.now ≤ LONGEST_LINE }
     ensures of { (s : State) → IsAt opened.old s → Follows (one_line s number line.now)
-        (W.contents (writer_inside writer.old)) (W.contents (writer_inside writer.new)) opened.new result }
+        (W.contents (writer_inside writer.old)) (W.contents (writer_inside writer.new)) opened.new
+        result }
     ensures opened { OnOk result (opened.new ≢ None) }
     ensures memory { (s : State) → IsAt opened.old s → result ≡ Err ScriptFault.Memory → s ≡ Start }
     ensures no_read { is_read_fault result ≡ false }
@@ -148,7 +151,8 @@ fn header_line(alloc: Global, number: u64, line: &[u8]) -> Result<Opened, Script
         (λ b. IsOkAnd (header_line number (header_of line.now))
         (λ p. (p.0 ≡ []) × IsAt (Some b) p.1))
         (λ f. (f ≡ ScriptFault.Memory)
-        ⊎ ((header_line number (header_of line.now) ≡ Err f) × (f ≡ ScriptFault.BadHeader number))) }
+        ⊎ ((header_line number (header_of line.now) ≡ Err f)
+        × (f ≡ ScriptFault.BadHeader number))) }
 {
     let Some(header) = parse_header(line) else {
         return Err(ScriptFault::BadHeader(number));
@@ -170,7 +174,8 @@ fn command_line<W: Write>(
     requires { length line.now ≤ LONGEST_LINE }
     ensures of { (h : History (Unit {0})) → IsOf opened.old h →
         Follows (command_line h number line.now (command_of line.now))
-        (W.contents (writer_inside writer.old)) (W.contents (writer_inside writer.new)) (Some opened.new) result }
+        (W.contents (writer_inside writer.old)) (W.contents (writer_inside writer.new))
+        (Some opened.new) result }
     ensures no_memory { result ≢ Err ScriptFault.Memory }
     ensures no_read { is_read_fault result ≡ false }
     ensures write_fault { has_write_failed writer.new

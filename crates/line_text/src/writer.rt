@@ -59,9 +59,11 @@ impl<'a, W: Write> WatchedWriter<'a, W> {
     /// Writes all of the bytes. Where a write fails or takes nothing, a prefix of them is written, and not all.
     pub fn write_whole(&mut self, bytes: &[u8]) -> Result<(), WriteFailed>
         ensures ok { OnOk result
-            (Appends (W.contents (writer_inside self.old)) (W.contents (writer_inside self.new)) bytes.now) }
+            (Appends (W.contents (writer_inside self.old)) (W.contents (writer_inside self.new))
+            bytes.now) }
         ensures err { OnErr result
-            (AppendsPrefix (W.contents (writer_inside self.old)) (W.contents (writer_inside self.new)) bytes.now) }
+            (AppendsPrefix (W.contents (writer_inside self.old))
+            (W.contents (writer_inside self.new)) bytes.now) }
         ensures same_reference { writer_name self.new ≡ writer_name self.old }
         ensures mark { has_write_failed self.new ≡ (has_write_failed self.old || is_error result) }
     {

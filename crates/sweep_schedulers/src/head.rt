@@ -30,7 +30,12 @@ impl<T> Model for Head<T> {
 
     ghost Value = { Disk T };
 
-    ghost view = { λ h. record { drive = h.drive; headpos = h.headpos; direction = h.direction; cylmax = h.cylmax } };
+    ghost view = { λ h. record {
+      drive = h.drive;
+      headpos = h.headpos;
+      direction = h.direction;
+      cylmax = h.cylmax;
+    } };
 
     ghost invariant = { λ h. h.headpos ≤ h.cylmax };
 }
@@ -152,7 +157,8 @@ impl<T: Drop> Head<T> {
 
     // Whether all that wait for a sweep wait for a cylinder before the head.
     fn sweeps_hold<W: Waits>(&self, lists: &W) -> bool
-        ensures { let q = W.waiting_priorities lists.now in IsTrue result ↔ OnSweeps self.now (q 0) (q 1) }
+        ensures { let q = W.waiting_priorities lists.now in IsTrue result
+            ↔ OnSweeps self.now (q 0) (q 1) }
     {
         let last = u64::from(self.cylmax);
         none_above(lists, 0, last)
@@ -222,7 +228,8 @@ impl<T: Drop> Head<T> {
         requires free { HeadFree (M.data_in inside) (M.lists_in inside 0) (M.lists_in inside 1) }
         ensures of { M.is_of m.now result }
         ensures place { M.place result ≡ M.place_in inside }
-        ensures trace { HandsOn (M.place_in inside) (M.data_in inside) (M.front_in inside) (M.front result) }
+        ensures trace { HandsOn (M.place_in inside) (M.data_in inside) (M.front_in inside)
+            (M.front result) }
     {
         let mut inside = inside;
         if !m.queue(&inside, m.state(&inside).sweep()) {

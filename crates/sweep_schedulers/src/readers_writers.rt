@@ -31,7 +31,8 @@ impl<T: Copy> Model for ReadersWriters<T> {
 
     ghost view = { λ s. record { value = s.value; readers = s.readers; busy = s.busy } };
 
-    ghost invariant = { λ s. ReadersHold (record { value = s.value; readers = s.readers; busy = s.busy }) };
+    ghost invariant = { λ s. ReadersHold
+        (record { value = s.value; readers = s.readers; busy = s.busy }) };
 }
 
 /// The right of one reader to be in. It can't be dropped or copied, so that each read is ended: by `end_read`. It isn't bound to

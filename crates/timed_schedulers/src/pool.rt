@@ -168,7 +168,8 @@ impl Pool {
         requires { M.is_of m.now out }
         ensures of { M.is_of m.now result.0 }
         ensures place { M.place result.0 ≡ M.place out }
-        ensures trace { Gives (M.place out) stream buffer (M.front out) (M.front result.0) result.1 }
+        ensures trace { Gives (M.place out) stream buffer (M.front out) (M.front result.0)
+            result.1 }
     {
         let mut inside = m.enter(rt, out);
         if let Err(refused) = m.state(&inside).judge(stream, buffer) {

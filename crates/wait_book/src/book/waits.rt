@@ -30,5 +30,6 @@ impl Waits for Book {
         priority
     }
 
-    ghost rise = { λ w c. IsNonDecreasing-in_order (map (λ (v : Waiter). v.priority) (waiters_on c w)) };
+    ghost rise = { λ w c. IsNonDecreasing-in_order
+        (map (λ (v : Waiter). v.priority) (waiters_on c w)) };
 }

@@ -2,17 +2,7 @@
 use Rattle.std.proofs.Common.{◌≡◌, List, [], ◌∷◌, ℕ, None, refl, ap, sym, ◌∙◌}
 use Rattle.line_text.proofs.Spelling.{slice_split-some}
 use Rattle.line_text.specs.Words.{is_space, words_of}
-use Rattle.hoare_script.specs.Lines.{header_of, header_of_words, command_of, command_of_words}
-
-header_of_words-long : (w a b : List ℕ) (ws : List (List ℕ)) → (ws ≡ [] → ⊥) → header_of_words (w ∷ a ∷ b ∷ ws) ≡ None
-header_of_words-long w a b [] h = absurd (h refl)
-header_of_words-long w a b (x ∷ xs) h = refl
-
--- a header of more words
-pub header_of-long : (line w a b r : List ℕ)
-    → words_of line ≡ w ∷ a ∷ b ∷ words_of r → None ≡ header_of line
-unfolding header_of
-header_of-long line w a b r h = sym (ap header_of_words h ∙ header_of_words-long w a b (words_of r) (slice_split-some is_space r))
+use Rattle.hoare_script.specs.Lines.{command_of, command_of_words}
 
 command_of_words-long : (w a b p : List ℕ) (ws : List (List ℕ)) → (ws ≡ [] → ⊥) → command_of_words (w ∷ a ∷ b ∷ p ∷ ws) ≡ None
 command_of_words-long w a b p [] h = absurd (h refl)

@@ -1,6 +1,7 @@
 -- How a line spells a header or a command. Its words and numbers are those of line_text.
 use Rattle.std.specs.Prelude.{ℕ, if◌then◌else◌, List, [], ◌∷◌, Option, Some, None, codes}
 use Rattle.std.specs.Str.{bytes_eq}
+use Rattle.line_text.specs.Forms.{two_numbers}
 use Rattle.line_text.specs.Words.{number_of, with_number, words_of}
 use Rattle.wait_book.specs.declared.steps.Step.TheVariants.{Enter, Wait, Signal, Pass, Leave}
 use Rattle.hoare_script.specs.declared.lines.Command.{Command}
@@ -47,18 +48,10 @@ command_of_words (w ∷ a ∷ b ∷ p ∷ x ∷ xs) = None
 unfoldable pub command_of : List ℕ → Option Command
 command_of line = command_of_words (words_of line)
 
-abbrev pub header_with : ℕ → ℕ → Option Header
-header_with p c = Some (record { places = p; conditions = c })
-
-abbrev pub header_of_words : List (List ℕ) → Option Header
-header_of_words [] = None
-header_of_words (w ∷ []) = None
-header_of_words (w ∷ a ∷ []) = None
-header_of_words (w ∷ a ∷ b ∷ []) =
-    if bytes_eq w (codes "monitor") then with_number (number_of a) (λ p. with_number (number_of b) (header_with p))
-    else None
-header_of_words (w ∷ a ∷ b ∷ p ∷ xs) = None
+abbrev pub header_with : Option (ℕ × ℕ) → Option Header
+header_with None = None
+header_with (Some n) = Some (record { places = n.0; conditions = n.1 })
 
 -- the header that a line spells, with any numbers
 unfoldable pub header_of : List ℕ → Option Header
-header_of line = header_of_words (words_of line)
+header_of line = header_with (two_numbers (codes "monitor") line)

@@ -3,7 +3,7 @@ ghost use Rattle.std.specs.Prelude.{◌≡◌, ◌+◌, ◌≤◌, ◌++◌, len
 ghost use Rattle.hoare_script.specs.Answers.{answer_line, outcome_answer, refusal_number, text_of};
 
 use arrayvec::ArrayVec;
-use itoa::Buffer;
+use line_text::text::{Text, append, append_number};
 use wait_book::steps::{Next, StepRefused};
 
 /// What a command is answered.
@@ -23,9 +23,6 @@ pub enum Answer {
     Refused(StepRefused),
 }
 
-/// Room for the longest line with its answer.
-pub type Text = ArrayVec<u8, 320>;
-
 /// What a step is answered.
 pub fn outcome_answer(outcome: Result<Next, StepRefused>) -> Answer
     ensures { result ≡ outcome_answer outcome }
@@ -36,22 +33,6 @@ pub fn outcome_answer(outcome: Result<Next, StepRefused>) -> Answer
         Ok(Next::For(place)) => Answer::Inside(place),
         Err(refused) => Answer::Refused(refused),
     }
-}
-
-fn append(text: &mut Text, bytes: &[u8])
-    requires { length text.old.items + length bytes.now ≤ 320 }
-    ensures { text.new.items ≡ text.old.items ++ bytes.now }
-{
-    let _ = text.try_extend_from_slice(bytes);
-}
-
-fn append_number(text: &mut Text, number: u64)
-    requires { length text.old.items ≤ 280 }
-    ensures value { text.new.items ≡ text.old.items ++ decimal number }
-    ensures bound { length text.new.items ≤ length text.old.items + 40 }
-{
-    let mut buffer = Buffer::new();
-    append(text, buffer.format(number).as_bytes());
 }
 
 fn refusal_number(refused: StepRefused) -> u64

@@ -2,6 +2,7 @@
 ghost use Rattle.std.specs.Prelude.{◌≡◌};
 ghost use Rattle.hoare_script.specs.Lines.{command_of, command_of_one, command_of_three, command_of_two, header_of};
 
+use line_text::forms::two_numbers;
 use line_text::words::{first_word, number};
 use wait_book::steps::Step;
 
@@ -97,16 +98,6 @@ pub fn parse_command(line: &[u8]) -> Option<Command>
 pub fn parse_header(line: &[u8]) -> Option<Header>
     ensures { result ≡ header_of line.now }
 {
-    let (word, rest) = first_word(line);
-    let (first, rest) = first_word(rest?);
-    let (second, rest) = first_word(rest?);
-    if let Some(_) = rest {
-        return None;
-    }
-    if word != b"monitor".as_slice() {
-        return None;
-    }
-    let places = number(first)?;
-    let conditions = number(second)?;
+    let (places, conditions) = two_numbers(line, b"monitor")?;
     Some(Header { places, conditions })
 }

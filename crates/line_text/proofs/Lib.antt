@@ -1,3 +1,4 @@
 pub mod Spelling
 pub mod Streams
 pub mod AfterLines
+pub mod LongLines

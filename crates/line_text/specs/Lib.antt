@@ -1,3 +1,4 @@
 pub mod Words
 pub mod Streams
 pub mod Line
+pub mod Forms

@@ -1,9 +1,12 @@
-//! Lines of a text, read with limits from any reader; their words and numbers; and bytes written to any writer.
+//! Lines of a text, read with limits from any reader; their words and numbers, and how they are spelled; and bytes written to
+//! any writer.
 #![tactic(auto)]
 
+pub mod forms;
 pub mod line;
 pub mod reader;
 #[cfg(test)]
 mod tests;
+pub mod text;
 pub mod words;
 pub mod writer;

@@ -1,3 +1,4 @@
+mod forms;
 mod lines;
 mod watching;
 mod words;

@@ -1,7 +1,7 @@
 use Rattle.std.proofs.Common.{◌∷◌, ap, ◌∙◌}
 use Rattle.line_text.proofs.Spelling.{words_of-next}
-use Rattle.hoare_script.proofs.Spelling.{header_of-long}
-use Rattle.hoare_script.proofs.lines.parse_header.Goals as goal
+use Rattle.line_text.proofs.LongLines.{two_numbers-long}
+use Rattle.line_text.proofs.forms.two_numbers.Goals as goal
 
 pub returns-in-Some : goal.returns-in-Some
 returns-in-Some c =
@@ -11,7 +11,7 @@ returns-in-Some c =
     let w1 = c.first_word.result.0 in
     let w2 = c.first_word-2.result.0 in
     let w3 = c.first_word-3.result.0 in
-    header_of-long c.args.line.now w1.now w2.now w3.now r3.now
+    two_numbers-long c.args.word.now c.args.line.now w1.now w2.now w3.now r3.now
     (words_of-next c.args.line.now w1 c.first_word.result.1 r1 c.first_word.ensures c.in_ok-rest.was
     ∙ ap (λ x. w1.now ∷ x) (words_of-next r1.now w2 c.first_word-2.result.1 r2 c.first_word-2.ensures c.in_ok-rest-2.was
     ∙ ap (λ x. w2.now ∷ x) (words_of-next r2.now w3 c.first_word-3.result.1 r3 c.first_word-3.ensures c.in-Some.is)))

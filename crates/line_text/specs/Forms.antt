@@ -1,0 +1,22 @@
+-- Lines of one form: a word and its numbers.
+use Rattle.std.specs.Prelude.{ℕ, if◌then◌else◌, List, [], ◌∷◌, Option, Some, None}
+use Rattle.std.specs.Str.{bytes_eq}
+use Rattle.line_text.specs.Words.{number_of, with_number, words_of}
+
+abbrev pub one_of_words : List ℕ → List (List ℕ) → Option ℕ
+one_of_words word (w ∷ a ∷ []) = if bytes_eq w word then number_of a else None
+one_of_words word _ = None
+
+-- the number of a line that is a word and a number
+unfoldable pub one_number : List ℕ → List ℕ → Option ℕ
+one_number word line = one_of_words word (words_of line)
+
+abbrev pub two_of_words : List ℕ → List (List ℕ) → Option (ℕ × ℕ)
+two_of_words word (w ∷ a ∷ b ∷ []) =
+    if bytes_eq w word then with_number (number_of a) (λ x. with_number (number_of b) (λ y. Some (x, y)))
+    else None
+two_of_words word _ = None
+
+-- the two numbers of a line that is a word and two numbers
+unfoldable pub two_numbers : List ℕ → List ℕ → Option (ℕ × ℕ)
+two_numbers word line = two_of_words word (words_of line)

@@ -1,0 +1,40 @@
+//! Lines of one form: a word and its numbers.
+ghost use Rattle.std.specs.Prelude.{◌≡◌};
+ghost use Rattle.line_text.specs.Forms.{one_number, two_numbers};
+
+use crate::words::{first_word, number};
+
+/// The number of a line that is this word and a number.
+#[tactic(auto, unfolding(crate::specs::Forms::one_number))]
+pub fn one_number(line: &[u8], word: &[u8]) -> Option<u64>
+    ensures { result ≡ one_number word.now line.now }
+{
+    let (named, rest) = first_word(line);
+    let (first, rest) = first_word(rest?);
+    if let Some(_) = rest {
+        return None;
+    }
+    if named != word {
+        return None;
+    }
+    number(first)
+}
+
+/// The two numbers of a line that is this word and two numbers.
+#[tactic(auto, unfolding(crate::specs::Forms::two_numbers))]
+pub fn two_numbers(line: &[u8], word: &[u8]) -> Option<(u64, u64)>
+    ensures { result ≡ two_numbers word.now line.now }
+{
+    let (named, rest) = first_word(line);
+    let (first, rest) = first_word(rest?);
+    let (second, rest) = first_word(rest?);
+    if let Some(_) = rest {
+        return None;
+    }
+    if named != word {
+        return None;
+    }
+    let first = number(first)?;
+    let second = number(second)?;
+    Some((first, second))
+}

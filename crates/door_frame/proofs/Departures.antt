@@ -1,6 +1,5 @@
 -- Who is inside gives the monitor up: a wait, a leave, a signal or a pass.
 use Rattle.std.proofs.Common.{◌≡◌, ◌≢◌, ℕ, ◌<◌, true, [], Some, refl, ap, sym, ◌∙◌, subst}
-use Rattle.std.specs.Prelude.{slice_index}
 use Rattle.atomic_table.specs.Seated.{TableId}
 use Rattle.hoare_law.specs.declared.event.Event.{Event}
 use Rattle.hoare_law.specs.declared.event.History.{History}
@@ -12,7 +11,7 @@ use Rattle.hoare_law.specs.Events.{place_of, data_of, own, with_event}
 use Rattle.hoare_law.specs.Growth.{Begins, Exits, passed_on}
 use Rattle.hoare_law.specs.Lawful.{Rest, Ready, Owes, Stands}
 use Rattle.hoare_law.specs.Legal.{Allowed}
-use Rattle.hoare_law.specs.Priorities.{priorities, joined, taken}
+use Rattle.hoare_law.specs.Priorities.{priorities, joined}
 use Rattle.hoare_law.specs.Turns.{turn, is_out}
 use Rattle.hoare_law.specs.Waiting.{chosen, Chooses}
 use Rattle.hoare_law.proofs.Entering.{outside-same}
@@ -30,7 +29,7 @@ use Rattle.wait_book.proofs.WithData.{next-history, turn-history, IsOf-event, Is
 use Rattle.door_frame.specs.declared.parcel.Lodged.{Lodged}
 use Rattle.door_frame.specs.declared.departure.Departure.TheVariants as departure
 use Rattle.door_frame.specs.Departures.{place_for, event_of}
-use Rattle.door_frame.specs.Places.{DoorId, IsOut, PlaceOut, PlaceIn, place_in, place_out}
+use Rattle.door_frame.specs.Places.{DoorId, IsOut, PlaceOut, PlaceIn, Handed, place_in, place_out}
 use Rattle.door_frame.specs.Steps.{Sat, Gives, MayGive}
 use Rattle.door_frame.proofs.Inside.{Holds}
 
@@ -65,10 +64,6 @@ module _ {D : Type 0} where
     pub of : IsOut rest ready conditions d o
     pub place : o.place ≡ k
     pub front : o.front ≡ h
-
-  -- what is owed to who is resumed
-  abbrev pub Handed : Ready D → ℕ → PlaceIn D → Type 0
-  Handed ready c j = ready c (slice_index (priorities j.front.events c) 0) j.state (taken (priorities j.front.events) c)
 
   -- what a pass says of the place outside
   pub record Passed (rest : Rest D) (ready : Ready D) (conditions : ℕ) (d : DoorId) (i : PlaceIn D) (c : ℕ) (o : PlaceOut D) : Type 0 where

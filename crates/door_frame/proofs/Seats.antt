@@ -12,7 +12,6 @@ use Rattle.door_frame.specs.declared.view.View.{View}
 use Rattle.door_frame.specs.declared.view.View.TheVariants.{Places}
 use Rattle.door_frame.specs.Views.{alone, is_alone, front_of, all_know, first_place, places_behind}
 use Rattle.door_frame.proofs.Views.{dealt, front_of-alone}
-use Rattle.door_frame.proofs.Steps.{alone_is}
 
 pub one_slot : {S : Type 0} (l : List (ℕ × S)) (x : ℕ × S) → l ≡ x ∷ [] → l ≡ x ∷ rest l
 one_slot {S = S} l x e = e ∙ ap (λ (z : List (ℕ × S)). x ∷ rest z) (sym e)
@@ -70,10 +69,6 @@ module _ {D : Type 0} where
   -- what holds of the front that a seat has
   pub at_front : (P : History D → Type 0) (m : Sat D) (is : is_alone m.0 ≡ true) (k : ℕ) (f : History D) (c : List (ℕ × Option (Lodged D))) → m ≡ (alone k f, c) → P f → P (front_of m.0 is)
   at_front P m is k f c e p = subst P (sym (front_is m is k f c e)) p
-
-  -- a seat has one front
-  pub one_front : (P : History D → Type 0) (m : Sat D) (j k : ℕ) (f h : History D) (c d : List (ℕ × Option (Lodged D))) → m ≡ (alone j f, c) → m ≡ (alone k h, d) → P f → P h
-  one_front P m j k f h c d a b p = subst P (alone_is j k f h c d (sym a ∙ b)).1 p
 
   -- the seat of the first of some places is cut off
   pub cut_off : (k m : ℕ) (f : History D) {me cut left : Sat D} → 0 < m → me ≡ (Places (all_know k m f), [])

@@ -55,12 +55,6 @@ pub given_up_due : (k : ℕ) (t : Turn) → IsDue k t → IsGivenUp t
 given_up_due k t (owed c is) = subst IsGivenUp (sym is) tt
 given_up_due k t (returning is) = subst IsGivenUp (sym is) tt
 
-pub given_up_none : (t : Turn) → ((k : ℕ) → t ≢ Held k) → IsGivenUp t
-given_up_none Free a = tt
-given_up_none (Held k) a = a k refl
-given_up_none (Owed k c) a = tt
-given_up_none (Return k) a = tt
-
 -- what a step tells may be told in other words
 pub told_as : {S V : Type 0} (holds : State S V → Type 0) (slots id : ℕ) (me : Me S V) (i : ℕ) (f : ℕ → ℕ) (Then Other : ℕ → Me S V → Type 0)
     → ((r : ℕ) (m : Me S V) → Then r m → Other r m) → Allows holds slots id me i f Then → Allows holds slots id me i f Other

@@ -1,5 +1,5 @@
 -- What a contract sees of a door, of a place, and of all places of a door.
-use Rattle.std.specs.Prelude.{◌≡◌, ◌⊎◌, ◌<◌, ℕ, zero, suc, true, List, [], ◌∷◌, All}
+use Rattle.std.specs.Prelude.{◌≡◌, ◌⊎◌, ◌<◌, ℕ, zero, suc, true, List, [], ◌∷◌, All, slice_index}
 use Rattle.atomic_table.specs.Seated.{TableId}
 use Rattle.hoare_law.specs.declared.event.History.{History}
 use Rattle.hoare_law.specs.declared.turn.Turn.TheVariants.{Held}
@@ -7,11 +7,15 @@ use Rattle.hoare_law.specs.Events.{own, latest_data}
 use Rattle.hoare_law.specs.Turns.{turn, outside}
 use Rattle.hoare_law.specs.Growth.{Begins}
 use Rattle.hoare_law.specs.Lawful.{Rest, Ready, Stands}
+use Rattle.hoare_law.specs.Priorities.{priorities, taken}
 
 -- a door: its table, and how many places it has
 pub record DoorId : Type 0 where
   pub table : TableId
   pub places : ℕ
+
+abbrev pub door_of : TableId → ℕ → DoorId
+door_of z n = record { table = z; places = n }
 
 -- a place outside, of the door with this table, with its front
 pub record PlaceOut (D : Type 0) : Type 0 where
@@ -35,6 +39,10 @@ module _ {D : Type 0} where
 
   abbrev pub with_state : PlaceIn D → D → PlaceIn D
   with_state i s = place_in i.table i.place i.front s
+
+  -- who is inside has made ready what is owed to the first that waits on c
+  abbrev pub Handed : Ready D → ℕ → PlaceIn D → Type 0
+  Handed ready c i = ready c (slice_index (priorities i.front.events c) 0) i.state (taken (priorities i.front.events) c)
 
   -- the places k, .., k + n - 1 of one door, with one front
   abbrev pub places_from : TableId → ℕ → ℕ → History D → List (PlaceOut D)

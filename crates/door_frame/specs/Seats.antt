@@ -1,10 +1,14 @@
 -- How a seat stands for a place outside or inside.
 use Rattle.std.specs.Prelude.{◌≡◌, ℕ, true, [], ◌∷◌, None}
+use Rattle.hoare_law.specs.declared.event.Event.{Event}
 use Rattle.hoare_law.specs.declared.event.History.{History}
+use Rattle.hoare_law.specs.Events.{with_event}
 use Rattle.hoare_law.specs.Beside.Erasure.{erased}
+use Rattle.hoare_law.specs.Lawful.{Rest, Ready}
 use Rattle.hoare_law.specs.Turns.{outside}
 use Rattle.wait_book.specs.Contents.{Contents, IsOf}
-use Rattle.door_frame.specs.Steps.{Sat}
+use Rattle.door_frame.specs.declared.parcel.Lodged.{Lodged}
+use Rattle.door_frame.specs.Steps.{Sat, Came}
 use Rattle.door_frame.specs.Views.{alone}
 
 module _ {D : Type 0} where
@@ -19,3 +23,11 @@ module _ {D : Type 0} where
   -- the seat of the place k, which is outside
   abbrev pub IsNewcomer : ℕ → Sat D → Type 0
   IsNewcomer k me = (f : History D) × IsAway k f me × (outside k f.events ≡ true)
+
+  -- the seat of the place k, then outside or owed the monitor, came in by the event of its front, and took x
+  abbrev pub ComesIn : Rest D → Ready D → ℕ → (History D → D → Event D) → Sat D → Lodged D → Sat D → Type 0
+  ComesIn rest ready k event me x me' = (f : History D) → IsAway k f me → Came rest ready k f (event f) x None me'
+
+  -- the seat of the place k, then inside, gave up the data s by the event
+  abbrev pub GoesOut : ℕ → (D → Event D) → Sat D → D → Sat D → Type 0
+  GoesOut k event me s me' = (f : History D) → me ≡ (alone k f, (0, None) ∷ []) → IsAway k (with_event f (event s)) me'

@@ -1,11 +1,11 @@
 //! The calls of a monitor, on any door.
-ghost use Rattle.std.specs.Prelude.{◌≡◌, ◌≢◌, ◌<◌, ◌↔◌, ℕ, [], true, false, IsTrue, slice_index, None};
+ghost use Rattle.std.specs.Prelude.{◌≡◌, ◌≢◌, ◌<◌, ◌↔◌, ℕ, [], true, false, IsTrue, None};
 ghost use Rattle.hoare_law.specs.declared.event.History.{History};
 ghost use Rattle.hoare_law.specs.declared.event.Event.TheVariants as event;
 ghost use Rattle.hoare_law.specs.Events.{with_event};
 ghost use Rattle.hoare_law.specs.Growth.{AddsLast, AddsTwo, Exits, Signals};
-ghost use Rattle.hoare_law.specs.Priorities.{joined, taken, priorities};
-ghost use Rattle.door_frame.specs.Places.{IsOut, IsIn, place_in};
+ghost use Rattle.hoare_law.specs.Priorities.{joined, priorities};
+ghost use Rattle.door_frame.specs.Places.{IsOut, IsIn, Handed, place_in};
 ghost use Rattle.door_frame.specs.Steps.{Came, due};
 
 use crate::departure::Departure;
@@ -25,9 +25,12 @@ pub fn brought_in<D: MonitorData>(
     parker: Parker,
     mut parcel: Parcel<D>,
 ) -> Inside<D>
-    requires came { (f : History D) × Came D.rest D.ready place f (event.Admit place) parcel None seat.me }
-    ensures { (f : History D) (c : Came D.rest D.ready place f (event.Admit place) parcel None seat.me) →
-        result ≡ place_in seat.table_id place (with_event c.log (event.Admit place parcel.state)) parcel.state }
+    requires came { (f : History D)
+        × Came D.rest D.ready place f (event.Admit place) parcel None seat.me }
+    ensures { (f : History D)
+        (c : Came D.rest D.ready place f (event.Admit place) parcel None seat.me)
+        → result ≡ place_in seat.table_id place
+        (with_event c.log (event.Admit place parcel.state)) parcel.state }
 {
     parcel.held.book.admit(place);
     Inside {
@@ -46,9 +49,11 @@ fn brought_back<D: MonitorData>(
     parker: Parker,
     mut parcel: Parcel<D>,
 ) -> Inside<D>
-    requires came { (f : History D) × Came D.rest D.ready place f (due place f) parcel None seat.me }
-    ensures { (f : History D) (c : Came D.rest D.ready place f (due place f) parcel None seat.me) →
-        result ≡ place_in seat.table_id place (with_event c.log (due place f parcel.state)) parcel.state }
+    requires came { (f : History D)
+        × Came D.rest D.ready place f (due place f) parcel None seat.me }
+    ensures { (f : History D) (c : Came D.rest D.ready place f (due place f) parcel None seat.me)
+        → result ≡ place_in seat.table_id place
+        (with_event c.log (due place f parcel.state)) parcel.state }
 {
     parcel.held.book.claim(place);
     Inside {
@@ -84,7 +89,8 @@ pub fn leave<D: MonitorData, T: Turnstile<D>>(door: &T, inside: Inside<D>) -> Ou
     requires rest { D.rest inside.state (priorities inside.front.events) }
     ensures of { IsOut D.rest D.ready D.CONDITIONS (T.id door.now) result }
     ensures place { result.place ≡ inside.place }
-    ensures front { result.front ≡ with_event inside.front (event.Leave inside.place inside.state) }
+    ensures front { result.front
+        ≡ with_event inside.front (event.Leave inside.place inside.state) }
 {
     let Inside {
         mut seat,
@@ -107,11 +113,14 @@ pub fn wait<D: MonitorData, T: Turnstile<D>, R: Wait>(
 ) -> Inside<D>
     requires of { IsIn D.rest D.ready D.CONDITIONS (T.id door.now) inside }
     requires in_range { condition < D.CONDITIONS }
-    requires rest { D.rest inside.state (joined (priorities inside.front.events) condition priority) }
+    requires rest { D.rest inside.state
+        (joined (priorities inside.front.events) condition priority) }
     ensures of { IsIn D.rest D.ready D.CONDITIONS (T.id door.now) result }
     ensures place { result.place ≡ inside.place }
     ensures ready { D.ready condition priority result.state (priorities result.front.events) }
-    ensures front { AddsTwo inside.front (event.Wait inside.place condition priority inside.state) (event.Resume inside.place condition result.state) result.front }
+    ensures front { AddsTwo inside.front
+        (event.Wait inside.place condition priority inside.state)
+        (event.Resume inside.place condition result.state) result.front }
 {
     let Inside {
         mut seat,
@@ -140,13 +149,15 @@ pub fn signal<D: MonitorData, T: Turnstile<D>, R: Wait>(
 ) -> (Inside<D>, bool)
     requires of { IsIn D.rest D.ready D.CONDITIONS (T.id door.now) inside }
     requires in_range { condition < D.CONDITIONS }
-    requires ready { priorities inside.front.events condition ≢ [] → D.ready condition (slice_index (priorities inside.front.events condition) 0) inside.state (taken (priorities inside.front.events) condition) }
+    requires ready { priorities inside.front.events condition ≢ []
+        → Handed D.ready condition inside }
     ensures of { IsIn D.rest D.ready D.CONDITIONS (T.id door.now) result.0 }
     ensures place { result.0.place ≡ inside.place }
     ensures told { IsTrue result.1 ↔ (priorities inside.front.events condition ≢ []) }
     ensures rest { result.1 ≡ true → D.rest result.0.state (priorities result.0.front.events) }
     ensures same { result.1 ≡ false → result.0 ≡ inside }
-    ensures front { Signals inside.place condition inside.state result.0.state inside.front result.0.front result.1 }
+    ensures front { Signals inside.place condition inside.state result.0.state
+        inside.front result.0.front result.1 }
 {
     if !inside.queue(condition) {
         return (inside, false);
@@ -171,8 +182,10 @@ pub fn signal_leave<D: MonitorData, T: Turnstile<D>>(
 ) -> (Outside<D>, bool)
     requires of { IsIn D.rest D.ready D.CONDITIONS (T.id door.now) inside }
     requires in_range { condition < D.CONDITIONS }
-    requires ready { priorities inside.front.events condition ≢ [] → D.ready condition (slice_index (priorities inside.front.events condition) 0) inside.state (taken (priorities inside.front.events) condition) }
-    requires rest { priorities inside.front.events condition ≡ [] → D.rest inside.state (priorities inside.front.events) }
+    requires ready { priorities inside.front.events condition ≢ []
+        → Handed D.ready condition inside }
+    requires rest { priorities inside.front.events condition ≡ []
+        → D.rest inside.state (priorities inside.front.events) }
     ensures of { IsOut D.rest D.ready D.CONDITIONS (T.id door.now) result.0 }
     ensures place { result.0.place ≡ inside.place }
     ensures told { IsTrue result.1 ↔ (priorities inside.front.events condition ≢ []) }

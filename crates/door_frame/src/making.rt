@@ -4,7 +4,7 @@ ghost use Rattle.hoare_law.specs.declared.event.History.{History};
 ghost use Rattle.hoare_law.specs.Priorities.{nobody};
 ghost use Rattle.door_frame.specs.declared.view.View.TheVariants.{Unopened, Places};
 ghost use Rattle.door_frame.specs.Views.{all_know};
-ghost use Rattle.door_frame.specs.Places.{DoorId, places_from, HasPlace, IsOut, Closes};
+ghost use Rattle.door_frame.specs.Places.{door_of, places_from, HasPlace, IsOut, Closes};
 
 use crate::parcel::Parcel;
 use crate::place::Outside;
@@ -41,8 +41,10 @@ pub fn vacant<D: MonitorData, K, W: Words<D, K>>(
     key: &K,
 ) -> Result<(DoorTable<D, K, W>, DoorSeat<D>, Parcel<D>), D>
     requires { W.starts key.now false words.now }
-    ensures table { IfOk result (λ r. (r.0.shared.table_id.words ≡ length words.now) × (r.0.shared.table_id.slots ≡ 1) × (r.0.shared.key ≡ key.now)) }
-    ensures seat { IfOk result (λ r. (r.1.table_id ≡ r.0.shared.table_id) × (r.1.me ≡ (Unopened (W.places key.now), []))) }
+    ensures table { IfOk result (λ r. (r.0.shared.table_id.words ≡ length words.now)
+        × (r.0.shared.table_id.slots ≡ 1) × (r.0.shared.key ≡ key.now)) }
+    ensures seat { IfOk result (λ r. (r.1.table_id ≡ r.0.shared.table_id)
+        × (r.1.me ≡ (Unopened (W.places key.now), []))) }
     ensures parcel { IfOk result (λ r. (r.2.state ≡ state) × (r.2.book ≡ book)) }
     ensures returned { IfErr result (λ s. s ≡ state) }
 {
@@ -61,10 +63,13 @@ pub fn deal<D: MonitorData, K, W: Words<D, K>>(
     mut outs: Vec<Outside<D>>,
     places: usize,
 ) -> Vec<Outside<D>>
-    requires table { (seat.table_id ≡ table.now.shared.table_id) × (0 < table.now.shared.table_id.words) }
-    requires room { (vec_len outs ≡ 0) × (places ≤ vec_capacity outs) × (vec_len parkers ≡ places) }
+    requires table { (seat.table_id ≡ table.now.shared.table_id)
+        × (0 < table.now.shared.table_id.words) }
+    requires room { (vec_len outs ≡ 0) × (places ≤ vec_capacity outs)
+        × (vec_len parkers ≡ places) }
     requires seat { (f : History D) × (seat.me ≡ (Places (all_know 0 places f), [])) }
-    ensures { (f : History D) → seat.me ≡ (Places (all_know 0 places f), []) → result.items ≡ places_from table.now.shared.table_id 0 places f }
+    ensures { (f : History D) → seat.me ≡ (Places (all_know 0 places f), [])
+        → result.items ≡ places_from table.now.shared.table_id 0 places f }
 {
     for place in 0..places {
         let cut = table.shared.split_seat::<Deal>(&mut seat);
@@ -80,10 +85,13 @@ pub fn closed<D: MonitorData, K, W: Words<D, K>>(
     table: DoorTable<D, K, W>,
     mut outs: Vec<Outside<D>>,
 ) -> D
-    requires table { (0 < table.shared.table_id.words) × (table.shared.table_id.slots ≡ 1) × (0 < W.places table.shared.key) }
-    requires of { All (IsOut D.rest D.ready D.CONDITIONS record { table = table.shared.table_id; places = W.places table.shared.key }) outs.items }
+    requires table { (0 < table.shared.table_id.words) × (table.shared.table_id.slots ≡ 1)
+        × (0 < W.places table.shared.key) }
+    requires of { All (IsOut D.rest D.ready D.CONDITIONS
+        (door_of table.shared.table_id (W.places table.shared.key))) outs.items }
     requires places { (k : ℕ) → k < W.places table.shared.key → HasPlace k outs.items }
-    ensures closes { Closes D.rest D.ready D.CONDITIONS record { table = table.shared.table_id; places = W.places table.shared.key } outs.items result }
+    ensures closes { Closes D.rest D.ready D.CONDITIONS
+        (door_of table.shared.table_id (W.places table.shared.key)) outs.items result }
     ensures rest { D.rest result nobody }
 {
     let Some(first) = outs.pop() else {

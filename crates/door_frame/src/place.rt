@@ -41,7 +41,8 @@ impl<D> Outside<D> {
     #[inline]
     pub fn of_parts(seat: DoorSeat<D>, place: usize, parker: Parker) -> Outside<D>
         requires { (f : History D) × IsAway place f seat.me }
-        ensures { (f : History D) → IsAway place f seat.me → result ≡ place_out seat.table_id place f }
+        ensures { (f : History D) → IsAway place f seat.me
+            → result ≡ place_out seat.table_id place f }
     {
         Outside {
             seat,
@@ -53,7 +54,8 @@ impl<D> Outside<D> {
     /// The seat, the number and the parker.
     #[inline]
     pub fn into_parts(self) -> (DoorSeat<D>, usize, Parker)
-        ensures { (result.0.table_id ≡ self.table) × (result.1 ≡ self.place) × IsAway self.place self.front result.0.me }
+        ensures { (result.0.table_id ≡ self.table) × (result.1 ≡ self.place)
+            × IsAway self.place self.front result.0.me }
     {
         let Outside {
             seat,
@@ -81,9 +83,11 @@ impl<D> Model for Inside<D> {
 
     ghost Value = { PlaceIn D };
 
-    ghost view = { λ i. place_in i.seat.table_id i.place (front_of i.seat.me.0 i.alone) i.parcel.state };
+    ghost view = { λ i. place_in i.seat.table_id i.place
+        (front_of i.seat.me.0 i.alone) i.parcel.state };
 
-    ghost invariant = { λ i. IsInside i.place (front_of i.seat.me.0 i.alone) i.seat.me i.parcel.book };
+    ghost invariant = { λ i. IsInside i.place
+        (front_of i.seat.me.0 i.alone) i.seat.me i.parcel.book };
 }
 
 impl<D> Inside<D> {
@@ -113,7 +117,9 @@ impl<D> Inside<D> {
     /// `Monitor::first`.
     pub fn first(&self, condition: usize) -> Option<u64>
         requires { condition < self.now.front.conditions }
-        ensures lists { MatchOption result (priorities self.now.front.events condition ≡ []) (λ p. (priorities self.now.front.events condition ≢ []) × (p ≡ slice_index (priorities self.now.front.events condition) 0)) }
+        ensures lists { MatchOption result (priorities self.now.front.events condition ≡ [])
+            (λ p. (priorities self.now.front.events condition ≢ [])
+            × (p ≡ slice_index (priorities self.now.front.events condition) 0)) }
         ensures front { result ≡ option_map priority_of (chosen condition self.now.front.events) }
     {
         self.parcel.book().first(condition)

@@ -1,13 +1,11 @@
 //! What a door has to do with its words: let a newcomer in, let a place come back, and give the monitor up.
-ghost use Rattle.std.specs.Prelude.{◌≡◌, ℕ, ◌<◌, true, [], ◌∷◌, None};
+ghost use Rattle.std.specs.Prelude.{◌≡◌, ◌<◌};
 ghost use Rattle.hoare_law.specs.declared.event.History.{History};
 ghost use Rattle.hoare_law.specs.declared.event.Event.TheVariants as event;
-ghost use Rattle.hoare_law.specs.Events.{with_event};
 ghost use Rattle.wait_book.specs.Contents.{IsPlaceBelow};
 ghost use Rattle.door_frame.specs.Places.{DoorId};
-ghost use Rattle.door_frame.specs.Views.{alone};
-ghost use Rattle.door_frame.specs.Steps.{Came, MayGive, due};
-ghost use Rattle.door_frame.specs.Seats.{IsAway, IsNewcomer};
+ghost use Rattle.door_frame.specs.Steps.{MayGive, due};
+ghost use Rattle.door_frame.specs.Seats.{IsAway, IsNewcomer, ComesIn, GoesOut};
 ghost use Rattle.door_frame.specs.Departures.{event_of};
 
 use crate::departure::Departure;
@@ -33,7 +31,8 @@ pub trait Turnstile<D: MonitorData> {
         requires table { seat.old.table_id ≡ (id self.now).table }
         requires outside { IsNewcomer place seat.old.me }
         ensures table { seat.new.table_id ≡ seat.old.table_id }
-        ensures came { (f : History D) → IsAway place f seat.old.me → Came D.rest D.ready place f (event.Admit place) result None seat.new.me };
+        ensures came { ComesIn D.rest D.ready place (λ f. event.Admit place) seat.old.me
+            result seat.new.me };
 
     /// Waits until the monitor is owed to the place, comes in and takes the parcel.
     fn claim<R: Wait>(
@@ -47,7 +46,7 @@ pub trait Turnstile<D: MonitorData> {
         requires small { place < (id self.now).places }
         requires away { (f : History D) × IsAway place f seat.old.me }
         ensures table { seat.new.table_id ≡ seat.old.table_id }
-        ensures came { (f : History D) → IsAway place f seat.old.me → Came D.rest D.ready place f (due place f) result None seat.new.me };
+        ensures came { ComesIn D.rest D.ready place (due place) seat.old.me result seat.new.me };
 
     /// Gives the parcel back by the event of the departure, and wakes the place that goes on.
     fn hand_on(
@@ -60,7 +59,9 @@ pub trait Turnstile<D: MonitorData> {
     )
         requires table { seat.old.table_id ≡ (id self.now).table }
         requires next { IsPlaceBelow (id self.now).places next }
-        requires event { MayGive D.rest D.ready (event_of place departure next) place seat.old.me parcel next }
+        requires event { MayGive D.rest D.ready (event_of place departure next) place
+            seat.old.me parcel next }
         ensures table { seat.new.table_id ≡ seat.old.table_id }
-        ensures away { (f : History D) → seat.old.me ≡ (alone place f, (0, None) ∷ []) → IsAway place (with_event f (event_of place departure next parcel.state)) seat.new.me };
+        ensures away { GoesOut place (event_of place departure next)
+            seat.old.me parcel.state seat.new.me };
 }

@@ -4,13 +4,10 @@
 //! first and wakes the place then. So where the test came before the ring, the waking comes after the test; and a parker
 //! keeps one permit, so the park that follows returns at once. What a permit of an earlier wait wakes finds the bell silent,
 //! and parks again.
-ghost use Rattle.std.specs.Prelude.{◌≡◌, ℕ, ◌<◌, [], ◌∷◌, None};
-ghost use Rattle.hoare_law.specs.declared.event.History.{History};
-ghost use Rattle.hoare_law.specs.Events.{with_event};
+ghost use Rattle.std.specs.Prelude.{◌≡◌, ◌<◌};
 ghost use Rattle.wait_book.specs.Contents.{IsPlaceBelow};
-ghost use Rattle.door_frame.specs.Views.{alone};
 ghost use Rattle.door_frame.specs.Steps.{MayGive};
-ghost use Rattle.door_frame.specs.Seats.{IsAway};
+ghost use Rattle.door_frame.specs.Seats.{GoesOut};
 
 use crate::door::TicketDoor;
 use crate::words::{RUNG, SERVING, bell_of};
@@ -52,7 +49,7 @@ impl<D: MonitorData> TicketDoor<D> {
         requires next { IsPlaceBelow self.now.door.places next }
         requires event { MayGive D.rest D.ready J.event place seat.old.me parcel next }
         ensures table { seat.new.table_id ≡ seat.old.table_id }
-        ensures away { (f : History D) → seat.old.me ≡ (alone place f, (0, None) ∷ []) → IsAway place (with_event f (J.event parcel.state)) seat.new.me }
+        ensures away { GoesOut place J.event seat.old.me parcel.state seat.new.me }
     {
         lay_parcel(&self.table, seat, parcel);
         match next {

@@ -1,11 +1,8 @@
 //! The calls of a monitor, on a ticket door.
-ghost use Rattle.std.specs.Prelude.{◌≡◌, ℕ, [], ◌∷◌, None};
-ghost use Rattle.hoare_law.specs.declared.event.History.{History};
-ghost use Rattle.hoare_law.specs.Events.{with_event};
+ghost use Rattle.std.specs.Prelude.{◌≡◌};
 ghost use Rattle.wait_book.specs.Contents.{IsPlaceBelow};
-ghost use Rattle.door_frame.specs.Views.{alone};
 ghost use Rattle.door_frame.specs.Steps.{MayGive};
-ghost use Rattle.door_frame.specs.Seats.{IsAway};
+ghost use Rattle.door_frame.specs.Seats.{GoesOut};
 ghost use Rattle.door_frame.specs.Departures.{event_of};
 
 use crate::door::TicketDoor;
@@ -66,9 +63,11 @@ impl<D: MonitorData> Turnstile<D> for TicketDoor<D> {
     )
         requires table { seat.old.table_id ≡ self.now.door.table }
         requires next { IsPlaceBelow self.now.door.places next }
-        requires event { MayGive D.rest D.ready (event_of place departure next) place seat.old.me parcel next }
+        requires event { MayGive D.rest D.ready (event_of place departure next) place
+            seat.old.me parcel next }
         ensures table { seat.new.table_id ≡ seat.old.table_id }
-        ensures away { (f : History D) → seat.old.me ≡ (alone place f, (0, None) ∷ []) → IsAway place (with_event f (event_of place departure next parcel.state)) seat.new.me }
+        ensures away { GoesOut place (event_of place departure next)
+            seat.old.me parcel.state seat.new.me }
     {
         self.give::<Brand>(seat, parcel, place, departure, next);
     }

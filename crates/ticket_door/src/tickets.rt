@@ -1,13 +1,13 @@
 //! Newcomers: they draw a ticket, and come in when it is served.
-ghost use Rattle.std.specs.Prelude.{◌≡◌, ◌≢◌, ◌<◌, ◌↔◌, ℕ, ◌+◌, ◌%◌, ◌^◌, [], true, IsTrue, slice_index, None};
+ghost use Rattle.std.specs.Prelude.{◌≡◌, ◌≢◌, ◌<◌, ◌↔◌, ℕ, ◌+◌, ◌%◌, ◌^◌, [], true, IsTrue, None};
 ghost use Rattle.hoare_law.specs.Events.{with_event};
 ghost use Rattle.hoare_law.specs.Growth.{Exits};
 ghost use Rattle.hoare_law.specs.declared.event.History.{History};
 ghost use Rattle.hoare_law.specs.declared.event.Event.TheVariants as event;
 ghost use Rattle.hoare_law.specs.Growth.{AddsLast};
-ghost use Rattle.hoare_law.specs.Priorities.{priorities, taken};
+ghost use Rattle.hoare_law.specs.Priorities.{priorities};
 ghost use Rattle.hoare_law.specs.Turns.{outside};
-ghost use Rattle.door_frame.specs.Places.{IsOut, IsIn};
+ghost use Rattle.door_frame.specs.Places.{IsOut, IsIn, Handed};
 ghost use Rattle.door_frame.specs.Seats.{IsAway};
 ghost use Rattle.door_frame.specs.Steps.{Came};
 ghost use Rattle.ticket_door.specs.Asked.{IsAsking, IsAsked, EntersBy};
@@ -141,15 +141,15 @@ impl<D: MonitorData> TicketDoor<D> {
     pub fn hand_up(&self, inside: TicketIn<D>, condition: usize) -> (TicketOut<D>, bool)
         requires of { IsIn D.rest D.ready D.CONDITIONS self.now.door inside }
         requires in_range { condition < D.CONDITIONS }
-        requires ready { priorities inside.front.events condition ≢ [] → D.ready condition
-            (slice_index (priorities inside.front.events condition) 0) inside.state
-            (taken (priorities inside.front.events) condition) }
+        requires ready { priorities inside.front.events condition ≢ []
+            → Handed D.ready condition inside }
         requires rest { priorities inside.front.events condition ≡ []
             → D.rest inside.state (priorities inside.front.events) }
         ensures of { IsOut D.rest D.ready D.CONDITIONS self.now.door result.0 }
         ensures place { result.0.place ≡ inside.place }
         ensures told { IsTrue result.1 ↔ (priorities inside.front.events condition ≢ []) }
-        ensures front { Exits inside.place condition inside.state inside.front result.0.front result.1 }
+        ensures front { Exits inside.place condition inside.state inside.front
+            result.0.front result.1 }
     {
         calls::signal_leave(self, inside, condition)
     }

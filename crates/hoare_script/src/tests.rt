@@ -1,3 +1,4 @@
+mod drawn;
 mod failures;
 mod faults;
 mod limits;

@@ -1,26 +1,31 @@
-//! Measures what the calls cost. Without arguments it names its measurements; `monitor_bench TURNS` takes them and prints a
-//! line `NAME VALUE ns` for each, with its progress on standard error.
+//! Measures what the calls cost. Without arguments it names its measurements; `monitor_bench TURNS` takes them on the baton
+//! door and prints a line `NAME VALUE ns` for each, with its progress on standard error; with `--ticket` before, on the
+//! ticket door.
 #![tactic(auto)]
 
-mod baton;
+ghost use Rattle.std.specs.Prelude.{IfOk};
+ghost use Rattle.hoare_law.specs.Priorities.{nobody};
+
 mod doors;
 mod fairness;
-mod load;
 mod mixed;
 mod queues;
 mod turns;
 
-use crate::fairness::{Counted, Others, all_met};
-use crate::load::{Load, run};
-use crate::mixed::{Mixed, WORKERS};
+use crate::fairness::{all_met, uncounted};
+use crate::mixed::{WORKERS, unvisited};
 use baton_door::door::Door;
-use std::alloc::Global;
+use hoare_law::data::MonitorData;
+use hoare_law::unasked::Unasked;
+use plain_schedulers::buffer::Buffer;
+use std::alloc::{AllocError, Global};
 use std::process::ExitCode;
 use std::rt::Clock;
 use std::sync::Wait;
 use std::thread::Threads;
-use std::time::Duration;
+use std::time::{Duration, Instant};
 use std::{env, io};
+use ticket_door::door::TicketDoor;
 
 const NAMES: [&str; 18] = [
     "enter_leave: one thread comes in, adds one and goes out",
@@ -39,7 +44,7 @@ const NAMES: [&str; 18] = [
     "       (the mean is about 7 at most, in whatever order they come in)",
     "turns: TURNS for one thread; a tenth for each of several; a hundredth for hand-overs and buffers;",
     "       a thousandth for waiting_16, chain_8 and mixed_9",
-    "usage: monitor_bench [TURNS]",
+    "usage: monitor_bench [[--ticket] TURNS]",
     "bench/run compares these with other monitors",
 ];
 
@@ -62,85 +67,96 @@ fn tell<R: Print + Eprint>(rt: &R, name: &str, spent: Duration, count: u64) -> i
     println!(rt; "{name} {one} ns")
 }
 
-fn measure_entries<R: Print + Eprint + Clock + Threads + Wait + Sync>(
-    rt: &R,
-    alloc: Global,
-    turns: u64,
-) -> io::Result<()> {
-    let spent = doors::alone::<1, R>(rt, alloc, 1, turns)?;
-    tell(rt, "enter_leave", spent, turns)?;
-    let part = turns / 10;
-    let spent = doors::contended(rt, alloc, 2, part)?;
-    tell(rt, "enter_leave_2", spent, part.saturating_mul(2))?;
-    let spent = doors::contended(rt, alloc, 4, part)?;
-    tell(rt, "enter_leave_4", spent, part.saturating_mul(4))?;
-    let spent = doors::contended(rt, alloc, 8, part)?;
-    tell(rt, "enter_leave_8", spent, part.saturating_mul(8))
+// One row: a door is made with these data and so many places, its threads work, and what each of so many turns took is told.
+macro_rules! row {
+    ($rt:ident, $alloc:ident, $door:ident, $name:expr, $data:expr, $places:expr, $work:ident($($more:expr),*), $count:expr) => {{
+        let Ok((door, places)) = $door::make($alloc, $data, $places) else {
+            return Err(no_memory());
+        };
+        let start = Instant::now($rt)?;
+        doors::$work($rt, &door, places $(, $more)*)?;
+        tell($rt, $name, start.elapsed($rt)?, $count)?;
+    }};
 }
 
-fn measure_signals<R: Print + Eprint + Clock + Threads + Wait + Sync>(
-    rt: &R,
-    alloc: Global,
-    turns: u64,
-) -> io::Result<()> {
-    let part = turns / 100;
-    let spent = doors::waiting(rt, alloc, 1, part)?;
-    tell(rt, "hand_over", spent, part)?;
-    let (spent, _sum) = doors::buffered(rt, alloc, 1, part)?;
-    tell(rt, "buffer_1_1", spent, part)?;
-    let (spent, _sum) = doors::buffered(rt, alloc, 4, part)?;
-    tell(rt, "buffer_4_4", spent, part.saturating_mul(4))
+// The cells of the buffer.
+const RING: usize = 16;
+
+fn no_memory() -> io::Error {
+    io::Error::from(AllocError)
 }
 
-fn measure_ours<R: Print + Eprint + Clock + Threads + Wait + Sync>(
-    rt: &R,
-    alloc: Global,
-    turns: u64,
-) -> io::Result<()> {
-    let part = turns / 1000;
-    let spent = doors::waiting(rt, alloc, 16, part)?;
-    tell(rt, "waiting_16", spent, part.saturating_mul(16))?;
-    let spent = doors::chained(rt, alloc, part)?;
-    tell(rt, "chain_8", spent, part.saturating_mul(8))?;
-    measure_mixed::<R, Door<Mixed>>(rt, alloc, turns)?;
-    let spent = doors::alone::<8, R>(rt, alloc, 64, turns)?;
-    tell(rt, "wide_enter_leave", spent, turns)?;
-    queues::measure(rt, alloc, turns / 64)?;
-    measure_fairness::<R, Door<Counted>>(rt, alloc, turns)
+fn counter<const N: usize>() -> Unasked<u64, N> {
+    Unasked { value: 0 }
 }
 
-fn measure_mixed<R: Print + Eprint + Clock + Threads + Wait + Sync, L: Load>(
-    rt: &R,
-    alloc: Global,
-    turns: u64,
-) -> io::Result<()> {
-    let part = turns / 1000;
-    let (spent, _found) = run::<R, L>(rt, alloc, 9, part)?;
-    tell(rt, "mixed_9", spent, part.saturating_mul(WORKERS))
+fn ring(alloc: Global) -> io::Result<Buffer<u64>>
+    ensures { IfOk result (λ b. ⟦<Buffer<u64> as MonitorData>⟧.rest b nobody) }
+{
+    Buffer::make(alloc, RING).map_err(|_refusal| no_memory())
 }
 
-fn measure_fairness<R: Print + Clock + Threads + Wait + Sync, L: Load<Found = Others>>(
+// All rows of one door.
+macro_rules! measure_door {
+    ($rt:ident, $alloc:ident, $turns:ident, $door:ident) => {{
+        let (tenth, hundredth, thousandth) = ($turns / 10, $turns / 100, $turns / 1000);
+        row!($rt, $alloc, $door, "enter_leave", counter::<1>(), 1, alone($turns), $turns);
+        row!($rt, $alloc, $door, "enter_leave_2", counter(), 2, contended(tenth), tenth.saturating_mul(2));
+        row!($rt, $alloc, $door, "enter_leave_4", counter(), 4, contended(tenth), tenth.saturating_mul(4));
+        row!($rt, $alloc, $door, "enter_leave_8", counter(), 8, contended(tenth), tenth.saturating_mul(8));
+        row!($rt, $alloc, $door, "hand_over", counter(), 2, waiting(1, hundredth), hundredth);
+        row!($rt, $alloc, $door, "buffer_1_1", ring($alloc)?, 2, buffered(hundredth), hundredth);
+        row!($rt, $alloc, $door, "buffer_4_4", ring($alloc)?, 8, buffered(hundredth), hundredth.saturating_mul(4));
+        row!($rt, $alloc, $door, "waiting_16", counter(), 17, waiting(16, thousandth), thousandth.saturating_mul(16));
+        row!($rt, $alloc, $door, "chain_8", counter(), 9, chained(thousandth), thousandth.saturating_mul(8));
+        row!($rt, $alloc, $door, "mixed_9", unvisited(), 9, mixed(thousandth), thousandth.saturating_mul(WORKERS));
+        row!($rt, $alloc, $door, "wide_enter_leave", counter::<8>(), 64, alone($turns), $turns);
+        let Ok((door, places)) = $door::make($alloc, uncounted(), 8) else {
+            return Err(no_memory());
+        };
+        let found = doors::met($rt, &door, places, tenth)?;
+        all_met(&found).show($rt)
+    }};
+}
+
+fn measure_baton<R: Print + Eprint + Clock + Threads + Wait + Sync>(
     rt: &R,
     alloc: Global,
     turns: u64,
 ) -> io::Result<()> {
-    let (_spent, found) = run::<R, L>(rt, alloc, 8, turns / 10)?;
-    all_met(&found).show(rt)
+    measure_door!(rt, alloc, turns, Door)
+}
+
+fn measure_ticket<R: Print + Eprint + Clock + Threads + Wait + Sync>(
+    rt: &R,
+    alloc: Global,
+    turns: u64,
+) -> io::Result<()> {
+    measure_door!(rt, alloc, turns, TicketDoor)
 }
 
 fn main(rt: HostRuntime) -> io::Result<ExitCode> {
     let mut words = env::args(&rt)?;
     let _name = words.next();
-    let Some(word) = words.next() else {
+    let Some(first) = words.next() else {
         show(&rt)?;
         return Ok(ExitCode::SUCCESS);
     };
+    let on_tickets = first.as_str() == "--ticket";
+    let word = if on_tickets {
+        words.next().unwrap_or(first)
+    } else {
+        first
+    };
     let Ok(turns) = word.parse::<u64>() else {
-        eprintln!(rt; "usage: monitor_bench [TURNS]")?;
+        eprintln!(rt; "usage: monitor_bench [[--ticket] TURNS]")?;
         return Ok(ExitCode::from(2));
     };
-    measure_entries(&rt, rt.alloc(), turns)?;
-    measure_signals(&rt, rt.alloc(), turns)?;
-    measure_ours(&rt, rt.alloc(), turns)?;
+    if on_tickets {
+        measure_ticket(&rt, rt.alloc(), turns)?;
+    } else {
+        measure_baton(&rt, rt.alloc(), turns)?;
+        queues::measure(&rt, rt.alloc(), turns / 64)?;
+    }
     Ok(ExitCode::SUCCESS)
 }

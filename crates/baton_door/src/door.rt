@@ -126,14 +126,3 @@ impl<D: MonitorData + Send> Door<D> {
         closed(table, outs)
     }
 }
-
-fn crosses<T: Send>(_value: &T) {}
-
-fn is_shared<T: Sync>(_value: &T) {}
-
-/// Threads may share a door, and places outside move between them: it compiles.
-fn may_cross<D: MonitorData + Send>(door: &Door<D>, out: &DoorOut<D>) {
-    crosses(door);
-    is_shared(door);
-    crosses(out);
-}

@@ -1,14 +1,15 @@
 //! How newcomers come in.
-ghost use Rattle.std.specs.Prelude.{◌≡◌, ℕ, true, false};
+ghost use Rattle.std.specs.Prelude.{◌≡◌, true, false};
 ghost use Rattle.baton_door.specs.Newcomers.{IsOutside, IsLetIn};
 
 use crate::door::Door;
 use crate::rule::Admit;
 use crate::word::{DOOR, FREE, HELD};
-use crossbeam_utils::Backoff;
+use door_frame::looks;
 use door_frame::plays::DoorSeat;
 use hoare_law::data::MonitorData;
 use std::sync::Wait;
+use std::thread;
 
 impl<D: MonitorData> Door<D> {
     /// One try of a newcomer: whether the monitor was free, and the place is in.
@@ -26,7 +27,8 @@ impl<D: MonitorData> Door<D> {
             == FREE
     }
 
-    /// Tries until the place is in: whenever the word is seen to be `FREE`. Between the tries it spins or yields.
+    /// Tries until the place is in: whenever the word is seen to be `FREE`. It yields where it looked in vain, and at each
+    /// eighth lost race.
     #[inline(never)]
     pub(crate) fn keep_trying<R: Wait>(&self, rt: &R, seat: &mut DoorSeat<D>)
         requires table { seat.old.table_id ≡ self.now.table }
@@ -34,13 +36,28 @@ impl<D: MonitorData> Door<D> {
         ensures table { seat.new.table_id ≡ seat.old.table_id }
         ensures let_in { IsLetIn D.rest D.ready seat.old.me seat.new.me }
     {
-        let backoff = Backoff::new();
+        let mut lost = 0u32;
         for _ in rt.forever() {
-            if self.look_for(FREE) && self.try_enter(seat) {
+            let seen = self.look_out();
+            if seen && self.try_enter(seat) {
                 return;
             }
-            backoff.snooze();
+            lost = lost.wrapping_add(1);
+            if !seen || lost % looks::LOST_RACES == 0 {
+                thread::yield_now();
+            }
         }
         unreachable!()
+    }
+
+    /// Looks at the word, with pauses that grow, until it is `FREE`: whether it was seen so.
+    fn look_out(&self) -> bool {
+        for look in 0..looks::NEWCOMER {
+            if self.table.shared.peek(DOOR) == FREE {
+                return true;
+            }
+            looks::pause_after(look);
+        }
+        false
     }
 }

@@ -411,19 +411,22 @@ module _ {D : Type 0} (Starts : Bool → List ℕ → Type 0) (Tells : History D
       subst (λ (p : Sat D). Allows (K n) slots id p i g (opens conditions st p)) (sym is)
       (opens_ok n slots id i g x st (Stands-opened rest ready n conditions x.state at_rest) book tells)
 
+  -- what a seat knows agrees with the log, and no place stands there twice
+  abbrev Fits : ℕ → History D → (ℕ → ℕ) → Tickets → ℕ → View D → Type 0
+  Fits n log owner tickets j v = EachOf (Agrees n log owner tickets j) v × ApartOf v
+
   -- the rule, with other views of the same log
-  views_to : (n : ℕ) (s : Cells D) (r : R n s) (owner' : ℕ → ℕ) (views' : List (View D)) → ((j : ℕ) (v : View D) → get_elem? views' j ≡ some v → EachOf (Agrees n r.log owner' r.tickets j) v)
-      → ((j : ℕ) (v : View D) → get_elem? views' j ≡ some v → ApartOf v)
-      → R n record { words = s.words; homes = s.homes; views = views' }
-  views_to n s r owner' views' fronts apart = record {
+  views_to : (n : ℕ) (s : Cells D) (r : R n s) (owner' : ℕ → ℕ) (views' : List (View D))
+      → ((j : ℕ) (v : View D) → get_elem? views' j ≡ some v → Fits n r.log owner' r.tickets j v) → R n record { words = s.words; homes = s.homes; views = views' }
+  views_to n s r owner' views' fit = record {
     log = r.log;
     owner = owner';
     tickets = r.tickets;
     one_slot = r.one_slot;
     places = r.places;
     conditions_are = r.conditions_are;
-    fronts = fronts;
-    apart = apart;
+    fronts = λ j v got. (fit j v got).0;
+    apart = λ j v got. (fit j v got).1;
     stands = r.stands;
     tells = r.tells;
     home = r.home;
@@ -441,21 +444,19 @@ module _ {D : Type 0} (Starts : Bool → List ℕ → Type 0) (Tells : History D
       let fit = r.fronts id v at in let new : ℕ = length (set s.views id (Places ts)) in let owner' : ℕ → ℕ = given_to r.owner k new in
       runs (views_to n s r owner' (set s.views id (Places ts) ++ alone k f ∷ []) (λ j u got. ⊎_elim
       (λ (here : get_elem? (set s.views id (Places ts)) j ≡ some u). ⊎_elim
-      (λ (t : (j ≡ id) × (Places ts ≡ u)). subst (λ (z : ℕ × View D). EachOf (Agrees n r.log owner' r.tickets z.0) z.1) (λ i. (sym t.0 i, t.1 i))
-      (each_with (λ x. x.place ≢ k) (Agrees n r.log r.owner r.tickets id) (Agrees n r.log owner' r.tickets id)
-      (λ x ne h. reowned n r.log r.owner owner' r.tickets id id x (given_else r.owner k new x.place ne ∙ h.owned) h) ts apart fit.1))
-      (λ (t : (j ≢ id) × (get_elem? s.views j ≡ some u)). map_all n r.log r.owner owner' r.tickets j u
-      (λ x h. given_else r.owner k new x.place (λ (same : x.place ≡ k). t.0 (sym h.owned ∙ (ap r.owner same ∙ fit.0.owned))) ∙ h.owned) (r.fronts j u t.1))
+      (λ (t : (j ≡ id) × (Places ts ≡ u)). subst (λ (z : ℕ × View D). Fits n r.log owner' r.tickets z.0 z.1) (λ i. (sym t.0 i, t.1 i)) (
+        each_with (λ x. x.place ≢ k) (Agrees n r.log r.owner r.tickets id) (Agrees n r.log owner' r.tickets id)
+            (λ x ne h. reowned n r.log r.owner owner' r.tickets id id x (given_else r.owner k new x.place ne ∙ h.owned) h) ts apart fit.1,
+        (r.apart id v at).1,
+      ))
+      (λ (t : (j ≢ id) × (get_elem? s.views j ≡ some u)). (
+        map_all n r.log r.owner owner' r.tickets j u
+            (λ x h. given_else r.owner k new x.place (λ (same : x.place ≡ k). t.0 (sym h.owned ∙ (ap r.owner same ∙ fit.0.owned))) ∙ h.owned) (r.fronts j u t.1),
+        r.apart j u t.1,
+      ))
       (at_set s.views id j (Places ts) u here))
-      (λ (t : (j ≡ new) × (alone k f ≡ u)). subst (λ (z : ℕ × View D). EachOf (Agrees n r.log owner' r.tickets z.0) z.1) (λ i. (sym t.0 i, t.1 i))
-      (reowned n r.log r.owner owner' r.tickets id new (knows k f None) (given_here r.owner k new) fit.0, tt))
-      (at_end (set s.views id (Places ts)) (alone k f) u j got))
-      (λ j u got. ⊎_elim
-      (λ (here : get_elem? (set s.views id (Places ts)) j ≡ some u). ⊎_elim
-      (λ (t : (j ≡ id) × (Places ts ≡ u)). subst ApartOf t.1 (r.apart id v at).1)
-      (λ (t : (j ≢ id) × (get_elem? s.views j ≡ some u)). r.apart j u t.1)
-      (at_set s.views id j (Places ts) u here))
-      (λ (t : (j ≡ new) × (alone k f ≡ u)). subst ApartOf t.1 (tt, tt))
+      (λ (t : (j ≡ new) × (alone k f ≡ u)). subst (λ (z : ℕ × View D). Fits n r.log owner' r.tickets z.0 z.1) (λ i. (sym t.0 i, t.1 i))
+      ((reowned n r.log r.owner owner' r.tickets id new (knows k f None) (given_here r.owner k new) fit.0, tt), (tt, tt)))
       (at_end (set s.views id (Places ts)) (alone k f) u j got)))
 
   -- the first place is cut off
@@ -468,25 +469,23 @@ module _ {D : Type 0} (Starts : Bool → List ℕ → Type 0) (Tells : History D
       let both : View D = Places (us ++ ts) in let fit = r.fronts id v at in let owner' : ℕ → ℕ = handed r.owner other id in
       let was : get_elem? s.views other ≡ some w = sym (set_else s.views id other both apart) ∙ there in
       runs (views_to n s r owner' (set (set s.views id both) other no_places) (λ j u got. ⊎_elim
-      (λ (t : (j ≡ other) × (no_places ≡ u)). subst (EachOf (Agrees n r.log owner' r.tickets j)) t.1 tt)
+      (λ (t : (j ≡ other) × (no_places ≡ u)). subst (Fits n r.log owner' r.tickets j) t.1 (tt, tt))
       (λ (t : (j ≢ other) × (get_elem? (set s.views id both) j ≡ some u)). ⊎_elim
-      (λ (q : (j ≡ id) × (both ≡ u)). subst (λ (z : ℕ × View D). EachOf (Agrees n r.log owner' r.tickets z.0) z.1) (λ i. (sym q.0 i, q.1 i))
-      (each-append (Agrees n r.log owner' r.tickets id) us ts
-      (each_map (Agrees n r.log r.owner r.tickets other) (Agrees n r.log owner' r.tickets id)
-      (λ x h. reowned n r.log r.owner owner' r.tickets other id x (handed_here r.owner other id x.place h.owned) h) us (r.fronts other w was))
-      (each_map (Agrees n r.log r.owner r.tickets id) (Agrees n r.log owner' r.tickets id)
-      (λ x h. reowned n r.log r.owner owner' r.tickets id id x (handed_else r.owner other id x.place (λ (e : r.owner x.place ≡ other). apart (sym e ∙ h.owned)) ∙ h.owned) h) ts fit)))
-      (λ (q : (j ≢ id) × (get_elem? s.views j ≡ some u)). map_all n r.log r.owner owner' r.tickets j u
-      (λ x h. handed_else r.owner other id x.place (λ (e : r.owner x.place ≡ other). t.0 (sym h.owned ∙ e)) ∙ h.owned) (r.fronts j u q.1))
-      (at_set s.views id j both u t.1))
-      (at_set (set s.views id both) other j no_places u got))
-      (λ j u got. ⊎_elim
-      (λ (t : (j ≡ other) × (no_places ≡ u)). subst ApartOf t.1 tt)
-      (λ (t : (j ≢ other) × (get_elem? (set s.views id both) j ≡ some u)). ⊎_elim
-      (λ (q : (j ≡ id) × (both ≡ u)). subst ApartOf q.1 (apart-append us ts (r.apart other w was) (r.apart id v at)
-      (each_map (Agrees n r.log r.owner r.tickets other) (λ x. Without x.place ts) (λ x h. each_map (Agrees n r.log r.owner r.tickets id) (λ y. y.place ≢ x.place)
-      (λ y g same. apart (sym h.owned ∙ (ap r.owner (sym same) ∙ g.owned))) ts fit) us (r.fronts other w was))))
-      (λ (q : (j ≢ id) × (get_elem? s.views j ≡ some u)). r.apart j u q.1)
+      (λ (q : (j ≡ id) × (both ≡ u)). subst (λ (z : ℕ × View D). Fits n r.log owner' r.tickets z.0 z.1) (λ i. (sym q.0 i, q.1 i)) (
+        each-append (Agrees n r.log owner' r.tickets id) us ts
+            (each_map (Agrees n r.log r.owner r.tickets other) (Agrees n r.log owner' r.tickets id)
+            (λ x h. reowned n r.log r.owner owner' r.tickets other id x (handed_here r.owner other id x.place h.owned) h) us (r.fronts other w was))
+            (each_map (Agrees n r.log r.owner r.tickets id) (Agrees n r.log owner' r.tickets id)
+            (λ x h. reowned n r.log r.owner owner' r.tickets id id x (handed_else r.owner other id x.place (λ (e : r.owner x.place ≡ other). apart (sym e ∙ h.owned)) ∙ h.owned) h) ts fit),
+        apart-append us ts (r.apart other w was) (r.apart id v at)
+            (each_map (Agrees n r.log r.owner r.tickets other) (λ x. Without x.place ts) (λ x h. each_map (Agrees n r.log r.owner r.tickets id) (λ y. y.place ≢ x.place)
+            (λ y g same. apart (sym h.owned ∙ (ap r.owner (sym same) ∙ g.owned))) ts fit) us (r.fronts other w was)),
+      ))
+      (λ (q : (j ≢ id) × (get_elem? s.views j ≡ some u)). (
+        map_all n r.log r.owner owner' r.tickets j u
+            (λ x h. handed_else r.owner other id x.place (λ (e : r.owner x.place ≡ other). t.0 (sym h.owned ∙ e)) ∙ h.owned) (r.fronts j u q.1),
+        r.apart j u q.1,
+      ))
       (at_set s.views id j both u t.1))
       (at_set (set s.views id both) other j no_places u got)))
 
@@ -521,13 +520,9 @@ module _ {D : Type 0} (Starts : Bool → List ℕ → Type 0) (Tells : History D
         tt,
         subst (λ (ws : List ℕ). K n record { words = ws; homes = s.homes; views = set s.views id w }) (sym (set-get_or s.words 0 0)) (runs (views_to n s r r.owner (set s.views id w)
             (λ j u got. ⊎_elim
-            (λ (t : (j ≡ id) × (w ≡ u)). subst (λ (z : ℕ × View D). EachOf (Agrees n r.log r.owner r.tickets z.0) z.1) (λ i. (sym t.0 i, t.1 i))
-            (knowing_agree n r.log r.owner r.tickets id ts (r.fronts id (Places ts) at)))
-            (λ (t : (j ≢ id) × (get_elem? s.views j ≡ some u)). r.fronts j u t.1)
-            (at_set s.views id j w u got))
-            (λ j u got. ⊎_elim
-            (λ (t : (j ≡ id) × (w ≡ u)). subst ApartOf t.1 (knowing_apart r.log ts (r.apart id (Places ts) at)))
-            (λ (t : (j ≢ id) × (get_elem? s.views j ≡ some u)). r.apart j u t.1)
+            (λ (t : (j ≡ id) × (w ≡ u)). subst (λ (z : ℕ × View D). Fits n r.log r.owner r.tickets z.0 z.1) (λ i. (sym t.0 i, t.1 i))
+            (knowing_agree n r.log r.owner r.tickets id ts (r.fronts id (Places ts) at), knowing_apart r.log ts (r.apart id (Places ts) at)))
+            (λ (t : (j ≢ id) × (get_elem? s.views j ≡ some u)). (r.fronts j u t.1, r.apart j u t.1))
             (at_set s.views id j w u got)))),
         λ us same. (
           r.log,

@@ -89,8 +89,7 @@ pub fn leave<D: MonitorData, T: Turnstile<D>>(door: &T, inside: Inside<D>) -> Ou
     requires rest { D.rest inside.state (priorities inside.front.events) }
     ensures of { IsOut D.rest D.ready D.CONDITIONS (T.id door.now) result }
     ensures place { result.place ≡ inside.place }
-    ensures front { result.front
-        ≡ with_event inside.front (event.Leave inside.place inside.state) }
+    ensures front { result.front ≡ with_event inside.front (event.Leave inside.place inside.state) }
 {
     let Inside {
         mut seat,
@@ -118,8 +117,7 @@ pub fn wait<D: MonitorData, T: Turnstile<D>, R: Wait>(
     ensures of { IsIn D.rest D.ready D.CONDITIONS (T.id door.now) result }
     ensures place { result.place ≡ inside.place }
     ensures ready { D.ready condition priority result.state (priorities result.front.events) }
-    ensures front { AddsTwo inside.front
-        (event.Wait inside.place condition priority inside.state)
+    ensures front { AddsTwo inside.front (event.Wait inside.place condition priority inside.state)
         (event.Resume inside.place condition result.state) result.front }
 {
     let Inside {

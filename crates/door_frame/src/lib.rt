@@ -4,6 +4,7 @@
 
 pub mod calls;
 pub mod departure;
+pub mod looks;
 pub mod making;
 pub mod parcel;
 pub mod place;

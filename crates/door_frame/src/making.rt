@@ -65,8 +65,7 @@ pub fn deal<D: MonitorData, K, W: Words<D, K>>(
 ) -> Vec<Outside<D>>
     requires table { (seat.table_id ≡ table.now.shared.table_id)
         × (0 < table.now.shared.table_id.words) }
-    requires room { (vec_len outs ≡ 0) × (places ≤ vec_capacity outs)
-        × (vec_len parkers ≡ places) }
+    requires room { (vec_len outs ≡ 0) × (places ≤ vec_capacity outs) × (vec_len parkers ≡ places) }
     requires seat { (f : History D) × (seat.me ≡ (Places (all_know 0 places f), [])) }
     ensures { (f : History D) → seat.me ≡ (Places (all_know 0 places f), [])
         → result.items ≡ places_from table.now.shared.table_id 0 places f }

@@ -16,11 +16,6 @@ use hoare_law::data::MonitorData;
 use std::sync::Wait;
 use wait_book::steps::Next;
 
-/// How often a place looks at a word, with the spin hint between, before it sleeps on its parker, or as a newcomer yields. A
-/// look costs some nanoseconds and a sleep with its waking several thousand: most hand-overs come while it still looks. More
-/// looks take the processor from the place that is waited for, where there are fewer cores than threads.
-pub const LOOKS: u32 = 500;
-
 /// A door, as far as its words go.
 pub trait Turnstile<D: MonitorData> {
     /// The table that its seats are of, and how many places it has.

@@ -1,5 +1,5 @@
 -- Whose turn it is, and what SERVING and the bells have of it.
-use Rattle.std.proofs.Common.{◌≡◌, ◌≢◌, ◌⊎◌, inl, inr, ℕ, ◌+◌, ◌<◌, ◌≤◌, ◌%◌, ◌^◌, false, refl, sym, ap, ◌∙◌, subst, arith, ne_eqb}
+use Rattle.std.proofs.Common.{◌≡◌, ◌≢◌, ℕ, ◌+◌, ◌<◌, ◌≤◌, ◌%◌, ◌^◌, false, refl, sym, ap, ◌∙◌, subst, arith, ne_eqb}
 use mathlib.Core.Logic.{dite}
 use native.Mathlib.Decide.{ℕ_discrete}
 use Rattle.std.proofs.Math.Nat.{mod-add-mod}
@@ -55,38 +55,25 @@ for_next (Held k) j e = absurd (cc)
 for_next (Owed k c) j e = owed c (let same : k ≡ j = cc in ap (λ i. Owed i c) same)
 for_next (Return k) j e = returning (let same : k ≡ j = cc in ap (λ i. Return i) same)
 
--- a bell is 0 or 1
-pub one_bit : (j k : ℕ) → (one j k ≡ 0) ⊎ (j ≡ k)
-one_bit j k = dite (ℕ_discrete j k) (λ same. inr same) (λ ne. inl (one_apart j k (ne_eqb j k ne)))
+bell_else : (j k : ℕ) → one j k ≢ 1 → one j k ≡ 0
+bell_else j k n = dite (ℕ_discrete j k) (λ same. absurd (n (subst (λ i. one j i ≡ 1) same (one_same j)))) (λ ne. one_apart j k (ne_eqb j k ne))
 
+bell_due : (j k : ℕ) → one j k ≡ 1 → j ≡ k
+bell_due j k e = dite (ℕ_discrete j k) (λ same. same) (λ ne. absurd (omega (arith, one_apart j k (ne_eqb j k ne), e)))
+
+-- a bell that doesn't ring is silent
 pub rung_else : (t : Turn) (k : ℕ) → rung t k ≢ 1 → rung t k ≡ 0
 rung_else Free k n = refl
 rung_else (Held j) k n = refl
-rung_else (Owed j c) k n = by (one_bit j k)
-  where
-    by : (one j k ≡ 0) ⊎ (j ≡ k) → one j k ≡ 0
-    by (inl z) = z
-    by (inr same) = absurd (n (subst (λ i. one j i ≡ 1) same (one_same j)))
-rung_else (Return j) k n = by (one_bit j k)
-  where
-    by : (one j k ≡ 0) ⊎ (j ≡ k) → one j k ≡ 0
-    by (inl z) = z
-    by (inr same) = absurd (n (subst (λ i. one j i ≡ 1) same (one_same j)))
+rung_else (Owed j c) k n = bell_else j k n
+rung_else (Return j) k n = bell_else j k n
 
 -- who hears its bell is due
 pub rung_due : (t : Turn) (k : ℕ) → rung t k ≡ 1 → IsDue k t
 rung_due Free k e = absurd (omega (arith, e))
 rung_due (Held j) k e = absurd (omega (arith, e))
-rung_due (Owed j c) k e = by (one_bit j k)
-  where
-    by : (one j k ≡ 0) ⊎ (j ≡ k) → IsDue k (Owed j c)
-    by (inl z) = absurd (omega (arith, z, e))
-    by (inr same) = owed c (ap (λ i. Owed i c) same)
-rung_due (Return j) k e = by (one_bit j k)
-  where
-    by : (one j k ≡ 0) ⊎ (j ≡ k) → IsDue k (Return j)
-    by (inl z) = absurd (omega (arith, z, e))
-    by (inr same) = returning (ap (λ i. Return i) same)
+rung_due (Owed j c) k e = owed c (ap (λ i. Owed i c) (bell_due j k e))
+rung_due (Return j) k e = returning (ap (λ i. Return i) (bell_due j k e))
 
 pub due_busy : (k : ℕ) (t : Turn) → IsDue k t → t ≢ Free
 due_busy k t (owed c is) e = let no : Owed k c ≡ Free = sym is ∙ e in cc

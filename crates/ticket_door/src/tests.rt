@@ -5,6 +5,9 @@ use crate::laws::make_at;
 use hoare_law::monitor::Monitor;
 use hoare_law::unasked::Unasked;
 use hoare_law::waits::Waits;
+use std::alloc::Global;
+use std::process::Abort;
+use std::sync::Wait;
 use std::test::Fail;
 use wait_book::steps::MakeRefused;
 
@@ -14,32 +17,29 @@ type Tally = Unasked<u64, 1>;
 /// As many conditions as a door can have.
 type Eight = Unasked<u64, 8>;
 
-/// More than that.
-type Nine = Unasked<u64, 9>;
+/// What comes back where a door of `N` conditions and so many places is refused.
+fn refused<const N: usize, R: Abort>(rt: &R, alloc: Global, places: usize) -> (u64, MakeRefused) {
+    let Err((data, refused)) = TicketDoor::make(alloc, Unasked::<u64, N> { value: 7 }, places)
+    else {
+        panic!(rt; "a door of no place, of too many, or of nine conditions")
+    };
+    (data.value, refused)
+}
 
 #[test]
 fn make_refuses_in_order(rt: HostRuntime) -> Result<(), Fail> {
     let alloc = rt.alloc();
-    for places in [0, 65] {
-        let Err((tally, refused)) = TicketDoor::make(alloc, Tally { value: 7 }, places) else {
-            panic!(rt; "a door of no place, or of too many")
-        };
-        assert!(rt; refused == MakeRefused::BadPlaces);
-        assert_eq!(rt; tally.value, 7);
-    }
-    for (places, expected) in [(0, MakeRefused::BadPlaces), (1, MakeRefused::BadConditions)] {
-        let Err((nine, refused)) = TicketDoor::make(alloc, Nine { value: 9 }, places) else {
-            panic!(rt; "a door of nine conditions")
-        };
-        assert!(rt; refused == expected);
-        assert_eq!(rt; nine.value, 9);
-    }
+    assert!(rt; refused::<1, _>(&rt, alloc, 0) == (7, MakeRefused::BadPlaces));
+    assert!(rt; refused::<1, _>(&rt, alloc, 65) == (7, MakeRefused::BadPlaces));
+    assert!(rt; refused::<9, _>(&rt, alloc, 0) == (7, MakeRefused::BadPlaces));
+    assert!(rt; refused::<9, _>(&rt, alloc, 1) == (7, MakeRefused::BadConditions));
     Ok(())
 }
 
-#[test]
-fn tickets_in_turn(rt: HostRuntime) -> Result<(), Fail> {
-    let Ok((door, mut outs)) = TicketDoor::make(rt.alloc(), Tally { value: 0 }, 3) else {
+/// On a door with this first ticket three places ask, in the order c, a, b, and come in by their tickets; c leaves the number
+/// 7. Their tickets, and the number that the door is closed with.
+fn three_ask<R: Wait + Abort>(rt: &R, alloc: Global, first: u64) -> ((u64, u64, u64), u64) {
+    let Ok((door, mut outs)) = make_at(alloc, Tally { value: 0 }, 3, first) else {
         panic!(rt; "no memory")
     };
     let (c, b, a) = (
@@ -49,33 +49,24 @@ fn tickets_in_turn(rt: HostRuntime) -> Result<(), Fail> {
     );
     let (c, a, b) = (door.ask(c), door.ask(a), door.ask(b));
     let tickets = (c.ticket(), a.ticket(), b.ticket());
-    let c = door.give_up(door.come_in(&rt, c));
-    let a = door.give_up(door.come_in(&rt, a));
-    let b = door.give_up(door.come_in(&rt, b));
-    outs.push_reserved(b);
-    outs.push_reserved(a);
-    outs.push_reserved(c);
-    let tally = door.close(outs);
-    assert_eq!(rt; (tickets, tally.value), ((0, 1, 2), 0));
+    let mut inside = door.come_in(rt, c);
+    TicketDoor::state_mut(&mut inside, &door).value = 7;
+    outs.push_reserved(door.give_up(inside));
+    outs.push_reserved(door.give_up(door.come_in(rt, a)));
+    outs.push_reserved(door.give_up(door.come_in(rt, b)));
+    (tickets, door.close(outs).value)
+}
+
+#[test]
+fn tickets_in_turn(rt: HostRuntime) -> Result<(), Fail> {
+    assert_eq!(rt; three_ask(&rt, rt.alloc(), 0), ((0, 1, 2), 7));
     Ok(())
 }
 
 #[test]
 fn tickets_past_the_last_number(rt: HostRuntime) -> Result<(), Fail> {
-    let Ok((door, mut outs)) = make_at(rt.alloc(), Tally { value: 0 }, 3, u64::MAX) else {
-        panic!(rt; "no memory")
-    };
-    let (c, b, a) = (
-        outs.pop().unwrap(),
-        outs.pop().unwrap(),
-        outs.pop().unwrap(),
-    );
-    let (a, b, c) = (door.ask(a), door.ask(b), door.ask(c));
-    let tickets = (a.ticket(), b.ticket(), c.ticket());
-    door.give_up(door.come_in(&rt, a));
-    door.give_up(door.come_in(&rt, b));
-    door.give_up(door.come_in(&rt, c));
-    assert_eq!(rt; tickets, (18446744073709551615, 0, 1));
+    let (tickets, left) = three_ask(&rt, rt.alloc(), u64::MAX);
+    assert_eq!(rt; (tickets, left), ((18446744073709551615, 0, 1), 7));
     Ok(())
 }
 

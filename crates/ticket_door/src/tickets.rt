@@ -1,10 +1,9 @@
 //! Newcomers: they draw a ticket, and come in when it is served.
 ghost use Rattle.std.specs.Prelude.{◌≡◌, ◌≢◌, ◌<◌, ◌↔◌, ℕ, ◌+◌, ◌%◌, ◌^◌, [], true, IsTrue, None};
 ghost use Rattle.hoare_law.specs.Events.{with_event};
-ghost use Rattle.hoare_law.specs.Growth.{Exits};
 ghost use Rattle.hoare_law.specs.declared.event.History.{History};
 ghost use Rattle.hoare_law.specs.declared.event.Event.TheVariants as event;
-ghost use Rattle.hoare_law.specs.Growth.{AddsLast};
+ghost use Rattle.hoare_law.specs.Growth.{AddsLast, Exits};
 ghost use Rattle.hoare_law.specs.Priorities.{priorities};
 ghost use Rattle.hoare_law.specs.Turns.{outside};
 ghost use Rattle.door_frame.specs.Places.{IsOut, IsIn, Handed};
@@ -17,21 +16,15 @@ use crate::door::TicketDoor;
 use crate::place::{Asked, TicketIn, TicketOut};
 use crate::rule::{Ask, Counting, Look};
 use crate::words::{NEXT, SERVING};
-use door_frame::calls;
 use door_frame::calls::brought_in;
 use door_frame::parcel::Parcel;
 use door_frame::plays::DoorSeat;
 use door_frame::slot::take_parcel;
+use door_frame::{calls, looks};
 use hoare_law::data::MonitorData;
 use std::marker::Brand;
 use std::sync::Wait;
 use std::{hint, thread};
-
-/// How often a newcomer whose ticket is the next looks before it yields.
-const LOOKS: u64 = 4000;
-
-/// How many tickets ahead a newcomer looks on at all.
-const NEAR: u64 = 3;
 
 impl<D: MonitorData> TicketDoor<D> {
     /// Draws the next ticket.
@@ -78,8 +71,8 @@ impl<D: MonitorData> TicketDoor<D> {
     /// Who is near looks on for a while, the nearer the longer; all yield then.
     fn stand_back(&self, ticket: u64, serving: u64) {
         let ahead = ticket.wrapping_sub(serving);
-        if 0 < ahead && ahead <= NEAR {
-            for _ in 0..LOOKS / ahead {
+        if 0 < ahead && ahead <= looks::NEAR {
+            for _ in 0..looks::NEXT_IN_TURN / ahead {
                 if self.table.shared.peek(SERVING) == ticket {
                     return;
                 }

@@ -1,18 +1,13 @@
 //! A door of the most places and conditions: each place waits, and goes on in its turn.
-ghost use Rattle.std.specs.Prelude.{◌≡◌, ◌<◌, vec_len, All};
-ghost use Rattle.monitor_trials.specs.Numbered.{IsNumbered};
+ghost use Rattle.std.specs.Prelude.{◌≡◌};
 
-use crate::tests::running::act_all;
 use hoare_law::monitor::Monitor;
 use hoare_law::unasked::Unasked;
 use hoare_law::waits::Waits;
 use std::alloc::Global;
 use std::process::Abort;
-use std::rt::Clock;
 use std::sync::Wait;
 use std::test::Fail;
-use std::thread;
-use std::thread::Threads;
 
 const PLACES: usize = 64;
 
@@ -56,52 +51,23 @@ fn resume_all<R: Wait, M: Monitor<Row>>(rt: &R, m: &M, inside: M::In) -> M::In
 
 // Each place waits on the condition of its number modulo 8, and the greater number goes first. The last to come resumes the others and then
 // waits on condition 0, where the first that comes for a second time finds it.
-fn wait_in_row<R: Wait, M: Monitor<Row>>(rt: &R, m: &M, out: M::Out, place: usize) -> M::Out
+fn waits_in_row<R: Wait, M: Monitor<Row>>(rt: &R, m: &M, out: M::Out, place: usize) -> (M::Out, u64)
     requires { M.is_of m.now out }
-    ensures of { M.is_of m.now result }
-    ensures place { M.place result ≡ M.place out }
+    ensures of { M.is_of m.now result.0 }
+    ensures place { M.place result.0 ≡ M.place out }
 {
     let inside = m.enter(rt, out);
     if count_waiting(m, &inside) == PLACES - 1 {
         let inside = resume_all(rt, m, inside);
         let inside = m.wait(rt, inside, 0, 0);
-        return write_and_leave(rt, m, inside, place);
+        return (write_and_leave(rt, m, inside, place), 0);
     }
     let priority = (PLACES as u64).saturating_sub(place as u64);
     let inside = m.wait(rt, inside, place % CONDITIONS, priority);
     let out = write_and_leave(rt, m, inside, place);
     let inside = m.enter(rt, out);
     let (out, _resumed) = m.signal_leave(rt, inside, 0);
-    out
-}
-
-/// A monitor for threads, whose data are a row of places.
-pub trait RowMonitor: Monitor<Row> + Sync {}
-
-impl<M: Monitor<Row> + Sync> RowMonitor for M {}
-
-fn stand_in_row<R: Threads + Wait + Abort + Clock + Sync, M: RowMonitor>(
-    rt: &R,
-    m: &M,
-    places: Vec<(usize, M::Out)>,
-) -> Vec<(M::Out, u64)>
-where
-    M::Lists: Send,
-    requires of { All (λ j. M.is_of m.now j.1) places.items }
-    requires numbered { IsNumbered (λ j. M.place j.1) places.items }
-    ensures count { vec_len result ≡ vec_len places }
-    ensures of { All (λ d. M.is_of m.now d.0) result.items }
-    ensures numbered { IsNumbered (λ d. M.place d.0) result.items }
-{
-    act_all(
-        rt,
-        places,
-        &|place| -> (M::Out, u64)
-            requires { M.is_of m.now place.1 }
-            ensures of { M.is_of m.entry.now result.0 }
-            ensures number { M.place result.0 ≡ M.place place.1 }
-        { (wait_in_row(rt, m, place.1, place.0), 0) },
-    )
+    (out, 0)
 }
 
 // The order in which they have to go on: by condition, the greater number first, but this one last.
@@ -128,9 +94,9 @@ fn stands_in_order<R: Abort>(rt: &R, alloc: Global, row: &[usize]) -> Result<(),
 
 #[test]
 fn sixty_four_places_wait_on_eight_conditions(rt: HostRuntime) -> Result<(), Fail> {
-    let row = Row {
-        value: Vec::with_capacity(rt.alloc(), PLACES)?,
-    };
-    let (row, _) = run_row!(rt, on_baton_door, stand_in_row(), row, PLACES);
-    stands_in_order(&rt, rt.alloc(), row.value.as_slice())
+    let room = || Vec::with_capacity(rt.alloc(), PLACES);
+    for (_, row, _) in on_both_doors!(rt, waits_in_row(), Row { value: room()? }, PLACES) {
+        stands_in_order(&rt, rt.alloc(), row.value.as_slice())?;
+    }
+    Ok(())
 }

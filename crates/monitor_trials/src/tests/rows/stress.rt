@@ -1,20 +1,18 @@
 //! Eight processes wait with priorities, signal and pass on three conditions, and a ninth resumes who is left. What they wrote down
 //! is held against the definitions.
-ghost use Rattle.std.specs.Prelude.{◌≡◌, ◌<◌, vec_len, All};
-ghost use Rattle.monitor_trials.specs.Numbered.{IsNumbered};
+ghost use Rattle.std.specs.Prelude.{◌≡◌, ◌<◌};
 
 use crate::tests::rows::diary::{Act, Diary};
 use crate::tests::rows::history::{choices, first_unlawful};
-use crate::tests::running::act_all;
 use hoare_law::monitor::Monitor;
 use hoare_law::unasked::Unasked;
 use hoare_law::waits::Waits;
+use std::alloc::{AllocError, Global};
 use std::process::Abort;
 use std::rt::Clock;
 use std::sync::Wait;
 use std::test::Fail;
 use std::thread;
-use std::thread::Threads;
 use std::time::Duration;
 
 /// A diary, and three conditions.
@@ -23,6 +21,9 @@ type Pages = Unasked<Diary, 3>;
 const WORKERS: usize = 8;
 
 const ROUNDS: u64 = 500;
+
+/// Newcomers of a ticket door never sleep: where threads outnumber processors, one admission may take a slice of time.
+const TICKET_ROUNDS: u64 = 60;
 
 // The next of a row of numbers that look as if drawn by lot.
 fn draw(seed: u64) -> u64 {
@@ -172,14 +173,14 @@ fn visit<R: Wait, M: Monitor<Pages>>(rt: &R, m: &M, out: M::Out, place: usize, l
 }
 
 // So many visits, and a note that they are over.
-fn work<R: Wait, M: Monitor<Pages>>(rt: &R, m: &M, out: M::Out, place: usize) -> M::Out
+fn work<R: Wait, M: Monitor<Pages>>(rt: &R, m: &M, out: M::Out, place: usize, rounds: u64) -> M::Out
     requires { M.is_of m.now out }
     ensures of { M.is_of m.now result }
     ensures place { M.place result ≡ M.place out }
 {
     let mut out = out;
     let mut lot = draw(place as u64);
-    for _ in 0..ROUNDS {
+    for _ in 0..rounds {
         lot = draw(lot);
         out = visit(rt, m, out, place, lot / 65536);
     }
@@ -207,58 +208,60 @@ fn sweep<R: Wait + Clock, M: Monitor<Pages>>(rt: &R, m: &M, out: M::Out, place: 
     out
 }
 
-/// A monitor for threads, whose data are a diary.
-pub trait DiaryMonitor: Monitor<Pages> + Sync {}
-
-impl<M: Monitor<Pages> + Sync> DiaryMonitor for M {}
-
-fn work_and_sweep<R: Threads + Wait + Abort + Clock + Sync, M: DiaryMonitor>(
+// The workers work so many rounds, and the last place sweeps.
+fn works_or_sweeps<R: Wait + Clock, M: Monitor<Pages>>(
     rt: &R,
     m: &M,
-    places: Vec<(usize, M::Out)>,
-) -> Vec<(M::Out, u64)>
-where
-    M::Lists: Send,
-    requires of { All (λ j. M.is_of m.now j.1) places.items }
-    requires numbered { IsNumbered (λ j. M.place j.1) places.items }
-    ensures count { vec_len result ≡ vec_len places }
-    ensures of { All (λ d. M.is_of m.now d.0) result.items }
-    ensures numbered { IsNumbered (λ d. M.place d.0) result.items }
+    out: M::Out,
+    place: usize,
+    rounds: u64,
+) -> (M::Out, u64)
+    requires { M.is_of m.now out }
+    ensures of { M.is_of m.now result.0 }
+    ensures place { M.place result.0 ≡ M.place out }
 {
-    act_all(
-        rt,
-        places,
-        &|place| -> (M::Out, u64)
-            requires { M.is_of m.now place.1 }
-            ensures of { M.is_of m.entry.now result.0 }
-            ensures number { M.place result.0 ≡ M.place place.1 }
-        {
-            if place.0 < WORKERS {
-                (work(rt, m, place.1, place.0), 0)
-            } else {
-                (sweep(rt, m, place.1, place.0), 0)
-            }
-        },
-    )
+    if place < WORKERS {
+        (work(rt, m, out, place, rounds), 0)
+    } else {
+        (sweep(rt, m, out, place), 0)
+    }
 }
 
-// What they wrote is what the definitions allow, and they had choices.
-fn agrees<R: Abort>(rt: &R, diary: &Diary) -> Result<(), Fail> {
+// A diary with room for all that they write.
+fn empty_pages(alloc: Global) -> Result<Pages, AllocError> {
+    let lines = Vec::with_capacity(alloc, 100_000)?;
+    Ok(Pages {
+        value: Diary::new(lines),
+    })
+}
+
+// What they wrote in so many rounds is what the definitions allow, and they had choices.
+fn agrees<R: Abort>(rt: &R, diary: &Diary, rounds: u64) {
     let lines = diary.lines();
     assert!(rt; !diary.is_torn);
     assert_eq!(rt; first_unlawful(lines), None);
     assert_eq!(rt; diary.finished, WORKERS);
-    assert!(rt; lines.len() >= 8000);
-    assert!(rt; choices(lines) >= 10);
-    Ok(())
+    assert!(rt; lines.len() as u64 / 16 >= rounds);
+    assert!(rt; choices(lines) as u64 >= rounds / 50);
 }
 
 #[test]
 fn a_diary_is_a_legal_history(rt: HostRuntime) -> Result<(), Fail> {
-    let lines = Vec::with_capacity(rt.alloc(), 100_000)?;
-    let pages = Pages {
-        value: Diary::new(lines),
-    };
-    let (pages, _) = run_row!(rt, on_baton_door, work_and_sweep(), pages, WORKERS + 1);
-    agrees(&rt, &pages.value)
+    let (pages, _) = run_row!(
+        rt,
+        on_baton_door,
+        works_or_sweeps(ROUNDS),
+        empty_pages(rt.alloc())?,
+        WORKERS + 1
+    );
+    agrees(&rt, &pages.value, ROUNDS);
+    let (pages, _) = run_row!(
+        rt,
+        on_ticket_door,
+        works_or_sweeps(TICKET_ROUNDS),
+        empty_pages(rt.alloc())?,
+        WORKERS + 1
+    );
+    agrees(&rt, &pages.value, TICKET_ROUNDS);
+    Ok(())
 }

@@ -1,5 +1,5 @@
 use Rattle.std.specs.Prelude.{◌≡◌}
-use Rattle.monitor_trials.proofs.tests.rows.schedulers.watch.Given as goal
+use Rattle.monitor_trials.proofs.tests.running.watch.Given as goal
 
 -- the place stays one of the monitor's, and keeps its number
 abbrev pub invariant-loop : goal.invariant-loop

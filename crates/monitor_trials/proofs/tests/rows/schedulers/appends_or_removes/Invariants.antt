@@ -1,5 +1,5 @@
 use Rattle.std.specs.Prelude.{◌≡◌}
-use Rattle.monitor_trials.proofs.tests.rows.schedulers.remove_all.Given as goal
+use Rattle.monitor_trials.proofs.tests.rows.schedulers.appends_or_removes.Given as goal
 
 -- the place stays one of the monitor's, and keeps its number
 abbrev pub invariant-loop-turn : goal.invariant-loop-turn

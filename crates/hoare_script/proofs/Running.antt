@@ -2,15 +2,14 @@
 use Rattle.std.proofs.Common.{◌≡◌, ◌≢◌, ℕ, suc, ◌+◌, ◌-◌, ◌<◌, ◌≤◌, List, [], ◌∷◌, ◌++◌, length, take, drop, Option, Some, None, Result, Ok, Err}
 use Rattle.std.proofs.Common.{refl, ap, sym, ◌∙◌, append_assoc, subst, eqb, cond, true, arith, length-append}
 use Rattle.std.proofs.KnownBytes.{Appends-nil, Appends-trans}
-use Rattle.std.proofs.Math.Seq.{take-append-add, drop-append_seam}
 use Rattle.std.proofs.lemmas.Bool.{ne_eqb}
 use Rattle.std.proofs.lemmas.Bool.Decides.{nat_tests}
-use Rattle.std.proofs.lemmas.List.{append-nil, take-append-le}
+use Rattle.std.proofs.lemmas.List.{append-nil}
 use Rattle.std.specs.Result.{IsOkAnd}
 use Rattle.std.specs.Io.BufRead.{drop_through}
 use Rattle.std.specs.Io.KnownBytes.{Appends}
 use Rattle.line_text.proofs.AfterLines.{drop_through-line, drop_through-last}
-use Rattle.line_text.proofs.Streams.{Reads-trans}
+use Rattle.line_text.proofs.Streams.{Reads-trans, append-take_prefix, drop-read}
 use Rattle.line_text.specs.declared.line.Ended.{Ended}
 use Rattle.line_text.specs.declared.line.Ended.TheVariants as how
 use Rattle.line_text.specs.declared.line.LineFault.{LineFault}
@@ -73,14 +72,6 @@ IsOkAnd-parts (Err f) P h = absurd h
 -- two texts before what is told
 prepend-prepend : (w p : List ℕ) (t : Told) → prepend w (prepend p t) ≡ prepend (w ++ p) t
 prepend-prepend w p t = ap (λ (v : List ℕ). record { written = v; fault = t.fault }) (sym (append_assoc w p t.written))
-
--- all of one text and a prefix of the next
-append-take_prefix : (w p r : List ℕ) (n : ℕ) → n ≤ length p → w ++ take n p ≡ take (length w + n) (w ++ (p ++ r))
-append-take_prefix w p r n h = sym (take-append-add w (p ++ r) n ∙ ap (λ v. w ++ v) (take-append-le n p r h))
-
--- the bytes behind the first n
-drop-read : (n : ℕ) (p x : List ℕ) → length p ≡ n → drop n (p ++ x) ≡ x
-drop-read n p x h = subst (λ (m : ℕ). drop m (p ++ x) ≡ x) h (drop-append_seam p x)
 
 -- a state in which there is a book isn't the first
 IsAt-start : (o : Option Contents) (s : State) → IsAt o s → s ≡ Start → o ≡ None

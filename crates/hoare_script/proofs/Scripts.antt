@@ -1,15 +1,15 @@
 -- What a script is told, by how its next line ends.
 use Rattle.std.proofs.Common.{◌≡◌, ◌≢◌, ℕ, suc, ◌+◌, ◌-◌, ◌<◌, ◌≤◌, Bool, true, false, cond, ltb, List, [], ◌∷◌, ◌++◌, length, take}
 use Rattle.std.proofs.Common.{refl, ap, sym, ◌∙◌, append_assoc, length-append, arith}
-use Rattle.std.specs.List.{slice_split, onto_first}
+use Rattle.std.specs.List.{slice_split}
 use Rattle.std.proofs.Math.Seq.{take-append-add, take-append_seam}
 use Rattle.std.proofs.lemmas.Bool.{lt-ltb, le-ltb, ne_eqb}
 use Rattle.std.proofs.lemmas.Bool.Decides.{nat_tests}
 use Rattle.std.proofs.lemmas.List.{take_all}
-use Rattle.std.proofs.lemmas.List.Elements.{All-tail, All-head, All-push}
-use Rattle.std.proofs.lemmas.List.Splits.{slice_split_at, slice_split_none, slice_split-cons_no}
+use Rattle.std.proofs.lemmas.List.Elements.{All-push}
+use Rattle.std.proofs.lemmas.List.Splits.{slice_split_at, slice_split_none}
 use Rattle.hoare_script.specs.declared.fault.ScriptFault.TheVariants as faults
-use Rattle.line_text.proofs.Spelling.{slice_split-some}
+use Rattle.line_text.proofs.Spelling.{slice_split-some, slice_split-prefix}
 use Rattle.line_text.specs.Line.{NoNewline, is_newline}
 use Rattle.hoare_script.specs.Scripts.{State, Ending, stop, one_line, then_on, told_lines, told_from}
 
@@ -48,24 +48,6 @@ told_from-line e s i room l x n h r =
     ltb-same _ _ _ _ (λ a. omega (arith, length-append l (10 ∷ x))) (λ a. omega (arith, length-append l (10 ∷ x))) in
     rw (parts, over) (told_lines-line e (ltb m (length x)) s i l (slice_split is_newline (take m x))
     (slice_split-some is_newline (take m x)) h)
-
--- the first part and the others
-cons_of : (parts : List (List ℕ)) → (parts ≡ [] → ⊥) → (p : List ℕ) × (ps : List (List ℕ)) × (parts ≡ p ∷ ps)
-cons_of [] n = absurd (n refl)
-cons_of (p ∷ ps) n = (p, ps, refl)
-
--- the first part begins with what has no separator
-slice_split-prefix : (l y : List ℕ) → NoNewline l
-    → (p : List ℕ) × (ps : List (List ℕ)) × (slice_split is_newline (l ++ y) ≡ (l ++ p) ∷ ps)
-slice_split-prefix [] y n = cons_of (slice_split is_newline y) (slice_split-some is_newline y)
-slice_split-prefix (c ∷ l) y n =
-    let r : (p : List ℕ) × (ps : List (List ℕ)) × (slice_split is_newline (l ++ y) ≡ (l ++ p) ∷ ps) =
-    slice_split-prefix l y (All-tail (λ b. is_newline b ≡ false) c l n) in (
-      r.0,
-      r.1,
-      slice_split-cons_no is_newline c (l ++ y) (All-head (λ b. is_newline b ≡ false) c l n)
-          ∙ ap (onto_first c) r.2,
-    )
 
 -- a line that is too long
 pub told_from-long_line : (e : Ending) (s : State) (i room : ℕ) (l : List ℕ) (b : ℕ) (x : List ℕ) → NoNewline l → b ≢ 10 → length l ≡ 256 → 256 < room

@@ -1,12 +1,14 @@
 -- Words and numbers.
 use Rattle.std.proofs.Common.{◌≡◌, ℕ, suc, zero, ◌+◌, ◌*◌, ◌-◌, ◌^◌, ◌<◌, ◌≤◌, Bool, true, false, cond, eqb, ltb, ◌&&◌}
-use Rattle.std.proofs.Common.{List, [], ◌∷◌, length, get_or, take, drop, Option, Some, None, refl, ap, ◌∙◌, ◌⊎◌, inl, inr, arith}
+use Rattle.std.proofs.Common.{List, [], ◌∷◌, ◌++◌, length, get_or, take, drop, Option, Some, None, refl, ap, ◌∙◌, ◌⊎◌, inl, inr, arith}
 use Rattle.std.proofs.lemmas.Bool.{lt-ltb, le-ltb, ne_eqb}
 use Rattle.std.proofs.lemmas.Bool.Decides.{nat_tests}
 use Rattle.std.proofs.lemmas.Grind.{common_steps}
-use Rattle.std.proofs.lemmas.List.Splits.{length-slice_split}
+use Rattle.std.proofs.lemmas.List.Elements.{All-head, All-tail}
+use Rattle.std.proofs.lemmas.List.Splits.{length-slice_split, slice_split-cons_no}
 use Rattle.std.specs.Borrow.{Bor}
 use Rattle.std.specs.List.{slice_split, onto_first}
+use Rattle.line_text.specs.Line.{NoNewline, is_newline}
 use Rattle.line_text.specs.Words.{is_digit, all_digits, value_after, digits_of, words_from, words_of}
 
 -- a text is split in at least one part
@@ -30,6 +32,24 @@ slice_split-whole x [] n = refl
 slice_split-whole x (b ∷ bs) n =
     let no : eqb b x ≡ false = ne_eqb b x (n 0 (omega arith)) in
     rw no (ap (onto_first b) (slice_split-whole x bs (λ k h. n (suc k) (omega arith))))
+
+-- the first part and the others
+cons_of : (parts : List (List ℕ)) → (parts ≡ [] → ⊥) → (p : List ℕ) × (ps : List (List ℕ)) × (parts ≡ p ∷ ps)
+cons_of [] n = absurd (n refl)
+cons_of (p ∷ ps) n = (p, ps, refl)
+
+-- the first part begins with what has no separator
+pub slice_split-prefix : (l y : List ℕ) → NoNewline l
+    → (p : List ℕ) × (ps : List (List ℕ)) × (slice_split is_newline (l ++ y) ≡ (l ++ p) ∷ ps)
+slice_split-prefix [] y n = cons_of (slice_split is_newline y) (slice_split-some is_newline y)
+slice_split-prefix (c ∷ l) y n =
+    let r : (p : List ℕ) × (ps : List (List ℕ)) × (slice_split is_newline (l ++ y) ≡ (l ++ p) ∷ ps) =
+    slice_split-prefix l y (All-tail (λ b. is_newline b ≡ false) c l n) in (
+      r.0,
+      r.1,
+      slice_split-cons_no is_newline c (l ++ y) (All-head (λ b. is_newline b ≡ false) c l n)
+          ∙ ap (onto_first c) r.2,
+    )
 
 -- more digits make no less
 pub value_after-grows : (n : ℕ) (cs : List ℕ) → n ≤ value_after n cs

@@ -1,10 +1,10 @@
 -- Known bytes of readers and writers.
-use Rattle.std.proofs.Common.{◌≡◌, ℕ, ◌+◌, ◌-◌, ◌≤◌, List, length, take, drop, Option, Some, None, sym, subst, length-drop, arith}
+use Rattle.std.proofs.Common.{◌≡◌, ◌∙◌, ℕ, ◌+◌, ◌-◌, ◌<◌, ◌≤◌, List, ◌++◌, length, take, drop, Option, Some, None, ap, sym, subst, length-append, length-drop, arith}
 use Rattle.std.proofs.KnownBytes.{Appends-trans}
-use Rattle.std.proofs.Math.Seq.{take-add}
-use Rattle.std.proofs.lemmas.List.{take_all}
+use Rattle.std.proofs.Math.Seq.{take-add, take-append-add, drop-append_seam}
+use Rattle.std.proofs.lemmas.List.{take_all, take-append-le}
 use Rattle.std.specs.Io.KnownBytes.{Appends}
-use Rattle.line_text.specs.Streams.{Reads}
+use Rattle.line_text.specs.Streams.{Reads, AppendsPrefix}
 
 -- more of a text is written: its next n bytes, of which so many were handed over
 pub Appends-take : (a b c : Option (List ℕ)) (bs : List ℕ) (i n m : ℕ) → length bs - i ≤ m
@@ -21,3 +21,20 @@ Reads-trans None b c P Q S f p q = tt
 Reads-trans (Some t) None c P Q S f p q = absurd p
 Reads-trans (Some t) (Some x) None P Q S f p q = absurd q
 Reads-trans (Some t) (Some x) (Some y) P Q S f p q = f t x y p q
+
+-- all of one text and a prefix of the next
+pub append-take_prefix : (w p r : List ℕ) (n : ℕ) → n ≤ length p → w ++ take n p ≡ take (length w + n) (w ++ (p ++ r))
+append-take_prefix w p r n h = sym (take-append-add w (p ++ r) n ∙ ap (λ v. w ++ v) (take-append-le n p r h))
+
+-- the bytes behind the first n
+pub drop-read : (n : ℕ) (p x : List ℕ) → length p ≡ n → drop n (p ++ x) ≡ x
+drop-read n p x h = subst (λ (m : ℕ). drop m (p ++ x) ≡ x) h (drop-append_seam p x)
+
+-- all of one text is written, and then a prefix of the next
+pub AppendsPrefix-after : (a b c : Option (List ℕ)) (w p r : List ℕ) → Appends a b w → AppendsPrefix b c p → AppendsPrefix a c (w ++ (p ++ r))
+AppendsPrefix-after a b c w p r h q = (
+  length w + q.0,
+  omega (arith, q.1, length-append w (p ++ r), length-append p r),
+  subst (λ (v : List ℕ). Appends a c v) (append-take_prefix w p r q.0 (omega (arith, q.1)))
+      (Appends-trans a b c w (take q.0 p) h q.2),
+)

@@ -5,4 +5,5 @@ mod history;
 mod schedulers;
 mod stress;
 mod tally;
+mod tickets;
 mod wakes;

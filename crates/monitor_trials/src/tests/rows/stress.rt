@@ -20,7 +20,7 @@ type Pages = Unasked<Diary, 3>;
 
 const WORKERS: usize = 8;
 
-const ROUNDS: u64 = 500;
+const ROUNDS: u64 = 300;
 
 /// Newcomers of a ticket door never sleep: where threads outnumber processors, one admission may take a slice of time.
 const TICKET_ROUNDS: u64 = 60;

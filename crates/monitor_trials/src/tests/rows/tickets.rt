@@ -1,0 +1,64 @@
+//! Who asked comes in by its ticket, whoever is the first to look.
+ghost use Rattle.std.specs.Prelude.{◌≡◌};
+
+use crate::tally::Tally;
+use crate::tests::rows::tally::write_digit;
+use hoare_law::monitor::Monitor;
+use std::process::Abort;
+use std::rt::Clock;
+use std::sync::Wait;
+use std::sync::atomic::{AtomicUsize, Ordering};
+use std::test::Fail;
+use std::thread;
+use std::time::Duration;
+use ticket_door::door::TicketDoor;
+use ticket_door::place::TicketOut;
+
+// Looks until so many asked. The test fails after 20 seconds.
+fn await_asked<R: Abort + Clock>(rt: &R, asked: &AtomicUsize, count: usize) {
+    for _ in 0..20_000 {
+        if asked.load(Ordering::SeqCst) == count {
+            return;
+        }
+        thread::sleep(rt, Duration::from_millis(1));
+    }
+    panic!(rt; "a place did not ask")
+}
+
+// The places ask in the order of their numbers, and look in the opposite order: each writes its ticket's number, counted from 1.
+fn asks_and_looks_late<R: Wait + Abort + Clock>(
+    rt: &R,
+    door: &TicketDoor<Tally>,
+    out: TicketOut<Tally>,
+    place: usize,
+    asked: &AtomicUsize,
+) -> (TicketOut<Tally>, u64)
+    requires { ⟦<TicketDoor<Tally> as Monitor<Tally>>⟧.is_of door.now out }
+    ensures of { ⟦<TicketDoor<Tally> as Monitor<Tally>>⟧.is_of door.now result.0 }
+    ensures place { result.0.place ≡ out.place }
+{
+    await_asked(rt, asked, place);
+    let asking = door.ask(out);
+    let ticket = asking.ticket();
+    asked.store(place.saturating_add(1), Ordering::SeqCst);
+    let others = 2u64.saturating_sub(place as u64);
+    thread::sleep(rt, Duration::from_millis(50 * others));
+    let inside = door.come_in(rt, asking);
+    let inside = write_digit(door, inside, ticket.wrapping_add(1));
+    (door.give_up(inside), ticket)
+}
+
+#[test]
+fn who_asked_comes_in_by_its_ticket(rt: HostRuntime) -> Result<(), Fail> {
+    let asked = AtomicUsize::new(0);
+    let (tally, tickets) = run_row!(
+        rt,
+        on_ticket_door,
+        asks_and_looks_late(&asked),
+        Tally { value: 0 },
+        3
+    );
+    assert_eq!(rt; tickets.as_slice(), [0, 1, 2].as_slice());
+    assert_eq!(rt; tally.value, 123);
+    Ok(())
+}

@@ -1,4 +1,4 @@
-//! The calls on one thread, once each. There are no tests with threads yet.
+//! The calls on one thread, once each. Tests with threads stand in `monitor_trials`.
 
 use crate::door::TicketDoor;
 use crate::laws::make_at;
@@ -13,9 +13,6 @@ use wait_book::steps::MakeRefused;
 
 /// A number, and one condition; nothing is asked of either.
 type Tally = Unasked<u64, 1>;
-
-/// As many conditions as a door can have.
-type Eight = Unasked<u64, 8>;
 
 /// What comes back where a door of `N` conditions and so many places is refused.
 fn refused<const N: usize, R: Abort>(rt: &R, alloc: Global, places: usize) -> (u64, MakeRefused) {
@@ -107,22 +104,5 @@ fn one_place_calls_all(rt: HostRuntime) -> Result<(), Fail> {
     outs.push_reserved(door.leave(&rt, inside));
     let tally = door.close(outs);
     assert_eq!(rt; (told, told_leaving, tally.value), (false, false, 42));
-    Ok(())
-}
-
-#[test]
-fn sixty_four_places_and_eight_conditions(rt: HostRuntime) -> Result<(), Fail> {
-    let Ok((door, mut outs)) = TicketDoor::make(rt.alloc(), Eight { value: 0 }, 64) else {
-        panic!(rt; "no memory")
-    };
-    assert_eq!(rt; outs.len(), 64);
-    let out = outs.pop().unwrap();
-    let mut inside = door.enter(&rt, out);
-    TicketDoor::state_mut(&mut inside, &door).value = 8;
-    let (out, told) = door.signal_leave(&rt, inside, 7);
-    let inside = door.enter(&rt, out);
-    let found = door.state(&inside).value;
-    door.leave(&rt, inside);
-    assert_eq!(rt; (told, found), (false, 8));
     Ok(())
 }

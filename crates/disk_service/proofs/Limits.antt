@@ -1,11 +1,10 @@
 -- Jobs in their limits.
-use Rattle.std.proofs.Common.{◌≡◌, ℕ, ◌+◌, ◌<◌, ◌≤◌, Bool, true, false, cond, ltb, leb, not, ◌&&◌, List, [], ◌∷◌, length, Option, Some, None, Result, Ok, Err, refl, ap, subst, arith, length-append}
+use Rattle.std.proofs.Common.{◌≡◌, ℕ, ◌+◌, ◌<◌, ◌≤◌, Bool, true, false, cond, List, [], ◌∷◌, length, Option, Some, None, Ok, Err, refl, ap, subst, arith, length-append}
 use Rattle.std.proofs.lemmas.Bool.Decides.{nat_tests}
 use Rattle.std.specs.Result.{IsOkAnd}
 use Rattle.std.specs.Prelude.{codes}
 use Rattle.line_text.specs.Forms.{one_number, two_numbers}
 use Rattle.disk_service.specs.declared.fault.ServiceFault.{ServiceFault}
-use Rattle.disk_service.specs.declared.jobs.BadJobs.{BadJobs}
 use Rattle.disk_service.specs.JobLists.{JobList, IsInLimits, refusal_of, with_job}
 use Rattle.disk_service.specs.JobTexts.{Outcome, header_line, job_line, one_line}
 use Rattle.disk_service.specs.Readings.{Follows, lines_of}

@@ -1,5 +1,5 @@
 -- How reading a job file goes on, line by line.
-use Rattle.std.proofs.Common.{◌≡◌, ◌≢◌, ℕ, suc, ◌+◌, ◌-◌, ◌<◌, ◌≤◌, List, [], ◌∷◌, ◌++◌, length, drop, Option, Some, None, Result, Ok, Err}
+use Rattle.std.proofs.Common.{◌≡◌, ◌≢◌, ℕ, suc, ◌+◌, ◌-◌, ◌≤◌, List, [], ◌∷◌, ◌++◌, length, drop, Option, Some, None, Result, Ok, Err}
 use Rattle.std.proofs.Common.{refl, ap, sym, ◌∙◌, append_assoc, subst, arith, length-append, inl, inr}
 use Rattle.std.proofs.lemmas.List.{append-nil}
 use Rattle.std.specs.Io.BufRead.{drop_through}
@@ -16,7 +16,7 @@ use Rattle.disk_service.specs.declared.fault.ServiceFault.{ServiceFault}
 use Rattle.disk_service.specs.declared.fault.ServiceFault.TheVariants as faults
 use Rattle.disk_service.specs.JobLists.{JobList}
 use Rattle.disk_service.specs.JobTexts.{Ending, Outcome, told, told_from, jobs_of, then_on, one_line, at_end, at_cut}
-use Rattle.disk_service.specs.Readings.{BreaksOff, BehindLine, Gives, GivesTo, Follows, lines_of}
+use Rattle.disk_service.specs.Readings.{BreaksOff, Gives, GivesTo, Follows, lines_of}
 use Rattle.disk_service.proofs.JobFiles.{told_from-line, told_from-long_line, told_from-end}
 
 -- how far reading is: of the input t0 it has t left, and the rest is told from the jobs so far

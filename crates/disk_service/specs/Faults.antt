@@ -1,5 +1,5 @@
 -- The status of a fault.
-use Rattle.std.specs.Prelude.{ℕ, Bool, true, false, Result, Ok, Err}
+use Rattle.std.specs.Prelude.{ℕ, Bool, true, false, Result, Err}
 use Rattle.disk_service.specs.declared.fault.ServiceFault.{ServiceFault}
 use Rattle.disk_service.specs.declared.fault.ServiceFault.TheVariants as faults
 

@@ -1,9 +1,9 @@
 use Rattle.std.proofs.Common.{List, sym, ◌∙◌, subst, rules}
 use Rattle.std.specs.List.Sorted.{IsNonDecreasingBy}
 use Rattle.std.proofs.lemmas.List.Sorted.{IsNonDecreasingBy-from_sort_by_key}
-use Rattle.disk_service.specs.Gatherings.{Agrees, AgreesInOrder}
+use Rattle.disk_service.specs.Gatherings.{AgreesInOrder}
 use Rattle.disk_service.specs.Services.{Served}
-use Rattle.disk_service.proofs.Gathered.{agrees-sorted, agrees-unsorted}
+use Rattle.disk_service.proofs.Gathered.{agrees-sorted}
 use Rattle.disk_service.proofs.gathering.gather.Goals as goal
 
 pub returns-else-agrees-clause-ok : goal.returns-else-agrees-clause-ok

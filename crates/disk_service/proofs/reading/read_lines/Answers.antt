@@ -1,4 +1,4 @@
-use Rattle.std.proofs.Common.{◌≡◌, ◌≤◌, ◌+◌, List, [], ◌∷◌, ℕ, length, Option, None, Bool, true, false, eqb, ap, sym, subst, refl, arith, rules, ◌≢◌}
+use Rattle.std.proofs.Common.{◌≡◌, ◌≤◌, ◌+◌, List, [], ◌∷◌, ℕ, length, Option, None, Bool, true, false, eqb, ap, sym, subst, refl, arith, rules}
 use Rattle.std.proofs.lemmas.Bool.Decides.{nat_tests}
 use Rattle.line_text.specs.Streams.{reader_inside}
 use Rattle.disk_service.specs.JobLists.{JobList}

@@ -26,3 +26,5 @@ mod on_baton_door;
 mod on_ticket_door;
 mod rows;
 mod running;
+mod sweep_on_fake;
+mod timed_on_fake;

@@ -3,6 +3,7 @@ ghost use Rattle.std.specs.Prelude.{◌≡◌};
 
 use crate::tally::Tally;
 use crate::tests::rows::tally::write_digit;
+use crate::tests::running::watch;
 use hoare_law::monitor::Monitor;
 use std::process::Abort;
 use std::rt::Clock;
@@ -60,5 +61,42 @@ fn who_asked_comes_in_by_its_ticket(rt: HostRuntime) -> Result<(), Fail> {
     );
     assert_eq!(rt; tickets.as_slice(), [0, 1, 2].as_slice());
     assert_eq!(rt; tally.value, 123);
+    Ok(())
+}
+
+// Place 0 waits. Place 1 hands the monitor up to it, without waiting itself, and answers whether it resumed somebody.
+fn waits_or_hands_up<R: Wait + Abort>(
+    rt: &R,
+    door: &TicketDoor<Tally>,
+    out: TicketOut<Tally>,
+    place: usize,
+) -> (TicketOut<Tally>, u64)
+    requires { ⟦<TicketDoor<Tally> as Monitor<Tally>>⟧.is_of door.now out }
+    ensures of { ⟦<TicketDoor<Tally> as Monitor<Tally>>⟧.is_of door.now result.0 }
+    ensures place { result.0.place ≡ out.place }
+{
+    if place == 0 {
+        let inside = door.enter(rt, out);
+        let inside = door.wait(rt, inside, 0, 0);
+        let inside = write_digit(door, inside, 2);
+        return (door.give_up(inside), 0);
+    }
+    let inside = watch(rt, door, out, 0, 1);
+    let inside = write_digit(door, inside, 1);
+    let (out, told) = door.hand_up(inside, 0);
+    (out, u64::from(told))
+}
+
+#[test]
+fn who_hands_up_resumes_who_waits(rt: HostRuntime) -> Result<(), Fail> {
+    let (tally, told) = run_row!(
+        rt,
+        on_ticket_door,
+        waits_or_hands_up(),
+        Tally { value: 0 },
+        2
+    );
+    assert_eq!(rt; told.as_slice(), [0, 1].as_slice());
+    assert_eq!(rt; tally.value, 12);
     Ok(())
 }

@@ -1,0 +1,3 @@
+//! Hoare's schedulers whose processes wait with priorities, on both doors.
+pub mod alarm;
+pub mod pool;

@@ -1,0 +1,160 @@
+//! The pool: the least-numbered free buffer goes to the stream that holds the fewest.
+ghost use Rattle.std.specs.Prelude.{◌≡◌};
+
+use crate::tests::rows::turns::{Turns, line_up};
+use hoare_law::monitor::Monitor;
+use std::process::Abort;
+use std::rt::Clock;
+use std::sync::Wait;
+use std::test::Fail;
+use timed_schedulers::pool::{
+    GiveRefused, MOST_BUFFERS, MOST_STREAMS, NoStream, Pool, PoolRefused,
+};
+
+/// Takes a buffer for the stream: which one.
+pub fn takes<R: Wait + Abort, M: Monitor<Pool>>(
+    rt: &R,
+    m: &M,
+    out: M::Out,
+    stream: u32,
+) -> (M::Out, u32)
+    requires { M.is_of m.now out }
+    ensures of { M.is_of m.now result.0 }
+    ensures place { M.place result.0 ≡ M.place out }
+{
+    let (out, taken) = Pool::take(m, rt, out, stream);
+    (out, taken.expect(rt, "it is a stream"))
+}
+
+/// Tries to give the buffer back in the stream's name: the answer has to be this.
+pub fn gives<R: Wait + Abort, M: Monitor<Pool>>(
+    rt: &R,
+    m: &M,
+    out: M::Out,
+    stream: u32,
+    buffer: u32,
+    expected: Result<(), GiveRefused>,
+) -> M::Out
+    requires { M.is_of m.now out }
+    ensures of { M.is_of m.now result }
+    ensures place { M.place result ≡ M.place out }
+{
+    let (out, given) = Pool::give(m, rt, out, stream, buffer);
+    assert_eq!(rt; given, expected);
+    out
+}
+
+/// Takes two buffers for stream 0 and one for stream 1, lets the others wait, and gives two back. Then it is refused in each way.
+fn lends<R: Wait + Abort, M: Monitor<Pool>>(rt: &R, m: &M, out: M::Out, turns: &Turns) -> M::Out
+    requires { M.is_of m.now out }
+    ensures of { M.is_of m.now result }
+    ensures place { M.place result ≡ M.place out }
+{
+    let (out, first) = takes(rt, m, out, 0);
+    let (out, second) = takes(rt, m, out, 0);
+    let (out, third) = takes(rt, m, out, 1);
+    assert_eq!(rt; (first, second, third), (0, 1, 2));
+    let out = line_up(rt, m, out, turns, 2);
+    let out = gives(rt, m, out, 1, 2, Ok(()));
+    let out = gives(rt, m, out, 0, 0, Ok(()));
+    let out = gives(rt, m, out, 1, 0, Err(GiveRefused::NotHeld));
+    let out = gives(rt, m, out, 0, 3, Err(GiveRefused::NoBuffer));
+    let out = gives(rt, m, out, 3, 0, Err(GiveRefused::NoStream));
+    let (out, taken) = Pool::take(m, rt, out, 3);
+    assert_eq!(rt; taken, Err(NoStream));
+    turns.start_again();
+    out
+}
+
+/// Takes a buffer for the stream at this turn: which one.
+fn borrows<R: Wait + Abort + Clock, M: Monitor<Pool>>(
+    rt: &R,
+    m: &M,
+    out: M::Out,
+    turns: &Turns,
+    turn: usize,
+    stream: u32,
+) -> (M::Out, u64)
+    requires { M.is_of m.now out }
+    ensures of { M.is_of m.now result.0 }
+    ensures place { M.place result.0 ≡ M.place out }
+{
+    turns.await_turn(rt, turn);
+    let (out, buffer) = takes(rt, m, out, stream);
+    (out, u64::from(buffer))
+}
+
+/// Takes all buffers of the largest pool, in order, for the last stream, and gives the last back: no number is one too many.
+pub fn takes_all<R: Wait + Abort, M: Monitor<Pool>>(rt: &R, m: &M, out: M::Out) -> M::Out
+    requires { M.is_of m.now out }
+    ensures of { M.is_of m.now result }
+    ensures place { M.place result ≡ M.place out }
+{
+    let stream = MOST_STREAMS - 1;
+    let mut out = out;
+    for expected in 0..MOST_BUFFERS {
+        let (again, buffer) = takes(rt, m, out, stream);
+        assert_eq!(rt; buffer, expected);
+        out = again;
+    }
+    let out = gives(rt, m, out, stream, MOST_BUFFERS, Err(GiveRefused::NoBuffer));
+    let out = gives(rt, m, out, 0, MOST_BUFFERS - 1, Err(GiveRefused::NotHeld));
+    let out = gives(rt, m, out, stream, MOST_BUFFERS - 1, Ok(()));
+    let out = gives(
+        rt,
+        m,
+        out,
+        stream,
+        MOST_BUFFERS - 1,
+        Err(GiveRefused::NotHeld),
+    );
+    let (out, taken) = Pool::take(m, rt, out, MOST_STREAMS);
+    assert_eq!(rt; taken, Err(NoStream));
+    let (out, buffer) = takes(rt, m, out, 0);
+    assert_eq!(rt; buffer, MOST_BUFFERS - 1);
+    out
+}
+
+// Place 0 lends; place 1 waits for stream 0, which holds two buffers, and then place 2 for stream 2, which holds none.
+fn lends_or_borrows<R: Wait + Abort + Clock, M: Monitor<Pool>>(
+    rt: &R,
+    m: &M,
+    out: M::Out,
+    place: usize,
+    turns: &Turns,
+) -> (M::Out, u64)
+    requires { M.is_of m.now out }
+    ensures of { M.is_of m.now result.0 }
+    ensures place { M.place result.0 ≡ M.place out }
+{
+    match place {
+        0 => (lends(rt, m, out, turns), 0),
+        1 => borrows(rt, m, out, turns, 1, 0),
+        _ => borrows(rt, m, out, turns, 2, 2),
+    }
+}
+
+#[test]
+fn who_holds_the_fewest_buffers_goes_on_first(rt: HostRuntime) -> Result<(), Fail> {
+    let turns = Turns::new();
+    for (door, _pool, answers) in on_both_doors!(
+        rt,
+        lends_or_borrows(&turns),
+        Pool::make(rt.alloc(), 3, 3)?,
+        3
+    ) {
+        assert_eq!(rt; answers.as_slice(), [0, 0, 2].as_slice(), "{door}");
+    }
+    Ok(())
+}
+
+#[test]
+fn a_pool_has_its_limits(rt: HostRuntime) {
+    for (buffers, streams) in [(0, 1), (1025, 1), (1, 0), (1, 257)] {
+        let made = Pool::make(rt.alloc(), buffers, streams);
+        assert!(rt;
+            matches!(made, Err(PoolRefused::BadSize)),
+            "{buffers} and {streams}"
+        );
+    }
+}

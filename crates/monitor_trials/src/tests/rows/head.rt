@@ -1,0 +1,200 @@
+//! The disk head: in which order it goes to the cylinders. The drive that is handed on has the list of those where it was.
+ghost use Rattle.std.specs.Prelude.{◌≡◌};
+ghost use Rattle.hoare_law.specs.Priorities.{nobody};
+ghost use Rattle.sweep_schedulers.specs.Heads.{HeadRests};
+
+use crate::tests::rows::turns::{Turns, line_up};
+use hoare_law::monitor::Monitor;
+use std::alloc::Global;
+use std::process::Abort;
+use std::rt::Clock;
+use std::sync::Wait;
+use sweep_schedulers::head::{Head, OffDisk};
+use sweep_schedulers::not_out::NotOut;
+
+/// The cylinders where a drive was, in order.
+pub type Trip = Vec<u16>;
+
+/// Takes the drive to the cylinder.
+pub fn goes<R: Wait + Abort, M: Monitor<Head<Trip>>>(
+    rt: &R,
+    m: &M,
+    out: M::Out,
+    dest: u16,
+) -> (M::Out, Trip)
+    requires { M.is_of m.now out }
+    ensures of { M.is_of m.now result.0 }
+    ensures place { M.place result.0 ≡ M.place out }
+{
+    let (out, drive) = Head::request(m, rt, out, dest);
+    let mut drive = drive.expect(rt, "the cylinder is on the disk");
+    drive.push(dest).expect(rt, "memory");
+    (out, drive)
+}
+
+/// Hands the drive on.
+pub fn hands_on<R: Wait + Abort, M: Monitor<Head<Trip>>>(
+    rt: &R,
+    m: &M,
+    out: M::Out,
+    drive: Trip,
+) -> M::Out
+    requires { M.is_of m.now out }
+    ensures of { M.is_of m.now result }
+    ensures place { M.place result ≡ M.place out }
+{
+    let (out, released) = Head::release(m, rt, out, drive);
+    assert!(rt; released.is_ok());
+    out
+}
+
+/// Takes the drive to cylinder 50, so many times, and keeps it the last time; hands it on once the others wait; and takes it
+/// to the cylinder `last` when all others had it. It has to have been where it is said.
+fn leads<R: Wait + Abort, M: Monitor<Head<Trip>>>(
+    rt: &R,
+    m: &M,
+    out: M::Out,
+    turns: &Turns,
+    plan: &Plan,
+) -> M::Out
+    requires { M.is_of m.now out }
+    ensures of { M.is_of m.now result }
+    ensures place { M.place result ≡ M.place out }
+{
+    let (out, drive) = goes(rt, m, out, 50);
+    let (out, drive) = if plan.is_idle_once {
+        let out = hands_on(rt, m, out, drive);
+        goes(rt, m, out, 50)
+    } else {
+        (out, drive)
+    };
+    let out = line_up(rt, m, out, turns, plan.dests.len());
+    let out = hands_on(rt, m, out, drive);
+    let (out, drive) = goes(rt, m, out, plan.last);
+    assert_eq!(rt; drive.as_slice(), plan.trip);
+    turns.start_again();
+    hands_on(rt, m, out, drive)
+}
+
+/// Takes the drive to the cylinder at this turn, and hands it on.
+fn follows<R: Wait + Abort + Clock, M: Monitor<Head<Trip>>>(
+    rt: &R,
+    m: &M,
+    out: M::Out,
+    turns: &Turns,
+    turn: usize,
+    plan: &Plan,
+) -> M::Out
+    requires { M.is_of m.now out }
+    ensures of { M.is_of m.now result }
+    ensures place { M.place result ≡ M.place out }
+{
+    turns.await_turn(rt, turn);
+    let Some(dest) = plan.dests.get(turn.saturating_sub(1)) else {
+        panic!(rt; "nothing is planned for this place")
+    };
+    let (out, drive) = goes(rt, m, out, *dest);
+    hands_on(rt, m, out, drive)
+}
+
+/// Asks for a cylinder past the last one, and puts a second drive in, which comes back.
+pub fn is_refused<R: Wait + Abort, M: Monitor<Head<Trip>>>(
+    rt: &R,
+    m: &M,
+    out: M::Out,
+    past: u16,
+    second: Trip,
+) -> M::Out
+    requires { M.is_of m.now out }
+    ensures of { M.is_of m.now result }
+    ensures place { M.place result ≡ M.place out }
+{
+    let (out, drive) = Head::request(m, rt, out, past);
+    assert_eq!(rt; drive, Err(OffDisk));
+    let count = second.len();
+    let (out, released) = Head::release(m, rt, out, second);
+    match released {
+        Ok(()) => panic!(rt; "two drives are in"),
+        Err(NotOut { item }) => assert_eq!(rt; item.len(), count),
+    }
+    out
+}
+
+/// Who asks for which cylinder while the drive is at 50, in which order.
+#[derive(Drop)]
+struct Plan<'a> {
+    /// Whether the drive was handed on once before, to nobody.
+    is_idle_once: bool,
+    dests: &'a [u16],
+    /// The cylinder of the last request.
+    last: u16,
+    /// Where the drive has then been.
+    trip: &'a [u16],
+}
+
+// Place 0 has the drive while the others ask for it in the order of their numbers; once all had it, it is refused what is refused.
+fn leads_or_follows<R: Wait + Abort + Clock, M: Monitor<Head<Trip>>>(
+    rt: &R,
+    m: &M,
+    out: M::Out,
+    place: usize,
+    alloc: Global,
+    turns: &Turns,
+    plan: &Plan,
+) -> (M::Out, u64)
+    requires { M.is_of m.now out }
+    ensures of { M.is_of m.now result.0 }
+    ensures place { M.place result.0 ≡ M.place out }
+{
+    if place == 0 {
+        let out = leads(rt, m, out, turns, plan);
+        (is_refused(rt, m, out, 101, Vec::new(alloc)), 0)
+    } else {
+        (follows(rt, m, out, turns, place, plan), 0)
+    }
+}
+
+/// A disk whose drive has been nowhere.
+pub fn disk(alloc: Global, cylmax: u16) -> Head<Trip>
+    ensures { HeadRests result (nobody 0) (nobody 1) }
+{
+    Head::with(Vec::new(alloc), cylmax)
+}
+
+#[test]
+fn sweep_order(rt: HostRuntime) {
+    let plan = Plan {
+        is_idle_once: false,
+        dests: &[70, 60, 20, 50, 40],
+        last: 0,
+        trip: &[50, 50, 60, 70, 40, 20, 0],
+    };
+    let turns = Turns::new();
+    for (door, _head, answers) in on_both_doors!(
+        rt,
+        leads_or_follows(rt.alloc(), &turns, &plan),
+        disk(rt.alloc(), 100),
+        6
+    ) {
+        assert_eq!(rt; answers.len(), 6, "{door}");
+    }
+}
+
+#[test]
+fn idle_release_turns(rt: HostRuntime) {
+    let plan = Plan {
+        is_idle_once: true,
+        dests: &[60, 40],
+        last: 100,
+        trip: &[50, 50, 40, 60, 100],
+    };
+    let turns = Turns::new();
+    for (door, _head, answers) in on_both_doors!(
+        rt,
+        leads_or_follows(rt.alloc(), &turns, &plan),
+        disk(rt.alloc(), 100),
+        3
+    ) {
+        assert_eq!(rt; answers.len(), 3, "{door}");
+    }
+}

@@ -1,0 +1,166 @@
+//! Four streams take two buffers each, of five, as often as they can. What they wrote down is held against what a pool is.
+ghost use Rattle.std.specs.Prelude.{◌≡◌};
+
+use crate::tests::rows::alarm_and_pool::pool::{gives, takes};
+use crate::tests::rows::shared_log::{Log, await_others, linger};
+use hoare_law::monitor::Monitor;
+use std::process::Abort;
+use std::rt::Clock;
+use std::sync::Wait;
+use std::test::Fail;
+use timed_schedulers::pool::Pool;
+
+const STREAMS: u32 = 4;
+
+/// So many that a stream which waits for its second buffer never waits for ever: the others can't have all.
+const BUFFERS: u32 = 5;
+
+const ROUNDS: u64 = 200;
+
+/// What happened.
+#[derive(Clone, Copy, Debug, PartialEq, Eq)]
+enum Line {
+    /// The stream has taken the buffer.
+    Has { stream: u32, buffer: u32 },
+    /// It is about to give it back.
+    Gives { stream: u32, buffer: u32 },
+}
+
+// Whether this may happen next, where these are the holders of the buffers: a buffer has one holder, who gives it back.
+fn allows(holders: &mut [Option<u32>; BUFFERS as usize], line: Line) -> bool {
+    match line {
+        Line::Has { stream, buffer } => {
+            buffer < BUFFERS && holders[buffer as usize].replace(stream).is_none()
+        }
+        Line::Gives { stream, buffer } => {
+            buffer < BUFFERS && holders[buffer as usize].take() == Some(stream)
+        }
+    }
+}
+
+// The first line that may not stand where it stands.
+fn first_wrong(lines: &[Line]) -> Option<Line> {
+    let mut holders = [None; BUFFERS as usize];
+    lines
+        .iter()
+        .copied()
+        .find(|line| !allows(&mut holders, *line))
+}
+
+// Takes a buffer, and writes so.
+fn holds<R: Wait + Abort, M: Monitor<Pool>>(
+    rt: &R,
+    m: &M,
+    out: M::Out,
+    log: &Log<Line>,
+    stream: u32,
+) -> (M::Out, u32)
+    requires { M.is_of m.now out }
+    ensures of { M.is_of m.now result.0 }
+    ensures place { M.place result.0 ≡ M.place out }
+{
+    let (out, buffer) = takes(rt, m, out, stream);
+    log.write(rt, Line::Has { stream, buffer });
+    (out, buffer)
+}
+
+// Writes that it gives the buffer back, and does.
+fn lets_go<R: Wait + Abort, M: Monitor<Pool>>(
+    rt: &R,
+    m: &M,
+    out: M::Out,
+    log: &Log<Line>,
+    stream: u32,
+    buffer: u32,
+) -> M::Out
+    requires { M.is_of m.now out }
+    ensures of { M.is_of m.now result }
+    ensures place { M.place result ≡ M.place out }
+{
+    log.write(rt, Line::Gives { stream, buffer });
+    gives(rt, m, out, stream, buffer, Ok(()))
+}
+
+// Takes two buffers and gives them back, so many times.
+fn uses_two<R: Wait + Abort + Clock, M: Monitor<Pool>>(
+    rt: &R,
+    m: &M,
+    out: M::Out,
+    log: &Log<Line>,
+    stream: u32,
+) -> M::Out
+    requires { M.is_of m.now out }
+    ensures of { M.is_of m.now result }
+    ensures place { M.place result ≡ M.place out }
+{
+    let mut out = out;
+    for _ in 0..ROUNDS {
+        let (again, first) = holds(rt, m, out, log, stream);
+        let (again, second) = holds(rt, m, again, log, stream);
+        let again = linger(rt, m, again);
+        let again = lets_go(rt, m, again, log, stream, first);
+        out = lets_go(rt, m, again, log, stream, second);
+    }
+    log.finish();
+    out
+}
+
+// Once all others have finished, all buffers are free.
+fn takes_all<R: Wait + Abort, M: Monitor<Pool>>(
+    rt: &R,
+    m: &M,
+    out: M::Out,
+    log: &Log<Line>,
+) -> M::Out
+    requires { M.is_of m.now out }
+    ensures of { M.is_of m.now result }
+    ensures place { M.place result ≡ M.place out }
+{
+    let (out, _someone_waits) = await_others(rt, m, out, log, STREAMS as usize);
+    let mut out = out;
+    for expected in 0..BUFFERS {
+        let (again, buffer) = takes(rt, m, out, 0);
+        assert_eq!(rt; buffer, expected);
+        out = again;
+    }
+    out
+}
+
+// The places are the streams, and one more takes all when they are done.
+fn uses_or_takes_all<R: Wait + Abort + Clock, M: Monitor<Pool>>(
+    rt: &R,
+    m: &M,
+    out: M::Out,
+    place: usize,
+    log: &Log<Line>,
+) -> (M::Out, u64)
+    requires { M.is_of m.now out }
+    ensures of { M.is_of m.now result.0 }
+    ensures place { M.place result.0 ≡ M.place out }
+{
+    match u32::try_from(place) {
+        Ok(stream) if stream < STREAMS => (uses_two(rt, m, out, log, stream), 0),
+        _ => (takes_all(rt, m, out, log), 0),
+    }
+}
+
+// What they wrote is what a pool does, and all was written.
+fn agrees<R: Abort>(rt: &R, log: Log<Line>) {
+    let lines = log.into_lines();
+    assert_eq!(rt; first_wrong(lines.as_slice()), None);
+    assert_eq!(rt; lines.len(), 3200);
+}
+
+#[test]
+fn a_buffer_has_one_holder(rt: HostRuntime) -> Result<(), Fail> {
+    let places = STREAMS as usize + 1;
+    let log = Log::new(rt.alloc(), 10_000)?;
+    let pool = Pool::make(rt.alloc(), BUFFERS, STREAMS)?;
+    run_row!(rt, on_baton_door, uses_or_takes_all(&log), pool, places);
+    agrees(&rt, log);
+    let log = Log::new(rt.alloc(), 10_000)?;
+    let pool = Pool::make(rt.alloc(), BUFFERS, STREAMS)?;
+    run_row!(rt, on_ticket_door, uses_or_takes_all(&log), pool, places);
+    agrees(&rt, log);
+    Ok(())
+}

@@ -1,0 +1,250 @@
+//! The readers and writers: who waits for whom, and the most readers.
+ghost use Rattle.std.specs.Prelude.{◌≡◌};
+
+use crate::fake::Fake;
+use crate::tests::rows::turns::{Turns, line_up};
+use hoare_law::monitor::Monitor;
+use hoare_law::waits::Waits;
+use std::alloc::Global;
+use std::collections::VecDeque;
+use std::process::Abort;
+use std::rt::Clock;
+use std::sync::Wait;
+use sweep_schedulers::not_out::NotOut;
+use sweep_schedulers::readers_writers::{
+    MOST_READERS, NoReader, ReadPass, ReadersWriters, TooManyReaders,
+};
+
+/// A number that is read and written.
+pub type Shared = ReadersWriters<u64>;
+
+/// Goes in as a reader, who has to find this.
+pub fn starts_read<R: Wait + Abort, M: Monitor<Shared>>(
+    rt: &R,
+    m: &M,
+    out: M::Out,
+    expected: u64,
+) -> (M::Out, ReadPass)
+    requires { M.is_of m.now out }
+    ensures of { M.is_of m.now result.0 }
+    ensures place { M.place result.0 ≡ M.place out }
+{
+    let (out, read) = ReadersWriters::start_read(m, rt, out);
+    match read {
+        Ok((pass, value)) => {
+            assert_eq!(rt; value, expected);
+            (out, pass)
+        }
+        Err(TooManyReaders) => panic!(rt; "too many readers"),
+    }
+}
+
+/// Goes out as a reader.
+pub fn ends_read<R: Wait + Abort, M: Monitor<Shared>>(
+    rt: &R,
+    m: &M,
+    out: M::Out,
+    pass: ReadPass,
+) -> M::Out
+    requires { M.is_of m.now out }
+    ensures of { M.is_of m.now result }
+    ensures place { M.place result ≡ M.place out }
+{
+    let (out, ended) = ReadersWriters::end_read(m, rt, out, pass);
+    match ended {
+        Ok(()) => out,
+        Err(NoReader { pass: _pass }) => panic!(rt; "no reader is in"),
+    }
+}
+
+/// Writes a number where this one stands, and tries to write another, which comes back.
+pub fn writes<R: Wait + Abort, M: Monitor<Shared>>(
+    rt: &R,
+    m: &M,
+    out: M::Out,
+    expected: u64,
+    value: u64,
+) -> M::Out
+    requires { M.is_of m.now out }
+    ensures of { M.is_of m.now result }
+    ensures place { M.place result ≡ M.place out }
+{
+    let (out, found) = ReadersWriters::start_write(m, rt, out);
+    assert_eq!(rt; found, expected);
+    let (out, written) = ReadersWriters::end_write(m, rt, out, value);
+    assert!(rt; written.is_ok());
+    let (out, refused) = ReadersWriters::end_write(m, rt, out, value.wrapping_add(1));
+    match refused {
+        Ok(()) => panic!(rt; "two writers were in"),
+        Err(NotOut { item }) => assert_eq!(rt; item, value.wrapping_add(1)),
+    }
+    out
+}
+
+/// Asks to read where the most readers are in.
+fn is_refused<R: Wait + Abort, M: Monitor<Shared>>(rt: &R, m: &M, out: M::Out) -> M::Out
+    requires { M.is_of m.now out }
+    ensures of { M.is_of m.now result }
+    ensures place { M.place result ≡ M.place out }
+{
+    let (out, read) = ReadersWriters::start_read(m, rt, out);
+    match read {
+        Err(TooManyReaders) => out,
+        Ok((_pass, _value)) => panic!(rt; "one reader too many is in"),
+    }
+}
+
+/// Starts so many reads, the last of which is the last that there is room for: one more is refused, and goes in once one has ended. Then
+/// each ends with its own pass.
+pub fn reads_to_the_limit<R: Wait + Abort, M: Monitor<Shared>>(
+    rt: &R,
+    m: &M,
+    out: M::Out,
+    reads: u32,
+    value: u64,
+) -> M::Out
+    requires { M.is_of m.now out }
+    ensures of { M.is_of m.now result }
+    ensures place { M.place result ≡ M.place out }
+{
+    let (out, pass) = starts_read(rt, m, out, value);
+    if reads > 1 {
+        let out = reads_to_the_limit(rt, m, out, reads - 1, value);
+        return ends_read(rt, m, out, pass);
+    }
+    let out = is_refused(rt, m, out);
+    let out = ends_read(rt, m, out, pass);
+    let (out, pass) = starts_read(rt, m, out, value);
+    ends_read(rt, m, out, pass)
+}
+
+/// Ends a read where none is: the pass, which is another monitor's, comes back.
+pub fn ends_no_read<R: Wait + Abort, M: Monitor<Shared>>(
+    rt: &R,
+    alloc: Global,
+    m: &M,
+    out: M::Out,
+) -> M::Out
+    requires { M.is_of m.now out }
+    ensures of { M.is_of m.now result }
+    ensures place { M.place result ≡ M.place out }
+{
+    let Ok((fake, other)) = Fake::of(alloc, ReadersWriters::with(8), VecDeque::new(alloc)) else {
+        panic!(rt; "no memory")
+    };
+    let (other, pass) = starts_read(rt, &fake, other, 8);
+    let (out, ended) = ReadersWriters::end_read(m, rt, out, pass);
+    match ended {
+        Ok(()) => panic!(rt; "a reader was in"),
+        Err(NoReader { pass }) => ends_read(rt, &fake, other, pass),
+    };
+    out
+}
+
+/// How many wait to read, and to write.
+pub fn waiting<R: Wait, M: Monitor<Shared>>(rt: &R, m: &M, out: M::Out) -> (M::Out, (usize, usize))
+    requires { M.is_of m.now out }
+    ensures of { M.is_of m.now result.0 }
+    ensures place { M.place result.0 ≡ M.place out }
+{
+    let inside = m.enter(rt, out);
+    let lists = m.lists(&inside);
+    let waiting = (lists.count(0), lists.count(1));
+    (m.leave(rt, inside), waiting)
+}
+
+/// Is in as the writer while the others come to wait, and writes 3: both readers are in at once, and the other writer waits on.
+fn writes_first<R: Wait + Abort, M: Monitor<Shared>>(
+    rt: &R,
+    m: &M,
+    out: M::Out,
+    turns: &Turns,
+) -> M::Out
+    requires { M.is_of m.now out }
+    ensures of { M.is_of m.now result }
+    ensures place { M.place result ≡ M.place out }
+{
+    let (out, found) = ReadersWriters::start_write(m, rt, out);
+    assert_eq!(rt; found, 0);
+    let out = line_up(rt, m, out, turns, 3);
+    let (out, before) = waiting(rt, m, out);
+    assert_eq!(rt; before, (2, 1));
+    let (out, written) = ReadersWriters::end_write(m, rt, out, 3);
+    assert!(rt; written.is_ok());
+    let (out, after) = waiting(rt, m, out);
+    assert_eq!(rt; after, (0, 1));
+    turns.give(4);
+    out
+}
+
+/// Reads 3 at this turn, and goes out at the last one.
+fn reads<R: Wait + Abort + Clock, M: Monitor<Shared>>(
+    rt: &R,
+    m: &M,
+    out: M::Out,
+    turns: &Turns,
+    turn: usize,
+) -> M::Out
+    requires { M.is_of m.now out }
+    ensures of { M.is_of m.now result }
+    ensures place { M.place result ≡ M.place out }
+{
+    turns.await_turn(rt, turn);
+    let (out, pass) = starts_read(rt, m, out, 3);
+    turns.await_turn(rt, 4);
+    ends_read(rt, m, out, pass)
+}
+
+/// Writes 4 after both readers, and has then the monitor for itself: it reads as often as there is room for, and ends a read where
+/// there is none.
+fn writes_last<R: Wait + Abort + Clock, M: Monitor<Shared>>(
+    rt: &R,
+    alloc: Global,
+    m: &M,
+    out: M::Out,
+    turns: &Turns,
+) -> M::Out
+    requires { M.is_of m.now out }
+    ensures of { M.is_of m.now result }
+    ensures place { M.place result ≡ M.place out }
+{
+    turns.await_turn(rt, 3);
+    let out = writes(rt, m, out, 3, 4);
+    turns.start_again();
+    let out = reads_to_the_limit(rt, m, out, MOST_READERS, 4);
+    ends_no_read(rt, alloc, m, out)
+}
+
+// Place 0 writes while places 1 and 2 come to read, and then place 3 to write.
+fn reads_or_writes<R: Wait + Abort + Clock, M: Monitor<Shared>>(
+    rt: &R,
+    m: &M,
+    out: M::Out,
+    place: usize,
+    alloc: Global,
+    turns: &Turns,
+) -> (M::Out, u64)
+    requires { M.is_of m.now out }
+    ensures of { M.is_of m.now result.0 }
+    ensures place { M.place result.0 ≡ M.place out }
+{
+    let out = match place {
+        0 => writes_first(rt, m, out, turns),
+        1 | 2 => reads(rt, m, out, turns, place),
+        _ => writes_last(rt, alloc, m, out, turns),
+    };
+    (out, 0)
+}
+
+#[test]
+fn readers_and_writers(rt: HostRuntime) {
+    let turns = Turns::new();
+    for (door, _shared, answers) in on_both_doors!(
+        rt,
+        reads_or_writes(rt.alloc(), &turns),
+        ReadersWriters::with(0),
+        4
+    ) {
+        assert_eq!(rt; answers.len(), 4, "{door}");
+    }
+}

@@ -1,0 +1,282 @@
+//! Three processes read and two write, each as often as it can. What they wrote down is held against what readers and writers may do.
+ghost use Rattle.std.specs.Prelude.{◌≡◌, ◌<◌};
+
+use crate::tests::rows::readers::{Shared, ends_read, waiting};
+use crate::tests::rows::shared_log::{Log, linger};
+use hoare_law::monitor::Monitor;
+use std::process::Abort;
+use std::rt::Clock;
+use std::sync::Wait;
+use std::test::Fail;
+use sweep_schedulers::readers_writers::{ReadPass, ReadersWriters};
+
+const READERS: usize = 3;
+
+const PLACES: usize = 5;
+
+const ROUNDS: u64 = 200;
+
+/// What happened.
+#[derive(Clone, Copy, Debug, PartialEq, Eq)]
+enum Line {
+    /// The place is about to ask to read, and sees that somebody waits to write. (Written inside.)
+    Sees {
+        place: usize,
+    },
+    /// It is in as a reader, with this value.
+    Reads {
+        place: usize,
+        value: u64,
+    },
+    /// It is about to go out as a reader.
+    EndsRead {
+        place: usize,
+    },
+    /// It is in as a writer, with this value.
+    Writes {
+        place: usize,
+        value: u64,
+    },
+    /// It is about to go out as a writer and leave this value, while so many wait to read.
+    EndsWrite {
+        place: usize,
+        value: u64,
+        waiting: usize,
+    },
+    /// It is out as a writer.
+    Wrote,
+}
+
+/// Readers and writers as they should be: who is in, how many writers are on their way out, the value, who may not read before
+/// somebody wrote, how often that was so, and how many read before somebody writes again.
+#[derive(Drop)]
+struct Room {
+    reading: [bool; PLACES],
+    writer: Option<usize>,
+    leaving: usize,
+    value: u64,
+    must_wait: [bool; PLACES],
+    met_writers: usize,
+    read_first: usize,
+}
+
+impl Room {
+    // A reader is in beside readers alone, finds what was written last, and overtook no writer that it saw.
+    fn lets_read(&mut self, place: usize, value: u64) -> bool
+        requires { place < PLACES }
+    {
+        let is_right = self.writer.is_none()
+            && value == self.value
+            && !self.must_wait[place]
+            && !self.reading[place];
+        self.reading[place] = true;
+        self.read_first = self.read_first.saturating_sub(1);
+        is_right
+    }
+
+    // A writer is alone, finds what was written last, and comes after the readers that waited when the last writer went.
+    fn lets_write(&mut self, place: usize, value: u64) -> bool {
+        let is_alone = self.writer.replace(place).is_none() && !self.reading.contains(&true);
+        self.must_wait = [false; PLACES];
+        is_alone && value == self.value && self.read_first == 0
+    }
+
+    // Where a writer is in, the reader may wait for that one's end alone. Else it waits for who waits to write.
+    fn sees(&mut self, place: usize)
+        requires { place < PLACES }
+    {
+        if self.writer.is_none() && self.leaving == 0 {
+            self.must_wait[place] = true;
+            self.met_writers = self.met_writers.saturating_add(1);
+        }
+    }
+
+    // Whether this may happen next.
+    fn allows(&mut self, line: Line) -> bool {
+        match line {
+            Line::Sees { place } => {
+                if place < PLACES {
+                    self.sees(place);
+                }
+                place < PLACES
+            }
+            Line::Reads { place, value } => place < PLACES && self.lets_read(place, value),
+            Line::EndsRead { place } => {
+                place < PLACES && std::mem::replace(&mut self.reading[place], false)
+            }
+            Line::Writes { place, value } => self.lets_write(place, value),
+            Line::EndsWrite {
+                place,
+                value,
+                waiting,
+            } => {
+                self.value = value;
+                self.read_first = waiting;
+                self.leaving = self.leaving.saturating_add(1);
+                self.writer.take() == Some(place)
+            }
+            Line::Wrote => {
+                self.leaving = self.leaving.saturating_sub(1);
+                true
+            }
+        }
+    }
+}
+
+// The first line that may not stand where it stands, and how often a reader met somebody who waited to write.
+fn first_wrong(lines: &[Line]) -> (Option<Line>, usize) {
+    let mut room = Room {
+        reading: [false; PLACES],
+        writer: None,
+        leaving: 0,
+        value: 0,
+        must_wait: [false; PLACES],
+        met_writers: 0,
+        read_first: 0,
+    };
+    let wrong = lines.iter().copied().find(|line| !room.allows(*line));
+    (wrong, room.met_writers)
+}
+
+// Looks whether somebody waits to write, and asks to read.
+fn looks_and_reads<R: Wait + Abort, M: Monitor<Shared>>(
+    rt: &R,
+    m: &M,
+    out: M::Out,
+    log: &Log<Line>,
+    place: usize,
+) -> (M::Out, ReadPass)
+    requires { M.is_of m.now out }
+    ensures of { M.is_of m.now result.0 }
+    ensures place { M.place result.0 ≡ M.place out }
+{
+    let inside = m.enter(rt, out);
+    if m.queue(&inside, 1) {
+        log.write(rt, Line::Sees { place });
+    }
+    let out = m.leave(rt, inside);
+    let (out, read) = ReadersWriters::start_read(m, rt, out);
+    let Ok((pass, value)) = read else {
+        panic!(rt; "too many readers")
+    };
+    log.write(rt, Line::Reads { place, value });
+    (out, pass)
+}
+
+// Reads, so many times.
+fn reads_on<R: Wait + Abort + Clock, M: Monitor<Shared>>(
+    rt: &R,
+    m: &M,
+    out: M::Out,
+    log: &Log<Line>,
+    place: usize,
+) -> M::Out
+    requires { M.is_of m.now out }
+    ensures of { M.is_of m.now result }
+    ensures place { M.place result ≡ M.place out }
+{
+    let mut out = out;
+    for _ in 0..ROUNDS {
+        let (again, pass) = looks_and_reads(rt, m, out, log, place);
+        let again = linger(rt, m, again);
+        log.write(rt, Line::EndsRead { place });
+        out = ends_read(rt, m, again, pass);
+    }
+    out
+}
+
+// Writes, so many times, what nobody else writes.
+fn writes_on<R: Wait + Abort + Clock, M: Monitor<Shared>>(
+    rt: &R,
+    m: &M,
+    out: M::Out,
+    log: &Log<Line>,
+    place: usize,
+) -> M::Out
+    requires { M.is_of m.now out }
+    ensures of { M.is_of m.now result }
+    ensures place { M.place result ≡ M.place out }
+{
+    let mut out = out;
+    for round in 1..=ROUNDS {
+        let (again, value) = ReadersWriters::start_write(m, rt, out);
+        log.write(rt, Line::Writes { place, value });
+        let again = linger(rt, m, again);
+        let (again, (waiting, _)) = waiting(rt, m, again);
+        let value = (round * PLACES as u64).saturating_add(place as u64);
+        let line = Line::EndsWrite {
+            place,
+            value,
+            waiting,
+        };
+        log.write(rt, line);
+        let (again, written) = ReadersWriters::end_write(m, rt, again, value);
+        assert!(rt; written.is_ok());
+        log.write(rt, Line::Wrote);
+        out = again;
+    }
+    out
+}
+
+// The first places read, and the others write.
+fn reads_or_writes_on<R: Wait + Abort + Clock, M: Monitor<Shared>>(
+    rt: &R,
+    m: &M,
+    out: M::Out,
+    place: usize,
+    log: &Log<Line>,
+) -> (M::Out, u64)
+    requires { M.is_of m.now out }
+    ensures of { M.is_of m.now result.0 }
+    ensures place { M.place result.0 ≡ M.place out }
+{
+    if place < READERS {
+        (reads_on(rt, m, out, log, place), 0)
+    } else {
+        (writes_on(rt, m, out, log, place), 0)
+    }
+}
+
+// How many waited to read when a writer went.
+fn count_first(lines: &[Line]) -> usize {
+    let waiting = lines.iter().map(|line| match line {
+        Line::EndsWrite { waiting, .. } => *waiting,
+        _ => 0,
+    });
+    waiting.fold(0usize, |sum, n| sum.saturating_add(n))
+}
+
+// What they wrote is what readers and writers do, and they had to wait for each other.
+fn agrees<R: Abort>(rt: &R, log: Log<Line>) {
+    let lines = log.into_lines();
+    let (wrong, met_writers) = first_wrong(lines.as_slice());
+    assert_eq!(rt; wrong, None);
+    let read_first = count_first(lines.as_slice());
+    assert!(rt;
+        met_writers >= 10 && read_first >= 10,
+        "{met_writers} and {read_first}"
+    );
+}
+
+#[test]
+fn no_reader_is_in_beside_a_writer_or_overtakes_one(rt: HostRuntime) -> Result<(), Fail> {
+    let log = Log::new(rt.alloc(), 10_000)?;
+    run_row!(
+        rt,
+        on_baton_door,
+        reads_or_writes_on(&log),
+        ReadersWriters::with(0),
+        PLACES
+    );
+    agrees(&rt, log);
+    let log = Log::new(rt.alloc(), 10_000)?;
+    run_row!(
+        rt,
+        on_ticket_door,
+        reads_or_writes_on(&log),
+        ReadersWriters::with(0),
+        PLACES
+    );
+    agrees(&rt, log);
+    Ok(())
+}

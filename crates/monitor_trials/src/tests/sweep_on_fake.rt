@@ -1,0 +1,158 @@
+//! The disk head, and the readers and writers, on the fake monitor: what is found after a wait is given beforehand.
+ghost use Rattle.std.specs.Prelude.{◌≡◌};
+
+use crate::fake::{Fake, FakeOut};
+use crate::tests::limit::within;
+use crate::tests::rows::head::{Trip, goes, hands_on, is_refused};
+use crate::tests::rows::readers::{
+    Shared, ends_no_read, ends_read, reads_to_the_limit, starts_read, writes,
+};
+use hoare_law::monitor::Monitor;
+use std::alloc::{AllocError, Global};
+use std::collections::VecDeque;
+use std::mem::replace;
+use std::process::Abort;
+use std::sync::Wait;
+use std::test::Fail;
+use sweep_schedulers::head::{Head, OffDisk};
+use sweep_schedulers::not_out::NotOut;
+use sweep_schedulers::readers_writers::{MOST_READERS, ReadersWriters, TooManyReaders};
+
+// A disk whose drive has been at this cylinder.
+fn disk(alloc: Global, cylinder: u16, cylmax: u16) -> Result<Head<Trip>, AllocError> {
+    let trip = Vec::from_array(alloc, [cylinder])?;
+    Ok(Head::with(trip, cylmax))
+}
+
+// A request waits for the drive, and finds a disk with another last cylinder.
+fn finds_another_disk<R: Wait + Abort>(rt: &R, alloc: Global) -> Result<(), AllocError> {
+    let answers = VecDeque::from_array(alloc, [disk(alloc, 2, 20)?])?;
+    let (fake, out) = Fake::of(alloc, disk(alloc, 1, 10)?, answers)?;
+    let (out, drive) = goes(rt, &fake, out, 5);
+    assert_eq!(rt; drive.as_slice(), [1, 5].as_slice());
+    let (out, late) = Head::request(&fake, rt, out, 8);
+    assert_eq!(rt; late, Err(OffDisk));
+    let (_out, other) = goes(rt, &fake, out, 15);
+    assert_eq!(rt; other.as_slice(), [2, 15].as_slice());
+    Ok(())
+}
+
+// Goes to the last cylinder of a disk, and is refused the one past it.
+fn goes_to_the_last<R: Wait + Abort>(rt: &R, alloc: Global, cylmax: u16) -> Result<(), AllocError> {
+    let (fake, out) = Fake::of(alloc, disk(alloc, 0, cylmax)?, VecDeque::new(alloc))?;
+    let (out, drive) = goes(rt, &fake, out, cylmax);
+    assert_eq!(rt; drive.as_slice(), [0, cylmax].as_slice());
+    let out = hands_on(rt, &fake, out, drive);
+    if let Some(past) = cylmax.checked_add(1) {
+        is_refused(
+            rt,
+            &fake,
+            out,
+            past,
+            Vec::from_array(alloc, [cylmax, past])?,
+        );
+    }
+    Ok(())
+}
+
+// Writes, reads to the limit, and ends a read too many.
+fn reads_and_writes<R: Wait + Abort>(rt: &R, alloc: Global) -> Result<(), AllocError> {
+    let (fake, out) = Fake::of(alloc, ReadersWriters::with(0), VecDeque::new(alloc))?;
+    let out = writes(rt, &fake, out, 0, 4);
+    let out = reads_to_the_limit(rt, &fake, out, MOST_READERS, 4);
+    ends_no_read(rt, alloc, &fake, out);
+    Ok(())
+}
+
+// Takes the data out of a monitor, and leaves others there.
+fn take_data<R: Wait>(rt: &R, fake: &Fake<Shared>, out: FakeOut<Shared>) -> Shared
+    requires { ⟦<Fake<Shared> as Monitor<Shared>>⟧.is_of fake.now out }
+{
+    let mut inside = fake.enter(rt, out);
+    let shared = replace(Fake::state_mut(&mut inside, fake), ReadersWriters::with(0));
+    fake.leave(rt, inside);
+    shared
+}
+
+// Is in as a writer, and waits to read; it finds these data, in which the most readers are in.
+fn finds_the_most_readers<R: Wait + Abort>(
+    rt: &R,
+    alloc: Global,
+    full: Shared,
+) -> (Fake<Shared>, FakeOut<Shared>)
+    ensures { ⟦<Fake<Shared> as Monitor<Shared>>⟧.is_of result.0 result.1 }
+{
+    let Ok(answers) = VecDeque::from_array(alloc, [full]) else {
+        panic!(rt; "no memory")
+    };
+    let Ok((fake, out)) = Fake::of(alloc, ReadersWriters::with(0), answers) else {
+        panic!(rt; "no memory")
+    };
+    let (out, value) = ReadersWriters::start_write(&fake, rt, out);
+    assert_eq!(rt; value, 0);
+    let (out, late) = ReadersWriters::start_read(&fake, rt, out);
+    match late {
+        Err(TooManyReaders) => (fake, out),
+        Ok((_pass, _value)) => panic!(rt; "one reader too many is in"),
+    }
+}
+
+// Starts so many reads and hands the data on to another monitor, where each pass ends one.
+fn reads_elsewhere<R: Wait + Abort>(
+    rt: &R,
+    alloc: Global,
+    fake: &Fake<Shared>,
+    out: FakeOut<Shared>,
+    reads: u32,
+) -> (Fake<Shared>, FakeOut<Shared>)
+    requires { ⟦<Fake<Shared> as Monitor<Shared>>⟧.is_of fake.now out }
+    ensures { ⟦<Fake<Shared> as Monitor<Shared>>⟧.is_of result.0 result.1 }
+{
+    let (out, pass) = starts_read(rt, fake, out, 4);
+    let (other, place) = if reads > 1 {
+        reads_elsewhere(rt, alloc, fake, out, reads - 1)
+    } else {
+        finds_the_most_readers(rt, alloc, take_data(rt, fake, out))
+    };
+    let place = ends_read(rt, &other, place, pass);
+    (other, place)
+}
+
+fn meets_late_readers<R: Wait + Abort>(rt: &R, alloc: Global) -> Result<(), AllocError> {
+    let (fake, out) = Fake::of(alloc, ReadersWriters::with(4), VecDeque::new(alloc))?;
+    let (other, place) = reads_elsewhere(rt, alloc, &fake, out, MOST_READERS);
+    let (place, pass) = starts_read(rt, &other, place, 4);
+    let place = ends_read(rt, &other, place, pass);
+    let (_place, written) = ReadersWriters::end_write(&other, rt, place, 5);
+    match written {
+        Ok(()) => panic!(rt; "a writer was in"),
+        Err(NotOut { item }) => assert_eq!(rt; item, 5),
+    }
+    Ok(())
+}
+
+#[test]
+fn late_off_disk(rt: HostRuntime) -> Result<(), Fail> {
+    within(&rt, || finds_another_disk(&rt, rt.alloc()))?;
+    Ok(())
+}
+
+#[test]
+fn a_disk_ends_at_its_last_cylinder(rt: HostRuntime) -> Result<(), Fail> {
+    for cylmax in [0, 100, u16::MAX] {
+        within(&rt, || goes_to_the_last(&rt, rt.alloc(), cylmax))?;
+    }
+    Ok(())
+}
+
+#[test]
+fn the_most_readers_are_in(rt: HostRuntime) -> Result<(), Fail> {
+    within(&rt, || reads_and_writes(&rt, rt.alloc()))?;
+    Ok(())
+}
+
+#[test]
+fn late_too_many_readers(rt: HostRuntime) -> Result<(), Fail> {
+    within(&rt, || meets_late_readers(&rt, rt.alloc()))?;
+    Ok(())
+}

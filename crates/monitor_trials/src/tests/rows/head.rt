@@ -170,10 +170,11 @@ fn sweep_order(rt: HostRuntime) {
         trip: &[50, 50, 60, 70, 40, 20, 0],
     };
     let turns = Turns::new();
+    let alloc = rt.alloc();
     for (door, _head, answers) in on_both_doors!(
         rt,
-        leads_or_follows(rt.alloc(), &turns, &plan),
-        disk(rt.alloc(), 100),
+        leads_or_follows(alloc, &turns, &plan),
+        disk(alloc, 100),
         6
     ) {
         assert_eq!(rt; answers.len(), 6, "{door}");
@@ -189,10 +190,11 @@ fn idle_release_turns(rt: HostRuntime) {
         trip: &[50, 50, 40, 60, 100],
     };
     let turns = Turns::new();
+    let alloc = rt.alloc();
     for (door, _head, answers) in on_both_doors!(
         rt,
-        leads_or_follows(rt.alloc(), &turns, &plan),
-        disk(rt.alloc(), 100),
+        leads_or_follows(alloc, &turns, &plan),
+        disk(alloc, 100),
         3
     ) {
         assert_eq!(rt; answers.len(), 3, "{door}");

@@ -239,9 +239,10 @@ fn reads_or_writes<R: Wait + Abort + Clock, M: Monitor<Shared>>(
 #[test]
 fn readers_and_writers(rt: HostRuntime) {
     let turns = Turns::new();
+    let alloc = rt.alloc();
     for (door, _shared, answers) in on_both_doors!(
         rt,
-        reads_or_writes(rt.alloc(), &turns),
+        reads_or_writes(alloc, &turns),
         ReadersWriters::with(0),
         4
     ) {

@@ -49,7 +49,8 @@ impl<D: MonitorData> Model for Door<D> {
 
     ghost view = { λ d. record { table = d.table.shared.table_id; places = d.table.shared.key } };
 
-    ghost invariant = { λ d. Sized d.table.shared.table_id.words d.table.shared.table_id.slots d.table.shared.key (vec_len d.wakers) };
+    ghost invariant = { λ d. Sized d.table.shared.table_id.words d.table.shared.table_id.slots
+        d.table.shared.key (vec_len d.wakers) };
 }
 
 /// The door opens: the first seat takes the empty slot, and gives it back with the data.

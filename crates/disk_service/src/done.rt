@@ -22,7 +22,11 @@ impl Model for Done {
 
     ghost invariant = { λ d. d.block ≡ block_of d.cylinder };
 
-    ghost inverse = { λ v. record { job = v.job; cylinder = v.cylinder; block = block_of v.cylinder } };
+    ghost inverse = { λ v. record {
+      job = v.job;
+      cylinder = v.cylinder;
+      block = block_of v.cylinder;
+    } };
 }
 
 impl Done {

@@ -23,9 +23,14 @@ impl Model for Jobs {
 
     ghost Value = { JobList };
 
-    ghost view = { λ j. record { cylmax = j.cylmax; workers = j.workers; cylinders = j.cylinders.items } };
+    ghost view = { λ j. record {
+      cylmax = j.cylmax;
+      workers = j.workers;
+      cylinders = j.cylinders.items;
+    } };
 
-    ghost invariant = { λ j. IsInLimits (record { cylmax = j.cylmax; workers = j.workers; cylinders = j.cylinders.items }) };
+    ghost invariant = { λ j. IsInLimits
+        (record { cylmax = j.cylmax; workers = j.workers; cylinders = j.cylinders.items }) };
 }
 
 /// Why no jobs were made, the first of these that applies.

@@ -48,7 +48,9 @@ fn next_ready<D: MonitorData + Drop>(
     priority: u64,
 ) -> Option<D>
     requires { condition < D.CONDITIONS }
-    ensures { IfSome result (λ a. FirstReady (λ d. D.ready condition priority d nobody) answers.old.items a answers.new.items) }
+    ensures { IfSome result
+        (λ a. FirstReady (λ d. D.ready condition priority d nobody) answers.old.items a
+        answers.new.items) }
 {
     while let Some(answer) = answers.pop_front() {
         if answer.ready_holds(condition, priority, &Nobody) {
@@ -71,7 +73,8 @@ impl<D: MonitorData + Drop + Send> Fake<D> {
         ensures of { IfOk result (λ r. ⟦<Fake<D> as Monitor<D>>⟧.is_of r.0 r.1) }
         ensures given { IfOk result (λ r. r.0.given.value.items ≡ answers.items) }
         ensures place { IfOk result (λ r. ⟦<Fake<D> as Monitor<D>>⟧.place r.1 ≡ 0) }
-        ensures front { IfOk result (λ r. ⟦<Fake<D> as Monitor<D>>⟧.front r.1 ≡ opened D.CONDITIONS state) }
+        ensures front { IfOk result
+            (λ r. ⟦<Fake<D> as Monitor<D>>⟧.front r.1 ≡ opened D.CONDITIONS state) }
     {
         let (table, seat) = Table::of_words(alloc, &[0], &state)?;
         let given = Snapshot::of(&answers);

@@ -44,7 +44,8 @@ impl<D: MonitorData> Model for TicketDoor<D> {
 
     ghost view = { λ d. ticket_door d.table.shared.table_id d.table.shared.key };
 
-    ghost invariant = { λ d. Sized d.table.shared.table_id.words d.table.shared.table_id.slots d.table.shared.key.places (vec_len d.wakers) };
+    ghost invariant = { λ d. Sized d.table.shared.table_id.words d.table.shared.table_id.slots
+        d.table.shared.key.places (vec_len d.wakers) };
 }
 
 impl<D: MonitorData + Send> TicketDoor<D> {

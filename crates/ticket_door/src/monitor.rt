@@ -172,7 +172,13 @@ impl<D: MonitorData + Send> Monitor<D> for TicketDoor<D> {
 
     ghost takes_data = { λ i d. refl };
 
-    ghost keeps_of = { λ m i d h. record { of = h.of; places = h.places; conditions_are = h.conditions_are; stands = h.stands; is_inside = h.is_inside } };
+    ghost keeps_of = { λ m i d h. record {
+      of = h.of;
+      places = h.places;
+      conditions_are = h.conditions_are;
+      stands = h.stands;
+      is_inside = h.is_inside;
+    } };
 
     ghost keeps_place = { λ i d. refl };
 

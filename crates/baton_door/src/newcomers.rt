@@ -38,7 +38,7 @@ impl<D: MonitorData> Door<D> {
     {
         let mut lost = 0u32;
         for _ in rt.forever() {
-            let seen = self.look_out();
+            let seen = self.look_for(FREE, looks::NEWCOMER);
             if seen && self.try_enter(seat) {
                 return;
             }
@@ -48,16 +48,5 @@ impl<D: MonitorData> Door<D> {
             }
         }
         unreachable!()
-    }
-
-    /// Looks at the word, with pauses that grow, until it is `FREE`: whether it was seen so.
-    fn look_out(&self) -> bool {
-        for look in 0..looks::NEWCOMER {
-            if self.table.shared.peek(DOOR) == FREE {
-                return true;
-            }
-            looks::pause_after(look);
-        }
-        false
     }
 }

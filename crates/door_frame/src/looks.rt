@@ -1,18 +1,14 @@
 //! How long places look at a word before they sleep or yield: the numbers of both doors, and their reasons. What was measured
 //! stands in docs/MEASURES.md, "How places wait".
-use std::hint;
 
 /// How often a waiter or a signaller looks, with the spin hint between, before it sleeps on its parker. A look costs some
 /// nanoseconds and a sleep with its waking several thousand: most hand-overs come while it still looks. More looks take the
 /// processor from the place that is waited for, where there are fewer cores than threads.
 pub const LOOKS: u32 = 500;
 
-/// How often a newcomer that races for the word looks before it yields. With pauses that grow these are some 4,000 pauses.
-pub const NEWCOMER: u32 = 129;
-
-/// Its pauses double this often, from one to 32: each look takes the word's line of the cache from who is inside, so with few
-/// looks a visit is over sooner. With longer pauses the monitor stands empty.
-const DOUBLINGS: u32 = 5;
+/// How often a newcomer that races for the word looks before it yields. Each look takes the word's line of the cache from who is
+/// inside; but where it pauses longer between two looks, the monitor stands empty as long.
+pub const NEWCOMER: u32 = 1000;
 
 /// It yields at each lost race of so many, and else tries again at once: who won it needs a processor.
 pub const LOST_RACES: u32 = 8;
@@ -23,11 +19,3 @@ pub const NEXT_IN_TURN: u64 = 4000;
 
 /// One that has more tickets to go than so many yields at once.
 pub const NEAR: u64 = 3;
-
-/// The pauses of a newcomer after each of its looks, counted from 0.
-#[inline]
-pub fn pause_after(look: u32) {
-    for _ in 0..1u32 << look.min(DOUBLINGS) {
-        hint::spin_loop();
-    }
-}

@@ -96,27 +96,82 @@ fn ring(alloc: Global) -> io::Result<Buffer<u64>>
     Buffer::make(alloc, RING).map_err(|_refusal| no_memory())
 }
 
-// All rows of one door.
-macro_rules! measure_door {
+// Places that come in and go out.
+macro_rules! measure_visits {
     ($rt:ident, $alloc:ident, $turns:ident, $door:ident) => {{
-        let (tenth, hundredth, thousandth) = ($turns / 10, $turns / 100, $turns / 1000);
+        let tenth = $turns / 10;
         row!($rt, $alloc, $door, "enter_leave", counter::<1>(), 1, alone($turns), $turns);
         row!($rt, $alloc, $door, "enter_leave_2", counter(), 2, contended(tenth), tenth.saturating_mul(2));
         row!($rt, $alloc, $door, "enter_leave_4", counter(), 4, contended(tenth), tenth.saturating_mul(4));
         row!($rt, $alloc, $door, "enter_leave_8", counter(), 8, contended(tenth), tenth.saturating_mul(8));
+        Ok(())
+    }};
+}
+
+// Places that hand over to each other.
+macro_rules! measure_exchanges {
+    ($rt:ident, $alloc:ident, $turns:ident, $door:ident) => {{
+        let hundredth = $turns / 100;
         row!($rt, $alloc, $door, "hand_over", counter(), 2, waiting(1, hundredth), hundredth);
         row!($rt, $alloc, $door, "buffer_1_1", ring($alloc)?, 2, buffered(hundredth), hundredth);
         row!($rt, $alloc, $door, "buffer_4_4", ring($alloc)?, 8, buffered(hundredth), hundredth.saturating_mul(4));
+        Ok(())
+    }};
+}
+
+// Many places that wait.
+macro_rules! measure_crowds {
+    ($rt:ident, $alloc:ident, $turns:ident, $door:ident) => {{
+        let thousandth = $turns / 1000;
         row!($rt, $alloc, $door, "waiting_16", counter(), 17, waiting(16, thousandth), thousandth.saturating_mul(16));
         row!($rt, $alloc, $door, "chain_8", counter(), 9, chained(thousandth), thousandth.saturating_mul(8));
         row!($rt, $alloc, $door, "mixed_9", unvisited(), 9, mixed(thousandth), thousandth.saturating_mul(WORKERS));
         row!($rt, $alloc, $door, "wide_enter_leave", counter::<8>(), 64, alone($turns), $turns);
+        Ok(())
+    }};
+}
+
+// How many others are let in before a place.
+macro_rules! measure_others {
+    ($rt:ident, $alloc:ident, $turns:ident, $door:ident) => {{
         let Ok((door, places)) = $door::make($alloc, uncounted(), 8) else {
             return Err(no_memory());
         };
-        let found = doors::met($rt, &door, places, tenth)?;
+        let found = doors::met($rt, &door, places, $turns / 10)?;
         all_met(&found).show($rt)
     }};
+}
+
+fn visits_on_baton<R: Print + Eprint + Clock + Threads + Wait + Sync>(
+    rt: &R,
+    alloc: Global,
+    turns: u64,
+) -> io::Result<()> {
+    measure_visits!(rt, alloc, turns, Door)
+}
+
+fn exchanges_on_baton<R: Print + Eprint + Clock + Threads + Wait + Sync>(
+    rt: &R,
+    alloc: Global,
+    turns: u64,
+) -> io::Result<()> {
+    measure_exchanges!(rt, alloc, turns, Door)
+}
+
+fn crowds_on_baton<R: Print + Eprint + Clock + Threads + Wait + Sync>(
+    rt: &R,
+    alloc: Global,
+    turns: u64,
+) -> io::Result<()> {
+    measure_crowds!(rt, alloc, turns, Door)
+}
+
+fn others_on_baton<R: Print + Threads + Wait + Sync>(
+    rt: &R,
+    alloc: Global,
+    turns: u64,
+) -> io::Result<()> {
+    measure_others!(rt, alloc, turns, Door)
 }
 
 fn measure_baton<R: Print + Eprint + Clock + Threads + Wait + Sync>(
@@ -124,7 +179,42 @@ fn measure_baton<R: Print + Eprint + Clock + Threads + Wait + Sync>(
     alloc: Global,
     turns: u64,
 ) -> io::Result<()> {
-    measure_door!(rt, alloc, turns, Door)
+    visits_on_baton(rt, alloc, turns)?;
+    exchanges_on_baton(rt, alloc, turns)?;
+    crowds_on_baton(rt, alloc, turns)?;
+    others_on_baton(rt, alloc, turns)
+}
+
+fn visits_on_ticket<R: Print + Eprint + Clock + Threads + Wait + Sync>(
+    rt: &R,
+    alloc: Global,
+    turns: u64,
+) -> io::Result<()> {
+    measure_visits!(rt, alloc, turns, TicketDoor)
+}
+
+fn exchanges_on_ticket<R: Print + Eprint + Clock + Threads + Wait + Sync>(
+    rt: &R,
+    alloc: Global,
+    turns: u64,
+) -> io::Result<()> {
+    measure_exchanges!(rt, alloc, turns, TicketDoor)
+}
+
+fn crowds_on_ticket<R: Print + Eprint + Clock + Threads + Wait + Sync>(
+    rt: &R,
+    alloc: Global,
+    turns: u64,
+) -> io::Result<()> {
+    measure_crowds!(rt, alloc, turns, TicketDoor)
+}
+
+fn others_on_ticket<R: Print + Threads + Wait + Sync>(
+    rt: &R,
+    alloc: Global,
+    turns: u64,
+) -> io::Result<()> {
+    measure_others!(rt, alloc, turns, TicketDoor)
 }
 
 fn measure_ticket<R: Print + Eprint + Clock + Threads + Wait + Sync>(
@@ -132,7 +222,10 @@ fn measure_ticket<R: Print + Eprint + Clock + Threads + Wait + Sync>(
     alloc: Global,
     turns: u64,
 ) -> io::Result<()> {
-    measure_door!(rt, alloc, turns, TicketDoor)
+    visits_on_ticket(rt, alloc, turns)?;
+    exchanges_on_ticket(rt, alloc, turns)?;
+    crowds_on_ticket(rt, alloc, turns)?;
+    others_on_ticket(rt, alloc, turns)
 }
 
 fn main(rt: HostRuntime) -> io::Result<ExitCode> {

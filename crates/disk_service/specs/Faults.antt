@@ -1,5 +1,5 @@
 -- The status of a fault.
-use Rattle.std.specs.Prelude.{ℕ, Bool, true, false, Result, Err}
+use Rattle.std.specs.Prelude.{ℕ, Bool, true, false, Result, Err, ⊤}
 use Rattle.disk_service.specs.declared.fault.ServiceFault.{ServiceFault}
 use Rattle.disk_service.specs.declared.fault.ServiceFault.TheVariants as faults
 
@@ -21,3 +21,13 @@ is_read_fault _ = false
 abbrev pub is_write_fault : {X : Type 0} → Result X ServiceFault → Bool
 is_write_fault (Err faults.WriteFault) = true
 is_write_fault _ = false
+
+-- the faults of the service itself
+abbrev pub IsOfService : ServiceFault → Type 0
+IsOfService faults.Memory = ⊤
+IsOfService faults.Spawn = ⊤
+IsOfService faults.Torn = ⊤
+IsOfService (faults.BadLine i) = ⊥
+IsOfService faults.NoHeader = ⊥
+IsOfService faults.ReadFault = ⊥
+IsOfService faults.WriteFault = ⊥

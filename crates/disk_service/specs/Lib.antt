@@ -6,3 +6,6 @@ pub mod Reports
 pub mod Gatherings
 pub mod Kinds
 pub mod Faults
+pub mod Doors
+pub mod Desks
+pub mod Runs

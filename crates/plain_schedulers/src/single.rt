@@ -75,6 +75,13 @@ impl<T: Drop> Single<T> {
         Single { item: Some(item) }
     }
 
+    /// The item, if it is in.
+    pub fn into_item(self) -> Option<T>
+        ensures { result ≡ self }
+    {
+        self.item
+    }
+
     // Whether the item is in.
     fn is_in(&self) -> bool
         ensures { IsTrue result ↔ IsSome self.now }

@@ -113,6 +113,13 @@ impl<T: Copy> ReadersWriters<T> {
         }
     }
 
+    /// The value.
+    pub fn value(&self) -> T
+        ensures { result ≡ self.now.value }
+    {
+        self.value
+    }
+
     // How many readers are in.
     fn readers(&self) -> u32
         ensures { result ≡ self.now.readers }

@@ -1,0 +1,216 @@
+//! A door of either kind.
+ghost use Rattle.std.specs.Prelude.{◌≡◌, ◌<◌, IfOk, IfErr};
+ghost use Rattle.hoare_law.specs.Priorities.{nobody};
+ghost use Rattle.disk_service.specs.Doors.{AreFirst, id_of, terms};
+
+use crate::fault::ServiceFault;
+use crate::kind::Kind;
+use baton_door::door::Door;
+use crossbeam_utils::sync::Parker;
+use door_frame::calls;
+use door_frame::departure::Departure;
+use door_frame::parcel::Parcel;
+use door_frame::place::{Inside, Outside};
+use door_frame::plays::DoorSeat;
+use door_frame::turnstile::Turnstile;
+use hoare_law::data::MonitorData;
+use hoare_law::monitor::Monitor;
+use std::alloc::Global;
+use std::sync::Wait;
+use ticket_door::door::TicketDoor;
+use wait_book::book::Book;
+use wait_book::steps::Next;
+
+/// A monitor for running threads, on a door of either kind.
+#[derive(Drop)]
+pub(crate) enum AnyDoor<D: MonitorData> {
+    Baton(Door<D>),
+    Ticket(TicketDoor<D>),
+}
+
+impl<D: MonitorData> Turnstile<D> for AnyDoor<D> {
+    ghost id = { λ d. id_of d };
+
+    #[inline]
+    fn admit<R: Wait>(&self, rt: &R, seat: &mut DoorSeat<D>, place: usize) -> Parcel<D> {
+        match self {
+            AnyDoor::Baton(door) => door.admit(rt, seat, place),
+            AnyDoor::Ticket(door) => door.admit(rt, seat, place),
+        }
+    }
+
+    fn claim<R: Wait>(
+        &self,
+        rt: &R,
+        seat: &mut DoorSeat<D>,
+        place: usize,
+        parker: &Parker,
+    ) -> Parcel<D> {
+        match self {
+            AnyDoor::Baton(door) => door.claim(rt, seat, place, parker),
+            AnyDoor::Ticket(door) => door.claim(rt, seat, place, parker),
+        }
+    }
+
+    #[inline]
+    fn hand_on(
+        &self,
+        seat: &mut DoorSeat<D>,
+        parcel: Parcel<D>,
+        place: usize,
+        departure: Departure,
+        next: Next,
+    ) {
+        match self {
+            AnyDoor::Baton(door) => door.hand_on(seat, parcel, place, departure, next),
+            AnyDoor::Ticket(door) => door.hand_on(seat, parcel, place, departure, next),
+        }
+    }
+}
+
+impl<D: MonitorData + Send> Monitor<D> for AnyDoor<D> {
+    ghost use Rattle.std.specs.Prelude.{◌≡◌, ◌≢◌, ◌<◌, ℕ, refl};
+    ghost use Rattle.hoare_law.specs.Priorities.{priorities};
+    ghost use Rattle.hoare_law.proofs.Priorities.{IsNonDecreasing-priorities};
+    ghost use Rattle.door_frame.specs.Places.{PlaceIn, IsOut, IsIn, with_state};
+
+    type Out = Outside<D>;
+
+    type In = Inside<D>;
+
+    type Lists = Book;
+
+    ghost is_of = { λ m o. IsOut D.rest D.ready D.CONDITIONS (id_of m) o };
+
+    ghost is_of_in = { λ m i. IsIn D.rest D.ready D.CONDITIONS (id_of m) i };
+
+    ghost place = { λ o. o.place };
+
+    ghost place_in = { λ i. i.place };
+
+    ghost data_in = { λ i. i.state };
+
+    ghost lists_in = { λ i. priorities i.front.events };
+
+    ghost front = { λ o. o.front };
+
+    ghost front_in = { λ i. i.front };
+
+    ghost with_data = { λ i d. with_state i d };
+
+    #[inline]
+    fn enter<R: Wait>(&self, rt: &R, out: Outside<D>) -> Inside<D> {
+        calls::enter(self, rt, out)
+    }
+
+    #[inline]
+    fn leave<R: Wait>(&self, rt: &R, inside: Inside<D>) -> Outside<D> {
+        calls::leave(self, inside)
+    }
+
+    fn wait<R: Wait>(
+        &self,
+        rt: &R,
+        inside: Inside<D>,
+        condition: usize,
+        priority: u64,
+    ) -> Inside<D> {
+        calls::wait(self, rt, inside, condition, priority)
+    }
+
+    fn signal<R: Wait>(&self, rt: &R, inside: Inside<D>, condition: usize) -> (Inside<D>, bool) {
+        calls::signal(self, rt, inside, condition)
+    }
+
+    fn signal_leave<R: Wait>(
+        &self,
+        rt: &R,
+        inside: Inside<D>,
+        condition: usize,
+    ) -> (Outside<D>, bool) {
+        calls::signal_leave(self, inside, condition)
+    }
+
+    fn state<'a>(&self, inside: &'a Inside<D>) -> &'a D {
+        inside.state()
+    }
+
+    fn state_mut<'a>(inside: &'a mut Inside<D>, monitor: &Self) -> &'a mut D {
+        let parcel = &mut inside.parcel;
+        &mut parcel.held.state
+    }
+
+    fn lists<'a>(&self, inside: &'a Inside<D>) -> &'a Book {
+        inside.lists()
+    }
+
+    fn queue(&self, inside: &Inside<D>, condition: usize) -> bool {
+        inside.queue(condition)
+    }
+
+    fn first(&self, inside: &Inside<D>, condition: usize) -> Option<u64> {
+        inside.first(condition)
+    }
+
+    ghost stands = { λ m o h. (h.stands, h.conditions_are, h.is_outside) };
+
+    ghost stands_in = { λ m i h. (h.stands, h.conditions_are, h.is_inside) };
+
+    ghost lists_are = { λ m i h. refl };
+
+    ghost rise = { λ m i c h. IsNonDecreasing-priorities i.front.events c };
+
+    ghost takes_data = { λ i d. refl };
+
+    ghost keeps_of = { λ m i d h. record {
+      of = h.of;
+      places = h.places;
+      conditions_are = h.conditions_are;
+      stands = h.stands;
+      is_inside = h.is_inside;
+    } };
+
+    ghost keeps_place = { λ i d. refl };
+
+    ghost keeps_lists = { λ i d. refl };
+
+    ghost keeps_front = { λ i d. refl };
+}
+
+impl<D: MonitorData + Send + Drop> AnyDoor<D> {
+    /// A door of this kind with so many places, 1 to 64, and its places, in order.
+    pub(crate) fn make(
+        alloc: Global,
+        kind: Kind,
+        state: D,
+        places: usize,
+    ) -> Result<(AnyDoor<D>, Vec<Outside<D>>), ServiceFault>
+        requires { D.rest state nobody }
+        ensures size { IfOk result (λ r. (id_of r.0).places ≡ places) }
+        ensures places { IfOk result (λ r. AreFirst (terms D.rest D.ready D.CONDITIONS)
+            (id_of r.0) places r.1.items) }
+        ensures fault { IfErr result (λ f. f ≡ ServiceFault.Memory) }
+    {
+        match kind {
+            Kind::Baton => match Door::make(alloc, state, places) {
+                Ok((door, outs)) => Ok((AnyDoor::Baton(door), outs)),
+                Err(_) => Err(ServiceFault::Memory),
+            },
+            Kind::Ticket => match TicketDoor::make(alloc, state, places) {
+                Ok((door, outs)) => Ok((AnyDoor::Ticket(door), outs)),
+                Err(_) => Err(ServiceFault::Memory),
+            },
+        }
+    }
+
+    /// The data that the places left: all of them are handed in.
+    pub(crate) fn close(self, places: Vec<Outside<D>>) -> D
+        requires { AreFirst (terms D.rest D.ready D.CONDITIONS) (id_of self)
+            (id_of self).places places.items }
+    {
+        match self {
+            AnyDoor::Baton(door) => door.close(places),
+            AnyDoor::Ticket(door) => door.close(places),
+        }
+    }
+}

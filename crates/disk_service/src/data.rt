@@ -1,0 +1,48 @@
+//! What lies in the monitors of the service.
+use crate::done::Done;
+
+/// What the buffer brings to a worker.
+#[derive(Clone, Copy, Debug, PartialEq, Eq)]
+pub(crate) enum Item {
+    /// The number of a job.
+    Job(u32),
+    /// There are no more jobs for this worker.
+    Stop,
+}
+
+/// The drive of the simulated disk.
+#[derive(Drop)]
+pub(crate) struct Drive;
+
+impl Drive {
+    /// Reads the block on the cylinder under the head, for a job.
+    pub(crate) fn read(&self, job: u32, cylinder: u16) -> Done {
+        Done::of(job, cylinder)
+    }
+}
+
+/// How many jobs were done, and the sum of their blocks.
+#[derive(Clone, Copy, Debug, PartialEq, Eq)]
+pub(crate) struct Totals {
+    pub jobs: u64,
+    pub sum: u64,
+}
+
+impl Totals {
+    /// Nothing was done yet.
+    pub(crate) const NONE: Totals = Totals { jobs: 0, sum: 0 };
+
+    /// The totals with one job more, unless a number is past its type.
+    pub(crate) fn with(self, done: Done) -> Option<Totals> {
+        let jobs = self.jobs.checked_add(1)?;
+        let sum = self.sum.checked_add(u64::from(done.block()))?;
+        Some(Totals { jobs, sum })
+    }
+}
+
+/// What all may read: how many jobs were done, and whether no more will be.
+#[derive(Clone, Copy, Debug, PartialEq, Eq)]
+pub(crate) struct Board {
+    pub done: u32,
+    pub closed: bool,
+}

@@ -1,0 +1,20 @@
+//! What a caller may do around each job.
+
+/// What is called around each job, by the worker that does it. All workers share it.
+pub trait Gate {
+    /// A worker has the job, and nothing of any monitor in hand.
+    fn begin(&self, job: usize);
+
+    /// The worker is done with the job.
+    fn end(&self, job: usize);
+}
+
+/// A gate that does nothing.
+#[derive(Clone, Copy, Debug, PartialEq, Eq)]
+pub struct NoGate;
+
+impl Gate for NoGate {
+    fn begin(&self, _job: usize) {}
+
+    fn end(&self, _job: usize) {}
+}

@@ -1,0 +1,99 @@
+//! The places that no thread has.
+ghost use Rattle.std.specs.Prelude.{◌≡◌, ◌+◌, ◌<◌, ℕ, length, IfOk};
+ghost use Rattle.door_frame.specs.Places.{DoorId};
+ghost use Rattle.disk_service.specs.Doors.{AreFirst, AreThere, IsAt, IsSeat, terms};
+ghost use Rattle.disk_service.specs.declared.doors.Doors.{Doors};
+
+use crate::data::{Board, Drive, Item, Totals};
+use crate::seat::Seat;
+use door_frame::place::Outside;
+use hoare_law::data::MonitorData;
+use plain_schedulers::buffer::Buffer;
+use plain_schedulers::single::Single;
+use std::alloc::AllocError;
+use sweep_schedulers::head::Head;
+use sweep_schedulers::readers_writers::ReadersWriters;
+use timed_schedulers::alarm::Alarm;
+use timed_schedulers::pool::Pool;
+
+/// The places of each door that no thread has: place 0, 1, .. in order.
+#[derive(Drop)]
+pub(crate) struct Places {
+    pub items: Vec<Outside<Buffer<Item>>>,
+    pub clock: Vec<Outside<Alarm>>,
+    pub pool: Vec<Outside<Pool>>,
+    pub head: Vec<Outside<Head<Drive>>>,
+    pub totals: Vec<Outside<Single<Totals>>>,
+    pub board: Vec<Outside<ReadersWriters<Board>>>,
+}
+
+// The last of the places.
+fn take_last<D: MonitorData>(places: &mut Vec<Outside<D>>) -> Outside<D>
+    requires { 0 < length places.old.items }
+    ensures { (door : DoorId) (n : ℕ)
+        → AreFirst (terms D.rest D.ready D.CONDITIONS) door (n + 1) places.old.items
+        → IsAt (terms D.rest D.ready D.CONDITIONS) door n result
+        × AreFirst (terms D.rest D.ready D.CONDITIONS) door n places.new.items }
+{
+    match places.pop() {
+        Some(place) => place,
+        None => unreachable!(),
+    }
+}
+
+// The place behind the others, for which there is room.
+fn put_last<D: MonitorData>(
+    places: &mut Vec<Outside<D>>,
+    place: Outside<D>,
+) -> Result<(), AllocError>
+    ensures { IfOk result (λ _. (door : DoorId) (n : ℕ)
+        → AreFirst (terms D.rest D.ready D.CONDITIONS) door n places.old.items
+        → IsAt (terms D.rest D.ready D.CONDITIONS) door n place
+        → AreFirst (terms D.rest D.ready D.CONDITIONS) door (n + 1) places.new.items) }
+{
+    places.push(place)?;
+    Ok(())
+}
+
+impl Places {
+    /// The last seat that nobody has: its number is how many are left then.
+    pub(crate) fn take_seat(&mut self, number: u32) -> Seat
+        requires { (d : Doors) × AreThere d (number + 1) self.old }
+        ensures number { result.number ≡ number }
+        ensures seat { (d : Doors) → AreThere d (number + 1) self.old → IsSeat d result }
+        ensures left { (d : Doors) → AreThere d (number + 1) self.old → AreThere d number self.new }
+    {
+        Seat {
+            number,
+            items: take_last(&mut self.items),
+            clock: take_last(&mut self.clock),
+            pool: take_last(&mut self.pool),
+            head: take_last(&mut self.head),
+            totals: take_last(&mut self.totals),
+            board: take_last(&mut self.board),
+        }
+    }
+
+    /// Takes the next seat back. The room that it had is still there.
+    pub(crate) fn put_seat(&mut self, seat: Seat) -> Result<(), AllocError>
+        ensures { IfOk result (λ _. (d : Doors) → AreThere d seat.number self.old → IsSeat d seat
+            → AreThere d (seat.number + 1) self.new) }
+    {
+        let Seat {
+            number: _,
+            items,
+            clock,
+            pool,
+            head,
+            totals,
+            board,
+        } = seat;
+        put_last(&mut self.items, items)?;
+        put_last(&mut self.clock, clock)?;
+        put_last(&mut self.pool, pool)?;
+        put_last(&mut self.head, head)?;
+        put_last(&mut self.totals, totals)?;
+        put_last(&mut self.board, board)?;
+        Ok(())
+    }
+}

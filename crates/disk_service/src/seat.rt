@@ -1,0 +1,43 @@
+//! What a thread of the service has of its doors.
+ghost use Rattle.std.specs.Prelude.{◌≡◌};
+ghost use Rattle.disk_service.specs.Doors.{IsSeat};
+ghost use Rattle.disk_service.specs.declared.doors.Doors.{Doors};
+
+use crate::data::{Board, Drive, Item, Totals};
+use crate::done::Done;
+use crate::doors::Doors;
+use door_frame::place::Outside;
+use plain_schedulers::buffer::Buffer;
+use plain_schedulers::single::Single;
+use std::thread::Promise;
+use sweep_schedulers::head::Head;
+use sweep_schedulers::readers_writers::ReadersWriters;
+use timed_schedulers::alarm::Alarm;
+use timed_schedulers::pool::Pool;
+
+/// A place at each door, all of one number. Each thread has a seat, and the stream that it takes buffers for has that number too.
+#[derive(Drop)]
+pub(crate) struct Seat {
+    pub number: u32,
+    pub items: Outside<Buffer<Item>>,
+    pub clock: Outside<Alarm>,
+    pub pool: Outside<Pool>,
+    pub head: Outside<Head<Drive>>,
+    pub totals: Outside<Single<Totals>>,
+    pub board: Outside<ReadersWriters<Board>>,
+}
+
+/// A thread gives its seat back: the one of this number, at these doors.
+#[derive(Clone, Copy)]
+pub(crate) struct SeatBack<'a> {
+    pub doors: &'a Doors,
+    pub number: u32,
+}
+
+impl<'a> Promise<Seat> for SeatBack<'a> {
+    ghost kept_by = { λ p s. IsSeat p.doors.now s × (s.number ≡ p.number) };
+}
+
+impl<'a> Promise<(Seat, Vec<Done>)> for SeatBack<'a> {
+    ghost kept_by = { λ p r. IsSeat p.doors.now r.0 × (r.0.number ≡ p.number) };
+}

@@ -1,0 +1,92 @@
+//! The service.
+ghost use Rattle.std.specs.Prelude.{◌≡◌, IfOk, IfErr};
+ghost use Rattle.disk_service.specs.Faults.{IsOfService};
+ghost use Rattle.disk_service.specs.Reports.{account_of};
+ghost use Rattle.disk_service.specs.Services.{service};
+
+use crate::done::Done;
+use crate::doors::Doors;
+use crate::fault::ServiceFault;
+use crate::gate::Gate;
+use crate::gathering::gather;
+use crate::jobs::Jobs;
+use crate::kind::Kind;
+use crate::report::Report;
+use crate::threads::{Desk, run_threads};
+use std::alloc::{AllocError, Global};
+use std::sync::Wait;
+use std::thread::Threads;
+
+/// Does the jobs on baton doors, with as many workers as they say, and reports them. Refused: `Memory` where the room for the
+/// service can't be had, `Spawn` where a thread can't be started, and `Torn` where what the workers bring isn't the jobs, or the
+/// counts don't agree with it. All that grows grows before the first thread is started.
+pub fn serve<R: Threads + Wait + Sync, G: Gate + Sync>(
+    rt: &R,
+    alloc: Global,
+    jobs: &Jobs,
+    gate: &G,
+) -> Result<Report, ServiceFault>
+    ensures report { IfOk result (λ r. account_of r ≡ service jobs.now.cylinders) }
+    ensures fault { IfErr result IsOfService }
+{
+    serve_on(rt, alloc, Kind::Baton, jobs, gate)
+}
+
+/// The same on ticket doors.
+pub fn serve_tickets<R: Threads + Wait + Sync, G: Gate + Sync>(
+    rt: &R,
+    alloc: Global,
+    jobs: &Jobs,
+    gate: &G,
+) -> Result<Report, ServiceFault>
+    ensures report { IfOk result (λ r. account_of r ≡ service jobs.now.cylinders) }
+    ensures fault { IfErr result IsOfService }
+{
+    serve_on(rt, alloc, Kind::Ticket, jobs, gate)
+}
+
+// Room for what each worker does: any of them may do all jobs.
+fn rooms(alloc: Global, workers: u32, jobs: usize) -> Result<Vec<Vec<Done>>, AllocError> {
+    let mut rooms = Vec::with_capacity(alloc, workers as usize)?;
+    for _ in 0..workers {
+        rooms.push(Vec::with_capacity(alloc, jobs)?)?;
+    }
+    Ok(rooms)
+}
+
+/// Does the jobs on doors of this kind, and reports them.
+pub(crate) fn serve_on<R: Threads + Wait + Sync, G: Gate + Sync>(
+    rt: &R,
+    alloc: Global,
+    kind: Kind,
+    jobs: &Jobs,
+    gate: &G,
+) -> Result<Report, ServiceFault>
+    ensures report { IfOk result (λ r. account_of r ≡ service jobs.now.cylinders) }
+    ensures fault { IfErr result IsOfService }
+{
+    let (workers, count) = (jobs.workers(), jobs.len());
+    let Ok(rooms) = rooms(alloc, workers, count) else {
+        return Err(ServiceFault::Memory);
+    };
+    let Ok(results) = Vec::with_capacity(alloc, count) else {
+        return Err(ServiceFault::Memory);
+    };
+    let seats = workers as usize + 2;
+    let (doors, places) = Doors::open(alloc, kind, jobs, seats)?;
+    let desk = Desk {
+        places,
+        rooms,
+        results,
+    };
+    let Desk {
+        places,
+        results,
+        ..
+    } = run_threads(rt, gate, jobs, &doors, desk)?;
+    let (totals, board) = doors.close(places, seats);
+    let Some(totals) = totals else {
+        return Err(ServiceFault::Torn);
+    };
+    gather(jobs, results, totals.jobs, totals.sum, board.done)
+}

@@ -1,0 +1,146 @@
+//! The threads of the service: a clock, the workers, and the caller's own.
+ghost use Rattle.std.specs.Prelude.{◌≡◌, ◌+◌, ◌≤◌, IfOk, IfErr};
+ghost use Rattle.disk_service.specs.Doors.{AreThere, IsSeat};
+ghost use Rattle.disk_service.specs.Desks.{IsReady, IsStaffed};
+ghost use Rattle.disk_service.specs.Faults.{IsOfService};
+ghost use Rattle.disk_service.specs.declared.doors.Doors.{Doors};
+
+use crate::caller::{close_board, hand_on_jobs, stop_workers};
+use crate::clock::tick_on;
+use crate::done::Done;
+use crate::doors::Doors;
+use crate::fault::ServiceFault;
+use crate::gate::Gate;
+use crate::jobs::Jobs;
+use crate::places::Places;
+use crate::seat::{Seat, SeatBack};
+use crate::worker::work;
+use std::sync::Wait;
+use std::thread;
+use std::thread::{Scope, Threads};
+
+/// What the caller's thread has in hand: the places that no thread has, the room of each worker, and what is done.
+#[derive(Drop)]
+pub(crate) struct Desk {
+    pub places: Places,
+    pub rooms: Vec<Vec<Done>>,
+    pub results: Vec<Done>,
+}
+
+impl Desk {
+    /// Takes a worker's seat back, and what it did. The room for both is there.
+    fn take_back(&mut self, seat: Seat, kept: Vec<Done>) -> Result<(), ServiceFault>
+        ensures places { IfOk result (λ _. (d : Doors) → AreThere d seat.number self.old.places
+            → IsSeat d seat → AreThere d (seat.number + 1) self.new.places) }
+        ensures fault { IfErr result (λ f. f ≡ ServiceFault.Memory) }
+    {
+        for done in kept {
+            if self.results.push(done).is_err() {
+                return Err(ServiceFault::Memory);
+            }
+        }
+        match self.places.put_seat(seat) {
+            Ok(()) => Ok(()),
+            Err(_) => Err(ServiceFault::Memory),
+        }
+    }
+}
+
+/// Runs the service: a clock and the workers, each on a thread of its own with a seat of its own. The caller's thread hands the
+/// jobs on. All threads are joined and give their seats back.
+pub(crate) fn run_threads<R: Threads + Wait + Sync, G: Gate + Sync>(
+    rt: &R,
+    gate: &G,
+    jobs: &Jobs,
+    doors: &Doors,
+    desk: Desk,
+) -> Result<Desk, ServiceFault>
+    requires { IsReady doors.now jobs.now.workers desk }
+    ensures places { IfOk result (λ d. AreThere doors.now (jobs.now.workers + 2) d.places) }
+    ensures fault { IfErr result IsOfService }
+{
+    thread::scope(
+        thread::scope_env(),
+        rt,
+        move |scope| -> Result<Desk, ServiceFault>
+            requires { IsReady doors.now jobs.now.workers desk }
+            ensures places { IfOk result (λ d.
+                AreThere doors.entry.now (jobs.entry.now.workers + 2) d.places) }
+            ensures fault { IfErr result IsOfService }
+        { direct(scope, rt, gate, jobs, doors, desk) },
+    )
+}
+
+// Starts the clock and the workers, closes the board once they are done, and joins the clock.
+fn direct<'s, 'e, R: Threads + Wait + Sync, G: Gate + Sync>(
+    scope: &Scope<'s, &'e ()>,
+    rt: &'e R,
+    gate: &'e G,
+    jobs: &'e Jobs,
+    doors: &'e Doors,
+    desk: Desk,
+) -> Result<Desk, ServiceFault>
+    requires { IsReady doors.now jobs.now.workers desk }
+    ensures places { IfOk result (λ d. AreThere doors.now (jobs.now.workers + 2) d.places) }
+    ensures fault { IfErr result IsOfService }
+{
+    let mut desk = desk;
+    let workers = jobs.workers();
+    let mine = desk.places.take_seat(workers + 1);
+    let seat = desk.places.take_seat(workers);
+    let promise = SeatBack {
+        doors,
+        number: workers,
+    };
+    let Ok(clock) = scope.spawn_with(promise, move || tick_on(rt, doors, seat)) else {
+        return Err(ServiceFault::Spawn);
+    };
+    let (mine, outcome) = with_workers(scope, rt, gate, jobs, doors, &mut desk, mine, workers);
+    let mine = close_board(rt, doors, mine);
+    let seat: Seat = clock.join(rt);
+    outcome?;
+    if desk.places.put_seat(seat).is_err() || desk.places.put_seat(mine).is_err() {
+        return Err(ServiceFault::Memory);
+    }
+    Ok(desk)
+}
+
+// With so many workers left to be started: starts them, has all workers stopped, and joins those that it started.
+fn with_workers<'s, 'e, R: Threads + Wait + Sync, G: Gate + Sync>(
+    scope: &Scope<'s, &'e ()>,
+    rt: &'e R,
+    gate: &'e G,
+    jobs: &'e Jobs,
+    doors: &'e Doors,
+    desk: &mut Desk,
+    mine: Seat,
+    left: u32,
+) -> (Seat, Result<(), ServiceFault>)
+    requires desk { IsStaffed doors.now left desk.old }
+    requires seat { IsSeat doors.now mine }
+    requires few { left ≤ jobs.now.workers }
+    ensures of { IsSeat doors.now result.0 }
+    ensures number { result.0.number ≡ mine.number }
+    ensures places { IfOk result.1 (λ _. AreThere doors.now left desk.new.places) }
+    ensures fault { IfErr result.1 IsOfService }
+{
+    if left == 0 {
+        let mine = hand_on_jobs(rt, doors, jobs, mine);
+        return (stop_workers(rt, doors, mine, jobs.workers()), Ok(()));
+    }
+    let number = left - 1;
+    let seat = desk.places.take_seat(number);
+    let Some(room) = desk.rooms.pop() else {
+        unreachable!();
+    };
+    let promise = SeatBack { doors, number };
+    let started = scope.spawn_with(promise, move || work(rt, gate, jobs, doors, seat, room));
+    let Ok(worker) = started else {
+        let mine = stop_workers(rt, doors, mine, jobs.workers() - left);
+        return (mine, Err(ServiceFault::Spawn));
+    };
+    let (mine, outcome) = with_workers(scope, rt, gate, jobs, doors, desk, mine, number);
+    let (seat, kept) = worker.join(rt);
+    let back = desk.take_back(seat, kept);
+    (mine, outcome.and(back))
+}

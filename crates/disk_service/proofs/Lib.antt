@@ -5,3 +5,4 @@ pub mod Sorted
 pub mod Gathered
 pub mod Lines
 pub mod Limits
+pub mod Seats

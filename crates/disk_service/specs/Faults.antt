@@ -31,3 +31,13 @@ IsOfService (faults.BadLine i) = ⊥
 IsOfService faults.NoHeader = ⊥
 IsOfService faults.ReadFault = ⊥
 IsOfService faults.WriteFault = ⊥
+
+-- the faults of reading
+abbrev pub IsOfReading : ServiceFault → Type 0
+IsOfReading faults.Memory = ⊤
+IsOfReading faults.Spawn = ⊥
+IsOfReading faults.Torn = ⊥
+IsOfReading (faults.BadLine i) = ⊤
+IsOfReading faults.NoHeader = ⊤
+IsOfReading faults.ReadFault = ⊤
+IsOfReading faults.WriteFault = ⊥

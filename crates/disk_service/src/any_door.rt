@@ -1,6 +1,10 @@
 //! A door of either kind.
 ghost use Rattle.std.specs.Prelude.{◌≡◌, ◌<◌, IfOk, IfErr};
 ghost use Rattle.hoare_law.specs.Priorities.{nobody};
+ghost use Rattle.wait_book.specs.Contents.{IsPlaceBelow};
+ghost use Rattle.door_frame.specs.Steps.{MayGive};
+ghost use Rattle.door_frame.specs.Seats.{GoesOut};
+ghost use Rattle.door_frame.specs.Departures.{event_of};
 ghost use Rattle.disk_service.specs.Doors.{AreFirst, id_of, terms};
 
 use crate::fault::ServiceFault;
@@ -60,7 +64,15 @@ impl<D: MonitorData> Turnstile<D> for AnyDoor<D> {
         place: usize,
         departure: Departure,
         next: Next,
-    ) {
+    )
+        requires table { seat.old.table_id ≡ (id_of self.now).table }
+        requires next { IsPlaceBelow (id_of self.now).places next }
+        requires event { MayGive D.rest D.ready (event_of place departure next) place
+            seat.old.me parcel next }
+        ensures table { seat.new.table_id ≡ seat.old.table_id }
+        ensures away { GoesOut place (event_of place departure next)
+            seat.old.me parcel.state seat.new.me }
+    {
         match self {
             AnyDoor::Baton(door) => door.hand_on(seat, parcel, place, departure, next),
             AnyDoor::Ticket(door) => door.hand_on(seat, parcel, place, departure, next),

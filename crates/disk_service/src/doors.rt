@@ -108,7 +108,7 @@ impl Doors {
         pool.close(places.pool);
         head.close(places.head);
         let totals = totals.close(places.totals).into_item();
-        let board = board.close(places.board).value();
+        let board = board.close(places.board).into_value();
         (totals, board)
     }
 }

@@ -63,14 +63,20 @@ impl Places {
         ensures seat { (d : Doors) → AreThere d (number + 1) self.old → IsSeat d result }
         ensures left { (d : Doors) → AreThere d (number + 1) self.old → AreThere d number self.new }
     {
+        let items = take_last(&mut self.items);
+        let clock = take_last(&mut self.clock);
+        let pool = take_last(&mut self.pool);
+        let head = take_last(&mut self.head);
+        let totals = take_last(&mut self.totals);
+        let board = take_last(&mut self.board);
         Seat {
             number,
-            items: take_last(&mut self.items),
-            clock: take_last(&mut self.clock),
-            pool: take_last(&mut self.pool),
-            head: take_last(&mut self.head),
-            totals: take_last(&mut self.totals),
-            board: take_last(&mut self.board),
+            items,
+            clock,
+            pool,
+            head,
+            totals,
+            board,
         }
     }
 

@@ -2,7 +2,7 @@
 ghost use Rattle.std.specs.Prelude.{◌≡◌, ◌≢◌, ◌*◌, ◌||◌, codes, None, Some, IfErr, OnOk};
 ghost use Rattle.line_text.specs.Forms.{one_number, two_numbers};
 ghost use Rattle.line_text.specs.Streams.{HasRead, Reads, ReadsFrom, has_read_failed, reader_name};
-ghost use Rattle.disk_service.specs.Faults.{is_read_fault};
+ghost use Rattle.disk_service.specs.Faults.{IsOfReading, is_read_fault};
 ghost use Rattle.disk_service.specs.JobTexts.{header_line, job_line, one_line};
 ghost use Rattle.disk_service.specs.Readings.{Follows, Gives, GivesTo, lines_of, shown};
 
@@ -45,6 +45,7 @@ pub fn read_jobs_watched<R: Read>(
     ensures read_fault { has_read_failed reader.new
         ≡ (has_read_failed reader.old || is_read_fault result) }
     ensures same_reader { reader_name reader.new ≡ reader_name reader.old }
+    ensures fault { IfErr result IsOfReading }
 {
     let mut jobs = None;
     let end = read_lines(alloc, reader, &mut jobs);
@@ -53,8 +54,10 @@ pub fn read_jobs_watched<R: Read>(
 
 // The jobs, where their lines were read to the end.
 fn whole(end: Result<(), ServiceFault>, jobs: Option<Jobs>) -> Result<Jobs, ServiceFault>
-    requires { OnOk end (jobs ≢ None) }
-    ensures { result ≡ shown end jobs }
+    requires some { OnOk end (jobs ≢ None) }
+    requires fault { IfErr end IsOfReading }
+    ensures value { result ≡ shown end jobs }
+    ensures fault { IfErr result IsOfReading }
 {
     match end {
         Err(fault) => Err(fault),
@@ -79,6 +82,7 @@ fn read_lines<R: Read>(
     ensures read_fault { has_read_failed reader.new
         ≡ (has_read_failed reader.old || is_read_fault result) }
     ensures same_reader { reader_name reader.new ≡ reader_name reader.old }
+    ensures fault { IfErr result IsOfReading }
 {
     let mut line = ArrayVec::new();
     let mut number: u64 = 1;
@@ -114,7 +118,8 @@ fn one_line(
     number: u64,
     line: &[u8],
 ) -> Result<(), ServiceFault>
-    ensures { Follows (one_line jobs.old number line.now) number jobs.new result }
+    ensures told { Follows (one_line jobs.old number line.now) number jobs.new result }
+    ensures fault { IfErr result IsOfReading }
 {
     match jobs {
         Some(jobs) => job_line(jobs, number, line),
@@ -132,6 +137,7 @@ fn one_line(
 fn header_line(alloc: Global, number: u64, line: &[u8]) -> Result<Jobs, ServiceFault>
     ensures value { result ≡ header_line number (two_numbers (codes "disk") line.now) }
     ensures fault { IfErr result (λ f. f ≡ ServiceFault.BadLine number) }
+    ensures reading { IfErr result IsOfReading }
 {
     let Some((cylmax, workers)) = two_numbers(line, b"disk") else {
         return Err(ServiceFault::BadLine(number));
@@ -144,8 +150,9 @@ fn header_line(alloc: Global, number: u64, line: &[u8]) -> Result<Jobs, ServiceF
 
 // One job more.
 fn job_line(jobs: &mut Jobs, number: u64, line: &[u8]) -> Result<(), ServiceFault>
-    ensures { Follows (job_line jobs.old number (one_number (codes "read") line.now)) number
+    ensures told { Follows (job_line jobs.old number (one_number (codes "read") line.now)) number
         (Some jobs.new) result }
+    ensures fault { IfErr result IsOfReading }
 {
     let Some(cylinder) = one_number(line, b"read") else {
         return Err(ServiceFault::BadLine(number));

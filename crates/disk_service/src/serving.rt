@@ -1,5 +1,5 @@
 //! The service.
-ghost use Rattle.std.specs.Prelude.{◌≡◌, IfOk, IfErr};
+ghost use Rattle.std.specs.Prelude.{◌≡◌, vec_len, IfOk, IfErr};
 ghost use Rattle.disk_service.specs.Faults.{IsOfService};
 ghost use Rattle.disk_service.specs.Reports.{account_of};
 ghost use Rattle.disk_service.specs.Services.{service};
@@ -46,9 +46,11 @@ pub fn serve_tickets<R: Threads + Wait + Sync, G: Gate + Sync>(
 }
 
 // Room for what each worker does: any of them may do all jobs.
-fn rooms(alloc: Global, workers: u32, jobs: usize) -> Result<Vec<Vec<Done>>, AllocError> {
+fn rooms(alloc: Global, workers: u32, jobs: usize) -> Result<Vec<Vec<Done>>, AllocError>
+    ensures { IfOk result (λ rooms. vec_len rooms ≡ workers) }
+{
     let mut rooms = Vec::with_capacity(alloc, workers as usize)?;
-    for _ in 0..workers {
+    for worker in 0..workers {
         rooms.push(Vec::with_capacity(alloc, jobs)?)?;
     }
     Ok(rooms)

@@ -28,16 +28,14 @@ pub(crate) struct Desk {
 }
 
 impl Desk {
-    /// Takes a worker's seat back, and what it did. The room for both is there.
+    // Takes a worker's seat back, and what it did. The room for both is there.
     fn take_back(&mut self, seat: Seat, kept: Vec<Done>) -> Result<(), ServiceFault>
         ensures places { IfOk result (λ _. (d : Doors) → AreThere d seat.number self.old.places
             → IsSeat d seat → AreThere d (seat.number + 1) self.new.places) }
         ensures fault { IfErr result (λ f. f ≡ ServiceFault.Memory) }
     {
-        for done in kept {
-            if self.results.push(done).is_err() {
-                return Err(ServiceFault::Memory);
-            }
+        if self.results.extend_from_slice(kept.as_slice()).is_err() {
+            return Err(ServiceFault::Memory);
         }
         match self.places.put_seat(seat) {
             Ok(()) => Ok(()),
@@ -99,9 +97,12 @@ fn direct<'s, 'e, R: Threads + Wait + Sync, G: Gate + Sync>(
     let mine = close_board(rt, doors, mine);
     let seat: Seat = clock.join(rt);
     outcome?;
-    if desk.places.put_seat(seat).is_err() || desk.places.put_seat(mine).is_err() {
+    let Ok(()) = desk.places.put_seat(seat) else {
         return Err(ServiceFault::Memory);
-    }
+    };
+    let Ok(()) = desk.places.put_seat(mine) else {
+        return Err(ServiceFault::Memory);
+    };
     Ok(desk)
 }
 

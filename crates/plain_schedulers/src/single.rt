@@ -79,7 +79,8 @@ impl<T: Drop> Single<T> {
     pub fn into_item(self) -> Option<T>
         ensures { result ≡ self }
     {
-        self.item
+        let Single { item } = self;
+        item
     }
 
     // Whether the item is in.

@@ -114,10 +114,11 @@ impl<T: Copy> ReadersWriters<T> {
     }
 
     /// The value.
-    pub fn value(&self) -> T
-        ensures { result ≡ self.now.value }
+    pub fn into_value(self) -> T
+        ensures { result ≡ self.value }
     {
-        self.value
+        let ReadersWriters { value, .. } = self;
+        value
     }
 
     // How many readers are in.

@@ -47,7 +47,7 @@ returns-then-not-is_empty-clause-told g c =
     progress.exit_last c.lines.invariant.goes (g.R.Read.remaining (reader_inside c.read_line.new.reader)) c.read_line.new.line.items
     e.one e.short c.in-Ok-Last.field-0 _ c.one_line.result c.one_line.new.jobs c.in-Ok-Last.field-0-is c.as_slice.ensures.value e.known
     (some_items c.read_line.new.line.items c.is_empty.result c.is_empty.ensures c.if-not-is_empty.true)
-    c.one_line.ensures
+    c.one_line.ensures.told
 
 pub returns-then-number-eq1-clause-told : goal.returns-then-number-eq1-clause-told
 returns-then-number-eq1-clause-told g c =
@@ -68,19 +68,19 @@ returns-in-Err-clause-told g c =
     let e = c.in-Ok-Line.ensures in
     progress.exit_fault c.lines.invariant.goes (g.R.Read.remaining (reader_inside c.read_line.new.reader)) c.read_line.new.line.items
     e.one e.short c.in-Ok-Line.field-0 _ c.in-Err.fault c.one_line-in-Ok-Line.new.jobs c.in-Ok-Line.field-0-is c.as_slice-in-Ok-Line.ensures.value e.known
-    c.in-Err.ensures
+    c.in-Err.ensures.told
 
 pub lines-preserved : goal.lines-preserved
 lines-preserved g c =
     let e = c.in-Ok-Line.ensures in
-    let n = one_line-counts c.lines.jobs c.one_line-in-Ok-Line.new.jobs c.lines.number _ c.in_default.ensures in
+    let n = one_line-counts c.lines.jobs c.one_line-in-Ok-Line.new.jobs c.lines.number _ c.in_default.ensures.told in
     let short : length c.read_line.new.line.items ≤ 256 = e.short in
     record {
       numbered = omega (arith, n.0, c.lines.invariant.numbered);
       few = omega (arith, n.0, n.1, c.lines.invariant.numbered);
       goes = progress.next_line c.lines.invariant.goes (g.R.Read.remaining (reader_inside c.read_line.new.reader)) c.read_line.new.line.items
           e.one e.short c.in-Ok-Line.field-0 _ c.one_line-in-Ok-Line.new.jobs c.in-Ok-Line.field-0-is c.as_slice-in-Ok-Line.ensures.value e.known
-          c.in_default.ensures;
+          c.in_default.ensures.told;
       calls = omega (arith, short, e.counts.0, c.lines.invariant.calls);
       bytes = omega (arith, short, e.counts.1, c.lines.invariant.bytes);
       same_reader = search rules;

@@ -50,7 +50,7 @@ fn rooms(alloc: Global, workers: u32, jobs: usize) -> Result<Vec<Vec<Done>>, All
     ensures { IfOk result (λ rooms. vec_len rooms ≡ workers) }
 {
     let mut rooms = Vec::with_capacity(alloc, workers as usize)?;
-    for worker in 0..workers {
+    for _ in 0..workers {
         rooms.push(Vec::with_capacity(alloc, jobs)?)?;
     }
     Ok(rooms)

@@ -1,0 +1,115 @@
+// Two workers meet: each begins its job only once the other has begun its own. A service that does its jobs one after another
+// can't do it.
+use crate::tests::limit::in_time;
+use crate::{Done, Gate, Jobs, Report, ServiceFault, serve, serve_tickets};
+use std::alloc::Global;
+use std::process::Abort;
+use std::sync::atomic::{AtomicBool, Ordering};
+use std::test::Fail;
+use std::thread;
+
+// How often one that has begun looks for the other, with a yield each time.
+const TURNS: u32 = 10_000_000;
+
+// Who has begun, of two jobs, and whether one looked in vain.
+#[derive(Drop)]
+struct Meeting {
+    turns: u32,
+    first: AtomicBool,
+    second: AtomicBool,
+    in_vain: AtomicBool,
+}
+
+impl Meeting {
+    fn of(turns: u32) -> Meeting {
+        Meeting {
+            turns,
+            first: AtomicBool::new(false),
+            second: AtomicBool::new(false),
+            in_vain: AtomicBool::new(false),
+        }
+    }
+
+    // Looks until this one has begun.
+    fn look_for(&self, other: &AtomicBool) {
+        for _ in 0..self.turns {
+            if other.load(Ordering::SeqCst) {
+                return;
+            }
+            thread::yield_now();
+        }
+        self.in_vain.store(true, Ordering::SeqCst);
+    }
+
+    fn was_in_vain(&self) -> bool {
+        self.in_vain.load(Ordering::SeqCst)
+    }
+}
+
+impl Gate for Meeting {
+    fn begin(&self, job: usize) {
+        let (mine, other) = if job == 0 {
+            (&self.first, &self.second)
+        } else {
+            (&self.second, &self.first)
+        };
+        mine.store(true, Ordering::SeqCst);
+        self.look_for(other);
+    }
+
+    fn end(&self, _job: usize) {}
+}
+
+// A job for each of two workers.
+fn two_jobs(alloc: Global) -> Result<Jobs, Fail> {
+    match Jobs::make(400, 2, vec![in alloc; 300, 3]?) {
+        Ok(jobs) => Ok(jobs),
+        Err(_) => Err(Fail::from("no jobs")),
+    }
+}
+
+// The report is right, and nobody looked in vain.
+fn assert_met<R: Abort>(rt: &R, answer: Result<Report, ServiceFault>, meeting: &Meeting) {
+    let Ok(report) = answer else {
+        panic!(rt; "no report")
+    };
+    assert_eq!(rt;
+        report.lines.as_slice(),
+        [Done::of(0, 300), Done::of(1, 3)].as_slice()
+    );
+    assert_eq!(rt; (report.jobs, report.sum), (2, 24_507));
+    assert!(rt; !meeting.was_in_vain());
+}
+
+#[test]
+fn two_workers_meet(rt: HostRuntime) -> Result<(), Fail> {
+    let jobs = two_jobs(rt.alloc())?;
+    let meeting = Meeting::of(TURNS);
+    let answer = in_time(&rt, || serve(&rt, rt.alloc(), &jobs, &meeting));
+    assert_met(&rt, answer, &meeting);
+    Ok(())
+}
+
+#[test]
+fn two_workers_meet_by_ticket(rt: HostRuntime) -> Result<(), Fail> {
+    let jobs = two_jobs(rt.alloc())?;
+    let meeting = Meeting::of(TURNS);
+    let answer = in_time(&rt, || serve_tickets(&rt, rt.alloc(), &jobs, &meeting));
+    assert_met(&rt, answer, &meeting);
+    Ok(())
+}
+
+// (With fewer turns, since a yield may take milliseconds beside other work.)
+#[test]
+fn one_after_another_looks_in_vain(_rt: HostRuntime) -> Result<(), Fail> {
+    let meeting = Meeting::of(1000);
+    for job in 0..2 {
+        meeting.begin(job);
+        meeting.end(job);
+    }
+    if meeting.was_in_vain() {
+        Ok(())
+    } else {
+        Err(Fail::from("they met"))
+    }
+}

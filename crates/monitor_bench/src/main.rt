@@ -1,6 +1,6 @@
 //! Measures what the calls cost. Without arguments it names its measurements; `monitor_bench TURNS` takes them on the baton
 //! door and prints a line `NAME VALUE ns` for each, with its progress on standard error; with `--ticket` before, on the
-//! ticket door.
+//! ticket door; with `--schedulers` before TURNS, those of the schedulers' procedures.
 #![tactic(auto)]
 
 ghost use Rattle.std.specs.Prelude.{IfOk};
@@ -9,7 +9,10 @@ ghost use Rattle.hoare_law.specs.Priorities.{nobody};
 mod doors;
 mod fairness;
 mod mixed;
+mod procedures;
 mod queues;
+mod schedulers;
+mod sleepers;
 mod turns;
 
 use crate::fairness::{all_met, uncounted};
@@ -27,7 +30,7 @@ use std::time::{Duration, Instant};
 use std::{env, io};
 use ticket_door::door::TicketDoor;
 
-const NAMES: [&str; 18] = [
+const NAMES: [&str; 27] = [
     "enter_leave: one thread comes in, adds one and goes out",
     "enter_leave_2, _4, _8: so many threads at once",
     "hand_over: a wait, a signal and the signaller's return, between two threads",
@@ -44,8 +47,17 @@ const NAMES: [&str; 18] = [
     "       (the mean is about 7 at most, in whatever order they come in)",
     "turns: TURNS for one thread; a tenth for each of several; a hundredth for hand-overs and buffers;",
     "       a thousandth for waiting_16, chain_8 and mixed_9",
-    "usage: monitor_bench [[--ticket] TURNS]",
-    "bench/run compares these with other monitors",
+    "with --schedulers, the procedures of the schedulers: one figure for two that undo each other, so that two visits are in it;",
+    "       one thread, and nobody waits, but in the last line:",
+    "enter_leave: as above, beside them",
+    "acquire_release: a single item. append_remove: a buffer of 16 cells",
+    "take_give_1, _1024, _last: a pool of 1 buffer, of 1024, and of 1024 of which the last alone is free",
+    "request_release: a disk head, sent to the next of 1024 cylinders. start_end_read, start_end_write: readers and writers",
+    "tick, wakeme_0: an alarm clock is set; a sleep of no tick returns at once (one visit each)",
+    "wakeme_tick_1, _60: one sleep of one tick, where so many threads sleep again and again, a hundredth and a thousandth of",
+    "       TURNS each, and one more ticks whenever all of them sleep",
+    "usage: monitor_bench [[--ticket] [--schedulers] TURNS]",
+    "bench/run compares these with other monitors; bench/schedulers takes those of the schedulers",
 ];
 
 fn show(rt: &impl Print) -> io::Result<()> {
@@ -228,28 +240,33 @@ fn measure_ticket<R: Print + Eprint + Clock + Threads + Wait + Sync>(
     others_on_ticket(rt, alloc, turns)
 }
 
-fn main(rt: HostRuntime) -> io::Result<ExitCode> {
+fn main(rt: HostRuntime) -> anyhow::Result<ExitCode> {
     let mut words = env::args(&rt)?;
     let _name = words.next();
-    let Some(first) = words.next() else {
+    let Some(mut word) = words.next() else {
         show(&rt)?;
         return Ok(ExitCode::SUCCESS);
     };
-    let on_tickets = first.as_str() == "--ticket";
-    let word = if on_tickets {
-        words.next().unwrap_or(first)
-    } else {
-        first
-    };
+    let on_tickets = word.as_str() == "--ticket";
+    if on_tickets {
+        word = words.next().unwrap_or(word);
+    }
+    let of_schedulers = word.as_str() == "--schedulers";
+    if of_schedulers {
+        word = words.next().unwrap_or(word);
+    }
     let Ok(turns) = word.parse::<u64>() else {
-        eprintln!(rt; "usage: monitor_bench [[--ticket] TURNS]")?;
+        eprintln!(rt; "usage: monitor_bench [[--ticket] [--schedulers] TURNS]")?;
         return Ok(ExitCode::from(2));
     };
-    if on_tickets {
-        measure_ticket(&rt, rt.alloc(), turns)?;
-    } else {
-        measure_baton(&rt, rt.alloc(), turns)?;
-        queues::measure(&rt, rt.alloc(), turns / 64)?;
+    match (on_tickets, of_schedulers) {
+        (false, false) => {
+            measure_baton(&rt, rt.alloc(), turns)?;
+            queues::measure(&rt, rt.alloc(), turns / 64)?;
+        }
+        (true, false) => measure_ticket(&rt, rt.alloc(), turns)?,
+        (false, true) => schedulers::measure_baton(&rt, rt.alloc(), turns)?,
+        (true, true) => schedulers::measure_ticket(&rt, rt.alloc(), turns)?,
     }
     Ok(ExitCode::SUCCESS)
 }

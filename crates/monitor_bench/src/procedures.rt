@@ -1,0 +1,189 @@
+//! What one thread does with the procedures of the schedulers, over any monitor: a pair of them so many times. A refusal ends it.
+ghost use Rattle.std.specs.Prelude.{IfOk};
+
+use crate::turns::add_many;
+use hoare_law::monitor::Monitor;
+use hoare_law::unasked::Unasked;
+use plain_schedulers::buffer::Buffer;
+use plain_schedulers::single::Single;
+use std::rt::Clock;
+use std::sync::Wait;
+use std::thread;
+use std::time::Duration;
+use sweep_schedulers::head::Head;
+use sweep_schedulers::readers_writers::{NoReader, ReadPass, ReadersWriters};
+use timed_schedulers::pool::Pool;
+
+/// How many cylinders the disk has.
+pub const CYLINDERS: u16 = 1024;
+
+/// Comes in, adds one and goes out.
+pub fn enter_leave<R: Wait, M: Monitor<Unasked<u64, 1>>>(
+    rt: &R,
+    m: &M,
+    out: M::Out,
+    turns: u64,
+) -> anyhow::Result<()>
+    requires { M.is_of m.now out }
+{
+    add_many(rt, m, out, turns);
+    Ok(())
+}
+
+/// Takes the item out and puts the next in.
+pub fn acquire_release<R: Wait, M: Monitor<Single<u64>>>(
+    rt: &R,
+    m: &M,
+    out: M::Out,
+    turns: u64,
+) -> anyhow::Result<()>
+    requires { M.is_of m.now out }
+{
+    let mut out = out;
+    for _ in 0..turns {
+        let (again, item) = Single::acquire(m, rt, out);
+        let (again, released) = Single::release(m, rt, again, item.wrapping_add(1));
+        released?;
+        out = again;
+    }
+    Ok(())
+}
+
+/// Puts the numbers below `turns` in, and takes each out again.
+pub fn append_remove<R: Wait, M: Monitor<Buffer<u64>>>(
+    rt: &R,
+    m: &M,
+    out: M::Out,
+    turns: u64,
+) -> anyhow::Result<()>
+    requires { M.is_of m.now out }
+{
+    let mut out = out;
+    for item in 0..turns {
+        let again = Buffer::append(m, rt, out, item);
+        let (again, _removed) = Buffer::remove(m, rt, again);
+        out = again;
+    }
+    Ok(())
+}
+
+/// Takes so many buffers for stream 0, and keeps them.
+pub fn take_many<R: Wait, M: Monitor<Pool>>(
+    rt: &R,
+    m: &M,
+    out: M::Out,
+    count: u32,
+) -> anyhow::Result<M::Out>
+    requires { M.is_of m.now out }
+    ensures { IfOk result (λ o. M.is_of m.now o) }
+{
+    let mut out = out;
+    for _ in 0..count {
+        let (again, taken) = Pool::take(m, rt, out, 0);
+        taken?;
+        out = again;
+    }
+    Ok(out)
+}
+
+/// Takes a buffer for stream 0, and gives it back.
+pub fn take_give<R: Wait, M: Monitor<Pool>>(
+    rt: &R,
+    m: &M,
+    out: M::Out,
+    turns: u64,
+) -> anyhow::Result<()>
+    requires { M.is_of m.now out }
+{
+    let mut out = out;
+    for _ in 0..turns {
+        let (again, taken) = Pool::take(m, rt, out, 0);
+        let (again, given) = Pool::give(m, rt, again, 0, taken?);
+        given?;
+        out = again;
+    }
+    Ok(())
+}
+
+/// Takes the drive to the next cylinder, and puts it in again.
+pub fn request_release<R: Wait, M: Monitor<Head<u64>>>(
+    rt: &R,
+    m: &M,
+    out: M::Out,
+    turns: u64,
+) -> anyhow::Result<()>
+    requires { M.is_of m.now out }
+{
+    let mut out = out;
+    for turn in 0..turns {
+        let dest = (turn % u64::from(CYLINDERS)) as u16;
+        let (again, drive) = Head::request(m, rt, out, dest);
+        let (again, released) = Head::release(m, rt, again, drive?);
+        released?;
+        out = again;
+    }
+    Ok(())
+}
+
+// Says that a read can't be ended, and never returns: a pass can't be let go, so who still has one can't return without it.
+fn stay<R: Wait + Eprint + Clock>(rt: &R, refused: NoReader) -> ! {
+    let _told = eprintln!(rt; "monitor_bench: end_read: {refused}");
+    for _ in rt.forever() {
+        thread::sleep(rt, Duration::from_secs(60));
+    }
+    unreachable!()
+}
+
+// Ends a read.
+fn end_read<R: Wait + Eprint + Clock, M: Monitor<ReadersWriters<u64>>>(
+    rt: &R,
+    m: &M,
+    out: M::Out,
+    pass: ReadPass,
+) -> M::Out
+    requires { M.is_of m.now out }
+    ensures { M.is_of m.now result }
+{
+    let (out, ended) = ReadersWriters::end_read(m, rt, out, pass);
+    match ended {
+        Ok(()) => out,
+        Err(refused) => stay(rt, refused),
+    }
+}
+
+/// Goes in as a reader, and out again.
+pub fn start_end_read<R: Wait + Eprint + Clock, M: Monitor<ReadersWriters<u64>>>(
+    rt: &R,
+    m: &M,
+    out: M::Out,
+    turns: u64,
+) -> anyhow::Result<()>
+    requires { M.is_of m.now out }
+{
+    let mut out = out;
+    for _ in 0..turns {
+        let (again, read) = ReadersWriters::start_read(m, rt, out);
+        let (pass, _value) = read?;
+        out = end_read(rt, m, again, pass);
+    }
+    Ok(())
+}
+
+/// Goes in as the writer, and out again with the next value.
+pub fn start_end_write<R: Wait, M: Monitor<ReadersWriters<u64>>>(
+    rt: &R,
+    m: &M,
+    out: M::Out,
+    turns: u64,
+) -> anyhow::Result<()>
+    requires { M.is_of m.now out }
+{
+    let mut out = out;
+    for _ in 0..turns {
+        let (again, value) = ReadersWriters::start_write(m, rt, out);
+        let (again, written) = ReadersWriters::end_write(m, rt, again, value.wrapping_add(1));
+        written?;
+        out = again;
+    }
+    Ok(())
+}

@@ -1,0 +1,129 @@
+//! What is measured of the alarm clock, over any monitor: its procedures alone, and threads that sleep until the next tick.
+ghost use Rattle.std.specs.Prelude.{All};
+
+use hoare_law::monitor::Monitor;
+use hoare_law::waits::Waits;
+use std::sync::Wait;
+use std::sync::atomic::{AtomicU64, Ordering};
+use std::thread;
+use std::thread::Threads;
+use timed_schedulers::alarm::Alarm;
+
+/// A monitor of an alarm clock that threads share.
+pub trait SharedAlarm: Monitor<Alarm> + Sync {}
+
+impl<M: Monitor<Alarm> + Sync> SharedAlarm for M {}
+
+/// Sets the next time, so many times.
+pub fn tick_many<R: Wait, M: Monitor<Alarm>>(
+    rt: &R,
+    m: &M,
+    out: M::Out,
+    turns: u64,
+) -> anyhow::Result<()>
+    requires { M.is_of m.now out }
+{
+    let mut out = out;
+    for _ in 0..turns {
+        let (again, ticked) = Alarm::tick(m, rt, out);
+        ticked?;
+        out = again;
+    }
+    Ok(())
+}
+
+// Sleeps for so many ticks, so many times.
+fn sleep_many<R: Wait, M: Monitor<Alarm>>(
+    rt: &R,
+    m: &M,
+    out: M::Out,
+    ticks: u64,
+    turns: u64,
+) -> anyhow::Result<()>
+    requires { M.is_of m.now out }
+{
+    let mut out = out;
+    for _ in 0..turns {
+        let (again, woke) = Alarm::wakeme(m, rt, out, ticks);
+        woke?;
+        out = again;
+    }
+    Ok(())
+}
+
+/// Sleeps for no tick, so many times: it returns at once.
+pub fn wake_many<R: Wait, M: Monitor<Alarm>>(
+    rt: &R,
+    m: &M,
+    out: M::Out,
+    turns: u64,
+) -> anyhow::Result<()>
+    requires { M.is_of m.now out }
+{
+    sleep_many(rt, m, out, 0, turns)
+}
+
+// Ticks whenever all that aren't done sleep, until all are done. (At the last time nobody sleeps: so nobody is left sleeping where
+// the tick is refused.)
+fn tick_all<R: Wait, M: Monitor<Alarm>>(
+    rt: &R,
+    m: &M,
+    out: M::Out,
+    sleepers: u64,
+    done: &AtomicU64,
+) -> anyhow::Result<()>
+    requires { M.is_of m.now out }
+{
+    let mut out = out;
+    for _ in rt.forever() {
+        let left = sleepers.saturating_sub(done.load(Ordering::SeqCst));
+        if left == 0 {
+            return Ok(());
+        }
+        let inside = m.enter(rt, out);
+        let asleep = m.lists(&inside).count(0) as u64;
+        out = m.leave(rt, inside);
+        if asleep < left {
+            thread::yield_now();
+        } else {
+            let (again, ticked) = Alarm::tick(m, rt, out);
+            ticked?;
+            out = again;
+        }
+    }
+    unreachable!()
+}
+
+/// All but the last to come sleep until the next tick, so many times; the last ticks whenever all of them sleep.
+pub fn sleep_and_tick<R: Threads + Wait + Sync, M: SharedAlarm>(
+    rt: &R,
+    m: &M,
+    places: Vec<M::Out>,
+    sleepers: u64,
+    turns: u64,
+) -> anyhow::Result<()>
+where
+    M::Lists: Send,
+    requires { All (M.is_of m.now) places.items }
+{
+    let (roles, done) = (AtomicU64::new(0), AtomicU64::new(0));
+    let ended = thread::map_vec(
+        rt,
+        places,
+        &|out| -> anyhow::Result<()>
+            requires { M.is_of m.now out }
+        {
+            if roles.fetch_add(1, Ordering::SeqCst) < sleepers {
+                let slept = sleep_many(rt, m, out, 1, turns);
+                done.fetch_add(1, Ordering::SeqCst);
+                slept
+            } else {
+                tick_all(rt, m, out, sleepers, &done)
+            }
+        },
+    )?;
+    for one in ended {
+        one?;
+    }
+    Ok(())
+}

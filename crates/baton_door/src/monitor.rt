@@ -12,7 +12,6 @@ use crate::word::{DOOR, HELD, owed};
 use crossbeam_utils::sync::Parker;
 use door_frame::calls;
 use door_frame::departure::Departure;
-use door_frame::looks::LOOKS;
 use door_frame::parcel::Parcel;
 use door_frame::plays::DoorSeat;
 use door_frame::slot::take_parcel;
@@ -47,7 +46,7 @@ impl<D: MonitorData> Turnstile<D> for Door<D> {
     ) -> Parcel<D> {
         let table = &self.table;
         let mine = owed(place);
-        self.look_for(mine, LOOKS);
+        self.look_for(mine);
         for _ in rt.forever() {
             if table
                 .shared

@@ -5,11 +5,10 @@ ghost use Rattle.baton_door.specs.Newcomers.{IsOutside, IsLetIn};
 use crate::door::Door;
 use crate::rule::Admit;
 use crate::word::{DOOR, FREE, HELD};
-use door_frame::looks;
+use crossbeam_utils::Backoff;
 use door_frame::plays::DoorSeat;
 use hoare_law::data::MonitorData;
 use std::sync::Wait;
-use std::thread;
 
 impl<D: MonitorData> Door<D> {
     /// One try of a newcomer: whether the monitor was free, and the place is in.
@@ -27,8 +26,7 @@ impl<D: MonitorData> Door<D> {
             == FREE
     }
 
-    /// Tries until the place is in: whenever the word is seen to be `FREE`. It yields where it looked in vain, and at each
-    /// eighth lost race.
+    /// Tries until the place is in: whenever the word is seen to be `FREE`. Between the tries it spins, and later yields.
     #[inline(never)]
     pub(crate) fn keep_trying<R: Wait>(&self, rt: &R, seat: &mut DoorSeat<D>)
         requires table { seat.old.table_id ≡ self.now.table }
@@ -36,16 +34,12 @@ impl<D: MonitorData> Door<D> {
         ensures table { seat.new.table_id ≡ seat.old.table_id }
         ensures let_in { IsLetIn D.rest D.ready seat.old.me seat.new.me }
     {
-        let mut lost = 0u32;
+        let backoff = Backoff::new();
         for _ in rt.forever() {
-            let seen = self.look_for(FREE, looks::NEWCOMER);
-            if seen && self.try_enter(seat) {
+            if self.look_for(FREE) && self.try_enter(seat) {
                 return;
             }
-            lost = lost.wrapping_add(1);
-            if !seen || lost % looks::LOST_RACES == 0 {
-                thread::yield_now();
-            }
+            backoff.snooze();
         }
         unreachable!()
     }

@@ -12,6 +12,7 @@ ghost use Rattle.door_frame.specs.Seats.{GoesOut};
 use crate::door::Door;
 use crate::word::{DOOR, word_of_next};
 use door_frame::departure::Departure;
+use door_frame::looks::LOOKS;
 use door_frame::parcel::Parcel;
 use door_frame::plays::{DoorSeat, Give, PickedEvent};
 use door_frame::slot::lay_parcel;
@@ -20,9 +21,9 @@ use std::hint;
 use wait_book::steps::Next;
 
 impl<D: MonitorData> Door<D> {
-    /// Looks at the word so often, until it has this number: whether it was seen.
-    pub(crate) fn look_for(&self, wanted: u64, looks: u32) -> bool {
-        for _ in 0..looks {
+    /// Looks at the word a while, until it has this number: whether it was seen.
+    pub(crate) fn look_for(&self, wanted: u64) -> bool {
+        for _ in 0..LOOKS {
             if self.table.shared.peek(DOOR) == wanted {
                 return true;
             }

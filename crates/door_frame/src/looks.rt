@@ -1,17 +1,11 @@
 //! How long places look at a word before they sleep or yield: the numbers of both doors, and their reasons. What was measured
 //! stands in docs/MEASURES.md, "How places wait".
 
-/// How often a waiter or a signaller looks, with the spin hint between, before it sleeps on its parker. A look costs some
-/// nanoseconds and a sleep with its waking several thousand: most hand-overs come while it still looks. More looks take the
-/// processor from the place that is waited for, where there are fewer cores than threads.
+/// How often a waiter or a signaller looks, with the spin hint between, before it sleeps on its parker, and a newcomer that races
+/// for the word before it backs off. A look costs some nanoseconds and a sleep with its waking several thousand: most hand-overs
+/// come while it still looks. More looks take the processor from the place that is waited for, where there are fewer cores than
+/// threads.
 pub const LOOKS: u32 = 500;
-
-/// How often a newcomer that races for the word looks before it yields. Each look takes the word's line of the cache from who is
-/// inside; but where it pauses longer between two looks, the monitor stands empty as long.
-pub const NEWCOMER: u32 = 1000;
-
-/// It yields at each lost race of so many, and else tries again at once: who won it needs a processor.
-pub const LOST_RACES: u32 = 8;
 
 /// How often a newcomer whose ticket is the next looks before it yields. One that is further off looks as often less as it
 /// has tickets to go: exactly one thread can come in, and who isn't running when its ticket is served holds up all others.

@@ -1,8 +1,1 @@
-pub mod OffDisk
-pub mod JobFiles
-pub mod Progress
-pub mod Sorted
-pub mod Gathered
-pub mod Lines
-pub mod Limits
 pub mod Seats

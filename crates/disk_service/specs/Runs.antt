@@ -2,13 +2,13 @@
 use Rattle.std.specs.Prelude.{ℕ, ◌≡◌, ◌⊎◌, List, [], Option, Result, Ok, Err}
 use Rattle.std.specs.Io.KnownBytes.{Appends}
 use Rattle.line_text.specs.Streams.{AppendsPrefix}
-use Rattle.disk_service.specs.declared.fault.ServiceFault.{ServiceFault}
-use Rattle.disk_service.specs.declared.fault.ServiceFault.TheVariants as faults
-use Rattle.disk_service.specs.JobLists.{JobList}
-use Rattle.disk_service.specs.JobTexts.{jobs_of}
-use Rattle.disk_service.specs.Readings.{BreaksOff, Gives}
-use Rattle.disk_service.specs.Reports.{report_text}
-use Rattle.disk_service.specs.Services.{service}
+use Rattle.disk_jobs.specs.declared.fault.ServiceFault.{ServiceFault}
+use Rattle.disk_jobs.specs.declared.fault.ServiceFault.TheVariants as faults
+use Rattle.disk_jobs.specs.JobLists.{JobList}
+use Rattle.disk_jobs.specs.JobTexts.{jobs_of}
+use Rattle.disk_jobs.specs.Readings.{BreaksOff, Gives}
+use Rattle.disk_jobs.specs.Reports.{report_text}
+use Rattle.disk_jobs.specs.Services.{service}
 
 -- the text spells jobs, and was read to its end
 abbrev pub Spells : List ℕ → List ℕ → Type 0

@@ -7,8 +7,8 @@ ghost use Rattle.door_frame.specs.Seats.{GoesOut};
 ghost use Rattle.door_frame.specs.Departures.{event_of};
 ghost use Rattle.disk_service.specs.Doors.{AreFirst, id_of, terms};
 
-use crate::fault::ServiceFault;
-use crate::kind::Kind;
+use disk_jobs::fault::ServiceFault;
+use disk_jobs::kind::Kind;
 use baton_door::door::Door;
 use crossbeam_utils::sync::Parker;
 use door_frame::calls;

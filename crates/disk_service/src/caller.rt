@@ -4,7 +4,7 @@ ghost use Rattle.disk_service.specs.Doors.{IsSeat};
 
 use crate::data::{Board, Item};
 use crate::doors::Doors;
-use crate::jobs::Jobs;
+use disk_jobs::jobs::Jobs;
 use crate::seat::Seat;
 use plain_schedulers::buffer::Buffer;
 use std::sync::Wait;

@@ -1,5 +1,5 @@
 //! What lies in the monitors of the service.
-use crate::done::Done;
+use disk_jobs::done::Done;
 
 /// What the buffer brings to a worker.
 #[derive(Clone, Copy, Debug, PartialEq, Eq)]

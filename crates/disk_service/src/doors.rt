@@ -4,9 +4,9 @@ ghost use Rattle.disk_service.specs.Doors.{AreSized, AreThere};
 
 use crate::any_door::AnyDoor;
 use crate::data::{Board, Drive, Item, Totals};
-use crate::fault::ServiceFault;
-use crate::jobs::Jobs;
-use crate::kind::Kind;
+use disk_jobs::fault::ServiceFault;
+use disk_jobs::jobs::Jobs;
+use disk_jobs::kind::Kind;
 use crate::places::Places;
 use plain_schedulers::buffer::Buffer;
 use plain_schedulers::single::Single;

@@ -1,14 +1,14 @@
 //! From a job file to the report of its service.
 ghost use Rattle.std.specs.Prelude.{◌≡◌, ◌*◌, ◌||◌};
 ghost use Rattle.line_text.specs.Streams.{HasRead, Reads, ReadsFrom, has_read_failed, has_write_failed, reader_name, writer_inside, writer_name};
-ghost use Rattle.disk_service.specs.Faults.{is_read_fault, is_write_fault};
+ghost use Rattle.disk_jobs.specs.Faults.{is_read_fault, is_write_fault};
 ghost use Rattle.disk_service.specs.Runs.{Serves};
 
-use crate::fault::ServiceFault;
+use disk_jobs::fault::ServiceFault;
 use crate::gate::NoGate;
-use crate::kind::Kind;
-use crate::reading::{MOST_LINES, read_jobs_watched};
-use crate::report::write_report_watched;
+use disk_jobs::kind::Kind;
+use disk_jobs::reading::{MOST_LINES, read_jobs_watched};
+use disk_jobs::report::write_report_watched;
 use crate::serving::serve_on;
 use line_text::reader::WatchedReader;
 use line_text::writer::WatchedWriter;

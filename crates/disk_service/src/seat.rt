@@ -4,7 +4,7 @@ ghost use Rattle.disk_service.specs.Doors.{IsSeat};
 ghost use Rattle.disk_service.specs.declared.doors.Doors.{Doors};
 
 use crate::data::{Board, Drive, Item, Totals};
-use crate::done::Done;
+use disk_jobs::done::Done;
 use crate::doors::Doors;
 use door_frame::place::Outside;
 use plain_schedulers::buffer::Buffer;

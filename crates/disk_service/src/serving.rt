@@ -1,17 +1,17 @@
 //! The service.
 ghost use Rattle.std.specs.Prelude.{◌≡◌, vec_len, IfOk, IfErr};
-ghost use Rattle.disk_service.specs.Faults.{IsOfService};
-ghost use Rattle.disk_service.specs.Reports.{account_of};
-ghost use Rattle.disk_service.specs.Services.{service};
+ghost use Rattle.disk_jobs.specs.Faults.{IsOfService};
+ghost use Rattle.disk_jobs.specs.Reports.{account_of};
+ghost use Rattle.disk_jobs.specs.Services.{service};
 
-use crate::done::Done;
+use disk_jobs::done::Done;
 use crate::doors::Doors;
-use crate::fault::ServiceFault;
+use disk_jobs::fault::ServiceFault;
 use crate::gate::Gate;
-use crate::gathering::gather;
-use crate::jobs::Jobs;
-use crate::kind::Kind;
-use crate::report::Report;
+use disk_jobs::gathering::gather;
+use disk_jobs::jobs::Jobs;
+use disk_jobs::kind::Kind;
+use disk_jobs::report::Report;
 use crate::threads::{Desk, run_threads};
 use std::alloc::{AllocError, Global};
 use std::sync::Wait;

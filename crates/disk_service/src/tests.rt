@@ -1,8 +1,4 @@
-mod failures;
-mod gathering;
 mod limit;
-mod lines;
 mod meeting;
-mod parts;
 mod rows;
 mod workers;

@@ -2,16 +2,16 @@
 ghost use Rattle.std.specs.Prelude.{◌≡◌, ◌+◌, ◌≤◌, IfOk, IfErr};
 ghost use Rattle.disk_service.specs.Doors.{AreThere, IsSeat};
 ghost use Rattle.disk_service.specs.Desks.{IsReady, IsStaffed};
-ghost use Rattle.disk_service.specs.Faults.{IsOfService};
+ghost use Rattle.disk_jobs.specs.Faults.{IsOfService};
 ghost use Rattle.disk_service.specs.declared.doors.Doors.{Doors};
 
 use crate::caller::{close_board, hand_on_jobs, stop_workers};
 use crate::clock::tick_on;
-use crate::done::Done;
+use disk_jobs::done::Done;
 use crate::doors::Doors;
-use crate::fault::ServiceFault;
+use disk_jobs::fault::ServiceFault;
 use crate::gate::Gate;
-use crate::jobs::Jobs;
+use disk_jobs::jobs::Jobs;
 use crate::places::Places;
 use crate::seat::{Seat, SeatBack};
 use crate::worker::work;

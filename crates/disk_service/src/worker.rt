@@ -3,10 +3,10 @@ ghost use Rattle.std.specs.Prelude.{◌≡◌};
 ghost use Rattle.disk_service.specs.Doors.{IsSeat};
 
 use crate::data::{Board, Item};
-use crate::done::Done;
+use disk_jobs::done::Done;
 use crate::doors::Doors;
 use crate::gate::Gate;
-use crate::jobs::Jobs;
+use disk_jobs::jobs::Jobs;
 use crate::seat::Seat;
 use plain_schedulers::buffer::Buffer;
 use plain_schedulers::single::Single;

@@ -1,0 +1,53 @@
+-- What a job file is told, by how its next line ends.
+use Rattle.std.proofs.Common.{◌≡◌, ◌≢◌, ℕ, ◌+◌, ◌<◌, ◌≤◌, List, [], ◌∷◌, ◌++◌, length, Option, Some, Err, false}
+use Rattle.std.proofs.Common.{refl, ap, sym, ◌∙◌, append_assoc, length-append, arith}
+use Rattle.std.specs.List.{slice_split}
+use Rattle.std.proofs.lemmas.Bool.{lt-ltb, le-ltb, ne_eqb}
+use Rattle.std.proofs.lemmas.List.Elements.{All-push}
+use Rattle.std.proofs.lemmas.List.Splits.{slice_split_at, slice_split_none}
+use Rattle.line_text.proofs.Spelling.{slice_split-some, slice_split-prefix}
+use Rattle.line_text.specs.Line.{NoNewline, is_newline}
+use Rattle.disk_jobs.specs.declared.fault.ServiceFault.TheVariants.{BadLine}
+use Rattle.disk_jobs.specs.JobLists.{JobList}
+use Rattle.disk_jobs.specs.JobTexts.{Ending, one_line, then_on, told_lines, told_from}
+
+-- a line that others follow
+told_lines-line : (e : Ending) (s : Option JobList) (i : ℕ) (l : List ℕ) (parts : List (List ℕ)) → (parts ≡ [] → ⊥) → length l ≤ 256
+    → told_lines e s i (l ∷ parts) ≡ then_on (one_line s i l) (λ j. told_lines e (Some j) (i + 1) parts)
+told_lines-line e s i l [] n h = absurd (n refl)
+told_lines-line e s i l (p ∷ ps) n h = rw (le-ltb 256 (length l) h) refl
+
+-- a line of over 256 bytes
+told_lines-long : (e : Ending) (s : Option JobList) (i : ℕ) (l : List ℕ) (parts : List (List ℕ)) → 256 < length l
+    → told_lines e s i (l ∷ parts) ≡ Err (BadLine i)
+told_lines-long e s i l [] h = rw (lt-ltb 256 (length l) h) refl
+told_lines-long e s i l (p ∷ ps) h = rw (lt-ltb 256 (length l) h) refl
+
+-- a line that its end of line ends
+pub told_from-line : (e : Ending) (s : Option JobList) (i : ℕ) (l x : List ℕ) → NoNewline l → length l ≤ 256
+    → told_from e s i (l ++ 10 ∷ x) ≡ then_on (one_line s i l) (λ j. told_from e (Some j) (i + 1) x)
+unfolding told_from
+told_from-line e s i l x n h =
+    ap (told_lines e s i) (slice_split_at is_newline l 10 x n refl)
+    ∙ told_lines-line e s i l (slice_split is_newline x) (slice_split-some is_newline x) h
+
+-- a line that is too long
+pub told_from-long_line : (e : Ending) (s : Option JobList) (i : ℕ) (l : List ℕ) (b : ℕ) (x : List ℕ) → NoNewline l → b ≢ 10 → length l ≡ 256
+    → told_from e s i (l ++ b ∷ x) ≡ Err (BadLine i)
+unfolding told_from
+told_from-long_line e s i l b x n d h =
+    let f : (p : List ℕ) × (ps : List (List ℕ)) × (slice_split is_newline ((l ++ b ∷ []) ++ x) ≡ ((l ++ b ∷ []) ++ p) ∷ ps) =
+    slice_split-prefix (l ++ b ∷ []) x (All-push (λ c. is_newline c ≡ false) l b n (ne_eqb b 10 d)) in
+    ap (λ t. told_lines e s i (slice_split is_newline t)) (sym (append_assoc l (b ∷ []) x))
+    ∙ ap (told_lines e s i) f.2
+    ∙ told_lines-long e s i ((l ++ b ∷ []) ++ f.0) f.1
+    (omega (arith, length-append (l ++ b ∷ []) f.0, length-append l (b ∷ [])))
+
+-- what follows the last whole line
+told_lines-last : (e : Ending) (s : Option JobList) (i : ℕ) (l : List ℕ) → length l ≤ 256 → told_lines e s i (l ∷ []) ≡ e s i l
+told_lines-last e s i l h = rw (le-ltb 256 (length l) h) refl
+
+-- the end of the input, or of what could be read
+pub told_from-end : (e : Ending) (s : Option JobList) (i : ℕ) (l : List ℕ) → NoNewline l → length l ≤ 256 → told_from e s i l ≡ e s i l
+unfolding told_from
+told_from-end e s i l n h = ap (told_lines e s i) (slice_split_none is_newline l n) ∙ told_lines-last e s i l h

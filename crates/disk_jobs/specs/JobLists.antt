@@ -1,0 +1,38 @@
+-- The jobs of a service, and which can't be.
+use Rattle.std.specs.Prelude.{ℕ, suc, ◌<◌, ◌≤◌, nat_lt, nat_le, ◌&&◌, not, if◌then◌else◌, List, [], ◌∷◌, ◌++◌, length, Option, Some, None}
+use Rattle.disk_jobs.specs.declared.jobs.BadJobs.{BadJobs}
+use Rattle.disk_jobs.specs.declared.jobs.BadJobs.TheVariants.{BadWorkers, TooMany, OffDisk}
+use Rattle.disk_jobs.specs.declared.jobs.TheConstants.{MOST_JOBS, MOST_WORKERS}
+
+-- the last cylinder of the disk, the number of workers, and the cylinder of each job
+pub record JobList : Type 0 where
+  pub cylmax : ℕ
+  pub workers : ℕ
+  pub cylinders : List ℕ
+
+abbrev pub job_list : ℕ → ℕ → List ℕ → JobList
+job_list m w cs = record { cylmax = m; workers = w; cylinders = cs }
+
+abbrev pub with_job : JobList → ℕ → JobList
+with_job j c = job_list j.cylmax j.workers (j.cylinders ++ c ∷ [])
+
+pub record IsInLimits (j : JobList) : Type 0 where
+  pub some : 0 < j.workers
+  pub few : j.workers ≤ MOST_WORKERS
+  pub room : length j.cylinders ≤ MOST_JOBS
+
+-- the first job from number i on whose cylinder is past the last one
+abbrev pub off_disk : ℕ → ℕ → List ℕ → Option ℕ
+off_disk cylmax i [] = None
+off_disk cylmax i (c ∷ cs) = if nat_lt cylmax c then Some i else off_disk cylmax (suc i) cs
+
+abbrev pub refused_at : Option ℕ → Option BadJobs
+refused_at None = None
+refused_at (Some i) = Some (OffDisk i)
+
+-- why there can't be such jobs, the first reason that applies
+unfoldable pub refusal_of : JobList → Option BadJobs
+refusal_of j =
+    if not (nat_lt 0 j.workers && nat_le j.workers MOST_WORKERS) then Some BadWorkers
+    else (if nat_lt MOST_JOBS (length j.cylinders) then Some TooMany
+    else refused_at (off_disk j.cylmax 0 j.cylinders))

@@ -1,0 +1,71 @@
+-- What a job file spells: its jobs, or its earliest fault.
+use Rattle.std.specs.Prelude.{ℕ, ◌+◌, nat_lt, nat_le, ◌&&◌, if◌then◌else◌, List, [], ◌∷◌, length, Option, Some, None, Result, Ok, Err, codes}
+use Rattle.std.specs.List.{slice_split}
+use Rattle.line_text.specs.declared.line.TheConstants.{LONGEST_LINE}
+use Rattle.line_text.specs.Forms.{one_number, two_numbers}
+use Rattle.line_text.specs.Line.{is_newline}
+use Rattle.disk_jobs.specs.declared.fault.ServiceFault.{ServiceFault}
+use Rattle.disk_jobs.specs.declared.fault.ServiceFault.TheVariants.{BadLine, NoHeader, ReadFault}
+use Rattle.disk_jobs.specs.declared.jobs.TheConstants.{MOST_JOBS, MOST_WORKERS}
+use Rattle.disk_jobs.specs.JobLists.{JobList, job_list, with_job}
+
+-- the jobs so far, or a fault
+abbrev pub Outcome : Type 0
+Outcome = Result JobList ServiceFault
+
+-- line i, which is to be `disk M W`
+abbrev pub header_line : ℕ → Option (ℕ × ℕ) → Outcome
+header_line i None = Err (BadLine i)
+header_line i (Some n) =
+    if nat_le n.0 65535 && (nat_lt 0 n.1 && nat_le n.1 MOST_WORKERS) then Ok (job_list n.0 n.1 [])
+    else Err (BadLine i)
+
+-- line i, which is to be `read C`
+abbrev pub job_line : JobList → ℕ → Option ℕ → Outcome
+job_line j i None = Err (BadLine i)
+job_line j i (Some c) =
+    if nat_le c j.cylmax && nat_lt (length j.cylinders) MOST_JOBS then Ok (with_job j c)
+    else Err (BadLine i)
+
+-- line i: the header where there are no jobs yet, else a job
+unfoldable pub one_line : Option JobList → ℕ → List ℕ → Outcome
+one_line None i line = header_line i (two_numbers (codes "disk") line)
+one_line (Some j) i line = job_line j i (one_number (codes "read") line)
+
+abbrev pub then_on : Outcome → (JobList → Outcome) → Outcome
+then_on (Err f) go = Err f
+then_on (Ok j) go = go j
+
+-- what comes of the bytes after the last whole line, which has number i
+abbrev pub Ending : Type 0
+Ending = Option JobList → ℕ → List ℕ → Outcome
+
+-- the input ends there
+abbrev pub at_end : Ending
+at_end None i [] = Err NoHeader
+at_end (Some j) i [] = Ok j
+at_end s i (b ∷ bs) = one_line s i (b ∷ bs)
+
+-- a read fails there
+abbrev pub at_cut : Ending
+at_cut s i last = Err ReadFault
+
+-- whole lines from number i on, and what follows them
+abbrev pub told_lines : Ending → Option JobList → ℕ → List (List ℕ) → Outcome
+told_lines e s i [] = Err NoHeader
+told_lines e s i (last ∷ []) =
+    if nat_lt LONGEST_LINE (length last) then Err (BadLine i) else e s i last
+told_lines e s i (line ∷ next ∷ lines) =
+    if nat_lt LONGEST_LINE (length line) then Err (BadLine i)
+    else then_on (one_line s i line) (λ j. told_lines e (Some j) (i + 1) (next ∷ lines))
+
+-- from line i on
+unfoldable pub told_from : Ending → Option JobList → ℕ → List ℕ → Outcome
+told_from e s i text = told_lines e s i (slice_split is_newline text)
+
+abbrev pub told : Ending → List ℕ → Outcome
+told e text = told_from e None 1 text
+
+-- the jobs that a text spells, or its earliest fault
+abbrev pub jobs_of : List ℕ → Outcome
+jobs_of text = told at_end text

@@ -1,0 +1,56 @@
+-- What reading a job file answers, and what it leaves of the text.
+use Rattle.std.specs.Prelude.{ℕ, ◌≡◌, ◌⊎◌, ◌+◌, ◌-◌, List, [], ◌++◌, length, drop, Option, Some, None, Result, Ok, Err}
+use Rattle.line_text.specs.declared.line.TheConstants.{LONGEST_LINE}
+use Rattle.line_text.specs.Line.{after_lines}
+use Rattle.disk_jobs.specs.declared.fault.ServiceFault.{ServiceFault}
+use Rattle.disk_jobs.specs.declared.fault.ServiceFault.TheVariants as faults
+use Rattle.disk_jobs.specs.JobLists.{JobList}
+use Rattle.disk_jobs.specs.JobTexts.{Outcome, jobs_of, told, at_cut}
+
+-- what was read has no fault but that it breaks off
+abbrev pub BreaksOff : List ℕ → List ℕ → Type 0
+BreaksOff text left =
+    (read : List ℕ) × (text ≡ read ++ left) × (told at_cut read ≡ Err faults.ReadFault)
+
+-- line i was read and its end, or as much of it as there may be and one byte more
+abbrev pub BehindLine : ℕ → List ℕ → List ℕ → Type 0
+BehindLine i text left =
+    (left ≡ after_lines i text) ⊎ (left ≡ drop (LONGEST_LINE + 1) (after_lines (i - 1) text))
+
+-- what is answered of a text, of which left is left
+abbrev pub Gives : List ℕ → List ℕ → Outcome → Type 0
+Gives text left (Ok j) = (jobs_of text ≡ Ok j) × (left ≡ [])
+Gives text left (Err faults.NoHeader) = (jobs_of text ≡ Err faults.NoHeader) × (left ≡ [])
+Gives text left (Err (faults.BadLine i)) =
+    (jobs_of text ≡ Err (faults.BadLine i)) × BehindLine i text left
+Gives text left (Err faults.ReadFault) = BreaksOff text left
+Gives text left (Err faults.Memory) = BreaksOff text left
+Gives text left (Err faults.Spawn) = ⊥
+Gives text left (Err faults.Torn) = ⊥
+Gives text left (Err faults.WriteFault) = ⊥
+
+-- the jobs, where their lines were read to the end
+abbrev pub shown : Result (Unit {0}) ServiceFault → Option JobList → Outcome
+shown (Err f) s = Err f
+shown (Ok u) None = Err faults.NoHeader
+shown (Ok u) (Some j) = Ok j
+
+abbrev pub GivesTo : List ℕ → List ℕ → Option JobList → Result (Unit {0}) ServiceFault → Type 0
+GivesTo text left s r = Gives text left (shown r s)
+
+-- how many lines the jobs come from
+abbrev pub lines_of : Option JobList → ℕ
+lines_of None = 0
+lines_of (Some j) = length j.cylinders + 1
+
+-- what line i leaves, by what is answered: jobs that go on, or its fault
+abbrev pub Follows : Outcome → ℕ → Option JobList → Result (Unit {0}) ServiceFault → Type 0
+Follows out i None (Ok u) = ⊥
+Follows out i (Some j) (Ok u) = out ≡ Ok j
+Follows out i s (Err faults.Memory) = (j : JobList) × (out ≡ Ok j)
+Follows out i s (Err (faults.BadLine n)) = (n ≡ i) × (out ≡ Err (faults.BadLine i))
+Follows out i s (Err faults.NoHeader) = ⊥
+Follows out i s (Err faults.Spawn) = ⊥
+Follows out i s (Err faults.Torn) = ⊥
+Follows out i s (Err faults.ReadFault) = ⊥
+Follows out i s (Err faults.WriteFault) = ⊥

@@ -1,0 +1,43 @@
+ghost use Rattle.std.specs.Prelude.{◌≡◌};
+ghost use Rattle.disk_jobs.specs.Faults.{status_of};
+
+use thiserror::Error;
+
+/// Why the service gives no report. Lines are counted from 1, the header's.
+#[derive(Clone, Copy, Debug, PartialEq, Eq, Error)]
+pub enum ServiceFault {
+    /// There is no memory for the jobs, or for the service.
+    #[error("fault 1 Memory")]
+    Memory,
+    /// The first line isn't `disk M W` with M up to 65535 and 1 to 16 workers; or a later one isn't `read C` with C up to M, or is
+    /// one job too many; or a line has over 256 bytes.
+    #[error("fault 2 BadLine line {0}")]
+    BadLine(u64),
+    /// The input has no line.
+    #[error("fault 3 NoHeader")]
+    NoHeader,
+    /// A thread can't be started.
+    #[error("fault 4 Spawn")]
+    Spawn,
+    /// The results aren't those of the jobs, or the totals or the board don't agree with them.
+    #[error("fault 5 Torn")]
+    Torn,
+    /// A read failed.
+    #[error("fault 6 ReadFault")]
+    ReadFault,
+    /// A write failed, or took no bytes.
+    #[error("fault 7 WriteFault")]
+    WriteFault,
+}
+
+impl ServiceFault {
+    /// The exit status of a program that the fault ends: 2 where the input is at fault, else 3.
+    pub fn status(&self) -> u8
+        ensures { result ≡ status_of self.now }
+    {
+        match self {
+            ServiceFault::BadLine(_) | ServiceFault::NoHeader => 2,
+            _ => 3,
+        }
+    }
+}

@@ -1,0 +1,20 @@
+//! The jobs of a disk service: job files, results, and the report that is gathered of them. Nothing here has a thread.
+#![tactic(auto)]
+
+pub mod done;
+pub mod fault;
+pub mod gathering;
+pub mod jobs;
+pub mod kind;
+pub mod reading;
+pub mod report;
+#[cfg(test)]
+mod tests;
+
+pub use done::Done;
+pub use fault::ServiceFault;
+pub use gathering::gather;
+pub use jobs::{BadJobs, Jobs};
+pub use kind::{Kind, kind_of};
+pub use reading::{read_jobs, read_jobs_watched};
+pub use report::{Report, write_report, write_report_watched};

@@ -1,0 +1,4 @@
+mod failures;
+mod gathering;
+mod lines;
+mod parts;

@@ -7,10 +7,10 @@ ghost use Rattle.door_frame.specs.Seats.{GoesOut};
 ghost use Rattle.door_frame.specs.Departures.{event_of};
 ghost use Rattle.disk_service.specs.Doors.{AreFirst, id_of, terms};
 
-use disk_jobs::fault::ServiceFault;
-use disk_jobs::kind::Kind;
 use baton_door::door::Door;
 use crossbeam_utils::sync::Parker;
+use disk_jobs::fault::ServiceFault;
+use disk_jobs::kind::Kind;
 use door_frame::calls;
 use door_frame::departure::Departure;
 use door_frame::parcel::Parcel;

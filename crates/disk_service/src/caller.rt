@@ -4,8 +4,8 @@ ghost use Rattle.disk_service.specs.Doors.{IsSeat};
 
 use crate::data::{Board, Item};
 use crate::doors::Doors;
-use disk_jobs::jobs::Jobs;
 use crate::seat::Seat;
+use disk_jobs::jobs::Jobs;
 use plain_schedulers::buffer::Buffer;
 use std::sync::Wait;
 use sweep_schedulers::readers_writers::ReadersWriters;

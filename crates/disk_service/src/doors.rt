@@ -4,10 +4,10 @@ ghost use Rattle.disk_service.specs.Doors.{AreSized, AreThere};
 
 use crate::any_door::AnyDoor;
 use crate::data::{Board, Drive, Item, Totals};
+use crate::places::Places;
 use disk_jobs::fault::ServiceFault;
 use disk_jobs::jobs::Jobs;
 use disk_jobs::kind::Kind;
-use crate::places::Places;
 use plain_schedulers::buffer::Buffer;
 use plain_schedulers::single::Single;
 use std::alloc::Global;

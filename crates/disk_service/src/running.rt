@@ -4,12 +4,12 @@ ghost use Rattle.line_text.specs.Streams.{HasRead, Reads, ReadsFrom, has_read_fa
 ghost use Rattle.disk_jobs.specs.Faults.{is_read_fault, is_write_fault};
 ghost use Rattle.disk_service.specs.Runs.{Serves};
 
-use disk_jobs::fault::ServiceFault;
 use crate::gate::NoGate;
+use crate::serving::serve_on;
+use disk_jobs::fault::ServiceFault;
 use disk_jobs::kind::Kind;
 use disk_jobs::reading::{MOST_LINES, read_jobs_watched};
 use disk_jobs::report::write_report_watched;
-use crate::serving::serve_on;
 use line_text::reader::WatchedReader;
 use line_text::writer::WatchedWriter;
 use std::alloc::Global;

@@ -4,8 +4,8 @@ ghost use Rattle.disk_service.specs.Doors.{IsSeat};
 ghost use Rattle.disk_service.specs.declared.doors.Doors.{Doors};
 
 use crate::data::{Board, Drive, Item, Totals};
-use disk_jobs::done::Done;
 use crate::doors::Doors;
+use disk_jobs::done::Done;
 use door_frame::place::Outside;
 use plain_schedulers::buffer::Buffer;
 use plain_schedulers::single::Single;

@@ -4,15 +4,15 @@ ghost use Rattle.disk_jobs.specs.Faults.{IsOfService};
 ghost use Rattle.disk_jobs.specs.Reports.{account_of};
 ghost use Rattle.disk_jobs.specs.Services.{service};
 
-use disk_jobs::done::Done;
 use crate::doors::Doors;
-use disk_jobs::fault::ServiceFault;
 use crate::gate::Gate;
+use crate::threads::{Desk, run_threads};
+use disk_jobs::done::Done;
+use disk_jobs::fault::ServiceFault;
 use disk_jobs::gathering::gather;
 use disk_jobs::jobs::Jobs;
 use disk_jobs::kind::Kind;
 use disk_jobs::report::Report;
-use crate::threads::{Desk, run_threads};
 use std::alloc::{AllocError, Global};
 use std::sync::Wait;
 use std::thread::Threads;

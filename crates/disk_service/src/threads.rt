@@ -7,14 +7,14 @@ ghost use Rattle.disk_service.specs.declared.doors.Doors.{Doors};
 
 use crate::caller::{close_board, hand_on_jobs, stop_workers};
 use crate::clock::tick_on;
-use disk_jobs::done::Done;
 use crate::doors::Doors;
-use disk_jobs::fault::ServiceFault;
 use crate::gate::Gate;
-use disk_jobs::jobs::Jobs;
 use crate::places::Places;
 use crate::seat::{Seat, SeatBack};
 use crate::worker::work;
+use disk_jobs::done::Done;
+use disk_jobs::fault::ServiceFault;
+use disk_jobs::jobs::Jobs;
 use std::sync::Wait;
 use std::thread;
 use std::thread::{Scope, Threads};

@@ -3,11 +3,11 @@ ghost use Rattle.std.specs.Prelude.{◌≡◌};
 ghost use Rattle.disk_service.specs.Doors.{IsSeat};
 
 use crate::data::{Board, Item};
-use disk_jobs::done::Done;
 use crate::doors::Doors;
 use crate::gate::Gate;
-use disk_jobs::jobs::Jobs;
 use crate::seat::Seat;
+use disk_jobs::done::Done;
+use disk_jobs::jobs::Jobs;
 use plain_schedulers::buffer::Buffer;
 use plain_schedulers::single::Single;
 use std::sync::Wait;

@@ -10,7 +10,6 @@ mod doors;
 mod fairness;
 mod mixed;
 mod procedures;
-mod queues;
 mod schedulers;
 mod sleepers;
 mod turns;
@@ -30,7 +29,7 @@ use std::time::{Duration, Instant};
 use std::{env, io};
 use ticket_door::door::TicketDoor;
 
-const NAMES: [&str; 27] = [
+const NAMES: [&str; 24] = [
     "enter_leave: one thread comes in, adds one and goes out",
     "enter_leave_2, _4, _8: so many threads at once",
     "hand_over: a wait, a signal and the signaller's return, between two threads",
@@ -39,9 +38,6 @@ const NAMES: [&str; 27] = [
     "chain_8: one link of a chain of signallers eight deep",
     "mixed_9: a visit of eight threads that wait with priorities, signal, pass and leave, and a ninth that resumes who waits",
     "wide_enter_leave: as enter_leave, on a monitor of 64 places and 8 conditions",
-    "book_enter_leave: a place comes in and goes out, on a book of queues alone (64 places, 8 conditions)",
-    "book_enter_wait: a place comes in and waits, with up to 62 others waiting",
-    "book_signal_leave: a place is resumed by a signal and goes out, with up to 62 others waiting",
     "others_largest, _mean, _none: how many others were let in between two visits of a place, with eight threads that",
     "       come in and go out, each as soon as it is out: the most, the mean, and how often nobody was, of a hundred",
     "       (the mean is about 7 at most, in whatever order they come in)",
@@ -260,10 +256,7 @@ fn main(rt: HostRuntime) -> anyhow::Result<ExitCode> {
         return Ok(ExitCode::from(2));
     };
     match (on_tickets, of_schedulers) {
-        (false, false) => {
-            measure_baton(&rt, rt.alloc(), turns)?;
-            queues::measure(&rt, rt.alloc(), turns / 64)?;
-        }
+        (false, false) => measure_baton(&rt, rt.alloc(), turns)?,
         (true, false) => measure_ticket(&rt, rt.alloc(), turns)?,
         (false, true) => schedulers::measure_baton(&rt, rt.alloc(), turns)?,
         (true, true) => schedulers::measure_ticket(&rt, rt.alloc(), turns)?,

@@ -1,0 +1,143 @@
+//! Loads on a book of queues: places wait, and signals resume them.
+use std::io;
+use std::rt::Clock;
+use std::time::{Duration, Instant};
+use wait_book::book::Book;
+use wait_book::steps::{Next, Step};
+
+// The last place, which signals the others.
+const SIGNALLER: u64 = 63;
+
+/// How the priorities come, one after another.
+#[derive(Clone, Copy, Debug, PartialEq, Eq)]
+pub enum Order {
+    /// All are one.
+    Equal,
+    /// Each is above those before.
+    Rising,
+    /// Each is below those before.
+    Falling,
+}
+
+impl Order {
+    /// The name of the order.
+    pub fn name(self) -> &'static str {
+        match self {
+            Order::Equal => "equal",
+            Order::Rising => "rising",
+            Order::Falling => "falling",
+        }
+    }
+
+    // The priority of a place, 0 to 62.
+    fn priority(self, place: u64) -> u64 {
+        match self {
+            Order::Equal => 0,
+            Order::Rising => place,
+            Order::Falling => SIGNALLER.saturating_sub(place),
+        }
+    }
+}
+
+/// Who waits: so many places, 1 to 63, on so many conditions in turn, 1 to 8, with priorities in this order.
+#[derive(Clone, Copy)]
+pub struct Load {
+    pub waiters: u64,
+    pub conditions: u64,
+    pub order: Order,
+}
+
+impl Load {
+    // The condition of a place.
+    fn condition(self, place: u64) -> u64 {
+        place % self.conditions.max(1)
+    }
+
+    // Each place comes in and waits.
+    fn enter_and_wait(self, book: &mut Book) {
+        for place in 0..self.waiters {
+            let _entered = book.try_step(Step::Enter(place));
+            let priority = self.order.priority(place);
+            let _waits = book.try_step(Step::Wait(place, self.condition(place), priority));
+        }
+    }
+
+    // The last place signals each condition in turn until nobody waits; who is resumed goes out. How many were resumed.
+    fn signal_and_leave(self, book: &mut Book) -> u64 {
+        let mut resumed = 0u64;
+        let _entered = book.try_step(Step::Enter(SIGNALLER));
+        for turn in 0..self.waiters {
+            let signalled = book.try_step(Step::Signal(SIGNALLER, self.condition(turn)));
+            if let Ok(Next::Held(place)) = signalled {
+                if place as u64 != SIGNALLER {
+                    resumed = resumed.wrapping_add(1);
+                    let _left = book.try_step(Step::Leave(place as u64));
+                }
+            }
+        }
+        let _left = book.try_step(Step::Leave(SIGNALLER));
+        resumed
+    }
+}
+
+/// What steps took, and how many places were resumed.
+#[derive(Clone, Copy)]
+pub struct Spent {
+    pub waits: Duration,
+    pub signals: Duration,
+    pub resumed: u64,
+}
+
+impl Spent {
+    /// Nothing yet.
+    pub const NONE: Spent = Spent {
+        waits: Duration::ZERO,
+        signals: Duration::ZERO,
+        resumed: 0,
+    };
+
+    // With one round more.
+    fn with_round<R: Clock>(self, rt: &R, book: &mut Book, load: Load) -> io::Result<Spent> {
+        let start = Instant::now(rt)?;
+        load.enter_and_wait(book);
+        let waits = start.elapsed(rt)?;
+        let start = Instant::now(rt)?;
+        let resumed = load.signal_and_leave(book);
+        let signals = start.elapsed(rt)?;
+        Ok(Spent {
+            waits: self.waits.saturating_add(waits),
+            signals: self.signals.saturating_add(signals),
+            resumed: self.resumed.wrapping_add(resumed),
+        })
+    }
+}
+
+/// All wait and are resumed, so many times over.
+pub fn spend<R: Clock>(rt: &R, book: &mut Book, load: Load, rounds: u64) -> io::Result<Spent> {
+    let mut spent = Spent::NONE;
+    for _ in 0..rounds {
+        spent = spent.with_round(rt, book, load)?;
+    }
+    Ok(spent)
+}
+
+/// What so many rounds took in which 63 places come in and go out.
+pub fn come_and_go<R: Clock>(rt: &R, book: &mut Book, rounds: u64) -> io::Result<Duration> {
+    let start = Instant::now(rt)?;
+    for round in 0..rounds.saturating_mul(SIGNALLER) {
+        let place = round % SIGNALLER;
+        let _entered = book.try_step(Step::Enter(place));
+        let _left = book.try_step(Step::Leave(place));
+    }
+    start.elapsed(rt)
+}
+
+/// What so many rounds take in which the clock is looked at as often as in a load, and nothing is done.
+pub fn look_at_clock<R: Clock>(rt: &R, rounds: u64) -> io::Result<Duration> {
+    let mut spent = Duration::ZERO;
+    for _ in 0..rounds {
+        let start = Instant::now(rt)?;
+        spent = spent.saturating_add(start.elapsed(rt)?);
+    }
+    Ok(spent)
+}

@@ -1,0 +1,118 @@
+//! Measures what the steps of a book of queues cost, on one thread. Without arguments it names its measurements; `book_bench TURNS`
+//! prints a line `NAME VALUE ns` for each of the first three; with `--orders` before TURNS, for each of the others.
+#![tactic(auto)]
+
+mod loads;
+
+use crate::loads::{Load, Order, come_and_go, look_at_clock, spend};
+use std::alloc::AllocError;
+use std::process::ExitCode;
+use std::rt::Clock;
+use std::time::Duration;
+use std::{env, io};
+use wait_book::book::{Book, MOST_CONDITIONS, MOST_PLACES};
+
+const NAMES: [&str; 10] = [
+    "book_enter_leave: a place comes in and goes out, where nobody waits (64 places, 8 conditions)",
+    "book_enter_wait: a place comes in and waits on the next of eight conditions, with up to 62 others waiting",
+    "book_signal_leave: a place is resumed by a signal and goes out, with up to 62 others waiting",
+    "turns: TURNS in sum for each figure, which is their mean",
+    "with --orders, on one condition:",
+    "book_enter_wait_ORDER_N, book_signal_leave_ORDER_N: so many wait (1, 8 or 63), with priorities that are equal, rising or falling",
+    "clock: two looks at the clock, of which a share is in each figure: once for N waits, and once for N signals",
+    "size: the bytes of a book, without those on the heap",
+    "usage: book_bench [--orders] TURNS",
+    "bench/run takes the first three beside those of the monitors, bench/book the others",
+];
+
+fn show(rt: &impl Print) -> io::Result<()> {
+    for name in NAMES {
+        println!(rt; "{name}")?;
+    }
+    Ok(())
+}
+
+// Nanoseconds for each of so many.
+fn each(spent: Duration, count: u64) -> u128 {
+    spent.as_nanos() / u128::from(count.max(1))
+}
+
+// The three figures of a full book.
+fn measure_full<R: Print + Clock>(rt: &R, book: &mut Book, rounds: u64) -> io::Result<()> {
+    let load = Load {
+        waiters: 63,
+        conditions: 8,
+        order: Order::Falling,
+    };
+    let plain = come_and_go(rt, book, rounds)?;
+    let spent = spend(rt, book, load, rounds)?;
+    let steps = rounds.saturating_mul(63);
+    let (waits, signals) = (
+        each(spent.waits, spent.resumed),
+        each(spent.signals, spent.resumed),
+    );
+    println!(rt; "book_enter_leave {} ns", each(plain, steps))?;
+    println!(rt; "book_enter_wait {waits} ns")?;
+    println!(rt; "book_signal_leave {signals} ns")
+}
+
+// The two figures of so many places that wait on one condition with priorities in this order.
+fn measure_order<R: Print + Clock>(
+    rt: &R,
+    book: &mut Book,
+    order: Order,
+    waiters: u64,
+    rounds: u64,
+) -> io::Result<()> {
+    let load = Load {
+        waiters,
+        conditions: 1,
+        order,
+    };
+    let spent = spend(rt, book, load, rounds.saturating_mul(63) / waiters.max(1))?;
+    let (waits, signals) = (
+        each(spent.waits, spent.resumed),
+        each(spent.signals, spent.resumed),
+    );
+    let name = order.name();
+    println!(rt; "book_enter_wait_{name}_{waiters} {waits} ns")?;
+    println!(rt; "book_signal_leave_{name}_{waiters} {signals} ns")
+}
+
+// The figures of all orders.
+fn measure_orders<R: Print + Clock>(rt: &R, book: &mut Book, rounds: u64) -> io::Result<()> {
+    for order in [Order::Equal, Order::Rising, Order::Falling] {
+        for waiters in [1, 8, 63] {
+            measure_order(rt, book, order, waiters, rounds)?;
+        }
+    }
+    let looks = each(look_at_clock(rt, rounds)?, rounds);
+    println!(rt; "clock {looks} ns")?;
+    println!(rt; "size {} bytes", size_of::<Book>())
+}
+
+fn main(rt: HostRuntime) -> anyhow::Result<ExitCode> {
+    let mut words = env::args(&rt)?;
+    let _name = words.next();
+    let Some(mut word) = words.next() else {
+        show(&rt)?;
+        return Ok(ExitCode::SUCCESS);
+    };
+    let of_orders = word.as_str() == "--orders";
+    if of_orders {
+        word = words.next().unwrap_or(word);
+    }
+    let Ok(turns) = word.parse::<u64>() else {
+        eprintln!(rt; "usage: book_bench [--orders] TURNS")?;
+        return Ok(ExitCode::from(2));
+    };
+    let Ok(mut book) = Book::make(rt.alloc(), MOST_PLACES, MOST_CONDITIONS) else {
+        return Err(io::Error::from(AllocError).into());
+    };
+    if of_orders {
+        measure_orders(&rt, &mut book, turns / 63)?;
+    } else {
+        measure_full(&rt, &mut book, turns / 63)?;
+    }
+    Ok(ExitCode::SUCCESS)
+}

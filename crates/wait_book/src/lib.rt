@@ -2,6 +2,7 @@
 #![tactic(auto)]
 
 pub mod book;
+mod chains;
 mod queues;
 pub mod steps;
 #[cfg(test)]

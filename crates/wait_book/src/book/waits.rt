@@ -2,7 +2,6 @@
 ghost use Rattle.std.specs.Prelude.{◌≡◌, ◌<◌, ℕ, length, slice_index};
 
 use super::Book;
-use crate::queues::{count_on, nth_priority};
 use hoare_law::waits::Waits;
 
 impl Waits for Book {
@@ -20,14 +19,14 @@ impl Waits for Book {
         ensures of { (h : History (Unit {0})) → IsOf self.now h
             → priorities_on self.now condition ≡ priorities h.events condition }
     {
-        count_on(&self.waiters, condition)
+        self.chains.on(condition).count()
     }
 
     fn priority(&self, condition: usize, i: usize) -> u64 {
-        let Some(priority) = nth_priority(&self.waiters, condition, i) else {
+        let Some(link) = self.chains.on(condition).nth(i) else {
             unreachable!();
         };
-        priority
+        link.priority
     }
 
     ghost rise = { λ w c. IsNonDecreasing-in_order

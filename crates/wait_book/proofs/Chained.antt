@@ -1,0 +1,211 @@
+-- What keeps the chains chains: a new node, and one taken out.
+use Rattle.std.proofs.Common.{◌≡◌, ◌≢◌, ◌==◌, ℕ, zero, suc, ◌+◌, ◌<◌, ◌≤◌, Bool, true, false, cond, eqb, is_some, inl, inr, List, [], ◌∷◌, ◌++◌, length, map, get_or, set, Option, Some, None, refl, ap, sym, ◌∙◌, subst, arith}
+use Rattle.std.proofs.lemmas.Bool.{cases_eq, cases_lt}
+use Rattle.std.proofs.lemmas.Bool.Decides.{nat_tests}
+use Rattle.std.proofs.lemmas.List.{get_or-set_same, get_or-set_other, get_or_past, length-set, length-append}
+use Rattle.slab.specs.Slab.{Slab, get, slab_len, ContainsKey, Updates}
+use Rattle.wait_book.specs.declared.chains.Node.{Node}
+use Rattle.wait_book.specs.declared.chains.Chain.{Chain}
+use Rattle.wait_book.specs.declared.chains.Link.{Link}
+use Rattle.wait_book.specs.Contents.{one, times}
+use Rattle.wait_book.specs.Lists.{keys, keys_below, last_from, last_key, list_put}
+use Rattle.wait_book.specs.Chains.{node_of, IsLinked, IsChain, AreChains, Ends, empty, chain_at, held, walked, lists_of}
+use Rattle.wait_book.proofs.Times.{one_same, one_apart, eq_self}
+use Rattle.wait_book.proofs.Nodes.{IsLinked-same, IsLinked-append, linked_none, last_within, last_append, walk_linked, walked_none}
+use Rattle.wait_book.proofs.Lists.{eq_apart, keys_middle, keys_append, length_middle, length_put, length_one, put_same, put_other, times_put, times_one, times_two}
+
+-- where there are no more chains there is no list
+pub beyond : {s : Slab Node} {chains : List Chain} {at : ℕ → List Link} → AreChains s chains at → (c : ℕ) → 9 ≤ c → at c ≡ []
+beyond {s = s} {chains = chains} {at = at} i c l =
+    linked_none s (chain_at chains c).first (at c) (ap (λ (v : Chain). v.first) (get_or_past chains c empty (omega (arith, i.many)))) (i.linked c).linked
+
+-- no list is longer than the slab
+pub chain_few : {s : Slab Node} {chains : List Chain} {at : ℕ → List Link} → AreChains s chains at → (c : ℕ) → length (at c) ≤ slab_len s
+chain_few {at = at} i c =
+    elim (cases_lt c 9) [
+      | inl l ↦ omega (arith, length_one (λ d (x : Link). x.key) 9 c at l, i.counted)
+      | inr m ↦ omega (arith, ap length (beyond i c m))
+    ]
+
+-- so a walk along a chain comes to its end
+pub chain_ends : {s : Slab Node} {chains : List Chain} {at : ℕ → List Link} → AreChains s chains at → (c : ℕ) → Ends s (chain_at chains c).first
+chain_ends {at = at} i c = record { list = at c; linked = (i.linked c).linked; few = chain_few i c }
+
+map_at : (f : Chain → List Link) (chains : List Chain) (c : ℕ) → f empty ≡ [] → get_or (map f chains) c [] ≡ f (get_or chains c empty)
+map_at f [] c e = sym e
+map_at f (x ∷ xs) zero e = refl
+map_at f (x ∷ xs) (suc c) e = map_at f xs c e
+
+-- the list of a chain is what a walk along it gives
+pub lists_walked : (s : Slab Node) (chains : List Chain) (c : ℕ) → get_or (lists_of s chains) c [] ≡ walked s (chain_at chains c).first
+lists_walked s chains c = map_at (λ (v : Chain). walked s v.first) chains c (walked_none s)
+
+pub lists_are : {s : Slab Node} {chains : List Chain} {at : ℕ → List Link} → AreChains s chains at → (c : ℕ) → get_or (lists_of s chains) c [] ≡ at c
+lists_are {s = s} {chains = chains} {at = at} i c =
+    lists_walked s chains c ∙ walk_linked (slab_len s) s (chain_at chains c).first (at c) (i.linked c).linked (chain_few i c)
+
+-- the lists that are seen are those of the chains
+pub AreChains-seen : {s : Slab Node} {chains : List Chain} {at : ℕ → List Link} → AreChains s chains at → AreChains s chains (λ c. get_or (lists_of s chains) c [])
+AreChains-seen {s = s} {chains = chains} {at = at} i =
+    let same : at ≡ (λ c. get_or (lists_of s chains) c []) = λ j c. sym (lists_are i c) j in
+    subst (AreChains s chains) same i
+
+-- where keys stand
+
+-- in two chains no more often than in all
+pub apart : {s : Slab Node} {chains : List Chain} {at : ℕ → List Link} → AreChains s chains at → (k c d : ℕ) → c < 9 → d ≢ c
+    → times k (keys (at c)) + times k (keys (at d)) ≤ held s k
+apart {s = s} {at = at} i k c d l n =
+    elim (cases_lt d 9) [
+      | inl m ↦ omega (arith, times_two (λ e (x : Link). x.key) k 9 c d at l m n, i.once k)
+      | inr m ↦ omega (arith, times_one (λ e (x : Link). x.key) k 9 c at l, i.once k, ap (λ v. times k (keys v)) (beyond i d m))
+    ]
+
+pub held_few : (s : Slab Node) (k : ℕ) → held s k ≤ 1
+held_few s k = elim (is_some (get s k)) as (λ b. cond b 1 0 ≤ 1) [ true ↦ omega arith | false ↦ omega arith ]
+
+held_none : (s : Slab Node) (k : ℕ) → get s k ≡ None → held s k ≡ 0
+held_none s k e = rw e refl
+
+held_some : (s : Slab Node) (k : ℕ) (n : Node) → get s k ≡ Some n → held s k ≡ 1
+held_some s k n e = rw e refl
+
+held_same : (s t : Slab Node) (k : ℕ) → get t k ≡ get s k → held t k ≡ held s k
+held_same s t k e = ap (λ o. cond (is_some o) 1 0) e
+
+-- in one chain once at most
+pub once_in : {s : Slab Node} {chains : List Chain} {at : ℕ → List Link} → AreChains s chains at → (k c : ℕ) → c < 9 → times k (keys (at c)) ≤ held s k
+once_in {at = at} i k c l = omega (arith, times_one (λ e (x : Link). x.key) k 9 c at l, i.once k)
+
+-- one chain changes
+
+-- the chain that was set
+chain_same : (chains : List Chain) (c : ℕ) (v : Chain) → length chains ≡ 9 → c < 9 → chain_at (set chains c v) c ≡ v
+chain_same chains c v m l = get_or-set_same chains c v empty (omega arith)
+
+chains_put : (s : Slab Node) (chains : List Chain) (at : ℕ → List Link) (c : ℕ) (v : Chain) (xs : List Link) → length chains ≡ 9 → c < 9 → IsChain s v xs
+    → ((d : ℕ) → d ≢ c → IsChain s (chain_at chains d) (at d)) → (d : ℕ) → IsChain s (chain_at (set chains c v) d) (list_put c xs at d)
+chains_put s chains at c v xs m l here there d =
+    elim (cases_eq d c) [
+      | inl e ↦
+          let h : IsChain s (chain_at (set chains c v) c) (list_put c xs at c) = rw (chain_same chains c v m l, put_same c xs at) here in
+          subst (λ (j : ℕ). IsChain s (chain_at (set chains c v) j) (list_put c xs at j)) (sym e) h
+      | inr n ↦ rw (get_or-set_other chains c d v empty n, put_other c d xs at n) (there d n)
+    ]
+
+-- a chain whose nodes stayed as they were
+chain_kept : (s t : Slab Node) (v : Chain) (xs : List Link) → ((k : ℕ) → 0 < times k (keys xs) → get t k ≡ get s k) → IsChain s v xs → IsChain t v xs
+chain_kept s t v xs h i = record { linked = IsLinked-same s t v.first xs None h i.linked; last = i.last }
+
+-- a new node
+
+-- what linking a new node does, in two steps: it is stored with the key behind it, and its own key is put behind the one before
+pub record Linking (s mid t : Slab Node) (first behind next first2 : Option ℕ) (x : Link) : Type 0 where
+  pub vacant : get s x.key ≡ None
+  pub stored : Updates s mid x.key (Some (node_of x next))
+  pub linked : (before : List Link) (to : Option ℕ) → IsLinked mid first before to → behind ≡ last_key before → ((k : ℕ) → times k (keys before) ≤ 1)
+      → IsLinked t first2 before (Some x.key)
+  pub others : (k : ℕ) → behind ≢ Some k → get t k ≡ get mid k
+  pub held_on : (k : ℕ) → held t k ≡ held mid k
+  pub longer : slab_len t ≡ slab_len s + 1
+
+module _ {s mid t : Slab Node} {first behind next first2 : Option ℕ} {x : Link} (g : Linking s mid t first behind next first2 x) where
+  -- one node more
+  linking_held : (k : ℕ) → held t k ≡ held s k + one k x.key
+  linking_held k =
+      elim (cases_eq k x.key) [
+        | inl e ↦
+            let h : held t x.key ≡ held s x.key + one x.key x.key =
+            omega (arith, g.held_on x.key, held_some mid x.key _ g.stored.changed, held_none s x.key g.vacant, one_same x.key) in
+            subst (λ (j : ℕ). held t j ≡ held s j + one j x.key) (sym e) h
+        | inr n ↦ omega (arith, g.held_on k, held_same s mid k (g.stored.others k n), one_apart k x.key (eq_apart k x.key n))
+      ]
+
+  -- nodes that are neither new nor before it stay as they were
+  linking_same : (k : ℕ) → 0 < held s k → behind ≢ Some k → get t k ≡ get s k
+  linking_same k h n =
+      let off : k ≢ x.key = λ e. omega (arith, ap (held s) e, held_none s x.key g.vacant) in
+      g.others k n ∙ g.stored.others k off
+
+  -- the list with the new one in its place
+  linking_list : (before after : List Link) → behind ≡ last_key before → ((k : ℕ) → times k (keys (before ++ after)) ≤ held s k)
+      → IsLinked s first before next → IsLinked s next after None → IsLinked t first2 (before ++ x ∷ after) None
+  linking_list before after e once l m =
+      let stays : (k : ℕ) → 0 < times k (keys (before ++ after)) → k ≢ x.key =
+      λ k p q. omega (arith, once k, ap (held s) q, held_none s x.key g.vacant) in
+      let front : IsLinked mid first before next =
+      IsLinked-same s mid first before next (λ k p. g.stored.others k (stays k (omega (arith, keys_append k before after)))) l in
+      let linked : IsLinked t first2 before (Some x.key) =
+      g.linked before next front e (λ k. omega (arith, once k, held_few s k, keys_append k before after)) in
+      let back : IsLinked t next after None = IsLinked-same s t next after None
+      (λ k p. linking_same k (omega (arith, once k, keys_append k before after))
+      (λ b. omega (arith, once k, held_few s k, keys_append k before after, last_within k before (sym e ∙ b)))) m in
+      let own : get t x.key ≡ Some (node_of x next) =
+      g.others x.key (λ b. omega (arith, once x.key, held_none s x.key g.vacant, keys_append x.key before after, last_within x.key before (sym e ∙ b))) ∙ g.stored.changed in
+      IsLinked-append t first2 before (Some x.key) (x ∷ after) None linked (refl, next, own, back)
+
+-- its last key
+pub last_put : (s : Slab Node) (last next : Option ℕ) (before : List Link) (x : Link) (after : List Link) → last ≡ last_key (before ++ after) → IsLinked s next after None
+    → cond (is_some next) last (Some x.key) ≡ last_key (before ++ x ∷ after)
+last_put s last next before x [] e l = let n : next ≡ None = l in rw n (sym (last_append None before x []))
+last_put s last next before x (y ∷ ys) e l =
+    let n : next ≡ Some y.key = l.0 in
+    rw n (e ∙ last_append None before y ys ∙ sym (last_append None before x (y ∷ ys)))
+
+-- the chains with a new node
+pub AreChains-linked : {s mid t : Slab Node} {chains : List Chain} {at : ℕ → List Link} {behind next first2 : Option ℕ} {x : Link} (c : ℕ) (before after : List Link)
+    → AreChains s chains at → c < 9 → Linking s mid t (chain_at chains c).first behind next first2 x → at c ≡ before ++ after → behind ≡ last_key before
+    → IsLinked s (chain_at chains c).first before next → IsLinked s next after None
+    → AreChains t (set chains c (record { first = first2; last = cond (is_some next) (chain_at chains c).last (Some x.key) })) (list_put c (before ++ x ∷ after) at)
+AreChains-linked {s = s} {t = t} {chains = chains} {at = at} {behind = behind} {next = next} {x = x} c before after i l g is e front back =
+    let once : (k : ℕ) → times k (keys (before ++ after)) ≤ held s k = λ k. omega (arith, once_in i k c l, ap (λ v. times k (keys v)) is) in
+    let here = record {
+      linked = linking_list g before after e once front back;
+      last = last_put s (chain_at chains c).last next before x after ((i.linked c).last ∙ ap last_key is) back;
+    } in
+    let there : (d : ℕ) → d ≢ c → IsChain t (chain_at chains d) (at d) =
+    λ d n. chain_kept s t (chain_at chains d) (at d) (λ k p.
+    linking_same g k (omega (arith, apart i k c d l n))
+    (λ b. omega (arith, apart i k c d l n, held_few s k, ap (λ v. times k (keys v)) is, keys_append k before after, last_within k before (sym e ∙ b)))) (i.linked d) in
+    record {
+      many = length-set chains c _ ∙ i.many;
+      linked = chains_put t chains at c _ (before ++ x ∷ after) i.many l here there;
+      once = λ k. omega (arith, times_put (λ d (y : Link). y.key) k 9 c (before ++ x ∷ after) at l, keys_middle k before x after, ap (λ v. times k (keys v)) is, i.once k, linking_held g k);
+      counted = omega (arith, length_put (λ d (y : Link). y.key) 9 c (before ++ x ∷ after) at l, length_middle before x after, ap length is, i.counted, g.longer);
+    }
+
+-- a node taken out
+
+-- the first node of a list is taken out
+pub AreChains-taken : {s t : Slab Node} {chains : List Chain} {at : ℕ → List Link} (c : ℕ) (x : Link) (after : List Link) (next : Option ℕ)
+    → AreChains s chains at → c < 9 → at c ≡ x ∷ after → IsLinked s next after None → Updates s t x.key None → slab_len t + 1 ≡ slab_len s
+    → AreChains t (set chains c (record { first = next; last = cond (is_some next) (chain_at chains c).last None })) (list_put c after at)
+AreChains-taken {s = s} {t = t} {chains = chains} {at = at} c x after next i l is m u len =
+    let once : (k : ℕ) → one k x.key + times k (keys after) ≤ held s k = λ k. omega (arith, once_in i k c l, ap (λ v. times k (keys v)) is) in
+    let gone : (k : ℕ) → held t k + one k x.key ≡ held s k = λ k.
+    elim (cases_eq k x.key) [
+      | inl e ↦
+          let h : held t x.key + one x.key x.key ≡ held s x.key = omega (arith, held_none t x.key u.changed, once x.key, held_few s x.key, one_same x.key) in
+          subst (λ (j : ℕ). held t j + one j x.key ≡ held s j) (sym e) h
+      | inr n ↦ omega (arith, held_same s t k (u.others k n), one_apart k x.key (eq_apart k x.key n))
+    ] in
+    let stays : (k : ℕ) → 0 < times k (keys after) → k ≢ x.key = λ k p e.
+    omega (arith, once k, held_few s k, subst (λ (j : ℕ). one j x.key ≡ 1) (sym e) (one_same x.key)) in
+    let here = record {
+      linked = IsLinked-same s t next after None (λ k p. u.others k (stays k p)) m;
+      last = last_taken s (chain_at chains c).last next x after ((i.linked c).last ∙ ap last_key is) m;
+    } in
+    let there : (d : ℕ) → d ≢ c → IsChain t (chain_at chains d) (at d) =
+    λ d n. chain_kept s t (chain_at chains d) (at d) (λ k p. u.others k
+    (λ e. omega (arith, apart i k c d l n, held_few s k, ap (λ v. times k (keys v)) is, subst (λ (j : ℕ). one j x.key ≡ 1) (sym e) (one_same x.key)))) (i.linked d) in
+    record {
+      many = length-set chains c _ ∙ i.many;
+      linked = chains_put t chains at c _ after i.many l here there;
+      once = λ k. omega (arith, times_put (λ d (y : Link). y.key) k 9 c after at l, ap (λ v. times k (keys v)) is, i.once k, gone k);
+      counted = omega (arith, length_put (λ d (y : Link). y.key) 9 c after at l, ap length is, i.counted, len);
+    }
+  where
+    last_taken : (s : Slab Node) (last next : Option ℕ) (x : Link) (after : List Link) → last ≡ last_key (x ∷ after) → IsLinked s next after None
+        → cond (is_some next) last None ≡ last_key after
+    last_taken s last next x [] e l = let n : next ≡ None = l in rw n refl
+    last_taken s last next x (y ∷ ys) e l = let n : next ≡ Some y.key = l.0 in rw n e

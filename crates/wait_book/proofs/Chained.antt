@@ -1,18 +1,32 @@
 -- What keeps the chains chains: a new node, and one taken out.
-use Rattle.std.proofs.Common.{◌≡◌, ◌≢◌, ◌==◌, ℕ, zero, suc, ◌+◌, ◌<◌, ◌≤◌, Bool, true, false, cond, eqb, is_some, inl, inr, List, [], ◌∷◌, ◌++◌, length, map, get_or, set, Option, Some, None, refl, ap, sym, ◌∙◌, subst, arith}
+use Rattle.std.proofs.Common.{◌≡◌, ◌≢◌, ◌==◌, ℕ, zero, suc, ◌+◌, ◌<◌, ◌≤◌, Bool, true, false, cond, eqb, is_some, inl, inr, List, [], ◌∷◌, ◌++◌, length, map, get_or, set, replicate, count_by, Option, Some, None, refl, ap, sym, ◌∙◌, subst, arith}
 use Rattle.std.proofs.lemmas.Bool.{cases_eq, cases_lt}
 use Rattle.std.proofs.lemmas.Bool.Decides.{nat_tests}
-use Rattle.std.proofs.lemmas.List.{get_or-set_same, get_or-set_other, get_or_past, length-set, length-append}
+use Rattle.std.proofs.lemmas.List.{append-nil, get_or-set_same, get_or-set_other, get_or_past, length-set}
 use Rattle.slab.specs.Slab.{Slab, get, slab_len, ContainsKey, Updates}
 use Rattle.wait_book.specs.declared.chains.Node.{Node}
 use Rattle.wait_book.specs.declared.chains.Chain.{Chain}
 use Rattle.wait_book.specs.declared.chains.Link.{Link}
 use Rattle.wait_book.specs.Contents.{one, times}
-use Rattle.wait_book.specs.Lists.{keys, keys_below, last_from, last_key, list_put}
+use Rattle.wait_book.specs.Lists.{Lists, all_below, keys, keys_below, last_key, list_at, list_put}
 use Rattle.wait_book.specs.Chains.{node_of, IsLinked, IsChain, AreChains, Ends, empty, chain_at, held, walked, lists_of}
 use Rattle.wait_book.proofs.Times.{one_same, one_apart, eq_self}
-use Rattle.wait_book.proofs.Nodes.{IsLinked-same, IsLinked-append, linked_none, last_within, last_append, walk_linked, walked_none}
+use Rattle.wait_book.proofs.Nodes.{IsLinked-same, IsLinked-append, IsLinked-split, linked_none, last_within, last_append, walk_linked, walked_none}
 use Rattle.wait_book.proofs.Lists.{eq_apart, keys_middle, keys_append, length_middle, length_put, length_one, put_same, put_other, times_put, times_one, times_two}
+
+-- a node or none under a key
+
+pub held_few : (s : Slab Node) (k : ℕ) → held s k ≤ 1
+held_few s k = elim (is_some (get s k)) as (λ b. cond b 1 0 ≤ 1) [ true ↦ omega arith | false ↦ omega arith ]
+
+held_none : (s : Slab Node) (k : ℕ) → get s k ≡ None → held s k ≡ 0
+held_none s k e = rw e refl
+
+held_some : (s : Slab Node) (k : ℕ) (n : Node) → get s k ≡ Some n → held s k ≡ 1
+held_some s k n e = rw e refl
+
+held_same : (s t : Slab Node) (k : ℕ) → get t k ≡ get s k → held t k ≡ held s k
+held_same s t k e = ap (λ o. cond (is_some o) 1 0) e
 
 -- where there are no more chains there is no list
 pub beyond : {s : Slab Node} {chains : List Chain} {at : ℕ → List Link} → AreChains s chains at → (c : ℕ) → 9 ≤ c → at c ≡ []
@@ -50,6 +64,29 @@ AreChains-seen {s = s} {chains = chains} {at = at} i =
     let same : at ≡ (λ c. get_or (lists_of s chains) c []) = λ j c. sym (lists_are i c) j in
     subst (AreChains s chains) same i
 
+-- and those of an equal value
+pub AreChains-equal : {s : Slab Node} {chains : List Chain} {v w : Lists} → v ≡ w → AreChains s chains (list_at v) → AreChains s chains (list_at w)
+AreChains-equal {s = s} {chains = chains} e i = subst (λ (u : Lists). AreChains s chains (list_at u)) e i
+
+-- chains without a node
+no_chain : (n c : ℕ) → get_or (replicate n empty) c empty ≡ empty
+no_chain zero c = refl
+no_chain (suc n) zero = refl
+no_chain (suc n) (suc c) = no_chain n c
+
+no_keys : (n : ℕ) → keys_below n (λ c. []) ≡ []
+unfolding all_below
+no_keys zero = refl
+no_keys (suc n) = append-nil _ ∙ no_keys n
+
+pub AreChains-none : (s : Slab Node) → s.slots ≡ [] → AreChains s (replicate 9 empty) (λ c. [])
+AreChains-none s e = record {
+  many = refl;
+  linked = λ c. subst (λ (v : Chain). IsChain s v []) (sym (no_chain 9 c)) (record { linked = refl; last = refl });
+  once = λ k. ap (times k) (no_keys 9) ∙ sym (held_none s k (ap (λ (slots : List (Option Node)). get_or slots k None) e));
+  counted = ap length (no_keys 9) ∙ sym (ap (count_by is_some) e);
+}
+
 -- where keys stand
 
 -- in two chains no more often than in all
@@ -60,18 +97,6 @@ apart {s = s} {at = at} i k c d l n =
       | inl m ↦ omega (arith, times_two (λ e (x : Link). x.key) k 9 c d at l m n, i.once k)
       | inr m ↦ omega (arith, times_one (λ e (x : Link). x.key) k 9 c at l, i.once k, ap (λ v. times k (keys v)) (beyond i d m))
     ]
-
-pub held_few : (s : Slab Node) (k : ℕ) → held s k ≤ 1
-held_few s k = elim (is_some (get s k)) as (λ b. cond b 1 0 ≤ 1) [ true ↦ omega arith | false ↦ omega arith ]
-
-held_none : (s : Slab Node) (k : ℕ) → get s k ≡ None → held s k ≡ 0
-held_none s k e = rw e refl
-
-held_some : (s : Slab Node) (k : ℕ) (n : Node) → get s k ≡ Some n → held s k ≡ 1
-held_some s k n e = rw e refl
-
-held_same : (s t : Slab Node) (k : ℕ) → get t k ≡ get s k → held t k ≡ held s k
-held_same s t k e = ap (λ o. cond (is_some o) 1 0) e
 
 -- in one chain once at most
 pub once_in : {s : Slab Node} {chains : List Chain} {at : ℕ → List Link} → AreChains s chains at → (k c : ℕ) → c < 9 → times k (keys (at c)) ≤ held s k
@@ -98,6 +123,26 @@ chain_kept : (s t : Slab Node) (v : Chain) (xs : List Link) → ((k : ℕ) → 0
 chain_kept s t v xs h i = record { linked = IsLinked-same s t v.first xs None h i.linked; last = i.last }
 
 -- a new node
+
+-- the first nodes of a chain, and the key behind them
+pub record Cut (s : Slab Node) (first : Option ℕ) (before after : List Link) : Type 0 where
+  pub next : Option ℕ
+  pub front : IsLinked s first before next
+  pub back : IsLinked s next after None
+
+pub cut : {s : Slab Node} {chains : List Chain} {at : ℕ → List Link} (c : ℕ) (before after : List Link) → AreChains s chains at → at c ≡ before ++ after
+    → Cut s (chain_at chains c).first before after
+cut {s = s} {chains = chains} c before after i is =
+    let first = (chain_at chains c).first in
+    let r = IsLinked-split s first before after None (subst (λ (xs : List Link). IsLinked s first xs None) is (i.linked c).linked) in
+    record { next = r.0; front = r.1; back = r.2 }
+
+-- they are as they were where a node is stored under a vacant key
+pub cut-stored : {s mid : Slab Node} {chains : List Chain} {at : ℕ → List Link} {n : Node} (c k : ℕ) (before after : List Link) (next : Option ℕ) → AreChains s chains at → c < 9
+    → at c ≡ before ++ after → get s k ≡ None → Updates s mid k (Some n) → IsLinked s (chain_at chains c).first before next → IsLinked mid (chain_at chains c).first before next
+cut-stored {s = s} {mid = mid} {chains = chains} c k before after next i l is vacant u front =
+    IsLinked-same s mid (chain_at chains c).first before next
+    (λ j p. u.others j (λ q. omega (arith, once_in i j c l, ap (λ v. times j (keys v)) is, keys_append j before after, ap (held s) q, held_none s k vacant))) front
 
 -- what linking a new node does, in two steps: it is stored with the key behind it, and its own key is put behind the one before
 pub record Linking (s mid t : Slab Node) (first behind next first2 : Option ℕ) (x : Link) : Type 0 where
@@ -157,9 +202,10 @@ pub AreChains-linked : {s mid t : Slab Node} {chains : List Chain} {at : ℕ →
     → AreChains s chains at → c < 9 → Linking s mid t (chain_at chains c).first behind next first2 x → at c ≡ before ++ after → behind ≡ last_key before
     → IsLinked s (chain_at chains c).first before next → IsLinked s next after None
     → AreChains t (set chains c (record { first = first2; last = cond (is_some next) (chain_at chains c).last (Some x.key) })) (list_put c (before ++ x ∷ after) at)
-AreChains-linked {s = s} {t = t} {chains = chains} {at = at} {behind = behind} {next = next} {x = x} c before after i l g is e front back =
+AreChains-linked {s = s} {t = t} {chains = chains} {at = at} {behind = behind} {next = next} {first2 = first2} {x = x} c before after i l g is e front back =
     let once : (k : ℕ) → times k (keys (before ++ after)) ≤ held s k = λ k. omega (arith, once_in i k c l, ap (λ v. times k (keys v)) is) in
-    let here = record {
+    let new : Chain = record { first = first2; last = cond (is_some next) (chain_at chains c).last (Some x.key) } in
+    let here : IsChain t new (before ++ x ∷ after) = record {
       linked = linking_list g before after e once front back;
       last = last_put s (chain_at chains c).last next before x after ((i.linked c).last ∙ ap last_key is) back;
     } in
@@ -168,8 +214,8 @@ AreChains-linked {s = s} {t = t} {chains = chains} {at = at} {behind = behind} {
     linking_same g k (omega (arith, apart i k c d l n))
     (λ b. omega (arith, apart i k c d l n, held_few s k, ap (λ v. times k (keys v)) is, keys_append k before after, last_within k before (sym e ∙ b)))) (i.linked d) in
     record {
-      many = length-set chains c _ ∙ i.many;
-      linked = chains_put t chains at c _ (before ++ x ∷ after) i.many l here there;
+      many = length-set chains c new ∙ i.many;
+      linked = chains_put t chains at c new (before ++ x ∷ after) i.many l here there;
       once = λ k. omega (arith, times_put (λ d (y : Link). y.key) k 9 c (before ++ x ∷ after) at l, keys_middle k before x after, ap (λ v. times k (keys v)) is, i.once k, linking_held g k);
       counted = omega (arith, length_put (λ d (y : Link). y.key) 9 c (before ++ x ∷ after) at l, length_middle before x after, ap length is, i.counted, g.longer);
     }
@@ -191,7 +237,8 @@ AreChains-taken {s = s} {t = t} {chains = chains} {at = at} c x after next i l i
     ] in
     let stays : (k : ℕ) → 0 < times k (keys after) → k ≢ x.key = λ k p e.
     omega (arith, once k, held_few s k, subst (λ (j : ℕ). one j x.key ≡ 1) (sym e) (one_same x.key)) in
-    let here = record {
+    let new : Chain = record { first = next; last = cond (is_some next) (chain_at chains c).last None } in
+    let here : IsChain t new after = record {
       linked = IsLinked-same s t next after None (λ k p. u.others k (stays k p)) m;
       last = last_taken s (chain_at chains c).last next x after ((i.linked c).last ∙ ap last_key is) m;
     } in
@@ -199,8 +246,8 @@ AreChains-taken {s = s} {t = t} {chains = chains} {at = at} c x after next i l i
     λ d n. chain_kept s t (chain_at chains d) (at d) (λ k p. u.others k
     (λ e. omega (arith, apart i k c d l n, held_few s k, ap (λ v. times k (keys v)) is, subst (λ (j : ℕ). one j x.key ≡ 1) (sym e) (one_same x.key)))) (i.linked d) in
     record {
-      many = length-set chains c _ ∙ i.many;
-      linked = chains_put t chains at c _ after i.many l here there;
+      many = length-set chains c new ∙ i.many;
+      linked = chains_put t chains at c new after i.many l here there;
       once = λ k. omega (arith, times_put (λ d (y : Link). y.key) k 9 c after at l, ap (λ v. times k (keys v)) is, i.once k, gone k);
       counted = omega (arith, length_put (λ d (y : Link). y.key) 9 c after at l, ap length is, i.counted, len);
     }

@@ -7,7 +7,7 @@ use Rattle.wait_book.specs.Contents.{one, times}
 use Rattle.wait_book.specs.Lists.{all_below, keys, keys_below, places_below, list_put}
 use Rattle.wait_book.proofs.Times.{eq_self, times-append}
 
-eq_apart : (d c : ℕ) → d ≢ c → eqb d c ≡ false
+pub eq_apart : (d c : ℕ) → d ≢ c → eqb d c ≡ false
 eq_apart d c n = grind (arith, nat_tests)
 
 -- the list that was put

@@ -2,11 +2,12 @@
 use Rattle.std.proofs.Common.{◌≡◌, ◌≢◌, ◌==◌, ℕ, zero, suc, ◌+◌, ◌<◌, ◌≤◌, Bool, true, false, cond, eqb, leb, is_some, List, [], ◌∷◌, ◌++◌, length, map, Option, Some, None, refl, ap, sym, ◌∙◌, subst, arith}
 use Rattle.std.proofs.lemmas.Bool.Decides.{nat_tests}
 use Rattle.std.specs.List.Sorted.{IsNonDecreasing}
+use Rattle.std.specs.Prelude.{IfSome}
 use Rattle.slab.specs.Slab.{Slab, get, slab_len, ContainsKey}
 use Rattle.wait_book.specs.declared.chains.Node.{Node}
 use Rattle.wait_book.specs.declared.chains.Link.{Link}
 use Rattle.wait_book.specs.Contents.{one, times}
-use Rattle.wait_book.specs.Lists.{keys, last_from, last_key, lower, higher}
+use Rattle.wait_book.specs.Lists.{keys, last_from, last_key, lower, higher, priorities}
 use Rattle.wait_book.specs.Chains.{node_of, IsLinked, held, found, walk, walked, Ends}
 use Rattle.wait_book.proofs.Times.{one_same}
 
@@ -63,9 +64,14 @@ pub linked_none : (s : Slab Node) (from : Option ℕ) (xs : List Link) → from 
 linked_none s from [] e l = refl
 linked_none s from (x ∷ xs) e l = let f : from ≡ Some x.key = l.0 in absurd (cc)
 
--- to no key, what is left is nothing
-pub linked_ends : (s : Slab Node) (from : Option ℕ) (xs : List Link) → IsLinked s from xs None → from ≡ None → xs ≡ []
-linked_ends s from xs l e = linked_none s from xs e l
+-- where there is no last one, nothing comes between
+pub linked_nothing : (s : Slab Node) (from : Option ℕ) (xs : List Link) (to : Option ℕ) → last_key xs ≡ None → IsLinked s from xs to → from ≡ to
+linked_nothing s from [] to e l = l
+linked_nothing s from (x ∷ xs) to e l = absurd (last_some x.key xs e)
+
+pub linked_nowhere : (s : Slab Node) (from : Option ℕ) (xs : List Link) → last_key xs ≡ None → IsLinked s from xs from
+linked_nowhere s from [] e = refl
+linked_nowhere s from (x ∷ xs) e = absurd (last_some x.key xs e)
 
 -- the node under the first key, and those behind it
 pub record Opens (s : Slab Node) (k : ℕ) (xs : List Link) : Type 0 where
@@ -84,6 +90,9 @@ opens s from k (x ∷ xs) e l =
     let q : x.key ≡ k = cc in
     record { first = x; after = xs; next = l.1; is = refl; key = q; node = ap (get s) (sym q) ∙ l.2; linked = l.3 }
 
+pub opens-contains : (s : Slab Node) (k : ℕ) (xs : List Link) → Opens s k xs → ContainsKey s k
+opens-contains s k xs o = rw o.node refl
+
 -- the key of the last has a node, which names what comes behind
 pub record Closes (s : Slab Node) (b : ℕ) (to : Option ℕ) : Type 0 where
   pub last : Link
@@ -99,6 +108,18 @@ closes s from (x ∷ y ∷ xs) to b e l = closes s l.1 (y ∷ xs) to b e l.3
 
 pub closes-contains : (s : Slab Node) (b : ℕ) (to : Option ℕ) → Closes s b to → ContainsKey s b
 closes-contains s b to c = rw c.node refl
+
+-- what it names
+pub closes-next : (s : Slab Node) (b : ℕ) (to : Option ℕ) (n : Node) → Closes s b to → get s b ≡ Some n → n.next ≡ to
+closes-next s b to n c g =
+    let same : Some (node_of c.last to) ≡ Some n = sym c.node ∙ g in
+    let is : node_of c.last to ≡ n = cc in
+    sym (ap (λ (m : Node). m.next) is)
+
+-- the node behind which one comes is there
+pub behind-contains : (s : Slab Node) (from : Option ℕ) (xs : List Link) (to behind : Option ℕ) → behind ≡ last_key xs → IsLinked s from xs to → IfSome behind (ContainsKey s)
+behind-contains s from xs to None e l = tt
+behind-contains s from xs to (Some b) e l = closes-contains s b to (closes s from xs to b (sym e) l)
 
 -- the node under b now names another key, and the others are as they were
 pub record Relinks (s t : Slab Node) (b : ℕ) (to : Option ℕ) : Type 0 where
@@ -157,10 +178,6 @@ walked_first s from k n e f g =
         ap (at x.key) (sym e) ∙ ap (λ (j : ℕ). at j m) q
 
 -- those before the first of a higher priority number
-
--- the priorities of a list
-abbrev pub priorities : List Link → List ℕ
-priorities xs = map (λ (x : Link). x.priority) xs
 
 -- of those behind the first
 rising_after : (n : ℕ) (ns : List ℕ) → IsNonDecreasing (n ∷ ns) → IsNonDecreasing ns

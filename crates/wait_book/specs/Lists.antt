@@ -21,7 +21,11 @@ all_below f (suc n) at = all_below f n at ++ map (f n) (at n)
 abbrev pub keys : List Link → List ℕ
 keys xs = map (λ (x : Link). x.key) xs
 
--- of those in the first n chains
+-- their priorities
+abbrev pub priorities : List Link → List ℕ
+priorities xs = map (λ (x : Link). x.priority) xs
+
+-- the keys of those in the first n chains
 abbrev pub keys_below : ℕ → (ℕ → List Link) → List ℕ
 keys_below n at = all_below (λ c (x : Link). x.key) n at
 

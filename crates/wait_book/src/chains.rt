@@ -101,10 +101,10 @@ fn set_next(
 
 impl Chains {
     ghost use Rattle.std.specs.Prelude.{◌≡◌, ◌<◌, ◌≤◌, ℕ, [], ◌++◌, List, IfOk, IfSome, MatchOption, not, ◌==◌};
-    ghost use Rattle.hoare_law.specs.Priorities.{in_order};
+    ghost use Rattle.std.specs.List.Sorted.{IsNonDecreasing};
     ghost use Rattle.wait_book.specs.declared.chains.Link.{Link};
     ghost use Rattle.wait_book.specs.Contents.{times};
-    ghost use Rattle.wait_book.specs.Lists.{IsPut, IsTaken, first_link, higher, keys, last_key, list_at, lower, places_below, total};
+    ghost use Rattle.wait_book.specs.Lists.{IsPut, IsTaken, first_link, higher, keys, last_key, list_at, lower, places_below, priorities, total};
 
     /// Empty chains, with memory for so many nodes.
     pub(crate) fn make(alloc: Global, places: usize) -> Result<Chains, AllocError>
@@ -169,7 +169,7 @@ impl Chains {
     // The same, in one step where the chain's last isn't above.
     fn behind(&self, chain: usize, priority: u64) -> Option<usize>
         requires chain { chain < CHAINS }
-        requires ordered { in_order (λ (x : Link). x.priority) (list_at self.now chain) ≡ list_at self.now chain }
+        requires ordered { IsNonDecreasing (priorities (list_at self.now chain)) }
         ensures { result ≡ last_key (lower priority (list_at self.now chain)) }
     {
         let last = self.chains[chain].last?;
@@ -214,7 +214,7 @@ impl Chains {
     pub(crate) fn insert(&mut self, chain: usize, place: usize, priority: u64)
         requires chain { chain < CHAINS }
         requires room { total self.old < self.old.room }
-        requires ordered { in_order (λ (x : Link). x.priority) (list_at self.old chain) ≡ list_at self.old chain }
+        requires ordered { IsNonDecreasing (priorities (list_at self.old chain)) }
         ensures { IsPut chain (lower priority (list_at self.old chain)) (higher priority (list_at self.old chain)) place priority self.old self.new }
     {
         let behind = self.behind(chain, priority);

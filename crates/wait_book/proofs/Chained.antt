@@ -11,7 +11,7 @@ use Rattle.wait_book.specs.Contents.{one, times}
 use Rattle.wait_book.specs.Lists.{Lists, all_below, keys, keys_below, last_key, list_at, list_put}
 use Rattle.wait_book.specs.Chains.{node_of, IsLinked, IsChain, AreChains, Ends, empty, chain_at, held, walked, lists_of}
 use Rattle.wait_book.proofs.Times.{one_same, one_apart, eq_self}
-use Rattle.wait_book.proofs.Nodes.{IsLinked-same, IsLinked-append, IsLinked-split, linked_none, last_within, last_append, walk_linked, walked_none}
+use Rattle.wait_book.proofs.Nodes.{Opens, opens, IsLinked-same, IsLinked-append, IsLinked-split, linked_none, last_within, last_append, walk_linked, walked_none}
 use Rattle.wait_book.proofs.Lists.{eq_apart, keys_middle, keys_append, length_middle, length_put, length_one, put_same, put_other, times_put, times_one, times_two}
 
 -- a node or none under a key
@@ -198,21 +198,21 @@ last_put s last next before x (y ∷ ys) e l =
     rw n (e ∙ last_append None before y ys ∙ sym (last_append None before x (y ∷ ys)))
 
 -- the chains with a new node
-pub AreChains-linked : {s mid t : Slab Node} {chains : List Chain} {at : ℕ → List Link} {behind next first2 : Option ℕ} {x : Link} (c : ℕ) (before after : List Link)
-    → AreChains s chains at → c < 9 → Linking s mid t (chain_at chains c).first behind next first2 x → at c ≡ before ++ after → behind ≡ last_key before
+pub AreChains-linked : {s mid t : Slab Node} {chains : List Chain} {at : ℕ → List Link} {behind next first2 last2 : Option ℕ} {x : Link} (c : ℕ) (before after : List Link)
+    → last2 ≡ cond (is_some next) (chain_at chains c).last (Some x.key) → AreChains s chains at → c < 9 → Linking s mid t (chain_at chains c).first behind next first2 x → at c ≡ before ++ after → behind ≡ last_key before
     → IsLinked s (chain_at chains c).first before next → IsLinked s next after None
-    → AreChains t (set chains c (record { first = first2; last = cond (is_some next) (chain_at chains c).last (Some x.key) })) (list_put c (before ++ x ∷ after) at)
-AreChains-linked {s = s} {t = t} {chains = chains} {at = at} {behind = behind} {next = next} {first2 = first2} {x = x} c before after i l g is e front back =
+    → AreChains t (set chains c (record { first = first2; last = last2 })) (list_put c (before ++ x ∷ after) at)
+AreChains-linked {s = s} {t = t} {chains = chains} {at = at} {behind = behind} {next = next} {first2 = first2} {last2 = last2} {x = x} c before after n i l g is e front back =
     let once : (k : ℕ) → times k (keys (before ++ after)) ≤ held s k = λ k. omega (arith, once_in i k c l, ap (λ v. times k (keys v)) is) in
-    let new : Chain = record { first = first2; last = cond (is_some next) (chain_at chains c).last (Some x.key) } in
+    let new : Chain = record { first = first2; last = last2 } in
     let here : IsChain t new (before ++ x ∷ after) = record {
       linked = linking_list g before after e once front back;
-      last = last_put s (chain_at chains c).last next before x after ((i.linked c).last ∙ ap last_key is) back;
+      last = n ∙ last_put s (chain_at chains c).last next before x after ((i.linked c).last ∙ ap last_key is) back;
     } in
     let there : (d : ℕ) → d ≢ c → IsChain t (chain_at chains d) (at d) =
-    λ d n. chain_kept s t (chain_at chains d) (at d) (λ k p.
-    linking_same g k (omega (arith, apart i k c d l n))
-    (λ b. omega (arith, apart i k c d l n, held_few s k, ap (λ v. times k (keys v)) is, keys_append k before after, last_within k before (sym e ∙ b)))) (i.linked d) in
+    λ d off. chain_kept s t (chain_at chains d) (at d) (λ k p.
+    linking_same g k (omega (arith, apart i k c d l off))
+    (λ b. omega (arith, apart i k c d l off, held_few s k, ap (λ v. times k (keys v)) is, keys_append k before after, last_within k before (sym e ∙ b)))) (i.linked d) in
     record {
       many = length-set chains c new ∙ i.many;
       linked = chains_put t chains at c new (before ++ x ∷ after) i.many l here there;
@@ -222,34 +222,58 @@ AreChains-linked {s = s} {t = t} {chains = chains} {at = at} {behind = behind} {
 
 -- a node taken out
 
--- the first node of a list is taken out
-pub AreChains-taken : {s t : Slab Node} {chains : List Chain} {at : ℕ → List Link} (c : ℕ) (x : Link) (after : List Link) (next : Option ℕ)
-    → AreChains s chains at → c < 9 → at c ≡ x ∷ after → IsLinked s next after None → Updates s t x.key None → slab_len t + 1 ≡ slab_len s
-    → AreChains t (set chains c (record { first = next; last = cond (is_some next) (chain_at chains c).last None })) (list_put c after at)
-AreChains-taken {s = s} {t = t} {chains = chains} {at = at} c x after next i l is m u len =
-    let once : (k : ℕ) → one k x.key + times k (keys after) ≤ held s k = λ k. omega (arith, once_in i k c l, ap (λ v. times k (keys v)) is) in
-    let gone : (k : ℕ) → held t k + one k x.key ≡ held s k = λ k.
-    elim (cases_eq k x.key) [
-      | inl e ↦
-          let h : held t x.key + one x.key x.key ≡ held s x.key = omega (arith, held_none t x.key u.changed, once x.key, held_few s x.key, one_same x.key) in
-          subst (λ (j : ℕ). held t j + one j x.key ≡ held s j) (sym e) h
-      | inr n ↦ omega (arith, held_same s t k (u.others k n), one_apart k x.key (eq_apart k x.key n))
+-- what is left of a chain whose first node is taken out, and whether it has a last one
+pub record Takes (s t : Slab Node) (k : ℕ) (xs : List Link) (n : Node) : Type 0 where
+  pub first : Link
+  pub after : List Link
+  pub is : xs ≡ first ∷ after
+  pub place : first.place ≡ n.place
+  pub linked : IsLinked s n.next after None
+  pub updates : Updates s t first.key None
+
+pub takes : {s t : Slab Node} {chains : List Chain} {at : ℕ → List Link} (c k : ℕ) (n : Node) → AreChains s chains at → (chain_at chains c).first ≡ Some k → get s k ≡ Some n
+    → Updates s t k None → Takes s t k (at c) n
+takes {s = s} {t = t} {chains = chains} {at = at} c k n i e g u =
+    let o : Opens s k (at c) = opens s (chain_at chains c).first k (at c) e (i.linked c).linked in
+    let same : Some (node_of o.first o.next) ≡ Some n = sym o.node ∙ g in
+    let is : node_of o.first o.next ≡ n = cc in
+    record {
+      first = o.first;
+      after = o.after;
+      is = o.is;
+      place = ap (λ (m : Node). m.place) is;
+      linked = subst (λ (m : Node). IsLinked s m.next o.after None) is o.linked;
+      updates = subst (λ (j : ℕ). Updates s t j None) (sym o.key) u;
+    }
+
+-- the chains without it
+pub AreChains-taken : {s t : Slab Node} {chains : List Chain} {at : ℕ → List Link} {last2 : Option ℕ} (c k : ℕ) (n : Node)
+    → last2 ≡ cond (is_some n.next) (chain_at chains c).last None → AreChains s chains at → c < 9 → (g : Takes s t k (at c) n) → slab_len t + 1 ≡ slab_len s
+    → AreChains t (set chains c (record { first = n.next; last = last2 })) (list_put c g.after at)
+AreChains-taken {s = s} {t = t} {chains = chains} {at = at} {last2 = last2} c k n e i l g len =
+    let once : (j : ℕ) → one j g.first.key + times j (keys g.after) ≤ held s j = λ j. omega (arith, once_in i j c l, ap (λ v. times j (keys v)) g.is) in
+    let gone : (j : ℕ) → held t j + one j g.first.key ≡ held s j = λ j.
+    elim (cases_eq j g.first.key) [
+      | inl q ↦
+          let h : held t g.first.key + one g.first.key g.first.key ≡ held s g.first.key =
+          omega (arith, held_none t g.first.key g.updates.changed, once g.first.key, held_few s g.first.key, one_same g.first.key) in
+          subst (λ (v : ℕ). held t v + one v g.first.key ≡ held s v) (sym q) h
+      | inr off ↦ omega (arith, held_same s t j (g.updates.others j off), one_apart j g.first.key (eq_apart j g.first.key off))
     ] in
-    let stays : (k : ℕ) → 0 < times k (keys after) → k ≢ x.key = λ k p e.
-    omega (arith, once k, held_few s k, subst (λ (j : ℕ). one j x.key ≡ 1) (sym e) (one_same x.key)) in
-    let new : Chain = record { first = next; last = cond (is_some next) (chain_at chains c).last None } in
-    let here : IsChain t new after = record {
-      linked = IsLinked-same s t next after None (λ k p. u.others k (stays k p)) m;
-      last = last_taken s (chain_at chains c).last next x after ((i.linked c).last ∙ ap last_key is) m;
+    let same : (j : ℕ) → j ≡ g.first.key → one j g.first.key ≡ 1 = λ j q. subst (λ (v : ℕ). one v g.first.key ≡ 1) (sym q) (one_same g.first.key) in
+    let new : Chain = record { first = n.next; last = last2 } in
+    let here : IsChain t new g.after = record {
+      linked = IsLinked-same s t n.next g.after None (λ j p. g.updates.others j (λ q. omega (arith, once j, held_few s j, same j q))) g.linked;
+      last = e ∙ last_taken s (chain_at chains c).last n.next g.first g.after ((i.linked c).last ∙ ap last_key g.is) g.linked;
     } in
     let there : (d : ℕ) → d ≢ c → IsChain t (chain_at chains d) (at d) =
-    λ d n. chain_kept s t (chain_at chains d) (at d) (λ k p. u.others k
-    (λ e. omega (arith, apart i k c d l n, held_few s k, ap (λ v. times k (keys v)) is, subst (λ (j : ℕ). one j x.key ≡ 1) (sym e) (one_same x.key)))) (i.linked d) in
+    λ d off. chain_kept s t (chain_at chains d) (at d)
+    (λ j p. g.updates.others j (λ q. omega (arith, apart i j c d l off, held_few s j, ap (λ v. times j (keys v)) g.is, same j q))) (i.linked d) in
     record {
       many = length-set chains c new ∙ i.many;
-      linked = chains_put t chains at c new after i.many l here there;
-      once = λ k. omega (arith, times_put (λ d (y : Link). y.key) k 9 c after at l, ap (λ v. times k (keys v)) is, i.once k, gone k);
-      counted = omega (arith, length_put (λ d (y : Link). y.key) 9 c after at l, ap length is, i.counted, len);
+      linked = chains_put t chains at c new g.after i.many l here there;
+      once = λ j. omega (arith, times_put (λ d (y : Link). y.key) j 9 c g.after at l, ap (λ v. times j (keys v)) g.is, i.once j, gone j);
+      counted = omega (arith, length_put (λ d (y : Link). y.key) 9 c g.after at l, ap length g.is, i.counted, len);
     }
   where
     last_taken : (s : Slab Node) (last next : Option ℕ) (x : Link) (after : List Link) → last ≡ last_key (x ∷ after) → IsLinked s next after None

@@ -1,6 +1,6 @@
 //! The chains of a book: who waits on each condition, and who waits as a signaller. The nodes of all chains lie in one slab, and
 //! each holds the key of the next one.
-ghost use Rattle.std.specs.Prelude.{◌≡◌, ◌≢◌, ◌<◌, ◌≤◌, ◌==◌, ◌↔◌, ℕ, [], ◌++◌, List, Option, Some, None, IfOk, IfSome, MatchOption, not, ◌==◌};
+ghost use Rattle.std.specs.Prelude.{◌≡◌, ◌≢◌, ◌<◌, ◌≤◌, ◌==◌, ℕ, [], ◌++◌, List, Option, Some, None, is_some, if◌then◌else◌, not, IfOk, IfSome, MatchOption};
 ghost use Rattle.slab.specs.Slab.{get, slab_len, ContainsKey};
 ghost use Rattle.wait_book.specs.declared.chains.Link.{Link};
 ghost use Rattle.wait_book.specs.Contents.{times};
@@ -96,6 +96,16 @@ fn set_next(
             first
         }
         None => Some(key),
+    }
+}
+
+// The last key of a chain as it was, where a node comes behind the place of a change; else another.
+fn last_after(next: Option<usize>, last: Option<usize>, otherwise: Option<usize>) -> Option<usize>
+    ensures { result ≡ (if is_some next then last else otherwise) }
+{
+    match next {
+        Some(_) => last,
+        None => otherwise,
     }
 }
 
@@ -196,7 +206,7 @@ impl Chains {
         };
         let key = self.nodes.insert_reserved(node);
         let first = set_next(&mut self.nodes, first, behind, key);
-        let last = if next.is_some() { last } else { Some(key) };
+        let last = last_after(next, last, Some(key));
         self.chains[chain] = Chain { first, last };
     }
 
@@ -230,7 +240,7 @@ impl Chains {
     {
         let Chain { first, last } = self.chains[chain];
         let node = self.nodes.remove(first?);
-        let last = if node.next.is_some() { last } else { None };
+        let last = last_after(node.next, last, None);
         self.chains[chain] = Chain {
             first: node.next,
             last,

@@ -197,25 +197,31 @@ last_put s last next before x (y ∷ ys) e l =
     let n : next ≡ Some y.key = l.0 in
     rw n (e ∙ last_append None before y ys ∙ sym (last_append None before x (y ∷ ys)))
 
--- the chains with a new node
+-- the chains with a new node, wherever the list was cut
 pub AreChains-linked : {s mid t : Slab Node} {chains : List Chain} {at : ℕ → List Link} {behind next first2 last2 : Option ℕ} {x : Link} (c : ℕ) (before after : List Link)
-    → last2 ≡ cond (is_some next) (chain_at chains c).last (Some x.key) → AreChains s chains at → c < 9 → Linking s mid t (chain_at chains c).first behind next first2 x → at c ≡ before ++ after → behind ≡ last_key before
-    → IsLinked s (chain_at chains c).first before next → IsLinked s next after None
+    → AreChains s chains at → c < 9 → Linking s mid t (chain_at chains c).first behind next first2 x → last2 ≡ cond (is_some next) (chain_at chains c).last (Some x.key)
+    → ((front : List Link) (to : Option ℕ) → IsLinked s (chain_at chains c).first front to → behind ≡ last_key front → next ≡ to)
+    → at c ≡ before ++ after → behind ≡ last_key before
     → AreChains t (set chains c (record { first = first2; last = last2 })) (list_put c (before ++ x ∷ after) at)
-AreChains-linked {s = s} {t = t} {chains = chains} {at = at} {behind = behind} {next = next} {first2 = first2} {last2 = last2} {x = x} c before after n i l g is e front back =
+AreChains-linked {s = s} {t = t} {chains = chains} {at = at} {behind = behind} {next = next} {first2 = first2} {last2 = last2} {x = x} c before after i l g n named is e =
+    let first = (chain_at chains c).first in
+    let there : Cut s first before after = cut c before after i is in
+    let same : there.next ≡ next = sym (named before there.next there.front e) in
+    let front : IsLinked s first before next = subst (λ (k : Option ℕ). IsLinked s first before k) same there.front in
+    let back : IsLinked s next after None = subst (λ (k : Option ℕ). IsLinked s k after None) same there.back in
     let once : (k : ℕ) → times k (keys (before ++ after)) ≤ held s k = λ k. omega (arith, once_in i k c l, ap (λ v. times k (keys v)) is) in
     let new : Chain = record { first = first2; last = last2 } in
     let here : IsChain t new (before ++ x ∷ after) = record {
       linked = linking_list g before after e once front back;
       last = n ∙ last_put s (chain_at chains c).last next before x after ((i.linked c).last ∙ ap last_key is) back;
     } in
-    let there : (d : ℕ) → d ≢ c → IsChain t (chain_at chains d) (at d) =
+    let others : (d : ℕ) → d ≢ c → IsChain t (chain_at chains d) (at d) =
     λ d off. chain_kept s t (chain_at chains d) (at d) (λ k p.
     linking_same g k (omega (arith, apart i k c d l off))
     (λ b. omega (arith, apart i k c d l off, held_few s k, ap (λ v. times k (keys v)) is, keys_append k before after, last_within k before (sym e ∙ b)))) (i.linked d) in
     record {
       many = length-set chains c new ∙ i.many;
-      linked = chains_put t chains at c new (before ++ x ∷ after) i.many l here there;
+      linked = chains_put t chains at c new (before ++ x ∷ after) i.many l here others;
       once = λ k. omega (arith, times_put (λ d (y : Link). y.key) k 9 c (before ++ x ∷ after) at l, keys_middle k before x after, ap (λ v. times k (keys v)) is, i.once k, linking_held g k);
       counted = omega (arith, length_put (λ d (y : Link). y.key) 9 c (before ++ x ∷ after) at l, length_middle before x after, ap length is, i.counted, g.longer);
     }

@@ -87,6 +87,25 @@ length_put f n c xs at l =
 pub length_one : {X : Type 0} (f : ℕ → Link → X) (n c : ℕ) (at : ℕ → List Link) → c < n → length (at c) ≤ length (all_below f n at)
 length_one f n c at l = omega (arith, measure_one f length length-append n c at l, length-map (at c) (f c))
 
+-- the first n lists, and one more
+pub times_next : (f : ℕ → Link → ℕ) (k n : ℕ) (at : ℕ → List Link) → times k (all_below f (suc n) at) ≡ times k (all_below f n at) + times k (map (f n) (at n))
+unfolding all_below
+times_next f k n at = times-append k (all_below f n at) (map (f n) (at n))
+
+pub times_none : (f : ℕ → Link → ℕ) (k : ℕ) (at : ℕ → List Link) → times k (all_below f 0 at) ≡ 0
+unfolding all_below
+times_none f k at = refl
+
+pub length_next : {X : Type 0} (f : ℕ → Link → X) (n : ℕ) (at : ℕ → List Link) → length (all_below f (suc n) at) ≡ length (all_below f n at) + length (at n)
+unfolding all_below
+length_next f n at = omega (arith, length-append (all_below f n at) (map (f n) (at n)), length-map (at n) (f n))
+
+-- as many, whatever is made of them
+pub length_same : {X Y : Type 0} (f : ℕ → Link → X) (g : ℕ → Link → Y) (n : ℕ) (at : ℕ → List Link) → length (all_below f n at) ≡ length (all_below g n at)
+unfolding all_below
+length_same f g zero at = refl
+length_same f g (suc n) at = omega (arith, length_next f n at, length_next g n at, length_same f g n at)
+
 -- in the middle of a list
 pub keys_middle : (k : ℕ) (xs : List Link) (x : Link) (ys : List Link) → times k (keys (xs ++ x ∷ ys)) ≡ times k (keys (xs ++ ys)) + one k x.key
 keys_middle k [] x ys = omega arith

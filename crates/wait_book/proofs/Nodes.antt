@@ -205,6 +205,11 @@ all_lower s from x (y ∷ xs) to b p n l e g h r =
     let f : x.priority ≤ p = omega (arith, a.first) in
     record { all = one_lower p x (y ∷ xs) f a.all; first = f }
 
+pub lower_all : (s : Slab Node) (from : Option ℕ) (xs : List Link) (to : Option ℕ) (b p : ℕ) (n : Node) → IsLinked s from xs to → last_key xs ≡ Some b → get s b ≡ Some n
+    → n.priority ≤ p → IsNonDecreasing (priorities xs) → lower p xs ≡ xs
+lower_all s from [] to b p n l e g h r = refl
+lower_all s from (x ∷ xs) to b p n l e g h r = (all_lower s from x xs to b p n l e g h r).all
+
 -- those before and those from it on are all
 pub lower-higher : (p : ℕ) (xs : List Link) → lower p xs ++ higher p xs ≡ xs
 lower-higher p [] = refl

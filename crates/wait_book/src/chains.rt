@@ -111,6 +111,7 @@ fn last_after(next: Option<usize>, last: Option<usize>, otherwise: Option<usize>
 
 impl Chains {
     ghost use Rattle.std.specs.Prelude.{◌≡◌, ◌<◌, ◌≤◌, ℕ, [], ◌++◌, List, IfOk, IfSome, MatchOption, not, ◌==◌};
+    ghost use Rattle.std.specs.List.{list_any};
     ghost use Rattle.std.specs.List.Sorted.{IsNonDecreasing};
     ghost use Rattle.wait_book.specs.declared.chains.Link.{Link};
     ghost use Rattle.wait_book.specs.Contents.{times};
@@ -149,12 +150,20 @@ impl Chains {
         self.on(chain).next()
     }
 
+    // Whether a place stands in one chain.
+    fn holds_in(&self, chain: usize, place: usize) -> bool
+        requires { chain < CHAINS }
+        ensures { result ≡ list_any (λ (x : Link). x.place == place) (list_at self.now chain) }
+    {
+        self.on(chain).any(|link| link.place == place)
+    }
+
     /// Whether a place stands in a chain.
     pub(crate) fn holds(&self, place: usize) -> bool
         ensures { not result ≡ (times place (places_below CHAINS (list_at self.now)) == 0) }
     {
         for chain in 0..CHAINS {
-            if self.on(chain).any(|link| link.place == place) {
+            if self.holds_in(chain, place) {
                 return true;
             }
         }

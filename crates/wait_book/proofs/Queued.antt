@@ -5,20 +5,22 @@ use Rattle.std.proofs.lemmas.Bool.Decides.{nat_tests}
 use Rattle.std.proofs.lemmas.List.{append_assoc, append-nil, length-map, map-append}
 use Rattle.std.proofs.lemmas.List.Elements.{filter-append}
 use Rattle.std.proofs.lemmas.Simd.{map-map}
-use Rattle.std.specs.List.{filter}
+use Rattle.std.specs.List.{filter, find, slice_get}
+use Rattle.std.specs.Option.{option_map}
+use Rattle.std.specs.Prelude.{MatchOption}
 use Rattle.std.specs.List.Sorted.{IsNonDecreasing}
 use Rattle.hoare_law.specs.Priorities.{put_in, in_order, behind_first}
-use Rattle.hoare_law.proofs.Sorted.{put_in-map, map-in_order, IsNonDecreasing-in_order}
+use Rattle.hoare_law.proofs.Sorted.{put_in-map, map-in_order, IsNonDecreasing-in_order, find-filter, first_of}
 use Rattle.wait_book.specs.declared.chains.Link.{Link}
 use Rattle.wait_book.specs.declared.waiter.Waiter.{Waiter}
 use Rattle.wait_book.specs.Contents.{one, times}
 use Rattle.wait_book.specs.Insides.{waiter_on, waiting_below, places_in}
-use Rattle.wait_book.specs.Lists.{Lists, IsPut, IsTaken, all_below, higher, list_at, list_put, lower, places_below, priorities, total}
+use Rattle.wait_book.specs.Lists.{Lists, IsPut, IsTaken, all_below, first_link, higher, list_at, list_put, lower, places_below, priorities, total}
 use Rattle.wait_book.specs.Queues.{PutsIn, TakesFirst}
 use Rattle.wait_book.proofs.Times.{eq_self, times-append}
 use Rattle.wait_book.proofs.Waiters.{on, places, key}
 use Rattle.wait_book.proofs.Nodes.{lower-higher}
-use Rattle.wait_book.proofs.Lists.{below_past, eq_apart, length_next, length_same, put_same, put_other, times_put}
+use Rattle.wait_book.proofs.Lists.{below_past, eq_apart, length_next, length_one, length_same, put_same, put_other, times_next, times_put}
 
 -- those on a condition
 
@@ -195,10 +197,58 @@ pub signallers-less : (place : ℕ) (old new : Lists) → IsTaken 8 place old ne
 signallers-less place old new t =
     ap places_in (t.lists 8 ∙ put_same 8 t.after (list_at old)) ∙ sym (ap (λ xs. behind_first (places_in xs)) t.was)
 
+-- the longest waiting signaller goes on, if there is one
+pub record Shorter (old new : Lists) : Type 0 where
+  pub room : new.room ≡ old.room
+  pub waiters : waiting_below 8 (list_at new) ≡ waiting_below 8 (list_at old)
+  pub signallers : places_in (list_at new 8) ≡ behind_first (places_in (list_at old 8))
+
+pub shorter : (r : Option ℕ) (old new : Lists) → MatchOption r ((list_at old 8 ≡ []) × (new ≡ old)) (λ place. IsTaken 8 place old new) → Shorter old new
+shorter None old new m =
+    record {
+      room = ap (λ (v : Lists). v.room) m.1;
+      waiters = ap (λ (v : Lists). waiting_below 8 (list_at v)) m.1;
+      signallers = ap (λ (v : Lists). places_in (list_at v 8)) m.1 ∙ ap places_in m.0 ∙ sym (ap (λ xs. behind_first (places_in xs)) m.0);
+    }
+shorter (Some place) old new t = record { room = t.room; waiters = waiters-same t.after old new t.lists; signallers = signallers-less place old new t }
+
+-- chains with nobody in them
+pub waits-none : (n : ℕ) (at : ℕ → List Link) → ((c : ℕ) → at c ≡ []) → waiting_below n at ≡ []
+unfolding all_below
+waits-none zero at h = refl
+waits-none (suc n) at h = ap (λ xs. waiting_below n at ++ map (waiter_on n) xs) (h n) ∙ append-nil _ ∙ waits-none n at h
+
 -- how many stand in all
 
 pub total_is : (v : Lists) → total v ≡ length (waiting_below 8 (list_at v)) + length (places_in (list_at v 8))
 total_is v = length_next (λ c (x : Link). x.key) 8 (list_at v) ∙ omega (arith, length_same (λ c (x : Link). x.key) waiter_on 8 (list_at v), length-map (list_at v 8) (λ (x : Link). x.place))
+
+-- how often a place stands in all
+pub times_all : (k : ℕ) (v : Lists) → times k (places_below 9 (list_at v)) ≡ times k (places (waiting_below 8 (list_at v))) + times k (places_in (list_at v 8))
+times_all k v = times_next (λ c (x : Link). x.place) k 8 (list_at v) ∙ omega (arith, ap (times k) (places_waiting 8 (list_at v)))
+
+-- no more in the chain of a condition than wait
+pub chain-few : (c : ℕ) (v : Lists) → c < 8 → length (list_at v c) ≤ length (waiting_below 8 (list_at v))
+chain-few c v l = length_one waiter_on 8 c (list_at v) l
+
+-- the first of a condition
+pub first-chain : (c : ℕ) (v : Lists) → c < 8 → option_map (λ (x : Link). x.priority) (first_link (list_at v c)) ≡ option_map key (find (on c) (waiting_below 8 (list_at v)))
+first-chain c v l =
+    by (list_at v c) ∙ ap (λ ws. option_map key (first_of ws)) (sym (on_chain 8 c (list_at v) l))
+    ∙ sym (ap (option_map key) (find-filter (on c) (waiting_below 8 (list_at v))))
+  where
+    by : (xs : List Link) → option_map (λ (x : Link). x.priority) (first_link xs) ≡ option_map key (first_of (map (waiter_on c) xs))
+    by [] = refl
+    by (x ∷ xs) = refl
+
+-- the i-th of a condition
+pub nth-chain : (c i : ℕ) (v : Lists) → c < 8 → option_map (λ (x : Link). x.priority) (slice_get (list_at v c) i) ≡ option_map key (slice_get (filter (on c) (waiting_below 8 (list_at v))) i)
+nth-chain c i v l = by i (list_at v c) ∙ ap (λ ws. option_map key (slice_get ws i)) (sym (on_chain 8 c (list_at v) l))
+  where
+    by : (i : ℕ) (xs : List Link) → option_map (λ (x : Link). x.priority) (slice_get xs i) ≡ option_map key (slice_get (map (waiter_on c) xs) i)
+    by i [] = refl
+    by zero (x ∷ xs) = refl
+    by (suc i) (x ∷ xs) = by i xs
 
 -- the priorities in the chain of a condition
 

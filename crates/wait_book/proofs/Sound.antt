@@ -12,7 +12,8 @@ use Rattle.hoare_law.specs.Priorities.{put_in, in_order, behind_first}
 use Rattle.hoare_law.proofs.Filters.{filter-filter}
 use Rattle.hoare_law.proofs.Sorted.{in_order-put_in, in_order-filtered}
 use Rattle.wait_book.specs.declared.waiter.Waiter.{Waiter}
-use Rattle.wait_book.specs.Contents.{Contents, SameSizes, one, times, times_in, times_in_hand, waiters_on}
+use Rattle.wait_book.specs.Contents.{Contents, SameSizes, next_of, one, times, times_in, times_in_hand, waiters_on}
+use Rattle.wait_book.specs.declared.steps.Next.TheVariants as next
 use Rattle.wait_book.specs.Insides.{IsSound, IsTurnBeside}
 use Rattle.wait_book.specs.Queues.{PutsIn, TakesFirst}
 use Rattle.wait_book.proofs.Times.{one_same, one_apart, one_le, times-append, few_once}
@@ -206,6 +207,12 @@ pub waited_sound : (b : Contents) (w : Waiter) (ws : List Waiter) → PutsIn w b
 waited_sound b w ws p o l = sound_fewer b (waited ws b) o.sound (same b) (λ j. omega (arith, waited_times b w ws j p o.inside))
     (λ c m. waited_conditions b w ws c p l m (o.sound.on_conditions c m)) (λ c. waited_ordered b w ws c p (o.sound.ordered c)) (given_up_fits b.signallers b.conditions)
 
+-- no more wait than there are places
+pub few_waiters : (b : Contents) → IsSound b → length b.waiters ≤ 64
+few_waiters b s =
+    let few : length (places b.waiters) ≤ b.places = few_once (places b.waiters) b.places (λ j. omega (arith, s.once j)) (λ j p. s.in_range j (omega arith)) in
+    omega (arith, s.few_places, length-map b.waiters (λ (w : Waiter). w.place))
+
 -- there is room for the one inside
 pub room : (b : Contents) (k : ℕ) → Holds b k → length b.waiters + length b.signallers < b.places
 room b k o =
@@ -263,6 +270,26 @@ owed_times b k c j e = omega (arith, hand_of j b (Owed k c) e)
 pub returned_times : (b : Contents) (k j : ℕ) → IsSound b → b.turn ≡ Return k → times_in j (returned k b) ≡ times_in j b
 returned_times b k j s e = omega (arith, hand_of j b (Return k) e, return_times b k j s e)
 
+-- either keeps the book sound
+pub owed_sound : (b : Contents) (k c : ℕ) → IsSound b → b.turn ≡ Owed k c → IsSound (admitted k b)
+owed_sound b k c s e = sound_fewer b (admitted k b) s (same b) (λ j. omega (arith, owed_times b k c j e)) s.on_conditions s.ordered tt
+
+pub returned_sound : (b : Contents) (k : ℕ) → IsSound b → b.turn ≡ Return k → IsSound (returned k b)
+returned_sound b k s e = sound_fewer b (returned k b) s (same b) (λ j. omega (arith, returned_times b k j s e)) s.on_conditions s.ordered tt
+
+-- by what the call asks for
+pub claim_owed_sound : (t : Turn) (b : Contents) (k : ℕ) → b.turn ≡ t → next_of t ≡ next.For k → ((x : ℕ) → t ≡ Return x → ⊥) → IsSound b → IsSound (admitted k b)
+claim_owed_sound Free b k e n r s = absurd (cc)
+claim_owed_sound (Held j) b k e n r s = absurd (cc)
+claim_owed_sound (Owed j c) b k e n r s = let q : j ≡ k = cc in subst (λ (i : ℕ). IsSound (admitted i b)) q (owed_sound b j c s e)
+claim_owed_sound (Return j) b k e n r s = absurd (r j refl)
+
+pub claim_returned_sound : (b : Contents) (j k : ℕ) → b.turn ≡ Return j → next_of b.turn ≡ next.For k → IsSound b → IsSound (returned k b)
+claim_returned_sound b j k e n s =
+    let m : next.For j ≡ next.For k = ap next_of (sym e) ∙ n in
+    let q : j ≡ k = cc in
+    subst (λ (i : ℕ). IsSound (returned i b)) q (returned_sound b j s e)
+
 -- signal and pass
 
 -- the one resumed goes, and the rest stays in order
@@ -304,6 +331,16 @@ signalled_sound b k c w ws r = resumed_sound b k c w ws (b.signallers ++ k ∷ [
 -- and a pass
 pub passed_sound : (b : Contents) (k c w : ℕ) (ws : List Waiter) → Resumes b k c w ws → IsSound (resumed ws b.signallers w c b)
 passed_sound b k c w ws r = resumed_sound b k c w ws b.signallers r (λ j. omega (arith, passed_times b k c w j ws r))
+
+-- a new book
+
+-- a book where nobody is
+pub opened_sound : (n m x : ℕ) → 0 < n → n ≤ 64 → 0 < m → m ≤ 8 → n ≤ x
+    → IsSound (record { places = n; conditions = m; room_to_wait = x; room_to_signal = x; waiters = []; signallers = []; turn = Free })
+opened_sound n m x a b d e f = record {
+  some_places = a; few_places = b; some_conditions = d; few_conditions = e; waiters_fit = f; signallers_fit = f;
+  once = λ k. omega arith; in_range = λ k p. absurd (omega arith); on_conditions = λ c l. refl; ordered = λ c. refl; turn_fits = refl;
+}
 
 -- an equal book
 

@@ -2,7 +2,7 @@ mod stepping;
 mod waits;
 
 use crate::chains::{Chains, SIGNALLERS};
-use crate::queues::{is_in_hand, turn_given_up};
+use crate::queues::{first_priority, is_in_hand, turn_given_up};
 use crate::steps::{MakeRefused, Next};
 use hoare_law::turn::Turn;
 use std::alloc::Global;
@@ -127,7 +127,7 @@ impl Book {
         ensures of { (h : History (Unit {0})) → IsOf self.now h
             → result ≡ option_map priority_of (chosen condition h.events) }
     {
-        self.chains.first(condition).map(|link| link.priority)
+        first_priority(&self.chains, condition)
     }
 
     /// A newcomer comes in, where the monitor is free and its place is outside.

@@ -1,11 +1,13 @@
 //! What a book asks of its turn, and of the signallers' chain.
-ghost use Rattle.std.specs.Prelude.{◌≡◌, ◌==◌, not};
+ghost use Rattle.std.specs.Prelude.{◌≡◌, ◌<◌, ◌==◌, not};
+ghost use Rattle.std.specs.Option.{option_map};
 ghost use Rattle.hoare_law.specs.Turns.{turn_given_up};
 ghost use Rattle.wait_book.specs.Contents.{times_in_hand};
 ghost use Rattle.wait_book.specs.Insides.{places_in};
-ghost use Rattle.wait_book.specs.Lists.{list_at};
+ghost use Rattle.wait_book.specs.Lists.{first_link, list_at};
+ghost use Rattle.wait_book.specs.declared.chains.Link.{Link};
 
-use crate::chains::{Chains, SIGNALLERS};
+use crate::chains::{CHAINS, Chains, SIGNALLERS};
 use hoare_law::turn::Turn;
 
 /// Who goes on where the monitor is given up: the longest waiting signaller, or nobody.
@@ -16,6 +18,15 @@ pub(crate) fn turn_given_up(chains: &Chains) -> Turn
         Some(link) => Turn::Return(link.place),
         None => Turn::Free,
     }
+}
+
+/// The priority of the first that waits on a condition.
+pub(crate) fn first_priority(chains: &Chains, condition: usize) -> Option<u64>
+    requires { condition < CHAINS }
+    ensures { result ≡ option_map (λ (x : Link). x.priority)
+        (first_link (list_at chains.now condition)) }
+{
+    chains.first(condition).map(|link| link.priority)
 }
 
 /// Whether a place is the one inside, or was resumed.

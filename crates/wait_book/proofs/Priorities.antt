@@ -1,9 +1,10 @@
 -- The waiting priorities of a book, and what each call does to them.
-use Rattle.std.proofs.Common.{◌≡◌, ◌≢◌, ◌==◌, ℕ, ◌<◌, Bool, true, false, eqb-true, cond, is_some, length, arith}
+use Rattle.std.proofs.Common.{◌≡◌, ◌≢◌, ◌==◌, ℕ, ◌<◌, Bool, true, false, eqb-true, cond, inl, inr, is_some, length, arith}
 use Rattle.std.proofs.Common.{List, [], ◌∷◌, map, Option, Some, None, refl, ap, sym, ◌∙◌, subst}
 use Rattle.std.specs.Prelude.{slice_index}
 use Rattle.std.specs.List.{filter, find, slice_get}
 use Rattle.std.specs.Option.{option_map}
+use Rattle.std.proofs.lemmas.Bool.{cases_lt}
 use Rattle.std.proofs.lemmas.List.{length-map}
 use Rattle.std.proofs.lemmas.Simd.{map-map}
 use Rattle.hoare_law.specs.declared.event.History.{History}
@@ -109,6 +110,16 @@ pub priorities_on-after : {b e : Contents} {k c w : ℕ} {ws : List Waiter} (us 
 priorities_on-after {b = b} {k = k} {c = c} {w = w} {ws = ws} us q r d =
     priorities_after b us k c w d ws r ∙ ap (λ (v : Contents). taken (priorities_on v) c d) q
 
+-- where nobody waits, they take nothing away
+pub priorities_on-untaken : {b d : Contents} (c e : ℕ) (ps : List ℕ) → b ≡ d → waiters_on c b ≡ [] → ps ≡ priorities_on b e → ps ≡ taken (priorities_on d) c e
+priorities_on-untaken {b = b} {d = d} c e ps is none same =
+    same ∙ ap (λ (v : Contents). priorities_on v e) is ∙ by (e == c) refl
+  where
+    by : (t : Bool) → (e == c) ≡ t → priorities_on d e ≡ cond t (behind_first (priorities_on d e)) (priorities_on d e)
+    by true q = let empty : priorities_on d e ≡ [] = subst (λ (j : ℕ). priorities_on d j ≡ []) (sym (eqb-true e c q)) (no_priority_on c is none) in
+        empty ∙ sym (ap behind_first empty)
+    by false q = refl
+
 -- how many wait, and the priority of the i-th
 
 -- as many as priorities
@@ -120,11 +131,19 @@ pub length-waiters_on : (b d : Contents) (c i : ℕ) → b ≡ d → IsSound b �
 length-waiters_on b d c i e s l = omega (arith, length-priorities_on b d c e s)
 
 -- the i-th, as the code found it
-pub nth-priority : {b d : Contents} (c i : ℕ) {o : Option ℕ} {ws : List Waiter} → b ≡ d → IsSound b → o ≡ option_map key (slice_get (filter (on c) ws) i) → ws ≡ b.waiters
+pub nth-priority : {b d : Contents} (c i : ℕ) {o : Option ℕ} → b ≡ d → IsSound b → o ≡ option_map key (slice_get (waiters_on c b) i)
     → i < length (priorities_on d c) → o ≡ Some (slice_index (priorities_on d c) i)
-nth-priority {b = b} {d = d} c i {o = o} e s r q l =
-    slice_index-map key (waiters_on c b) i o (r ∙ ap (λ v. option_map key (slice_get (filter (on c) v) i)) q) (length-waiters_on b d c i e s l)
+nth-priority {b = b} {d = d} c i {o = o} e s r l =
+    slice_index-map key (waiters_on c b) i o r (length-waiters_on b d c i e s l)
     ∙ ap (λ x. Some (slice_index x i)) (sym (priorities_on-are b c (s.ordered c))) ∙ ap (λ (v : Contents). Some (slice_index (priorities_on v c) i)) e
+
+-- so the condition is the book's
+pub fits-condition : (b d : Contents) (c i : ℕ) → b ≡ d → IsSound b → i < length (priorities_on d c) → c < b.conditions
+fits-condition b d c i e s l =
+    elim (cases_lt c b.conditions) [
+      | inl h ↦ h
+      | inr h ↦ absurd (omega (arith, length-waiters_on b d c i e s l, ap length (s.on_conditions c h)))
+    ]
 
 -- whether somebody waits
 

@@ -227,6 +227,10 @@ total_is v = length_next (λ c (x : Link). x.key) 8 (list_at v) ∙ omega (arith
 pub times_all : (k : ℕ) (v : Lists) → times k (places_below 9 (list_at v)) ≡ times k (places (waiting_below 8 (list_at v))) + times k (places_in (list_at v 8))
 times_all k v = times_next (λ c (x : Link). x.place) k 8 (list_at v) ∙ omega (arith, ap (times k) (places_waiting 8 (list_at v)))
 
+-- as many in the chain of a condition as wait on it
+pub chain-length : (c : ℕ) (v : Lists) → c < 8 → length (list_at v c) ≡ length (filter (on c) (waiting_below 8 (list_at v)))
+chain-length c v l = sym (ap length (on_chain 8 c (list_at v) l) ∙ length-map (list_at v c) (waiter_on c))
+
 -- no more in the chain of a condition than wait
 pub chain-few : (c : ℕ) (v : Lists) → c < 8 → length (list_at v c) ≤ length (waiting_below 8 (list_at v))
 chain-few c v l = length_one waiter_on 8 c (list_at v) l

@@ -1,10 +1,8 @@
 -- What keeps a book sound.
 use Rattle.std.proofs.Common.{◌≡◌, ◌==◌, ℕ, ◌+◌, ◌≤◌, ◌<◌, Bool, true, false, cond, not, ◌||◌, eqb, eqb-true, List, [], ◌∷◌, ◌++◌, length, Option, Some, refl, ap, sym, ◌∙◌, subst, arith}
-use Rattle.std.specs.Prelude.{MatchOption}
 use Rattle.std.specs.List.{filter}
 use Rattle.std.proofs.lemmas.Bool.Decides.{nat_tests}
 use Rattle.std.proofs.lemmas.List.{length-map, length-append}
-use Rattle.std.proofs.lemmas.Option.{MatchOption-at_some}
 use Rattle.hoare_law.specs.declared.turn.Turn.{Turn}
 use Rattle.hoare_law.specs.declared.turn.Turn.TheVariants.{Free, Held, Owed, Return}
 use Rattle.hoare_law.specs.Turns.{turn_given_up}
@@ -126,14 +124,9 @@ pub record Resumes (b : Contents) (k c w : ℕ) (ws : List Waiter) : Type 0 wher
   pub fits : c < b.conditions
   pub took : TakesFirst c b.waiters ws w
 
--- from what a call asks for, and what taking the first answered
-pub resumes : {b d : Contents} {k c w : ℕ} {ws : List Waiter} {o : Option ℕ} (P : Type 0) → b ≡ d → IsSound b → d.turn ≡ Held k → c < d.conditions → o ≡ Some w
-    → MatchOption o P (λ j. TakesFirst c b.waiters ws j) → Resumes b k c w ws
-resumes {b = b} {c = c} {w = w} {ws = ws} P e s h l some m = record {
-  by = holds e s h;
-  fits = same_condition b _ c e l;
-  took = MatchOption-at_some P (λ j. TakesFirst c b.waiters ws j) w some m;
-}
+-- from what a call asks for, and what taking the first did
+pub resumes : {b d : Contents} {k c w : ℕ} {ws : List Waiter} → b ≡ d → IsSound b → d.turn ≡ Held k → c < d.conditions → TakesFirst c b.waiters ws w → Resumes b k c w ws
+resumes {b = b} {c = c} e s h l t = record { by = holds e s h; fits = same_condition b _ c e l; took = t }
 
 -- the one inside stands in no list
 pub holder_apart : (b : Contents) (k : ℕ) → Holds b k → (times k (places b.waiters) ≡ 0) × (times k b.signallers ≡ 0)

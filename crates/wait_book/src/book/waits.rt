@@ -1,7 +1,7 @@
 //! The waiting priorities of a book.
 ghost use Rattle.std.specs.Prelude.{◌≡◌, ◌<◌, ℕ, length, slice_index};
 
-use super::{Book, MOST_CONDITIONS};
+use super::Book;
 use hoare_law::waits::Waits;
 
 impl Waits for Book {
@@ -19,7 +19,7 @@ impl Waits for Book {
         ensures of { (h : History (Unit {0})) → IsOf self.now h
             → priorities_on self.now condition ≡ priorities h.events condition }
     {
-        if condition >= MOST_CONDITIONS {
+        if condition >= self.conditions {
             return 0;
         }
         self.chains.on(condition).count()

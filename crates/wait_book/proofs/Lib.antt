@@ -1,4 +1,3 @@
-pub mod Options
 pub mod Nodes
 pub mod Lists
 pub mod Chained

@@ -1,5 +1,6 @@
 //! What a book asks of its turn, and of the signallers' chain.
 ghost use Rattle.std.specs.Prelude.{◌≡◌, ◌<◌, ◌==◌, not};
+ghost use Rattle.std.specs.List.{slice_get};
 ghost use Rattle.std.specs.Option.{option_map};
 ghost use Rattle.hoare_law.specs.Turns.{turn_given_up};
 ghost use Rattle.wait_book.specs.Contents.{times_in_hand};
@@ -27,6 +28,16 @@ pub(crate) fn first_priority(chains: &Chains, condition: usize) -> Option<u64>
         (first_link (list_at chains.now condition)) }
 {
     chains.first(condition).map(|link| link.priority)
+}
+
+/// The priority of the `i`-th that waits on a condition, counted from 0.
+pub(crate) fn nth_priority(chains: &Chains, condition: usize, i: usize) -> Option<u64>
+    requires { condition < CHAINS }
+    ensures { result ≡ option_map (λ (x : Link). x.priority)
+        (slice_get (list_at chains.now condition) i) }
+{
+    let link = chains.on(condition).nth(i)?;
+    Some(link.priority)
 }
 
 /// Whether a place is the one inside, or was resumed.

@@ -2,6 +2,7 @@
 ghost use Rattle.std.specs.Prelude.{◌≡◌, ◌<◌, ℕ, length, slice_index};
 
 use super::Book;
+use crate::queues::nth_priority;
 use hoare_law::waits::Waits;
 
 impl Waits for Book {
@@ -26,10 +27,10 @@ impl Waits for Book {
     }
 
     fn priority(&self, condition: usize, i: usize) -> u64 {
-        let Some(link) = self.chains.on(condition).nth(i) else {
+        let Some(priority) = nth_priority(&self.chains, condition, i) else {
             unreachable!();
         };
-        link.priority
+        priority
     }
 
     ghost rise = { λ w c. IsNonDecreasing-in_order

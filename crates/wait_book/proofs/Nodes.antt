@@ -168,9 +168,10 @@ walked_first s from k n e f g =
     let same : Some n ≡ Some (node_of o.first o.next) = sym g ∙ o.node in
     let is : n ≡ node_of o.first o.next = cc in
     let short : length e.list ≡ suc (length o.after) = ap length o.is in
-    let rest : Ends s o.next = record { list = o.after; linked = o.linked; few = omega (arith, e.few) } in
-    (walked_ends s from e ∙ o.is ∙ (by o.first o.key n o.next o.after is ∙ ap (λ ys. record { key = k; place = n.place; priority = n.priority } ∷ ys) (sym (walked_ends s o.next rest) ∙ ap (λ (m : Node). walked s m.next) (sym is))),
-    subst (λ (m : Node). Ends s m.next) (sym is) rest)
+    let rest : Ends s o.next = record { list = o.after; linked = o.linked; few = omega (arith, e.few) } in (
+      walked_ends s from e ∙ o.is ∙ (by o.first o.key n o.next o.after is ∙ ap (λ ys. record { key = k; place = n.place; priority = n.priority } ∷ ys) (sym (walked_ends s o.next rest) ∙ ap (λ (m : Node). walked s m.next) (sym is))),
+      subst (λ (m : Node). Ends s m.next) (sym is) rest,
+    )
   where
     by : (x : Link) → x.key ≡ k → (m : Node) (next : Option ℕ) (ys : List Link) → m ≡ node_of x next → x ∷ ys ≡ record { key = k; place = m.place; priority = m.priority } ∷ ys
     by x q m next ys e =

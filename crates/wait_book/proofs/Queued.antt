@@ -140,16 +140,16 @@ taken_below zero c x after at l e = absurd (omega arith)
 taken_below (suc n) c x after at l e =
     elim (cases_eq n c) [
       | inl q ↦ record {
-          before = waiting_below n at;
-          first = waiter_on c x;
-          after = map (waiter_on c) after;
-          was = ap (λ ws. waiting_below n at ++ ws) (subst (λ (m : ℕ). map (waiter_on m) (at m) ≡ waiter_on c x ∷ map (waiter_on c) after) (sym q) (ap (map (waiter_on c)) e));
-          is = ap (λ ws. ws ++ map (waiter_on n) (list_put c after at n)) (below_past waiter_on n c after at (omega arith))
-              ∙ ap (λ ws. waiting_below n at ++ ws) (subst (λ (m : ℕ). map (waiter_on m) (list_put c after at m) ≡ map (waiter_on c) after) (sym q) (ap (map (waiter_on c)) (put_same c after at)));
-          none_before = on_before n c at (omega arith);
-          on = refl;
-          place = refl;
-        }
+        before = waiting_below n at;
+        first = waiter_on c x;
+        after = map (waiter_on c) after;
+        was = ap (λ ws. waiting_below n at ++ ws) (subst (λ (m : ℕ). map (waiter_on m) (at m) ≡ waiter_on c x ∷ map (waiter_on c) after) (sym q) (ap (map (waiter_on c)) e));
+        is = ap (λ ws. ws ++ map (waiter_on n) (list_put c after at n)) (below_past waiter_on n c after at (omega arith))
+            ∙ ap (λ ws. waiting_below n at ++ ws) (subst (λ (m : ℕ). map (waiter_on m) (list_put c after at m) ≡ map (waiter_on c) after) (sym q) (ap (map (waiter_on c)) (put_same c after at)));
+        none_before = on_before n c at (omega arith);
+        on = refl;
+        place = refl;
+      }
       | inr off ↦
           let t : TakesFirst c (waiting_below n at) (waiting_below n (list_put c after at)) x.place = taken_below n c x after at (omega arith) e in
           let more : List Waiter = map (waiter_on n) (at n) in

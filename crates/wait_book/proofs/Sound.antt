@@ -331,8 +331,17 @@ passed_sound b k c w ws r = resumed_sound b k c w ws b.signallers r (λ j. omega
 pub opened_sound : (n m x : ℕ) → 0 < n → n ≤ 64 → 0 < m → m ≤ 8 → n ≤ x
     → IsSound (record { places = n; conditions = m; room_to_wait = x; room_to_signal = x; waiters = []; signallers = []; turn = Free })
 opened_sound n m x a b d e f = record {
-  some_places = a; few_places = b; some_conditions = d; few_conditions = e; waiters_fit = f; signallers_fit = f;
-  once = λ k. omega arith; in_range = λ k p. absurd (omega arith); on_conditions = λ c l. refl; ordered = λ c. refl; turn_fits = refl;
+  some_places = a;
+  few_places = b;
+  some_conditions = d;
+  few_conditions = e;
+  waiters_fit = f;
+  signallers_fit = f;
+  once = λ k. omega arith;
+  in_range = λ k p. absurd (omega arith);
+  on_conditions = λ c l. refl;
+  ordered = λ c. refl;
+  turn_fits = refl;
 }
 
 -- an equal book

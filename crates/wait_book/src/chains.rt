@@ -9,16 +9,17 @@ ghost use Rattle.wait_book.specs.Chains.{IsLinked, held};
 
 mod links;
 
+use crate::book::MOST_CONDITIONS;
 pub(crate) use links::Links;
 use slab::Slab;
 use std::alloc::{AllocError, Global};
 use std::marker::Model;
 
-/// How many chains there are: one for each condition, and the signallers'.
-pub(crate) const CHAINS: usize = 9;
-
 /// The number of the signallers' chain, behind those of the conditions.
-pub(crate) const SIGNALLERS: usize = 8;
+pub(crate) const SIGNALLERS: usize = MOST_CONDITIONS;
+
+/// How many chains there are: one for each condition, and the signallers'.
+pub(crate) const CHAINS: usize = MOST_CONDITIONS + 1;
 
 /// One that stands in a chain: the key of its node, its place and its priority.
 #[derive(Clone, Copy)]

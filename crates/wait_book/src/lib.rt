@@ -3,6 +3,8 @@
 
 pub mod book;
 mod chains;
+#[cfg(test)]
+mod filling;
 mod queues;
 pub mod steps;
 #[cfg(test)]

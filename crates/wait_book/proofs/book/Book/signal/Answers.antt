@@ -56,8 +56,15 @@ append-requires-clause-room c =
     let took = TakesFirst-taken c.args.condition c.in-Some.resumed c.self.inside.chains c.take_first.new.self below t in
     let same = signallers-same c.args.condition _ c.self.inside.chains c.take_first.new.self below t.lists in
     let h = sound.holds c.self.view_is c.self.invariant c.requires.inside in
-    omega (arith, total_is c.take_first.new.self, length-taken c.args.condition _ _ c.in-Some.resumed took, ap length same, t.room,
-    sound.room b c.args.place h, c.self.invariant.signallers_fit)
+    omega (
+      arith,
+      total_is c.take_first.new.self,
+      length-taken c.args.condition _ _ c.in-Some.resumed took,
+      ap length same,
+      t.room,
+      sound.room b c.args.place h,
+      c.self.invariant.signallers_fit,
+    )
 
 pub invariant_of-self-2 : goal.invariant_of-self-2
 invariant_of-self-2 c =

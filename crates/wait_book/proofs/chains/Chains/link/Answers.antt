@@ -31,7 +31,11 @@ invariant_of-self c =
     let first = (chain_at c.self.inside.chains c.args.chain).first in
     let x : Link = record { key = c.insert_reserved-key.result; place = c.args.place; priority = c.args.priority } in
     let linking : Linking c.self.inside.nodes c.insert_reserved-key.new.self c.set_next-first.new.nodes first c.args.behind c.next_of-next.result c.set_next-first.result x = record {
-      vacant = stored.was_vacant; stored = stored.updates; linked = put.linked; others = put.others; held_on = put.held;
+      vacant = stored.was_vacant;
+      stored = stored.updates;
+      linked = put.linked;
+      others = put.others;
+      held_on = put.held;
       longer = put.len ∙ stored.len;
     } in
     AreChains-seen (AreChains-linked c.args.chain b.0 b.1 i c.requires.chain linking c.last_after-last.ensures c.next_of-next.ensures b.2 b.3)
@@ -44,7 +48,11 @@ returns c = λ before after is e.
     let first = (chain_at c.self.inside.chains c.args.chain).first in
     let x : Link = record { key = c.insert_reserved-key.result; place = c.args.place; priority = c.args.priority } in
     let linking : Linking c.self.inside.nodes c.insert_reserved-key.new.self c.set_next-first.new.nodes first c.args.behind c.next_of-next.result c.set_next-first.result x = record {
-      vacant = stored.was_vacant; stored = stored.updates; linked = put.linked; others = put.others; held_on = put.held;
+      vacant = stored.was_vacant;
+      stored = stored.updates;
+      linked = put.linked;
+      others = put.others;
+      held_on = put.held;
       longer = put.len ∙ stored.len;
     } in
     record {

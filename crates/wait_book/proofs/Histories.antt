@@ -19,7 +19,7 @@ use Rattle.hoare_law.proofs.Waiting.{waiting-push}
 use Rattle.hoare_law.proofs.Turns.{urgent-push, turn-push, outside-push, filter-map}
 use Rattle.hoare_law.proofs.Legal.{IsLegal-push, IsLegal-none}
 use Rattle.hoare_law.proofs.Filters.{filter-filter}
-use Rattle.hoare_law.proofs.Sorted.{in_order-filter, in_order-push, map-filter_put_in}
+use Rattle.hoare_law.proofs.Sorted.{in_order-filter, in_order-push, put_in-map}
 use Rattle.hoare_law.proofs.Chosen as law
 use Rattle.hoare_law.proofs.Sorted as sorted
 use Rattle.wait_book.specs.declared.waiter.Waiter.{Waiter}
@@ -27,7 +27,7 @@ use Rattle.wait_book.specs.Contents.{Contents, IsOf, next_of, one, times, times_
 use Rattle.wait_book.specs.declared.steps.Next.TheVariants as next
 use Rattle.wait_book.specs.Stepping.{after_claim, after_signal, after_pass, settled}
 use Rattle.wait_book.specs.Insides.{IsSound}
-use Rattle.wait_book.specs.Queues.{TakesFirst}
+use Rattle.wait_book.specs.Queues.{PutsIn, TakesFirst}
 use Rattle.wait_book.proofs.Times.{eq_self, eq_swap, one_same, one_apart, filter-apart, filter-others}
 use Rattle.wait_book.proofs.Waiters.{on, places, key, times-taken, filter-taken, filter-taken_on}
 use Rattle.wait_book.proofs.Sound.{admitted, waited, left, resumed, returned, Enters, Holds, Resumes, holder_apart, hand_apart, held_hand, owed_hand, owed_condition}
@@ -80,14 +80,18 @@ waiters_kept b h e ws n f o c =
     ∙ ap (in_order priority_of) (sym (waiting-push c h.events e ∙ ap (λ t. kept ++ cond t (e ∷ []) []) (n c) ∙ append-nil _))
 
 -- a wait adds its own to those who wait
-waiters_joined : (b : Contents) (h : Log) (w : Waiter) → in_order key b.waiters ≡ b.waiters → spared (wait_of w) b.waiters ≡ b.waiters → IsOf b h
-    → AreWaiting (put_in key w b.waiters) (h.events ++ wait_of w ∷ [])
-waiters_joined b h w r f o c =
+waiters_joined : (b : Contents) (h : Log) (w : Waiter) (ws : List Waiter) → PutsIn w b.waiters ws → spared (wait_of w) b.waiters ≡ b.waiters → IsOf b h
+    → AreWaiting ws (h.events ++ wait_of w ∷ [])
+waiters_joined b h w ws p f o c =
     let kept : List Act = filter (λ x. not (concerns (place_of x) (wait_of w))) (waiting c h.events) in
-    map-filter_put_in wait_of priority_of (on c) w b.waiters r
+    ap (map wait_of) (p.on c) ∙ by (w.condition == c) (waiters_on c b)
     ∙ ap (λ l. cond (on c w) (put_in priority_of (wait_of w) l) l) (waiters_stay b h (wait_of w) b.waiters f o c)
     ∙ sym (in_order-push priority_of (on c w) (wait_of w) kept)
     ∙ ap (in_order priority_of) (sym (waiting-push c h.events (wait_of w)))
+  where
+    by : (t : Bool) (vs : List Waiter) → map wait_of (cond t (put_in key w vs) vs) ≡ cond t (put_in priority_of (wait_of w) (map wait_of vs)) (map wait_of vs)
+    by true vs = sym (put_in-map wait_of priority_of w vs)
+    by false vs = refl
 
 -- who is outside
 
@@ -163,17 +167,18 @@ admitted_of b k h i o =
     (λ j t. omega (arith, admitted_times b k j e, one_apart j k (eq_swap j k ∙ t)))
 
 -- a wait
-pub waited_of : (b : Contents) (w : Waiter) (h : Log) → Holds b w.place → w.condition < b.conditions → IsOf b h → IsOf (waited w b) (with_event h (wait_of w))
-waited_of b w h i l o =
+pub waited_of : (b : Contents) (w : Waiter) (ws : List Waiter) (h : Log) → PutsIn w b.waiters ws → Holds b w.place → w.condition < b.conditions → IsOf b h
+    → IsOf (waited ws b) (with_event h (wait_of w))
+waited_of b w ws h p i l o =
     let s : IsSound b = i.sound in
     let e : b.turn ≡ Held w.place = i.inside in
     let apart : (times w.place (places b.waiters) ≡ 0) × (times w.place b.signallers ≡ 0) = holder_apart b w.place i in
-    IsOf-push b (waited w b) h (wait_of w) o refl refl
+    IsOf-push b (waited ws b) h (wait_of w) o refl refl
     (record { in_range = (place_fits b h w.place o (held_in_range b w.place s e), condition_fits b h w.condition o l); fits = o.turn_is ∙ e })
-    (waiters_joined b h w s.ordered (waiters_apart b w.place (wait_of w) (λ j t. ap not t) apart.0) o)
+    (waiters_joined b h w ws p (waiters_apart b w.place (wait_of w) (λ j t. ap not t) apart.0) o)
     (signallers_apart b w.place apart.1) refl
-    (positive _ (omega (arith, waited_times b w w.place e, held_hand b w.place e)))
-    (λ j t. sym (waited_times b w j e))
+    (positive _ (omega (arith, waited_times b w ws w.place p e, held_hand b w.place e)))
+    (λ j t. sym (waited_times b w ws j p e))
 
 -- a leave
 pub left_of : (b : Contents) (k : ℕ) (h : Log) → Holds b k → IsOf b h → IsOf (left b) (with_event h (Leave k tt))

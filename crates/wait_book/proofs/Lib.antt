@@ -1,4 +1,7 @@
-pub mod Options
+pub mod Nodes
+pub mod Lists
+pub mod Chained
+pub mod Queued
 pub mod Times
 pub mod Waiters
 pub mod Sound

@@ -1,9 +1,10 @@
 -- The waiting priorities of a book, and what each call does to them.
-use Rattle.std.proofs.Common.{◌≡◌, ◌≢◌, ◌==◌, ℕ, ◌<◌, Bool, true, false, eqb-true, cond, is_some, length, arith}
+use Rattle.std.proofs.Common.{◌≡◌, ◌≢◌, ◌==◌, ℕ, ◌<◌, Bool, true, false, eqb-true, cond, inl, inr, is_some, length, arith}
 use Rattle.std.proofs.Common.{List, [], ◌∷◌, map, Option, Some, None, refl, ap, sym, ◌∙◌, subst}
 use Rattle.std.specs.Prelude.{slice_index}
 use Rattle.std.specs.List.{filter, find, slice_get}
 use Rattle.std.specs.Option.{option_map}
+use Rattle.std.proofs.lemmas.Bool.{cases_lt}
 use Rattle.std.proofs.lemmas.List.{length-map}
 use Rattle.std.proofs.lemmas.Simd.{map-map}
 use Rattle.hoare_law.specs.declared.event.History.{History}
@@ -12,26 +13,26 @@ use Rattle.hoare_law.specs.Priorities.{put_in, in_order, priorities, joined, tak
 use Rattle.hoare_law.proofs.Sorted as sorted
 use Rattle.hoare_law.proofs.Filters.{map-none}
 use Rattle.hoare_law.proofs.Firsts.{first_of-map, slice_index-map}
-use Rattle.hoare_law.proofs.Sorted.{map-in_order, in_order-none, in_order-put_in, in_order-filtered, map-filter_put_in, find-filter}
+use Rattle.hoare_law.proofs.Sorted.{map-in_order, in_order-none, map-put_in, find-filter}
 use Rattle.wait_book.specs.declared.waiter.Waiter.{Waiter}
 use Rattle.wait_book.specs.Contents.{Contents, IsOf, priorities_on, wait_of, waiters_on}
 use Rattle.wait_book.specs.Insides.{IsSound}
-use Rattle.wait_book.specs.Queues.{TakesFirst}
+use Rattle.wait_book.specs.Queues.{PutsIn, TakesFirst}
 use Rattle.wait_book.proofs.Times.{eq_swap}
 use Rattle.wait_book.proofs.Waiters.{on, key, filter-taken_on, filter-taken_off}
 use Rattle.wait_book.proofs.Sound.{waited, resumed, Resumes, taken_ordered}
 use Rattle.wait_book.proofs.Histories.{chosen-first_on, chosen-nobody}
 
 -- they are those of the waiters as they stand
-pub priorities_on-are : (b : Contents) (c : ℕ) → in_order key b.waiters ≡ b.waiters → priorities_on b c ≡ map key (waiters_on c b)
-priorities_on-are b c r = sym (map-in_order key (waiters_on c b)) ∙ ap (map key) (in_order-filtered key (on c) b.waiters r)
+pub priorities_on-are : (b : Contents) (c : ℕ) → in_order key (waiters_on c b) ≡ waiters_on c b → priorities_on b c ≡ map key (waiters_on c b)
+priorities_on-are b c r = sym (map-in_order key (waiters_on c b)) ∙ ap (map key) r
 
 -- none, where nobody waits
 pub priorities_on-nobody : (b : Contents) (c : ℕ) → waiters_on c b ≡ [] → priorities_on b c ≡ []
 priorities_on-nobody b c n = ap (λ l. in_order (λ p. p) (map key l)) n
 
 -- where they are none, nobody waits
-pub priorities_on-none : (b : Contents) (c : ℕ) → in_order key b.waiters ≡ b.waiters → priorities_on b c ≡ [] → waiters_on c b ≡ []
+pub priorities_on-none : (b : Contents) (c : ℕ) → in_order key (waiters_on c b) ≡ waiters_on c b → priorities_on b c ≡ [] → waiters_on c b ≡ []
 priorities_on-none b c r e = map-none key (waiters_on c b) (sym (priorities_on-are b c r) ∙ e)
 
 -- of an equal book
@@ -42,14 +43,14 @@ no_priority_on {b = b} c e n = subst (λ (v : Contents). priorities_on v c ≡ [
 pub priorities_on-taken : {b d : Contents} {k c w : ℕ} {ws : List Waiter} → Resumes b k c w ws → b ≡ d → priorities_on d c ≢ []
 priorities_on-taken {b = b} {c = c} {w = w} {ws = ws} r e = λ none.
     let a = filter-taken_on c b.waiters ws w r.took in
-    let n : waiters_on c b ≡ [] = priorities_on-none b c r.by.sound.ordered (ap (λ (v : Contents). priorities_on v c) e ∙ none) in
+    let n : waiters_on c b ≡ [] = priorities_on-none b c (r.by.sound.ordered c) (ap (λ (v : Contents). priorities_on v c) e ∙ none) in
     absurd (cc)
 
 -- they are those of the history
 pub priorities_on-history : {b d : Contents} (h : History (Unit {0})) (c : ℕ) → b ≡ d → IsSound b → IsOf d h → priorities_on d c ≡ priorities h.events c
 unfolding priorities
 priorities_on-history {b = b} {d = d} h c e s o =
-    ap (λ (v : Contents). priorities_on v c) (sym e) ∙ priorities_on-are b c s.ordered ∙ ap (λ (v : Contents). map key (waiters_on c v)) e
+    ap (λ (v : Contents). priorities_on v c) (sym e) ∙ priorities_on-are b c (s.ordered c) ∙ ap (λ (v : Contents). map key (waiters_on c v)) e
     ∙ sym (map-map priority_of wait_of (waiters_on c d)) ∙ ap (map priority_of) (o.waiters c)
 
 -- nobody waits on c in the book where nobody does in the history
@@ -70,19 +71,23 @@ first-chosen b h c o = ap (option_map key) (find-filter (on c) b.waiters) ∙ sy
 -- and the first of the priorities
 pub first-priority : (b d : Contents) (c : ℕ) → b ≡ d → IsSound b → option_map key (find (on c) b.waiters) ≡ sorted.first_of (priorities_on d c)
 first-priority b d c e s =
-    ap (option_map key) (find-filter (on c) b.waiters) ∙ sym (first_of-map key (waiters_on c b)) ∙ ap sorted.first_of (sym (priorities_on-are b c s.ordered))
+    ap (option_map key) (find-filter (on c) b.waiters) ∙ sym (first_of-map key (waiters_on c b)) ∙ ap sorted.first_of (sym (priorities_on-are b c (s.ordered c)))
     ∙ ap (λ (v : Contents). sorted.first_of (priorities_on v c)) e
 
 -- what a wait and a signal do
 
 -- a wait puts its priority in
-pub priorities_on-joined : {b d : Contents} (w : Waiter) (c : ℕ) → b ≡ d → IsSound b → priorities_on (waited w b) c ≡ joined (priorities_on d) w.condition w.priority c
-priorities_on-joined {b = b} w c e s =
-    priorities_on-are (waited w b) c (in_order-put_in key w b.waiters s.ordered)
-    ∙ map-filter_put_in key (λ n. n) (on c) w b.waiters s.ordered
-    ∙ ap (λ l. cond (on c w) (put_in (λ n. n) w.priority l) l) (sym (priorities_on-are b c s.ordered))
+pub priorities_on-joined : {b d : Contents} (w : Waiter) (ws : List Waiter) (c : ℕ) → PutsIn w b.waiters ws → b ≡ d → IsSound b → IsSound (waited ws b)
+    → priorities_on (waited ws b) c ≡ joined (priorities_on d) w.condition w.priority c
+priorities_on-joined {b = b} w ws c p e s t =
+    priorities_on-are (waited ws b) c (t.ordered c) ∙ ap (map key) (p.on c) ∙ by (on c w) (waiters_on c b)
+    ∙ ap (λ l. cond (on c w) (put_in (λ n. n) w.priority l) l) (sym (priorities_on-are b c (s.ordered c)))
     ∙ ap (λ t. cond t (put_in (λ n. n) w.priority (priorities_on b c)) (priorities_on b c)) (eq_swap w.condition c)
     ∙ ap (λ (v : Contents). joined (priorities_on v) w.condition w.priority c) e
+  where
+    by : (t : Bool) (vs : List Waiter) → map key (cond t (put_in key w vs) vs) ≡ cond t (put_in (λ n. n) w.priority (map key vs)) (map key vs)
+    by true vs = map-put_in key w vs
+    by false vs = refl
 
 taken_by : (t : Bool) (c d : ℕ) (b : Contents) (ws : List Waiter) (w : ℕ) → (d == c) ≡ t → TakesFirst c b.waiters ws w
     → map key (filter (on d) ws) ≡ cond t (behind_first (map key (waiters_on d b))) (map key (waiters_on d b))
@@ -95,9 +100,9 @@ taken_by false c d b ws w e t = ap (map key) (sym (filter-taken_off c d b.waiter
 priorities_after : (b : Contents) (us : List ℕ) (k c w d : ℕ) (ws : List Waiter) → Resumes b k c w ws
     → priorities_on (resumed ws us w c b) d ≡ taken (priorities_on b) c d
 priorities_after b us k c w d ws r =
-    priorities_on-are (resumed ws us w c b) d (taken_ordered b k c w ws r)
+    priorities_on-are (resumed ws us w c b) d (taken_ordered b k c w ws r d)
     ∙ taken_by (d == c) c d b ws w refl r.took
-    ∙ ap (λ l. cond (d == c) (behind_first l) l) (sym (priorities_on-are b d r.by.sound.ordered))
+    ∙ ap (λ l. cond (d == c) (behind_first l) l) (sym (priorities_on-are b d (r.by.sound.ordered d)))
 
 -- (of an equal book)
 pub priorities_on-after : {b e : Contents} {k c w : ℕ} {ws : List Waiter} (us : List ℕ) → b ≡ e → Resumes b k c w ws → (d : ℕ)
@@ -105,22 +110,40 @@ pub priorities_on-after : {b e : Contents} {k c w : ℕ} {ws : List Waiter} (us 
 priorities_on-after {b = b} {k = k} {c = c} {w = w} {ws = ws} us q r d =
     priorities_after b us k c w d ws r ∙ ap (λ (v : Contents). taken (priorities_on v) c d) q
 
+-- where nobody waits, they take nothing away
+pub priorities_on-untaken : {b d : Contents} (c e : ℕ) (ps : List ℕ) → b ≡ d → waiters_on c b ≡ [] → ps ≡ priorities_on b e → ps ≡ taken (priorities_on d) c e
+priorities_on-untaken {b = b} {d = d} c e ps is none same =
+    same ∙ ap (λ (v : Contents). priorities_on v e) is ∙ by (e == c) refl
+  where
+    by : (t : Bool) → (e == c) ≡ t → priorities_on d e ≡ cond t (behind_first (priorities_on d e)) (priorities_on d e)
+    by true q = let empty : priorities_on d e ≡ [] = subst (λ (j : ℕ). priorities_on d j ≡ []) (sym (eqb-true e c q)) (no_priority_on c is none) in
+        empty ∙ sym (ap behind_first empty)
+    by false q = refl
+
 -- how many wait, and the priority of the i-th
 
 -- as many as priorities
 pub length-priorities_on : (b d : Contents) (c : ℕ) → b ≡ d → IsSound b → length (waiters_on c b) ≡ length (priorities_on d c)
-length-priorities_on b d c e s = sym (length-map (waiters_on c b) key) ∙ ap length (sym (priorities_on-are b c s.ordered)) ∙ ap (λ (v : Contents). length (priorities_on v c)) e
+length-priorities_on b d c e s = sym (length-map (waiters_on c b) key) ∙ ap length (sym (priorities_on-are b c (s.ordered c))) ∙ ap (λ (v : Contents). length (priorities_on v c)) e
 
 -- so each has its waiter
 pub length-waiters_on : (b d : Contents) (c i : ℕ) → b ≡ d → IsSound b → i < length (priorities_on d c) → i < length (waiters_on c b)
 length-waiters_on b d c i e s l = omega (arith, length-priorities_on b d c e s)
 
 -- the i-th, as the code found it
-pub nth-priority : {b d : Contents} (c i : ℕ) {o : Option ℕ} {ws : List Waiter} → b ≡ d → IsSound b → o ≡ option_map key (slice_get (filter (on c) ws) i) → ws ≡ b.waiters
+pub nth-priority : {b d : Contents} (c i : ℕ) {o : Option ℕ} → b ≡ d → IsSound b → o ≡ option_map key (slice_get (waiters_on c b) i)
     → i < length (priorities_on d c) → o ≡ Some (slice_index (priorities_on d c) i)
-nth-priority {b = b} {d = d} c i {o = o} e s r q l =
-    slice_index-map key (waiters_on c b) i o (r ∙ ap (λ v. option_map key (slice_get (filter (on c) v) i)) q) (length-waiters_on b d c i e s l)
-    ∙ ap (λ x. Some (slice_index x i)) (sym (priorities_on-are b c s.ordered)) ∙ ap (λ (v : Contents). Some (slice_index (priorities_on v c) i)) e
+nth-priority {b = b} {d = d} c i {o = o} e s r l =
+    slice_index-map key (waiters_on c b) i o r (length-waiters_on b d c i e s l)
+    ∙ ap (λ x. Some (slice_index x i)) (sym (priorities_on-are b c (s.ordered c))) ∙ ap (λ (v : Contents). Some (slice_index (priorities_on v c) i)) e
+
+-- so the condition is the book's
+pub fits-condition : (b d : Contents) (c i : ℕ) → b ≡ d → IsSound b → i < length (priorities_on d c) → c < b.conditions
+fits-condition b d c i e s l =
+    elim (cases_lt c b.conditions) [
+      | inl h ↦ h
+      | inr h ↦ absurd (omega (arith, length-waiters_on b d c i e s l, ap length (s.on_conditions c h)))
+    ]
 
 -- whether somebody waits
 

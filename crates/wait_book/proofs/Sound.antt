@@ -1,21 +1,21 @@
 -- What keeps a book sound.
-use Rattle.std.proofs.Common.{◌≡◌, ℕ, ◌+◌, ◌≤◌, ◌<◌, Bool, true, false, eqb, eqb-true, ltb, List, [], ◌∷◌, ◌++◌, length, Option, Some, refl, ap, sym, ◌∙◌, subst, arith}
-use Rattle.std.specs.Prelude.{MatchOption}
-use Rattle.std.specs.List.{list_all}
+use Rattle.std.proofs.Common.{◌≡◌, ◌==◌, ℕ, ◌+◌, ◌≤◌, ◌<◌, Bool, true, false, cond, not, ◌||◌, eqb, eqb-true, List, [], ◌∷◌, ◌++◌, length, Option, Some, refl, ap, sym, ◌∙◌, subst, arith}
+use Rattle.std.specs.List.{filter}
 use Rattle.std.proofs.lemmas.Bool.Decides.{nat_tests}
-use Rattle.std.proofs.lemmas.List.{length-map}
-use Rattle.std.proofs.lemmas.Option.{MatchOption-at_some}
+use Rattle.std.proofs.lemmas.List.{length-map, length-append}
 use Rattle.hoare_law.specs.declared.turn.Turn.{Turn}
 use Rattle.hoare_law.specs.declared.turn.Turn.TheVariants.{Free, Held, Owed, Return}
 use Rattle.hoare_law.specs.Turns.{turn_given_up}
 use Rattle.hoare_law.specs.Priorities.{put_in, in_order, behind_first}
-use Rattle.hoare_law.proofs.Sorted.{list_all-put_in, in_order-put_in, in_order-filtered}
+use Rattle.hoare_law.proofs.Filters.{filter-filter}
+use Rattle.hoare_law.proofs.Sorted.{in_order-put_in, in_order-filtered}
 use Rattle.wait_book.specs.declared.waiter.Waiter.{Waiter}
-use Rattle.wait_book.specs.Contents.{Contents, SameSizes, one, times, times_in, times_in_hand}
+use Rattle.wait_book.specs.Contents.{Contents, SameSizes, next_of, one, times, times_in, times_in_hand, waiters_on}
+use Rattle.wait_book.specs.declared.steps.Next.TheVariants as next
 use Rattle.wait_book.specs.Insides.{IsSound, IsTurnBeside}
-use Rattle.wait_book.specs.Queues.{TakesFirst}
+use Rattle.wait_book.specs.Queues.{PutsIn, TakesFirst}
 use Rattle.wait_book.proofs.Times.{one_same, one_apart, one_le, times-append, few_once}
-use Rattle.wait_book.proofs.Waiters.{places, key, times-put_in, times-taken, filter-taken, list_all-taken}
+use Rattle.wait_book.proofs.Waiters.{on, places, key, times-taken, filter-taken, filter-taken_off}
 
 -- what each call leaves
 
@@ -23,9 +23,9 @@ use Rattle.wait_book.proofs.Waiters.{places, key, times-put_in, times-taken, fil
 abbrev pub admitted : ℕ → Contents → Contents
 admitted k b = record b { turn = Held k }
 
--- the one inside waits
-abbrev pub waited : Waiter → Contents → Contents
-waited w b = record b { waiters = put_in key w b.waiters; turn = turn_given_up b.signallers }
+-- the one inside waits, with this list of those who wait
+abbrev pub waited : List Waiter → Contents → Contents
+waited ws b = record b { waiters = ws; turn = turn_given_up b.signallers }
 
 -- the one inside goes out
 abbrev pub left : Contents → Contents
@@ -124,14 +124,9 @@ pub record Resumes (b : Contents) (k c w : ℕ) (ws : List Waiter) : Type 0 wher
   pub fits : c < b.conditions
   pub took : TakesFirst c b.waiters ws w
 
--- from what a call asks for, and what taking the first answered
-pub resumes : {b d : Contents} {k c w : ℕ} {ws : List Waiter} {o : Option ℕ} (P : Type 0) → b ≡ d → IsSound b → d.turn ≡ Held k → c < d.conditions → o ≡ Some w
-    → MatchOption o P (λ j. TakesFirst c b.waiters ws j) → Resumes b k c w ws
-resumes {b = b} {c = c} {w = w} {ws = ws} P e s h l some m = record {
-  by = holds e s h;
-  fits = same_condition b _ c e l;
-  took = MatchOption-at_some P (λ j. TakesFirst c b.waiters ws j) w some m;
-}
+-- from what a call asks for, and what taking the first did
+pub resumes : {b d : Contents} {k c w : ℕ} {ws : List Waiter} → b ≡ d → IsSound b → d.turn ≡ Held k → c < d.conditions → TakesFirst c b.waiters ws w → Resumes b k c w ws
+resumes {b = b} {c = c} e s h l t = record { by = holds e s h; fits = same_condition b _ c e l; took = t }
 
 -- the one inside stands in no list
 pub holder_apart : (b : Contents) (k : ℕ) → Holds b k → (times k (places b.waiters) ≡ 0) × (times k b.signallers ≡ 0)
@@ -160,7 +155,7 @@ enters {k = k} e s f l z = record {
 -- a book that holds no place more often, with the same sizes
 
 sound_fewer : (b d : Contents) → IsSound b → SameSizes b d → ((k : ℕ) → times_in k d ≤ times_in k b)
-    → list_all (λ (w : Waiter). ltb w.condition b.conditions) d.waiters ≡ true → in_order key d.waiters ≡ d.waiters → IsTurnBeside d.signallers d.conditions d.turn → IsSound d
+    → ((c : ℕ) → b.conditions ≤ c → waiters_on c d ≡ []) → ((c : ℕ) → in_order key (waiters_on c d) ≡ waiters_on c d) → IsTurnBeside d.signallers d.conditions d.turn → IsSound d
 sound_fewer b d s e o a r t = record {
   some_places = omega (arith, e.0, s.some_places);
   few_places = omega (arith, e.0, s.few_places);
@@ -170,7 +165,7 @@ sound_fewer b d s e o a r t = record {
   signallers_fit = omega (arith, e.0, e.3, s.signallers_fit);
   once = λ k. omega (arith, o k, s.once k);
   in_range = λ k p. omega (arith, o k, e.0, s.in_range k (omega (arith, o k)));
-  on_conditions = subst (λ (n : ℕ). list_all (λ (w : Waiter). ltb w.condition n) d.waiters ≡ true) (sym e.1) a;
+  on_conditions = λ c l. a c (omega (arith, e.1));
   ordered = r;
   turn_fits = t;
 }
@@ -181,27 +176,44 @@ same b = (refl, refl, refl, refl)
 -- wait
 
 -- a wait moves its place
-pub waited_times : (b : Contents) (w : Waiter) (j : ℕ) → b.turn ≡ Held w.place → times_in j (waited w b) ≡ times_in j b
-waited_times b w j e = omega (arith, times-put_in j w b.waiters, given_up_hand j b.signallers, hand_of j b (Held w.place) e)
+pub waited_times : (b : Contents) (w : Waiter) (ws : List Waiter) (j : ℕ) → PutsIn w b.waiters ws → b.turn ≡ Held w.place → times_in j (waited ws b) ≡ times_in j b
+waited_times b w ws j p e = omega (arith, p.more j, given_up_hand j b.signallers, hand_of j b (Held w.place) e)
+
+-- those on a condition stay in order
+waited_ordered : (b : Contents) (w : Waiter) (ws : List Waiter) (c : ℕ) → PutsIn w b.waiters ws → in_order key (waiters_on c b) ≡ waiters_on c b
+    → in_order key (filter (on c) ws) ≡ filter (on c) ws
+waited_ordered b w ws c p o = ap (in_order key) (p.on c) ∙ by (w.condition == c) ∙ sym (p.on c)
+  where
+    by : (t : Bool) → in_order key (cond t (put_in key w (waiters_on c b)) (waiters_on c b)) ≡ cond t (put_in key w (waiters_on c b)) (waiters_on c b)
+    by true = in_order-put_in key w (waiters_on c b) o
+    by false = o
+
+-- and no other condition gets one
+waited_conditions : (b : Contents) (w : Waiter) (ws : List Waiter) (c : ℕ) → PutsIn w b.waiters ws → w.condition < b.conditions → b.conditions ≤ c → waiters_on c b ≡ []
+    → filter (on c) ws ≡ []
+waited_conditions b w ws c p l m n =
+    let off : (w.condition == c) ≡ false = grind (arith, nat_tests) in
+    p.on c ∙ ap (λ t. cond t (put_in key w (waiters_on c b)) (waiters_on c b)) off ∙ n
 
 -- and keeps the book sound
-pub waited_sound : (b : Contents) (w : Waiter) → Holds b w.place → w.condition < b.conditions → IsSound (waited w b)
-waited_sound b w o l = sound_fewer b (waited w b) o.sound (same b) (λ j. omega (arith, waited_times b w j o.inside))
-    (list_all-put_in key (λ (v : Waiter). ltb v.condition b.conditions) w b.waiters (grind (arith, nat_tests)) o.sound.on_conditions)
-    (in_order-put_in key w b.waiters o.sound.ordered) (given_up_fits b.signallers b.conditions)
+pub waited_sound : (b : Contents) (w : Waiter) (ws : List Waiter) → PutsIn w b.waiters ws → Holds b w.place → w.condition < b.conditions → IsSound (waited ws b)
+waited_sound b w ws p o l = sound_fewer b (waited ws b) o.sound (same b) (λ j. omega (arith, waited_times b w ws j p o.inside))
+    (λ c m. waited_conditions b w ws c p l m (o.sound.on_conditions c m)) (λ c. waited_ordered b w ws c p (o.sound.ordered c)) (given_up_fits b.signallers b.conditions)
 
--- there is room for the one inside in both lists
-pub room_waiters : (b : Contents) (k : ℕ) → Holds b k → length b.waiters < b.room_to_wait
-room_waiters b k o =
-    let all : length (k ∷ places b.waiters) ≤ b.places = few_once (k ∷ places b.waiters) b.places
-    (λ j. omega (arith, o.sound.once j, hand_of j b (Held k) o.inside)) (λ j p. o.sound.in_range j (omega (arith, hand_of j b (Held k) o.inside))) in
-    omega (arith, o.sound.waiters_fit, length-map b.waiters (λ (w : Waiter). w.place))
+-- no more wait than there are places
+pub few_waiters : (b : Contents) → IsSound b → length b.waiters ≤ 64
+few_waiters b s =
+    let few : length (places b.waiters) ≤ b.places = few_once (places b.waiters) b.places (λ j. omega (arith, s.once j)) (λ j p. s.in_range j (omega arith)) in
+    omega (arith, s.few_places, length-map b.waiters (λ (w : Waiter). w.place))
 
-pub room_signallers : (b : Contents) (k : ℕ) → Holds b k → length b.signallers < b.room_to_signal
-room_signallers b k o =
-    let all : length (k ∷ b.signallers) ≤ b.places = few_once (k ∷ b.signallers) b.places
-    (λ j. omega (arith, o.sound.once j, hand_of j b (Held k) o.inside)) (λ j p. o.sound.in_range j (omega (arith, hand_of j b (Held k) o.inside))) in
-    omega (arith, o.sound.signallers_fit)
+-- there is room for the one inside
+pub room : (b : Contents) (k : ℕ) → Holds b k → length b.waiters + length b.signallers < b.places
+room b k o =
+    let all : List ℕ = k ∷ (places b.waiters ++ b.signallers) in
+    let few : length all ≤ b.places = few_once all b.places
+    (λ j. omega (arith, o.sound.once j, hand_of j b (Held k) o.inside, times-append j (places b.waiters) b.signallers))
+    (λ j p. o.sound.in_range j (omega (arith, hand_of j b (Held k) o.inside, times-append j (places b.waiters) b.signallers))) in
+    omega (arith, length-append (places b.waiters) b.signallers, length-map b.waiters (λ (w : Waiter). w.place))
 
 -- leave
 
@@ -251,13 +263,44 @@ owed_times b k c j e = omega (arith, hand_of j b (Owed k c) e)
 pub returned_times : (b : Contents) (k j : ℕ) → IsSound b → b.turn ≡ Return k → times_in j (returned k b) ≡ times_in j b
 returned_times b k j s e = omega (arith, hand_of j b (Return k) e, return_times b k j s e)
 
+-- either keeps the book sound
+pub owed_sound : (b : Contents) (k c : ℕ) → IsSound b → b.turn ≡ Owed k c → IsSound (admitted k b)
+owed_sound b k c s e = sound_fewer b (admitted k b) s (same b) (λ j. omega (arith, owed_times b k c j e)) s.on_conditions s.ordered tt
+
+pub returned_sound : (b : Contents) (k : ℕ) → IsSound b → b.turn ≡ Return k → IsSound (returned k b)
+returned_sound b k s e = sound_fewer b (returned k b) s (same b) (λ j. omega (arith, returned_times b k j s e)) s.on_conditions s.ordered tt
+
+-- by what the call asks for
+pub claim_owed_sound : (t : Turn) (b : Contents) (k : ℕ) → b.turn ≡ t → next_of t ≡ next.For k → ((x : ℕ) → t ≡ Return x → ⊥) → IsSound b → IsSound (admitted k b)
+claim_owed_sound Free b k e n r s = absurd (cc)
+claim_owed_sound (Held j) b k e n r s = absurd (cc)
+claim_owed_sound (Owed j c) b k e n r s = let q : j ≡ k = cc in subst (λ (i : ℕ). IsSound (admitted i b)) q (owed_sound b j c s e)
+claim_owed_sound (Return j) b k e n r s = absurd (r j refl)
+
+pub claim_returned_sound : (b : Contents) (j k : ℕ) → b.turn ≡ Return j → next_of b.turn ≡ next.For k → IsSound b → IsSound (returned k b)
+claim_returned_sound b j k e n s =
+    let m : next.For j ≡ next.For k = ap next_of (sym e) ∙ n in
+    let q : j ≡ k = cc in
+    subst (λ (i : ℕ). IsSound (returned i b)) q (returned_sound b j s e)
+
 -- signal and pass
 
 -- the one resumed goes, and the rest stays in order
-pub taken_ordered : (b : Contents) (k c w : ℕ) (ws : List Waiter) → Resumes b k c w ws → in_order key ws ≡ ws
-taken_ordered b k c w ws r =
+pub taken_ordered : (b : Contents) (k c w : ℕ) (ws : List Waiter) → Resumes b k c w ws → (d : ℕ) → in_order key (filter (on d) ws) ≡ filter (on d) ws
+taken_ordered b k c w ws r d =
+    let stays : Waiter → Bool = λ v. not (eqb k v.place || eqb w v.place) in
     let gone = filter-taken k c b.waiters ws w r.took (holder_apart b k r.by).0 (omega (arith, r.by.sound.once w)) in
-    ap (in_order key) (sym gone) ∙ in_order-filtered key _ b.waiters r.by.sound.ordered ∙ gone
+    let is : filter stays (waiters_on d b) ≡ filter (on d) ws = filter-filter stays (on d) b.waiters ∙ ap (filter (on d)) gone in
+    ap (in_order key) (sym is) ∙ in_order-filtered key stays (waiters_on d b) (r.by.sound.ordered d) ∙ is
+
+-- and nobody is left on another condition than before
+taken_conditions : (b : Contents) (k c w : ℕ) (ws : List Waiter) → Resumes b k c w ws → (d : ℕ) → b.conditions ≤ d → filter (on d) ws ≡ []
+taken_conditions b k c w ws r d l =
+    let off : (c == d) ≡ false = apart c d b.conditions r.fits l in
+    sym (filter-taken_off c d b.waiters ws w r.took off) ∙ r.by.sound.on_conditions d l
+  where
+    apart : (c d n : ℕ) → c < n → n ≤ d → (c == d) ≡ false
+    apart c d n l m = grind (arith, nat_tests)
 
 -- a signal moves both places
 pub signalled_times : (b : Contents) (k c w j : ℕ) (ws : List Waiter) → Resumes b k c w ws → times_in j (resumed ws (b.signallers ++ k ∷ []) w c b) ≡ times_in j b
@@ -272,7 +315,7 @@ passed_times b k c w j ws r = omega (arith, hand_of j b (Held k) r.by.inside, ti
 resumed_sound : (b : Contents) (k c w : ℕ) (ws : List Waiter) (us : List ℕ) → Resumes b k c w ws
     → ((j : ℕ) → times_in j (resumed ws us w c b) ≤ times_in j b) → IsSound (resumed ws us w c b)
 resumed_sound b k c w ws us r o = sound_fewer b (resumed ws us w c b) r.by.sound (same b) o
-    (list_all-taken (λ (v : Waiter). ltb v.condition b.conditions) c b.waiters ws w r.took r.by.sound.on_conditions) (taken_ordered b k c w ws r) r.fits
+    (taken_conditions b k c w ws r) (taken_ordered b k c w ws r) r.fits
 
 -- so does a signal
 pub signalled_sound : (b : Contents) (k c w : ℕ) (ws : List Waiter) → Resumes b k c w ws → IsSound (resumed ws (b.signallers ++ k ∷ []) w c b)
@@ -281,6 +324,25 @@ signalled_sound b k c w ws r = resumed_sound b k c w ws (b.signallers ++ k ∷ [
 -- and a pass
 pub passed_sound : (b : Contents) (k c w : ℕ) (ws : List Waiter) → Resumes b k c w ws → IsSound (resumed ws b.signallers w c b)
 passed_sound b k c w ws r = resumed_sound b k c w ws b.signallers r (λ j. omega (arith, passed_times b k c w j ws r))
+
+-- a new book
+
+-- a book where nobody is
+pub opened_sound : (n m x : ℕ) → 0 < n → n ≤ 64 → 0 < m → m ≤ 8 → n ≤ x
+    → IsSound (record { places = n; conditions = m; room_to_wait = x; room_to_signal = x; waiters = []; signallers = []; turn = Free })
+opened_sound n m x a b d e f = record {
+  some_places = a;
+  few_places = b;
+  some_conditions = d;
+  few_conditions = e;
+  waiters_fit = f;
+  signallers_fit = f;
+  once = λ k. omega arith;
+  in_range = λ k p. absurd (omega arith);
+  on_conditions = λ c l. refl;
+  ordered = λ c. refl;
+  turn_fits = refl;
+}
 
 -- an equal book
 

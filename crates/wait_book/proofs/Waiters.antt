@@ -3,7 +3,7 @@ use Rattle.std.proofs.Common.{◌≡◌, ◌==◌, ℕ, suc, ◌+◌, ◌≤◌,
 use Rattle.std.proofs.Common.{List, [], ◌∷◌, ◌++◌, length, get_or, map, Some, refl, ap, sym, ◌∙◌, subst, arith}
 use Rattle.std.specs.List.{list_all, filter, remove, position}
 use Rattle.std.proofs.lemmas.Bool.Decides.{nat_tests}
-use Rattle.std.proofs.lemmas.List.{get_or_default, map-append}
+use Rattle.std.proofs.lemmas.List.{length-append, map-append}
 use Rattle.std.proofs.lemmas.List.Elements.{filter-append}
 use Rattle.std.proofs.lemmas.List.Folds.{list_all-append}
 use Rattle.hoare_law.specs.Priorities.{put_in}
@@ -27,43 +27,6 @@ places ws = map (λ (w : Waiter). w.place) ws
 abbrev pub key : Waiter → ℕ
 key = λ (w : Waiter). w.priority
 
--- the first on a condition, found and taken out
-
-taken_by : (t : Bool) (c : ℕ) (w : Waiter) (ws : List Waiter) (i : ℕ) → on c w ≡ t → cond t 0 (suc i) < suc (length ws)
-    → (i < length ws → TakesFirst c ws (remove ws i) (get_or ws i w).place)
-    → TakesFirst c (w ∷ ws) (remove (w ∷ ws) (cond t 0 (suc i))) (get_or (w ∷ ws) (cond t 0 (suc i)) w).place
-taken_by true c w ws i t l r =
-    record { before = []; first = w; after = ws; was = refl; is = refl; none_before = refl; on = eqb-true w.condition c t; place = refl }
-taken_by false c w ws i t l r =
-    let s : TakesFirst c ws (remove ws i) (get_or ws i w).place = r (omega arith) in
-    record {
-      before = w ∷ s.before;
-      first = s.first;
-      after = s.after;
-      was = ap (λ v. w ∷ v) s.was;
-      is = ap (λ v. w ∷ v) s.is;
-      none_before = rw t s.none_before;
-      on = s.on;
-      place = s.place;
-    }
-
-taken_at : (c : ℕ) (ws : List Waiter) (d : Waiter) → at_first (on c) ws < length ws → TakesFirst c ws (remove ws (at_first (on c) ws)) (get_or ws (at_first (on c) ws) d).place
-taken_at c [] d l = absurd (omega arith)
-taken_at c (w ∷ ws) d l =
-    let i : ℕ = at_first (on c) (w ∷ ws) in
-    let r : TakesFirst c (w ∷ ws) (remove (w ∷ ws) i) (get_or (w ∷ ws) i w).place = taken_by (on c w) c w ws (at_first (on c) ws) refl l (λ m. taken_at c ws w m) in
-    subst (λ (x : Waiter). TakesFirst c (w ∷ ws) (remove (w ∷ ws) i) x.place) (get_or_default (w ∷ ws) i w d l) r
-
--- what is removed where a search finds it is the first on c
-pub TakesFirst-removed : (c : ℕ) (old new : List Waiter) (w : Waiter) (i : ℕ) → position (on c) old ≡ Some i → new ≡ remove old i → w ≡ get_or old i w
-    → TakesFirst c old new w.place
-TakesFirst-removed c old new w i h e g =
-    let q : (i ≡ at_first (on c) old) × (i < length old) = position-found (on c) old i h in
-    let t : TakesFirst c old (remove old i) (get_or old i w).place =
-    subst (λ (n : ℕ). TakesFirst c old (remove old n) (get_or old n w).place) (sym q.0) (taken_at c old w (omega (arith, q.0, q.1))) in
-    subst (λ (x : Waiter). TakesFirst c old new x.place) (sym g)
-    (subst (λ (l : List Waiter). TakesFirst c old l (get_or old i w).place) (sym e) t)
-
 -- what was taken, by condition
 
 -- those on c are the one taken and those who stay
@@ -84,6 +47,11 @@ filter-taken_off c d old new k t apart =
     ap (filter (on d)) t.was ∙ filter-append (on d) t.before (t.first ∷ t.after) ∙ ap (λ l. filter (on d) t.before ++ l) cut
     ∙ sym (ap (filter (on d)) t.is ∙ filter-append (on d) t.before t.after)
 
+-- one less stays
+pub length-taken : (c : ℕ) (old new : List Waiter) (k : ℕ) → TakesFirst c old new k → length old ≡ suc (length new)
+length-taken c old new k t =
+    omega (arith, ap length t.was, ap length t.is, length-append t.before (t.first ∷ t.after), length-append t.before t.after)
+
 -- what was taken, by place
 
 -- of two lists
@@ -97,14 +65,6 @@ times-taken j c old new k t =
     let b : times j (places new) ≡ times j (places (t.before ++ t.after)) = ap (λ l. times j (places l)) t.is in
     let e : one j t.first.place ≡ one j k = ap (one j) t.place in
     omega (arith, times-places j t.before (t.first ∷ t.after), times-places j t.before t.after)
-
--- the one put in stands once more
-pub times-put_in : (j : ℕ) (w : Waiter) (ws : List Waiter) → times j (places (put_in key w ws)) ≡ times j (places ws) + one j w.place
-times-put_in j w [] = omega arith
-times-put_in j w (v ∷ vs) =
-    let r : times j (places (put_in key w vs)) ≡ times j (places vs) + one j w.place = times-put_in j w vs in
-    elim (leb v.priority w.priority) as (λ b. times j (places (cond b (v ∷ put_in key w vs) (w ∷ v ∷ vs))) ≡ times j (places (v ∷ vs)) + one j w.place)
-    [ true ↦ omega arith | false ↦ omega arith ]
 
 -- a filter by place that two places alone fail
 pub filter-two_apart : (k w : ℕ) (ws : List Waiter) → times k (places ws) ≡ 0 → times w (places ws) ≡ 0 → filter (λ (v : Waiter). not (eqb k v.place || eqb w v.place)) ws ≡ ws
@@ -130,20 +90,11 @@ filter-taken k c old new w t y z =
     ap (filter p) t.was ∙ filter-append p t.before (t.first ∷ t.after) ∙ ap (λ l. filter p t.before ++ l) cut
     ∙ sym (ap (filter p) t.is ∙ filter-append p t.before t.after) ∙ stay
 
--- what holds of all holds of those who stay
-pub list_all-taken : (q : Waiter → Bool) (c : ℕ) (old new : List Waiter) (k : ℕ) → TakesFirst c old new k → list_all q old ≡ true → list_all q new ≡ true
-list_all-taken q c old new k t h =
-    let a : (list_all q t.before && (q t.first && list_all q t.after)) ≡ true = sym (ap (list_all q) t.was ∙ list_all-append q t.before (t.first ∷ t.after)) ∙ h in
-    let b : (list_all q t.before ≡ true) × ((q t.first && list_all q t.after) ≡ true) = both_true _ _ a in
-    let d : list_all q t.after ≡ true = (both_true _ _ b.1).1 in
-    ap (list_all q) t.is ∙ list_all-append q t.before t.after ∙ (rw (b.0, d) refl)
-
--- a place that stands nowhere, by its three counts
-pub nowhere : (a b t : Bool) (x y z : ℕ) → a ≡ false → b ≡ false → not a ≡ (x == 0) → not b ≡ (y == 0) → not t ≡ (z == 0) → not t ≡ (x + (y + z) == 0)
-nowhere a b t x y z p q e f g =
+-- a place that stands nowhere, by its two counts
+pub nowhere : (a t : Bool) (x z n : ℕ) → a ≡ false → not a ≡ (x == 0) → not t ≡ (z == 0) → n ≡ x + z → not t ≡ (n == 0)
+nowhere a t x z n p e g s =
     let m : (x == 0) ≡ true = sym e ∙ ap not p in
-    let n : (y == 0) ≡ true = sym f ∙ ap not q in
-    let i : x + (y + z) ≡ z = omega (arith, eqb-true x 0 m, eqb-true y 0 n) in
+    let i : n ≡ z = omega (arith, eqb-true x 0 m) in
     g ∙ sym (ap (λ v. v == 0) i)
 
 -- a place that stands somewhere, by one of its counts

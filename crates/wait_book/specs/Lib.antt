@@ -1,4 +1,7 @@
 pub mod Contents
 pub mod Stepping
 pub mod Queues
+pub mod Lists
+pub mod Chains
+pub mod Linked
 pub mod Insides

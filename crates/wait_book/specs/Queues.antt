@@ -1,7 +1,16 @@
--- What is taken out of the list of those who wait.
-use Rattle.std.specs.Prelude.{ℕ, ◌≡◌, ◌==◌, List, [], ◌∷◌, ◌++◌}
+-- What is put into the list of those who wait, and taken out of it.
+use Rattle.std.specs.Prelude.{ℕ, ◌≡◌, ◌+◌, ◌==◌, if◌then◌else◌, List, [], ◌∷◌, ◌++◌, map}
 use Rattle.std.specs.List.{filter}
+use Rattle.hoare_law.specs.Priorities.{put_in}
 use Rattle.wait_book.specs.declared.waiter.Waiter.{Waiter}
+use Rattle.wait_book.specs.Contents.{one, times}
+
+-- one more waits: on its condition behind those whose priority is its own or less, and the others wait as they did
+pub record PutsIn (w : Waiter) (old new : List Waiter) : Type 0 where
+  pub on : (c : ℕ) → filter (λ (v : Waiter). v.condition == c) new
+      ≡ (if w.condition == c then put_in (λ (v : Waiter). v.priority) w (filter (λ (v : Waiter). v.condition == c) old)
+      else filter (λ (v : Waiter). v.condition == c) old)
+  pub more : (k : ℕ) → times k (map (λ (v : Waiter). v.place) new) ≡ times k (map (λ (v : Waiter). v.place) old) + one k w.place
 
 -- the first on c is taken out of a list, and its place is k
 pub record TakesFirst (c : ℕ) (old new : List Waiter) (k : ℕ) : Type 0 where

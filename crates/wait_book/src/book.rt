@@ -1,11 +1,9 @@
 mod stepping;
 mod waits;
 
-use crate::queues::{
-    first_priority, is_in_hand, is_waiting, rank_of, take_first, take_longest, turn_given_up,
-};
+use crate::chains::{Chains, SIGNALLERS};
+use crate::queues::{first_priority, is_in_hand, turn_given_up};
 use crate::steps::{MakeRefused, Next};
-use crate::waiter::Waiter;
 use hoare_law::turn::Turn;
 use std::alloc::Global;
 use std::marker::Model;
@@ -25,8 +23,7 @@ pub const MOST_CONDITIONS: usize = 8;
 pub struct Book {
     places: usize,
     conditions: usize,
-    waiters: Vec<Waiter>,
-    signallers: Vec<usize>,
+    chains: Chains,
     turn: Turn,
 }
 
@@ -71,17 +68,13 @@ impl Book {
         if conditions == 0 || conditions > MOST_CONDITIONS {
             return Err(MakeRefused::BadConditions);
         }
-        let Ok(waiters) = Vec::with_capacity(alloc, places) else {
-            return Err(MakeRefused::Memory);
-        };
-        let Ok(signallers) = Vec::with_capacity(alloc, places) else {
+        let Ok(chains) = Chains::make(alloc, places) else {
             return Err(MakeRefused::Memory);
         };
         Ok(Book {
             places,
             conditions,
-            waiters,
-            signallers,
+            chains,
             turn: Turn::Free,
         })
     }
@@ -108,10 +101,7 @@ impl Book {
         ensures of { (h : History (Unit {0})) → IsOf self.now h
             → result ≡ outside place h.events }
     {
-        if is_waiting(&self.waiters, place) {
-            return false;
-        }
-        if self.signallers.contains(&place) {
+        if self.chains.holds(place) {
             return false;
         }
         !is_in_hand(self.turn, place)
@@ -137,7 +127,7 @@ impl Book {
         ensures of { (h : History (Unit {0})) → IsOf self.now h
             → result ≡ option_map priority_of (chosen condition h.events) }
     {
-        first_priority(&self.waiters, condition)
+        first_priority(&self.chains, condition)
     }
 
     /// A newcomer comes in, where the monitor is free and its place is outside.
@@ -164,7 +154,7 @@ impl Book {
         ensures sizes { SameSizes self.old self.new }
     {
         if let Turn::Return(_) = self.turn {
-            take_longest(&mut self.signallers);
+            self.chains.take_first(SIGNALLERS);
         }
         self.turn = Turn::Held(place); // owed before
     }
@@ -182,16 +172,8 @@ impl Book {
             → priorities_on self.new c ≡ joined (priorities_on self.old) condition priority c }
         ensures sizes { SameSizes self.old self.new }
     {
-        let waiter = Waiter {
-            place,
-            condition,
-            priority,
-        };
-        let rank = rank_of(&self.waiters, priority);
-        let Ok(()) = self.waiters.insert(rank, waiter) else {
-            unreachable!();
-        };
-        self.turn = turn_given_up(&self.signallers); // the place waits
+        self.chains.insert(condition, place, priority);
+        self.turn = turn_given_up(&self.chains); // the place waits
         self.now()
     }
 
@@ -206,7 +188,7 @@ impl Book {
         ensures priorities { (c : ℕ) → priorities_on self.new c ≡ priorities_on self.old c }
         ensures sizes { SameSizes self.old self.new }
     {
-        self.turn = turn_given_up(&self.signallers); // the place is out
+        self.turn = turn_given_up(&self.chains); // the place is out
         self.now()
     }
 
@@ -227,10 +209,10 @@ impl Book {
             → priorities_on self.new c ≡ taken (priorities_on self.old) condition c }
         ensures sizes { SameSizes self.old self.new }
     {
-        let Some(resumed) = take_first(&mut self.waiters, condition) else {
+        let Some(resumed) = self.chains.take_first(condition) else {
             return self.now();
         };
-        self.signallers.push_reserved(place);
+        self.chains.append(SIGNALLERS, place, 0);
         self.turn = Turn::Owed(resumed, condition);
         self.now()
     }
@@ -251,7 +233,7 @@ impl Book {
             → priorities_on self.new c ≡ taken (priorities_on self.old) condition c }
         ensures sizes { SameSizes self.old self.new }
     {
-        let Some(successor) = take_first(&mut self.waiters, condition) else {
+        let Some(successor) = self.chains.take_first(condition) else {
             return self.leave(place);
         };
         self.turn = Turn::Owed(successor, condition);

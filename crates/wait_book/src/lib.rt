@@ -2,6 +2,9 @@
 #![tactic(auto)]
 
 pub mod book;
+mod chains;
+#[cfg(test)]
+mod filling;
 mod queues;
 pub mod steps;
 #[cfg(test)]

@@ -2,7 +2,7 @@
 ghost use Rattle.std.specs.Prelude.{◌≡◌, ◌<◌, ℕ, length, slice_index};
 
 use super::Book;
-use crate::queues::{count_on, nth_priority};
+use crate::queues::nth_priority;
 use hoare_law::waits::Waits;
 
 impl Waits for Book {
@@ -20,11 +20,14 @@ impl Waits for Book {
         ensures of { (h : History (Unit {0})) → IsOf self.now h
             → priorities_on self.now condition ≡ priorities h.events condition }
     {
-        count_on(&self.waiters, condition)
+        if condition >= self.conditions {
+            return 0;
+        }
+        self.chains.on(condition).count()
     }
 
     fn priority(&self, condition: usize, i: usize) -> u64 {
-        let Some(priority) = nth_priority(&self.waiters, condition, i) else {
+        let Some(priority) = nth_priority(&self.chains, condition, i) else {
             unreachable!();
         };
         priority

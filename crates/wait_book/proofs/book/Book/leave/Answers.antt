@@ -1,5 +1,4 @@
-use Rattle.std.proofs.Common.{refl, ap, sym, ◌∙◌}
-use Rattle.hoare_law.specs.Turns.{turn_given_up}
+use Rattle.std.proofs.Common.{refl, sym}
 use Rattle.wait_book.specs.Contents.{Contents}
 use Rattle.wait_book.specs.Insides.{view_of}
 use Rattle.wait_book.proofs.Sound as sound
@@ -9,7 +8,7 @@ use Rattle.wait_book.proofs.book.Book.leave.Goals as goal
 pub returns-clause-of : goal.returns-clause-of
 returns-clause-of c = λ h o.
     let b : Contents = view_of c.self.inside in
-    histories.IsOf-same _ _ _ (sound.parts refl refl refl refl (c.turn_given_up-self-inside.ensures ∙ ap turn_given_up c.deref.ensures.value))
+    histories.IsOf-same _ _ _ (sound.parts refl refl refl refl c.turn_given_up-self-inside.ensures)
     (histories.left_of b c.args.place h (sound.holds c.self.view_is c.self.invariant c.requires) (histories.IsOf-same _ b h (sym c.self.view_is) o))
 
 pub returns-clause-apart : goal.returns-clause-apart

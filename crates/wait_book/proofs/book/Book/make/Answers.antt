@@ -1,13 +1,23 @@
-use Rattle.std.proofs.Common.{arith, refl}
+use Rattle.std.proofs.Common.{arith, refl, ap}
 use Rattle.std.proofs.lemmas.Bool.Decides.{nat_tests}
+use Rattle.wait_book.specs.Insides.{places_in}
+use Rattle.wait_book.specs.Lists.{list_at}
 use Rattle.wait_book.proofs.Sound as sound
 use Rattle.wait_book.proofs.Histories as histories
+use Rattle.wait_book.proofs.Queued.{waits-none}
 use Rattle.wait_book.proofs.book.Book.make.Goals as goal
+
+pub invariant_of-result : goal.invariant_of-result
+invariant_of-result c =
+    let made = c.in-Ok.ensures in
+    sound.IsSound-same _ _ (sound.parts refl refl (waits-none 8 (list_at c.in-Ok.chains) made.empty) (ap places_in (made.empty 8)) refl)
+    (sound.opened_sound c.args.places c.args.conditions c.in-Ok.chains.room (omega arith) (omega arith) (omega arith) (omega arith) made.room)
 
 pub returns : goal.returns
 returns c =
-    let empty = sound.parts refl refl c.in-Ok.ensures.items c.in-Ok-with_capacity.ensures.items refl in
+    let made = c.in-Ok.ensures in
+    let empty = sound.parts refl refl (waits-none 8 (list_at c.in-Ok.chains) made.empty) (ap places_in (made.empty 8)) refl in
     record {
       made = (grind (arith, nat_tests), histories.IsOf-same _ _ _ empty (histories.IsOf-opened c.args.places c.args.conditions _ _));
-      room = (c.in-Ok.ensures.capacity, c.in-Ok-with_capacity.ensures.capacity);
+      room = (made.room, made.room);
     }

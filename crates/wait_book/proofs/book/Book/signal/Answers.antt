@@ -1,47 +1,97 @@
-use Rattle.std.proofs.Common.{arith, rules, refl, ap, sym}
-use Rattle.std.specs.Vec.{vec_items, vec_capacity}
+use Rattle.std.proofs.Common.{◌<◌, ◌∷◌, [], ◌++◌, List, length, map, arith, rules, refl, ap, sym, ◌∙◌}
+use Rattle.std.specs.List.{filter}
+use Rattle.hoare_law.specs.Priorities.{in_order}
+use Rattle.wait_book.specs.declared.waiter.Waiter.{Waiter}
 use Rattle.wait_book.specs.Contents.{Contents}
-use Rattle.wait_book.specs.Insides.{view_of}
-use Rattle.wait_book.proofs.Options.{MatchOption-unless_some}
+use Rattle.wait_book.specs.Insides.{places_in, view_of, waiting_below}
+use Rattle.wait_book.specs.Lists.{Lists, list_at}
 use Rattle.wait_book.proofs.Sound as sound
 use Rattle.wait_book.proofs.Histories as histories
 use Rattle.wait_book.proofs.Priorities as priorities
+use Rattle.wait_book.proofs.Waiters.{key, on, length-taken}
+use Rattle.wait_book.proofs.Queued.{TakesFirst-taken, signallers-more, signallers-same, total_is, waiters-same, waits-nobody}
 use Rattle.wait_book.proofs.book.Book.signal.Goals as goal
+
+pub take_first-requires : goal.take_first-requires
+take_first-requires c =
+    omega (arith, sound.same_condition (view_of c.self.inside) _ c.args.condition c.self.view_is c.requires.condition, c.self.invariant.few_conditions)
 
 -- where nobody waits
 
 pub returns-in_default-clause-of : goal.returns-in_default-clause-of
 returns-in_default-clause-of c = λ h o.
     let b : Contents = view_of c.self.inside in
-    let nobody = MatchOption-unless_some c.take_first.result _ _ c.in_default.not-Some c.take_first.ensures.taken in
-    histories.IsOf-same _ _ _ (sound.parts (ap vec_capacity nobody.1) refl (ap vec_items nobody.1) refl refl)
-    (histories.after_signal-nobody b c.args.place c.args.condition h nobody.0 (histories.IsOf-same _ b h (sym c.self.view_is) o))
+    let below : c.args.condition < 8 = omega (arith, sound.same_condition b _ c.args.condition c.self.view_is c.requires.condition, c.self.invariant.few_conditions) in
+    let nobody = waits-nobody c.args.condition c.self.inside.chains below c.in_default.ensures.0 in
+    let room = ap (λ (v : Lists). v.room) c.in_default.ensures.1 in
+    histories.IsOf-same _ _ _ (sound.parts room room (ap (λ (v : Lists). waiting_below 8 (list_at v)) c.in_default.ensures.1)
+    (ap (λ (v : Lists). places_in (list_at v 8)) c.in_default.ensures.1) refl)
+    (histories.after_signal-nobody b c.args.place c.args.condition h nobody (histories.IsOf-same _ b h (sym c.self.view_is) o))
 
 pub returns-in_default-clause-somebody : goal.returns-in_default-clause-somebody
 returns-in_default-clause-somebody c = λ some.
-    let nobody = MatchOption-unless_some c.take_first.result _ _ c.in_default.not-Some c.take_first.ensures.taken in
-    absurd (some (priorities.no_priority_on c.args.condition c.self.view_is nobody.0))
+    let b : Contents = view_of c.self.inside in
+    let below : c.args.condition < 8 = omega (arith, sound.same_condition b _ c.args.condition c.self.view_is c.requires.condition, c.self.invariant.few_conditions) in
+    let nobody = waits-nobody c.args.condition c.self.inside.chains below c.in_default.ensures.0 in
+    absurd (some (priorities.no_priority_on c.args.condition c.self.view_is nobody))
 
 pub returns-in_default-clause-apart : goal.returns-in_default-clause-apart
 returns-in_default-clause-apart c = sound.apart_same c.self.view_is c.self.invariant c.requires.inside
 
+pub returns-in_default-clause-priorities : goal.returns-in_default-clause-priorities
+returns-in_default-clause-priorities c = λ d.
+    let b : Contents = view_of c.self.inside in
+    let below : c.args.condition < 8 = omega (arith, sound.same_condition b _ c.args.condition c.self.view_is c.requires.condition, c.self.invariant.few_conditions) in
+    let nobody = waits-nobody c.args.condition c.self.inside.chains below c.in_default.ensures.0 in
+    priorities.priorities_on-untaken c.args.condition d _ c.self.view_is nobody
+    (ap (λ (v : Lists). in_order (λ p. p) (map key (filter (on d) (waiting_below 8 (list_at v))))) c.in_default.ensures.1)
+
 -- where one is resumed
 
-pub push_reserved-requires : goal.push_reserved-requires
-push_reserved-requires c =
-    omega (arith, sound.room_signallers _ c.args.place (sound.holds c.self.view_is c.self.invariant c.requires.inside), c.self.inside.signallers.ok.0)
+pub append-requires-clause-room : goal.append-requires-clause-room
+append-requires-clause-room c =
+    let b : Contents = view_of c.self.inside in
+    let below : c.args.condition < 8 = omega (arith, sound.same_condition b _ c.args.condition c.self.view_is c.requires.condition, c.self.invariant.few_conditions) in
+    let t = c.in-Some.ensures in
+    let took = TakesFirst-taken c.args.condition c.in-Some.resumed c.self.inside.chains c.take_first.new.self below t in
+    let same = signallers-same c.args.condition _ c.self.inside.chains c.take_first.new.self below t.lists in
+    let h = sound.holds c.self.view_is c.self.invariant c.requires.inside in
+    omega (
+      arith,
+      total_is c.take_first.new.self,
+      length-taken c.args.condition _ _ c.in-Some.resumed took,
+      ap length same,
+      t.room,
+      sound.room b c.args.place h,
+      c.self.invariant.signallers_fit,
+    )
 
 pub invariant_of-self-2 : goal.invariant_of-self-2
 invariant_of-self-2 c =
-    let r = sound.resumes _ c.self.view_is c.self.invariant c.requires.inside c.requires.condition c.in-Some.is c.take_first.ensures.taken in
-    sound.IsSound-same _ _ (sound.parts c.take_first.ensures.capacity c.push_reserved.ensures.capacity refl c.push_reserved.ensures.items refl)
+    let b : Contents = view_of c.self.inside in
+    let below : c.args.condition < 8 = omega (arith, sound.same_condition b _ c.args.condition c.self.view_is c.requires.condition, c.self.invariant.few_conditions) in
+    let t = c.in-Some.ensures in
+    let r = sound.resumes c.self.view_is c.self.invariant c.requires.inside c.requires.condition
+    (TakesFirst-taken c.args.condition c.in-Some.resumed c.self.inside.chains c.take_first.new.self below t) in
+    let waiters = waiters-same _ c.take_first.new.self c.append.new.self c.append.ensures.lists in
+    let signallers = signallers-more c.args.place 0 c.take_first.new.self c.append.new.self c.append.ensures
+    ∙ ap (λ us. us ++ c.args.place ∷ []) (signallers-same c.args.condition _ c.self.inside.chains c.take_first.new.self below t.lists) in
+    let room = c.append.ensures.room ∙ t.room in
+    sound.IsSound-same _ _ (sound.parts room room waiters signallers refl)
     (sound.signalled_sound _ c.args.place c.args.condition c.in-Some.resumed _ r)
 
 pub returns : goal.returns
 returns c =
     let b : Contents = view_of c.self.inside in
-    let r = sound.resumes _ c.self.view_is c.self.invariant c.requires.inside c.requires.condition c.in-Some.is c.take_first.ensures.taken in
-    let p = sound.parts c.take_first.ensures.capacity c.push_reserved.ensures.capacity refl c.push_reserved.ensures.items refl in
+    let below : c.args.condition < 8 = omega (arith, sound.same_condition b _ c.args.condition c.self.view_is c.requires.condition, c.self.invariant.few_conditions) in
+    let t = c.in-Some.ensures in
+    let r = sound.resumes c.self.view_is c.self.invariant c.requires.inside c.requires.condition
+    (TakesFirst-taken c.args.condition c.in-Some.resumed c.self.inside.chains c.take_first.new.self below t) in
+    let waiters = waiters-same _ c.take_first.new.self c.append.new.self c.append.ensures.lists in
+    let signallers = signallers-more c.args.place 0 c.take_first.new.self c.append.new.self c.append.ensures
+    ∙ ap (λ us. us ++ c.args.place ∷ []) (signallers-same c.args.condition _ c.self.inside.chains c.take_first.new.self below t.lists) in
+    let room = c.append.ensures.room ∙ t.room in
+    let p = sound.parts room room waiters signallers refl in
     record {
       of = λ h o. histories.IsOf-same _ _ _ p
           (histories.after_signal-taken b c.args.place c.args.condition c.in-Some.resumed _ r h (histories.IsOf-same _ b h (sym c.self.view_is) o));
@@ -50,6 +100,6 @@ returns c =
       somebody = λ some. (c.in-Some.resumed, refl);
       answered = c.now-2.ensures.place;
       apart = sound.apart_same c.self.view_is c.self.invariant c.requires.inside;
-      priorities = priorities.priorities_on-after c.push_reserved.new.self.items c.self.view_is r;
+      priorities = λ d. ap (λ (ws : List Waiter). in_order (λ p. p) (map key (filter (on d) ws))) waiters ∙ priorities.priorities_on-after b.signallers c.self.view_is r d;
       sizes = search rules;
     }

@@ -1,0 +1,288 @@
+-- What keeps the chains chains: a new node, and one taken out.
+use Rattle.std.proofs.Common.{◌≡◌, ◌≢◌, ◌==◌, ℕ, zero, suc, ◌+◌, ◌<◌, ◌≤◌, Bool, true, false, cond, eqb, is_some, inl, inr, List, [], ◌∷◌, ◌++◌, length, map, get_or, set, replicate, count_by, Option, Some, None, refl, ap, sym, ◌∙◌, subst, arith}
+use Rattle.std.proofs.lemmas.Bool.{cases_eq, cases_lt}
+use Rattle.std.proofs.lemmas.Bool.Decides.{nat_tests}
+use Rattle.std.proofs.lemmas.List.{append-nil, get_or-set_same, get_or-set_other, get_or_past, length-set}
+use Rattle.slab.specs.Slab.{Slab, get, slab_len, ContainsKey, Updates}
+use Rattle.wait_book.specs.declared.chains.Node.{Node}
+use Rattle.wait_book.specs.declared.chains.Chain.{Chain}
+use Rattle.wait_book.specs.declared.chains.Link.{Link}
+use Rattle.wait_book.specs.Contents.{one, times}
+use Rattle.wait_book.specs.Lists.{Lists, all_below, keys, keys_below, last_key, list_at, list_put}
+use Rattle.wait_book.specs.Chains.{node_of, IsLinked, IsChain, AreChains, Ends, empty, chain_at, held, walked, lists_of}
+use Rattle.wait_book.proofs.Times.{one_same, one_apart, eq_self}
+use Rattle.wait_book.proofs.Nodes.{Opens, opens, IsLinked-same, IsLinked-append, IsLinked-split, linked_none, last_within, last_append, walk_linked, walked_none}
+use Rattle.wait_book.proofs.Lists.{eq_apart, keys_middle, keys_append, length_middle, length_put, length_one, put_same, put_other, times_put, times_one, times_two}
+
+-- a node or none under a key
+
+pub held_few : (s : Slab Node) (k : ℕ) → held s k ≤ 1
+held_few s k = elim (is_some (get s k)) as (λ b. cond b 1 0 ≤ 1) [ true ↦ omega arith | false ↦ omega arith ]
+
+held_none : (s : Slab Node) (k : ℕ) → get s k ≡ None → held s k ≡ 0
+held_none s k e = rw e refl
+
+held_some : (s : Slab Node) (k : ℕ) (n : Node) → get s k ≡ Some n → held s k ≡ 1
+held_some s k n e = rw e refl
+
+held_same : (s t : Slab Node) (k : ℕ) → get t k ≡ get s k → held t k ≡ held s k
+held_same s t k e = ap (λ o. cond (is_some o) 1 0) e
+
+-- where there are no more chains there is no list
+pub beyond : {s : Slab Node} {chains : List Chain} {at : ℕ → List Link} → AreChains s chains at → (c : ℕ) → 9 ≤ c → at c ≡ []
+beyond {s = s} {chains = chains} {at = at} i c l =
+    linked_none s (chain_at chains c).first (at c) (ap (λ (v : Chain). v.first) (get_or_past chains c empty (omega (arith, i.many)))) (i.linked c).linked
+
+-- no list is longer than the slab
+pub chain_few : {s : Slab Node} {chains : List Chain} {at : ℕ → List Link} → AreChains s chains at → (c : ℕ) → length (at c) ≤ slab_len s
+chain_few {at = at} i c =
+    elim (cases_lt c 9) [
+      | inl l ↦ omega (arith, length_one (λ d (x : Link). x.key) 9 c at l, i.counted)
+      | inr m ↦ omega (arith, ap length (beyond i c m))
+    ]
+
+-- so a walk along a chain comes to its end
+pub chain_ends : {s : Slab Node} {chains : List Chain} {at : ℕ → List Link} → AreChains s chains at → (c : ℕ) → Ends s (chain_at chains c).first
+chain_ends {at = at} i c = record { list = at c; linked = (i.linked c).linked; few = chain_few i c }
+
+map_at : (f : Chain → List Link) (chains : List Chain) (c : ℕ) → f empty ≡ [] → get_or (map f chains) c [] ≡ f (get_or chains c empty)
+map_at f [] c e = sym e
+map_at f (x ∷ xs) zero e = refl
+map_at f (x ∷ xs) (suc c) e = map_at f xs c e
+
+-- the list of a chain is what a walk along it gives
+pub lists_walked : (s : Slab Node) (chains : List Chain) (c : ℕ) → get_or (lists_of s chains) c [] ≡ walked s (chain_at chains c).first
+lists_walked s chains c = map_at (λ (v : Chain). walked s v.first) chains c (walked_none s)
+
+pub lists_are : {s : Slab Node} {chains : List Chain} {at : ℕ → List Link} → AreChains s chains at → (c : ℕ) → get_or (lists_of s chains) c [] ≡ at c
+lists_are {s = s} {chains = chains} {at = at} i c =
+    lists_walked s chains c ∙ walk_linked (slab_len s) s (chain_at chains c).first (at c) (i.linked c).linked (chain_few i c)
+
+-- the lists that are seen are those of the chains
+pub AreChains-seen : {s : Slab Node} {chains : List Chain} {at : ℕ → List Link} → AreChains s chains at → AreChains s chains (λ c. get_or (lists_of s chains) c [])
+AreChains-seen {s = s} {chains = chains} {at = at} i =
+    let same : at ≡ (λ c. get_or (lists_of s chains) c []) = λ j c. sym (lists_are i c) j in
+    subst (AreChains s chains) same i
+
+-- and those of an equal value
+pub AreChains-equal : {s : Slab Node} {chains : List Chain} {v w : Lists} → v ≡ w → AreChains s chains (list_at v) → AreChains s chains (list_at w)
+AreChains-equal {s = s} {chains = chains} e i = subst (λ (u : Lists). AreChains s chains (list_at u)) e i
+
+-- chains without a node
+no_chain : (n c : ℕ) → get_or (replicate n empty) c empty ≡ empty
+no_chain zero c = refl
+no_chain (suc n) zero = refl
+no_chain (suc n) (suc c) = no_chain n c
+
+no_keys : (n : ℕ) → keys_below n (λ c. []) ≡ []
+unfolding all_below
+no_keys zero = refl
+no_keys (suc n) = append-nil _ ∙ no_keys n
+
+pub AreChains-none : (s : Slab Node) → s.slots ≡ [] → AreChains s (replicate 9 empty) (λ c. [])
+AreChains-none s e = record {
+  many = refl;
+  linked = λ c. subst (λ (v : Chain). IsChain s v []) (sym (no_chain 9 c)) (record { linked = refl; last = refl });
+  once = λ k. ap (times k) (no_keys 9) ∙ sym (held_none s k (ap (λ (slots : List (Option Node)). get_or slots k None) e));
+  counted = ap length (no_keys 9) ∙ sym (ap (count_by is_some) e);
+}
+
+-- where keys stand
+
+-- in two chains no more often than in all
+pub apart : {s : Slab Node} {chains : List Chain} {at : ℕ → List Link} → AreChains s chains at → (k c d : ℕ) → c < 9 → d ≢ c
+    → times k (keys (at c)) + times k (keys (at d)) ≤ held s k
+apart {s = s} {at = at} i k c d l n =
+    elim (cases_lt d 9) [
+      | inl m ↦ omega (arith, times_two (λ e (x : Link). x.key) k 9 c d at l m n, i.once k)
+      | inr m ↦ omega (arith, times_one (λ e (x : Link). x.key) k 9 c at l, i.once k, ap (λ v. times k (keys v)) (beyond i d m))
+    ]
+
+-- in one chain once at most
+pub once_in : {s : Slab Node} {chains : List Chain} {at : ℕ → List Link} → AreChains s chains at → (k c : ℕ) → c < 9 → times k (keys (at c)) ≤ held s k
+once_in {at = at} i k c l = omega (arith, times_one (λ e (x : Link). x.key) k 9 c at l, i.once k)
+
+-- one chain changes
+
+-- the chain that was set
+chain_same : (chains : List Chain) (c : ℕ) (v : Chain) → length chains ≡ 9 → c < 9 → chain_at (set chains c v) c ≡ v
+chain_same chains c v m l = get_or-set_same chains c v empty (omega arith)
+
+chains_put : (s : Slab Node) (chains : List Chain) (at : ℕ → List Link) (c : ℕ) (v : Chain) (xs : List Link) → length chains ≡ 9 → c < 9 → IsChain s v xs
+    → ((d : ℕ) → d ≢ c → IsChain s (chain_at chains d) (at d)) → (d : ℕ) → IsChain s (chain_at (set chains c v) d) (list_put c xs at d)
+chains_put s chains at c v xs m l here there d =
+    elim (cases_eq d c) [
+      | inl e ↦
+          let h : IsChain s (chain_at (set chains c v) c) (list_put c xs at c) = rw (chain_same chains c v m l, put_same c xs at) here in
+          subst (λ (j : ℕ). IsChain s (chain_at (set chains c v) j) (list_put c xs at j)) (sym e) h
+      | inr n ↦ rw (get_or-set_other chains c d v empty n, put_other c d xs at n) (there d n)
+    ]
+
+-- a chain whose nodes stayed as they were
+chain_kept : (s t : Slab Node) (v : Chain) (xs : List Link) → ((k : ℕ) → 0 < times k (keys xs) → get t k ≡ get s k) → IsChain s v xs → IsChain t v xs
+chain_kept s t v xs h i = record { linked = IsLinked-same s t v.first xs None h i.linked; last = i.last }
+
+-- a new node
+
+-- the first nodes of a chain, and the key behind them
+pub record Cut (s : Slab Node) (first : Option ℕ) (before after : List Link) : Type 0 where
+  pub next : Option ℕ
+  pub front : IsLinked s first before next
+  pub back : IsLinked s next after None
+
+pub cut : {s : Slab Node} {chains : List Chain} {at : ℕ → List Link} (c : ℕ) (before after : List Link) → AreChains s chains at → at c ≡ before ++ after
+    → Cut s (chain_at chains c).first before after
+cut {s = s} {chains = chains} c before after i is =
+    let first = (chain_at chains c).first in
+    let r = IsLinked-split s first before after None (subst (λ (xs : List Link). IsLinked s first xs None) is (i.linked c).linked) in
+    record { next = r.0; front = r.1; back = r.2 }
+
+-- they are as they were where a node is stored under a vacant key
+pub cut-stored : {s mid : Slab Node} {chains : List Chain} {at : ℕ → List Link} {n : Node} (c k : ℕ) (before after : List Link) (next : Option ℕ) → AreChains s chains at → c < 9
+    → at c ≡ before ++ after → get s k ≡ None → Updates s mid k (Some n) → IsLinked s (chain_at chains c).first before next → IsLinked mid (chain_at chains c).first before next
+cut-stored {s = s} {mid = mid} {chains = chains} c k before after next i l is vacant u front =
+    IsLinked-same s mid (chain_at chains c).first before next
+    (λ j p. u.others j (λ q. omega (arith, once_in i j c l, ap (λ v. times j (keys v)) is, keys_append j before after, ap (held s) q, held_none s k vacant))) front
+
+-- what linking a new node does, in two steps: it is stored with the key behind it, and its own key is put behind the one before
+pub record Linking (s mid t : Slab Node) (first behind next first2 : Option ℕ) (x : Link) : Type 0 where
+  pub vacant : get s x.key ≡ None
+  pub stored : Updates s mid x.key (Some (node_of x next))
+  pub linked : (before : List Link) (to : Option ℕ) → IsLinked mid first before to → behind ≡ last_key before → ((k : ℕ) → times k (keys before) ≤ 1)
+      → IsLinked t first2 before (Some x.key)
+  pub others : (k : ℕ) → behind ≢ Some k → get t k ≡ get mid k
+  pub held_on : (k : ℕ) → held t k ≡ held mid k
+  pub longer : slab_len t ≡ slab_len s + 1
+
+module _ {s mid t : Slab Node} {first behind next first2 : Option ℕ} {x : Link} (g : Linking s mid t first behind next first2 x) where
+  -- one node more
+  linking_held : (k : ℕ) → held t k ≡ held s k + one k x.key
+  linking_held k =
+      elim (cases_eq k x.key) [
+        | inl e ↦
+            let h : held t x.key ≡ held s x.key + one x.key x.key =
+            omega (arith, g.held_on x.key, held_some mid x.key _ g.stored.changed, held_none s x.key g.vacant, one_same x.key) in
+            subst (λ (j : ℕ). held t j ≡ held s j + one j x.key) (sym e) h
+        | inr n ↦ omega (arith, g.held_on k, held_same s mid k (g.stored.others k n), one_apart k x.key (eq_apart k x.key n))
+      ]
+
+  -- nodes that are neither new nor before it stay as they were
+  linking_same : (k : ℕ) → 0 < held s k → behind ≢ Some k → get t k ≡ get s k
+  linking_same k h n =
+      let off : k ≢ x.key = λ e. omega (arith, ap (held s) e, held_none s x.key g.vacant) in
+      g.others k n ∙ g.stored.others k off
+
+  -- the list with the new one in its place
+  linking_list : (before after : List Link) → behind ≡ last_key before → ((k : ℕ) → times k (keys (before ++ after)) ≤ held s k)
+      → IsLinked s first before next → IsLinked s next after None → IsLinked t first2 (before ++ x ∷ after) None
+  linking_list before after e once l m =
+      let stays : (k : ℕ) → 0 < times k (keys (before ++ after)) → k ≢ x.key =
+      λ k p q. omega (arith, once k, ap (held s) q, held_none s x.key g.vacant) in
+      let front : IsLinked mid first before next =
+      IsLinked-same s mid first before next (λ k p. g.stored.others k (stays k (omega (arith, keys_append k before after)))) l in
+      let linked : IsLinked t first2 before (Some x.key) =
+      g.linked before next front e (λ k. omega (arith, once k, held_few s k, keys_append k before after)) in
+      let back : IsLinked t next after None = IsLinked-same s t next after None
+      (λ k p. linking_same k (omega (arith, once k, keys_append k before after))
+      (λ b. omega (arith, once k, held_few s k, keys_append k before after, last_within k before (sym e ∙ b)))) m in
+      let own : get t x.key ≡ Some (node_of x next) =
+      g.others x.key (λ b. omega (arith, once x.key, held_none s x.key g.vacant, keys_append x.key before after, last_within x.key before (sym e ∙ b))) ∙ g.stored.changed in
+      IsLinked-append t first2 before (Some x.key) (x ∷ after) None linked (refl, next, own, back)
+
+-- its last key
+pub last_put : (s : Slab Node) (last next : Option ℕ) (before : List Link) (x : Link) (after : List Link) → last ≡ last_key (before ++ after) → IsLinked s next after None
+    → cond (is_some next) last (Some x.key) ≡ last_key (before ++ x ∷ after)
+last_put s last next before x [] e l = let n : next ≡ None = l in rw n (sym (last_append None before x []))
+last_put s last next before x (y ∷ ys) e l =
+    let n : next ≡ Some y.key = l.0 in
+    rw n (e ∙ last_append None before y ys ∙ sym (last_append None before x (y ∷ ys)))
+
+-- the chains with a new node, wherever the list was cut
+pub AreChains-linked : {s mid t : Slab Node} {chains : List Chain} {at : ℕ → List Link} {behind next first2 last2 : Option ℕ} {x : Link} (c : ℕ) (before after : List Link)
+    → AreChains s chains at → c < 9 → Linking s mid t (chain_at chains c).first behind next first2 x → last2 ≡ cond (is_some next) (chain_at chains c).last (Some x.key)
+    → ((front : List Link) (to : Option ℕ) → IsLinked s (chain_at chains c).first front to → behind ≡ last_key front → next ≡ to)
+    → at c ≡ before ++ after → behind ≡ last_key before
+    → AreChains t (set chains c (record { first = first2; last = last2 })) (list_put c (before ++ x ∷ after) at)
+AreChains-linked {s = s} {t = t} {chains = chains} {at = at} {behind = behind} {next = next} {first2 = first2} {last2 = last2} {x = x} c before after i l g n named is e =
+    let first = (chain_at chains c).first in
+    let there : Cut s first before after = cut c before after i is in
+    let same : there.next ≡ next = sym (named before there.next there.front e) in
+    let front : IsLinked s first before next = subst (λ (k : Option ℕ). IsLinked s first before k) same there.front in
+    let back : IsLinked s next after None = subst (λ (k : Option ℕ). IsLinked s k after None) same there.back in
+    let once : (k : ℕ) → times k (keys (before ++ after)) ≤ held s k = λ k. omega (arith, once_in i k c l, ap (λ v. times k (keys v)) is) in
+    let new : Chain = record { first = first2; last = last2 } in
+    let here : IsChain t new (before ++ x ∷ after) = record {
+      linked = linking_list g before after e once front back;
+      last = n ∙ last_put s (chain_at chains c).last next before x after ((i.linked c).last ∙ ap last_key is) back;
+    } in
+    let others : (d : ℕ) → d ≢ c → IsChain t (chain_at chains d) (at d) =
+    λ d off. chain_kept s t (chain_at chains d) (at d) (λ k p.
+    linking_same g k (omega (arith, apart i k c d l off))
+    (λ b. omega (arith, apart i k c d l off, held_few s k, ap (λ v. times k (keys v)) is, keys_append k before after, last_within k before (sym e ∙ b)))) (i.linked d) in
+    record {
+      many = length-set chains c new ∙ i.many;
+      linked = chains_put t chains at c new (before ++ x ∷ after) i.many l here others;
+      once = λ k. omega (arith, times_put (λ d (y : Link). y.key) k 9 c (before ++ x ∷ after) at l, keys_middle k before x after, ap (λ v. times k (keys v)) is, i.once k, linking_held g k);
+      counted = omega (arith, length_put (λ d (y : Link). y.key) 9 c (before ++ x ∷ after) at l, length_middle before x after, ap length is, i.counted, g.longer);
+    }
+
+-- a node taken out
+
+-- what is left of a chain whose first node is taken out, and whether it has a last one
+pub record Takes (s t : Slab Node) (k : ℕ) (xs : List Link) (n : Node) : Type 0 where
+  pub first : Link
+  pub after : List Link
+  pub is : xs ≡ first ∷ after
+  pub place : first.place ≡ n.place
+  pub linked : IsLinked s n.next after None
+  pub updates : Updates s t first.key None
+
+pub takes : {s t : Slab Node} {chains : List Chain} {at : ℕ → List Link} (c k : ℕ) (n : Node) → AreChains s chains at → (chain_at chains c).first ≡ Some k → get s k ≡ Some n
+    → Updates s t k None → Takes s t k (at c) n
+takes {s = s} {t = t} {chains = chains} {at = at} c k n i e g u =
+    let o : Opens s k (at c) = opens s (chain_at chains c).first k (at c) e (i.linked c).linked in
+    let same : Some (node_of o.first o.next) ≡ Some n = sym o.node ∙ g in
+    let is : node_of o.first o.next ≡ n = cc in
+    record {
+      first = o.first;
+      after = o.after;
+      is = o.is;
+      place = ap (λ (m : Node). m.place) is;
+      linked = subst (λ (m : Node). IsLinked s m.next o.after None) is o.linked;
+      updates = subst (λ (j : ℕ). Updates s t j None) (sym o.key) u;
+    }
+
+-- the chains without it
+pub AreChains-taken : {s t : Slab Node} {chains : List Chain} {at : ℕ → List Link} {last2 : Option ℕ} (c k : ℕ) (n : Node)
+    → last2 ≡ cond (is_some n.next) (chain_at chains c).last None → AreChains s chains at → c < 9 → (g : Takes s t k (at c) n) → slab_len t + 1 ≡ slab_len s
+    → AreChains t (set chains c (record { first = n.next; last = last2 })) (list_put c g.after at)
+AreChains-taken {s = s} {t = t} {chains = chains} {at = at} {last2 = last2} c k n e i l g len =
+    let once : (j : ℕ) → one j g.first.key + times j (keys g.after) ≤ held s j = λ j. omega (arith, once_in i j c l, ap (λ v. times j (keys v)) g.is) in
+    let gone : (j : ℕ) → held t j + one j g.first.key ≡ held s j = λ j.
+    elim (cases_eq j g.first.key) [
+      | inl q ↦
+          let h : held t g.first.key + one g.first.key g.first.key ≡ held s g.first.key =
+          omega (arith, held_none t g.first.key g.updates.changed, once g.first.key, held_few s g.first.key, one_same g.first.key) in
+          subst (λ (v : ℕ). held t v + one v g.first.key ≡ held s v) (sym q) h
+      | inr off ↦ omega (arith, held_same s t j (g.updates.others j off), one_apart j g.first.key (eq_apart j g.first.key off))
+    ] in
+    let same : (j : ℕ) → j ≡ g.first.key → one j g.first.key ≡ 1 = λ j q. subst (λ (v : ℕ). one v g.first.key ≡ 1) (sym q) (one_same g.first.key) in
+    let new : Chain = record { first = n.next; last = last2 } in
+    let here : IsChain t new g.after = record {
+      linked = IsLinked-same s t n.next g.after None (λ j p. g.updates.others j (λ q. omega (arith, once j, held_few s j, same j q))) g.linked;
+      last = e ∙ last_taken s (chain_at chains c).last n.next g.first g.after ((i.linked c).last ∙ ap last_key g.is) g.linked;
+    } in
+    let there : (d : ℕ) → d ≢ c → IsChain t (chain_at chains d) (at d) =
+    λ d off. chain_kept s t (chain_at chains d) (at d)
+    (λ j p. g.updates.others j (λ q. omega (arith, apart i j c d l off, held_few s j, ap (λ v. times j (keys v)) g.is, same j q))) (i.linked d) in
+    record {
+      many = length-set chains c new ∙ i.many;
+      linked = chains_put t chains at c new g.after i.many l here there;
+      once = λ j. omega (arith, times_put (λ d (y : Link). y.key) j 9 c g.after at l, ap (λ v. times j (keys v)) g.is, i.once j, gone j);
+      counted = omega (arith, length_put (λ d (y : Link). y.key) 9 c g.after at l, ap length g.is, i.counted, len);
+    }
+  where
+    last_taken : (s : Slab Node) (last next : Option ℕ) (x : Link) (after : List Link) → last ≡ last_key (x ∷ after) → IsLinked s next after None
+        → cond (is_some next) last None ≡ last_key after
+    last_taken s last next x [] e l = let n : next ≡ None = l in rw n refl
+    last_taken s last next x (y ∷ ys) e l = let n : next ≡ Some y.key = l.0 in rw n e

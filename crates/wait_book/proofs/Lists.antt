@@ -1,0 +1,118 @@
+-- The lists of the chains: what another list in one of them does to all.
+use Rattle.std.proofs.Common.{◌≡◌, ◌≢◌, ◌==◌, ℕ, zero, suc, ◌+◌, ◌<◌, ◌≤◌, Bool, true, false, cond, eqb, eqb-true, leb, List, [], ◌∷◌, ◌++◌, length, map, Option, Some, None, refl, ap, sym, ◌∙◌, subst, arith}
+use Rattle.std.proofs.lemmas.Bool.Decides.{nat_tests}
+use Rattle.std.proofs.lemmas.List.{append_assoc, append-nil, length-append, length-map, map-append}
+use Rattle.wait_book.specs.declared.chains.Link.{Link}
+use Rattle.wait_book.specs.Contents.{one, times}
+use Rattle.wait_book.specs.Lists.{all_below, keys, keys_below, places_below, list_put}
+use Rattle.wait_book.proofs.Times.{eq_self, times-append}
+
+pub eq_apart : (d c : ℕ) → d ≢ c → eqb d c ≡ false
+eq_apart d c n = grind (arith, nat_tests)
+
+-- the list that was put
+pub put_same : (c : ℕ) (xs : List Link) (at : ℕ → List Link) → list_put c xs at c ≡ xs
+put_same c xs at = rw (eq_self c) refl
+
+-- and the others
+pub put_other : (c d : ℕ) (xs : List Link) (at : ℕ → List Link) → d ≢ c → list_put c xs at d ≡ at d
+put_other c d xs at n = rw (eq_apart d c n) refl
+
+-- lists that are the same one by one
+pub same_lists_at : {at bt : ℕ → List Link} → ((c : ℕ) → at c ≡ bt c) → at ≡ bt
+same_lists_at h = λ i c. h c i
+
+module _ {X : Type 0} (f : ℕ → Link → X) where
+  -- a list beyond those that are looked at
+  pub below_past : (n c : ℕ) (xs : List Link) (at : ℕ → List Link) → n ≤ c → all_below f n (list_put c xs at) ≡ all_below f n at
+  unfolding all_below
+  below_past zero c xs at l = refl
+  below_past (suc n) c xs at l =
+      rw (below_past n c xs at (omega arith), put_other c n xs at (omega arith)) refl
+
+  module _ (m : List X → ℕ) (sums : (xs ys : List X) → m (xs ++ ys) ≡ m xs + m ys) where
+    measure_by : (t : Bool) (n c : ℕ) (xs : List Link) (at : ℕ → List Link) → eqb n c ≡ t → c < suc n
+        → (c < n → m (all_below f n (list_put c xs at)) + m (map (f c) (at c)) ≡ m (all_below f n at) + m (map (f c) xs))
+        → m (all_below f n (list_put c xs at)) + m (map (f n) (cond t xs (at n))) + m (map (f c) (at c)) ≡ m (all_below f n at) + m (map (f n) (at n)) + m (map (f c) xs)
+    measure_by true n c xs at e l r =
+        let q : n ≡ c = eqb-true n c e in
+        let past : all_below f n (list_put c xs at) ≡ all_below f n at = below_past n c xs at (omega arith) in
+        let own : m (map (f n) xs) ≡ m (map (f c) xs) = ap (λ j. m (map (f j) xs)) q in
+        let was : m (map (f n) (at n)) ≡ m (map (f c) (at c)) = ap (λ j. m (map (f j) (at j))) q in
+        omega (arith, ap m past)
+    measure_by false n c xs at e l r = omega (arith, r (apart n c e l))
+      where
+        apart : (n c : ℕ) → eqb n c ≡ false → c < suc n → c < n
+        apart n c e l = grind (arith, nat_tests)
+
+    -- what is counted of all, with another list in chain c
+    pub measure_put : (n c : ℕ) (xs : List Link) (at : ℕ → List Link) → c < n
+        → m (all_below f n (list_put c xs at)) + m (map (f c) (at c)) ≡ m (all_below f n at) + m (map (f c) xs)
+    unfolding all_below
+    measure_put zero c xs at l = absurd (omega arith)
+    measure_put (suc n) c xs at l =
+        let a = sums (all_below f n (list_put c xs at)) (map (f n) (list_put c xs at n)) in
+        let b = sums (all_below f n at) (map (f n) (at n)) in
+        let r = measure_by (eqb n c) n c xs at refl l (λ l. measure_put n c xs at l) in
+        omega arith
+
+    -- what is counted of one is no more than of all
+    pub measure_one : (n c : ℕ) (at : ℕ → List Link) → c < n → m (map (f c) (at c)) ≤ m (all_below f n at)
+    measure_one n c at l = omega (arith, measure_put n c [] at l, sums [] [])
+
+-- how often a number stands, in the first n lists with another list in chain c
+pub times_put : (f : ℕ → Link → ℕ) (k n c : ℕ) (xs : List Link) (at : ℕ → List Link) → c < n
+    → times k (all_below f n (list_put c xs at)) + times k (map (f c) (at c)) ≡ times k (all_below f n at) + times k (map (f c) xs)
+times_put f k = measure_put f (times k) (times-append k)
+
+-- no more often in one than in all
+pub times_one : (f : ℕ → Link → ℕ) (k n c : ℕ) (at : ℕ → List Link) → c < n → times k (map (f c) (at c)) ≤ times k (all_below f n at)
+times_one f k = measure_one f (times k) (times-append k)
+
+-- nor in two
+pub times_two : (f : ℕ → Link → ℕ) (k n c d : ℕ) (at : ℕ → List Link) → c < n → d < n → d ≢ c
+    → times k (map (f c) (at c)) + times k (map (f d) (at d)) ≤ times k (all_below f n at)
+times_two f k n c d at l m apart =
+    let out = times_put f k n c [] at l in
+    let there = times_one f k n d (list_put c [] at) m in
+    let same : times k (map (f d) (list_put c [] at d)) ≡ times k (map (f d) (at d)) = ap (λ l. times k (map (f d) l)) (put_other c d [] at apart) in
+    omega arith
+
+-- how many
+pub length_put : {X : Type 0} (f : ℕ → Link → X) (n c : ℕ) (xs : List Link) (at : ℕ → List Link) → c < n
+    → length (all_below f n (list_put c xs at)) + length (at c) ≡ length (all_below f n at) + length xs
+length_put f n c xs at l =
+    omega (arith, measure_put f length length-append n c xs at l, length-map (at c) (f c), length-map xs (f c))
+
+pub length_one : {X : Type 0} (f : ℕ → Link → X) (n c : ℕ) (at : ℕ → List Link) → c < n → length (at c) ≤ length (all_below f n at)
+length_one f n c at l = omega (arith, measure_one f length length-append n c at l, length-map (at c) (f c))
+
+-- the first n lists, and one more
+pub times_next : (f : ℕ → Link → ℕ) (k n : ℕ) (at : ℕ → List Link) → times k (all_below f (suc n) at) ≡ times k (all_below f n at) + times k (map (f n) (at n))
+unfolding all_below
+times_next f k n at = times-append k (all_below f n at) (map (f n) (at n))
+
+pub times_none : (f : ℕ → Link → ℕ) (k : ℕ) (at : ℕ → List Link) → times k (all_below f 0 at) ≡ 0
+unfolding all_below
+times_none f k at = refl
+
+pub length_next : {X : Type 0} (f : ℕ → Link → X) (n : ℕ) (at : ℕ → List Link) → length (all_below f (suc n) at) ≡ length (all_below f n at) + length (at n)
+unfolding all_below
+length_next f n at = omega (arith, length-append (all_below f n at) (map (f n) (at n)), length-map (at n) (f n))
+
+-- as many, whatever is made of them
+pub length_same : {X Y : Type 0} (f : ℕ → Link → X) (g : ℕ → Link → Y) (n : ℕ) (at : ℕ → List Link) → length (all_below f n at) ≡ length (all_below g n at)
+unfolding all_below
+length_same f g zero at = refl
+length_same f g (suc n) at = omega (arith, length_next f n at, length_next g n at, length_same f g n at)
+
+-- in the middle of a list
+pub keys_middle : (k : ℕ) (xs : List Link) (x : Link) (ys : List Link) → times k (keys (xs ++ x ∷ ys)) ≡ times k (keys (xs ++ ys)) + one k x.key
+keys_middle k [] x ys = omega arith
+keys_middle k (y ∷ xs) x ys = omega (arith, keys_middle k xs x ys)
+
+pub keys_append : (k : ℕ) (xs ys : List Link) → times k (keys (xs ++ ys)) ≡ times k (keys xs) + times k (keys ys)
+keys_append k xs ys = ap (times k) (map-append (λ (x : Link). x.key) xs ys) ∙ times-append k (keys xs) (keys ys)
+
+pub length_middle : (xs : List Link) (x : Link) (ys : List Link) → length (xs ++ x ∷ ys) ≡ suc (length (xs ++ ys))
+length_middle xs x ys = omega (arith, length-append xs (x ∷ ys), length-append xs ys)

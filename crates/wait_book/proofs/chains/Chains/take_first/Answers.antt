@@ -1,0 +1,39 @@
+use Rattle.std.proofs.Common.{ap, ◌∙◌}
+use Rattle.wait_book.specs.Lists.{Lists, list_at}
+use Rattle.wait_book.proofs.Nodes.{opens, opens-contains, linked_none}
+use Rattle.wait_book.proofs.Chained.{AreChains-equal, AreChains-seen, AreChains-taken, takes, lists_are}
+use Rattle.wait_book.proofs.chains.Chains.take_first.Goals as goal
+
+pub returns-in_err-first : goal.returns-in_err-first
+returns-in_err-first c =
+    let i = AreChains-equal c.self.view_is c.self.invariant in
+    let none = linked_none c.self.inside.nodes _ (list_at c.args.self.now c.args.chain) c.in_err-first.was (i.linked c.args.chain).linked in
+    rw c.from_residual.ensures (none, c.self.view_is)
+
+pub remove-node-requires : goal.remove-node-requires
+remove-node-requires c =
+    let i = AreChains-equal c.self.view_is c.self.invariant in
+    let s = c.self.inside.nodes in
+    let list = list_at c.args.self.now c.args.chain in
+    opens-contains s c.in_ok-first.field-0 list (opens s _ c.in_ok-first.field-0 list c.in_ok-first.was (i.linked c.args.chain).linked)
+
+pub invariant_of-self-2 : goal.invariant_of-self-2
+invariant_of-self-2 c =
+    let i = AreChains-equal c.self.view_is c.self.invariant in
+    let node = c.remove-node.ensures in
+    let t = takes c.args.chain c.in_ok-first.field-0 c.remove-node.result i c.in_ok-first.was node.value node.updates in
+    AreChains-seen (AreChains-taken c.args.chain c.in_ok-first.field-0 c.remove-node.result c.last_after-last.ensures i c.requires t node.len)
+
+pub returns : goal.returns
+returns c =
+    let i = AreChains-equal c.self.view_is c.self.invariant in
+    let node = c.remove-node.ensures in
+    let t = takes c.args.chain c.in_ok-first.field-0 c.remove-node.result i c.in_ok-first.was node.value node.updates in
+    record {
+      first = t.first;
+      after = t.after;
+      was = t.is;
+      first_place = t.place;
+      lists = λ d. lists_are (AreChains-taken c.args.chain c.in_ok-first.field-0 c.remove-node.result c.last_after-last.ensures i c.requires t node.len) d;
+      room = node.capacity ∙ ap (λ (v : Lists). v.room) c.self.view_is;
+    }

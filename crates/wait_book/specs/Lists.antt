@@ -1,0 +1,80 @@
+-- What a contract sees of the chains: the list of those in each.
+use Rattle.std.specs.Prelude.{ℕ, zero, suc, ◌≡◌, ◌==◌, nat_le, if◌then◌else◌, List, [], ◌∷◌, ◌++◌, map, length, Option, Some, None, slice_index_or}
+use Rattle.hoare_law.specs.Priorities.{behind_first}
+use Rattle.wait_book.specs.declared.chains.Link.{Link}
+
+-- memory for so many nodes, and those in each chain, the first one first
+pub record Lists : Type 0 where
+  pub room : ℕ
+  pub lists : List (List Link)
+
+-- those in chain c
+abbrev pub list_at : Lists → ℕ → List Link
+list_at v c = slice_index_or v.lists c []
+
+-- what f makes of those in the first n chains, chain by chain
+unfoldable pub all_below : {X : Type 0} → (ℕ → Link → X) → ℕ → (ℕ → List Link) → List X
+all_below f zero at = []
+all_below f (suc n) at = all_below f n at ++ map (f n) (at n)
+
+-- the keys of their nodes
+abbrev pub keys : List Link → List ℕ
+keys xs = map (λ (x : Link). x.key) xs
+
+-- their priorities
+abbrev pub priorities : List Link → List ℕ
+priorities xs = map (λ (x : Link). x.priority) xs
+
+-- the keys of those in the first n chains
+abbrev pub keys_below : ℕ → (ℕ → List Link) → List ℕ
+keys_below n at = all_below (λ c (x : Link). x.key) n at
+
+-- the places of those in the first n chains
+abbrev pub places_below : ℕ → (ℕ → List Link) → List ℕ
+places_below n at = all_below (λ c (x : Link). x.place) n at
+
+-- how many stand in the chains
+abbrev pub total : Lists → ℕ
+total v = length (keys_below 9 (list_at v))
+
+-- the first
+abbrev pub first_link : List Link → Option Link
+first_link [] = None
+first_link (x ∷ xs) = Some x
+
+-- the key of the last of these, or k where they are none
+abbrev pub last_from : Option ℕ → List Link → Option ℕ
+last_from k [] = k
+last_from k (x ∷ xs) = last_from (Some x.key) xs
+
+abbrev pub last_key : List Link → Option ℕ
+last_key xs = last_from None xs
+
+-- those before the first of a higher priority number
+abbrev pub lower : ℕ → List Link → List Link
+lower p [] = []
+lower p (x ∷ xs) = if nat_le x.priority p then x ∷ lower p xs else []
+
+-- and those from it on
+abbrev pub higher : ℕ → List Link → List Link
+higher p [] = []
+higher p (x ∷ xs) = if nat_le x.priority p then higher p xs else x ∷ xs
+
+-- the lists with another one in chain c
+abbrev pub list_put : ℕ → List Link → (ℕ → List Link) → ℕ → List Link
+list_put c xs at d = if d == c then xs else at d
+
+-- in chain c a place now stands between those before and those after
+pub record IsPut (c : ℕ) (before after : List Link) (place priority : ℕ) (old new : Lists) : Type 0 where
+  pub key : ℕ
+  pub lists : (d : ℕ) → list_at new d ≡ list_put c (before ++ record { key = key; place = place; priority = priority } ∷ after) (list_at old) d
+  pub room : new.room ≡ old.room
+
+-- the first of chain c, a place, is taken out
+pub record IsTaken (c place : ℕ) (old new : Lists) : Type 0 where
+  pub first : Link
+  pub after : List Link
+  pub was : list_at old c ≡ first ∷ after
+  pub first_place : first.place ≡ place
+  pub lists : (d : ℕ) → list_at new d ≡ list_put c after (list_at old) d
+  pub room : new.room ≡ old.room

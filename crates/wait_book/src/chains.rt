@@ -1,0 +1,260 @@
+//! The chains of a book: who waits on each condition, and who waits as a signaller. The nodes of all chains lie in one slab, and
+//! each holds the key of the next one.
+ghost use Rattle.std.specs.Prelude.{◌≡◌, ◌≢◌, ◌<◌, ◌≤◌, ◌==◌, ℕ, [], ◌++◌, List, Option, Some, None, is_some, if◌then◌else◌, not, IfOk, IfSome, MatchOption};
+ghost use Rattle.slab.specs.Slab.{get, slab_len, ContainsKey};
+ghost use Rattle.wait_book.specs.declared.chains.Link.{Link};
+ghost use Rattle.wait_book.specs.Contents.{times};
+ghost use Rattle.wait_book.specs.Lists.{keys, last_key};
+ghost use Rattle.wait_book.specs.Chains.{IsLinked, held};
+
+mod links;
+
+use crate::book::MOST_CONDITIONS;
+pub(crate) use links::Links;
+use slab::Slab;
+use std::alloc::{AllocError, Global};
+use std::marker::Model;
+
+/// The number of the signallers' chain, behind those of the conditions.
+pub(crate) const SIGNALLERS: usize = MOST_CONDITIONS;
+
+/// How many chains there are: one for each condition, and the signallers'.
+pub(crate) const CHAINS: usize = MOST_CONDITIONS + 1;
+
+/// One that stands in a chain: the key of its node, its place and its priority.
+#[derive(Clone, Copy)]
+pub(crate) struct Link {
+    pub(crate) key: usize,
+    pub(crate) place: usize,
+    pub(crate) priority: u64,
+}
+
+// One that stands in a chain, with the key of the next one's node.
+#[derive(Clone, Copy)]
+struct Node {
+    place: usize,
+    priority: u64,
+    next: Option<usize>,
+}
+
+// The keys of a chain's first node and of its last.
+#[derive(Clone, Copy)]
+struct Chain {
+    first: Option<usize>,
+    last: Option<usize>,
+}
+
+/// The chains, and the slab in which the nodes of all lie.
+#[derive(Drop)]
+pub(crate) struct Chains {
+    nodes: Slab<Node>,
+    chains: [Chain; CHAINS],
+}
+
+impl Model for Chains {
+    ghost use Rattle.wait_book.specs.Lists.{Lists};
+
+    ghost Value = { Lists };
+
+    ghost use Rattle.wait_book.specs.Linked.{view_of, IsGood};
+
+    ghost view = { view_of };
+
+    ghost invariant = { IsGood };
+}
+
+// The key behind a node, or of the first where none is before.
+fn next_of(nodes: &Slab<Node>, first: Option<usize>, behind: Option<usize>) -> Option<usize>
+    requires { IfSome behind (ContainsKey nodes.now) }
+    ensures { (before : List Link) (to : Option ℕ) → IsLinked nodes.now first before to
+        → behind ≡ last_key before → result ≡ to }
+{
+    match behind {
+        Some(key) => nodes[key].next,
+        None => first,
+    }
+}
+
+// Puts a key behind a node, or first where none is before, and answers the first.
+fn set_next(
+    nodes: &mut Slab<Node>,
+    first: Option<usize>,
+    behind: Option<usize>,
+    key: usize,
+) -> Option<usize>
+    requires { IfSome behind (ContainsKey nodes.old) }
+    ensures linked { (before : List Link) (to : Option ℕ) → IsLinked nodes.old first before to
+        → behind ≡ last_key before → ((k : ℕ) → times k (keys before) ≤ 1)
+        → IsLinked nodes.new result before (Some key) }
+    ensures others { (k : ℕ) → behind ≢ Some k → get nodes.new k ≡ get nodes.old k }
+    ensures held { (k : ℕ) → held nodes.new k ≡ held nodes.old k }
+    ensures len { slab_len nodes.new ≡ slab_len nodes.old }
+    ensures capacity { nodes.new.capacity ≡ nodes.old.capacity }
+{
+    match behind {
+        Some(before) => {
+            nodes[before].next = Some(key);
+            first
+        }
+        None => Some(key),
+    }
+}
+
+// The last key of a chain as it was, where a node comes behind the place of a change; else another.
+fn last_after(next: Option<usize>, last: Option<usize>, otherwise: Option<usize>) -> Option<usize>
+    ensures { result ≡ (if is_some next then last else otherwise) }
+{
+    match next {
+        Some(_) => last,
+        None => otherwise,
+    }
+}
+
+impl Chains {
+    ghost use Rattle.std.specs.Prelude.{◌≡◌, ◌<◌, ◌≤◌, ℕ, [], ◌++◌, List, IfOk, IfSome, MatchOption, not, ◌==◌};
+    ghost use Rattle.std.specs.List.{list_any};
+    ghost use Rattle.std.specs.List.Sorted.{IsNonDecreasing};
+    ghost use Rattle.wait_book.specs.declared.chains.Link.{Link};
+    ghost use Rattle.wait_book.specs.Contents.{times};
+    ghost use Rattle.wait_book.specs.Lists.{IsPut, IsTaken, first_link, higher, keys, last_key, list_at, lower, places_below, priorities, total};
+
+    /// Empty chains, with memory for so many nodes.
+    pub(crate) fn make(alloc: Global, places: usize) -> Result<Chains, AllocError>
+        ensures empty { IfOk result (λ q. (c : ℕ) → list_at q c ≡ []) }
+        ensures room { IfOk result (λ q. places ≤ q.room) }
+    {
+        Ok(Chains {
+            nodes: Slab::with_capacity(alloc, places)?,
+            chains: [Chain {
+                first: None,
+                last: None,
+            }; CHAINS],
+        })
+    }
+
+    /// Those in a chain, the first one first.
+    pub(crate) fn on(&self, chain: usize) -> Links<'_>
+        requires { chain < CHAINS }
+        ensures { result ≡ list_at self.now chain }
+    {
+        Links {
+            nodes: &self.nodes,
+            at: self.chains[chain].first,
+        }
+    }
+
+    /// The first in a chain.
+    pub(crate) fn first(&self, chain: usize) -> Option<Link>
+        requires { chain < CHAINS }
+        ensures { result ≡ first_link (list_at self.now chain) }
+    {
+        self.on(chain).next()
+    }
+
+    // Whether a place stands in one chain.
+    fn holds_in(&self, chain: usize, place: usize) -> bool
+        requires { chain < CHAINS }
+        ensures { result ≡ list_any (λ (x : Link). x.place == place) (list_at self.now chain) }
+    {
+        self.on(chain).any(|link| link.place == place)
+    }
+
+    /// Whether a place stands in a chain.
+    pub(crate) fn holds(&self, place: usize) -> bool
+        ensures { not result ≡ (times place (places_below CHAINS (list_at self.now)) == 0) }
+    {
+        for chain in 0..CHAINS {
+            if self.holds_in(chain, place) {
+                return true;
+            }
+        }
+        false
+    }
+
+    // The key of the last in a chain whose priority isn't above this one, met on a walk from the first.
+    fn walk_behind(&self, chain: usize, priority: u64) -> Option<usize>
+        requires { chain < CHAINS }
+        ensures { result ≡ last_key (lower priority (list_at self.now chain)) }
+    {
+        let mut behind = None;
+        for link in self.on(chain) {
+            if link.priority > priority {
+                return behind;
+            }
+            behind = Some(link.key);
+        }
+        behind
+    }
+
+    // The same, in one step where the chain's last isn't above.
+    fn behind(&self, chain: usize, priority: u64) -> Option<usize>
+        requires chain { chain < CHAINS }
+        requires ordered { IsNonDecreasing (priorities (list_at self.now chain)) }
+        ensures { result ≡ last_key (lower priority (list_at self.now chain)) }
+    {
+        let last = self.chains[chain].last?;
+        if self.nodes[last].priority <= priority {
+            return Some(last);
+        }
+        self.walk_behind(chain, priority)
+    }
+
+    // Puts a place into a chain, behind a node or first.
+    fn link(&mut self, chain: usize, behind: Option<usize>, place: usize, priority: u64)
+        requires chain { chain < CHAINS }
+        requires room { total self.old < self.old.room }
+        requires behind { (before after : List Link) × (list_at self.old chain ≡ before ++ after) × (behind ≡ last_key before) }
+        ensures { (before after : List Link) → list_at self.old chain ≡ before ++ after → behind ≡ last_key before
+            → IsPut chain before after place priority self.old self.new }
+    {
+        let Chain { first, last } = self.chains[chain];
+        let next = next_of(&self.nodes, first, behind);
+        let node = Node {
+            place,
+            priority,
+            next,
+        };
+        let key = self.nodes.insert_reserved(node);
+        let first = set_next(&mut self.nodes, first, behind, key);
+        let last = last_after(next, last, Some(key));
+        self.chains[chain] = Chain { first, last };
+    }
+
+    /// Puts a place behind all in a chain.
+    pub(crate) fn append(&mut self, chain: usize, place: usize, priority: u64)
+        requires chain { chain < CHAINS }
+        requires room { total self.old < self.old.room }
+        ensures { IsPut chain (list_at self.old chain) [] place priority self.old self.new }
+    {
+        let behind = self.chains[chain].last;
+        self.link(chain, behind, place, priority);
+    }
+
+    /// Puts a place into a chain that stands in order, behind those whose priority is its own or less.
+    pub(crate) fn insert(&mut self, chain: usize, place: usize, priority: u64)
+        requires chain { chain < CHAINS }
+        requires room { total self.old < self.old.room }
+        requires ordered { IsNonDecreasing (priorities (list_at self.old chain)) }
+        ensures { IsPut chain (lower priority (list_at self.old chain)) (higher priority (list_at self.old chain)) place priority self.old self.new }
+    {
+        let behind = self.behind(chain, priority);
+        self.link(chain, behind, place, priority);
+    }
+
+    /// Takes the first out of a chain, and answers its place.
+    pub(crate) fn take_first(&mut self, chain: usize) -> Option<usize>
+        requires { chain < CHAINS }
+        ensures { MatchOption result
+            ((list_at self.old chain ≡ []) × (self.new ≡ self.old))
+            (λ place. IsTaken chain place self.old self.new) }
+    {
+        let Chain { first, last } = self.chains[chain];
+        let node = self.nodes.remove(first?);
+        let last = last_after(node.next, last, None);
+        self.chains[chain] = Chain {
+            first: node.next,
+            last,
+        };
+        Some(node.place)
+    }
+}

@@ -1,0 +1,46 @@
+//! A walk along a chain.
+ghost use Rattle.std.specs.Iterator.{YieldsFirst, item_count};
+
+use super::{Link, Node};
+use slab::Slab;
+use std::marker::Model;
+
+/// Those in a chain from one on, seen as the list of those that are left.
+#[derive(Drop)]
+pub(crate) struct Links<'a> {
+    pub(super) nodes: &'a Slab<Node>,
+    // The key of the next node.
+    pub(super) at: Option<usize>,
+}
+
+impl<'a> Model for Links<'a> {
+    ghost use Rattle.std.specs.Prelude.{List};
+    ghost use Rattle.wait_book.specs.declared.chains.Link.{Link};
+
+    ghost Value = { List Link };
+
+    ghost use Rattle.wait_book.specs.Chains.{walked, Ends};
+
+    ghost view = { λ a. walked a.nodes.now a.at };
+
+    ghost invariant = { λ a. Ends a.nodes.now a.at };
+}
+
+impl<'a> Iterator for Links<'a> {
+    type Item = Link;
+
+    ghost next_gives = { YieldsFirst (λ rest. rest) };
+
+    ghost remaining = { item_count (λ rest. rest) };
+
+    fn next(&mut self) -> Option<Link> {
+        let key = self.at?;
+        let node = &self.nodes[key];
+        self.at = node.next;
+        Some(Link {
+            key,
+            place: node.place,
+            priority: node.priority,
+        })
+    }
+}

@@ -1,5 +1,5 @@
 -- Nodes linked as a list: what a change of one node does to them, and where a walk along them ends.
-use Rattle.std.proofs.Common.{◌≡◌, ◌≢◌, ◌==◌, ℕ, zero, suc, ◌+◌, ◌<◌, ◌≤◌, Bool, true, false, cond, eqb, leb, is_some, List, [], ◌∷◌, ◌++◌, length, map, Option, Some, None, refl, ap, sym, ◌∙◌, subst, arith}
+use Rattle.std.proofs.Common.{◌≡◌, ◌≢◌, ℕ, zero, suc, ◌+◌, ◌<◌, ◌≤◌, Bool, true, false, cond, leb, List, [], ◌∷◌, ◌++◌, length, Option, Some, None, refl, ap, sym, ◌∙◌, subst, arith}
 use Rattle.std.proofs.lemmas.Bool.Decides.{nat_tests}
 use Rattle.std.specs.List.Sorted.{IsNonDecreasing}
 use Rattle.std.specs.Prelude.{IfSome}
@@ -8,7 +8,7 @@ use Rattle.wait_book.specs.declared.chains.Node.{Node}
 use Rattle.wait_book.specs.declared.chains.Link.{Link}
 use Rattle.wait_book.specs.Contents.{one, times}
 use Rattle.wait_book.specs.Lists.{keys, last_from, last_key, lower, higher, priorities}
-use Rattle.wait_book.specs.Chains.{node_of, IsLinked, held, found, walk, walked, Ends}
+use Rattle.wait_book.specs.Chains.{node_of, IsLinked, found, walk, walked, Ends}
 use Rattle.wait_book.proofs.Times.{one_same}
 
 -- the last of a list
@@ -169,7 +169,8 @@ walked_first s from k n e f g =
     let is : n ≡ node_of o.first o.next = cc in
     let short : length e.list ≡ suc (length o.after) = ap length o.is in
     let rest : Ends s o.next = record { list = o.after; linked = o.linked; few = omega (arith, e.few) } in (
-      walked_ends s from e ∙ o.is ∙ (by o.first o.key n o.next o.after is ∙ ap (λ ys. record { key = k; place = n.place; priority = n.priority } ∷ ys) (sym (walked_ends s o.next rest) ∙ ap (λ (m : Node). walked s m.next) (sym is))),
+      walked_ends s from e ∙ o.is ∙ by o.first o.key n o.next o.after is
+          ∙ ap (λ ys. record { key = k; place = n.place; priority = n.priority } ∷ ys) (sym (walked_ends s o.next rest) ∙ ap (λ (m : Node). walked s m.next) (sym is)),
       subst (λ (m : Node). Ends s m.next) (sym is) rest,
     )
   where

@@ -1,7 +1,6 @@
 -- What a change in one chain does to those who wait, and to the signallers.
-use Rattle.std.proofs.Common.{◌≡◌, ◌≢◌, ◌==◌, ℕ, zero, suc, ◌+◌, ◌<◌, ◌≤◌, Bool, true, false, cond, eqb, eqb-true, leb, inl, inr, List, [], ◌∷◌, ◌++◌, length, map, Option, Some, None, refl, ap, sym, ◌∙◌, subst, arith}
+use Rattle.std.proofs.Common.{◌≡◌, ℕ, zero, suc, ◌+◌, ◌<◌, ◌≤◌, Bool, true, false, cond, eqb, leb, inl, inr, List, [], ◌∷◌, ◌++◌, length, map, Option, Some, None, refl, ap, sym, ◌∙◌, subst, arith}
 use Rattle.std.proofs.lemmas.Bool.{cases_eq, cases_lt}
-use Rattle.std.proofs.lemmas.Bool.Decides.{nat_tests}
 use Rattle.std.proofs.lemmas.List.{append_assoc, append-nil, length-map, map-append}
 use Rattle.std.proofs.lemmas.List.Elements.{filter-append}
 use Rattle.std.proofs.lemmas.Simd.{map-map}
@@ -17,7 +16,7 @@ use Rattle.wait_book.specs.Contents.{one, times}
 use Rattle.wait_book.specs.Insides.{waiter_on, waiting_below, places_in}
 use Rattle.wait_book.specs.Lists.{Lists, IsPut, IsTaken, all_below, first_link, higher, list_at, list_put, lower, places_below, priorities, total}
 use Rattle.wait_book.specs.Queues.{PutsIn, TakesFirst}
-use Rattle.wait_book.proofs.Times.{eq_self, times-append}
+use Rattle.wait_book.proofs.Times.{eq_self}
 use Rattle.wait_book.proofs.Waiters.{on, places, key}
 use Rattle.wait_book.proofs.Nodes.{lower-higher}
 use Rattle.wait_book.proofs.Lists.{below_past, eq_apart, length_next, length_one, length_same, put_same, put_other, times_next, times_put}
@@ -145,7 +144,8 @@ taken_below (suc n) c x after at l e =
         after = map (waiter_on c) after;
         was = ap (λ ws. waiting_below n at ++ ws) (subst (λ (m : ℕ). map (waiter_on m) (at m) ≡ waiter_on c x ∷ map (waiter_on c) after) (sym q) (ap (map (waiter_on c)) e));
         is = ap (λ ws. ws ++ map (waiter_on n) (list_put c after at n)) (below_past waiter_on n c after at (omega arith))
-            ∙ ap (λ ws. waiting_below n at ++ ws) (subst (λ (m : ℕ). map (waiter_on m) (list_put c after at m) ≡ map (waiter_on c) after) (sym q) (ap (map (waiter_on c)) (put_same c after at)));
+            ∙ ap (λ ws. waiting_below n at ++ ws)
+            (subst (λ (m : ℕ). map (waiter_on m) (list_put c after at m) ≡ map (waiter_on c) after) (sym q) (ap (map (waiter_on c)) (put_same c after at)));
         none_before = on_before n c at (omega arith);
         on = refl;
         place = refl;
@@ -178,7 +178,8 @@ pub waits-nobody : (c : ℕ) (v : Lists) → c < 8 → list_at v c ≡ [] → fi
 waits-nobody c v l e = on_chain 8 c (list_at v) l ∙ ap (map (waiter_on c)) e
 
 -- the signallers, where the chain of a condition changes
-pub signallers-same : (c : ℕ) (xs : List Link) (old new : Lists) → c < 8 → ((d : ℕ) → list_at new d ≡ list_put c xs (list_at old) d) → places_in (list_at new 8) ≡ places_in (list_at old 8)
+pub signallers-same : (c : ℕ) (xs : List Link) (old new : Lists) → c < 8 → ((d : ℕ) → list_at new d ≡ list_put c xs (list_at old) d)
+    → places_in (list_at new 8) ≡ places_in (list_at old 8)
 signallers-same c xs old new l h = ap places_in (h 8 ∙ put_other c 8 xs (list_at old) (omega arith))
 
 -- and those who wait, where the signallers' chain does

@@ -1,5 +1,5 @@
 -- What keeps a book sound.
-use Rattle.std.proofs.Common.{◌≡◌, ◌==◌, ℕ, ◌+◌, ◌≤◌, ◌<◌, Bool, true, false, cond, not, ◌||◌, eqb, eqb-true, List, [], ◌∷◌, ◌++◌, length, Option, Some, refl, ap, sym, ◌∙◌, subst, arith}
+use Rattle.std.proofs.Common.{◌≡◌, ◌==◌, ℕ, ◌+◌, ◌≤◌, ◌<◌, Bool, true, false, cond, not, ◌||◌, eqb, eqb-true, List, [], ◌∷◌, ◌++◌, length, refl, ap, sym, ◌∙◌, subst, arith}
 use Rattle.std.specs.List.{filter}
 use Rattle.std.proofs.lemmas.Bool.Decides.{nat_tests}
 use Rattle.std.proofs.lemmas.List.{length-map, length-append}
@@ -155,7 +155,8 @@ enters {k = k} e s f l z = record {
 -- a book that holds no place more often, with the same sizes
 
 sound_fewer : (b d : Contents) → IsSound b → SameSizes b d → ((k : ℕ) → times_in k d ≤ times_in k b)
-    → ((c : ℕ) → b.conditions ≤ c → waiters_on c d ≡ []) → ((c : ℕ) → in_order key (waiters_on c d) ≡ waiters_on c d) → IsTurnBeside d.signallers d.conditions d.turn → IsSound d
+    → ((c : ℕ) → b.conditions ≤ c → waiters_on c d ≡ []) → ((c : ℕ) → in_order key (waiters_on c d) ≡ waiters_on c d)
+    → IsTurnBeside d.signallers d.conditions d.turn → IsSound d
 sound_fewer b d s e o a r t = record {
   some_places = omega (arith, e.0, s.some_places);
   few_places = omega (arith, e.0, s.few_places);
@@ -189,8 +190,8 @@ waited_ordered b w ws c p o = ap (in_order key) (p.on c) ∙ by (w.condition == 
     by false = o
 
 -- and no other condition gets one
-waited_conditions : (b : Contents) (w : Waiter) (ws : List Waiter) (c : ℕ) → PutsIn w b.waiters ws → w.condition < b.conditions → b.conditions ≤ c → waiters_on c b ≡ []
-    → filter (on c) ws ≡ []
+waited_conditions : (b : Contents) (w : Waiter) (ws : List Waiter) (c : ℕ) → PutsIn w b.waiters ws → w.condition < b.conditions → b.conditions ≤ c
+    → waiters_on c b ≡ [] → filter (on c) ws ≡ []
 waited_conditions b w ws c p l m n =
     let off : (w.condition == c) ≡ false = grind (arith, nat_tests) in
     p.on c ∙ ap (λ t. cond t (put_in key w (waiters_on c b)) (waiters_on c b)) off ∙ n

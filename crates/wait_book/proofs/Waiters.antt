@@ -1,15 +1,11 @@
 -- The list of those who wait: what taking one out and putting one in does to the places and to each condition.
-use Rattle.std.proofs.Common.{◌≡◌, ◌==◌, ℕ, suc, ◌+◌, ◌≤◌, ◌<◌, Bool, true, false, cond, not, eqb, eqb-true, leb, ◌&&◌, ◌||◌}
-use Rattle.std.proofs.Common.{List, [], ◌∷◌, ◌++◌, length, get_or, map, Some, refl, ap, sym, ◌∙◌, subst, arith}
-use Rattle.std.specs.List.{list_all, filter, remove, position}
+use Rattle.std.proofs.Common.{◌≡◌, ◌==◌, ℕ, suc, ◌+◌, ◌≤◌, Bool, true, false, not, eqb, eqb-true, ◌||◌}
+use Rattle.std.proofs.Common.{List, ◌∷◌, ◌++◌, length, map, refl, ap, sym, ◌∙◌, arith}
+use Rattle.std.specs.List.{filter}
 use Rattle.std.proofs.lemmas.Bool.Decides.{nat_tests}
 use Rattle.std.proofs.lemmas.List.{length-append, map-append}
 use Rattle.std.proofs.lemmas.List.Elements.{filter-append}
-use Rattle.std.proofs.lemmas.List.Folds.{list_all-append}
-use Rattle.hoare_law.specs.Priorities.{put_in}
-use Rattle.hoare_law.proofs.Tests.{both_true}
 use Rattle.hoare_law.proofs.Filters.{filter-or}
-use Rattle.hoare_law.proofs.Searches.{at_first, position-found}
 use Rattle.wait_book.specs.declared.waiter.Waiter.{Waiter}
 use Rattle.wait_book.specs.Contents.{one, times}
 use Rattle.wait_book.specs.Queues.{TakesFirst}

@@ -7,7 +7,7 @@ use Rattle.wait_book.specs.declared.waiter.Waiter.{Waiter}
 use Rattle.wait_book.specs.declared.book.Book.TheInside.{Inside}
 use Rattle.wait_book.specs.declared.chains.Link.{Link}
 use Rattle.wait_book.specs.Contents.{Contents, times_in, waiters_on}
-use Rattle.wait_book.specs.Lists.{Lists, all_below, list_at}
+use Rattle.wait_book.specs.Lists.{all_below, list_at}
 
 -- one in the chain of a condition waits there
 abbrev pub waiter_on : ℕ → Link → Waiter

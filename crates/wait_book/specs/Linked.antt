@@ -1,7 +1,5 @@
 -- How the fields of the chains, and of a walk along one, stand for lists.
-use Rattle.std.specs.Prelude.{List}
 use Rattle.wait_book.specs.declared.chains.Chains.TheInside as chains
-use Rattle.wait_book.specs.declared.chains.Link.{Link}
 use Rattle.wait_book.specs.Lists.{Lists, list_at}
 use Rattle.wait_book.specs.Chains.{AreChains, lists_of}
 

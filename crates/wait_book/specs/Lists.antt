@@ -1,6 +1,5 @@
 -- What a contract sees of the chains: the list of those in each.
 use Rattle.std.specs.Prelude.{ℕ, zero, suc, ◌≡◌, ◌==◌, nat_le, if◌then◌else◌, List, [], ◌∷◌, ◌++◌, map, length, Option, Some, None, slice_index_or}
-use Rattle.hoare_law.specs.Priorities.{behind_first}
 use Rattle.wait_book.specs.declared.chains.Link.{Link}
 
 -- memory for so many nodes, and those in each chain, the first one first
@@ -67,7 +66,8 @@ list_put c xs at d = if d == c then xs else at d
 -- in chain c a place now stands between those before and those after
 pub record IsPut (c : ℕ) (before after : List Link) (place priority : ℕ) (old new : Lists) : Type 0 where
   pub key : ℕ
-  pub lists : (d : ℕ) → list_at new d ≡ list_put c (before ++ record { key = key; place = place; priority = priority } ∷ after) (list_at old) d
+  pub lists : (d : ℕ) → list_at new d
+      ≡ list_put c (before ++ record { key = key; place = place; priority = priority } ∷ after) (list_at old) d
   pub room : new.room ≡ old.room
 
 -- the first of chain c, a place, is taken out

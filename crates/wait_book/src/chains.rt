@@ -1,10 +1,12 @@
 //! The chains of a book: who waits on each condition, and who waits as a signaller. The nodes of all chains lie in one slab, and
 //! each holds the key of the next one.
 ghost use Rattle.std.specs.Prelude.{◌≡◌, ◌≢◌, ◌<◌, ◌≤◌, ◌==◌, ℕ, [], ◌++◌, List, Option, Some, None, is_some, if◌then◌else◌, not, IfOk, IfSome, MatchOption};
+ghost use Rattle.std.specs.List.{list_any};
+ghost use Rattle.std.specs.List.Sorted.{IsNonDecreasing};
 ghost use Rattle.slab.specs.Slab.{get, slab_len, ContainsKey};
 ghost use Rattle.wait_book.specs.declared.chains.Link.{Link};
 ghost use Rattle.wait_book.specs.Contents.{times};
-ghost use Rattle.wait_book.specs.Lists.{keys, last_key};
+ghost use Rattle.wait_book.specs.Lists.{IsPut, IsTaken, first_link, higher, keys, last_key, list_at, lower, places_below, priorities, total};
 ghost use Rattle.wait_book.specs.Chains.{IsLinked, held};
 
 mod links;
@@ -111,13 +113,6 @@ fn last_after(next: Option<usize>, last: Option<usize>, otherwise: Option<usize>
 }
 
 impl Chains {
-    ghost use Rattle.std.specs.Prelude.{◌≡◌, ◌<◌, ◌≤◌, ℕ, [], ◌++◌, List, IfOk, IfSome, MatchOption, not, ◌==◌};
-    ghost use Rattle.std.specs.List.{list_any};
-    ghost use Rattle.std.specs.List.Sorted.{IsNonDecreasing};
-    ghost use Rattle.wait_book.specs.declared.chains.Link.{Link};
-    ghost use Rattle.wait_book.specs.Contents.{times};
-    ghost use Rattle.wait_book.specs.Lists.{IsPut, IsTaken, first_link, higher, keys, last_key, list_at, lower, places_below, priorities, total};
-
     /// Empty chains, with memory for so many nodes.
     pub(crate) fn make(alloc: Global, places: usize) -> Result<Chains, AllocError>
         ensures empty { IfOk result (λ q. (c : ℕ) → list_at q c ≡ []) }
@@ -203,8 +198,10 @@ impl Chains {
     fn link(&mut self, chain: usize, behind: Option<usize>, place: usize, priority: u64)
         requires chain { chain < CHAINS }
         requires room { total self.old < self.old.room }
-        requires behind { (before after : List Link) × (list_at self.old chain ≡ before ++ after) × (behind ≡ last_key before) }
-        ensures { (before after : List Link) → list_at self.old chain ≡ before ++ after → behind ≡ last_key before
+        requires behind { (before after : List Link)
+            × (list_at self.old chain ≡ before ++ after) × (behind ≡ last_key before) }
+        ensures { (before after : List Link)
+            → list_at self.old chain ≡ before ++ after → behind ≡ last_key before
             → IsPut chain before after place priority self.old self.new }
     {
         let Chain { first, last } = self.chains[chain];
@@ -235,7 +232,8 @@ impl Chains {
         requires chain { chain < CHAINS }
         requires room { total self.old < self.old.room }
         requires ordered { IsNonDecreasing (priorities (list_at self.old chain)) }
-        ensures { IsPut chain (lower priority (list_at self.old chain)) (higher priority (list_at self.old chain)) place priority self.old self.new }
+        ensures { let list = list_at self.old chain in
+            IsPut chain (lower priority list) (higher priority list) place priority self.old self.new }
     {
         let behind = self.behind(chain, priority);
         self.link(chain, behind, place, priority);

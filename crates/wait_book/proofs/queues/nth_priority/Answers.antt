@@ -1,4 +1,4 @@
-use Rattle.std.proofs.Common.{Option, Some, None, ap, sym, ◌∙◌}
+use Rattle.std.proofs.Common.{Option, ap, sym, ◌∙◌}
 use Rattle.std.specs.Option.{option_map}
 use Rattle.std.proofs.lemmas.Iterator.Consumers.{YieldsList-from_first, nth_from_yields_List}
 use Rattle.wait_book.specs.declared.chains.Link.{Link}

@@ -1,6 +1,6 @@
-use Rattle.std.proofs.Common.{◌≡◌, Some, ap, sym, ◌∙◌}
+use Rattle.std.proofs.Common.{ap, sym, ◌∙◌}
 use Rattle.wait_book.specs.Lists.{last_key, list_at, lower}
-use Rattle.wait_book.proofs.Nodes.{behind-contains, closes, closes-contains, last_none, lower_all}
+use Rattle.wait_book.proofs.Nodes.{closes, closes-contains, last_none, lower_all}
 use Rattle.wait_book.proofs.Chained.{AreChains-equal}
 use Rattle.wait_book.proofs.chains.Chains.behind.Goals as goal
 

@@ -1,4 +1,4 @@
-use Rattle.std.proofs.Common.{◌≡◌, List, [], ◌∷◌, ap, sym, ◌∙◌, rules, arith}
+use Rattle.std.proofs.Common.{◌≡◌, [], ap, sym, ◌∙◌, rules}
 use Rattle.wait_book.specs.Chains.{walked}
 use Rattle.wait_book.proofs.Nodes.{opens, opens-contains, walked_first, walked_none}
 use Rattle.wait_book.proofs.chains.links.LinksIterator.next.Goals as goal

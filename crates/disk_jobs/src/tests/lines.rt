@@ -49,6 +49,15 @@ fn faults_at_their_lines(rt: HostRuntime) {
             b"disk 1 1\nread 1 \n".as_slice(),
             Err(ServiceFault::BadLine(2)),
         ),
+        (
+            b"disk 65535 1\nread \xff\n".as_slice(),
+            Err(ServiceFault::BadLine(2)),
+        ),
+        (
+            b"disk 65535 1\nread \xff".as_slice(),
+            Err(ServiceFault::BadLine(2)),
+        ),
+        (b"\xff".as_slice(), Err(ServiceFault::BadLine(1))),
         (b"disk 1 1\nread 1\nread 0".as_slice(), Ok(2)),
     ] {
         assert_eq!(rt; last_of(rt.alloc(), file), wanted);
@@ -76,7 +85,7 @@ fn long_lines(rt: HostRuntime) -> Result<(), Fail> {
     Ok(())
 }
 
-// Gives the header, and then one line for ever.
+// Gives the header, if there is one, and then one line for ever.
 #[derive(Drop)]
 struct Endless<'a> {
     header: &'a [u8],
@@ -104,13 +113,15 @@ impl Read for Endless<'_> {
 
 #[test]
 fn endless_readers(rt: HostRuntime) {
-    for (line, wanted, most) in [
-        (b"read 1\n".as_slice(), 4098, 9 + 4097 * 7),
-        (b"e".as_slice(), 2, 9 + 257),
-        (b"\n".as_slice(), 2, 10),
+    let header = b"disk 1 1\n".as_slice();
+    for (header, line, wanted, most) in [
+        (header, b"read 1\n".as_slice(), 4098, 9 + 4097 * 7),
+        (header, b"e".as_slice(), 2, 9 + 257),
+        (header, b"\n".as_slice(), 2, 10),
+        (b"".as_slice(), b"e".as_slice(), 1, 257),
     ] {
         let mut reader = Endless {
-            header: b"disk 1 1\n",
+            header,
             line,
             at: 0,
         };

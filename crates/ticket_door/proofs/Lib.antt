@@ -5,3 +5,4 @@ pub mod Serving
 pub mod Ringing
 pub mod Asking
 pub mod Meetings
+pub mod Many

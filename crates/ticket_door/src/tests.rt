@@ -1,5 +1,7 @@
 //! The calls on one thread, once each. Tests with threads stand in `monitor_trials`.
 
+mod many;
+
 use crate::door::TicketDoor;
 use crate::laws::make_at;
 use hoare_law::monitor::Monitor;

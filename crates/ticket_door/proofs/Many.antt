@@ -1,0 +1,79 @@
+-- Many places, of which some are outside and others asked: none is lost on the way.
+use Rattle.std.proofs.Common.{ℕ, zero, suc, List, [], ◌∷◌, ◌++◌, map, length, ◌≡◌, ◌<◌, ◌≤◌, ◌+◌, ◌⊎◌, inl, inr, sym, ◌∙◌, subst, arith}
+use Rattle.std.specs.Prelude.{All}
+use Rattle.std.proofs.lemmas.List.{map-append}
+use Rattle.std.proofs.lemmas.List.Elements.{All-nil, All-cons, All-append}
+use Rattle.std.proofs.Math.Nat.{eq-or-lt_of_le}
+use Rattle.atomic_table.specs.Seated.{TableId}
+use Rattle.hoare_law.specs.declared.event.History.{History}
+use Rattle.hoare_law.specs.declared.unasked.Unasked.{Unasked}
+use Rattle.door_frame.specs.Places.{DoorId, PlaceOut, IsOut, HasPlace, places_from}
+use Rattle.ticket_door.specs.Asked.{TicketDoorId, PlaceAsked, IsAsked, as_out}
+
+-- a place of a door of which nothing is asked, outside or asking
+abbrev pub IsUnaskedOut : DoorId → PlaceOut (Unasked ℕ 1) → Type 0
+IsUnaskedOut = IsOut (λ s q. Unit {0}) (λ c p s q. Unit {0}) 1
+
+abbrev pub IsUnaskedAsking : TicketDoorId → PlaceAsked (Unasked ℕ 1) → Type 0
+IsUnaskedAsking = IsAsked (λ s q. Unit {0}) (λ c p s q. Unit {0}) 1
+
+-- what holds of them holds with one more
+pub all-and-one : {X : Type 0} (P : X → Type 0) (xs : List X) (x : X) → All P xs → P x → All P (xs ++ x ∷ [])
+all-and-one P xs x all one = All-append P xs (x ∷ []) all (All-cons P x [] one (All-nil P))
+
+module _ {D : Type 0} where
+  under : (k : ℕ) (o : PlaceOut D) (os ps : List (PlaceOut D)) → HasPlace k os ⊎ HasPlace k ps → HasPlace k (o ∷ os) ⊎ HasPlace k ps
+  under k o os ps (inl at) = inl (inr at)
+  under k o os ps (inr at) = inr at
+
+  -- it is among the first or the second of them
+  has-either : (k : ℕ) (os ps : List (PlaceOut D)) → HasPlace k (os ++ ps) → HasPlace k os ⊎ HasPlace k ps
+  has-either k [] ps at = inr at
+  has-either k (o ∷ os) ps (inl is) = inl (inl is)
+  has-either k (o ∷ os) ps (inr at) = under k o os ps (has-either k os ps at)
+
+  has-before : (k : ℕ) (os ps : List (PlaceOut D)) → HasPlace k os → HasPlace k (os ++ ps)
+  has-before k [] ps at = absurd at
+  has-before k (o ∷ os) ps (inl is) = inl is
+  has-before k (o ∷ os) ps (inr at) = inr (has-before k os ps at)
+
+  has-behind : (k : ℕ) (os ps : List (PlaceOut D)) → HasPlace k ps → HasPlace k (os ++ ps)
+  has-behind k [] ps at = at
+  has-behind k (o ∷ os) ps at = inr (has-behind k os ps at)
+
+  from-on : (k : ℕ) (z : TableId) (from n : ℕ) (f : History D) → k < from + suc n
+      → ((j : ℕ) → suc from ≤ j → j < suc from + n → HasPlace j (places_from z (suc from) n f)) → (from ≡ k) ⊎ (from < k) → HasPlace k (places_from z from (suc n) f)
+  from-on k z from n f lt later (inl is) = inl is
+  from-on k z from n f lt later (inr less) = inr (later k less (omega arith))
+
+  -- the places of a door that was made are all there
+  pub has-all : (k : ℕ) (z : TableId) (from n : ℕ) (f : History D) → from ≤ k → k < from + n → HasPlace k (places_from z from n f)
+  has-all k z from zero f le lt = absurd (omega arith)
+  has-all k z from (suc n) f le lt = from-on k z from n f lt (λ j ge less. has-all j z (suc from) n f ge less) (eq-or-lt_of_le le)
+
+  -- the last of the places asks
+  asked : (k : ℕ) (os : List (PlaceOut D)) (o : PlaceOut D) (qs : List (PlaceAsked D)) (a : PlaceAsked D) → a.place ≡ o.place
+      → HasPlace k os ⊎ HasPlace k (o ∷ []) → HasPlace k os ⊎ HasPlace k (map as_out (qs ++ a ∷ []))
+  asked k os o qs a same (inl at) = inl at
+  asked k os o qs a same (inr (inl is)) =
+      inr (subst (HasPlace k) (sym (map-append as_out qs (a ∷ []))) (has-behind k (map as_out qs) (map as_out (a ∷ [])) (inl (same ∙ is))))
+  asked k os o qs a same (inr (inr none)) = absurd none
+
+  pub asks-one : (k : ℕ) (os : List (PlaceOut D)) (o : PlaceOut D) (qs : List (PlaceAsked D)) (a : PlaceAsked D) → a.place ≡ o.place
+      → HasPlace k (os ++ o ∷ []) ⊎ HasPlace k (map as_out qs) → HasPlace k os ⊎ HasPlace k (map as_out (qs ++ a ∷ []))
+  asks-one k os o qs a same (inl at) = asked k os o qs a same (has-either k os (o ∷ []) at)
+  asks-one k os o qs a same (inr at) =
+      inr (subst (HasPlace k) (sym (map-append as_out qs (a ∷ []))) (has-before k (map as_out qs) (map as_out (a ∷ [])) at))
+
+  -- the first that asked is outside again
+  pub gives-up-one : (k : ℕ) (qs : List (PlaceAsked D)) (a : PlaceAsked D) (os : List (PlaceOut D)) (o : PlaceOut D) → o.place ≡ a.place
+      → HasPlace k (map as_out (a ∷ qs)) ⊎ HasPlace k os → HasPlace k (map as_out qs) ⊎ HasPlace k (os ++ o ∷ [])
+  gives-up-one k qs a os o same (inl (inl is)) = inr (has-behind k os (o ∷ []) (inl (same ∙ is)))
+  gives-up-one k qs a os o same (inl (inr at)) = inl at
+  gives-up-one k qs a os o same (inr at) = inr (has-before k os (o ∷ []) at)
+
+  -- none is left on the first side
+  pub all-there : (k : ℕ) (os ps : List (PlaceOut D)) → length os ≡ 0 → HasPlace k os ⊎ HasPlace k ps → HasPlace k ps
+  all-there k [] ps none (inl at) = absurd at
+  all-there k (o ∷ os) ps none (inl at) = absurd (omega arith)
+  all-there k os ps none (inr at) = at

@@ -1,3 +1,4 @@
+mod last;
 mod limit;
 mod meeting;
 mod rows;

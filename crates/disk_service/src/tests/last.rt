@@ -1,0 +1,111 @@
+// The first job is held up until all others are done, with other workers. A service with one worker for them all can't do it.
+use crate::tests::limit::in_time;
+use crate::{Done, Gate, Jobs, Report, ServiceFault, serve, serve_tickets};
+use std::alloc::Global;
+use std::process::Abort;
+use std::sync::atomic::{AtomicBool, AtomicUsize, Ordering};
+use std::test::Fail;
+use std::thread;
+
+const JOBS: usize = 16;
+
+// How often the first job looks whether all others have ended, with a yield each time.
+const TURNS: u32 = 10_000_000;
+
+// How many jobs have ended, and whether the first one looked in vain.
+#[derive(Drop)]
+struct FirstLast {
+    turns: u32,
+    ended: AtomicUsize,
+    in_vain: AtomicBool,
+}
+
+impl FirstLast {
+    fn of(turns: u32) -> FirstLast {
+        FirstLast {
+            turns,
+            ended: AtomicUsize::new(0),
+            in_vain: AtomicBool::new(false),
+        }
+    }
+
+    // How many have ended, and whether the first looked in vain.
+    fn seen(&self) -> (usize, bool) {
+        (
+            self.ended.load(Ordering::SeqCst),
+            self.in_vain.load(Ordering::SeqCst),
+        )
+    }
+}
+
+impl Gate for FirstLast {
+    fn begin(&self, job: usize) {
+        if job > 0 {
+            return;
+        }
+        for _ in 0..self.turns {
+            if self.ended.load(Ordering::SeqCst) == JOBS - 1 {
+                return;
+            }
+            thread::yield_now();
+        }
+        self.in_vain.store(true, Ordering::SeqCst);
+    }
+
+    fn end(&self, _job: usize) {
+        self.ended.fetch_add(1, Ordering::SeqCst);
+    }
+}
+
+// As many jobs on one cylinder, for four workers.
+fn equal_jobs(alloc: Global) -> Result<Jobs, Fail> {
+    match Jobs::make(100, 4, vec![in alloc; 3u16; JOBS]?) {
+        Ok(jobs) => Ok(jobs),
+        Err(_) => Err(Fail::from("no jobs")),
+    }
+}
+
+// The report has the jobs in their order, and the first one did not look in vain.
+fn assert_in_order<R: Abort>(rt: &R, answer: Result<Report, ServiceFault>, gate: &FirstLast) {
+    let Ok(report) = answer else {
+        panic!(rt; "no report")
+    };
+    assert_eq!(rt;
+        (report.lines.len(), report.jobs, report.sum),
+        (16, 16, 416)
+    );
+    for (job, done) in report.lines.iter().enumerate() {
+        assert_eq!(rt; *done, Done::of(job as u32, 3));
+        assert_eq!(rt; done.block(), 26);
+    }
+    assert_eq!(rt; gate.seen(), (16, false));
+}
+
+#[test]
+fn first_job_last(rt: HostRuntime) -> Result<(), Fail> {
+    let jobs = equal_jobs(rt.alloc())?;
+    let gate = FirstLast::of(TURNS);
+    let answer = in_time(&rt, || serve(&rt, rt.alloc(), &jobs, &gate));
+    assert_in_order(&rt, answer, &gate);
+    Ok(())
+}
+
+#[test]
+fn first_job_last_by_ticket(rt: HostRuntime) -> Result<(), Fail> {
+    let jobs = equal_jobs(rt.alloc())?;
+    let gate = FirstLast::of(TURNS);
+    let answer = in_time(&rt, || serve_tickets(&rt, rt.alloc(), &jobs, &gate));
+    assert_in_order(&rt, answer, &gate);
+    Ok(())
+}
+
+// The limit is met where the others don't end.
+#[test]
+fn first_job_first_looks_in_vain(rt: HostRuntime) {
+    let gate = FirstLast::of(1000);
+    for job in 0..JOBS {
+        gate.begin(job);
+        gate.end(job);
+    }
+    assert_eq!(rt; gate.seen(), (16, true));
+}

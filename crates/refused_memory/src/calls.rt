@@ -1,0 +1,92 @@
+//! What can be made, by name. Each call takes no memory but its own.
+
+use crate::answer::Answer;
+use crate::noted::Noted;
+use crate::services::{reads_jobs, runs, serves};
+use baton_door::door::Door;
+use disk_jobs::kind::Kind;
+use hoare_script::{ScriptFault, run};
+use monitor_trials::fake::Fake;
+use monitor_trials::tally::Tally;
+use plain_schedulers::buffer::{Buffer, BufferRefused};
+use std::alloc::Global;
+use std::collections::VecDeque;
+use std::sync::Wait;
+use std::thread::Threads;
+use ticket_door::door::TicketDoor;
+use ticket_door::laws::make_at;
+use timed_schedulers::pool::{Pool, PoolRefused};
+use wait_book::book::Book;
+use wait_book::steps::MakeRefused;
+
+const SCRIPT: &[u8] = b"monitor 2 1\nenter 0\nwait 0 0 0\nenter 1\nsignal 1 0\nleave 0\nleave 1\n";
+
+const ANSWERS: &[u8] =
+    b"enter 0 -> 0\nwait 0 0 0 -> free\nenter 1 -> 1\nsignal 1 0 -> 0\nleave 0 -> 1\nleave 1 -> free\n";
+
+const DATA: Tally = Tally { value: 7 };
+
+/// Does what has this name.
+pub fn call<R: Threads + Wait + Sync>(rt: &R, alloc: Global, name: &[u8]) -> Answer {
+    match name {
+        b"Book::make" => makes_book(alloc),
+        b"hoare_script::run" => runs_script(alloc),
+        b"Door::make" => door_answer(Door::make(alloc, DATA, 3)),
+        b"TicketDoor::make" => door_answer(TicketDoor::make(alloc, DATA, 3)),
+        b"laws::make_at" => door_answer(make_at(alloc, DATA, 3, 5)),
+        b"Buffer::make" => makes_buffer(alloc),
+        b"Pool::make" => makes_pool(alloc),
+        b"Fake::of" => makes_fake(alloc),
+        b"read_jobs" => reads_jobs(alloc),
+        b"serve" => serves(rt, alloc, Kind::Baton),
+        b"serve_tickets" => serves(rt, alloc, Kind::Ticket),
+        b"disk_service::run baton" => runs(rt, alloc, Kind::Baton),
+        b"disk_service::run ticket" => runs(rt, alloc, Kind::Ticket),
+        _ => Answer::Unknown,
+    }
+}
+
+fn makes_book(alloc: Global) -> Answer {
+    match Book::make(alloc, 3, 2) {
+        Ok(_book) => Answer::Made,
+        Err(refused) => Answer::memory_if(refused == MakeRefused::Memory),
+    }
+}
+
+fn runs_script(alloc: Global) -> Answer {
+    let mut reader = SCRIPT;
+    let mut writer = Noted::new();
+    match run(alloc, &mut reader, &mut writer) {
+        Ok(()) => Answer::made_if(writer.bytes.as_slice() == ANSWERS),
+        Err(fault) => Answer::memory_if(fault == ScriptFault::Memory && writer.bytes.is_empty()),
+    }
+}
+
+// The data have to come back.
+fn door_answer<T: Drop>(made: Result<T, (Tally, MakeRefused)>) -> Answer {
+    match made {
+        Ok(_door) => Answer::Made,
+        Err((data, refused)) => Answer::memory_if(refused == MakeRefused::Memory && data == DATA),
+    }
+}
+
+fn makes_buffer(alloc: Global) -> Answer {
+    match Buffer::<u64>::make(alloc, 16) {
+        Ok(_buffer) => Answer::Made,
+        Err(refused) => Answer::memory_if(refused == BufferRefused::Memory),
+    }
+}
+
+fn makes_pool(alloc: Global) -> Answer {
+    match Pool::make(alloc, 16, 4) {
+        Ok(_pool) => Answer::Made,
+        Err(refused) => Answer::memory_if(refused == PoolRefused::Memory),
+    }
+}
+
+fn makes_fake(alloc: Global) -> Answer {
+    match Fake::of(alloc, DATA, VecDeque::new(alloc)) {
+        Ok(_fake) => Answer::Made,
+        Err(_) => Answer::Memory,
+    }
+}

@@ -1,0 +1,40 @@
+//! Makes what standard input names, a line each, and says whether there was memory for it. `bench/refused-memory` runs it with each
+//! request for memory refused in turn.
+#![tactic(auto)]
+
+mod answer;
+mod calls;
+mod noted;
+mod services;
+
+use crate::calls::call;
+use arrayvec::ArrayVec;
+use line_text::line::{Ended, Line, LineFault, read_line};
+use line_text::reader::WatchedReader;
+use std::io;
+
+// More bytes than the names have.
+const ROOM: usize = 4096;
+
+// The next name, if there is one.
+fn is_named<R: io::Read>(reader: &mut WatchedReader<'_, R>, name: &mut Line) -> bool {
+    match read_line(reader, name, ROOM) {
+        Ok(Ended::Line) => true,
+        Ok(Ended::Last) => !name.is_empty(),
+        Err(LineFault::Failed | LineFault::TooLong | LineFault::TooMuch) => false,
+    }
+}
+
+fn main(rt: HostRuntime) -> io::Result<()> {
+    let mut input = rt.stdin();
+    let mut reader = WatchedReader::new(&mut input);
+    let mut name = ArrayVec::new();
+    for _ in 0..100 {
+        if !is_named(&mut reader, &mut name) {
+            return Ok(());
+        }
+        let answer = call(&rt, rt.alloc(), name.as_slice());
+        println!(rt; "{}", answer.text())?;
+    }
+    Ok(())
+}

@@ -17,8 +17,8 @@ use Rattle.wait_book.specs.declared.steps.MakeRefused.{MakeRefused}
 use Rattle.wait_book.specs.declared.steps.MakeRefused.TheVariants.{BadPlaces, BadConditions}
 
 -- what a book holds: so many places and conditions, memory for so many to wait and for so many waiting signallers (it may be
--- one memory for both), who waits by rising priority (equal ones by time), the signallers (the longest waiting first), and
--- whose turn it is
+-- one memory for both), who waits (on each condition by rising priority, equal ones by time), the signallers (the longest
+-- waiting first), and whose turn it is
 pub record Contents : Type 0 where
   pub places : ℕ
   pub conditions : ℕ

@@ -11,5 +11,5 @@ pub const LOOKS: u32 = 500;
 /// has tickets to go: exactly one thread can come in, and who isn't running when its ticket is served holds up all others.
 pub const NEXT_IN_TURN: u64 = 4000;
 
-/// One that has more tickets to go than so many yields at once.
+/// One that has more tickets to go than this yields at once.
 pub const NEAR: u64 = 3;

@@ -73,7 +73,7 @@ impl Others {
     }
 }
 
-/// Comes in and goes out, `turns` times: what the place met. The data count who was let in.
+/// Comes in and goes out, `turns` times: what the place met. The data count those that were let in.
 pub fn count_others<R: Wait, M: Monitor<Counted>>(rt: &R, m: &M, out: M::Out, turns: u64) -> Others
     requires { M.is_of m.now out }
 {

@@ -25,7 +25,7 @@ pub record Tells {D : Type 0} (log : History D) (tickets : Tickets) (words : Lis
   pub word : slice_index words 0 ≡ word_of (turn log.events)
   pub no_tickets : (k : ℕ) → tickets k ≡ None
 
--- the door's sizes: of a table with so many words and slots, of so many places, with so many wakers
+-- the door's sizes: how many words and slots its table has, how many places there are, and how many wakers
 pub record Sized (words slots places wakers : ℕ) : Type 0 where
   pub words_are : words ≡ 8
   pub slots_are : slots ≡ 1

@@ -26,6 +26,15 @@ use wait_book::steps::MakeRefused;
 ///
 /// After `make` no call takes memory. One word says whether the monitor is free, held, or owed to a place; one slot has the
 /// data and the queues. A door can be dropped where its data can, and then its data are dropped too; `close` gives them back.
+///
+/// ```rust
+/// let data = Unasked::<u64, 1> { value: 41 };
+/// let (door, mut outs) = Door::make(alloc, data, 2).map_err(|(_, refused)| refused)?;
+/// let mut inside = door.enter(&rt, outs.pop().unwrap());
+/// Door::state_mut(&mut inside, &door).value = 42;
+/// outs.push_reserved(door.leave(&rt, inside));
+/// assert_eq!(rt; door.close(outs).value, 42);
+/// ```
 #[derive(Drop)]
 pub struct Door<D: MonitorData> {
     /// Of its eight words one is in use. The others keep most other data off that one's line of the cache.

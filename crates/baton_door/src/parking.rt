@@ -2,8 +2,8 @@
 //!
 //! No wake is lost. Who waits tests the word before it parks and after each waking (`Turnstile::claim`). Who gives the
 //! monitor up writes the word first and wakes the place then. So where the test came before the write, the waking comes
-//! after the test; and a parker keeps one permit, so the park that follows returns at once. What a permit of an earlier wait
-//! wakes finds the word unchanged, and parks again.
+//! after the test; and a parker keeps one permit, so the park that follows returns at once. A place that is
+//! woken by the permit of an earlier wait finds the word unchanged, and parks again.
 ghost use Rattle.std.specs.Prelude.{◌≡◌, ◌<◌};
 ghost use Rattle.wait_book.specs.Contents.{IsPlaceBelow};
 ghost use Rattle.door_frame.specs.Steps.{MayGive};

@@ -12,7 +12,7 @@ pub length-served_from : (i : ℕ) (cs : List ℕ) → length (served_from i cs)
 length-served_from i [] = refl
 length-served_from i (c ∷ cs) = ap suc (length-served_from (suc i) cs)
 
--- not so many, so not the same
+-- another number of them, so not the same
 pub length-differs : (cs : List ℕ) (lines : List Served) → length lines ≢ length cs → (false ≡ true → lines ≡ served_from 0 cs) × (lines ≡ served_from 0 cs → false ≡ true)
 length-differs cs lines h = ((λ f. cc), (λ e. absurd (h (ap length e ∙ length-served_from 0 cs))))
 

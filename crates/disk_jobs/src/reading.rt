@@ -15,7 +15,7 @@ use line_text::reader::WatchedReader;
 use std::alloc::Global;
 use std::io::Read;
 
-/// The most lines of a job file that are looked at: the header, so many jobs, and the one that is too many.
+/// The most lines of a job file that are looked at: the header, 4,096 jobs, and the line that is too many.
 pub const MOST_LINES: u64 = 4098;
 
 // Room that no line goes past.

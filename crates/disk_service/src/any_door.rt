@@ -190,7 +190,7 @@ impl<D: MonitorData + Send> Monitor<D> for AnyDoor<D> {
 }
 
 impl<D: MonitorData + Send + Drop> AnyDoor<D> {
-    /// A door of this kind with so many places, 1 to 64, and its places, in order.
+    /// A door of this kind with this number of places, 1 to 64, and the places, in order.
     pub(crate) fn make(
         alloc: Global,
         kind: Kind,

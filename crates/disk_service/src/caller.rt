@@ -24,7 +24,7 @@ pub(crate) fn hand_on_jobs<R: Wait>(rt: &R, doors: &Doors, jobs: &Jobs, seat: Se
     seat
 }
 
-/// Tells so many workers to stop. The seat comes back.
+/// Tells this number of workers to stop. The seat comes back.
 pub(crate) fn stop_workers<R: Wait>(rt: &R, doors: &Doors, seat: Seat, workers: u32) -> Seat
     requires { IsSeat doors.now seat }
     ensures of { IsSeat doors.now result }

@@ -37,7 +37,7 @@ pub(crate) struct Doors {
 }
 
 impl Doors {
-    /// Doors for these jobs with so many places each, and the places, in order.
+    /// Doors for these jobs with this number of places each, and the places, in order.
     pub(crate) fn open(
         alloc: Global,
         kind: Kind,

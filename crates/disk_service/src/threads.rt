@@ -106,7 +106,7 @@ fn direct<'s, 'e, R: Threads + Wait + Sync, G: Gate + Sync>(
     Ok(desk)
 }
 
-// With so many workers left to be started: starts them, has all workers stopped, and joins those that it started.
+// With `left` workers still to be started: starts them, has all workers stopped, and joins those that it started.
 fn with_workers<'s, 'e, R: Threads + Wait + Sync, G: Gate + Sync>(
     scope: &Scope<'s, &'e ()>,
     rt: &'e R,

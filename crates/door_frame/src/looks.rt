@@ -1,15 +1,15 @@
 //! How long places look at a word before they sleep or yield: the numbers of both doors, and their reasons. What was measured
 //! stands in docs/MEASURES.md, "How places wait".
 
-/// How often a waiter or a signaller looks, with the spin hint between, before it sleeps on its parker, and a newcomer that races
-/// for the word before it backs off. A look costs some nanoseconds and a sleep with its waking several thousand: most hand-overs
-/// come while it still looks. More looks take the processor from the place that is waited for, where there are fewer cores than
-/// threads.
+/// How often a place looks, with the spin hint between: a waiter or a signaller before it sleeps on its parker, and a newcomer
+/// that races for the word before it backs off. A look costs some nanoseconds, and a sleep with its waking several thousand: most
+/// hand-overs come while the place still looks. Where there are fewer cores than threads, more looks take the processor from the
+/// place that is waited for.
 pub const LOOKS: u32 = 500;
 
-/// How often a newcomer whose ticket is the next looks before it yields. One that is further off looks as often less as it
-/// has tickets to go: exactly one thread can come in, and who isn't running when its ticket is served holds up all others.
+/// How often a newcomer whose ticket is the next looks before it yields. One that has n tickets to go looks an n-th as often.
+/// Exactly one thread can come in, and if it isn't running when its ticket is served, it holds up all others.
 pub const NEXT_IN_TURN: u64 = 4000;
 
-/// One that has more tickets to go than so many yields at once.
+/// A newcomer that has more tickets to go than this yields at once.
 pub const NEAR: u64 = 3;

@@ -12,7 +12,7 @@ pub struct Knowledge<D> {
 
 /// What a seat knows.
 pub enum View<D> {
-    /// The first seat, while the slot is still empty: the door is to have so many places.
+    /// The first seat, while the slot is still empty: the door is to have this number of places.
     Unopened(usize),
     /// The first seat, with the slot in hand.
     Opening(usize),

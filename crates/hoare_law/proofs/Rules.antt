@@ -50,7 +50,7 @@ module _ {S : Type 0} where
       by true is = let yes : is_least ws y ≡ true = least_more ws x y (grind (arith, nat_tests)) a in absurd (cc)
       by false is = grind (arith, nat_tests)
 
-  -- none that waits has a less priority than the chosen one
+  -- none that waits has a smaller priority than the chosen one
   pub chosen-no_less : (c : ℕ) (h : List (Event S)) (x : Event S) → chosen c h ≡ Some x → All (λ y. priority_of x ≤ priority_of y) (waiting c h)
   chosen-no_less c h x is = least_all (waiting c h) x (chosen-least c h x is)
 

@@ -155,7 +155,7 @@ module _ {S : Type 0} where
   unfolding chosen waiting
   chosen-in_range c h x legal is = All-find (IsInRange h) (is_least (waiting c h.events)) (waiting c h.events) x is (All-in_range h (λ e later. waits_on c e && is_untouched e later) legal)
 
-  -- none that waits has a less priority
+  -- none that waits has a smaller priority
   pub chosen-least : (c : ℕ) (h : List (Event S)) (x : Event S) → chosen c h ≡ Some x → is_least (waiting c h) x ≡ true
   unfolding chosen
   chosen-least c h x is = find-passes (is_least (waiting c h)) (waiting c h) x is

@@ -48,7 +48,7 @@ pub enum Event<S> {
     },
 }
 
-/// What happened at a monitor with so many places and conditions that was opened with this data: its events, the oldest
+/// What happened at a monitor with these numbers of places and conditions, opened with this data: its events, the oldest
 /// first. No value of it is ever made.
 pub struct History<S> {
     pub places: usize,

@@ -82,7 +82,7 @@ told_lines e over s i (line ∷ next ∷ lines) =
     if nat_lt LONGEST_LINE (length line) then stop (faults.LineTooLong i)
     else then_on (one_line s i line) (λ t. told_lines e over t (i + 1) (next ∷ lines))
 
--- from line i on, with room for so many bytes
+-- from line i on, with room for this number of bytes
 unfoldable pub told_from : Ending → State → ℕ → ℕ → List ℕ → Told
 told_from e s i room text =
     told_lines e (nat_lt room (length text)) s i (slice_split is_newline (take room text))

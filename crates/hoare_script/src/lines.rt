@@ -6,7 +6,7 @@ use line_text::forms::two_numbers;
 use line_text::words::{first_word, number};
 use wait_book::steps::Step;
 
-/// The first line of a script: so many places, and so many conditions.
+/// The first line of a script: the number of places, and the number of conditions.
 #[derive(Clone, Copy, Debug, PartialEq, Eq)]
 pub struct Header {
     pub places: u64,

@@ -32,7 +32,7 @@ impl Model for Opened {
 }
 
 impl Opened {
-    /// A book of so many places and conditions. Refused as `Book::make` refuses.
+    /// A book of the header's numbers of places and conditions. Refused as `Book::make` refuses.
     pub fn make(alloc: Global, header: Header) -> Result<Opened, MakeRefused>
         ensures { MatchResult result
             (λ b. (make_refusal header.places header.conditions ≡ None)

@@ -25,7 +25,7 @@ pub const MOST_BYTES: usize = 1_048_576;
 
 /// Reads a script and writes the answer to each line after the header, before it answers the next. A fault ends it: its
 /// answer is the earliest of the text, unless a read, a write or memory fails first. No byte behind the one at which the
-/// verdict stands is read, so at most `MOST_BYTES` and one more. An interrupted read or write counts as failed, and nothing is
+/// verdict stands is read, so at most `MOST_BYTES` + 1 bytes are. An interrupted read or write counts as failed, and nothing is
 /// flushed.
 pub fn run<R: Read, W: Write>(
     alloc: Global,
@@ -43,7 +43,7 @@ pub fn run<R: Read, W: Write>(
 }
 
 /// `run`, with a reader and a writer that are watched: `ReadFault` is answered exactly where a read failed, `WriteFault` exactly
-/// where a write failed or took no bytes, and at most `MOST_BYTES` and one more reads are made, which give at most so many
+/// where a write failed or took no bytes, and at most `MOST_BYTES` + 1 reads are made, which give at most this number of
 /// bytes, whatever the reader is.
 pub fn run_watched<R: Read, W: Write>(
     alloc: Global,

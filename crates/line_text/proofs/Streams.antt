@@ -6,7 +6,7 @@ use Rattle.std.proofs.lemmas.List.{take_all, take-append-le}
 use Rattle.std.specs.Io.KnownBytes.{Appends}
 use Rattle.line_text.specs.Streams.{Reads, AppendsPrefix}
 
--- more of a text is written: its next n bytes, of which so many were handed over
+-- more of a text is written: its next n bytes, of the m at most that were handed over
 pub Appends-take : (a b c : Option (List ℕ)) (bs : List ℕ) (i n m : ℕ) → length bs - i ≤ m
     → Appends a b (take i bs) → Appends b c (take n (take m (drop i bs))) → Appends a c (take (i + n) bs)
 Appends-take a b c bs i n m l p q =

@@ -28,7 +28,7 @@ CountsRead old new n =
     (read_calls new ≡ min (read_calls old + 1) (2 ^ 64 - 1))
     × (bytes_given new ≡ min (bytes_given old + n) (2 ^ 64 - 1))
 
--- at most so many reads and so many bytes more
+-- at most these numbers of reads and of bytes more
 abbrev pub HasRead : {R : Type 0} → WatchedReader R → WatchedReader R → ℕ → ℕ → Type 0
 HasRead old new calls bytes =
     (read_calls new ≤ read_calls old + calls) × (bytes_given new ≤ bytes_given old + bytes)

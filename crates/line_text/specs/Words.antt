@@ -22,7 +22,7 @@ abbrev pub all_digits : List ℕ → Bool
 all_digits [] = true
 all_digits (c ∷ cs) = is_digit c && all_digits cs
 
--- no digit is missing, and no leading 0 is in vain
+-- there is a digit, and the first one is 0 only where it is the only one
 abbrev pub begins_well : List ℕ → Bool
 begins_well [] = false
 begins_well (c ∷ []) = true

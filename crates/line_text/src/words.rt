@@ -34,7 +34,7 @@ fn digits(word: &[u8]) -> Option<u64>
     Some(value)
 }
 
-// No digit is missing, and no leading 0 is in vain.
+// There is a digit, and the first one is 0 only where it is the only one.
 fn begins_well(word: &[u8]) -> bool
     ensures { result ≡ begins_well word.now }
 {

@@ -42,7 +42,7 @@ pub trait SharedCount: Monitor<Counted> + Sync {}
 
 impl<M: Monitor<Counted> + Sync> SharedCount for M {}
 
-/// Threads that come in, add one and go out, each so many times.
+/// Threads that come in, add one and go out, each `turns` times.
 pub fn contended<R: Threads + Wait + Sync, M: OneShared>(
     rt: &R,
     m: &M,
@@ -79,7 +79,7 @@ pub fn alone<const N: usize, R: Wait, M: Monitor<Unasked<u64, N>>>(
     Ok(())
 }
 
-/// All but the last to come wait, each with its number for a priority, so many times; the last signals them in turn.
+/// All but the last to come wait, each with its number for a priority, `turns` times; the last signals them in turn.
 pub fn waiting<R: Threads + Wait + Sync, M: OneShared>(
     rt: &R,
     m: &M,
@@ -109,7 +109,7 @@ where
     Ok(())
 }
 
-/// A chain of signallers, eight deep, so many times over: each signals the next, and all return in turn.
+/// A chain of signallers, eight deep, `turns` times over: each signals the next, and all return in turn.
 pub fn chained<R: Threads + Wait + Sync, M: EightShared>(
     rt: &R,
     m: &M,
@@ -138,7 +138,7 @@ where
     Ok(())
 }
 
-/// Half of the threads append to a buffer, the others remove, each so many times.
+/// Half of the threads append to a buffer, the others remove, each `turns` times.
 pub fn buffered<R: Threads + Wait + Sync, M: SharedBuffer>(
     rt: &R,
     m: &M,
@@ -167,7 +167,7 @@ where
     Ok(())
 }
 
-/// Threads that mix all calls, each so many times, and the last to come, who resumes those that wait.
+/// Threads that mix all calls, each `turns` times, and the last to come, who resumes those that wait.
 pub fn mixed<R: Threads + Wait + Sync, M: SharedMixed>(
     rt: &R,
     m: &M,
@@ -189,7 +189,7 @@ where
     Ok(())
 }
 
-/// Threads that come in and go out, each so many times: what each met.
+/// Threads that come in and go out, each `turns` times: what each met.
 pub fn met<R: Threads + Wait + Sync, M: SharedCount>(
     rt: &R,
     m: &M,

@@ -42,7 +42,7 @@ impl Others {
         }
     }
 
-    // One visit more, after so many of others.
+    // One visit more, after this number of visits of others.
     fn after(self, others: u64) -> Others {
         Others {
             largest: self.largest.max(others),
@@ -73,7 +73,7 @@ impl Others {
     }
 }
 
-/// Comes in and goes out, so many times: what the place met. The data count who was let in.
+/// Comes in and goes out, `turns` times: what the place met. The data count those that were let in.
 pub fn count_others<R: Wait, M: Monitor<Counted>>(rt: &R, m: &M, out: M::Out, turns: u64) -> Others
     requires { M.is_of m.now out }
 {

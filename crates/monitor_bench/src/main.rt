@@ -63,7 +63,7 @@ fn show(rt: &impl Print) -> io::Result<()> {
     Ok(())
 }
 
-// Nanoseconds for each of so many, to the nearest.
+// Nanoseconds for each of `count`, to the nearest.
 fn each(spent: Duration, count: u64) -> u128 {
     let count = u128::from(count.max(1));
     spent.as_nanos().saturating_add(count / 2) / count
@@ -75,7 +75,7 @@ fn tell<R: Print + Eprint>(rt: &R, name: &str, spent: Duration, count: u64) -> i
     println!(rt; "{name} {one} ns")
 }
 
-// One row: a door is made with these data and so many places, its threads work, and what each of so many turns took is told.
+// One row: a door is made with these data and this number of places, its threads work, and what each of `$count` turns took is told.
 macro_rules! row {
     ($rt:ident, $alloc:ident, $door:ident, $name:expr, $data:expr, $places:expr, $work:ident($($more:expr),*), $count:expr) => {{
         let Ok((door, places)) = $door::make($alloc, $data, $places) else {

@@ -20,7 +20,7 @@ pub struct Visits {
 
 pub type Mixed = Unasked<Visits, 3>;
 
-// The next of a row of numbers that look as if drawn by lot.
+// The next of a row of numbers in which no pattern shows.
 fn draw(seed: u64) -> u64 {
     seed.wrapping_mul(6364136223846793005)
         .wrapping_add(1442695040888963407)
@@ -76,7 +76,7 @@ fn visit<R: Wait, M: Monitor<Mixed>>(rt: &R, m: &M, out: M::Out, lot: u64) -> M:
     out
 }
 
-// So many visits, and a note that they are over.
+// This number of visits, and a note that they are over.
 fn visit_many<R: Wait, M: Monitor<Mixed>>(rt: &R, m: &M, out: M::Out, me: u64, turns: u64)
     requires { M.is_of m.now out }
 {

@@ -1,4 +1,4 @@
-//! What one thread does with the procedures of the schedulers, over any monitor: a pair of them so many times. A refusal ends it.
+//! What one thread does with the procedures of the schedulers, over any monitor: a pair of them, again and again. A refusal ends it.
 ghost use Rattle.std.specs.Prelude.{IfOk};
 
 use crate::turns::add_many;
@@ -67,7 +67,7 @@ pub fn append_remove<R: Wait, M: Monitor<Buffer<u64>>>(
     Ok(())
 }
 
-/// Takes so many buffers for stream 0, and keeps them.
+/// Takes `count` buffers for stream 0, and keeps them.
 pub fn take_many<R: Wait, M: Monitor<Pool>>(
     rt: &R,
     m: &M,

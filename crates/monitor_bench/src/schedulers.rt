@@ -26,7 +26,7 @@ use ticket_door::door::TicketDoor;
 use timed_schedulers::alarm::Alarm;
 use timed_schedulers::pool::{MOST_BUFFERS, Pool};
 
-// A pool of so many buffers, for one stream.
+// A pool of this number of buffers, for one stream.
 fn pool(alloc: Global, buffers: u32) -> anyhow::Result<Pool>
     ensures { IfOk result (λ p. ⟦<Pool as MonitorData>⟧.rest p nobody) }
 {
@@ -41,8 +41,8 @@ fn last_place<D: MonitorData, M: Monitor<D>>(m: &M, mut places: Vec<M::Out>) -> 
     places.pop().ok_or(no_memory())
 }
 
-// One row on one place: a door is made with these data, another work may prepare them, and what each of so many turns of the work
-// took is told.
+// One row on one place: a door is made with these data, another work may prepare them, and what each of `$turns` turns of
+// the work took is told.
 macro_rules! one_place {
     ($rt:ident, $alloc:ident, $door:ident, $name:expr, $data:expr, $work:ident, $turns:ident $(, after $prepare:ident($many:expr))?) => {{
         let Ok((door, places)) = $door::make($alloc, $data, 1) else {
@@ -56,7 +56,7 @@ macro_rules! one_place {
     }};
 }
 
-// One row on threads: so many places sleep and one ticks, and what each of so many sleeps took is told.
+// One row on threads: `$sleepers` places sleep and one ticks, and what each sleep took is told.
 macro_rules! sleepers {
     ($rt:ident, $alloc:ident, $door:ident, $name:expr, $sleepers:literal, $turns:ident) => {{
         let Ok((door, places)) = $door::make($alloc, Alarm::at(0), $sleepers + 1) else {

@@ -14,7 +14,7 @@ pub trait SharedAlarm: Monitor<Alarm> + Sync {}
 
 impl<M: Monitor<Alarm> + Sync> SharedAlarm for M {}
 
-/// Sets the next time, so many times.
+/// Sets the next time, `turns` times.
 pub fn tick_many<R: Wait, M: Monitor<Alarm>>(
     rt: &R,
     m: &M,
@@ -32,7 +32,7 @@ pub fn tick_many<R: Wait, M: Monitor<Alarm>>(
     Ok(())
 }
 
-// Sleeps for so many ticks, so many times.
+// Sleeps for `ticks` ticks, `turns` times.
 fn sleep_many<R: Wait, M: Monitor<Alarm>>(
     rt: &R,
     m: &M,
@@ -51,7 +51,7 @@ fn sleep_many<R: Wait, M: Monitor<Alarm>>(
     Ok(())
 }
 
-/// Sleeps for no tick, so many times: it returns at once.
+/// Sleeps for no tick, `turns` times: it returns at once.
 pub fn wake_many<R: Wait, M: Monitor<Alarm>>(
     rt: &R,
     m: &M,
@@ -94,7 +94,7 @@ fn tick_all<R: Wait, M: Monitor<Alarm>>(
     unreachable!()
 }
 
-/// All but the last to come sleep until the next tick, so many times; the last ticks whenever all of them sleep.
+/// All but the last to come sleep until the next tick, `turns` times; the last ticks whenever all of them sleep.
 pub fn sleep_and_tick<R: Threads + Wait + Sync, M: SharedAlarm>(
     rt: &R,
     m: &M,

@@ -7,7 +7,7 @@ use hoare_law::waits::Waits;
 use plain_schedulers::buffer::Buffer;
 use std::sync::Wait;
 
-/// Comes in, adds one and goes out, so many times.
+/// Comes in, adds one and goes out, `turns` times.
 pub fn add_many<const N: usize, R: Wait, M: Monitor<Unasked<u64, N>>>(
     rt: &R,
     m: &M,
@@ -25,7 +25,7 @@ pub fn add_many<const N: usize, R: Wait, M: Monitor<Unasked<u64, N>>>(
     }
 }
 
-/// Waits on condition 0, so many times.
+/// Waits on condition 0, `turns` times.
 pub fn wait_many<const N: usize, R: Wait, M: Monitor<Unasked<u64, N>>>(
     rt: &R,
     m: &M,
@@ -43,7 +43,7 @@ pub fn wait_many<const N: usize, R: Wait, M: Monitor<Unasked<u64, N>>>(
     m.leave(rt, inside);
 }
 
-/// Signals condition 0 until so many processes were resumed.
+/// Signals condition 0 until `turns` processes were resumed.
 pub fn signal_many<const N: usize, R: Wait, M: Monitor<Unasked<u64, N>>>(
     rt: &R,
     m: &M,
@@ -71,7 +71,7 @@ pub fn signal_many<const N: usize, R: Wait, M: Monitor<Unasked<u64, N>>>(
     unreachable!()
 }
 
-/// Waits on a condition and then signals the next, so many times: a link of a chain.
+/// Waits on a condition and then signals the next, `turns` times: a link of a chain.
 pub fn link_many<const N: usize, R: Wait, M: Monitor<Unasked<u64, N>>>(
     rt: &R,
     m: &M,
@@ -104,7 +104,7 @@ fn is_chain_ready<const N: usize, M: Monitor<Unasked<u64, N>>>(m: &M, inside: &M
     (0..N).all(|c| lists.count(c) > 0)
 }
 
-/// Signals the first link of a chain once all its links wait, so many times.
+/// Signals the first link of a chain once all its links wait, `turns` times.
 pub fn pull_many<const N: usize, R: Wait, M: Monitor<Unasked<u64, N>>>(
     rt: &R,
     m: &M,
@@ -142,7 +142,7 @@ pub fn append_many<R: Wait, M: Monitor<Buffer<u64>>>(rt: &R, m: &M, out: M::Out,
     }
 }
 
-/// Removes so many items, and adds them up.
+/// Removes `turns` items, and adds them up.
 pub fn remove_many<R: Wait, M: Monitor<Buffer<u64>>>(rt: &R, m: &M, out: M::Out, turns: u64) -> u64
     requires { M.is_of m.now out }
 {

@@ -85,7 +85,7 @@ turned-set last cells i x within below = elim (mod_wraps (last + i) (length cell
       ) refl
 ]
 
--- so many empty cells and then these items are as many together
+-- n empty cells and then these items: how many they are together
 length-filled : {T : Type 0} (n : ℕ) (xs : List T) → length (replicate n None ++ map Some xs) ≡ n + length xs
 length-filled {T = T} n xs = let none : Option T = None in length-append (replicate n none) (map Some xs) ∙ rw (length-replicate n none, length-map xs Some) refl
 
@@ -104,7 +104,7 @@ length-items_in {cells = cells} {last = last} {count = count} ring =
 pub BufferHolds-ring : {T : Type 0} {cells : List (Option T)} {last count : ℕ} → IsRing cells last count → BufferHolds (ring_view cells last)
 BufferHolds-ring ring = record { least = ring.least; most = ring.most; fits = let n = length-items_in ring in omega arith }
 
--- cells whose turned list is so many empty ones and then these items are in a ring
+-- cells whose turned list is n empty ones and then these items are in a ring
 IsRing-filled : {T : Type 0} (cells : List (Option T)) (last n : ℕ) (xs : List T) → 1 ≤ length cells → length cells ≤ 4096 → last < length cells
     → turned last cells ≡ replicate n None ++ map Some xs → IsRing cells last (length xs)
 IsRing-filled {T = T} cells last n xs least most within filled =

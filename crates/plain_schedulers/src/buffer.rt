@@ -28,6 +28,15 @@ pub enum BufferRefused {
 /// A bounded buffer ("Monitors", Example: Bounded Buffer): items come out in the order in which they went in. Condition 0 is *nonempty*,
 /// condition 1 is *nonfull*. `last` is the cell that the next item goes in, and the items lie in the `count` cells before it,
 /// around the end.
+///
+/// With a monitor `m` of `Buffer::make(alloc, 4)?`, and `out`, a place of it:
+///
+/// ```rust
+/// let out = Buffer::append(&m, &rt, out, 7u64);
+/// let out = Buffer::append(&m, &rt, out, 8);
+/// let (out, item) = Buffer::remove(&m, &rt, out);
+/// assert_eq!(rt; item, 7);
+/// ```
 #[derive(Drop)]
 pub struct Buffer<T> {
     cells: Vec<Option<T>>,

@@ -12,6 +12,14 @@ use std::{error, fmt};
 
 /// A single item that one process at a time has out ("Monitors", Introduction: the single resource scheduler). Condition 0 is
 /// *nonbusy*; busy means that the item is out.
+///
+/// With a monitor `m` of `Single::with(7u64)`, and `out`, a place of it:
+///
+/// ```rust
+/// let (out, item) = Single::acquire(&m, &rt, out);
+/// let (out, released) = Single::release(&m, &rt, out, item + 1);
+/// assert!(rt; item == 7 && released.is_ok());
+/// ```
 #[derive(Drop)]
 pub struct Single<T> {
     item: Option<T>,

@@ -11,7 +11,7 @@ pub record Shared (T : Type 0) : Type 0 where
 abbrev pub unused : {T : Type 0} → T → Shared T
 unused value = record { value = value; readers = 0; busy = false }
 
--- the same with so many readers in
+-- the same with this number of readers in
 abbrev pub with_readers : {T : Type 0} → Shared T → ℕ → Shared T
 with_readers s readers = record s { readers = readers }
 

@@ -16,6 +16,15 @@ use std::sync::Wait;
 /// A disk drive whose head sweeps over the cylinders 0 to `cylmax` ("Monitors", Disk Head Scheduler). Condition 0 is
 /// *upsweep*, where a request waits with its cylinder as its priority; condition 1 is *downsweep*, where it waits with the
 /// distance of its cylinder from the last one. Busy means that the drive is out.
+///
+/// With a monitor `m` of `Head::with('d', 400)`, and `out`, a place of it:
+///
+/// ```rust
+/// let (out, granted) = Head::request(&m, &rt, out, 50);
+/// let drive = granted?;
+/// let (out, released) = Head::release(&m, &rt, out, drive);
+/// assert!(rt; drive == 'd' && released.is_ok());
+/// ```
 #[derive(Drop)]
 pub struct Head<T> {
     drive: Option<T>,

@@ -17,6 +17,16 @@ pub const MOST_READERS: u32 = 1024;
 /// A value that many may read at a time, or one may write ("Monitors", Readers and Writers). Condition 0 is
 /// *oktoread*, condition 1 is *oktowrite*; busy means that a writer is in. No reader overtakes a waiting writer, and the
 /// readers that wait when a writer ends go before the next writer.
+///
+/// With a monitor `m` of `ReadersWriters::with(7u64)`, and `out`, a place of it:
+///
+/// ```rust
+/// let (out, read) = ReadersWriters::start_read(&m, &rt, out);
+/// let (pass, value) = read?;
+/// let (out, ended) = ReadersWriters::end_read(&m, &rt, out, pass); // Ok(()), or the pass comes back
+/// let (out, value) = ReadersWriters::start_write(&m, &rt, out);
+/// let (out, written) = ReadersWriters::end_write(&m, &rt, out, value + 1);
+/// ```
 #[derive(Drop)]
 pub struct ReadersWriters<T: Copy> {
     value: T,

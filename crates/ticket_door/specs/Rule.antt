@@ -53,7 +53,7 @@ pub record Tells {D : Type 0} (first n : ℕ) (log : History D) (tickets : Ticke
   pub serving : slice_index words serving_at ≡ (first + served) % 2 ^ 64
   pub bells : (k : ℕ) → k < n → slice_index words (bell_at k) ≡ rung (turn log.events) k
 
--- the door's sizes: of a table with so many words and slots, of so many places, with so many wakers
+-- the door's sizes: how many words and slots its table has, how many places there are, and how many wakers
 pub record Sized (words slots places wakers : ℕ) : Type 0 where
   pub words_are : words ≡ 8 * places + 16
   pub slots_are : slots ≡ 1

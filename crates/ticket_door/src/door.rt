@@ -21,6 +21,16 @@ use wait_book::steps::MakeRefused;
 ///
 /// After `make` no call takes memory. A door can be dropped where its data can, and then its data are dropped too; `close`
 /// gives them back.
+///
+/// ```rust
+/// let data = Unasked::<u64, 1> { value: 41 };
+/// let (door, mut outs) = TicketDoor::make(alloc, data, 2).map_err(|(_, refused)| refused)?;
+/// let asked = door.ask(outs.pop().unwrap()); // waits for nobody
+/// let mut inside = door.come_in(&rt, asked);
+/// TicketDoor::state_mut(&mut inside, &door).value = 42;
+/// outs.push_reserved(door.give_up(inside)); // waits for nobody
+/// assert_eq!(rt; door.close(outs).value, 42);
+/// ```
 #[derive(Drop)]
 pub struct TicketDoor<D: MonitorData> {
     /// Each word has a line of the cache of its own.

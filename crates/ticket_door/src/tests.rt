@@ -16,7 +16,7 @@ use wait_book::steps::MakeRefused;
 /// A number, and one condition; nothing is asked of either.
 type Tally = Unasked<u64, 1>;
 
-/// What comes back where a door of `N` conditions and so many places is refused.
+/// What comes back where a door of `N` conditions and this number of places is refused.
 fn refused<const N: usize, R: Abort>(rt: &R, alloc: Global, places: usize) -> (u64, MakeRefused) {
     let Err((data, refused)) = TicketDoor::make(alloc, Unasked::<u64, N> { value: 7 }, places)
     else {

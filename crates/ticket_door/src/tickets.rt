@@ -68,7 +68,7 @@ impl<D: MonitorData> TicketDoor<D> {
         unreachable!()
     }
 
-    /// Who is near looks on for a while, the nearer the longer; all yield then.
+    /// A newcomer that is near looks on for a while, longer the nearer it is; then it yields. One that is far off yields at once.
     fn stand_back(&self, ticket: u64, serving: u64) {
         let ahead = ticket.wrapping_sub(serving);
         if 0 < ahead && ahead <= looks::NEAR {

@@ -11,7 +11,7 @@ pub record Pooled : Type 0 where
   pub streams : ℕ
   pub owners : List (Option ℕ)
 
--- so many buffers, all free
+-- a pool of these numbers of buffers and streams, with all buffers free
 abbrev pub all_free : ℕ → ℕ → Pooled
 all_free buffers streams = record { streams = streams; owners = replicate buffers None }
 
@@ -32,7 +32,7 @@ held s p = count_by (is_own s) p.owners
 abbrev pub free_count : Pooled → ℕ
 free_count p = count_by is_none p.owners
 
--- a pool may have so many buffers and streams
+-- a pool may have these numbers of buffers and streams
 pub record IsSize (buffers streams : ℕ) : Type 0 where
   pub some_buffer : 1 ≤ buffers
   pub most_buffers : buffers ≤ 1024

@@ -47,6 +47,14 @@ pub enum GiveRefused {
 /// Buffers that streams of work share ("Monitors", Further Examples: Buffer Allocation; the details are this project's). Condition 0
 /// is *nonfree*; a stream waits there with the number of buffers that it holds as its priority, so that who holds the fewest goes
 /// on first. The pool keeps which buffers are whose, and not the buffers.
+///
+/// With a monitor `m` of `Pool::make(alloc, 2, 3)?`, and `out`, a place of it:
+///
+/// ```rust
+/// let (out, taken) = Pool::take(&m, &rt, out, 1);
+/// let (out, given) = Pool::give(&m, &rt, out, 1, 0);
+/// assert!(rt; taken == Ok(0) && given == Ok(()));
+/// ```
 #[derive(Drop)]
 pub struct Pool {
     owners: Vec<Option<u32>>,
@@ -156,7 +164,7 @@ impl Pool {
         (m.leave(rt, inside), Ok(buffer))
     }
 
-    /// Makes a buffer free that the stream holds, and resumes a process that waits for one. Refused, with nothing changed, by the
+    /// Frees a buffer that the stream holds, and resumes a process that waits for one. Refused, with nothing changed, by the
     /// first that applies: `NoStream`, `NoBuffer`, and `NotHeld` where the buffer is free or another stream's.
     pub fn give<R: Wait, M: Monitor<Pool>>(
         m: &M,

@@ -12,7 +12,7 @@ const REPORT: &[u8] = b"job 0 cylinder 0 block 17\n\
     job 2 cylinder 300 block 24481\n\
     total jobs 3 sum 24524\n";
 
-// The cylinders that the first so many bytes of the file spell, or their fault.
+// The cylinders that the first `length` bytes of the file spell, or their fault.
 fn at_cut(length: usize) -> Result<&'static [u16], ServiceFault> {
     match length {
         0 => Err(ServiceFault::NoHeader),

@@ -12,7 +12,7 @@ const JOBS: usize = 16;
 // How often the first job looks whether all others have ended, with a yield each time.
 const TURNS: u32 = 10_000_000;
 
-// How many jobs have ended, and whether the first one looked in vain.
+// How many jobs have ended, and whether the first one gave up looking.
 #[derive(Drop)]
 struct FirstLast {
     turns: u32,
@@ -29,7 +29,7 @@ impl FirstLast {
         }
     }
 
-    // How many have ended, and whether the first looked in vain.
+    // How many have ended, and whether the first gave up looking.
     fn seen(&self) -> (usize, bool) {
         (
             self.ended.load(Ordering::SeqCst),
@@ -65,7 +65,7 @@ fn equal_jobs(alloc: Global) -> Result<Jobs, Fail> {
     }
 }
 
-// The report has the jobs in their order, and the first one did not look in vain.
+// The report has the jobs in their order, and the first one did not give up looking.
 fn assert_in_order<R: Abort>(rt: &R, answer: Result<Report, ServiceFault>, gate: &FirstLast) {
     let Ok(report) = answer else {
         panic!(rt; "no report")

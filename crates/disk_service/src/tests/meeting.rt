@@ -11,7 +11,7 @@ use std::thread;
 // How often one that has begun looks for the other, with a yield each time.
 const TURNS: u32 = 10_000_000;
 
-// Who has begun, of two jobs, and whether one looked in vain.
+// Which of two jobs have begun, and whether one gave up looking for the other.
 #[derive(Drop)]
 struct Meeting {
     turns: u32,
@@ -68,7 +68,7 @@ fn two_jobs(alloc: Global) -> Result<Jobs, Fail> {
     }
 }
 
-// The report is right, and nobody looked in vain.
+// The report is right, and nobody gave up looking.
 fn assert_met<R: Abort>(rt: &R, answer: Result<Report, ServiceFault>, meeting: &Meeting) {
     let Ok(report) = answer else {
         panic!(rt; "no report")

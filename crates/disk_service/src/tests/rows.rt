@@ -74,7 +74,7 @@ fn job_file_limits(rt: HostRuntime) {
     }
 }
 
-// `disk 1 1` and so many jobs.
+// `disk 1 1` and this number of jobs.
 fn many_lines(alloc: Global, jobs: u32) -> Result<Vec<u8>, AllocError> {
     let mut file = Vec::from_slice(alloc, b"disk 1 1\n")?;
     for _ in 0..jobs {

@@ -11,7 +11,7 @@ use std::thread::Threads;
 
 const JOBS: u32 = 4096;
 
-// Cylinders that look as if drawn by lot.
+// Cylinders in which no pattern shows.
 fn drawn(alloc: Global) -> Result<Vec<u16>, AllocError> {
     let mut cylinders = Vec::new(alloc);
     let mut lot = 1u32;
@@ -34,7 +34,7 @@ fn wanted(alloc: Global, cylinders: &[u16]) -> Result<Vec<u8>, Fail> {
     Ok(text)
 }
 
-// The report that so many workers bring about.
+// The report that this number of workers brings about.
 fn reported<R: Threads + Wait + Sync>(
     rt: &R,
     alloc: Global,

@@ -11,7 +11,7 @@ const SCRIPT: &[u8] = b"monitor 2 1\nenter 0\nwait 0 0 0\nenter 1\nsignal 1 0\nl
 const ANSWERS: &[u8] =
     b"enter 0 -> 0\nwait 0 0 0 -> free\nenter 1 -> 1\nsignal 1 0 -> 0\nleave 0 -> 1\nleave 1 -> free\n";
 
-// How many bytes of the answers belong to so many lines.
+// The answers to the first `lines` lines after the header.
 fn answers_to(lines: usize) -> &'static [u8] {
     let end = match lines {
         0 => 0,
@@ -25,7 +25,7 @@ fn answers_to(lines: usize) -> &'static [u8] {
     ANSWERS.get(..end).unwrap_or(ANSWERS)
 }
 
-// What the first so many bytes of the script are answered, and how many lines.
+// How the first `length` bytes of the script end, and how many lines of them are answered.
 fn at_cut(length: usize) -> (Result<(), ScriptFault>, usize) {
     match length {
         0 => (Err(ScriptFault::NoHeader), 0),

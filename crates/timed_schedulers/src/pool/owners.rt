@@ -89,7 +89,7 @@ impl Pool {
         buffer as u32
     }
 
-    // Makes a buffer free that the stream owns.
+    // Frees a buffer that the stream owns.
     pub(super) fn set_free(&mut self, stream: u32, buffer: u32)
         requires within { buffer < length self.old.owners }
         requires held { slice_index_or self.old.owners buffer None ≡ Some stream }

@@ -1,6 +1,6 @@
 use Rattle.std.proofs.Common.{◌≡◌, replicate, None}
 use Rattle.plain_schedulers.proofs.buffer.ring.empty_cells.Given as goal
 
--- so many empty cells as were counted
+-- as many empty cells as were counted
 abbrev pub invariant-loop : goal.invariant-loop
 invariant-loop g l = l.cells.items ≡ replicate l.counter None

@@ -1,6 +1,7 @@
 //! A pool of worker permits that two classes of callers share: who is express goes before who is standard, and within a class
 //! the longest waiting goes first.
-ghost use Rattle.std.specs.Prelude.{◌≡◌, ◌<◌, ◌≤◌, ◌+◌, ◌-◌, ◌↔◌, IsTrue, Ok, Err};
+ghost use Rattle.std.specs.Prelude.{◌≡◌, ◌<◌, ◌≤◌, ◌+◌, ◌-◌, ◌↔◌, IsTrue};
+ghost use Rattle.first_monitor.specs.Traces.{priority_of, Takes, Gives, Looks};
 
 use hoare_law::data::MonitorData;
 use hoare_law::monitor::Monitor;
@@ -15,7 +16,9 @@ pub enum Class {
 }
 
 impl Class {
-    fn priority(self) -> u64 {
+    fn priority(self) -> u64
+        ensures { result ≡ priority_of self }
+    {
         match self {
             Class::Express => 0,
             Class::Standard => 1,
@@ -77,10 +80,10 @@ impl Permits {
     }
 
     // The small changes of the data, so that a procedure reads like Hoare's.
-    fn is_some_free(&self) -> bool
-        ensures { IsTrue result ↔ (0 < self.now.free) }
+    fn is_none_free(&self) -> bool
+        ensures { IsTrue result ↔ (self.now.free ≡ 0) }
     {
-        self.free > 0
+        self.free == 0
     }
 
     fn is_all_free(&self) -> bool
@@ -109,9 +112,10 @@ impl Permits {
         requires { M.is_of m.now out }
         ensures of { M.is_of m.now result }
         ensures place { M.place result ≡ M.place out }
+        ensures trace { Takes (M.place out) class (M.front out) (M.front result) }
     {
         let mut inside = m.enter(rt, out);
-        if !m.state(&inside).is_some_free() {
+        if m.state(&inside).is_none_free() {
             // Owed here: rest, with this process among the waiting. It has its cause: no permit is free.
             inside = m.wait(rt, inside, 0, class.priority());
             // Found here: ready, so a permit is free, without a second test.
@@ -129,6 +133,7 @@ impl Permits {
         requires { M.is_of m.now out }
         ensures of { M.is_of m.now result.0 }
         ensures place { M.place result.0 ≡ M.place out }
+        ensures trace { Gives (M.place out) (M.front out) (M.front result.0) result.1 }
     {
         let mut inside = m.enter(rt, out);
         if m.state(&inside).is_all_free() {
@@ -145,6 +150,7 @@ impl Permits {
         requires { M.is_of m.now out }
         ensures of { M.is_of m.now result.0 }
         ensures place { M.place result.0 ≡ M.place out }
+        ensures trace { Looks (M.place out) (M.front out) (M.front result.0) result.1 }
     {
         let inside = m.enter(rt, out);
         let free = m.state(&inside).free;

@@ -59,8 +59,13 @@ pub AreMarked-put : {s : List Bool} {at bt : ℕ → List Link} (c : ℕ) (befor
 AreMarked-put {s = s} {at = at} {bt = bt} c before after x m l within is apart lists =
     let same : bt ≡ list_put c (before ++ x ∷ after) at = λ i d. lists d i in
     let more : (k : ℕ) → times k (places_below 9 bt) ≡ times k (places_below 9 at) + one k x.place = λ k.
-    omega (arith, ap (λ (v : ℕ → List Link). times k (places_below 9 v)) same, times_put (λ d (y : Link). y.place) k 9 c (before ++ x ∷ after) at l,
-    places_middle k before x after, ap (λ v. times k (places_in v)) is) in
+    omega (
+      arith,
+      ap (λ (v : ℕ → List Link). times k (places_below 9 v)) same,
+      times_put (λ d (y : Link). y.place) k 9 c (before ++ x ∷ after) at l,
+      places_middle k before x after,
+      ap (λ v. times k (places_in v)) is,
+    ) in
     record {
       many = length-set s x.place true ∙ m.many;
       once = λ k.

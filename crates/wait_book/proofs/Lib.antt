@@ -1,6 +1,7 @@
 pub mod Nodes
 pub mod Lists
 pub mod Chained
+pub mod Marks
 pub mod Queued
 pub mod Times
 pub mod Waiters

@@ -4,7 +4,7 @@ use Rattle.std.proofs.lemmas.Bool.Decides.{nat_tests}
 use Rattle.std.proofs.lemmas.List.{length-append, length-map, map-append}
 use Rattle.wait_book.specs.declared.chains.Link.{Link}
 use Rattle.wait_book.specs.Contents.{one, times}
-use Rattle.wait_book.specs.Lists.{all_below, keys, list_put}
+use Rattle.wait_book.specs.Lists.{all_below, keys, list_put, places_in}
 use Rattle.wait_book.proofs.Times.{eq_self, times-append}
 
 pub eq_apart : (d c : ℕ) → d ≢ c → eqb d c ≡ false
@@ -107,6 +107,10 @@ length_same f g zero at = refl
 length_same f g (suc n) at = omega (arith, length_next f n at, length_next g n at, length_same f g n at)
 
 -- in the middle of a list
+pub places_middle : (k : ℕ) (xs : List Link) (x : Link) (ys : List Link) → times k (places_in (xs ++ x ∷ ys)) ≡ times k (places_in (xs ++ ys)) + one k x.place
+places_middle k [] x ys = omega arith
+places_middle k (y ∷ xs) x ys = omega (arith, places_middle k xs x ys)
+
 pub keys_middle : (k : ℕ) (xs : List Link) (x : Link) (ys : List Link) → times k (keys (xs ++ x ∷ ys)) ≡ times k (keys (xs ++ ys)) + one k x.key
 keys_middle k [] x ys = omega arith
 keys_middle k (y ∷ xs) x ys = omega (arith, keys_middle k xs x ys)

@@ -13,13 +13,13 @@ use Rattle.hoare_law.proofs.Sorted.{put_in-map, map-in_order, IsNonDecreasing-in
 use Rattle.wait_book.specs.declared.chains.Link.{Link}
 use Rattle.wait_book.specs.declared.waiter.Waiter.{Waiter}
 use Rattle.wait_book.specs.Contents.{one, times}
-use Rattle.wait_book.specs.Insides.{waiter_on, waiting_below, places_in}
-use Rattle.wait_book.specs.Lists.{Lists, IsPut, IsTaken, all_below, first_link, higher, list_at, list_put, lower, places_below, priorities, total}
+use Rattle.wait_book.specs.Insides.{waiter_on, waiting_below}
+use Rattle.wait_book.specs.Lists.{Lists, IsPut, IsTaken, all_below, first_link, higher, list_at, list_put, lower, places_below, priorities, total, places_in}
 use Rattle.wait_book.specs.Queues.{PutsIn, TakesFirst}
 use Rattle.wait_book.proofs.Times.{eq_self}
 use Rattle.wait_book.proofs.Waiters.{on, places, key}
 use Rattle.wait_book.proofs.Nodes.{lower-higher}
-use Rattle.wait_book.proofs.Lists.{below_past, eq_apart, length_next, length_one, length_same, put_same, put_other, times_next, times_put}
+use Rattle.wait_book.proofs.Lists.{below_past, eq_apart, length_next, length_one, length_same, places_middle, put_same, put_other, times_next, times_put}
 
 -- those on a condition
 
@@ -68,10 +68,6 @@ map_below g f (suc n) at =
 -- the places of those who wait are those in the chains
 pub places_waiting : (n : ℕ) (at : ℕ → List Link) → places (waiting_below n at) ≡ places_below n at
 places_waiting n at = map_below (λ (w : Waiter). w.place) waiter_on n at
-
-places_middle : (k : ℕ) (xs : List Link) (x : Link) (ys : List Link) → times k (places_in (xs ++ x ∷ ys)) ≡ times k (places_in (xs ++ ys)) + one k x.place
-places_middle k [] x ys = omega arith
-places_middle k (y ∷ xs) x ys = omega (arith, places_middle k xs x ys)
 
 -- one that is put in
 

@@ -1,5 +1,5 @@
 -- How a book's fields stand for what it holds.
-use Rattle.std.specs.Prelude.{ℕ, ◌≡◌, ◌<◌, ◌≤◌, List, [], ◌∷◌, map, ⊤}
+use Rattle.std.specs.Prelude.{ℕ, ◌≡◌, ◌<◌, ◌≤◌, List, [], ◌∷◌, ⊤}
 use Rattle.hoare_law.specs.declared.turn.Turn.{Turn}
 use Rattle.hoare_law.specs.declared.turn.Turn.TheVariants.{Free, Held, Owed, Return}
 use Rattle.hoare_law.specs.Priorities.{in_order}
@@ -7,7 +7,7 @@ use Rattle.wait_book.specs.declared.waiter.Waiter.{Waiter}
 use Rattle.wait_book.specs.declared.book.Book.TheInside.{Inside}
 use Rattle.wait_book.specs.declared.chains.Link.{Link}
 use Rattle.wait_book.specs.Contents.{Contents, times_in, waiters_on}
-use Rattle.wait_book.specs.Lists.{all_below, list_at}
+use Rattle.wait_book.specs.Lists.{all_below, list_at, places_in}
 
 -- one in the chain of a condition waits there
 abbrev pub waiter_on : ℕ → Link → Waiter
@@ -16,10 +16,6 @@ waiter_on c x = record { place = x.place; condition = c; priority = x.priority }
 -- those in the first n chains
 abbrev pub waiting_below : ℕ → (ℕ → List Link) → List Waiter
 waiting_below n at = all_below waiter_on n at
-
--- the places in a list
-abbrev pub places_in : List Link → List ℕ
-places_in xs = map (λ (x : Link). x.place) xs
 
 -- what the fields hold: the first eight chains are those of the conditions, and the next one that of the signallers
 abbrev pub view_of : Inside → Contents

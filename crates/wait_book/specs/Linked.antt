@@ -1,12 +1,25 @@
 -- How the fields of the chains stand for lists.
+use Rattle.std.specs.Prelude.{ℕ, ◌≡◌, Bool, false, if◌then◌else◌, List, length, slice_index_or}
 use Rattle.wait_book.specs.declared.chains.Chains.TheInside as chains
-use Rattle.wait_book.specs.Lists.{Lists, list_at}
+use Rattle.wait_book.specs.declared.chains.Link.{Link}
+use Rattle.wait_book.specs.Contents.{times}
+use Rattle.wait_book.specs.Lists.{Lists, list_at, places_below}
 use Rattle.wait_book.specs.Chains.{AreChains, lists_of}
 
 -- the chains are seen as the list of each, and the slab as its memory
 abbrev pub view_of : chains.Inside → Lists
 view_of a = record { room = a.nodes.capacity; lists = lists_of a.nodes a.chains }
 
--- the nodes stand for those lists
-abbrev pub IsGood : chains.Inside → Type 0
-IsGood a = AreChains a.nodes a.chains (list_at (view_of a))
+-- 1 where the place is marked, else 0
+abbrev pub marked : List Bool → ℕ → ℕ
+marked s k = if slice_index_or s k false then 1 else 0
+
+-- those and no other places stand in the lists that are marked, and each once
+pub record AreMarked (s : List Bool) (at : ℕ → List Link) : Type 0 where
+  pub many : length s ≡ 64
+  pub once : (k : ℕ) → times k (places_below 9 at) ≡ marked s k
+
+-- the nodes stand for those lists, and the marks tell their places
+pub record IsGood (a : chains.Inside) : Type 0 where
+  pub are : AreChains a.nodes a.chains (list_at (view_of a))
+  pub places : AreMarked a.standing (list_at (view_of a))

@@ -16,6 +16,10 @@ unfoldable pub all_below : {X : Type 0} → (ℕ → Link → X) → ℕ → (�
 all_below f zero at = []
 all_below f (suc n) at = all_below f n at ++ map (f n) (at n)
 
+-- their places
+abbrev pub places_in : List Link → List ℕ
+places_in xs = map (λ (x : Link). x.place) xs
+
 -- the keys of their nodes
 abbrev pub keys : List Link → List ℕ
 keys xs = map (λ (x : Link). x.key) xs

@@ -1,7 +1,6 @@
 //! The chains of a book: who waits on each condition, and who waits as a signaller. The nodes of all chains lie in one slab, and
 //! each holds the key of the next one.
 ghost use Rattle.std.specs.Prelude.{◌≡◌, ◌≢◌, ◌<◌, ◌≤◌, ◌==◌, ℕ, [], ◌++◌, List, Option, Some, None, is_some, if◌then◌else◌, not, IfOk, IfSome, MatchOption};
-ghost use Rattle.std.specs.List.{list_any};
 ghost use Rattle.std.specs.List.Sorted.{IsNonDecreasing};
 ghost use Rattle.slab.specs.Slab.{get, slab_len, ContainsKey};
 ghost use Rattle.wait_book.specs.declared.chains.Link.{Link};
@@ -11,7 +10,7 @@ ghost use Rattle.wait_book.specs.Chains.{IsLinked, held};
 
 mod links;
 
-use crate::book::MOST_CONDITIONS;
+use crate::book::{MOST_CONDITIONS, MOST_PLACES};
 pub(crate) use links::Links;
 use slab::Slab;
 use std::alloc::{AllocError, Global};
@@ -46,11 +45,12 @@ struct Chain {
     last: Option<usize>,
 }
 
-/// The chains, and the slab in which the nodes of all lie.
+/// The chains, the slab in which the nodes of all lie, and a mark for each place that stands in a chain.
 #[derive(Drop)]
 pub(crate) struct Chains {
     nodes: Slab<Node>,
     chains: [Chain; CHAINS],
+    standing: [bool; MOST_PLACES],
 }
 
 impl Model for Chains {
@@ -124,6 +124,7 @@ impl Chains {
                 first: None,
                 last: None,
             }; CHAINS],
+            standing: [false; MOST_PLACES],
         })
     }
 
@@ -146,24 +147,11 @@ impl Chains {
         self.on(chain).next()
     }
 
-    // Whether a place stands in one chain.
-    fn holds_in(&self, chain: usize, place: usize) -> bool
-        requires { chain < CHAINS }
-        ensures { result ≡ list_any (λ (x : Link). x.place == place) (list_at self.now chain) }
-    {
-        self.on(chain).any(|link| link.place == place)
-    }
-
-    /// Whether a place stands in a chain.
+    /// Whether a place stands in a chain: one look at its mark.
     pub(crate) fn holds(&self, place: usize) -> bool
         ensures { not result ≡ (times place (places_below CHAINS (list_at self.now)) == 0) }
     {
-        for chain in 0..CHAINS {
-            if self.holds_in(chain, place) {
-                return true;
-            }
-        }
-        false
+        matches!(self.standing.get(place), Some(true))
     }
 
     // The key of the last in a chain whose priority isn't above this one, met on a walk from the first.
@@ -194,9 +182,11 @@ impl Chains {
         self.walk_behind(chain, priority)
     }
 
-    // Puts a place into a chain, behind a node or first.
+    // Puts a place that stands in no chain into one, behind a node or first.
     fn link(&mut self, chain: usize, behind: Option<usize>, place: usize, priority: u64)
         requires chain { chain < CHAINS }
+        requires place { place < MOST_PLACES }
+        requires apart { times place (places_below CHAINS (list_at self.old)) ≡ 0 }
         requires room { total self.old < self.old.room }
         requires behind { (before after : List Link)
             × (list_at self.old chain ≡ before ++ after) × (behind ≡ last_key before) }
@@ -215,11 +205,14 @@ impl Chains {
         let first = set_next(&mut self.nodes, first, behind, key);
         let last = last_after(next, last, Some(key));
         self.chains[chain] = Chain { first, last };
+        self.standing[place] = true;
     }
 
-    /// Puts a place behind all in a chain.
+    /// Puts a place that stands in no chain behind all in one.
     pub(crate) fn append(&mut self, chain: usize, place: usize, priority: u64)
         requires chain { chain < CHAINS }
+        requires place { place < MOST_PLACES }
+        requires apart { times place (places_below CHAINS (list_at self.old)) ≡ 0 }
         requires room { total self.old < self.old.room }
         ensures { IsPut chain (list_at self.old chain) [] place priority self.old self.new }
     {
@@ -227,9 +220,11 @@ impl Chains {
         self.link(chain, behind, place, priority);
     }
 
-    /// Puts a place into a chain that stands in order, behind those whose priority is its own or less.
+    /// Puts a place that stands in no chain into one that stands in order, behind those whose priority is its own or less.
     pub(crate) fn insert(&mut self, chain: usize, place: usize, priority: u64)
         requires chain { chain < CHAINS }
+        requires place { place < MOST_PLACES }
+        requires apart { times place (places_below CHAINS (list_at self.old)) ≡ 0 }
         requires room { total self.old < self.old.room }
         requires ordered { IsNonDecreasing (priorities (list_at self.old chain)) }
         ensures { let list = list_at self.old chain in
@@ -253,6 +248,7 @@ impl Chains {
             first: node.next,
             last,
         };
+        self.standing[node.place] = false;
         Some(node.place)
     }
 }

@@ -4,7 +4,7 @@ ghost use Rattle.std.specs.List.{slice_get};
 ghost use Rattle.std.specs.Option.{option_map};
 ghost use Rattle.hoare_law.specs.Turns.{turn_given_up};
 ghost use Rattle.wait_book.specs.Contents.{times_in_hand};
-ghost use Rattle.wait_book.specs.Insides.{places_in};
+ghost use Rattle.wait_book.specs.Lists.{places_in};
 ghost use Rattle.wait_book.specs.Lists.{first_link, list_at};
 ghost use Rattle.wait_book.specs.declared.chains.Link.{Link};
 

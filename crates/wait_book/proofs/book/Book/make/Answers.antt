@@ -1,6 +1,6 @@
 use Rattle.std.proofs.Common.{arith, refl, ap}
 use Rattle.std.proofs.lemmas.Bool.Decides.{nat_tests}
-use Rattle.wait_book.specs.Insides.{places_in}
+use Rattle.wait_book.specs.Lists.{places_in}
 use Rattle.wait_book.specs.Lists.{list_at}
 use Rattle.wait_book.proofs.Sound as sound
 use Rattle.wait_book.proofs.Histories as histories

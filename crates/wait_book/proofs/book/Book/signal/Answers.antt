@@ -2,14 +2,14 @@ use Rattle.std.proofs.Common.{◌<◌, ◌∷◌, [], ◌++◌, List, length, ma
 use Rattle.std.specs.List.{filter}
 use Rattle.hoare_law.specs.Priorities.{in_order}
 use Rattle.wait_book.specs.declared.waiter.Waiter.{Waiter}
-use Rattle.wait_book.specs.Contents.{Contents}
-use Rattle.wait_book.specs.Insides.{places_in, view_of, waiting_below}
-use Rattle.wait_book.specs.Lists.{Lists, list_at}
+use Rattle.wait_book.specs.Contents.{Contents, times}
+use Rattle.wait_book.specs.Insides.{view_of, waiting_below}
+use Rattle.wait_book.specs.Lists.{Lists, list_at, places_in}
 use Rattle.wait_book.proofs.Sound as sound
 use Rattle.wait_book.proofs.Histories as histories
 use Rattle.wait_book.proofs.Priorities as priorities
-use Rattle.wait_book.proofs.Waiters.{key, on, length-taken}
-use Rattle.wait_book.proofs.Queued.{TakesFirst-taken, signallers-more, signallers-same, total_is, waiters-same, waits-nobody}
+use Rattle.wait_book.proofs.Waiters.{key, on, length-taken, times-taken}
+use Rattle.wait_book.proofs.Queued.{TakesFirst-taken, signallers-more, signallers-same, times_all, total_is, waiters-same, waits-nobody}
 use Rattle.wait_book.proofs.book.Book.signal.Goals as goal
 
 pub take_first-requires : goal.take_first-requires
@@ -47,6 +47,28 @@ returns-in_default-clause-priorities c = λ d.
     (ap (λ (v : Lists). in_order (λ p. p) (map key (filter (on d) (waiting_below 8 (list_at v))))) c.in_default.ensures.1)
 
 -- where one is resumed
+
+pub append-requires-clause-place : goal.append-requires-clause-place
+append-requires-clause-place c =
+    let h = sound.holds c.self.view_is c.self.invariant c.requires.inside in
+    omega (arith, sound.held_in_range (view_of c.self.inside) c.args.place h.sound h.inside, c.self.invariant.few_places)
+
+pub append-requires-clause-apart : goal.append-requires-clause-apart
+append-requires-clause-apart c =
+    let b : Contents = view_of c.self.inside in
+    let below : c.args.condition < 8 = omega (arith, sound.same_condition b _ c.args.condition c.self.view_is c.requires.condition, c.self.invariant.few_conditions) in
+    let t = c.in-Some.ensures in
+    let took = TakesFirst-taken c.args.condition c.in-Some.resumed c.self.inside.chains c.take_first.new.self below t in
+    let same = signallers-same c.args.condition _ c.self.inside.chains c.take_first.new.self below t.lists in
+    let apart = sound.holder_apart b c.args.place (sound.holds c.self.view_is c.self.invariant c.requires.inside) in
+    omega (
+      arith,
+      times_all c.args.place c.take_first.new.self,
+      times-taken c.args.place c.args.condition _ _ c.in-Some.resumed took,
+      ap (times c.args.place) same,
+      apart.0,
+      apart.1,
+    )
 
 pub append-requires-clause-room : goal.append-requires-clause-room
 append-requires-clause-room c =

@@ -6,12 +6,22 @@ use Rattle.wait_book.specs.Insides.{view_of}
 use Rattle.wait_book.proofs.Sound as sound
 use Rattle.wait_book.proofs.Histories as histories
 use Rattle.wait_book.proofs.Priorities as priorities
-use Rattle.wait_book.proofs.Queued.{PutsIn-put, priorities-rise, signallers-same, total_is}
+use Rattle.wait_book.proofs.Queued.{PutsIn-put, priorities-rise, signallers-same, times_all, total_is}
 use Rattle.wait_book.proofs.book.Book.wait.Goals as goal
 
 pub insert-requires-clause-chain : goal.insert-requires-clause-chain
 insert-requires-clause-chain c =
     omega (arith, sound.same_condition (view_of c.self.inside) _ c.args.condition c.self.view_is c.requires.condition, c.self.invariant.few_conditions)
+
+pub insert-requires-clause-place : goal.insert-requires-clause-place
+insert-requires-clause-place c =
+    let h = sound.holds c.self.view_is c.self.invariant c.requires.inside in
+    omega (arith, sound.held_in_range (view_of c.self.inside) c.args.place h.sound h.inside, c.self.invariant.few_places)
+
+pub insert-requires-clause-apart : goal.insert-requires-clause-apart
+insert-requires-clause-apart c =
+    let apart = sound.holder_apart (view_of c.self.inside) c.args.place (sound.holds c.self.view_is c.self.invariant c.requires.inside) in
+    omega (arith, times_all c.args.place c.self.inside.chains, apart.0, apart.1)
 
 pub insert-requires-clause-room : goal.insert-requires-clause-room
 insert-requires-clause-room c =

@@ -7,4 +7,4 @@ use Rattle.wait_book.proofs.chains.Chains.append.Goals as goal
 pub link-requires-clause-behind : goal.link-requires-clause-behind
 link-requires-clause-behind c =
     let all = list_at c.args.self.now c.args.chain in
-    (all, [], sym (append-nil all), ((AreChains-equal c.self.view_is c.self.invariant).linked c.args.chain).last)
+    (all, [], sym (append-nil all), ((AreChains-equal c.self.view_is c.self.invariant.are).linked c.args.chain).last)

@@ -4,18 +4,19 @@ use Rattle.wait_book.specs.Lists.{Lists}
 use Rattle.wait_book.specs.Chains.{chain_at}
 use Rattle.wait_book.proofs.Nodes.{behind-contains}
 use Rattle.wait_book.proofs.Chained.{AreChains-equal, AreChains-seen, AreChains-linked, Linking, cut, cut-stored, lists_are}
+use Rattle.wait_book.proofs.Marks.{AreMarked-equal, AreMarked-put}
 use Rattle.wait_book.proofs.chains.Chains.link.Goals as goal
 
 pub next_of-next-requires : goal.next_of-next-requires
 next_of-next-requires c =
-    let i = AreChains-equal c.self.view_is c.self.invariant in
+    let i = AreChains-equal c.self.view_is c.self.invariant.are in
     let b = c.requires.behind in
     let at = cut c.args.chain b.0 b.1 i b.2 in
     behind-contains c.self.inside.nodes _ b.0 at.next c.args.behind b.3 at.front
 
 pub set_next-first-requires : goal.set_next-first-requires
 set_next-first-requires c =
-    let i = AreChains-equal c.self.view_is c.self.invariant in
+    let i = AreChains-equal c.self.view_is c.self.invariant.are in
     let b = c.requires.behind in
     let at = cut c.args.chain b.0 b.1 i b.2 in
     let stored = c.insert_reserved-key.ensures in
@@ -24,7 +25,7 @@ set_next-first-requires c =
 
 pub invariant_of-self : goal.invariant_of-self
 invariant_of-self c =
-    let i = AreChains-equal c.self.view_is c.self.invariant in
+    let i = AreChains-equal c.self.view_is c.self.invariant.are in
     let b = c.requires.behind in
     let stored = c.insert_reserved-key.ensures in
     let put = c.set_next-first.ensures in
@@ -38,11 +39,16 @@ invariant_of-self c =
       held_on = put.held;
       longer = put.len ∙ stored.len;
     } in
-    AreChains-seen (AreChains-linked c.args.chain b.0 b.1 i c.requires.chain linking c.last_after-last.ensures c.next_of-next.ensures b.2 b.3)
+    let are = AreChains-linked c.args.chain b.0 b.1 i c.requires.chain linking c.last_after-last.ensures c.next_of-next.ensures b.2 b.3 in
+    let marks = AreMarked-equal c.self.view_is c.self.invariant.places in
+    record {
+      are = AreChains-seen are;
+      places = AreMarked-put c.args.chain b.0 b.1 x marks c.requires.chain c.requires.place b.2 c.requires.apart (lists_are are);
+    }
 
 pub returns : goal.returns
 returns c = λ before after is e.
-    let i = AreChains-equal c.self.view_is c.self.invariant in
+    let i = AreChains-equal c.self.view_is c.self.invariant.are in
     let stored = c.insert_reserved-key.ensures in
     let put = c.set_next-first.ensures in
     let first = (chain_at c.self.inside.chains c.args.chain).first in

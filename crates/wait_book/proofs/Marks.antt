@@ -1,0 +1,103 @@
+-- The marks of the places that stand in the chains: one put in, and one taken out.
+use Rattle.std.proofs.Common.{◌≡◌, ◌≢◌, ℕ, zero, suc, ◌+◌, ◌<◌, ◌≤◌, Bool, true, false, cond, inl, inr, List, [], ◌∷◌, ◌++◌, length, get_or, set, replicate, refl, ap, sym, ◌∙◌, subst, arith}
+use Rattle.std.proofs.lemmas.Bool.{cases_eq, cases_lt}
+use Rattle.std.proofs.lemmas.List.{append-nil, get_or-set_same, get_or-set_other, get_or_past, length-set}
+use Rattle.wait_book.specs.declared.chains.Link.{Link}
+use Rattle.wait_book.specs.Contents.{one, times}
+use Rattle.wait_book.specs.Lists.{Lists, all_below, list_at, list_put, places_below, places_in}
+use Rattle.wait_book.specs.Linked.{AreMarked, marked}
+use Rattle.wait_book.proofs.Times.{one_same, one_apart}
+use Rattle.wait_book.proofs.Lists.{eq_apart, places_middle, times_put}
+
+-- a mark that is set, and the others
+marked-set : (s : List Bool) (k : ℕ) (b : Bool) → k < length s → marked (set s k b) k ≡ cond b 1 0
+marked-set s k b l = ap (λ (v : Bool). cond v 1 0) (get_or-set_same s k b false l)
+
+marked-other : (s : List Bool) (k j : ℕ) (b : Bool) → j ≢ k → marked (set s k b) j ≡ marked s j
+marked-other s k j b n = ap (λ (v : Bool). cond v 1 0) (get_or-set_other s k j b false n)
+
+marked_few : (s : List Bool) (k : ℕ) → marked s k ≤ 1
+marked_few s k = elim (get_or s k false) as (λ b. cond b 1 0 ≤ 1) [ true ↦ omega arith | false ↦ omega arith ]
+
+-- a marked place has a mark
+marked_within : (s : List Bool) (k : ℕ) → 0 < marked s k → k < length s
+marked_within s k p =
+    elim (cases_lt k (length s)) [
+      | inl l ↦ l
+      | inr m ↦
+          let none : marked s k ≡ 0 = ap (λ (v : Bool). cond v 1 0) (get_or_past s k false m) in
+          absurd (omega (arith, none))
+    ]
+
+-- no marks, and nobody in the lists
+no_mark : (n k : ℕ) → get_or (replicate n false) k false ≡ false
+no_mark zero k = refl
+no_mark (suc n) zero = refl
+no_mark (suc n) (suc k) = no_mark n k
+
+no_places : (n : ℕ) → places_below n (λ c. []) ≡ []
+unfolding all_below
+no_places zero = refl
+no_places (suc n) = append-nil _ ∙ no_places n
+
+pub AreMarked-none : {at : ℕ → List Link} → ((c : ℕ) → at c ≡ []) → AreMarked (replicate 64 false) at
+AreMarked-none {at = at} h =
+    let none : at ≡ (λ c. []) = λ i c. h c i in
+    record {
+      many = refl;
+      once = λ k. ap (λ (v : ℕ → List Link). times k (places_below 9 v)) none ∙ ap (times k) (no_places 9) ∙ sym (ap (λ (v : Bool). cond v 1 0) (no_mark 64 k));
+    }
+
+-- of an equal value
+pub AreMarked-equal : {s : List Bool} {v w : Lists} → v ≡ w → AreMarked s (list_at v) → AreMarked s (list_at w)
+AreMarked-equal {s = s} e m = subst (λ (u : Lists). AreMarked s (list_at u)) e m
+
+-- a place that stood in no list, put into one
+pub AreMarked-put : {s : List Bool} {at bt : ℕ → List Link} (c : ℕ) (before after : List Link) (x : Link) → AreMarked s at → c < 9 → x.place < 64
+    → at c ≡ before ++ after → times x.place (places_below 9 at) ≡ 0 → ((d : ℕ) → bt d ≡ list_put c (before ++ x ∷ after) at d)
+    → AreMarked (set s x.place true) bt
+AreMarked-put {s = s} {at = at} {bt = bt} c before after x m l within is apart lists =
+    let same : bt ≡ list_put c (before ++ x ∷ after) at = λ i d. lists d i in
+    let more : (k : ℕ) → times k (places_below 9 bt) ≡ times k (places_below 9 at) + one k x.place = λ k.
+    omega (
+      arith,
+      ap (λ (v : ℕ → List Link). times k (places_below 9 v)) same,
+      times_put (λ d (y : Link). y.place) k 9 c (before ++ x ∷ after) at l,
+      places_middle k before x after,
+      ap (λ v. times k (places_in v)) is,
+    ) in
+    record {
+      many = length-set s x.place true ∙ m.many;
+      once = λ k.
+          elim (cases_eq k x.place) [
+            | inl e ↦
+                let h : times x.place (places_below 9 bt) ≡ marked (set s x.place true) x.place =
+                omega (arith, more x.place, one_same x.place, marked-set s x.place true (omega (arith, m.many))) in
+                subst (λ (j : ℕ). times j (places_below 9 bt) ≡ marked (set s x.place true) j) (sym e) h
+            | inr n ↦ omega (arith, more k, one_apart k x.place (eq_apart k x.place n), m.once k, marked-other s x.place k true n)
+          ];
+    }
+
+module _ {s : List Bool} {at : ℕ → List Link} (c : ℕ) (x : Link) (after : List Link) (m : AreMarked s at) (l : c < 9) (is : at c ≡ x ∷ after) where
+  taken_times : (k : ℕ) → times k (places_below 9 (list_put c after at)) + one k x.place ≡ times k (places_below 9 at)
+  taken_times k = omega (arith, times_put (λ d (y : Link). y.place) k 9 c after at l, ap (λ v. times k (places_in v)) is)
+
+  -- the first of a list has a mark
+  pub first_within : x.place < 64
+  first_within = omega (arith, m.many, marked_within s x.place (omega (arith, taken_times x.place, one_same x.place, m.once x.place)))
+
+  -- the first of a list, taken out
+  pub AreMarked-taken : {bt : ℕ → List Link} (p : ℕ) → x.place ≡ p → ((d : ℕ) → bt d ≡ list_put c after at d) → AreMarked (set s p false) bt
+  AreMarked-taken {bt = bt} p e lists =
+      let same : bt ≡ list_put c after at = λ i d. lists d i in
+      let less : (k : ℕ) → times k (places_below 9 bt) + one k x.place ≡ times k (places_below 9 at) = λ k.
+      omega (arith, ap (λ (v : ℕ → List Link). times k (places_below 9 v)) same, taken_times k) in
+      let once : (k : ℕ) → times k (places_below 9 bt) ≡ marked (set s x.place false) k = λ k.
+      elim (cases_eq k x.place) [
+        | inl q ↦
+            let h : times x.place (places_below 9 bt) ≡ marked (set s x.place false) x.place =
+            omega (arith, less x.place, one_same x.place, m.once x.place, marked_few s x.place, marked-set s x.place false (omega (arith, first_within, m.many))) in
+            subst (λ (j : ℕ). times j (places_below 9 bt) ≡ marked (set s x.place false) j) (sym q) h
+        | inr n ↦ omega (arith, less k, one_apart k x.place (eq_apart k x.place n), m.once k, marked-other s x.place k false n)
+      ] in
+      subst (λ (j : ℕ). AreMarked (set s j false) bt) e (record { many = length-set s x.place false ∙ m.many; once = once })

@@ -1,7 +1,7 @@
 -- What a signal does to the chains, where one is resumed.
 use Rattle.std.proofs.Common.{◌≡◌, ◌<◌, ℕ, [], ◌∷◌, ◌++◌, ap, ◌∙◌}
-use Rattle.wait_book.specs.Insides.{places_in, waiting_below}
-use Rattle.wait_book.specs.Lists.{Lists, IsPut, IsTaken, list_at}
+use Rattle.wait_book.specs.Insides.{waiting_below}
+use Rattle.wait_book.specs.Lists.{Lists, IsPut, IsTaken, list_at, places_in}
 use Rattle.wait_book.specs.Queues.{TakesFirst}
 use Rattle.wait_book.proofs.Queued.{TakesFirst-taken, signallers-more, signallers-same, waiters-same}
 

@@ -86,15 +86,6 @@ filter-apart place k p xs h z = filter-all p xs (list_all-apart place k p xs h z
 pub filter-others : (k : ℕ) (xs : List ℕ) → times k xs ≡ 0 → filter (λ u. not (k == u)) xs ≡ xs
 filter-others k xs z = filter-apart (λ j. j) k (λ u. not (k == u)) xs (λ j t. ap not t) (ap (times k) (map-id xs) ∙ z)
 
-absent_by : (t : Bool) (k x n : ℕ) (r : Bool) → (x == k) ≡ t → not r ≡ (n == 0) → not (t || r) ≡ (one k x + n == 0)
-absent_by true k x n r h e = let o : one k x ≡ 1 = one_at k x (eq_swap k x ∙ h) in grind (arith, nat_tests)
-absent_by false k x n r h e = let z : one k x + n ≡ n = omega (arith, one_apart k x (eq_swap k x ∙ h)) in e ∙ sym (ap (λ v. v == 0) z)
-
--- none of a list has place k
-pub absent : {X : Type 0} (place : X → ℕ) (k : ℕ) (xs : List X) → not (list_any (λ x. place x == k) xs) ≡ (times k (map place xs) == 0)
-absent place k [] = refl
-absent place k (x ∷ xs) = absent_by (place x == k) k (place x) (times k (map place xs)) (list_any (λ y. place y == k) xs) refl (absent place k xs)
-
 other_by : (b : Bool) (k j : ℕ) → eqb j k ≡ b → not b ≡ eqb (one k j) 0
 other_by true k j h = let o : one k j ≡ 1 = one_at k j (eq_swap k j ∙ h) in grind (arith, nat_tests)
 other_by false k j h = let o : one k j ≡ 0 = one_apart k j (eq_swap k j ∙ h) in rw o refl

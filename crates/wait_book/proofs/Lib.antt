@@ -8,3 +8,4 @@ pub mod Sound
 pub mod Histories
 pub mod Priorities
 pub mod WithData
+pub mod Signalled

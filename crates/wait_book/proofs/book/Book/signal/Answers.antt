@@ -1,4 +1,4 @@
-use Rattle.std.proofs.Common.{◌<◌, ◌∷◌, [], ◌++◌, List, length, map, arith, rules, refl, ap, sym, ◌∙◌}
+use Rattle.std.proofs.Common.{◌<◌, List, length, map, arith, rules, refl, ap, sym, ◌∙◌}
 use Rattle.std.specs.List.{filter}
 use Rattle.hoare_law.specs.Priorities.{in_order}
 use Rattle.wait_book.specs.declared.waiter.Waiter.{Waiter}
@@ -9,7 +9,8 @@ use Rattle.wait_book.proofs.Sound as sound
 use Rattle.wait_book.proofs.Histories as histories
 use Rattle.wait_book.proofs.Priorities as priorities
 use Rattle.wait_book.proofs.Waiters.{key, on, length-taken}
-use Rattle.wait_book.proofs.Queued.{TakesFirst-taken, signallers-more, signallers-same, total_is, waiters-same, waits-nobody}
+use Rattle.wait_book.proofs.Queued.{TakesFirst-taken, signallers-same, total_is, waits-nobody}
+use Rattle.wait_book.proofs.Signalled.{signalled}
 use Rattle.wait_book.proofs.book.Book.signal.Goals as goal
 
 pub take_first-requires : goal.take_first-requires
@@ -70,36 +71,37 @@ pub invariant_of-self-2 : goal.invariant_of-self-2
 invariant_of-self-2 c =
     let b : Contents = view_of c.self.inside in
     let below : c.args.condition < 8 = omega (arith, sound.same_condition b _ c.args.condition c.self.view_is c.requires.condition, c.self.invariant.few_conditions) in
-    let t = c.in-Some.ensures in
-    let r = sound.resumes c.self.view_is c.self.invariant c.requires.inside c.requires.condition
-    (TakesFirst-taken c.args.condition c.in-Some.resumed c.self.inside.chains c.take_first.new.self below t) in
-    let waiters = waiters-same _ c.take_first.new.self c.append.new.self c.append.ensures.lists in
-    let signallers = signallers-more c.args.place 0 c.take_first.new.self c.append.new.self c.append.ensures
-    ∙ ap (λ us. us ++ c.args.place ∷ []) (signallers-same c.args.condition _ c.self.inside.chains c.take_first.new.self below t.lists) in
-    let room = c.append.ensures.room ∙ t.room in
-    sound.IsSound-same _ _ (sound.parts room room waiters signallers refl)
+    let s = signalled c.args.condition c.args.place c.in-Some.resumed c.self.inside.chains c.take_first.new.self c.append.new.self below c.in-Some.ensures c.append.ensures in
+    let r = sound.resumes c.self.view_is c.self.invariant c.requires.inside c.requires.condition s.took in
+    sound.IsSound-same _ _ (sound.parts s.room s.room s.waiters s.signallers refl)
     (sound.signalled_sound _ c.args.place c.args.condition c.in-Some.resumed _ r)
 
-pub returns : goal.returns
-returns c =
+pub returns-clause-of : goal.returns-clause-of
+returns-clause-of c = λ h o.
     let b : Contents = view_of c.self.inside in
     let below : c.args.condition < 8 = omega (arith, sound.same_condition b _ c.args.condition c.self.view_is c.requires.condition, c.self.invariant.few_conditions) in
-    let t = c.in-Some.ensures in
-    let r = sound.resumes c.self.view_is c.self.invariant c.requires.inside c.requires.condition
-    (TakesFirst-taken c.args.condition c.in-Some.resumed c.self.inside.chains c.take_first.new.self below t) in
-    let waiters = waiters-same _ c.take_first.new.self c.append.new.self c.append.ensures.lists in
-    let signallers = signallers-more c.args.place 0 c.take_first.new.self c.append.new.self c.append.ensures
-    ∙ ap (λ us. us ++ c.args.place ∷ []) (signallers-same c.args.condition _ c.self.inside.chains c.take_first.new.self below t.lists) in
-    let room = c.append.ensures.room ∙ t.room in
-    let p = sound.parts room room waiters signallers refl in
-    record {
-      of = λ h o. histories.IsOf-same _ _ _ p
-          (histories.after_signal-taken b c.args.place c.args.condition c.in-Some.resumed _ r h (histories.IsOf-same _ b h (sym c.self.view_is) o));
-      next = c.now-2.ensures.turn;
-      nobody = λ none. absurd (priorities.priorities_on-taken r c.self.view_is none);
-      somebody = λ some. (c.in-Some.resumed, refl);
-      answered = c.now-2.ensures.place;
-      apart = sound.apart_same c.self.view_is c.self.invariant c.requires.inside;
-      priorities = λ d. ap (λ (ws : List Waiter). in_order (λ p. p) (map key (filter (on d) ws))) waiters ∙ priorities.priorities_on-after b.signallers c.self.view_is r d;
-      sizes = search rules;
-    }
+    let s = signalled c.args.condition c.args.place c.in-Some.resumed c.self.inside.chains c.take_first.new.self c.append.new.self below c.in-Some.ensures c.append.ensures in
+    let r = sound.resumes c.self.view_is c.self.invariant c.requires.inside c.requires.condition s.took in
+    histories.IsOf-same _ _ _ (sound.parts s.room s.room s.waiters s.signallers refl)
+    (histories.after_signal-taken b c.args.place c.args.condition c.in-Some.resumed _ r h (histories.IsOf-same _ b h (sym c.self.view_is) o))
+
+pub returns-clause-nobody : goal.returns-clause-nobody
+returns-clause-nobody c = λ none.
+    let b : Contents = view_of c.self.inside in
+    let below : c.args.condition < 8 = omega (arith, sound.same_condition b _ c.args.condition c.self.view_is c.requires.condition, c.self.invariant.few_conditions) in
+    let took = TakesFirst-taken c.args.condition c.in-Some.resumed c.self.inside.chains c.take_first.new.self below c.in-Some.ensures in
+    absurd (priorities.priorities_on-taken (sound.resumes c.self.view_is c.self.invariant c.requires.inside c.requires.condition took) c.self.view_is none)
+
+pub returns-clause-somebody : goal.returns-clause-somebody
+returns-clause-somebody c = λ some. (_, refl)
+
+pub returns-clause-apart : goal.returns-clause-apart
+returns-clause-apart c = sound.apart_same c.self.view_is c.self.invariant c.requires.inside
+
+pub returns-clause-priorities : goal.returns-clause-priorities
+returns-clause-priorities c = λ d.
+    let b : Contents = view_of c.self.inside in
+    let below : c.args.condition < 8 = omega (arith, sound.same_condition b _ c.args.condition c.self.view_is c.requires.condition, c.self.invariant.few_conditions) in
+    let s = signalled c.args.condition c.args.place c.in-Some.resumed c.self.inside.chains c.take_first.new.self c.append.new.self below c.in-Some.ensures c.append.ensures in
+    let r = sound.resumes c.self.view_is c.self.invariant c.requires.inside c.requires.condition s.took in
+    ap (λ (ws : List Waiter). in_order (λ p. p) (map key (filter (on d) ws))) s.waiters ∙ priorities.priorities_on-after b.signallers c.self.view_is r d

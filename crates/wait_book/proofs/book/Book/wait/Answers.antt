@@ -1,7 +1,7 @@
-use Rattle.std.proofs.Common.{◌<◌, arith, rules, refl, ap, sym, ◌∙◌}
+use Rattle.std.proofs.Common.{◌<◌, arith, ap, sym, refl, ◌∙◌}
 use Rattle.hoare_law.specs.Turns.{turn_given_up}
 use Rattle.wait_book.specs.declared.waiter.Waiter.{Waiter}
-use Rattle.wait_book.specs.Contents.{Contents, priorities_on}
+use Rattle.wait_book.specs.Contents.{Contents}
 use Rattle.wait_book.specs.Insides.{view_of}
 use Rattle.wait_book.proofs.Sound as sound
 use Rattle.wait_book.proofs.Histories as histories
@@ -23,35 +23,40 @@ insert-requires-clause-ordered c =
     let fits : c.args.condition < 8 = omega (arith, sound.same_condition (view_of c.self.inside) _ c.args.condition c.self.view_is c.requires.condition, c.self.invariant.few_conditions) in
     priorities-rise c.args.condition c.self.inside.chains fits (c.self.invariant.ordered c.args.condition)
 
+-- whatever the priority is
 pub invariant_of-self : goal.invariant_of-self
 invariant_of-self c =
     let b : Contents = view_of c.self.inside in
-    let w : Waiter = record { place = c.args.place; condition = c.args.condition; priority = c.args.priority } in
     let h = sound.holds c.self.view_is c.self.invariant c.requires.inside in
     let fits = sound.same_condition b _ c.args.condition c.self.view_is c.requires.condition in
     let below : c.args.condition < 8 = omega (arith, fits, c.self.invariant.few_conditions) in
     let put = c.insert.ensures in
     let same = signallers-same c.args.condition _ c.self.inside.chains c.insert.new.self below put.lists in
     sound.IsSound-same _ _ (sound.parts put.room put.room refl same (c.turn_given_up-self-inside.ensures ∙ ap turn_given_up same))
-    (sound.waited_sound b w _ (PutsIn-put c.args.condition c.args.place c.args.priority c.self.inside.chains c.insert.new.self below put) h fits)
+    (sound.waited_sound b _ _ (PutsIn-put c.args.condition c.args.place _ c.self.inside.chains c.insert.new.self below put) h fits)
 
-pub returns : goal.returns
-returns c =
+pub returns-clause-of : goal.returns-clause-of
+returns-clause-of c = λ g o.
     let b : Contents = view_of c.self.inside in
     let w : Waiter = record { place = c.args.place; condition = c.args.condition; priority = c.args.priority } in
     let h = sound.holds c.self.view_is c.self.invariant c.requires.inside in
     let fits = sound.same_condition b _ c.args.condition c.self.view_is c.requires.condition in
     let below : c.args.condition < 8 = omega (arith, fits, c.self.invariant.few_conditions) in
     let put = c.insert.ensures in
-    let puts = PutsIn-put c.args.condition c.args.place c.args.priority c.self.inside.chains c.insert.new.self below put in
+    let puts = PutsIn-put c.args.condition c.args.place _ c.self.inside.chains c.insert.new.self below put in
     let same = signallers-same c.args.condition _ c.self.inside.chains c.insert.new.self below put.lists in
     let new = sound.parts put.room put.room refl same (c.turn_given_up-self-inside.ensures ∙ ap turn_given_up same) in
-    record {
-      of = λ g o. histories.IsOf-same _ _ _ new (histories.waited_of b w _ g puts h fits (histories.IsOf-same _ b g (sym c.self.view_is) o));
-      next = c.now.ensures.turn;
-      answered = c.now.ensures.place;
-      apart = sound.apart_same c.self.view_is c.self.invariant c.requires.inside;
-      priorities = λ d. ap (λ (v : Contents). priorities_on v d) (sym new)
-          ∙ priorities.priorities_on-joined w _ d puts c.self.view_is c.self.invariant (sound.waited_sound b w _ puts h fits);
-      sizes = search rules;
-    }
+    histories.IsOf-same _ _ _ new (histories.waited_of b w _ g puts h fits (histories.IsOf-same _ b g (sym c.self.view_is) o))
+
+pub returns-clause-apart : goal.returns-clause-apart
+returns-clause-apart c = sound.apart_same c.self.view_is c.self.invariant c.requires.inside
+
+pub returns-clause-priorities : goal.returns-clause-priorities
+returns-clause-priorities c = λ d.
+    let b : Contents = view_of c.self.inside in
+    let w : Waiter = record { place = c.args.place; condition = c.args.condition; priority = c.args.priority } in
+    let h = sound.holds c.self.view_is c.self.invariant c.requires.inside in
+    let fits = sound.same_condition b _ c.args.condition c.self.view_is c.requires.condition in
+    let below : c.args.condition < 8 = omega (arith, fits, c.self.invariant.few_conditions) in
+    let puts = PutsIn-put c.args.condition c.args.place _ c.self.inside.chains c.insert.new.self below c.insert.ensures in
+    priorities.priorities_on-joined w _ d puts c.self.view_is c.self.invariant (sound.waited_sound b w _ puts h fits)

@@ -18,13 +18,20 @@ pub enum Answer {
 }
 
 impl Answer {
+    ghost use Rattle.std.specs.Prelude.{◌≡◌, if◌then◌else◌};
+    ghost use Rattle.refused_memory.specs.declared.answer.Answer.TheVariants as answers;
+
     /// Made, where it was made right.
-    pub fn made_if(right: bool) -> Answer {
+    pub fn made_if(right: bool) -> Answer
+        ensures { result ≡ (if right then answers.Made else answers.Wrong) }
+    {
         if right { Answer::Made } else { Answer::Wrong }
     }
 
     /// Want of memory, where nothing was lost or written.
-    pub fn memory_if(clean: bool) -> Answer {
+    pub fn memory_if(clean: bool) -> Answer
+        ensures { result ≡ (if clean then answers.Memory else answers.Wrong) }
+    {
         if clean { Answer::Memory } else { Answer::Wrong }
     }
 

@@ -1,4 +1,4 @@
-use Rattle.std.proofs.Common.{◌<◌, List, length, map, arith, rules, refl, ap, sym, ◌∙◌}
+use Rattle.std.proofs.Common.{◌<◌, List, length, map, arith, refl, ap, sym, ◌∙◌}
 use Rattle.std.specs.List.{filter}
 use Rattle.hoare_law.specs.Priorities.{in_order}
 use Rattle.wait_book.specs.declared.waiter.Waiter.{Waiter}

@@ -1,6 +1,6 @@
 //! Tests across crates, by what they run on: the fake monitor, and rows of tests on both running doors.
 
-// A row on one door: it is made with these data and so many places, each acts by its number, and it is closed.
+// A row on one door: it is made with these data and this many places, each acts by its number, and it is closed.
 macro_rules! run_row {
     ($rt:ident, $door:ident, $act:ident($($more:expr),*), $data:expr, $count:expr) => {{
         let (door, outs) = $crate::tests::$door::made(&$rt, $rt.alloc(), $data, $count);

@@ -85,7 +85,7 @@ pub fn act_all<
     (outs, answers)
 }
 
-/// Comes in once so many wait on the condition. The test fails after a million looks.
+/// Comes in once this many wait on the condition. The test fails after a million looks.
 pub fn watch<D: MonitorData, R: Wait + Abort, M: Monitor<D>>(
     rt: &R,
     m: &M,

@@ -97,7 +97,7 @@ fn finds_the_most_readers<R: Wait + Abort>(
     }
 }
 
-// Starts so many reads and hands the data on to another monitor, where each pass ends one.
+// Starts this many reads and hands the data on to another monitor, where each pass ends one.
 fn reads_elsewhere<R: Wait + Abort>(
     rt: &R,
     alloc: Global,

@@ -1,5 +1,5 @@
-//! Five sleepers set times by lot, and the clock ticks once all of them wait. What they wrote down is held against what an alarm
-//! clock is.
+//! Five sleepers set random times, and the clock ticks once all of them wait. What they wrote down is held
+//! against what an alarm clock is.
 ghost use Rattle.std.specs.Prelude.{◌≡◌};
 
 use crate::tests::rows::shared_log::{Log, await_others, draw};
@@ -16,7 +16,7 @@ const ROUNDS: u64 = 200;
 /// What happened.
 #[derive(Clone, Copy, Debug, PartialEq, Eq)]
 enum Line {
-    /// The place is about to sleep for so many ticks.
+    /// The place is about to sleep for this many ticks.
     Sets { place: usize, ticks: u64 },
     /// It woke, and found this time.
     Wakes { place: usize, time: u64 },
@@ -70,7 +70,7 @@ fn count_sleeps(lines: &[Line]) -> (usize, usize) {
     (sleeps.count(), ticks.count())
 }
 
-// Sleeps by lot, so many times.
+// Sleeps for a random time in each round.
 fn sleeps_on<R: Wait + Abort, M: Monitor<Alarm>>(
     rt: &R,
     m: &M,

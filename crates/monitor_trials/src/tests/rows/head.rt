@@ -48,8 +48,9 @@ pub fn hands_on<R: Wait + Abort, M: Monitor<Head<Trip>>>(
     out
 }
 
-/// Takes the drive to cylinder 50, so many times, and keeps it the last time; hands it on once the others wait; and takes it
-/// to the cylinder `last` when all others had it. It has to have been where it is said.
+/// Takes the drive to cylinder 50, twice where the plan has an idle drive once, and keeps it the last time; hands
+/// it on once the others wait; and takes it to the cylinder `last` when all others had it. The drive has to have
+/// been where the plan says.
 fn leads<R: Wait + Abort, M: Monitor<Head<Trip>>>(
     rt: &R,
     m: &M,

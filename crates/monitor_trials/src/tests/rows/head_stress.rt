@@ -1,5 +1,5 @@
-//! Five processes ask for cylinders by lot, and each hands the drive on once the others wait for it. What they wrote down is held
-//! against what a sweep is.
+//! Five processes ask for random cylinders, and each hands the drive on once the others wait for it. What
+//! they wrote down is held against what a sweep is.
 ghost use Rattle.std.specs.Prelude.{◌≡◌};
 
 use crate::tests::rows::head::{Trip, disk, goes, hands_on};
@@ -126,7 +126,7 @@ fn first_wrong(lines: &[Line]) -> Option<Line> {
     lines.iter().copied().find(|line| !disk.allows(*line))
 }
 
-// Asks by lot, so many times, and hands the drive on when all others wait.
+// Asks for a random cylinder in each round, and hands the drive on when all others wait.
 fn travels<R: Wait + Abort, M: Monitor<Head<Trip>>>(
     rt: &R,
     m: &M,

@@ -81,7 +81,7 @@ fn lets_go<R: Wait + Abort, M: Monitor<Pool>>(
     gives(rt, m, out, stream, buffer, Ok(()))
 }
 
-// Takes two buffers and gives them back, so many times.
+// Takes two buffers and gives them back, in each round.
 fn uses_two<R: Wait + Abort + Clock, M: Monitor<Pool>>(
     rt: &R,
     m: &M,

@@ -94,8 +94,8 @@ fn is_refused<R: Wait + Abort, M: Monitor<Shared>>(rt: &R, m: &M, out: M::Out) -
     }
 }
 
-/// Starts so many reads, the last of which is the last that there is room for: one more is refused, and goes in once one has ended. Then
-/// each ends with its own pass.
+/// Starts this many reads, the last of which is the last that there is room for: one more is refused, and goes in once one has
+/// ended. Then each ends with its own pass.
 pub fn reads_to_the_limit<R: Wait + Abort, M: Monitor<Shared>>(
     rt: &R,
     m: &M,

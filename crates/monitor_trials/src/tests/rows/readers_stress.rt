@@ -37,7 +37,7 @@ enum Line {
         place: usize,
         value: u64,
     },
-    /// It is about to go out as a writer and leave this value, while so many wait to read.
+    /// It is about to go out as a writer and leave this value, while this many wait to read.
     EndsWrite {
         place: usize,
         value: u64,
@@ -163,7 +163,7 @@ fn looks_and_reads<R: Wait + Abort, M: Monitor<Shared>>(
     (out, pass)
 }
 
-// Reads, so many times.
+// Reads as often as there are rounds.
 fn reads_on<R: Wait + Abort + Clock, M: Monitor<Shared>>(
     rt: &R,
     m: &M,
@@ -185,7 +185,7 @@ fn reads_on<R: Wait + Abort + Clock, M: Monitor<Shared>>(
     out
 }
 
-// Writes, so many times, what nobody else writes.
+// Writes as often as there are rounds, what nobody else writes.
 fn writes_on<R: Wait + Abort + Clock, M: Monitor<Shared>>(
     rt: &R,
     m: &M,

@@ -20,7 +20,7 @@ pub struct Log<L> {
 }
 
 impl<L> Log<L> {
-    /// A log with room for so many lines.
+    /// A log with room for this many lines.
     pub fn new(alloc: Global, room: usize) -> Result<Log<L>, AllocError> {
         Ok(Log {
             lines: Mutex::new(Vec::with_capacity(alloc, room)?),
@@ -52,7 +52,7 @@ impl<L: Copy> Log<L> {
     }
 }
 
-/// The next of a row of numbers that look as if drawn by lot.
+/// The next of a row of numbers that look random.
 pub fn draw(seed: u64) -> u64 {
     seed.wrapping_mul(6364136223846793005)
         .wrapping_add(1442695040888963407)

@@ -25,7 +25,7 @@ const ROUNDS: u64 = 300;
 /// Newcomers of a ticket door never sleep: where threads outnumber processors, one admission may take a slice of time.
 const TICKET_ROUNDS: u64 = 60;
 
-// The next of a row of numbers that look as if drawn by lot.
+// The next of a row of numbers that look random.
 fn draw(seed: u64) -> u64 {
     seed.wrapping_mul(6364136223846793005)
         .wrapping_add(1442695040888963407)
@@ -208,7 +208,7 @@ fn sweep<R: Wait + Clock, M: Monitor<Pages>>(rt: &R, m: &M, out: M::Out, place: 
     out
 }
 
-// The workers work so many rounds, and the last place sweeps.
+// The workers work this many rounds, and the last place sweeps.
 fn works_or_sweeps<R: Wait + Clock, M: Monitor<Pages>>(
     rt: &R,
     m: &M,
@@ -235,7 +235,7 @@ fn empty_pages(alloc: Global) -> Result<Pages, AllocError> {
     })
 }
 
-// What they wrote in so many rounds is what the definitions allow, and they had choices.
+// What they wrote in all rounds is what the definitions allow, and they had choices.
 fn agrees<R: Abort>(rt: &R, diary: &Diary, rounds: u64) {
     let lines = diary.lines();
     assert!(rt; !diary.is_torn);

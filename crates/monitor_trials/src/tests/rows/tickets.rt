@@ -15,7 +15,7 @@ use std::time::Duration;
 use ticket_door::door::TicketDoor;
 use ticket_door::place::TicketOut;
 
-// Looks until so many asked. The test fails after 20 seconds.
+// Looks until this many asked. The test fails after 20 seconds.
 fn await_asked<R: Abort + Clock>(rt: &R, asked: &AtomicUsize, count: usize) {
     for _ in 0..20_000 {
         if asked.load(Ordering::SeqCst) == count {

@@ -54,7 +54,7 @@ pub fn count_waiting<D: MonitorData, M: Monitor<D>>(m: &M, inside: &M::In) -> us
     (0..D::CONDITIONS).fold(0usize, |sum, c| sum.saturating_add(lists.count(c)))
 }
 
-/// Comes in and goes out until so many wait. The test fails after a million times.
+/// Comes in and goes out until this many wait. The test fails after a million times.
 pub fn watch<D: MonitorData, R: Wait + Abort, M: Monitor<D>>(
     rt: &R,
     m: &M,

@@ -8,7 +8,7 @@ use std::sync::Wait;
 use std::test::Fail;
 use timed_schedulers::alarm::{Alarm, ClockFull, TooFar};
 
-/// Sleeps for so many ticks: the time at which it woke.
+/// Sleeps for this many ticks: the time at which it woke.
 fn sleeps<R: Wait + Abort, M: Monitor<Alarm>>(
     rt: &R,
     m: &M,

@@ -6,6 +6,7 @@ mod full;
 pub mod head;
 mod head_stress;
 mod history;
+mod late_reader;
 mod pool_stress;
 pub mod readers;
 mod readers_stress;

@@ -1,0 +1,109 @@
+//! The most readers are in, a writer waits, and a reader comes late.
+ghost use Rattle.std.specs.Prelude.{◌≡◌};
+
+use crate::tests::rows::readers::{Shared, ends_read, starts_read, waiting};
+use crate::tests::rows::turns::{Turns, line_up};
+use hoare_law::monitor::Monitor;
+use std::process::Abort;
+use std::rt::Clock;
+use std::sync::Wait;
+use std::sync::atomic::{AtomicU32, Ordering};
+use sweep_schedulers::readers_writers::{MOST_READERS, ReadersWriters};
+
+// Starts this many reads, lets the writer and then the late reader come to wait, and ends the reads; it
+// counts each one just before its end. Both wait until the last one ends.
+fn reads_while_both_wait<R: Wait + Abort, M: Monitor<Shared>>(
+    rt: &R,
+    m: &M,
+    out: M::Out,
+    turns: &Turns,
+    ended: &AtomicU32,
+    reads: u32,
+) -> M::Out
+    requires { M.is_of m.now out }
+    ensures of { M.is_of m.now result }
+    ensures place { M.place result ≡ M.place out }
+{
+    let (out, pass) = starts_read(rt, m, out, 4);
+    let out = if reads > 1 {
+        reads_while_both_wait(rt, m, out, turns, ended, reads - 1)
+    } else {
+        line_up(rt, m, out, turns, 2)
+    };
+    let (out, both) = waiting(rt, m, out);
+    assert_eq!(rt; both, (1, 1));
+    ended.fetch_add(1, Ordering::SeqCst);
+    ends_read(rt, m, out, pass)
+}
+
+// Comes first of the two, and writes 6 where it finds 4, after all the reads.
+fn writes_after_all<R: Wait + Abort + Clock, M: Monitor<Shared>>(
+    rt: &R,
+    m: &M,
+    out: M::Out,
+    turns: &Turns,
+    ended: &AtomicU32,
+) -> M::Out
+    requires { M.is_of m.now out }
+    ensures of { M.is_of m.now result }
+    ensures place { M.place result ≡ M.place out }
+{
+    turns.await_turn(rt, 1);
+    let (out, found) = ReadersWriters::start_write(m, rt, out);
+    assert_eq!(rt; (found, ended.swap(0, Ordering::SeqCst)), (4, MOST_READERS));
+    let (out, written) = ReadersWriters::end_write(m, rt, out, 6);
+    assert!(rt; written.is_ok());
+    out
+}
+
+// Comes late, and reads what was written.
+fn reads_late<R: Wait + Abort + Clock, M: Monitor<Shared>>(
+    rt: &R,
+    m: &M,
+    out: M::Out,
+    turns: &Turns,
+) -> M::Out
+    requires { M.is_of m.now out }
+    ensures of { M.is_of m.now result }
+    ensures place { M.place result ≡ M.place out }
+{
+    turns.await_turn(rt, 2);
+    turns.start_again();
+    let (out, pass) = starts_read(rt, m, out, 6);
+    ends_read(rt, m, out, pass)
+}
+
+// Place 0 has all the reads, place 1 writes, and place 2 is the late reader.
+fn reads_or_writes_late<R: Wait + Abort + Clock, M: Monitor<Shared>>(
+    rt: &R,
+    m: &M,
+    out: M::Out,
+    place: usize,
+    turns: &Turns,
+    ended: &AtomicU32,
+) -> (M::Out, u64)
+    requires { M.is_of m.now out }
+    ensures of { M.is_of m.now result.0 }
+    ensures place { M.place result.0 ≡ M.place out }
+{
+    let out = match place {
+        0 => reads_while_both_wait(rt, m, out, turns, ended, MOST_READERS),
+        1 => writes_after_all(rt, m, out, turns, ended),
+        _ => reads_late(rt, m, out, turns),
+    };
+    (out, 0)
+}
+
+#[test]
+fn writer_before_late_reader(rt: HostRuntime) {
+    let turns = Turns::new();
+    let ended = AtomicU32::new(0);
+    for (door, shared, answers) in on_both_doors!(
+        rt,
+        reads_or_writes_late(&turns, &ended),
+        ReadersWriters::with(4),
+        3
+    ) {
+        assert_eq!(rt; (shared.into_value(), answers.len()), (6, 3), "{door}");
+    }
+}

@@ -2,6 +2,7 @@
 pub mod alarm_and_pool;
 mod alarm_stress;
 mod diary;
+mod foreign_items;
 mod full;
 pub mod head;
 mod head_stress;

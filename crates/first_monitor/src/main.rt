@@ -20,7 +20,7 @@ const PERMITS: u32 = 2;
 
 const JOBS: u32 = 1000;
 
-// What one thread does, over its own place: so many jobs, each with a permit. The place is handed in, since no two threads may
+// What one thread does, over its own place: a row of jobs, each with a permit. The place is handed in, since no two threads may
 // use one place; the monitor is shared.
 fn work<R: Wait, M: Monitor<Permits>>(rt: &R, m: &M, out: M::Out, class: Class) -> u32
     requires { M.is_of m.now out }

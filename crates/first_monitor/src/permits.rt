@@ -31,7 +31,7 @@ impl Class {
 #[error("no permit is taken")]
 pub struct NoneTaken;
 
-/// The data of the monitor: so many permits, and so many of them free.
+/// The data of the monitor: how many permits there are, and how many of them are free.
 #[derive(Drop)]
 pub struct Permits {
     total: u32,
@@ -72,7 +72,7 @@ impl MonitorData for Permits {
 }
 
 impl Permits {
-    /// So many permits, all free.
+    /// This number of permits, all free.
     pub fn new(total: u32) -> Permits
         ensures { (result.total ≡ total) × (result.free ≡ total) }
     {

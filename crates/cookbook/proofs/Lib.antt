@@ -1,0 +1,5 @@
+pub mod Traces
+pub mod Barriers
+pub mod Mailboxes
+pub mod Meetings
+pub mod Tables

@@ -1,0 +1,6 @@
+use Rattle.std.proofs.Common.{rules, arith, ◌∙◌, ap}
+use Rattle.cookbook.proofs.Mailboxes.{TakesMostUrgent-best}
+use Rattle.cookbook.proofs.mailbox.Mailbox.take.Goals as goal
+
+pub returns : goal.returns
+returns c = TakesMostUrgent-best c.loop-i.invariant.1 (grind arith) (grind arith) (cc)

@@ -1,0 +1,10 @@
+pub mod Barriers
+pub mod BarrierTraces
+pub mod Latches
+pub mod LatchTraces
+pub mod Mailboxes
+pub mod MailboxTraces
+pub mod Meetings
+pub mod MeetingTraces
+pub mod Tables
+pub mod TableTraces

@@ -1,0 +1,107 @@
+//! A latch that opens once: it is counted down, and who waits goes on when nothing is left to count. It is never shut again.
+ghost use Rattle.std.specs.Prelude.{◌≡◌, ◌-◌, ◌↔◌, IsTrue};
+ghost use Rattle.hoare_law.specs.Priorities.{nobody};
+ghost use Rattle.cookbook.specs.Latches.{LatchRests};
+ghost use Rattle.cookbook.specs.LatchTraces.{CountsDown, Passes};
+
+use hoare_law::data::MonitorData;
+use hoare_law::monitor::Monitor;
+use hoare_law::waits::Waits;
+use std::marker::Model;
+use std::sync::Wait;
+
+/// How often a latch must be counted down still: it is open at 0. The one condition is 0, *the latch is open*.
+#[derive(Drop)]
+pub struct Latch {
+    left: u32,
+}
+
+impl Model for Latch {
+    ghost use Rattle.std.specs.Prelude.{ℕ};
+
+    ghost Value = { ℕ };
+
+    ghost view = { λ s. s.left };
+}
+
+impl MonitorData for Latch {
+    ghost use Rattle.std.specs.Prelude.{⊤};
+    ghost use Rattle.cookbook.specs.Latches.{LatchRests, LatchReady};
+
+    const CONDITIONS: usize = 1;
+
+    ghost CONDITIONS = { 1 };
+
+    ghost inv = { λ left. ⊤ };
+
+    ghost rest = { λ left q. LatchRests left (q 0) };
+
+    ghost ready = { λ c p left q. LatchReady left };
+
+    fn rest_holds<W: Waits>(&self, lists: &W) -> bool {
+        lists.count(0) == 0 || self.left > 0
+    }
+
+    fn ready_holds<W: Waits>(&self, condition: usize, priority: u64, lists: &W) -> bool {
+        self.left == 0
+    }
+
+    ghost rest_inv = { λ left q h. tt };
+
+    ghost ready_inv = { λ c p left q h. tt };
+}
+
+impl Latch {
+    /// A latch that opens once it is counted down `left` times; one for 0 is open.
+    pub fn new(left: u32) -> Latch
+        ensures made { result ≡ left }
+        ensures rest { LatchRests result (nobody 0) }
+    {
+        Latch { left }
+    }
+
+    // Whether nothing is left to count.
+    fn is_open(&self) -> bool
+        ensures { IsTrue result ↔ (self.now ≡ 0) }
+    {
+        self.left == 0
+    }
+
+    // Counts it down, if something is left to count.
+    fn lower(&mut self)
+        ensures { self.new ≡ self.old - 1 }
+    {
+        self.left = self.left.saturating_sub(1);
+    }
+
+    /// Counts it down, and resumes a process that waits once it is open. An open latch stays open.
+    pub fn count_down<R: Wait, M: Monitor<Latch>>(m: &M, rt: &R, out: M::Out) -> M::Out
+        requires { M.is_of m.now out }
+        ensures of { M.is_of m.now result }
+        ensures place { M.place result ≡ M.place out }
+        ensures trace { CountsDown (M.place out) (M.front out) (M.front result) }
+    {
+        let mut inside = m.enter(rt, out);
+        M::state_mut(&mut inside, m).lower();
+        if !m.state(&inside).is_open() {
+            return m.leave(rt, inside);
+        }
+        let (out, _resumed) = m.signal_leave(rt, inside, 0);
+        out
+    }
+
+    /// Waits until it is open. Each process that goes on resumes the next.
+    pub fn pass<R: Wait, M: Monitor<Latch>>(m: &M, rt: &R, out: M::Out) -> M::Out
+        requires { M.is_of m.now out }
+        ensures of { M.is_of m.now result }
+        ensures place { M.place result ≡ M.place out }
+        ensures trace { Passes (M.place out) (M.front out) (M.front result) }
+    {
+        let mut inside = m.enter(rt, out);
+        if !m.state(&inside).is_open() {
+            inside = m.wait(rt, inside, 0, 0);
+        }
+        let (out, _resumed) = m.signal_leave(rt, inside, 0);
+        out
+    }
+}

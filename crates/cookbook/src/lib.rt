@@ -1,0 +1,9 @@
+//! A cookbook of monitors, each over any `Monitor`: a cyclic barrier, a latch, a mailbox by priority, a rendezvous of pairs, and the
+//! dining philosophers' table.
+#![tactic(auto)]
+
+pub mod barrier;
+pub mod latch;
+pub mod mailbox;
+pub mod rendezvous;
+pub mod table;

@@ -1,0 +1,157 @@
+//! A mailbox of fixed room: the most urgent letter is received first, and who has the more urgent letter is let in first.
+ghost use Rattle.std.specs.Prelude.{◌≡◌, ◌<◌, ◌↔◌, ◌++◌, ◌∷◌, [], IsTrue, length};
+ghost use Rattle.hoare_law.specs.Priorities.{nobody};
+ghost use Rattle.cookbook.specs.Mailboxes.{MailRests, TakesMostUrgent};
+ghost use Rattle.cookbook.specs.MailboxTraces.{Sends, Receives};
+
+use arrayvec::ArrayVec;
+use hoare_law::data::MonitorData;
+use hoare_law::monitor::Monitor;
+use hoare_law::waits::Waits;
+use std::marker::Model;
+use std::sync::Wait;
+
+/// How many letters a mailbox holds.
+pub const ROOM: usize = 8;
+
+/// A letter. The least priority is the most urgent.
+#[derive(Clone, Copy, Debug, Default, PartialEq, Eq)]
+pub struct Letter {
+    pub priority: u64,
+    pub word: u64,
+}
+
+/// The letters that nobody has received yet, in the order in which they were sent. Condition 0 is *there is room*, and a sender waits
+/// there with its letter's priority; condition 1 is *there is mail*.
+#[derive(Drop)]
+pub struct Mailbox {
+    letters: ArrayVec<Letter, 8>,
+}
+
+impl Model for Mailbox {
+    ghost use Rattle.std.specs.Prelude.{List};
+    ghost use Rattle.cookbook.specs.declared.mailbox.Letter.{Letter};
+
+    ghost Value = { List Letter };
+
+    ghost view = { λ m. m.letters.items };
+}
+
+impl MonitorData for Mailbox {
+    ghost use Rattle.std.specs.Prelude.{◌≤◌, length};
+    ghost use Rattle.cookbook.specs.Mailboxes.{MailRests, MailReady, within_of_ready};
+
+    const CONDITIONS: usize = 2;
+
+    ghost CONDITIONS = { 2 };
+
+    ghost inv = { λ letters. length letters ≤ 8 };
+
+    ghost rest = { λ letters q. MailRests (length letters) (q 0) (q 1) };
+
+    ghost ready = { λ c p letters q. MailReady c (length letters) (q 0) (q 1) };
+
+    fn rest_holds<W: Waits>(&self, lists: &W) -> bool {
+        let count = self.letters.len();
+        (lists.count(0) == 0 || count == ROOM) && (lists.count(1) == 0 || count == 0)
+    }
+
+    fn ready_holds<W: Waits>(&self, condition: usize, priority: u64, lists: &W) -> bool {
+        let count = self.letters.len();
+        if condition == 0 {
+            count < ROOM
+                && (lists.count(0) == 0 || count + 1 == ROOM)
+                && (lists.count(1) == 0 || count == 0)
+        } else {
+            count > 0
+                && (lists.count(1) == 0 || count == 1)
+                && (lists.count(0) == 0 || count == ROOM)
+        }
+    }
+
+    ghost rest_inv = { λ letters q h. h.within };
+
+    ghost ready_inv = { λ c p letters q h. within_of_ready c (length letters) (q 0) (q 1) h };
+}
+
+impl Mailbox {
+    /// A mailbox with no letter.
+    pub fn new() -> Mailbox
+        ensures made { result ≡ [] }
+        ensures rest { MailRests (length result) (nobody 0) (nobody 1) }
+    {
+        Mailbox {
+            letters: ArrayVec::new(),
+        }
+    }
+
+    // Whether there is no room.
+    fn is_full(&self) -> bool
+        ensures { IsTrue result ↔ (length self.now ≡ 8) }
+    {
+        self.letters.len() == ROOM
+    }
+
+    // Whether there is no letter.
+    fn is_empty(&self) -> bool
+        ensures { IsTrue result ↔ (length self.now ≡ 0) }
+    {
+        self.letters.is_empty()
+    }
+
+    // Puts a letter in, as the latest.
+    fn put(&mut self, letter: Letter)
+        requires { length self.old < 8 }
+        ensures { self.new ≡ self.old ++ letter ∷ [] }
+    {
+        self.letters.push(letter);
+    }
+
+    // Takes the most urgent letter out, of equals the one that was sent first.
+    fn take(&mut self) -> Letter
+        requires { 0 < length self.old }
+        ensures { TakesMostUrgent self.old result self.new }
+    {
+        let mut best = 0usize;
+        for i in 0..self.letters.len() {
+            if self.letters[i].priority < self.letters[best].priority {
+                best = i;
+            }
+        }
+        self.letters.remove(best)
+    }
+
+    /// Sends a letter, once there is room for it, and resumes a process that waits for mail. Of those that wait for room, who has the
+    /// most urgent letter goes first.
+    pub fn send<R: Wait, M: Monitor<Mailbox>>(m: &M, rt: &R, out: M::Out, letter: Letter) -> M::Out
+        requires { M.is_of m.now out }
+        ensures of { M.is_of m.now result }
+        ensures place { M.place result ≡ M.place out }
+        ensures trace { Sends (M.place out) letter (M.front out) (M.front result) }
+    {
+        let mut inside = m.enter(rt, out);
+        if m.state(&inside).is_full() {
+            inside = m.wait(rt, inside, 0, letter.priority);
+        }
+        M::state_mut(&mut inside, m).put(letter);
+        let (out, _resumed) = m.signal_leave(rt, inside, 1);
+        out
+    }
+
+    /// Receives the most urgent letter, of equals the one that was sent first, once there is one, and resumes a process that waits
+    /// for room.
+    pub fn receive<R: Wait, M: Monitor<Mailbox>>(m: &M, rt: &R, out: M::Out) -> (M::Out, Letter)
+        requires { M.is_of m.now out }
+        ensures of { M.is_of m.now result.0 }
+        ensures place { M.place result.0 ≡ M.place out }
+        ensures trace { Receives (M.place out) result.1 (M.front out) (M.front result.0) }
+    {
+        let mut inside = m.enter(rt, out);
+        if m.state(&inside).is_empty() {
+            inside = m.wait(rt, inside, 1, 0);
+        }
+        let letter = M::state_mut(&mut inside, m).take();
+        let (out, _resumed) = m.signal_leave(rt, inside, 0);
+        (out, letter)
+    }
+}

@@ -1,0 +1,200 @@
+//! The dining philosophers' table: five seats, a fork between each two of them, and who eats needs both forks beside its seat.
+ghost use Rattle.std.specs.Prelude.{◌≡◌, ◌≢◌, ◌<◌, ◌↔◌, ℕ, [], IsTrue, MatchOption};
+ghost use Rattle.hoare_law.specs.Priorities.{nobody};
+ghost use Rattle.hoare_law.specs.Waiting.{waiting};
+ghost use Rattle.cookbook.specs.Tables.{TableHolds, TableRests, IsEating, CanEat, all_up, seated, risen};
+ghost use Rattle.cookbook.specs.TableTraces.{HandsOn, SitsDown, GetsUp};
+
+use hoare_law::data::MonitorData;
+use hoare_law::monitor::Monitor;
+use hoare_law::waits::Waits;
+use std::marker::Model;
+use std::sync::Wait;
+
+/// How many seats a table has. They are numbered from 0, round the table.
+pub const SEATS: usize = 5;
+
+/// Who eats. Condition k is *the philosopher at seat k can eat*: there is one for each seat.
+#[derive(Drop)]
+pub struct Table {
+    eats: [bool; 5],
+}
+
+impl Model for Table {
+    ghost use Rattle.std.specs.Prelude.{List, Bool};
+
+    ghost Value = { List Bool };
+
+    ghost view = { λ t. t.eats };
+}
+
+/// Nobody eats at the seat, so nobody gets up.
+#[derive(Clone, Copy, Debug, PartialEq, Eq, thiserror::Error)]
+#[error("nobody eats at the seat")]
+pub struct NotEating;
+
+impl MonitorData for Table {
+    ghost use Rattle.cookbook.specs.Tables.{TableHolds, TableRests, TableReady};
+
+    const CONDITIONS: usize = 5;
+
+    ghost CONDITIONS = { 5 };
+
+    ghost inv = { λ t. TableHolds t };
+
+    ghost rest = { λ t q. TableRests t q };
+
+    ghost ready = { λ c p t q. TableReady c t };
+
+    fn rest_holds<W: Waits>(&self, lists: &W) -> bool {
+        self.is_apart() && self.is_nobody_kept(lists)
+    }
+
+    fn ready_holds<W: Waits>(&self, condition: usize, priority: u64, lists: &W) -> bool {
+        self.is_apart() && self.can_eat(condition)
+    }
+
+    ghost rest_inv = { λ t q h. h.inv };
+
+    ghost ready_inv = { λ c p t q h. h.inv };
+}
+
+impl Table {
+    /// A table at which nobody eats.
+    pub fn new() -> Table
+        ensures made { result ≡ all_up }
+        ensures rest { TableRests result nobody }
+    {
+        Table { eats: [false; 5] }
+    }
+
+    // Whether no two neighbours eat.
+    fn is_apart(&self) -> bool
+        ensures { IsTrue result ↔ TableHolds self.now }
+    {
+        for seat in 0..SEATS {
+            if self.eats[seat] && self.eats[(seat + 1) % SEATS] {
+                return false;
+            }
+        }
+        true
+    }
+
+    // Whether somebody eats at the seat.
+    fn is_eating(&self, seat: usize) -> bool
+        requires { seat < 5 }
+        ensures { IsTrue result ↔ IsEating self.now seat }
+    {
+        self.eats[seat]
+    }
+
+    // Whether nobody eats at the seat nor beside it.
+    fn can_eat(&self, seat: usize) -> bool
+        requires { seat < 5 }
+        ensures { IsTrue result ↔ CanEat self.now seat }
+    {
+        !self.eats[seat] && !self.eats[(seat + 1) % SEATS] && !self.eats[(seat + 4) % SEATS]
+    }
+
+    // Whether nobody waits who can eat.
+    #[tactic(auto, using(hoare_law::proofs::Joined::waiting_steps))]
+    fn is_nobody_kept<W: Waits>(&self, lists: &W) -> bool
+        ensures { IsTrue result ↔ ((c : ℕ) → c < 5 → W.waiting_priorities lists.now c ≢ []
+            → CanEat self.now c → ⊥) }
+    {
+        for seat in 0..SEATS {
+            if lists.count(seat) > 0 && self.can_eat(seat) {
+                return false;
+            }
+        }
+        true
+    }
+
+    // The philosopher at the seat eats.
+    fn start(&mut self, seat: usize)
+        requires { seat < 5 }
+        ensures { self.new ≡ seated self.old seat }
+    {
+        self.eats[seat] = true;
+    }
+
+    // The philosopher at the seat eats no longer.
+    fn stop(&mut self, seat: usize)
+        requires { seat < 5 }
+        ensures { self.new ≡ risen self.old seat }
+    {
+        self.eats[seat] = false;
+    }
+
+    // The first seat at which somebody waits who can eat.
+    fn next_seat<M: Monitor<Table>>(m: &M, inside: &M::In) -> Option<usize>
+        requires { M.is_of_in m.now inside.now }
+        ensures lists { MatchOption result ((c : ℕ) → c < 5 → M.lists_in inside.now c ≢ []
+            → CanEat (M.data_in inside.now) c → ⊥)
+            (λ c. (c < 5) × (M.lists_in inside.now c ≢ []) × CanEat (M.data_in inside.now) c) }
+        ensures front { MatchOption result ((c : ℕ) → c < 5
+            → waiting c (M.front_in inside.now).events ≢ [] → CanEat (M.data_in inside.now) c → ⊥)
+            (λ c. waiting c (M.front_in inside.now).events ≢ []) }
+    {
+        for seat in 0..SEATS {
+            if m.queue(inside, seat) && m.state(inside).can_eat(seat) {
+                return Some(seat);
+            }
+        }
+        None
+    }
+
+    // The last act: of those that wait and can eat, who has the first seat goes on; where there is none, it leaves.
+    fn hand_on<R: Wait, M: Monitor<Table>>(m: &M, rt: &R, inside: M::In) -> M::Out
+        requires of { M.is_of_in m.now inside }
+        requires inv { TableHolds (M.data_in inside) }
+        ensures of { M.is_of m.now result }
+        ensures place { M.place result ≡ M.place_in inside }
+        ensures trace { HandsOn (M.place_in inside) (M.data_in inside) (M.front_in inside)
+            (M.front result) }
+    {
+        let Some(seat) = Table::next_seat(m, &inside) else {
+            return m.leave(rt, inside);
+        };
+        let (out, _resumed) = m.signal_leave(rt, inside, seat);
+        out
+    }
+
+    /// Takes both forks beside the seat, once nobody eats there nor at a seat beside it.
+    pub fn sit_down<R: Wait, M: Monitor<Table>>(m: &M, rt: &R, out: M::Out, seat: usize) -> M::Out
+        requires of { M.is_of m.now out }
+        requires seat { seat < 5 }
+        ensures of { M.is_of m.now result }
+        ensures place { M.place result ≡ M.place out }
+        ensures trace { SitsDown (M.place out) seat (M.front out) (M.front result) }
+    {
+        let mut inside = m.enter(rt, out);
+        if !m.state(&inside).can_eat(seat) {
+            inside = m.wait(rt, inside, seat, 0);
+        }
+        M::state_mut(&mut inside, m).start(seat);
+        Table::hand_on(m, rt, inside)
+    }
+
+    /// Puts the forks down, so that both neighbours of the seat may eat. Refused exactly where nobody eats at the seat: then nothing
+    /// changed.
+    pub fn get_up<R: Wait, M: Monitor<Table>>(
+        m: &M,
+        rt: &R,
+        out: M::Out,
+        seat: usize,
+    ) -> (M::Out, Result<(), NotEating>)
+        requires of { M.is_of m.now out }
+        requires seat { seat < 5 }
+        ensures of { M.is_of m.now result.0 }
+        ensures place { M.place result.0 ≡ M.place out }
+        ensures trace { GetsUp (M.place out) seat (M.front out) (M.front result.0) result.1 }
+    {
+        let mut inside = m.enter(rt, out);
+        if !m.state(&inside).is_eating(seat) {
+            return (m.leave(rt, inside), Err(NotEating));
+        }
+        M::state_mut(&mut inside, m).stop(seat);
+        (Table::hand_on(m, rt, inside), Ok(()))
+    }
+}

@@ -1,1 +1,4 @@
 pub mod Lanes
+pub mod Does
+pub mod Shown
+pub mod Reading

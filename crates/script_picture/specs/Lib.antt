@@ -1,1 +1,3 @@
 pub mod Lanes
+pub mod Shown
+pub mod Faults

@@ -1,7 +1,10 @@
 //! Rows and lanes: what each place does after each step, read off the answers.
-ghost use Rattle.std.specs.Prelude.{◌≡◌, ◌<◌, ℕ, length, slice_index_or};
+ghost use Rattle.std.specs.Prelude.{◌≡◌, ◌<◌, ◌≤◌, ℕ, length, slice_index_or};
+ghost use Rattle.hoare_law.specs.declared.event.History.{History};
+ghost use Rattle.hoare_script.specs.Answers.{answer_to, history_after};
 ghost use Rattle.script_picture.specs.declared.chart.Lane.TheVariants as states;
 ghost use Rattle.script_picture.specs.Lanes.{actor, hand_over, lane_after, left_as};
+ghost use Rattle.script_picture.specs.Shown.{HasBook, Shows, opening};
 
 use arrayvec::ArrayVec;
 use hoare_script::answers::Answer;
@@ -110,20 +113,26 @@ pub fn hand_over(row: Row) -> Option<HandOver>
     Some(HandOver { from, to })
 }
 
-/// All places as they begin.
-pub fn outside_lanes(header: Header) -> Lanes {
+/// All of at most 64 places as they begin: these lanes show the history where nothing happened yet.
+pub fn outside_lanes(header: Header) -> Lanes
+    ensures { header.places ≤ 64 → Shows (opening header) result.items }
+{
     let mut lanes = ArrayVec::new();
-    for _ in 0..header.places {
+    'places: for _place in 0..header.places {
         let _ = lanes.try_push(Lane::Outside);
     }
     lanes
 }
 
-/// Takes all lanes past a row.
+/// Takes all lanes past a row. Where the row is answered as a history says, lanes that show this history go on to show the
+/// history after the row: who waits there, who is a waiting signaller, whose turn it is, and who is outside.
 pub fn advance(lanes: &mut [Lane], row: Row)
     ensures length { length lanes.new ≡ length lanes.old }
     ensures each { (k : ℕ) → k < length lanes.old → slice_index_or lanes.new k states.Outside
         ≡ lane_after row k (slice_index_or lanes.old k states.Outside) }
+    ensures shows { (h : History (Unit {0})) → HasBook (history_after h row.command)
+        → row.answer ≡ answer_to h row.command
+        → Shows h lanes.old → Shows (history_after h row.command) lanes.new }
 {
     'places: for place in 0..lanes.len() {
         lanes[place] = lane_after(row, place as u64, lanes[place]);

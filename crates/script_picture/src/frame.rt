@@ -1,9 +1,14 @@
 //! Where the parts of an SVG stand, in pixels. A sum past 64 bits stays at the greatest number.
 use crate::chart::Chart;
-use crate::widths::widths_of;
+use crate::widths::{Column, Widths, widths_of};
+use crate::words::place_text;
+use arrayvec::ArrayVec;
 
 /// The height of a row.
 pub const ROW: u64 = 28;
+
+/// The most rows that a picture has: with one more it is over 32,767 high, which viewers don't draw.
+pub const MOST_ROWS: usize = 1_164;
 
 /// The height above the first row.
 const HEAD: u64 = 64;
@@ -14,55 +19,83 @@ const LEGEND: u64 = 104;
 /// The least width, which the legend has room in.
 const LEAST_WIDTH: u64 = 560;
 
-/// The frame of a chart.
-#[derive(Clone, Copy, Debug, PartialEq, Eq)]
-pub struct Frame {
-    /// The middle of the first lane.
-    pub first: u64,
-    /// From one lane's middle to the next one's.
-    pub pitch: u64,
-    /// Half a box's width.
+/// The room between two boxes.
+const GAP: u64 = 44;
+
+/// Where a place's lane stands: its middle, and half the width of its boxes.
+#[derive(Clone, Copy, Debug, Default, PartialEq, Eq)]
+pub struct Track {
+    pub place: u64,
+    pub middle: u64,
     pub half: u64,
+}
+
+/// The frame of a chart.
+#[derive(Drop)]
+pub struct Frame {
+    /// The lanes that are shown, by rising places.
+    pub tracks: ArrayVec<Track, 64>,
+    /// How many places are idle, and have no lane.
+    pub idle: u64,
     /// Where remarks begin.
     pub remarks: u64,
     pub width: u64,
     pub height: u64,
-    pub places: u64,
     pub rows: u64,
 }
 
-/// The frame that a chart has room in.
+/// The frame that a chart has room in: each lane is as wide as its own longest text.
 pub fn frame_of(chart: &Chart) -> Frame {
     let widths = widths_of(chart);
-    let mut longest = 0;
-    for length in widths.lanes.as_slice() {
-        longest = (*length as u64).max(longest);
-    }
-    let half = longest.saturating_mul(4).saturating_add(12).max(34);
-    let pitch = half.saturating_mul(2).saturating_add(44);
-    let first = across(20, widths.steps as u64).saturating_add(half.saturating_add(24));
-    let last = pitch.saturating_mul(chart.header.places.saturating_sub(1));
-    let remarks = first
-        .saturating_add(last)
-        .saturating_add(half.saturating_add(16));
     let rows = chart.rows.len() as u64;
+    let mut tracks = ArrayVec::new();
+    let mut edge = across(20, widths.steps).saturating_add(24);
+    for column in widths.columns.as_slice() {
+        let track = track_at(edge, *column);
+        let _ = tracks.try_push(track);
+        edge = track.middle.saturating_add(track.half.saturating_add(GAP));
+    }
+    let remarks = remarks_after(&tracks, edge);
     Frame {
-        first,
-        pitch,
-        half,
+        tracks,
+        idle: widths.idle,
         remarks,
-        width: across(remarks, widths.remarks as u64)
-            .saturating_add(20)
-            .max(LEAST_WIDTH),
+        width: width_of(remarks, &widths),
         height: row_top(rows).saturating_add(LEGEND),
-        places: chart.header.places,
         rows,
     }
 }
 
+// The lane of a column from this left edge on. A wait is spelled with one letter more than in a chart.
+fn track_at(edge: u64, column: Column) -> Track {
+    let place = column.place;
+    let name = place_text(place).len().saturating_add(6);
+    let longest = column.width.saturating_add(1).max(name) as u64;
+    let half = longest.saturating_mul(4).saturating_add(6);
+    Track {
+        place,
+        middle: edge.saturating_add(half),
+        half,
+    }
+}
+
+// Remarks begin 16 after the last box.
+fn remarks_after(tracks: &ArrayVec<Track, 64>, edge: u64) -> u64 {
+    if tracks.is_empty() {
+        return edge;
+    }
+    edge.saturating_sub(GAP).saturating_add(16)
+}
+
+fn width_of(remarks: u64, widths: &Widths) -> u64 {
+    across(remarks, widths.remarks)
+        .saturating_add(20)
+        .max(LEAST_WIDTH)
+}
+
 // Past so many characters.
-fn across(from: u64, characters: u64) -> u64 {
-    from.saturating_add(characters.saturating_mul(8))
+fn across(from: u64, characters: usize) -> u64 {
+    from.saturating_add((characters as u64).saturating_mul(8))
 }
 
 /// Where a row begins.
@@ -71,8 +104,9 @@ pub fn row_top(row: u64) -> u64 {
 }
 
 impl Frame {
-    /// The middle of a place's lane.
-    pub fn middle(&self, place: u64) -> u64 {
-        self.first.saturating_add(self.pitch.saturating_mul(place))
+    /// Where a place's lane stands, if it is shown.
+    pub fn track(&self, place: u64) -> Option<Track> {
+        let tracks = self.tracks.as_slice();
+        tracks.iter().find(|track| track.place == place).copied()
     }
 }

@@ -1,7 +1,9 @@
 //! Reads a script row by row, as `hoare_script` answers it.
-ghost use Rattle.std.specs.Prelude.{◌≡◌, ◌||◌, false};
+ghost use Rattle.std.specs.Prelude.{◌≡◌, ◌≤◌, ◌||◌, false, IfOk, OnOk};
+ghost use Rattle.wait_book.specs.Contents.{IsOf};
 ghost use Rattle.hoare_script.specs.Runs.{is_read_fault};
 ghost use Rattle.line_text.specs.Streams.{has_read_failed};
+ghost use Rattle.script_picture.specs.Shown.{IsRead, IsTold, opening};
 
 use crate::chart::{Chart, Row};
 use arrayvec::ArrayVec;
@@ -29,7 +31,8 @@ pub fn open_script<R: Read>(
     alloc: Global,
     reader: &mut WatchedReader<'_, R>,
 ) -> Result<Script, ScriptFault>
-    ensures { has_read_failed reader.new ≡ (has_read_failed reader.old || is_read_fault result) }
+    ensures told { IfOk result IsRead }
+    ensures failed { has_read_failed reader.new ≡ (has_read_failed reader.old || is_read_fault result) }
 {
     let mut line = ArrayVec::new();
     let ended = read_numbered(reader, &mut line, MOST_BYTES, 1)?;
@@ -52,8 +55,10 @@ pub fn open_script<R: Read>(
 }
 
 // The book of a header.
+#[tactic(auto, using(crate::proofs::Reading::few_places))]
 fn open_book(alloc: Global, header: Header) -> Result<Opened, ScriptFault>
-    ensures { is_read_fault result ≡ false }
+    ensures book { IfOk result (λ b. (header.places ≤ 64) × IsOf b (opening header)) }
+    ensures fault { is_read_fault result ≡ false }
 {
     match Opened::make(alloc, header) {
         Ok(opened) => Ok(opened),
@@ -81,12 +86,13 @@ fn read_numbered<R: Read>(
 
 impl Script {
     /// Reads the rows, up to the end or the first fault: `BadLine`, `LineTooLong`, `TooMuch`, `ReadFault`, or `Memory`
-    /// where no row can be added. What was read stays in the chart.
+    /// where no row can be added. What was read stays in the chart, each row answered as the history since the opening says.
     pub fn read_rows<R: Read>(
         &mut self,
         reader: &mut WatchedReader<'_, R>,
     ) -> Result<(), ScriptFault>
-        ensures { has_read_failed reader.new
+        ensures told { IsRead self.old → IsTold self.new.chart }
+        ensures failed { has_read_failed reader.new
             ≡ (has_read_failed reader.old || is_read_fault result) }
     {
         let mut line = ArrayVec::new();
@@ -106,7 +112,9 @@ impl Script {
 
     // Does what a line asks, and adds it with its answer.
     fn add_row(&mut self, line: &[u8], number: u64) -> Result<(), ScriptFault>
-        ensures { is_read_fault result ≡ false }
+        ensures told { IsRead self.old → IsTold self.new.chart }
+        ensures book { OnOk result (IsRead self.old → IsRead self.new) }
+        ensures fault { is_read_fault result ≡ false }
     {
         let Some(command) = parse_command(line) else {
             return Err(ScriptFault::BadLine(number));

@@ -1,10 +1,12 @@
 //! The chart as an SVG.
+use crate::about::write_description;
 use crate::chart::{
     Chart, HandOver, Lane, Lanes, Row, advance, hand_over, lane_after, outside_lanes,
 };
 use crate::frame::{Frame, ROW, frame_of, row_top};
+use crate::legend::write_legend;
 use crate::shapes::{Area, Arrow, write_arrow, write_box, write_dot};
-use crate::words::{command_text, header_text, is_in_lanes, write_remark};
+use crate::words::{Text, command_text, header_text, idle_text, remark_text};
 use arrayvec::ArrayVec;
 use hoare_script::answers::Answer;
 use hoare_script::lines::Header;
@@ -27,7 +29,9 @@ const STYLE: [&str; 8] = [
 /// arrow for each hand-over. It names nothing outside itself.
 pub fn draw<W: Write>(writer: &mut W, chart: &Chart) -> io::Result<()> {
     let frame = frame_of(chart);
-    write_opening(writer, &frame, chart.header)?;
+    write_opening(writer, &frame)?;
+    write_description(writer, &frame, chart)?;
+    write_head(writer, &frame, chart.header)?;
     write_rows(writer, &frame, chart)?;
     write_lanes(writer, &frame)?;
     write_boxes(writer, &frame, chart)?;
@@ -36,30 +40,43 @@ pub fn draw<W: Write>(writer: &mut W, chart: &Chart) -> io::Result<()> {
     writer.write_all(b"</svg>\n")
 }
 
-// The tag, the title and the white page.
-fn write_opening<W: Write>(writer: &mut W, frame: &Frame, header: Header) -> io::Result<()> {
+// The tag.
+fn write_opening<W: Write>(writer: &mut W, frame: &Frame) -> io::Result<()> {
     let width = frame.width;
     let height = frame.height;
-    let inner_width = width.saturating_sub(1);
-    let inner_height = height.saturating_sub(1);
-    let places = header.places;
-    let conditions = header.conditions;
     write!(
         writer,
-        "<svg xmlns=\"http://www.w3.org/2000/svg\" width=\"{width}\" height=\"{height}\""
+        "<svg xmlns=\"http://www.w3.org/2000/svg\" width=\"{width}\" height=\"{height}\" viewBox=\"0 0 {width} {height}\""
     )?;
-    write!(writer, " viewBox=\"0 0 {width} {height}\" role=\"img\">\n")?;
-    write!(
-        writer,
-        "<title>A script of one monitor, places: {places}, conditions: {conditions}</title>\n"
-    )?;
+    writer.write_all(b" role=\"img\" aria-labelledby=\"title\" aria-describedby=\"about\">\n")
+}
+
+// The styles, the white page, and what stands over the steps and the remarks.
+fn write_head<W: Write>(writer: &mut W, frame: &Frame, header: Header) -> io::Result<()> {
+    let inner_width = frame.width.saturating_sub(1);
+    let inner_height = frame.height.saturating_sub(1);
     write_style(writer)?;
     write!(
         writer,
         "<rect class=\"page\" x=\"0.5\" y=\"0.5\" width=\"{inner_width}\" height=\"{inner_height}\" rx=\"8\"/>\n"
     )?;
-    writer.write_all(b"<text class=\"title\" x=\"20\" y=\"42\">")?;
-    writer.write_all(header_text(header).as_slice())?;
+    write_text(writer, "title", 20, 42, header_text(header))?;
+    if frame.idle == 0 {
+        return Ok(());
+    }
+    write_text(writer, "note", frame.remarks, 42, idle_text(frame.idle))
+}
+
+// A text of a class that begins here.
+fn write_text<W: Write>(
+    writer: &mut W,
+    class: &str,
+    x: u64,
+    line: u64,
+    text: Text,
+) -> io::Result<()> {
+    write!(writer, "<text class=\"{class}\" x=\"{x}\" y=\"{line}\">")?;
+    writer.write_all(text.as_slice())?;
     writer.write_all(b"</text>\n")
 }
 
@@ -97,26 +114,21 @@ fn write_row<W: Write>(writer: &mut W, frame: &Frame, line: u64, row: Row) -> io
         Answer::Refused(_) => "refused",
         _ => "step",
     };
-    let remarks = frame.remarks;
-    write!(writer, "<text class=\"{class}\" x=\"20\" y=\"{line}\">")?;
-    writer.write_all(command_text(row.command).as_slice())?;
-    if is_in_lanes(row.answer) {
-        return writer.write_all(b"</text>\n");
+    write_text(writer, class, 20, line, command_text(row.command))?;
+    let remark = remark_text(row.answer);
+    if remark.is_empty() {
+        return Ok(());
     }
-    write!(
-        writer,
-        "</text>\n<text class=\"{class}\" x=\"{remarks}\" y=\"{line}\">"
-    )?;
-    write_remark(writer, row.answer)?;
-    writer.write_all(b"</text>\n")
+    write_text(writer, class, frame.remarks, line, remark)
 }
 
 // The lanes, with the places' numbers over them.
 fn write_lanes<W: Write>(writer: &mut W, frame: &Frame) -> io::Result<()> {
     let top = row_top(0);
     let bottom = row_top(frame.rows);
-    for place in 0..frame.places {
-        let x = frame.middle(place);
+    for track in frame.tracks.as_slice() {
+        let place = track.place;
+        let x = track.middle;
         write!(
             writer,
             "<text class=\"head\" x=\"{x}\" y=\"42\">place {place}</text>"
@@ -177,11 +189,14 @@ fn write_span<W: Write>(
     span: Span,
     end: u64,
 ) -> io::Result<()> {
+    let Some(track) = frame.track(place) else {
+        return Ok(()); // idle
+    };
     let top = row_top(span.since);
     let height = row_top(end).saturating_sub(top);
     let area = Area {
-        middle: frame.middle(place),
-        half: frame.half,
+        middle: track.middle,
+        half: track.half,
         top: top.saturating_add(3),
         height: height.saturating_sub(6),
     };
@@ -219,69 +234,27 @@ fn write_over<W: Write>(
     returns: bool,
     gone: bool,
 ) -> io::Result<()> {
-    let from = frame.middle(over.from);
-    let to = frame.middle(over.to);
-    let reach = if gone { 0 } else { frame.half };
-    let arrow = if from < to {
+    let (Some(from), Some(to)) = (frame.track(over.from), frame.track(over.to)) else {
+        return Ok(()); // neither is idle
+    };
+    let reach = if gone { 0 } else { from.half };
+    let arrow = if over.from < over.to {
         Arrow {
-            from: from.saturating_add(reach),
-            to: to.saturating_sub(frame.half),
+            from: from.middle.saturating_add(reach),
+            to: to.middle.saturating_sub(to.half),
             middle,
             returns,
         }
     } else {
         Arrow {
-            from: from.saturating_sub(reach),
-            to: to.saturating_add(frame.half),
+            from: from.middle.saturating_sub(reach),
+            to: to.middle.saturating_add(to.half),
             middle,
             returns,
         }
     };
     if gone {
-        write_dot(writer, from, middle)?;
+        write_dot(writer, from.middle, middle)?;
     }
     write_arrow(writer, arrow)
-}
-
-// What the shapes mean, below the rows.
-fn write_legend<W: Write>(writer: &mut W, bottom: u64) -> io::Result<()> {
-    let lanes = [
-        (Lane::Inside, "is inside the monitor"),
-        (Lane::Waiting(0, 5), "waits on condition 0, priority 5"),
-        (Lane::Signalling, "signalled, waits to return"),
-    ];
-    let arrows = [(false, "a waiter goes on"), (true, "a signaller returns")];
-    let mut top = bottom.saturating_add(18);
-    for (lane, note) in lanes {
-        let area = Area {
-            middle: 54,
-            half: 34,
-            top,
-            height: 22,
-        };
-        write_box(writer, lane, area)?;
-        write_note(writer, 98, top, note)?;
-        top = top.saturating_add(26);
-    }
-    let mut top = bottom.saturating_add(18);
-    for (returns, note) in arrows {
-        let arrow = Arrow {
-            from: 350,
-            to: 394,
-            middle: top.saturating_add(11),
-            returns,
-        };
-        write_arrow(writer, arrow)?;
-        write_note(writer, 404, top, note)?;
-        top = top.saturating_add(26);
-    }
-    Ok(())
-}
-
-fn write_note<W: Write>(writer: &mut W, x: u64, top: u64, note: &str) -> io::Result<()> {
-    let line = top.saturating_add(15);
-    write!(
-        writer,
-        "<text class=\"note\" x=\"{x}\" y=\"{line}\">{note}</text>\n"
-    )
 }

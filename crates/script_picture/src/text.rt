@@ -1,48 +1,154 @@
-//! The chart as text: a row for each step, a lane for each place.
-use crate::chart::{Chart, HandOver, Lanes, Row, advance, hand_over, outside_lanes};
+//! The chart as text: a row for each step, a lane for each place that isn't idle. Lanes that a terminal has no room for
+//! follow in further blocks below, each with all steps.
+ghost use Rattle.script_picture.specs.Shown.{IsShownAfter, IsTold};
+
+use crate::chart::{Chart, HandOver, Lane, Lanes, Row, advance, hand_over, outside_lanes};
 use crate::widths::{Widths, widths_of};
 use crate::words::{
-    Text, command_text, header_text, is_in_lanes, lane_text, place_text, write_remark,
+    Text, command_text, header_text, idle_text, lane_text, place_text, remark_text,
 };
+use arrayvec::ArrayVec;
 use std::io;
 use std::io::Write;
 
-/// Writes a chart: the header with the places' numbers, and a row for each command.
-pub fn draw<W: Write>(writer: &mut W, chart: &Chart) -> io::Result<()> {
+/// The length that a line keeps to, where a step and one lane have room in it.
+const TERMINAL: usize = 80;
+
+/// The room between two lanes.
+const GAP: usize = 4;
+
+/// The room for an arrow to the next block.
+const ARROW: usize = 3;
+
+/// Lanes that stand side by side: the columns from one up to another, and how long a line with them is.
+#[derive(Clone, Copy, Debug, Default, PartialEq, Eq)]
+struct Block {
+    first: usize,
+    end: usize,
+    length: usize,
+}
+
+/// How an arrow goes through the gap between two lanes.
+#[derive(Clone, Copy, Debug, PartialEq, Eq)]
+enum Shaft {
+    Leftward,
+    LeftHead,
+    Rightward,
+    RightHead,
+}
+
+/// Writes a chart: the header with the places' numbers, and a row for each command; and so again for each further block, after
+/// an empty line. What the lanes don't show stands in the last block, below its step where the line has no room for it.
+pub fn draw<W: Write>(writer: &mut W, chart: &Chart) -> io::Result<()>
+    requires { IsTold chart.now }
+{
     let widths = widths_of(chart);
+    for block in blocks_of(&widths).as_slice() {
+        if block.first > 0 {
+            writer.write_all(b"\n")?;
+        }
+        write_block(writer, chart, &widths, *block)?;
+    }
+    Ok(())
+}
+
+// As many lanes side by side as there is room for, and at least one.
+fn blocks_of(widths: &Widths) -> ArrayVec<Block, 65> {
+    let mut blocks = ArrayVec::new();
+    let mut block = Block {
+        first: 0,
+        end: 0,
+        length: widths.steps,
+    };
+    for (i, column) in widths.columns.as_slice().iter().enumerate() {
+        let taken = column.width.saturating_add(GAP);
+        if block.first < i && block.length.saturating_add(taken).saturating_add(ARROW) > TERMINAL {
+            let _ = blocks.try_push(block);
+            block.first = i;
+            block.length = widths.steps;
+        }
+        block.end = i.saturating_add(1);
+        block.length = block.length.saturating_add(taken);
+    }
+    let _ = blocks.try_push(block);
+    blocks
+}
+
+// The head and all rows, with the lanes of a block.
+fn write_block<W: Write>(
+    writer: &mut W,
+    chart: &Chart,
+    widths: &Widths,
+    block: Block,
+) -> io::Result<()>
+    requires { IsTold chart.now }
+{
     let mut lanes = outside_lanes(chart.header);
-    write_head(writer, chart, &widths)?;
-    for row in chart.rows.iter() {
+    write_head(writer, chart, widths, block)?;
+    'rows: for row in chart.rows.iter() {
         advance(lanes.as_mut_slice(), *row);
-        write_row(writer, &widths, &lanes, *row)?;
+        write_row(writer, widths, block, &lanes, *row)?;
     }
     Ok(())
 }
 
 // The header, and the places' numbers over their lanes.
-fn write_head<W: Write>(writer: &mut W, chart: &Chart, widths: &Widths) -> io::Result<()> {
+fn write_head<W: Write>(
+    writer: &mut W,
+    chart: &Chart,
+    widths: &Widths,
+    block: Block,
+) -> io::Result<()> {
     let mut room = write_cell(writer, header_text(chart.header), widths.steps)?;
-    for (place, width) in widths.lanes.as_slice().iter().enumerate() {
-        write_gap(writer, room, None, place as u64)?;
-        room = write_cell(writer, place_text(place as u64), *width)?;
+    for i in block.first..block.end {
+        let column = widths
+            .columns
+            .as_slice()
+            .get(i)
+            .copied()
+            .unwrap_or_default();
+        write_gap(writer, room, None)?;
+        room = write_cell(writer, place_text(column.place), column.width)?;
     }
-    writer.write_all(b"\n")
+    write_end(writer, widths, block, room, None, idle_text(widths.idle))
 }
 
 // A command, what each place does after it, and what else it was answered.
-fn write_row<W: Write>(writer: &mut W, widths: &Widths, lanes: &Lanes, row: Row) -> io::Result<()> {
+fn write_row<W: Write>(
+    writer: &mut W,
+    widths: &Widths,
+    block: Block,
+    lanes: &Lanes,
+    row: Row,
+) -> io::Result<()>
+    requires { IsShownAfter lanes.now.items row }
+{
     let over = hand_over(row);
     let mut room = write_cell(writer, command_text(row.command), widths.steps)?;
-    for (place, lane) in lanes.as_slice().iter().enumerate() {
-        write_gap(writer, room, over, place as u64)?;
-        let width = widths.lanes.as_slice().get(place).copied().unwrap_or(0);
-        room = write_cell(writer, lane_text(*lane), width)?;
+    for i in block.first..block.end {
+        let column = widths
+            .columns
+            .as_slice()
+            .get(i)
+            .copied()
+            .unwrap_or_default();
+        write_gap(writer, room, shaft_before(widths, i, over))?;
+        room = write_cell(
+            writer,
+            lane_text(lane_of(lanes, column.place)),
+            column.width,
+        )?;
     }
-    if !is_in_lanes(row.answer) {
-        write_gap(writer, room, None, 0)?;
-        write_remark(writer, row.answer)?;
-    }
-    writer.write_all(b"\n")
+    let shaft = shaft_before(widths, block.end, over);
+    write_end(writer, widths, block, room, shaft, remark_text(row.answer))
+}
+
+fn lane_of(lanes: &Lanes, place: u64) -> Lane {
+    lanes
+        .as_slice()
+        .get(place as usize)
+        .copied()
+        .unwrap_or_default()
 }
 
 // A text, and the room that it leaves in a width.
@@ -51,39 +157,86 @@ fn write_cell<W: Write>(writer: &mut W, text: Text, width: usize) -> io::Result<
     Ok(width.saturating_sub(text.len()))
 }
 
-// The gap before a place's lane, with the room that was left before it, and the arrow that goes through it.
-fn write_gap<W: Write>(
-    writer: &mut W,
-    room: usize,
-    over: Option<HandOver>,
-    place: u64,
-) -> io::Result<()> {
-    match over {
-        Some(over) if over.from < place && place <= over.to => {
-            let head = if over.to == place { b"> " } else { b"- " };
-            write_shaft(writer, b" -", room, head)
-        }
-        Some(over) if over.to < place && place <= over.from => {
-            let head = if place - over.to == 1 { b" <" } else { b" -" };
-            write_shaft(writer, head, room, b"- ")
-        }
-        _ => {
-            write_times(writer, b" ", room)?;
-            writer.write_all(b"    ")
-        }
+// How an arrow goes through the gap before a column, if it does.
+fn shaft_before(widths: &Widths, i: usize, over: Option<HandOver>) -> Option<Shaft> {
+    let over = over?;
+    let left = widths.columns.as_slice().get(i.checked_sub(1)?)?.place;
+    let right = widths.columns.as_slice().get(i)?.place;
+    if over.from <= left && right <= over.to {
+        return Some(if right == over.to {
+            Shaft::RightHead
+        } else {
+            Shaft::Rightward
+        });
     }
+    if over.to <= left && right <= over.from {
+        return Some(if left == over.to {
+            Shaft::LeftHead
+        } else {
+            Shaft::Leftward
+        });
+    }
+    None
 }
 
-// Two bytes, a line of a length, and two bytes.
-fn write_shaft<W: Write>(
+// The gap between two lanes, with the room that was left before it, and the arrow that goes through it.
+fn write_gap<W: Write>(writer: &mut W, room: usize, shaft: Option<Shaft>) -> io::Result<()> {
+    if let Some(shaft) = shaft {
+        write_shaft(writer, room, shaft)?;
+        return writer.write_all(b" ");
+    }
+    write_times(writer, b" ", room.saturating_add(GAP))
+}
+
+// An arrow, after a space.
+fn write_shaft<W: Write>(writer: &mut W, room: usize, shaft: Shaft) -> io::Result<()> {
+    writer.write_all(if shaft == Shaft::LeftHead {
+        b" <"
+    } else {
+        b" -"
+    })?;
+    write_times(writer, b"-", room)?;
+    writer.write_all(if shaft == Shaft::RightHead {
+        b">"
+    } else {
+        b"-"
+    })
+}
+
+// The end of a line: the arrow to the next block, or a remark.
+fn write_end<W: Write>(
     writer: &mut W,
-    before: &[u8],
-    length: usize,
-    after: &[u8],
+    widths: &Widths,
+    block: Block,
+    room: usize,
+    shaft: Option<Shaft>,
+    remark: Text,
 ) -> io::Result<()> {
-    writer.write_all(before)?;
-    write_times(writer, b"-", length)?;
-    writer.write_all(after)
+    if let Some(shaft) = shaft {
+        write_shaft(writer, room, shaft)?;
+    } else if block.end == widths.columns.len() && !remark.is_empty() {
+        write_remark(writer, block, room, remark)?;
+    }
+    writer.write_all(b"\n")
+}
+
+// A remark behind the lanes, or on a line of its own.
+fn write_remark<W: Write>(
+    writer: &mut W,
+    block: Block,
+    room: usize,
+    remark: Text,
+) -> io::Result<()> {
+    if block
+        .length
+        .saturating_add(remark.len().saturating_add(GAP))
+        <= TERMINAL
+    {
+        write_gap(writer, room, None)?;
+    } else {
+        writer.write_all(b"\n    ")?;
+    }
+    writer.write_all(remark.as_slice())
 }
 
 fn write_times<W: Write>(writer: &mut W, text: &[u8], times: usize) -> io::Result<()> {

@@ -1,45 +1,82 @@
-//! How much room the texts of a chart take.
-use crate::chart::{Chart, Lanes, Row, advance, outside_lanes};
-use crate::words::{command_text, header_text, lane_text, place_text, remark_length};
+//! Which lanes a picture shows, and how much room its texts take.
+use crate::chart::{Chart, Lane, Lanes, Row, advance, outside_lanes};
+use crate::words::{command_text, header_text, idle_text, lane_text, place_text, remark_text};
 use arrayvec::ArrayVec;
 
-/// The longest step, the longest text of each place's lane, and the longest remark, in bytes.
+/// A place whose lane is shown, with the length of the longest text in that lane, in bytes.
+#[derive(Clone, Copy, Debug, Default, PartialEq, Eq)]
+pub struct Column {
+    pub place: u64,
+    pub width: usize,
+}
+
+/// The columns of a chart, by rising places. A place that is outside after every row is idle, and has none.
+pub type Columns = ArrayVec<Column, 64>;
+
+/// The longest step, the columns, how many places are idle, and the longest remark. Lengths are in bytes.
 #[derive(Drop)]
 pub struct Widths {
     pub steps: usize,
-    pub lanes: ArrayVec<usize, 64>,
+    pub columns: Columns,
+    pub idle: u64,
     pub remarks: usize,
 }
 
+// The longest text of each place's lane; 0 as long as the place is outside.
+type Longest = ArrayVec<usize, 64>;
+
 /// The widths that all rows have room in.
 pub fn widths_of(chart: &Chart) -> Widths {
-    let mut widths = head_widths(chart);
+    let mut steps = header_text(chart.header).len();
+    let mut remarks: usize = 0;
+    let mut longest = none_yet(chart);
     let mut lanes = outside_lanes(chart.header);
     for row in chart.rows.iter() {
         advance(lanes.as_mut_slice(), *row);
-        widen(&mut widths, &lanes, *row);
+        widen(&mut longest, &lanes);
+        steps = steps.max(command_text(row.command).len());
+        remarks = remarks.max(remark_width(*row));
     }
-    widths
-}
-
-// The widths at the head of a chart.
-fn head_widths(chart: &Chart) -> Widths {
-    let mut lanes = ArrayVec::new();
-    for place in 0..chart.header.places {
-        let _ = lanes.try_push(place_text(place).len());
-    }
+    let columns = columns_of(&longest);
+    let idle = chart.header.places.saturating_sub(columns.len() as u64);
     Widths {
-        steps: header_text(chart.header).len(),
-        lanes,
-        remarks: 0,
+        steps,
+        columns,
+        idle,
+        remarks: remarks.max(idle_text(idle).len()),
     }
 }
 
-// Widens them to a row, where each place does what its lane says.
-fn widen(widths: &mut Widths, lanes: &Lanes, row: Row) {
-    widths.steps = widths.steps.max(command_text(row.command).len());
-    widths.remarks = widths.remarks.max(remark_length(row.answer));
-    for (width, lane) in widths.lanes.as_mut_slice().iter_mut().zip(lanes.as_slice()) {
-        *width = (*width).max(lane_text(*lane).len());
+fn none_yet(chart: &Chart) -> Longest {
+    let mut longest = ArrayVec::new();
+    for _ in 0..chart.header.places {
+        let _ = longest.try_push(0);
     }
+    longest
+}
+
+// Takes the lanes of a row into account.
+fn widen(longest: &mut Longest, lanes: &Lanes) {
+    for (length, lane) in longest.as_mut_slice().iter_mut().zip(lanes.as_slice()) {
+        if *lane != Lane::Outside {
+            *length = (*length).max(lane_text(*lane).len());
+        }
+    }
+}
+
+// The columns of the places that weren't outside all the time. Each has room for its place's number.
+fn columns_of(longest: &Longest) -> Columns {
+    let mut columns = ArrayVec::new();
+    for (place, length) in longest.as_slice().iter().enumerate() {
+        if *length > 0 {
+            let place = place as u64;
+            let width = (*length).max(place_text(place).len());
+            let _ = columns.try_push(Column { place, width });
+        }
+    }
+    columns
+}
+
+fn remark_width(row: Row) -> usize {
+    remark_text(row.answer).len()
 }

@@ -4,7 +4,6 @@ use arrayvec::ArrayVec;
 use hoare_script::answers::{Answer, answer_line};
 use hoare_script::lines::{Command, Header};
 use itoa::Buffer;
-use std::io;
 use std::io::Write;
 use wait_book::steps::Step;
 
@@ -77,33 +76,26 @@ pub fn place_text(place: u64) -> Text {
     text
 }
 
-/// Whether the lanes show all that was answered: a place is inside.
-pub fn is_in_lanes(answer: Answer) -> bool {
-    matches!(answer, Answer::Inside(_))
-}
-
-// An answer as a script is told it, with its arrow.
-fn answer_text(answer: Answer) -> Text {
+/// How many places are idle, or nothing where none is.
+pub fn idle_text(idle: u64) -> Text {
     let mut text = ArrayVec::new();
-    let line = answer_line(b"", answer);
-    let _ = text.try_extend_from_slice(line.as_slice().trim_ascii());
+    if idle > 0 {
+        let _ = write!(text, "({idle} idle)");
+    }
     text
 }
 
-/// Writes `-> ANSWER`, and why a step is refused.
-pub fn write_remark<W: Write>(writer: &mut W, answer: Answer) -> io::Result<()> {
-    writer.write_all(answer_text(answer).as_slice())?;
-    match answer {
-        Answer::Refused(refused) => write!(writer, " ({refused})"),
-        _ => Ok(()),
+/// What a row shows beside its lanes: `-> ANSWER`, and why a step is refused. Nothing where a place is inside, since the
+/// lanes show that.
+pub fn remark_text(answer: Answer) -> Text {
+    let mut text = ArrayVec::new();
+    if let Answer::Inside(_) = answer {
+        return text;
     }
-}
-
-/// The most bytes of what `write_remark` writes.
-pub fn remark_length(answer: Answer) -> usize {
-    let length = answer_text(answer).len();
-    match answer {
-        Answer::Refused(_) => length + 33,
-        _ => length,
+    let line = answer_line(b"", answer);
+    let _ = text.try_extend_from_slice(line.as_slice().trim_ascii());
+    if let Answer::Refused(refused) = answer {
+        let _ = write!(text, " ({refused})");
     }
+    text
 }

@@ -1,0 +1,34 @@
+-- Rows that are read, and answered as the history says.
+use Rattle.std.proofs.Common.{◌≡◌, ◌≤◌, ◌&&◌, ℕ, Bool, true, false, cond, leb, arith}
+use Rattle.std.proofs.Common.{List, [], ◌∷◌, ◌++◌, None, Some, refl, sym, subst}
+use Rattle.std.proofs.lemmas.Bool.Decides.{nat_tests}
+use Rattle.hoare_law.specs.declared.event.History.{History}
+use Rattle.wait_book.specs.declared.steps.MakeRefused.TheVariants.{BadPlaces, BadConditions}
+use Rattle.wait_book.specs.Contents.{Contents, IsOf, make_refusal}
+use Rattle.hoare_script.specs.Answers.{answer_to, history_after}
+use Rattle.hoare_script.specs.declared.answers.Answer.{Answer}
+use Rattle.hoare_script.specs.declared.lines.Command.{Command}
+use Rattle.script_picture.specs.declared.chart.Row.{Row}
+use Rattle.script_picture.specs.Shown.{Answered, after_rows}
+use Rattle.script_picture.proofs.Shown.{Answered-push, after_rows-push}
+
+-- a book that was made has at most 64 places
+pub few_places : (n m : ℕ) → make_refusal n m ≡ None → n ≤ 64
+few_places n m is = by (leb 1 n) (leb n 64) refl is
+  where
+    by : (a b : Bool) → leb n 64 ≡ b → cond (a && b) (cond (leb 1 m && leb m 8) None (Some BadConditions)) (Some BadPlaces) ≡ None → n ≤ 64
+    by true true e x = grind (arith, nat_tests)
+    by true false e x = absurd (cc)
+    by false b e x = absurd (cc)
+
+-- what a book answers, as one more row
+pub answered_row : (h : History (Unit {0})) (rows : List Row) (old new : Contents) (command : Command) (answer : Answer)
+    → ((g : History (Unit {0})) → IsOf old g → (answer ≡ answer_to g command) × IsOf new (history_after g command))
+    → Answered h rows → IsOf old (after_rows h rows)
+    → Answered h (rows ++ record { command = command; answer = answer } ∷ []) × IsOf new (after_rows h (rows ++ record { command = command; answer = answer } ∷ []))
+answered_row h rows old new command answer told answered of =
+    let row : Row = record { command = command; answer = answer } in
+    let one : (answer ≡ answer_to (after_rows h rows) command) × IsOf new (history_after (after_rows h rows) command) = told (after_rows h rows) of in (
+      Answered-push h rows row answered one.0 (new, one.1),
+      subst (λ (g : History (Unit {0})). IsOf new g) (sym (after_rows-push h rows row)) one.1,
+    )

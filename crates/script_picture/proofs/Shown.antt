@@ -1,0 +1,300 @@
+-- What one more command makes of the lanes, and that they go on to show the history.
+use Rattle.std.proofs.Common.{◌≡◌, ◌==◌, ◌<◌, ◌↔◌, ℕ, Bool, true, false, cond, eqb-true}
+use Rattle.std.specs.List.{refill}
+use Rattle.std.proofs.Common.{suc, zero, ◌+◌, add-one, arith, take, drop, List, [], ◌∷◌, ◌++◌, length, slice_index_or, Option, Some, None, refl, ap, sym, ◌∙◌, subst}
+use Rattle.hoare_law.specs.declared.event.Event.TheVariants as event
+use Rattle.hoare_law.specs.declared.turn.Turn.{Turn}
+use Rattle.hoare_law.specs.declared.turn.Turn.TheVariants.{Free, Held, Owed, Return}
+use Rattle.hoare_law.specs.Events.{place_of, opened, with_event}
+use Rattle.hoare_law.specs.Waiting.{chosen}
+use Rattle.hoare_law.specs.Turns.{urgent, turn, turn_by, turn_given_up}
+use Rattle.hoare_law.proofs.Held.{brings_in}
+use Rattle.hoare_law.proofs.Opening.{turn-opened}
+use Rattle.hoare_law.proofs.Turns.{turn-push}
+use Rattle.wait_book.specs.declared.steps.Step.{Step}
+use Rattle.wait_book.specs.declared.steps.Step.TheVariants.{Enter, Wait, Signal, Pass, Leave}
+use Rattle.wait_book.specs.declared.steps.StepRefused.{StepRefused}
+use Rattle.wait_book.specs.declared.steps.StepRefused.TheVariants.{NoPlace, NotInside}
+use Rattle.wait_book.specs.Stepping.{is_held_by, condition_refusal, refusal_of, after_signal, after_pass, after_claim, settled, after_step}
+use Rattle.wait_book.proofs.Histories.{IsOf-opened}
+use Rattle.hoare_script.specs.Answers.{turn_answer, step_answer, history_by, answer_to, history_after}
+use Rattle.hoare_script.specs.declared.lines.Command.{Command}
+use Rattle.hoare_script.specs.declared.lines.Command.TheVariants.{Do, Queue, First}
+use Rattle.script_picture.specs.declared.chart.Lane.{Lane}
+use Rattle.script_picture.specs.declared.chart.Lane.TheVariants as lanes
+use Rattle.script_picture.specs.declared.chart.Row.{Row}
+use Rattle.script_picture.specs.Lanes.{lane_left, lane_answered, lane_commanded, lane_after}
+use Rattle.script_picture.specs.Shown.{Does, IsClaimed, Shows, HasBook, Answered, IsShownAfter, after_rows}
+use Rattle.script_picture.proofs.Does.{Log, Act, lane_of, lane_of-push, Does-last, Does-by_last}
+
+-- the turn after one more event
+turn-with : (h : Log) (e : Act) → turn (with_event h e).events ≡ turn_by e (urgent (with_event h e).events)
+unfolding with_event
+turn-with h e = turn-push h.events e
+
+-- whoever is owed the monitor goes on
+
+abbrev claimed_turn : Turn → Turn
+claimed_turn Free = Free
+claimed_turn (Held j) = Held j
+claimed_turn (Owed j c) = Held j
+claimed_turn (Return j) = Held j
+
+turn-claim : (h : Log) (t : Turn) → turn h.events ≡ t → turn (after_claim h t).events ≡ claimed_turn t
+turn-claim h Free is = is
+turn-claim h (Held j) is = is
+turn-claim h (Owed j c) is = turn-with h (event.Resume j c tt)
+turn-claim h (Return j) is = turn-with h (event.Back j tt)
+
+is_claimed : (t : Turn) → IsClaimed (claimed_turn t)
+is_claimed Free = tt
+is_claimed (Held j) = tt
+is_claimed (Owed j c) = tt
+is_claimed (Return j) = tt
+
+claimed-settled : (h : Log) → IsClaimed (turn (settled h).events)
+claimed-settled h = subst IsClaimed (sym (turn-claim h (turn h.events) refl)) (is_claimed (turn h.events))
+
+-- nobody is inside
+abbrev IsGivenUp : Turn → Type 0
+IsGivenUp Free = Unit {0}
+IsGivenUp (Held j) = ⊥
+IsGivenUp (Owed j c) = Unit {0}
+IsGivenUp (Return j) = Unit {0}
+
+given_to : (us : List ℕ) → IsGivenUp (turn_given_up us)
+given_to [] = tt
+given_to (u ∷ us) = tt
+
+given_by : (e : Act) (us : List ℕ) → brings_in e ≡ false → IsGivenUp (turn_by e us)
+given_by (event.Admit k s) us is = absurd (cc)
+given_by (event.Resume k c s) us is = absurd (cc)
+given_by (event.Back k s) us is = absurd (cc)
+given_by (event.Wait k c p s) us is = given_to us
+given_by (event.Leave k s) us is = given_to us
+given_by (event.Signal k c w s) us is = tt
+given_by (event.Pass k c w s) us is = tt
+
+given_up : (h : Log) (e : Act) → brings_in e ≡ false → IsGivenUp (turn (with_event h e).events)
+given_up h e is = subst IsGivenUp (sym (turn-with h e)) (given_by e (urgent (with_event h e).events) is)
+
+-- where a step left its place as it does, the one that then goes on is inside
+left_claim : (h : Log) (s : Step) (k : ℕ) (before : Lane) (t : Turn) → IsGivenUp t → lane_of h k ≡ lane_left s k before
+    → lane_of (after_claim h t) k ≡ lane_answered s k before (turn_answer (claimed_turn t))
+left_claim h s k before Free g l = l
+left_claim h s k before (Held j) g l = absurd g
+left_claim h s k before (Owed j c) g l = lane_of-push h (event.Resume j c tt) k ∙ ap (λ (x : Lane). cond (j == k) lanes.Inside x) l
+left_claim h s k before (Return j) g l = lane_of-push h (event.Back j tt) k ∙ ap (λ (x : Lane). cond (j == k) lanes.Inside x) l
+
+left_settled : (h : Log) (s : Step) (k : ℕ) (before : Lane) → IsGivenUp (turn h.events) → lane_of h k ≡ lane_left s k before
+    → lane_of (settled h) k ≡ lane_answered s k before (turn_answer (turn (settled h).events))
+left_settled h s k before g l =
+    left_claim h s k before (turn h.events) g l
+    ∙ ap (λ (t : Turn). lane_answered s k before (turn_answer t)) (sym (turn-claim h (turn h.events) refl))
+
+-- an event that gives the monitor up, and whoever then goes on
+left_by : (h : Log) (s : Step) (e : Act) (k : ℕ) → brings_in e ≡ false → lane_of (with_event h e) k ≡ lane_left s k (lane_of h k)
+    → lane_of (settled (with_event h e)) k ≡ lane_answered s k (lane_of h k) (turn_answer (turn (settled (with_event h e)).events))
+left_by h s e k is l = left_settled (with_event h e) s k (lane_of h k) (given_up h e is) l
+
+-- who acts has the turn
+
+held_test : (a b : Bool) (further : Option StepRefused) → cond a (cond b further (Some NotInside)) (Some NoPlace) ≡ None → b ≡ true
+held_test true true further is = refl
+held_test true false further is = absurd (cc)
+held_test false b further is = absurd (cc)
+
+held_is : (j : ℕ) (t : Turn) → is_held_by j t ≡ true → t ≡ Held j
+held_is j Free is = absurd (cc)
+held_is j (Held i) is = ap Held (eqb-true i j is)
+held_is j (Owed i c) is = absurd (cc)
+held_is j (Return i) is = absurd (cc)
+
+-- a signal where nobody waits leaves its place inside
+signal_none : (h : Log) (j c k : ℕ) → turn h.events ≡ Held j
+    → lane_of (settled h) k ≡ lane_answered (Signal j c) k (lane_of h k) (turn_answer (turn (settled h).events))
+signal_none h j c k held =
+    subst (λ (t : Turn). lane_of (after_claim h t) k ≡ lane_answered (Signal j c) k (lane_of h k) (turn_answer (turn (after_claim h t).events))) (sym held)
+    (stays (j == k) refl ∙ ap (λ (t : Turn). lane_answered (Signal j c) k (lane_of h k) (turn_answer t)) (sym held))
+  where
+    stays : (t : Bool) → (j == k) ≡ t → lane_of h k ≡ cond t lanes.Inside (cond t lanes.Signalling (lane_of h k))
+    stays true is = sym (Does-last h k lanes.Inside (held ∙ ap Held (eqb-true j k is)))
+    stays false is = refl
+
+-- what a step that isn't refused makes of a place
+stepped : (h : Log) (s : Step) (k : ℕ) → refusal_of h s ≡ None
+    → lane_of (after_step h s) k ≡ lane_answered s k (lane_of h k) (turn_answer (turn (after_step h s).events))
+stepped h (Enter j) k r =
+    lane_of-push h (event.Admit j tt) k ∙ twice (j == k)
+    ∙ ap (λ (t : Turn). lane_answered (Enter j) k (lane_of h k) (turn_answer t)) (sym (turn-with h (event.Admit j tt)))
+  where
+    twice : (t : Bool) → cond t lanes.Inside (lane_of h k) ≡ cond t lanes.Inside (cond t lanes.Inside (lane_of h k))
+    twice true = refl
+    twice false = refl
+stepped h (Wait j c p) k r = left_by h (Wait j c p) (event.Wait j c p tt) k refl (lane_of-push h (event.Wait j c p tt) k)
+stepped h (Leave j) k r = left_by h (Leave j) (event.Leave j tt) k refl (lane_of-push h (event.Leave j tt) k)
+stepped h (Signal j c) k r = by (chosen c h.events)
+  where
+    held : turn h.events ≡ Held j
+    held = held_is j (turn h.events) (held_test _ _ (condition_refusal h c) r)
+
+    by : (o : Option Act) → lane_of (settled (after_signal h j c o)) k ≡ lane_answered (Signal j c) k (lane_of h k) (turn_answer (turn (settled (after_signal h j c o)).events))
+    by None = signal_none h j c k held
+    by (Some e) = left_by h (Signal j c) (event.Signal j c (place_of e) tt) k refl (lane_of-push h (event.Signal j c (place_of e) tt) k)
+stepped h (Pass j c) k r = by (chosen c h.events)
+  where
+    by : (o : Option Act) → lane_of (settled (after_pass h j c o)) k ≡ lane_answered (Pass j c) k (lane_of h k) (turn_answer (turn (settled (after_pass h j c o)).events))
+    by None = left_by h (Pass j c) (event.Leave j tt) k refl (lane_of-push h (event.Leave j tt) k)
+    by (Some e) = left_by h (Pass j c) (event.Pass j c (place_of e) tt) k refl (lane_of-push h (event.Pass j c (place_of e) tt) k)
+
+-- what a command makes of a place, by its answer
+lane_of-after : (h : Log) (c : Command) (k : ℕ) → lane_of (history_after h c) k ≡ lane_commanded c k (lane_of h k) (answer_to h c)
+unfolding history_after answer_to
+lane_of-after h (Do s) k = by (refusal_of h s) refl
+  where
+    by : (o : Option StepRefused) → refusal_of h s ≡ o → lane_of (history_by h s o) k ≡ lane_answered s k (lane_of h k) (step_answer h s o)
+    by None is = stepped h s k is
+    by (Some r) is = refl
+lane_of-after h (Queue c) k = refl
+lane_of-after h (First c) k = refl
+
+-- after it nobody is owed the monitor
+claimed-step : (h : Log) (s : Step) → IsClaimed (turn (after_step h s).events)
+claimed-step h (Enter j) = subst IsClaimed (sym (turn-with h (event.Admit j tt))) tt
+claimed-step h (Wait j c p) = claimed-settled (with_event h (event.Wait j c p tt))
+claimed-step h (Signal j c) = claimed-settled (after_signal h j c (chosen c h.events))
+claimed-step h (Pass j c) = claimed-settled (after_pass h j c (chosen c h.events))
+claimed-step h (Leave j) = claimed-settled (with_event h (event.Leave j tt))
+
+claimed-after : (h : Log) (c : Command) → IsClaimed (turn h.events) → IsClaimed (turn (history_after h c).events)
+unfolding history_after
+claimed-after h (Do s) claimed = by (refusal_of h s)
+  where
+    by : (o : Option StepRefused) → IsClaimed (turn (history_by h s o).events)
+    by None = claimed-step h s
+    by (Some r) = claimed
+claimed-after h (Queue c) claimed = claimed
+claimed-after h (First c) claimed = claimed
+
+-- and there are as many places
+places-claim : (h : Log) (t : Turn) → (after_claim h t).places ≡ h.places
+unfolding with_event
+places-claim h Free = refl
+places-claim h (Held j) = refl
+places-claim h (Owed j c) = refl
+places-claim h (Return j) = refl
+
+places-step : (h : Log) (s : Step) → (after_step h s).places ≡ h.places
+unfolding with_event
+places-step h (Enter j) = refl
+places-step h (Wait j c p) = places-claim (with_event h (event.Wait j c p tt)) (turn (with_event h (event.Wait j c p tt)).events)
+places-step h (Leave j) = places-claim (with_event h (event.Leave j tt)) (turn (with_event h (event.Leave j tt)).events)
+places-step h (Signal j c) = by (chosen c h.events)
+  where
+    by : (o : Option Act) → (settled (after_signal h j c o)).places ≡ h.places
+    by None = places-claim h (turn h.events)
+    by (Some e) = places-claim (with_event h (event.Signal j c (place_of e) tt)) (turn (with_event h (event.Signal j c (place_of e) tt)).events)
+places-step h (Pass j c) = by (chosen c h.events)
+  where
+    by : (o : Option Act) → (settled (after_pass h j c o)).places ≡ h.places
+    by None = places-claim (with_event h (event.Leave j tt)) (turn (with_event h (event.Leave j tt)).events)
+    by (Some e) = places-claim (with_event h (event.Pass j c (place_of e) tt)) (turn (with_event h (event.Pass j c (place_of e) tt)).events)
+
+places-after : (h : Log) (c : Command) → (history_after h c).places ≡ h.places
+unfolding history_after
+places-after h (Do s) = by (refusal_of h s)
+  where
+    by : (o : Option StepRefused) → (history_by h s o).places ≡ h.places
+    by None = places-step h s
+    by (Some r) = refl
+places-after h (Queue c) = refl
+places-after h (First c) = refl
+
+-- lanes that are taken past a row show the history after it
+pub Shows-after : (h : Log) (row : Row) (old new : List Lane) → length new ≡ length old
+    → ((k : ℕ) → k < length old → slice_index_or new k lanes.Outside ≡ lane_after row k (slice_index_or old k lanes.Outside))
+    → HasBook (history_after h row.command) → row.answer ≡ answer_to h row.command → Shows h old → Shows (history_after h row.command) new
+Shows-after h row old new long each book answered shows = record {
+  claimed = claimed-after h row.command shows.claimed;
+  places = long ∙ (shows.places ∙ sym (places-after h row.command));
+  each = λ k below lane.
+      let inside : k < h.places = subst (λ (n : ℕ). k < n) (places-after h row.command) below in
+      let was : slice_index_or old k lanes.Outside ≡ lane_of h k = Does-last h k (slice_index_or old k lanes.Outside) ((shows.each k inside (slice_index_or old k lanes.Outside)).1 refl) in
+      let is : slice_index_or new k lanes.Outside ≡ lane_of (history_after h row.command) k =
+      each k (subst (λ (n : ℕ). k < n) (sym shows.places) inside)
+      ∙ ap (lane_after row k) was
+      ∙ ap (lane_commanded row.command k (lane_of h k)) answered
+      ∙ sym (lane_of-after h row.command k) in
+      let one : Does (history_after h row.command) k lane ↔ (lane ≡ lane_of (history_after h row.command) k) =
+      Does-by_last book.0 (history_after h row.command) k lane book.1 (claimed-after h row.command shows.claimed) in
+      (λ d. one.0 d ∙ sym is, λ e. one.1 (e ∙ is));
+}
+
+-- all lanes are outside where nothing happened
+pub Shows-opened : (n m : ℕ) (drawn : List Lane) → length drawn ≡ n → ((k : ℕ) → slice_index_or drawn k lanes.Outside ≡ lanes.Outside) → Shows (opened n m tt) drawn
+Shows-opened n m drawn long out = record {
+  claimed = nobody;
+  places = long;
+  each = λ k below lane.
+      let one : Does (opened n m tt) k lane ↔ (lane ≡ lane_of (opened n m tt) k) = Does-by_last _ (opened n m tt) k lane (IsOf-opened n m 0 0) nobody in
+      (λ d. one.0 d ∙ sym (out k), λ e. one.1 (e ∙ out k));
+}
+  where
+    nobody : IsClaimed (turn (opened {S = Unit {0}} n m tt).events)
+    nobody = subst IsClaimed (sym (turn-opened n m tt)) tt
+
+-- one more row that is answered as the history says
+pub Answered-push : (h : Log) (rows : List Row) (row : Row) → Answered h rows → row.answer ≡ answer_to (after_rows h rows) row.command
+    → HasBook (history_after (after_rows h rows) row.command) → Answered h (rows ++ row ∷ [])
+Answered-push h [] row a is book = (a, is, book)
+Answered-push h (r ∷ rows) row a is book = (a.0, a.1, Answered-push (history_after h r.command) rows row a.2 is book)
+
+pub after_rows-push : (h : Log) (rows : List Row) (row : Row) → after_rows h (rows ++ row ∷ []) ≡ history_after (after_rows h rows) row.command
+after_rows-push h [] row = refl
+after_rows-push h (r ∷ rows) row = after_rows-push (history_after h r.command) rows row
+
+-- each of the rows is answered as what happened before it says
+pub Answered-at : (h : Log) (rows : List Row) (i : ℕ) (d : Row) → i < length rows → Answered h rows
+    → ((slice_index_or rows i d).answer ≡ answer_to (after_rows h (take i rows)) (slice_index_or rows i d).command)
+    × HasBook (history_after (after_rows h (take i rows)) (slice_index_or rows i d).command)
+Answered-at h [] i d below a = absurd (omega (arith, below))
+Answered-at h (row ∷ []) zero d below a = (a.1, a.2)
+Answered-at h (row ∷ next ∷ rows) zero d below a = (a.1, a.2.0)
+Answered-at h (row ∷ rows) (suc i) d below a = Answered-at (history_after h row.command) rows i d (omega (arith, below)) a.2
+
+-- and the next row happens after those before it
+after_rows_suc : (h : Log) (rows : List Row) (i : ℕ) (d : Row) → i < length rows
+    → after_rows h (take (suc i) rows) ≡ history_after (after_rows h (take i rows)) (slice_index_or rows i d).command
+after_rows_suc h [] i d below = absurd (omega (arith, below))
+after_rows_suc h (row ∷ rows) zero d below = refl
+after_rows_suc h (row ∷ rows) (suc i) d below = after_rows_suc (history_after h row.command) rows i d (omega (arith, below))
+
+pub after_rows-next : (h : Log) (rows : List Row) (i : ℕ) (d : Row) → i < length rows
+    → after_rows h (take (i + 1) rows) ≡ history_after (after_rows h (take i rows)) (slice_index_or rows i d).command
+after_rows-next h rows i d below = ap (λ (n : ℕ). after_rows h (take n rows)) (add-one i) ∙ after_rows_suc h rows i d below
+
+take_front : {X : Type 0} (xs ys : List X) → take (length xs) (xs ++ ys) ≡ xs
+take_front [] ys = refl
+take_front (x ∷ xs) ys = ap (λ (l : List _). x ∷ l) (take_front xs ys)
+
+refill_whole : {X : Type 0} (old new : List X) → length new ≡ length old → refill (length old) old new ≡ new
+refill_whole old new e = ap (λ (n : ℕ). take n (new ++ drop (length new) old)) (sym e) ∙ take_front new (drop (length new) old)
+
+-- the next row, where the lanes are lent as a slice to be taken past it: they show what happened after it
+pub shown_next : (h : Log) (rows seen : List Row) (i : ℕ) (d : Row) (old lent new : List Lane) → seen ≡ rows → lent ≡ old → i < length seen → Answered h rows
+    → Shows (after_rows h (take i rows)) old → length new ≡ length lent
+    → ((g : Log) → HasBook (history_after g (slice_index_or seen i d).command) → (slice_index_or seen i d).answer ≡ answer_to g (slice_index_or seen i d).command
+    → Shows g lent → Shows (history_after g (slice_index_or seen i d).command) new)
+    → IsShownAfter (refill (length old) old new) (slice_index_or seen i d) × Shows (after_rows h (take (i + 1) rows)) (refill (length old) old new)
+shown_next h rows seen i d old lent new seen_is lent_is below told shows long step =
+    let row : Row = slice_index_or seen i d in
+    let g : Log = after_rows h (take i seen) in
+    let at : (row.answer ≡ answer_to g row.command) × HasBook (history_after g row.command) =
+    Answered-at h seen i d below (subst (λ (l : List Row). Answered h l) (sym seen_is) told) in
+    let before : Shows g lent = subst (λ (l : List Lane). Shows g l) (sym lent_is) (subst (λ (l : List Row). Shows (after_rows h (take i l)) old) (sym seen_is) shows) in
+    let drawn : Shows (history_after g row.command) (refill (length old) old new) =
+    subst (λ (l : List Lane). Shows (history_after g row.command) l) (sym (refill_whole old new (long ∙ ap length lent_is))) (step g at.1 at.0 before) in (
+      (g, at.0, drawn),
+      subst (λ (l : List Row). Shows (after_rows h (take (i + 1) l)) (refill (length old) old new)) seen_is
+          (subst (λ (x : Log). Shows x (refill (length old) old new)) (sym (after_rows-next h seen i d below)) drawn),
+    )

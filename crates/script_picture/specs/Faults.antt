@@ -1,0 +1,33 @@
+-- The faults of a picture, and the exit status of the program.
+use Rattle.std.specs.Prelude.{ℕ, nat_lt, Bool, true, false, Result, Ok, Err}
+use Rattle.hoare_script.specs.declared.fault.ScriptFault.TheVariants.{ReadFault}
+use Rattle.hoare_script.specs.Runs as script
+use Rattle.script_picture.specs.declared.fault.PictureFault.{PictureFault}
+use Rattle.script_picture.specs.declared.fault.PictureFault.TheVariants.{Script, TooTall}
+use Rattle.script_picture.specs.declared.frame.TheConstants.{MOST_ROWS}
+use Rattle.script_picture.specs.declared.picture.Form.{Form}
+use Rattle.script_picture.specs.declared.picture.Form.TheVariants.{Svg, Text}
+
+-- a read failed
+abbrev pub is_read_fault : {X : Type 0} → Result X PictureFault → Bool
+is_read_fault (Err (Script ReadFault)) = true
+is_read_fault _ = false
+
+-- so many rows have no room in the form
+abbrev pub is_without_room : Form → ℕ → Bool
+is_without_room Svg n = nat_lt MOST_ROWS n
+is_without_room Text n = false
+
+abbrev pub is_too_tall : {X : Type 0} → Result X PictureFault → Bool
+is_too_tall (Err (TooTall n)) = true
+is_too_tall _ = false
+
+-- that of the script's fault, or 4
+abbrev pub status_of : PictureFault → ℕ
+status_of (Script f) = script.status_of f
+status_of (TooTall n) = 4
+
+-- 0, or that of the fault
+abbrev pub status_after : Result (Unit {0}) PictureFault → ℕ
+status_after (Ok u) = 0
+status_after (Err f) = status_of f

@@ -1,0 +1,69 @@
+-- What a place does where a history happened, and which lanes and rows show that.
+use Rattle.std.specs.Prelude.{ℕ, ◌≡◌, ◌<◌, ◌≤◌, ◌↔◌, true, List, [], ◌∷◌, length, slice_index_or, ⊤}
+use Rattle.std.specs.List.{Contains}
+use Rattle.hoare_law.specs.declared.event.History.{History}
+use Rattle.hoare_law.specs.declared.event.Event.TheVariants.{Wait}
+use Rattle.hoare_law.specs.declared.turn.Turn.{Turn}
+use Rattle.hoare_law.specs.declared.turn.Turn.TheVariants as turns
+use Rattle.hoare_law.specs.Events.{opened}
+use Rattle.hoare_law.specs.Turns.{turn, urgent, outside}
+use Rattle.hoare_law.specs.Waiting.{waiting}
+use Rattle.wait_book.specs.Contents.{Contents, IsOf}
+use Rattle.hoare_script.specs.Answers.{answer_to, history_after}
+use Rattle.hoare_script.specs.declared.lines.Header.{Header}
+use Rattle.script_picture.specs.declared.chart.Lane.{Lane}
+use Rattle.script_picture.specs.declared.chart.Lane.TheVariants as lanes
+use Rattle.script_picture.specs.declared.chart.Row.{Row}
+use Rattle.script_picture.specs.declared.chart.Chart.{Chart}
+use Rattle.script_picture.specs.declared.read.Script.{Script}
+
+-- place k does this where h happened: it is outside, it has the turn, it waits on a condition with a priority, or it is a
+-- waiting signaller. All four are the words of hoare_law
+abbrev pub Does : History (Unit {0}) → ℕ → Lane → Type 0
+Does h k lanes.Outside = outside k h.events ≡ true
+Does h k lanes.Inside = turn h.events ≡ turns.Held k
+Does h k (lanes.Waiting c p) = Contains (waiting c h.events) (Wait k c p tt)
+Does h k lanes.Signalling = Contains (urgent h.events) k
+
+-- nobody is owed the monitor
+abbrev pub IsClaimed : Turn → Type 0
+IsClaimed turns.Free = ⊤
+IsClaimed (turns.Held k) = ⊤
+IsClaimed (turns.Owed k c) = ⊥
+IsClaimed (turns.Return k) = ⊥
+
+-- there is a lane for each place, and each place does what its lane says, and nothing else
+pub record Shows (h : History (Unit {0})) (drawn : List Lane) : Type 0 where
+  pub claimed : IsClaimed (turn h.events)
+  pub places : length drawn ≡ h.places
+  pub each : (k : ℕ) → k < h.places → (lane : Lane) → Does h k lane ↔ (lane ≡ slice_index_or drawn k lanes.Outside)
+
+-- a book is of the history, which is therefore legal
+abbrev pub HasBook : History (Unit {0}) → Type 0
+HasBook h = (b : Contents) × IsOf b h
+
+-- each row is answered as the history before it says
+abbrev pub Answered : History (Unit {0}) → List Row → Type 0
+Answered h [] = HasBook h
+Answered h (row ∷ rows) = HasBook h × (row.answer ≡ answer_to h row.command) × Answered (history_after h row.command) rows
+
+-- what happened after the rows
+abbrev pub after_rows : History (Unit {0}) → List Row → History (Unit {0})
+after_rows h [] = h
+after_rows h (row ∷ rows) = after_rows (history_after h row.command) rows
+
+-- where nothing happened yet
+abbrev pub opening : Header → History (Unit {0})
+opening header = opened header.places header.conditions tt
+
+-- the row is answered as a history says, and the lanes show that history with what the row adds
+abbrev pub IsShownAfter : List Lane → Row → Type 0
+IsShownAfter drawn row = (h : History (Unit {0})) × (row.answer ≡ answer_to h row.command) × Shows (history_after h row.command) drawn
+
+-- there are as many places as a picture has lanes for, and each row is answered as the history since the opening says
+abbrev pub IsTold : Chart → Type 0
+IsTold c = (c.header.places ≤ 64) × Answered (opening c.header) c.rows.items
+
+-- and the book is where the rows are
+abbrev pub IsRead : Script → Type 0
+IsRead s = IsTold s.chart × IsOf s.opened (after_rows (opening s.chart.header) s.chart.rows.items)

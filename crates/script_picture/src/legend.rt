@@ -1,0 +1,48 @@
+//! The legend of an SVG.
+use crate::chart::Lane;
+use crate::shapes::{Area, Arrow, write_arrow, write_box};
+use std::io;
+use std::io::Write;
+
+/// Writes what the shapes mean, below the rows.
+pub fn write_legend<W: Write>(writer: &mut W, bottom: u64) -> io::Result<()> {
+    let lanes = [
+        (Lane::Inside, "is inside the monitor"),
+        (Lane::Waiting(0, 5), "waits on condition 0, priority 5"),
+        (Lane::Signalling, "signalled, waits to return"),
+    ];
+    let arrows = [(false, "a waiter goes on"), (true, "a signaller returns")];
+    let mut top = bottom.saturating_add(18);
+    for (lane, note) in lanes {
+        let area = Area {
+            middle: 54,
+            half: 34,
+            top,
+            height: 22,
+        };
+        write_box(writer, lane, area)?;
+        write_note(writer, 98, top, note)?;
+        top = top.saturating_add(26);
+    }
+    let mut top = bottom.saturating_add(18);
+    for (returns, note) in arrows {
+        let arrow = Arrow {
+            from: 350,
+            to: 394,
+            middle: top.saturating_add(11),
+            returns,
+        };
+        write_arrow(writer, arrow)?;
+        write_note(writer, 404, top, note)?;
+        top = top.saturating_add(26);
+    }
+    Ok(())
+}
+
+fn write_note<W: Write>(writer: &mut W, x: u64, top: u64, note: &str) -> io::Result<()> {
+    let line = top.saturating_add(15);
+    write!(
+        writer,
+        "<text class=\"note\" x=\"{x}\" y=\"{line}\">{note}</text>\n"
+    )
+}

@@ -39,7 +39,7 @@ impl Order {
     }
 }
 
-/// Who waits: so many places, 1 to 63, on so many conditions in turn, 1 to 8, with priorities in this order.
+/// Who waits: 1 to 63 places, on 1 to 8 conditions in turn, with priorities in this order.
 #[derive(Clone, Copy)]
 pub struct Load {
     pub waiters: u64,
@@ -112,7 +112,7 @@ impl Spent {
     }
 }
 
-/// All wait and are resumed, so many times over.
+/// All wait and are resumed, a number of times over.
 pub fn spend<R: Clock>(rt: &R, book: &mut Book, load: Load, rounds: u64) -> io::Result<Spent> {
     let mut spent = Spent::NONE;
     for _ in 0..rounds {
@@ -121,7 +121,7 @@ pub fn spend<R: Clock>(rt: &R, book: &mut Book, load: Load, rounds: u64) -> io::
     Ok(spent)
 }
 
-/// What so many rounds took in which 63 places come in and go out.
+/// What a number of rounds took in which 63 places come in and go out.
 pub fn come_and_go<R: Clock>(rt: &R, book: &mut Book, rounds: u64) -> io::Result<Duration> {
     let start = Instant::now(rt)?;
     for round in 0..rounds.saturating_mul(SIGNALLER) {
@@ -132,7 +132,7 @@ pub fn come_and_go<R: Clock>(rt: &R, book: &mut Book, rounds: u64) -> io::Result
     start.elapsed(rt)
 }
 
-/// What so many rounds take in which the clock is looked at as often as in a load, and nothing is done.
+/// What a number of rounds take in which the clock is looked at as often as in a load, and nothing is done.
 pub fn look_at_clock<R: Clock>(rt: &R, rounds: u64) -> io::Result<Duration> {
     let mut spent = Duration::ZERO;
     for _ in 0..rounds {

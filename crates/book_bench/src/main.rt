@@ -18,7 +18,7 @@ const NAMES: [&str; 10] = [
     "book_signal_leave: a place is resumed by a signal and goes out, with up to 62 others waiting",
     "turns: TURNS in sum for each figure, which is their mean",
     "with --orders, on one condition:",
-    "book_enter_wait_ORDER_N, book_signal_leave_ORDER_N: so many wait (1, 8 or 63), with priorities that are equal, rising or falling",
+    "book_enter_wait_ORDER_N, book_signal_leave_ORDER_N: 1, 8 or 63 wait, with priorities that are equal, rising or falling",
     "clock: two looks at the clock, of which a share is in each figure: once for N waits, and once for N signals",
     "size: the bytes of a book, without those on the heap",
     "usage: book_bench [--orders] TURNS",
@@ -32,7 +32,7 @@ fn show(rt: &impl Print) -> io::Result<()> {
     Ok(())
 }
 
-// Nanoseconds for each of so many.
+// Nanoseconds for each of a number.
 fn each(spent: Duration, count: u64) -> u128 {
     spent.as_nanos() / u128::from(count.max(1))
 }
@@ -56,7 +56,7 @@ fn measure_full<R: Print + Clock>(rt: &R, book: &mut Book, rounds: u64) -> io::R
     println!(rt; "book_signal_leave {signals} ns")
 }
 
-// The two figures of so many places that wait on one condition with priorities in this order.
+// The two figures of a number of places that wait on one condition with priorities in this order.
 fn measure_order<R: Print + Clock>(
     rt: &R,
     book: &mut Book,

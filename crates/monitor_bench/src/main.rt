@@ -31,9 +31,9 @@ use ticket_door::door::TicketDoor;
 
 const NAMES: [&str; 24] = [
     "enter_leave: one thread comes in, adds one and goes out",
-    "enter_leave_2, _4, _8: so many threads at once",
+    "enter_leave_2, _4, _8: 2, 4, 8 threads at once",
     "hand_over: a wait, a signal and the signaller's return, between two threads",
-    "buffer_1_1, buffer_4_4: a bounded buffer of 16 cells, so many appenders and removers",
+    "buffer_1_1, buffer_4_4: a bounded buffer of 16 cells, 1 or 4 appenders and as many removers",
     "waiting_16: a wait and a signal, with 16 processes that wait with priorities",
     "chain_8: one link of a chain of signallers eight deep",
     "mixed_9: a visit of eight threads that wait with priorities, signal, pass and leave, and a ninth that resumes who waits",
@@ -50,7 +50,7 @@ const NAMES: [&str; 24] = [
     "take_give_1, _1024, _last: a pool of 1 buffer, of 1024, and of 1024 of which the last alone is free",
     "request_release: a disk head, sent to the next of 1024 cylinders. start_end_read, start_end_write: readers and writers",
     "tick, wakeme_0: an alarm clock is set; a sleep of no tick returns at once (one visit each)",
-    "wakeme_tick_1, _60: one sleep of one tick, where so many threads sleep again and again, a hundredth and a thousandth of",
+    "wakeme_tick_1, _60: one sleep of one tick, where 1 or 60 threads sleep again and again, a hundredth and a thousandth of",
     "       TURNS each, and one more ticks whenever all of them sleep",
     "usage: monitor_bench [[--ticket] [--schedulers] TURNS]",
     "bench/run compares these with other monitors; bench/schedulers takes those of the schedulers",

@@ -13,7 +13,7 @@ abbrev pub is_read_fault : {X : Type 0} → Result X PictureFault → Bool
 is_read_fault (Err (Script ReadFault)) = true
 is_read_fault _ = false
 
--- so many rows have no room in the form
+-- this number of rows has no room in the form
 abbrev pub is_without_room : Form → ℕ → Bool
 is_without_room Svg n = nat_lt MOST_ROWS n
 is_without_room Text n = false

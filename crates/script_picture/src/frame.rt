@@ -93,7 +93,7 @@ fn width_of(remarks: u64, widths: &Widths) -> u64 {
         .max(LEAST_WIDTH)
 }
 
-// Past so many characters.
+// Past this number of characters.
 fn across(from: u64, characters: usize) -> u64 {
     from.saturating_add((characters as u64).saturating_mul(8))
 }

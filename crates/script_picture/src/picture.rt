@@ -68,7 +68,7 @@ fn draw_chart<W: Write>(writer: &mut W, chart: &Chart, form: Form) -> Result<(),
     }
 }
 
-// Whether so many rows have no room in a form.
+// Whether this number of rows has no room in a form.
 fn is_without_room(form: Form, rows: usize) -> bool
     ensures { result ≡ is_without_room form rows }
 {

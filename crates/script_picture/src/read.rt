@@ -67,7 +67,7 @@ fn open_book(alloc: Global, header: Header) -> Result<Opened, ScriptFault>
     }
 }
 
-// The line with a number, where there is room for so many bytes.
+// The line with a number, where there is room for its bytes.
 fn read_numbered<R: Read>(
     reader: &mut WatchedReader<'_, R>,
     line: &mut Line,

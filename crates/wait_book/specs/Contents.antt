@@ -16,7 +16,7 @@ use Rattle.wait_book.specs.declared.steps.Next.TheVariants as next
 use Rattle.wait_book.specs.declared.steps.MakeRefused.{MakeRefused}
 use Rattle.wait_book.specs.declared.steps.MakeRefused.TheVariants.{BadPlaces, BadConditions}
 
--- what a book holds: so many places and conditions, memory for so many to wait and for so many waiting signallers (it may be
+-- what a book holds: its numbers of places and conditions, how many it has memory for to wait and as waiting signallers (it may be
 -- one memory for both), who waits (on each condition by rising priority, equal ones by time), the signallers (the longest
 -- waiting first), and whose turn it is
 pub record Contents : Type 0 where
@@ -84,13 +84,13 @@ next_of (Held k) = next.Held k
 next_of (Owed k c) = next.For k
 next_of (Return k) = next.For k
 
--- the place that is answered is one of so many
+-- the place that is answered is below the number of places
 abbrev pub IsPlaceBelow : ℕ → Next → Type 0
 IsPlaceBelow n next.Free = ⊤
 IsPlaceBelow n (next.For k) = k < n
 IsPlaceBelow n (next.Held k) = k < n
 
--- the first refusal of so many places and conditions, if memory is there
+-- the first refusal of these numbers of places and conditions, if memory is there
 abbrev pub make_refusal : ℕ → ℕ → Option MakeRefused
 make_refusal places conditions =
     if nat_le 1 places && nat_le places 64 then

@@ -2,7 +2,7 @@
 use Rattle.std.specs.Prelude.{ℕ, zero, suc, ◌≡◌, ◌==◌, nat_le, if◌then◌else◌, List, [], ◌∷◌, ◌++◌, map, length, Option, Some, None, slice_index_or}
 use Rattle.wait_book.specs.declared.chains.Link.{Link}
 
--- memory for so many nodes, and those in each chain, the first one first
+-- memory for a number of nodes, and those in each chain, the first one first
 pub record Lists : Type 0 where
   pub room : ℕ
   pub lists : List (List Link)

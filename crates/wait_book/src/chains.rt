@@ -113,7 +113,7 @@ fn last_after(next: Option<usize>, last: Option<usize>, otherwise: Option<usize>
 }
 
 impl Chains {
-    /// Empty chains, with memory for so many nodes.
+    /// Empty chains, with memory for this number of nodes.
     pub(crate) fn make(alloc: Global, places: usize) -> Result<Chains, AllocError>
         ensures empty { IfOk result (λ q. (c : ℕ) → list_at q c ≡ []) }
         ensures room { IfOk result (λ q. places ≤ q.room) }

@@ -1,0 +1,24 @@
+//! Runs the recipes of the cookbook on threads, on both doors. It prints a line for each recipe and door: what the threads found.
+#![tactic(auto)]
+
+mod barrier;
+mod latch;
+mod mailbox;
+mod rendezvous;
+mod table;
+
+use std::alloc::AllocError;
+use std::io;
+
+// A door is refused: out of memory, for the numbers of places and conditions are in range.
+fn no_memory() -> io::Error {
+    io::Error::from(AllocError)
+}
+
+fn main(rt: HostRuntime) -> io::Result<()> {
+    barrier::show_on_both(&rt, rt.alloc())?;
+    latch::show_on_both(&rt, rt.alloc())?;
+    mailbox::show_on_both(&rt, rt.alloc())?;
+    rendezvous::show_on_both(&rt, rt.alloc())?;
+    table::show_on_both(&rt, rt.alloc())
+}

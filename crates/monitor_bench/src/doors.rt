@@ -42,8 +42,63 @@ pub trait SharedCount: Monitor<Counted> + Sync {}
 
 impl<M: Monitor<Counted> + Sync> SharedCount for M {}
 
-/// Threads that come in, add one and go out, each `turns` times.
-pub fn contended<R: Threads + Wait + Sync, M: OneShared>(
+/// What the threads of a counter with one condition do.
+#[derive(Clone, Copy)]
+pub enum CounterLoad {
+    /// One of them comes in, adds one and goes out, this many times.
+    Alone(u64),
+    /// All do so.
+    Contended(u64),
+    /// This many wait, this many times, and one more signals them.
+    Waiting(u64, u64),
+}
+
+/// The threads of a counter with one condition do their load.
+pub fn count_with<R: Threads + Wait + Sync, M: OneShared>(
+    rt: &R,
+    m: &M,
+    places: Vec<M::Out>,
+    load: CounterLoad,
+) -> io::Result<()>
+where
+    M::Lists: Send,
+    requires { All (M.is_of m.now) places.items }
+{
+    match load {
+        CounterLoad::Alone(turns) => alone(rt, m, places, turns),
+        CounterLoad::Contended(turns) => contended(rt, m, places, turns),
+        CounterLoad::Waiting(waiters, turns) => waiting(rt, m, places, waiters, turns),
+    }
+}
+
+/// What the threads of a counter with eight conditions do.
+#[derive(Clone, Copy)]
+pub enum WideLoad {
+    /// One of them comes in, adds one and goes out, this many times.
+    Alone(u64),
+    /// A chain of signallers, this many times over.
+    Chained(u64),
+}
+
+/// The threads of a counter with eight conditions do their load.
+pub fn count_widely<R: Threads + Wait + Sync, M: EightShared>(
+    rt: &R,
+    m: &M,
+    places: Vec<M::Out>,
+    load: WideLoad,
+) -> io::Result<()>
+where
+    M::Lists: Send,
+    requires { All (M.is_of m.now) places.items }
+{
+    match load {
+        WideLoad::Alone(turns) => alone(rt, m, places, turns),
+        WideLoad::Chained(turns) => chained(rt, m, places, turns),
+    }
+}
+
+// Threads that come in, add one and go out, each `turns` times.
+fn contended<R: Threads + Wait + Sync, M: OneShared>(
     rt: &R,
     m: &M,
     places: Vec<M::Out>,
@@ -63,8 +118,8 @@ where
     Ok(())
 }
 
-/// One thread that does the same at one of the places. An error where there is none.
-pub fn alone<const N: usize, R: Wait, M: Monitor<Unasked<u64, N>>>(
+// One thread that does the same at one of the places. An error where there is none.
+fn alone<const N: usize, R: Wait, M: Monitor<Unasked<u64, N>>>(
     rt: &R,
     m: &M,
     mut places: Vec<M::Out>,
@@ -79,8 +134,8 @@ pub fn alone<const N: usize, R: Wait, M: Monitor<Unasked<u64, N>>>(
     Ok(())
 }
 
-/// All but the last to come wait, each with its number for a priority, `turns` times; the last signals them in turn.
-pub fn waiting<R: Threads + Wait + Sync, M: OneShared>(
+// All but the last to come wait, each with its number for a priority, `turns` times; the last signals them in turn.
+fn waiting<R: Threads + Wait + Sync, M: OneShared>(
     rt: &R,
     m: &M,
     places: Vec<M::Out>,
@@ -109,8 +164,8 @@ where
     Ok(())
 }
 
-/// A chain of signallers, eight deep, `turns` times over: each signals the next, and all return in turn.
-pub fn chained<R: Threads + Wait + Sync, M: EightShared>(
+// A chain of signallers, eight deep, `turns` times over: each signals the next, and all return in turn.
+fn chained<R: Threads + Wait + Sync, M: EightShared>(
     rt: &R,
     m: &M,
     places: Vec<M::Out>,

@@ -14,6 +14,7 @@ mod schedulers;
 mod sleepers;
 mod turns;
 
+use crate::doors::{CounterLoad, WideLoad};
 use crate::fairness::{all_met, uncounted};
 use crate::mixed::{WORKERS, unvisited};
 use baton_door::door::Door;
@@ -75,16 +76,34 @@ fn tell<R: Print + Eprint>(rt: &R, name: &str, spent: Duration, count: u64) -> i
     println!(rt; "{name} {one} ns")
 }
 
-// One row: a door is made with these data and this number of places, its threads work, and what each of `$count` turns took is told.
-macro_rules! row {
-    ($rt:ident, $alloc:ident, $door:ident, $name:expr, $data:expr, $places:expr, $work:ident($($more:expr),*), $count:expr) => {{
+/// Which door is measured.
+#[derive(Clone, Copy)]
+pub enum DoorKind {
+    Baton,
+    Ticket,
+}
+
+// One row on one door: it is made with these data and this number of places, its threads work, and what each of `$count` turns
+// took is told.
+macro_rules! row_on {
+    ($door:ident, $rt:ident, $alloc:ident, $name:expr, $data:expr, $places:expr, $work:ident($($more:expr),*), $count:expr) => {{
         let Ok((door, places)) = $door::make($alloc, $data, $places) else {
             return Err(no_memory());
         };
         let start = Instant::now($rt)?;
         doors::$work($rt, &door, places $(, $more)*)?;
-        tell($rt, $name, start.elapsed($rt)?, $count)?;
+        tell($rt, $name, start.elapsed($rt)?, $count)
     }};
+}
+
+// The row on the door of this kind.
+macro_rules! row {
+    ($kind:expr, $($of:tt)*) => {
+        match $kind {
+            DoorKind::Baton => row_on!(Door, $($of)*),
+            DoorKind::Ticket => row_on!(TicketDoor, $($of)*),
+        }
+    };
 }
 
 // The cells of the buffer.
@@ -104,136 +123,208 @@ fn ring(alloc: Global) -> io::Result<Buffer<u64>>
     Buffer::make(alloc, RING).map_err(|_refusal| no_memory())
 }
 
+// One row of a counter with one condition. (A function for all of them: what is called at a door's own type is dear to check.)
+fn counter_row<R: Print + Eprint + Clock + Threads + Wait + Sync>(
+    rt: &R,
+    alloc: Global,
+    kind: DoorKind,
+    name: &str,
+    places: usize,
+    load: CounterLoad,
+    count: u64,
+) -> io::Result<()> {
+    row!(
+        kind,
+        rt,
+        alloc,
+        name,
+        counter(),
+        places,
+        count_with(load),
+        count
+    )
+}
+
+// The same with eight conditions.
+fn wide_row<R: Print + Eprint + Clock + Threads + Wait + Sync>(
+    rt: &R,
+    alloc: Global,
+    kind: DoorKind,
+    name: &str,
+    places: usize,
+    load: WideLoad,
+    count: u64,
+) -> io::Result<()> {
+    row!(
+        kind,
+        rt,
+        alloc,
+        name,
+        counter(),
+        places,
+        count_widely(load),
+        count
+    )
+}
+
+// One row of a buffer.
+fn buffer_row<R: Print + Eprint + Clock + Threads + Wait + Sync>(
+    rt: &R,
+    alloc: Global,
+    kind: DoorKind,
+    name: &str,
+    places: usize,
+    turns: u64,
+    count: u64,
+) -> io::Result<()> {
+    row!(
+        kind,
+        rt,
+        alloc,
+        name,
+        ring(alloc)?,
+        places,
+        buffered(turns),
+        count
+    )
+}
+
 // Places that come in and go out.
-macro_rules! measure_visits {
-    ($rt:ident, $alloc:ident, $turns:ident, $door:ident) => {{
-        let tenth = $turns / 10;
-        row!($rt, $alloc, $door, "enter_leave", counter::<1>(), 1, alone($turns), $turns);
-        row!($rt, $alloc, $door, "enter_leave_2", counter(), 2, contended(tenth), tenth.saturating_mul(2));
-        row!($rt, $alloc, $door, "enter_leave_4", counter(), 4, contended(tenth), tenth.saturating_mul(4));
-        row!($rt, $alloc, $door, "enter_leave_8", counter(), 8, contended(tenth), tenth.saturating_mul(8));
-        Ok(())
-    }};
+fn measure_visits<R: Print + Eprint + Clock + Threads + Wait + Sync>(
+    rt: &R,
+    alloc: Global,
+    kind: DoorKind,
+    turns: u64,
+) -> io::Result<()> {
+    counter_row(
+        rt,
+        alloc,
+        kind,
+        "enter_leave",
+        1,
+        CounterLoad::Alone(turns),
+        turns,
+    )?;
+    let tenth = turns / 10;
+    for (name, places) in [
+        ("enter_leave_2", 2),
+        ("enter_leave_4", 4),
+        ("enter_leave_8", 8),
+    ] {
+        let count = tenth.saturating_mul(places as u64);
+        counter_row(
+            rt,
+            alloc,
+            kind,
+            name,
+            places,
+            CounterLoad::Contended(tenth),
+            count,
+        )?;
+    }
+    Ok(())
 }
 
 // Places that hand over to each other.
-macro_rules! measure_exchanges {
-    ($rt:ident, $alloc:ident, $turns:ident, $door:ident) => {{
-        let hundredth = $turns / 100;
-        row!($rt, $alloc, $door, "hand_over", counter(), 2, waiting(1, hundredth), hundredth);
-        row!($rt, $alloc, $door, "buffer_1_1", ring($alloc)?, 2, buffered(hundredth), hundredth);
-        row!($rt, $alloc, $door, "buffer_4_4", ring($alloc)?, 8, buffered(hundredth), hundredth.saturating_mul(4));
-        Ok(())
-    }};
+fn measure_exchanges<R: Print + Eprint + Clock + Threads + Wait + Sync>(
+    rt: &R,
+    alloc: Global,
+    kind: DoorKind,
+    turns: u64,
+) -> io::Result<()> {
+    let hundredth = turns / 100;
+    let load = CounterLoad::Waiting(1, hundredth);
+    counter_row(rt, alloc, kind, "hand_over", 2, load, hundredth)?;
+    buffer_row(rt, alloc, kind, "buffer_1_1", 2, hundredth, hundredth)?;
+    let fourfold = hundredth.saturating_mul(4);
+    buffer_row(rt, alloc, kind, "buffer_4_4", 8, hundredth, fourfold)
 }
 
 // Many places that wait.
-macro_rules! measure_crowds {
-    ($rt:ident, $alloc:ident, $turns:ident, $door:ident) => {{
-        let thousandth = $turns / 1000;
-        row!($rt, $alloc, $door, "waiting_16", counter(), 17, waiting(16, thousandth), thousandth.saturating_mul(16));
-        row!($rt, $alloc, $door, "chain_8", counter(), 9, chained(thousandth), thousandth.saturating_mul(8));
-        row!($rt, $alloc, $door, "mixed_9", unvisited(), 9, mixed(thousandth), thousandth.saturating_mul(WORKERS));
-        row!($rt, $alloc, $door, "wide_enter_leave", counter::<8>(), 64, alone($turns), $turns);
-        Ok(())
-    }};
+fn measure_crowds<R: Print + Eprint + Clock + Threads + Wait + Sync>(
+    rt: &R,
+    alloc: Global,
+    kind: DoorKind,
+    turns: u64,
+) -> io::Result<()> {
+    let thousandth = turns / 1000;
+    let load = CounterLoad::Waiting(16, thousandth);
+    counter_row(
+        rt,
+        alloc,
+        kind,
+        "waiting_16",
+        17,
+        load,
+        thousandth.saturating_mul(16),
+    )?;
+    let links = thousandth.saturating_mul(8);
+    wide_row(
+        rt,
+        alloc,
+        kind,
+        "chain_8",
+        9,
+        WideLoad::Chained(thousandth),
+        links,
+    )?;
+    let visits = thousandth.saturating_mul(WORKERS);
+    row!(
+        kind,
+        rt,
+        alloc,
+        "mixed_9",
+        unvisited(),
+        9,
+        mixed(thousandth),
+        visits
+    )?;
+    wide_row(
+        rt,
+        alloc,
+        kind,
+        "wide_enter_leave",
+        64,
+        WideLoad::Alone(turns),
+        turns,
+    )
 }
 
-// How many others are let in before a place.
-macro_rules! measure_others {
-    ($rt:ident, $alloc:ident, $turns:ident, $door:ident) => {{
+// How many others are let in before a place of this door.
+macro_rules! others_on {
+    ($door:ident, $rt:ident, $alloc:ident, $turns:expr) => {{
         let Ok((door, places)) = $door::make($alloc, uncounted(), 8) else {
             return Err(no_memory());
         };
-        let found = doors::met($rt, &door, places, $turns / 10)?;
-        all_met(&found).show($rt)
+        doors::met($rt, &door, places, $turns)?
     }};
 }
 
-fn visits_on_baton<R: Print + Eprint + Clock + Threads + Wait + Sync>(
+// The same on the door of this kind.
+fn measure_others<R: Print + Threads + Wait + Sync>(
     rt: &R,
     alloc: Global,
+    kind: DoorKind,
     turns: u64,
 ) -> io::Result<()> {
-    measure_visits!(rt, alloc, turns, Door)
+    let found = match kind {
+        DoorKind::Baton => others_on!(Door, rt, alloc, turns / 10),
+        DoorKind::Ticket => others_on!(TicketDoor, rt, alloc, turns / 10),
+    };
+    all_met(&found).show(rt)
 }
 
-fn exchanges_on_baton<R: Print + Eprint + Clock + Threads + Wait + Sync>(
+// All rows of the monitor itself: prints a line for each.
+fn measure<R: Print + Eprint + Clock + Threads + Wait + Sync>(
     rt: &R,
     alloc: Global,
+    kind: DoorKind,
     turns: u64,
 ) -> io::Result<()> {
-    measure_exchanges!(rt, alloc, turns, Door)
-}
-
-fn crowds_on_baton<R: Print + Eprint + Clock + Threads + Wait + Sync>(
-    rt: &R,
-    alloc: Global,
-    turns: u64,
-) -> io::Result<()> {
-    measure_crowds!(rt, alloc, turns, Door)
-}
-
-fn others_on_baton<R: Print + Threads + Wait + Sync>(
-    rt: &R,
-    alloc: Global,
-    turns: u64,
-) -> io::Result<()> {
-    measure_others!(rt, alloc, turns, Door)
-}
-
-fn measure_baton<R: Print + Eprint + Clock + Threads + Wait + Sync>(
-    rt: &R,
-    alloc: Global,
-    turns: u64,
-) -> io::Result<()> {
-    visits_on_baton(rt, alloc, turns)?;
-    exchanges_on_baton(rt, alloc, turns)?;
-    crowds_on_baton(rt, alloc, turns)?;
-    others_on_baton(rt, alloc, turns)
-}
-
-fn visits_on_ticket<R: Print + Eprint + Clock + Threads + Wait + Sync>(
-    rt: &R,
-    alloc: Global,
-    turns: u64,
-) -> io::Result<()> {
-    measure_visits!(rt, alloc, turns, TicketDoor)
-}
-
-fn exchanges_on_ticket<R: Print + Eprint + Clock + Threads + Wait + Sync>(
-    rt: &R,
-    alloc: Global,
-    turns: u64,
-) -> io::Result<()> {
-    measure_exchanges!(rt, alloc, turns, TicketDoor)
-}
-
-fn crowds_on_ticket<R: Print + Eprint + Clock + Threads + Wait + Sync>(
-    rt: &R,
-    alloc: Global,
-    turns: u64,
-) -> io::Result<()> {
-    measure_crowds!(rt, alloc, turns, TicketDoor)
-}
-
-fn others_on_ticket<R: Print + Threads + Wait + Sync>(
-    rt: &R,
-    alloc: Global,
-    turns: u64,
-) -> io::Result<()> {
-    measure_others!(rt, alloc, turns, TicketDoor)
-}
-
-fn measure_ticket<R: Print + Eprint + Clock + Threads + Wait + Sync>(
-    rt: &R,
-    alloc: Global,
-    turns: u64,
-) -> io::Result<()> {
-    visits_on_ticket(rt, alloc, turns)?;
-    exchanges_on_ticket(rt, alloc, turns)?;
-    crowds_on_ticket(rt, alloc, turns)?;
-    others_on_ticket(rt, alloc, turns)
+    measure_visits(rt, alloc, kind, turns)?;
+    measure_exchanges(rt, alloc, kind, turns)?;
+    measure_crowds(rt, alloc, kind, turns)?;
+    measure_others(rt, alloc, kind, turns)
 }
 
 fn main(rt: HostRuntime) -> anyhow::Result<ExitCode> {
@@ -243,8 +334,9 @@ fn main(rt: HostRuntime) -> anyhow::Result<ExitCode> {
         show(&rt)?;
         return Ok(ExitCode::SUCCESS);
     };
-    let on_tickets = word.as_str() == "--ticket";
-    if on_tickets {
+    let mut kind = DoorKind::Baton;
+    if word.as_str() == "--ticket" {
+        kind = DoorKind::Ticket;
         word = words.next().unwrap_or(word);
     }
     let of_schedulers = word.as_str() == "--schedulers";
@@ -255,11 +347,10 @@ fn main(rt: HostRuntime) -> anyhow::Result<ExitCode> {
         eprintln!(rt; "usage: monitor_bench [[--ticket] [--schedulers] TURNS]")?;
         return Ok(ExitCode::from(2));
     };
-    match (on_tickets, of_schedulers) {
-        (false, false) => measure_baton(&rt, rt.alloc(), turns)?,
-        (true, false) => measure_ticket(&rt, rt.alloc(), turns)?,
-        (false, true) => schedulers::measure_baton(&rt, rt.alloc(), turns)?,
-        (true, true) => schedulers::measure_ticket(&rt, rt.alloc(), turns)?,
+    if of_schedulers {
+        schedulers::measure(&rt, rt.alloc(), kind, turns)?;
+    } else {
+        measure(&rt, rt.alloc(), kind, turns)?;
     }
     Ok(ExitCode::SUCCESS)
 }

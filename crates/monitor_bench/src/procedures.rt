@@ -151,8 +151,8 @@ fn end_read<R: Wait + Eprint + Clock, M: Monitor<ReadersWriters<u64>>>(
     }
 }
 
-/// Goes in as a reader, and out again.
-pub fn start_end_read<R: Wait + Eprint + Clock, M: Monitor<ReadersWriters<u64>>>(
+// Goes in as a reader, and out again.
+fn start_end_read<R: Wait + Eprint + Clock, M: Monitor<ReadersWriters<u64>>>(
     rt: &R,
     m: &M,
     out: M::Out,
@@ -169,8 +169,8 @@ pub fn start_end_read<R: Wait + Eprint + Clock, M: Monitor<ReadersWriters<u64>>>
     Ok(())
 }
 
-/// Goes in as the writer, and out again with the next value.
-pub fn start_end_write<R: Wait, M: Monitor<ReadersWriters<u64>>>(
+// Goes in as the writer, and out again with the next value.
+fn start_end_write<R: Wait, M: Monitor<ReadersWriters<u64>>>(
     rt: &R,
     m: &M,
     out: M::Out,
@@ -186,4 +186,27 @@ pub fn start_end_write<R: Wait, M: Monitor<ReadersWriters<u64>>>(
         out = again;
     }
     Ok(())
+}
+
+/// How one thread goes in where data are read and written.
+#[derive(Clone, Copy)]
+pub enum Visit {
+    Read,
+    Write,
+}
+
+/// Goes in so, and out again.
+pub fn read_or_write<R: Wait + Eprint + Clock, M: Monitor<ReadersWriters<u64>>>(
+    rt: &R,
+    m: &M,
+    out: M::Out,
+    visit: Visit,
+    turns: u64,
+) -> anyhow::Result<()>
+    requires { M.is_of m.now out }
+{
+    match visit {
+        Visit::Read => start_end_read(rt, m, out, turns),
+        Visit::Write => start_end_write(rt, m, out, turns),
+    }
 }

@@ -4,11 +4,11 @@ ghost use Rattle.std.specs.Prelude.{All, IfOk};
 ghost use Rattle.hoare_law.specs.Priorities.{nobody};
 
 use crate::procedures::{
-    CYLINDERS, acquire_release, append_remove, enter_leave, request_release, start_end_read,
-    start_end_write, take_give, take_many,
+    CYLINDERS, Visit, acquire_release, append_remove, enter_leave, read_or_write, request_release,
+    take_give, take_many,
 };
-use crate::sleepers::{sleep_and_tick, tick_many, wake_many};
-use crate::{counter, no_memory, ring, tell};
+use crate::sleepers::{AlarmCall, call_alarm, sleep_and_tick};
+use crate::{DoorKind, counter, no_memory, ring, tell};
 use anyhow::Context;
 use baton_door::door::Door;
 use hoare_law::data::MonitorData;
@@ -41,159 +41,198 @@ fn last_place<D: MonitorData, M: Monitor<D>>(m: &M, mut places: Vec<M::Out>) -> 
     places.pop().ok_or(no_memory())
 }
 
-// One row on one place: a door is made with these data, another work may prepare them, and what each of `$turns` turns of
+// One row on one place of one door: it is made with these data, another work may prepare them, and what each of `$turns` turns of
 // the work took is told.
-macro_rules! one_place {
-    ($rt:ident, $alloc:ident, $door:ident, $name:expr, $data:expr, $work:ident, $turns:ident $(, after $prepare:ident($many:expr))?) => {{
+macro_rules! one_place_on {
+    ($door:ident, $rt:ident, $alloc:ident, $name:expr, $data:expr, $work:ident($($more:expr),*), $turns:ident $(, after $prepare:ident($many:expr))?) => {{
         let Ok((door, places)) = $door::make($alloc, $data, 1) else {
             return Err(no_memory().into());
         };
         let out = last_place(&door, places)?;
         $(let out = $prepare($rt, &door, out, $many).context($name)?;)?
         let start = Instant::now($rt)?;
-        $work($rt, &door, out, $turns).context($name)?;
+        $work($rt, &door, out $(, $more)*, $turns).context($name)?;
         tell($rt, $name, start.elapsed($rt)?, $turns)?;
     }};
 }
 
-// One row on threads: `$sleepers` places sleep and one ticks, and what each sleep took is told.
-macro_rules! sleepers {
-    ($rt:ident, $alloc:ident, $door:ident, $name:expr, $sleepers:literal, $turns:ident) => {{
-        let Ok((door, places)) = $door::make($alloc, Alarm::at(0), $sleepers + 1) else {
-            return Err(no_memory().into());
-        };
-        let start = Instant::now($rt)?;
-        sleep_and_tick($rt, &door, places, $sleepers, $turns).context($name)?;
-        tell($rt, $name, start.elapsed($rt)?, $turns.saturating_mul($sleepers))?;
-    }};
+// The row on the door of this kind.
+macro_rules! one_place {
+    ($kind:ident, $($of:tt)*) => {
+        match $kind {
+            DoorKind::Baton => one_place_on!(Door, $($of)*),
+            DoorKind::Ticket => one_place_on!(TicketDoor, $($of)*),
+        }
+    };
 }
 
-// The rows of the plain schedulers on one door, and a visit of the monitor beside them.
-macro_rules! measure_plain {
-    ($rt:ident, $alloc:ident, $turns:ident, $door:ident) => {{
-        one_place!($rt, $alloc, $door, "enter_leave", counter::<1>(), enter_leave, $turns);
-        one_place!($rt, $alloc, $door, "acquire_release", Single::with(0), acquire_release, $turns);
-        one_place!($rt, $alloc, $door, "append_remove", ring($alloc)?, append_remove, $turns);
-        Ok(())
-    }};
+// The rows of the plain schedulers, and a visit of the monitor beside them.
+fn measure_plain<R: Print + Eprint + Clock + Wait>(
+    rt: &R,
+    alloc: Global,
+    kind: DoorKind,
+    turns: u64,
+) -> anyhow::Result<()> {
+    one_place!(
+        kind,
+        rt,
+        alloc,
+        "enter_leave",
+        counter::<1>(),
+        enter_leave(),
+        turns
+    );
+    one_place!(
+        kind,
+        rt,
+        alloc,
+        "acquire_release",
+        Single::with(0),
+        acquire_release(),
+        turns
+    );
+    one_place!(
+        kind,
+        rt,
+        alloc,
+        "append_remove",
+        ring(alloc)?,
+        append_remove(),
+        turns
+    );
+    Ok(())
+}
+
+// One row of a pool of this number of buffers, of which this many are kept.
+fn pool_row<R: Print + Eprint + Clock + Wait>(
+    rt: &R,
+    alloc: Global,
+    kind: DoorKind,
+    name: &'static str,
+    (buffers, kept): (u32, u32),
+    turns: u64,
+) -> anyhow::Result<()> {
+    one_place!(kind, rt, alloc, name, pool(alloc, buffers)?, take_give(), turns, after take_many(kept));
+    Ok(())
 }
 
 // The rows of the pool of buffers.
-macro_rules! measure_pool {
-    ($rt:ident, $alloc:ident, $turns:ident, $door:ident) => {{
-        one_place!($rt, $alloc, $door, "take_give_1", pool($alloc, 1)?, take_give, $turns);
-        one_place!($rt, $alloc, $door, "take_give_1024", pool($alloc, MOST_BUFFERS)?, take_give, $turns);
-        one_place!($rt, $alloc, $door, "take_give_last", pool($alloc, MOST_BUFFERS)?, take_give, $turns, after take_many(MOST_BUFFERS - 1));
-        Ok(())
+fn measure_pool<R: Print + Eprint + Clock + Wait>(
+    rt: &R,
+    alloc: Global,
+    kind: DoorKind,
+    turns: u64,
+) -> anyhow::Result<()> {
+    pool_row(rt, alloc, kind, "take_give_1", (1, 0), turns)?;
+    pool_row(rt, alloc, kind, "take_give_1024", (MOST_BUFFERS, 0), turns)?;
+    let all_but_one = (MOST_BUFFERS, MOST_BUFFERS - 1);
+    pool_row(rt, alloc, kind, "take_give_last", all_but_one, turns)
+}
+
+// One row of an alarm clock with one place.
+fn alarm_row<R: Print + Eprint + Clock + Wait>(
+    rt: &R,
+    alloc: Global,
+    kind: DoorKind,
+    name: &'static str,
+    call: AlarmCall,
+    turns: u64,
+) -> anyhow::Result<()> {
+    one_place!(kind, rt, alloc, name, Alarm::at(0), call_alarm(call), turns);
+    Ok(())
+}
+
+// One row on threads of one door: `$sleepers` places sleep and one ticks, and what each sleep took is told.
+macro_rules! sleepers_on {
+    ($door:ident, $rt:ident, $alloc:ident, $name:ident, $sleepers:ident, $turns:ident) => {{
+        let Ok((door, places)) = $door::make($alloc, Alarm::at(0), $sleepers as usize + 1) else {
+            return Err(no_memory().into());
+        };
+        let start = Instant::now($rt)?;
+        sleep_and_tick($rt, &door, places, u64::from($sleepers), $turns).context($name)?;
+        tell($rt, $name, start.elapsed($rt)?, $turns.saturating_mul(u64::from($sleepers)))?;
     }};
+}
+
+// The row on the door of this kind.
+fn sleepers_row<R: Print + Eprint + Clock + Threads + Wait + Sync>(
+    rt: &R,
+    alloc: Global,
+    kind: DoorKind,
+    name: &'static str,
+    sleepers: u8,
+    turns: u64,
+) -> anyhow::Result<()> {
+    match kind {
+        DoorKind::Baton => sleepers_on!(Door, rt, alloc, name, sleepers, turns),
+        DoorKind::Ticket => sleepers_on!(TicketDoor, rt, alloc, name, sleepers, turns),
+    }
+    Ok(())
 }
 
 // The rows of the alarm clock.
-macro_rules! measure_alarm {
-    ($rt:ident, $alloc:ident, $turns:ident, $door:ident) => {{
-        let (hundredth, thousandth) = ($turns / 100, $turns / 1000);
-        one_place!($rt, $alloc, $door, "tick", Alarm::at(0), tick_many, $turns);
-        one_place!($rt, $alloc, $door, "wakeme_0", Alarm::at(0), wake_many, $turns);
-        sleepers!($rt, $alloc, $door, "wakeme_tick_1", 1, hundredth);
-        sleepers!($rt, $alloc, $door, "wakeme_tick_60", 60, thousandth);
-        Ok(())
-    }};
+fn measure_alarm<R: Print + Eprint + Clock + Threads + Wait + Sync>(
+    rt: &R,
+    alloc: Global,
+    kind: DoorKind,
+    turns: u64,
+) -> anyhow::Result<()> {
+    alarm_row(rt, alloc, kind, "tick", AlarmCall::Tick, turns)?;
+    alarm_row(rt, alloc, kind, "wakeme_0", AlarmCall::WakeAtOnce, turns)?;
+    sleepers_row(rt, alloc, kind, "wakeme_tick_1", 1, turns / 100)?;
+    sleepers_row(rt, alloc, kind, "wakeme_tick_60", 60, turns / 1000)
+}
+
+// One row of readers and writers.
+fn readers_row<R: Print + Eprint + Clock + Wait>(
+    rt: &R,
+    alloc: Global,
+    kind: DoorKind,
+    name: &'static str,
+    visit: Visit,
+    turns: u64,
+) -> anyhow::Result<()> {
+    one_place!(
+        kind,
+        rt,
+        alloc,
+        name,
+        ReadersWriters::with(0),
+        read_or_write(visit),
+        turns
+    );
+    Ok(())
 }
 
 // The rows of the schedulers that sweep.
-macro_rules! measure_sweeps {
-    ($rt:ident, $alloc:ident, $turns:ident, $door:ident) => {{
-        one_place!($rt, $alloc, $door, "request_release", Head::with(0, CYLINDERS - 1), request_release, $turns);
-        one_place!($rt, $alloc, $door, "start_end_read", ReadersWriters::with(0), start_end_read, $turns);
-        one_place!($rt, $alloc, $door, "start_end_write", ReadersWriters::with(0), start_end_write, $turns);
-        Ok(())
-    }};
-}
-
-fn plain_on_baton<R: Print + Eprint + Clock + Wait>(
+fn measure_sweeps<R: Print + Eprint + Clock + Wait>(
     rt: &R,
     alloc: Global,
+    kind: DoorKind,
     turns: u64,
 ) -> anyhow::Result<()> {
-    measure_plain!(rt, alloc, turns, Door)
+    one_place!(
+        kind,
+        rt,
+        alloc,
+        "request_release",
+        Head::with(0, CYLINDERS - 1),
+        request_release(),
+        turns
+    );
+    readers_row(rt, alloc, kind, "start_end_read", Visit::Read, turns)?;
+    readers_row(rt, alloc, kind, "start_end_write", Visit::Write, turns)
 }
 
-fn pool_on_baton<R: Print + Eprint + Clock + Wait>(
+/// All rows of the schedulers: prints a line for each.
+pub fn measure<R: Print + Eprint + Clock + Threads + Wait + Sync>(
     rt: &R,
     alloc: Global,
+    kind: DoorKind,
     turns: u64,
 ) -> anyhow::Result<()> {
-    measure_pool!(rt, alloc, turns, Door)
-}
-
-fn alarm_on_baton<R: Print + Eprint + Clock + Threads + Wait + Sync>(
-    rt: &R,
-    alloc: Global,
-    turns: u64,
-) -> anyhow::Result<()> {
-    measure_alarm!(rt, alloc, turns, Door)
-}
-
-fn sweeps_on_baton<R: Print + Eprint + Clock + Wait>(
-    rt: &R,
-    alloc: Global,
-    turns: u64,
-) -> anyhow::Result<()> {
-    measure_sweeps!(rt, alloc, turns, Door)
-}
-
-fn plain_on_ticket<R: Print + Eprint + Clock + Wait>(
-    rt: &R,
-    alloc: Global,
-    turns: u64,
-) -> anyhow::Result<()> {
-    measure_plain!(rt, alloc, turns, TicketDoor)
-}
-
-fn pool_on_ticket<R: Print + Eprint + Clock + Wait>(
-    rt: &R,
-    alloc: Global,
-    turns: u64,
-) -> anyhow::Result<()> {
-    measure_pool!(rt, alloc, turns, TicketDoor)
-}
-
-fn alarm_on_ticket<R: Print + Eprint + Clock + Threads + Wait + Sync>(
-    rt: &R,
-    alloc: Global,
-    turns: u64,
-) -> anyhow::Result<()> {
-    measure_alarm!(rt, alloc, turns, TicketDoor)
-}
-
-fn sweeps_on_ticket<R: Print + Eprint + Clock + Wait>(
-    rt: &R,
-    alloc: Global,
-    turns: u64,
-) -> anyhow::Result<()> {
-    measure_sweeps!(rt, alloc, turns, TicketDoor)
-}
-
-/// All rows on the baton door: prints a line for each.
-pub fn measure_baton<R: Print + Eprint + Clock + Threads + Wait + Sync>(
-    rt: &R,
-    alloc: Global,
-    turns: u64,
-) -> anyhow::Result<()> {
-    plain_on_baton(rt, alloc, turns)?;
-    pool_on_baton(rt, alloc, turns)?;
-    alarm_on_baton(rt, alloc, turns)?;
-    sweeps_on_baton(rt, alloc, turns)
-}
-
-/// All rows on the ticket door: prints a line for each.
-pub fn measure_ticket<R: Print + Eprint + Clock + Threads + Wait + Sync>(
-    rt: &R,
-    alloc: Global,
-    turns: u64,
-) -> anyhow::Result<()> {
-    plain_on_ticket(rt, alloc, turns)?;
-    pool_on_ticket(rt, alloc, turns)?;
-    alarm_on_ticket(rt, alloc, turns)?;
-    sweeps_on_ticket(rt, alloc, turns)
+    measure_plain(rt, alloc, kind, turns)?;
+    measure_pool(rt, alloc, kind, turns)?;
+    measure_alarm(rt, alloc, kind, turns)?;
+    measure_sweeps(rt, alloc, kind, turns)
 }

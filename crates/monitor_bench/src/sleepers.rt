@@ -14,8 +14,8 @@ pub trait SharedAlarm: Monitor<Alarm> + Sync {}
 
 impl<M: Monitor<Alarm> + Sync> SharedAlarm for M {}
 
-/// Sets the next time, `turns` times.
-pub fn tick_many<R: Wait, M: Monitor<Alarm>>(
+// Sets the next time, `turns` times.
+fn tick_many<R: Wait, M: Monitor<Alarm>>(
     rt: &R,
     m: &M,
     out: M::Out,
@@ -51,16 +51,29 @@ fn sleep_many<R: Wait, M: Monitor<Alarm>>(
     Ok(())
 }
 
-/// Sleeps for no tick, `turns` times: it returns at once.
-pub fn wake_many<R: Wait, M: Monitor<Alarm>>(
+/// What one thread calls again and again.
+#[derive(Clone, Copy)]
+pub enum AlarmCall {
+    /// The next time is set.
+    Tick,
+    /// A sleep of no tick, which returns at once.
+    WakeAtOnce,
+}
+
+/// Calls it `turns` times.
+pub fn call_alarm<R: Wait, M: Monitor<Alarm>>(
     rt: &R,
     m: &M,
     out: M::Out,
+    call: AlarmCall,
     turns: u64,
 ) -> anyhow::Result<()>
     requires { M.is_of m.now out }
 {
-    sleep_many(rt, m, out, 0, turns)
+    match call {
+        AlarmCall::Tick => tick_many(rt, m, out, turns),
+        AlarmCall::WakeAtOnce => sleep_many(rt, m, out, 0, turns),
+    }
 }
 
 // Ticks whenever all that aren't done sleep, until all are done. (At the last time nobody sleeps: so nobody is left sleeping where

@@ -1,5 +1,5 @@
 -- What one more command makes of the lanes, and that they go on to show the history.
-use Rattle.std.proofs.Common.{◌≡◌, ◌==◌, ◌<◌, ◌≤◌, ◌↔◌, ⊎_elim, ℕ, Bool, true, false, cond, eqb-true}
+use Rattle.std.proofs.Common.{◌≡◌, ◌==◌, ◌<◌, ◌↔◌, ⊎_elim, ℕ, Bool, true, false, cond, eqb-true}
 use Rattle.std.specs.List.{refill}
 use Rattle.std.proofs.Common.{suc, zero, ◌+◌, add-one, arith, take, drop, List, [], ◌∷◌, ◌++◌, length, slice_index_or, Option, Some, None, refl, ap, sym, ◌∙◌, subst}
 use Rattle.hoare_law.specs.declared.event.Event.TheVariants as event

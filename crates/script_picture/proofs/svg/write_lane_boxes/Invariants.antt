@@ -1,4 +1,3 @@
-use Rattle.std.proofs.Common.{◌≤◌}
 use Rattle.script_picture.specs.Shown.{DoesDuring, opening}
 use Rattle.script_picture.proofs.Shown.{Follows}
 use Rattle.script_picture.proofs.svg.write_lane_boxes.Given as goal

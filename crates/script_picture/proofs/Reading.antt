@@ -1,7 +1,8 @@
 -- Rows that are read, and answered as the history says.
 use Rattle.std.proofs.Common.{◌≡◌, ◌≤◌, ◌&&◌, ℕ, Bool, true, false, cond, leb, arith}
-use Rattle.std.proofs.Common.{List, [], ◌∷◌, ◌++◌, None, Some, refl, sym, subst}
+use Rattle.std.proofs.Common.{List, [], ◌∷◌, ◌++◌, Option, None, Some, refl, ap, sym, ◌∙◌, subst}
 use Rattle.std.proofs.lemmas.Bool.Decides.{nat_tests}
+use Rattle.std.proofs.lemmas.List.{append-nil, append_assoc}
 use Rattle.hoare_law.specs.declared.event.History.{History}
 use Rattle.wait_book.specs.declared.steps.MakeRefused.TheVariants.{BadPlaces, BadConditions}
 use Rattle.wait_book.specs.Contents.{Contents, IsOf, make_refusal}
@@ -9,7 +10,7 @@ use Rattle.hoare_script.specs.Answers.{answer_to, history_after}
 use Rattle.hoare_script.specs.declared.answers.Answer.{Answer}
 use Rattle.hoare_script.specs.declared.lines.Command.{Command}
 use Rattle.script_picture.specs.declared.chart.Row.{Row}
-use Rattle.script_picture.specs.Shown.{Answered, after_rows}
+use Rattle.script_picture.specs.Shown.{Answered, IsInFront, IsRowMore, after_rows}
 use Rattle.script_picture.proofs.Shown.{Answered-push, after_rows-push}
 
 -- a book that was made has at most 64 places
@@ -32,3 +33,16 @@ answered_row h rows old new command answer told answered of =
       Answered-push h rows row answered one.0 (new, one.1),
       subst (λ (g : History (Unit {0})). IsOf new g) (sym (after_rows-push h rows row)) one.1,
     )
+
+-- rows that stay in front, as more are added
+pub front_self : (xs : List Row) → IsInFront xs xs
+front_self xs = ([], sym (append-nil xs))
+
+pub front_more : (first old new : List Row) (command : Option Command) → IsInFront first old → IsRowMore command old new → IsInFront first new
+front_more first old new None front row = absurd row
+front_more first old new (Some c) front row =
+    let one : List Row = record { command = c; answer = row.0 } ∷ [] in
+    (front.0 ++ one, row.1 ∙ ap (λ (l : List Row). l ++ one) front.1 ∙ append_assoc first front.0 one)
+
+pub front_same : (first old new : List Row) → IsInFront first old → new ≡ old → IsInFront first new
+front_same first old new front same = (front.0, same ∙ front.1)

@@ -1,5 +1,5 @@
 -- What one more command makes of the lanes, and that they go on to show the history.
-use Rattle.std.proofs.Common.{◌≡◌, ◌==◌, ◌<◌, ◌↔◌, ℕ, Bool, true, false, cond, eqb-true}
+use Rattle.std.proofs.Common.{◌≡◌, ◌==◌, ◌<◌, ◌↔◌, ⊎_elim, ℕ, Bool, true, false, cond, eqb-true}
 use Rattle.std.specs.List.{refill}
 use Rattle.std.proofs.Common.{suc, zero, ◌+◌, add-one, arith, take, drop, List, [], ◌∷◌, ◌++◌, length, slice_index_or, Option, Some, None, refl, ap, sym, ◌∙◌, subst}
 use Rattle.hoare_law.specs.declared.event.Event.TheVariants as event
@@ -24,7 +24,10 @@ use Rattle.script_picture.specs.declared.chart.Lane.{Lane}
 use Rattle.script_picture.specs.declared.chart.Lane.TheVariants as lanes
 use Rattle.script_picture.specs.declared.chart.Row.{Row}
 use Rattle.script_picture.specs.Lanes.{lane_left, lane_answered, lane_commanded, lane_after}
-use Rattle.script_picture.specs.Shown.{Does, IsClaimed, Shows, HasBook, Answered, IsShownAfter, after_rows}
+use Rattle.script_picture.specs.Shown.{Does, DoesDuring, IsClaimed, Shows, HasBook, Answered, IsShownAfter, after_rows, opening}
+use Rattle.script_picture.specs.declared.chart.Chart.{Chart}
+use Rattle.hoare_script.specs.declared.lines.Header.{Header}
+use Rattle.std.proofs.lemmas.Bool.{cases_lt}
 use Rattle.script_picture.proofs.Does.{Log, Act, lane_of, lane_of-push, Does-last, Does-by_last}
 
 -- the turn after one more event
@@ -298,3 +301,52 @@ shown_next h rows seen i d old lent new seen_is lent_is below told shows long st
       subst (λ (l : List Row). Shows (after_rows h (take (i + 1) l)) (refill (length old) old new)) seen_is
           (subst (λ (x : Log). Shows x (refill (length old) old new)) (sym (after_rows-next h seen i d below)) drawn),
     )
+
+-- what a place does after each row, by what it did before
+
+opening_claimed : (h : Header) → IsClaimed (turn (opening h).events)
+opening_claimed h = subst IsClaimed (sym (turn-opened h.places h.conditions tt)) tt
+
+pub record Follows (h : Log) (rows : List Row) (i k : ℕ) (lane : Lane) : Type 0 where
+  pub claimed : IsClaimed (turn (after_rows h (take i rows)).events)
+  pub does : lane ≡ lane_of (after_rows h (take i rows)) k
+
+pub Follows-opening : (header : Header) (rows : List Row) (k : ℕ) → Follows (opening header) rows 0 k lanes.Outside
+Follows-opening header rows k = record { claimed = opening_claimed header; does = refl }
+
+pub Follows-next : (h : Log) (rows seen : List Row) (i k : ℕ) (d : Row) (old new : Lane) → seen ≡ rows → i < length seen → Answered h rows
+    → new ≡ lane_after (slice_index_or seen i d) k old → Follows h rows i k old
+    → Follows h rows (i + 1) k new × Does (after_rows h (take (i + 1) rows)) k new
+Follows-next h rows seen i k d old new seen_is below told new_is before =
+    let is : slice_index_or seen i d ≡ slice_index_or rows i d = ap (λ (l : List Row). slice_index_or l i d) seen_is in
+    let inside : i < length rows = subst (λ (l : List Row). i < length l) seen_is below in
+    let row : Row = slice_index_or rows i d in
+    let g : Log = after_rows h (take i rows) in
+    let at : (row.answer ≡ answer_to g row.command) × HasBook (history_after g row.command) = Answered-at h rows i d inside told in
+    let next : after_rows h (take (i + 1) rows) ≡ history_after g row.command = after_rows-next h rows i d inside in
+    let claimed : IsClaimed (turn (history_after g row.command).events) = claimed-after g row.command before.claimed in
+    let does : new ≡ lane_of (history_after g row.command) k =
+    new_is ∙ ap (λ (r : Row). lane_after r k old) is ∙ ap (lane_after row k) before.does
+    ∙ ap (lane_commanded row.command k (lane_of g k)) at.0 ∙ sym (lane_of-after g row.command k) in (
+      record {
+        claimed = subst (λ (x : Log). IsClaimed (turn x.events)) (sym next) claimed;
+        does = does ∙ ap (λ (x : Log). lane_of x k) (sym next);
+      },
+      subst (λ (x : Log). Does x k new) (sym next) ((Does-by_last at.1.0 (history_after g row.command) k new at.1.1 claimed).1 does),
+    )
+
+-- one row more, of a place that goes on as it did
+pub during_next : (c : Chart) (k : ℕ) (lane : Lane) (since i : ℕ) → DoesDuring c k lane since i
+    → Does (after_rows (opening c.header) (take (i + 1) c.rows.items)) k lane → DoesDuring c k lane since (i + 1)
+during_next c k lane since i before now j from below = ⊎_elim
+    (λ less. before j from less)
+    (λ least. let same : j ≡ i = omega (arith, least, below) in
+    subst (λ (n : ℕ). Does (after_rows (opening c.header) (take (n + 1) c.rows.items)) k lane) (sym same) now)
+    (cases_lt j i)
+
+-- the first row, of a place that begins to do this there
+pub during_one : (c : Chart) (k : ℕ) (lane : Lane) (i : ℕ) → Does (after_rows (opening c.header) (take (i + 1) c.rows.items)) k lane
+    → DoesDuring c k lane i (i + 1)
+during_one c k lane i now j from below =
+    let same : j ≡ i = omega (arith, from, below) in
+    subst (λ (n : ℕ). Does (after_rows (opening c.header) (take (n + 1) c.rows.items)) k lane) (sym same) now

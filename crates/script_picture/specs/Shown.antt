@@ -1,5 +1,5 @@
 -- What a place does where a history happened, and which lanes and rows show that.
-use Rattle.std.specs.Prelude.{ℕ, ◌≡◌, ◌<◌, ◌≤◌, ◌↔◌, true, List, [], ◌∷◌, length, slice_index_or, ⊤}
+use Rattle.std.specs.Prelude.{ℕ, ◌≡◌, ◌<◌, ◌≤◌, ◌+◌, ◌↔◌, true, List, [], ◌∷◌, ◌++◌, length, slice_index_or, take, Option, Some, None, ⊤}
 use Rattle.std.specs.List.{Contains}
 use Rattle.hoare_law.specs.declared.event.History.{History}
 use Rattle.hoare_law.specs.declared.event.Event.TheVariants.{Wait}
@@ -10,6 +10,8 @@ use Rattle.hoare_law.specs.Turns.{turn, urgent, outside}
 use Rattle.hoare_law.specs.Waiting.{waiting}
 use Rattle.wait_book.specs.Contents.{Contents, IsOf}
 use Rattle.hoare_script.specs.Answers.{answer_to, history_after}
+use Rattle.hoare_script.specs.declared.answers.Answer.{Answer}
+use Rattle.hoare_script.specs.declared.lines.Command.{Command}
 use Rattle.hoare_script.specs.declared.lines.Header.{Header}
 use Rattle.script_picture.specs.declared.chart.Lane.{Lane}
 use Rattle.script_picture.specs.declared.chart.Lane.TheVariants as lanes
@@ -63,6 +65,20 @@ IsShownAfter drawn row = (h : History (Unit {0})) × (row.answer ≡ answer_to h
 -- there are as many places as a picture has lanes for, and each row is answered as the history since the opening says
 abbrev pub IsTold : Chart → Type 0
 IsTold c = (c.header.places ≤ 64) × Answered (opening c.header) c.rows.items
+
+-- after each row from one on, up to another, a place does this
+abbrev pub DoesDuring : Chart → ℕ → Lane → ℕ → ℕ → Type 0
+DoesDuring c k lane since end =
+    (i : ℕ) → since ≤ i → i < end → Does (after_rows (opening c.header) (take (i + 1) c.rows.items)) k lane
+
+-- one row more, of the command that a line spells
+abbrev pub IsRowMore : Option Command → List Row → List Row → Type 0
+IsRowMore None old new = ⊥
+IsRowMore (Some command) old new = (answer : Answer) × (new ≡ old ++ record { command = command; answer = answer } ∷ [])
+
+-- the rows that were there stay, in front
+abbrev pub IsInFront : List Row → List Row → Type 0
+IsInFront old new = (more : List Row) × (new ≡ old ++ more)
 
 -- and the book is where the rows are
 abbrev pub IsRead : Script → Type 0

@@ -43,7 +43,8 @@ pub fn draw_watched<R: Read, W: Write>(
     writer: &mut W,
     form: Form,
 ) -> Result<(), PictureFault>
-    ensures { has_read_failed reader.new ≡ (has_read_failed reader.old || is_read_fault result) }
+    ensures read { has_read_failed reader.new ≡ (has_read_failed reader.old || is_read_fault result) }
+    ensures tall { form ≡ Form.Text → is_too_tall result ≡ false }
 {
     let mut script = open_script(alloc, reader)?;
     let read = script.read_rows(reader);

@@ -1,9 +1,12 @@
 //! Reads a script row by row, as `hoare_script` answers it.
-ghost use Rattle.std.specs.Prelude.{◌≡◌, ◌≤◌, ◌||◌, false, IfOk, OnOk};
-ghost use Rattle.wait_book.specs.Contents.{IsOf};
+ghost use Rattle.std.specs.Prelude.{◌≡◌, ◌≤◌, ◌||◌, false, None, IfOk, OnOk};
+ghost use Rattle.std.specs.Result.{MatchResult};
+ghost use Rattle.wait_book.specs.Contents.{IsOf, make_refusal};
+ghost use Rattle.hoare_script.specs.Lines.{command_of};
 ghost use Rattle.hoare_script.specs.Runs.{is_read_fault};
 ghost use Rattle.line_text.specs.Streams.{has_read_failed};
-ghost use Rattle.script_picture.specs.Shown.{IsRead, IsTold, opening};
+ghost use Rattle.script_picture.specs.Faults.{header_fault, is_header_fault, line_fault};
+ghost use Rattle.script_picture.specs.Shown.{IsInFront, IsRead, IsRowMore, IsTold, opening};
 
 use crate::chart::{Chart, Row};
 use arrayvec::ArrayVec;
@@ -59,6 +62,8 @@ pub fn open_script<R: Read>(
 fn open_book(alloc: Global, header: Header) -> Result<Opened, ScriptFault>
     ensures book { IfOk result (λ b. (header.places ≤ 64) × IsOf b (opening header)) }
     ensures fault { is_read_fault result ≡ false }
+    ensures refused { let refusal = make_refusal header.places header.conditions in
+        MatchResult result (λ b. refusal ≡ None) (λ f. f ≡ header_fault refusal) }
 {
     match Opened::make(alloc, header) {
         Ok(opened) => Ok(opened),
@@ -74,7 +79,8 @@ fn read_numbered<R: Read>(
     room: usize,
     number: u64,
 ) -> Result<Ended, ScriptFault>
-    ensures { has_read_failed reader.new ≡ (has_read_failed reader.old || is_read_fault result) }
+    ensures failed { has_read_failed reader.new ≡ (has_read_failed reader.old || is_read_fault result) }
+    ensures fault { is_header_fault result ≡ false }
 {
     match read_line(reader, line, room) {
         Ok(ended) => Ok(ended),
@@ -87,11 +93,14 @@ fn read_numbered<R: Read>(
 impl Script {
     /// Reads the rows, up to the end or the first fault: `BadLine`, `LineTooLong`, `TooMuch`, `ReadFault`, or `Memory`
     /// where no row can be added. What was read stays in the chart, each row answered as the history since the opening says.
+    #[tactic(auto, using(crate::proofs::Reading::front_self, crate::proofs::Reading::front_more, crate::proofs::Reading::front_same))]
     pub fn read_rows<R: Read>(
         &mut self,
         reader: &mut WatchedReader<'_, R>,
     ) -> Result<(), ScriptFault>
         ensures told { IsRead self.old → IsTold self.new.chart }
+        ensures kept { IsInFront self.old.chart.rows.items self.new.chart.rows.items }
+        ensures fault { is_header_fault result ≡ false }
         ensures failed { has_read_failed reader.new
             ≡ (has_read_failed reader.old || is_read_fault result) }
     {
@@ -114,6 +123,10 @@ impl Script {
     fn add_row(&mut self, line: &[u8], number: u64) -> Result<(), ScriptFault>
         ensures told { IsRead self.old → IsTold self.new.chart }
         ensures book { OnOk result (IsRead self.old → IsRead self.new) }
+        ensures row { let command = command_of line.now in MatchResult result
+            (λ done. IsRowMore command self.old.chart.rows.items self.new.chart.rows.items)
+            (λ f. (f ≡ line_fault number command)
+            × (self.new.chart.rows.items ≡ self.old.chart.rows.items)) }
         ensures fault { is_read_fault result ≡ false }
     {
         let Some(command) = parse_command(line) else {

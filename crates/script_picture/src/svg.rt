@@ -1,9 +1,11 @@
 //! The chart as an SVG.
+ghost use Rattle.script_picture.specs.Shown.{DoesDuring, IsTold};
+
 use crate::about::write_description;
 use crate::chart::{
     Chart, HandOver, Lane, Lanes, Row, advance, hand_over, lane_after, outside_lanes,
 };
-use crate::frame::{Frame, ROW, frame_of, row_top};
+use crate::frame::{Frame, ROW, Track, frame_of, row_top};
 use crate::legend::write_legend;
 use crate::shapes::{Area, Arrow, write_arrow, write_box, write_dot};
 use crate::words::{Text, command_text, header_text, idle_text, remark_text};
@@ -27,7 +29,9 @@ const STYLE: [&str; 8] = [
 
 /// Writes a chart: rows with their steps and remarks, a lane for each place with a box for each thing that it does, and an
 /// arrow for each hand-over. It names nothing outside itself.
-pub fn draw<W: Write>(writer: &mut W, chart: &Chart) -> io::Result<()> {
+pub fn draw<W: Write>(writer: &mut W, chart: &Chart) -> io::Result<()>
+    requires { IsTold chart.now }
+{
     let frame = frame_of(chart);
     write_opening(writer, &frame)?;
     write_description(writer, &frame, chart)?;
@@ -138,62 +142,49 @@ fn write_lanes<W: Write>(writer: &mut W, frame: &Frame) -> io::Result<()> {
     Ok(())
 }
 
-// What a place does, and the row since which it does it.
-#[derive(Clone, Copy, Default)]
+// What a place does after each row from one on, up to another.
+#[derive(Clone, Copy)]
 struct Span {
     lane: Lane,
     since: u64,
+    end: u64,
+}
+
+// The boxes, lane by lane.
+fn write_boxes<W: Write>(writer: &mut W, frame: &Frame, chart: &Chart) -> io::Result<()>
+    requires { IsTold chart.now }
+{
+    for track in frame.tracks.as_slice() {
+        write_lane_boxes(writer, chart, *track)?;
+    }
+    Ok(())
 }
 
 // A box for each thing that a place does, as long as it does it.
-fn write_boxes<W: Write>(writer: &mut W, frame: &Frame, chart: &Chart) -> io::Result<()> {
-    let mut spans: ArrayVec<Span, 64> = ArrayVec::new();
-    for lane in outside_lanes(chart.header).as_slice() {
-        let _ = spans.try_push(Span {
-            lane: *lane,
-            since: 0,
-        });
-    }
-    for (i, row) in chart.rows.iter().enumerate() {
-        write_ended(writer, frame, spans.as_mut_slice(), i as u64, *row)?;
-    }
-    for (place, span) in spans.as_slice().iter().enumerate() {
-        write_span(writer, frame, place as u64, *span, frame.rows)?;
-    }
-    Ok(())
-}
-
-// The boxes that end where a row begins others.
-fn write_ended<W: Write>(
-    writer: &mut W,
-    frame: &Frame,
-    spans: &mut [Span],
-    i: u64,
-    row: Row,
-) -> io::Result<()> {
-    for (place, span) in spans.iter_mut().enumerate() {
-        let lane = lane_after(row, place as u64, span.lane);
-        if lane != span.lane {
-            write_span(writer, frame, place as u64, *span, i)?;
-            *span = Span { lane, since: i };
+fn write_lane_boxes<W: Write>(writer: &mut W, chart: &Chart, track: Track) -> io::Result<()>
+    requires { IsTold chart.now }
+{
+    let mut lane = Lane::Outside;
+    let mut since = 0;
+    'rows: for (i, row) in chart.rows.iter().enumerate() {
+        let end = i as u64;
+        let after = lane_after(*row, track.place, lane);
+        if after != lane {
+            write_span(writer, chart, track, Span { lane, since, end })?;
+            since = end;
         }
+        lane = after;
     }
-    Ok(())
+    let end = chart.rows.len() as u64;
+    write_span(writer, chart, track, Span { lane, since, end })
 }
 
-// The box of a place up to a row.
-fn write_span<W: Write>(
-    writer: &mut W,
-    frame: &Frame,
-    place: u64,
-    span: Span,
-    end: u64,
-) -> io::Result<()> {
-    let Some(track) = frame.track(place) else {
-        return Ok(()); // idle
-    };
+// The box of what a place does. The chart is there for the clause: the place does this after each row that the box is beside.
+fn write_span<W: Write>(writer: &mut W, chart: &Chart, track: Track, span: Span) -> io::Result<()>
+    requires { DoesDuring chart.now track.place span.lane span.since span.end }
+{
     let top = row_top(span.since);
-    let height = row_top(end).saturating_sub(top);
+    let height = row_top(span.end).saturating_sub(top);
     let area = Area {
         middle: track.middle,
         half: track.half,

@@ -1,6 +1,7 @@
 // Charts that were drawn by hand.
 use super::{HAND_OVER, drawn, sixty_four_waits};
 use crate::picture::Form;
+use std::io::Write;
 use std::test::Fail;
 
 #[test]
@@ -105,6 +106,43 @@ leave 0 ------------------------ c0:18446744073709551615 -> [in]
 leave 2                          c0:18446744073709551615    .       -> free
 ";
     assert_eq!(rt; text.as_slice(), lines.as_slice());
+}
+
+// A lane stands beside another where the line has 80 letters at most with an arrow behind it, and so does a remark. The step has 29
+// letters, the first lane 4 + 23 and the second 4 + 3 and the digits of its priority: with 14 digits and 3 for an arrow that is 80. With 6
+// digits it is 69, and `-> free` is 4 + 7 more.
+#[test]
+fn lines_of_eighty_as_text(rt: HostRuntime) -> Result<(), Fail> {
+    for (priority, end) in [
+        (
+            100_000u64,
+            "\nwait 1 0 100000                  c0:18446744073709551615    c0:100000    -> free\n",
+        ),
+        (
+            1_000_000,
+            "\nwait 1 0 1000000                 c0:18446744073709551615    c0:1000000\n    -> free\n",
+        ),
+        (
+            10_000_000_000_000,
+            "\nwait 1 0 10000000000000          c0:18446744073709551615    c0:10000000000000\n    -> free\n",
+        ),
+        (
+            100_000_000_000_000,
+            "\nwait 1 0 100000000000000         c0:100000000000000    -> free\n",
+        ),
+    ] {
+        let mut script = b"monitor 2 1\nenter 0\nwait 0 0 18446744073709551615\nenter 1\n".to_vec(
+            rt.alloc(),
+        )?;
+        write!(script, "wait 1 0 {priority}\n")?;
+        let (result, text) = drawn(rt.alloc(), script.as_slice(), Form::Text);
+        assert_eq!(rt; result, Ok(()));
+        assert!(rt;
+            text.as_slice().ends_with(end.as_bytes()),
+            "with {priority}"
+        );
+    }
+    Ok(())
 }
 
 // No line is over 80 long, where all 64 places wait with priorities of one digit, or of twenty.

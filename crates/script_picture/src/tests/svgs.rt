@@ -3,16 +3,12 @@ use super::{HAND_OVER, drawn, sixty_four_waits, times};
 use crate::picture::Form;
 use std::test::Fail;
 
-// The whole picture of the script, worked out by hand from the measures in the README. The longest step has 11 letters of 8 after a
+// The whole picture of `HAND_OVER`, worked out by hand from the measures in the README. The longest step has 11 letters of 8 after a
 // margin of 20, and a box of 7 letters is 68 wide: so the lanes stand at 20 + 88 + 24 + 34 = 166 and 68 + 44 = 112 further, at
 // 278, and remarks begin at 278 + 34 + 16 = 328. Rows are 28 high from 64 on, so that the last one ends at 232 and the page at 336.
 // A box has 3 free above and below; an arrow runs along a row's middle, and its head is 8 long.
-#[test]
-fn hand_over_as_svg(rt: HostRuntime) {
-    let (result, text) = drawn(rt.alloc(), HAND_OVER, Form::Svg);
-    assert_eq!(rt; result, Ok(()));
-    let picture =
-        b"<svg xmlns=\"http://www.w3.org/2000/svg\" width=\"560\" height=\"336\" viewBox=\"0 0 560 336\" role=\"img\" aria-labelledby=\"title\" aria-describedby=\"about\">
+const HAND_OVER_DRAWN: &[u8] =
+    b"<svg xmlns=\"http://www.w3.org/2000/svg\" width=\"560\" height=\"336\" viewBox=\"0 0 560 336\" role=\"img\" aria-labelledby=\"title\" aria-describedby=\"about\">
 <title id=\"title\">A monitor with 2 places and 1 condition, in a script of 6 steps</title>
 <desc id=\"about\">A chart of 6 rows, one for each step, and 2 lanes, one for each place that comes in, with 2 hand-overs and 0 refusals.</desc>
 <style>
@@ -44,10 +40,10 @@ text{font-family:ui-monospace,Menlo,Consolas,'DejaVu Sans Mono',monospace;font-s
 <text class=\"light\" x=\"166\" y=\"82\">inside</text>
 <rect class=\"waits\" x=\"132\" y=\"95\" width=\"68\" height=\"50\" rx=\"4\"/>
 <text class=\"dark\" x=\"166\" y=\"110\">c0 p0</text>
-<rect class=\"inside\" x=\"244\" y=\"123\" width=\"68\" height=\"22\" rx=\"4\"/>
-<text class=\"light\" x=\"278\" y=\"138\">inside</text>
 <rect class=\"inside\" x=\"132\" y=\"151\" width=\"68\" height=\"22\" rx=\"4\"/>
 <text class=\"light\" x=\"166\" y=\"166\">inside</text>
+<rect class=\"inside\" x=\"244\" y=\"123\" width=\"68\" height=\"22\" rx=\"4\"/>
+<text class=\"light\" x=\"278\" y=\"138\">inside</text>
 <rect class=\"blank\" x=\"244\" y=\"151\" width=\"68\" height=\"22\" rx=\"4\"/>
 <rect class=\"half\" x=\"244\" y=\"151\" width=\"34\" height=\"22\" rx=\"4\"/>
 <rect class=\"signals\" x=\"244\" y=\"151\" width=\"68\" height=\"22\" rx=\"4\"/>
@@ -74,7 +70,12 @@ text{font-family:ui-monospace,Menlo,Consolas,'DejaVu Sans Mono',monospace;font-s
 <text class=\"note\" x=\"404\" y=\"291\">a signaller returns</text>
 </svg>
 ";
-    assert!(rt; text.as_slice() == picture.as_slice());
+
+#[test]
+fn hand_over_as_svg(rt: HostRuntime) {
+    let (result, text) = drawn(rt.alloc(), HAND_OVER, Form::Svg);
+    assert_eq!(rt; result, Ok(()));
+    assert!(rt; text.as_slice() == HAND_OVER_DRAWN);
 }
 
 // Each lane as wide as its own texts. The longest step has 30 letters, so that lane 1 begins at 20 + 240 + 24 = 284; its longest text

@@ -2,21 +2,48 @@
 
 // A row on one door: it is made with these data and this many places, each acts by its number, and it is closed.
 macro_rules! run_row {
-    ($rt:ident, $door:ident, $act:ident($($more:expr),*), $data:expr, $count:expr) => {{
-        let (door, outs) = $crate::tests::$door::made(&$rt, $rt.alloc(), $data, $count);
-        let (outs, answers) = $crate::tests::running::act_all(&$rt, $rt.alloc(), &door, outs, &|place| {
-            $act(&$rt, &door, place.1, place.0 $(, $more)*)
+    ($rt:ident, $alloc:ident, $door:ident, $acts:ident($($more:expr),*), $data:expr, $count:expr) => {{
+        let (door, outs) = $crate::tests::$door::made($rt, $alloc, $data, $count);
+        let (outs, answers) = $crate::tests::running::act_all($rt, $alloc, &door, outs, &|place| {
+            $acts($rt, &door, place.1, place.0 $(, $more)*)
         });
         ($crate::tests::$door::closed(door, outs), answers)
     }};
 }
 
-// A row on both doors, one after the other: on which door, the data that it left, and what the places answered.
-macro_rules! on_both_doors {
-    ($rt:ident, $act:ident($($more:expr),*), $data:expr, $count:expr) => {{
-        let (state, answers) = run_row!($rt, on_baton_door, $act($($more),*), $data, $count);
-        let (state_too, answers_too) = run_row!($rt, on_ticket_door, $act($($more),*), $data, $count);
-        [("baton door", state, answers), ("ticket door", state_too, answers_too)]
+// A row on the door of this kind: the data that it left, and what the places answered.
+macro_rules! run_row_on {
+    ($kind:expr, $rt:ident, $alloc:ident, $acts:ident($($more:expr),*), $data:expr, $count:expr) => {
+        match $kind {
+            $crate::tests::running::DoorKind::Baton => {
+                run_row!($rt, $alloc, on_baton_door, $acts($($more),*), $data, $count)
+            }
+            $crate::tests::running::DoorKind::Ticket => {
+                run_row!($rt, $alloc, on_ticket_door, $acts($($more),*), $data, $count)
+            }
+        }
+    };
+}
+
+// The same where `$act_on` gives the threads to the places: a closure that goes to them is dear to check at a door's own type.
+macro_rules! run_shared_on {
+    ($kind:expr, $rt:ident, $alloc:ident, $act_on:ident($row:expr), $data:expr, $count:expr) => {
+        match $kind {
+            $crate::tests::running::DoorKind::Baton => {
+                run_shared!($rt, $alloc, on_baton_door, $act_on($row), $data, $count)
+            }
+            $crate::tests::running::DoorKind::Ticket => {
+                run_shared!($rt, $alloc, on_ticket_door, $act_on($row), $data, $count)
+            }
+        }
+    };
+}
+
+macro_rules! run_shared {
+    ($rt:ident, $alloc:ident, $door:ident, $act_on:ident($row:expr), $data:expr, $count:expr) => {{
+        let (door, outs) = $crate::tests::$door::made($rt, $alloc, $data, $count);
+        let (outs, answers) = $act_on($rt, $alloc, &door, outs, $row);
+        ($crate::tests::$door::closed(door, outs), answers)
     }};
 }
 

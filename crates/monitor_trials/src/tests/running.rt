@@ -16,6 +16,17 @@ use std::thread;
 use std::thread::Threads;
 use std::time::Duration;
 
+/// On which door a row is run.
+#[derive(Clone, Copy, Debug, PartialEq, Eq)]
+pub enum DoorKind {
+    Baton,
+    Ticket,
+}
+
+impl DoorKind {
+    pub const BOTH: [DoorKind; 2] = [DoorKind::Baton, DoorKind::Ticket];
+}
+
 /// The places, each with its number.
 fn numbered<O: Drop>(alloc: Global, outs: Vec<O>) -> Result<Vec<(usize, O)>, AllocError>
     ensures count { IfOk result (λ jobs. vec_len jobs ≡ vec_len outs) }

@@ -29,7 +29,7 @@ fn meets_the_last_time<R: Wait + Abort>(rt: &R, alloc: Global) -> Result<u64, Al
     assert_eq!(rt; woke, Err(TooFar));
     let (out, woke) = Alarm::wakeme(&fake, rt, out, 1);
     assert_eq!(rt; woke, Ok(u64::MAX));
-    let (_out, time) = ends_the_clock(rt, &fake, out, 0);
+    let (_out, time) = ends_the_clock(rt, &fake, out);
     Ok(time)
 }
 

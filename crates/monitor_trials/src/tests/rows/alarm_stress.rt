@@ -2,7 +2,9 @@
 //! against what an alarm clock is.
 ghost use Rattle.std.specs.Prelude.{◌≡◌};
 
+use crate::tests::rows::alarm_and_pool::alarm::{AlarmRow, run};
 use crate::tests::rows::shared_log::{Log, await_others, draw};
+use crate::tests::running::DoorKind;
 use hoare_law::monitor::Monitor;
 use std::process::Abort;
 use std::sync::Wait;
@@ -15,7 +17,7 @@ const ROUNDS: u64 = 200;
 
 /// What happened.
 #[derive(Clone, Copy, Debug, PartialEq, Eq)]
-enum Line {
+pub enum Line {
     /// The place is about to sleep for this many ticks.
     Sets { place: usize, ticks: u64 },
     /// It woke, and found this time.
@@ -122,8 +124,8 @@ fn ticks_on<R: Wait + Abort, M: Monitor<Alarm>>(
     panic!(rt; "a sleeper sleeps on")
 }
 
-// All places but the last sleep, and the last ticks.
-fn sleeps_or_ticks_on<R: Wait + Abort, M: Monitor<Alarm>>(
+/// All places but the last sleep, and the last ticks.
+pub fn sleeps_or_ticks_on<R: Wait + Abort, M: Monitor<Alarm>>(
     rt: &R,
     m: &M,
     out: M::Out,
@@ -152,23 +154,17 @@ fn agrees<R: Abort>(rt: &R, log: Log<Line>) {
 
 #[test]
 fn all_that_are_due_wake_at_their_time(rt: HostRuntime) -> Result<(), Fail> {
-    let log = Log::new(rt.alloc(), 10_000)?;
-    run_row!(
-        rt,
-        on_baton_door,
-        sleeps_or_ticks_on(&log),
-        Alarm::at(0),
-        SLEEPERS + 1
-    );
-    agrees(&rt, log);
-    let log = Log::new(rt.alloc(), 10_000)?;
-    run_row!(
-        rt,
-        on_ticket_door,
-        sleeps_or_ticks_on(&log),
-        Alarm::at(0),
-        SLEEPERS + 1
-    );
-    agrees(&rt, log);
+    for kind in DoorKind::BOTH {
+        let log = Log::new(rt.alloc(), 10_000)?;
+        run(
+            &rt,
+            rt.alloc(),
+            kind,
+            AlarmRow::SleepsOn(&log),
+            0,
+            SLEEPERS + 1,
+        );
+        agrees(&rt, log);
+    }
     Ok(())
 }

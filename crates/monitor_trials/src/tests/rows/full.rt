@@ -1,6 +1,7 @@
 //! A door of the most places and conditions: each place waits, and goes on in its turn.
 ghost use Rattle.std.specs.Prelude.{◌≡◌};
 
+use crate::tests::running::DoorKind;
 use hoare_law::monitor::Monitor;
 use hoare_law::unasked::Unasked;
 use hoare_law::waits::Waits;
@@ -93,10 +94,14 @@ fn stands_in_order<R: Abort>(rt: &R, alloc: Global, row: &[usize]) -> Result<(),
 }
 
 #[test]
-fn sixty_four_places_wait_on_eight_conditions(rt: HostRuntime) -> Result<(), Fail> {
-    let room = || Vec::with_capacity(rt.alloc(), PLACES);
-    for (_, row, _) in on_both_doors!(rt, waits_in_row(), Row { value: room()? }, PLACES) {
-        stands_in_order(&rt, rt.alloc(), row.value.as_slice())?;
+fn sixty_four_places_wait_on_eight_conditions(host: HostRuntime) -> Result<(), Fail> {
+    let (rt, alloc) = (&host, host.alloc());
+    for kind in DoorKind::BOTH {
+        let data = Row {
+            value: Vec::with_capacity(alloc, PLACES)?,
+        };
+        let (row, _) = run_row_on!(kind, rt, alloc, waits_in_row(), data, PLACES);
+        stands_in_order(rt, alloc, row.value.as_slice())?;
     }
     Ok(())
 }

@@ -2,8 +2,9 @@
 //! they wrote down is held against what a sweep is.
 ghost use Rattle.std.specs.Prelude.{◌≡◌};
 
-use crate::tests::rows::head::{Trip, disk, goes, hands_on};
+use crate::tests::rows::head::{HeadRow, Trip, goes, hands_on, run};
 use crate::tests::rows::shared_log::{Log, await_others, draw};
+use crate::tests::running::DoorKind;
 use hoare_law::monitor::Monitor;
 use std::process::Abort;
 use std::sync::Wait;
@@ -18,7 +19,7 @@ const CYLMAX: u16 = 9;
 
 /// What happened.
 #[derive(Clone, Copy, Debug, PartialEq, Eq)]
-enum Line {
+pub enum Line {
     /// The place is about to ask for the cylinder.
     Asks { place: usize, dest: u16 },
     /// It has the drive there.
@@ -126,8 +127,8 @@ fn first_wrong(lines: &[Line]) -> Option<Line> {
     lines.iter().copied().find(|line| !disk.allows(*line))
 }
 
-// Asks for a random cylinder in each round, and hands the drive on when all others wait.
-fn travels<R: Wait + Abort, M: Monitor<Head<Trip>>>(
+/// Asks for a random cylinder in each round, and hands the drive on when all others wait.
+pub fn travels<R: Wait + Abort, M: Monitor<Head<Trip>>>(
     rt: &R,
     m: &M,
     out: M::Out,
@@ -163,23 +164,17 @@ fn agrees<R: Abort>(rt: &R, log: Log<Line>) {
 
 #[test]
 fn the_drive_goes_by_sweeps(rt: HostRuntime) -> Result<(), Fail> {
-    let log = Log::new(rt.alloc(), 10_000)?;
-    run_row!(
-        rt,
-        on_baton_door,
-        travels(&log),
-        disk(rt.alloc(), CYLMAX),
-        PLACES
-    );
-    agrees(&rt, log);
-    let log = Log::new(rt.alloc(), 10_000)?;
-    run_row!(
-        rt,
-        on_ticket_door,
-        travels(&log),
-        disk(rt.alloc(), CYLMAX),
-        PLACES
-    );
-    agrees(&rt, log);
+    for kind in DoorKind::BOTH {
+        let log = Log::new(rt.alloc(), 10_000)?;
+        run(
+            &rt,
+            rt.alloc(),
+            kind,
+            HeadRow::Travels(&log),
+            CYLMAX,
+            PLACES,
+        );
+        agrees(&rt, log);
+    }
     Ok(())
 }

@@ -1,8 +1,9 @@
 //! The most readers are in, a writer waits, and a reader comes late.
 ghost use Rattle.std.specs.Prelude.{◌≡◌};
 
-use crate::tests::rows::readers::{Shared, ends_read, starts_read, waiting};
+use crate::tests::rows::readers::{ReadersRow, Shared, ends_read, run, starts_read, waiting};
 use crate::tests::rows::turns::{Turns, line_up};
+use crate::tests::running::DoorKind;
 use hoare_law::monitor::Monitor;
 use std::process::Abort;
 use std::rt::Clock;
@@ -73,8 +74,8 @@ fn reads_late<R: Wait + Abort + Clock, M: Monitor<Shared>>(
     ends_read(rt, m, out, pass)
 }
 
-// Place 0 has all the reads, place 1 writes, and place 2 is the late reader.
-fn reads_or_writes_late<R: Wait + Abort + Clock, M: Monitor<Shared>>(
+/// Place 0 has all the reads, place 1 writes, and place 2 is the late reader.
+pub fn reads_or_writes_late<R: Wait + Abort + Clock, M: Monitor<Shared>>(
     rt: &R,
     m: &M,
     out: M::Out,
@@ -98,12 +99,9 @@ fn reads_or_writes_late<R: Wait + Abort + Clock, M: Monitor<Shared>>(
 fn writer_before_late_reader(rt: HostRuntime) {
     let turns = Turns::new();
     let ended = AtomicU32::new(0);
-    for (door, shared, answers) in on_both_doors!(
-        rt,
-        reads_or_writes_late(&turns, &ended),
-        ReadersWriters::with(4),
-        3
-    ) {
-        assert_eq!(rt; (shared.into_value(), answers.len()), (6, 3), "{door}");
+    for kind in DoorKind::BOTH {
+        let row = ReadersRow::ReadsOrWritesLate(&turns, &ended);
+        let left = run(&rt, rt.alloc(), kind, row, 4, 3);
+        assert_eq!(rt; left, (6, 3), "{kind:?}");
     }
 }

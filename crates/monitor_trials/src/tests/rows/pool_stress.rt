@@ -1,8 +1,9 @@
 //! Four streams take two buffers each, of five, as often as they can. What they wrote down is held against what a pool is.
 ghost use Rattle.std.specs.Prelude.{◌≡◌};
 
-use crate::tests::rows::alarm_and_pool::pool::{gives, takes};
+use crate::tests::rows::alarm_and_pool::pool::{PoolRow, gives, run, takes};
 use crate::tests::rows::shared_log::{Log, await_others, linger};
+use crate::tests::running::DoorKind;
 use hoare_law::monitor::Monitor;
 use std::process::Abort;
 use std::rt::Clock;
@@ -19,7 +20,7 @@ const ROUNDS: u64 = 200;
 
 /// What happened.
 #[derive(Clone, Copy, Debug, PartialEq, Eq)]
-enum Line {
+pub enum Line {
     /// The stream has taken the buffer.
     Has { stream: u32, buffer: u32 },
     /// It is about to give it back.
@@ -126,8 +127,8 @@ fn takes_all<R: Wait + Abort, M: Monitor<Pool>>(
     out
 }
 
-// The places are the streams, and one more takes all when they are done.
-fn uses_or_takes_all<R: Wait + Abort + Clock, M: Monitor<Pool>>(
+/// The places are the streams, and one more takes all when they are done.
+pub fn uses_or_takes_all<R: Wait + Abort + Clock, M: Monitor<Pool>>(
     rt: &R,
     m: &M,
     out: M::Out,
@@ -153,14 +154,19 @@ fn agrees<R: Abort>(rt: &R, log: Log<Line>) {
 
 #[test]
 fn a_buffer_has_one_holder(rt: HostRuntime) -> Result<(), Fail> {
-    let places = STREAMS as usize + 1;
-    let log = Log::new(rt.alloc(), 10_000)?;
-    let pool = Pool::make(rt.alloc(), BUFFERS, STREAMS)?;
-    run_row!(rt, on_baton_door, uses_or_takes_all(&log), pool, places);
-    agrees(&rt, log);
-    let log = Log::new(rt.alloc(), 10_000)?;
-    let pool = Pool::make(rt.alloc(), BUFFERS, STREAMS)?;
-    run_row!(rt, on_ticket_door, uses_or_takes_all(&log), pool, places);
-    agrees(&rt, log);
+    for kind in DoorKind::BOTH {
+        let log = Log::new(rt.alloc(), 10_000)?;
+        let pool = Pool::make(rt.alloc(), BUFFERS, STREAMS)?;
+        let places = STREAMS as usize + 1;
+        run(
+            &rt,
+            rt.alloc(),
+            kind,
+            PoolRow::UsesOrTakesAll(&log),
+            pool,
+            places,
+        );
+        agrees(&rt, log);
+    }
     Ok(())
 }

@@ -1,8 +1,13 @@
 //! The readers and writers: who waits for whom, and the most readers.
-ghost use Rattle.std.specs.Prelude.{◌≡◌};
+ghost use Rattle.std.specs.Prelude.{◌≡◌, All, vec_len};
+ghost use Rattle.monitor_trials.specs.Numbered.{IsNumbered};
 
 use crate::fake::Fake;
+use crate::tests::rows::late_reader::reads_or_writes_late;
+use crate::tests::rows::readers_stress::{Line, reads_or_writes_on};
+use crate::tests::rows::shared_log::Log;
 use crate::tests::rows::turns::{Turns, line_up};
+use crate::tests::running::{DoorKind, act_all};
 use hoare_law::monitor::Monitor;
 use hoare_law::waits::Waits;
 use std::alloc::Global;
@@ -10,6 +15,8 @@ use std::collections::VecDeque;
 use std::process::Abort;
 use std::rt::Clock;
 use std::sync::Wait;
+use std::sync::atomic::AtomicU32;
+use std::thread::Threads;
 use sweep_schedulers::not_out::NotOut;
 use sweep_schedulers::readers_writers::{
     MOST_READERS, NoReader, ReadPass, ReadersWriters, TooManyReaders,
@@ -236,16 +243,101 @@ fn reads_or_writes<R: Wait + Abort + Clock, M: Monitor<Shared>>(
     (out, 0)
 }
 
+/// What the places of readers and writers do.
+#[derive(Clone, Copy)]
+pub enum ReadersRow<'a> {
+    ReadsOrWrites(Global, &'a Turns),
+    /// A writer and a late reader wait for the most readers, who are counted as they go.
+    ReadsOrWritesLate(&'a Turns, &'a AtomicU32),
+    /// They read and write again and again, and write down when.
+    ReadsOrWritesOn(&'a Log<Line>),
+}
+
+// Each place does what the row says.
+fn acts<R: Wait + Abort + Clock, M: Monitor<Shared>>(
+    rt: &R,
+    m: &M,
+    out: M::Out,
+    place: usize,
+    row: ReadersRow<'_>,
+) -> (M::Out, u64)
+    requires { M.is_of m.now out }
+    ensures of { M.is_of m.now result.0 }
+    ensures place { M.place result.0 ≡ M.place out }
+{
+    match row {
+        ReadersRow::ReadsOrWrites(alloc, turns) => reads_or_writes(rt, m, out, place, alloc, turns),
+        ReadersRow::ReadsOrWritesLate(turns, ended) => {
+            reads_or_writes_late(rt, m, out, place, turns, ended)
+        }
+        ReadersRow::ReadsOrWritesOn(log) => reads_or_writes_on(rt, m, out, place, log),
+    }
+}
+
+/// A monitor of readers and writers that threads share.
+pub trait SharedReaders: Monitor<Shared> + Sync {}
+
+impl<M: Monitor<Shared> + Sync> SharedReaders for M {}
+
+// The row on threads.
+fn act_on<R: Threads + Wait + Abort + Clock + Sync, M: SharedReaders>(
+    rt: &R,
+    alloc: Global,
+    m: &M,
+    outs: Vec<M::Out>,
+    row: ReadersRow<'_>,
+) -> (Vec<M::Out>, Vec<u64>)
+where
+    M::Lists: Send,
+    requires of { All (M.is_of m.now) outs.items }
+    requires numbered { IsNumbered M.place outs.items }
+    ensures count { vec_len result.0 ≡ vec_len outs }
+    ensures of { All (M.is_of m.now) result.0.items }
+    ensures numbered { IsNumbered M.place result.0.items }
+{
+    act_all(
+        rt,
+        alloc,
+        m,
+        outs,
+        &|job| -> (M::Out, u64)
+            requires { M.is_of m.now job.1 }
+        { acts(rt, m, job.1, job.0, row) },
+    )
+}
+
+/// The row on the door of this kind, with this value: what is there at the end, and how many places acted.
+pub fn run<R: Threads + Wait + Abort + Clock + Sync>(
+    rt: &R,
+    alloc: Global,
+    kind: DoorKind,
+    row: ReadersRow<'_>,
+    value: u64,
+    places: usize,
+) -> (u64, usize) {
+    let (shared, answers) = run_shared_on!(
+        kind,
+        rt,
+        alloc,
+        act_on(row),
+        ReadersWriters::with(value),
+        places
+    );
+    (shared.into_value(), answers.len())
+}
+
 #[test]
 fn readers_and_writers(rt: HostRuntime) {
     let turns = Turns::new();
-    let alloc = rt.alloc();
-    for (door, _shared, answers) in on_both_doors!(
-        rt,
-        reads_or_writes(alloc, &turns),
-        ReadersWriters::with(0),
-        4
-    ) {
-        assert_eq!(rt; answers.len(), 4, "{door}");
+    for kind in DoorKind::BOTH {
+        let left = run(
+            &rt,
+            rt.alloc(),
+            kind,
+            ReadersRow::ReadsOrWrites(rt.alloc(), &turns),
+            0,
+            4,
+        );
+        assert_eq!(rt; left, (4, 4), "{kind:?}");
     }
 }

@@ -1,8 +1,9 @@
 //! Three processes read and two write, each as often as it can. What they wrote down is held against what readers and writers may do.
 ghost use Rattle.std.specs.Prelude.{◌≡◌, ◌<◌};
 
-use crate::tests::rows::readers::{Shared, ends_read, waiting};
+use crate::tests::rows::readers::{ReadersRow, Shared, ends_read, run, waiting};
 use crate::tests::rows::shared_log::{Log, linger};
+use crate::tests::running::DoorKind;
 use hoare_law::monitor::Monitor;
 use std::process::Abort;
 use std::rt::Clock;
@@ -18,7 +19,7 @@ const ROUNDS: u64 = 200;
 
 /// What happened.
 #[derive(Clone, Copy, Debug, PartialEq, Eq)]
-enum Line {
+pub enum Line {
     /// The place is about to ask to read, and sees that somebody waits to write. (Written inside.)
     Sees {
         place: usize,
@@ -218,8 +219,8 @@ fn writes_on<R: Wait + Abort + Clock, M: Monitor<Shared>>(
     out
 }
 
-// The first places read, and the others write.
-fn reads_or_writes_on<R: Wait + Abort + Clock, M: Monitor<Shared>>(
+/// The first places read, and the others write.
+pub fn reads_or_writes_on<R: Wait + Abort + Clock, M: Monitor<Shared>>(
     rt: &R,
     m: &M,
     out: M::Out,
@@ -260,23 +261,11 @@ fn agrees<R: Abort>(rt: &R, log: Log<Line>) {
 
 #[test]
 fn no_reader_is_in_beside_a_writer_or_overtakes_one(rt: HostRuntime) -> Result<(), Fail> {
-    let log = Log::new(rt.alloc(), 10_000)?;
-    run_row!(
-        rt,
-        on_baton_door,
-        reads_or_writes_on(&log),
-        ReadersWriters::with(0),
-        PLACES
-    );
-    agrees(&rt, log);
-    let log = Log::new(rt.alloc(), 10_000)?;
-    run_row!(
-        rt,
-        on_ticket_door,
-        reads_or_writes_on(&log),
-        ReadersWriters::with(0),
-        PLACES
-    );
-    agrees(&rt, log);
+    for kind in DoorKind::BOTH {
+        let log = Log::new(rt.alloc(), 10_000)?;
+        let row = ReadersRow::ReadsOrWritesOn(&log);
+        run(&rt, rt.alloc(), kind, row, 0, PLACES);
+        agrees(&rt, log);
+    }
     Ok(())
 }

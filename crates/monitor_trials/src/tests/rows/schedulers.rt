@@ -1,7 +1,7 @@
 //! The single item and the bounded buffer.
 ghost use Rattle.std.specs.Prelude.{◌≡◌};
 
-use crate::tests::running::{await_sign, watch};
+use crate::tests::running::{DoorKind, await_sign, watch};
 use hoare_law::monitor::Monitor;
 use plain_schedulers::buffer::{Buffer, MOST_CELLS};
 use plain_schedulers::single::{NotOut, Single};
@@ -73,27 +73,39 @@ fn appends_or_removes<R: Wait, M: Monitor<Buffer<u64>>>(
 }
 
 #[test]
-fn an_item_is_lent_and_comes_back(rt: HostRuntime) -> Result<(), Fail> {
+fn an_item_is_lent_and_comes_back(host: HostRuntime) {
+    let (rt, alloc) = (&host, host.alloc());
     let sign = AtomicBool::new(false);
-    for (door, _, answers) in on_both_doors!(rt, lends_or_borrows(&sign), Single::with(7u64), 2) {
-        assert_eq!(rt; answers.as_slice(), [796, 8].as_slice(), "{door}");
+    for kind in DoorKind::BOTH {
+        let (_, answers) = run_row_on!(
+            kind,
+            rt,
+            alloc,
+            lends_or_borrows(&sign),
+            Single::with(7u64),
+            2
+        );
+        assert_eq!(host; answers.as_slice(), [796, 8].as_slice(), "{kind:?}");
     }
-    Ok(())
 }
 
 #[test]
-fn items_come_out_in_order(rt: HostRuntime) -> Result<(), Fail> {
+fn items_come_out_in_order(host: HostRuntime) -> Result<(), Fail> {
+    let (rt, alloc) = (&host, host.alloc());
     for (cells, items) in [(1, 4), (MOST_CELLS, 5000)] {
-        for (door, _, answers) in on_both_doors!(
-            rt,
-            appends_or_removes(items),
-            Buffer::make(rt.alloc(), cells)?,
-            2
-        ) {
-            assert_eq!(rt;
+        for kind in DoorKind::BOTH {
+            let (_, answers) = run_row_on!(
+                kind,
+                rt,
+                alloc,
+                appends_or_removes(items),
+                Buffer::make(alloc, cells)?,
+                2
+            );
+            assert_eq!(host;
                 answers.as_slice(),
                 [0, items].as_slice(),
-                "{door}, {cells} cells"
+                "{kind:?}, {cells} cells"
             );
         }
     }

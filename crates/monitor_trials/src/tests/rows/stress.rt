@@ -4,6 +4,7 @@ ghost use Rattle.std.specs.Prelude.{◌≡◌, ◌<◌};
 
 use crate::tests::rows::diary::{Act, Diary};
 use crate::tests::rows::history::{choices, first_unlawful};
+use crate::tests::running::DoorKind;
 use hoare_law::monitor::Monitor;
 use hoare_law::unasked::Unasked;
 use hoare_law::waits::Waits;
@@ -246,22 +247,12 @@ fn agrees<R: Abort>(rt: &R, diary: &Diary, rounds: u64) {
 }
 
 #[test]
-fn a_diary_is_a_legal_history(rt: HostRuntime) -> Result<(), Fail> {
-    let (pages, _) = run_row!(
-        rt,
-        on_baton_door,
-        works_or_sweeps(ROUNDS),
-        empty_pages(rt.alloc())?,
-        WORKERS + 1
-    );
-    agrees(&rt, &pages.value, ROUNDS);
-    let (pages, _) = run_row!(
-        rt,
-        on_ticket_door,
-        works_or_sweeps(TICKET_ROUNDS),
-        empty_pages(rt.alloc())?,
-        WORKERS + 1
-    );
-    agrees(&rt, &pages.value, TICKET_ROUNDS);
+fn a_diary_is_a_legal_history(host: HostRuntime) -> Result<(), Fail> {
+    let (rt, alloc) = (&host, host.alloc());
+    for (kind, rounds) in [(DoorKind::Baton, ROUNDS), (DoorKind::Ticket, TICKET_ROUNDS)] {
+        let data = empty_pages(alloc)?;
+        let (pages, _) = run_row_on!(kind, rt, alloc, works_or_sweeps(rounds), data, WORKERS + 1);
+        agrees(rt, &pages.value, rounds);
+    }
     Ok(())
 }

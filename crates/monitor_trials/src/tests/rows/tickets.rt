@@ -9,7 +9,6 @@ use std::process::Abort;
 use std::rt::Clock;
 use std::sync::Wait;
 use std::sync::atomic::{AtomicUsize, Ordering};
-use std::test::Fail;
 use std::thread;
 use std::time::Duration;
 use ticket_door::door::TicketDoor;
@@ -50,18 +49,19 @@ fn asks_and_looks_late<R: Wait + Abort + Clock>(
 }
 
 #[test]
-fn who_asked_comes_in_by_its_ticket(rt: HostRuntime) -> Result<(), Fail> {
+fn who_asked_comes_in_by_its_ticket(host: HostRuntime) {
+    let (rt, alloc) = (&host, host.alloc());
     let asked = AtomicUsize::new(0);
     let (tally, tickets) = run_row!(
         rt,
+        alloc,
         on_ticket_door,
         asks_and_looks_late(&asked),
         Tally { value: 0 },
         3
     );
-    assert_eq!(rt; tickets.as_slice(), [0, 1, 2].as_slice());
-    assert_eq!(rt; tally.value, 123);
-    Ok(())
+    assert_eq!(host; tickets.as_slice(), [0, 1, 2].as_slice());
+    assert_eq!(host; tally.value, 123);
 }
 
 // Place 0 waits. Place 1 hands the monitor up to it, without waiting itself, and answers whether it resumed somebody.
@@ -88,15 +88,16 @@ fn waits_or_hands_up<R: Wait + Abort>(
 }
 
 #[test]
-fn who_hands_up_resumes_who_waits(rt: HostRuntime) -> Result<(), Fail> {
+fn who_hands_up_resumes_who_waits(host: HostRuntime) {
+    let (rt, alloc) = (&host, host.alloc());
     let (tally, told) = run_row!(
         rt,
+        alloc,
         on_ticket_door,
         waits_or_hands_up(),
         Tally { value: 0 },
         2
     );
-    assert_eq!(rt; told.as_slice(), [0, 1].as_slice());
-    assert_eq!(rt; tally.value, 12);
-    Ok(())
+    assert_eq!(host; told.as_slice(), [0, 1].as_slice());
+    assert_eq!(host; tally.value, 12);
 }

@@ -2,14 +2,13 @@
 ghost use Rattle.std.specs.Prelude.{◌≡◌};
 
 use crate::tally::Tally;
-use crate::tests::rows::tally::write_digit;
-use crate::tests::running::{await_sign, watch};
+use crate::tests::rows::tally::{TallyRow, run, write_digit};
+use crate::tests::running::{DoorKind, await_sign, watch};
 use hoare_law::monitor::Monitor;
 use std::process::Abort;
 use std::rt::Clock;
 use std::sync::Wait;
 use std::sync::atomic::{AtomicBool, Ordering};
-use std::test::Fail;
 use std::thread;
 use std::time::{CpuClock, Duration};
 
@@ -25,9 +24,9 @@ fn pause<R: Clock>(rt: &R, millis: u64) {
     thread::sleep(rt, Duration::from_millis(millis));
 }
 
-// Place 0 waits and writes 1: it answers how many milliseconds of the processor's time the wait took. Place 1 lets it wait for a
-// while, signals, and writes 2 when it is back.
-fn waits_long<R: Wait + Abort + Clock + CpuClock, M: Monitor<Tally>>(
+/// Place 0 waits and writes 1: it answers how many milliseconds of the processor's time the wait took. Place 1 lets it wait for a
+/// while, signals, and writes 2 when it is back.
+pub fn waits_long<R: Wait + Abort + Clock + CpuClock, M: Monitor<Tally>>(
     rt: &R,
     m: &M,
     out: M::Out,
@@ -51,8 +50,8 @@ fn waits_long<R: Wait + Abort + Clock + CpuClock, M: Monitor<Tally>>(
     (m.leave(rt, inside), after.saturating_sub(before))
 }
 
-// Place 0 comes in, gives a sign, stays inside for a while and writes 1. Place 1 comes in after the sign, and writes 2.
-fn comes_late<R: Wait + Abort + Clock, M: Monitor<Tally>>(
+/// Place 0 comes in, gives a sign, stays inside for a while and writes 1. Place 1 comes in after the sign, and writes 2.
+pub fn comes_late<R: Wait + Abort + Clock, M: Monitor<Tally>>(
     rt: &R,
     m: &M,
     out: M::Out,
@@ -76,19 +75,19 @@ fn comes_late<R: Wait + Abort + Clock, M: Monitor<Tally>>(
 }
 
 #[test]
-fn who_waits_sleeps_until_it_is_woken(rt: HostRuntime) -> Result<(), Fail> {
-    for (door, tally, millis) in on_both_doors!(rt, waits_long(), Tally { value: 0 }, 2) {
-        assert_eq!(rt; tally.value, 12, "{door}");
-        assert!(rt; millis.iter().all(|m| *m < 30), "{door}");
+fn who_waits_sleeps_until_it_is_woken(rt: HostRuntime) {
+    for kind in DoorKind::BOTH {
+        let (value, millis) = run(&rt, rt.alloc(), kind, TallyRow::WaitsLong, 2);
+        assert_eq!(rt; value, 12, "{kind:?}");
+        assert!(rt; millis.iter().all(|m| *m < 30), "{kind:?}");
     }
-    Ok(())
 }
 
 #[test]
-fn a_newcomer_comes_in_once_nobody_is_inside(rt: HostRuntime) -> Result<(), Fail> {
+fn a_newcomer_comes_in_once_nobody_is_inside(rt: HostRuntime) {
     let sign = AtomicBool::new(false);
-    for (door, tally, _) in on_both_doors!(rt, comes_late(&sign), Tally { value: 0 }, 2) {
-        assert_eq!(rt; tally.value, 12, "{door}");
+    for kind in DoorKind::BOTH {
+        let (value, _) = run(&rt, rt.alloc(), kind, TallyRow::ComesLate(&sign), 2);
+        assert_eq!(rt; value, 12, "{kind:?}");
     }
-    Ok(())
 }

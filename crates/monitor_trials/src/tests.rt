@@ -25,28 +25,6 @@ macro_rules! run_row_on {
     };
 }
 
-// The same where `$act_on` gives the threads to the places: a closure that goes to them is dear to check at a door's own type.
-macro_rules! run_shared_on {
-    ($kind:expr, $rt:ident, $alloc:ident, $act_on:ident($row:expr), $data:expr, $count:expr) => {
-        match $kind {
-            $crate::tests::running::DoorKind::Baton => {
-                run_shared!($rt, $alloc, on_baton_door, $act_on($row), $data, $count)
-            }
-            $crate::tests::running::DoorKind::Ticket => {
-                run_shared!($rt, $alloc, on_ticket_door, $act_on($row), $data, $count)
-            }
-        }
-    };
-}
-
-macro_rules! run_shared {
-    ($rt:ident, $alloc:ident, $door:ident, $act_on:ident($row:expr), $data:expr, $count:expr) => {{
-        let (door, outs) = $crate::tests::$door::made($rt, $alloc, $data, $count);
-        let (outs, answers) = $act_on($rt, $alloc, &door, outs, $row);
-        ($crate::tests::$door::closed(door, outs), answers)
-    }};
-}
-
 mod fake;
 mod limit;
 mod on_baton_door;

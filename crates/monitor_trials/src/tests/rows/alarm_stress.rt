@@ -2,16 +2,14 @@
 //! against what an alarm clock is.
 ghost use Rattle.std.specs.Prelude.{◌≡◌};
 
-use crate::tests::rows::alarm_and_pool::alarm::{AlarmRow, run};
 use crate::tests::rows::shared_log::{Log, await_others, draw};
-use crate::tests::running::DoorKind;
 use hoare_law::monitor::Monitor;
 use std::process::Abort;
 use std::sync::Wait;
-use std::test::Fail;
 use timed_schedulers::alarm::Alarm;
 
-const SLEEPERS: usize = 5;
+/// How many places sleep.
+pub const SLEEPERS: usize = 5;
 
 const ROUNDS: u64 = 200;
 
@@ -143,28 +141,11 @@ pub fn sleeps_or_ticks_on<R: Wait + Abort, M: Monitor<Alarm>>(
     }
 }
 
-// What they wrote is what a clock does, and there were ticks that woke more than one.
-fn agrees<R: Abort>(rt: &R, log: Log<Line>) {
+/// What they wrote is what a clock does, and there were ticks that woke more than one.
+pub fn is_a_clock<R: Abort>(rt: &R, log: Log<Line>) {
     let lines = log.into_lines();
     assert_eq!(rt; first_wrong(lines.as_slice()), None);
     let (sleeps, ticks) = count_sleeps(lines.as_slice());
     assert_eq!(rt; lines.len().saturating_sub(ticks), 2000);
     assert!(rt; ticks < sleeps);
-}
-
-#[test]
-fn all_that_are_due_wake_at_their_time(rt: HostRuntime) -> Result<(), Fail> {
-    for kind in DoorKind::BOTH {
-        let log = Log::new(rt.alloc(), 10_000)?;
-        run(
-            &rt,
-            rt.alloc(),
-            kind,
-            AlarmRow::SleepsOn(&log),
-            0,
-            SLEEPERS + 1,
-        );
-        agrees(&rt, log);
-    }
-    Ok(())
 }

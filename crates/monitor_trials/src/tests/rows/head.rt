@@ -1,19 +1,18 @@
 //! The disk head: in which order it goes to the cylinders. The drive that is handed on has the list of those where it was.
-ghost use Rattle.std.specs.Prelude.{◌≡◌, All, vec_len};
+ghost use Rattle.std.specs.Prelude.{◌≡◌};
 ghost use Rattle.hoare_law.specs.Priorities.{nobody};
 ghost use Rattle.sweep_schedulers.specs.Heads.{HeadRests};
-ghost use Rattle.monitor_trials.specs.Numbered.{IsNumbered};
 
-use crate::tests::rows::head_stress::{Line, travels};
+use crate::tests::rows::head_stress::{CYLMAX, Line, PLACES, is_a_sweep, travels};
 use crate::tests::rows::shared_log::Log;
 use crate::tests::rows::turns::{Turns, line_up};
-use crate::tests::running::{DoorKind, act_all};
+use crate::tests::running::DoorKind;
 use hoare_law::monitor::Monitor;
 use std::alloc::Global;
 use std::process::Abort;
 use std::rt::Clock;
 use std::sync::Wait;
-use std::thread::Threads;
+use std::test::Fail;
 use sweep_schedulers::head::{Head, OffDisk};
 use sweep_schedulers::not_out::NotOut;
 
@@ -128,7 +127,7 @@ pub fn is_refused<R: Wait + Abort, M: Monitor<Head<Trip>>>(
 
 /// Who asks for which cylinder while the drive is at 50, in which order.
 #[derive(Drop)]
-pub struct Plan<'a> {
+struct Plan<'a> {
     /// Whether the drive was handed on once before, to nobody.
     is_idle_once: bool,
     dests: &'a [u16],
@@ -167,13 +166,13 @@ pub fn disk(alloc: Global, cylmax: u16) -> Head<Trip>
     Head::with(Vec::new(alloc), cylmax)
 }
 
-/// What the places of a disk do.
+/// The rows of a disk head.
 #[derive(Clone, Copy)]
-pub enum HeadRow<'a> {
-    /// Place 0 leads and the others follow, in their turns and as planned.
-    IsPlanned(Global, &'a Turns, &'a Plan<'a>),
-    /// All travel, and write down where.
-    Travels(&'a Log<Line>),
+enum HeadRow<'a> {
+    /// In the turns and as planned.
+    ByPlan(Global, &'a Turns, &'a Plan<'a>),
+    /// Its places write down what they do.
+    TheDriveGoesBySweeps(&'a Log<Line>),
 }
 
 // Each place does what the row says.
@@ -189,105 +188,60 @@ fn acts<R: Wait + Abort + Clock, M: Monitor<Head<Trip>>>(
     ensures place { M.place result.0 ≡ M.place out }
 {
     match row {
-        HeadRow::IsPlanned(alloc, turns, plan) => {
+        HeadRow::ByPlan(alloc, turns, plan) => {
             leads_or_follows(rt, m, out, place, alloc, turns, plan)
         }
-        HeadRow::Travels(log) => travels(rt, m, out, place, log),
+        HeadRow::TheDriveGoesBySweeps(log) => travels(rt, m, out, place, log),
     }
 }
 
-/// A monitor of a disk head that threads share.
-pub trait SharedHead: Monitor<Head<Trip>> + Sync {}
+/// Each cylinder in the order of a sweep.
+const SWEEP_ORDER: Plan<'static> = Plan {
+    is_idle_once: false,
+    dests: &[70, 60, 20, 50, 40],
+    last: 0,
+    trip: &[50, 50, 60, 70, 40, 20, 0],
+};
 
-impl<M: Monitor<Head<Trip>> + Sync> SharedHead for M {}
+/// A release to nobody turns the head.
+const IDLE_RELEASE_TURNS: Plan<'static> = Plan {
+    is_idle_once: true,
+    dests: &[60, 40],
+    last: 100,
+    trip: &[50, 50, 40, 60, 100],
+};
 
-// The row on threads.
-fn act_on<R: Threads + Wait + Abort + Clock + Sync, M: SharedHead>(
-    rt: &R,
-    alloc: Global,
-    m: &M,
-    outs: Vec<M::Out>,
-    row: HeadRow<'_>,
-) -> (Vec<M::Out>, Vec<u64>)
-where
-    M::Lists: Send,
-    requires of { All (M.is_of m.now) outs.items }
-    requires numbered { IsNumbered M.place outs.items }
-    ensures count { vec_len result.0 ≡ vec_len outs }
-    ensures of { All (M.is_of m.now) result.0.items }
-    ensures numbered { IsNumbered M.place result.0.items }
-{
-    act_all(
-        rt,
-        alloc,
-        m,
-        outs,
-        &|job| -> (M::Out, u64)
-            requires { M.is_of m.now job.1 }
-        { acts(rt, m, job.1, job.0, row) },
-    )
-}
-
-/// The row on the door of this kind: what the places answered.
-pub fn run<R: Threads + Wait + Abort + Clock + Sync>(
-    rt: &R,
-    alloc: Global,
-    kind: DoorKind,
-    row: HeadRow<'_>,
-    cylmax: u16,
-    places: usize,
-) -> Vec<u64> {
-    let (_head, answers) = run_shared_on!(
-        kind,
-        rt,
-        alloc,
-        act_on(row),
-        disk(alloc, cylmax),
-        places
-    );
-    answers
-}
-
-#[test]
-fn sweep_order(rt: HostRuntime) {
-    let plan = Plan {
-        is_idle_once: false,
-        dests: &[70, 60, 20, 50, 40],
-        last: 0,
-        trip: &[50, 50, 60, 70, 40, 20, 0],
-    };
-    let turns = Turns::new();
-    for kind in DoorKind::BOTH {
-        let answers = run(
-            &rt,
-            rt.alloc(),
-            kind,
-            HeadRow::IsPlanned(rt.alloc(), &turns, &plan),
-            100,
-            6,
-        );
-        assert_eq!(rt; answers.len(), 6, "{kind:?}");
+// The last cylinder of the row's disk, and how many places act.
+fn setting(row: HeadRow<'_>) -> (u16, usize) {
+    match row {
+        HeadRow::ByPlan(_, _, plan) => (100, plan.dests.len() + 1),
+        HeadRow::TheDriveGoesBySweeps(_) => (CYLMAX, PLACES),
     }
 }
 
 #[test]
-fn idle_release_turns(rt: HostRuntime) {
-    let plan = Plan {
-        is_idle_once: true,
-        dests: &[60, 40],
-        last: 100,
-        trip: &[50, 50, 40, 60, 100],
-    };
+fn a_disk_head_on_both_doors(host: HostRuntime) -> Result<(), Fail> {
+    let (rt, alloc) = (&host, host.alloc());
     let turns = Turns::new();
     for kind in DoorKind::BOTH {
-        let answers = run(
-            &rt,
-            rt.alloc(),
-            kind,
-            HeadRow::IsPlanned(rt.alloc(), &turns, &plan),
-            100,
-            3,
-        );
-        assert_eq!(rt; answers.len(), 3, "{kind:?}");
+        let log = Log::new(alloc, 10_000)?;
+        for row in [
+            HeadRow::ByPlan(alloc, &turns, &SWEEP_ORDER),
+            HeadRow::ByPlan(alloc, &turns, &IDLE_RELEASE_TURNS),
+            HeadRow::TheDriveGoesBySweeps(&log),
+        ] {
+            let (cylmax, places) = setting(row);
+            let (_head, answers) = run_row_on!(
+                kind,
+                rt,
+                alloc,
+                acts(row),
+                disk(alloc, cylmax),
+                places
+            );
+            assert_eq!(rt; answers.len(), places, "{kind:?}");
+        }
+        is_a_sweep(rt, log);
     }
+    Ok(())
 }

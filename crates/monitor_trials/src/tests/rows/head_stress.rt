@@ -2,20 +2,20 @@
 //! they wrote down is held against what a sweep is.
 ghost use Rattle.std.specs.Prelude.{◌≡◌};
 
-use crate::tests::rows::head::{HeadRow, Trip, goes, hands_on, run};
+use crate::tests::rows::head::{Trip, goes, hands_on};
 use crate::tests::rows::shared_log::{Log, await_others, draw};
-use crate::tests::running::DoorKind;
 use hoare_law::monitor::Monitor;
 use std::process::Abort;
 use std::sync::Wait;
-use std::test::Fail;
 use sweep_schedulers::head::Head;
 
-const PLACES: usize = 5;
+/// How many places ask.
+pub const PLACES: usize = 5;
 
 const ROUNDS: u64 = 200;
 
-const CYLMAX: u16 = 9;
+/// The last cylinder.
+pub const CYLMAX: u16 = 9;
 
 /// What happened.
 #[derive(Clone, Copy, Debug, PartialEq, Eq)]
@@ -155,26 +155,9 @@ pub fn travels<R: Wait + Abort, M: Monitor<Head<Trip>>>(
     (out, 0)
 }
 
-// What they wrote is what a sweep is, and all was written.
-fn agrees<R: Abort>(rt: &R, log: Log<Line>) {
+/// What they wrote is what a sweep is, and all was written.
+pub fn is_a_sweep<R: Abort>(rt: &R, log: Log<Line>) {
     let lines = log.into_lines();
     assert_eq!(rt; first_wrong(lines.as_slice()), None);
     assert_eq!(rt; lines.len(), 3000);
-}
-
-#[test]
-fn the_drive_goes_by_sweeps(rt: HostRuntime) -> Result<(), Fail> {
-    for kind in DoorKind::BOTH {
-        let log = Log::new(rt.alloc(), 10_000)?;
-        run(
-            &rt,
-            rt.alloc(),
-            kind,
-            HeadRow::Travels(&log),
-            CYLMAX,
-            PLACES,
-        );
-        agrees(&rt, log);
-    }
-    Ok(())
 }

@@ -1,9 +1,8 @@
 //! The most readers are in, a writer waits, and a reader comes late.
 ghost use Rattle.std.specs.Prelude.{◌≡◌};
 
-use crate::tests::rows::readers::{ReadersRow, Shared, ends_read, run, starts_read, waiting};
+use crate::tests::rows::readers::{Shared, ends_read, starts_read, waiting};
 use crate::tests::rows::turns::{Turns, line_up};
-use crate::tests::running::DoorKind;
 use hoare_law::monitor::Monitor;
 use std::process::Abort;
 use std::rt::Clock;
@@ -93,15 +92,4 @@ pub fn reads_or_writes_late<R: Wait + Abort + Clock, M: Monitor<Shared>>(
         _ => reads_late(rt, m, out, turns),
     };
     (out, 0)
-}
-
-#[test]
-fn writer_before_late_reader(rt: HostRuntime) {
-    let turns = Turns::new();
-    let ended = AtomicU32::new(0);
-    for kind in DoorKind::BOTH {
-        let row = ReadersRow::ReadsOrWritesLate(&turns, &ended);
-        let left = run(&rt, rt.alloc(), kind, row, 4, 3);
-        assert_eq!(rt; left, (6, 3), "{kind:?}");
-    }
 }

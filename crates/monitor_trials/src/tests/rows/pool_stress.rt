@@ -1,20 +1,19 @@
 //! Four streams take two buffers each, of five, as often as they can. What they wrote down is held against what a pool is.
 ghost use Rattle.std.specs.Prelude.{◌≡◌};
 
-use crate::tests::rows::alarm_and_pool::pool::{PoolRow, gives, run, takes};
+use crate::tests::rows::alarm_and_pool::pool::{gives, takes};
 use crate::tests::rows::shared_log::{Log, await_others, linger};
-use crate::tests::running::DoorKind;
 use hoare_law::monitor::Monitor;
 use std::process::Abort;
 use std::rt::Clock;
 use std::sync::Wait;
-use std::test::Fail;
 use timed_schedulers::pool::Pool;
 
-const STREAMS: u32 = 4;
+/// How many streams take buffers.
+pub const STREAMS: u32 = 4;
 
 /// So many that a stream which waits for its second buffer never waits for ever: the others can't have all.
-const BUFFERS: u32 = 5;
+pub const BUFFERS: u32 = 5;
 
 const ROUNDS: u64 = 200;
 
@@ -145,28 +144,9 @@ pub fn uses_or_takes_all<R: Wait + Abort + Clock, M: Monitor<Pool>>(
     }
 }
 
-// What they wrote is what a pool does, and all was written.
-fn agrees<R: Abort>(rt: &R, log: Log<Line>) {
+/// What they wrote is what a pool does, and all was written.
+pub fn is_a_pool<R: Abort>(rt: &R, log: Log<Line>) {
     let lines = log.into_lines();
     assert_eq!(rt; first_wrong(lines.as_slice()), None);
     assert_eq!(rt; lines.len(), 3200);
-}
-
-#[test]
-fn a_buffer_has_one_holder(rt: HostRuntime) -> Result<(), Fail> {
-    for kind in DoorKind::BOTH {
-        let log = Log::new(rt.alloc(), 10_000)?;
-        let pool = Pool::make(rt.alloc(), BUFFERS, STREAMS)?;
-        let places = STREAMS as usize + 1;
-        run(
-            &rt,
-            rt.alloc(),
-            kind,
-            PoolRow::UsesOrTakesAll(&log),
-            pool,
-            places,
-        );
-        agrees(&rt, log);
-    }
-    Ok(())
 }

@@ -1,13 +1,12 @@
 //! The readers and writers: who waits for whom, and the most readers.
-ghost use Rattle.std.specs.Prelude.{◌≡◌, All, vec_len};
-ghost use Rattle.monitor_trials.specs.Numbered.{IsNumbered};
+ghost use Rattle.std.specs.Prelude.{◌≡◌};
 
 use crate::fake::Fake;
 use crate::tests::rows::late_reader::reads_or_writes_late;
-use crate::tests::rows::readers_stress::{Line, reads_or_writes_on};
+use crate::tests::rows::readers_stress::{Line, PLACES, is_read_and_written, reads_or_writes_on};
 use crate::tests::rows::shared_log::Log;
 use crate::tests::rows::turns::{Turns, line_up};
-use crate::tests::running::{DoorKind, act_all};
+use crate::tests::running::DoorKind;
 use hoare_law::monitor::Monitor;
 use hoare_law::waits::Waits;
 use std::alloc::Global;
@@ -16,7 +15,7 @@ use std::process::Abort;
 use std::rt::Clock;
 use std::sync::Wait;
 use std::sync::atomic::AtomicU32;
-use std::thread::Threads;
+use std::test::Fail;
 use sweep_schedulers::not_out::NotOut;
 use sweep_schedulers::readers_writers::{
     MOST_READERS, NoReader, ReadPass, ReadersWriters, TooManyReaders,
@@ -243,14 +242,14 @@ fn reads_or_writes<R: Wait + Abort + Clock, M: Monitor<Shared>>(
     (out, 0)
 }
 
-/// What the places of readers and writers do.
+/// The rows of readers and writers.
 #[derive(Clone, Copy)]
-pub enum ReadersRow<'a> {
-    ReadsOrWrites(Global, &'a Turns),
-    /// A writer and a late reader wait for the most readers, who are counted as they go.
-    ReadsOrWritesLate(&'a Turns, &'a AtomicU32),
-    /// They read and write again and again, and write down when.
-    ReadsOrWritesOn(&'a Log<Line>),
+enum ReadersRow<'a> {
+    ReadersAndWriters(Global, &'a Turns),
+    /// The most readers are counted as they go.
+    WriterBeforeLateReader(&'a Turns, &'a AtomicU32),
+    /// Its places write down what they do.
+    NoReaderIsInBesideAWriter(&'a Log<Line>),
 }
 
 // Each place does what the row says.
@@ -266,78 +265,59 @@ fn acts<R: Wait + Abort + Clock, M: Monitor<Shared>>(
     ensures place { M.place result.0 ≡ M.place out }
 {
     match row {
-        ReadersRow::ReadsOrWrites(alloc, turns) => reads_or_writes(rt, m, out, place, alloc, turns),
-        ReadersRow::ReadsOrWritesLate(turns, ended) => {
+        ReadersRow::ReadersAndWriters(alloc, turns) => reads_or_writes(
+            rt, m, out, place, alloc, turns,
+        ),
+        ReadersRow::WriterBeforeLateReader(turns, ended) => {
             reads_or_writes_late(rt, m, out, place, turns, ended)
         }
-        ReadersRow::ReadsOrWritesOn(log) => reads_or_writes_on(rt, m, out, place, log),
+        ReadersRow::NoReaderIsInBesideAWriter(log) => reads_or_writes_on(rt, m, out, place, log),
     }
 }
 
-/// A monitor of readers and writers that threads share.
-pub trait SharedReaders: Monitor<Shared> + Sync {}
-
-impl<M: Monitor<Shared> + Sync> SharedReaders for M {}
-
-// The row on threads.
-fn act_on<R: Threads + Wait + Abort + Clock + Sync, M: SharedReaders>(
-    rt: &R,
-    alloc: Global,
-    m: &M,
-    outs: Vec<M::Out>,
-    row: ReadersRow<'_>,
-) -> (Vec<M::Out>, Vec<u64>)
-where
-    M::Lists: Send,
-    requires of { All (M.is_of m.now) outs.items }
-    requires numbered { IsNumbered M.place outs.items }
-    ensures count { vec_len result.0 ≡ vec_len outs }
-    ensures of { All (M.is_of m.now) result.0.items }
-    ensures numbered { IsNumbered M.place result.0.items }
-{
-    act_all(
-        rt,
-        alloc,
-        m,
-        outs,
-        &|job| -> (M::Out, u64)
-            requires { M.is_of m.now job.1 }
-        { acts(rt, m, job.1, job.0, row) },
-    )
+// The first value of the row, and how many places act.
+fn setting(row: ReadersRow<'_>) -> (u64, usize) {
+    match row {
+        ReadersRow::ReadersAndWriters(_, _) => (0, 4),
+        ReadersRow::WriterBeforeLateReader(_, _) => (4, 3),
+        ReadersRow::NoReaderIsInBesideAWriter(_) => (0, PLACES),
+    }
 }
 
-/// The row on the door of this kind, with this value: what is there at the end, and how many places acted.
-pub fn run<R: Threads + Wait + Abort + Clock + Sync>(
-    rt: &R,
-    alloc: Global,
-    kind: DoorKind,
-    row: ReadersRow<'_>,
-    value: u64,
-    places: usize,
-) -> (u64, usize) {
-    let (shared, answers) = run_shared_on!(
-        kind,
-        rt,
-        alloc,
-        act_on(row),
-        ReadersWriters::with(value),
-        places
-    );
-    (shared.into_value(), answers.len())
+// The last value of the row is what it has to be. (That of many writes is whichever came last.)
+fn agrees<R: Abort>(rt: &R, row: ReadersRow<'_>, value: u64) {
+    match row {
+        ReadersRow::ReadersAndWriters(_, _) => assert_eq!(rt; value, 4),
+        ReadersRow::WriterBeforeLateReader(_, _) => assert_eq!(rt; value, 6),
+        ReadersRow::NoReaderIsInBesideAWriter(_) => assert!(rt; value > 0),
+    }
 }
 
 #[test]
-fn readers_and_writers(rt: HostRuntime) {
+fn readers_and_writers_on_both_doors(host: HostRuntime) -> Result<(), Fail> {
+    let (rt, alloc) = (&host, host.alloc());
     let turns = Turns::new();
+    let ended = AtomicU32::new(0);
     for kind in DoorKind::BOTH {
-        let left = run(
-            &rt,
-            rt.alloc(),
-            kind,
-            ReadersRow::ReadsOrWrites(rt.alloc(), &turns),
-            0,
-            4,
-        );
-        assert_eq!(rt; left, (4, 4), "{kind:?}");
+        let log = Log::new(alloc, 10_000)?;
+        for row in [
+            ReadersRow::ReadersAndWriters(alloc, &turns),
+            ReadersRow::WriterBeforeLateReader(&turns, &ended),
+            ReadersRow::NoReaderIsInBesideAWriter(&log),
+        ] {
+            let (value, places) = setting(row);
+            let (shared, answers) = run_row_on!(
+                kind,
+                rt,
+                alloc,
+                acts(row),
+                ReadersWriters::with(value),
+                places
+            );
+            assert_eq!(rt; answers.len(), places, "{kind:?}");
+            agrees(rt, row, shared.into_value());
+        }
+        is_read_and_written(rt, log);
     }
+    Ok(())
 }

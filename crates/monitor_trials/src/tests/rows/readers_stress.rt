@@ -1,19 +1,18 @@
 //! Three processes read and two write, each as often as it can. What they wrote down is held against what readers and writers may do.
 ghost use Rattle.std.specs.Prelude.{◌≡◌, ◌<◌};
 
-use crate::tests::rows::readers::{ReadersRow, Shared, ends_read, run, waiting};
+use crate::tests::rows::readers::{Shared, ends_read, waiting};
 use crate::tests::rows::shared_log::{Log, linger};
-use crate::tests::running::DoorKind;
 use hoare_law::monitor::Monitor;
 use std::process::Abort;
 use std::rt::Clock;
 use std::sync::Wait;
-use std::test::Fail;
 use sweep_schedulers::readers_writers::{ReadPass, ReadersWriters};
 
 const READERS: usize = 3;
 
-const PLACES: usize = 5;
+/// How many places read or write.
+pub const PLACES: usize = 5;
 
 const ROUNDS: u64 = 200;
 
@@ -247,8 +246,8 @@ fn count_first(lines: &[Line]) -> usize {
     waiting.fold(0usize, |sum, n| sum.saturating_add(n))
 }
 
-// What they wrote is what readers and writers do, and they had to wait for each other.
-fn agrees<R: Abort>(rt: &R, log: Log<Line>) {
+/// What they wrote is what readers and writers do, and they had to wait for each other.
+pub fn is_read_and_written<R: Abort>(rt: &R, log: Log<Line>) {
     let lines = log.into_lines();
     let (wrong, met_writers) = first_wrong(lines.as_slice());
     assert_eq!(rt; wrong, None);
@@ -257,15 +256,4 @@ fn agrees<R: Abort>(rt: &R, log: Log<Line>) {
         met_writers >= 10 && read_first >= 10,
         "{met_writers} and {read_first}"
     );
-}
-
-#[test]
-fn no_reader_is_in_beside_a_writer_or_overtakes_one(rt: HostRuntime) -> Result<(), Fail> {
-    for kind in DoorKind::BOTH {
-        let log = Log::new(rt.alloc(), 10_000)?;
-        let row = ReadersRow::ReadsOrWritesOn(&log);
-        run(&rt, rt.alloc(), kind, row, 0, PLACES);
-        agrees(&rt, log);
-    }
-    Ok(())
 }

@@ -1,17 +1,14 @@
 //! A tally: what is written is found, additions aren't lost, signallers return in order.
-ghost use Rattle.std.specs.Prelude.{◌≡◌, All, vec_len};
-ghost use Rattle.monitor_trials.specs.Numbered.{IsNumbered};
+ghost use Rattle.std.specs.Prelude.{◌≡◌};
 
 use crate::tally::Tally;
 use crate::tests::rows::wakes::{comes_late, waits_long};
-use crate::tests::running::{DoorKind, act_all, watch};
+use crate::tests::running::{DoorKind, watch};
 use hoare_law::monitor::Monitor;
-use std::alloc::Global;
 use std::process::Abort;
 use std::rt::Clock;
 use std::sync::Wait;
 use std::sync::atomic::AtomicBool;
-use std::thread::Threads;
 use std::time::CpuClock;
 
 /// Appends a digit to the tally.
@@ -102,15 +99,15 @@ fn signals_on<R: Wait + Abort, M: Monitor<Tally>>(
     (m.leave(rt, inside), 0)
 }
 
-/// What the places of a tally do.
+/// The rows of a tally.
 #[derive(Clone, Copy)]
-pub enum TallyRow<'a> {
-    WritesOrAdds,
-    AddsThousand,
-    SignalsOn,
-    WaitsLong,
+enum TallyRow<'a> {
+    WhatIsWrittenIsFound,
+    TwoThousandAdditions,
+    SignallersReturnInOrder,
+    WhoWaitsSleepsUntilItIsWoken,
     /// Place 1 comes in after the sign.
-    ComesLate(&'a AtomicBool),
+    ANewcomerComesInOnceNobodyIsInside(&'a AtomicBool),
 }
 
 // Each place does what the row says.
@@ -126,79 +123,59 @@ fn acts<R: Wait + Abort + Clock + CpuClock, M: Monitor<Tally>>(
     ensures place { M.place result.0 ≡ M.place out }
 {
     match row {
-        TallyRow::WritesOrAdds => writes_or_adds(rt, m, out, place),
-        TallyRow::AddsThousand => adds_thousand(rt, m, out),
-        TallyRow::SignalsOn => signals_on(rt, m, out, place),
-        TallyRow::WaitsLong => waits_long(rt, m, out, place),
-        TallyRow::ComesLate(sign) => comes_late(rt, m, out, place, sign),
+        TallyRow::WhatIsWrittenIsFound => writes_or_adds(rt, m, out, place),
+        TallyRow::TwoThousandAdditions => adds_thousand(rt, m, out),
+        TallyRow::SignallersReturnInOrder => signals_on(rt, m, out, place),
+        TallyRow::WhoWaitsSleepsUntilItIsWoken => waits_long(rt, m, out, place),
+        TallyRow::ANewcomerComesInOnceNobodyIsInside(sign) => comes_late(rt, m, out, place, sign),
     }
 }
 
-/// A monitor of a tally that threads share.
-pub trait SharedTally: Monitor<Tally> + Sync {}
-
-impl<M: Monitor<Tally> + Sync> SharedTally for M {}
-
-// The row on threads.
-fn act_on<R: Threads + Wait + Abort + Clock + CpuClock + Sync, M: SharedTally>(
-    rt: &R,
-    alloc: Global,
-    m: &M,
-    outs: Vec<M::Out>,
-    row: TallyRow<'_>,
-) -> (Vec<M::Out>, Vec<u64>)
-where
-    M::Lists: Send,
-    requires of { All (M.is_of m.now) outs.items }
-    requires numbered { IsNumbered M.place outs.items }
-    ensures count { vec_len result.0 ≡ vec_len outs }
-    ensures of { All (M.is_of m.now) result.0.items }
-    ensures numbered { IsNumbered M.place result.0.items }
-{
-    act_all(
-        rt,
-        alloc,
-        m,
-        outs,
-        &|job| -> (M::Out, u64)
-            requires { M.is_of m.now job.1 }
-        { acts(rt, m, job.1, job.0, row) },
-    )
+// How many places act in the row.
+fn places(row: TallyRow<'_>) -> usize {
+    match row {
+        TallyRow::SignallersReturnInOrder => 3,
+        _ => 2,
+    }
 }
 
-/// The row on the door of this kind, which begins with 0: the last value, and what the places answered.
-pub fn run<R: Threads + Wait + Abort + Clock + CpuClock + Sync>(
-    rt: &R,
-    alloc: Global,
-    kind: DoorKind,
-    row: TallyRow<'_>,
-    places: usize,
-) -> (u64, Vec<u64>) {
-    let (tally, answers) = run_shared_on!(kind, rt, alloc, act_on(row), Tally { value: 0 }, places);
-    (tally.value, answers)
-}
-
-#[test]
-fn what_is_written_is_found(rt: HostRuntime) {
-    for kind in DoorKind::BOTH {
-        let (value, answers) = run(&rt, rt.alloc(), kind, TallyRow::WritesOrAdds, 2);
-        assert_eq!(rt; answers.as_slice(), [56, 1].as_slice(), "{kind:?}");
-        assert_eq!(rt; value, 6, "{kind:?}");
+// The last value of the row and what the places answered are what they have to be.
+fn agrees<R: Abort>(rt: &R, row: TallyRow<'_>, value: u64, answers: &[u64]) {
+    match row {
+        TallyRow::WhatIsWrittenIsFound => {
+            assert_eq!(rt; (value, answers), (6, [56, 1].as_slice()));
+        }
+        TallyRow::TwoThousandAdditions => assert_eq!(rt; value, 2000),
+        TallyRow::SignallersReturnInOrder => assert_eq!(rt; value, 1234),
+        TallyRow::WhoWaitsSleepsUntilItIsWoken => {
+            assert_eq!(rt; value, 12);
+            assert!(rt; answers.iter().all(|millis| *millis < 30));
+        }
+        TallyRow::ANewcomerComesInOnceNobodyIsInside(_) => assert_eq!(rt; value, 12),
     }
 }
 
 #[test]
-fn two_thousand_additions(rt: HostRuntime) {
+fn a_tally_on_both_doors(host: HostRuntime) {
+    let (rt, alloc) = (&host, host.alloc());
+    let sign = AtomicBool::new(false);
     for kind in DoorKind::BOTH {
-        let (value, _) = run(&rt, rt.alloc(), kind, TallyRow::AddsThousand, 2);
-        assert_eq!(rt; value, 2000, "{kind:?}");
-    }
-}
-
-#[test]
-fn signallers_return_in_order(rt: HostRuntime) {
-    for kind in DoorKind::BOTH {
-        let (value, _) = run(&rt, rt.alloc(), kind, TallyRow::SignalsOn, 3);
-        assert_eq!(rt; value, 1234, "{kind:?}");
+        for row in [
+            TallyRow::WhatIsWrittenIsFound,
+            TallyRow::TwoThousandAdditions,
+            TallyRow::SignallersReturnInOrder,
+            TallyRow::WhoWaitsSleepsUntilItIsWoken,
+            TallyRow::ANewcomerComesInOnceNobodyIsInside(&sign),
+        ] {
+            let (tally, answers) = run_row_on!(
+                kind,
+                rt,
+                alloc,
+                acts(row),
+                Tally { value: 0 },
+                places(row)
+            );
+            agrees(rt, row, tally.value, answers.as_slice());
+        }
     }
 }

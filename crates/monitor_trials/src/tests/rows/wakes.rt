@@ -2,8 +2,8 @@
 ghost use Rattle.std.specs.Prelude.{◌≡◌};
 
 use crate::tally::Tally;
-use crate::tests::rows::tally::{TallyRow, run, write_digit};
-use crate::tests::running::{DoorKind, await_sign, watch};
+use crate::tests::rows::tally::write_digit;
+use crate::tests::running::{await_sign, watch};
 use hoare_law::monitor::Monitor;
 use std::process::Abort;
 use std::rt::Clock;
@@ -72,22 +72,4 @@ pub fn comes_late<R: Wait + Abort + Clock, M: Monitor<Tally>>(
     pause(rt, 50);
     let inside = write_digit(m, inside, 1);
     (m.leave(rt, inside), 0)
-}
-
-#[test]
-fn who_waits_sleeps_until_it_is_woken(rt: HostRuntime) {
-    for kind in DoorKind::BOTH {
-        let (value, millis) = run(&rt, rt.alloc(), kind, TallyRow::WaitsLong, 2);
-        assert_eq!(rt; value, 12, "{kind:?}");
-        assert!(rt; millis.iter().all(|m| *m < 30), "{kind:?}");
-    }
-}
-
-#[test]
-fn a_newcomer_comes_in_once_nobody_is_inside(rt: HostRuntime) {
-    let sign = AtomicBool::new(false);
-    for kind in DoorKind::BOTH {
-        let (value, _) = run(&rt, rt.alloc(), kind, TallyRow::ComesLate(&sign), 2);
-        assert_eq!(rt; value, 12, "{kind:?}");
-    }
 }

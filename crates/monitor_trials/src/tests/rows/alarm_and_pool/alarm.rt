@@ -1,17 +1,14 @@
 //! The alarm clock: each sleeper wakes at its setting, and the clock ends at its last time.
-ghost use Rattle.std.specs.Prelude.{◌≡◌, All, vec_len};
-ghost use Rattle.monitor_trials.specs.Numbered.{IsNumbered};
+ghost use Rattle.std.specs.Prelude.{◌≡◌};
 
-use crate::tests::rows::alarm_stress::{Line, sleeps_or_ticks_on};
+use crate::tests::rows::alarm_stress::{Line, SLEEPERS, is_a_clock, sleeps_or_ticks_on};
 use crate::tests::rows::shared_log::Log;
 use crate::tests::rows::turns::watch;
-use crate::tests::running::{DoorKind, act_all};
+use crate::tests::running::DoorKind;
 use hoare_law::monitor::Monitor;
-use std::alloc::Global;
 use std::process::Abort;
-use std::rt::Clock;
 use std::sync::Wait;
-use std::thread::Threads;
+use std::test::Fail;
 use timed_schedulers::alarm::{Alarm, ClockFull, TooFar};
 
 /// Sleeps for this many ticks: the time at which it woke.
@@ -77,13 +74,13 @@ fn sleeps_or_ticks<R: Wait + Abort, M: Monitor<Alarm>>(
     }
 }
 
-/// What the places of an alarm clock do.
+/// The rows of an alarm clock.
 #[derive(Clone, Copy)]
-pub enum AlarmRow<'a> {
-    SleepsOrTicks,
-    EndsTheClock,
-    /// All but the last place sleep again and again, and write down when.
-    SleepsOn(&'a Log<Line>),
+enum AlarmRow<'a> {
+    SleepersWakeAtTheirSettings,
+    AClockEndsAtItsLastTime,
+    /// Its places write down what they do.
+    AllThatAreDueWakeAtTheirTime(&'a Log<Line>),
 }
 
 // Each place does what the row says.
@@ -99,69 +96,56 @@ fn acts<R: Wait + Abort, M: Monitor<Alarm>>(
     ensures place { M.place result.0 ≡ M.place out }
 {
     match row {
-        AlarmRow::SleepsOrTicks => sleeps_or_ticks(rt, m, out, place),
-        AlarmRow::EndsTheClock => ends_the_clock(rt, m, out),
-        AlarmRow::SleepsOn(log) => sleeps_or_ticks_on(rt, m, out, place, log),
+        AlarmRow::SleepersWakeAtTheirSettings => sleeps_or_ticks(rt, m, out, place),
+        AlarmRow::AClockEndsAtItsLastTime => ends_the_clock(rt, m, out),
+        AlarmRow::AllThatAreDueWakeAtTheirTime(log) => sleeps_or_ticks_on(rt, m, out, place, log),
     }
 }
 
-/// A monitor of an alarm clock that threads share.
-pub trait SharedAlarm: Monitor<Alarm> + Sync {}
-
-impl<M: Monitor<Alarm> + Sync> SharedAlarm for M {}
-
-// The row on threads.
-fn act_on<R: Threads + Wait + Abort + Clock + Sync, M: SharedAlarm>(
-    rt: &R,
-    alloc: Global,
-    m: &M,
-    outs: Vec<M::Out>,
-    row: AlarmRow<'_>,
-) -> (Vec<M::Out>, Vec<u64>)
-where
-    M::Lists: Send,
-    requires of { All (M.is_of m.now) outs.items }
-    requires numbered { IsNumbered M.place outs.items }
-    ensures count { vec_len result.0 ≡ vec_len outs }
-    ensures of { All (M.is_of m.now) result.0.items }
-    ensures numbered { IsNumbered M.place result.0.items }
-{
-    act_all(
-        rt,
-        alloc,
-        m,
-        outs,
-        &|job| -> (M::Out, u64)
-            requires { M.is_of m.now job.1 }
-        { acts(rt, m, job.1, job.0, row) },
-    )
+// At which time the clock begins in the row, and how many places act.
+fn setting(row: AlarmRow<'_>) -> (u64, usize) {
+    match row {
+        AlarmRow::SleepersWakeAtTheirSettings => (0, 4),
+        AlarmRow::AClockEndsAtItsLastTime => (u64::MAX, 1),
+        AlarmRow::AllThatAreDueWakeAtTheirTime(_) => (0, SLEEPERS + 1),
+    }
 }
 
-/// The row on the door of this kind, with a clock at this time: what the places answered.
-pub fn run<R: Threads + Wait + Abort + Clock + Sync>(
-    rt: &R,
-    alloc: Global,
-    kind: DoorKind,
-    row: AlarmRow<'_>,
-    time: u64,
-    places: usize,
-) -> Vec<u64> {
-    let (_clock, answers) = run_shared_on!(kind, rt, alloc, act_on(row), Alarm::at(time), places);
-    answers
-}
-
-#[test]
-fn sleepers_wake_at_their_settings(rt: HostRuntime) {
-    for kind in DoorKind::BOTH {
-        let answers = run(&rt, rt.alloc(), kind, AlarmRow::SleepsOrTicks, 0, 4);
-        assert_eq!(rt; answers.as_slice(), [2, 2, 1, 2].as_slice(), "{kind:?}");
+// What the places answered is what they have to answer.
+fn agrees<R: Abort>(rt: &R, row: AlarmRow<'_>, answers: &[u64]) {
+    match row {
+        AlarmRow::SleepersWakeAtTheirSettings => {
+            assert_eq!(rt; answers, [2, 2, 1, 2].as_slice());
+        }
+        AlarmRow::AClockEndsAtItsLastTime => assert_eq!(rt; answers, [u64::MAX].as_slice()),
+        AlarmRow::AllThatAreDueWakeAtTheirTime(_) => {
+            assert_eq!(rt; answers.len(), SLEEPERS + 1);
+        }
     }
 }
 
 #[test]
-fn a_clock_ends_at_its_last_time(rt: HostRuntime) {
+fn an_alarm_clock_on_both_doors(host: HostRuntime) -> Result<(), Fail> {
+    let (rt, alloc) = (&host, host.alloc());
     for kind in DoorKind::BOTH {
-        let answers = run(&rt, rt.alloc(), kind, AlarmRow::EndsTheClock, u64::MAX, 1);
-        assert_eq!(rt; answers.as_slice(), [u64::MAX].as_slice(), "{kind:?}");
+        let log = Log::new(alloc, 10_000)?;
+        for row in [
+            AlarmRow::SleepersWakeAtTheirSettings,
+            AlarmRow::AClockEndsAtItsLastTime,
+            AlarmRow::AllThatAreDueWakeAtTheirTime(&log),
+        ] {
+            let (time, places) = setting(row);
+            let (_clock, answers) = run_row_on!(
+                kind,
+                rt,
+                alloc,
+                acts(row),
+                Alarm::at(time),
+                places
+            );
+            agrees(rt, row, answers.as_slice());
+        }
+        is_a_clock(rt, log);
     }
+    Ok(())
 }

@@ -1,20 +1,15 @@
 //! The pool: the least-numbered free buffer goes to the stream that holds the fewest.
-ghost use Rattle.std.specs.Prelude.{◌≡◌, All, vec_len};
-ghost use Rattle.hoare_law.specs.Priorities.{nobody};
-ghost use Rattle.monitor_trials.specs.Numbered.{IsNumbered};
+ghost use Rattle.std.specs.Prelude.{◌≡◌};
 
-use crate::tests::rows::pool_stress::{Line, uses_or_takes_all};
+use crate::tests::rows::pool_stress::{BUFFERS, Line, STREAMS, is_a_pool, uses_or_takes_all};
 use crate::tests::rows::shared_log::Log;
 use crate::tests::rows::turns::{Turns, line_up};
-use crate::tests::running::{DoorKind, act_all};
-use hoare_law::data::MonitorData;
+use crate::tests::running::DoorKind;
 use hoare_law::monitor::Monitor;
-use std::alloc::Global;
 use std::process::Abort;
 use std::rt::Clock;
 use std::sync::Wait;
 use std::test::Fail;
-use std::thread::Threads;
 use timed_schedulers::pool::{
     GiveRefused, MOST_BUFFERS, MOST_STREAMS, NoStream, Pool, PoolRefused,
 };
@@ -142,12 +137,12 @@ fn lends_or_borrows<R: Wait + Abort + Clock, M: Monitor<Pool>>(
     }
 }
 
-/// What the places of a pool do.
+/// The rows of a pool.
 #[derive(Clone, Copy)]
-pub enum PoolRow<'a> {
-    LendsOrBorrows(&'a Turns),
-    /// All but the last place take two buffers again and again, and write down which.
-    UsesOrTakesAll(&'a Log<Line>),
+enum PoolRow<'a> {
+    WhoHoldsTheFewestBuffersGoesOnFirst(&'a Turns),
+    /// Its places write down what they do.
+    ABufferHasOneHolder(&'a Log<Line>),
 }
 
 // Each place does what the row says.
@@ -163,72 +158,47 @@ fn acts<R: Wait + Abort + Clock, M: Monitor<Pool>>(
     ensures place { M.place result.0 ≡ M.place out }
 {
     match row {
-        PoolRow::LendsOrBorrows(turns) => lends_or_borrows(rt, m, out, place, turns),
-        PoolRow::UsesOrTakesAll(log) => uses_or_takes_all(rt, m, out, place, log),
+        PoolRow::WhoHoldsTheFewestBuffersGoesOnFirst(turns) => lends_or_borrows(
+            rt, m, out, place, turns,
+        ),
+        PoolRow::ABufferHasOneHolder(log) => uses_or_takes_all(rt, m, out, place, log),
     }
 }
 
-/// A monitor of a pool that threads share.
-pub trait SharedPool: Monitor<Pool> + Sync {}
-
-impl<M: Monitor<Pool> + Sync> SharedPool for M {}
-
-// The row on threads.
-fn act_on<R: Threads + Wait + Abort + Clock + Sync, M: SharedPool>(
-    rt: &R,
-    alloc: Global,
-    m: &M,
-    outs: Vec<M::Out>,
-    row: PoolRow<'_>,
-) -> (Vec<M::Out>, Vec<u64>)
-where
-    M::Lists: Send,
-    requires of { All (M.is_of m.now) outs.items }
-    requires numbered { IsNumbered M.place outs.items }
-    ensures count { vec_len result.0 ≡ vec_len outs }
-    ensures of { All (M.is_of m.now) result.0.items }
-    ensures numbered { IsNumbered M.place result.0.items }
-{
-    act_all(
-        rt,
-        alloc,
-        m,
-        outs,
-        &|job| -> (M::Out, u64)
-            requires { M.is_of m.now job.1 }
-        { acts(rt, m, job.1, job.0, row) },
-    )
+// How many buffers, streams and places there are in the row.
+fn setting(row: PoolRow<'_>) -> (u32, u32, usize) {
+    match row {
+        PoolRow::WhoHoldsTheFewestBuffersGoesOnFirst(_) => (3, 3, 3),
+        PoolRow::ABufferHasOneHolder(_) => (BUFFERS, STREAMS, STREAMS as usize + 1),
+    }
 }
 
-/// The row on the door of this kind, with this pool: what the places answered.
-pub fn run<R: Threads + Wait + Abort + Clock + Sync>(
-    rt: &R,
-    alloc: Global,
-    kind: DoorKind,
-    row: PoolRow<'_>,
-    pool: Pool,
-    places: usize,
-) -> Vec<u64>
-    requires { ⟦<Pool as MonitorData>⟧.rest pool nobody }
-{
-    let (_pool, answers) = run_shared_on!(kind, rt, alloc, act_on(row), pool, places);
-    answers
+// What the places answered is what they have to answer.
+fn agrees<R: Abort>(rt: &R, row: PoolRow<'_>, answers: &[u64]) {
+    match row {
+        PoolRow::WhoHoldsTheFewestBuffersGoesOnFirst(_) => {
+            assert_eq!(rt; answers, [0, 0, 2].as_slice());
+        }
+        PoolRow::ABufferHasOneHolder(_) => assert_eq!(rt; answers.len(), STREAMS as usize + 1),
+    }
 }
 
 #[test]
-fn who_holds_the_fewest_buffers_goes_on_first(rt: HostRuntime) -> Result<(), Fail> {
+fn a_pool_on_both_doors(host: HostRuntime) -> Result<(), Fail> {
+    let (rt, alloc) = (&host, host.alloc());
     let turns = Turns::new();
     for kind in DoorKind::BOTH {
-        let pool = Pool::make(rt.alloc(), 3, 3)?;
-        let answers = run(
-            &rt,
-            rt.alloc(),
-            kind,
-            PoolRow::LendsOrBorrows(&turns),
-            pool,
-            3,
-        );
-        assert_eq!(rt; answers.as_slice(), [0, 0, 2].as_slice(), "{kind:?}");
+        let log = Log::new(alloc, 10_000)?;
+        for row in [
+            PoolRow::WhoHoldsTheFewestBuffersGoesOnFirst(&turns),
+            PoolRow::ABufferHasOneHolder(&log),
+        ] {
+            let (buffers, streams, places) = setting(row);
+            let pool = Pool::make(alloc, buffers, streams)?;
+            let (_pool, answers) = run_row_on!(kind, rt, alloc, acts(row), pool, places);
+            agrees(rt, row, answers.as_slice());
+        }
+        is_a_pool(rt, log);
     }
     Ok(())
 }

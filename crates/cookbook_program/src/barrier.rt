@@ -19,7 +19,9 @@ const ROUNDS: u64 = 3;
 /// A barrier that threads share. (A closure that goes to a thread needs a bound with no parameter of its own.)
 pub trait SharedBarrier: Monitor<Barrier> + Sync + Drop {}
 
-impl<M: Monitor<Barrier> + Sync + Drop> SharedBarrier for M {}
+impl SharedBarrier for Door<Barrier> {}
+
+impl SharedBarrier for TicketDoor<Barrier> {}
 
 // What the threads share beside the barrier: how many rounds the parties have ended, how often a party found that all had ended the
 // round when it went on, and how often one came last.

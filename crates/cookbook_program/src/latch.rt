@@ -23,7 +23,9 @@ const THREADS: usize = 6;
 /// A latch that threads share.
 pub trait SharedLatch: Monitor<Latch> + Sync + Drop {}
 
-impl<M: Monitor<Latch> + Sync + Drop> SharedLatch for M {}
+impl SharedLatch for Door<Latch> {}
+
+impl SharedLatch for TicketDoor<Latch> {}
 
 // What the threads share beside the latch: how many of them have come, how many parts are done, and how many readers passed when all
 // parts were done.

@@ -25,7 +25,9 @@ const LETTERS: u64 = 16;
 /// A mailbox that threads share.
 pub trait SharedMailbox: Monitor<Mailbox> + Sync + Drop {}
 
-impl<M: Monitor<Mailbox> + Sync + Drop> SharedMailbox for M {}
+impl SharedMailbox for Door<Mailbox> {}
+
+impl SharedMailbox for TicketDoor<Mailbox> {}
 
 fn letter(number: u64) -> Letter {
     Letter {

@@ -18,7 +18,9 @@ const THREADS: usize = 8;
 /// A rendezvous that threads share.
 pub trait SharedRendezvous: Monitor<Rendezvous<u64>> + Sync + Drop {}
 
-impl<M: Monitor<Rendezvous<u64>> + Sync + Drop> SharedRendezvous for M {}
+impl SharedRendezvous for Door<Rendezvous<u64>> {}
+
+impl SharedRendezvous for TicketDoor<Rendezvous<u64>> {}
 
 // The number that a thread gave, and the one that it got.
 #[derive(Clone, Copy)]

@@ -19,7 +19,9 @@ const MEALS: u64 = 20;
 /// A table that threads share.
 pub trait SharedTable: Monitor<Table> + Sync + Drop {}
 
-impl<M: Monitor<Table> + Sync + Drop> SharedTable for M {}
+impl SharedTable for Door<Table> {}
+
+impl SharedTable for TicketDoor<Table> {}
 
 // What the philosophers share beside the table: how many have come, who eats (bit k is the philosopher at seat k), how many meals were
 // had, and how many of them beside a neighbour who ate.

@@ -42,7 +42,7 @@ fn work<R: Wait, M: Monitor<Permits>>(rt: &R, m: &M, out: M::Out, class: Class) 
 // A monitor of permits that threads share. (A closure that goes to a thread needs a bound with no parameter of its own.)
 trait SharedPermits: Monitor<Permits> + Sync {}
 
-impl<M: Monitor<Permits> + Sync> SharedPermits for M {}
+impl SharedPermits for Door<Permits> {}
 
 // One thread for each place. The closure says what it needs of the place that it is handed: that it is one of the monitor's.
 fn work_all<R: Threads + Wait + Sync, M: SharedPermits>(

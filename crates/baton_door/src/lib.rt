@@ -7,6 +7,4 @@ mod newcomers;
 mod parking;
 pub mod place;
 mod rule;
-#[cfg(test)]
-mod tests;
 mod word;

@@ -11,8 +11,6 @@ mod places;
 pub mod running;
 mod seat;
 pub mod serving;
-#[cfg(test)]
-mod tests;
 mod threads;
 mod worker;
 

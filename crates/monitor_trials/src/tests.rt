@@ -29,6 +29,8 @@ mod fake;
 mod limit;
 mod on_baton_door;
 mod on_ticket_door;
+mod one_place;
+mod refusals;
 mod rows;
 mod running;
 mod sweep_on_fake;

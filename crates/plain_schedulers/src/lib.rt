@@ -3,5 +3,3 @@
 
 pub mod buffer;
 pub mod single;
-#[cfg(test)]
-mod tests;

@@ -5,6 +5,4 @@ pub mod direction;
 pub mod head;
 pub mod not_out;
 pub mod readers_writers;
-#[cfg(test)]
-mod tests;
 mod waiting;

@@ -3,5 +3,3 @@
 
 pub mod alarm;
 pub mod pool;
-#[cfg(test)]
-mod tests;

@@ -1,7 +1,7 @@
 // Two workers meet: each begins its job only once the other has begun its own. A service that does its jobs one after another
 // can't do it.
 use crate::tests::limit::in_time;
-use crate::{Done, Gate, Jobs, Report, ServiceFault, serve, serve_tickets};
+use disk_service::{Done, Gate, Jobs, Report, ServiceFault, serve, serve_tickets};
 use std::alloc::Global;
 use std::process::Abort;
 use std::sync::atomic::{AtomicBool, Ordering};
@@ -17,7 +17,7 @@ struct Meeting {
     turns: u32,
     first: AtomicBool,
     second: AtomicBool,
-    in_vain: AtomicBool,
+    gave_up: AtomicBool,
 }
 
 impl Meeting {
@@ -26,7 +26,7 @@ impl Meeting {
             turns,
             first: AtomicBool::new(false),
             second: AtomicBool::new(false),
-            in_vain: AtomicBool::new(false),
+            gave_up: AtomicBool::new(false),
         }
     }
 
@@ -38,11 +38,11 @@ impl Meeting {
             }
             thread::yield_now();
         }
-        self.in_vain.store(true, Ordering::SeqCst);
+        self.gave_up.store(true, Ordering::SeqCst);
     }
 
-    fn was_in_vain(&self) -> bool {
-        self.in_vain.load(Ordering::SeqCst)
+    fn has_given_up(&self) -> bool {
+        self.gave_up.load(Ordering::SeqCst)
     }
 }
 
@@ -78,7 +78,7 @@ fn assert_met<R: Abort>(rt: &R, answer: Result<Report, ServiceFault>, meeting: &
         [Done::of(0, 300), Done::of(1, 3)].as_slice()
     );
     assert_eq!(rt; (report.jobs, report.sum), (2, 24_507));
-    assert!(rt; !meeting.was_in_vain());
+    assert!(rt; !meeting.has_given_up());
 }
 
 #[test]
@@ -101,13 +101,13 @@ fn two_workers_meet_by_ticket(rt: HostRuntime) -> Result<(), Fail> {
 
 // (With fewer turns, since a yield may take milliseconds beside other work.)
 #[test]
-fn one_after_another_looks_in_vain(_rt: HostRuntime) -> Result<(), Fail> {
+fn one_after_another_gives_up(_rt: HostRuntime) -> Result<(), Fail> {
     let meeting = Meeting::of(1000);
     for job in 0..2 {
         meeting.begin(job);
         meeting.end(job);
     }
-    if meeting.was_in_vain() {
+    if meeting.has_given_up() {
         Ok(())
     } else {
         Err(Fail::from("they met"))

@@ -1,6 +1,6 @@
 // The first job is held up until all others are done, with other workers. A service with one worker for them all can't do it.
 use crate::tests::limit::in_time;
-use crate::{Done, Gate, Jobs, Report, ServiceFault, serve, serve_tickets};
+use disk_service::{Done, Gate, Jobs, Report, ServiceFault, serve, serve_tickets};
 use std::alloc::Global;
 use std::process::Abort;
 use std::sync::atomic::{AtomicBool, AtomicUsize, Ordering};
@@ -17,7 +17,7 @@ const TURNS: u32 = 10_000_000;
 struct FirstLast {
     turns: u32,
     ended: AtomicUsize,
-    in_vain: AtomicBool,
+    gave_up: AtomicBool,
 }
 
 impl FirstLast {
@@ -25,7 +25,7 @@ impl FirstLast {
         FirstLast {
             turns,
             ended: AtomicUsize::new(0),
-            in_vain: AtomicBool::new(false),
+            gave_up: AtomicBool::new(false),
         }
     }
 
@@ -33,7 +33,7 @@ impl FirstLast {
     fn seen(&self) -> (usize, bool) {
         (
             self.ended.load(Ordering::SeqCst),
-            self.in_vain.load(Ordering::SeqCst),
+            self.gave_up.load(Ordering::SeqCst),
         )
     }
 }
@@ -49,7 +49,7 @@ impl Gate for FirstLast {
             }
             thread::yield_now();
         }
-        self.in_vain.store(true, Ordering::SeqCst);
+        self.gave_up.store(true, Ordering::SeqCst);
     }
 
     fn end(&self, _job: usize) {
@@ -101,7 +101,7 @@ fn first_job_last_by_ticket(rt: HostRuntime) -> Result<(), Fail> {
 
 // The limit is met where the others don't end.
 #[test]
-fn first_job_first_looks_in_vain(rt: HostRuntime) {
+fn first_job_first_looks_gave_up(rt: HostRuntime) {
     let gate = FirstLast::of(1000);
     for job in 0..JOBS {
         gate.begin(job);

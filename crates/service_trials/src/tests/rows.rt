@@ -1,6 +1,6 @@
 // Whole job files, on both kinds of doors: what `run` writes, or why it writes nothing.
 use crate::tests::limit::in_time;
-use crate::{Kind, ServiceFault, run};
+use disk_service::{Kind, ServiceFault, run};
 use std::alloc::{AllocError, Global};
 use std::io::Write;
 use std::sync::Wait;

@@ -1,6 +1,6 @@
 // The report is the same with any number of workers, byte for byte, and it is the one that is worked out here, apart.
 use crate::tests::limit::in_time;
-use crate::{Jobs, NoGate, ServiceFault, serve, write_report};
+use disk_service::{Jobs, NoGate, ServiceFault, serve, write_report};
 use std::alloc::{AllocError, Global};
 use std::io::Write;
 use std::process::Abort;

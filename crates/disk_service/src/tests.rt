@@ -1,5 +1,0 @@
-mod last;
-mod limit;
-mod meeting;
-mod rows;
-mod workers;

@@ -23,27 +23,40 @@ fn with_item_out<R: Wait>(rt: &R, alloc: Global) -> Result<Single<u8>, AllocErro
     Ok(single)
 }
 
+// Acquires twice.
+fn two_items<R: Wait, M: Monitor<Single<u8>>>(rt: &R, m: &M, out: M::Out) -> (u8, u8)
+    requires { M.is_of m.now out }
+{
+    let (out, first) = Single::acquire(m, rt, out);
+    let (_out, second) = Single::acquire(m, rt, out);
+    (first, second)
+}
+
 // Acquires twice, where answers of these items stand between one that isn't ready.
 fn acquires_twice<R: Wait>(rt: &R, alloc: Global) -> Result<(u8, u8), AllocError> {
     let states = [with_item_out(rt, alloc)?, Single::with(8), Single::with(9)];
     let answers = VecDeque::from_array(alloc, states)?;
     let (fake, out) = Fake::of(alloc, with_item_out(rt, alloc)?, answers)?;
-    let (out, first) = Single::acquire(&fake, rt, out);
-    let (_out, second) = Single::acquire(&fake, rt, out);
-    Ok((first, second))
+    Ok(two_items(rt, &fake, out))
 }
 
 // Puts an item in, takes it, and tries to put in two more: what it took, and what came back.
+fn puts_two_more<R: Wait, M: Monitor<Single<u8>>>(rt: &R, m: &M, out: M::Out) -> (u8, u8)
+    requires { M.is_of m.now out }
+{
+    let (out, _put) = Single::release(m, rt, out, 5);
+    let (out, item) = Single::acquire(m, rt, out);
+    let (out, _put) = Single::release(m, rt, out, 6);
+    let (_out, refused) = Single::release(m, rt, out, 9);
+    match refused {
+        Ok(()) => (item, 0),
+        Err(NotOut { item: back }) => (item, back),
+    }
+}
+
 fn releases<R: Wait>(rt: &R, alloc: Global) -> Result<(u8, u8), AllocError> {
     let (fake, out) = Fake::of(alloc, with_item_out(rt, alloc)?, VecDeque::new(alloc))?;
-    let (out, _put) = Single::release(&fake, rt, out, 5);
-    let (out, item) = Single::acquire(&fake, rt, out);
-    let (out, _put) = Single::release(&fake, rt, out, 6);
-    let (_out, refused) = Single::release(&fake, rt, out, 9);
-    match refused {
-        Ok(()) => Ok((item, 0)),
-        Err(NotOut { item: back }) => Ok((item, back)),
-    }
+    Ok(puts_two_more(rt, &fake, out))
 }
 
 // Writes 2, passes, comes in again and waits: what it finds before the wait and after, and whether it resumed anybody.
@@ -95,20 +108,27 @@ fn what_is_written_in_hand_is_kept(rt: HostRuntime) -> Result<(), Fail> {
     Ok(())
 }
 
-// Four items through a buffer of three cells, in the order in which they came out.
+// Four items through a buffer, in the order in which they came out.
+fn four_through<R: Wait, M: Monitor<Buffer<u8>>>(rt: &R, m: &M, out: M::Out) -> (u8, u8, u8, u8)
+    requires { M.is_of m.now out }
+{
+    let out = Buffer::append(m, rt, out, 1);
+    let out = Buffer::append(m, rt, out, 2);
+    let (out, first) = Buffer::remove(m, rt, out);
+    let out = Buffer::append(m, rt, out, 3);
+    let out = Buffer::append(m, rt, out, 4);
+    let (out, second) = Buffer::remove(m, rt, out);
+    let (out, third) = Buffer::remove(m, rt, out);
+    let (_out, fourth) = Buffer::remove(m, rt, out);
+    (first, second, third, fourth)
+}
+
+// A buffer of three cells.
 fn passes_four<R: Wait>(rt: &R, alloc: Global) -> Result<(u8, u8, u8, u8), BufferRefused> {
     let Ok((fake, out)) = Fake::of(alloc, Buffer::make(alloc, 3)?, VecDeque::new(alloc)) else {
         return Err(BufferRefused::Memory);
     };
-    let out = Buffer::append(&fake, rt, out, 1u8);
-    let out = Buffer::append(&fake, rt, out, 2);
-    let (out, first) = Buffer::remove(&fake, rt, out);
-    let out = Buffer::append(&fake, rt, out, 3);
-    let out = Buffer::append(&fake, rt, out, 4);
-    let (out, second) = Buffer::remove(&fake, rt, out);
-    let (out, third) = Buffer::remove(&fake, rt, out);
-    let (_out, fourth) = Buffer::remove(&fake, rt, out);
-    Ok((first, second, third, fourth))
+    Ok(four_through(rt, &fake, out))
 }
 
 // A remove that waits for an item.
@@ -124,6 +144,16 @@ fn removes<R: Wait>(rt: &R, alloc: Global) -> Result<u8, BufferRefused> {
     Ok(item)
 }
 
+// Appends two items, and takes one out.
+fn last_of_two<R: Wait, M: Monitor<Buffer<u8>>>(rt: &R, m: &M, out: M::Out) -> u8
+    requires { M.is_of m.now out }
+{
+    let out = Buffer::append(m, rt, out, 6);
+    let out = Buffer::append(m, rt, out, 7);
+    let (_out, item) = Buffer::remove(m, rt, out);
+    item
+}
+
 // An append that waits for room, and what is in the buffer after it.
 fn appends<R: Wait>(rt: &R, alloc: Global) -> Result<u8, BufferRefused> {
     let states = [with_one_item(rt, alloc, 5)?, Buffer::make(alloc, 1)?];
@@ -133,10 +163,7 @@ fn appends<R: Wait>(rt: &R, alloc: Global) -> Result<u8, BufferRefused> {
     let Ok((fake, out)) = Fake::of(alloc, Buffer::make(alloc, 1)?, answers) else {
         return Err(BufferRefused::Memory);
     };
-    let out = Buffer::append(&fake, rt, out, 6);
-    let out = Buffer::append(&fake, rt, out, 7);
-    let (_out, item) = Buffer::remove(&fake, rt, out);
-    Ok(item)
+    Ok(last_of_two(rt, &fake, out))
 }
 
 #[test]

@@ -24,34 +24,49 @@ fn disk(alloc: Global, cylinder: u16, cylmax: u16) -> Result<Head<Trip>, AllocEr
     Ok(Head::with(trip, cylmax))
 }
 
+// Goes to 5, waits for a request of 8 and is refused it late; then it goes to 15, on the disk that it found.
+fn is_refused_late<R: Wait + Abort, M: Monitor<Head<Trip>>>(rt: &R, m: &M, out: M::Out)
+    requires { M.is_of m.now out }
+{
+    let (out, drive) = goes(rt, m, out, 5);
+    assert_eq!(rt; drive.as_slice(), [1, 5].as_slice());
+    let (out, late) = Head::request(m, rt, out, 8);
+    assert_eq!(rt; late, Err(OffDisk));
+    let (_out, other) = goes(rt, m, out, 15);
+    assert_eq!(rt; other.as_slice(), [2, 15].as_slice());
+}
+
 // A request waits for the drive, and finds a disk with another last cylinder.
 fn finds_another_disk<R: Wait + Abort>(rt: &R, alloc: Global) -> Result<(), AllocError> {
     let answers = VecDeque::from_array(alloc, [disk(alloc, 2, 20)?])?;
     let (fake, out) = Fake::of(alloc, disk(alloc, 1, 10)?, answers)?;
-    let (out, drive) = goes(rt, &fake, out, 5);
-    assert_eq!(rt; drive.as_slice(), [1, 5].as_slice());
-    let (out, late) = Head::request(&fake, rt, out, 8);
-    assert_eq!(rt; late, Err(OffDisk));
-    let (_out, other) = goes(rt, &fake, out, 15);
-    assert_eq!(rt; other.as_slice(), [2, 15].as_slice());
+    is_refused_late(rt, &fake, out);
     Ok(())
 }
 
-// Goes to the last cylinder of a disk, and is refused the one past it.
+// Goes to the last cylinder of a disk, and is refused the one past it, with this trip to hand in where one is.
+fn reaches_the_last<R: Wait + Abort, M: Monitor<Head<Trip>>>(
+    rt: &R,
+    m: &M,
+    out: M::Out,
+    cylmax: u16,
+    trip: Trip,
+)
+    requires { M.is_of m.now out }
+{
+    let (out, drive) = goes(rt, m, out, cylmax);
+    assert_eq!(rt; drive.as_slice(), [0, cylmax].as_slice());
+    let out = hands_on(rt, m, out, drive);
+    if let Some(past) = cylmax.checked_add(1) {
+        is_refused(rt, m, out, past, trip);
+    }
+}
+
+// A disk of which nobody has the drive, to its end.
 fn goes_to_the_last<R: Wait + Abort>(rt: &R, alloc: Global, cylmax: u16) -> Result<(), AllocError> {
     let (fake, out) = Fake::of(alloc, disk(alloc, 0, cylmax)?, VecDeque::new(alloc))?;
-    let (out, drive) = goes(rt, &fake, out, cylmax);
-    assert_eq!(rt; drive.as_slice(), [0, cylmax].as_slice());
-    let out = hands_on(rt, &fake, out, drive);
-    if let Some(past) = cylmax.checked_add(1) {
-        is_refused(
-            rt,
-            &fake,
-            out,
-            past,
-            Vec::from_array(alloc, [cylmax, past])?,
-        );
-    }
+    let trip = Vec::from_array(alloc, [cylmax, cylmax.saturating_add(1)])?;
+    reaches_the_last(rt, &fake, out, cylmax, trip);
     Ok(())
 }
 
@@ -65,13 +80,27 @@ fn reads_and_writes<R: Wait + Abort>(rt: &R, alloc: Global) -> Result<(), AllocE
 }
 
 // Takes the data out of a monitor, and leaves others there.
-fn take_data<R: Wait>(rt: &R, fake: &Fake<Shared>, out: FakeOut<Shared>) -> Shared
-    requires { ⟦<Fake<Shared> as Monitor<Shared>>⟧.is_of fake.now out }
+fn take_data<R: Wait, M: Monitor<Shared>>(rt: &R, m: &M, out: M::Out) -> Shared
+    requires { M.is_of m.now out }
 {
-    let mut inside = fake.enter(rt, out);
-    let shared = replace(Fake::state_mut(&mut inside, fake), ReadersWriters::with(0));
-    fake.leave(rt, inside);
+    let mut inside = m.enter(rt, out);
+    let shared = replace(M::state_mut(&mut inside, m), ReadersWriters::with(0));
+    m.leave(rt, inside);
     shared
+}
+
+// Is in as a writer who found 0, and comes as a reader where the most are in.
+fn comes_as_one_too_many<R: Wait + Abort, M: Monitor<Shared>>(rt: &R, m: &M, out: M::Out) -> M::Out
+    requires { M.is_of m.now out }
+    ensures { M.is_of m.now result }
+{
+    let (out, value) = ReadersWriters::start_write(m, rt, out);
+    assert_eq!(rt; value, 0);
+    let (out, late) = ReadersWriters::start_read(m, rt, out);
+    match late {
+        Err(TooManyReaders) => out,
+        Ok((_pass, _value)) => panic!(rt; "one reader too many is in"),
+    }
 }
 
 // Is in as a writer, and waits to read; it finds these data, in which the most readers are in.
@@ -88,13 +117,8 @@ fn finds_the_most_readers<R: Wait + Abort>(
     let Ok((fake, out)) = Fake::of(alloc, ReadersWriters::with(0), answers) else {
         panic!(rt; "no memory")
     };
-    let (out, value) = ReadersWriters::start_write(&fake, rt, out);
-    assert_eq!(rt; value, 0);
-    let (out, late) = ReadersWriters::start_read(&fake, rt, out);
-    match late {
-        Err(TooManyReaders) => (fake, out),
-        Ok((_pass, _value)) => panic!(rt; "one reader too many is in"),
-    }
+    let out = comes_as_one_too_many(rt, &fake, out);
+    (fake, out)
 }
 
 // Starts this many reads and hands the data on to another monitor, where each pass ends one.
@@ -118,16 +142,23 @@ fn reads_elsewhere<R: Wait + Abort>(
     (other, place)
 }
 
-fn meets_late_readers<R: Wait + Abort>(rt: &R, alloc: Global) -> Result<(), AllocError> {
-    let (fake, out) = Fake::of(alloc, ReadersWriters::with(4), VecDeque::new(alloc))?;
-    let (other, place) = reads_elsewhere(rt, alloc, &fake, out, MOST_READERS);
-    let (place, pass) = starts_read(rt, &other, place, 4);
-    let place = ends_read(rt, &other, place, pass);
-    let (_place, written) = ReadersWriters::end_write(&other, rt, place, 5);
+// Reads 4, and is refused the end of a write.
+fn is_no_writer<R: Wait + Abort, M: Monitor<Shared>>(rt: &R, m: &M, out: M::Out)
+    requires { M.is_of m.now out }
+{
+    let (out, pass) = starts_read(rt, m, out, 4);
+    let out = ends_read(rt, m, out, pass);
+    let (_out, written) = ReadersWriters::end_write(m, rt, out, 5);
     match written {
         Ok(()) => panic!(rt; "a writer was in"),
         Err(NotOut { item }) => assert_eq!(rt; item, 5),
     }
+}
+
+fn meets_late_readers<R: Wait + Abort>(rt: &R, alloc: Global) -> Result<(), AllocError> {
+    let (fake, out) = Fake::of(alloc, ReadersWriters::with(4), VecDeque::new(alloc))?;
+    let (other, place) = reads_elsewhere(rt, alloc, &fake, out, MOST_READERS);
+    is_no_writer(rt, &other, place);
     Ok(())
 }
 

@@ -4,6 +4,7 @@ use crate::fake::Fake;
 use crate::tests::limit::within;
 use crate::tests::rows::alarm_and_pool::alarm::ends_the_clock;
 use crate::tests::rows::alarm_and_pool::pool::{takes, takes_all};
+use hoare_law::monitor::Monitor;
 use std::alloc::{AllocError, Global};
 use std::collections::VecDeque;
 use std::process::Abort;
@@ -21,25 +22,50 @@ fn wakes_twice<R: Wait>(rt: &R, alloc: Global) -> Result<Option<u64>, AllocError
     Ok(woke.ok())
 }
 
+// A setting past the last time is refused, and one at it is met: the time at which the clock ends.
+fn sleeps_to_the_last_time<R: Wait + Abort, M: Monitor<Alarm>>(rt: &R, m: &M, out: M::Out) -> u64
+    requires { M.is_of m.now out }
+{
+    let (out, woke) = Alarm::wakeme(m, rt, out, 2);
+    assert_eq!(rt; woke, Err(TooFar));
+    let (out, woke) = Alarm::wakeme(m, rt, out, 1);
+    assert_eq!(rt; woke, Ok(u64::MAX));
+    let (_out, time) = ends_the_clock(rt, m, out);
+    time
+}
+
 // Before the last time there is one tick, and a setting at the last time.
 fn meets_the_last_time<R: Wait + Abort>(rt: &R, alloc: Global) -> Result<u64, AllocError> {
     let answers = VecDeque::from_array(alloc, [Alarm::at(u64::MAX)])?;
     let (fake, out) = Fake::of(alloc, Alarm::at(u64::MAX - 1), answers)?;
-    let (out, woke) = Alarm::wakeme(&fake, rt, out, 2);
-    assert_eq!(rt; woke, Err(TooFar));
-    let (out, woke) = Alarm::wakeme(&fake, rt, out, 1);
-    assert_eq!(rt; woke, Ok(u64::MAX));
-    let (_out, time) = ends_the_clock(rt, &fake, out);
-    Ok(time)
+    Ok(sleeps_to_the_last_time(rt, &fake, out))
+}
+
+// Ticks twice: to the last time, and then it is refused.
+fn ticks_twice<R: Wait + Abort, M: Monitor<Alarm>>(rt: &R, m: &M, out: M::Out)
+    requires { M.is_of m.now out }
+{
+    let (out, time) = Alarm::tick(m, rt, out);
+    assert_eq!(rt; time, Ok(u64::MAX));
+    let (_out, refused) = Alarm::tick(m, rt, out);
+    assert_eq!(rt; refused, Err(ClockFull));
 }
 
 fn ticks_to_the_last_time<R: Wait + Abort>(rt: &R, alloc: Global) -> Result<(), AllocError> {
     let (fake, out) = Fake::of(alloc, Alarm::at(u64::MAX - 1), VecDeque::new(alloc))?;
-    let (out, time) = Alarm::tick(&fake, rt, out);
-    assert_eq!(rt; time, Ok(u64::MAX));
-    let (_out, refused) = Alarm::tick(&fake, rt, out);
-    assert_eq!(rt; refused, Err(ClockFull));
+    ticks_twice(rt, &fake, out);
     Ok(())
+}
+
+// Takes the one buffer, is refused late as stream 1, and takes the one buffer of the pool that it found.
+fn is_no_stream_late<R: Wait + Abort, M: Monitor<Pool>>(rt: &R, m: &M, out: M::Out)
+    requires { M.is_of m.now out }
+{
+    let (out, first) = takes(rt, m, out, 0);
+    let (out, late) = Pool::take(m, rt, out, 1);
+    assert_eq!(rt; late, Err(NoStream));
+    let (_out, least) = takes(rt, m, out, 0);
+    assert_eq!(rt; (first, least), (0, 0));
 }
 
 // A stream waits for the one buffer, and finds a pool in which it is none.
@@ -51,12 +77,7 @@ fn finds_another_pool<R: Wait + Abort>(rt: &R, alloc: Global) -> Result<(), Pool
     let Ok((fake, out)) = Fake::of(alloc, Pool::make(alloc, 1, 2)?, answers) else {
         return Err(PoolRefused::Memory);
     };
-    let (out, first) = takes(rt, &fake, out, 0);
-    assert_eq!(rt; first, 0);
-    let (out, late) = Pool::take(&fake, rt, out, 1);
-    assert_eq!(rt; late, Err(NoStream));
-    let (_out, least) = takes(rt, &fake, out, 0);
-    assert_eq!(rt; least, 0);
+    is_no_stream_late(rt, &fake, out);
     Ok(())
 }
 

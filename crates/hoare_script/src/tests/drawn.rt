@@ -1,6 +1,7 @@
 // Scripts that a generator draws, against a second interpreter. It keeps a list of what happened, filters it for each
 // answer, and shares nothing with the book.
 use super::told;
+use std::alloc::Global;
 use std::io;
 use std::io::Write;
 use std::process::Abort;
@@ -282,28 +283,44 @@ fn next_lot(seed: u64) -> u64 {
         .wrapping_add(1442695040888963407)
 }
 
-// One script, answered twice: how many resumptions it had.
-fn is_answered_twice<R: Abort + AllocGlobal>(rt: &R, number: u64) -> Result<usize, Fail> {
-    let mut machine = Machine {
+// The machine of the script with this number.
+fn machine(alloc: Global, number: u64) -> Machine {
+    Machine {
         places: if number % 100 == 0 {
             64
         } else {
             number % 5 + 2
         },
         conditions: number % 3 + 1,
-        past: Vec::new(rt.alloc()),
-    };
-    let mut script = Vec::new(rt.alloc());
-    let mut answers = Vec::new(rt.alloc());
-    writeln!(script, "monitor {} {}", machine.places, machine.conditions)?;
+        past: Vec::new(alloc),
+    }
+}
+
+// Draws the lines of a script, with an answer to each.
+fn draw<W: Write>(
+    machine: &mut Machine,
+    number: u64,
+    script: &mut W,
+    answers: &mut W,
+) -> Result<(), Fail> {
     let mut seed = number;
     for _ in 0..LINES {
         seed = next_lot(seed);
         let line = machine.drawn(seed / 65536);
-        spell(&mut script, line)?;
+        spell(script, line)?;
         writeln!(script)?;
-        machine.answer(&mut answers, line)?;
+        machine.answer(answers, line)?;
     }
+    Ok(())
+}
+
+// One script, answered twice: how many resumptions it had.
+fn is_answered_twice<R: Abort + AllocGlobal>(rt: &R, number: u64) -> Result<usize, Fail> {
+    let mut machine = machine(rt.alloc(), number);
+    let mut script = Vec::new(rt.alloc());
+    let mut answers = Vec::new(rt.alloc());
+    writeln!(script, "monitor {} {}", machine.places, machine.conditions)?;
+    draw(&mut machine, number, &mut script, &mut answers)?;
     let (result, written) = told(rt.alloc(), script.as_slice());
     assert_eq!(rt; result, Ok(()), "script {number}");
     assert_eq!(rt; written.as_slice(), answers.as_slice(), "script {number}");

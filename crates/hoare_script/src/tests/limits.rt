@@ -72,13 +72,18 @@ fn bad_lines(rt: HostRuntime) {
 }
 
 #[test]
-fn long_line_and_large_script(rt: HostRuntime) -> Result<(), Fail> {
+fn long_line(rt: HostRuntime) -> Result<(), Fail> {
     let mut script = b"monitor 1 1\n".to_vec(rt.alloc())?;
     script.resize(268, b'e')?;
     check(&rt, script.as_slice(), Err(ScriptFault::BadLine(2)));
     script.push(b'e')?;
     check(&rt, script.as_slice(), Err(ScriptFault::LineTooLong(2)));
-    script.truncate(12);
+    Ok(())
+}
+
+#[test]
+fn large_script(rt: HostRuntime) -> Result<(), Fail> {
+    let mut script = b"monitor 1 1\n".to_vec(rt.alloc())?;
     for _ in 0..131_071u32 {
         script.extend_from_slice(b"leave 0\n")?;
     }

@@ -284,7 +284,7 @@ fn next_lot(seed: u64) -> u64 {
 }
 
 // The machine of the script with this number.
-fn machine(alloc: Global, number: u64) -> Machine {
+fn machine_of(alloc: Global, number: u64) -> Machine {
     Machine {
         places: if number % 100 == 0 {
             64
@@ -316,7 +316,7 @@ fn draw<W: Write>(
 
 // One script, answered twice: how many resumptions it had.
 fn is_answered_twice<R: Abort + AllocGlobal>(rt: &R, number: u64) -> Result<usize, Fail> {
-    let mut machine = machine(rt.alloc(), number);
+    let mut machine = machine_of(rt.alloc(), number);
     let mut script = Vec::new(rt.alloc());
     let mut answers = Vec::new(rt.alloc());
     writeln!(script, "monitor {} {}", machine.places, machine.conditions)?;

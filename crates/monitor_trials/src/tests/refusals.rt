@@ -1,11 +1,11 @@
-//! How the schedulers' refusals read.
+//! How the schedulers' refusals read. (That of a read which nobody began stands in `rows::readers`, for its pass can't be made up.)
 
 use plain_schedulers::buffer::BufferRefused;
 use plain_schedulers::single;
 use std::test::Fail;
 use sweep_schedulers::head::OffDisk;
 use sweep_schedulers::not_out;
-use sweep_schedulers::readers_writers::{NoReader, ReadPass, TooManyReaders};
+use sweep_schedulers::readers_writers::TooManyReaders;
 use timed_schedulers::alarm::{ClockFull, TooFar};
 use timed_schedulers::pool::{GiveRefused, NoStream, PoolRefused};
 
@@ -67,17 +67,5 @@ fn refusals_of_the_sweep_schedulers_read_plainly(rt: HostRuntime) -> Result<(), 
     let refused = not_out::NotOut { item: 7u8 };
     let shown = format!(in alloc; "{refused}")?;
     assert_eq!(rt; shown.as_str(), "no item is out");
-    Ok(())
-}
-
-#[test]
-fn no_reader_reads_plainly(rt: HostRuntime) -> Result<(), Fail> {
-    let refused = NoReader {
-        pass: ReadPass::new(),
-    };
-    let shown = format!(in rt.alloc(); "{refused}");
-    let NoReader { pass } = refused;
-    pass.spend();
-    assert_eq!(rt; shown?.as_str(), "no reader is in");
     Ok(())
 }

@@ -124,6 +124,14 @@ pub fn reads_to_the_limit<R: Wait + Abort, M: Monitor<Shared>>(
     ends_read(rt, m, out, pass)
 }
 
+// The refusal says what it is.
+fn shows_no_reader<R: Abort>(rt: &R, alloc: Global, refused: &NoReader) {
+    let Ok(shown) = format!(in alloc; "{refused}") else {
+        panic!(rt; "no memory")
+    };
+    assert_eq!(rt; shown.as_str(), "no reader is in");
+}
+
 /// Ends a read where none is: the pass, which is another monitor's, comes back.
 pub fn ends_no_read<R: Wait + Abort, M: Monitor<Shared>>(
     rt: &R,
@@ -142,7 +150,11 @@ pub fn ends_no_read<R: Wait + Abort, M: Monitor<Shared>>(
     let (out, ended) = ReadersWriters::end_read(m, rt, out, pass);
     match ended {
         Ok(()) => panic!(rt; "a reader was in"),
-        Err(NoReader { pass }) => ends_read(rt, &fake, other, pass),
+        Err(refused) => {
+            shows_no_reader(rt, alloc, &refused);
+            let NoReader { pass } = refused;
+            ends_read(rt, &fake, other, pass)
+        }
     };
     out
 }

@@ -7,6 +7,7 @@ use crate::mixed::{Mixed, mix};
 use crate::turns::{
     add_many, append_many, link_many, pull_many, remove_many, signal_many, wait_many,
 };
+use baton_door::door::Door;
 use hoare_law::monitor::Monitor;
 use hoare_law::unasked::Unasked;
 use plain_schedulers::buffer::Buffer;
@@ -15,32 +16,43 @@ use std::sync::Wait;
 use std::sync::atomic::{AtomicU64, Ordering};
 use std::thread::Threads;
 use std::{io, thread};
+use ticket_door::door::TicketDoor;
 
 /// A monitor of a counter that threads share, with one condition. (A closure that goes to a thread needs a bound with no
 /// parameter, and one closure can't be handed on by a function that is generic over what it does: so each load has its own.)
 pub trait OneShared: Monitor<Unasked<u64, 1>> + Sync {}
 
-impl<M: Monitor<Unasked<u64, 1>> + Sync> OneShared for M {}
+impl OneShared for Door<Unasked<u64, 1>> {}
+
+impl OneShared for TicketDoor<Unasked<u64, 1>> {}
 
 /// The same with eight conditions.
 pub trait EightShared: Monitor<Unasked<u64, 8>> + Sync {}
 
-impl<M: Monitor<Unasked<u64, 8>> + Sync> EightShared for M {}
+impl EightShared for Door<Unasked<u64, 8>> {}
+
+impl EightShared for TicketDoor<Unasked<u64, 8>> {}
 
 /// The same of a buffer.
 pub trait SharedBuffer: Monitor<Buffer<u64>> + Sync {}
 
-impl<M: Monitor<Buffer<u64>> + Sync> SharedBuffer for M {}
+impl SharedBuffer for Door<Buffer<u64>> {}
+
+impl SharedBuffer for TicketDoor<Buffer<u64>> {}
 
 /// The same of visits of all kinds.
 pub trait SharedMixed: Monitor<Mixed> + Sync {}
 
-impl<M: Monitor<Mixed> + Sync> SharedMixed for M {}
+impl SharedMixed for Door<Mixed> {}
+
+impl SharedMixed for TicketDoor<Mixed> {}
 
 /// The same of who was let in.
 pub trait SharedCount: Monitor<Counted> + Sync {}
 
-impl<M: Monitor<Counted> + Sync> SharedCount for M {}
+impl SharedCount for Door<Counted> {}
+
+impl SharedCount for TicketDoor<Counted> {}
 
 /// What the threads of a counter with one condition do.
 #[derive(Clone, Copy)]

@@ -1,18 +1,22 @@
 //! What is measured of the alarm clock, over any monitor: its procedures alone, and threads that sleep until the next tick.
 ghost use Rattle.std.specs.Prelude.{All};
 
+use baton_door::door::Door;
 use hoare_law::monitor::Monitor;
 use hoare_law::waits::Waits;
 use std::sync::Wait;
 use std::sync::atomic::{AtomicU64, Ordering};
 use std::thread;
 use std::thread::Threads;
+use ticket_door::door::TicketDoor;
 use timed_schedulers::alarm::Alarm;
 
 /// A monitor of an alarm clock that threads share.
 pub trait SharedAlarm: Monitor<Alarm> + Sync {}
 
-impl<M: Monitor<Alarm> + Sync> SharedAlarm for M {}
+impl SharedAlarm for Door<Alarm> {}
+
+impl SharedAlarm for TicketDoor<Alarm> {}
 
 // Sets the next time, `turns` times.
 fn tick_many<R: Wait, M: Monitor<Alarm>>(

@@ -12,9 +12,11 @@ use hoare_law::monitor::Monitor;
 use hoare_law::unasked::Unasked;
 use plain_schedulers::buffer::Buffer;
 use std::alloc::AllocError;
+use std::rt::Clock;
 use std::sync::Wait;
 use std::sync::atomic::{AtomicU64, Ordering};
 use std::thread::Threads;
+use std::time::{Duration, Instant};
 use std::{io, thread};
 use ticket_door::door::TicketDoor;
 
@@ -65,22 +67,24 @@ pub enum CounterLoad {
     Waiting(u64, u64),
 }
 
-/// The threads of a counter with one condition do their load.
-pub fn count_with<R: Threads + Wait + Sync, M: OneShared>(
+/// The threads of a counter with one condition do their load: how long that took.
+pub fn count_with<R: Threads + Wait + Clock + Sync, M: OneShared>(
     rt: &R,
     m: &M,
     places: Vec<M::Out>,
     load: CounterLoad,
-) -> io::Result<()>
+) -> io::Result<Duration>
 where
     M::Lists: Send,
     requires { All (M.is_of m.now) places.items }
 {
+    let start = Instant::now(rt)?;
     match load {
-        CounterLoad::Alone(turns) => alone(rt, m, places, turns),
-        CounterLoad::Contended(turns) => contended(rt, m, places, turns),
-        CounterLoad::Waiting(waiters, turns) => waiting(rt, m, places, waiters, turns),
+        CounterLoad::Alone(turns) => alone(rt, m, places, turns)?,
+        CounterLoad::Contended(turns) => contended(rt, m, places, turns)?,
+        CounterLoad::Waiting(waiters, turns) => waiting(rt, m, places, waiters, turns)?,
     }
+    start.elapsed(rt)
 }
 
 /// What the threads of a counter with eight conditions do.
@@ -92,21 +96,23 @@ pub enum WideLoad {
     Chained(u64),
 }
 
-/// The threads of a counter with eight conditions do their load.
-pub fn count_widely<R: Threads + Wait + Sync, M: EightShared>(
+/// The threads of a counter with eight conditions do their load: how long that took.
+pub fn count_widely<R: Threads + Wait + Clock + Sync, M: EightShared>(
     rt: &R,
     m: &M,
     places: Vec<M::Out>,
     load: WideLoad,
-) -> io::Result<()>
+) -> io::Result<Duration>
 where
     M::Lists: Send,
     requires { All (M.is_of m.now) places.items }
 {
+    let start = Instant::now(rt)?;
     match load {
-        WideLoad::Alone(turns) => alone(rt, m, places, turns),
-        WideLoad::Chained(turns) => chained(rt, m, places, turns),
+        WideLoad::Alone(turns) => alone(rt, m, places, turns)?,
+        WideLoad::Chained(turns) => chained(rt, m, places, turns)?,
     }
+    start.elapsed(rt)
 }
 
 // Threads that come in, add one and go out, each `turns` times.
@@ -205,17 +211,18 @@ where
     Ok(())
 }
 
-/// Half of the threads append to a buffer, the others remove, each `turns` times.
-pub fn buffered<R: Threads + Wait + Sync, M: SharedBuffer>(
+/// Half of the threads append to a buffer, the others remove, each `turns` times: how long that took.
+pub fn buffered<R: Threads + Wait + Clock + Sync, M: SharedBuffer>(
     rt: &R,
     m: &M,
     places: Vec<M::Out>,
     turns: u64,
-) -> io::Result<()>
+) -> io::Result<Duration>
 where
     M::Lists: Send,
     requires { All (M.is_of m.now) places.items }
 {
+    let start = Instant::now(rt)?;
     let roles = AtomicU64::new(0);
     thread::map_vec(
         rt,
@@ -231,20 +238,21 @@ where
             }
         },
     )?;
-    Ok(())
+    start.elapsed(rt)
 }
 
-/// Threads that mix all calls, each `turns` times, and the last to come, who resumes those that wait.
-pub fn mixed<R: Threads + Wait + Sync, M: SharedMixed>(
+/// Threads that mix all calls, each `turns` times, and the last to come, who resumes those that wait: how long that took.
+pub fn mixed<R: Threads + Wait + Clock + Sync, M: SharedMixed>(
     rt: &R,
     m: &M,
     places: Vec<M::Out>,
     turns: u64,
-) -> io::Result<()>
+) -> io::Result<Duration>
 where
     M::Lists: Send,
     requires { All (M.is_of m.now) places.items }
 {
+    let start = Instant::now(rt)?;
     let roles = AtomicU64::new(0);
     thread::map_vec(
         rt,
@@ -253,7 +261,7 @@ where
             requires { M.is_of m.now out }
         { mix(rt, m, out, roles.fetch_add(1, Ordering::SeqCst), turns) },
     )?;
-    Ok(())
+    start.elapsed(rt)
 }
 
 /// Threads that come in and go out, each `turns` times: what each met.

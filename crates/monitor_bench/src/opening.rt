@@ -1,0 +1,84 @@
+//! The doors that are measured: each is made with its data, over any data.
+ghost use Rattle.std.specs.Prelude.{All, IfOk};
+ghost use Rattle.hoare_law.specs.Priorities.{nobody};
+
+use baton_door::door::Door;
+use baton_door::place::DoorOut;
+use hoare_law::data::MonitorData;
+use hoare_law::monitor::Monitor;
+use std::alloc::{AllocError, Global};
+use std::io;
+use ticket_door::door::TicketDoor;
+use ticket_door::place::TicketOut;
+
+/// Which door is measured.
+#[derive(Clone, Copy)]
+pub enum DoorKind {
+    Baton,
+    Ticket,
+}
+
+/// What is said where there is no memory.
+pub fn no_memory() -> io::Error {
+    io::Error::from(AllocError)
+}
+
+/// A baton door, and its places.
+pub fn baton<D: MonitorData + Send + Drop>(
+    alloc: Global,
+    state: D,
+    places: usize,
+) -> io::Result<(Door<D>, Vec<DoorOut<D>>)>
+    requires { D.rest state nobody }
+    ensures { IfOk result (λ r. All (⟦<Door<D> as Monitor<D>>⟧.is_of r.0) r.1.items) }
+{
+    match Door::make(alloc, state, places) {
+        Ok(made) => Ok(made),
+        Err(_refused) => Err(no_memory()),
+    }
+}
+
+/// A ticket door, and its places.
+pub fn ticket<D: MonitorData + Send + Drop>(
+    alloc: Global,
+    state: D,
+    places: usize,
+) -> io::Result<(TicketDoor<D>, Vec<TicketOut<D>>)>
+    requires { D.rest state nobody }
+    ensures { IfOk result (λ r. All (⟦<TicketDoor<D> as Monitor<D>>⟧.is_of r.0) r.1.items) }
+{
+    match TicketDoor::make(alloc, state, places) {
+        Ok(made) => Ok(made),
+        Err(_refused) => Err(no_memory()),
+    }
+}
+
+/// A baton door of one place.
+pub fn one_baton<D: MonitorData + Send + Drop>(
+    alloc: Global,
+    state: D,
+) -> io::Result<(Door<D>, DoorOut<D>)>
+    requires { D.rest state nobody }
+    ensures { IfOk result (λ r. ⟦<Door<D> as Monitor<D>>⟧.is_of r.0 r.1) }
+{
+    let (door, mut places) = baton(alloc, state, 1)?;
+    match places.pop() {
+        Some(out) => Ok((door, out)),
+        None => Err(no_memory()),
+    }
+}
+
+/// A ticket door of one place.
+pub fn one_ticket<D: MonitorData + Send + Drop>(
+    alloc: Global,
+    state: D,
+) -> io::Result<(TicketDoor<D>, TicketOut<D>)>
+    requires { D.rest state nobody }
+    ensures { IfOk result (λ r. ⟦<TicketDoor<D> as Monitor<D>>⟧.is_of r.0 r.1) }
+{
+    let (door, mut places) = ticket(alloc, state, 1)?;
+    match places.pop() {
+        Some(out) => Ok((door, out)),
+        None => Err(no_memory()),
+    }
+}

@@ -7,40 +7,54 @@ use crate::mixed::{Mixed, mix};
 use crate::turns::{
     add_many, append_many, link_many, pull_many, remove_many, signal_many, wait_many,
 };
+use baton_door::door::Door;
 use hoare_law::monitor::Monitor;
 use hoare_law::unasked::Unasked;
 use plain_schedulers::buffer::Buffer;
 use std::alloc::AllocError;
+use std::rt::Clock;
 use std::sync::Wait;
 use std::sync::atomic::{AtomicU64, Ordering};
 use std::thread::Threads;
+use std::time::{Duration, Instant};
 use std::{io, thread};
+use ticket_door::door::TicketDoor;
 
 /// A monitor of a counter that threads share, with one condition. (A closure that goes to a thread needs a bound with no
 /// parameter, and one closure can't be handed on by a function that is generic over what it does: so each load has its own.)
 pub trait OneShared: Monitor<Unasked<u64, 1>> + Sync {}
 
-impl<M: Monitor<Unasked<u64, 1>> + Sync> OneShared for M {}
+impl OneShared for Door<Unasked<u64, 1>> {}
+
+impl OneShared for TicketDoor<Unasked<u64, 1>> {}
 
 /// The same with eight conditions.
 pub trait EightShared: Monitor<Unasked<u64, 8>> + Sync {}
 
-impl<M: Monitor<Unasked<u64, 8>> + Sync> EightShared for M {}
+impl EightShared for Door<Unasked<u64, 8>> {}
+
+impl EightShared for TicketDoor<Unasked<u64, 8>> {}
 
 /// The same of a buffer.
 pub trait SharedBuffer: Monitor<Buffer<u64>> + Sync {}
 
-impl<M: Monitor<Buffer<u64>> + Sync> SharedBuffer for M {}
+impl SharedBuffer for Door<Buffer<u64>> {}
+
+impl SharedBuffer for TicketDoor<Buffer<u64>> {}
 
 /// The same of visits of all kinds.
 pub trait SharedMixed: Monitor<Mixed> + Sync {}
 
-impl<M: Monitor<Mixed> + Sync> SharedMixed for M {}
+impl SharedMixed for Door<Mixed> {}
+
+impl SharedMixed for TicketDoor<Mixed> {}
 
 /// The same of who was let in.
 pub trait SharedCount: Monitor<Counted> + Sync {}
 
-impl<M: Monitor<Counted> + Sync> SharedCount for M {}
+impl SharedCount for Door<Counted> {}
+
+impl SharedCount for TicketDoor<Counted> {}
 
 /// What the threads of a counter with one condition do.
 #[derive(Clone, Copy)]
@@ -53,22 +67,24 @@ pub enum CounterLoad {
     Waiting(u64, u64),
 }
 
-/// The threads of a counter with one condition do their load.
-pub fn count_with<R: Threads + Wait + Sync, M: OneShared>(
+/// The threads of a counter with one condition do their load: how long that took.
+pub fn count_with<R: Threads + Wait + Clock + Sync, M: OneShared>(
     rt: &R,
     m: &M,
     places: Vec<M::Out>,
     load: CounterLoad,
-) -> io::Result<()>
+) -> io::Result<Duration>
 where
     M::Lists: Send,
     requires { All (M.is_of m.now) places.items }
 {
+    let start = Instant::now(rt)?;
     match load {
-        CounterLoad::Alone(turns) => alone(rt, m, places, turns),
-        CounterLoad::Contended(turns) => contended(rt, m, places, turns),
-        CounterLoad::Waiting(waiters, turns) => waiting(rt, m, places, waiters, turns),
+        CounterLoad::Alone(turns) => alone(rt, m, places, turns)?,
+        CounterLoad::Contended(turns) => contended(rt, m, places, turns)?,
+        CounterLoad::Waiting(waiters, turns) => waiting(rt, m, places, waiters, turns)?,
     }
+    start.elapsed(rt)
 }
 
 /// What the threads of a counter with eight conditions do.
@@ -80,21 +96,23 @@ pub enum WideLoad {
     Chained(u64),
 }
 
-/// The threads of a counter with eight conditions do their load.
-pub fn count_widely<R: Threads + Wait + Sync, M: EightShared>(
+/// The threads of a counter with eight conditions do their load: how long that took.
+pub fn count_widely<R: Threads + Wait + Clock + Sync, M: EightShared>(
     rt: &R,
     m: &M,
     places: Vec<M::Out>,
     load: WideLoad,
-) -> io::Result<()>
+) -> io::Result<Duration>
 where
     M::Lists: Send,
     requires { All (M.is_of m.now) places.items }
 {
+    let start = Instant::now(rt)?;
     match load {
-        WideLoad::Alone(turns) => alone(rt, m, places, turns),
-        WideLoad::Chained(turns) => chained(rt, m, places, turns),
+        WideLoad::Alone(turns) => alone(rt, m, places, turns)?,
+        WideLoad::Chained(turns) => chained(rt, m, places, turns)?,
     }
+    start.elapsed(rt)
 }
 
 // Threads that come in, add one and go out, each `turns` times.
@@ -193,17 +211,18 @@ where
     Ok(())
 }
 
-/// Half of the threads append to a buffer, the others remove, each `turns` times.
-pub fn buffered<R: Threads + Wait + Sync, M: SharedBuffer>(
+/// Half of the threads append to a buffer, the others remove, each `turns` times: how long that took.
+pub fn buffered<R: Threads + Wait + Clock + Sync, M: SharedBuffer>(
     rt: &R,
     m: &M,
     places: Vec<M::Out>,
     turns: u64,
-) -> io::Result<()>
+) -> io::Result<Duration>
 where
     M::Lists: Send,
     requires { All (M.is_of m.now) places.items }
 {
+    let start = Instant::now(rt)?;
     let roles = AtomicU64::new(0);
     thread::map_vec(
         rt,
@@ -219,20 +238,21 @@ where
             }
         },
     )?;
-    Ok(())
+    start.elapsed(rt)
 }
 
-/// Threads that mix all calls, each `turns` times, and the last to come, who resumes those that wait.
-pub fn mixed<R: Threads + Wait + Sync, M: SharedMixed>(
+/// Threads that mix all calls, each `turns` times, and the last to come, who resumes those that wait: how long that took.
+pub fn mixed<R: Threads + Wait + Clock + Sync, M: SharedMixed>(
     rt: &R,
     m: &M,
     places: Vec<M::Out>,
     turns: u64,
-) -> io::Result<()>
+) -> io::Result<Duration>
 where
     M::Lists: Send,
     requires { All (M.is_of m.now) places.items }
 {
+    let start = Instant::now(rt)?;
     let roles = AtomicU64::new(0);
     thread::map_vec(
         rt,
@@ -241,7 +261,7 @@ where
             requires { M.is_of m.now out }
         { mix(rt, m, out, roles.fetch_add(1, Ordering::SeqCst), turns) },
     )?;
-    Ok(())
+    start.elapsed(rt)
 }
 
 /// Threads that come in and go out, each `turns` times: what each met.

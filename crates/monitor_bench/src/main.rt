@@ -9,26 +9,26 @@ ghost use Rattle.hoare_law.specs.Priorities.{nobody};
 mod doors;
 mod fairness;
 mod mixed;
+mod opening;
 mod procedures;
 mod schedulers;
 mod sleepers;
 mod turns;
 
-use crate::doors::{CounterLoad, WideLoad};
-use crate::fairness::{all_met, uncounted};
+use crate::doors::{CounterLoad, WideLoad, buffered, count_widely, count_with, met, mixed};
+use crate::fairness::{Others, all_met, uncounted};
 use crate::mixed::{WORKERS, unvisited};
-use baton_door::door::Door;
+use crate::opening::{DoorKind, baton, no_memory, ticket};
 use hoare_law::data::MonitorData;
 use hoare_law::unasked::Unasked;
 use plain_schedulers::buffer::Buffer;
-use std::alloc::{AllocError, Global};
+use std::alloc::Global;
 use std::process::ExitCode;
 use std::rt::Clock;
 use std::sync::Wait;
 use std::thread::Threads;
-use std::time::{Duration, Instant};
+use std::time::Duration;
 use std::{env, io};
-use ticket_door::door::TicketDoor;
 
 const NAMES: [&str; 24] = [
     "enter_leave: one thread comes in, adds one and goes out",
@@ -76,42 +76,25 @@ fn tell<R: Print + Eprint>(rt: &R, name: &str, spent: Duration, count: u64) -> i
     println!(rt; "{name} {one} ns")
 }
 
-/// Which door is measured.
-#[derive(Clone, Copy)]
-pub enum DoorKind {
-    Baton,
-    Ticket,
-}
-
-// One row on one door: it is made with these data and this number of places, its threads work, and what each of `$count` turns
-// took is told.
-macro_rules! row_on {
-    ($door:ident, $rt:ident, $alloc:ident, $name:expr, $data:expr, $places:expr, $work:ident($($more:expr),*), $count:expr) => {{
-        let Ok((door, places)) = $door::make($alloc, $data, $places) else {
-            return Err(no_memory());
-        };
-        let start = Instant::now($rt)?;
-        doors::$work($rt, &door, places $(, $more)*)?;
-        tell($rt, $name, start.elapsed($rt)?, $count)
-    }};
-}
-
-// The row on the door of this kind.
-macro_rules! row {
-    ($kind:expr, $($of:tt)*) => {
+// How long the threads of a door of this kind took, made with these data and this number of places.
+macro_rules! on_places {
+    ($kind:ident, $rt:ident, $alloc:ident, $data:expr, $places:ident, $work:ident($($more:expr),*)) => {{
+        let data = $data;
         match $kind {
-            DoorKind::Baton => row_on!(Door, $($of)*),
-            DoorKind::Ticket => row_on!(TicketDoor, $($of)*),
+            DoorKind::Baton => {
+                let (door, places) = baton($alloc, data, $places)?;
+                $work($rt, &door, places, $($more),*)
+            }
+            DoorKind::Ticket => {
+                let (door, places) = ticket($alloc, data, $places)?;
+                $work($rt, &door, places, $($more),*)
+            }
         }
-    };
+    }};
 }
 
 // The cells of the buffer.
 const RING: usize = 16;
-
-fn no_memory() -> io::Error {
-    io::Error::from(AllocError)
-}
 
 fn counter<const N: usize>() -> Unasked<u64, N> {
     Unasked { value: 0 }
@@ -123,70 +106,59 @@ fn ring(alloc: Global) -> io::Result<Buffer<u64>>
     Buffer::make(alloc, RING).map_err(|_refusal| no_memory())
 }
 
-// One row of a counter with one condition. (A function for all of them: what is called at a door's own type is dear to check.)
-fn counter_row<R: Print + Eprint + Clock + Threads + Wait + Sync>(
+// A counter with one condition. (A function for all of its rows: what is called at a door's own type is dear to check.)
+fn counter_row<R: Clock + Threads + Wait + Sync>(
     rt: &R,
     alloc: Global,
     kind: DoorKind,
-    name: &str,
-    places: usize,
+    count: usize,
     load: CounterLoad,
-    count: u64,
-) -> io::Result<()> {
-    row!(
-        kind,
-        rt,
-        alloc,
-        name,
-        counter(),
-        places,
-        count_with(load),
-        count
-    )
+) -> io::Result<Duration> {
+    on_places!(kind, rt, alloc, counter(), count, count_with(load))
 }
 
 // The same with eight conditions.
-fn wide_row<R: Print + Eprint + Clock + Threads + Wait + Sync>(
+fn wide_row<R: Clock + Threads + Wait + Sync>(
     rt: &R,
     alloc: Global,
     kind: DoorKind,
-    name: &str,
-    places: usize,
+    count: usize,
     load: WideLoad,
-    count: u64,
-) -> io::Result<()> {
-    row!(
-        kind,
-        rt,
-        alloc,
-        name,
-        counter(),
-        places,
-        count_widely(load),
-        count
-    )
+) -> io::Result<Duration> {
+    on_places!(kind, rt, alloc, counter(), count, count_widely(load))
 }
 
-// One row of a buffer.
-fn buffer_row<R: Print + Eprint + Clock + Threads + Wait + Sync>(
+// A buffer.
+fn buffer_row<R: Clock + Threads + Wait + Sync>(
     rt: &R,
     alloc: Global,
     kind: DoorKind,
-    name: &str,
-    places: usize,
+    count: usize,
     turns: u64,
-    count: u64,
-) -> io::Result<()> {
-    row!(
-        kind,
-        rt,
-        alloc,
-        name,
-        ring(alloc)?,
-        places,
-        buffered(turns),
-        count
-    )
+) -> io::Result<Duration> {
+    on_places!(kind, rt, alloc, ring(alloc)?, count, buffered(turns))
+}
+
+// Visits of all kinds.
+fn mixed_row<R: Clock + Threads + Wait + Sync>(
+    rt: &R,
+    alloc: Global,
+    kind: DoorKind,
+    count: usize,
+    turns: u64,
+) -> io::Result<Duration> {
+    on_places!(kind, rt, alloc, unvisited(), count, mixed(turns))
+}
+
+// How many others are let in before a place.
+fn others_row<R: Threads + Wait + Sync>(
+    rt: &R,
+    alloc: Global,
+    kind: DoorKind,
+    count: usize,
+    turns: u64,
+) -> io::Result<Vec<Others>> {
+    on_places!(kind, rt, alloc, uncounted(), count, met(turns))
 }
 
 // Places that come in and go out.
@@ -196,31 +168,16 @@ fn measure_visits<R: Print + Eprint + Clock + Threads + Wait + Sync>(
     kind: DoorKind,
     turns: u64,
 ) -> io::Result<()> {
-    counter_row(
-        rt,
-        alloc,
-        kind,
-        "enter_leave",
-        1,
-        CounterLoad::Alone(turns),
-        turns,
-    )?;
+    let spent = counter_row(rt, alloc, kind, 1, CounterLoad::Alone(turns))?;
+    tell(rt, "enter_leave", spent, turns)?;
     let tenth = turns / 10;
-    for (name, places) in [
+    for (name, count) in [
         ("enter_leave_2", 2),
         ("enter_leave_4", 4),
         ("enter_leave_8", 8),
     ] {
-        let count = tenth.saturating_mul(places as u64);
-        counter_row(
-            rt,
-            alloc,
-            kind,
-            name,
-            places,
-            CounterLoad::Contended(tenth),
-            count,
-        )?;
+        let spent = counter_row(rt, alloc, kind, count, CounterLoad::Contended(tenth))?;
+        tell(rt, name, spent, tenth.saturating_mul(count as u64))?;
     }
     Ok(())
 }
@@ -233,11 +190,12 @@ fn measure_exchanges<R: Print + Eprint + Clock + Threads + Wait + Sync>(
     turns: u64,
 ) -> io::Result<()> {
     let hundredth = turns / 100;
-    let load = CounterLoad::Waiting(1, hundredth);
-    counter_row(rt, alloc, kind, "hand_over", 2, load, hundredth)?;
-    buffer_row(rt, alloc, kind, "buffer_1_1", 2, hundredth, hundredth)?;
-    let fourfold = hundredth.saturating_mul(4);
-    buffer_row(rt, alloc, kind, "buffer_4_4", 8, hundredth, fourfold)
+    let spent = counter_row(rt, alloc, kind, 2, CounterLoad::Waiting(1, hundredth))?;
+    tell(rt, "hand_over", spent, hundredth)?;
+    let spent = buffer_row(rt, alloc, kind, 2, hundredth)?;
+    tell(rt, "buffer_1_1", spent, hundredth)?;
+    let spent = buffer_row(rt, alloc, kind, 8, hundredth)?;
+    tell(rt, "buffer_4_4", spent, hundredth.saturating_mul(4))
 }
 
 // Many places that wait.
@@ -248,69 +206,24 @@ fn measure_crowds<R: Print + Eprint + Clock + Threads + Wait + Sync>(
     turns: u64,
 ) -> io::Result<()> {
     let thousandth = turns / 1000;
-    let load = CounterLoad::Waiting(16, thousandth);
-    counter_row(
-        rt,
-        alloc,
-        kind,
-        "waiting_16",
-        17,
-        load,
-        thousandth.saturating_mul(16),
-    )?;
-    let links = thousandth.saturating_mul(8);
-    wide_row(
-        rt,
-        alloc,
-        kind,
-        "chain_8",
-        9,
-        WideLoad::Chained(thousandth),
-        links,
-    )?;
-    let visits = thousandth.saturating_mul(WORKERS);
-    row!(
-        kind,
-        rt,
-        alloc,
-        "mixed_9",
-        unvisited(),
-        9,
-        mixed(thousandth),
-        visits
-    )?;
-    wide_row(
-        rt,
-        alloc,
-        kind,
-        "wide_enter_leave",
-        64,
-        WideLoad::Alone(turns),
-        turns,
-    )
+    let spent = counter_row(rt, alloc, kind, 17, CounterLoad::Waiting(16, thousandth))?;
+    tell(rt, "waiting_16", spent, thousandth.saturating_mul(16))?;
+    let spent = wide_row(rt, alloc, kind, 9, WideLoad::Chained(thousandth))?;
+    tell(rt, "chain_8", spent, thousandth.saturating_mul(8))?;
+    let spent = mixed_row(rt, alloc, kind, 9, thousandth)?;
+    tell(rt, "mixed_9", spent, thousandth.saturating_mul(WORKERS))?;
+    let spent = wide_row(rt, alloc, kind, 64, WideLoad::Alone(turns))?;
+    tell(rt, "wide_enter_leave", spent, turns)
 }
 
-// How many others are let in before a place of this door.
-macro_rules! others_on {
-    ($door:ident, $rt:ident, $alloc:ident, $turns:expr) => {{
-        let Ok((door, places)) = $door::make($alloc, uncounted(), 8) else {
-            return Err(no_memory());
-        };
-        doors::met($rt, &door, places, $turns)?
-    }};
-}
-
-// The same on the door of this kind.
+// How many others are let in before one of eight places.
 fn measure_others<R: Print + Threads + Wait + Sync>(
     rt: &R,
     alloc: Global,
     kind: DoorKind,
     turns: u64,
 ) -> io::Result<()> {
-    let found = match kind {
-        DoorKind::Baton => others_on!(Door, rt, alloc, turns / 10),
-        DoorKind::Ticket => others_on!(TicketDoor, rt, alloc, turns / 10),
-    };
+    let found = others_row(rt, alloc, kind, 8, turns / 10)?;
     all_met(&found).show(rt)
 }
 

@@ -1,4 +1,5 @@
-//! What one thread does with the procedures of the schedulers, over any monitor: a pair of them, again and again. A refusal ends it.
+//! What one thread does with the procedures of the schedulers, over any monitor: a pair of them, again and again, and how long
+//! that took. A refusal ends it.
 ghost use Rattle.std.specs.Prelude.{IfOk};
 
 use crate::turns::add_many;
@@ -9,7 +10,7 @@ use plain_schedulers::single::Single;
 use std::rt::Clock;
 use std::sync::Wait;
 use std::thread;
-use std::time::Duration;
+use std::time::{Duration, Instant};
 use sweep_schedulers::head::Head;
 use sweep_schedulers::readers_writers::{NoReader, ReadPass, ReadersWriters};
 use timed_schedulers::pool::Pool;
@@ -18,27 +19,29 @@ use timed_schedulers::pool::Pool;
 pub const CYLINDERS: u16 = 1024;
 
 /// Comes in, adds one and goes out.
-pub fn enter_leave<R: Wait, M: Monitor<Unasked<u64, 1>>>(
+pub fn enter_leave<R: Wait + Clock, M: Monitor<Unasked<u64, 1>>>(
     rt: &R,
     m: &M,
     out: M::Out,
     turns: u64,
-) -> anyhow::Result<()>
+) -> anyhow::Result<Duration>
     requires { M.is_of m.now out }
 {
+    let start = Instant::now(rt)?;
     add_many(rt, m, out, turns);
-    Ok(())
+    Ok(start.elapsed(rt)?)
 }
 
 /// Takes the item out and puts the next in.
-pub fn acquire_release<R: Wait, M: Monitor<Single<u64>>>(
+pub fn acquire_release<R: Wait + Clock, M: Monitor<Single<u64>>>(
     rt: &R,
     m: &M,
     out: M::Out,
     turns: u64,
-) -> anyhow::Result<()>
+) -> anyhow::Result<Duration>
     requires { M.is_of m.now out }
 {
+    let start = Instant::now(rt)?;
     let mut out = out;
     for _ in 0..turns {
         let (again, item) = Single::acquire(m, rt, out);
@@ -46,29 +49,30 @@ pub fn acquire_release<R: Wait, M: Monitor<Single<u64>>>(
         released?;
         out = again;
     }
-    Ok(())
+    Ok(start.elapsed(rt)?)
 }
 
 /// Puts the numbers below `turns` in, and takes each out again.
-pub fn append_remove<R: Wait, M: Monitor<Buffer<u64>>>(
+pub fn append_remove<R: Wait + Clock, M: Monitor<Buffer<u64>>>(
     rt: &R,
     m: &M,
     out: M::Out,
     turns: u64,
-) -> anyhow::Result<()>
+) -> anyhow::Result<Duration>
     requires { M.is_of m.now out }
 {
+    let start = Instant::now(rt)?;
     let mut out = out;
     for item in 0..turns {
         let again = Buffer::append(m, rt, out, item);
         let (again, _removed) = Buffer::remove(m, rt, again);
         out = again;
     }
-    Ok(())
+    Ok(start.elapsed(rt)?)
 }
 
-/// Takes `count` buffers for stream 0, and keeps them.
-pub fn take_many<R: Wait, M: Monitor<Pool>>(
+// Takes `count` buffers for stream 0, and keeps them.
+fn take_many<R: Wait, M: Monitor<Pool>>(
     rt: &R,
     m: &M,
     out: M::Out,
@@ -86,34 +90,37 @@ pub fn take_many<R: Wait, M: Monitor<Pool>>(
     Ok(out)
 }
 
-/// Takes a buffer for stream 0, and gives it back.
-pub fn take_give<R: Wait, M: Monitor<Pool>>(
+/// Takes a buffer for stream 0, and gives it back, after `kept` were taken that are kept.
+pub fn take_give<R: Wait + Clock, M: Monitor<Pool>>(
     rt: &R,
     m: &M,
     out: M::Out,
+    kept: u32,
     turns: u64,
-) -> anyhow::Result<()>
+) -> anyhow::Result<Duration>
     requires { M.is_of m.now out }
 {
-    let mut out = out;
+    let mut out = take_many(rt, m, out, kept)?;
+    let start = Instant::now(rt)?;
     for _ in 0..turns {
         let (again, taken) = Pool::take(m, rt, out, 0);
         let (again, given) = Pool::give(m, rt, again, 0, taken?);
         given?;
         out = again;
     }
-    Ok(())
+    Ok(start.elapsed(rt)?)
 }
 
 /// Takes the drive to the next cylinder, and puts it in again.
-pub fn request_release<R: Wait, M: Monitor<Head<u64>>>(
+pub fn request_release<R: Wait + Clock, M: Monitor<Head<u64>>>(
     rt: &R,
     m: &M,
     out: M::Out,
     turns: u64,
-) -> anyhow::Result<()>
+) -> anyhow::Result<Duration>
     requires { M.is_of m.now out }
 {
+    let start = Instant::now(rt)?;
     let mut out = out;
     for turn in 0..turns {
         let dest = (turn % u64::from(CYLINDERS)) as u16;
@@ -122,7 +129,7 @@ pub fn request_release<R: Wait, M: Monitor<Head<u64>>>(
         released?;
         out = again;
     }
-    Ok(())
+    Ok(start.elapsed(rt)?)
 }
 
 // Says that a read can't be ended, and never returns: a pass can't be let go, so who still has one can't return without it.
@@ -157,27 +164,29 @@ fn start_end_read<R: Wait + Eprint + Clock, M: Monitor<ReadersWriters<u64>>>(
     m: &M,
     out: M::Out,
     turns: u64,
-) -> anyhow::Result<()>
+) -> anyhow::Result<Duration>
     requires { M.is_of m.now out }
 {
+    let start = Instant::now(rt)?;
     let mut out = out;
     for _ in 0..turns {
         let (again, read) = ReadersWriters::start_read(m, rt, out);
         let (pass, _value) = read?;
         out = end_read(rt, m, again, pass);
     }
-    Ok(())
+    Ok(start.elapsed(rt)?)
 }
 
 // Goes in as the writer, and out again with the next value.
-fn start_end_write<R: Wait, M: Monitor<ReadersWriters<u64>>>(
+fn start_end_write<R: Wait + Clock, M: Monitor<ReadersWriters<u64>>>(
     rt: &R,
     m: &M,
     out: M::Out,
     turns: u64,
-) -> anyhow::Result<()>
+) -> anyhow::Result<Duration>
     requires { M.is_of m.now out }
 {
+    let start = Instant::now(rt)?;
     let mut out = out;
     for _ in 0..turns {
         let (again, value) = ReadersWriters::start_write(m, rt, out);
@@ -185,7 +194,7 @@ fn start_end_write<R: Wait, M: Monitor<ReadersWriters<u64>>>(
         written?;
         out = again;
     }
-    Ok(())
+    Ok(start.elapsed(rt)?)
 }
 
 /// How one thread goes in where data are read and written.
@@ -202,7 +211,7 @@ pub fn read_or_write<R: Wait + Eprint + Clock, M: Monitor<ReadersWriters<u64>>>(
     out: M::Out,
     visit: Visit,
     turns: u64,
-) -> anyhow::Result<()>
+) -> anyhow::Result<Duration>
     requires { M.is_of m.now out }
 {
     match visit {

@@ -1,18 +1,24 @@
 //! What is measured of the alarm clock, over any monitor: its procedures alone, and threads that sleep until the next tick.
 ghost use Rattle.std.specs.Prelude.{All};
 
+use baton_door::door::Door;
 use hoare_law::monitor::Monitor;
 use hoare_law::waits::Waits;
+use std::rt::Clock;
 use std::sync::Wait;
 use std::sync::atomic::{AtomicU64, Ordering};
 use std::thread;
 use std::thread::Threads;
+use std::time::{Duration, Instant};
+use ticket_door::door::TicketDoor;
 use timed_schedulers::alarm::Alarm;
 
 /// A monitor of an alarm clock that threads share.
 pub trait SharedAlarm: Monitor<Alarm> + Sync {}
 
-impl<M: Monitor<Alarm> + Sync> SharedAlarm for M {}
+impl SharedAlarm for Door<Alarm> {}
+
+impl SharedAlarm for TicketDoor<Alarm> {}
 
 // Sets the next time, `turns` times.
 fn tick_many<R: Wait, M: Monitor<Alarm>>(
@@ -60,20 +66,22 @@ pub enum AlarmCall {
     WakeAtOnce,
 }
 
-/// Calls it `turns` times.
-pub fn call_alarm<R: Wait, M: Monitor<Alarm>>(
+/// Calls it `turns` times: how long that took.
+pub fn call_alarm<R: Wait + Clock, M: Monitor<Alarm>>(
     rt: &R,
     m: &M,
     out: M::Out,
     call: AlarmCall,
     turns: u64,
-) -> anyhow::Result<()>
+) -> anyhow::Result<Duration>
     requires { M.is_of m.now out }
 {
+    let start = Instant::now(rt)?;
     match call {
-        AlarmCall::Tick => tick_many(rt, m, out, turns),
-        AlarmCall::WakeAtOnce => sleep_many(rt, m, out, 0, turns),
+        AlarmCall::Tick => tick_many(rt, m, out, turns)?,
+        AlarmCall::WakeAtOnce => sleep_many(rt, m, out, 0, turns)?,
     }
+    Ok(start.elapsed(rt)?)
 }
 
 // Ticks whenever all that aren't done sleep, until all are done. (At the last time nobody sleeps: so nobody is left sleeping where
@@ -108,17 +116,18 @@ fn tick_all<R: Wait, M: Monitor<Alarm>>(
 }
 
 /// All but the last to come sleep until the next tick, `turns` times; the last ticks whenever all of them sleep.
-pub fn sleep_and_tick<R: Threads + Wait + Sync, M: SharedAlarm>(
+pub fn sleep_and_tick<R: Threads + Wait + Clock + Sync, M: SharedAlarm>(
     rt: &R,
     m: &M,
     places: Vec<M::Out>,
     sleepers: u64,
     turns: u64,
-) -> anyhow::Result<()>
+) -> anyhow::Result<Duration>
 where
     M::Lists: Send,
     requires { All (M.is_of m.now) places.items }
 {
+    let start = Instant::now(rt)?;
     let (roles, done) = (AtomicU64::new(0), AtomicU64::new(0));
     let ended = thread::map_vec(
         rt,
@@ -138,5 +147,5 @@ where
     for one in ended {
         one?;
     }
-    Ok(())
+    Ok(start.elapsed(rt)?)
 }

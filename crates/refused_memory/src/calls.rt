@@ -28,21 +28,59 @@ const DATA: Tally = Tally { value: 7 };
 
 /// Does what has this name.
 pub fn call<R: Threads + Wait + Sync>(rt: &R, alloc: Global, name: &[u8]) -> Answer {
+    if let Some(answer) = makes_door(alloc, name) {
+        return answer;
+    }
+    if let Some(answer) = makes_data(alloc, name) {
+        return answer;
+    }
+    if let Some(answer) = does_script(alloc, name) {
+        return answer;
+    }
+    match does_service(rt, alloc, name) {
+        Some(answer) => answer,
+        None => Answer::Unknown,
+    }
+}
+
+// The doors.
+fn makes_door(alloc: Global, name: &[u8]) -> Option<Answer> {
     match name {
-        b"Book::make" => makes_book(alloc),
-        b"hoare_script::run" => runs_script(alloc),
-        b"Door::make" => door_answer(Door::make(alloc, DATA, 3)),
-        b"TicketDoor::make" => door_answer(TicketDoor::make(alloc, DATA, 3)),
-        b"laws::make_at" => door_answer(make_at(alloc, DATA, 3, 5)),
-        b"Buffer::make" => makes_buffer(alloc),
-        b"Pool::make" => makes_pool(alloc),
-        b"Fake::of" => makes_fake(alloc),
-        b"read_jobs" => reads_jobs(alloc),
-        b"serve" => serves(rt, alloc, Kind::Baton),
-        b"serve_tickets" => serves(rt, alloc, Kind::Ticket),
-        b"disk_service::run baton" => runs(rt, alloc, Kind::Baton),
-        b"disk_service::run ticket" => runs(rt, alloc, Kind::Ticket),
-        _ => Answer::Unknown,
+        b"Door::make" => Some(door_answer(Door::make(alloc, DATA, 3))),
+        b"TicketDoor::make" => Some(door_answer(TicketDoor::make(alloc, DATA, 3))),
+        b"laws::make_at" => Some(door_answer(make_at(alloc, DATA, 3, 5))),
+        _ => None,
+    }
+}
+
+// What is made of data.
+fn makes_data(alloc: Global, name: &[u8]) -> Option<Answer> {
+    match name {
+        b"Buffer::make" => Some(makes_buffer(alloc)),
+        b"Pool::make" => Some(makes_pool(alloc)),
+        b"Fake::of" => Some(makes_fake(alloc)),
+        _ => None,
+    }
+}
+
+// Books, scripts and job files.
+fn does_script(alloc: Global, name: &[u8]) -> Option<Answer> {
+    match name {
+        b"Book::make" => Some(makes_book(alloc)),
+        b"hoare_script::run" => Some(runs_script(alloc)),
+        b"read_jobs" => Some(reads_jobs(alloc)),
+        _ => None,
+    }
+}
+
+// The services.
+fn does_service<R: Threads + Wait + Sync>(rt: &R, alloc: Global, name: &[u8]) -> Option<Answer> {
+    match name {
+        b"serve" => Some(serves(rt, alloc, Kind::Baton)),
+        b"serve_tickets" => Some(serves(rt, alloc, Kind::Ticket)),
+        b"disk_service::run baton" => Some(runs(rt, alloc, Kind::Baton)),
+        b"disk_service::run ticket" => Some(runs(rt, alloc, Kind::Ticket)),
+        _ => None,
     }
 }
 

@@ -1,0 +1,88 @@
+//! The doors that are measured: each is made with its data, over any data.
+ghost use Rattle.std.specs.Prelude.{All, IfOk};
+ghost use Rattle.hoare_law.specs.Priorities.{nobody};
+
+use baton_door::door::Door;
+use baton_door::place::DoorOut;
+use hoare_law::data::MonitorData;
+use hoare_law::monitor::Monitor;
+use std::alloc::{AllocError, Global};
+use std::io;
+use ticket_door::door::TicketDoor;
+use ticket_door::place::TicketOut;
+
+/// Which door is measured.
+#[derive(Clone, Copy)]
+pub enum DoorKind {
+    Baton,
+    Ticket,
+}
+
+/// What is said where there is no memory.
+pub fn no_memory() -> io::Error {
+    io::Error::from(AllocError)
+}
+
+/// A baton door, and its places.
+pub fn baton<D: MonitorData + Send + Drop>(
+    alloc: Global,
+    state: D,
+    places: usize,
+) -> io::Result<(Door<D>, Vec<DoorOut<D>>)>
+    requires { D.rest state nobody }
+    ensures { IfOk result (λ r. All (⟦<Door<D> as Monitor<D>>⟧.is_of r.0) r.1.items) }
+{
+    match Door::make(alloc, state, places) {
+        Ok(made) => Ok(made),
+        Err(_refused) => Err(no_memory()),
+    }
+}
+
+/// A ticket door, and its places.
+pub fn ticket<D: MonitorData + Send + Drop>(
+    alloc: Global,
+    state: D,
+    places: usize,
+) -> io::Result<(TicketDoor<D>, Vec<TicketOut<D>>)>
+    requires { D.rest state nobody }
+    ensures { IfOk result (λ r. All (⟦<TicketDoor<D> as Monitor<D>>⟧.is_of r.0) r.1.items) }
+{
+    match TicketDoor::make(alloc, state, places) {
+        Ok(made) => Ok(made),
+        Err(_refused) => Err(no_memory()),
+    }
+}
+
+// The last of a door's places. An error where there is none.
+fn last_place<D: MonitorData, M: Monitor<D>>(m: &M, mut places: Vec<M::Out>) -> io::Result<M::Out>
+    requires { All (M.is_of m.now) places.items }
+    ensures { IfOk result (λ o. M.is_of m.now o) }
+{
+    places.pop().ok_or(no_memory())
+}
+
+/// A baton door of one place.
+pub fn one_baton<D: MonitorData + Send + Drop>(
+    alloc: Global,
+    state: D,
+) -> io::Result<(Door<D>, DoorOut<D>)>
+    requires { D.rest state nobody }
+    ensures { IfOk result (λ r. ⟦<Door<D> as Monitor<D>>⟧.is_of r.0 r.1) }
+{
+    let (door, places) = baton(alloc, state, 1)?;
+    let out = last_place(&door, places)?;
+    Ok((door, out))
+}
+
+/// A ticket door of one place.
+pub fn one_ticket<D: MonitorData + Send + Drop>(
+    alloc: Global,
+    state: D,
+) -> io::Result<(TicketDoor<D>, TicketOut<D>)>
+    requires { D.rest state nobody }
+    ensures { IfOk result (λ r. ⟦<TicketDoor<D> as Monitor<D>>⟧.is_of r.0 r.1) }
+{
+    let (door, places) = ticket(alloc, state, 1)?;
+    let out = last_place(&door, places)?;
+    Ok((door, out))
+}

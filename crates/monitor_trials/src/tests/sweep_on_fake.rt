@@ -80,12 +80,12 @@ fn reads_and_writes<R: Wait + Abort>(rt: &R, alloc: Global) -> Result<(), AllocE
 }
 
 // Takes the data out of a monitor, and leaves others there.
-fn take_data<R: Wait, M: Monitor<Shared>>(rt: &R, m: &M, out: M::Out) -> Shared
-    requires { M.is_of m.now out }
+fn take_data<R: Wait>(rt: &R, fake: &Fake<Shared>, out: FakeOut<Shared>) -> Shared
+    requires { ⟦<Fake<Shared> as Monitor<Shared>>⟧.is_of fake.now out }
 {
-    let mut inside = m.enter(rt, out);
-    let shared = replace(M::state_mut(&mut inside, m), ReadersWriters::with(0));
-    m.leave(rt, inside);
+    let mut inside = fake.enter(rt, out);
+    let shared = replace(Fake::state_mut(&mut inside, fake), ReadersWriters::with(0));
+    fake.leave(rt, inside);
     shared
 }
 

@@ -1,9 +1,25 @@
 // Each row is a line with its answer, as it is written.
 use super::told;
 use crate::ScriptFault;
+use std::io;
 use std::io::Write;
 use std::process::Abort;
 use std::test::Fail;
+
+// Runs the script, whose answers are these.
+fn is_answered<R: Abort + AllocGlobal>(rt: &R, script: &[u8], answers: &[u8]) {
+    let (result, written) = told(rt.alloc(), script);
+    assert_eq!(rt; result, Ok(()));
+    assert_eq!(rt; written.as_slice(), answers);
+}
+
+// Adds the row's line to the script, and the row to the answers.
+fn add_row<W: Write>(script: &mut W, answers: &mut W, row: &str) -> Result<(), Fail> {
+    let (line, _) = row.split_once(" -> ").ok_or("a row without an answer")?;
+    writeln!(script, "{line}")?;
+    writeln!(answers, "{row}")?;
+    Ok(())
+}
 
 // Runs the script of a header and of the rows' lines, whose answers are the rows.
 fn check<R: Abort + AllocGlobal>(rt: &R, header: &str, rows: &[&str]) -> Result<(), Fail> {
@@ -11,13 +27,9 @@ fn check<R: Abort + AllocGlobal>(rt: &R, header: &str, rows: &[&str]) -> Result<
     let mut answers = Vec::new(rt.alloc());
     writeln!(script, "{header}")?;
     for row in rows {
-        let (line, _) = row.split_once(" -> ").ok_or("a row without an answer")?;
-        writeln!(script, "{line}")?;
-        writeln!(answers, "{row}")?;
+        add_row(&mut script, &mut answers, row)?;
     }
-    let (result, written) = told(rt.alloc(), script.as_slice());
-    assert_eq!(rt; result, Ok(()));
-    assert_eq!(rt; written.as_slice(), answers.as_slice());
+    is_answered(rt, script.as_slice(), answers.as_slice());
     Ok(())
 }
 
@@ -161,31 +173,40 @@ fn pass_and_leave(rt: HostRuntime) -> Result<(), Fail> {
     check(&rt, "monitor 2 1", &rows)
 }
 
+// The place comes in and waits.
+fn add_waiter<W: Write>(
+    script: &mut W,
+    answers: &mut W,
+    place: u64,
+    priority: u64,
+) -> io::Result<()> {
+    writeln!(script, "enter {place}\nwait {place} 0 {priority}")?;
+    writeln!(
+        answers,
+        "enter {place} -> {place}\nwait {place} 0 {priority} -> free"
+    )
+}
+
+// Place 63 resumes the place, which leaves.
+fn add_resumption<W: Write>(script: &mut W, answers: &mut W, place: u64) -> io::Result<()> {
+    writeln!(script, "signal 63 0\nleave {place}")?;
+    writeln!(answers, "signal 63 0 -> {place}\nleave {place} -> 63")
+}
+
 // Places 0 to 62 wait with priorities 62 to 0, and the last place resumes them from 62 down to 0.
 #[test]
 fn sixty_three_priorities(rt: HostRuntime) -> Result<(), Fail> {
-    let mut script = Vec::new(rt.alloc());
+    let mut script = b"monitor 64 8\n".to_vec(rt.alloc())?;
     let mut answers = Vec::new(rt.alloc());
-    writeln!(script, "monitor 64 8")?;
     for place in 0..63u64 {
-        let priority = 62 - place;
-        writeln!(script, "enter {place}\nwait {place} 0 {priority}")?;
-        writeln!(
-            answers,
-            "enter {place} -> {place}\nwait {place} 0 {priority} -> free"
-        )?;
+        add_waiter(&mut script, &mut answers, place, 62 - place)?;
     }
-    writeln!(script, "enter 63")?;
-    writeln!(answers, "enter 63 -> 63")?;
+    add_row(&mut script, &mut answers, "enter 63 -> 63")?;
     for place in (0..63u64).rev() {
-        writeln!(script, "signal 63 0\nleave {place}")?;
-        writeln!(answers, "signal 63 0 -> {place}\nleave {place} -> 63")?;
+        add_resumption(&mut script, &mut answers, place)?;
     }
-    writeln!(script, "leave 63")?;
-    writeln!(answers, "leave 63 -> free")?;
-    let (result, written) = told(rt.alloc(), script.as_slice());
-    assert_eq!(rt; result, Ok(()));
-    assert_eq!(rt; written.as_slice(), answers.as_slice());
+    add_row(&mut script, &mut answers, "leave 63 -> free")?;
+    is_answered(&rt, script.as_slice(), answers.as_slice());
     Ok(())
 }
 

@@ -2,13 +2,13 @@
 ghost use Rattle.std.specs.Prelude.{◌≡◌};
 ghost use Rattle.disk_service.specs.Doors.{IsSeat};
 
-use crate::data::{Board, Item};
+use crate::board::write;
+use crate::data::Item;
 use crate::doors::Doors;
 use crate::seat::Seat;
 use disk_jobs::jobs::Jobs;
 use plain_schedulers::buffer::Buffer;
 use std::sync::Wait;
-use sweep_schedulers::readers_writers::ReadersWriters;
 
 /// Hands the numbers of the jobs on, in order. The seat comes back.
 pub(crate) fn hand_on_jobs<R: Wait>(rt: &R, doors: &Doors, jobs: &Jobs, seat: Seat) -> Seat
@@ -45,14 +45,9 @@ pub(crate) fn close_board<R: Wait>(rt: &R, doors: &Doors, seat: Seat) -> Seat
 {
     let mut seat = seat;
     for _ in rt.forever() {
-        let (place, board) = ReadersWriters::start_write(&doors.board, rt, seat.board);
-        let last = Board {
-            done: board.done,
-            closed: true,
-        };
-        let (place, ended) = ReadersWriters::end_write(&doors.board, rt, place, last);
-        seat.board = place;
-        if ended.is_ok() {
+        let (back, closed) = write(rt, doors, seat, 0, true);
+        seat = back;
+        if closed {
             return seat;
         }
     }

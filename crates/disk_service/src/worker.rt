@@ -2,17 +2,18 @@
 ghost use Rattle.std.specs.Prelude.{◌≡◌};
 ghost use Rattle.disk_service.specs.Doors.{IsSeat};
 
-use crate::data::{Board, Item};
+use crate::board::write;
+use crate::data::{Drive, Item, Totals};
 use crate::doors::Doors;
 use crate::gate::Gate;
 use crate::seat::Seat;
 use disk_jobs::done::Done;
 use disk_jobs::jobs::Jobs;
+use hoare_law::monitor::Monitor;
 use plain_schedulers::buffer::Buffer;
 use plain_schedulers::single::Single;
 use std::sync::Wait;
 use sweep_schedulers::head::Head;
-use sweep_schedulers::readers_writers::ReadersWriters;
 use timed_schedulers::alarm::Alarm;
 use timed_schedulers::pool::Pool;
 
@@ -76,7 +77,7 @@ fn serve_job<R: Wait>(
     if !counted {
         return (seat, None);
     }
-    let (seat, noted) = add_to_board(rt, doors, seat);
+    let (seat, noted) = write(rt, doors, seat, 1, false);
     (seat, noted.then_some(done))
 }
 
@@ -104,7 +105,7 @@ fn read_into_buffer<R: Wait>(
     (seat, if given.is_ok() { read } else { None })
 }
 
-// Reads the block of a job with the drive, which it has for a tick of the clock.
+// Reads the block of a job with the drive.
 fn read_block<R: Wait>(
     rt: &R,
     doors: &Doors,
@@ -117,18 +118,38 @@ fn read_block<R: Wait>(
     ensures number { result.0.number ≡ seat.number }
 {
     let mut seat = seat;
-    let (head, requested) = Head::request(&doors.head, rt, seat.head, cylinder);
-    seat.head = head;
+    let places = (seat.head, seat.clock);
+    let (places, read) = use_drive(&doors.head, &doors.clock, rt, places, job, cylinder);
+    (seat.head, seat.clock) = places;
+    (seat, read)
+}
+
+// Reads the block of a job with the drive of this monitor, which it has for a tick of the clock.
+fn use_drive<R: Wait, H: Monitor<Head<Drive>>, C: Monitor<Alarm>>(
+    head: &H,
+    clock: &C,
+    rt: &R,
+    places: (H::Out, C::Out),
+    job: u32,
+    cylinder: u16,
+) -> ((H::Out, C::Out), Option<Done>)
+    requires head { H.is_of head.now places.0 }
+    requires clock { C.is_of clock.now places.1 }
+    ensures head { H.is_of head.now result.0.0 }
+    ensures clock { C.is_of clock.now result.0.1 }
+    ensures head_place { H.place result.0.0 ≡ H.place places.0 }
+    ensures clock_place { C.place result.0.1 ≡ C.place places.1 }
+{
+    let (at_head, at_clock) = places;
+    let (at_head, requested) = Head::request(head, rt, at_head, cylinder);
     let Ok(drive) = requested else {
-        return (seat, None);
+        return ((at_head, at_clock), None);
     };
     let done = drive.read(job, cylinder);
-    let (clock, woke) = Alarm::wakeme(&doors.clock, rt, seat.clock, 1);
-    seat.clock = clock;
-    let (head, released) = Head::release(&doors.head, rt, seat.head, drive);
-    seat.head = head;
+    let (at_clock, woke) = Alarm::wakeme(clock, rt, at_clock, 1);
+    let (at_head, released) = Head::release(head, rt, at_head, drive);
     let served = woke.is_ok() && released.is_ok();
-    (seat, served.then_some(done))
+    ((at_head, at_clock), served.then_some(done))
 }
 
 // Adds a job to the totals: whether they took it.
@@ -138,27 +159,24 @@ fn add_to_totals<R: Wait>(rt: &R, doors: &Doors, seat: Seat, done: Done) -> (Sea
     ensures number { result.0.number ≡ seat.number }
 {
     let mut seat = seat;
-    let (place, totals) = Single::acquire(&doors.totals, rt, seat.totals);
-    let sum = totals.with(done);
-    let (place, released) = Single::release(&doors.totals, rt, place, sum.unwrap_or(totals));
+    let (place, added) = add_to(&doors.totals, rt, seat.totals, done);
     seat.totals = place;
-    (seat, sum.is_some() && released.is_ok())
+    (seat, added)
 }
 
-// Adds one job to those that the board says are done: whether it took it.
-fn add_to_board<R: Wait>(rt: &R, doors: &Doors, seat: Seat) -> (Seat, bool)
-    requires { IsSeat doors.now seat }
-    ensures of { IsSeat doors.now result.0 }
-    ensures number { result.0.number ≡ seat.number }
+// Adds a job to the totals of this monitor: whether they took it.
+fn add_to<R: Wait, M: Monitor<Single<Totals>>>(
+    m: &M,
+    rt: &R,
+    out: M::Out,
+    done: Done,
+) -> (M::Out, bool)
+    requires { M.is_of m.now out }
+    ensures of { M.is_of m.now result.0 }
+    ensures place { M.place result.0 ≡ M.place out }
 {
-    let mut seat = seat;
-    let (place, board) = ReadersWriters::start_write(&doors.board, rt, seat.board);
-    let done = board.done.checked_add(1);
-    let next = Board {
-        done: done.unwrap_or(board.done),
-        closed: board.closed,
-    };
-    let (place, ended) = ReadersWriters::end_write(&doors.board, rt, place, next);
-    seat.board = place;
-    (seat, done.is_some() && ended.is_ok())
+    let (out, totals) = Single::acquire(m, rt, out);
+    let sum = totals.with(done);
+    let (out, released) = Single::release(m, rt, out, sum.unwrap_or(totals));
+    (out, sum.is_some() && released.is_ok())
 }

@@ -34,20 +34,52 @@ pub(crate) fn work<R: Wait, G: Gate>(
     let mut seat = seat;
     let mut kept = room;
     for _ in rt.forever() {
-        let (items, item) = Buffer::remove(&doors.items, rt, seat.items);
-        seat.items = items;
-        let Item::Job(job) = item else {
+        let (place, job) = next_job(&doors.items, rt, seat.items);
+        seat.items = place;
+        let Some(job) = job else {
             return (seat, kept);
         };
-        gate.begin(job as usize);
-        if let Some(cylinder) = jobs.cylinders().get(job as usize) {
-            let (back, done) = serve_job(rt, doors, seat, job, *cylinder);
-            seat = back;
-            keep(&mut kept, done);
-        }
-        gate.end(job as usize);
+        seat = do_job(rt, gate, jobs, doors, seat, job, &mut kept);
     }
     unreachable!()
+}
+
+// The next job of this buffer, unless the worker is told to stop.
+fn next_job<R: Wait, M: Monitor<Buffer<Item>>>(m: &M, rt: &R, out: M::Out) -> (M::Out, Option<u32>)
+    requires { M.is_of m.now out }
+    ensures of { M.is_of m.now result.0 }
+    ensures place { M.place result.0 ≡ M.place out }
+{
+    let (out, item) = Buffer::remove(m, rt, out);
+    match item {
+        Item::Job(job) => (out, Some(job)),
+        Item::Stop => (out, None),
+    }
+}
+
+// Does a job, with the gate's calls around it, and keeps what is done.
+fn do_job<R: Wait, G: Gate>(
+    rt: &R,
+    gate: &G,
+    jobs: &Jobs,
+    doors: &Doors,
+    seat: Seat,
+    job: u32,
+    kept: &mut Vec<Done>,
+) -> Seat
+    requires { IsSeat doors.now seat }
+    ensures of { IsSeat doors.now result }
+    ensures number { result.number ≡ seat.number }
+{
+    let mut seat = seat;
+    gate.begin(job as usize);
+    if let Some(cylinder) = jobs.cylinders().get(job as usize) {
+        let (back, done) = serve_job(rt, doors, seat, job, *cylinder);
+        seat = back;
+        keep(kept, done);
+    }
+    gate.end(job as usize);
+    seat
 }
 
 // Keeps what is done, where there is room.
@@ -94,15 +126,46 @@ fn read_into_buffer<R: Wait>(
     ensures number { result.0.number ≡ seat.number }
 {
     let mut seat = seat;
-    let (pool, taken) = Pool::take(&doors.pool, rt, seat.pool, seat.number);
-    seat.pool = pool;
-    let Ok(buffer) = taken else {
+    let (place, taken) = take_buffer(&doors.pool, rt, seat.pool, seat.number);
+    seat.pool = place;
+    let Some(buffer) = taken else {
         return (seat, None);
     };
     let (mut seat, read) = read_block(rt, doors, seat, job, cylinder);
-    let (pool, given) = Pool::give(&doors.pool, rt, seat.pool, seat.number, buffer);
-    seat.pool = pool;
-    (seat, if given.is_ok() { read } else { None })
+    let (place, given) = give_buffer(&doors.pool, rt, seat.pool, seat.number, buffer);
+    seat.pool = place;
+    (seat, if given { read } else { None })
+}
+
+// Takes a buffer of this pool, unless that is refused.
+fn take_buffer<R: Wait, M: Monitor<Pool>>(
+    m: &M,
+    rt: &R,
+    out: M::Out,
+    stream: u32,
+) -> (M::Out, Option<u32>)
+    requires { M.is_of m.now out }
+    ensures of { M.is_of m.now result.0 }
+    ensures place { M.place result.0 ≡ M.place out }
+{
+    let (out, taken) = Pool::take(m, rt, out, stream);
+    (out, taken.ok())
+}
+
+// Gives a buffer of this pool back: whether it took it.
+fn give_buffer<R: Wait, M: Monitor<Pool>>(
+    m: &M,
+    rt: &R,
+    out: M::Out,
+    stream: u32,
+    buffer: u32,
+) -> (M::Out, bool)
+    requires { M.is_of m.now out }
+    ensures of { M.is_of m.now result.0 }
+    ensures place { M.place result.0 ≡ M.place out }
+{
+    let (out, given) = Pool::give(m, rt, out, stream, buffer);
+    (out, given.is_ok())
 }
 
 // Reads the block of a job with the drive.

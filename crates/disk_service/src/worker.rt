@@ -113,7 +113,7 @@ fn serve_job<R: Wait>(
     (seat, noted.then_some(done))
 }
 
-// Reads the block of a job into a buffer of the pool, which it gives back.
+// Reads the block of a job into a buffer of the pool, with the drive.
 fn read_into_buffer<R: Wait>(
     rt: &R,
     doors: &Doors,
@@ -126,65 +126,43 @@ fn read_into_buffer<R: Wait>(
     ensures number { result.0.number ≡ seat.number }
 {
     let mut seat = seat;
-    let (place, taken) = take_buffer(&doors.pool, rt, seat.pool, seat.number);
-    seat.pool = place;
-    let Some(buffer) = taken else {
-        return (seat, None);
-    };
-    let (mut seat, read) = read_block(rt, doors, seat, job, cylinder);
-    let (place, given) = give_buffer(&doors.pool, rt, seat.pool, seat.number, buffer);
-    seat.pool = place;
-    (seat, if given { read } else { None })
-}
-
-// Takes a buffer of this pool, unless that is refused.
-fn take_buffer<R: Wait, M: Monitor<Pool>>(
-    m: &M,
-    rt: &R,
-    out: M::Out,
-    stream: u32,
-) -> (M::Out, Option<u32>)
-    requires { M.is_of m.now out }
-    ensures of { M.is_of m.now result.0 }
-    ensures place { M.place result.0 ≡ M.place out }
-{
-    let (out, taken) = Pool::take(m, rt, out, stream);
-    (out, taken.ok())
-}
-
-// Gives a buffer of this pool back: whether it took it.
-fn give_buffer<R: Wait, M: Monitor<Pool>>(
-    m: &M,
-    rt: &R,
-    out: M::Out,
-    stream: u32,
-    buffer: u32,
-) -> (M::Out, bool)
-    requires { M.is_of m.now out }
-    ensures of { M.is_of m.now result.0 }
-    ensures place { M.place result.0 ≡ M.place out }
-{
-    let (out, given) = Pool::give(m, rt, out, stream, buffer);
-    (out, given.is_ok())
-}
-
-// Reads the block of a job with the drive.
-fn read_block<R: Wait>(
-    rt: &R,
-    doors: &Doors,
-    seat: Seat,
-    job: u32,
-    cylinder: u16,
-) -> (Seat, Option<Done>)
-    requires { IsSeat doors.now seat }
-    ensures of { IsSeat doors.now result.0 }
-    ensures number { result.0.number ≡ seat.number }
-{
-    let mut seat = seat;
-    let places = (seat.head, seat.clock);
-    let (places, read) = use_drive(&doors.head, &doors.clock, rt, places, job, cylinder);
-    (seat.head, seat.clock) = places;
+    let places = (seat.pool, seat.head, seat.clock);
+    let block = (job, cylinder);
+    let (pool, head, clock) = (&doors.pool, &doors.head, &doors.clock);
+    let (places, read) = use_buffer(pool, head, clock, rt, places, seat.number, block);
+    (seat.pool, seat.head, seat.clock) = places;
     (seat, read)
+}
+
+// Reads the block of a job into a buffer of this pool, which it gives back, with the drive of this head.
+fn use_buffer<R: Wait, P: Monitor<Pool>, H: Monitor<Head<Drive>>, C: Monitor<Alarm>>(
+    pool: &P,
+    head: &H,
+    clock: &C,
+    rt: &R,
+    places: (P::Out, H::Out, C::Out),
+    stream: u32,
+    block: (u32, u16),
+) -> ((P::Out, H::Out, C::Out), Option<Done>)
+    requires pool { P.is_of pool.now places.0 }
+    requires head { H.is_of head.now places.1 }
+    requires clock { C.is_of clock.now places.2 }
+    ensures pool { P.is_of pool.now result.0.0 }
+    ensures head { H.is_of head.now result.0.1 }
+    ensures clock { C.is_of clock.now result.0.2 }
+    ensures pool_place { P.place result.0.0 ≡ P.place places.0 }
+    ensures head_place { H.place result.0.1 ≡ H.place places.1 }
+    ensures clock_place { C.place result.0.2 ≡ C.place places.2 }
+{
+    let (at_pool, at_head, at_clock) = places;
+    let (at_pool, taken) = Pool::take(pool, rt, at_pool, stream);
+    let Ok(buffer) = taken else {
+        return ((at_pool, at_head, at_clock), None);
+    };
+    let ((at_head, at_clock), read) = use_drive(head, clock, rt, (at_head, at_clock), block);
+    let (at_pool, given) = Pool::give(pool, rt, at_pool, stream, buffer);
+    let kept = if given.is_ok() { read } else { None };
+    ((at_pool, at_head, at_clock), kept)
 }
 
 // Reads the block of a job with the drive of this monitor, which it has for a tick of the clock.
@@ -193,8 +171,7 @@ fn use_drive<R: Wait, H: Monitor<Head<Drive>>, C: Monitor<Alarm>>(
     clock: &C,
     rt: &R,
     places: (H::Out, C::Out),
-    job: u32,
-    cylinder: u16,
+    block: (u32, u16),
 ) -> ((H::Out, C::Out), Option<Done>)
     requires head { H.is_of head.now places.0 }
     requires clock { C.is_of clock.now places.1 }
@@ -204,6 +181,7 @@ fn use_drive<R: Wait, H: Monitor<Head<Drive>>, C: Monitor<Alarm>>(
     ensures clock_place { C.place result.0.1 ≡ C.place places.1 }
 {
     let (at_head, at_clock) = places;
+    let (job, cylinder) = block;
     let (at_head, requested) = Head::request(head, rt, at_head, cylinder);
     let Ok(drive) = requested else {
         return ((at_head, at_clock), None);

@@ -1,5 +1,4 @@
-use Rattle.std.proofs.Common.{arith, rules, ◌≡◌, ◌+◌, sym}
-use Rattle.disk_service.specs.Doors.{AreThere, IsSeat}
+use Rattle.std.proofs.Common.{arith, rules, ◌≡◌, ◌+◌}
 use Rattle.disk_service.proofs.Seats.{there-at}
 use Rattle.disk_service.proofs.threads.with_clock.Goals as goal
 
@@ -36,6 +35,3 @@ with_workers-mine-requires-clause-seat g c =
     let workers = c.workers-workers.ensures.value in
     let there = there-at (c.args.jobs.now.workers + 2) (c.workers-workers.result + 1 + 1) (omega arith) c.requires.places in
     λ _ _. c.take_seat-mine.ensures.seat _ there
-
-pub returns-clause-places : goal.returns-clause-places
-returns-clause-places g c = search rules

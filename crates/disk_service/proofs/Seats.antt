@@ -5,7 +5,9 @@ use Rattle.hoare_law.specs.declared.event.History.{History}
 use Rattle.door_frame.specs.Places.{DoorId, PlaceOut, IsOut, places_from, HasPlace}
 use Rattle.disk_service.specs.declared.doors.Doors.{Doors}
 use Rattle.disk_service.specs.declared.places.Places.{Places}
+use Rattle.disk_service.specs.declared.threads.Desk.{Desk}
 use Rattle.disk_service.specs.Doors.{Terms, IsAt, AreFirst, AreThere}
+use Rattle.disk_service.specs.Desks.{IsStaffed}
 
 module _ {D : Type 0} where
   length-places : (door : DoorId) (k n : ℕ) (f : History D) → length (places_from door.table k n f) ≡ n
@@ -46,3 +48,6 @@ module _ {D : Type 0} where
 -- the same number, in other words
 pub there-at : {d : Doors} {p : Places} (n m : ℕ) → n ≡ m → AreThere d n p → AreThere d m p
 there-at n m e there = rw (sym e) there
+
+pub staffed-at : {d : Doors} {k : Desk} (n m : ℕ) → n ≡ m → IsStaffed d n k → IsStaffed d m k
+staffed-at n m e staffed = rw (sym e) staffed

@@ -1,3 +1,4 @@
 pub mod Doors
 pub mod Desks
 pub mod Runs
+pub mod Made

@@ -46,3 +46,14 @@ pub(crate) struct Board {
     pub done: u32,
     pub closed: bool,
 }
+
+impl Board {
+    /// The board with `more` jobs done, closed if this is the `last` word, unless a number is past its type.
+    pub(crate) fn with(self, more: u32, last: bool) -> Option<Board> {
+        let done = self.done.checked_add(more)?;
+        Some(Board {
+            done,
+            closed: self.closed || last,
+        })
+    }
+}

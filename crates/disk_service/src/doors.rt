@@ -1,6 +1,7 @@
 //! The six doors of the service.
 ghost use Rattle.std.specs.Prelude.{◌≡◌, ◌+◌, ◌≤◌, IfOk, IfErr};
-ghost use Rattle.disk_service.specs.Doors.{AreSized, AreThere};
+ghost use Rattle.disk_service.specs.Made.{IsMade};
+ghost use Rattle.disk_service.specs.Doors.{AreSized, AreThere, board_terms, clock_terms, head_terms, items_terms, pool_terms, totals_terms};
 
 use crate::any_door::AnyDoor;
 use crate::data::{Board, Drive, Item, Totals};
@@ -8,6 +9,7 @@ use crate::places::Places;
 use disk_jobs::fault::ServiceFault;
 use disk_jobs::jobs::Jobs;
 use disk_jobs::kind::Kind;
+use door_frame::place::Outside;
 use plain_schedulers::buffer::Buffer;
 use plain_schedulers::single::Single;
 use std::alloc::Global;
@@ -48,44 +50,23 @@ impl Doors {
         ensures places { IfOk result (λ r. AreThere r.0 count r.1) }
         ensures fault { IfErr result (λ f. f ≡ ServiceFault.Memory) }
     {
-        let workers = jobs.workers();
-        let Ok(cells) = Buffer::make(alloc, CELLS) else {
-            return Err(ServiceFault::Memory);
-        };
-        let Ok(buffers) = Pool::make(alloc, (workers + 1) / 2, workers) else {
-            return Err(ServiceFault::Memory);
-        };
-        let disk = Head::with(Drive, jobs.cylmax());
-        let note = Board {
-            done: 0,
-            closed: false,
-        };
-        let (items, items_places) = AnyDoor::make(alloc, kind, cells, count)?;
-        let (clock, clock_places) = AnyDoor::make(alloc, kind, Alarm::at(0), count)?;
-        let (pool, pool_places) = AnyDoor::make(alloc, kind, buffers, count)?;
-        let (head, head_places) = AnyDoor::make(alloc, kind, disk, count)?;
-        let (totals, totals_places) = AnyDoor::make(
-            alloc,
-            kind,
-            Single::with(Totals::NONE),
-            count,
-        )?;
-        let (board, board_places) = AnyDoor::make(alloc, kind, ReadersWriters::with(note), count)?;
+        let (items, clock, pool) = first_doors(alloc, kind, jobs, count)?;
+        let (head, totals, board) = other_doors(alloc, kind, jobs.cylmax(), count)?;
         let doors = Doors {
-            items,
-            clock,
-            pool,
-            head,
-            totals,
-            board,
+            items: items.0,
+            clock: clock.0,
+            pool: pool.0,
+            head: head.0,
+            totals: totals.0,
+            board: board.0,
         };
         let places = Places {
-            items: items_places,
-            clock: clock_places,
-            pool: pool_places,
-            head: head_places,
-            totals: totals_places,
-            board: board_places,
+            items: items.1,
+            clock: clock.1,
+            pool: pool.1,
+            head: head.1,
+            totals: totals.1,
+            board: board.1,
         };
         Ok((doors, places))
     }
@@ -111,4 +92,83 @@ impl Doors {
         let board = board.close(places.board).into_value();
         (totals, board)
     }
+}
+
+// A door and its places.
+type Made<D> = (AnyDoor<D>, Vec<Outside<D>>);
+
+// The doors of the jobs that wait, of the time, and of the buffers, and their places.
+fn first_doors(
+    alloc: Global,
+    kind: Kind,
+    jobs: &Jobs,
+    count: usize,
+) -> Result<(Made<Buffer<Item>>, Made<Alarm>, Made<Pool>), ServiceFault>
+    ensures items { IfOk result (λ r. IsMade items_terms count r.0.0 r.0.1.items) }
+    ensures clock { IfOk result (λ r. IsMade clock_terms count r.1.0 r.1.1.items) }
+    ensures pool { IfOk result (λ r. IsMade pool_terms count r.2.0 r.2.1.items) }
+    ensures fault { IfErr result (λ f. f ≡ ServiceFault.Memory) }
+{
+    let items = items_door(alloc, kind, count)?;
+    let clock = AnyDoor::make(alloc, kind, Alarm::at(0), count)?;
+    let pool = pool_door(alloc, kind, jobs, count)?;
+    Ok((items, clock, pool))
+}
+
+// The door of the jobs that wait for a worker, and its places.
+fn items_door(alloc: Global, kind: Kind, count: usize) -> Result<Made<Buffer<Item>>, ServiceFault>
+    ensures made { IfOk result (λ r. IsMade items_terms count r.0 r.1.items) }
+    ensures fault { IfErr result (λ f. f ≡ ServiceFault.Memory) }
+{
+    match Buffer::make(alloc, CELLS) {
+        Ok(cells) => AnyDoor::make(alloc, kind, cells, count),
+        Err(_) => Err(ServiceFault::Memory),
+    }
+}
+
+// The door of the buffers that blocks are read into, one for two workers, and its places.
+fn pool_door(
+    alloc: Global,
+    kind: Kind,
+    jobs: &Jobs,
+    count: usize,
+) -> Result<Made<Pool>, ServiceFault>
+    ensures made { IfOk result (λ r. IsMade pool_terms count r.0 r.1.items) }
+    ensures fault { IfErr result (λ f. f ≡ ServiceFault.Memory) }
+{
+    let workers = jobs.workers();
+    match Pool::make(alloc, (workers + 1) / 2, workers) {
+        Ok(buffers) => AnyDoor::make(alloc, kind, buffers, count),
+        Err(_) => Err(ServiceFault::Memory),
+    }
+}
+
+// The doors of the disk, of the totals and of the board, and their places.
+fn other_doors(
+    alloc: Global,
+    kind: Kind,
+    cylmax: u16,
+    count: usize,
+) -> Result<
+    (
+        Made<Head<Drive>>,
+        Made<Single<Totals>>,
+        Made<ReadersWriters<Board>>,
+    ),
+    ServiceFault,
+>
+    ensures head { IfOk result (λ r. IsMade head_terms count r.0.0 r.0.1.items) }
+    ensures totals { IfOk result (λ r. IsMade totals_terms count r.1.0 r.1.1.items) }
+    ensures board { IfOk result (λ r. IsMade board_terms count r.2.0 r.2.1.items) }
+    ensures fault { IfErr result (λ f. f ≡ ServiceFault.Memory) }
+{
+    let disk = Head::with(Drive, cylmax);
+    let note = Board {
+        done: 0,
+        closed: false,
+    };
+    let head = AnyDoor::make(alloc, kind, disk, count)?;
+    let totals = AnyDoor::make(alloc, kind, Single::with(Totals::NONE), count)?;
+    let board = AnyDoor::make(alloc, kind, ReadersWriters::with(note), count)?;
+    Ok((head, totals, board))
 }

@@ -2,6 +2,7 @@
 #![tactic(auto)]
 
 mod any_door;
+mod board;
 mod caller;
 mod clock;
 mod data;

@@ -1,11 +1,11 @@
 //! The threads of the service: a clock, the workers, and the caller's own.
-ghost use Rattle.std.specs.Prelude.{◌≡◌, ◌+◌, ◌≤◌, IfOk, IfErr};
+ghost use Rattle.std.specs.Prelude.{◌≡◌, ◌+◌, ◌≤◌, IfOk, IfErr, IfSome};
 ghost use Rattle.disk_service.specs.Doors.{AreThere, IsSeat};
 ghost use Rattle.disk_service.specs.Desks.{IsReady, IsStaffed};
 ghost use Rattle.disk_jobs.specs.Faults.{IsOfService};
 ghost use Rattle.disk_service.specs.declared.doors.Doors.{Doors};
 
-use crate::caller::{close_board, hand_on_jobs, stop_workers};
+use crate::caller::{close_board, hand_out, stop_workers};
 use crate::clock::tick_on;
 use crate::doors::Doors;
 use crate::gate::Gate;
@@ -17,7 +17,7 @@ use disk_jobs::fault::ServiceFault;
 use disk_jobs::jobs::Jobs;
 use std::sync::Wait;
 use std::thread;
-use std::thread::{Scope, Threads};
+use std::thread::{PromisedHandle, Scope, Threads};
 
 /// What the caller's thread has in hand: the places that no thread has, the room of each worker, and what is done.
 #[derive(Drop)]
@@ -28,19 +28,50 @@ pub(crate) struct Desk {
 }
 
 impl Desk {
+    // Takes a worker's seat and its room out.
+    fn take_out(&mut self, number: u32) -> (Seat, Vec<Done>)
+        requires { (d : Doors) × IsStaffed d (number + 1) self.old }
+        ensures number { result.0.number ≡ number }
+        ensures seat { (d : Doors) → IsStaffed d (number + 1) self.old → IsSeat d result.0 }
+        ensures left { (d : Doors) → IsStaffed d (number + 1) self.old → IsStaffed d number self.new }
+    {
+        let seat = self.places.take_seat(number);
+        match self.rooms.pop() {
+            Some(room) => (seat, room),
+            None => unreachable!(),
+        }
+    }
+
     // Takes a worker's seat back, and what it did. The room for both is there.
     fn take_back(&mut self, seat: Seat, kept: Vec<Done>) -> Result<(), ServiceFault>
         ensures places { IfOk result (λ _. (d : Doors) → AreThere d seat.number self.old.places
             → IsSeat d seat → AreThere d (seat.number + 1) self.new.places) }
         ensures fault { IfErr result (λ f. f ≡ ServiceFault.Memory) }
     {
-        if self.results.extend_from_slice(kept.as_slice()).is_err() {
-            return Err(ServiceFault::Memory);
-        }
-        match self.places.put_seat(seat) {
-            Ok(()) => Ok(()),
-            Err(_) => Err(ServiceFault::Memory),
-        }
+        let added = add_results(&mut self.results, kept);
+        added.and(put_back(&mut self.places, seat))
+    }
+}
+
+// Adds what a worker did to the results. The room for it is there.
+fn add_results(results: &mut Vec<Done>, kept: Vec<Done>) -> Result<(), ServiceFault>
+    ensures { IfErr result (λ f. f ≡ ServiceFault.Memory) }
+{
+    match results.extend_from_slice(kept.as_slice()) {
+        Ok(()) => Ok(()),
+        Err(_) => Err(ServiceFault::Memory),
+    }
+}
+
+// Takes the next seat back. The room for it is there.
+fn put_back(places: &mut Places, seat: Seat) -> Result<(), ServiceFault>
+    ensures places { IfOk result (λ _. (d : Doors) → AreThere d seat.number places.old
+        → IsSeat d seat → AreThere d (seat.number + 1) places.new) }
+    ensures fault { IfErr result (λ f. f ≡ ServiceFault.Memory) }
+{
+    match places.put_seat(seat) {
+        Ok(()) => Ok(()),
+        Err(_) => Err(ServiceFault::Memory),
     }
 }
 
@@ -69,7 +100,7 @@ pub(crate) fn run_threads<R: Threads + Wait + Sync, G: Gate + Sync>(
     )
 }
 
-// Starts the clock and the workers, closes the board once they are done, and joins the clock.
+// With the desk in hand: does as `with_clock` says, and gives the desk back.
 fn direct<'s, 'e, R: Threads + Wait + Sync, G: Gate + Sync>(
     scope: &Scope<'s, &'e ()>,
     rt: &'e R,
@@ -83,6 +114,25 @@ fn direct<'s, 'e, R: Threads + Wait + Sync, G: Gate + Sync>(
     ensures fault { IfErr result IsOfService }
 {
     let mut desk = desk;
+    match with_clock(scope, rt, gate, jobs, doors, &mut desk) {
+        Ok(()) => Ok(desk),
+        Err(fault) => Err(fault),
+    }
+}
+
+// Starts the clock and the workers, closes the board once they are done, and joins the clock.
+fn with_clock<'s, 'e, R: Threads + Wait + Sync, G: Gate + Sync>(
+    scope: &Scope<'s, &'e ()>,
+    rt: &'e R,
+    gate: &'e G,
+    jobs: &'e Jobs,
+    doors: &'e Doors,
+    desk: &mut Desk,
+) -> Result<(), ServiceFault>
+    requires { IsReady doors.now jobs.now.workers desk.old }
+    ensures places { IfOk result (λ _. AreThere doors.now (jobs.now.workers + 2) desk.new.places) }
+    ensures fault { IfErr result IsOfService }
+{
     let workers = jobs.workers();
     let mine = desk.places.take_seat(workers + 1);
     let seat = desk.places.take_seat(workers);
@@ -90,20 +140,51 @@ fn direct<'s, 'e, R: Threads + Wait + Sync, G: Gate + Sync>(
         doors,
         number: workers,
     };
-    let Ok(clock) = scope.spawn_with(promise, move || tick_on(rt, doors, seat)) else {
+    let Some(clock) = start_clock(scope, rt, promise, seat) else {
+        mine.let_go();
         return Err(ServiceFault::Spawn);
     };
-    let (mine, outcome) = with_workers(scope, rt, gate, jobs, doors, &mut desk, mine, workers);
+    let (mine, outcome) = with_workers(scope, rt, gate, jobs, doors, desk, mine, workers);
     let mine = close_board(rt, doors, mine);
     let seat: Seat = clock.join(rt);
-    outcome?;
-    let Ok(()) = desk.places.put_seat(seat) else {
-        return Err(ServiceFault::Memory);
-    };
-    let Ok(()) = desk.places.put_seat(mine) else {
-        return Err(ServiceFault::Memory);
-    };
-    Ok(desk)
+    let back = put_back(&mut desk.places, seat);
+    outcome.and(back).and(put_back(&mut desk.places, mine))
+}
+
+// Starts the clock with this seat, on a thread of its own that promises it back.
+fn start_clock<'s, 'e, R: Threads + Wait + Sync>(
+    scope: &Scope<'s, &'e ()>,
+    rt: &'e R,
+    promise: SeatBack<'e>,
+    seat: Seat,
+) -> Option<PromisedHandle<Seat, SeatBack<'e>>>
+    requires seat { IsSeat promise.doors.now seat }
+    requires number { seat.number ≡ promise.number }
+    ensures { IfSome result (λ h. h.promise ≡ promise.entry) }
+{
+    let doors = promise.doors;
+    scope
+        .spawn_with(promise, move || tick_on(rt, doors, seat))
+        .ok()
+}
+
+// Starts a worker with this seat and this room, on a thread of its own that promises the seat back.
+fn start_worker<'s, 'e, R: Threads + Wait + Sync, G: Gate + Sync>(
+    scope: &Scope<'s, &'e ()>,
+    rt: &'e R,
+    gate: &'e G,
+    jobs: &'e Jobs,
+    promise: SeatBack<'e>,
+    seat: Seat,
+    room: Vec<Done>,
+) -> Option<PromisedHandle<(Seat, Vec<Done>), SeatBack<'e>>>
+    requires seat { IsSeat promise.doors.now seat }
+    requires number { seat.number ≡ promise.number }
+    ensures { IfSome result (λ h. h.promise ≡ promise.entry) }
+{
+    let doors = promise.doors;
+    let started = scope.spawn_with(promise, move || work(rt, gate, jobs, doors, seat, room));
+    started.ok()
 }
 
 // With `left` workers still to be started: starts them, has all workers stopped, and joins those that it started.
@@ -126,17 +207,12 @@ fn with_workers<'s, 'e, R: Threads + Wait + Sync, G: Gate + Sync>(
     ensures fault { IfErr result.1 IsOfService }
 {
     if left == 0 {
-        let mine = hand_on_jobs(rt, doors, jobs, mine);
-        return (stop_workers(rt, doors, mine, jobs.workers()), Ok(()));
+        return (hand_out(rt, doors, jobs, mine), Ok(()));
     }
     let number = left - 1;
-    let seat = desk.places.take_seat(number);
-    let Some(room) = desk.rooms.pop() else {
-        unreachable!();
-    };
+    let (seat, room) = desk.take_out(number);
     let promise = SeatBack { doors, number };
-    let started = scope.spawn_with(promise, move || work(rt, gate, jobs, doors, seat, room));
-    let Ok(worker) = started else {
+    let Some(worker) = start_worker(scope, rt, gate, jobs, promise, seat, room) else {
         let mine = stop_workers(rt, doors, mine, jobs.workers() - left);
         return (mine, Err(ServiceFault::Spawn));
     };

@@ -2,17 +2,18 @@
 ghost use Rattle.std.specs.Prelude.{◌≡◌};
 ghost use Rattle.disk_service.specs.Doors.{IsSeat};
 
-use crate::data::{Board, Item};
+use crate::board::write;
+use crate::data::{Drive, Item, Totals};
 use crate::doors::Doors;
 use crate::gate::Gate;
 use crate::seat::Seat;
 use disk_jobs::done::Done;
 use disk_jobs::jobs::Jobs;
+use hoare_law::monitor::Monitor;
 use plain_schedulers::buffer::Buffer;
 use plain_schedulers::single::Single;
 use std::sync::Wait;
 use sweep_schedulers::head::Head;
-use sweep_schedulers::readers_writers::ReadersWriters;
 use timed_schedulers::alarm::Alarm;
 use timed_schedulers::pool::Pool;
 
@@ -33,20 +34,52 @@ pub(crate) fn work<R: Wait, G: Gate>(
     let mut seat = seat;
     let mut kept = room;
     for _ in rt.forever() {
-        let (items, item) = Buffer::remove(&doors.items, rt, seat.items);
-        seat.items = items;
-        let Item::Job(job) = item else {
+        let (place, job) = next_job(&doors.items, rt, seat.items);
+        seat.items = place;
+        let Some(job) = job else {
             return (seat, kept);
         };
-        gate.begin(job as usize);
-        if let Some(cylinder) = jobs.cylinders().get(job as usize) {
-            let (back, done) = serve_job(rt, doors, seat, job, *cylinder);
-            seat = back;
-            keep(&mut kept, done);
-        }
-        gate.end(job as usize);
+        seat = do_job(rt, gate, jobs, doors, seat, job, &mut kept);
     }
     unreachable!()
+}
+
+// The next job of this buffer, unless the worker is told to stop.
+fn next_job<R: Wait, M: Monitor<Buffer<Item>>>(m: &M, rt: &R, out: M::Out) -> (M::Out, Option<u32>)
+    requires { M.is_of m.now out }
+    ensures of { M.is_of m.now result.0 }
+    ensures place { M.place result.0 ≡ M.place out }
+{
+    let (out, item) = Buffer::remove(m, rt, out);
+    match item {
+        Item::Job(job) => (out, Some(job)),
+        Item::Stop => (out, None),
+    }
+}
+
+// Does a job, with the gate's calls around it, and keeps what is done.
+fn do_job<R: Wait, G: Gate>(
+    rt: &R,
+    gate: &G,
+    jobs: &Jobs,
+    doors: &Doors,
+    seat: Seat,
+    job: u32,
+    kept: &mut Vec<Done>,
+) -> Seat
+    requires { IsSeat doors.now seat }
+    ensures of { IsSeat doors.now result }
+    ensures number { result.number ≡ seat.number }
+{
+    let mut seat = seat;
+    gate.begin(job as usize);
+    if let Some(cylinder) = jobs.cylinders().get(job as usize) {
+        let (back, done) = serve_job(rt, doors, seat, job, *cylinder);
+        seat = back;
+        keep(kept, done);
+    }
+    gate.end(job as usize);
+    seat
 }
 
 // Keeps what is done, where there is room.
@@ -76,11 +109,11 @@ fn serve_job<R: Wait>(
     if !counted {
         return (seat, None);
     }
-    let (seat, noted) = add_to_board(rt, doors, seat);
+    let (seat, noted) = write(rt, doors, seat, 1, false);
     (seat, noted.then_some(done))
 }
 
-// Reads the block of a job into a buffer of the pool, which it gives back.
+// Reads the block of a job into a buffer of the pool, with the drive.
 fn read_into_buffer<R: Wait>(
     rt: &R,
     doors: &Doors,
@@ -93,42 +126,71 @@ fn read_into_buffer<R: Wait>(
     ensures number { result.0.number ≡ seat.number }
 {
     let mut seat = seat;
-    let (pool, taken) = Pool::take(&doors.pool, rt, seat.pool, seat.number);
-    seat.pool = pool;
-    let Ok(buffer) = taken else {
-        return (seat, None);
-    };
-    let (mut seat, read) = read_block(rt, doors, seat, job, cylinder);
-    let (pool, given) = Pool::give(&doors.pool, rt, seat.pool, seat.number, buffer);
-    seat.pool = pool;
-    (seat, if given.is_ok() { read } else { None })
+    let places = (seat.pool, seat.head, seat.clock);
+    let block = (job, cylinder);
+    let (pool, head, clock) = (&doors.pool, &doors.head, &doors.clock);
+    let (places, read) = use_buffer(pool, head, clock, rt, places, seat.number, block);
+    (seat.pool, seat.head, seat.clock) = places;
+    (seat, read)
 }
 
-// Reads the block of a job with the drive, which it has for a tick of the clock.
-fn read_block<R: Wait>(
+// Reads the block of a job into a buffer of this pool, which it gives back, with the drive of this head.
+fn use_buffer<R: Wait, P: Monitor<Pool>, H: Monitor<Head<Drive>>, C: Monitor<Alarm>>(
+    pool: &P,
+    head: &H,
+    clock: &C,
     rt: &R,
-    doors: &Doors,
-    seat: Seat,
-    job: u32,
-    cylinder: u16,
-) -> (Seat, Option<Done>)
-    requires { IsSeat doors.now seat }
-    ensures of { IsSeat doors.now result.0 }
-    ensures number { result.0.number ≡ seat.number }
+    places: (P::Out, H::Out, C::Out),
+    stream: u32,
+    block: (u32, u16),
+) -> ((P::Out, H::Out, C::Out), Option<Done>)
+    requires pool { P.is_of pool.now places.0 }
+    requires head { H.is_of head.now places.1 }
+    requires clock { C.is_of clock.now places.2 }
+    ensures pool { P.is_of pool.now result.0.0 }
+    ensures head { H.is_of head.now result.0.1 }
+    ensures clock { C.is_of clock.now result.0.2 }
+    ensures pool_place { P.place result.0.0 ≡ P.place places.0 }
+    ensures head_place { H.place result.0.1 ≡ H.place places.1 }
+    ensures clock_place { C.place result.0.2 ≡ C.place places.2 }
 {
-    let mut seat = seat;
-    let (head, requested) = Head::request(&doors.head, rt, seat.head, cylinder);
-    seat.head = head;
+    let (at_pool, at_head, at_clock) = places;
+    let (at_pool, taken) = Pool::take(pool, rt, at_pool, stream);
+    let Ok(buffer) = taken else {
+        return ((at_pool, at_head, at_clock), None);
+    };
+    let ((at_head, at_clock), read) = use_drive(head, clock, rt, (at_head, at_clock), block);
+    let (at_pool, given) = Pool::give(pool, rt, at_pool, stream, buffer);
+    let kept = if given.is_ok() { read } else { None };
+    ((at_pool, at_head, at_clock), kept)
+}
+
+// Reads the block of a job with the drive of this monitor, which it has for a tick of the clock.
+fn use_drive<R: Wait, H: Monitor<Head<Drive>>, C: Monitor<Alarm>>(
+    head: &H,
+    clock: &C,
+    rt: &R,
+    places: (H::Out, C::Out),
+    block: (u32, u16),
+) -> ((H::Out, C::Out), Option<Done>)
+    requires head { H.is_of head.now places.0 }
+    requires clock { C.is_of clock.now places.1 }
+    ensures head { H.is_of head.now result.0.0 }
+    ensures clock { C.is_of clock.now result.0.1 }
+    ensures head_place { H.place result.0.0 ≡ H.place places.0 }
+    ensures clock_place { C.place result.0.1 ≡ C.place places.1 }
+{
+    let (at_head, at_clock) = places;
+    let (job, cylinder) = block;
+    let (at_head, requested) = Head::request(head, rt, at_head, cylinder);
     let Ok(drive) = requested else {
-        return (seat, None);
+        return ((at_head, at_clock), None);
     };
     let done = drive.read(job, cylinder);
-    let (clock, woke) = Alarm::wakeme(&doors.clock, rt, seat.clock, 1);
-    seat.clock = clock;
-    let (head, released) = Head::release(&doors.head, rt, seat.head, drive);
-    seat.head = head;
+    let (at_clock, woke) = Alarm::wakeme(clock, rt, at_clock, 1);
+    let (at_head, released) = Head::release(head, rt, at_head, drive);
     let served = woke.is_ok() && released.is_ok();
-    (seat, served.then_some(done))
+    ((at_head, at_clock), served.then_some(done))
 }
 
 // Adds a job to the totals: whether they took it.
@@ -138,27 +200,24 @@ fn add_to_totals<R: Wait>(rt: &R, doors: &Doors, seat: Seat, done: Done) -> (Sea
     ensures number { result.0.number ≡ seat.number }
 {
     let mut seat = seat;
-    let (place, totals) = Single::acquire(&doors.totals, rt, seat.totals);
-    let sum = totals.with(done);
-    let (place, released) = Single::release(&doors.totals, rt, place, sum.unwrap_or(totals));
+    let (place, added) = add_to(&doors.totals, rt, seat.totals, done);
     seat.totals = place;
-    (seat, sum.is_some() && released.is_ok())
+    (seat, added)
 }
 
-// Adds one job to those that the board says are done: whether it took it.
-fn add_to_board<R: Wait>(rt: &R, doors: &Doors, seat: Seat) -> (Seat, bool)
-    requires { IsSeat doors.now seat }
-    ensures of { IsSeat doors.now result.0 }
-    ensures number { result.0.number ≡ seat.number }
+// Adds a job to the totals of this monitor: whether they took it.
+fn add_to<R: Wait, M: Monitor<Single<Totals>>>(
+    m: &M,
+    rt: &R,
+    out: M::Out,
+    done: Done,
+) -> (M::Out, bool)
+    requires { M.is_of m.now out }
+    ensures of { M.is_of m.now result.0 }
+    ensures place { M.place result.0 ≡ M.place out }
 {
-    let mut seat = seat;
-    let (place, board) = ReadersWriters::start_write(&doors.board, rt, seat.board);
-    let done = board.done.checked_add(1);
-    let next = Board {
-        done: done.unwrap_or(board.done),
-        closed: board.closed,
-    };
-    let (place, ended) = ReadersWriters::end_write(&doors.board, rt, place, next);
-    seat.board = place;
-    (seat, done.is_some() && ended.is_ok())
+    let (out, totals) = Single::acquire(m, rt, out);
+    let sum = totals.with(done);
+    let (out, released) = Single::release(m, rt, out, sum.unwrap_or(totals));
+    (out, sum.is_some() && released.is_ok())
 }

@@ -1,18 +1,19 @@
 use Rattle.std.proofs.Common.{arith, rules, ◌≡◌, ◌+◌, ◌-◌, sym}
-use Rattle.disk_service.proofs.Seats.{there-at}
+use Rattle.disk_service.proofs.Seats.{staffed-at}
 use Rattle.disk_service.proofs.threads.+with_workers.Goals as goal
 
-pub take_seat-seat-requires : goal.take_seat-seat-requires
-take_seat-seat-requires g t c =
+pub take_out-seat-requires : goal.take_out-seat-requires
+take_out-seat-requires g t c =
     let some = c.if-left-eq0.false in
-    (c.args.doors.now, there-at c.args.left _ (omega arith) c.requires.desk.places)
+    (c.args.doors.now, staffed-at c.args.left _ (omega arith) c.requires.desk)
 
 pub with_workers-mine-requires-clause-desk : goal.with_workers-mine-requires-clause-desk
 with_workers-mine-requires-clause-desk g t c =
     let some = c.if-left-eq0.false in
-    let rooms = c.requires.desk.rooms in
-    let popped = c.in-Some.ensures.len in
-    λ _ _. record {
-      places = c.take_seat-seat.ensures.left c.args.doors.now (there-at c.args.left _ (omega arith) c.requires.desk.places);
-      rooms = omega arith;
-    }
+    λ _ _. c.take_out-seat.ensures.left c.args.doors.now (staffed-at c.args.left _ (omega arith) c.requires.desk)
+
+pub start_worker-requires-clause-seat : goal.start_worker-requires-clause-seat
+start_worker-requires-clause-seat g t c =
+    let some = c.if-left-eq0.false in
+    let seat = c.take_out-seat.ensures.seat c.args.doors.now (staffed-at c.args.left _ (omega arith) c.requires.desk) in
+    search rules

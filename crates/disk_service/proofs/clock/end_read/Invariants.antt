@@ -1,7 +1,0 @@
-use Rattle.std.specs.Prelude.{◌≡◌}
-use Rattle.disk_service.specs.Doors.{IsSeat}
-use Rattle.disk_service.proofs.clock.end_read.Given as goal
-
--- the seat stays one of these doors
-abbrev pub invariant-loop : goal.invariant-loop
-invariant-loop g l = IsSeat l.doors l.seat × (l.seat.number ≡ l.fn.seat.number)

@@ -1,0 +1,99 @@
+//! What is written on the board, and read of it.
+ghost use Rattle.std.specs.Prelude.{◌≡◌};
+ghost use Rattle.disk_service.specs.Doors.{IsSeat};
+
+use crate::data::Board;
+use crate::doors::Doors;
+use crate::seat::Seat;
+use hoare_law::monitor::Monitor;
+use std::sync::Wait;
+use sweep_schedulers::readers_writers::{NoReader, ReadPass, ReadersWriters};
+
+/// Writes that `more` jobs are done, and, if this is the `last` word, that no more will be: whether the board took it. The seat
+/// comes back.
+pub(crate) fn write<R: Wait>(
+    rt: &R,
+    doors: &Doors,
+    seat: Seat,
+    more: u32,
+    last: bool,
+) -> (Seat, bool)
+    requires { IsSeat doors.now seat }
+    ensures of { IsSeat doors.now result.0 }
+    ensures number { result.0.number ≡ seat.number }
+{
+    let mut seat = seat;
+    let (place, written) = write_on(&doors.board, rt, seat.board, more, last);
+    seat.board = place;
+    (seat, written)
+}
+
+// Writes on the board of this monitor: whether it took it.
+fn write_on<R: Wait, M: Monitor<ReadersWriters<Board>>>(
+    m: &M,
+    rt: &R,
+    out: M::Out,
+    more: u32,
+    last: bool,
+) -> (M::Out, bool)
+    requires { M.is_of m.now out }
+    ensures of { M.is_of m.now result.0 }
+    ensures place { M.place result.0 ≡ M.place out }
+{
+    let (out, board) = ReadersWriters::start_write(m, rt, out);
+    let next = board.with(more, last);
+    let (out, ended) = ReadersWriters::end_write(m, rt, out, next.unwrap_or(board));
+    (out, next.is_some() && ended.is_ok())
+}
+
+/// Whether the board says that no more will be done. Where it can't be read it says no. The seat comes back.
+pub(crate) fn is_closed<R: Wait>(rt: &R, doors: &Doors, seat: Seat) -> (Seat, bool)
+    requires { IsSeat doors.now seat }
+    ensures of { IsSeat doors.now result.0 }
+    ensures number { result.0.number ≡ seat.number }
+{
+    let mut seat = seat;
+    let (place, closed) = read_closed(&doors.board, rt, seat.board);
+    seat.board = place;
+    (seat, closed)
+}
+
+// Whether the board of this monitor says that no more will be done.
+fn read_closed<R: Wait, M: Monitor<ReadersWriters<Board>>>(
+    m: &M,
+    rt: &R,
+    out: M::Out,
+) -> (M::Out, bool)
+    requires { M.is_of m.now out }
+    ensures of { M.is_of m.now result.0 }
+    ensures place { M.place result.0 ≡ M.place out }
+{
+    let (out, read) = ReadersWriters::start_read(m, rt, out);
+    let Ok((pass, board)) = read else {
+        return (out, false);
+    };
+    (end_read(m, rt, out, pass), board.closed)
+}
+
+// Ends a read: where the pass comes back it is tried again.
+fn end_read<R: Wait, M: Monitor<ReadersWriters<Board>>>(
+    m: &M,
+    rt: &R,
+    out: M::Out,
+    pass: ReadPass,
+) -> M::Out
+    requires { M.is_of m.now out }
+    ensures of { M.is_of m.now result }
+    ensures place { M.place result ≡ M.place out }
+{
+    let (mut out, mut pass) = (out, pass);
+    for _ in rt.forever() {
+        let (place, ended) = ReadersWriters::end_read(m, rt, out, pass);
+        out = place;
+        match ended {
+            Ok(()) => return out,
+            Err(NoReader { pass: back }) => pass = back,
+        }
+    }
+    unreachable!()
+}

@@ -1,4 +1,4 @@
-use Rattle.std.proofs.Common.{rules}
+use Rattle.std.proofs.Common.{◌∙◌, refl, rules}
 use Rattle.hoare_law.proofs.Growth.{leaves-as}
 use Rattle.sweep_schedulers.specs.HeadTraces.{put_in, refused}
 use Rattle.sweep_schedulers.proofs.Sweeps.{HandsOn-as}
@@ -6,8 +6,9 @@ use Rattle.sweep_schedulers.proofs.head.Head.release.Goals as goal
 
 pub returns-then-not-is_busy-clause-trace : goal.returns-then-not-is_busy-clause-trace
 returns-then-not-is_busy-clause-trace g c =
-    refused _ _ c.enter-inside.ensures.front (search rules) (leaves-as c.leave.ensures.front (search rules) (search rules) (search rules))
+    refused _ _ c.enter-inside.ensures.front (search rules) (leaves-as c.leave.ensures.front c.enter-inside.ensures.place refl refl)
 
 pub returns-clause-trace : goal.returns-clause-trace
 returns-clause-trace g c =
-    put_in _ _ c.enter-inside.ensures.front (search rules) (HandsOn-as c.hand_on.ensures.trace (search rules) (search rules) (search rules))
+    put_in _ _ c.enter-inside.ensures.front (search rules) (HandsOn-as c.hand_on.ensures.trace (g.met.M.Monitor.keeps_place _ _ ∙ c.enter-inside.ensures.place)
+    (g.met.M.Monitor.takes_data _ _ ∙ (rw c.state_mut.ensures.value at c.put.ensures)) (g.met.M.Monitor.keeps_front _ _))

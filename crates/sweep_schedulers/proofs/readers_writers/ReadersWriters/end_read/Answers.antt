@@ -1,11 +1,11 @@
-use Rattle.std.proofs.Common.{rules}
+use Rattle.std.proofs.Common.{refl, rules}
 use Rattle.hoare_law.proofs.Growth.{leaves-as, Finishes-exit}
 use Rattle.sweep_schedulers.specs.ReadersWritersTraces.{no_reader, last, others}
 use Rattle.sweep_schedulers.proofs.readers_writers.ReadersWriters.end_read.Goals as goal
 
 pub returns-then-readers-eq0-clause-trace : goal.returns-then-readers-eq0-clause-trace
 returns-then-readers-eq0-clause-trace g c =
-    no_reader _ _ c.enter-inside.ensures.front (search rules) (leaves-as c.leave.ensures.front (search rules) (search rules) (search rules))
+    no_reader _ _ c.enter-inside.ensures.front (search rules) (leaves-as c.leave.ensures.front c.enter-inside.ensures.place refl refl)
 
 pub returns-then-left-gt0-clause-trace : goal.returns-then-left-gt0-clause-trace
 returns-then-left-gt0-clause-trace g c =

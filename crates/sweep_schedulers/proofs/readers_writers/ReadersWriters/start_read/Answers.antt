@@ -1,20 +1,64 @@
-use Rattle.std.proofs.Common.{rules}
-use Rattle.hoare_law.specs.Growth.{at_once}
+use Rattle.std.proofs.Common.{rules, ◌≡◌, ◌∙◌, false, refl}
+use Rattle.hoare_law.specs.Growth.{ComesTo, at_once}
 use Rattle.hoare_law.proofs.Growth.{ComesTo-waited, Finishes-exit}
+use Rattle.sweep_schedulers.specs.ReadersWriters.{ReadReady}
+use Rattle.sweep_schedulers.specs.ReadersWritersTraces.{ReaderHeldUp}
+use Rattle.sweep_schedulers.proofs.Readers.{ReadReady-admitted, ReadersRest-admitted}
+use Rattle.sweep_schedulers.proofs.readers_writers.ReadersWriters.start_read.Given.{Over}
 use Rattle.sweep_schedulers.proofs.readers_writers.ReadersWriters.start_read.Goals as goal
-use Rattle.sweep_schedulers.proofs.readers_writers.ReadersWriters.start_read.Goals.{then-is_busy, else-is_busy+else-queue}
+use Rattle.sweep_schedulers.proofs.readers_writers.ReadersWriters.start_read.Goals.{After-state_mut, then-is_busy, else-is_busy+else-queue}
+
+-- it came in and, after a wait or without one, finds no writer in
+came : (g : Over) (c : After-state_mut g) → record {
+  of : g.M.Monitor.is_of_in c.args.m.now c.if-is_busy.inside;
+  place : g.M.Monitor.place_in c.if-is_busy.inside ≡ g.M.Monitor.place c.args.out;
+  ready : ReadReady (g.M.Monitor.data_in c.if-is_busy.inside);
+  comes : ComesTo (g.M.Monitor.place c.args.out) ReaderHeldUp (λ _. 0) (λ _. 0) (g.M.Monitor.front c.args.out)
+      (g.M.Monitor.front_in c.if-is_busy.inside) (g.M.Monitor.data_in c.if-is_busy.inside);
+}
+came g c = elim c.if-is_busy.branch [
+  | then-is_busy w ↦ rw w.inside-is (record {
+    of = w.wait-inside.ensures.of;
+    place = w.wait-inside.ensures.place ∙ c.enter-inside.ensures.place;
+    ready = w.wait-inside.ensures.ready;
+    comes = ComesTo-waited c.enter-inside.ensures.front (search rules) w.wait-inside.ensures.front c.enter-inside.ensures.place refl refl refl refl;
+  })
+  | else-is_busy+else-queue w ↦
+      let free : (g.M.Monitor.data_in c.enter-inside.result).busy ≡ false = search rules in
+      rw w.inside-is (record {
+        of = c.enter-inside.ensures.of;
+        place = c.enter-inside.ensures.place;
+        ready = record { inv = c.enter-inside.ensures.rest.inv; no_writer = free };
+        comes = at_once c.enter-inside.ensures.front (search rules);
+      })
+]
+
+pub admit-read-requires : goal.admit-read-requires
+admit-read-requires g c = rw c.state_mut.ensures.value (came g c).ready.no_writer
+
+pub signal_leave-out-requires-clause-of : goal.signal_leave-out-requires-clause-of
+signal_leave-out-requires-clause-of g c = g.met.M.Monitor.keeps_of _ _ _ (came g (goal.at.signal_leave-out-requires-clause-of g c).After-state_mut).of
+
+pub signal_leave-out-requires-clause-ready : goal.signal_leave-out-requires-clause-ready
+signal_leave-out-requires-clause-ready g c = λ _. ReadReady-admitted (came g (goal.at.signal_leave-out-requires-clause-ready g c).After-state_mut).ready
+    (rw c.state_mut.ensures.value at c.admit-read.ensures) (g.met.M.Monitor.takes_data _ _)
+
+pub signal_leave-out-requires-clause-rest : goal.signal_leave-out-requires-clause-rest
+signal_leave-out-requires-clause-rest g c = ReadersRest-admitted (came g (goal.at.signal_leave-out-requires-clause-rest g c).After-state_mut).ready
+    (rw c.state_mut.ensures.value at c.admit-read.ensures) (g.met.M.Monitor.takes_data _ _)
+
+pub returns-clause-place : goal.returns-clause-place
+returns-clause-place g c = c.signal_leave-out.ensures.place ∙ (g.met.M.Monitor.keeps_place _ _ ∙ (came g (goal.at.returns-clause-place g c).After-state_mut).place)
 
 pub returns-clause-trace : goal.returns-clause-trace
-returns-clause-trace g c = record {
-  found = g.M.Monitor.data_in c.if-is_busy.inside;
-  after = c.admit-read.new.self;
-  front = g.M.Monitor.front_in c.if-is_busy.inside;
-  comes = elim c.if-is_busy.branch [
-    | then-is_busy w ↦
-        rw w.inside-is (ComesTo-waited c.enter-inside.ensures.front (search rules) w.wait-inside.ensures.front
-        (search rules) (search rules) (search rules) (search rules) (search rules))
-    | else-is_busy+else-queue w ↦ rw w.inside-is (at_once c.enter-inside.ensures.front (search rules))
-  ];
-  admits = search rules;
-  finishes = Finishes-exit c.signal_leave-out.ensures.front (search rules) (search rules) (search rules);
-}
+returns-clause-trace g c =
+    let inside = came g (goal.at.returns-clause-trace g c).After-state_mut in
+    record {
+      found = g.M.Monitor.data_in c.if-is_busy.inside;
+      after = c.admit-read.new.self;
+      front = g.M.Monitor.front_in c.if-is_busy.inside;
+      comes = inside.comes;
+      admits = rw c.state_mut.ensures.value at c.admit-read.ensures;
+      finishes = Finishes-exit c.signal_leave-out.ensures.front (g.met.M.Monitor.keeps_place _ _ ∙ inside.place)
+          (g.met.M.Monitor.takes_data _ _) (g.met.M.Monitor.keeps_front _ _);
+    }

@@ -1,23 +1,62 @@
-use Rattle.std.proofs.Common.{rules}
-use Rattle.hoare_law.specs.Growth.{at_once}
+use Rattle.std.proofs.Common.{◌≡◌, ◌∙◌, refl}
+use Rattle.std.proofs.lemmas.Bool.{iff_false}
+use Rattle.hoare_law.specs.Growth.{ComesTo, at_once}
 use Rattle.hoare_law.proofs.Growth.{ComesTo-waited, leaves-as}
-use Rattle.sweep_schedulers.proofs.Readers.{ReadersRest-writer}
+use Rattle.sweep_schedulers.specs.ReadersWriters.{IsInUse, WriteReady}
+use Rattle.sweep_schedulers.proofs.Readers.{ReadersRest-writer, WriteReady-at_once, ReadersRest-reserved}
+use Rattle.sweep_schedulers.proofs.readers_writers.ReadersWriters.start_write.Given.{Over}
 use Rattle.sweep_schedulers.proofs.readers_writers.ReadersWriters.start_write.Goals as goal
-use Rattle.sweep_schedulers.proofs.readers_writers.ReadersWriters.start_write.Goals.{then-is_in_use, else-is_in_use}
+use Rattle.sweep_schedulers.proofs.readers_writers.ReadersWriters.start_write.Goals.{After-state_mut, then-is_in_use, else-is_in_use}
 
 pub wait-inside-requires-clause-rest : goal.wait-inside-requires-clause-rest
-wait-inside-requires-clause-rest g c = ReadersRest-writer (g.M.Monitor.lists_in c.enter-inside.result) c.enter-inside.ensures.rest (search rules)
+wait-inside-requires-clause-rest g c = ReadersRest-writer (g.M.Monitor.lists_in c.enter-inside.result) c.enter-inside.ensures.rest
+    (rw c.state.ensures at (c.is_in_use.ensures.0 c.if-is_in_use.true))
+
+-- it came in and, after a wait or without one, finds nobody in
+came : (g : Over) (c : After-state_mut g) → record {
+  of : g.M.Monitor.is_of_in c.args.m.now c.if-is_in_use.inside;
+  place : g.M.Monitor.place_in c.if-is_in_use.inside ≡ g.M.Monitor.place c.args.out;
+  ready : WriteReady (g.M.Monitor.data_in c.if-is_in_use.inside);
+  comes : ComesTo (g.M.Monitor.place c.args.out) (λ _ a. IsInUse a) (λ _. 1) (λ _. 0) (g.M.Monitor.front c.args.out)
+      (g.M.Monitor.front_in c.if-is_in_use.inside) (g.M.Monitor.data_in c.if-is_in_use.inside);
+}
+came g c = elim c.if-is_in_use.branch [
+  | then-is_in_use w ↦
+      let used = rw c.state.ensures at (c.is_in_use.ensures.0 w.if-is_in_use.true) in
+      rw w.inside-is (record {
+        of = w.wait-inside.ensures.of;
+        place = w.wait-inside.ensures.place ∙ c.enter-inside.ensures.place;
+        ready = w.wait-inside.ensures.ready;
+        comes = ComesTo-waited c.enter-inside.ensures.front used w.wait-inside.ensures.front c.enter-inside.ensures.place refl refl refl refl;
+      })
+  | else-is_in_use w ↦
+      let unused = rw c.state.ensures at (iff_false c.is_in_use.ensures w.if-is_in_use.false) in
+      rw w.inside-is (record {
+        of = c.enter-inside.ensures.of;
+        place = c.enter-inside.ensures.place;
+        ready = WriteReady-at_once c.enter-inside.ensures.rest unused;
+        comes = at_once c.enter-inside.ensures.front unused;
+      })
+]
+
+pub leave-requires-clause-of : goal.leave-requires-clause-of
+leave-requires-clause-of g c = g.met.M.Monitor.keeps_of _ _ _ (came g (goal.at.leave-requires-clause-of g c).After-state_mut).of
+
+pub leave-requires-clause-rest : goal.leave-requires-clause-rest
+leave-requires-clause-rest g c = ReadersRest-reserved (came g (goal.at.leave-requires-clause-rest g c).After-state_mut).ready
+    (g.met.M.Monitor.takes_data _ _ ∙ (rw c.state_mut.ensures.value at c.reserve-value.ensures.after))
+
+pub returns-clause-place : goal.returns-clause-place
+returns-clause-place g c = c.leave.ensures.place ∙ (g.met.M.Monitor.keeps_place _ _ ∙ (came g (goal.at.returns-clause-place g c).After-state_mut).place)
 
 pub returns-clause-trace : goal.returns-clause-trace
-returns-clause-trace g c = record {
-  found = g.M.Monitor.data_in c.if-is_in_use.inside;
-  front = g.M.Monitor.front_in c.if-is_in_use.inside;
-  comes = elim c.if-is_in_use.branch [
-    | then-is_in_use w ↦
-        rw w.inside-is (ComesTo-waited c.enter-inside.ensures.front (search rules) w.wait-inside.ensures.front
-        (search rules) (search rules) (search rules) (search rules) (search rules))
-    | else-is_in_use w ↦ rw w.inside-is (at_once c.enter-inside.ensures.front (search rules))
-  ];
-  has = search rules;
-  leaves = leaves-as c.leave.ensures.front (search rules) (search rules) (search rules);
-}
+returns-clause-trace g c =
+    let inside = came g (goal.at.returns-clause-trace g c).After-state_mut in
+    record {
+      found = g.M.Monitor.data_in c.if-is_in_use.inside;
+      front = g.M.Monitor.front_in c.if-is_in_use.inside;
+      comes = inside.comes;
+      has = rw c.state_mut.ensures.value at c.reserve-value.ensures.value;
+      leaves = leaves-as c.leave.ensures.front (g.met.M.Monitor.keeps_place _ _ ∙ inside.place)
+          (g.met.M.Monitor.takes_data _ _ ∙ (rw c.state_mut.ensures.value at c.reserve-value.ensures.after)) (g.met.M.Monitor.keeps_front _ _);
+    }

@@ -1,14 +1,15 @@
-use Rattle.std.proofs.Common.{rules}
+use Rattle.std.proofs.Common.{rules, ◌∙◌, refl}
 use Rattle.hoare_law.proofs.Growth.{leaves-as, Finishes-exit}
 use Rattle.timed_schedulers.specs.PoolTraces.{refused, gave}
 use Rattle.timed_schedulers.proofs.Pools.{PoolReady-freed}
 use Rattle.timed_schedulers.proofs.pool.Pool.give.Goals as goal
 
 pub returns-in-Err-clause-trace : goal.returns-in-Err-clause-trace
-returns-in-Err-clause-trace g c = refused _ _ _ c.enter-inside.ensures.front (search rules) (leaves-as c.leave.ensures.front (search rules) (search rules) (search rules))
+returns-in-Err-clause-trace g c = refused _ _ _ c.enter-inside.ensures.front (search rules) (leaves-as c.leave.ensures.front c.enter-inside.ensures.place refl refl)
 
 pub signal_leave-out-requires-clause-ready : goal.signal_leave-out-requires-clause-ready
 signal_leave-out-requires-clause-ready g c = PoolReady-freed {b = c.args.buffer} {s = c.args.stream} c.enter-inside.ensures.rest (search rules) (search rules) (search rules) (search rules)
 
 pub returns-clause-trace : goal.returns-clause-trace
-returns-clause-trace g c = gave _ _ c.enter-inside.ensures.front (search rules) (Finishes-exit c.signal_leave-out.ensures.front (search rules) (search rules) (search rules))
+returns-clause-trace g c = gave _ _ c.enter-inside.ensures.front (search rules) (Finishes-exit c.signal_leave-out.ensures.front
+    (g.met.M.Monitor.keeps_place _ _ ∙ c.enter-inside.ensures.place) (search rules) (g.met.M.Monitor.keeps_front _ _))

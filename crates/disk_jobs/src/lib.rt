@@ -8,8 +8,6 @@ pub mod jobs;
 pub mod kind;
 pub mod reading;
 pub mod report;
-#[cfg(test)]
-mod tests;
 
 pub use done::Done;
 pub use fault::ServiceFault;

@@ -62,19 +62,3 @@ pub fn legal_grows<S>()
         → IsLegal (with_event h e) }
     ensures began { (f h : History S) → Begins f h → IsLegal h → IsLegal f }
 {}
-
-#[cfg(test)]
-mod tests {
-    use super::*;
-
-    #[test]
-    fn laws_can_be_called() {
-        one_is_inside::<u8>();
-        nothing_intervenes::<u8>();
-        signallers_first::<u8>();
-        admitted_from_outside::<u8>();
-        least_is_chosen::<u8>();
-        data_as_left::<u8>();
-        legal_grows::<u8>();
-    }
-}

@@ -158,30 +158,3 @@ impl<'a, W: Waits> Waits for Taken<'a, W> {
     ghost rise = { λ t c. IsNonDecreasing-taken (W.waiting_priorities t.lists.now) t.condition c
         (W.rise t.lists.now c) };
 }
-
-#[cfg(test)]
-mod tests {
-    use super::*;
-    use std::test::Fail;
-
-    #[test]
-    fn nobody_waits(rt: HostRuntime) -> Result<(), Fail> {
-        assert_eq!(rt; Nobody.count(0), 0);
-        assert_eq!(rt; Nobody.count(7), 0);
-        Ok(())
-    }
-
-    #[test]
-    fn joined_and_taken(rt: HostRuntime) -> Result<(), Fail> {
-        let one = Joined::of(&Nobody, 1, 5);
-        let two = Joined::of(&one, 1, 3);
-        assert_eq!(rt; two.count(0), 0);
-        assert_eq!(rt; two.count(1), 2);
-        assert_eq!(rt; two.priority(1, 0), 3);
-        assert_eq!(rt; two.priority(1, 1), 5);
-        let rest = Taken::of(&two, 1);
-        assert_eq!(rt; rest.count(1), 1);
-        assert_eq!(rt; rest.priority(1, 0), 5);
-        Ok(())
-    }
-}

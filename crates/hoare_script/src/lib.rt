@@ -6,8 +6,6 @@ pub mod fault;
 pub mod lines;
 pub mod opened;
 pub mod runs;
-#[cfg(test)]
-mod tests;
 
 pub use fault::ScriptFault;
 pub use runs::{run, run_watched};

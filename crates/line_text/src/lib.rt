@@ -5,8 +5,6 @@
 pub mod forms;
 pub mod line;
 pub mod reader;
-#[cfg(test)]
-mod tests;
 pub mod text;
 pub mod words;
 pub mod writer;

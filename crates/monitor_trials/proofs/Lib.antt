@@ -1,3 +1,4 @@
 mod Answers
+mod Many
 mod Numbered
 mod Stages

@@ -27,11 +27,13 @@ macro_rules! run_row_on {
 
 mod fake;
 mod limit;
+mod many_tickets;
 mod on_baton_door;
 mod on_ticket_door;
-mod one_place;
 mod refusals;
+mod refused_makes;
 mod rows;
 mod running;
 mod sweep_on_fake;
+mod tickets_in_turn;
 mod timed_on_fake;

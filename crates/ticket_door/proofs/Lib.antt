@@ -5,4 +5,3 @@ pub mod Serving
 pub mod Ringing
 pub mod Asking
 pub mod Meetings
-pub mod Many

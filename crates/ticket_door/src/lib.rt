@@ -8,7 +8,5 @@ mod meeting;
 mod monitor;
 pub mod place;
 mod rule;
-#[cfg(test)]
-mod tests;
 mod tickets;
 mod words;

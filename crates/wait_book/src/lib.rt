@@ -3,12 +3,6 @@
 
 pub mod book;
 mod chains;
-#[cfg(test)]
-mod filling;
 mod queues;
 pub mod steps;
-#[cfg(test)]
-mod tests;
-#[cfg(test)]
-mod texts;
 pub mod waiter;

@@ -5,6 +5,7 @@ use crate::tally::Tally;
 use crate::tests::rows::wakes::{comes_late, waits_long};
 use crate::tests::running::{DoorKind, watch};
 use hoare_law::monitor::Monitor;
+use hoare_law::waits::Waits;
 use std::process::Abort;
 use std::rt::Clock;
 use std::sync::Wait;
@@ -99,9 +100,27 @@ fn signals_on<R: Wait + Abort, M: Monitor<Tally>>(
     (m.leave(rt, inside), 0)
 }
 
+// One place makes each call. Nobody waits, so nothing is resumed: it answers 1 where all calls say so, and leaves 42.
+fn calls_all<R: Wait, M: Monitor<Tally>>(rt: &R, m: &M, out: M::Out) -> (M::Out, u64)
+    requires { M.is_of m.now out }
+    ensures of { M.is_of m.now result.0 }
+    ensures place { M.place result.0 ≡ M.place out }
+{
+    let mut inside = m.enter(rt, out);
+    let found = (m.state(&inside).value, m.lists(&inside).count(0)) == (0, 0);
+    let nobody = !m.queue(&inside, 0) && m.first(&inside, 0).is_none();
+    let tally = M::state_mut(&mut inside, m);
+    tally.value = 42;
+    let (inside, told) = m.signal(rt, inside, 0);
+    let (out, told_leaving) = m.signal_leave(rt, inside, 0);
+    let out = m.leave(rt, m.enter(rt, out));
+    (out, u64::from(found && nobody && !told && !told_leaving))
+}
+
 /// The rows of a tally.
 #[derive(Clone, Copy)]
 enum TallyRow<'a> {
+    OnePlaceCallsAll,
     WhatIsWrittenIsFound,
     TwoThousandAdditions,
     SignallersReturnInOrder,
@@ -123,6 +142,7 @@ fn acts<R: Wait + Abort + Clock + CpuClock, M: Monitor<Tally>>(
     ensures place { M.place result.0 ≡ M.place out }
 {
     match row {
+        TallyRow::OnePlaceCallsAll => calls_all(rt, m, out),
         TallyRow::WhatIsWrittenIsFound => writes_or_adds(rt, m, out, place),
         TallyRow::TwoThousandAdditions => adds_thousand(rt, m, out),
         TallyRow::SignallersReturnInOrder => signals_on(rt, m, out, place),
@@ -134,24 +154,23 @@ fn acts<R: Wait + Abort + Clock + CpuClock, M: Monitor<Tally>>(
 // How many places act in the row.
 fn places(row: TallyRow<'_>) -> usize {
     match row {
+        TallyRow::OnePlaceCallsAll => 1,
         TallyRow::SignallersReturnInOrder => 3,
         _ => 2,
     }
 }
 
-// The last value of the row and what the places answered are what they have to be.
-fn agrees<R: Abort>(rt: &R, row: TallyRow<'_>, value: u64, answers: &[u64]) {
+// Whether the last value of the row and what the places answered are what they have to be.
+fn agrees(row: TallyRow<'_>, value: u64, answers: &[u64]) -> bool {
     match row {
-        TallyRow::WhatIsWrittenIsFound => {
-            assert_eq!(rt; (value, answers), (6, [56, 1].as_slice()));
-        }
-        TallyRow::TwoThousandAdditions => assert_eq!(rt; value, 2000),
-        TallyRow::SignallersReturnInOrder => assert_eq!(rt; value, 1234),
+        TallyRow::OnePlaceCallsAll => value == 42 && answers == [1].as_slice(),
+        TallyRow::WhatIsWrittenIsFound => value == 6 && answers == [56, 1].as_slice(),
+        TallyRow::TwoThousandAdditions => value == 2000,
+        TallyRow::SignallersReturnInOrder => value == 1234,
         TallyRow::WhoWaitsSleepsUntilItIsWoken => {
-            assert_eq!(rt; value, 12);
-            assert!(rt; answers.iter().all(|millis| *millis < 30));
+            value == 12 && answers.iter().all(|millis| *millis < 30)
         }
-        TallyRow::ANewcomerComesInOnceNobodyIsInside(_) => assert_eq!(rt; value, 12),
+        TallyRow::ANewcomerComesInOnceNobodyIsInside(_) => value == 12,
     }
 }
 
@@ -161,6 +180,7 @@ fn a_tally_on_both_doors(host: HostRuntime) {
     let sign = AtomicBool::new(false);
     for kind in DoorKind::BOTH {
         for row in [
+            TallyRow::OnePlaceCallsAll,
             TallyRow::WhatIsWrittenIsFound,
             TallyRow::TwoThousandAdditions,
             TallyRow::SignallersReturnInOrder,
@@ -175,7 +195,11 @@ fn a_tally_on_both_doors(host: HostRuntime) {
                 Tally { value: 0 },
                 places(row)
             );
-            agrees(rt, row, tally.value, answers.as_slice());
+            assert!(rt;
+                agrees(row, tally.value, answers.as_slice()),
+                "{kind:?} left {}, answered {answers:?}",
+                tally.value
+            );
         }
     }
 }

@@ -1,0 +1,46 @@
+//! What `make` refuses, on both doors.
+use baton_door::door::Door;
+use hoare_law::unasked::Unasked;
+use std::alloc::Global;
+use std::process::Abort;
+use ticket_door::door::TicketDoor;
+use wait_book::steps::MakeRefused;
+
+// What comes back where a baton door of `N` conditions and this number of places is refused.
+fn refused_baton<const N: usize, R: Abort>(
+    rt: &R,
+    alloc: Global,
+    places: usize,
+) -> (u64, MakeRefused) {
+    let Err((data, refused)) = Door::make(alloc, Unasked::<u64, N> { value: 7 }, places) else {
+        panic!(rt; "a door of no place, of too many, or of nine conditions")
+    };
+    (data.value, refused)
+}
+
+// The same of a ticket door.
+fn refused_ticket<const N: usize, R: Abort>(
+    rt: &R,
+    alloc: Global,
+    places: usize,
+) -> (u64, MakeRefused) {
+    let Err((data, refused)) = TicketDoor::make(alloc, Unasked::<u64, N> { value: 7 }, places)
+    else {
+        panic!(rt; "a door of no place, of too many, or of nine conditions")
+    };
+    (data.value, refused)
+}
+
+#[test]
+fn make_refuses_in_order(rt: HostRuntime) {
+    let alloc = rt.alloc();
+    let bad_places = (7, MakeRefused::BadPlaces);
+    for places in [0, 65] {
+        assert!(rt; refused_baton::<1, _>(&rt, alloc, places) == bad_places);
+        assert!(rt; refused_ticket::<1, _>(&rt, alloc, places) == bad_places);
+    }
+    for (places, want) in [(0, MakeRefused::BadPlaces), (1, MakeRefused::BadConditions)] {
+        assert!(rt; refused_baton::<9, _>(&rt, alloc, places) == (7, want));
+        assert!(rt; refused_ticket::<9, _>(&rt, alloc, places) == (7, want));
+    }
+}

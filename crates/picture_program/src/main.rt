@@ -1,0 +1,73 @@
+//! Draws a script from standard input: an SVG on standard output, or with `--text` a chart for a terminal.
+#![tactic(auto)]
+
+ghost use Rattle.std.specs.Prelude.{◌≡◌};
+ghost use Rattle.std.specs.Process.{exit_status};
+ghost use Rattle.script_picture.specs.Faults.{status_after};
+
+use hoare_script::ScriptFault;
+use script_picture::{Form, PictureFault, draw_script};
+use std::io::{BufReader, BufWriter};
+use std::process::ExitCode;
+use std::{env, io};
+
+const OUT_OF_MEMORY: PictureFault = PictureFault::Script(ScriptFault::Memory);
+
+fn main(rt: HostRuntime) -> ExitCode {
+    match asked_form(&rt) {
+        Ok(Some(form)) => {
+            let end = draw_input(&rt, form);
+            tell(&rt, end)
+        }
+        Ok(None) => {
+            let _ = eprintln!(rt;
+                "usage: script_picture [--text] < SCRIPT (an SVG of at most 1164 steps, or a chart)"
+            );
+            ExitCode::from(2)
+        }
+        Err(fault) => tell(&rt, Err(fault)),
+    }
+}
+
+// The form that the arguments ask for, if they are right. An argument that is no text is as wrong as any other.
+fn asked_form(rt: &HostRuntime) -> Result<Option<Form>, PictureFault> {
+    let mut words = match env::args(rt) {
+        Ok(words) => words,
+        Err(error) if error.kind() == io::ErrorKind::OutOfMemory => {
+            return Err(OUT_OF_MEMORY);
+        }
+        Err(_) => return Ok(None),
+    };
+    let _name = words.next();
+    let Some(word) = words.next() else {
+        return Ok(Some(Form::Svg));
+    };
+    if word.as_str() == "--text" && words.next().is_none() {
+        return Ok(Some(Form::Text));
+    }
+    Ok(None)
+}
+
+// Reads and writes ahead, so that a byte isn't a call of the system.
+fn draw_input(rt: &HostRuntime, form: Form) -> Result<(), PictureFault> {
+    let Ok(mut reader) = BufReader::with_capacity(rt.alloc(), 65_536, rt.stdin()) else {
+        return Err(OUT_OF_MEMORY);
+    };
+    let Ok(mut writer) = BufWriter::with_capacity(rt.alloc(), 65_536, rt.stdout()) else {
+        return Err(OUT_OF_MEMORY);
+    };
+    draw_script(rt.alloc(), &mut reader, &mut writer, form)
+}
+
+// The exit code, with a fault told on standard error.
+fn tell<R: Eprint>(rt: &R, end: Result<(), PictureFault>) -> ExitCode
+    ensures { exit_status result ≡ status_after end }
+{
+    match end {
+        Ok(()) => ExitCode::SUCCESS,
+        Err(fault) => {
+            let _ = eprintln!(rt; "script_picture: {fault}");
+            ExitCode::from(fault.status())
+        }
+    }
+}

@@ -1,0 +1,18 @@
+//! Draws scripts: as an SVG, or as a chart for a terminal.
+#![tactic(auto)]
+
+mod about;
+mod chart;
+pub mod fault;
+mod frame;
+mod legend;
+pub mod picture;
+mod read;
+mod shapes;
+mod svg;
+mod text;
+mod widths;
+mod words;
+
+pub use fault::PictureFault;
+pub use picture::{Form, draw_script, draw_watched};

@@ -1,0 +1,7 @@
+//! The law, the book, lines of a text, scripts and their pictures.
+
+mod books;
+mod law;
+mod lines;
+mod pictures;
+mod scripts;

@@ -1,0 +1,163 @@
+use hoare_law::waits::Waits;
+use std::test::Fail;
+use wait_book::book::{Book, MOST_CONDITIONS, MOST_PLACES};
+use wait_book::steps::{MakeRefused, Next, Step, StepRefused};
+
+#[test]
+fn make_refuses_in_order(rt: HostRuntime) {
+    for (places, conditions, want) in [
+        (0, 1, MakeRefused::BadPlaces),
+        (65, 9, MakeRefused::BadPlaces),
+        (1, 9, MakeRefused::BadConditions),
+        (1, 0, MakeRefused::BadConditions),
+    ] {
+        assert_eq!(rt;
+            Book::make(rt.alloc(), places, conditions).err(),
+            Some(want)
+        );
+    }
+}
+
+#[test]
+fn make_takes_the_most(rt: HostRuntime) -> Result<(), Fail> {
+    let book = Book::make(rt.alloc(), MOST_PLACES, MOST_CONDITIONS)?;
+    assert!(rt; book.now() == Next::Free && book.outside(63));
+    assert!(rt; !book.queue(7) && book.first(7).is_none() && book.count(7) == 0);
+    Ok(())
+}
+
+#[test]
+fn steps_go_by_priority_then_time(rt: HostRuntime) -> Result<(), Fail> {
+    let mut book = Book::make(rt.alloc(), 5, 2)?;
+    for (step, want) in [
+        (Step::Enter(0), Next::Held(0)),
+        (Step::Wait(0, 1, 7), Next::Free),
+        (Step::Enter(1), Next::Held(1)),
+        (Step::Wait(1, 1, 3), Next::Free),
+        (Step::Enter(2), Next::Held(2)),
+        (Step::Wait(2, 1, 7), Next::Free),
+        (Step::Enter(3), Next::Held(3)),
+        (Step::Signal(3, 0), Next::Held(3)),
+        (Step::Signal(3, 1), Next::Held(1)),
+        (Step::Pass(1, 1), Next::Held(0)),
+        (Step::Signal(0, 1), Next::Held(2)),
+        (Step::Leave(2), Next::Held(3)),
+        (Step::Leave(3), Next::Held(0)),
+        (Step::Pass(0, 1), Next::Free),
+        (Step::Enter(1), Next::Held(1)),
+    ] {
+        assert_eq!(rt; book.try_step(step), Ok(want), "at {step:?}");
+    }
+    Ok(())
+}
+
+#[test]
+fn a_book_in_use_answers(rt: HostRuntime) -> Result<(), Fail> {
+    let mut book = Book::make(rt.alloc(), 4, 2)?;
+    assert_eq!(rt; book.try_step(Step::Enter(0)), Ok(Next::Held(0)));
+    assert_eq!(rt; book.try_step(Step::Wait(0, 1, 9)), Ok(Next::Free));
+    assert_eq!(rt; book.try_step(Step::Enter(1)), Ok(Next::Held(1)));
+    assert_eq!(rt; book.try_step(Step::Wait(1, 1, 2)), Ok(Next::Free));
+    assert_eq!(rt; book.try_step(Step::Enter(2)), Ok(Next::Held(2)));
+    assert_eq!(rt; book.now(), Next::Held(2));
+    assert!(rt; book.queue(1));
+    assert!(rt; !book.queue(0));
+    assert_eq!(rt; book.first(1), Some(2));
+    assert_eq!(rt; book.count(0), 0);
+    assert_eq!(rt; book.count(1), 2);
+    assert_eq!(rt; book.priority(1, 1), 9);
+    assert!(rt; book.outside(3));
+    assert!(rt; !book.outside(1));
+    Ok(())
+}
+
+#[test]
+fn steps_are_refused_in_order(rt: HostRuntime) -> Result<(), Fail> {
+    let mut book = Book::make(rt.alloc(), 3, 1)?;
+    for (step, want) in [
+        (Step::Enter(3), Err(StepRefused::NoPlace)),
+        (Step::Leave(u64::MAX), Err(StepRefused::NoPlace)),
+        (Step::Wait(3, 1, 0), Err(StepRefused::NoPlace)),
+        (Step::Wait(0, 1, 0), Err(StepRefused::NotInside)),
+        (Step::Signal(0, 1), Err(StepRefused::NotInside)),
+        (Step::Pass(0, 1), Err(StepRefused::NotInside)),
+        (Step::Leave(0), Err(StepRefused::NotInside)),
+        (Step::Enter(0), Ok(Next::Held(0))),
+        (Step::Enter(0), Err(StepRefused::NotFree)),
+        (Step::Enter(1), Err(StepRefused::NotFree)),
+        (Step::Wait(0, 1, 0), Err(StepRefused::NoCondition)),
+        (Step::Signal(0, 1), Err(StepRefused::NoCondition)),
+        (Step::Pass(0, 1), Err(StepRefused::NoCondition)),
+        (Step::Wait(0, 0, 0), Ok(Next::Free)),
+        (Step::Enter(0), Err(StepRefused::NotOutside)),
+    ] {
+        assert_eq!(rt; book.try_step(step), want, "at {step:?}");
+    }
+    Ok(())
+}
+
+// Each call of its own, with what it asks for proved of the history so far.
+#[test]
+fn calls_hand_the_monitor_on(rt: HostRuntime) -> Result<(), Fail> {
+    let mut book = Book::make(rt.alloc(), 3, 2)?;
+    book.admit(0);
+    assert_eq!(rt; book.wait(0, 1, 7), Next::Free);
+    book.admit(1);
+    assert_eq!(rt; book.signal(1, 1), Next::For(0));
+    assert_eq!(rt; book.first(1), None);
+    book.claim(0);
+    assert_eq!(rt; book.now(), Next::Held(0));
+    assert_eq!(rt; book.wait(0, 0, 2), Next::For(1));
+    book.claim(1);
+    assert_eq!(rt; book.pass(1, 0), Next::For(0));
+    assert!(rt; book.outside(1));
+    book.claim(0);
+    assert_eq!(rt; book.leave(0), Next::Free);
+    Ok(())
+}
+
+// The next number of a fixed generator.
+fn next_number(number: u64) -> u64 {
+    number
+        .wrapping_mul(6364136223846793005)
+        .wrapping_add(1442695040888963407)
+}
+
+// A newcomer's step, or one of the place inside, which waits in `waits` of 8 cases. Place 0 never waits, so that there is
+// always somebody who can come in.
+fn mixed_step(now: Next, waits: u64, number: u64) -> Step {
+    let condition = (number >> 16) % 8;
+    let priority = (number >> 24) % 4;
+    match now {
+        Next::Free => Step::Enter((number >> 32) % 64),
+        Next::For(k) | Next::Held(k) => {
+            let place = k as u64;
+            let act = (number >> 40) % 8;
+            if act < waits && place != 0 {
+                return Step::Wait(place, condition, priority);
+            }
+            match act {
+                6 => Step::Pass(place, condition),
+                7 => Step::Leave(place),
+                _ => Step::Signal(place, condition),
+            }
+        }
+    }
+}
+
+// 10,000 steps of 64 places on 8 conditions, by turns with many and with few waits. The place inside is never refused, and a
+// newcomer only where its place waits. No step asks for memory: `rt try --test --fail-alloc N` passes with this test from the
+// same N on as without.
+#[test]
+fn long_mixed_run(rt: HostRuntime) -> Result<(), Fail> {
+    let mut book = Book::make(rt.alloc(), MOST_PLACES, MOST_CONDITIONS)?;
+    let mut number = 1;
+    for i in 0..10_000 {
+        number = next_number(number);
+        let waits = if i % 2_000 < 1_000 { 5 } else { 2 };
+        let step = mixed_step(book.now(), waits, number);
+        let refused = book.try_step(step).err();
+        assert!(rt; refused.is_none() || refused == Some(StepRefused::NotOutside));
+    }
+    Ok(())
+}

@@ -1,0 +1,49 @@
+// Lines of a form, and how a text is put together.
+use arrayvec::ArrayVec;
+use line_text::forms::{one_number, two_numbers};
+use line_text::text::{append, append_number};
+
+#[test]
+fn one_after_a_word(rt: HostRuntime) {
+    assert_eq!(rt; one_number(b"read 7", b"read"), Some(7));
+    let others: [&[u8]; 8] = [
+        b"read 07",
+        b"read",
+        b"read ",
+        b"read 7 ",
+        b"read 7 8",
+        b" read 7",
+        b"reads 7",
+        b"",
+    ];
+    for line in others {
+        assert_eq!(rt; one_number(line, b"read"), None);
+    }
+}
+
+#[test]
+fn two_after_a_word(rt: HostRuntime) {
+    for (line, wanted) in [
+        (b"disk 400 1".as_slice(), Some((400, 1))),
+        (b"disk 1 400".as_slice(), Some((1, 400))),
+        (b"disk 400".as_slice(), None),
+        (b"disk 400 x".as_slice(), None),
+        (b"disk 400 1 2".as_slice(), None),
+        (b"Disk 400 1".as_slice(), None),
+    ] {
+        assert_eq!(rt; two_numbers(line, b"disk"), wanted);
+    }
+}
+
+#[test]
+fn words_and_numbers_are_added(rt: HostRuntime) {
+    let mut text = ArrayVec::new();
+    append(&mut text, b"job ");
+    append_number(&mut text, 0);
+    append(&mut text, b" sum ");
+    append_number(&mut text, u64::MAX);
+    assert_eq!(rt;
+        text.as_slice(),
+        b"job 0 sum 18446744073709551615".as_slice()
+    );
+}

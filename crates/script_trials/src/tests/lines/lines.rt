@@ -1,0 +1,64 @@
+// Lines, their limits, and what is left behind them.
+use arrayvec::ArrayVec;
+use line_text::line::{Ended, Line, LineFault, read_line};
+use line_text::reader::WatchedReader;
+use std::process::Abort;
+use std::test::Fail;
+
+// Reads one line of a text where there is room: the line, how it ended, and what is left.
+fn check<R: Abort>(
+    rt: &R,
+    text: &[u8],
+    room: usize,
+    wanted: (Result<Ended, LineFault>, &[u8], &[u8]),
+) {
+    let mut rest = text;
+    let mut line: Line = ArrayVec::new();
+    let result = read_line(&mut WatchedReader::new(&mut rest), &mut line, room);
+    assert_eq!(rt; result, wanted.0);
+    assert_eq!(rt; line.as_slice(), wanted.1);
+    assert_eq!(rt; rest, wanted.2);
+}
+
+#[test]
+fn line_ends(rt: HostRuntime) {
+    check(&rt, b"ab\ncd", 99, (Ok(Ended::Line), b"ab", b"cd"));
+    check(&rt, b"\n\n", 99, (Ok(Ended::Line), b"", b"\n"));
+    check(&rt, b"cd", 99, (Ok(Ended::Last), b"cd", b""));
+    check(&rt, b"", 99, (Ok(Ended::Last), b"", b""));
+    check(&rt, b"a\rb\n", 99, (Ok(Ended::Line), b"a\rb", b""));
+}
+
+#[test]
+fn room_of_a_line(rt: HostRuntime) {
+    check(&rt, b"ab\ncd", 3, (Ok(Ended::Line), b"ab", b"cd"));
+    check(&rt, b"ab\ncd", 2, (Err(LineFault::TooMuch), b"ab", b"cd"));
+    check(&rt, b"ab", 2, (Ok(Ended::Last), b"ab", b""));
+    check(&rt, b"\n", 0, (Err(LineFault::TooMuch), b"", b""));
+    check(&rt, b"", 0, (Ok(Ended::Last), b"", b""));
+}
+
+#[test]
+fn longest_line(rt: HostRuntime) -> Result<(), Fail> {
+    let mut text = Vec::new(rt.alloc());
+    text.resize(256, b'e')?;
+    text.extend_from_slice(b"\nx")?;
+    let longest = text.as_slice().get(..256).ok_or("a shorter text")?;
+    check(&rt, text.as_slice(), 999, (Ok(Ended::Line), longest, b"x"));
+    check(&rt, longest, 999, (Ok(Ended::Last), longest, b""));
+    check(
+        &rt,
+        text.as_slice(),
+        256,
+        (Err(LineFault::TooMuch), longest, b"x"),
+    );
+    let mut longer = Vec::new(rt.alloc());
+    longer.resize(258, b'e')?;
+    check(
+        &rt,
+        longer.as_slice(),
+        999,
+        (Err(LineFault::TooLong), longest, b"e"),
+    );
+    Ok(())
+}

@@ -1,0 +1,121 @@
+// What a watched reader and a watched writer do to those inside, and what they remember.
+use arrayvec::ArrayVec;
+use line_text::line::{Ended, Line, LineFault, read_line};
+use line_text::reader::{ReadFailed, WatchedReader};
+use line_text::writer::{WatchedWriter, WriteFailed};
+use std::io;
+use std::io::{Read, Write};
+
+// Gives its bytes and then ends, or fails, and counts its calls, those that failed, and the bytes.
+#[derive(Drop)]
+struct Counting<'a> {
+    rest: &'a [u8],
+    fails: bool,
+    calls: u64,
+    failures: u64,
+    bytes: u64,
+}
+
+impl<'a> Counting<'a> {
+    fn new(rest: &'a [u8], fails: bool) -> Counting<'a> {
+        Counting {
+            rest,
+            fails,
+            calls: 0,
+            failures: 0,
+            bytes: 0,
+        }
+    }
+}
+
+impl Read for Counting<'_> {
+    fn read(&mut self, buf: &mut [u8]) -> io::Result<usize> {
+        self.calls = self.calls.saturating_add(1);
+        if self.rest.is_empty() && self.fails {
+            self.failures = self.failures.saturating_add(1);
+            return Err(io::Error::from(io::ErrorKind::BrokenPipe));
+        }
+        let given = self.rest.read(buf)?;
+        self.bytes = self.bytes.saturating_add(given as u64);
+        Ok(given)
+    }
+}
+
+// Each call of the watched reader is one of the reader inside, and the mark is set where that one failed.
+#[test]
+fn reads_are_made_and_counted(rt: HostRuntime) {
+    for (fails, end, failures) in [(false, Ok(None), 0), (true, Err(ReadFailed), 1)] {
+        let mut reader = Counting::new(b"ab", fails);
+        let mut watched = WatchedReader::new(&mut reader);
+        assert_eq!(rt; watched.read_byte(), Ok(Some(b'a')));
+        assert_eq!(rt; watched.read_byte(), Ok(Some(b'b')));
+        assert!(rt; !watched.has_failed());
+        assert_eq!(rt; watched.read_byte(), end);
+        assert_eq!(rt; watched.has_failed(), fails);
+        assert_eq!(rt; watched.calls(), 3);
+        assert_eq!(rt; watched.bytes(), 2);
+        assert_eq!(rt; reader.calls, 3);
+        assert_eq!(rt; reader.failures, failures);
+        assert_eq!(rt; reader.bytes, 2);
+    }
+}
+
+#[test]
+fn line_of_a_failing_reader(rt: HostRuntime) {
+    let mut reader = Counting::new(b"ab\nc", true);
+    let mut watched = WatchedReader::new(&mut reader);
+    let mut line: Line = ArrayVec::new();
+    assert_eq!(rt; read_line(&mut watched, &mut line, 99), Ok(Ended::Line));
+    assert!(rt; !watched.has_failed());
+    assert_eq!(rt;
+        read_line(&mut watched, &mut line, 99),
+        Err(LineFault::Failed)
+    );
+    assert!(rt; watched.has_failed());
+    assert_eq!(rt; watched.calls(), 5);
+    assert_eq!(rt; reader.calls, 5);
+    assert_eq!(rt; reader.bytes, 4);
+}
+
+// Takes two bytes a call while there is room, and then fails or takes nothing, and counts its calls.
+#[derive(Drop)]
+struct Filling {
+    taken: ArrayVec<u8, 8>,
+    fails: bool,
+    calls: u64,
+}
+
+impl Write for Filling {
+    fn write(&mut self, buf: &[u8]) -> io::Result<usize> {
+        self.calls = self.calls.saturating_add(1);
+        let length = buf.len().min(2).min(self.taken.remaining_capacity());
+        if self.taken.is_full() && self.fails {
+            return Err(io::Error::from(io::ErrorKind::BrokenPipe));
+        }
+        let _ = self.taken.try_extend_from_slice(&buf[..length]);
+        Ok(length)
+    }
+
+    fn flush(&mut self) -> io::Result<()> {
+        Ok(())
+    }
+}
+
+// Three writes leave room for three bytes; then one byte of four finds none, and the mark is set.
+#[test]
+fn writes_are_whole_or_marked(rt: HostRuntime) {
+    for fails in [false, true] {
+        let mut writer = Filling {
+            taken: ArrayVec::new(),
+            fails,
+            calls: 0,
+        };
+        let mut watched = WatchedWriter::new(&mut writer);
+        assert_eq!(rt; watched.write_whole(b"abcde"), Ok(()));
+        assert!(rt; !watched.has_failed());
+        assert_eq!(rt; watched.write_whole(b"fghi"), Err(WriteFailed));
+        assert!(rt; watched.has_failed());
+        assert_eq!(rt; writer.taken.as_slice(), b"abcdefgh".as_slice());
+        assert_eq!(rt; writer.calls, 6);
+    }
+}

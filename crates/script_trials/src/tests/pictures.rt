@@ -1,0 +1,42 @@
+// What scripts are drawn as, and how they end.
+mod charts;
+mod faults;
+mod svgs;
+
+use script_picture::fault::PictureFault;
+use script_picture::picture::{Form, draw_script};
+use std::alloc::Global;
+use std::io::Write;
+use std::test::Fail;
+
+const HAND_OVER: &[u8] =
+    b"monitor 2 1\nenter 0\nwait 0 0 0\nenter 1\nsignal 1 0\nleave 0\nleave 1\n";
+
+// What a script is drawn as, and how it ends.
+fn drawn(alloc: Global, script: &[u8], form: Form) -> (Result<(), PictureFault>, Vec<u8>) {
+    let mut reader = script;
+    let mut writer = Vec::new(alloc);
+    let result = draw_script(alloc, &mut reader, &mut writer, form);
+    (result, writer)
+}
+
+// How often a text stands in another.
+fn times(text: &[u8], part: &[u8]) -> usize {
+    let mut found: usize = 0;
+    for at in 0..text.len() {
+        if text[at..].starts_with(part) {
+            found = found.saturating_add(1);
+        }
+    }
+    found
+}
+
+// A script in which each of 64 places waits, with the greatest priority or with 7.
+fn sixty_four_waits(alloc: Global, greatest: bool) -> Result<Vec<u8>, Fail> {
+    let mut script = b"monitor 64 1\n".to_vec(alloc)?;
+    for place in 0..64u32 {
+        let priority = if greatest || place == 0 { u64::MAX } else { 7 };
+        write!(script, "enter {place}\nwait {place} 0 {priority}\n")?;
+    }
+    Ok(script)
+}

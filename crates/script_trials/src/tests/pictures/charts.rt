@@ -1,0 +1,166 @@
+// Charts that were drawn by hand.
+use super::{HAND_OVER, drawn, sixty_four_waits};
+use script_picture::picture::Form;
+use std::io::Write;
+use std::test::Fail;
+
+#[test]
+fn hand_over_as_text(rt: HostRuntime) {
+    let (result, text) = drawn(rt.alloc(), HAND_OVER, Form::Text);
+    assert_eq!(rt; result, Ok(()));
+    let lines = b"monitor 2 1    0       1
+enter 0        [in]    .
+wait 0 0 0     c0:0    .       -> free
+enter 1        c0:0    [in]
+signal 1 0     [in] <- sig
+leave 0        . ----> [in]
+leave 1        .       .       -> free
+";
+    assert_eq!(rt; text.as_slice(), lines.as_slice());
+}
+
+#[test]
+fn questions_and_refusals_as_text(rt: HostRuntime) {
+    let script =
+        b"monitor 3 2\nqueue 1\nenter 0\nenter 1\nwait 0 1 12345\nfirst 1\nfirst 0\nenter 0\nenter 2\nfirst 2\npass 2 1\nleave 3";
+    let (result, text) = drawn(rt.alloc(), script, Form::Text);
+    assert_eq!(rt; result, Ok(()));
+    let lines = b"monitor 3 2       0           2       (1 idle)
+queue 1           .           .       -> false
+enter 0           [in]        .
+enter 1           [in]        .       -> refused 2 (the monitor isn't free)
+wait 0 1 12345    c1:12345    .       -> free
+first 1           c1:12345    .       -> 12345
+first 0           c1:12345    .       -> none
+enter 0           c1:12345    .
+    -> refused 3 (the place waits on a condition)
+enter 2           c1:12345    [in]
+first 2           c1:12345    [in]    -> refused 5 (there is no such condition)
+pass 2 1          [in] <----- .
+leave 3           [in]        .       -> refused 1 (there is no such place)
+";
+    assert_eq!(rt; text.as_slice(), lines.as_slice());
+}
+
+// The chart of the script of docs/DEFINITIONS.md that has every step, drawn by hand from the table there.
+#[test]
+fn every_step_as_text(rt: HostRuntime) {
+    let script =
+        b"monitor 4 2\nenter 0\nwait 0 0 7\nenter 1\nwait 1 0 7\nenter 2\nwait 2 1 0\nenter 3\nfirst 0\nqueue 1\nsignal 3 0\nfirst 0\npass 0 1\nenter 0\nleave 2\npass 3 1\nenter 0\nsignal 0 0\nwait 1 1 5\nqueue 0\nfirst 1\nleave 0\nenter 1\n";
+    let (result, text) = drawn(rt.alloc(), script, Form::Text);
+    assert_eq!(rt; result, Ok(()));
+    let lines = b"monitor 4 2    0       1       2       3
+enter 0        [in]    .       .       .
+wait 0 0 7     c0:7    .       .       .       -> free
+enter 1        c0:7    [in]    .       .
+wait 1 0 7     c0:7    c0:7    .       .       -> free
+enter 2        c0:7    c0:7    [in]    .
+wait 2 1 0     c0:7    c0:7    c1:0    .       -> free
+enter 3        c0:7    c0:7    c1:0    [in]
+first 0        c0:7    c0:7    c1:0    [in]    -> 7
+queue 1        c0:7    c0:7    c1:0    [in]    -> true
+signal 3 0     [in] <- c0:7 -- c1:0 -- sig
+first 0        [in]    c0:7    c1:0    sig     -> 7
+pass 0 1       . ----- c0:7 -> [in]    sig
+enter 0        .       c0:7    [in]    sig
+    -> refused 2 (the monitor isn't free)
+leave 2        .       c0:7    . ----> [in]
+pass 3 1       .       c0:7    .       .       -> free
+enter 0        [in]    c0:7    .       .
+signal 0 0     sig --> [in]    .       .
+wait 1 1 5     [in] <- c1:5    .       .
+queue 0        [in]    c1:5    .       .       -> false
+first 1        [in]    c1:5    .       .       -> 5
+leave 0        .       c1:5    .       .       -> free
+enter 1        .       c1:5    .       .
+    -> refused 3 (the place waits on a condition)
+";
+    assert_eq!(rt; text.as_slice(), lines.as_slice());
+}
+
+// Lanes that have no room side by side: two of them are 29 + 4 + 23 + 4 + 23 long with the step, and 3 more for an arrow.
+#[test]
+fn folded_lanes_as_text(rt: HostRuntime) {
+    let script =
+        b"monitor 3 1\nenter 0\nwait 0 0 18446744073709551615\nenter 1\nwait 1 0 18446744073709551615\nenter 2\nsignal 2 0\nleave 0\nleave 2\n";
+    let (result, text) = drawn(rt.alloc(), script, Form::Text);
+    assert_eq!(rt; result, Ok(()));
+    let lines = b"monitor 3 1                      0
+enter 0                          [in]
+wait 0 0 18446744073709551615    c0:18446744073709551615
+enter 1                          c0:18446744073709551615
+wait 1 0 18446744073709551615    c0:18446744073709551615
+enter 2                          c0:18446744073709551615
+signal 2 0                       [in] <--------------------
+leave 0                          . ------------------------
+leave 2                          .
+
+monitor 3 1                      1                          2
+enter 0                          .                          .
+wait 0 0 18446744073709551615    .                          .       -> free
+enter 1                          [in]                       .
+wait 1 0 18446744073709551615    c0:18446744073709551615    .       -> free
+enter 2                          c0:18446744073709551615    [in]
+signal 2 0 <-------------------- c0:18446744073709551615 -- sig
+leave 0 ------------------------ c0:18446744073709551615 -> [in]
+leave 2                          c0:18446744073709551615    .       -> free
+";
+    assert_eq!(rt; text.as_slice(), lines.as_slice());
+}
+
+// A lane stands beside another where the line has 80 letters at most with an arrow behind it, and so does a remark. The step has 29
+// letters, the first lane 4 + 23 and the second 4 + 3 and the digits of its priority: with 14 digits and 3 for an arrow that is 80. With 6
+// digits it is 69, and `-> free` is 4 + 7 more.
+#[test]
+fn lines_of_eighty_as_text(rt: HostRuntime) -> Result<(), Fail> {
+    for (priority, end) in [
+        (
+            100_000u64,
+            "\nwait 1 0 100000                  c0:18446744073709551615    c0:100000    -> free\n",
+        ),
+        (
+            1_000_000,
+            "\nwait 1 0 1000000                 c0:18446744073709551615    c0:1000000\n    -> free\n",
+        ),
+        (
+            10_000_000_000_000,
+            "\nwait 1 0 10000000000000          c0:18446744073709551615    c0:10000000000000\n    -> free\n",
+        ),
+        (
+            100_000_000_000_000,
+            "\nwait 1 0 100000000000000         c0:100000000000000    -> free\n",
+        ),
+    ] {
+        let mut script = b"monitor 2 1\nenter 0\nwait 0 0 18446744073709551615\nenter 1\n".to_vec(
+            rt.alloc(),
+        )?;
+        write!(script, "wait 1 0 {priority}\n")?;
+        let (result, text) = drawn(rt.alloc(), script.as_slice(), Form::Text);
+        assert_eq!(rt; result, Ok(()));
+        assert!(rt;
+            text.as_slice().ends_with(end.as_bytes()),
+            "with {priority}"
+        );
+    }
+    Ok(())
+}
+
+// No line is over 80 long, where all 64 places wait with priorities of one digit, or of twenty.
+#[test]
+fn lines_fit_a_terminal(rt: HostRuntime) -> Result<(), Fail> {
+    for greatest in [false, true] {
+        let script = sixty_four_waits(rt.alloc(), greatest)?;
+        let (result, text) = drawn(rt.alloc(), script.as_slice(), Form::Text);
+        assert_eq!(rt; result, Ok(()));
+        let mut length: usize = 0;
+        for byte in text.as_slice() {
+            length = if *byte == b'\n' {
+                0
+            } else {
+                length.saturating_add(1)
+            };
+            assert!(rt; length <= 80);
+        }
+    }
+    Ok(())
+}

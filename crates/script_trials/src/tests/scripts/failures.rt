@@ -1,0 +1,157 @@
+// A script that is cut off, a reader that fails and writers that fail, at each byte.
+use super::told;
+use arrayvec::ArrayVec;
+use hoare_script::{ScriptFault, run};
+use std::io;
+use std::io::{Read, Write};
+use std::test::Fail;
+
+const SCRIPT: &[u8] = b"monitor 2 1\nenter 0\nwait 0 0 0\nenter 1\nsignal 1 0\nleave 0\nleave 1\n";
+
+const ANSWERS: &[u8] =
+    b"enter 0 -> 0\nwait 0 0 0 -> free\nenter 1 -> 1\nsignal 1 0 -> 0\nleave 0 -> 1\nleave 1 -> free\n";
+
+// The answers to the first `lines` lines after the header.
+fn answers_to(lines: usize) -> &'static [u8] {
+    let end = match lines {
+        0 => 0,
+        1 => 13,
+        2 => 32,
+        3 => 45,
+        4 => 61,
+        5 => 74,
+        _ => 90,
+    };
+    ANSWERS.get(..end).unwrap_or(ANSWERS)
+}
+
+// How the first `length` bytes of the script end, and how many lines of them are answered.
+fn at_cut(length: usize) -> (Result<(), ScriptFault>, usize) {
+    match length {
+        0 => (Err(ScriptFault::NoHeader), 0),
+        1..=10 => (Err(ScriptFault::BadHeader(1)), 0),
+        11..=12 => (Ok(()), 0),
+        13..=18 => (Err(ScriptFault::BadLine(2)), 0),
+        19..=20 => (Ok(()), 1),
+        21..=29 => (Err(ScriptFault::BadLine(3)), 1),
+        30..=31 => (Ok(()), 2),
+        32..=37 => (Err(ScriptFault::BadLine(4)), 2),
+        38..=39 => (Ok(()), 3),
+        40..=48 => (Err(ScriptFault::BadLine(5)), 3),
+        49..=50 => (Ok(()), 4),
+        51..=56 => (Err(ScriptFault::BadLine(6)), 4),
+        57..=58 => (Ok(()), 5),
+        59..=64 => (Err(ScriptFault::BadLine(7)), 5),
+        _ => (Ok(()), 6),
+    }
+}
+
+#[test]
+fn script_cut_at_each_byte(rt: HostRuntime) -> Result<(), Fail> {
+    for length in 0..=66usize {
+        let script = SCRIPT.get(..length).ok_or("a shorter script")?;
+        let (wanted, lines) = at_cut(length);
+        let (result, written) = told(rt.alloc(), script);
+        assert_eq!(rt; result, wanted, "cut at {length}");
+        assert_eq!(rt; written.as_slice(), answers_to(lines), "cut at {length}");
+    }
+    Ok(())
+}
+
+// Gives its bytes, and then fails.
+#[derive(Drop)]
+struct Breaking<'a> {
+    rest: &'a [u8],
+}
+
+impl Read for Breaking<'_> {
+    fn read(&mut self, buf: &mut [u8]) -> io::Result<usize> {
+        if self.rest.is_empty() {
+            return Err(io::Error::from(io::ErrorKind::BrokenPipe));
+        }
+        self.rest.read(buf)
+    }
+}
+
+// How many step lines end at or before a byte.
+fn lines_ended(length: usize) -> usize {
+    match length {
+        0..=19 => 0,
+        20..=30 => 1,
+        31..=38 => 2,
+        39..=49 => 3,
+        50..=57 => 4,
+        58..=65 => 5,
+        _ => 6,
+    }
+}
+
+#[test]
+fn script_reader_fails(rt: HostRuntime) -> Result<(), Fail> {
+    for length in 0..=66usize {
+        let rest = SCRIPT.get(..length).ok_or("a shorter script")?;
+        let mut written = Vec::new(rt.alloc());
+        let result = run(rt.alloc(), &mut Breaking { rest }, &mut written);
+        assert_eq!(rt; result, Err(ScriptFault::ReadFault), "after {length}");
+        assert_eq!(rt;
+            written.as_slice(),
+            answers_to(lines_ended(length)),
+            "after {length}"
+        );
+    }
+    Ok(())
+}
+
+// Takes a byte a call while there is room, and then fails or takes nothing.
+#[derive(Drop)]
+pub struct Filling {
+    taken: ArrayVec<u8, 90>,
+    room: usize,
+    fails: bool,
+}
+
+impl Filling {
+    pub fn new(room: usize, fails: bool) -> Filling {
+        Filling {
+            taken: ArrayVec::new(),
+            room,
+            fails,
+        }
+    }
+}
+
+impl Write for Filling {
+    fn write(&mut self, buf: &[u8]) -> io::Result<usize> {
+        match buf.first() {
+            Some(byte) if self.taken.len() < self.room && self.taken.try_push(*byte).is_ok() => {
+                Ok(1)
+            }
+            _ if self.fails => Err(io::Error::from(io::ErrorKind::BrokenPipe)),
+            _ => Ok(0),
+        }
+    }
+
+    fn flush(&mut self) -> io::Result<()> {
+        Ok(())
+    }
+}
+
+#[test]
+fn script_writer_fails(rt: HostRuntime) -> Result<(), Fail> {
+    for fails in [true, false] {
+        for room in 0..=90usize {
+            let mut writer = Filling::new(room, fails);
+            let mut reader = SCRIPT;
+            let result = run(rt.alloc(), &mut reader, &mut writer);
+            let wanted = if room < 90 {
+                Err(ScriptFault::WriteFault)
+            } else {
+                Ok(())
+            };
+            assert_eq!(rt; result, wanted, "after {room}");
+            let prefix = ANSWERS.get(..room).ok_or("shorter answers")?;
+            assert_eq!(rt; writer.taken.as_slice(), prefix, "after {room}");
+        }
+    }
+    Ok(())
+}

@@ -1,0 +1,133 @@
+// What a run reads of its text, and what it leaves.
+use super::failures::Filling;
+use hoare_script::runs::MOST_BYTES;
+use hoare_script::{ScriptFault, run, run_watched};
+use line_text::reader::WatchedReader;
+use line_text::writer::WatchedWriter;
+use std::io;
+use std::io::Read;
+use std::process::Abort;
+use std::test::Fail;
+
+// Runs a script, and looks at its end and at what is left of the text.
+fn check<R: Abort + AllocGlobal>(
+    rt: &R,
+    text: &[u8],
+    wanted: Result<(), ScriptFault>,
+    left: &[u8],
+) {
+    let mut rest = text;
+    let mut written = Vec::new(rt.alloc());
+    let result = run(rt.alloc(), &mut rest, &mut written);
+    assert_eq!(rt; result, wanted);
+    assert_eq!(rt; rest, left);
+}
+
+#[test]
+fn bytes_left_behind_a_verdict(rt: HostRuntime) {
+    let header = Err(ScriptFault::BadHeader(1));
+    let line = Err(ScriptFault::BadLine(3));
+    check(&rt, b"", Err(ScriptFault::NoHeader), b"");
+    check(&rt, b"monitor 1 1\nenter 0\n", Ok(()), b"");
+    check(&rt, b"monitor 1 1\nenter 0", Ok(()), b"");
+    check(&rt, b"monitor 1\nenter 0\n", header, b"enter 0\n");
+    check(&rt, b"monitor 1 9\n\n", header, b"\n");
+    check(&rt, b"monitor 1 9", header, b"");
+    check(
+        &rt,
+        b"monitor 1 1\nenter 0\nx\nleave 0\n",
+        line,
+        b"leave 0\n",
+    );
+    check(&rt, b"monitor 1 1\nenter 0\nx", line, b"");
+}
+
+// Runs a script that is watched: its end, the reads that were made, and the bytes that they gave.
+fn counted<R: Abort + AllocGlobal>(
+    rt: &R,
+    reader: &mut Endless,
+) -> (Result<(), ScriptFault>, u64, u64) {
+    let mut written = Vec::new(rt.alloc());
+    let mut watched = WatchedReader::new(reader);
+    let result = run_watched(
+        rt.alloc(),
+        &mut watched,
+        &mut WatchedWriter::new(&mut written),
+    );
+    (result, watched.calls(), watched.bytes())
+}
+
+// Gives a header's line, and then one line again and again, up to a limit of bytes, where it fails: so a run that reads on is
+// seen, and doesn't read for ever.
+#[derive(Drop)]
+struct Endless {
+    line: &'static [u8],
+    rest: &'static [u8],
+    limit: usize,
+}
+
+impl Endless {
+    fn new(line: &'static [u8], limit: usize) -> Endless {
+        Endless {
+            line,
+            rest: b"monitor 1 1\n",
+            limit,
+        }
+    }
+}
+
+impl Read for Endless {
+    fn read(&mut self, buf: &mut [u8]) -> io::Result<usize> {
+        if self.limit == 0 {
+            return Err(io::Error::from(io::ErrorKind::BrokenPipe));
+        }
+        if self.rest.is_empty() {
+            self.rest = self.line;
+        }
+        let given = self.rest.read(buf)?;
+        self.limit = self.limit.saturating_sub(given);
+        Ok(given)
+    }
+}
+
+// One byte more than a script may have is read, and none behind it.
+#[test]
+fn endless_script(rt: HostRuntime) {
+    let most = MOST_BYTES as u64;
+    let mut reader = Endless::new(b"leave 0\n", 1_048_577);
+    let end = counted(&rt, &mut reader);
+    assert_eq!(rt; end, (Err(ScriptFault::TooMuch), 1_048_577, 1_048_577));
+    assert_eq!(rt; most, 1_048_576);
+}
+
+// The header's 12 bytes, and 257 of the line.
+#[test]
+fn endless_second_line(rt: HostRuntime) {
+    let mut reader = Endless::new(b"e", 269);
+    let end = counted(&rt, &mut reader);
+    assert_eq!(rt; end, (Err(ScriptFault::LineTooLong(2)), 269, 269));
+}
+
+// The limit of the reader fires: 20 bytes are given, and the next read fails.
+#[test]
+fn endless_reader_ends(rt: HostRuntime) {
+    let mut reader = Endless::new(b"leave 0\n", 20);
+    let end = counted(&rt, &mut reader);
+    assert_eq!(rt; end, (Err(ScriptFault::ReadFault), 21, 20));
+}
+
+// A line whose answer can't be written is the last that is read, and both marks are what happened.
+#[test]
+fn marks_of_a_full_writer(rt: HostRuntime) -> Result<(), Fail> {
+    let mut rest = b"monitor 1 1\nenter 0\nleave 0\n".as_slice();
+    let mut full = Filling::new(0, false);
+    let mut reader = WatchedReader::new(&mut rest);
+    let mut writer = WatchedWriter::new(&mut full);
+    let result = run_watched(rt.alloc(), &mut reader, &mut writer);
+    assert_eq!(rt; result, Err(ScriptFault::WriteFault));
+    assert!(rt; writer.has_failed());
+    assert!(rt; !reader.has_failed());
+    assert_eq!(rt; reader.bytes(), 20);
+    assert_eq!(rt; rest, b"leave 0\n".as_slice());
+    Ok(())
+}

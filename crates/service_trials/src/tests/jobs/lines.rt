@@ -1,0 +1,133 @@
+// Each fault of a job file at its line, and where reading stops.
+use disk_jobs::{ServiceFault, read_jobs, read_jobs_watched};
+use line_text::reader::WatchedReader;
+use std::alloc::Global;
+use std::io;
+use std::io::{Read, Write};
+use std::test::Fail;
+
+fn last_of(alloc: Global, file: &[u8]) -> Result<usize, ServiceFault> {
+    let mut reader = file;
+    read_jobs(alloc, &mut reader).map(|jobs| jobs.cylinders().len())
+}
+
+#[test]
+fn faults_at_their_lines(rt: HostRuntime) {
+    for (file, wanted) in [
+        (b"\n".as_slice(), Err(ServiceFault::BadLine(1))),
+        (b"\ndisk 1 1\n".as_slice(), Err(ServiceFault::BadLine(1))),
+        (b"read 1\n".as_slice(), Err(ServiceFault::BadLine(1))),
+        (b"disk 65536 1\n".as_slice(), Err(ServiceFault::BadLine(1))),
+        (b"disk 1 0\n".as_slice(), Err(ServiceFault::BadLine(1))),
+        (b"disk 1\n".as_slice(), Err(ServiceFault::BadLine(1))),
+        (b"disk 1 1 1\n".as_slice(), Err(ServiceFault::BadLine(1))),
+        (b"disk 01 1\n".as_slice(), Err(ServiceFault::BadLine(1))),
+        (
+            b"disk 1 4294967297\n".as_slice(),
+            Err(ServiceFault::BadLine(1)),
+        ),
+        (b"disk 1 16".as_slice(), Ok(0)),
+        (b"disk 65535 16\n".as_slice(), Ok(0)),
+        (b"disk 1 1\n\n".as_slice(), Err(ServiceFault::BadLine(2))),
+        (
+            b"disk 1 1\ndisk 1 1\n".as_slice(),
+            Err(ServiceFault::BadLine(2)),
+        ),
+        (
+            b"disk 1 1\nread 1\nread 2\n".as_slice(),
+            Err(ServiceFault::BadLine(3)),
+        ),
+        (
+            b"disk 1 1\nread 1\nread x".as_slice(),
+            Err(ServiceFault::BadLine(3)),
+        ),
+        (
+            b"disk 1 1\nread 65537\n".as_slice(),
+            Err(ServiceFault::BadLine(2)),
+        ),
+        (
+            b"disk 1 1\nread 1 \n".as_slice(),
+            Err(ServiceFault::BadLine(2)),
+        ),
+        (
+            b"disk 65535 1\nread \xff\n".as_slice(),
+            Err(ServiceFault::BadLine(2)),
+        ),
+        (
+            b"disk 65535 1\nread \xff".as_slice(),
+            Err(ServiceFault::BadLine(2)),
+        ),
+        (b"\xff".as_slice(), Err(ServiceFault::BadLine(1))),
+        (b"disk 1 1\nread 1\nread 0".as_slice(), Ok(2)),
+    ] {
+        assert_eq!(rt; last_of(rt.alloc(), file), wanted);
+    }
+}
+
+#[test]
+fn long_lines(rt: HostRuntime) -> Result<(), Fail> {
+    let alloc = rt.alloc();
+    for (header, wanted) in [(b"".as_slice(), 1), (b"disk 1 1\n".as_slice(), 2)] {
+        for length in [256usize, 257, 1000] {
+            let mut file = Vec::new(alloc);
+            file.write_all(header)?;
+            for _ in 0..length {
+                file.push(b'e')?;
+            }
+            file.write_all(b"\nread 1\n")?;
+            let mut reader = file.as_slice();
+            let result = read_jobs(alloc, &mut reader).map(|_| ());
+            assert_eq!(rt; result, Err(ServiceFault::BadLine(wanted)));
+            let past = if length == 256 { 7 } else { length - 257 + 8 };
+            assert_eq!(rt; reader.len(), past);
+        }
+    }
+    Ok(())
+}
+
+// Gives the header, if there is one, and then one line for ever.
+#[derive(Drop)]
+struct Endless<'a> {
+    header: &'a [u8],
+    line: &'a [u8],
+    at: usize,
+}
+
+impl Read for Endless<'_> {
+    fn read(&mut self, buf: &mut [u8]) -> io::Result<usize> {
+        if !self.header.is_empty() {
+            return self.header.read(buf);
+        }
+        let (Some(to), Some(byte)) = (buf.first_mut(), self.line.get(self.at)) else {
+            return Ok(0);
+        };
+        *to = *byte;
+        self.at = if self.at + 1 == self.line.len() {
+            0
+        } else {
+            self.at + 1
+        };
+        Ok(1)
+    }
+}
+
+#[test]
+fn endless_readers(rt: HostRuntime) {
+    let header = b"disk 1 1\n".as_slice();
+    for (header, line, wanted, most) in [
+        (header, b"read 1\n".as_slice(), 4098, 9 + 4097 * 7),
+        (header, b"e".as_slice(), 2, 9 + 257),
+        (header, b"\n".as_slice(), 2, 10),
+        (b"".as_slice(), b"e".as_slice(), 1, 257),
+    ] {
+        let mut reader = Endless {
+            header,
+            line,
+            at: 0,
+        };
+        let mut watched = WatchedReader::new(&mut reader);
+        let result = read_jobs_watched(rt.alloc(), &mut watched).map(|_| ());
+        assert_eq!(rt; result, Err(ServiceFault::BadLine(wanted)));
+        assert_eq!(rt; (watched.bytes(), watched.calls()), (most, most));
+    }
+}

@@ -1,0 +1,45 @@
+// The kinds, and the faults with their texts and statuses.
+use disk_jobs::{Kind, ServiceFault, kind_of};
+use std::io::Write;
+use std::test::Fail;
+
+#[test]
+fn kinds(rt: HostRuntime) -> Result<(), Fail> {
+    let alloc = rt.alloc();
+    for (words, wanted) in [
+        ([].as_slice(), Some(Kind::Baton)),
+        (["baton"].as_slice(), Some(Kind::Baton)),
+        (["ticket"].as_slice(), Some(Kind::Ticket)),
+        (["Baton"].as_slice(), None),
+        (["tickets"].as_slice(), None),
+        ([""].as_slice(), None),
+        (["baton", "ticket"].as_slice(), None),
+        (["baton", "baton"].as_slice(), None),
+    ] {
+        let mut given = Vec::new(alloc);
+        for word in words {
+            given.push(String::from_str(alloc, word)?)?;
+        }
+        assert_eq!(rt; kind_of(given.as_slice()), wanted);
+    }
+    Ok(())
+}
+
+#[test]
+fn faults(rt: HostRuntime) -> Result<(), Fail> {
+    for (fault, text, status) in [
+        (ServiceFault::Memory, "fault 1 Memory", 3),
+        (ServiceFault::BadLine(2), "fault 2 BadLine line 2", 2),
+        (ServiceFault::NoHeader, "fault 3 NoHeader", 2),
+        (ServiceFault::Spawn, "fault 4 Spawn", 3),
+        (ServiceFault::Torn, "fault 5 Torn", 3),
+        (ServiceFault::ReadFault, "fault 6 ReadFault", 3),
+        (ServiceFault::WriteFault, "fault 7 WriteFault", 3),
+    ] {
+        let mut written = Vec::new(rt.alloc());
+        write!(written, "{fault}")?;
+        assert_eq!(rt; written.as_slice(), text.as_bytes());
+        assert_eq!(rt; fault.status(), status);
+    }
+    Ok(())
+}

@@ -1,8 +1,8 @@
 //! Parties that work in rounds: nobody goes on before all have ended the round.
 ghost use Rattle.std.specs.Prelude.{All, IfOk};
 
-use crate::no_memory;
-use baton_door::door::Door;
+use crate::{name_of, no_memory};
+use any_door::{AnyDoor, DoorKind};
 use cookbook::barrier::{Arrival, Barrier};
 use hoare_law::monitor::Monitor;
 use std::alloc::Global;
@@ -10,7 +10,6 @@ use std::sync::Wait;
 use std::sync::atomic::{AtomicU64, Ordering};
 use std::thread::Threads;
 use std::{io, thread};
-use ticket_door::door::TicketDoor;
 
 const PARTIES: u32 = 4;
 
@@ -19,9 +18,7 @@ const ROUNDS: u64 = 3;
 /// A barrier that threads share. (A closure that goes to a thread needs a bound with no parameter of its own.)
 pub trait SharedBarrier: Monitor<Barrier> + Sync + Drop {}
 
-impl SharedBarrier for Door<Barrier> {}
-
-impl SharedBarrier for TicketDoor<Barrier> {}
+impl SharedBarrier for AnyDoor<Barrier> {}
 
 // What the threads share beside the barrier: how many rounds the parties have ended, how often a party found that all had ended the
 // round when it went on, and how often one came last.
@@ -91,14 +88,9 @@ where
 
 /// On the baton door and on the ticket door.
 pub fn show_on_both<R: Threads + Wait + Print + Sync>(rt: &R, alloc: Global) -> io::Result<()> {
-    show(
-        rt,
-        "baton door",
-        Door::make(alloc, Barrier::new(PARTIES), PARTIES as usize),
-    )?;
-    show(
-        rt,
-        "ticket door",
-        TicketDoor::make(alloc, Barrier::new(PARTIES), PARTIES as usize),
-    )
+    for kind in DoorKind::BOTH {
+        let made = AnyDoor::make(alloc, kind, Barrier::new(PARTIES), PARTIES as usize);
+        show(rt, name_of(kind), made)?;
+    }
+    Ok(())
 }

@@ -1,8 +1,8 @@
 //! Workers that do the parts of a work, and readers that wait until all parts are done.
 ghost use Rattle.std.specs.Prelude.{All, IfOk};
 
-use crate::no_memory;
-use baton_door::door::Door;
+use crate::{name_of, no_memory};
+use any_door::{AnyDoor, DoorKind};
 use cookbook::latch::Latch;
 use hoare_law::monitor::Monitor;
 use std::alloc::Global;
@@ -12,7 +12,6 @@ use std::sync::atomic::{AtomicU64, Ordering};
 use std::thread::Threads;
 use std::time::Duration;
 use std::{io, thread};
-use ticket_door::door::TicketDoor;
 
 const READERS: u64 = 3;
 
@@ -23,9 +22,7 @@ const THREADS: usize = 6;
 /// A latch that threads share.
 pub trait SharedLatch: Monitor<Latch> + Sync + Drop {}
 
-impl SharedLatch for Door<Latch> {}
-
-impl SharedLatch for TicketDoor<Latch> {}
+impl SharedLatch for AnyDoor<Latch> {}
 
 // What the threads share beside the latch: how many of them have come, how many parts are done, and how many readers passed when all
 // parts were done.
@@ -87,14 +84,9 @@ pub fn show_on_both<R: Threads + Wait + Clock + Print + Sync>(
     rt: &R,
     alloc: Global,
 ) -> io::Result<()> {
-    show(
-        rt,
-        "baton door",
-        Door::make(alloc, Latch::new(PARTS), THREADS),
-    )?;
-    show(
-        rt,
-        "ticket door",
-        TicketDoor::make(alloc, Latch::new(PARTS), THREADS),
-    )
+    for kind in DoorKind::BOTH {
+        let made = AnyDoor::make(alloc, kind, Latch::new(PARTS), THREADS);
+        show(rt, name_of(kind), made)?;
+    }
+    Ok(())
 }

@@ -1,8 +1,8 @@
 //! A mailbox that is full of letters, a sender with less urgent ones, and a reader.
 ghost use Rattle.std.specs.Prelude.{All, IfOk};
 
-use crate::no_memory;
-use baton_door::door::Door;
+use crate::{name_of, no_memory};
+use any_door::{AnyDoor, DoorKind};
 use cookbook::mailbox::{Letter, Mailbox};
 use hoare_law::monitor::Monitor;
 use std::alloc::Global;
@@ -12,7 +12,6 @@ use std::sync::atomic::{AtomicU64, Ordering};
 use std::thread::Threads;
 use std::time::Duration;
 use std::{io, thread};
-use ticket_door::door::TicketDoor;
 
 // The letters that fill the mailbox before the threads begin, in no order. A letter's number is its priority: 0 is the most urgent.
 const FIRST: [u64; 8] = [3, 0, 5, 2, 7, 4, 1, 6];
@@ -25,9 +24,7 @@ const LETTERS: u64 = 16;
 /// A mailbox that threads share.
 pub trait SharedMailbox: Monitor<Mailbox> + Sync + Drop {}
 
-impl SharedMailbox for Door<Mailbox> {}
-
-impl SharedMailbox for TicketDoor<Mailbox> {}
+impl SharedMailbox for AnyDoor<Mailbox> {}
 
 fn letter(number: u64) -> Letter {
     Letter {
@@ -103,10 +100,9 @@ pub fn show_on_both<R: Threads + Wait + Clock + Print + Sync>(
     rt: &R,
     alloc: Global,
 ) -> io::Result<()> {
-    show(rt, "baton door", Door::make(alloc, Mailbox::new(), 3))?;
-    show(
-        rt,
-        "ticket door",
-        TicketDoor::make(alloc, Mailbox::new(), 3),
-    )
+    for kind in DoorKind::BOTH {
+        let made = AnyDoor::make(alloc, kind, Mailbox::new(), 3);
+        show(rt, name_of(kind), made)?;
+    }
+    Ok(())
 }

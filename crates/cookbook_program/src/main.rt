@@ -7,12 +7,20 @@ mod mailbox;
 mod rendezvous;
 mod table;
 
+use any_door::DoorKind;
 use std::alloc::AllocError;
 use std::io;
 
 // A door is refused: out of memory, for the numbers of places and conditions are in range.
 fn no_memory() -> io::Error {
     io::Error::from(AllocError)
+}
+
+fn name_of(kind: DoorKind) -> &'static str {
+    match kind {
+        DoorKind::Baton => "baton door",
+        DoorKind::Ticket => "ticket door",
+    }
 }
 
 fn main(rt: HostRuntime) -> io::Result<()> {

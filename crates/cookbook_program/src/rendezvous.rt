@@ -1,8 +1,8 @@
 //! Threads that meet in pairs and exchange their numbers.
 ghost use Rattle.std.specs.Prelude.{All, IfOk};
 
-use crate::no_memory;
-use baton_door::door::Door;
+use crate::{name_of, no_memory};
+use any_door::{AnyDoor, DoorKind};
 use cookbook::rendezvous::Rendezvous;
 use hoare_law::monitor::Monitor;
 use std::alloc::Global;
@@ -10,7 +10,6 @@ use std::sync::Wait;
 use std::sync::atomic::{AtomicU64, Ordering};
 use std::thread::Threads;
 use std::{io, thread};
-use ticket_door::door::TicketDoor;
 
 // An even number, so that each has a partner.
 const THREADS: usize = 8;
@@ -18,9 +17,7 @@ const THREADS: usize = 8;
 /// A rendezvous that threads share.
 pub trait SharedRendezvous: Monitor<Rendezvous<u64>> + Sync + Drop {}
 
-impl SharedRendezvous for Door<Rendezvous<u64>> {}
-
-impl SharedRendezvous for TicketDoor<Rendezvous<u64>> {}
+impl SharedRendezvous for AnyDoor<Rendezvous<u64>> {}
 
 // The number that a thread gave, and the one that it got.
 #[derive(Clone, Copy)]
@@ -91,14 +88,9 @@ where
 
 /// On the baton door and on the ticket door.
 pub fn show_on_both<R: Threads + Wait + Print + Sync>(rt: &R, alloc: Global) -> io::Result<()> {
-    show(
-        rt,
-        "baton door",
-        Door::make(alloc, Rendezvous::new(), THREADS),
-    )?;
-    show(
-        rt,
-        "ticket door",
-        TicketDoor::make(alloc, Rendezvous::new(), THREADS),
-    )
+    for kind in DoorKind::BOTH {
+        let made = AnyDoor::make(alloc, kind, Rendezvous::new(), THREADS);
+        show(rt, name_of(kind), made)?;
+    }
+    Ok(())
 }

@@ -1,8 +1,8 @@
 //! Five philosophers that eat again and again.
 ghost use Rattle.std.specs.Prelude.{◌<◌, All, IfOk};
 
-use crate::no_memory;
-use baton_door::door::Door;
+use crate::{name_of, no_memory};
+use any_door::{AnyDoor, DoorKind};
 use cookbook::table::{SEATS, Table};
 use hoare_law::monitor::Monitor;
 use std::alloc::Global;
@@ -12,16 +12,13 @@ use std::sync::atomic::{AtomicU64, Ordering};
 use std::thread::Threads;
 use std::time::Duration;
 use std::{io, thread};
-use ticket_door::door::TicketDoor;
 
 const MEALS: u64 = 20;
 
 /// A table that threads share.
 pub trait SharedTable: Monitor<Table> + Sync + Drop {}
 
-impl SharedTable for Door<Table> {}
-
-impl SharedTable for TicketDoor<Table> {}
+impl SharedTable for AnyDoor<Table> {}
 
 // What the philosophers share beside the table: how many have come, who eats (bit k is the philosopher at seat k), how many meals were
 // had, and how many of them beside a neighbour who ate.
@@ -99,10 +96,9 @@ pub fn show_on_both<R: Threads + Wait + Clock + Print + Sync>(
     rt: &R,
     alloc: Global,
 ) -> io::Result<()> {
-    show(rt, "baton door", Door::make(alloc, Table::new(), SEATS))?;
-    show(
-        rt,
-        "ticket door",
-        TicketDoor::make(alloc, Table::new(), SEATS),
-    )
+    for kind in DoorKind::BOTH {
+        let made = AnyDoor::make(alloc, kind, Table::new(), SEATS);
+        show(rt, name_of(kind), made)?;
+    }
+    Ok(())
 }

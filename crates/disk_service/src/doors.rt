@@ -3,13 +3,13 @@ ghost use Rattle.std.specs.Prelude.{◌≡◌, ◌+◌, ◌≤◌, IfOk, IfErr};
 ghost use Rattle.disk_service.specs.Made.{IsMade};
 ghost use Rattle.disk_service.specs.Doors.{AreSized, AreThere, board_terms, clock_terms, head_terms, items_terms, pool_terms, totals_terms};
 
-use crate::any_door::AnyDoor;
 use crate::data::{Board, Drive, Item, Totals};
+use crate::door::{Made, closed, opened};
 use crate::places::Places;
+use any_door::AnyDoor;
 use disk_jobs::fault::ServiceFault;
 use disk_jobs::jobs::Jobs;
 use disk_jobs::kind::Kind;
-use door_frame::place::Outside;
 use plain_schedulers::buffer::Buffer;
 use plain_schedulers::single::Single;
 use std::alloc::Global;
@@ -84,18 +84,15 @@ impl Doors {
             totals,
             board,
         } = self;
-        items.close(places.items);
-        clock.close(places.clock);
-        pool.close(places.pool);
-        head.close(places.head);
-        let totals = totals.close(places.totals).into_item();
-        let board = board.close(places.board).into_value();
+        closed(items, places.items);
+        closed(clock, places.clock);
+        closed(pool, places.pool);
+        closed(head, places.head);
+        let totals = closed(totals, places.totals).into_item();
+        let board = closed(board, places.board).into_value();
         (totals, board)
     }
 }
-
-// A door and its places.
-type Made<D> = (AnyDoor<D>, Vec<Outside<D>>);
 
 // The doors of the jobs that wait, of the time, and of the buffers, and their places.
 fn first_doors(
@@ -110,7 +107,7 @@ fn first_doors(
     ensures fault { IfErr result (λ f. f ≡ ServiceFault.Memory) }
 {
     let items = items_door(alloc, kind, count)?;
-    let clock = AnyDoor::make(alloc, kind, Alarm::at(0), count)?;
+    let clock = opened(alloc, kind, Alarm::at(0), count)?;
     let pool = pool_door(alloc, kind, jobs, count)?;
     Ok((items, clock, pool))
 }
@@ -121,7 +118,7 @@ fn items_door(alloc: Global, kind: Kind, count: usize) -> Result<Made<Buffer<Ite
     ensures fault { IfErr result (λ f. f ≡ ServiceFault.Memory) }
 {
     match Buffer::make(alloc, CELLS) {
-        Ok(cells) => AnyDoor::make(alloc, kind, cells, count),
+        Ok(cells) => opened(alloc, kind, cells, count),
         Err(_) => Err(ServiceFault::Memory),
     }
 }
@@ -138,7 +135,7 @@ fn pool_door(
 {
     let workers = jobs.workers();
     match Pool::make(alloc, (workers + 1) / 2, workers) {
-        Ok(buffers) => AnyDoor::make(alloc, kind, buffers, count),
+        Ok(buffers) => opened(alloc, kind, buffers, count),
         Err(_) => Err(ServiceFault::Memory),
     }
 }
@@ -167,8 +164,8 @@ fn other_doors(
         done: 0,
         closed: false,
     };
-    let head = AnyDoor::make(alloc, kind, disk, count)?;
-    let totals = AnyDoor::make(alloc, kind, Single::with(Totals::NONE), count)?;
-    let board = AnyDoor::make(alloc, kind, ReadersWriters::with(note), count)?;
+    let head = opened(alloc, kind, disk, count)?;
+    let totals = opened(alloc, kind, Single::with(Totals::NONE), count)?;
+    let board = opened(alloc, kind, ReadersWriters::with(note), count)?;
     Ok((head, totals, board))
 }

@@ -1,11 +1,11 @@
 //! A simulated disk service: jobs that read blocks, workers that do them, and a report.
 #![tactic(auto)]
 
-mod any_door;
 mod board;
 mod caller;
 mod clock;
 mod data;
+mod door;
 mod doors;
 pub mod gate;
 mod places;

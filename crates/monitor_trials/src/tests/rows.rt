@@ -14,7 +14,7 @@ mod readers_stress;
 mod schedulers;
 mod shared_log;
 mod stress;
-mod tally;
+pub mod tally;
 mod tickets;
 mod turns;
 mod wakes;

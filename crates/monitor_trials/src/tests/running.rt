@@ -4,6 +4,7 @@ ghost use Rattle.std.specs.Fork.{AcceptsJobs, GivesJobs};
 ghost use Rattle.monitor_trials.specs.Numbered.{IsNumbered};
 
 use crate::tests::limit::within;
+pub use any_door::DoorKind;
 use hoare_law::data::MonitorData;
 use hoare_law::monitor::Monitor;
 use hoare_law::waits::Waits;
@@ -15,17 +16,6 @@ use std::sync::atomic::{AtomicBool, Ordering};
 use std::thread;
 use std::thread::Threads;
 use std::time::Duration;
-
-/// On which door a row is run.
-#[derive(Clone, Copy, Debug, PartialEq, Eq)]
-pub enum DoorKind {
-    Baton,
-    Ticket,
-}
-
-impl DoorKind {
-    pub const BOTH: [DoorKind; 2] = [DoorKind::Baton, DoorKind::Ticket];
-}
 
 /// The places, each with its number.
 fn numbered<O: Drop>(alloc: Global, outs: Vec<O>) -> Result<Vec<(usize, O)>, AllocError>
@@ -130,4 +120,14 @@ pub fn await_sign<R: Abort + Clock>(rt: &R, sign: &AtomicBool) {
         thread::sleep(rt, Duration::from_millis(1));
     }
     panic!(rt; "no sign came")
+}
+
+/// Fails the test where the places of a row answered something else on a door of this kind.
+pub fn answered<R: Abort>(rt: &R, kind: DoorKind, answers: &[u64], wanted: &[u64]) {
+    assert_eq!(rt; answers, wanted, "{kind:?}");
+}
+
+/// Fails the test where not all places of a row answered on a door of this kind.
+pub fn all_answered<R: Abort>(rt: &R, kind: DoorKind, answers: &[u64], places: usize) {
+    assert_eq!(rt; answers.len(), places, "{kind:?}");
 }

@@ -3,7 +3,8 @@ ghost use Rattle.std.specs.Prelude.{◌≡◌, ◌∷◌, [], All, vec_len};
 ghost use Rattle.monitor_trials.specs.Numbered.{IsNumbered};
 
 use crate::tests::limit::within;
-use crate::tests::{on_baton_door, on_ticket_door};
+use crate::tests::on_any_door::{closed, made};
+use crate::tests::running::DoorKind;
 use hoare_law::monitor::Monitor;
 use plain_schedulers::single::{NotOut, Single};
 use std::alloc::Global;
@@ -73,21 +74,16 @@ fn change_items<R: Wait + Abort, M: Monitor<Single<u64>>>(
     (alone(rt, alloc, out), alone(rt, alloc, other))
 }
 
-// The row on two doors of one kind: the items that are in when they are closed.
-macro_rules! change_on {
-    ($rt:ident, $door:ident) => {
-        within(&$rt, || {
-            let (first, outs) = $door::made(&$rt, $rt.alloc(), Single::with(7u64), 1);
-            let (second, others) = $door::made(&$rt, $rt.alloc(), Single::with(8u64), 1);
-            let (outs, others) = change_items(&$rt, $rt.alloc(), &first, outs, &second, others);
-            let left = $door::closed(first, outs).into_item();
-            (left, $door::closed(second, others).into_item())
-        })
-    };
-}
-
 #[test]
 fn items_change_monitors(rt: HostRuntime) {
-    assert_eq!(rt; change_on!(rt, on_baton_door), (None, Some(7)));
-    assert_eq!(rt; change_on!(rt, on_ticket_door), (None, Some(7)));
+    for kind in DoorKind::BOTH {
+        let left = within(&rt, || {
+            let (first, outs) = made(&rt, rt.alloc(), kind, Single::with(7u64), 1);
+            let (second, others) = made(&rt, rt.alloc(), kind, Single::with(8u64), 1);
+            let (outs, others) = change_items(&rt, rt.alloc(), &first, outs, &second, others);
+            let left = closed(first, outs).into_item();
+            (left, closed(second, others).into_item())
+        });
+        assert_eq!(rt; left, (None, Some(7)), "{kind:?}");
+    }
 }

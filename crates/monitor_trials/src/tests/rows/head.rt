@@ -6,7 +6,7 @@ ghost use Rattle.sweep_schedulers.specs.Heads.{HeadRests};
 use crate::tests::rows::head_stress::{CYLMAX, Line, PLACES, is_a_sweep, travels};
 use crate::tests::rows::shared_log::Log;
 use crate::tests::rows::turns::{Turns, line_up};
-use crate::tests::running::DoorKind;
+use crate::tests::running::{DoorKind, all_answered};
 use hoare_law::monitor::Monitor;
 use std::alloc::Global;
 use std::process::Abort;
@@ -239,7 +239,7 @@ fn a_disk_head_on_both_doors(host: HostRuntime) -> Result<(), Fail> {
                 disk(alloc, cylmax),
                 places
             );
-            assert_eq!(rt; answers.len(), places, "{kind:?}");
+            all_answered(rt, kind, answers.as_slice(), places);
         }
         is_a_sweep(rt, log);
     }

@@ -6,7 +6,7 @@ use crate::tests::rows::late_reader::reads_or_writes_late;
 use crate::tests::rows::readers_stress::{Line, PLACES, is_read_and_written, reads_or_writes_on};
 use crate::tests::rows::shared_log::Log;
 use crate::tests::rows::turns::{Turns, line_up};
-use crate::tests::running::DoorKind;
+use crate::tests::running::{DoorKind, all_answered};
 use hoare_law::monitor::Monitor;
 use hoare_law::waits::Waits;
 use std::alloc::Global;
@@ -326,7 +326,7 @@ fn readers_and_writers_on_both_doors(host: HostRuntime) -> Result<(), Fail> {
                 ReadersWriters::with(value),
                 places
             );
-            assert_eq!(rt; answers.len(), places, "{kind:?}");
+            all_answered(rt, kind, answers.as_slice(), places);
             agrees(rt, row, shared.into_value());
         }
         is_read_and_written(rt, log);

@@ -1,7 +1,7 @@
 //! The single item and the bounded buffer.
 ghost use Rattle.std.specs.Prelude.{◌≡◌};
 
-use crate::tests::running::{DoorKind, await_sign, watch};
+use crate::tests::running::{DoorKind, answered, await_sign, watch};
 use hoare_law::monitor::Monitor;
 use plain_schedulers::buffer::{Buffer, MOST_CELLS};
 use plain_schedulers::single::{NotOut, Single};
@@ -85,7 +85,7 @@ fn an_item_is_lent_and_comes_back(host: HostRuntime) {
             Single::with(7u64),
             2
         );
-        assert_eq!(host; answers.as_slice(), [796, 8].as_slice(), "{kind:?}");
+        answered(rt, kind, answers.as_slice(), &[796, 8]);
     }
 }
 
@@ -94,19 +94,9 @@ fn items_come_out_in_order(host: HostRuntime) -> Result<(), Fail> {
     let (rt, alloc) = (&host, host.alloc());
     for (cells, items) in [(1, 4), (MOST_CELLS, 5000)] {
         for kind in DoorKind::BOTH {
-            let (_, answers) = run_row_on!(
-                kind,
-                rt,
-                alloc,
-                appends_or_removes(items),
-                Buffer::make(alloc, cells)?,
-                2
-            );
-            assert_eq!(host;
-                answers.as_slice(),
-                [0, items].as_slice(),
-                "{kind:?}, {cells} cells"
-            );
+            let buffer = Buffer::make(alloc, cells)?;
+            let (_, answers) = run_row_on!(kind, rt, alloc, appends_or_removes(items), buffer, 2);
+            answered(rt, kind, answers.as_slice(), &[0, items]);
         }
     }
     Ok(())

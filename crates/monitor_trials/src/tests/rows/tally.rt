@@ -100,8 +100,8 @@ fn signals_on<R: Wait + Abort, M: Monitor<Tally>>(
     (m.leave(rt, inside), 0)
 }
 
-// One place makes each call. Nobody waits, so nothing is resumed: it answers 1 where all calls say so, and leaves 42.
-fn calls_all<R: Wait, M: Monitor<Tally>>(rt: &R, m: &M, out: M::Out) -> (M::Out, u64)
+/// One place makes each call. Nobody waits, so nothing is resumed: it answers 1 where all calls say so, and leaves 42.
+pub fn calls_all<R: Wait, M: Monitor<Tally>>(rt: &R, m: &M, out: M::Out) -> (M::Out, u64)
     requires { M.is_of m.now out }
     ensures of { M.is_of m.now result.0 }
     ensures place { M.place result.0 ≡ M.place out }

@@ -55,7 +55,7 @@ fn who_asked_comes_in_by_its_ticket(host: HostRuntime) {
     let (tally, tickets) = run_row!(
         rt,
         alloc,
-        on_ticket_door,
+        on_ticket_door(),
         asks_and_looks_late(&asked),
         Tally { value: 0 },
         3
@@ -93,7 +93,7 @@ fn who_hands_up_resumes_who_waits(host: HostRuntime) {
     let (tally, told) = run_row!(
         rt,
         alloc,
-        on_ticket_door,
+        on_ticket_door(),
         waits_or_hands_up(),
         Tally { value: 0 },
         2

@@ -1,16 +1,13 @@
-//! A door of either kind.
-ghost use Rattle.std.specs.Prelude.{◌≡◌, ◌<◌, IfOk, IfErr};
-ghost use Rattle.hoare_law.specs.Priorities.{nobody};
+//! The calls of a monitor, on a door of either kind.
+ghost use Rattle.std.specs.Prelude.{◌≡◌};
 ghost use Rattle.wait_book.specs.Contents.{IsPlaceBelow};
 ghost use Rattle.door_frame.specs.Steps.{MayGive};
 ghost use Rattle.door_frame.specs.Seats.{GoesOut};
 ghost use Rattle.door_frame.specs.Departures.{event_of};
-ghost use Rattle.disk_service.specs.Doors.{AreFirst, id_of, terms};
+ghost use Rattle.any_door.specs.Doors.{door_of};
 
-use baton_door::door::Door;
+use crate::door::AnyDoor;
 use crossbeam_utils::sync::Parker;
-use disk_jobs::fault::ServiceFault;
-use disk_jobs::kind::Kind;
 use door_frame::calls;
 use door_frame::departure::Departure;
 use door_frame::parcel::Parcel;
@@ -19,21 +16,12 @@ use door_frame::plays::DoorSeat;
 use door_frame::turnstile::Turnstile;
 use hoare_law::data::MonitorData;
 use hoare_law::monitor::Monitor;
-use std::alloc::Global;
 use std::sync::Wait;
-use ticket_door::door::TicketDoor;
 use wait_book::book::Book;
 use wait_book::steps::Next;
 
-/// A monitor for running threads, on a door of either kind.
-#[derive(Drop)]
-pub(crate) enum AnyDoor<D: MonitorData> {
-    Baton(Door<D>),
-    Ticket(TicketDoor<D>),
-}
-
 impl<D: MonitorData> Turnstile<D> for AnyDoor<D> {
-    ghost id = { λ d. id_of d };
+    ghost id = { λ d. door_of d };
 
     #[inline]
     fn admit<R: Wait>(&self, rt: &R, seat: &mut DoorSeat<D>, place: usize) -> Parcel<D> {
@@ -65,8 +53,8 @@ impl<D: MonitorData> Turnstile<D> for AnyDoor<D> {
         departure: Departure,
         next: Next,
     )
-        requires table { seat.old.table_id ≡ (id_of self.now).table }
-        requires next { IsPlaceBelow (id_of self.now).places next }
+        requires table { seat.old.table_id ≡ (door_of self.now).table }
+        requires next { IsPlaceBelow (door_of self.now).places next }
         requires event { MayGive D.rest D.ready (event_of place departure next) place
             seat.old.me parcel next }
         ensures table { seat.new.table_id ≡ seat.old.table_id }
@@ -92,9 +80,9 @@ impl<D: MonitorData + Send> Monitor<D> for AnyDoor<D> {
 
     type Lists = Book;
 
-    ghost is_of = { λ m o. IsOut D.rest D.ready D.CONDITIONS (id_of m) o };
+    ghost is_of = { λ m o. IsOut D.rest D.ready D.CONDITIONS (door_of m) o };
 
-    ghost is_of_in = { λ m i. IsIn D.rest D.ready D.CONDITIONS (id_of m) i };
+    ghost is_of_in = { λ m i. IsIn D.rest D.ready D.CONDITIONS (door_of m) i };
 
     ghost place = { λ o. o.place };
 
@@ -187,42 +175,4 @@ impl<D: MonitorData + Send> Monitor<D> for AnyDoor<D> {
     ghost keeps_lists = { λ i d. refl };
 
     ghost keeps_front = { λ i d. refl };
-}
-
-impl<D: MonitorData + Send + Drop> AnyDoor<D> {
-    /// A door of this kind with this number of places, 1 to 64, and the places, in order.
-    pub(crate) fn make(
-        alloc: Global,
-        kind: Kind,
-        state: D,
-        places: usize,
-    ) -> Result<(AnyDoor<D>, Vec<Outside<D>>), ServiceFault>
-        requires { D.rest state nobody }
-        ensures size { IfOk result (λ r. (id_of r.0).places ≡ places) }
-        ensures places { IfOk result (λ r. AreFirst (terms D.rest D.ready D.CONDITIONS)
-            (id_of r.0) places r.1.items) }
-        ensures fault { IfErr result (λ f. f ≡ ServiceFault.Memory) }
-    {
-        match kind {
-            Kind::Baton => match Door::make(alloc, state, places) {
-                Ok((door, outs)) => Ok((AnyDoor::Baton(door), outs)),
-                Err(_) => Err(ServiceFault::Memory),
-            },
-            Kind::Ticket => match TicketDoor::make(alloc, state, places) {
-                Ok((door, outs)) => Ok((AnyDoor::Ticket(door), outs)),
-                Err(_) => Err(ServiceFault::Memory),
-            },
-        }
-    }
-
-    /// The data that the places left: all of them are handed in.
-    pub(crate) fn close(self, places: Vec<Outside<D>>) -> D
-        requires { AreFirst (terms D.rest D.ready D.CONDITIONS) (id_of self)
-            (id_of self).places places.items }
-    {
-        match self {
-            AnyDoor::Baton(door) => door.close(places),
-            AnyDoor::Ticket(door) => door.close(places),
-        }
-    }
 }

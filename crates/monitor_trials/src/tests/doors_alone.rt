@@ -1,4 +1,6 @@
-//! What `make` refuses, on both doors.
+//! Each door alone, on one thread: each call once, and what `make` refuses.
+use crate::tally::Tally;
+use crate::tests::rows::tally::calls_all;
 use baton_door::door::Door;
 use hoare_law::unasked::Unasked;
 use std::alloc::Global;
@@ -43,4 +45,22 @@ fn make_refuses_in_order(rt: HostRuntime) {
         assert!(rt; refused_baton::<9, _>(&rt, alloc, places) == (7, want));
         assert!(rt; refused_ticket::<9, _>(&rt, alloc, places) == (7, want));
     }
+}
+
+// What one place answers that makes each call of a door, and the number that it leaves.
+macro_rules! one_place {
+    ($rt:ident, $door:ident) => {{
+        let Ok((door, mut outs)) = $door::make($rt.alloc(), Tally { value: 0 }, 1) else {
+            panic!($rt; "no memory")
+        };
+        let (out, answer) = calls_all(&$rt, &door, outs.pop().unwrap());
+        outs.push_reserved(out);
+        (answer, door.close(outs).value)
+    }};
+}
+
+#[test]
+fn one_place_calls_all(rt: HostRuntime) {
+    assert!(rt; one_place!(rt, Door) == (1, 42));
+    assert!(rt; one_place!(rt, TicketDoor) == (1, 42));
 }

@@ -1,8 +1,0 @@
-use Rattle.disk_service.proofs.Seats.{has-first}
-use Rattle.disk_service.proofs.any_door.AnyDoor.close.Goals as goal
-
-pub close-requires-clause-places : goal.close-requires-clause-places
-close-requires-clause-places g c = λ _ _ k l. has-first _ _ _ _ c.requires k (rw c.in-Baton.is l)
-
-pub close-requires-in-Ticket-clause-places : goal.close-requires-in-Ticket-clause-places
-close-requires-in-Ticket-clause-places g c = λ _ _ k l. has-first _ _ _ _ c.requires k (rw c.in-Ticket.is l)

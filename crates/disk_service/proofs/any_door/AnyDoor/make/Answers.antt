@@ -1,8 +1,0 @@
-use Rattle.disk_service.proofs.Seats.{all-first}
-use Rattle.disk_service.proofs.any_door.AnyDoor.make.Goals as goal
-
-pub returns-in-Ok-clause-places : goal.returns-in-Ok-clause-places
-returns-in-Ok-clause-places g c = all-first _ _ _ _ _ c.in-Ok.ensures.of c.in-Ok.ensures.places
-
-pub returns-in-Ok-make-clause-places : goal.returns-in-Ok-make-clause-places
-returns-in-Ok-make-clause-places g c = all-first _ _ _ _ _ c.in-Ok-make.ensures.of c.in-Ok-make.ensures.places

@@ -1,0 +1,49 @@
+//! One door of the service: how it is opened and closed.
+ghost use Rattle.std.specs.Prelude.{◌≡◌, IfOk, IfErr};
+ghost use Rattle.hoare_law.specs.Priorities.{nobody};
+ghost use Rattle.any_door.specs.Doors.{door_of};
+ghost use Rattle.disk_service.specs.Doors.{AreFirst, terms};
+
+use any_door::{AnyDoor, DoorKind};
+use disk_jobs::fault::ServiceFault;
+use disk_jobs::kind::Kind;
+use door_frame::place::Outside;
+use hoare_law::data::MonitorData;
+use std::alloc::Global;
+
+/// A door and its places.
+pub(crate) type Made<D> = (AnyDoor<D>, Vec<Outside<D>>);
+
+// The kind of door that this kind of service stands on.
+fn door_kind(kind: Kind) -> DoorKind {
+    match kind {
+        Kind::Baton => DoorKind::Baton,
+        Kind::Ticket => DoorKind::Ticket,
+    }
+}
+
+/// A door of this kind with this number of places, and the places, in order.
+pub(crate) fn opened<D: MonitorData + Send + Drop>(
+    alloc: Global,
+    kind: Kind,
+    state: D,
+    places: usize,
+) -> Result<Made<D>, ServiceFault>
+    requires { D.rest state nobody }
+    ensures size { IfOk result (λ r. (door_of r.0).places ≡ places) }
+    ensures places { IfOk result (λ r. AreFirst (terms D.rest D.ready D.CONDITIONS)
+        (door_of r.0) places r.1.items) }
+    ensures fault { IfErr result (λ f. f ≡ ServiceFault.Memory) }
+{
+    match AnyDoor::make(alloc, door_kind(kind), state, places) {
+        Ok(made) => Ok(made),
+        Err(_) => Err(ServiceFault::Memory),
+    }
+}
+
+/// The data that the places left: all of them are handed in.
+pub(crate) fn closed<D: MonitorData + Send>(door: AnyDoor<D>, places: Vec<Outside<D>>) -> D
+    requires { AreFirst (terms D.rest D.ready D.CONDITIONS) (door_of door) (door_of door).places places.items }
+{
+    door.close(places)
+}

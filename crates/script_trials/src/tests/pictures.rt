@@ -7,6 +7,7 @@ use script_picture::fault::PictureFault;
 use script_picture::picture::{Form, draw_script};
 use std::alloc::Global;
 use std::io::Write;
+use std::process::Abort;
 use std::test::Fail;
 
 const HAND_OVER: &[u8] =
@@ -18,6 +19,25 @@ fn drawn(alloc: Global, script: &[u8], form: Form) -> (Result<(), PictureFault>,
     let mut writer = Vec::new(alloc);
     let result = draw_script(alloc, &mut reader, &mut writer, form);
     (result, writer)
+}
+
+// What a script without a fault is drawn as.
+fn drawn_whole<R: Abort + AllocGlobal>(rt: &R, script: &[u8], form: Form) -> Vec<u8> {
+    let (result, text) = drawn(rt.alloc(), script, form);
+    assert_eq!(rt; result, Ok(()));
+    text
+}
+
+// The chart of a script is these lines, and it ends so.
+fn is_drawn<R: Abort + AllocGlobal>(
+    rt: &R,
+    script: &[u8],
+    wanted: Result<(), PictureFault>,
+    lines: &[u8],
+) {
+    let (result, text) = drawn(rt.alloc(), script, Form::Text);
+    assert_eq!(rt; result, wanted);
+    assert_eq!(rt; text.as_slice(), lines);
 }
 
 // How often a text stands in another.

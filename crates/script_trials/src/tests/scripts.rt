@@ -8,6 +8,7 @@ mod rows;
 
 use hoare_script::{ScriptFault, run};
 use std::alloc::Global;
+use std::process::Abort;
 
 // What a script is answered, and how it ends.
 fn told(alloc: Global, script: &[u8]) -> (Result<(), ScriptFault>, Vec<u8>) {
@@ -15,4 +16,16 @@ fn told(alloc: Global, script: &[u8]) -> (Result<(), ScriptFault>, Vec<u8>) {
     let mut writer = Vec::new(alloc);
     let result = run(alloc, &mut reader, &mut writer);
     (result, writer)
+}
+
+// A script ends so, and these are its answers.
+fn is_told<R: Abort + AllocGlobal>(
+    rt: &R,
+    script: &[u8],
+    wanted: Result<(), ScriptFault>,
+    answers: &[u8],
+) {
+    let (result, written) = told(rt.alloc(), script);
+    assert_eq!(rt; result, wanted);
+    assert_eq!(rt; written.as_slice(), answers);
 }

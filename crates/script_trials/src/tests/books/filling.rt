@@ -172,40 +172,53 @@ impl Plain {
         Ok(())
     }
 
+    // The place inside that acts on a condition, if it is this one and there is such a condition.
+    fn actor(&self, place: u64, condition: u64) -> Result<usize, StepRefused> {
+        let place = self.holder(place)?;
+        self.condition(condition)?;
+        Ok(place)
+    }
+
+    fn wait(&mut self, place: u64, condition: u64, priority: u64) -> Result<(), StepRefused> {
+        let place = self.actor(place, condition)?;
+        self.put(place, Where::Waits(condition, priority, self.now));
+        self.give_up();
+        Ok(())
+    }
+
+    fn signal(&mut self, place: u64, condition: u64) -> Result<(), StepRefused> {
+        let place = self.actor(place, condition)?;
+        if let Some(resumed) = self.chosen(condition) {
+            self.put(place, Where::Signals(self.now));
+            self.go_on(resumed);
+        }
+        Ok(())
+    }
+
+    fn pass(&mut self, place: u64, condition: u64) -> Result<(), StepRefused> {
+        let place = self.actor(place, condition)?;
+        let resumed = self.chosen(condition);
+        self.put(place, Where::Outside);
+        match resumed {
+            Some(successor) => self.go_on(successor),
+            None => self.give_up(),
+        }
+        Ok(())
+    }
+
     fn do_step(&mut self, step: Step) -> Result<(), StepRefused> {
         match step {
-            Step::Enter(place) => self.enter(place)?,
-            Step::Wait(place, condition, priority) => {
-                let place = self.holder(place)?;
-                self.condition(condition)?;
-                self.put(place, Where::Waits(condition, priority, self.now));
-                self.give_up();
-            }
-            Step::Signal(place, condition) => {
-                let place = self.holder(place)?;
-                self.condition(condition)?;
-                if let Some(resumed) = self.chosen(condition) {
-                    self.put(place, Where::Signals(self.now));
-                    self.go_on(resumed);
-                }
-            }
-            Step::Pass(place, condition) => {
-                let place = self.holder(place)?;
-                self.condition(condition)?;
-                let resumed = self.chosen(condition);
-                self.put(place, Where::Outside);
-                match resumed {
-                    Some(successor) => self.go_on(successor),
-                    None => self.give_up(),
-                }
-            }
+            Step::Enter(place) => self.enter(place),
+            Step::Wait(place, condition, priority) => self.wait(place, condition, priority),
+            Step::Signal(place, condition) => self.signal(place, condition),
+            Step::Pass(place, condition) => self.pass(place, condition),
             Step::Leave(place) => {
                 let place = self.holder(place)?;
                 self.put(place, Where::Outside);
                 self.give_up();
+                Ok(())
             }
         }
-        Ok(())
     }
 
     fn step(&mut self, step: Step) -> Result<Next, StepRefused> {

@@ -1,4 +1,5 @@
 use hoare_law::waits::Waits;
+use std::process::Abort;
 use std::test::Fail;
 use wait_book::book::{Book, MOST_CONDITIONS, MOST_PLACES};
 use wait_book::steps::{MakeRefused, Next, Step, StepRefused};
@@ -26,6 +27,12 @@ fn make_takes_the_most(rt: HostRuntime) -> Result<(), Fail> {
     Ok(())
 }
 
+// The book answers a step so.
+fn answers<R: Abort>(rt: &R, book: &mut Book, step: Step, want: Result<Next, StepRefused>) {
+    let found = book.try_step(step);
+    assert_eq!(rt; found, want, "at {step:?}");
+}
+
 #[test]
 fn steps_go_by_priority_then_time(rt: HostRuntime) -> Result<(), Fail> {
     let mut book = Book::make(rt.alloc(), 5, 2)?;
@@ -46,7 +53,7 @@ fn steps_go_by_priority_then_time(rt: HostRuntime) -> Result<(), Fail> {
         (Step::Pass(0, 1), Next::Free),
         (Step::Enter(1), Next::Held(1)),
     ] {
-        assert_eq!(rt; book.try_step(step), Ok(want), "at {step:?}");
+        answers(&rt, &mut book, step, Ok(want));
     }
     Ok(())
 }
@@ -54,20 +61,15 @@ fn steps_go_by_priority_then_time(rt: HostRuntime) -> Result<(), Fail> {
 #[test]
 fn a_book_in_use_answers(rt: HostRuntime) -> Result<(), Fail> {
     let mut book = Book::make(rt.alloc(), 4, 2)?;
-    assert_eq!(rt; book.try_step(Step::Enter(0)), Ok(Next::Held(0)));
-    assert_eq!(rt; book.try_step(Step::Wait(0, 1, 9)), Ok(Next::Free));
-    assert_eq!(rt; book.try_step(Step::Enter(1)), Ok(Next::Held(1)));
-    assert_eq!(rt; book.try_step(Step::Wait(1, 1, 2)), Ok(Next::Free));
-    assert_eq!(rt; book.try_step(Step::Enter(2)), Ok(Next::Held(2)));
-    assert_eq!(rt; book.now(), Next::Held(2));
-    assert!(rt; book.queue(1));
-    assert!(rt; !book.queue(0));
-    assert_eq!(rt; book.first(1), Some(2));
-    assert_eq!(rt; book.count(0), 0);
-    assert_eq!(rt; book.count(1), 2);
+    answers(&rt, &mut book, Step::Enter(0), Ok(Next::Held(0)));
+    answers(&rt, &mut book, Step::Wait(0, 1, 9), Ok(Next::Free));
+    answers(&rt, &mut book, Step::Enter(1), Ok(Next::Held(1)));
+    answers(&rt, &mut book, Step::Wait(1, 1, 2), Ok(Next::Free));
+    answers(&rt, &mut book, Step::Enter(2), Ok(Next::Held(2)));
+    assert!(rt; book.now() == Next::Held(2) && book.outside(3) && !book.outside(1));
+    assert!(rt; book.queue(1) && !book.queue(0) && book.first(1) == Some(2));
+    assert_eq!(rt; (book.count(0), book.count(1)), (0, 2));
     assert_eq!(rt; book.priority(1, 1), 9);
-    assert!(rt; book.outside(3));
-    assert!(rt; !book.outside(1));
     Ok(())
 }
 
@@ -91,7 +93,7 @@ fn steps_are_refused_in_order(rt: HostRuntime) -> Result<(), Fail> {
         (Step::Wait(0, 0, 0), Ok(Next::Free)),
         (Step::Enter(0), Err(StepRefused::NotOutside)),
     ] {
-        assert_eq!(rt; book.try_step(step), want, "at {step:?}");
+        answers(&rt, &mut book, step, want);
     }
     Ok(())
 }

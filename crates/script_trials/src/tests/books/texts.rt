@@ -1,32 +1,37 @@
 //! How refusals read.
 
+use std::fmt::Display;
+use std::process::Abort;
 use std::test::Fail;
 use wait_book::steps::{MakeRefused, StepRefused};
 
-#[test]
-fn refusals_read_plainly(rt: HostRuntime) -> Result<(), Fail> {
-    let alloc = rt.alloc();
-    let shown = format!(in alloc;
-        "{}; {}; {}",
-        MakeRefused::BadPlaces,
-        MakeRefused::BadConditions,
-        MakeRefused::Memory
-    )?;
-    assert_eq!(rt;
-        shown.as_str(),
-        "a monitor has 1 to 64 places; a monitor has 1 to 8 conditions; out of memory"
-    );
-    let shown = format!(in alloc;
-        "{}; {}; {}; {}; {}",
-        StepRefused::NoPlace,
-        StepRefused::NotFree,
-        StepRefused::NotOutside,
-        StepRefused::NotInside,
-        StepRefused::NoCondition
-    )?;
-    assert_eq!(rt;
-        shown.as_str(),
-        "there is no such place; the monitor isn't free; the place waits on a condition; the place isn't inside; there is no such condition"
-    );
+// The refusal reads so.
+fn reads<R: Abort + AllocGlobal, T: Display>(rt: &R, refused: &T, text: &str) -> Result<(), Fail> {
+    let shown = format!(in rt.alloc(); "{refused}")?;
+    assert_eq!(rt; shown.as_str(), text);
     Ok(())
+}
+
+#[test]
+fn making_is_refused_plainly(rt: HostRuntime) -> Result<(), Fail> {
+    reads(&rt, &MakeRefused::BadPlaces, "a monitor has 1 to 64 places")?;
+    reads(
+        &rt,
+        &MakeRefused::BadConditions,
+        "a monitor has 1 to 8 conditions",
+    )?;
+    reads(&rt, &MakeRefused::Memory, "out of memory")
+}
+
+#[test]
+fn steps_are_refused_plainly(rt: HostRuntime) -> Result<(), Fail> {
+    reads(&rt, &StepRefused::NoPlace, "there is no such place")?;
+    reads(&rt, &StepRefused::NotFree, "the monitor isn't free")?;
+    reads(
+        &rt,
+        &StepRefused::NotOutside,
+        "the place waits on a condition",
+    )?;
+    reads(&rt, &StepRefused::NotInside, "the place isn't inside")?;
+    reads(&rt, &StepRefused::NoCondition, "there is no such condition")
 }

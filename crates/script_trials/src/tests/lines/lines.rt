@@ -16,8 +16,10 @@ fn check<R: Abort>(
     let mut line: Line = ArrayVec::new();
     let result = read_line(&mut WatchedReader::new(&mut rest), &mut line, room);
     assert_eq!(rt; result, wanted.0);
-    assert_eq!(rt; line.as_slice(), wanted.1);
-    assert_eq!(rt; rest, wanted.2);
+    assert!(rt;
+        line.as_slice() == wanted.1 && rest == wanted.2,
+        "{line:?}, {rest:?}"
+    );
 }
 
 #[test]

@@ -47,16 +47,11 @@ fn reads_are_made_and_counted(rt: HostRuntime) {
     for (fails, end, failures) in [(false, Ok(None), 0), (true, Err(ReadFailed), 1)] {
         let mut reader = Counting::new(b"ab", fails);
         let mut watched = WatchedReader::new(&mut reader);
-        assert_eq!(rt; watched.read_byte(), Ok(Some(b'a')));
-        assert_eq!(rt; watched.read_byte(), Ok(Some(b'b')));
-        assert!(rt; !watched.has_failed());
-        assert_eq!(rt; watched.read_byte(), end);
-        assert_eq!(rt; watched.has_failed(), fails);
-        assert_eq!(rt; watched.calls(), 3);
-        assert_eq!(rt; watched.bytes(), 2);
-        assert_eq!(rt; reader.calls, 3);
-        assert_eq!(rt; reader.failures, failures);
-        assert_eq!(rt; reader.bytes, 2);
+        let (first, second) = (watched.read_byte(), watched.read_byte());
+        assert!(rt; first == Ok(Some(b'a')) && second == Ok(Some(b'b')) && !watched.has_failed());
+        assert!(rt; watched.read_byte() == end && watched.has_failed() == fails);
+        assert!(rt; watched.calls() == 3 && watched.bytes() == 2);
+        assert!(rt; reader.calls == 3 && reader.failures == failures && reader.bytes == 2);
     }
 }
 
@@ -65,16 +60,11 @@ fn line_of_a_failing_reader(rt: HostRuntime) {
     let mut reader = Counting::new(b"ab\nc", true);
     let mut watched = WatchedReader::new(&mut reader);
     let mut line: Line = ArrayVec::new();
-    assert_eq!(rt; read_line(&mut watched, &mut line, 99), Ok(Ended::Line));
-    assert!(rt; !watched.has_failed());
-    assert_eq!(rt;
-        read_line(&mut watched, &mut line, 99),
-        Err(LineFault::Failed)
-    );
-    assert!(rt; watched.has_failed());
-    assert_eq!(rt; watched.calls(), 5);
-    assert_eq!(rt; reader.calls, 5);
-    assert_eq!(rt; reader.bytes, 4);
+    let first = read_line(&mut watched, &mut line, 99);
+    assert!(rt; first == Ok(Ended::Line) && !watched.has_failed());
+    let second = read_line(&mut watched, &mut line, 99);
+    assert!(rt; second == Err(LineFault::Failed) && watched.has_failed() && watched.calls() == 5);
+    assert!(rt; reader.calls == 5 && reader.bytes == 4);
 }
 
 // Takes two bytes a call while there is room, and then fails or takes nothing, and counts its calls.
@@ -111,11 +101,10 @@ fn writes_are_whole_or_marked(rt: HostRuntime) {
             calls: 0,
         };
         let mut watched = WatchedWriter::new(&mut writer);
-        assert_eq!(rt; watched.write_whole(b"abcde"), Ok(()));
-        assert!(rt; !watched.has_failed());
-        assert_eq!(rt; watched.write_whole(b"fghi"), Err(WriteFailed));
-        assert!(rt; watched.has_failed());
-        assert_eq!(rt; writer.taken.as_slice(), b"abcdefgh".as_slice());
-        assert_eq!(rt; writer.calls, 6);
+        let first = watched.write_whole(b"abcde");
+        assert!(rt; first.is_ok() && !watched.has_failed());
+        let second = watched.write_whole(b"fghi");
+        assert!(rt; second == Err(WriteFailed) && watched.has_failed());
+        assert!(rt; writer.taken.as_slice() == b"abcdefgh".as_slice() && writer.calls == 6);
     }
 }

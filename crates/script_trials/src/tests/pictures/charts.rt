@@ -1,13 +1,11 @@
 // Charts that were drawn by hand.
-use super::{HAND_OVER, drawn, sixty_four_waits};
+use super::{HAND_OVER, drawn_whole, is_drawn, sixty_four_waits};
 use script_picture::picture::Form;
 use std::io::Write;
 use std::test::Fail;
 
 #[test]
 fn hand_over_as_text(rt: HostRuntime) {
-    let (result, text) = drawn(rt.alloc(), HAND_OVER, Form::Text);
-    assert_eq!(rt; result, Ok(()));
     let lines = b"monitor 2 1    0       1
 enter 0        [in]    .
 wait 0 0 0     c0:0    .       -> free
@@ -16,15 +14,13 @@ signal 1 0     [in] <- sig
 leave 0        . ----> [in]
 leave 1        .       .       -> free
 ";
-    assert_eq!(rt; text.as_slice(), lines.as_slice());
+    is_drawn(&rt, HAND_OVER, Ok(()), lines);
 }
 
 #[test]
 fn questions_and_refusals_as_text(rt: HostRuntime) {
     let script =
         b"monitor 3 2\nqueue 1\nenter 0\nenter 1\nwait 0 1 12345\nfirst 1\nfirst 0\nenter 0\nenter 2\nfirst 2\npass 2 1\nleave 3";
-    let (result, text) = drawn(rt.alloc(), script, Form::Text);
-    assert_eq!(rt; result, Ok(()));
     let lines = b"monitor 3 2       0           2       (1 idle)
 queue 1           .           .       -> false
 enter 0           [in]        .
@@ -39,7 +35,7 @@ first 2           c1:12345    [in]    -> refused 5 (there is no such condition)
 pass 2 1          [in] <----- .
 leave 3           [in]        .       -> refused 1 (there is no such place)
 ";
-    assert_eq!(rt; text.as_slice(), lines.as_slice());
+    is_drawn(&rt, script, Ok(()), lines);
 }
 
 // The chart of the script of docs/DEFINITIONS.md that has every step, drawn by hand from the table there.
@@ -47,8 +43,6 @@ leave 3           [in]        .       -> refused 1 (there is no such place)
 fn every_step_as_text(rt: HostRuntime) {
     let script =
         b"monitor 4 2\nenter 0\nwait 0 0 7\nenter 1\nwait 1 0 7\nenter 2\nwait 2 1 0\nenter 3\nfirst 0\nqueue 1\nsignal 3 0\nfirst 0\npass 0 1\nenter 0\nleave 2\npass 3 1\nenter 0\nsignal 0 0\nwait 1 1 5\nqueue 0\nfirst 1\nleave 0\nenter 1\n";
-    let (result, text) = drawn(rt.alloc(), script, Form::Text);
-    assert_eq!(rt; result, Ok(()));
     let lines = b"monitor 4 2    0       1       2       3
 enter 0        [in]    .       .       .
 wait 0 0 7     c0:7    .       .       .       -> free
@@ -75,7 +69,7 @@ leave 0        .       c1:5    .       .       -> free
 enter 1        .       c1:5    .       .
     -> refused 3 (the place waits on a condition)
 ";
-    assert_eq!(rt; text.as_slice(), lines.as_slice());
+    is_drawn(&rt, script, Ok(()), lines);
 }
 
 // Lanes that have no room side by side: two of them are 29 + 4 + 23 + 4 + 23 long with the step, and 3 more for an arrow.
@@ -83,8 +77,6 @@ enter 1        .       c1:5    .       .
 fn folded_lanes_as_text(rt: HostRuntime) {
     let script =
         b"monitor 3 1\nenter 0\nwait 0 0 18446744073709551615\nenter 1\nwait 1 0 18446744073709551615\nenter 2\nsignal 2 0\nleave 0\nleave 2\n";
-    let (result, text) = drawn(rt.alloc(), script, Form::Text);
-    assert_eq!(rt; result, Ok(()));
     let lines = b"monitor 3 1                      0
 enter 0                          [in]
 wait 0 0 18446744073709551615    c0:18446744073709551615
@@ -105,7 +97,7 @@ signal 2 0 <-------------------- c0:18446744073709551615 -- sig
 leave 0 ------------------------ c0:18446744073709551615 -> [in]
 leave 2                          c0:18446744073709551615    .       -> free
 ";
-    assert_eq!(rt; text.as_slice(), lines.as_slice());
+    is_drawn(&rt, script, Ok(()), lines);
 }
 
 // A lane stands beside another where the line has 80 letters at most with an arrow behind it, and so does a remark. The step has 29
@@ -135,8 +127,7 @@ fn lines_of_eighty_as_text(rt: HostRuntime) -> Result<(), Fail> {
             rt.alloc(),
         )?;
         write!(script, "wait 1 0 {priority}\n")?;
-        let (result, text) = drawn(rt.alloc(), script.as_slice(), Form::Text);
-        assert_eq!(rt; result, Ok(()));
+        let text = drawn_whole(&rt, script.as_slice(), Form::Text);
         assert!(rt;
             text.as_slice().ends_with(end.as_bytes()),
             "with {priority}"
@@ -150,8 +141,7 @@ fn lines_of_eighty_as_text(rt: HostRuntime) -> Result<(), Fail> {
 fn lines_fit_a_terminal(rt: HostRuntime) -> Result<(), Fail> {
     for greatest in [false, true] {
         let script = sixty_four_waits(rt.alloc(), greatest)?;
-        let (result, text) = drawn(rt.alloc(), script.as_slice(), Form::Text);
-        assert_eq!(rt; result, Ok(()));
+        let text = drawn_whole(&rt, script.as_slice(), Form::Text);
         let mut length: usize = 0;
         for byte in text.as_slice() {
             length = if *byte == b'\n' {

@@ -1,5 +1,5 @@
 // SVGs that were worked out by hand.
-use super::{HAND_OVER, drawn, sixty_four_waits, times};
+use super::{HAND_OVER, drawn_whole, sixty_four_waits, times};
 use script_picture::picture::Form;
 use std::test::Fail;
 
@@ -73,8 +73,7 @@ text{font-family:ui-monospace,Menlo,Consolas,'DejaVu Sans Mono',monospace;font-s
 
 #[test]
 fn hand_over_as_svg(rt: HostRuntime) {
-    let (result, text) = drawn(rt.alloc(), HAND_OVER, Form::Svg);
-    assert_eq!(rt; result, Ok(()));
+    let text = drawn_whole(&rt, HAND_OVER, Form::Svg);
     assert!(rt; text.as_slice() == HAND_OVER_DRAWN);
 }
 
@@ -86,8 +85,7 @@ fn hand_over_as_svg(rt: HostRuntime) {
 fn wide_and_idle_lanes_as_svg(rt: HostRuntime) {
     let script =
         b"monitor 14 1\nenter 13\nwait 13 0 2\nenter 1\nsignal 1 0\nwait 13 0 18446744073709551615\nenter 4\npass 1 0\nleave 13\n";
-    let (result, text) = drawn(rt.alloc(), script, Form::Svg);
-    assert_eq!(rt; result, Ok(()));
+    let text = drawn_whole(&rt, script, Form::Svg);
     for part in [
         // the picture, and what it is called
         "<svg xmlns=\"http://www.w3.org/2000/svg\" width=\"932\" height=\"392\" viewBox=\"0 0 932 392\" role=\"img\"",
@@ -131,8 +129,7 @@ fn wide_and_idle_lanes_as_svg(rt: HostRuntime) {
 fn widths_of_sixty_four_lanes(rt: HostRuntime) -> Result<(), Fail> {
     for (greatest, want) in [(false, " width=\"8060\" "), (true, " width=\"16204\" ")] {
         let script = sixty_four_waits(rt.alloc(), greatest)?;
-        let (result, text) = drawn(rt.alloc(), script.as_slice(), Form::Svg);
-        assert_eq!(rt; result, Ok(()));
+        let text = drawn_whole(&rt, script.as_slice(), Form::Svg);
         assert_eq!(rt; times(text.as_slice(), want.as_bytes()), 1, "with {want}");
     }
     Ok(())

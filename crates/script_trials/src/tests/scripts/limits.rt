@@ -1,5 +1,5 @@
 // Where the text itself ends a script.
-use super::told;
+use super::{is_told, told};
 use hoare_script::{ScriptFault, run};
 use std::io;
 use std::io::Read;
@@ -25,9 +25,7 @@ impl Read for Endless {
 
 // Runs a script that is answered nothing.
 fn check<R: Abort + AllocGlobal>(rt: &R, script: &[u8], wanted: Result<(), ScriptFault>) {
-    let (result, written) = told(rt.alloc(), script);
-    assert_eq!(rt; result, wanted);
-    assert_eq!(rt; written.len(), 0);
+    is_told(rt, script, wanted, b"");
 }
 
 #[test]
@@ -92,8 +90,7 @@ fn large_script(rt: HostRuntime) -> Result<(), Fail> {
         answers.extend_from_slice(b"leave 0 -> refused 4\n")?;
     }
     let (result, written) = told(rt.alloc(), script.as_slice());
-    assert_eq!(rt; result, Err(ScriptFault::TooMuch));
-    assert!(rt; written.as_slice() == answers.as_slice());
+    assert!(rt; result == Err(ScriptFault::TooMuch) && written.as_slice() == answers.as_slice());
     Ok(())
 }
 
@@ -106,7 +103,6 @@ fn endless_line(rt: HostRuntime) {
     ] {
         let mut written = Vec::new(rt.alloc());
         let result = run(rt.alloc(), &mut Endless { calls }, &mut written);
-        assert_eq!(rt; result, Err(fault));
-        assert_eq!(rt; written.len(), 0);
+        assert!(rt; result == Err(fault) && written.is_empty(), "{result:?}");
     }
 }

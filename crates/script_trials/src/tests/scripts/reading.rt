@@ -7,7 +7,6 @@ use line_text::writer::WatchedWriter;
 use std::io;
 use std::io::Read;
 use std::process::Abort;
-use std::test::Fail;
 
 // Runs a script, and looks at its end and at what is left of the text.
 fn check<R: Abort + AllocGlobal>(
@@ -97,7 +96,7 @@ fn endless_script(rt: HostRuntime) {
     let mut reader = Endless::new(b"leave 0\n", 1_048_577);
     let end = counted(&rt, &mut reader);
     assert_eq!(rt; end, (Err(ScriptFault::TooMuch), 1_048_577, 1_048_577));
-    assert_eq!(rt; most, 1_048_576);
+    assert!(rt; most == 1_048_576);
 }
 
 // The header's 12 bytes, and 257 of the line.
@@ -118,16 +117,13 @@ fn endless_reader_ends(rt: HostRuntime) {
 
 // A line whose answer can't be written is the last that is read, and both marks are what happened.
 #[test]
-fn marks_of_a_full_writer(rt: HostRuntime) -> Result<(), Fail> {
+fn marks_of_a_full_writer(rt: HostRuntime) {
     let mut rest = b"monitor 1 1\nenter 0\nleave 0\n".as_slice();
     let mut full = Filling::new(0, false);
     let mut reader = WatchedReader::new(&mut rest);
     let mut writer = WatchedWriter::new(&mut full);
     let result = run_watched(rt.alloc(), &mut reader, &mut writer);
     assert_eq!(rt; result, Err(ScriptFault::WriteFault));
-    assert!(rt; writer.has_failed());
-    assert!(rt; !reader.has_failed());
-    assert_eq!(rt; reader.bytes(), 20);
-    assert_eq!(rt; rest, b"leave 0\n".as_slice());
-    Ok(())
+    assert!(rt; writer.has_failed() && !reader.has_failed() && reader.bytes() == 20);
+    assert!(rt; rest == b"leave 0\n".as_slice());
 }

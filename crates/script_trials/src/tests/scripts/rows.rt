@@ -1,5 +1,5 @@
 // Each row is a line with its answer, as it is written.
-use super::told;
+use super::is_told;
 use hoare_script::ScriptFault;
 use std::io;
 use std::io::Write;
@@ -8,9 +8,7 @@ use std::test::Fail;
 
 // Runs the script, whose answers are these.
 fn is_answered<R: Abort + AllocGlobal>(rt: &R, script: &[u8], answers: &[u8]) {
-    let (result, written) = told(rt.alloc(), script);
-    assert_eq!(rt; result, Ok(()));
-    assert_eq!(rt; written.as_slice(), answers);
+    is_told(rt, script, Ok(()), answers);
 }
 
 // Adds the row's line to the script, and the row to the answers.
@@ -134,15 +132,12 @@ fn wait_lets_signaller_return(rt: HostRuntime) -> Result<(), Fail> {
 
 // The greatest number is a priority, and the next one is none.
 #[test]
-fn greatest_priority(rt: HostRuntime) -> Result<(), Fail> {
+fn greatest_priority(rt: HostRuntime) {
     let script =
         b"monitor 3 1\nenter 0\nwait 0 0 18446744073709551615\nenter 1\nwait 1 0 0\nenter 2\nsignal 2 0\nwait 1 0 18446744073709551616\n";
     let answers =
         b"enter 0 -> 0\nwait 0 0 18446744073709551615 -> free\nenter 1 -> 1\nwait 1 0 0 -> free\nenter 2 -> 2\nsignal 2 0 -> 1\n";
-    let (result, written) = told(rt.alloc(), script);
-    assert_eq!(rt; result, Err(ScriptFault::BadLine(8)));
-    assert_eq!(rt; written.as_slice(), answers.as_slice());
-    Ok(())
+    is_told(&rt, script, Err(ScriptFault::BadLine(8)), answers);
 }
 
 #[test]

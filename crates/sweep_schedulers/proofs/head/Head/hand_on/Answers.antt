@@ -44,13 +44,13 @@ swept g c =
             hands = rw state (λ h finishes. turns (none_told _ _ told.1 w.if-not-queue.true) finishes);
           }
       | else-not-queue w ↦ rw w.inside-is (record {
-          of = c.requires.of;
-          place = refl;
-          front = refl;
-          free = c.requires.free;
-          rest = λ none. absurd (listed.0 w.if-not-queue.false none);
-          hands = λ h finishes. keeps (told.0 w.if-not-queue.false) finishes;
-        })
+        of = c.requires.of;
+        place = refl;
+        front = refl;
+        free = c.requires.free;
+        rest = λ none. absurd (listed.0 w.if-not-queue.false none);
+        hands = λ h finishes. keeps (told.0 w.if-not-queue.false) finishes;
+      })
     ]
 
 pub signal_leave-out-requires-clause-of : goal.signal_leave-out-requires-clause-of

@@ -2,32 +2,44 @@
 use crate::chart::{Chart, hand_over};
 use crate::frame::Frame;
 use hoare_script::answers::Answer;
+use hoare_script::lines::Header;
 use std::io;
 use std::io::Write;
 
 /// Writes what a picture shows, in sentences made of the script's numbers, for programs that read it aloud.
 pub fn write_description<W: Write>(writer: &mut W, frame: &Frame, chart: &Chart) -> io::Result<()> {
-    let header = chart.header;
-    writer.write_all(b"<title id=\"title\">A monitor with ")?;
-    write_counted(writer, header.places, "place")?;
-    writer.write_all(b" and ")?;
-    write_counted(writer, header.conditions, "condition")?;
-    writer.write_all(b", in a script of ")?;
-    write_counted(writer, frame.rows, "step")?;
-    writer.write_all(b"</title>\n<desc id=\"about\">A chart of ")?;
-    write_counted(writer, frame.rows, "row")?;
-    writer.write_all(b", one for each step, and ")?;
-    write_counted(writer, frame.tracks.len() as u64, "lane")?;
-    writer.write_all(b", one for each place that comes in, with ")?;
-    write_counted(writer, count_overs(chart), "hand-over")?;
-    writer.write_all(b" and ")?;
-    write_counted(writer, count_refusals(chart), "refusal")?;
+    write_title(writer, chart.header, frame.rows)?;
+    write_contents(writer, frame, chart)
+}
+
+fn write_title<W: Write>(writer: &mut W, header: Header, steps: u64) -> io::Result<()> {
+    let opening = "<title id=\"title\">A monitor with ";
+    write_counted(writer, opening, header.places, "place")?;
+    write_counted(writer, " and ", header.conditions, "condition")?;
+    write_counted(writer, ", in a script of ", steps, "step")?;
+    writer.write_all(b"</title>\n")
+}
+
+fn write_contents<W: Write>(writer: &mut W, frame: &Frame, chart: &Chart) -> io::Result<()> {
+    let lanes = frame.tracks.len() as u64;
+    let overs = count_overs(chart);
+    let refusals = count_refusals(chart);
+    let comes_in = ", one for each place that comes in, with ";
+    write_counted(writer, "<desc id=\"about\">A chart of ", frame.rows, "row")?;
+    write_counted(writer, ", one for each step, and ", lanes, "lane")?;
+    write_counted(writer, comes_in, overs, "hand-over")?;
+    write_counted(writer, " and ", refusals, "refusal")?;
     writer.write_all(b".</desc>\n")
 }
 
-// A number, and a word in the singular or plural.
-fn write_counted<W: Write>(writer: &mut W, number: u64, word: &str) -> io::Result<()> {
-    write!(writer, "{number} {word}")?;
+// A text, a number, and a word in the singular or plural.
+fn write_counted<W: Write>(
+    writer: &mut W,
+    before: &str,
+    number: u64,
+    word: &str,
+) -> io::Result<()> {
+    write!(writer, "{before}{number} {word}")?;
     if number == 1 {
         return Ok(());
     }

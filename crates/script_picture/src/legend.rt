@@ -6,13 +6,19 @@ use std::io::Write;
 
 /// Writes what the shapes mean, below the rows.
 pub fn write_legend<W: Write>(writer: &mut W, bottom: u64) -> io::Result<()> {
+    let top = bottom.saturating_add(18);
+    write_boxes(writer, top)?;
+    write_arrows(writer, top)
+}
+
+// What a box means, for each of the three.
+fn write_boxes<W: Write>(writer: &mut W, first: u64) -> io::Result<()> {
     let lanes = [
         (Lane::Inside, "is inside the monitor"),
         (Lane::Waiting(0, 5), "waits on condition 0, priority 5"),
         (Lane::Signalling, "signalled, waits to return"),
     ];
-    let arrows = [(false, "a waiter goes on"), (true, "a signaller returns")];
-    let mut top = bottom.saturating_add(18);
+    let mut top = first;
     for (lane, note) in lanes {
         let area = Area {
             middle: 54,
@@ -24,7 +30,13 @@ pub fn write_legend<W: Write>(writer: &mut W, bottom: u64) -> io::Result<()> {
         write_note(writer, 98, top, note)?;
         top = top.saturating_add(26);
     }
-    let mut top = bottom.saturating_add(18);
+    Ok(())
+}
+
+// What an arrow means, for both of them.
+fn write_arrows<W: Write>(writer: &mut W, first: u64) -> io::Result<()> {
+    let arrows = [(false, "a waiter goes on"), (true, "a signaller returns")];
+    let mut top = first;
     for (returns, note) in arrows {
         let arrow = Arrow {
             from: 350,

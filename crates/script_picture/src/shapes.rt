@@ -25,22 +25,36 @@ pub struct Arrow {
 pub fn write_box<W: Write>(writer: &mut W, lane: Lane, area: Area) -> io::Result<()> {
     match lane {
         Lane::Outside => Ok(()),
-        Lane::Inside => {
-            write_rectangle(writer, "inside", area)?;
-            write_label(writer, area, "light")?;
-            writer.write_all(b"inside</text>\n")
-        }
-        Lane::Waiting(condition, priority) => {
-            write_rectangle(writer, "waits", area)?;
-            write_label(writer, area, "dark")?;
-            write!(writer, "c{condition} p{priority}</text>\n")
-        }
-        Lane::Signalling => {
-            write_half_filled(writer, area)?;
-            write_label(writer, area, "dark")?;
-            writer.write_all(b"signals</text>\n")
-        }
+        Lane::Inside => write_inside(writer, area),
+        Lane::Waiting(condition, priority) => write_waiting(writer, condition, priority, area),
+        Lane::Signalling => write_signalling(writer, area),
     }
+}
+
+// The box of who is inside.
+fn write_inside<W: Write>(writer: &mut W, area: Area) -> io::Result<()> {
+    write_rectangle(writer, "inside", area)?;
+    write_label(writer, area, "light")?;
+    writer.write_all(b"inside</text>\n")
+}
+
+// The box of who waits on a condition with a priority.
+fn write_waiting<W: Write>(
+    writer: &mut W,
+    condition: u64,
+    priority: u64,
+    area: Area,
+) -> io::Result<()> {
+    write_rectangle(writer, "waits", area)?;
+    write_label(writer, area, "dark")?;
+    write!(writer, "c{condition} p{priority}</text>\n")
+}
+
+// The box of who signalled and waits to return.
+fn write_signalling<W: Write>(writer: &mut W, area: Area) -> io::Result<()> {
+    write_half_filled(writer, area)?;
+    write_label(writer, area, "dark")?;
+    writer.write_all(b"signals</text>\n")
 }
 
 // A box whose left half is filled.
@@ -79,23 +93,41 @@ fn write_label<W: Write>(writer: &mut W, area: Area, class: &str) -> io::Result<
 
 /// Writes an arrow over a white edge.
 pub fn write_arrow<W: Write>(writer: &mut W, arrow: Arrow) -> io::Result<()> {
-    let from = arrow.from;
+    let class = if arrow.returns { "arrow back" } else { "arrow" };
+    let rightward = arrow.from < arrow.to;
+    let begin = moved(arrow.from, 4, rightward);
+    let neck = moved(arrow.to, 8, !rightward);
+    write_shaft(writer, "edge", arrow.middle, begin, neck)?;
+    write_shaft(writer, class, arrow.middle, arrow.from, neck)?;
+    write_tip(writer, arrow)
+}
+
+// A point so far to the right of another, or to the left.
+fn moved(x: u64, distance: u64, rightward: bool) -> u64 {
+    if rightward {
+        x.saturating_add(distance)
+    } else {
+        x.saturating_sub(distance)
+    }
+}
+
+// A level line of a class.
+fn write_shaft<W: Write>(
+    writer: &mut W,
+    class: &str,
+    y: u64,
+    from: u64,
+    to: u64,
+) -> io::Result<()> {
+    write!(writer, "<path class=\"{class}\" d=\"M{from} {y}H{to}\"/>")
+}
+
+// The head of an arrow.
+fn write_tip<W: Write>(writer: &mut W, arrow: Arrow) -> io::Result<()> {
+    let back = if arrow.from < arrow.to { "-9" } else { "9" };
     let to = arrow.to;
     let y = arrow.middle;
-    let class = if arrow.returns { "arrow back" } else { "arrow" };
-    if from < to {
-        let begin = from.saturating_add(4);
-        let neck = to.saturating_sub(8);
-        write!(writer, "<path class=\"edge\" d=\"M{begin} {y}H{neck}\"/>")?;
-        write!(writer, "<path class=\"{class}\" d=\"M{from} {y}H{neck}\"/>")?;
-        write!(writer, "<path d=\"M{to} {y}l-9-5v10z\"/>\n")
-    } else {
-        let begin = from.saturating_sub(4);
-        let neck = to.saturating_add(8);
-        write!(writer, "<path class=\"edge\" d=\"M{begin} {y}H{neck}\"/>")?;
-        write!(writer, "<path class=\"{class}\" d=\"M{from} {y}H{neck}\"/>")?;
-        write!(writer, "<path d=\"M{to} {y}l9-5v10z\"/>\n")
-    }
+    write!(writer, "<path d=\"M{to} {y}l{back}-5v10z\"/>\n")
 }
 
 /// Writes the dot of a place that went out.

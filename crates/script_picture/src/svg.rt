@@ -15,17 +15,18 @@ use hoare_script::lines::Header;
 use std::io;
 use std::io::Write;
 
-// How the classes of shapes and texts look.
-const STYLE: [&str; 8] = [
-    "text{font-family:ui-monospace,Menlo,Consolas,'DejaVu Sans Mono',monospace;font-size:13px;fill:#1f2328}\n",
-    ".page{fill:#fff;stroke:#d0d7de}.band{fill:#f6f8fa}.lane{stroke:#8c959f;stroke-dasharray:2 4}\n",
-    ".head{font-weight:bold;text-anchor:middle}.title{font-weight:bold}.refused{fill:#cf222e}\n",
-    ".light,.dark{font-size:12px;text-anchor:middle}.light{fill:#fff}\n",
-    ".inside{fill:#0969da;stroke:#0969da;stroke-width:1.5}.waits{fill:#fff8c5;stroke:#bf8700;stroke-width:1.5}\n",
-    ".blank{fill:#fff}.signals{fill:none;stroke:#0969da;stroke-width:1.5}.half{fill:#9fd0ff}\n",
-    ".arrow{stroke:#1f2328;stroke-width:2;fill:none}.back{stroke-dasharray:5 3}\n",
-    ".edge{stroke:#fff;stroke-width:6;fill:none}path,circle{fill:#1f2328}.note{font-size:12px;fill:#57606a}\n",
-];
+// The style sheet: how the classes of shapes and texts look.
+const STYLE: &str = "<style>
+text{font-family:ui-monospace,Menlo,Consolas,'DejaVu Sans Mono',monospace;font-size:13px;fill:#1f2328}
+.page{fill:#fff;stroke:#d0d7de}.band{fill:#f6f8fa}.lane{stroke:#8c959f;stroke-dasharray:2 4}
+.head{font-weight:bold;text-anchor:middle}.title{font-weight:bold}.refused{fill:#cf222e}
+.light,.dark{font-size:12px;text-anchor:middle}.light{fill:#fff}
+.inside{fill:#0969da;stroke:#0969da;stroke-width:1.5}.waits{fill:#fff8c5;stroke:#bf8700;stroke-width:1.5}
+.blank{fill:#fff}.signals{fill:none;stroke:#0969da;stroke-width:1.5}.half{fill:#9fd0ff}
+.arrow{stroke:#1f2328;stroke-width:2;fill:none}.back{stroke-dasharray:5 3}
+.edge{stroke:#fff;stroke-width:6;fill:none}path,circle{fill:#1f2328}.note{font-size:12px;fill:#57606a}
+</style>
+";
 
 /// Writes a chart: rows with their steps and remarks, a lane for each place with a box for each thing that it does, and an
 /// arrow for each hand-over. It names nothing outside itself.
@@ -33,15 +34,20 @@ pub fn draw<W: Write>(writer: &mut W, chart: &Chart) -> io::Result<()>
     requires { IsTold chart.now }
 {
     let frame = frame_of(chart);
-    write_opening(writer, &frame)?;
-    write_description(writer, &frame, chart)?;
-    write_head(writer, &frame, chart.header)?;
-    write_rows(writer, &frame, chart)?;
-    write_lanes(writer, &frame)?;
+    write_ground(writer, &frame, chart)?;
     write_boxes(writer, &frame, chart)?;
     write_arrows(writer, &frame, chart)?;
     write_legend(writer, row_top(frame.rows))?;
     writer.write_all(b"</svg>\n")
+}
+
+// What stands below the boxes: the page with its texts, and the lanes.
+fn write_ground<W: Write>(writer: &mut W, frame: &Frame, chart: &Chart) -> io::Result<()> {
+    write_opening(writer, frame)?;
+    write_description(writer, frame, chart)?;
+    write_head(writer, frame, chart.header)?;
+    write_rows(writer, frame, chart)?;
+    write_lanes(writer, frame)
 }
 
 // The tag.
@@ -57,18 +63,22 @@ fn write_opening<W: Write>(writer: &mut W, frame: &Frame) -> io::Result<()> {
 
 // The styles, the white page, and what stands over the steps and the remarks.
 fn write_head<W: Write>(writer: &mut W, frame: &Frame, header: Header) -> io::Result<()> {
-    let inner_width = frame.width.saturating_sub(1);
-    let inner_height = frame.height.saturating_sub(1);
-    write_style(writer)?;
-    write!(
-        writer,
-        "<rect class=\"page\" x=\"0.5\" y=\"0.5\" width=\"{inner_width}\" height=\"{inner_height}\" rx=\"8\"/>\n"
-    )?;
+    writer.write_all(STYLE.as_bytes())?;
+    write_page(writer, frame)?;
     write_text(writer, "title", 20, 42, header_text(header))?;
     if frame.idle == 0 {
         return Ok(());
     }
     write_text(writer, "note", frame.remarks, 42, idle_text(frame.idle))
+}
+
+fn write_page<W: Write>(writer: &mut W, frame: &Frame) -> io::Result<()> {
+    let width = frame.width.saturating_sub(1);
+    let height = frame.height.saturating_sub(1);
+    write!(
+        writer,
+        "<rect class=\"page\" x=\"0.5\" y=\"0.5\" width=\"{width}\" height=\"{height}\" rx=\"8\"/>\n"
+    )
 }
 
 // A text of a class that begins here.
@@ -82,14 +92,6 @@ fn write_text<W: Write>(
     write!(writer, "<text class=\"{class}\" x=\"{x}\" y=\"{line}\">")?;
     writer.write_all(text.as_slice())?;
     writer.write_all(b"</text>\n")
-}
-
-fn write_style<W: Write>(writer: &mut W) -> io::Result<()> {
-    writer.write_all(b"<style>\n")?;
-    for rules in STYLE {
-        writer.write_all(rules.as_bytes())?;
-    }
-    writer.write_all(b"</style>\n")
 }
 
 // Each row's band, step and remark.
@@ -114,10 +116,7 @@ fn write_band<W: Write>(writer: &mut W, frame: &Frame, top: u64) -> io::Result<(
 
 // A row's step and remark, on a line of text.
 fn write_row<W: Write>(writer: &mut W, frame: &Frame, line: u64, row: Row) -> io::Result<()> {
-    let class = match row.answer {
-        Answer::Refused(_) => "refused",
-        _ => "step",
-    };
+    let class = class_of(row.answer);
     write_text(writer, class, 20, line, command_text(row.command))?;
     let remark = remark_text(row.answer);
     if remark.is_empty() {
@@ -126,20 +125,36 @@ fn write_row<W: Write>(writer: &mut W, frame: &Frame, line: u64, row: Row) -> io
     write_text(writer, class, frame.remarks, line, remark)
 }
 
+// The class of a row's texts.
+fn class_of(answer: Answer) -> &'static str {
+    match answer {
+        Answer::Refused(_) => "refused",
+        _ => "step",
+    }
+}
+
 // The lanes, with the places' numbers over them.
 fn write_lanes<W: Write>(writer: &mut W, frame: &Frame) -> io::Result<()> {
     let top = row_top(0);
     let bottom = row_top(frame.rows);
     for track in frame.tracks.as_slice() {
-        let place = track.place;
-        let x = track.middle;
-        write!(
-            writer,
-            "<text class=\"head\" x=\"{x}\" y=\"42\">place {place}</text>"
-        )?;
-        write!(writer, "<path class=\"lane\" d=\"M{x} {top}V{bottom}\"/>\n")?;
+        write_place(writer, *track)?;
+        write_lane(writer, track.middle, top, bottom)?;
     }
     Ok(())
+}
+
+fn write_place<W: Write>(writer: &mut W, track: Track) -> io::Result<()> {
+    let place = track.place;
+    let x = track.middle;
+    write!(
+        writer,
+        "<text class=\"head\" x=\"{x}\" y=\"42\">place {place}</text>"
+    )
+}
+
+fn write_lane<W: Write>(writer: &mut W, x: u64, top: u64, bottom: u64) -> io::Result<()> {
+    write!(writer, "<path class=\"lane\" d=\"M{x} {top}V{bottom}\"/>\n")
 }
 
 // What a place does after each row from one on, up to another.

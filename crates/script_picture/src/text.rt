@@ -3,7 +3,7 @@
 ghost use Rattle.script_picture.specs.Shown.{IsShownAfter, IsTold};
 
 use crate::chart::{Chart, HandOver, Lane, Lanes, Row, advance, hand_over, outside_lanes};
-use crate::widths::{Widths, widths_of};
+use crate::widths::{Column, Widths, widths_of};
 use crate::words::{
     Text, command_text, header_text, idle_text, lane_text, place_text, remark_text,
 };
@@ -101,12 +101,7 @@ fn write_head<W: Write>(
 ) -> io::Result<()> {
     let mut room = write_cell(writer, header_text(chart.header), widths.steps)?;
     for i in block.first..block.end {
-        let column = widths
-            .columns
-            .as_slice()
-            .get(i)
-            .copied()
-            .unwrap_or_default();
+        let column = column_at(widths, i);
         write_gap(writer, room, None)?;
         room = write_cell(writer, place_text(column.place), column.width)?;
     }
@@ -126,12 +121,7 @@ fn write_row<W: Write>(
     let over = hand_over(row);
     let mut room = write_cell(writer, command_text(row.command), widths.steps)?;
     for i in block.first..block.end {
-        let column = widths
-            .columns
-            .as_slice()
-            .get(i)
-            .copied()
-            .unwrap_or_default();
+        let column = column_at(widths, i);
         write_gap(writer, room, shaft_before(widths, i, over))?;
         room = write_cell(
             writer,
@@ -141,6 +131,12 @@ fn write_row<W: Write>(
     }
     let shaft = shaft_before(widths, block.end, over);
     write_end(writer, widths, block, room, shaft, remark_text(row.answer))
+}
+
+// A column, or none of any width past the last.
+fn column_at(widths: &Widths, i: usize) -> Column {
+    let columns = widths.columns.as_slice();
+    columns.get(i).copied().unwrap_or_default()
 }
 
 fn lane_of(lanes: &Lanes, place: u64) -> Lane {
@@ -159,9 +155,14 @@ fn write_cell<W: Write>(writer: &mut W, text: Text, width: usize) -> io::Result<
 
 // How an arrow goes through the gap before a column, if it does.
 fn shaft_before(widths: &Widths, i: usize, over: Option<HandOver>) -> Option<Shaft> {
-    let over = over?;
-    let left = widths.columns.as_slice().get(i.checked_sub(1)?)?.place;
-    let right = widths.columns.as_slice().get(i)?.place;
+    let columns = widths.columns.as_slice();
+    let left = columns.get(i.checked_sub(1)?)?.place;
+    let right = columns.get(i)?.place;
+    shaft_between(left, right, over?)
+}
+
+// How an arrow goes through the gap between the lanes of two places, if it does.
+fn shaft_between(left: u64, right: u64, over: HandOver) -> Option<Shaft> {
     if over.from <= left && right <= over.to {
         return Some(if right == over.to {
             Shaft::RightHead

@@ -1,5 +1,5 @@
 -- What a disk head keeps of its waiting requests: as one joins, as one is granted, and as the head is handed on.
-use Rattle.std.proofs.Common.{◌≡◌, ◌≢◌, ℕ, ◌-◌, ◌≤◌, List, [], ◌∷◌, Bool, true, false, cond, leb, None, refl, arith}
+use Rattle.std.proofs.Common.{◌≡◌, ◌≢◌, ℕ, ◌-◌, ◌<◌, ◌≤◌, List, [], ◌∷◌, Bool, true, false, cond, leb, None, refl, arith}
 use Rattle.std.specs.Prelude.{slice_index}
 use Rattle.std.specs.List.Sorted.{IsNonDecreasing}
 use Rattle.std.proofs.lemmas.Bool.Decides.{nat_tests}
@@ -11,7 +11,7 @@ use Rattle.hoare_law.specs.Priorities.{joined, taken}
 use Rattle.hoare_law.proofs.Sorted.{All-put_in, All-behind_first}
 use Rattle.sweep_schedulers.specs.declared.direction.Direction.{Direction}
 use Rattle.sweep_schedulers.specs.declared.direction.Direction.TheVariants.{Up, Down}
-use Rattle.sweep_schedulers.specs.Heads.{Disk, sweep, sent, toward, priority_at, HeadRests, HeadReady, HeadFree}
+use Rattle.sweep_schedulers.specs.Heads.{Disk, sweep, opposite, turned, sent, toward, priority_at, HeadRests, HeadReady, HeadFree}
 use Rattle.sweep_schedulers.specs.HeadTraces.{Reaches, waited, HandsOn}
 use Rattle.sweep_schedulers.proofs.Lists.{All-others, All-first}
 
@@ -108,6 +108,30 @@ module _ {T : Type 0} {d : Disk T} (lists : ℕ → List ℕ) where
   HeadReady-first {c = c} f rise same is some =
       let on : c ≡ sweep d.direction = rw same at is in
       rw on (first_by d.direction refl rise (rw on at some) f)
+
+  -- with the drive in, rest holds where nobody waits for either sweep
+  pub HeadRests-nobody : (dir : Direction) → lists (sweep dir) ≡ [] → lists (sweep (opposite dir)) ≡ [] → HeadFree d (lists 0) (lists 1)
+      → HeadRests d (lists 0) (lists 1)
+  HeadRests-nobody Up none other f = record { inv = f.inv; up_busy = λ some. absurd (some none); down_busy = λ some. absurd (some other); sweeps = f.sweeps }
+  HeadRests-nobody Down none other f = record { inv = f.inv; up_busy = λ some. absurd (some other); down_busy = λ some. absurd (some none); sweeps = f.sweeps }
+
+-- a drive that is in stays so as the head turns
+pub HeadFree-turned : {T : Type 0} {d : Disk T} {ups downs : List ℕ} → HeadFree d ups downs → HeadFree (turned d) ups downs
+HeadFree-turned f = record {
+  inv = f.inv;
+  is_in = f.is_in;
+  sweeps = record {
+    ups_on_disk = f.sweeps.ups_on_disk;
+    downs_on_disk = f.sweeps.downs_on_disk;
+    above = f.sweeps.above;
+    below = f.sweeps.below;
+  };
+}
+
+-- a sweep's condition is one of the two
+pub sweep_in_range : (dir : Direction) → sweep dir < 2
+sweep_in_range Up = omega arith
+sweep_in_range Down = omega arith
 
 module _ {T : Type 0} (found : Disk T) {ups downs : List ℕ} where
   -- the head at the cylinder of the one that is granted, which is the first before the head

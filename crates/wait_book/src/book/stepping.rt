@@ -77,6 +77,19 @@ impl Book {
         Ok(condition as usize)
     }
 
+    // The place, if it is inside, and the condition, if there is one of this number.
+    fn holder_on(&self, place: u64, condition: u64) -> Result<(usize, usize), StepRefused>
+        ensures ok { IfOk result (λ r. (r.0 ≡ place) × (self.now.turn ≡ turns.Held r.0)
+            × (r.1 ≡ condition) × (r.1 < self.now.conditions)) }
+        ensures of { (h : History (Unit {0})) → IsOf self.now h
+            → let refusal = act_refusal h place (condition_refusal h condition) in
+            MatchResult result (λ _. refusal ≡ None) (λ r. refusal ≡ Some r) }
+    {
+        let place = self.holder(place)?;
+        let condition = self.condition(condition)?;
+        Ok((place, condition))
+    }
+
     /// Does a step, and then lets the place that is owed the monitor go on, so that the answer is who is inside, or that the
     /// monitor is free. Refused, in this order: `NoPlace`; `NotFree` and `NotOutside` (an `Enter`); `NotInside` and
     /// `NoCondition` (the others). A refusal changes nothing.
@@ -94,18 +107,15 @@ impl Book {
                 self.admit(place);
             }
             Step::Wait(place, condition, priority) => {
-                let place = self.holder(place)?;
-                let condition = self.condition(condition)?;
+                let (place, condition) = self.holder_on(place, condition)?;
                 self.wait(place, condition, priority);
             }
             Step::Signal(place, condition) => {
-                let place = self.holder(place)?;
-                let condition = self.condition(condition)?;
+                let (place, condition) = self.holder_on(place, condition)?;
                 self.signal(place, condition);
             }
             Step::Pass(place, condition) => {
-                let place = self.holder(place)?;
-                let condition = self.condition(condition)?;
+                let (place, condition) = self.holder_on(place, condition)?;
                 self.pass(place, condition);
             }
             Step::Leave(place) => {

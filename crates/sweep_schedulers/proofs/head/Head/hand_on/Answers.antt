@@ -1,27 +1,79 @@
-use Rattle.std.proofs.Common.{◌≡◌, rules}
+use Rattle.std.proofs.Common.{◌≡◌, ◌≢◌, ◌∙◌, [], ap, refl}
+use Rattle.hoare_law.specs.declared.event.History.{History}
+use Rattle.hoare_law.specs.Growth.{Finishes}
 use Rattle.hoare_law.proofs.Growth.{Finishes-exit}
-use Rattle.sweep_schedulers.specs.Heads.{sweep, opposite}
-use Rattle.sweep_schedulers.specs.HeadTraces.{keeps, turns}
+use Rattle.sweep_schedulers.specs.Heads.{HeadFree, HeadRests, Disk, sweep, turned}
+use Rattle.sweep_schedulers.specs.HeadTraces.{HandsOn, keeps, turns}
 use Rattle.sweep_schedulers.proofs.Lists.{none_told}
-use Rattle.sweep_schedulers.proofs.Sweeps.{HeadReady-first}
+use Rattle.sweep_schedulers.proofs.Sweeps.{HeadReady-first, HeadRests-nobody, HeadFree-turned, sweep_in_range}
+use Rattle.sweep_schedulers.proofs.head.Head.hand_on.Given.{Over}
 use Rattle.sweep_schedulers.proofs.head.Head.hand_on.Goals as goal
-use Rattle.sweep_schedulers.proofs.head.Head.hand_on.Goals.{then-not-queue, else-not-queue}
+use Rattle.sweep_schedulers.proofs.head.Head.hand_on.Goals.{After-state-2, then-not-queue, else-not-queue}
+
+-- the head stayed where somebody waits for the present sweep, and else turned
+swept : (g : Over) (c : After-state-2 g) →
+    let M = g.M.Monitor in
+    let inside = c.if-not-queue.inside in
+    record {
+      of : M.is_of_in c.args.m.now inside;
+      place : M.place_in inside ≡ M.place_in c.args.inside;
+      front : M.front_in inside ≡ M.front_in c.args.inside;
+      free : HeadFree (M.data_in inside) (M.lists_in inside 0) (M.lists_in inside 1);
+      rest : M.lists_in inside (sweep (M.data_in inside).direction) ≡ [] → HeadRests (M.data_in inside) (M.lists_in inside 0) (M.lists_in inside 1);
+      hands : (h : History (Disk g.row.T.Denot)) → Finishes (M.place_in c.args.inside) (sweep (M.data_in inside).direction) (M.data_in inside) (M.front_in c.args.inside) h
+          → HandsOn (M.place_in c.args.inside) (M.data_in c.args.inside) (M.front_in c.args.inside) h;
+    }
+swept g c =
+    let M = g.M.Monitor in
+    let met = g.met.M.Monitor in
+    let found = M.data_in c.args.inside in
+    let present : c.sweep.result ≡ sweep found.direction = rw c.state.ensures at c.sweep.ensures in
+    let listed = rw present at c.queue.ensures.lists in
+    let told = rw present at c.queue.ensures.front in
+    elim c.if-not-queue.branch [
+      | then-not-queue w ↦
+          let state : M.data_in c.if-not-queue.inside ≡ turned found = ap M.data_in w.inside-is ∙ (met.takes_data _ _ ∙ (rw w.state_mut.ensures.value at w.turn.ensures)) in
+          let lists : M.lists_in c.if-not-queue.inside ≡ M.lists_in c.args.inside = ap M.lists_in w.inside-is ∙ met.keeps_lists _ _ in
+          record {
+            of = rw w.inside-is (met.keeps_of _ _ _ c.requires.of);
+            place = ap M.place_in w.inside-is ∙ met.keeps_place _ _;
+            front = ap M.front_in w.inside-is ∙ met.keeps_front _ _;
+            free = rw (state, lists) (HeadFree-turned c.requires.free);
+            rest = rw (state, lists) (λ other. HeadRests-nobody (M.lists_in c.args.inside) found.direction
+                (none_told _ _ listed.1 w.if-not-queue.true) other (HeadFree-turned c.requires.free));
+            hands = rw state (λ h finishes. turns (none_told _ _ told.1 w.if-not-queue.true) finishes);
+          }
+      | else-not-queue w ↦ rw w.inside-is (record {
+        of = c.requires.of;
+        place = refl;
+        front = refl;
+        free = c.requires.free;
+        rest = λ none. absurd (listed.0 w.if-not-queue.false none);
+        hands = λ h finishes. keeps (told.0 w.if-not-queue.false) finishes;
+      })
+    ]
+
+pub signal_leave-out-requires-clause-of : goal.signal_leave-out-requires-clause-of
+signal_leave-out-requires-clause-of g c = (swept g (goal.at.signal_leave-out-requires-clause-of g c).After-state-2).of
+
+pub signal_leave-out-requires-clause-in_range : goal.signal_leave-out-requires-clause-in_range
+signal_leave-out-requires-clause-in_range g c = rw c.sweep-sweep.ensures (sweep_in_range _)
 
 pub signal_leave-out-requires-clause-ready : goal.signal_leave-out-requires-clause-ready
 signal_leave-out-requires-clause-ready g c =
-    HeadReady-first (g.M.Monitor.lists_in c.if-not-queue.inside) (search rules)
-    (λ i. g.met.M.Monitor.rise c.args.m.now c.if-not-queue.inside i (search rules)) c.state-2.ensures c.sweep-sweep.ensures
+    HeadReady-first (g.M.Monitor.lists_in c.if-not-queue.inside) (swept g (goal.at.signal_leave-out-requires-clause-ready g c).After-state-2).free
+    (λ i. g.met.M.Monitor.rise c.args.m.now c.if-not-queue.inside i (swept g (goal.at.signal_leave-out-requires-clause-ready g c).After-state-2).of)
+    c.state-2.ensures c.sweep-sweep.ensures
+
+pub signal_leave-out-requires-clause-rest : goal.signal_leave-out-requires-clause-rest
+signal_leave-out-requires-clause-rest g c =
+    rw c.sweep-sweep.ensures (rw c.state-2.ensures (swept g (goal.at.signal_leave-out-requires-clause-rest g c).After-state-2).rest)
+
+pub returns-clause-place : goal.returns-clause-place
+returns-clause-place g c = c.signal_leave-out.ensures.place ∙ (swept g (goal.at.returns-clause-place g c).After-state-2).place
 
 pub returns-clause-trace : goal.returns-clause-trace
 returns-clause-trace g c =
-    let present : c.sweep.result ≡ sweep (g.M.Monitor.data_in c.args.inside).direction = rw c.state.ensures at c.sweep.ensures in
-    elim c.if-not-queue.branch [
-      | then-not-queue w ↦
-          let other : c.sweep-sweep.result ≡ sweep (opposite (g.M.Monitor.data_in c.args.inside).direction) = search rules in
-          turns (rw (← present) (none_told _ _ c.queue.ensures.front.1 (search rules)))
-          (Finishes-exit (rw other at c.signal_leave-out.ensures.front) (search rules) (search rules) (search rules))
-      | else-not-queue w ↦
-          let same : c.sweep-sweep.result ≡ sweep (g.M.Monitor.data_in c.args.inside).direction = search rules in
-          keeps (rw (← present) (c.queue.ensures.front.0 (search rules)))
-          (Finishes-exit (rw same at c.signal_leave-out.ensures.front) (search rules) (search rules) (search rules))
-    ]
+    let inside = swept g (goal.at.returns-clause-trace g c).After-state-2 in
+    let on : c.sweep-sweep.result ≡ sweep (g.M.Monitor.data_in c.if-not-queue.inside).direction = rw c.state-2.ensures at c.sweep-sweep.ensures in
+    inside.hands _ (Finishes-exit (rw on at c.signal_leave-out.ensures.front) inside.place refl inside.front)

@@ -61,11 +61,18 @@ fn steps_go_by_priority_then_time(rt: HostRuntime) -> Result<(), Fail> {
 #[test]
 fn a_book_in_use_answers(rt: HostRuntime) -> Result<(), Fail> {
     let mut book = Book::make(rt.alloc(), 4, 2)?;
-    answers(&rt, &mut book, Step::Enter(0), Ok(Next::Held(0)));
-    answers(&rt, &mut book, Step::Wait(0, 1, 9), Ok(Next::Free));
-    answers(&rt, &mut book, Step::Enter(1), Ok(Next::Held(1)));
-    answers(&rt, &mut book, Step::Wait(1, 1, 2), Ok(Next::Free));
-    answers(&rt, &mut book, Step::Enter(2), Ok(Next::Held(2)));
+    let first = (
+        book.try_step(Step::Enter(0)),
+        book.try_step(Step::Wait(0, 1, 9)),
+    );
+    let second = (
+        book.try_step(Step::Enter(1)),
+        book.try_step(Step::Wait(1, 1, 2)),
+    );
+    let third = book.try_step(Step::Enter(2));
+    assert_eq!(rt; first, (Ok(Next::Held(0)), Ok(Next::Free)));
+    assert_eq!(rt; second, (Ok(Next::Held(1)), Ok(Next::Free)));
+    assert_eq!(rt; third, Ok(Next::Held(2)));
     assert!(rt; book.now() == Next::Held(2) && book.outside(3) && !book.outside(1));
     assert!(rt; book.queue(1) && !book.queue(0) && book.first(1) == Some(2));
     assert_eq!(rt; (book.count(0), book.count(1)), (0, 2));

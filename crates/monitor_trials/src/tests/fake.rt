@@ -1,9 +1,12 @@
 //! The fake monitor, and the plain schedulers on it. A wait of it that finds no answer never returns, so each test runs within the
 //! limit.
+ghost use Rattle.std.specs.Prelude.{◌≤◌, IfOk};
+ghost use Rattle.hoare_law.specs.Priorities.{nobody};
 
-use crate::fake::Fake;
+use crate::fake::{Fake, FakeOut};
 use crate::tally::Tally;
 use crate::tests::limit::within;
+use hoare_law::data::MonitorData;
 use hoare_law::monitor::Monitor;
 use plain_schedulers::buffer::{Buffer, BufferRefused};
 use plain_schedulers::single::{NotOut, Single};
@@ -13,14 +16,40 @@ use std::mem::replace;
 use std::sync::Wait;
 use std::test::Fail;
 
+/// A fake monitor with these data and these answers.
+pub fn with_answers<D: MonitorData + Drop + Send, const N: usize>(
+    alloc: Global,
+    state: D,
+    answers: [D; N],
+) -> Result<(Fake<D>, FakeOut<D>), AllocError>
+    requires rest { D.rest state nobody }
+    requires conditions { (1 ≤ D.CONDITIONS) × (D.CONDITIONS ≤ 8) }
+    ensures { IfOk result (λ r. ⟦<Fake<D> as Monitor<D>>⟧.is_of r.0 r.1) }
+{
+    Fake::of(alloc, state, VecDeque::from_array(alloc, answers)?)
+}
+
+/// Takes the data out of a fake monitor, and leaves others there.
+pub fn take_data<R: Wait, D: MonitorData + Drop + Send>(
+    rt: &R,
+    fake: &Fake<D>,
+    out: FakeOut<D>,
+    others: D,
+) -> D
+    requires of { ⟦<Fake<D> as Monitor<D>>⟧.is_of fake.now out }
+    requires rest { D.rest others nobody }
+{
+    let mut inside = fake.enter(rt, out);
+    let data = replace(Fake::state_mut(&mut inside, fake), others);
+    fake.leave(rt, inside);
+    data
+}
+
 // A single whose item was acquired.
 fn with_item_out<R: Wait>(rt: &R, alloc: Global) -> Result<Single<u8>, AllocError> {
     let (fake, out) = Fake::of(alloc, Single::with(7), VecDeque::new(alloc))?;
     let (out, _item) = Single::acquire(&fake, rt, out);
-    let mut inside = fake.enter(rt, out);
-    let single = replace(Fake::state_mut(&mut inside, &fake), Single::with(0));
-    fake.leave(rt, inside);
-    Ok(single)
+    Ok(take_data(rt, &fake, out, Single::with(0)))
 }
 
 // Acquires twice.
@@ -34,9 +63,8 @@ fn two_items<R: Wait, M: Monitor<Single<u8>>>(rt: &R, m: &M, out: M::Out) -> (u8
 
 // Acquires twice, where answers of these items stand between one that isn't ready.
 fn acquires_twice<R: Wait>(rt: &R, alloc: Global) -> Result<(u8, u8), AllocError> {
-    let states = [with_item_out(rt, alloc)?, Single::with(8), Single::with(9)];
-    let answers = VecDeque::from_array(alloc, states)?;
-    let (fake, out) = Fake::of(alloc, with_item_out(rt, alloc)?, answers)?;
+    let answers = [with_item_out(rt, alloc)?, Single::with(8), Single::with(9)];
+    let (fake, out) = with_answers(alloc, with_item_out(rt, alloc)?, answers)?;
     Ok(two_items(rt, &fake, out))
 }
 
@@ -80,11 +108,7 @@ fn with_one_item<R: Wait>(rt: &R, alloc: Global, item: u8) -> Result<Buffer<u8>,
         return Err(BufferRefused::Memory);
     };
     let out = Buffer::append(&fake, rt, out, item);
-    let spare = Buffer::make(alloc, 1)?;
-    let mut inside = fake.enter(rt, out);
-    let buffer = replace(Fake::state_mut(&mut inside, &fake), spare);
-    fake.leave(rt, inside);
-    Ok(buffer)
+    Ok(take_data(rt, &fake, out, Buffer::make(alloc, 1)?))
 }
 
 #[test]
@@ -133,11 +157,8 @@ fn passes_four<R: Wait>(rt: &R, alloc: Global) -> Result<(u8, u8, u8, u8), Buffe
 
 // A remove that waits for an item.
 fn removes<R: Wait>(rt: &R, alloc: Global) -> Result<u8, BufferRefused> {
-    let states = [Buffer::make(alloc, 1)?, with_one_item(rt, alloc, 5)?];
-    let Ok(answers) = VecDeque::from_array(alloc, states) else {
-        return Err(BufferRefused::Memory);
-    };
-    let Ok((fake, out)) = Fake::of(alloc, Buffer::make(alloc, 1)?, answers) else {
+    let answers = [Buffer::make(alloc, 1)?, with_one_item(rt, alloc, 5)?];
+    let Ok((fake, out)) = with_answers(alloc, Buffer::make(alloc, 1)?, answers) else {
         return Err(BufferRefused::Memory);
     };
     let (_out, item) = Buffer::remove(&fake, rt, out);
@@ -156,11 +177,8 @@ fn last_of_two<R: Wait, M: Monitor<Buffer<u8>>>(rt: &R, m: &M, out: M::Out) -> u
 
 // An append that waits for room, and what is in the buffer after it.
 fn appends<R: Wait>(rt: &R, alloc: Global) -> Result<u8, BufferRefused> {
-    let states = [with_one_item(rt, alloc, 5)?, Buffer::make(alloc, 1)?];
-    let Ok(answers) = VecDeque::from_array(alloc, states) else {
-        return Err(BufferRefused::Memory);
-    };
-    let Ok((fake, out)) = Fake::of(alloc, Buffer::make(alloc, 1)?, answers) else {
+    let answers = [with_one_item(rt, alloc, 5)?, Buffer::make(alloc, 1)?];
+    let Ok((fake, out)) = with_answers(alloc, Buffer::make(alloc, 1)?, answers) else {
         return Err(BufferRefused::Memory);
     };
     Ok(last_of_two(rt, &fake, out))

@@ -2,6 +2,7 @@
 ghost use Rattle.std.specs.Prelude.{◌≡◌};
 
 use crate::fake::{Fake, FakeOut};
+use crate::tests::fake::{take_data, with_answers};
 use crate::tests::limit::within;
 use crate::tests::rows::head::{Trip, goes, hands_on, is_refused};
 use crate::tests::rows::readers::{
@@ -10,7 +11,6 @@ use crate::tests::rows::readers::{
 use hoare_law::monitor::Monitor;
 use std::alloc::{AllocError, Global};
 use std::collections::VecDeque;
-use std::mem::replace;
 use std::process::Abort;
 use std::sync::Wait;
 use std::test::Fail;
@@ -38,8 +38,8 @@ fn is_refused_late<R: Wait + Abort, M: Monitor<Head<Trip>>>(rt: &R, m: &M, out: 
 
 // A request waits for the drive, and finds a disk with another last cylinder.
 fn finds_another_disk<R: Wait + Abort>(rt: &R, alloc: Global) -> Result<(), AllocError> {
-    let answers = VecDeque::from_array(alloc, [disk(alloc, 2, 20)?])?;
-    let (fake, out) = Fake::of(alloc, disk(alloc, 1, 10)?, answers)?;
+    let found = disk(alloc, 2, 20)?;
+    let (fake, out) = with_answers(alloc, disk(alloc, 1, 10)?, [found])?;
     is_refused_late(rt, &fake, out);
     Ok(())
 }
@@ -79,16 +79,6 @@ fn reads_and_writes<R: Wait + Abort>(rt: &R, alloc: Global) -> Result<(), AllocE
     Ok(())
 }
 
-// Takes the data out of a monitor, and leaves others there.
-fn take_data<R: Wait>(rt: &R, fake: &Fake<Shared>, out: FakeOut<Shared>) -> Shared
-    requires { ⟦<Fake<Shared> as Monitor<Shared>>⟧.is_of fake.now out }
-{
-    let mut inside = fake.enter(rt, out);
-    let shared = replace(Fake::state_mut(&mut inside, fake), ReadersWriters::with(0));
-    fake.leave(rt, inside);
-    shared
-}
-
 // Is in as a writer who found 0, and comes as a reader where the most are in.
 fn comes_as_one_too_many<R: Wait + Abort, M: Monitor<Shared>>(rt: &R, m: &M, out: M::Out) -> M::Out
     requires { M.is_of m.now out }
@@ -111,10 +101,7 @@ fn finds_the_most_readers<R: Wait + Abort>(
 ) -> (Fake<Shared>, FakeOut<Shared>)
     ensures { ⟦<Fake<Shared> as Monitor<Shared>>⟧.is_of result.0 result.1 }
 {
-    let Ok(answers) = VecDeque::from_array(alloc, [full]) else {
-        panic!(rt; "no memory")
-    };
-    let Ok((fake, out)) = Fake::of(alloc, ReadersWriters::with(0), answers) else {
+    let Ok((fake, out)) = with_answers(alloc, ReadersWriters::with(0), [full]) else {
         panic!(rt; "no memory")
     };
     let out = comes_as_one_too_many(rt, &fake, out);
@@ -136,7 +123,7 @@ fn reads_elsewhere<R: Wait + Abort>(
     let (other, place) = if reads > 1 {
         reads_elsewhere(rt, alloc, fake, out, reads - 1)
     } else {
-        finds_the_most_readers(rt, alloc, take_data(rt, fake, out))
+        finds_the_most_readers(rt, alloc, take_data(rt, fake, out, ReadersWriters::with(0)))
     };
     let place = ends_read(rt, &other, place, pass);
     (other, place)

@@ -4,7 +4,7 @@ ghost use Rattle.hoare_law.specs.Events.{opened};
 ghost use Rattle.hoare_law.specs.Priorities.{nobody};
 ghost use Rattle.wait_book.specs.Contents.{make_refusal};
 ghost use Rattle.door_frame.specs.Places.{places_from, HasPlace, Closes};
-ghost use Rattle.any_door.specs.Doors.{door_of};
+ghost use Rattle.any_door.specs.Doors.{id_of, kind_behind};
 
 use crate::kind::DoorKind;
 use baton_door::door::Door;
@@ -44,9 +44,10 @@ impl<D: MonitorData + Send> AnyDoor<D> {
     ) -> Result<(AnyDoor<D>, Vec<Outside<D>>), (D, MakeRefused)>
         requires rest { D.rest state nobody }
         ensures made { IfOk result (λ r. (make_refusal places D.CONDITIONS ≡ None)
-            × ((door_of r.0).places ≡ places)) }
+            × ((id_of r.0).places ≡ places)) }
+        ensures kind { IfOk result (λ r. kind_behind r.0 ≡ kind) }
         ensures of { IfOk result (λ r. All (⟦<AnyDoor<D> as Monitor<D>>⟧.is_of r.0) r.1.items) }
-        ensures places { IfOk result (λ r. r.1.items ≡ places_from (door_of r.0).table 0 places
+        ensures places { IfOk result (λ r. r.1.items ≡ places_from (id_of r.0).table 0 places
             (opened places D.CONDITIONS state)) }
         ensures returned { IfErr result (λ e. e.0 ≡ state) }
         ensures refused { IfErr result (λ e. (make_refusal places D.CONDITIONS ≡ Some e.1)
@@ -69,8 +70,8 @@ impl<D: MonitorData + Send> AnyDoor<D> {
     /// anything else.
     pub fn close(self, outs: Vec<Outside<D>>) -> D
         requires of { All (⟦<AnyDoor<D> as Monitor<D>>⟧.is_of self) outs.items }
-        requires places { (k : ℕ) → k < (door_of self).places → HasPlace k outs.items }
-        ensures closes { Closes D.rest D.ready D.CONDITIONS (door_of self) outs.items result }
+        requires places { (k : ℕ) → k < (id_of self).places → HasPlace k outs.items }
+        ensures closes { Closes D.rest D.ready D.CONDITIONS (id_of self) outs.items result }
         ensures rest { D.rest result nobody }
     {
         match self {

@@ -4,7 +4,7 @@ ghost use Rattle.wait_book.specs.Contents.{IsPlaceBelow};
 ghost use Rattle.door_frame.specs.Steps.{MayGive};
 ghost use Rattle.door_frame.specs.Seats.{GoesOut};
 ghost use Rattle.door_frame.specs.Departures.{event_of};
-ghost use Rattle.any_door.specs.Doors.{door_of};
+ghost use Rattle.any_door.specs.Doors.{id_of};
 
 use crate::door::AnyDoor;
 use crossbeam_utils::sync::Parker;
@@ -21,7 +21,7 @@ use wait_book::book::Book;
 use wait_book::steps::Next;
 
 impl<D: MonitorData> Turnstile<D> for AnyDoor<D> {
-    ghost id = { λ d. door_of d };
+    ghost id = { λ d. id_of d };
 
     #[inline]
     fn admit<R: Wait>(&self, rt: &R, seat: &mut DoorSeat<D>, place: usize) -> Parcel<D> {
@@ -53,8 +53,8 @@ impl<D: MonitorData> Turnstile<D> for AnyDoor<D> {
         departure: Departure,
         next: Next,
     )
-        requires table { seat.old.table_id ≡ (door_of self.now).table }
-        requires next { IsPlaceBelow (door_of self.now).places next }
+        requires table { seat.old.table_id ≡ (id_of self.now).table }
+        requires next { IsPlaceBelow (id_of self.now).places next }
         requires event { MayGive D.rest D.ready (event_of place departure next) place
             seat.old.me parcel next }
         ensures table { seat.new.table_id ≡ seat.old.table_id }
@@ -80,9 +80,9 @@ impl<D: MonitorData + Send> Monitor<D> for AnyDoor<D> {
 
     type Lists = Book;
 
-    ghost is_of = { λ m o. IsOut D.rest D.ready D.CONDITIONS (door_of m) o };
+    ghost is_of = { λ m o. IsOut D.rest D.ready D.CONDITIONS (id_of m) o };
 
-    ghost is_of_in = { λ m i. IsIn D.rest D.ready D.CONDITIONS (door_of m) i };
+    ghost is_of_in = { λ m i. IsIn D.rest D.ready D.CONDITIONS (id_of m) i };
 
     ghost place = { λ o. o.place };
 

@@ -1,5 +1,5 @@
 -- What a barrier keeps of those that wait, as one comes, as the last lets them go, and as one goes on.
-use Rattle.std.proofs.Common.{◌≡◌, ◌≢◌, ℕ, suc, ◌+◌, ◌<◌, List, [], ◌∷◌, length, refl, ◌∙◌, arith}
+use Rattle.std.proofs.Common.{◌≡◌, ◌≢◌, ℕ, suc, ◌+◌, ◌<◌, List, [], ◌∷◌, length, refl, arith}
 use Rattle.std.specs.Prelude.{All, slice_index}
 use Rattle.hoare_law.specs.Priorities.{put_in, behind_first}
 use Rattle.hoare_law.proofs.Sorted.{All-put_in, length-put_in}

@@ -1,5 +1,5 @@
 -- What a rendezvous keeps of those that wait, and the traces of a meeting.
-use Rattle.std.proofs.Common.{◌≡◌, ◌≢◌, ℕ, List, [], ◌∷◌, length, Bool, true, false, true≢false, refl, sym, arith}
+use Rattle.std.proofs.Common.{◌≡◌, ◌≢◌, ℕ, List, [], ◌∷◌, length, Bool, true, true≢false, refl, sym, arith}
 use Rattle.hoare_law.specs.declared.event.History.{History}
 use Rattle.hoare_law.specs.declared.event.Event.TheVariants.{Pass}
 use Rattle.hoare_law.specs.Events.{with_event}
@@ -31,6 +31,9 @@ one_waits s x q r rests offered lists = rw lists (rw offered at rests)
 pub somebody_waits : (r : List ℕ) → length r ≡ 1 → r ≢ []
 somebody_waits [] one none = absurd (omega (arith, one))
 somebody_waits (p ∷ r) one none = cc
+
+pub MeetingRests-nobody : {T : Type 0} (d : Rendezvous T) (r : List ℕ) → length r ≡ 1 → r ≡ [] → MeetingRests d r
+MeetingRests-nobody d r one none = absurd (somebody_waits r one none)
 
 -- who made the offer may go on with the answer
 pub MeetingReady-answered : {T : Type 0} (d : Rendezvous T) (y : T) (r : List ℕ) → length r ≡ 1 → d ≡ Answered y → MeetingReady d (behind_first r)

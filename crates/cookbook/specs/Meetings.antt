@@ -1,5 +1,5 @@
 -- What holds of a rendezvous and of those that wait at it. Condition 0 is "my partner has come".
-use Rattle.std.specs.Prelude.{ℕ, List, [], length, ◌≡◌, ⊤}
+use Rattle.std.specs.Prelude.{ℕ, List, length, ◌≡◌, ⊤}
 use Rattle.cookbook.specs.declared.rendezvous.Rendezvous.{Rendezvous}
 use Rattle.cookbook.specs.declared.rendezvous.Rendezvous.TheVariants.{Empty, Offered, Answered}
 

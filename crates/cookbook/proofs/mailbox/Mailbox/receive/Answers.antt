@@ -1,19 +1,66 @@
-use Rattle.std.proofs.Common.{rules}
-use Rattle.hoare_law.specs.Growth.{at_once}
+use Rattle.std.proofs.Common.{◌≡◌, ◌∙◌, refl, length}
+use Rattle.std.proofs.lemmas.Bool.{iff_false}
+use Rattle.hoare_law.specs.Growth.{ComesTo, at_once}
 use Rattle.hoare_law.proofs.Growth.{ComesTo-waited, Finishes-exit}
+use Rattle.cookbook.specs.Mailboxes.{LetterReady}
+use Rattle.cookbook.proofs.Mailboxes.{LetterReady-at_once, RoomReady-taken, MailRests-taken}
+use Rattle.cookbook.proofs.mailbox.Mailbox.receive.Given.{Over}
 use Rattle.cookbook.proofs.mailbox.Mailbox.receive.Goals as goal
-use Rattle.cookbook.proofs.mailbox.Mailbox.receive.Goals.{then-is_empty, else-is_empty}
+use Rattle.cookbook.proofs.mailbox.Mailbox.receive.Goals.{After-state_mut, then-is_empty, else-is_empty}
+
+-- it came in and, after a wait or without one, finds a letter
+came : (g : Over) (c : After-state_mut g) → record {
+  of : g.M.Monitor.is_of_in c.args.m.now c.if-is_empty.inside;
+  place : g.M.Monitor.place_in c.if-is_empty.inside ≡ g.M.Monitor.place c.args.out;
+  ready : LetterReady (length (g.M.Monitor.data_in c.if-is_empty.inside)) (g.M.Monitor.lists_in c.if-is_empty.inside 0) (g.M.Monitor.lists_in c.if-is_empty.inside 1);
+  comes : ComesTo (g.M.Monitor.place c.args.out) (λ _ a. length a ≡ 0) (λ _. 1) (λ _. 0) (g.M.Monitor.front c.args.out)
+      (g.M.Monitor.front_in c.if-is_empty.inside) (g.M.Monitor.data_in c.if-is_empty.inside);
+}
+came g c = elim c.if-is_empty.branch [
+  | then-is_empty w ↦
+      let none = rw c.state.ensures at (c.is_empty.ensures.0 w.if-is_empty.true) in
+      rw w.inside-is (record {
+        of = w.wait-inside.ensures.of;
+        place = w.wait-inside.ensures.place ∙ c.enter-inside.ensures.place;
+        ready = w.wait-inside.ensures.ready;
+        comes = ComesTo-waited c.enter-inside.ensures.front none w.wait-inside.ensures.front c.enter-inside.ensures.place refl refl refl refl;
+      })
+  | else-is_empty w ↦
+      let some = rw c.state.ensures at (iff_false c.is_empty.ensures w.if-is_empty.false) in
+      rw w.inside-is (record {
+        of = c.enter-inside.ensures.of;
+        place = c.enter-inside.ensures.place;
+        ready = LetterReady-at_once c.enter-inside.ensures.rest some;
+        comes = at_once c.enter-inside.ensures.front some;
+      })
+]
+
+pub take-letter-requires : goal.take-letter-requires
+take-letter-requires g c = rw c.state_mut.ensures.value (came g c).ready.some
+
+pub signal_leave-out-requires-clause-of : goal.signal_leave-out-requires-clause-of
+signal_leave-out-requires-clause-of g c = g.met.M.Monitor.keeps_of _ _ _ (came g (goal.at.signal_leave-out-requires-clause-of g c).After-state_mut).of
+
+pub signal_leave-out-requires-clause-ready : goal.signal_leave-out-requires-clause-ready
+signal_leave-out-requires-clause-ready g c = RoomReady-taken (came g (goal.at.signal_leave-out-requires-clause-ready g c).After-state_mut).ready
+    (rw c.state_mut.ensures.value at c.take-letter.ensures) (g.met.M.Monitor.takes_data _ _) (g.met.M.Monitor.keeps_lists _ _)
+
+pub signal_leave-out-requires-clause-rest : goal.signal_leave-out-requires-clause-rest
+signal_leave-out-requires-clause-rest g c = MailRests-taken (came g (goal.at.signal_leave-out-requires-clause-rest g c).After-state_mut).ready
+    (rw c.state_mut.ensures.value at c.take-letter.ensures) (g.met.M.Monitor.takes_data _ _) (g.met.M.Monitor.keeps_lists _ _)
+
+pub returns-clause-place : goal.returns-clause-place
+returns-clause-place g c = c.signal_leave-out.ensures.place ∙ (g.met.M.Monitor.keeps_place _ _ ∙ (came g (goal.at.returns-clause-place g c).After-state_mut).place)
 
 pub returns-clause-trace : goal.returns-clause-trace
-returns-clause-trace g c = record {
-  found = g.M.Monitor.data_in c.if-is_empty.inside;
-  others = c.take-letter.new.self;
-  front = g.M.Monitor.front_in c.if-is_empty.inside;
-  comes = elim c.if-is_empty.branch [
-    | then-is_empty w ↦ rw w.inside-is (ComesTo-waited c.enter-inside.ensures.front (search rules) w.wait-inside.ensures.front (search rules) (search rules)
-        (search rules) (search rules) (search rules))
-    | else-is_empty w ↦ rw w.inside-is (at_once c.enter-inside.ensures.front (search rules))
-  ];
-  takes = search rules;
-  finishes = Finishes-exit c.signal_leave-out.ensures.front (search rules) (search rules) (search rules);
-}
+returns-clause-trace g c =
+    let inside = came g (goal.at.returns-clause-trace g c).After-state_mut in
+    record {
+      found = g.M.Monitor.data_in c.if-is_empty.inside;
+      others = c.take-letter.new.self;
+      front = g.M.Monitor.front_in c.if-is_empty.inside;
+      comes = inside.comes;
+      takes = rw c.state_mut.ensures.value at c.take-letter.ensures;
+      finishes = Finishes-exit c.signal_leave-out.ensures.front (g.met.M.Monitor.keeps_place _ _ ∙ inside.place)
+          (g.met.M.Monitor.takes_data _ _) (g.met.M.Monitor.keeps_front _ _);
+    }

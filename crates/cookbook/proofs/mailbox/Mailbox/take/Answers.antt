@@ -1,4 +1,4 @@
-use Rattle.std.proofs.Common.{rules, arith, ◌∙◌, ap}
+use Rattle.std.proofs.Common.{arith}
 use Rattle.cookbook.proofs.Mailboxes.{TakesMostUrgent-best}
 use Rattle.cookbook.proofs.mailbox.Mailbox.take.Goals as goal
 

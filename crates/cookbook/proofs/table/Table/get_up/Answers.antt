@@ -1,4 +1,4 @@
-use Rattle.std.proofs.Common.{◌≡◌, ◌∙◌, rules}
+use Rattle.std.proofs.Common.{◌∙◌, rules}
 use Rattle.hoare_law.proofs.Growth.{leaves-as}
 use Rattle.cookbook.specs.TableTraces.{got_up, refused}
 use Rattle.cookbook.proofs.Tables.{TableHolds-risen, HandsOn-as}

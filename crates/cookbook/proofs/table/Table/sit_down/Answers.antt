@@ -1,53 +1,63 @@
-use Rattle.std.proofs.Common.{◌≡◌, ◌∙◌, rules}
-use Rattle.hoare_law.specs.Growth.{at_once}
+use Rattle.std.proofs.Common.{◌≡◌, ◌∙◌, refl}
+use Rattle.std.proofs.lemmas.Bool.{iff_false}
+use Rattle.hoare_law.specs.Growth.{ComesTo, at_once}
 use Rattle.hoare_law.proofs.Growth.{ComesTo-waited}
 use Rattle.cookbook.specs.Tables.{TableHolds, CanEat}
 use Rattle.cookbook.proofs.Tables.{TableHolds-seated, HandsOn-as}
+use Rattle.cookbook.proofs.table.Table.sit_down.Given.{Over}
 use Rattle.cookbook.proofs.table.Table.sit_down.Goals as goal
-use Rattle.cookbook.proofs.table.Table.sit_down.Goals.{then-not-can_eat, else-not-can_eat}
+use Rattle.cookbook.proofs.table.Table.sit_down.Goals.{After-state_mut, then-not-can_eat, else-not-can_eat}
+
+-- it came in and, after a wait or without one, finds that it can eat
+came : (g : Over) (c : After-state_mut g) → record {
+  of : g.M.Monitor.is_of_in c.args.m.now c.if-not-can_eat.inside;
+  place : g.M.Monitor.place_in c.if-not-can_eat.inside ≡ g.M.Monitor.place c.args.out;
+  holds : TableHolds (g.M.Monitor.data_in c.if-not-can_eat.inside);
+  can : CanEat (g.M.Monitor.data_in c.if-not-can_eat.inside) c.args.seat;
+  comes : ComesTo (g.M.Monitor.place c.args.out) (λ _ t. CanEat t c.args.seat → ⊥) (λ _. c.args.seat) (λ _. 0) (g.M.Monitor.front c.args.out)
+      (g.M.Monitor.front_in c.if-not-can_eat.inside) (g.M.Monitor.data_in c.if-not-can_eat.inside);
+}
+came g c = elim c.if-not-can_eat.branch [
+  | then-not-can_eat w ↦
+      let cannot = rw c.state.ensures at (iff_false c.can_eat.ensures w.if-not-can_eat.true) in
+      rw w.inside-is (record {
+        of = w.wait-inside.ensures.of;
+        place = w.wait-inside.ensures.place ∙ c.enter-inside.ensures.place;
+        holds = w.wait-inside.ensures.ready.inv;
+        can = w.wait-inside.ensures.ready.can;
+        comes = ComesTo-waited c.enter-inside.ensures.front cannot w.wait-inside.ensures.front c.enter-inside.ensures.place refl refl refl refl;
+      })
+  | else-not-can_eat w ↦
+      let can = rw c.state.ensures at (c.can_eat.ensures.0 w.if-not-can_eat.false) in
+      rw w.inside-is (record {
+        of = c.enter-inside.ensures.of;
+        place = c.enter-inside.ensures.place;
+        holds = c.enter-inside.ensures.rest.inv;
+        can = can;
+        comes = at_once c.enter-inside.ensures.front (λ cannot. cannot can);
+      })
+]
 
 pub hand_on-requires-clause-of : goal.hand_on-requires-clause-of
-hand_on-requires-clause-of g c = λ _ _.
-    g.met.M.Monitor.keeps_of c.args.m.now c.if-not-can_eat.inside c.start.new.self (elim c.if-not-can_eat.branch [
-      | then-not-can_eat w ↦ rw w.inside-is w.wait-inside.ensures.of
-      | else-not-can_eat w ↦ rw w.inside-is c.enter-inside.ensures.of
-    ])
+hand_on-requires-clause-of g c = λ _ _. g.met.M.Monitor.keeps_of _ _ _ (came g (goal.at.hand_on-requires-clause-of g c).After-state_mut).of
 
 pub hand_on-requires-clause-inv : goal.hand_on-requires-clause-inv
 hand_on-requires-clause-inv g c = λ _ _.
-    let holds : TableHolds (g.M.Monitor.data_in c.if-not-can_eat.inside) = elim c.if-not-can_eat.branch [
-      | then-not-can_eat w ↦ rw w.inside-is w.wait-inside.ensures.ready.inv
-      | else-not-can_eat w ↦ rw w.inside-is c.enter-inside.ensures.rest.inv
-    ] in
-    let can : CanEat (g.M.Monitor.data_in c.if-not-can_eat.inside) c.args.seat = search rules in
-    TableHolds-seated (g.M.Monitor.data_in c.if-not-can_eat.inside) _ c.args.seat holds (search rules) can
-    (g.met.M.Monitor.takes_data c.if-not-can_eat.inside c.start.new.self ∙ (rw c.state_mut.ensures.value at c.start.ensures))
+    let inside = came g (goal.at.hand_on-requires-clause-inv g c).After-state_mut in
+    TableHolds-seated (g.M.Monitor.data_in c.if-not-can_eat.inside) _ c.args.seat inside.holds c.requires.seat inside.can
+    (g.met.M.Monitor.takes_data _ _ ∙ (rw c.state_mut.ensures.value at c.start.ensures))
 
 pub returns-clause-place : goal.returns-clause-place
-returns-clause-place g c =
-    let place : g.M.Monitor.place_in c.if-not-can_eat.inside ≡ g.M.Monitor.place c.args.out = elim c.if-not-can_eat.branch [
-      | then-not-can_eat w ↦ rw w.inside-is (w.wait-inside.ensures.place ∙ c.enter-inside.ensures.place)
-      | else-not-can_eat w ↦ rw w.inside-is c.enter-inside.ensures.place
-    ] in
-    c.hand_on.ensures.place ∙ (g.met.M.Monitor.keeps_place c.if-not-can_eat.inside c.start.new.self ∙ place)
+returns-clause-place g c = c.hand_on.ensures.place ∙ (g.met.M.Monitor.keeps_place _ _ ∙ (came g (goal.at.returns-clause-place g c).After-state_mut).place)
 
 pub returns-clause-trace : goal.returns-clause-trace
 returns-clause-trace g c =
-    let place : g.M.Monitor.place_in c.if-not-can_eat.inside ≡ g.M.Monitor.place c.args.out = elim c.if-not-can_eat.branch [
-      | then-not-can_eat w ↦ rw w.inside-is (w.wait-inside.ensures.place ∙ c.enter-inside.ensures.place)
-      | else-not-can_eat w ↦ rw w.inside-is c.enter-inside.ensures.place
-    ] in
+    let inside = came g (goal.at.returns-clause-trace g c).After-state_mut in
     record {
       found = g.M.Monitor.data_in c.if-not-can_eat.inside;
       front = g.M.Monitor.front_in c.if-not-can_eat.inside;
-      comes = elim c.if-not-can_eat.branch [
-        | then-not-can_eat w ↦ rw w.inside-is (ComesTo-waited c.enter-inside.ensures.front (search rules) w.wait-inside.ensures.front (search rules) (search rules)
-            (search rules) (search rules) (search rules))
-        | else-not-can_eat w ↦ rw w.inside-is (at_once c.enter-inside.ensures.front (λ no. no (search rules)))
-      ];
-      can = search rules;
-      hands_on = HandsOn-as c.hand_on.ensures.trace
-          (g.met.M.Monitor.keeps_place c.if-not-can_eat.inside c.start.new.self ∙ place)
-          (g.met.M.Monitor.takes_data c.if-not-can_eat.inside c.start.new.self ∙ (rw c.state_mut.ensures.value at c.start.ensures))
-          (g.met.M.Monitor.keeps_front c.if-not-can_eat.inside c.start.new.self);
+      comes = inside.comes;
+      can = inside.can;
+      hands_on = HandsOn-as c.hand_on.ensures.trace (g.met.M.Monitor.keeps_place _ _ ∙ inside.place)
+          (g.met.M.Monitor.takes_data _ _ ∙ (rw c.state_mut.ensures.value at c.start.ensures)) (g.met.M.Monitor.keeps_front _ _);
     }

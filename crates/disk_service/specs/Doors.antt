@@ -8,7 +8,7 @@ use Rattle.timed_schedulers.specs.Alarms.{AlarmRests, AlarmReady}
 use Rattle.timed_schedulers.specs.Pools.{Pooled, PoolRests, PoolReady}
 use Rattle.sweep_schedulers.specs.Heads.{Disk, HeadRests, HeadReady}
 use Rattle.sweep_schedulers.specs.ReadersWriters.{Shared, ReadersRest, ReadersReady}
-use Rattle.any_door.specs.Doors.{door_of}
+use Rattle.any_door.specs.Doors.{id_of}
 use Rattle.disk_service.specs.declared.data.Item.{Item}
 use Rattle.disk_service.specs.declared.data.Drive.{Drive}
 use Rattle.disk_service.specs.declared.data.Totals.{Totals}
@@ -57,27 +57,27 @@ board_terms = terms (λ s q. ReadersRest s (q 0) (q 1)) (λ c p s q. ReadersRead
 
 -- each place of the seat is the door's that has the seat's number
 pub record IsSeat (d : Doors) (s : Seat) : Type 0 where
-  pub items : IsAt items_terms (door_of d.items) s.number s.items
-  pub clock : IsAt clock_terms (door_of d.clock) s.number s.clock
-  pub pool : IsAt pool_terms (door_of d.pool) s.number s.pool
-  pub head : IsAt head_terms (door_of d.head) s.number s.head
-  pub totals : IsAt totals_terms (door_of d.totals) s.number s.totals
-  pub board : IsAt board_terms (door_of d.board) s.number s.board
+  pub items : IsAt items_terms (id_of d.items) s.number s.items
+  pub clock : IsAt clock_terms (id_of d.clock) s.number s.clock
+  pub pool : IsAt pool_terms (id_of d.pool) s.number s.pool
+  pub head : IsAt head_terms (id_of d.head) s.number s.head
+  pub totals : IsAt totals_terms (id_of d.totals) s.number s.totals
+  pub board : IsAt board_terms (id_of d.board) s.number s.board
 
 -- the first n places of each door are there
 pub record AreThere (d : Doors) (n : ℕ) (p : Places) : Type 0 where
-  pub items : AreFirst items_terms (door_of d.items) n p.items.items
-  pub clock : AreFirst clock_terms (door_of d.clock) n p.clock.items
-  pub pool : AreFirst pool_terms (door_of d.pool) n p.pool.items
-  pub head : AreFirst head_terms (door_of d.head) n p.head.items
-  pub totals : AreFirst totals_terms (door_of d.totals) n p.totals.items
-  pub board : AreFirst board_terms (door_of d.board) n p.board.items
+  pub items : AreFirst items_terms (id_of d.items) n p.items.items
+  pub clock : AreFirst clock_terms (id_of d.clock) n p.clock.items
+  pub pool : AreFirst pool_terms (id_of d.pool) n p.pool.items
+  pub head : AreFirst head_terms (id_of d.head) n p.head.items
+  pub totals : AreFirst totals_terms (id_of d.totals) n p.totals.items
+  pub board : AreFirst board_terms (id_of d.board) n p.board.items
 
 -- each door has n places
 pub record AreSized (d : Doors) (n : ℕ) : Type 0 where
-  pub items : (door_of d.items).places ≡ n
-  pub clock : (door_of d.clock).places ≡ n
-  pub pool : (door_of d.pool).places ≡ n
-  pub head : (door_of d.head).places ≡ n
-  pub totals : (door_of d.totals).places ≡ n
-  pub board : (door_of d.board).places ≡ n
+  pub items : (id_of d.items).places ≡ n
+  pub clock : (id_of d.clock).places ≡ n
+  pub pool : (id_of d.pool).places ≡ n
+  pub head : (id_of d.head).places ≡ n
+  pub totals : (id_of d.totals).places ≡ n
+  pub board : (id_of d.board).places ≡ n

@@ -1,7 +1,7 @@
 //! One door of the service: how it is opened and closed.
 ghost use Rattle.std.specs.Prelude.{◌≡◌, IfOk, IfErr};
 ghost use Rattle.hoare_law.specs.Priorities.{nobody};
-ghost use Rattle.any_door.specs.Doors.{door_of};
+ghost use Rattle.any_door.specs.Doors.{id_of};
 ghost use Rattle.disk_service.specs.Doors.{AreFirst, terms};
 
 use any_door::{AnyDoor, DoorKind};
@@ -30,9 +30,9 @@ pub(crate) fn opened<D: MonitorData + Send + Drop>(
     places: usize,
 ) -> Result<Made<D>, ServiceFault>
     requires { D.rest state nobody }
-    ensures size { IfOk result (λ r. (door_of r.0).places ≡ places) }
+    ensures size { IfOk result (λ r. (id_of r.0).places ≡ places) }
     ensures places { IfOk result (λ r. AreFirst (terms D.rest D.ready D.CONDITIONS)
-        (door_of r.0) places r.1.items) }
+        (id_of r.0) places r.1.items) }
     ensures fault { IfErr result (λ f. f ≡ ServiceFault.Memory) }
 {
     match AnyDoor::make(alloc, door_kind(kind), state, places) {
@@ -43,7 +43,7 @@ pub(crate) fn opened<D: MonitorData + Send + Drop>(
 
 /// The data that the places left: all of them are handed in.
 pub(crate) fn closed<D: MonitorData + Send>(door: AnyDoor<D>, places: Vec<Outside<D>>) -> D
-    requires { AreFirst (terms D.rest D.ready D.CONDITIONS) (door_of door) (door_of door).places places.items }
+    requires { AreFirst (terms D.rest D.ready D.CONDITIONS) (id_of door) (id_of door).places places.items }
 {
     door.close(places)
 }

@@ -1,7 +1,7 @@
 //! A door of either kind: how a row's monitor is made, and closed.
 ghost use Rattle.std.specs.Prelude.{◌≡◌, vec_len, All};
 ghost use Rattle.hoare_law.specs.Priorities.{nobody};
-ghost use Rattle.any_door.specs.Doors.{door_of};
+ghost use Rattle.any_door.specs.Doors.{id_of};
 ghost use Rattle.monitor_trials.specs.Numbered.{IsNumbered};
 
 use any_door::{AnyDoor, DoorKind};
@@ -20,7 +20,7 @@ pub fn made<D: MonitorData + Send + Drop, R: Abort>(
     count: usize,
 ) -> (AnyDoor<D>, Vec<Outside<D>>)
     requires { D.rest state nobody }
-    ensures count { vec_len result.1 ≡ (door_of result.0).places }
+    ensures count { vec_len result.1 ≡ (id_of result.0).places }
     ensures of { All (⟦<AnyDoor<D> as Monitor<D>>⟧.is_of result.0) result.1.items }
     ensures numbered { IsNumbered (⟦<AnyDoor<D> as Monitor<D>>⟧.place) result.1.items }
 {
@@ -32,7 +32,7 @@ pub fn made<D: MonitorData + Send + Drop, R: Abort>(
 
 /// The data that the places left.
 pub fn closed<D: MonitorData + Send>(door: AnyDoor<D>, outs: Vec<Outside<D>>) -> D
-    requires count { vec_len outs ≡ (door_of door).places }
+    requires count { vec_len outs ≡ (id_of door).places }
     requires of { All (⟦<AnyDoor<D> as Monitor<D>>⟧.is_of door) outs.items }
     requires numbered { IsNumbered (⟦<AnyDoor<D> as Monitor<D>>⟧.place) outs.items }
 {

@@ -21,3 +21,4 @@ pub mod Entering
 pub mod Leaving
 pub mod Ended
 pub mod Admissions
+pub mod Came

@@ -1,7 +1,7 @@
 use Rattle.std.proofs.Common.{◌≡◌, ◌∙◌, refl, length}
 use Rattle.std.proofs.lemmas.Bool.{iff_false}
-use Rattle.hoare_law.specs.Growth.{ComesTo, at_once}
-use Rattle.hoare_law.proofs.Growth.{ComesTo-waited, Finishes-exit}
+use Rattle.hoare_law.proofs.Came.{Came, Came-at_once, Came-waited}
+use Rattle.hoare_law.proofs.Growth.{Finishes-exit}
 use Rattle.cookbook.specs.Mailboxes.{LetterReady}
 use Rattle.cookbook.proofs.Mailboxes.{LetterReady-at_once, RoomReady-taken, MailRests-taken}
 use Rattle.cookbook.proofs.mailbox.Mailbox.receive.Given.{Over}
@@ -9,30 +9,17 @@ use Rattle.cookbook.proofs.mailbox.Mailbox.receive.Goals as goal
 use Rattle.cookbook.proofs.mailbox.Mailbox.receive.Goals.{After-state_mut, then-is_empty, else-is_empty}
 
 -- it came in and, after a wait or without one, finds a letter
-came : (g : Over) (c : After-state_mut g) → record {
-  of : g.M.Monitor.is_of_in c.args.m.now c.if-is_empty.inside;
-  place : g.M.Monitor.place_in c.if-is_empty.inside ≡ g.M.Monitor.place c.args.out;
-  ready : LetterReady (length (g.M.Monitor.data_in c.if-is_empty.inside)) (g.M.Monitor.lists_in c.if-is_empty.inside 0) (g.M.Monitor.lists_in c.if-is_empty.inside 1);
-  comes : ComesTo (g.M.Monitor.place c.args.out) (λ _ a. length a ≡ 0) (λ _. 1) (λ _. 0) (g.M.Monitor.front c.args.out)
-      (g.M.Monitor.front_in c.if-is_empty.inside) (g.M.Monitor.data_in c.if-is_empty.inside);
-}
+came : (g : Over) (c : After-state_mut g) → Came g.M.Monitor c.args.m.now c.args.out (λ _ a. length a ≡ 0) (λ _. 1) (λ _. 0)
+      (λ b q. LetterReady (length b) (q 0) (q 1)) c.if-is_empty.inside
 came g c = elim c.if-is_empty.branch [
   | then-is_empty w ↦
       let none = rw c.state.ensures at (c.is_empty.ensures.0 w.if-is_empty.true) in
-      rw w.inside-is (record {
-        of = w.wait-inside.ensures.of;
-        place = w.wait-inside.ensures.place ∙ c.enter-inside.ensures.place;
-        ready = w.wait-inside.ensures.ready;
-        comes = ComesTo-waited c.enter-inside.ensures.front none w.wait-inside.ensures.front c.enter-inside.ensures.place refl refl refl refl;
-      })
+      rw w.inside-is (Came-waited g.M.Monitor c.enter-inside.ensures.place c.enter-inside.ensures.front none w.wait-inside.ensures.of w.wait-inside.ensures.place
+          w.wait-inside.ensures.front refl refl w.wait-inside.ensures.ready)
   | else-is_empty w ↦
       let some = rw c.state.ensures at (iff_false c.is_empty.ensures w.if-is_empty.false) in
-      rw w.inside-is (record {
-        of = c.enter-inside.ensures.of;
-        place = c.enter-inside.ensures.place;
-        ready = LetterReady-at_once c.enter-inside.ensures.rest some;
-        comes = at_once c.enter-inside.ensures.front some;
-      })
+      rw w.inside-is (Came-at_once g.M.Monitor c.enter-inside.ensures.of c.enter-inside.ensures.place c.enter-inside.ensures.front some
+          (LetterReady-at_once c.enter-inside.ensures.rest some))
 ]
 
 pub take-letter-requires : goal.take-letter-requires

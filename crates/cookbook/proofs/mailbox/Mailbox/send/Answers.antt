@@ -1,7 +1,7 @@
 use Rattle.std.proofs.Common.{◌≡◌, ◌∙◌, refl, length}
 use Rattle.std.proofs.lemmas.Bool.{iff_false}
-use Rattle.hoare_law.specs.Growth.{ComesTo, at_once}
-use Rattle.hoare_law.proofs.Growth.{ComesTo-waited, Finishes-exit}
+use Rattle.hoare_law.proofs.Came.{Came, Came-at_once, Came-waited}
+use Rattle.hoare_law.proofs.Growth.{Finishes-exit}
 use Rattle.cookbook.specs.Mailboxes.{RoomReady}
 use Rattle.cookbook.proofs.Mailboxes.{RoomReady-at_once, LetterReady-put, MailRests-put}
 use Rattle.cookbook.proofs.mailbox.Mailbox.send.Given.{Over}
@@ -9,30 +9,17 @@ use Rattle.cookbook.proofs.mailbox.Mailbox.send.Goals as goal
 use Rattle.cookbook.proofs.mailbox.Mailbox.send.Goals.{After-state_mut, then-is_full, else-is_full}
 
 -- it came in and, after a wait or without one, finds room
-came : (g : Over) (c : After-state_mut g) → record {
-  of : g.M.Monitor.is_of_in c.args.m.now c.if-is_full.inside;
-  place : g.M.Monitor.place_in c.if-is_full.inside ≡ g.M.Monitor.place c.args.out;
-  ready : RoomReady (length (g.M.Monitor.data_in c.if-is_full.inside)) (g.M.Monitor.lists_in c.if-is_full.inside 0) (g.M.Monitor.lists_in c.if-is_full.inside 1);
-  comes : ComesTo (g.M.Monitor.place c.args.out) (λ _ a. length a ≡ 8) (λ _. 0) (λ _. c.args.letter.priority) (g.M.Monitor.front c.args.out)
-      (g.M.Monitor.front_in c.if-is_full.inside) (g.M.Monitor.data_in c.if-is_full.inside);
-}
+came : (g : Over) (c : After-state_mut g) → Came g.M.Monitor c.args.m.now c.args.out (λ _ a. length a ≡ 8) (λ _. 0) (λ _. c.args.letter.priority)
+      (λ b q. RoomReady (length b) (q 0) (q 1)) c.if-is_full.inside
 came g c = elim c.if-is_full.branch [
   | then-is_full w ↦
       let full = rw c.state.ensures at (c.is_full.ensures.0 w.if-is_full.true) in
-      rw w.inside-is (record {
-        of = w.wait-inside.ensures.of;
-        place = w.wait-inside.ensures.place ∙ c.enter-inside.ensures.place;
-        ready = w.wait-inside.ensures.ready;
-        comes = ComesTo-waited c.enter-inside.ensures.front full w.wait-inside.ensures.front c.enter-inside.ensures.place refl refl refl refl;
-      })
+      rw w.inside-is (Came-waited g.M.Monitor c.enter-inside.ensures.place c.enter-inside.ensures.front full w.wait-inside.ensures.of w.wait-inside.ensures.place
+          w.wait-inside.ensures.front refl refl w.wait-inside.ensures.ready)
   | else-is_full w ↦
       let room = rw c.state.ensures at (iff_false c.is_full.ensures w.if-is_full.false) in
-      rw w.inside-is (record {
-        of = c.enter-inside.ensures.of;
-        place = c.enter-inside.ensures.place;
-        ready = RoomReady-at_once c.enter-inside.ensures.rest room;
-        comes = at_once c.enter-inside.ensures.front room;
-      })
+      rw w.inside-is (Came-at_once g.M.Monitor c.enter-inside.ensures.of c.enter-inside.ensures.place c.enter-inside.ensures.front room
+          (RoomReady-at_once c.enter-inside.ensures.rest room))
 ]
 
 pub put-requires : goal.put-requires

@@ -1,7 +1,6 @@
 use Rattle.std.proofs.Common.{◌≡◌, ◌∙◌, refl}
 use Rattle.std.proofs.lemmas.Bool.{iff_false}
-use Rattle.hoare_law.specs.Growth.{ComesTo, at_once}
-use Rattle.hoare_law.proofs.Growth.{ComesTo-waited}
+use Rattle.hoare_law.proofs.Came.{Came, Came-at_once, Came-waited}
 use Rattle.cookbook.specs.Tables.{TableHolds, CanEat}
 use Rattle.cookbook.proofs.Tables.{TableHolds-seated, HandsOn-as}
 use Rattle.cookbook.proofs.table.Table.sit_down.Given.{Over}
@@ -9,33 +8,17 @@ use Rattle.cookbook.proofs.table.Table.sit_down.Goals as goal
 use Rattle.cookbook.proofs.table.Table.sit_down.Goals.{After-state_mut, then-not-can_eat, else-not-can_eat}
 
 -- it came in and, after a wait or without one, finds that it can eat
-came : (g : Over) (c : After-state_mut g) → record {
-  of : g.M.Monitor.is_of_in c.args.m.now c.if-not-can_eat.inside;
-  place : g.M.Monitor.place_in c.if-not-can_eat.inside ≡ g.M.Monitor.place c.args.out;
-  holds : TableHolds (g.M.Monitor.data_in c.if-not-can_eat.inside);
-  can : CanEat (g.M.Monitor.data_in c.if-not-can_eat.inside) c.args.seat;
-  comes : ComesTo (g.M.Monitor.place c.args.out) (λ _ t. CanEat t c.args.seat → ⊥) (λ _. c.args.seat) (λ _. 0) (g.M.Monitor.front c.args.out)
-      (g.M.Monitor.front_in c.if-not-can_eat.inside) (g.M.Monitor.data_in c.if-not-can_eat.inside);
-}
+came : (g : Over) (c : After-state_mut g) → Came g.M.Monitor c.args.m.now c.args.out (λ _ t. CanEat t c.args.seat → ⊥) (λ _. c.args.seat) (λ _. 0)
+      (λ t _. TableHolds t × CanEat t c.args.seat) c.if-not-can_eat.inside
 came g c = elim c.if-not-can_eat.branch [
   | then-not-can_eat w ↦
       let cannot = rw c.state.ensures at (iff_false c.can_eat.ensures w.if-not-can_eat.true) in
-      rw w.inside-is (record {
-        of = w.wait-inside.ensures.of;
-        place = w.wait-inside.ensures.place ∙ c.enter-inside.ensures.place;
-        holds = w.wait-inside.ensures.ready.inv;
-        can = w.wait-inside.ensures.ready.can;
-        comes = ComesTo-waited c.enter-inside.ensures.front cannot w.wait-inside.ensures.front c.enter-inside.ensures.place refl refl refl refl;
-      })
+      rw w.inside-is (Came-waited g.M.Monitor c.enter-inside.ensures.place c.enter-inside.ensures.front cannot w.wait-inside.ensures.of w.wait-inside.ensures.place
+          w.wait-inside.ensures.front refl refl (w.wait-inside.ensures.ready.inv, w.wait-inside.ensures.ready.can))
   | else-not-can_eat w ↦
       let can = rw c.state.ensures at (c.can_eat.ensures.0 w.if-not-can_eat.false) in
-      rw w.inside-is (record {
-        of = c.enter-inside.ensures.of;
-        place = c.enter-inside.ensures.place;
-        holds = c.enter-inside.ensures.rest.inv;
-        can = can;
-        comes = at_once c.enter-inside.ensures.front (λ cannot. cannot can);
-      })
+      rw w.inside-is (Came-at_once g.M.Monitor c.enter-inside.ensures.of c.enter-inside.ensures.place c.enter-inside.ensures.front (λ cannot. cannot can)
+          (c.enter-inside.ensures.rest.inv, can))
 ]
 
 pub hand_on-requires-clause-of : goal.hand_on-requires-clause-of
@@ -44,7 +27,7 @@ hand_on-requires-clause-of g c = λ _ _. g.met.M.Monitor.keeps_of _ _ _ (came g 
 pub hand_on-requires-clause-inv : goal.hand_on-requires-clause-inv
 hand_on-requires-clause-inv g c = λ _ _.
     let inside = came g (goal.at.hand_on-requires-clause-inv g c).After-state_mut in
-    TableHolds-seated (g.M.Monitor.data_in c.if-not-can_eat.inside) _ c.args.seat inside.holds c.requires.seat inside.can
+    TableHolds-seated (g.M.Monitor.data_in c.if-not-can_eat.inside) _ c.args.seat inside.ready.0 c.requires.seat inside.ready.1
     (g.met.M.Monitor.takes_data _ _ ∙ (rw c.state_mut.ensures.value at c.start.ensures))
 
 pub returns-clause-place : goal.returns-clause-place
@@ -57,7 +40,7 @@ returns-clause-trace g c =
       found = g.M.Monitor.data_in c.if-not-can_eat.inside;
       front = g.M.Monitor.front_in c.if-not-can_eat.inside;
       comes = inside.comes;
-      can = inside.can;
+      can = inside.ready.1;
       hands_on = HandsOn-as c.hand_on.ensures.trace (g.met.M.Monitor.keeps_place _ _ ∙ inside.place)
           (g.met.M.Monitor.takes_data _ _ ∙ (rw c.state_mut.ensures.value at c.start.ensures)) (g.met.M.Monitor.keeps_front _ _);
     }

@@ -1,7 +1,7 @@
 use Rattle.std.proofs.Common.{◌≡◌, ◌∙◌, refl, length}
 use Rattle.std.proofs.lemmas.Bool.{iff_false}
-use Rattle.hoare_law.specs.Growth.{ComesTo, at_once}
-use Rattle.hoare_law.proofs.Growth.{ComesTo-waited, Finishes-exit}
+use Rattle.hoare_law.proofs.Came.{Came, Came-at_once, Came-waited}
+use Rattle.hoare_law.proofs.Growth.{Finishes-exit}
 use Rattle.plain_schedulers.specs.Buffers.{ReadyNonempty}
 use Rattle.plain_schedulers.proofs.Buffers.{ReadyNonempty-at_once, ReadyNonfull-removed, BufferRests-removed, left_of}
 use Rattle.plain_schedulers.proofs.buffer.Buffer.remove.Given.{Over}
@@ -9,30 +9,17 @@ use Rattle.plain_schedulers.proofs.buffer.Buffer.remove.Goals as goal
 use Rattle.plain_schedulers.proofs.buffer.Buffer.remove.Goals.{After-state_mut, then-is_empty, else-is_empty}
 
 -- it came in and, after a wait or without one, finds an item
-came : (g : Over) (c : After-state_mut g) → record {
-  of : g.M.Monitor.is_of_in c.args.m.now c.if-is_empty.inside;
-  place : g.M.Monitor.place_in c.if-is_empty.inside ≡ g.M.Monitor.place c.args.out;
-  ready : ReadyNonempty (g.M.Monitor.data_in c.if-is_empty.inside) (g.M.Monitor.lists_in c.if-is_empty.inside 0) (g.M.Monitor.lists_in c.if-is_empty.inside 1);
-  comes : ComesTo (g.M.Monitor.place c.args.out) (λ _ a. length a.items ≡ 0) (λ _. 0) (λ _. 0) (g.M.Monitor.front c.args.out)
-      (g.M.Monitor.front_in c.if-is_empty.inside) (g.M.Monitor.data_in c.if-is_empty.inside);
-}
+came : (g : Over) (c : After-state_mut g) → Came g.M.Monitor c.args.m.now c.args.out (λ _ a. length a.items ≡ 0) (λ _. 0) (λ _. 0)
+      (λ b q. ReadyNonempty b (q 0) (q 1)) c.if-is_empty.inside
 came g c = elim c.if-is_empty.branch [
   | then-is_empty w ↦
       let none = rw c.state.ensures at (c.is_empty.ensures.0 w.if-is_empty.true) in
-      rw w.inside-is (record {
-        of = w.wait-inside.ensures.of;
-        place = w.wait-inside.ensures.place ∙ c.enter-inside.ensures.place;
-        ready = w.wait-inside.ensures.ready;
-        comes = ComesTo-waited c.enter-inside.ensures.front none w.wait-inside.ensures.front c.enter-inside.ensures.place refl refl refl refl;
-      })
+      rw w.inside-is (Came-waited g.M.Monitor c.enter-inside.ensures.place c.enter-inside.ensures.front none w.wait-inside.ensures.of w.wait-inside.ensures.place
+          w.wait-inside.ensures.front refl refl w.wait-inside.ensures.ready)
   | else-is_empty w ↦
       let some = rw c.state.ensures at (iff_false c.is_empty.ensures w.if-is_empty.false) in
-      rw w.inside-is (record {
-        of = c.enter-inside.ensures.of;
-        place = c.enter-inside.ensures.place;
-        ready = ReadyNonempty-at_once c.enter-inside.ensures.rest some;
-        comes = at_once c.enter-inside.ensures.front some;
-      })
+      rw w.inside-is (Came-at_once g.M.Monitor c.enter-inside.ensures.of c.enter-inside.ensures.place c.enter-inside.ensures.front some
+          (ReadyNonempty-at_once c.enter-inside.ensures.rest some))
 ]
 
 pub pop-item-requires : goal.pop-item-requires

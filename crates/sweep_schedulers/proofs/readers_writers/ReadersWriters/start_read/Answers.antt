@@ -1,6 +1,6 @@
 use Rattle.std.proofs.Common.{rules, ◌≡◌, ◌∙◌, false, refl}
-use Rattle.hoare_law.specs.Growth.{ComesTo, at_once}
-use Rattle.hoare_law.proofs.Growth.{ComesTo-waited, Finishes-exit}
+use Rattle.hoare_law.proofs.Came.{Came, Came-at_once, Came-waited}
+use Rattle.hoare_law.proofs.Growth.{Finishes-exit}
 use Rattle.sweep_schedulers.specs.ReadersWriters.{ReadReady}
 use Rattle.sweep_schedulers.specs.ReadersWritersTraces.{ReaderHeldUp}
 use Rattle.sweep_schedulers.proofs.Readers.{ReadReady-admitted, ReadersRest-admitted}
@@ -9,28 +9,14 @@ use Rattle.sweep_schedulers.proofs.readers_writers.ReadersWriters.start_read.Goa
 use Rattle.sweep_schedulers.proofs.readers_writers.ReadersWriters.start_read.Goals.{After-state_mut, then-is_busy, else-is_busy+else-queue}
 
 -- it came in and, after a wait or without one, finds no writer in
-came : (g : Over) (c : After-state_mut g) → record {
-  of : g.M.Monitor.is_of_in c.args.m.now c.if-is_busy.inside;
-  place : g.M.Monitor.place_in c.if-is_busy.inside ≡ g.M.Monitor.place c.args.out;
-  ready : ReadReady (g.M.Monitor.data_in c.if-is_busy.inside);
-  comes : ComesTo (g.M.Monitor.place c.args.out) ReaderHeldUp (λ _. 0) (λ _. 0) (g.M.Monitor.front c.args.out)
-      (g.M.Monitor.front_in c.if-is_busy.inside) (g.M.Monitor.data_in c.if-is_busy.inside);
-}
+came : (g : Over) (c : After-state_mut g) → Came g.M.Monitor c.args.m.now c.args.out ReaderHeldUp (λ _. 0) (λ _. 0) (λ d _. ReadReady d) c.if-is_busy.inside
 came g c = elim c.if-is_busy.branch [
-  | then-is_busy w ↦ rw w.inside-is (record {
-    of = w.wait-inside.ensures.of;
-    place = w.wait-inside.ensures.place ∙ c.enter-inside.ensures.place;
-    ready = w.wait-inside.ensures.ready;
-    comes = ComesTo-waited c.enter-inside.ensures.front (search rules) w.wait-inside.ensures.front c.enter-inside.ensures.place refl refl refl refl;
-  })
+  | then-is_busy w ↦ rw w.inside-is (Came-waited g.M.Monitor c.enter-inside.ensures.place c.enter-inside.ensures.front (search rules) w.wait-inside.ensures.of w.wait-inside.ensures.place
+      w.wait-inside.ensures.front refl refl w.wait-inside.ensures.ready)
   | else-is_busy+else-queue w ↦
       let free : (g.M.Monitor.data_in c.enter-inside.result).busy ≡ false = search rules in
-      rw w.inside-is (record {
-        of = c.enter-inside.ensures.of;
-        place = c.enter-inside.ensures.place;
-        ready = record { inv = c.enter-inside.ensures.rest.inv; no_writer = free };
-        comes = at_once c.enter-inside.ensures.front (search rules);
-      })
+      rw w.inside-is (Came-at_once g.M.Monitor c.enter-inside.ensures.of c.enter-inside.ensures.place c.enter-inside.ensures.front (search rules)
+          (record { inv = c.enter-inside.ensures.rest.inv; no_writer = free }))
 ]
 
 pub admit-read-requires : goal.admit-read-requires

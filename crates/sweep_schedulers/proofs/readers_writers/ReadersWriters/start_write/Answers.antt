@@ -1,7 +1,7 @@
 use Rattle.std.proofs.Common.{◌≡◌, ◌∙◌, refl}
 use Rattle.std.proofs.lemmas.Bool.{iff_false}
-use Rattle.hoare_law.specs.Growth.{ComesTo, at_once}
-use Rattle.hoare_law.proofs.Growth.{ComesTo-waited, leaves-as}
+use Rattle.hoare_law.proofs.Came.{Came, Came-at_once, Came-waited}
+use Rattle.hoare_law.proofs.Growth.{leaves-as}
 use Rattle.sweep_schedulers.specs.ReadersWriters.{IsInUse, WriteReady}
 use Rattle.sweep_schedulers.proofs.Readers.{ReadersRest-writer, WriteReady-at_once, ReadersRest-reserved}
 use Rattle.sweep_schedulers.proofs.readers_writers.ReadersWriters.start_write.Given.{Over}
@@ -13,30 +13,16 @@ wait-inside-requires-clause-rest g c = ReadersRest-writer (g.M.Monitor.lists_in 
     (rw c.state.ensures at (c.is_in_use.ensures.0 c.if-is_in_use.true))
 
 -- it came in and, after a wait or without one, finds nobody in
-came : (g : Over) (c : After-state_mut g) → record {
-  of : g.M.Monitor.is_of_in c.args.m.now c.if-is_in_use.inside;
-  place : g.M.Monitor.place_in c.if-is_in_use.inside ≡ g.M.Monitor.place c.args.out;
-  ready : WriteReady (g.M.Monitor.data_in c.if-is_in_use.inside);
-  comes : ComesTo (g.M.Monitor.place c.args.out) (λ _ a. IsInUse a) (λ _. 1) (λ _. 0) (g.M.Monitor.front c.args.out)
-      (g.M.Monitor.front_in c.if-is_in_use.inside) (g.M.Monitor.data_in c.if-is_in_use.inside);
-}
+came : (g : Over) (c : After-state_mut g) → Came g.M.Monitor c.args.m.now c.args.out (λ _ a. IsInUse a) (λ _. 1) (λ _. 0) (λ d _. WriteReady d) c.if-is_in_use.inside
 came g c = elim c.if-is_in_use.branch [
   | then-is_in_use w ↦
       let used = rw c.state.ensures at (c.is_in_use.ensures.0 w.if-is_in_use.true) in
-      rw w.inside-is (record {
-        of = w.wait-inside.ensures.of;
-        place = w.wait-inside.ensures.place ∙ c.enter-inside.ensures.place;
-        ready = w.wait-inside.ensures.ready;
-        comes = ComesTo-waited c.enter-inside.ensures.front used w.wait-inside.ensures.front c.enter-inside.ensures.place refl refl refl refl;
-      })
+      rw w.inside-is (Came-waited g.M.Monitor c.enter-inside.ensures.place c.enter-inside.ensures.front used w.wait-inside.ensures.of w.wait-inside.ensures.place
+          w.wait-inside.ensures.front refl refl w.wait-inside.ensures.ready)
   | else-is_in_use w ↦
       let unused = rw c.state.ensures at (iff_false c.is_in_use.ensures w.if-is_in_use.false) in
-      rw w.inside-is (record {
-        of = c.enter-inside.ensures.of;
-        place = c.enter-inside.ensures.place;
-        ready = WriteReady-at_once c.enter-inside.ensures.rest unused;
-        comes = at_once c.enter-inside.ensures.front unused;
-      })
+      rw w.inside-is (Came-at_once g.M.Monitor c.enter-inside.ensures.of c.enter-inside.ensures.place c.enter-inside.ensures.front unused
+          (WriteReady-at_once c.enter-inside.ensures.rest unused))
 ]
 
 pub leave-requires-clause-of : goal.leave-requires-clause-of

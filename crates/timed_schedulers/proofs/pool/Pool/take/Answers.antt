@@ -1,6 +1,6 @@
 use Rattle.std.proofs.Common.{◌≡◌, ◌≢◌, ◌<◌, ◌∙◌, ap, refl, sym, rules}
-use Rattle.hoare_law.specs.Growth.{ComesTo, at_once}
-use Rattle.hoare_law.proofs.Growth.{ComesTo-waited, leaves-as, Finishes-exit}
+use Rattle.hoare_law.proofs.Came.{Came, Came-at_once, Came-waited}
+use Rattle.hoare_law.proofs.Growth.{leaves-as, Finishes-exit}
 use Rattle.timed_schedulers.specs.Pools.{PoolReady, free_count, held}
 use Rattle.timed_schedulers.specs.PoolTraces.{MustWait, refused, took}
 use Rattle.timed_schedulers.proofs.Pools.{no_stream, Takes-late, PoolReady-idle, PoolRests-taken}
@@ -22,44 +22,28 @@ returns-then-not-has_stream-2-clause-trace g c =
     (Finishes-exit c.signal_leave-out.ensures.front (c.wait-inside.ensures.place ∙ c.enter-inside.ensures.place) refl refl)
 
 -- it came in and, after a wait or without one, is a stream and finds a buffer
-came : (g : Over) (c : After-state_mut g) → record {
-  of : g.M.Monitor.is_of_in c.args.m.now c.if-free-eq0.inside;
-  place : g.M.Monitor.place_in c.if-free-eq0.inside ≡ g.M.Monitor.place c.args.out;
-  stream : c.args.stream < (g.M.Monitor.data_in c.if-free-eq0.inside).streams;
-  ready : PoolReady (g.M.Monitor.data_in c.if-free-eq0.inside) (g.M.Monitor.lists_in c.if-free-eq0.inside 0);
-  comes : ComesTo (g.M.Monitor.place c.args.out) (MustWait c.args.stream) (λ _. 0) (held c.args.stream) (g.M.Monitor.front c.args.out)
-      (g.M.Monitor.front_in c.if-free-eq0.inside) (g.M.Monitor.data_in c.if-free-eq0.inside);
-}
+came : (g : Over) (c : After-state_mut g) → Came g.M.Monitor c.args.m.now c.args.out (MustWait c.args.stream) (λ _. 0) (held c.args.stream)
+      (λ p q. (c.args.stream < p.streams) × PoolReady p (q 0)) c.if-free-eq0.inside
 came g c =
     let stream = rw c.state.ensures at (c.has_stream.ensures.0 c.if-not-has_stream.false) in
     elim c.if-free-eq0.branch [
       | then-free-eq0+else-not-has_stream-2 w ↦
           let none = rw c.state-2.ensures at (sym c.free.ensures.told ∙ w.if-free-eq0.true) in
-          rw w.inside-is (record {
-            of = w.wait-inside.ensures.of;
-            place = w.wait-inside.ensures.place ∙ c.enter-inside.ensures.place;
-            stream = rw w.state-then-free-eq0-2.ensures at (w.has_stream-then-free-eq0.ensures.0 w.if-not-has_stream-2.false);
-            ready = w.wait-inside.ensures.ready;
-            comes = ComesTo-waited c.enter-inside.ensures.front (stream, none) w.wait-inside.ensures.front c.enter-inside.ensures.place
-                refl refl refl (search rules);
-          })
+          let stays = rw w.state-then-free-eq0-2.ensures at (w.has_stream-then-free-eq0.ensures.0 w.if-not-has_stream-2.false) in
+          rw w.inside-is (Came-waited g.M.Monitor c.enter-inside.ensures.place c.enter-inside.ensures.front (stream, none) w.wait-inside.ensures.of
+              w.wait-inside.ensures.place w.wait-inside.ensures.front refl (search rules) (stays, w.wait-inside.ensures.ready))
       | else-free-eq0 w ↦
           let some : free_count (g.M.Monitor.data_in c.enter-inside.result) ≢ 0 =
           λ none. w.if-free-eq0.false ((rw c.state-2.ensures at c.free.ensures.told) ∙ none) in
-          rw w.inside-is (record {
-            of = c.enter-inside.ensures.of;
-            place = c.enter-inside.ensures.place;
-            stream = stream;
-            ready = PoolReady-idle c.enter-inside.ensures.rest some;
-            comes = at_once c.enter-inside.ensures.front (λ must. some must.1);
-          })
+          rw w.inside-is (Came-at_once g.M.Monitor c.enter-inside.ensures.of c.enter-inside.ensures.place c.enter-inside.ensures.front
+              (λ must. some must.1) (stream, PoolReady-idle c.enter-inside.ensures.rest some))
     ]
 
 pub own_least-buffer-requires-clause-stream : goal.own_least-buffer-requires-clause-stream
-own_least-buffer-requires-clause-stream g c = rw c.state_mut.ensures.value (came g c).stream
+own_least-buffer-requires-clause-stream g c = rw c.state_mut.ensures.value (came g c).ready.0
 
 pub own_least-buffer-requires-clause-some : goal.own_least-buffer-requires-clause-some
-own_least-buffer-requires-clause-some g c = rw c.state_mut.ensures.value (came g c).ready.some
+own_least-buffer-requires-clause-some g c = rw c.state_mut.ensures.value (came g c).ready.1.some
 
 pub leave-requires-2-clause-of : goal.leave-requires-2-clause-of
 leave-requires-2-clause-of g c = g.met.M.Monitor.keeps_of _ _ _ (came g (goal.at.leave-requires-2-clause-of g c).After-state_mut).of
@@ -67,7 +51,7 @@ leave-requires-2-clause-of g c = g.met.M.Monitor.keeps_of _ _ _ (came g (goal.at
 pub leave-requires-2-clause-rest : goal.leave-requires-2-clause-rest
 leave-requires-2-clause-rest g c =
     let inside = came g (goal.at.leave-requires-2-clause-rest g c).After-state_mut in
-    PoolRests-taken {b = c.own_least-buffer.result} {s = c.args.stream} inside.ready inside.stream
+    PoolRests-taken {b = c.own_least-buffer.result} {s = c.args.stream} inside.ready.1 inside.ready.0
     (rw c.state_mut.ensures.value at c.own_least-buffer.ensures.least)
     (g.met.M.Monitor.takes_data _ _ ∙ (rw c.state_mut.ensures.value at c.own_least-buffer.ensures.owned))
     (ap (λ q. q 0) (g.met.M.Monitor.keeps_lists _ _))
@@ -79,6 +63,6 @@ pub returns-clause-trace : goal.returns-clause-trace
 returns-clause-trace g c =
     let inside = came g (goal.at.returns-clause-trace g c).After-state_mut in
     took (g.M.Monitor.data_in c.if-free-eq0.inside) (g.M.Monitor.front_in c.if-free-eq0.inside) _
-    inside.comes inside.stream (rw c.state_mut.ensures.value at c.own_least-buffer.ensures.least)
+    inside.comes inside.ready.0 (rw c.state_mut.ensures.value at c.own_least-buffer.ensures.least)
     (leaves-as c.leave-2.ensures.front (g.met.M.Monitor.keeps_place _ _ ∙ inside.place)
     (g.met.M.Monitor.takes_data _ _ ∙ (rw c.state_mut.ensures.value at c.own_least-buffer.ensures.owned)) (g.met.M.Monitor.keeps_front _ _))

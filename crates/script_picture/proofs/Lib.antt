@@ -2,3 +2,4 @@ pub mod Lanes
 pub mod Does
 pub mod Shown
 pub mod Reading
+pub mod Arrows

@@ -31,7 +31,7 @@ use Rattle.std.proofs.lemmas.Bool.{cases_lt}
 use Rattle.script_picture.proofs.Does.{Log, Act, lane_of, lane_of-push, Does-last, Does-by_last}
 
 -- the turn after one more event
-turn-with : (h : Log) (e : Act) → turn (with_event h e).events ≡ turn_by e (urgent (with_event h e).events)
+pub turn-with : (h : Log) (e : Act) → turn (with_event h e).events ≡ turn_by e (urgent (with_event h e).events)
 unfolding with_event
 turn-with h e = turn-push h.events e
 
@@ -102,12 +102,12 @@ left_by h s e k is l = left_settled (with_event h e) s k (lane_of h k) (given_up
 
 -- who acts has the turn
 
-held_test : (a b : Bool) (further : Option StepRefused) → cond a (cond b further (Some NotInside)) (Some NoPlace) ≡ None → b ≡ true
+pub held_test : (a b : Bool) (further : Option StepRefused) → cond a (cond b further (Some NotInside)) (Some NoPlace) ≡ None → b ≡ true
 held_test true true further is = refl
 held_test true false further is = absurd (cc)
 held_test false b further is = absurd (cc)
 
-held_is : (j : ℕ) (t : Turn) → is_held_by j t ≡ true → t ≡ Held j
+pub held_is : (j : ℕ) (t : Turn) → is_held_by j t ≡ true → t ≡ Held j
 held_is j Free is = absurd (cc)
 held_is j (Held i) is = ap Held (eqb-true i j is)
 held_is j (Owed i c) is = absurd (cc)
@@ -162,7 +162,7 @@ lane_of-after h (Queue c) k = refl
 lane_of-after h (First c) k = refl
 
 -- after it nobody is owed the monitor
-claimed-step : (h : Log) (s : Step) → IsClaimed (turn (after_step h s).events)
+pub claimed-step : (h : Log) (s : Step) → IsClaimed (turn (after_step h s).events)
 claimed-step h (Enter j) = subst IsClaimed (sym (turn-with h (event.Admit j tt))) tt
 claimed-step h (Wait j c p) = claimed-settled (with_event h (event.Wait j c p tt))
 claimed-step h (Signal j c) = claimed-settled (after_signal h j c (chosen c h.events))
@@ -203,7 +203,7 @@ places-step h (Pass j c) = by (chosen c h.events)
     by None = places-claim (with_event h (event.Leave j tt)) (turn (with_event h (event.Leave j tt)).events)
     by (Some e) = places-claim (with_event h (event.Pass j c (place_of e) tt)) (turn (with_event h (event.Pass j c (place_of e) tt)).events)
 
-places-after : (h : Log) (c : Command) → (history_after h c).places ≡ h.places
+pub places-after : (h : Log) (c : Command) → (history_after h c).places ≡ h.places
 unfolding history_after
 places-after h (Do s) = by (refusal_of h s)
   where
@@ -264,6 +264,12 @@ Answered-at h [] i d below a = absurd (omega (arith, below))
 Answered-at h (row ∷ []) zero d below a = (a.1, a.2)
 Answered-at h (row ∷ next ∷ rows) zero d below a = (a.1, a.2.0)
 Answered-at h (row ∷ rows) (suc i) d below a = Answered-at (history_after h row.command) rows i d (omega (arith, below)) a.2
+
+-- and a book is of what happened before it
+pub Answered-before : (h : Log) (rows : List Row) (i : ℕ) → i < length rows → Answered h rows → HasBook (after_rows h (take i rows))
+Answered-before h [] i below a = absurd (omega (arith, below))
+Answered-before h (row ∷ rows) zero below a = a.0
+Answered-before h (row ∷ rows) (suc i) below a = Answered-before (history_after h row.command) rows i (omega (arith, below)) a.2
 
 -- and the next row happens after those before it
 after_rows_suc : (h : Log) (rows : List Row) (i : ℕ) (d : Row) → i < length rows

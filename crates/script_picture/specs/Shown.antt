@@ -1,5 +1,5 @@
 -- What a place does where a history happened, and which lanes and rows show that.
-use Rattle.std.specs.Prelude.{ℕ, ◌≡◌, ◌<◌, ◌≤◌, ◌+◌, ◌↔◌, true, List, [], ◌∷◌, ◌++◌, length, slice_index_or, take, Option, Some, None, ⊤}
+use Rattle.std.specs.Prelude.{ℕ, ◌≡◌, ◌<◌, ◌≤◌, ◌+◌, ◌↔◌, Bool, true, IsTrue, List, [], ◌∷◌, ◌++◌, length, slice_index_or, take, Option, Some, None, ⊤}
 use Rattle.std.specs.List.{Contains}
 use Rattle.hoare_law.specs.declared.event.History.{History}
 use Rattle.hoare_law.specs.declared.event.Event.TheVariants.{Wait}
@@ -13,6 +13,7 @@ use Rattle.hoare_script.specs.Answers.{answer_to, history_after}
 use Rattle.hoare_script.specs.declared.answers.Answer.{Answer}
 use Rattle.hoare_script.specs.declared.lines.Command.{Command}
 use Rattle.hoare_script.specs.declared.lines.Header.{Header}
+use Rattle.script_picture.specs.declared.chart.HandOver.{HandOver}
 use Rattle.script_picture.specs.declared.chart.Lane.{Lane}
 use Rattle.script_picture.specs.declared.chart.Lane.TheVariants as lanes
 use Rattle.script_picture.specs.declared.chart.Row.{Row}
@@ -70,6 +71,14 @@ IsTold c = (c.header.places ≤ 64) × Answered (opening c.header) c.rows.items
 abbrev pub DoesDuring : Chart → ℕ → Lane → ℕ → ℕ → Type 0
 DoesDuring c k lane since end =
     (i : ℕ) → since ≤ i → i < end → Does (after_rows (opening c.header) (take (i + 1) c.rows.items)) k lane
+
+-- one place is inside before row i, and another after it; it comes back if it was a waiting signaller before the row, and the one went
+-- out if it is outside after the row
+pub record HandsOver (c : Chart) (i : ℕ) (over : HandOver) (comes_back went_out : Bool) : Type 0 where
+  pub gives : Does (after_rows (opening c.header) (take i c.rows.items)) over.from lanes.Inside
+  pub goes_on : Does (after_rows (opening c.header) (take (i + 1) c.rows.items)) over.to lanes.Inside
+  pub returns : IsTrue comes_back ↔ Does (after_rows (opening c.header) (take i c.rows.items)) over.to lanes.Signalling
+  pub gone : IsTrue went_out ↔ Does (after_rows (opening c.header) (take (i + 1) c.rows.items)) over.from lanes.Outside
 
 -- one row more, of the command that a line spells
 abbrev pub IsRowMore : Option Command → List Row → List Row → Type 0

@@ -1,5 +1,5 @@
 //! Rows and lanes: what each place does after each step, read off the answers.
-ghost use Rattle.std.specs.Prelude.{◌≡◌, ◌<◌, ◌≤◌, ℕ, length, slice_index_or};
+ghost use Rattle.std.specs.Prelude.{◌≡◌, ◌<◌, ◌≤◌, ◌↔◌, ℕ, IsTrue, length, slice_index_or};
 ghost use Rattle.hoare_law.specs.declared.event.History.{History};
 ghost use Rattle.hoare_script.specs.Answers.{answer_to, history_after};
 ghost use Rattle.script_picture.specs.declared.chart.Lane.TheVariants as states;
@@ -122,6 +122,23 @@ pub fn outside_lanes(header: Header) -> Lanes
         let _ = lanes.try_push(Lane::Outside);
     }
     lanes
+}
+
+/// What a place does by these lanes: outside, where there is no lane of it.
+pub fn lane_of(lanes: &Lanes, place: u64) -> Lane
+    ensures { result ≡ slice_index_or lanes.now.items place states.Outside }
+{
+    match lanes.as_slice().get(place as usize) {
+        Some(lane) => *lane,
+        None => Lane::Outside,
+    }
+}
+
+/// Whether a place does this by these lanes.
+pub fn does(lanes: &Lanes, place: u64, lane: Lane) -> bool
+    ensures { IsTrue result ↔ (slice_index_or lanes.now.items place states.Outside ≡ lane) }
+{
+    lane_of(lanes, place) == lane
 }
 
 /// Takes all lanes past a row. Where the row is answered as a history says, lanes that show this history go on to show the

@@ -1,9 +1,9 @@
 //! The chart as an SVG.
-ghost use Rattle.script_picture.specs.Shown.{DoesDuring, IsTold};
+ghost use Rattle.script_picture.specs.Shown.{DoesDuring, HandsOver, IsTold};
 
 use crate::about::write_description;
 use crate::chart::{
-    Chart, HandOver, Lane, Lanes, Row, advance, hand_over, lane_after, outside_lanes,
+    Chart, HandOver, Lane, Row, advance, does, hand_over, lane_after, outside_lanes,
 };
 use crate::frame::{Frame, ROW, Track, frame_of, row_top};
 use crate::legend::write_legend;
@@ -210,15 +210,23 @@ fn write_span<W: Write>(writer: &mut W, chart: &Chart, track: Track, span: Span)
 }
 
 // An arrow for each hand-over.
-fn write_arrows<W: Write>(writer: &mut W, frame: &Frame, chart: &Chart) -> io::Result<()> {
+fn write_arrows<W: Write>(writer: &mut W, frame: &Frame, chart: &Chart) -> io::Result<()>
+    requires { IsTold chart.now }
+{
     let mut lanes = outside_lanes(chart.header);
-    for (i, row) in chart.rows.iter().enumerate() {
+    'rows: for (i, row) in chart.rows.iter().enumerate() {
         if let Some(over) = hand_over(*row) {
-            let returns = is_lane(&lanes, over.to, Lane::Signalling);
+            let returns = does(&lanes, over.to, Lane::Signalling);
             advance(lanes.as_mut_slice(), *row);
-            let gone = is_lane(&lanes, over.from, Lane::Outside);
-            let middle = row_top(i as u64).saturating_add(ROW / 2);
-            write_over(writer, frame, over, middle, returns, gone)?;
+            let gone = does(&lanes, over.from, Lane::Outside);
+            let row = i as u64;
+            let crossing = Crossing {
+                row,
+                over,
+                returns,
+                gone,
+            };
+            write_crossing(writer, frame, chart, crossing)?;
         } else {
             advance(lanes.as_mut_slice(), *row);
         }
@@ -226,41 +234,55 @@ fn write_arrows<W: Write>(writer: &mut W, frame: &Frame, chart: &Chart) -> io::R
     Ok(())
 }
 
-// Whether a place does this.
-fn is_lane(lanes: &Lanes, place: u64, lane: Lane) -> bool {
-    lanes.as_slice().get(place as usize).copied() == Some(lane)
-}
-
-// The arrow of a hand-over, between the sides of two boxes, or from a dot where the place is gone.
-fn write_over<W: Write>(
-    writer: &mut W,
-    frame: &Frame,
+// A hand-over at a row: whether the one that goes on returns, and whether the other is gone.
+#[derive(Clone, Copy)]
+struct Crossing {
+    row: u64,
     over: HandOver,
-    middle: u64,
     returns: bool,
     gone: bool,
-) -> io::Result<()> {
+}
+
+// The arrow of a hand-over, between the sides of two boxes, or from a dot where the place is gone. The chart is there for the
+// clause: the one is inside before the row, and the other after it.
+fn write_crossing<W: Write>(
+    writer: &mut W,
+    frame: &Frame,
+    chart: &Chart,
+    crossing: Crossing,
+) -> io::Result<()>
+    requires { HandsOver chart.now crossing.row crossing.over crossing.returns crossing.gone }
+{
+    let Crossing {
+        row,
+        over,
+        returns,
+        gone,
+    } = crossing;
     let (Some(from), Some(to)) = (frame.track(over.from), frame.track(over.to)) else {
         return Ok(()); // neither is idle
     };
+    let middle = row_top(row).saturating_add(ROW / 2);
     let reach = if gone { 0 } else { from.half };
-    let arrow = if over.from < over.to {
-        Arrow {
-            from: from.middle.saturating_add(reach),
-            to: to.middle.saturating_sub(to.half),
-            middle,
-            returns,
-        }
+    let (from_side, to_side) = if over.from < over.to {
+        (
+            from.middle.saturating_add(reach),
+            to.middle.saturating_sub(to.half),
+        )
     } else {
-        Arrow {
-            from: from.middle.saturating_sub(reach),
-            to: to.middle.saturating_add(to.half),
-            middle,
-            returns,
-        }
+        (
+            from.middle.saturating_sub(reach),
+            to.middle.saturating_add(to.half),
+        )
     };
     if gone {
         write_dot(writer, from.middle, middle)?;
     }
+    let arrow = Arrow {
+        from: from_side,
+        to: to_side,
+        middle,
+        returns,
+    };
     write_arrow(writer, arrow)
 }

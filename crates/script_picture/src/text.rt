@@ -2,7 +2,7 @@
 //! follow in further blocks below, each with all steps.
 ghost use Rattle.script_picture.specs.Shown.{IsShownAfter, IsTold};
 
-use crate::chart::{Chart, HandOver, Lane, Lanes, Row, advance, hand_over, outside_lanes};
+use crate::chart::{Chart, HandOver, Lanes, Row, advance, hand_over, lane_of, outside_lanes};
 use crate::widths::{Column, Widths, widths_of};
 use crate::words::{
     Text, command_text, header_text, idle_text, lane_text, place_text, remark_text,
@@ -137,14 +137,6 @@ fn write_row<W: Write>(
 fn column_at(widths: &Widths, i: usize) -> Column {
     let columns = widths.columns.as_slice();
     columns.get(i).copied().unwrap_or_default()
-}
-
-fn lane_of(lanes: &Lanes, place: u64) -> Lane {
-    lanes
-        .as_slice()
-        .get(place as usize)
-        .copied()
-        .unwrap_or_default()
 }
 
 // A text, and the room that it leaves in a width.

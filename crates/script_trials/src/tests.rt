@@ -3,5 +3,6 @@
 mod books;
 mod law;
 mod lines;
+mod numbers;
 mod pictures;
 mod scripts;

@@ -1,6 +1,7 @@
 //! All chains filled and emptied in turn, beside the definitions' filters, which are written here once more: each place knows where
 //! it is and since when, and who goes on is found by looking at all places. No code of the book is used for it.
 
+use crate::tests::numbers::next_number;
 use hoare_law::waits::Waits;
 use std::test::Fail;
 use wait_book::book::{Book, MOST_CONDITIONS, MOST_PLACES};
@@ -229,13 +230,6 @@ impl Plain {
             None => Next::Free,
         })
     }
-}
-
-// The next number of a fixed generator.
-fn next_number(number: u64) -> u64 {
-    number
-        .wrapping_mul(6364136223846793005)
-        .wrapping_add(1442695040888963407)
 }
 
 // How the processes that wait are told apart in one part of the run, and how they are resumed.

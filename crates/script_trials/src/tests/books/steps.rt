@@ -1,3 +1,4 @@
+use crate::tests::numbers::next_number;
 use hoare_law::waits::Waits;
 use std::process::Abort;
 use std::test::Fail;
@@ -123,13 +124,6 @@ fn calls_hand_the_monitor_on(rt: HostRuntime) -> Result<(), Fail> {
     book.claim(0);
     assert_eq!(rt; book.leave(0), Next::Free);
     Ok(())
-}
-
-// The next number of a fixed generator.
-fn next_number(number: u64) -> u64 {
-    number
-        .wrapping_mul(6364136223846793005)
-        .wrapping_add(1442695040888963407)
 }
 
 // A newcomer's step, or one of the place inside, which waits in `waits` of 8 cases. Place 0 never waits, so that there is

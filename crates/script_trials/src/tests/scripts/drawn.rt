@@ -1,6 +1,7 @@
 // Scripts that a generator draws, against a second interpreter. It keeps a list of what happened, filters it for each
 // answer, and shares nothing with the book.
 use super::told;
+use crate::tests::numbers::next_number;
 use std::alloc::Global;
 use std::io;
 use std::io::Write;
@@ -277,12 +278,6 @@ impl Machine {
     }
 }
 
-// The next of a row of numbers in which no pattern shows.
-fn next_lot(seed: u64) -> u64 {
-    seed.wrapping_mul(6364136223846793005)
-        .wrapping_add(1442695040888963407)
-}
-
 // The machine of the script with this number.
 fn machine_of(alloc: Global, number: u64) -> Machine {
     Machine {
@@ -305,7 +300,7 @@ fn draw<W: Write>(
 ) -> Result<(), Fail> {
     let mut seed = number;
     for _ in 0..LINES {
-        seed = next_lot(seed);
+        seed = next_number(seed);
         let line = machine.drawn(seed / 65536);
         spell(script, line)?;
         writeln!(script)?;

@@ -1,0 +1,6 @@
+use Rattle.std.proofs.Common.{take}
+use Rattle.script_picture.specs.Shown.{Shows, after_rows, opening}
+use Rattle.script_picture.proofs.svg.write_arrows.Given as goal
+
+abbrev pub invariant-rows : goal.invariant-rows
+invariant-rows g l = Shows (after_rows (opening l.fn.chart.header) (take l.i l.fn.chart.rows.items)) l.lanes.items

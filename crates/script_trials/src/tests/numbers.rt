@@ -1,0 +1,6 @@
+/// The next of a row of numbers in which no pattern shows: those of Knuth's MMIX, whose low digits repeat soon.
+pub fn next_number(number: u64) -> u64 {
+    number
+        .wrapping_mul(6364136223846793005)
+        .wrapping_add(1442695040888963407)
+}

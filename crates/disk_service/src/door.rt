@@ -1,8 +1,9 @@
 //! One door of the service: how it is opened and closed.
 ghost use Rattle.std.specs.Prelude.{◌≡◌, IfOk, IfErr};
 ghost use Rattle.hoare_law.specs.Priorities.{nobody};
-ghost use Rattle.any_door.specs.Doors.{id_of};
+ghost use Rattle.any_door.specs.Doors.{id_of, kind_behind};
 ghost use Rattle.disk_service.specs.Doors.{AreFirst, terms};
+ghost use Rattle.disk_service.specs.Made.{door_kind};
 
 use any_door::{AnyDoor, DoorKind};
 use disk_jobs::fault::ServiceFault;
@@ -15,7 +16,9 @@ use std::alloc::Global;
 pub(crate) type Made<D> = (AnyDoor<D>, Vec<Outside<D>>);
 
 // The kind of door that this kind of service stands on.
-fn door_kind(kind: Kind) -> DoorKind {
+fn door_kind(kind: Kind) -> DoorKind
+    ensures { result ≡ door_kind kind }
+{
     match kind {
         Kind::Baton => DoorKind::Baton,
         Kind::Ticket => DoorKind::Ticket,
@@ -30,6 +33,7 @@ pub(crate) fn opened<D: MonitorData + Send + Drop>(
     places: usize,
 ) -> Result<Made<D>, ServiceFault>
     requires { D.rest state nobody }
+    ensures kind { IfOk result (λ r. kind_behind r.0 ≡ door_kind kind) }
     ensures size { IfOk result (λ r. (id_of r.0).places ≡ places) }
     ensures places { IfOk result (λ r. AreFirst (terms D.rest D.ready D.CONDITIONS)
         (id_of r.0) places r.1.items) }

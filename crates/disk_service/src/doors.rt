@@ -1,6 +1,6 @@
 //! The six doors of the service.
 ghost use Rattle.std.specs.Prelude.{◌≡◌, ◌+◌, ◌≤◌, IfOk, IfErr};
-ghost use Rattle.disk_service.specs.Made.{IsMade};
+ghost use Rattle.disk_service.specs.Made.{AreOf, IsMade};
 ghost use Rattle.disk_service.specs.Doors.{AreSized, AreThere, board_terms, clock_terms, head_terms, items_terms, pool_terms, totals_terms};
 
 use crate::data::{Board, Drive, Item, Totals};
@@ -46,6 +46,7 @@ impl Doors {
         jobs: &Jobs,
         count: usize,
     ) -> Result<(Doors, Places), ServiceFault>
+        ensures kind { IfOk result (λ r. AreOf kind r.0) }
         ensures size { IfOk result (λ r. AreSized r.0 count) }
         ensures places { IfOk result (λ r. AreThere r.0 count r.1) }
         ensures fault { IfErr result (λ f. f ≡ ServiceFault.Memory) }
@@ -101,9 +102,9 @@ fn first_doors(
     jobs: &Jobs,
     count: usize,
 ) -> Result<(Made<Buffer<Item>>, Made<Alarm>, Made<Pool>), ServiceFault>
-    ensures items { IfOk result (λ r. IsMade items_terms count r.0.0 r.0.1.items) }
-    ensures clock { IfOk result (λ r. IsMade clock_terms count r.1.0 r.1.1.items) }
-    ensures pool { IfOk result (λ r. IsMade pool_terms count r.2.0 r.2.1.items) }
+    ensures items { IfOk result (λ r. IsMade items_terms kind count r.0.0 r.0.1.items) }
+    ensures clock { IfOk result (λ r. IsMade clock_terms kind count r.1.0 r.1.1.items) }
+    ensures pool { IfOk result (λ r. IsMade pool_terms kind count r.2.0 r.2.1.items) }
     ensures fault { IfErr result (λ f. f ≡ ServiceFault.Memory) }
 {
     let items = items_door(alloc, kind, count)?;
@@ -114,7 +115,7 @@ fn first_doors(
 
 // The door of the jobs that wait for a worker, and its places.
 fn items_door(alloc: Global, kind: Kind, count: usize) -> Result<Made<Buffer<Item>>, ServiceFault>
-    ensures made { IfOk result (λ r. IsMade items_terms count r.0 r.1.items) }
+    ensures made { IfOk result (λ r. IsMade items_terms kind count r.0 r.1.items) }
     ensures fault { IfErr result (λ f. f ≡ ServiceFault.Memory) }
 {
     match Buffer::make(alloc, CELLS) {
@@ -130,7 +131,7 @@ fn pool_door(
     jobs: &Jobs,
     count: usize,
 ) -> Result<Made<Pool>, ServiceFault>
-    ensures made { IfOk result (λ r. IsMade pool_terms count r.0 r.1.items) }
+    ensures made { IfOk result (λ r. IsMade pool_terms kind count r.0 r.1.items) }
     ensures fault { IfErr result (λ f. f ≡ ServiceFault.Memory) }
 {
     let workers = jobs.workers();
@@ -154,9 +155,9 @@ fn other_doors(
     ),
     ServiceFault,
 >
-    ensures head { IfOk result (λ r. IsMade head_terms count r.0.0 r.0.1.items) }
-    ensures totals { IfOk result (λ r. IsMade totals_terms count r.1.0 r.1.1.items) }
-    ensures board { IfOk result (λ r. IsMade board_terms count r.2.0 r.2.1.items) }
+    ensures head { IfOk result (λ r. IsMade head_terms kind count r.0.0 r.0.1.items) }
+    ensures totals { IfOk result (λ r. IsMade totals_terms kind count r.1.0 r.1.1.items) }
+    ensures board { IfOk result (λ r. IsMade board_terms kind count r.2.0 r.2.1.items) }
     ensures fault { IfErr result (λ f. f ≡ ServiceFault.Memory) }
 {
     let disk = Head::with(Drive, cylmax);

@@ -12,7 +12,7 @@ use Rattle.hoare_law.specs.Priorities.{put_in, in_order, behind_first}
 use Rattle.hoare_law.proofs.Sorted.{put_in-map, map-in_order, IsNonDecreasing-in_order, find-filter, first_of}
 use Rattle.wait_book.specs.declared.chains.Link.{Link}
 use Rattle.wait_book.specs.declared.waiter.Waiter.{Waiter}
-use Rattle.wait_book.specs.Contents.{one, times}
+use Rattle.wait_book.specs.Contents.{times}
 use Rattle.wait_book.specs.Insides.{waiter_on, waiting_below}
 use Rattle.wait_book.specs.Lists.{Lists, IsPut, IsTaken, all_below, first_link, higher, list_at, list_put, lower, places_below, priorities, total, places_in}
 use Rattle.wait_book.specs.Queues.{PutsIn, TakesFirst}

@@ -30,38 +30,34 @@ use std::thread::Threads;
 use std::time::Duration;
 use std::{env, io};
 
-const NAMES: [&str; 24] = [
-    "enter_leave: one thread comes in, adds one and goes out",
-    "enter_leave_2, _4, _8: 2, 4, 8 threads at once",
-    "hand_over: a wait, a signal and the signaller's return, between two threads",
-    "buffer_1_1, buffer_4_4: a bounded buffer of 16 cells, 1 or 4 appenders and as many removers",
-    "waiting_16: a wait and a signal, with 16 processes that wait with priorities",
-    "chain_8: one link of a chain of signallers eight deep",
-    "mixed_9: a visit of eight threads that wait with priorities, signal, pass and leave, and a ninth that resumes who waits",
-    "wide_enter_leave: as enter_leave, on a monitor of 64 places and 8 conditions",
-    "others_largest, _mean, _none: how many others were let in between two visits of a place, with eight threads that",
-    "       come in and go out, each as soon as it is out: the most, the mean, and how often nobody was, of a hundred",
-    "       (the mean is about 7 at most, in whatever order they come in)",
-    "turns: TURNS for one thread; a tenth for each of several; a hundredth for hand-overs and buffers;",
-    "       a thousandth for waiting_16, chain_8 and mixed_9",
-    "with --schedulers, the procedures of the schedulers: one figure for two that undo each other, so that two visits are in it;",
-    "       one thread, and nobody waits, but in the last line:",
-    "enter_leave: as above, beside them",
-    "acquire_release: a single item. append_remove: a buffer of 16 cells",
-    "take_give_1, _1024, _last: a pool of 1 buffer, of 1024, and of 1024 of which the last alone is free",
-    "request_release: a disk head, sent to the next of 1024 cylinders. start_end_read, start_end_write: readers and writers",
-    "tick, wakeme_0: an alarm clock is set; a sleep of no tick returns at once (one visit each)",
-    "wakeme_tick_1, _60: one sleep of one tick, where 1 or 60 threads sleep again and again, a hundredth and a thousandth of",
-    "       TURNS each, and one more ticks whenever all of them sleep",
-    "usage: monitor_bench [[--ticket] [--schedulers] TURNS]",
-    "bench/run compares these with other monitors; bench/schedulers takes those of the schedulers",
-];
+const NAMES: &str = "\
+enter_leave: one thread comes in, adds one and goes out
+enter_leave_2, _4, _8: 2, 4, 8 threads at once
+hand_over: a wait, a signal and the signaller's return, between two threads
+buffer_1_1, buffer_4_4: a bounded buffer of 16 cells, 1 or 4 appenders and as many removers
+waiting_16: a wait and a signal, with 16 processes that wait with priorities
+chain_8: one link of a chain of signallers eight deep
+mixed_9: a visit of eight threads that wait with priorities, signal, pass and leave, and a ninth that resumes who waits
+wide_enter_leave: as enter_leave, on a monitor of 64 places and 8 conditions
+others_largest, _mean, _none: how many others were let in between two visits of a place, with eight threads that
+       come in and go out, each as soon as it is out: the most, the mean, and how often nobody was, of a hundred
+       (the mean is about 7 at most, in whatever order they come in)
+turns: TURNS for one thread; a tenth for each of several; a hundredth for hand-overs and buffers;
+       a thousandth for waiting_16, chain_8 and mixed_9
+with --schedulers, the procedures of the schedulers: one figure for two that undo each other, so that two visits are in it;
+       one thread, and nobody waits, but in the last line:
+enter_leave: as above, beside them
+acquire_release: a single item. append_remove: a buffer of 16 cells
+take_give_1, _1024, _last: a pool of 1 buffer, of 1024, and of 1024 of which the last alone is free
+request_release: a disk head, sent to the next of 1024 cylinders. start_end_read, start_end_write: readers and writers
+tick, wakeme_0: an alarm clock is set; a sleep of no tick returns at once (one visit each)
+wakeme_tick_1, _60: one sleep of one tick, where 1 or 60 threads sleep again and again, a hundredth and a thousandth of
+       TURNS each, and one more ticks whenever all of them sleep
+usage: monitor_bench [[--ticket] [--schedulers] TURNS]
+bench/run compares these with other monitors; bench/schedulers takes those of the schedulers";
 
 fn show(rt: &impl Print) -> io::Result<()> {
-    for name in NAMES {
-        println!(rt; "{name}")?;
-    }
-    Ok(())
+    println!(rt; "{NAMES}")
 }
 
 // Nanoseconds for each of `count`, to the nearest.

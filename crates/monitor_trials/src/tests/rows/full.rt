@@ -1,6 +1,7 @@
 //! A door of the most places and conditions: each place waits, and goes on in its turn.
 ghost use Rattle.std.specs.Prelude.{◌≡◌};
 
+use crate::tests::compared::expect_same;
 use crate::tests::running::DoorKind;
 use hoare_law::monitor::Monitor;
 use hoare_law::unasked::Unasked;
@@ -89,7 +90,7 @@ fn stands_in_order<R: Abort>(rt: &R, alloc: Global, row: &[usize]) -> Result<(),
         panic!(rt; "nobody went on")
     };
     let expected = expected(alloc, *last)?;
-    assert_eq!(rt; row, expected.as_slice());
+    expect_same(rt, row, expected.as_slice());
     Ok(())
 }
 

@@ -2,6 +2,7 @@
 //! is held against the definitions.
 ghost use Rattle.std.specs.Prelude.{◌≡◌, ◌<◌};
 
+use crate::tests::compared::expect_same;
 use crate::tests::rows::diary::{Act, Diary};
 use crate::tests::rows::history::{choices, first_unlawful};
 use crate::tests::running::DoorKind;
@@ -240,8 +241,8 @@ fn empty_pages(alloc: Global) -> Result<Pages, AllocError> {
 fn agrees<R: Abort>(rt: &R, diary: &Diary, rounds: u64) {
     let lines = diary.lines();
     assert!(rt; !diary.is_torn);
-    assert_eq!(rt; first_unlawful(lines), None);
-    assert_eq!(rt; diary.finished, WORKERS);
+    expect_same(rt, first_unlawful(lines), None);
+    expect_same(rt, diary.finished, WORKERS);
     assert!(rt; lines.len() as u64 / 16 >= rounds);
     assert!(rt; choices(lines) as u64 >= rounds / 50);
 }

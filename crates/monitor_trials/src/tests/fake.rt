@@ -119,8 +119,8 @@ fn writes_and_waits<R: Wait + Abort>(rt: &R, alloc: Global) {
     passes_and_waits(rt, &fake, out);
 }
 
-// An empty buffer.
-fn with_cells<R: Abort>(rt: &R, alloc: Global, cells: usize) -> Buffer<u8>
+/// An empty buffer of this many cells.
+pub fn with_cells<T: Drop, R: Abort>(rt: &R, alloc: Global, cells: usize) -> Buffer<T>
     ensures { BufferRests result (nobody 0) (nobody 1) }
 {
     Buffer::make(alloc, cells).expect(rt, "there is memory for a buffer of this size")

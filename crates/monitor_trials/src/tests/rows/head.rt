@@ -13,7 +13,6 @@ use std::alloc::Global;
 use std::process::Abort;
 use std::rt::Clock;
 use std::sync::Wait;
-use std::test::Fail;
 use sweep_schedulers::head::{Head, OffDisk};
 use sweep_schedulers::not_out::NotOut;
 
@@ -236,11 +235,11 @@ fn setting(row: HeadRow<'_>) -> (u16, usize) {
 }
 
 #[test]
-fn a_disk_head_on_both_doors(host: HostRuntime) -> Result<(), Fail> {
+fn a_disk_head_on_both_doors(host: HostRuntime) {
     let (rt, alloc) = (&host, host.alloc());
     let turns = Turns::new();
     for kind in DoorKind::BOTH {
-        let log = Log::new(alloc, 10_000)?;
+        let log = Log::new(rt, alloc, 10_000);
         for row in [
             HeadRow::ByPlan(alloc, &turns, &SWEEP_ORDER),
             HeadRow::ByPlan(alloc, &turns, &IDLE_RELEASE_TURNS),
@@ -259,5 +258,4 @@ fn a_disk_head_on_both_doors(host: HostRuntime) -> Result<(), Fail> {
         }
         is_a_sweep(rt, log);
     }
-    Ok(())
 }

@@ -15,7 +15,6 @@ use std::process::Abort;
 use std::rt::Clock;
 use std::sync::Wait;
 use std::sync::atomic::AtomicU32;
-use std::test::Fail;
 use sweep_schedulers::not_out::NotOut;
 use sweep_schedulers::readers_writers::{
     MOST_READERS, NoReader, ReadPass, ReadersWriters, TooManyReaders,
@@ -351,12 +350,12 @@ fn agrees(row: ReadersRow<'_>, value: u64) -> bool {
 }
 
 #[test]
-fn readers_and_writers_on_both_doors(host: HostRuntime) -> Result<(), Fail> {
+fn readers_and_writers_on_both_doors(host: HostRuntime) {
     let (rt, alloc) = (&host, host.alloc());
     let turns = Turns::new();
     let ended = AtomicU32::new(0);
     for kind in DoorKind::BOTH {
-        let log = Log::new(alloc, 10_000)?;
+        let log = Log::new(rt, alloc, 10_000);
         for row in [
             ReadersRow::ReadersAndWriters(alloc, &turns),
             ReadersRow::WriterBeforeLateReader(&turns, &ended),
@@ -377,5 +376,4 @@ fn readers_and_writers_on_both_doors(host: HostRuntime) -> Result<(), Fail> {
         }
         is_read_and_written(rt, log);
     }
-    Ok(())
 }

@@ -13,7 +13,6 @@ use std::alloc::Global;
 use std::process::Abort;
 use std::rt::Clock;
 use std::sync::Wait;
-use std::test::Fail;
 use timed_schedulers::pool::{
     GiveRefused, MOST_BUFFERS, MOST_STREAMS, NoStream, Pool, PoolRefused,
 };
@@ -207,11 +206,11 @@ fn wanted(row: PoolRow<'_>) -> &'static [u64] {
 }
 
 #[test]
-fn a_pool_on_both_doors(host: HostRuntime) -> Result<(), Fail> {
+fn a_pool_on_both_doors(host: HostRuntime) {
     let (rt, alloc) = (&host, host.alloc());
     let turns = Turns::new();
     for kind in DoorKind::BOTH {
-        let log = Log::new(alloc, 10_000)?;
+        let log = Log::new(rt, alloc, 10_000);
         for row in [
             PoolRow::WhoHoldsTheFewestBuffersGoesOnFirst(&turns),
             PoolRow::ABufferHasOneHolder(&log),
@@ -223,7 +222,6 @@ fn a_pool_on_both_doors(host: HostRuntime) -> Result<(), Fail> {
         }
         is_a_pool(rt, log);
     }
-    Ok(())
 }
 
 #[test]

@@ -69,10 +69,12 @@ macro_rules! one_place {
     }};
 }
 
+// That of a baton door.
 fn calls_baton<R: Wait + Abort>(rt: &R, alloc: Global) -> (u64, u64) {
     one_place!(rt, alloc, Door)
 }
 
+// That of a ticket door.
 fn calls_ticket<R: Wait + Abort>(rt: &R, alloc: Global) -> (u64, u64) {
     one_place!(rt, alloc, TicketDoor)
 }

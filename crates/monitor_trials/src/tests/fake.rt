@@ -94,6 +94,7 @@ fn puts_two_more<R: Wait + Abort, M: Monitor<Single<u8>>>(rt: &R, m: &M, out: M:
     expect_same(rt, (item, back), (5, 9));
 }
 
+// Nothing is in before the first release.
 fn releases<R: Wait + Abort>(rt: &R, alloc: Global) {
     let (fake, out) = with_answers(rt, alloc, with_item_out(rt, alloc), []);
     puts_two_more(rt, &fake, out);
@@ -114,6 +115,7 @@ fn passes_and_waits<R: Wait + Abort, M: Monitor<Tally>>(rt: &R, m: &M, out: M::O
     expect_same(rt, (kept, found, resumed), (2, 3, false));
 }
 
+// What it finds after the wait is an answer of 3.
 fn writes_and_waits<R: Wait + Abort>(rt: &R, alloc: Global) {
     let (fake, out) = with_answers(rt, alloc, Tally { value: 1 }, [Tally { value: 3 }]);
     passes_and_waits(rt, &fake, out);

@@ -81,6 +81,7 @@ fn writes_and_reads<R: Wait + Abort, M: Monitor<Shared>>(rt: &R, alloc: Global, 
     ends_no_read(rt, alloc, m, out);
 }
 
+// The value is 0 first.
 fn reads_and_writes<R: Wait + Abort>(rt: &R, alloc: Global) {
     let (fake, out) = with_answers(rt, alloc, ReadersWriters::with(0), []);
     writes_and_reads(rt, alloc, &fake, out);
@@ -138,6 +139,7 @@ fn is_no_writer<R: Wait + Abort, M: Monitor<Shared>>(rt: &R, m: &M, out: M::Out)
     ends_no_write(rt, m, out, 5);
 }
 
+// The most reads begin on one monitor and end on another.
 fn meets_late_readers<R: Wait + Abort>(rt: &R, alloc: Global) {
     let (fake, out) = with_answers(rt, alloc, ReadersWriters::with(4), []);
     let (other, place) = reads_elsewhere(rt, alloc, &fake, out, MOST_READERS);

@@ -56,6 +56,7 @@ fn ticks_twice<R: Wait + Abort, M: Monitor<Alarm>>(rt: &R, m: &M, out: M::Out)
     is_full(rt, m, out);
 }
 
+// Before the last time there is one tick.
 fn ticks_to_the_last_time<R: Wait + Abort>(rt: &R, alloc: Global) {
     let (fake, out) = with_answers(rt, alloc, Alarm::at(u64::MAX - 1), []);
     ticks_twice(rt, &fake, out);
@@ -78,6 +79,7 @@ fn finds_another_pool<R: Wait + Abort>(rt: &R, alloc: Global) {
     is_no_stream_late(rt, &fake, out);
 }
 
+// The largest pool.
 fn takes_the_most<R: Wait + Abort>(rt: &R, alloc: Global) {
     let most = with_buffers(rt, alloc, MOST_BUFFERS, MOST_STREAMS);
     let (fake, out) = with_answers(rt, alloc, most, []);

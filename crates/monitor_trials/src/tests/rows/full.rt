@@ -92,6 +92,7 @@ fn expected<R: Abort>(rt: &R, alloc: Global, last: usize) -> Vec<usize> {
     row
 }
 
+// They went on in the order in which they have to.
 fn stands_in_order<R: Abort>(rt: &R, alloc: Global, row: &[usize]) {
     let Some(last) = row.last() else {
         panic!(rt; "nobody went on")

@@ -19,6 +19,7 @@ macro_rules! run_row_on {
     };
 }
 
+mod compared;
 mod doors_alone;
 mod fake;
 mod limit;

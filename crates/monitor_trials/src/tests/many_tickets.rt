@@ -5,6 +5,7 @@ ghost use Rattle.door_frame.specs.Places.{HasPlace};
 ghost use Rattle.ticket_door.specs.Asked.{IsAsked, as_out};
 
 use crate::tally::Tally;
+use crate::tests::compared::expect_same;
 use hoare_law::data::MonitorData;
 use hoare_law::monitor::Monitor;
 use std::collections::VecDeque;
@@ -72,7 +73,7 @@ fn sixty_four_tickets(rt: HostRuntime) -> Result<(), Fail> {
     all_ask(&door, outs, &mut asks);
     all_come_in(&rt, &door, asks, &mut back, &mut came);
     let tally = door.close(back);
-    assert_eq!(rt; (tally.value, came.len()), (64, 64));
+    expect_same(&rt, (tally.value, came.len()), (64, 64));
     for (turn, visit) in came.iter().enumerate() {
         let turn = turn as u64;
         let ticket = match turn {
@@ -81,7 +82,7 @@ fn sixty_four_tickets(rt: HostRuntime) -> Result<(), Fail> {
             2 => 18446744073709551615,
             _ => turn - 3,
         };
-        assert_eq!(rt; *visit, (turn, ticket));
+        expect_same(&rt, *visit, (turn, ticket));
     }
     Ok(())
 }

@@ -1,8 +1,8 @@
 //! How the schedulers' refusals read. (That of a read which nobody began stands in `rows::readers`, for its pass can't be made up.)
 
+use crate::tests::compared::reads_as;
 use plain_schedulers::buffer::BufferRefused;
 use plain_schedulers::single;
-use std::test::Fail;
 use sweep_schedulers::head::OffDisk;
 use sweep_schedulers::not_out;
 use sweep_schedulers::readers_writers::TooManyReaders;
@@ -10,62 +10,44 @@ use timed_schedulers::alarm::{ClockFull, TooFar};
 use timed_schedulers::pool::{GiveRefused, NoStream, PoolRefused};
 
 #[test]
-fn refusals_of_the_plain_schedulers_read_plainly(rt: HostRuntime) -> Result<(), Fail> {
+fn refusals_of_the_plain_schedulers_read_plainly(rt: HostRuntime) {
     let alloc = rt.alloc();
-    let shown = format!(in alloc; "{}; {}", BufferRefused::BadSize, BufferRefused::Memory)?;
-    assert_eq!(rt;
-        shown.as_str(),
-        "a buffer has 1 to 4096 cells; out of memory"
-    );
+    let bad_size = "a buffer has 1 to 4096 cells";
+    reads_as(&rt, alloc, &BufferRefused::BadSize, bad_size);
+    reads_as(&rt, alloc, &BufferRefused::Memory, "out of memory");
     let refused = single::NotOut { item: 7u8 };
-    let shown = format!(in alloc; "{refused}")?;
-    assert_eq!(rt; shown.as_str(), "no item is out");
-    Ok(())
+    reads_as(&rt, alloc, &refused, "no item is out");
 }
 
 #[test]
-fn refusals_of_the_alarm_read_plainly(rt: HostRuntime) -> Result<(), Fail> {
-    let shown = format!(in rt.alloc(); "{}; {}", TooFar, ClockFull)?;
-    assert_eq!(rt;
-        shown.as_str(),
-        "the setting is past the last time; the clock stands at the last time"
-    );
-    Ok(())
-}
-
-#[test]
-fn refusals_of_the_pool_read_plainly(rt: HostRuntime) -> Result<(), Fail> {
+fn refusals_of_the_alarm_read_plainly(rt: HostRuntime) {
     let alloc = rt.alloc();
-    let shown = format!(in alloc; "{}; {}", PoolRefused::BadSize, PoolRefused::Memory)?;
-    assert_eq!(rt;
-        shown.as_str(),
-        "a pool has 1 to 1024 buffers and 1 to 256 streams; out of memory"
-    );
-    let shown = format!(in alloc; "{NoStream}")?;
-    assert_eq!(rt; shown.as_str(), "no such stream");
-    let shown = format!(in alloc;
-        "{}; {}; {}",
-        GiveRefused::NoStream,
-        GiveRefused::NoBuffer,
-        GiveRefused::NotHeld
-    )?;
-    assert_eq!(rt;
-        shown.as_str(),
-        "no such stream; no such buffer; the stream doesn't hold the buffer"
-    );
-    Ok(())
+    reads_as(&rt, alloc, &TooFar, "the setting is past the last time");
+    let clock_full = "the clock stands at the last time";
+    reads_as(&rt, alloc, &ClockFull, clock_full);
 }
 
 #[test]
-fn refusals_of_the_sweep_schedulers_read_plainly(rt: HostRuntime) -> Result<(), Fail> {
+fn refusals_of_the_pool_read_plainly(rt: HostRuntime) {
     let alloc = rt.alloc();
-    let shown = format!(in alloc; "{OffDisk}; {TooManyReaders}")?;
-    assert_eq!(rt;
-        shown.as_str(),
-        "the cylinder is past the last one; 1024 readers are in"
-    );
+    let bad_size = "a pool has 1 to 1024 buffers and 1 to 256 streams";
+    reads_as(&rt, alloc, &PoolRefused::BadSize, bad_size);
+    reads_as(&rt, alloc, &PoolRefused::Memory, "out of memory");
+    reads_as(&rt, alloc, &NoStream, "no such stream");
+    for (refused, wanted) in [
+        (GiveRefused::NoStream, "no such stream"),
+        (GiveRefused::NoBuffer, "no such buffer"),
+        (GiveRefused::NotHeld, "the stream doesn't hold the buffer"),
+    ] {
+        reads_as(&rt, alloc, &refused, wanted);
+    }
+}
+
+#[test]
+fn refusals_of_the_sweep_schedulers_read_plainly(rt: HostRuntime) {
+    let alloc = rt.alloc();
+    reads_as(&rt, alloc, &OffDisk, "the cylinder is past the last one");
+    reads_as(&rt, alloc, &TooManyReaders, "1024 readers are in");
     let refused = not_out::NotOut { item: 7u8 };
-    let shown = format!(in alloc; "{refused}")?;
-    assert_eq!(rt; shown.as_str(), "no item is out");
-    Ok(())
+    reads_as(&rt, alloc, &refused, "no item is out");
 }

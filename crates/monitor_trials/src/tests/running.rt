@@ -3,6 +3,7 @@ ghost use Rattle.std.specs.Prelude.{◌≡◌, ◌<◌, ℕ, IfOk, All, vec_len,
 ghost use Rattle.std.specs.Fork.{AcceptsJobs, GivesJobs};
 ghost use Rattle.monitor_trials.specs.Numbered.{IsNumbered};
 
+use crate::tests::compared::expect_same;
 use crate::tests::limit::within;
 pub use any_door::DoorKind;
 use hoare_law::data::MonitorData;
@@ -124,10 +125,10 @@ pub fn await_sign<R: Abort + Clock>(rt: &R, sign: &AtomicBool) {
 
 /// Fails the test where the places of a row answered something else on a door of this kind.
 pub fn answered<R: Abort>(rt: &R, kind: DoorKind, answers: &[u64], wanted: &[u64]) {
-    assert_eq!(rt; answers, wanted, "{kind:?}");
+    expect_same(rt, (kind, answers), (kind, wanted));
 }
 
 /// Fails the test where not all places of a row answered on a door of this kind.
 pub fn all_answered<R: Abort>(rt: &R, kind: DoorKind, answers: &[u64], places: usize) {
-    assert_eq!(rt; answers.len(), places, "{kind:?}");
+    expect_same(rt, (kind, answers.len()), (kind, places));
 }

@@ -1,11 +1,11 @@
 //! The ticket door on one thread: tickets in turn, past the last number, and places that meet.
 
 use crate::tally::Tally;
+use crate::tests::compared::expect_same;
 use hoare_law::monitor::Monitor;
 use std::alloc::Global;
 use std::process::Abort;
 use std::sync::Wait;
-use std::test::Fail;
 use ticket_door::door::TicketDoor;
 use ticket_door::laws::make_at;
 
@@ -31,20 +31,18 @@ fn three_ask<R: Wait + Abort>(rt: &R, alloc: Global, first: u64) -> ((u64, u64, 
 }
 
 #[test]
-fn tickets_in_turn(rt: HostRuntime) -> Result<(), Fail> {
-    assert_eq!(rt; three_ask(&rt, rt.alloc(), 0), ((0, 1, 2), 7));
-    Ok(())
+fn tickets_in_turn(rt: HostRuntime) {
+    expect_same(&rt, three_ask(&rt, rt.alloc(), 0), ((0, 1, 2), 7));
 }
 
 #[test]
-fn tickets_past_the_last_number(rt: HostRuntime) -> Result<(), Fail> {
-    let (tickets, left) = three_ask(&rt, rt.alloc(), u64::MAX);
-    assert_eq!(rt; (tickets, left), ((18446744073709551615, 0, 1), 7));
-    Ok(())
+fn tickets_past_the_last_number(rt: HostRuntime) {
+    let asked = three_ask(&rt, rt.alloc(), u64::MAX);
+    expect_same(&rt, asked, ((18446744073709551615, 0, 1), 7));
 }
 
 #[test]
-fn places_meet(rt: HostRuntime) -> Result<(), Fail> {
+fn places_meet(rt: HostRuntime) {
     let Ok((door, mut outs)) = TicketDoor::make(rt.alloc(), Tally { value: 5 }, 2) else {
         panic!(rt; "no memory")
     };
@@ -56,6 +54,5 @@ fn places_meet(rt: HostRuntime) -> Result<(), Fail> {
     outs.push_reserved(b);
     outs.push_reserved(a);
     let tally = door.close(outs);
-    assert_eq!(rt; (told, tally.value), (false, 5));
-    Ok(())
+    expect_same(&rt, (told, tally.value), (false, 5));
 }

@@ -1,44 +1,50 @@
 //! The alarm clock and the pool on the fake monitor: what is found after a wait is given beforehand.
 
-use crate::fake::Fake;
+use crate::tests::compared::expect_same;
+use crate::tests::fake::with_answers;
 use crate::tests::limit::within;
-use crate::tests::rows::alarm_and_pool::alarm::ends_the_clock;
-use crate::tests::rows::alarm_and_pool::pool::{takes, takes_all};
+use crate::tests::rows::alarm_and_pool::alarm::{ends_the_clock, is_full, is_too_far};
+use crate::tests::rows::alarm_and_pool::pool::{is_no_stream, takes, takes_all, with_buffers};
 use hoare_law::monitor::Monitor;
-use std::alloc::{AllocError, Global};
-use std::collections::VecDeque;
+use std::alloc::Global;
 use std::process::Abort;
+use std::rt::Clock;
 use std::sync::Wait;
-use std::test::Fail;
-use timed_schedulers::alarm::{Alarm, ClockFull, TooFar};
-use timed_schedulers::pool::{MOST_BUFFERS, MOST_STREAMS, NoStream, Pool, PoolRefused};
+use std::thread::Threads;
+use timed_schedulers::alarm::Alarm;
+use timed_schedulers::pool::{MOST_BUFFERS, MOST_STREAMS, Pool};
 
-// Sleeps for two ticks from time 0, and finds a time past its setting, which isn't ready, one before it and then its setting: the time
-// at which it goes on.
-fn wakes_twice<R: Wait>(rt: &R, alloc: Global) -> Result<Option<u64>, AllocError> {
-    let answers = VecDeque::from_array(alloc, [Alarm::at(3), Alarm::at(1), Alarm::at(2)])?;
-    let (fake, out) = Fake::of(alloc, Alarm::at(0), answers)?;
-    let (_out, woke) = Alarm::wakeme(&fake, rt, out, 2);
-    Ok(woke.ok())
-}
-
-// A setting past the last time is refused, and one at it is met: the time at which the clock ends.
-fn sleeps_to_the_last_time<R: Wait + Abort, M: Monitor<Alarm>>(rt: &R, m: &M, out: M::Out) -> u64
+// Sleeps for two ticks from time 0, and goes on at 2.
+fn wakes_at_two<R: Wait + Abort, M: Monitor<Alarm>>(rt: &R, m: &M, out: M::Out)
     requires { M.is_of m.now out }
 {
-    let (out, woke) = Alarm::wakeme(m, rt, out, 2);
-    assert_eq!(rt; woke, Err(TooFar));
+    let (_out, woke) = Alarm::wakeme(m, rt, out, 2);
+    expect_same(rt, woke.ok(), Some(2));
+}
+
+// Who sleeps finds a time past its setting, which isn't ready, one before it and then its setting.
+fn wakes_twice<R: Wait + Abort>(rt: &R, alloc: Global) {
+    let answers = [Alarm::at(3), Alarm::at(1), Alarm::at(2)];
+    let (fake, out) = with_answers(rt, alloc, Alarm::at(0), answers);
+    wakes_at_two(rt, &fake, out);
+}
+
+// A setting past the last time is refused, and one at it is met, where the clock ends.
+fn sleeps_to_the_last_time<R: Wait + Abort, M: Monitor<Alarm>>(rt: &R, m: &M, out: M::Out)
+    requires { M.is_of m.now out }
+{
+    let out = is_too_far(rt, m, out, 2);
     let (out, woke) = Alarm::wakeme(m, rt, out, 1);
-    assert_eq!(rt; woke, Ok(u64::MAX));
+    expect_same(rt, woke, Ok(u64::MAX));
     let (_out, time) = ends_the_clock(rt, m, out);
-    time
+    expect_same(rt, time, u64::MAX);
 }
 
 // Before the last time there is one tick, and a setting at the last time.
-fn meets_the_last_time<R: Wait + Abort>(rt: &R, alloc: Global) -> Result<u64, AllocError> {
-    let answers = VecDeque::from_array(alloc, [Alarm::at(u64::MAX)])?;
-    let (fake, out) = Fake::of(alloc, Alarm::at(u64::MAX - 1), answers)?;
-    Ok(sleeps_to_the_last_time(rt, &fake, out))
+fn meets_the_last_time<R: Wait + Abort>(rt: &R, alloc: Global) {
+    let answers = [Alarm::at(u64::MAX)];
+    let (fake, out) = with_answers(rt, alloc, Alarm::at(u64::MAX - 1), answers);
+    sleeps_to_the_last_time(rt, &fake, out);
 }
 
 // Ticks twice: to the last time, and then it is refused.
@@ -46,15 +52,14 @@ fn ticks_twice<R: Wait + Abort, M: Monitor<Alarm>>(rt: &R, m: &M, out: M::Out)
     requires { M.is_of m.now out }
 {
     let (out, time) = Alarm::tick(m, rt, out);
-    assert_eq!(rt; time, Ok(u64::MAX));
-    let (_out, refused) = Alarm::tick(m, rt, out);
-    assert_eq!(rt; refused, Err(ClockFull));
+    expect_same(rt, time, Ok(u64::MAX));
+    is_full(rt, m, out);
 }
 
-fn ticks_to_the_last_time<R: Wait + Abort>(rt: &R, alloc: Global) -> Result<(), AllocError> {
-    let (fake, out) = Fake::of(alloc, Alarm::at(u64::MAX - 1), VecDeque::new(alloc))?;
+// Before the last time there is one tick.
+fn ticks_to_the_last_time<R: Wait + Abort>(rt: &R, alloc: Global) {
+    let (fake, out) = with_answers(rt, alloc, Alarm::at(u64::MAX - 1), []);
     ticks_twice(rt, &fake, out);
-    Ok(())
 }
 
 // Takes the one buffer, is refused late as stream 1, and takes the one buffer of the pool that it found.
@@ -62,57 +67,68 @@ fn is_no_stream_late<R: Wait + Abort, M: Monitor<Pool>>(rt: &R, m: &M, out: M::O
     requires { M.is_of m.now out }
 {
     let (out, first) = takes(rt, m, out, 0);
-    let (out, late) = Pool::take(m, rt, out, 1);
-    assert_eq!(rt; late, Err(NoStream));
+    let out = is_no_stream(rt, m, out, 1);
     let (_out, least) = takes(rt, m, out, 0);
-    assert_eq!(rt; (first, least), (0, 0));
+    expect_same(rt, (first, least), (0, 0));
 }
 
 // A stream waits for the one buffer, and finds a pool in which it is none.
-fn finds_another_pool<R: Wait + Abort>(rt: &R, alloc: Global) -> Result<(), PoolRefused> {
-    let pools = [Pool::make(alloc, 1, 1)?];
-    let Ok(answers) = VecDeque::from_array(alloc, pools) else {
-        return Err(PoolRefused::Memory);
-    };
-    let Ok((fake, out)) = Fake::of(alloc, Pool::make(alloc, 1, 2)?, answers) else {
-        return Err(PoolRefused::Memory);
-    };
+fn finds_another_pool<R: Wait + Abort>(rt: &R, alloc: Global) {
+    let answers = [with_buffers(rt, alloc, 1, 1)];
+    let (fake, out) = with_answers(rt, alloc, with_buffers(rt, alloc, 1, 2), answers);
     is_no_stream_late(rt, &fake, out);
-    Ok(())
 }
 
-fn takes_the_most<R: Wait + Abort>(rt: &R, alloc: Global) -> Result<(), PoolRefused> {
-    let pool = Pool::make(alloc, MOST_BUFFERS, MOST_STREAMS)?;
-    let Ok((fake, out)) = Fake::of(alloc, pool, VecDeque::new(alloc)) else {
-        return Err(PoolRefused::Memory);
-    };
+// The largest pool.
+fn takes_the_most<R: Wait + Abort>(rt: &R, alloc: Global) {
+    let most = with_buffers(rt, alloc, MOST_BUFFERS, MOST_STREAMS);
+    let (fake, out) = with_answers(rt, alloc, most, []);
     takes_all(rt, &fake, out);
-    Ok(())
+}
+
+/// What a process does on the fake monitor.
+#[derive(Clone, Copy)]
+enum TimedRow {
+    WakesTwice,
+    MeetsTheLastTime,
+    TicksToTheLastTime,
+    FindsAnotherPool,
+    TakesTheMost,
+}
+
+// Does what the row says. What comes out wrong fails the test.
+fn acts<R: Wait + Abort>(rt: &R, alloc: Global, row: TimedRow) {
+    match row {
+        TimedRow::WakesTwice => wakes_twice(rt, alloc),
+        TimedRow::MeetsTheLastTime => meets_the_last_time(rt, alloc),
+        TimedRow::TicksToTheLastTime => ticks_to_the_last_time(rt, alloc),
+        TimedRow::FindsAnotherPool => finds_another_pool(rt, alloc),
+        TimedRow::TakesTheMost => takes_the_most(rt, alloc),
+    }
+}
+
+// Does it within the limit.
+fn runs<R: Threads + Wait + Abort + Clock + Sync>(rt: &R, alloc: Global, row: TimedRow) {
+    within(rt, || acts(rt, alloc, row))
 }
 
 #[test]
-fn a_sleeper_waits_until_its_setting(rt: HostRuntime) -> Result<(), Fail> {
-    let woke = within(&rt, || wakes_twice(&rt, rt.alloc()))?;
-    assert_eq!(rt; woke, Some(2));
-    Ok(())
+fn a_sleeper_waits_until_its_setting(rt: HostRuntime) {
+    runs(&rt, rt.alloc(), TimedRow::WakesTwice);
 }
 
 #[test]
-fn the_last_time_is_one_that_is_met(rt: HostRuntime) -> Result<(), Fail> {
-    let time = within(&rt, || meets_the_last_time(&rt, rt.alloc()))?;
-    assert_eq!(rt; time, u64::MAX);
-    within(&rt, || ticks_to_the_last_time(&rt, rt.alloc()))?;
-    Ok(())
+fn the_last_time_is_one_that_is_met(rt: HostRuntime) {
+    runs(&rt, rt.alloc(), TimedRow::MeetsTheLastTime);
+    runs(&rt, rt.alloc(), TimedRow::TicksToTheLastTime);
 }
 
 #[test]
-fn late_no_stream(rt: HostRuntime) -> Result<(), Fail> {
-    within(&rt, || finds_another_pool(&rt, rt.alloc()))?;
-    Ok(())
+fn late_no_stream(rt: HostRuntime) {
+    runs(&rt, rt.alloc(), TimedRow::FindsAnotherPool);
 }
 
 #[test]
-fn all_buffers_of_the_largest_pool_are_taken_in_order(rt: HostRuntime) -> Result<(), Fail> {
-    within(&rt, || takes_the_most(&rt, rt.alloc()))?;
-    Ok(())
+fn all_buffers_of_the_largest_pool_are_taken_in_order(rt: HostRuntime) {
+    runs(&rt, rt.alloc(), TimedRow::TakesTheMost);
 }

@@ -2,6 +2,7 @@
 //! against what an alarm clock is.
 ghost use Rattle.std.specs.Prelude.{◌≡◌};
 
+use crate::tests::compared::expect_same;
 use crate::tests::rows::shared_log::{Log, await_others, draw};
 use hoare_law::monitor::Monitor;
 use std::process::Abort;
@@ -116,7 +117,7 @@ fn ticks_on<R: Wait + Abort, M: Monitor<Alarm>>(
         }
         log.write(rt, Line::Ticks { time });
         let (again, told) = Alarm::tick(m, rt, again);
-        assert_eq!(rt; told, Ok(time));
+        expect_same(rt, told, Ok(time));
         out = again;
     }
     panic!(rt; "a sleeper sleeps on")
@@ -144,8 +145,8 @@ pub fn sleeps_or_ticks_on<R: Wait + Abort, M: Monitor<Alarm>>(
 /// What they wrote is what a clock does, and there were ticks that woke more than one.
 pub fn is_a_clock<R: Abort>(rt: &R, log: Log<Line>) {
     let lines = log.into_lines();
-    assert_eq!(rt; first_wrong(lines.as_slice()), None);
+    expect_same(rt, first_wrong(lines.as_slice()), None);
     let (sleeps, ticks) = count_sleeps(lines.as_slice());
-    assert_eq!(rt; lines.len().saturating_sub(ticks), 2000);
+    expect_same(rt, lines.len().saturating_sub(ticks), 2000);
     assert!(rt; ticks < sleeps);
 }

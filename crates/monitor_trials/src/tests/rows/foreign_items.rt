@@ -2,6 +2,7 @@
 ghost use Rattle.std.specs.Prelude.{◌≡◌, ◌∷◌, [], All, vec_len};
 ghost use Rattle.monitor_trials.specs.Numbered.{IsNumbered};
 
+use crate::tests::compared::expect_same;
 use crate::tests::limit::within;
 use crate::tests::on_any_door::{closed, made};
 use crate::tests::running::DoorKind;
@@ -36,6 +37,38 @@ fn alone<O: Drop, R: Abort>(rt: &R, alloc: Global, out: O) -> Vec<O>
     outs
 }
 
+// Takes the item out, which has to be this.
+fn acquires<R: Wait + Abort, M: Monitor<Single<u64>>>(
+    rt: &R,
+    m: &M,
+    out: M::Out,
+    expected: u64,
+) -> M::Out
+    requires { M.is_of m.now out }
+    ensures of { M.is_of m.now result }
+    ensures place { M.place result ≡ M.place out }
+{
+    let (out, item) = Single::acquire(m, rt, out);
+    expect_same(rt, item, expected);
+    out
+}
+
+// Puts the item in where none is.
+fn releases<R: Wait + Abort, M: Monitor<Single<u64>>>(
+    rt: &R,
+    m: &M,
+    out: M::Out,
+    item: u64,
+) -> M::Out
+    requires { M.is_of m.now out }
+    ensures of { M.is_of m.now result }
+    ensures place { M.place result ≡ M.place out }
+{
+    let (out, put) = Single::release(m, rt, out, item);
+    assert!(rt; put.is_ok());
+    out
+}
+
 // Takes both items out. The second goes into the first monitor: there the first one is then refused, and
 // what is acquired is the second. The first one goes into the second monitor.
 fn change_items<R: Wait + Abort, M: Monitor<Single<u64>>>(
@@ -57,20 +90,16 @@ fn change_items<R: Wait + Abort, M: Monitor<Single<u64>>>(
     ensures of_second { All (M.is_of second.now) result.1.items }
     ensures others_in_order { IsNumbered M.place result.1.items }
 {
-    let (out, seven) = Single::acquire(first, rt, only(rt, outs));
-    let (other, eight) = Single::acquire(second, rt, only(rt, others));
-    assert_eq!(rt; (seven, eight), (7, 8));
-    let (out, put) = Single::release(first, rt, out, 8);
-    assert!(rt; put.is_ok());
+    let out = acquires(rt, first, only(rt, outs), 7);
+    let other = acquires(rt, second, only(rt, others), 8);
+    let out = releases(rt, first, out, 8);
     let (out, refused) = Single::release(first, rt, out, 7);
-    match refused {
-        Ok(()) => panic!(rt; "two items are in"),
-        Err(NotOut { item }) => assert_eq!(rt; item, 7),
-    }
-    let (out, item) = Single::acquire(first, rt, out);
-    assert_eq!(rt; item, 8);
-    let (other, put) = Single::release(second, rt, other, 7);
-    assert!(rt; put.is_ok());
+    let Err(NotOut { item }) = refused else {
+        panic!(rt; "two items are in")
+    };
+    expect_same(rt, item, 7);
+    let out = acquires(rt, first, out, 8);
+    let other = releases(rt, second, other, 7);
     (alone(rt, alloc, out), alone(rt, alloc, other))
 }
 

@@ -1,6 +1,7 @@
 //! A door of the most places and conditions: each place waits, and goes on in its turn.
 ghost use Rattle.std.specs.Prelude.{◌≡◌};
 
+use crate::tests::compared::expect_same;
 use crate::tests::running::DoorKind;
 use hoare_law::monitor::Monitor;
 use hoare_law::unasked::Unasked;
@@ -8,7 +9,6 @@ use hoare_law::waits::Waits;
 use std::alloc::Global;
 use std::process::Abort;
 use std::sync::Wait;
-use std::test::Fail;
 
 const PLACES: usize = 64;
 
@@ -71,37 +71,44 @@ fn waits_in_row<R: Wait, M: Monitor<Row>>(rt: &R, m: &M, out: M::Out, place: usi
     (out, 0)
 }
 
+// A list with room for all places.
+fn no_places<R: Abort>(rt: &R, alloc: Global) -> Vec<usize> {
+    let Ok(places) = Vec::with_capacity(alloc, PLACES) else {
+        panic!(rt; "no memory")
+    };
+    places
+}
+
 // The order in which they have to go on: by condition, the greater number first, but this one last.
-fn expected(alloc: Global, last: usize) -> Result<Vec<usize>, Fail> {
-    let mut row = Vec::with_capacity(alloc, PLACES)?;
+fn expected<R: Abort>(rt: &R, alloc: Global, last: usize) -> Vec<usize> {
+    let mut row = no_places(rt, alloc);
     for turn in 0..PLACES {
         let place = PLACES - CONDITIONS + turn / CONDITIONS - turn % CONDITIONS * CONDITIONS;
         if place != last {
-            row.push(place)?;
+            row.push(place).expect(rt, "memory");
         }
     }
-    row.push(last)?;
-    Ok(row)
+    row.push(last).expect(rt, "memory");
+    row
 }
 
-fn stands_in_order<R: Abort>(rt: &R, alloc: Global, row: &[usize]) -> Result<(), Fail> {
+// They went on in the order in which they have to.
+fn stands_in_order<R: Abort>(rt: &R, alloc: Global, row: &[usize]) {
     let Some(last) = row.last() else {
         panic!(rt; "nobody went on")
     };
-    let expected = expected(alloc, *last)?;
-    assert_eq!(rt; row, expected.as_slice());
-    Ok(())
+    let expected = expected(rt, alloc, *last);
+    expect_same(rt, row, expected.as_slice());
 }
 
 #[test]
-fn sixty_four_places_wait_on_eight_conditions(host: HostRuntime) -> Result<(), Fail> {
+fn sixty_four_places_wait_on_eight_conditions(host: HostRuntime) {
     let (rt, alloc) = (&host, host.alloc());
     for kind in DoorKind::BOTH {
         let data = Row {
-            value: Vec::with_capacity(alloc, PLACES)?,
+            value: no_places(rt, alloc),
         };
         let (row, _) = run_row_on!(kind, rt, alloc, waits_in_row(), data, PLACES);
-        stands_in_order(rt, alloc, row.value.as_slice())?;
+        stands_in_order(rt, alloc, row.value.as_slice());
     }
-    Ok(())
 }

@@ -3,6 +3,7 @@ ghost use Rattle.std.specs.Prelude.{◌≡◌};
 ghost use Rattle.hoare_law.specs.Priorities.{nobody};
 ghost use Rattle.sweep_schedulers.specs.Heads.{HeadRests};
 
+use crate::tests::compared::expect_same;
 use crate::tests::rows::head_stress::{CYLMAX, Line, PLACES, is_a_sweep, travels};
 use crate::tests::rows::shared_log::Log;
 use crate::tests::rows::turns::{Turns, line_up};
@@ -12,7 +13,6 @@ use std::alloc::Global;
 use std::process::Abort;
 use std::rt::Clock;
 use std::sync::Wait;
-use std::test::Fail;
 use sweep_schedulers::head::{Head, OffDisk};
 use sweep_schedulers::not_out::NotOut;
 
@@ -76,7 +76,7 @@ fn leads<R: Wait + Abort, M: Monitor<Head<Trip>>>(
     let out = line_up(rt, m, out, turns, plan.dests.len());
     let out = hands_on(rt, m, out, drive);
     let (out, drive) = goes(rt, m, out, plan.last);
-    assert_eq!(rt; drive.as_slice(), plan.trip);
+    expect_same(rt, drive.as_slice(), plan.trip);
     turns.start_again();
     hands_on(rt, m, out, drive)
 }
@@ -102,6 +102,22 @@ fn follows<R: Wait + Abort + Clock, M: Monitor<Head<Trip>>>(
     hands_on(rt, m, out, drive)
 }
 
+/// Asks for a cylinder past the last one, which is refused.
+pub fn is_off_disk<R: Wait + Abort, M: Monitor<Head<Trip>>>(
+    rt: &R,
+    m: &M,
+    out: M::Out,
+    past: u16,
+) -> M::Out
+    requires { M.is_of m.now out }
+    ensures of { M.is_of m.now result }
+    ensures place { M.place result ≡ M.place out }
+{
+    let (out, drive) = Head::request(m, rt, out, past);
+    expect_same(rt, drive.err(), Some(OffDisk));
+    out
+}
+
 /// Asks for a cylinder past the last one, and puts a second drive in, which comes back.
 pub fn is_refused<R: Wait + Abort, M: Monitor<Head<Trip>>>(
     rt: &R,
@@ -114,14 +130,13 @@ pub fn is_refused<R: Wait + Abort, M: Monitor<Head<Trip>>>(
     ensures of { M.is_of m.now result }
     ensures place { M.place result ≡ M.place out }
 {
-    let (out, drive) = Head::request(m, rt, out, past);
-    assert_eq!(rt; drive, Err(OffDisk));
+    let out = is_off_disk(rt, m, out, past);
     let count = second.len();
     let (out, released) = Head::release(m, rt, out, second);
-    match released {
-        Ok(()) => panic!(rt; "two drives are in"),
-        Err(NotOut { item }) => assert_eq!(rt; item.len(), count),
-    }
+    let Err(NotOut { item }) = released else {
+        panic!(rt; "two drives are in")
+    };
+    expect_same(rt, item.len(), count);
     out
 }
 
@@ -220,11 +235,11 @@ fn setting(row: HeadRow<'_>) -> (u16, usize) {
 }
 
 #[test]
-fn a_disk_head_on_both_doors(host: HostRuntime) -> Result<(), Fail> {
+fn a_disk_head_on_both_doors(host: HostRuntime) {
     let (rt, alloc) = (&host, host.alloc());
     let turns = Turns::new();
     for kind in DoorKind::BOTH {
-        let log = Log::new(alloc, 10_000)?;
+        let log = Log::new(rt, alloc, 10_000);
         for row in [
             HeadRow::ByPlan(alloc, &turns, &SWEEP_ORDER),
             HeadRow::ByPlan(alloc, &turns, &IDLE_RELEASE_TURNS),
@@ -243,5 +258,4 @@ fn a_disk_head_on_both_doors(host: HostRuntime) -> Result<(), Fail> {
         }
         is_a_sweep(rt, log);
     }
-    Ok(())
 }

@@ -2,6 +2,7 @@
 //! they wrote down is held against what a sweep is.
 ghost use Rattle.std.specs.Prelude.{◌≡◌};
 
+use crate::tests::compared::expect_same;
 use crate::tests::rows::head::{Trip, goes, hands_on};
 use crate::tests::rows::shared_log::{Log, await_others, draw};
 use hoare_law::monitor::Monitor;
@@ -158,6 +159,6 @@ pub fn travels<R: Wait + Abort, M: Monitor<Head<Trip>>>(
 /// What they wrote is what a sweep is, and all was written.
 pub fn is_a_sweep<R: Abort>(rt: &R, log: Log<Line>) {
     let lines = log.into_lines();
-    assert_eq!(rt; first_wrong(lines.as_slice()), None);
-    assert_eq!(rt; lines.len(), 3000);
+    expect_same(rt, first_wrong(lines.as_slice()), None);
+    expect_same(rt, lines.len(), 3000);
 }

@@ -1,14 +1,17 @@
 //! The most readers are in, a writer waits, and a reader comes late.
 ghost use Rattle.std.specs.Prelude.{◌≡◌};
 
-use crate::tests::rows::readers::{Shared, ends_read, starts_read, waiting};
+use crate::tests::compared::expect_same;
+use crate::tests::rows::readers::{
+    Shared, ends_read, ends_write, starts_read, starts_write, waiting,
+};
 use crate::tests::rows::turns::{Turns, line_up};
 use hoare_law::monitor::Monitor;
 use std::process::Abort;
 use std::rt::Clock;
 use std::sync::Wait;
 use std::sync::atomic::{AtomicU32, Ordering};
-use sweep_schedulers::readers_writers::{MOST_READERS, ReadersWriters};
+use sweep_schedulers::readers_writers::MOST_READERS;
 
 // Starts this many reads, lets the writer and then the late reader come to wait, and ends the reads; it
 // counts each one just before its end. Both wait until the last one ends.
@@ -31,7 +34,7 @@ fn reads_while_both_wait<R: Wait + Abort, M: Monitor<Shared>>(
         line_up(rt, m, out, turns, 2)
     };
     let (out, both) = waiting(rt, m, out);
-    assert_eq!(rt; both, (1, 1));
+    expect_same(rt, both, (1, 1));
     ended.fetch_add(1, Ordering::SeqCst);
     ends_read(rt, m, out, pass)
 }
@@ -49,11 +52,9 @@ fn writes_after_all<R: Wait + Abort + Clock, M: Monitor<Shared>>(
     ensures place { M.place result ≡ M.place out }
 {
     turns.await_turn(rt, 1);
-    let (out, found) = ReadersWriters::start_write(m, rt, out);
-    assert_eq!(rt; (found, ended.swap(0, Ordering::SeqCst)), (4, MOST_READERS));
-    let (out, written) = ReadersWriters::end_write(m, rt, out, 6);
-    assert!(rt; written.is_ok());
-    out
+    let out = starts_write(rt, m, out, 4);
+    expect_same(rt, ended.swap(0, Ordering::SeqCst), MOST_READERS);
+    ends_write(rt, m, out, 6)
 }
 
 // Comes late, and reads what was written.

@@ -1,6 +1,7 @@
 //! Four streams take two buffers each, of five, as often as they can. What they wrote down is held against what a pool is.
 ghost use Rattle.std.specs.Prelude.{◌≡◌};
 
+use crate::tests::compared::expect_same;
 use crate::tests::rows::alarm_and_pool::pool::{gives, takes};
 use crate::tests::rows::shared_log::{Log, await_others, linger};
 use hoare_law::monitor::Monitor;
@@ -120,7 +121,7 @@ fn takes_all<R: Wait + Abort, M: Monitor<Pool>>(
     let mut out = out;
     for expected in 0..BUFFERS {
         let (again, buffer) = takes(rt, m, out, 0);
-        assert_eq!(rt; buffer, expected);
+        expect_same(rt, buffer, expected);
         out = again;
     }
     out
@@ -147,6 +148,6 @@ pub fn uses_or_takes_all<R: Wait + Abort + Clock, M: Monitor<Pool>>(
 /// What they wrote is what a pool does, and all was written.
 pub fn is_a_pool<R: Abort>(rt: &R, log: Log<Line>) {
     let lines = log.into_lines();
-    assert_eq!(rt; first_wrong(lines.as_slice()), None);
-    assert_eq!(rt; lines.len(), 3200);
+    expect_same(rt, first_wrong(lines.as_slice()), None);
+    expect_same(rt, lines.len(), 3200);
 }

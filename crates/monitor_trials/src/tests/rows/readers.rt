@@ -1,7 +1,8 @@
 //! The readers and writers: who waits for whom, and the most readers.
 ghost use Rattle.std.specs.Prelude.{◌≡◌};
 
-use crate::fake::Fake;
+use crate::tests::compared::{expect_same, reads_as};
+use crate::tests::fake::with_answers;
 use crate::tests::rows::late_reader::reads_or_writes_late;
 use crate::tests::rows::readers_stress::{Line, PLACES, is_read_and_written, reads_or_writes_on};
 use crate::tests::rows::shared_log::Log;
@@ -10,12 +11,10 @@ use crate::tests::running::{DoorKind, all_answered};
 use hoare_law::monitor::Monitor;
 use hoare_law::waits::Waits;
 use std::alloc::Global;
-use std::collections::VecDeque;
 use std::process::Abort;
 use std::rt::Clock;
 use std::sync::Wait;
 use std::sync::atomic::AtomicU32;
-use std::test::Fail;
 use sweep_schedulers::not_out::NotOut;
 use sweep_schedulers::readers_writers::{
     MOST_READERS, NoReader, ReadPass, ReadersWriters, TooManyReaders,
@@ -36,13 +35,11 @@ pub fn starts_read<R: Wait + Abort, M: Monitor<Shared>>(
     ensures place { M.place result.0 ≡ M.place out }
 {
     let (out, read) = ReadersWriters::start_read(m, rt, out);
-    match read {
-        Ok((pass, value)) => {
-            assert_eq!(rt; value, expected);
-            (out, pass)
-        }
-        Err(TooManyReaders) => panic!(rt; "too many readers"),
-    }
+    let Ok((pass, value)) = read else {
+        panic!(rt; "too many readers")
+    };
+    expect_same(rt, value, expected);
+    (out, pass)
 }
 
 /// Goes out as a reader.
@@ -63,6 +60,57 @@ pub fn ends_read<R: Wait + Abort, M: Monitor<Shared>>(
     }
 }
 
+/// Goes in as a writer, who has to find this.
+pub fn starts_write<R: Wait + Abort, M: Monitor<Shared>>(
+    rt: &R,
+    m: &M,
+    out: M::Out,
+    expected: u64,
+) -> M::Out
+    requires { M.is_of m.now out }
+    ensures of { M.is_of m.now result }
+    ensures place { M.place result ≡ M.place out }
+{
+    let (out, found) = ReadersWriters::start_write(m, rt, out);
+    expect_same(rt, found, expected);
+    out
+}
+
+/// Goes out as a writer, and leaves this.
+pub fn ends_write<R: Wait + Abort, M: Monitor<Shared>>(
+    rt: &R,
+    m: &M,
+    out: M::Out,
+    value: u64,
+) -> M::Out
+    requires { M.is_of m.now out }
+    ensures of { M.is_of m.now result }
+    ensures place { M.place result ≡ M.place out }
+{
+    let (out, written) = ReadersWriters::end_write(m, rt, out, value);
+    assert!(rt; written.is_ok());
+    out
+}
+
+/// Ends a write where no writer is in: the number comes back.
+pub fn ends_no_write<R: Wait + Abort, M: Monitor<Shared>>(
+    rt: &R,
+    m: &M,
+    out: M::Out,
+    value: u64,
+) -> M::Out
+    requires { M.is_of m.now out }
+    ensures of { M.is_of m.now result }
+    ensures place { M.place result ≡ M.place out }
+{
+    let (out, written) = ReadersWriters::end_write(m, rt, out, value);
+    let Err(NotOut { item }) = written else {
+        panic!(rt; "a writer was in")
+    };
+    expect_same(rt, item, value);
+    out
+}
+
 /// Writes a number where this one stands, and tries to write another, which comes back.
 pub fn writes<R: Wait + Abort, M: Monitor<Shared>>(
     rt: &R,
@@ -75,20 +123,13 @@ pub fn writes<R: Wait + Abort, M: Monitor<Shared>>(
     ensures of { M.is_of m.now result }
     ensures place { M.place result ≡ M.place out }
 {
-    let (out, found) = ReadersWriters::start_write(m, rt, out);
-    assert_eq!(rt; found, expected);
-    let (out, written) = ReadersWriters::end_write(m, rt, out, value);
-    assert!(rt; written.is_ok());
-    let (out, refused) = ReadersWriters::end_write(m, rt, out, value.wrapping_add(1));
-    match refused {
-        Ok(()) => panic!(rt; "two writers were in"),
-        Err(NotOut { item }) => assert_eq!(rt; item, value.wrapping_add(1)),
-    }
-    out
+    let out = starts_write(rt, m, out, expected);
+    let out = ends_write(rt, m, out, value);
+    ends_no_write(rt, m, out, value.wrapping_add(1))
 }
 
 /// Asks to read where the most readers are in.
-fn is_refused<R: Wait + Abort, M: Monitor<Shared>>(rt: &R, m: &M, out: M::Out) -> M::Out
+pub fn is_one_too_many<R: Wait + Abort, M: Monitor<Shared>>(rt: &R, m: &M, out: M::Out) -> M::Out
     requires { M.is_of m.now out }
     ensures of { M.is_of m.now result }
     ensures place { M.place result ≡ M.place out }
@@ -118,18 +159,35 @@ pub fn reads_to_the_limit<R: Wait + Abort, M: Monitor<Shared>>(
         let out = reads_to_the_limit(rt, m, out, reads - 1, value);
         return ends_read(rt, m, out, pass);
     }
-    let out = is_refused(rt, m, out);
+    let out = is_one_too_many(rt, m, out);
     let out = ends_read(rt, m, out, pass);
     let (out, pass) = starts_read(rt, m, out, value);
     ends_read(rt, m, out, pass)
 }
 
-// The refusal says what it is.
-fn shows_no_reader<R: Abort>(rt: &R, alloc: Global, refused: &NoReader) {
-    let Ok(shown) = format!(in alloc; "{refused}") else {
-        panic!(rt; "no memory")
+// Ends another monitor's read where none is: the pass comes back with a refusal that says so, and ends the read where it began.
+fn ends_foreign_read<R: Wait + Abort, M: Monitor<Shared>, N: Monitor<Shared>>(
+    rt: &R,
+    alloc: Global,
+    m: &M,
+    out: M::Out,
+    other: &N,
+    place: N::Out,
+) -> M::Out
+    requires of { M.is_of m.now out }
+    requires other { N.is_of other.now place }
+    ensures of { M.is_of m.now result }
+    ensures place { M.place result ≡ M.place out }
+{
+    let (place, pass) = starts_read(rt, other, place, 8);
+    let (out, ended) = ReadersWriters::end_read(m, rt, out, pass);
+    let Err(refused) = ended else {
+        panic!(rt; "a reader was in")
     };
-    assert_eq!(rt; shown.as_str(), "no reader is in");
+    reads_as(rt, alloc, &refused, "no reader is in");
+    let NoReader { pass } = refused;
+    ends_read(rt, other, place, pass);
+    out
 }
 
 /// Ends a read where none is: the pass, which is another monitor's, comes back.
@@ -143,20 +201,8 @@ pub fn ends_no_read<R: Wait + Abort, M: Monitor<Shared>>(
     ensures of { M.is_of m.now result }
     ensures place { M.place result ≡ M.place out }
 {
-    let Ok((fake, other)) = Fake::of(alloc, ReadersWriters::with(8), VecDeque::new(alloc)) else {
-        panic!(rt; "no memory")
-    };
-    let (other, pass) = starts_read(rt, &fake, other, 8);
-    let (out, ended) = ReadersWriters::end_read(m, rt, out, pass);
-    match ended {
-        Ok(()) => panic!(rt; "a reader was in"),
-        Err(refused) => {
-            shows_no_reader(rt, alloc, &refused);
-            let NoReader { pass } = refused;
-            ends_read(rt, &fake, other, pass)
-        }
-    };
-    out
+    let (fake, other) = with_answers(rt, alloc, ReadersWriters::with(8), []);
+    ends_foreign_read(rt, alloc, m, out, &fake, other)
 }
 
 /// How many wait to read, and to write.
@@ -182,15 +228,13 @@ fn writes_first<R: Wait + Abort, M: Monitor<Shared>>(
     ensures of { M.is_of m.now result }
     ensures place { M.place result ≡ M.place out }
 {
-    let (out, found) = ReadersWriters::start_write(m, rt, out);
-    assert_eq!(rt; found, 0);
+    let out = starts_write(rt, m, out, 0);
     let out = line_up(rt, m, out, turns, 3);
     let (out, before) = waiting(rt, m, out);
-    assert_eq!(rt; before, (2, 1));
-    let (out, written) = ReadersWriters::end_write(m, rt, out, 3);
-    assert!(rt; written.is_ok());
+    expect_same(rt, before, (2, 1));
+    let out = ends_write(rt, m, out, 3);
     let (out, after) = waiting(rt, m, out);
-    assert_eq!(rt; after, (0, 1));
+    expect_same(rt, after, (0, 1));
     turns.give(4);
     out
 }
@@ -296,22 +340,22 @@ fn setting(row: ReadersRow<'_>) -> (u64, usize) {
     }
 }
 
-// The last value of the row is what it has to be. (That of many writes is whichever came last.)
-fn agrees<R: Abort>(rt: &R, row: ReadersRow<'_>, value: u64) {
+// Whether the last value of the row is what it has to be. (That of many writes is whichever came last.)
+fn agrees(row: ReadersRow<'_>, value: u64) -> bool {
     match row {
-        ReadersRow::ReadersAndWriters(_, _) => assert_eq!(rt; value, 4),
-        ReadersRow::WriterBeforeLateReader(_, _) => assert_eq!(rt; value, 6),
-        ReadersRow::NoReaderIsInBesideAWriter(_) => assert!(rt; value > 0),
+        ReadersRow::ReadersAndWriters(_, _) => value == 4,
+        ReadersRow::WriterBeforeLateReader(_, _) => value == 6,
+        ReadersRow::NoReaderIsInBesideAWriter(_) => value > 0,
     }
 }
 
 #[test]
-fn readers_and_writers_on_both_doors(host: HostRuntime) -> Result<(), Fail> {
+fn readers_and_writers_on_both_doors(host: HostRuntime) {
     let (rt, alloc) = (&host, host.alloc());
     let turns = Turns::new();
     let ended = AtomicU32::new(0);
     for kind in DoorKind::BOTH {
-        let log = Log::new(alloc, 10_000)?;
+        let log = Log::new(rt, alloc, 10_000);
         for row in [
             ReadersRow::ReadersAndWriters(alloc, &turns),
             ReadersRow::WriterBeforeLateReader(&turns, &ended),
@@ -327,9 +371,9 @@ fn readers_and_writers_on_both_doors(host: HostRuntime) -> Result<(), Fail> {
                 places
             );
             all_answered(rt, kind, answers.as_slice(), places);
-            agrees(rt, row, shared.into_value());
+            let value = shared.into_value();
+            assert!(rt; agrees(row, value), "{kind:?} left {value}");
         }
         is_read_and_written(rt, log);
     }
-    Ok(())
 }

@@ -1,7 +1,8 @@
 //! Three processes read and two write, each as often as it can. What they wrote down is held against what readers and writers may do.
 ghost use Rattle.std.specs.Prelude.{◌≡◌, ◌<◌};
 
-use crate::tests::rows::readers::{Shared, ends_read, waiting};
+use crate::tests::compared::expect_same;
+use crate::tests::rows::readers::{Shared, ends_read, ends_write, waiting};
 use crate::tests::rows::shared_log::{Log, linger};
 use hoare_law::monitor::Monitor;
 use std::process::Abort;
@@ -210,10 +211,8 @@ fn writes_on<R: Wait + Abort + Clock, M: Monitor<Shared>>(
             waiting,
         };
         log.write(rt, line);
-        let (again, written) = ReadersWriters::end_write(m, rt, again, value);
-        assert!(rt; written.is_ok());
+        out = ends_write(rt, m, again, value);
         log.write(rt, Line::Wrote);
-        out = again;
     }
     out
 }
@@ -250,7 +249,7 @@ fn count_first(lines: &[Line]) -> usize {
 pub fn is_read_and_written<R: Abort>(rt: &R, log: Log<Line>) {
     let lines = log.into_lines();
     let (wrong, met_writers) = first_wrong(lines.as_slice());
-    assert_eq!(rt; wrong, None);
+    expect_same(rt, wrong, None);
     let read_first = count_first(lines.as_slice());
     assert!(rt;
         met_writers >= 10 && read_first >= 10,

@@ -1,6 +1,7 @@
 //! The single item and the bounded buffer.
 ghost use Rattle.std.specs.Prelude.{◌≡◌};
 
+use crate::tests::fake::with_cells;
 use crate::tests::running::{DoorKind, answered, await_sign, watch};
 use hoare_law::monitor::Monitor;
 use plain_schedulers::buffer::{Buffer, MOST_CELLS};
@@ -9,7 +10,6 @@ use std::process::Abort;
 use std::rt::Clock;
 use std::sync::Wait;
 use std::sync::atomic::{AtomicBool, Ordering};
-use std::test::Fail;
 
 // Place 0 takes the item, gives a sign, lets place 1 wait for the item, puts one in, takes 1's, puts it back and tries to put in
 // one more: it answers what it took twice and what came back, as three digits. Place 1 takes the item after the sign, puts in
@@ -90,14 +90,13 @@ fn an_item_is_lent_and_comes_back(host: HostRuntime) {
 }
 
 #[test]
-fn items_come_out_in_order(host: HostRuntime) -> Result<(), Fail> {
+fn items_come_out_in_order(host: HostRuntime) {
     let (rt, alloc) = (&host, host.alloc());
     for (cells, items) in [(1, 4), (MOST_CELLS, 5000)] {
         for kind in DoorKind::BOTH {
-            let buffer = Buffer::make(alloc, cells)?;
+            let buffer = with_cells(rt, alloc, cells);
             let (_, answers) = run_row_on!(kind, rt, alloc, appends_or_removes(items), buffer, 2);
             answered(rt, kind, answers.as_slice(), &[0, items]);
         }
     }
-    Ok(())
 }

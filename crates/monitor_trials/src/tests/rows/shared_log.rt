@@ -4,7 +4,7 @@ ghost use Rattle.std.specs.Prelude.{◌≡◌};
 use crate::tests::rows::turns::count_waiting;
 use hoare_law::data::MonitorData;
 use hoare_law::monitor::Monitor;
-use std::alloc::{AllocError, Global};
+use std::alloc::Global;
 use std::process::Abort;
 use std::rt::Clock;
 use std::sync::atomic::{AtomicUsize, Ordering};
@@ -20,12 +20,15 @@ pub struct Log<L> {
 }
 
 impl<L> Log<L> {
-    /// A log with room for this many lines.
-    pub fn new(alloc: Global, room: usize) -> Result<Log<L>, AllocError> {
-        Ok(Log {
-            lines: Mutex::new(Vec::with_capacity(alloc, room)?),
+    /// A log with room for this many lines. Where there is no memory the test fails.
+    pub fn new<R: Abort>(rt: &R, alloc: Global, room: usize) -> Log<L> {
+        let Ok(lines) = Vec::with_capacity(alloc, room) else {
+            panic!(rt; "no memory")
+        };
+        Log {
+            lines: Mutex::new(lines),
             finished: AtomicUsize::new(0),
-        })
+        }
     }
 
     /// The lines, the oldest first.

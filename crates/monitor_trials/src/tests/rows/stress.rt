@@ -2,17 +2,17 @@
 //! is held against the definitions.
 ghost use Rattle.std.specs.Prelude.{◌≡◌, ◌<◌};
 
+use crate::tests::compared::expect_same;
 use crate::tests::rows::diary::{Act, Diary};
 use crate::tests::rows::history::{choices, first_unlawful};
 use crate::tests::running::DoorKind;
 use hoare_law::monitor::Monitor;
 use hoare_law::unasked::Unasked;
 use hoare_law::waits::Waits;
-use std::alloc::{AllocError, Global};
+use std::alloc::Global;
 use std::process::Abort;
 use std::rt::Clock;
 use std::sync::Wait;
-use std::test::Fail;
 use std::thread;
 use std::time::Duration;
 
@@ -229,30 +229,31 @@ fn works_or_sweeps<R: Wait + Clock, M: Monitor<Pages>>(
 }
 
 // A diary with room for all that they write.
-fn empty_pages(alloc: Global) -> Result<Pages, AllocError> {
-    let lines = Vec::with_capacity(alloc, 100_000)?;
-    Ok(Pages {
+fn empty_pages<R: Abort>(rt: &R, alloc: Global) -> Pages {
+    let Ok(lines) = Vec::with_capacity(alloc, 100_000) else {
+        panic!(rt; "no memory")
+    };
+    Pages {
         value: Diary::new(lines),
-    })
+    }
 }
 
 // What they wrote in all rounds is what the definitions allow, and they had choices.
 fn agrees<R: Abort>(rt: &R, diary: &Diary, rounds: u64) {
     let lines = diary.lines();
     assert!(rt; !diary.is_torn);
-    assert_eq!(rt; first_unlawful(lines), None);
-    assert_eq!(rt; diary.finished, WORKERS);
+    expect_same(rt, first_unlawful(lines), None);
+    expect_same(rt, diary.finished, WORKERS);
     assert!(rt; lines.len() as u64 / 16 >= rounds);
     assert!(rt; choices(lines) as u64 >= rounds / 50);
 }
 
 #[test]
-fn a_diary_is_a_legal_history(host: HostRuntime) -> Result<(), Fail> {
+fn a_diary_is_a_legal_history(host: HostRuntime) {
     let (rt, alloc) = (&host, host.alloc());
     for (kind, rounds) in [(DoorKind::Baton, ROUNDS), (DoorKind::Ticket, TICKET_ROUNDS)] {
-        let data = empty_pages(alloc)?;
+        let data = empty_pages(rt, alloc);
         let (pages, _) = run_row_on!(kind, rt, alloc, works_or_sweeps(rounds), data, WORKERS + 1);
         agrees(rt, &pages.value, rounds);
     }
-    Ok(())
 }

@@ -100,6 +100,14 @@ fn signals_on<R: Wait + Abort, M: Monitor<Tally>>(
     (m.leave(rt, inside), 0)
 }
 
+// Whether a place inside finds 0, and that nobody waits.
+fn finds_nobody<M: Monitor<Tally>>(m: &M, inside: &M::In) -> bool
+    requires { M.is_of_in m.now inside.now }
+{
+    let found = m.state(inside).value == 0 && m.lists(inside).count(0) == 0;
+    found && !m.queue(inside, 0) && m.first(inside, 0).is_none()
+}
+
 /// One place makes each call. Nobody waits, so nothing is resumed: it answers 1 where all calls say so, and leaves 42.
 pub fn calls_all<R: Wait, M: Monitor<Tally>>(rt: &R, m: &M, out: M::Out) -> (M::Out, u64)
     requires { M.is_of m.now out }
@@ -107,14 +115,13 @@ pub fn calls_all<R: Wait, M: Monitor<Tally>>(rt: &R, m: &M, out: M::Out) -> (M::
     ensures place { M.place result.0 ≡ M.place out }
 {
     let mut inside = m.enter(rt, out);
-    let found = (m.state(&inside).value, m.lists(&inside).count(0)) == (0, 0);
-    let nobody = !m.queue(&inside, 0) && m.first(&inside, 0).is_none();
+    let nobody = finds_nobody(m, &inside);
     let tally = M::state_mut(&mut inside, m);
     tally.value = 42;
     let (inside, told) = m.signal(rt, inside, 0);
     let (out, told_leaving) = m.signal_leave(rt, inside, 0);
     let out = m.leave(rt, m.enter(rt, out));
-    (out, u64::from(found && nobody && !told && !told_leaving))
+    (out, u64::from(nobody && !told && !told_leaving))
 }
 
 /// The rows of a tally.

@@ -2,6 +2,7 @@
 ghost use Rattle.std.specs.Prelude.{◌≡◌};
 
 use crate::tally::Tally;
+use crate::tests::compared::expect_same;
 use crate::tests::rows::tally::write_digit;
 use crate::tests::running::watch;
 use hoare_law::monitor::Monitor;
@@ -60,8 +61,8 @@ fn who_asked_comes_in_by_its_ticket(host: HostRuntime) {
         Tally { value: 0 },
         3
     );
-    assert_eq!(host; tickets.as_slice(), [0, 1, 2].as_slice());
-    assert_eq!(host; tally.value, 123);
+    expect_same(rt, tickets.as_slice(), [0, 1, 2].as_slice());
+    expect_same(rt, tally.value, 123);
 }
 
 // Place 0 waits. Place 1 hands the monitor up to it, without waiting itself, and answers whether it resumed somebody.
@@ -98,6 +99,6 @@ fn who_hands_up_resumes_who_waits(host: HostRuntime) {
         Tally { value: 0 },
         2
     );
-    assert_eq!(host; told.as_slice(), [0, 1].as_slice());
-    assert_eq!(host; tally.value, 12);
+    expect_same(rt, told.as_slice(), [0, 1].as_slice());
+    expect_same(rt, tally.value, 12);
 }

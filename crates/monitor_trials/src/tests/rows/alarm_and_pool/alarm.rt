@@ -1,14 +1,14 @@
 //! The alarm clock: each sleeper wakes at its setting, and the clock ends at its last time.
 ghost use Rattle.std.specs.Prelude.{◌≡◌};
 
+use crate::tests::compared::expect_same;
 use crate::tests::rows::alarm_stress::{Line, SLEEPERS, is_a_clock, sleeps_or_ticks_on};
 use crate::tests::rows::shared_log::Log;
 use crate::tests::rows::turns::watch;
-use crate::tests::running::DoorKind;
+use crate::tests::running::{DoorKind, answered};
 use hoare_law::monitor::Monitor;
 use std::process::Abort;
 use std::sync::Wait;
-use std::test::Fail;
 use timed_schedulers::alarm::{Alarm, ClockFull, TooFar};
 
 /// Sleeps for this many ticks: the time at which it woke.
@@ -34,9 +34,36 @@ fn ticks_twice<R: Wait + Abort, M: Monitor<Alarm>>(rt: &R, m: &M, out: M::Out) -
 {
     let out = watch(rt, m, out, 3);
     let (out, first) = Alarm::tick(m, rt, out);
-    assert_eq!(rt; first, Ok(1));
+    expect_same(rt, first, Ok(1));
     let (out, second) = Alarm::tick(m, rt, out);
     (out, second.expect(rt, "there is a next time"))
+}
+
+/// Sets the clock past the last time, which is refused.
+pub fn is_too_far<R: Wait + Abort, M: Monitor<Alarm>>(
+    rt: &R,
+    m: &M,
+    out: M::Out,
+    ticks: u64,
+) -> M::Out
+    requires { M.is_of m.now out }
+    ensures of { M.is_of m.now result }
+    ensures place { M.place result ≡ M.place out }
+{
+    let (out, woke) = Alarm::wakeme(m, rt, out, ticks);
+    expect_same(rt, woke, Err(TooFar));
+    out
+}
+
+/// Ticks at the last time, which is refused.
+pub fn is_full<R: Wait + Abort, M: Monitor<Alarm>>(rt: &R, m: &M, out: M::Out) -> M::Out
+    requires { M.is_of m.now out }
+    ensures of { M.is_of m.now result }
+    ensures place { M.place result ≡ M.place out }
+{
+    let (out, time) = Alarm::tick(m, rt, out);
+    expect_same(rt, time, Err(ClockFull));
+    out
 }
 
 /// At the last time: nothing can be set past it, and there is no next one, but who sets it goes on at once: the time that it found.
@@ -49,10 +76,8 @@ pub fn ends_the_clock<R: Wait + Abort, M: Monitor<Alarm>>(
     ensures of { M.is_of m.now result.0 }
     ensures place { M.place result.0 ≡ M.place out }
 {
-    let (out, woke) = Alarm::wakeme(m, rt, out, 1);
-    assert_eq!(rt; woke, Err(TooFar));
-    let (out, time) = Alarm::tick(m, rt, out);
-    assert_eq!(rt; time, Err(ClockFull));
+    let out = is_too_far(rt, m, out, 1);
+    let out = is_full(rt, m, out);
     sleeps(rt, m, out, 0)
 }
 
@@ -111,24 +136,20 @@ fn setting(row: AlarmRow<'_>) -> (u64, usize) {
     }
 }
 
-// What the places answered is what they have to answer.
-fn agrees<R: Abort>(rt: &R, row: AlarmRow<'_>, answers: &[u64]) {
+// What the places have to answer.
+fn wanted(row: AlarmRow<'_>) -> &'static [u64] {
     match row {
-        AlarmRow::SleepersWakeAtTheirSettings => {
-            assert_eq!(rt; answers, [2, 2, 1, 2].as_slice());
-        }
-        AlarmRow::AClockEndsAtItsLastTime => assert_eq!(rt; answers, [u64::MAX].as_slice()),
-        AlarmRow::AllThatAreDueWakeAtTheirTime(_) => {
-            assert_eq!(rt; answers.len(), SLEEPERS + 1);
-        }
+        AlarmRow::SleepersWakeAtTheirSettings => &[2, 2, 1, 2],
+        AlarmRow::AClockEndsAtItsLastTime => &[u64::MAX],
+        AlarmRow::AllThatAreDueWakeAtTheirTime(_) => &[0; SLEEPERS + 1],
     }
 }
 
 #[test]
-fn an_alarm_clock_on_both_doors(host: HostRuntime) -> Result<(), Fail> {
+fn an_alarm_clock_on_both_doors(host: HostRuntime) {
     let (rt, alloc) = (&host, host.alloc());
     for kind in DoorKind::BOTH {
-        let log = Log::new(alloc, 10_000)?;
+        let log = Log::new(rt, alloc, 10_000);
         for row in [
             AlarmRow::SleepersWakeAtTheirSettings,
             AlarmRow::AClockEndsAtItsLastTime,
@@ -143,9 +164,8 @@ fn an_alarm_clock_on_both_doors(host: HostRuntime) -> Result<(), Fail> {
                 Alarm::at(time),
                 places
             );
-            agrees(rt, row, answers.as_slice());
+            answered(rt, kind, answers.as_slice(), wanted(row));
         }
         is_a_clock(rt, log);
     }
-    Ok(())
 }

@@ -1,18 +1,28 @@
 //! The pool: the least-numbered free buffer goes to the stream that holds the fewest.
 ghost use Rattle.std.specs.Prelude.{◌≡◌};
+ghost use Rattle.hoare_law.specs.Priorities.{nobody};
+ghost use Rattle.timed_schedulers.specs.Pools.{PoolRests};
 
+use crate::tests::compared::expect_same;
 use crate::tests::rows::pool_stress::{BUFFERS, Line, STREAMS, is_a_pool, uses_or_takes_all};
 use crate::tests::rows::shared_log::Log;
 use crate::tests::rows::turns::{Turns, line_up};
-use crate::tests::running::DoorKind;
+use crate::tests::running::{DoorKind, answered};
 use hoare_law::monitor::Monitor;
+use std::alloc::Global;
 use std::process::Abort;
 use std::rt::Clock;
 use std::sync::Wait;
-use std::test::Fail;
 use timed_schedulers::pool::{
     GiveRefused, MOST_BUFFERS, MOST_STREAMS, NoStream, Pool, PoolRefused,
 };
+
+/// A pool of this many buffers, for this many streams.
+pub fn with_buffers<R: Abort>(rt: &R, alloc: Global, buffers: u32, streams: u32) -> Pool
+    ensures { PoolRests result (nobody 0) }
+{
+    Pool::make(alloc, buffers, streams).expect(rt, "there is memory for a pool of this size")
+}
 
 /// Takes a buffer for the stream: which one.
 pub fn takes<R: Wait + Abort, M: Monitor<Pool>>(
@@ -43,7 +53,23 @@ pub fn gives<R: Wait + Abort, M: Monitor<Pool>>(
     ensures place { M.place result ≡ M.place out }
 {
     let (out, given) = Pool::give(m, rt, out, stream, buffer);
-    assert_eq!(rt; given, expected);
+    expect_same(rt, given, expected);
+    out
+}
+
+/// Takes for a number that isn't a stream's, which is refused.
+pub fn is_no_stream<R: Wait + Abort, M: Monitor<Pool>>(
+    rt: &R,
+    m: &M,
+    out: M::Out,
+    stream: u32,
+) -> M::Out
+    requires { M.is_of m.now out }
+    ensures of { M.is_of m.now result }
+    ensures place { M.place result ≡ M.place out }
+{
+    let (out, taken) = Pool::take(m, rt, out, stream);
+    expect_same(rt, taken, Err(NoStream));
     out
 }
 
@@ -56,15 +82,14 @@ fn lends<R: Wait + Abort, M: Monitor<Pool>>(rt: &R, m: &M, out: M::Out, turns: &
     let (out, first) = takes(rt, m, out, 0);
     let (out, second) = takes(rt, m, out, 0);
     let (out, third) = takes(rt, m, out, 1);
-    assert_eq!(rt; (first, second, third), (0, 1, 2));
+    expect_same(rt, (first, second, third), (0, 1, 2));
     let out = line_up(rt, m, out, turns, 2);
     let out = gives(rt, m, out, 1, 2, Ok(()));
     let out = gives(rt, m, out, 0, 0, Ok(()));
     let out = gives(rt, m, out, 1, 0, Err(GiveRefused::NotHeld));
     let out = gives(rt, m, out, 0, 3, Err(GiveRefused::NoBuffer));
     let out = gives(rt, m, out, 3, 0, Err(GiveRefused::NoStream));
-    let (out, taken) = Pool::take(m, rt, out, 3);
-    assert_eq!(rt; taken, Err(NoStream));
+    let out = is_no_stream(rt, m, out, 3);
     turns.start_again();
     out
 }
@@ -97,7 +122,7 @@ pub fn takes_all<R: Wait + Abort, M: Monitor<Pool>>(rt: &R, m: &M, out: M::Out) 
     let mut out = out;
     for expected in 0..MOST_BUFFERS {
         let (again, buffer) = takes(rt, m, out, stream);
-        assert_eq!(rt; buffer, expected);
+        expect_same(rt, buffer, expected);
         out = again;
     }
     let out = gives(rt, m, out, stream, MOST_BUFFERS, Err(GiveRefused::NoBuffer));
@@ -111,10 +136,9 @@ pub fn takes_all<R: Wait + Abort, M: Monitor<Pool>>(rt: &R, m: &M, out: M::Out) 
         MOST_BUFFERS - 1,
         Err(GiveRefused::NotHeld),
     );
-    let (out, taken) = Pool::take(m, rt, out, MOST_STREAMS);
-    assert_eq!(rt; taken, Err(NoStream));
+    let out = is_no_stream(rt, m, out, MOST_STREAMS);
     let (out, buffer) = takes(rt, m, out, 0);
-    assert_eq!(rt; buffer, MOST_BUFFERS - 1);
+    expect_same(rt, buffer, MOST_BUFFERS - 1);
     out
 }
 
@@ -173,34 +197,31 @@ fn setting(row: PoolRow<'_>) -> (u32, u32, usize) {
     }
 }
 
-// What the places answered is what they have to answer.
-fn agrees<R: Abort>(rt: &R, row: PoolRow<'_>, answers: &[u64]) {
+// What the places have to answer.
+fn wanted(row: PoolRow<'_>) -> &'static [u64] {
     match row {
-        PoolRow::WhoHoldsTheFewestBuffersGoesOnFirst(_) => {
-            assert_eq!(rt; answers, [0, 0, 2].as_slice());
-        }
-        PoolRow::ABufferHasOneHolder(_) => assert_eq!(rt; answers.len(), STREAMS as usize + 1),
+        PoolRow::WhoHoldsTheFewestBuffersGoesOnFirst(_) => &[0, 0, 2],
+        PoolRow::ABufferHasOneHolder(_) => &[0; STREAMS as usize + 1],
     }
 }
 
 #[test]
-fn a_pool_on_both_doors(host: HostRuntime) -> Result<(), Fail> {
+fn a_pool_on_both_doors(host: HostRuntime) {
     let (rt, alloc) = (&host, host.alloc());
     let turns = Turns::new();
     for kind in DoorKind::BOTH {
-        let log = Log::new(alloc, 10_000)?;
+        let log = Log::new(rt, alloc, 10_000);
         for row in [
             PoolRow::WhoHoldsTheFewestBuffersGoesOnFirst(&turns),
             PoolRow::ABufferHasOneHolder(&log),
         ] {
             let (buffers, streams, places) = setting(row);
-            let pool = Pool::make(alloc, buffers, streams)?;
+            let pool = with_buffers(rt, alloc, buffers, streams);
             let (_pool, answers) = run_row_on!(kind, rt, alloc, acts(row), pool, places);
-            agrees(rt, row, answers.as_slice());
+            answered(rt, kind, answers.as_slice(), wanted(row));
         }
         is_a_pool(rt, log);
     }
-    Ok(())
 }
 
 #[test]

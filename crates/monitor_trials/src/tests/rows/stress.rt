@@ -5,6 +5,7 @@ ghost use Rattle.std.specs.Prelude.{◌≡◌, ◌<◌};
 use crate::tests::compared::expect_same;
 use crate::tests::rows::diary::{Act, Diary};
 use crate::tests::rows::history::{choices, first_unlawful};
+use crate::tests::rows::shared_log::draw;
 use crate::tests::running::DoorKind;
 use hoare_law::monitor::Monitor;
 use hoare_law::unasked::Unasked;
@@ -25,12 +26,6 @@ const ROUNDS: u64 = 300;
 
 /// Newcomers of a ticket door never sleep: where threads outnumber processors, one admission may take a slice of time.
 const TICKET_ROUNDS: u64 = 60;
-
-// The next of a row of numbers that look random.
-fn draw(seed: u64) -> u64 {
-    seed.wrapping_mul(6364136223846793005)
-        .wrapping_add(1442695040888963407)
-}
 
 // It comes, and writes so.
 fn found<M: Monitor<Pages>>(m: &M, inside: M::In, place: usize, act: Act) -> M::In

@@ -23,14 +23,15 @@ fn one_after_a_word(rt: HostRuntime) {
 
 #[test]
 fn two_after_a_word(rt: HostRuntime) {
-    for (line, wanted) in [
-        (b"disk 400 1".as_slice(), Some((400, 1))),
-        (b"disk 1 400".as_slice(), Some((1, 400))),
-        (b"disk 400".as_slice(), None),
-        (b"disk 400 x".as_slice(), None),
-        (b"disk 400 1 2".as_slice(), None),
-        (b"Disk 400 1".as_slice(), None),
-    ] {
+    let lines: [(&[u8], Option<(u64, u64)>); 6] = [
+        (b"disk 400 1", Some((400, 1))),
+        (b"disk 1 400", Some((1, 400))),
+        (b"disk 400", None),
+        (b"disk 400 x", None),
+        (b"disk 400 1 2", None),
+        (b"Disk 400 1", None),
+    ];
+    for (line, wanted) in lines {
         assert_eq!(rt; two_numbers(line, b"disk"), wanted);
     }
 }

@@ -5,67 +5,58 @@ use hoare_script::opened::Opened;
 use std::test::Fail;
 use wait_book::steps::{MakeRefused, Next, Step, StepRefused};
 
+fn header(places: u64, conditions: u64) -> Header {
+    Header { places, conditions }
+}
+
 #[test]
 fn headers(rt: HostRuntime) {
-    for (line, wanted) in [
-        (
-            b"monitor 3 2".as_slice(),
-            Some(Header {
-                places: 3,
-                conditions: 2,
-            }),
-        ),
-        (
-            b"monitor 65 0".as_slice(),
-            Some(Header {
-                places: 65,
-                conditions: 0,
-            }),
-        ),
-        (b"monitor 3".as_slice(), None),
-        (b"monitor 3 2 1".as_slice(), None),
-        (b"Monitor 3 2".as_slice(), None),
-        (b"monitor 3 x".as_slice(), None),
-    ] {
+    let lines: [(&[u8], Option<Header>); 6] = [
+        (b"monitor 3 2", Some(header(3, 2))),
+        (b"monitor 65 0", Some(header(65, 0))),
+        (b"monitor 3", None),
+        (b"monitor 3 2 1", None),
+        (b"Monitor 3 2", None),
+        (b"monitor 3 x", None),
+    ];
+    for (line, wanted) in lines {
         assert_eq!(rt; parse_header(line), wanted);
     }
 }
 
 #[test]
 fn commands(rt: HostRuntime) {
-    for (line, wanted) in [
-        (b"enter 4".as_slice(), Command::Do(Step::Enter(4))),
-        (b"wait 1 2 3".as_slice(), Command::Do(Step::Wait(1, 2, 3))),
-        (b"signal 1 2".as_slice(), Command::Do(Step::Signal(1, 2))),
-        (b"pass 1 2".as_slice(), Command::Do(Step::Pass(1, 2))),
-        (b"leave 5".as_slice(), Command::Do(Step::Leave(5))),
-        (b"queue 6".as_slice(), Command::Queue(6)),
-        (b"first 7".as_slice(), Command::First(7)),
-    ] {
+    let commands: [(&[u8], Command); 7] = [
+        (b"enter 4", Command::Do(Step::Enter(4))),
+        (b"wait 1 2 3", Command::Do(Step::Wait(1, 2, 3))),
+        (b"signal 1 2", Command::Do(Step::Signal(1, 2))),
+        (b"pass 1 2", Command::Do(Step::Pass(1, 2))),
+        (b"leave 5", Command::Do(Step::Leave(5))),
+        (b"queue 6", Command::Queue(6)),
+        (b"first 7", Command::First(7)),
+    ];
+    for (line, wanted) in commands {
         assert_eq!(rt; parse_command(line), Some(wanted));
     }
-    for line in [
-        b"".as_slice(),
-        b"enter".as_slice(),
-        b"enter 1 2".as_slice(),
-        b"wait 1 2".as_slice(),
-        b"wait 1 2 3 4".as_slice(),
-        b"signal 1".as_slice(),
-        b"pass 1 2 3".as_slice(),
-        b"queue x".as_slice(),
-        b"monitor 1 1".as_slice(),
-    ] {
+    let others: [&[u8]; 9] = [
+        b"",
+        b"enter",
+        b"enter 1 2",
+        b"wait 1 2",
+        b"wait 1 2 3 4",
+        b"signal 1",
+        b"pass 1 2 3",
+        b"queue x",
+        b"monitor 1 1",
+    ];
+    for line in others {
         assert_eq!(rt; parse_command(line), None);
     }
 }
 
 #[test]
 fn opened_book(rt: HostRuntime) -> Result<(), Fail> {
-    let header = Header {
-        places: 2,
-        conditions: 1,
-    };
-    let Ok(mut opened) = Opened::make(rt.alloc(), header) else {
+    let Ok(mut opened) = Opened::make(rt.alloc(), header(2, 1)) else {
         return Err("no book")?;
     };
     for (command, answer) in [
@@ -83,47 +74,26 @@ fn opened_book(rt: HostRuntime) -> Result<(), Fail> {
 
 #[test]
 fn book_of_too_many_places(rt: HostRuntime) {
-    let header = Header {
-        places: 65,
-        conditions: 9,
-    };
-    let made = Opened::make(rt.alloc(), header);
+    let made = Opened::make(rt.alloc(), header(65, 9));
     assert!(rt; matches!(made, Err(MakeRefused::BadPlaces)));
 }
 
 #[test]
 fn answers_as_spelled(rt: HostRuntime) {
-    for (answer, wanted) in [
-        (Answer::Free, b"x -> free\n".as_slice()),
-        (Answer::Inside(63), b"x -> 63\n".as_slice()),
-        (Answer::Waiting(true), b"x -> true\n".as_slice()),
-        (Answer::Waiting(false), b"x -> false\n".as_slice()),
-        (Answer::Nobody, b"x -> none\n".as_slice()),
-        (
-            Answer::Priority(u64::MAX),
-            b"x -> 18446744073709551615\n".as_slice(),
-        ),
-        (
-            Answer::Refused(StepRefused::NoPlace),
-            b"x -> refused 1\n".as_slice(),
-        ),
-        (
-            Answer::Refused(StepRefused::NotFree),
-            b"x -> refused 2\n".as_slice(),
-        ),
-        (
-            Answer::Refused(StepRefused::NotOutside),
-            b"x -> refused 3\n".as_slice(),
-        ),
-        (
-            Answer::Refused(StepRefused::NotInside),
-            b"x -> refused 4\n".as_slice(),
-        ),
-        (
-            Answer::Refused(StepRefused::NoCondition),
-            b"x -> refused 5\n".as_slice(),
-        ),
-    ] {
+    let answers: [(Answer, &[u8]); 11] = [
+        (Answer::Free, b"x -> free\n"),
+        (Answer::Inside(63), b"x -> 63\n"),
+        (Answer::Waiting(true), b"x -> true\n"),
+        (Answer::Waiting(false), b"x -> false\n"),
+        (Answer::Nobody, b"x -> none\n"),
+        (Answer::Priority(u64::MAX), b"x -> 18446744073709551615\n"),
+        (Answer::Refused(StepRefused::NoPlace), b"x -> refused 1\n"),
+        (Answer::Refused(StepRefused::NotFree), b"x -> refused 2\n"),
+        (Answer::Refused(StepRefused::NotOutside), b"x -> refused 3\n"),
+        (Answer::Refused(StepRefused::NotInside), b"x -> refused 4\n"),
+        (Answer::Refused(StepRefused::NoCondition), b"x -> refused 5\n"),
+    ];
+    for (answer, wanted) in answers {
         assert_eq!(rt; answer_line(b"x", answer).as_slice(), wanted);
     }
 }

@@ -89,9 +89,15 @@ fn answers_as_spelled(rt: HostRuntime) {
         (Answer::Priority(u64::MAX), b"x -> 18446744073709551615\n"),
         (Answer::Refused(StepRefused::NoPlace), b"x -> refused 1\n"),
         (Answer::Refused(StepRefused::NotFree), b"x -> refused 2\n"),
-        (Answer::Refused(StepRefused::NotOutside), b"x -> refused 3\n"),
+        (
+            Answer::Refused(StepRefused::NotOutside),
+            b"x -> refused 3\n",
+        ),
         (Answer::Refused(StepRefused::NotInside), b"x -> refused 4\n"),
-        (Answer::Refused(StepRefused::NoCondition), b"x -> refused 5\n"),
+        (
+            Answer::Refused(StepRefused::NoCondition),
+            b"x -> refused 5\n",
+        ),
     ];
     for (answer, wanted) in answers {
         assert_eq!(rt; answer_line(b"x", answer).as_slice(), wanted);

@@ -10,16 +10,16 @@ use Rattle.cookbook.proofs.mailbox.Mailbox.send.Goals.{After-state_mut, then-is_
 
 -- it came in and, after a wait or without one, finds room
 came : (g : Over) (c : After-state_mut g) → Came g.M.Monitor c.args.m.now c.args.out (λ _ a. length a ≡ 8) (λ _. 0) (λ _. c.args.letter.priority)
-      (λ b q. RoomReady (length b) (q 0) (q 1)) c.if-is_full.inside
+    (λ b q. RoomReady (length b) (q 0) (q 1)) c.if-is_full.inside
 came g c = elim c.if-is_full.branch [
   | then-is_full w ↦
       let full = rw c.state.ensures at (c.is_full.ensures.0 w.if-is_full.true) in
       rw w.inside-is (Came-waited g.M.Monitor c.enter-inside.ensures.place c.enter-inside.ensures.front full w.wait-inside.ensures.of w.wait-inside.ensures.place
-          w.wait-inside.ensures.front refl refl w.wait-inside.ensures.ready)
+      w.wait-inside.ensures.front refl refl w.wait-inside.ensures.ready)
   | else-is_full w ↦
       let room = rw c.state.ensures at (iff_false c.is_full.ensures w.if-is_full.false) in
       rw w.inside-is (Came-at_once g.M.Monitor c.enter-inside.ensures.of c.enter-inside.ensures.place c.enter-inside.ensures.front room
-          (RoomReady-at_once c.enter-inside.ensures.rest room))
+      (RoomReady-at_once c.enter-inside.ensures.rest room))
 ]
 
 pub put-requires : goal.put-requires

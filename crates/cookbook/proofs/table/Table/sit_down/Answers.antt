@@ -9,16 +9,16 @@ use Rattle.cookbook.proofs.table.Table.sit_down.Goals.{After-state_mut, then-not
 
 -- it came in and, after a wait or without one, finds that it can eat
 came : (g : Over) (c : After-state_mut g) → Came g.M.Monitor c.args.m.now c.args.out (λ _ t. CanEat t c.args.seat → ⊥) (λ _. c.args.seat) (λ _. 0)
-      (λ t _. TableHolds t × CanEat t c.args.seat) c.if-not-can_eat.inside
+    (λ t _. TableHolds t × CanEat t c.args.seat) c.if-not-can_eat.inside
 came g c = elim c.if-not-can_eat.branch [
   | then-not-can_eat w ↦
       let cannot = rw c.state.ensures at (iff_false c.can_eat.ensures w.if-not-can_eat.true) in
       rw w.inside-is (Came-waited g.M.Monitor c.enter-inside.ensures.place c.enter-inside.ensures.front cannot w.wait-inside.ensures.of w.wait-inside.ensures.place
-          w.wait-inside.ensures.front refl refl (w.wait-inside.ensures.ready.inv, w.wait-inside.ensures.ready.can))
+      w.wait-inside.ensures.front refl refl (w.wait-inside.ensures.ready.inv, w.wait-inside.ensures.ready.can))
   | else-not-can_eat w ↦
       let can = rw c.state.ensures at (c.can_eat.ensures.0 w.if-not-can_eat.false) in
       rw w.inside-is (Came-at_once g.M.Monitor c.enter-inside.ensures.of c.enter-inside.ensures.place c.enter-inside.ensures.front (λ cannot. cannot can)
-          (c.enter-inside.ensures.rest.inv, can))
+      (c.enter-inside.ensures.rest.inv, can))
 ]
 
 pub hand_on-requires-clause-of : goal.hand_on-requires-clause-of

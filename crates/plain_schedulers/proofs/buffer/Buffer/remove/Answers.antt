@@ -10,16 +10,16 @@ use Rattle.plain_schedulers.proofs.buffer.Buffer.remove.Goals.{After-state_mut, 
 
 -- it came in and, after a wait or without one, finds an item
 came : (g : Over) (c : After-state_mut g) → Came g.M.Monitor c.args.m.now c.args.out (λ _ a. length a.items ≡ 0) (λ _. 0) (λ _. 0)
-      (λ b q. ReadyNonempty b (q 0) (q 1)) c.if-is_empty.inside
+    (λ b q. ReadyNonempty b (q 0) (q 1)) c.if-is_empty.inside
 came g c = elim c.if-is_empty.branch [
   | then-is_empty w ↦
       let none = rw c.state.ensures at (c.is_empty.ensures.0 w.if-is_empty.true) in
       rw w.inside-is (Came-waited g.M.Monitor c.enter-inside.ensures.place c.enter-inside.ensures.front none w.wait-inside.ensures.of w.wait-inside.ensures.place
-          w.wait-inside.ensures.front refl refl w.wait-inside.ensures.ready)
+      w.wait-inside.ensures.front refl refl w.wait-inside.ensures.ready)
   | else-is_empty w ↦
       let some = rw c.state.ensures at (iff_false c.is_empty.ensures w.if-is_empty.false) in
       rw w.inside-is (Came-at_once g.M.Monitor c.enter-inside.ensures.of c.enter-inside.ensures.place c.enter-inside.ensures.front some
-          (ReadyNonempty-at_once c.enter-inside.ensures.rest some))
+      (ReadyNonempty-at_once c.enter-inside.ensures.rest some))
 ]
 
 pub pop-item-requires : goal.pop-item-requires

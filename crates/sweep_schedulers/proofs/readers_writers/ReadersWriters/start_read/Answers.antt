@@ -16,7 +16,7 @@ came g c = elim c.if-is_busy.branch [
   | else-is_busy+else-queue w ↦
       let free : (g.M.Monitor.data_in c.enter-inside.result).busy ≡ false = search rules in
       rw w.inside-is (Came-at_once g.M.Monitor c.enter-inside.ensures.of c.enter-inside.ensures.place c.enter-inside.ensures.front (search rules)
-          (record { inv = c.enter-inside.ensures.rest.inv; no_writer = free }))
+      (record { inv = c.enter-inside.ensures.rest.inv; no_writer = free }))
 ]
 
 pub admit-read-requires : goal.admit-read-requires

@@ -18,11 +18,11 @@ came g c = elim c.if-is_in_use.branch [
   | then-is_in_use w ↦
       let used = rw c.state.ensures at (c.is_in_use.ensures.0 w.if-is_in_use.true) in
       rw w.inside-is (Came-waited g.M.Monitor c.enter-inside.ensures.place c.enter-inside.ensures.front used w.wait-inside.ensures.of w.wait-inside.ensures.place
-          w.wait-inside.ensures.front refl refl w.wait-inside.ensures.ready)
+      w.wait-inside.ensures.front refl refl w.wait-inside.ensures.ready)
   | else-is_in_use w ↦
       let unused = rw c.state.ensures at (iff_false c.is_in_use.ensures w.if-is_in_use.false) in
       rw w.inside-is (Came-at_once g.M.Monitor c.enter-inside.ensures.of c.enter-inside.ensures.place c.enter-inside.ensures.front unused
-          (WriteReady-at_once c.enter-inside.ensures.rest unused))
+      (WriteReady-at_once c.enter-inside.ensures.rest unused))
 ]
 
 pub leave-requires-clause-of : goal.leave-requires-clause-of

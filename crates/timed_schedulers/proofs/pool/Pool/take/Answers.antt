@@ -23,7 +23,7 @@ returns-then-not-has_stream-2-clause-trace g c =
 
 -- it came in and, after a wait or without one, is a stream and finds a buffer
 came : (g : Over) (c : After-state_mut g) → Came g.M.Monitor c.args.m.now c.args.out (MustWait c.args.stream) (λ _. 0) (held c.args.stream)
-      (λ p q. (c.args.stream < p.streams) × PoolReady p (q 0)) c.if-free-eq0.inside
+    (λ p q. (c.args.stream < p.streams) × PoolReady p (q 0)) c.if-free-eq0.inside
 came g c =
     let stream = rw c.state.ensures at (c.has_stream.ensures.0 c.if-not-has_stream.false) in
     elim c.if-free-eq0.branch [
@@ -31,12 +31,12 @@ came g c =
           let none = rw c.state-2.ensures at (sym c.free.ensures.told ∙ w.if-free-eq0.true) in
           let stays = rw w.state-then-free-eq0-2.ensures at (w.has_stream-then-free-eq0.ensures.0 w.if-not-has_stream-2.false) in
           rw w.inside-is (Came-waited g.M.Monitor c.enter-inside.ensures.place c.enter-inside.ensures.front (stream, none) w.wait-inside.ensures.of
-              w.wait-inside.ensures.place w.wait-inside.ensures.front refl (search rules) (stays, w.wait-inside.ensures.ready))
+          w.wait-inside.ensures.place w.wait-inside.ensures.front refl (search rules) (stays, w.wait-inside.ensures.ready))
       | else-free-eq0 w ↦
           let some : free_count (g.M.Monitor.data_in c.enter-inside.result) ≢ 0 =
           λ none. w.if-free-eq0.false ((rw c.state-2.ensures at c.free.ensures.told) ∙ none) in
           rw w.inside-is (Came-at_once g.M.Monitor c.enter-inside.ensures.of c.enter-inside.ensures.place c.enter-inside.ensures.front
-              (λ must. some must.1) (stream, PoolReady-idle c.enter-inside.ensures.rest some))
+          (λ must. some must.1) (stream, PoolReady-idle c.enter-inside.ensures.rest some))
     ]
 
 pub own_least-buffer-requires-clause-stream : goal.own_least-buffer-requires-clause-stream

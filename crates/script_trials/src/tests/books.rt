@@ -1,3 +1,4 @@
 mod filling;
+mod plain;
 mod steps;
 mod texts;

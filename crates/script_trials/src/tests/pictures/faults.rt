@@ -150,3 +150,35 @@ fn full_end<R: AllocGlobal>(rt: &R, script: &[u8], form: Form) -> Result<(), Pic
     let mut reader = script;
     draw_script(rt.alloc(), &mut reader, &mut Full, form)
 }
+
+#[test]
+fn faults_are_shown_with_their_status(rt: HostRuntime) -> Result<(), Fail> {
+    for (fault, text, status) in [
+        (
+            PictureFault::Script(ScriptFault::BadLine(3)),
+            "fault 2 BadLine line 3",
+            2,
+        ),
+        (
+            PictureFault::Script(ScriptFault::ReadFault),
+            "fault 4 ReadFault",
+            3,
+        ),
+        (
+            PictureFault::Script(ScriptFault::Memory),
+            "fault 6 Memory",
+            3,
+        ),
+        (
+            PictureFault::TooTall(1_165),
+            "fault 9 TooTall steps 1165: an SVG has at most 1164, a chart (--text) any number",
+            4,
+        ),
+    ] {
+        let mut shown = Vec::new(rt.alloc());
+        write!(shown, "{fault}")?;
+        assert_eq!(rt; shown.as_slice(), text.as_bytes());
+        assert_eq!(rt; fault.status(), status);
+    }
+    Ok(())
+}

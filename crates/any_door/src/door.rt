@@ -28,7 +28,9 @@ use wait_book::steps::MakeRefused;
 /// ```
 #[derive(Drop)]
 pub enum AnyDoor<D: MonitorData> {
+    /// A door of one word.
     Baton(Door<D>),
+    /// A door of tickets and bells.
     Ticket(TicketDoor<D>),
 }
 

@@ -10,5 +10,6 @@ pub enum DoorKind {
 }
 
 impl DoorKind {
+    /// Each kind once.
     pub const BOTH: [DoorKind; 2] = [DoorKind::Baton, DoorKind::Ticket];
 }

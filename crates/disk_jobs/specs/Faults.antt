@@ -1,4 +1,4 @@
--- The status of a fault.
+-- Which faults are of what, and the status of each.
 use Rattle.std.specs.Prelude.{ℕ, Bool, true, false, Result, Err, ⊤}
 use Rattle.disk_jobs.specs.declared.fault.ServiceFault.{ServiceFault}
 use Rattle.disk_jobs.specs.declared.fault.ServiceFault.TheVariants as faults

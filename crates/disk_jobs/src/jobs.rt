@@ -36,8 +36,10 @@ impl Model for Jobs {
 /// Why no jobs were made, the first of these that applies.
 #[derive(Clone, Copy, Debug, PartialEq, Eq, thiserror::Error)]
 pub enum BadJobs {
+    /// No worker, or over 16.
     #[error("a service has 1 to 16 workers")]
     BadWorkers,
+    /// Over 4,096 jobs.
     #[error("a service has at most 4096 jobs")]
     TooMany,
     /// The number of the first such job, counted from 0.

@@ -9,5 +9,6 @@ pub enum Departure {
     Signal(usize),
     /// The same as its last act.
     Pass(usize),
+    /// It goes out, and signals nothing.
     Leave,
 }

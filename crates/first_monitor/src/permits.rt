@@ -11,7 +11,9 @@ use std::sync::Wait;
 /// How urgent a caller is. A class is the priority of its wait: the least goes first.
 #[derive(Clone, Copy, Debug, PartialEq, Eq)]
 pub enum Class {
+    /// It goes before all that are standard.
     Express,
+    /// It goes after all that are express.
     Standard,
 }
 
@@ -103,7 +105,7 @@ impl Permits {
         requires { self.old.free < self.old.total }
         ensures { self.new ≡ record self.old { free = self.old.free + 1 } }
     {
-        let _total = self.total;
+        let _total = self.total; // a number of 64 bits, so that one more free permit fits
         self.free += 1;
     }
 

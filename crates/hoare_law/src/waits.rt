@@ -146,7 +146,7 @@ impl<'a, W: Waits> Waits for Taken<'a, W> {
 
     fn priority(&self, condition: usize, i: usize) -> u64 {
         if condition == self.condition {
-            let _count = self.lists.count(condition);
+            let _count = self.lists.count(condition); // a number of 64 bits, so that i + 1 fits
             self.lists.priority(condition, i + 1)
         } else {
             self.lists.priority(condition, i)

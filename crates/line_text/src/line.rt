@@ -16,18 +16,23 @@ pub type Line = ArrayVec<u8, LONGEST_LINE>;
 /// How a line ended: by its byte 10, or with the input.
 #[derive(Clone, Copy, Debug, PartialEq, Eq)]
 pub enum Ended {
+    /// By its byte 10, which was read and isn't kept.
     Line,
+    /// By the end of the input.
     Last,
 }
 
 /// Why no line was read.
-#[derive(Clone, Copy, Debug, PartialEq, Eq)]
+#[derive(Clone, Copy, Debug, PartialEq, Eq, thiserror::Error)]
 pub enum LineFault {
     /// A read failed.
+    #[error("a read failed")]
     Failed,
     /// The line has over `LONGEST_LINE` bytes.
+    #[error("a line has over 256 bytes")]
     TooLong,
     /// The line goes on past the room.
+    #[error("the text goes on past its room")]
     TooMuch,
 }
 

@@ -18,7 +18,8 @@ pub struct WatchedReader<'a, R> {
 }
 
 /// A read failed.
-#[derive(Clone, Copy, Debug, PartialEq, Eq)]
+#[derive(Clone, Copy, Debug, PartialEq, Eq, thiserror::Error)]
+#[error("a read failed")]
 pub struct ReadFailed;
 
 impl<'a, R> WatchedReader<'a, R> {

@@ -15,7 +15,8 @@ pub struct WatchedWriter<'a, W> {
 }
 
 /// A write failed, or took no bytes.
-#[derive(Clone, Copy, Debug, PartialEq, Eq)]
+#[derive(Clone, Copy, Debug, PartialEq, Eq, thiserror::Error)]
+#[error("a write failed, or took nothing")]
 pub struct WriteFailed;
 
 impl<'a, W> WatchedWriter<'a, W> {

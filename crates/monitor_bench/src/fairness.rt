@@ -10,6 +10,7 @@ pub struct LetIn {
     count: u64,
 }
 
+/// Their monitor's data.
 pub type Counted = Unasked<LetIn, 1>;
 
 /// Nobody was let in yet.

@@ -18,6 +18,7 @@ pub struct Visits {
     pub finished: u64,
 }
 
+/// Their monitor's data, with three conditions.
 pub type Mixed = Unasked<Visits, 3>;
 
 // The next of a row of numbers in which no pattern shows.

@@ -14,8 +14,10 @@ use wait_book::steps::Step;
 /// What a place does.
 #[derive(Clone, Copy, Debug, PartialEq, Eq, Default)]
 pub enum Lane {
+    /// It is outside.
     #[default]
     Outside,
+    /// It is inside.
     Inside,
     /// It waits on this condition, with this priority.
     Waiting(u64, u64),

@@ -18,7 +18,9 @@ use std::io::{Read, Write};
 /// What a script is drawn as.
 #[derive(Clone, Copy, Debug, PartialEq, Eq)]
 pub enum Form {
+    /// An SVG, of at most 1,164 steps.
     Svg,
+    /// A chart of letters for a terminal.
     Text,
 }
 

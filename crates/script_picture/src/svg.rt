@@ -260,7 +260,7 @@ fn write_crossing<W: Write>(
         gone,
     } = crossing;
     let (Some(from), Some(to)) = (frame.track(over.from), frame.track(over.to)) else {
-        return Ok(()); // neither is idle
+        return Ok(()); // never: a place that hands over or goes on is not idle
     };
     let middle = row_top(row).saturating_add(ROW / 2);
     let reach = if gone { 0 } else { from.half };

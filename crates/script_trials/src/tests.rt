@@ -6,3 +6,4 @@ mod lines;
 mod numbers;
 mod pictures;
 mod scripts;
+mod shown;

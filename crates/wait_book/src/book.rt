@@ -19,6 +19,16 @@ pub const MOST_CONDITIONS: usize = 8;
 ///
 /// A clause of a call that changes it reads: for every history that the book was of, it is afterwards of that history with
 /// the call's event. `sizes` says that the call kept the places, the conditions and the memory that `make` took.
+///
+/// ```rust
+/// let mut book = Book::make(alloc, 2, 1)?;
+/// book.admit(0);
+/// assert_eq!(rt; book.wait(0, 0, 7), Next::Free); // on condition 0, with priority 7
+/// book.admit(1);
+/// assert_eq!(rt; book.signal(1, 0), Next::For(0));
+/// book.claim(0);
+/// assert_eq!(rt; book.leave(0), Next::For(1)); // the signaller is back
+/// ```
 #[derive(Drop)]
 pub struct Book {
     places: usize,

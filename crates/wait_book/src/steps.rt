@@ -12,10 +12,13 @@ pub enum Next {
 /// Why no book was made. The first that applies is answered.
 #[derive(Clone, Copy, Debug, PartialEq, Eq, thiserror::Error)]
 pub enum MakeRefused {
+    /// No place, or over 64.
     #[error("a monitor has 1 to 64 places")]
     BadPlaces,
+    /// No condition, or over 8.
     #[error("a monitor has 1 to 8 conditions")]
     BadConditions,
+    /// The room for all that it will ever need can't be had.
     #[error("out of memory")]
     Memory,
 }
@@ -38,14 +41,19 @@ pub enum Step {
 /// Why a step isn't done. The first that applies is answered, and nothing changes.
 #[derive(Clone, Copy, Debug, PartialEq, Eq, thiserror::Error)]
 pub enum StepRefused {
+    /// The place's number is that of none.
     #[error("there is no such place")]
     NoPlace,
+    /// A place wants in while another is inside or owed the monitor.
     #[error("the monitor isn't free")]
     NotFree,
+    /// A place wants in that waits.
     #[error("the place waits on a condition")]
     NotOutside,
+    /// A place acts that isn't the one inside.
     #[error("the place isn't inside")]
     NotInside,
+    /// The condition's number is that of none.
     #[error("there is no such condition")]
     NoCondition,
 }

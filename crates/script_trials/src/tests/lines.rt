@@ -1,4 +1,5 @@
 mod forms;
 mod lines;
+mod texts;
 mod watching;
 mod words;

@@ -1,16 +1,8 @@
 //! How refusals read.
 
-use std::fmt::Display;
-use std::process::Abort;
+use crate::tests::shown::reads;
 use std::test::Fail;
 use wait_book::steps::{MakeRefused, StepRefused};
-
-// The refusal reads so.
-fn reads<R: Abort + AllocGlobal, T: Display>(rt: &R, refused: &T, text: &str) -> Result<(), Fail> {
-    let shown = format!(in rt.alloc(); "{refused}")?;
-    assert_eq!(rt; shown.as_str(), text);
-    Ok(())
-}
 
 #[test]
 fn making_is_refused_plainly(rt: HostRuntime) -> Result<(), Fail> {

@@ -1,5 +1,6 @@
 // Scripts that are at fault, or can't be read or drawn.
 use super::{drawn, drawn_whole, is_drawn, times};
+use crate::tests::shown::reads;
 use hoare_script::ScriptFault;
 use script_picture::fault::PictureFault;
 use script_picture::picture::{Form, draw_script};
@@ -175,9 +176,7 @@ fn faults_are_shown_with_their_status(rt: HostRuntime) -> Result<(), Fail> {
             4,
         ),
     ] {
-        let mut shown = Vec::new(rt.alloc());
-        write!(shown, "{fault}")?;
-        assert_eq!(rt; shown.as_slice(), text.as_bytes());
+        reads(&rt, &fault, text)?;
         assert_eq!(rt; fault.status(), status);
     }
     Ok(())

@@ -1,5 +1,5 @@
 // The kinds, and the faults with their texts and statuses.
-use disk_jobs::{Kind, ServiceFault, kind_of};
+use disk_jobs::{BadJobs, Kind, ServiceFault, kind_of};
 use std::io::Write;
 use std::test::Fail;
 
@@ -40,6 +40,20 @@ fn faults(rt: HostRuntime) -> Result<(), Fail> {
         write!(written, "{fault}")?;
         assert_eq!(rt; written.as_slice(), text.as_bytes());
         assert_eq!(rt; fault.status(), status);
+    }
+    Ok(())
+}
+
+#[test]
+fn refusals_of_jobs(rt: HostRuntime) -> Result<(), Fail> {
+    for (refused, text) in [
+        (BadJobs::BadWorkers, "a service has 1 to 16 workers"),
+        (BadJobs::TooMany, "a service has at most 4096 jobs"),
+        (BadJobs::OffDisk(1), "job 1 is off the disk"),
+    ] {
+        let mut written = Vec::new(rt.alloc());
+        write!(written, "{refused}")?;
+        assert_eq!(rt; written.as_slice(), text.as_bytes());
     }
     Ok(())
 }

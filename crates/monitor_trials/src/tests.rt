@@ -24,6 +24,7 @@ mod doors_alone;
 mod fake;
 mod limit;
 mod many_tickets;
+mod meanings;
 mod on_any_door;
 mod on_ticket_door;
 mod refusals;

@@ -8,6 +8,7 @@ use crate::fake::{Fake, FakeOut};
 use crate::tally::Tally;
 use crate::tests::compared::expect_same;
 use crate::tests::limit::within;
+use crate::tests::rows::tally::calls_all;
 use hoare_law::data::MonitorData;
 use hoare_law::monitor::Monitor;
 use plain_schedulers::buffer::Buffer;
@@ -121,6 +122,14 @@ fn writes_and_waits<R: Wait + Abort>(rt: &R, alloc: Global) {
     passes_and_waits(rt, &fake, out);
 }
 
+// Each call once, with nobody waiting.
+fn calls_each<R: Wait + Abort>(rt: &R, alloc: Global) {
+    let (fake, out) = with_answers(rt, alloc, Tally { value: 0 }, []);
+    let (out, answer) = calls_all(rt, &fake, out);
+    let left = take_data(rt, &fake, out, Tally { value: 0 });
+    expect_same(rt, (answer, left.value), (1, 42));
+}
+
 /// An empty buffer of this many cells.
 pub fn with_cells<T: Drop, R: Abort>(rt: &R, alloc: Global, cells: usize) -> Buffer<T>
     ensures { BufferRests result (nobody 0) (nobody 1) }
@@ -197,6 +206,7 @@ enum PlainRow {
     PassesFour,
     Removes,
     Appends,
+    CallsEach,
 }
 
 // Does what the row says. What comes out wrong fails the test.
@@ -208,6 +218,7 @@ fn acts<R: Wait + Abort>(rt: &R, alloc: Global, row: PlainRow) {
         PlainRow::PassesFour => passes_four(rt, alloc),
         PlainRow::Removes => removes(rt, alloc),
         PlainRow::Appends => appends(rt, alloc),
+        PlainRow::CallsEach => calls_each(rt, alloc),
     }
 }
 
@@ -244,4 +255,9 @@ fn a_remove_waits_for_an_item(rt: HostRuntime) {
 #[test]
 fn an_append_waits_for_room(rt: HostRuntime) {
     runs(&rt, rt.alloc(), PlainRow::Appends);
+}
+
+#[test]
+fn each_call_is_made_once(rt: HostRuntime) {
+    runs(&rt, rt.alloc(), PlainRow::CallsEach);
 }

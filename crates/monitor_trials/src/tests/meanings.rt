@@ -1,0 +1,68 @@
+//! Whether the schedulers' data are at rest, and ready for one that waits, as code tells it: with nobody waiting, and with one that
+//! waits on condition 0 with priority 5, or on condition 1.
+ghost use Rattle.std.specs.Prelude.{◌<◌};
+
+use crate::tests::compared::expect_same;
+use hoare_law::data::MonitorData;
+use hoare_law::waits::{Joined, Nobody};
+use plain_schedulers::buffer::Buffer;
+use plain_schedulers::single::Single;
+use std::process::Abort;
+use std::test::Fail;
+use sweep_schedulers::head::Head;
+use sweep_schedulers::readers_writers::ReadersWriters;
+use timed_schedulers::alarm::Alarm;
+use timed_schedulers::pool::Pool;
+
+// Whether the data are at rest with nobody waiting, with one on condition 0, and with one on condition 1.
+fn rests<D: MonitorData>(data: &D) -> (bool, bool, bool) {
+    (
+        data.rest_holds(&Nobody),
+        data.rest_holds(&Joined::of(&Nobody, 0, 5)),
+        data.rest_holds(&Joined::of(&Nobody, 1, 5)),
+    )
+}
+
+// Whether they are ready for one that waited on condition 0 with priority 5, with nobody waiting beside it, and with one.
+fn readies<D: MonitorData>(data: &D) -> (bool, bool)
+    requires { 0 < D.CONDITIONS }
+{
+    (
+        data.ready_holds(0, 5, &Nobody),
+        data.ready_holds(0, 5, &Joined::of(&Nobody, 0, 5)),
+    )
+}
+
+// Both of them.
+fn means<D: MonitorData, R: Abort>(
+    rt: &R,
+    data: &D,
+    at_rest: (bool, bool, bool),
+    ready: (bool, bool),
+)
+    requires { 0 < D.CONDITIONS }
+{
+    expect_same(rt, rests(data), at_rest);
+    expect_same(rt, readies(data), ready);
+}
+
+// A sleeper set to 5 may sleep at 4, and is due at 5. A buffer of two cells with nothing in: who removes may wait, who appends may
+// not. An item, a drive and a free buffer are for who waits; a resource that nobody uses is for a reader.
+#[test]
+fn data_at_rest_and_ready(rt: HostRuntime) -> Result<(), Fail> {
+    let nothing_waits = (true, false, true);
+    means(&rt, &Alarm::at(4), (true, true, true), (true, true));
+    means(&rt, &Alarm::at(5), nothing_waits, (true, true));
+    means(&rt, &Alarm::at(6), nothing_waits, (false, false));
+    means(&rt, &Single::with(7u8), nothing_waits, (true, true));
+    let empty = Buffer::<u8>::make(rt.alloc(), 2)?;
+    means(&rt, &empty, (true, true, false), (false, false));
+    let one_free = Pool::make(rt.alloc(), 1, 1)?;
+    means(&rt, &one_free, nothing_waits, (true, true));
+    let two_free = Pool::make(rt.alloc(), 2, 1)?;
+    means(&rt, &two_free, nothing_waits, (true, false));
+    means(&rt, &Head::with('d', 9), (true, false, false), (true, true));
+    let resource = ReadersWriters::with(0u64);
+    means(&rt, &resource, (true, false, false), (true, true));
+    Ok(())
+}

@@ -4,6 +4,7 @@ ghost use Rattle.hoare_law.specs.Priorities.{nobody};
 ghost use Rattle.cookbook.specs.Mailboxes.{MailRests, TakesMostUrgent};
 ghost use Rattle.cookbook.specs.MailboxTraces.{Sends, Receives};
 
+use crate::PLAIN;
 use arrayvec::ArrayVec;
 use hoare_law::data::MonitorData;
 use hoare_law::monitor::Monitor;
@@ -14,6 +15,12 @@ use std::sync::Wait;
 /// How many letters a mailbox holds.
 pub const ROOM: usize = 8;
 
+/// The condition *there is room* of a `Mailbox`: senders wait there.
+pub const THERE_IS_ROOM: usize = 0;
+
+/// The condition *there is mail* of a `Mailbox`: receivers wait there.
+pub const THERE_IS_MAIL: usize = 1;
+
 /// A letter. The least priority is the most urgent.
 #[derive(Clone, Copy, Debug, Default, PartialEq, Eq)]
 pub struct Letter {
@@ -21,11 +28,11 @@ pub struct Letter {
     pub word: u64,
 }
 
-/// The letters that nobody has received yet, in the order in which they were sent. Condition 0 is *there is room*, and a sender waits
-/// there with its letter's priority; condition 1 is *there is mail*.
+/// The letters that nobody has received yet, in the order in which they were sent. Condition 0 is *there is room*
+/// (`THERE_IS_ROOM`), and a sender waits there with its letter's priority; condition 1 is *there is mail* (`THERE_IS_MAIL`).
 #[derive(Drop)]
 pub struct Mailbox {
-    letters: ArrayVec<Letter, 8>,
+    letters: ArrayVec<Letter, ROOM>,
 }
 
 impl Model for Mailbox {
@@ -53,19 +60,20 @@ impl MonitorData for Mailbox {
 
     fn rest_holds<W: Waits>(&self, lists: &W) -> bool {
         let count = self.letters.len();
-        (lists.count(0) == 0 || count == ROOM) && (lists.count(1) == 0 || count == 0)
+        (lists.count(THERE_IS_ROOM) == 0 || count == ROOM)
+            && (lists.count(THERE_IS_MAIL) == 0 || count == 0)
     }
 
     fn ready_holds<W: Waits>(&self, condition: usize, priority: u64, lists: &W) -> bool {
         let count = self.letters.len();
-        if condition == 0 {
+        if condition == THERE_IS_ROOM {
             count < ROOM
-                && (lists.count(0) == 0 || count + 1 == ROOM)
-                && (lists.count(1) == 0 || count == 0)
+                && (lists.count(THERE_IS_ROOM) == 0 || count + 1 == ROOM)
+                && (lists.count(THERE_IS_MAIL) == 0 || count == 0)
         } else {
             count > 0
-                && (lists.count(1) == 0 || count == 1)
-                && (lists.count(0) == 0 || count == ROOM)
+                && (lists.count(THERE_IS_MAIL) == 0 || count == 1)
+                && (lists.count(THERE_IS_ROOM) == 0 || count == ROOM)
         }
     }
 
@@ -87,7 +95,7 @@ impl Mailbox {
 
     // Whether there is no room.
     fn is_full(&self) -> bool
-        ensures { IsTrue result ↔ (length self.now ≡ 8) }
+        ensures { IsTrue result ↔ (length self.now ≡ ROOM) }
     {
         self.letters.len() == ROOM
     }
@@ -101,7 +109,7 @@ impl Mailbox {
 
     // Puts a letter in, as the latest.
     fn put(&mut self, letter: Letter)
-        requires { length self.old < 8 }
+        requires { length self.old < ROOM }
         ensures { self.new ≡ self.old ++ letter ∷ [] }
     {
         self.letters.push(letter);
@@ -131,10 +139,10 @@ impl Mailbox {
     {
         let mut inside = m.enter(rt, out);
         if m.state(&inside).is_full() {
-            inside = m.wait(rt, inside, 0, letter.priority);
+            inside = m.wait(rt, inside, THERE_IS_ROOM, letter.priority);
         }
         M::state_mut(&mut inside, m).put(letter);
-        let (out, _resumed) = m.signal_leave(rt, inside, 1);
+        let (out, _resumed) = m.signal_leave(rt, inside, THERE_IS_MAIL);
         out
     }
 
@@ -148,10 +156,10 @@ impl Mailbox {
     {
         let mut inside = m.enter(rt, out);
         if m.state(&inside).is_empty() {
-            inside = m.wait(rt, inside, 1, 0);
+            inside = m.wait(rt, inside, THERE_IS_MAIL, PLAIN);
         }
         let letter = M::state_mut(&mut inside, m).take();
-        let (out, _resumed) = m.signal_leave(rt, inside, 0);
+        let (out, _resumed) = m.signal_leave(rt, inside, THERE_IS_ROOM);
         (out, letter)
     }
 }

@@ -5,6 +5,7 @@ ghost use Rattle.hoare_law.specs.Waiting.{waiting};
 ghost use Rattle.cookbook.specs.Tables.{TableHolds, TableRests, IsEating, CanEat, all_up, seated, risen};
 ghost use Rattle.cookbook.specs.TableTraces.{HandsOn, SitsDown, GetsUp};
 
+use crate::PLAIN;
 use hoare_law::data::MonitorData;
 use hoare_law::monitor::Monitor;
 use hoare_law::waits::Waits;
@@ -17,7 +18,7 @@ pub const SEATS: usize = 5;
 /// Who eats. Condition k is *the philosopher at seat k can eat*: there is one for each seat.
 #[derive(Drop)]
 pub struct Table {
-    eats: [bool; 5],
+    eats: [bool; SEATS],
 }
 
 impl Model for Table {
@@ -36,7 +37,7 @@ pub struct NotEating;
 impl MonitorData for Table {
     ghost use Rattle.cookbook.specs.Tables.{TableHolds, TableRests, TableReady};
 
-    const CONDITIONS: usize = 5;
+    const CONDITIONS: usize = SEATS;
 
     ghost CONDITIONS = { 5 };
 
@@ -65,7 +66,9 @@ impl Table {
         ensures made { result ≡ all_up }
         ensures rest { TableRests result nobody }
     {
-        Table { eats: [false; 5] }
+        Table {
+            eats: [false; SEATS],
+        }
     }
 
     // Whether no two neighbours eat.
@@ -82,7 +85,7 @@ impl Table {
 
     // Whether somebody eats at the seat.
     fn is_eating(&self, seat: usize) -> bool
-        requires { seat < 5 }
+        requires { seat < SEATS }
         ensures { IsTrue result ↔ IsEating self.now seat }
     {
         self.eats[seat]
@@ -90,16 +93,16 @@ impl Table {
 
     // Whether nobody eats at the seat nor beside it.
     fn can_eat(&self, seat: usize) -> bool
-        requires { seat < 5 }
+        requires { seat < SEATS }
         ensures { IsTrue result ↔ CanEat self.now seat }
     {
-        !self.eats[seat] && !self.eats[(seat + 1) % SEATS] && !self.eats[(seat + 4) % SEATS]
+        !self.eats[seat] && !self.eats[(seat + 1) % SEATS] && !self.eats[(seat + SEATS - 1) % SEATS]
     }
 
     // Whether nobody waits who can eat.
     #[tactic(auto, using(hoare_law::proofs::Joined::waiting_steps))]
     fn is_nobody_kept<W: Waits>(&self, lists: &W) -> bool
-        ensures { IsTrue result ↔ ((c : ℕ) → c < 5 → W.waiting_priorities lists.now c ≢ []
+        ensures { IsTrue result ↔ ((c : ℕ) → c < SEATS → W.waiting_priorities lists.now c ≢ []
             → CanEat self.now c → ⊥) }
     {
         for seat in 0..SEATS {
@@ -112,7 +115,7 @@ impl Table {
 
     // The philosopher at the seat eats.
     fn start(&mut self, seat: usize)
-        requires { seat < 5 }
+        requires { seat < SEATS }
         ensures { self.new ≡ seated self.old seat }
     {
         self.eats[seat] = true;
@@ -120,7 +123,7 @@ impl Table {
 
     // The philosopher at the seat eats no longer.
     fn stop(&mut self, seat: usize)
-        requires { seat < 5 }
+        requires { seat < SEATS }
         ensures { self.new ≡ risen self.old seat }
     {
         self.eats[seat] = false;
@@ -129,10 +132,10 @@ impl Table {
     // The first seat at which somebody waits who can eat.
     fn next_seat<M: Monitor<Table>>(m: &M, inside: &M::In) -> Option<usize>
         requires { M.is_of_in m.now inside.now }
-        ensures lists { MatchOption result ((c : ℕ) → c < 5 → M.lists_in inside.now c ≢ []
+        ensures lists { MatchOption result ((c : ℕ) → c < SEATS → M.lists_in inside.now c ≢ []
             → CanEat (M.data_in inside.now) c → ⊥)
-            (λ c. (c < 5) × (M.lists_in inside.now c ≢ []) × CanEat (M.data_in inside.now) c) }
-        ensures front { MatchOption result ((c : ℕ) → c < 5
+            (λ c. (c < SEATS) × (M.lists_in inside.now c ≢ []) × CanEat (M.data_in inside.now) c) }
+        ensures front { MatchOption result ((c : ℕ) → c < SEATS
             → waiting c (M.front_in inside.now).events ≢ [] → CanEat (M.data_in inside.now) c → ⊥)
             (λ c. waiting c (M.front_in inside.now).events ≢ []) }
     {
@@ -163,14 +166,14 @@ impl Table {
     /// Takes both forks beside the seat, once nobody eats there nor at a seat beside it.
     pub fn sit_down<R: Wait, M: Monitor<Table>>(m: &M, rt: &R, out: M::Out, seat: usize) -> M::Out
         requires of { M.is_of m.now out }
-        requires seat { seat < 5 }
+        requires seat { seat < SEATS }
         ensures of { M.is_of m.now result }
         ensures place { M.place result ≡ M.place out }
         ensures trace { SitsDown (M.place out) seat (M.front out) (M.front result) }
     {
         let mut inside = m.enter(rt, out);
         if !m.state(&inside).can_eat(seat) {
-            inside = m.wait(rt, inside, seat, 0);
+            inside = m.wait(rt, inside, seat, PLAIN);
         }
         M::state_mut(&mut inside, m).start(seat);
         Table::hand_on(m, rt, inside)
@@ -185,7 +188,7 @@ impl Table {
         seat: usize,
     ) -> (M::Out, Result<(), NotEating>)
         requires of { M.is_of m.now out }
-        requires seat { seat < 5 }
+        requires seat { seat < SEATS }
         ensures of { M.is_of m.now result.0 }
         ensures place { M.place result.0 ≡ M.place out }
         ensures trace { GetsUp (M.place out) seat (M.front out) (M.front result.0) result.1 }

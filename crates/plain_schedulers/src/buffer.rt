@@ -5,6 +5,7 @@ ghost use Rattle.hoare_law.specs.Priorities.{nobody};
 ghost use Rattle.plain_schedulers.specs.Buffers.{BufferRests, Makes};
 ghost use Rattle.plain_schedulers.specs.BufferTraces.{Appends, Removes};
 
+use crate::PLAIN;
 use crate::buffer::ring::empty_cells;
 use hoare_law::data::MonitorData;
 use hoare_law::monitor::Monitor;
@@ -16,18 +17,26 @@ use std::sync::Wait;
 /// The most cells that a buffer has.
 pub const MOST_CELLS: usize = 4096;
 
+/// The condition *nonempty* of a `Buffer`: who waits there waits for an item.
+pub const NONEMPTY: usize = 0;
+
+/// The condition *nonfull* of a `Buffer`: who waits there waits for room.
+pub const NONFULL: usize = 1;
+
 /// Why no buffer was made.
 #[derive(Clone, Copy, Debug, PartialEq, Eq, thiserror::Error)]
 pub enum BufferRefused {
+    /// The number of cells that was asked for isn't 1 to 4096.
     #[error("a buffer has 1 to 4096 cells")]
     BadSize,
+    /// The number is in range, and the cells can't be had.
     #[error("out of memory")]
     Memory,
 }
 
-/// A bounded buffer ("Monitors", Example: Bounded Buffer): items come out in the order in which they went in. Condition 0 is *nonempty*,
-/// condition 1 is *nonfull*. `last` is the cell that the next item goes in, and the items lie in the `count` cells before it,
-/// around the end.
+/// A bounded buffer ("Monitors", Example: Bounded Buffer): items come out in the order in which they went in. Condition 0 is *nonempty*
+/// (`NONEMPTY`), condition 1 is *nonfull* (`NONFULL`). `last` is the cell that the next item goes in, and the items lie in the
+/// `count` cells before it, around the end.
 ///
 /// With a monitor `m` of `Buffer::make(alloc, 4)?`, and `out`, a place of it:
 ///
@@ -70,19 +79,19 @@ impl<T: Drop> MonitorData for Buffer<T> {
 
     fn rest_holds<W: Waits>(&self, lists: &W) -> bool {
         let (count, size) = (self.len(), self.size());
-        (lists.count(0) == 0 || count == 0) && (lists.count(1) == 0 || count == size)
+        (lists.count(NONEMPTY) == 0 || count == 0) && (lists.count(NONFULL) == 0 || count == size)
     }
 
     fn ready_holds<W: Waits>(&self, condition: usize, priority: u64, lists: &W) -> bool {
         let (count, size) = (self.len(), self.size());
-        if condition == 0 {
+        if condition == NONEMPTY {
             count > 0
-                && (lists.count(0) == 0 || count == 1)
-                && (lists.count(1) == 0 || count == size)
+                && (lists.count(NONEMPTY) == 0 || count == 1)
+                && (lists.count(NONFULL) == 0 || count == size)
         } else {
             count < size
-                && (lists.count(1) == 0 || count == size - 1)
-                && (lists.count(0) == 0 || count == 0)
+                && (lists.count(NONFULL) == 0 || count == size - 1)
+                && (lists.count(NONEMPTY) == 0 || count == 0)
         }
     }
 
@@ -120,10 +129,10 @@ impl<T: Drop> Buffer<T> {
     {
         let mut inside = m.enter(rt, out);
         if m.state(&inside).is_full() {
-            inside = m.wait(rt, inside, 1, 0);
+            inside = m.wait(rt, inside, NONFULL, PLAIN);
         }
         M::state_mut(&mut inside, m).push(item);
-        let (out, _resumed) = m.signal_leave(rt, inside, 0);
+        let (out, _resumed) = m.signal_leave(rt, inside, NONEMPTY);
         out
     }
 
@@ -136,10 +145,10 @@ impl<T: Drop> Buffer<T> {
     {
         let mut inside = m.enter(rt, out);
         if m.state(&inside).is_empty() {
-            inside = m.wait(rt, inside, 0, 0);
+            inside = m.wait(rt, inside, NONEMPTY, PLAIN);
         }
         let item = M::state_mut(&mut inside, m).pop();
-        let (out, _resumed) = m.signal_leave(rt, inside, 1);
+        let (out, _resumed) = m.signal_leave(rt, inside, NONFULL);
         (out, item)
     }
 }

@@ -3,6 +3,7 @@ ghost use Rattle.hoare_law.specs.Priorities.{nobody};
 ghost use Rattle.plain_schedulers.specs.Singles.{SingleRests};
 ghost use Rattle.plain_schedulers.specs.SingleTraces.{Acquires, Releases};
 
+use crate::PLAIN;
 use hoare_law::data::MonitorData;
 use hoare_law::monitor::Monitor;
 use hoare_law::waits::Waits;
@@ -10,8 +11,11 @@ use std::marker::Model;
 use std::sync::Wait;
 use std::{error, fmt};
 
+/// The condition *nonbusy* of a `Single`: who waits there waits for the item.
+pub const NONBUSY: usize = 0;
+
 /// A single item that one process at a time has out ("Monitors", Introduction: the single resource scheduler). Condition 0 is
-/// *nonbusy*; busy means that the item is out.
+/// *nonbusy* (`NONBUSY`); busy means that the item is out.
 ///
 /// With a monitor `m` of `Single::with(7u64)`, and `out`, a place of it:
 ///
@@ -62,7 +66,7 @@ impl<T: Drop> MonitorData for Single<T> {
     ghost ready = { λ c p s q. SingleReady s };
 
     fn rest_holds<W: Waits>(&self, lists: &W) -> bool {
-        self.item.is_none() || lists.count(0) == 0
+        self.item.is_none() || lists.count(NONBUSY) == 0
     }
 
     fn ready_holds<W: Waits>(&self, condition: usize, priority: u64, lists: &W) -> bool {
@@ -122,7 +126,7 @@ impl<T: Drop> Single<T> {
     {
         let mut inside = m.enter(rt, out);
         if !m.state(&inside).is_in() {
-            inside = m.wait(rt, inside, 0, 0);
+            inside = m.wait(rt, inside, NONBUSY, PLAIN);
         }
         match M::state_mut(&mut inside, m).take() {
             Some(item) => (m.leave(rt, inside), item),
@@ -148,7 +152,7 @@ impl<T: Drop> Single<T> {
             return (m.leave(rt, inside), Err(NotOut { item }));
         }
         M::state_mut(&mut inside, m).put(item);
-        let (out, _resumed) = m.signal_leave(rt, inside, 0);
+        let (out, _resumed) = m.signal_leave(rt, inside, NONBUSY);
         (out, Ok(()))
     }
 }

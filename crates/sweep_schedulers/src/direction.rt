@@ -1,6 +1,12 @@
 ghost use Rattle.std.specs.Prelude.{◌≡◌};
 ghost use Rattle.sweep_schedulers.specs.Heads.{sweep, opposite};
 
+/// The condition *upsweep* of a disk head: who waits there waits for a cylinder on the way up.
+pub const UPSWEEP: usize = 0;
+
+/// The condition *downsweep* of a disk head: who waits there waits for a cylinder on the way down.
+pub const DOWNSWEEP: usize = 1;
+
 /// Which way a disk head sweeps.
 #[derive(Clone, Copy, Debug, PartialEq, Eq)]
 pub enum Direction {
@@ -11,13 +17,13 @@ pub enum Direction {
 }
 
 impl Direction {
-    // The condition of its sweep: 0 is *upsweep*, 1 is *downsweep*.
+    // The condition of its sweep.
     pub(crate) fn sweep(self) -> usize
         ensures { result ≡ sweep self }
     {
         match self {
-            Direction::Up => 0,
-            Direction::Down => 1,
+            Direction::Up => UPSWEEP,
+            Direction::Down => DOWNSWEEP,
         }
     }
 

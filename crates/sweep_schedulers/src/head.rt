@@ -4,7 +4,7 @@ ghost use Rattle.sweep_schedulers.specs.Heads.{HeadFree, HeadRests, OnSweeps};
 ghost use Rattle.sweep_schedulers.specs.Heads.{idle, priority_at, put, sent, sweep, toward, turned};
 ghost use Rattle.sweep_schedulers.specs.HeadTraces.{HandsOn, Releases, Requests};
 
-use crate::direction::Direction;
+use crate::direction::{DOWNSWEEP, Direction, UPSWEEP};
 use crate::not_out::NotOut;
 use crate::waiting::{none_above, none_below};
 use hoare_law::data::MonitorData;
@@ -14,8 +14,8 @@ use std::marker::Model;
 use std::sync::Wait;
 
 /// A disk drive whose head sweeps over the cylinders 0 to `cylmax` ("Monitors", Disk Head Scheduler). Condition 0 is
-/// *upsweep*, where a request waits with its cylinder as its priority; condition 1 is *downsweep*, where it waits with the
-/// distance of its cylinder from the last one. Busy means that the drive is out.
+/// *upsweep* (`UPSWEEP`), where a request waits with its cylinder as its priority; condition 1 is *downsweep* (`DOWNSWEEP`), where
+/// it waits with the distance of its cylinder from the last one. Busy means that the drive is out.
 ///
 /// With a monitor `m` of `Head::with('d', 400)`, and `out`, a place of it:
 ///
@@ -68,12 +68,12 @@ impl<T: Drop> MonitorData for Head<T> {
     ghost ready = { λ c p d q. HeadReady c p d (q 0) (q 1) };
 
     fn rest_holds<W: Waits>(&self, lists: &W) -> bool {
-        let nobody = lists.count(0) == 0 && lists.count(1) == 0;
+        let nobody = lists.count(UPSWEEP) == 0 && lists.count(DOWNSWEEP) == 0;
         (self.drive.is_none() || nobody) && self.sweeps_hold(lists)
     }
 
     fn ready_holds<W: Waits>(&self, condition: usize, priority: u64, lists: &W) -> bool {
-        let least = if condition == 0 {
+        let least = if condition == UPSWEEP {
             self.headpos
         } else {
             self.cylmax - self.headpos
@@ -134,9 +134,9 @@ impl<T: Drop> Head<T> {
     {
         let going_up = self.direction == Direction::Up;
         if self.headpos < dest || (self.headpos == dest && going_up) {
-            (0, u64::from(dest))
+            (Direction::Up.sweep(), u64::from(dest))
         } else {
-            (1, u64::from(self.cylmax - dest))
+            (Direction::Down.sweep(), u64::from(self.cylmax - dest))
         }
     }
 
@@ -170,10 +170,10 @@ impl<T: Drop> Head<T> {
             ↔ OnSweeps self.now (q 0) (q 1) }
     {
         let last = u64::from(self.cylmax);
-        none_above(lists, 0, last)
-            && none_above(lists, 1, last)
-            && none_below(lists, 0, u64::from(self.headpos))
-            && none_below(lists, 1, u64::from(self.cylmax - self.headpos))
+        none_above(lists, UPSWEEP, last)
+            && none_above(lists, DOWNSWEEP, last)
+            && none_below(lists, UPSWEEP, u64::from(self.headpos))
+            && none_below(lists, DOWNSWEEP, u64::from(self.cylmax - self.headpos))
     }
 
     /// Takes the drive out, with the head at `dest`: at once where the drive is in, else after one wait for the sweep that

@@ -3,6 +3,7 @@ ghost use Rattle.hoare_law.specs.Priorities.{nobody};
 ghost use Rattle.sweep_schedulers.specs.ReadersWriters.{IsInUse, ReadersRest, unused, with_readers, with_writer, written};
 ghost use Rattle.sweep_schedulers.specs.ReadersWritersTraces.{Admits, EndsRead, EndsWrite, StartsRead, StartsWrite};
 
+use crate::PLAIN;
 use crate::not_out::NotOut;
 use hoare_law::data::MonitorData;
 use hoare_law::monitor::Monitor;
@@ -14,9 +15,15 @@ use std::sync::Wait;
 /// The most readers that are in at a time.
 pub const MOST_READERS: u32 = 1024;
 
+/// The condition *oktoread* of a `ReadersWriters`: who waits there waits to read.
+pub const OKTOREAD: usize = 0;
+
+/// The condition *oktowrite* of a `ReadersWriters`: who waits there waits to write.
+pub const OKTOWRITE: usize = 1;
+
 /// A value that many may read at a time, or one may write ("Monitors", Readers and Writers). Condition 0 is
-/// *oktoread*, condition 1 is *oktowrite*; busy means that a writer is in. No reader overtakes a waiting writer, and the
-/// readers that wait when a writer ends go before the next writer.
+/// *oktoread* (`OKTOREAD`), condition 1 is *oktowrite* (`OKTOWRITE`); busy means that a writer is in. No reader overtakes a
+/// waiting writer, and the readers that wait when a writer ends go before the next writer.
 ///
 /// With a monitor `m` of `ReadersWriters::with(7u64)`, and `out`, a place of it:
 ///
@@ -96,13 +103,13 @@ impl<T: Copy> MonitorData for ReadersWriters<T> {
     ghost ready = { λ c p s q. ReadersReady c s };
 
     fn rest_holds<W: Waits>(&self, lists: &W) -> bool {
-        let (readers_wait, writers_wait) = (lists.count(0) > 0, lists.count(1) > 0);
+        let (readers_wait, writers_wait) = (lists.count(OKTOREAD) > 0, lists.count(OKTOWRITE) > 0);
         (!writers_wait || self.busy || self.readers > 0)
             && (!readers_wait || self.busy || writers_wait)
     }
 
     fn ready_holds<W: Waits>(&self, condition: usize, priority: u64, lists: &W) -> bool {
-        !self.busy && (condition == 0 || self.readers == 0)
+        !self.busy && (condition == OKTOREAD || self.readers == 0)
     }
 
     ghost rest_inv = { λ s q h. h.inv };
@@ -205,11 +212,11 @@ impl<T: Copy> ReadersWriters<T> {
         ensures trace { StartsRead (M.place out) (M.front out) (M.front result.0) result.1 }
     {
         let mut inside = m.enter(rt, out);
-        if m.state(&inside).is_busy() || m.queue(&inside, 1) {
-            inside = m.wait(rt, inside, 0, 0);
+        if m.state(&inside).is_busy() || m.queue(&inside, OKTOWRITE) {
+            inside = m.wait(rt, inside, OKTOREAD, PLAIN);
         }
         let read = M::state_mut(&mut inside, m).admit();
-        let (out, _resumed) = m.signal_leave(rt, inside, 0);
+        let (out, _resumed) = m.signal_leave(rt, inside, OKTOREAD);
         (out, read)
     }
 
@@ -235,7 +242,7 @@ impl<T: Copy> ReadersWriters<T> {
         if left > 0 {
             return (m.leave(rt, inside), Ok(()));
         }
-        let (out, _resumed) = m.signal_leave(rt, inside, 1);
+        let (out, _resumed) = m.signal_leave(rt, inside, OKTOWRITE);
         (out, Ok(()))
     }
 
@@ -252,7 +259,7 @@ impl<T: Copy> ReadersWriters<T> {
     {
         let mut inside = m.enter(rt, out);
         if m.state(&inside).is_in_use() {
-            inside = m.wait(rt, inside, 1, 0);
+            inside = m.wait(rt, inside, OKTOWRITE, PLAIN);
         }
         let value = M::state_mut(&mut inside, m).reserve();
         (m.leave(rt, inside), value)
@@ -276,7 +283,11 @@ impl<T: Copy> ReadersWriters<T> {
             return (m.leave(rt, inside), Err(NotOut { item: value }));
         }
         M::state_mut(&mut inside, m).write(value);
-        let next = if m.queue(&inside, 0) { 0 } else { 1 };
+        let next = if m.queue(&inside, OKTOREAD) {
+            OKTOREAD
+        } else {
+            OKTOWRITE
+        };
         let (out, _resumed) = m.signal_leave(rt, inside, next);
         (out, Ok(()))
     }

@@ -19,11 +19,16 @@ pub const MOST_BUFFERS: u32 = 1024;
 /// The most streams that a pool has.
 pub const MOST_STREAMS: u32 = 256;
 
+/// The condition *nonfree* of a `Pool`: a stream that waits there waits for a free buffer.
+pub const NONFREE: usize = 0;
+
 /// Why no pool was made.
 #[derive(Clone, Copy, Debug, PartialEq, Eq, thiserror::Error)]
 pub enum PoolRefused {
+    /// The number of buffers isn't 1 to 1024, or that of streams isn't 1 to 256.
     #[error("a pool has 1 to 1024 buffers and 1 to 256 streams")]
     BadSize,
+    /// Both numbers are in range, and the entries can't be had.
     #[error("out of memory")]
     Memory,
 }
@@ -36,17 +41,20 @@ pub struct NoStream;
 /// Why no buffer became free, the first of these that applies.
 #[derive(Clone, Copy, Debug, PartialEq, Eq, thiserror::Error)]
 pub enum GiveRefused {
+    /// The pool has no stream of this number.
     #[error("no such stream")]
     NoStream,
+    /// The pool has no buffer of this number.
     #[error("no such buffer")]
     NoBuffer,
+    /// The buffer is free, or another stream's.
     #[error("the stream doesn't hold the buffer")]
     NotHeld,
 }
 
 /// Buffers that streams of work share ("Monitors", Further Examples: Buffer Allocation; the details are this project's). Condition 0
-/// is *nonfree*; a stream waits there with the number of buffers that it holds as its priority, so that who holds the fewest goes
-/// on first. The pool keeps which buffers are whose, and not the buffers.
+/// is *nonfree* (`NONFREE`); a stream waits there with the number of buffers that it holds as its priority, so that who holds the
+/// fewest goes on first. The pool keeps which buffers are whose, and not the buffers.
 ///
 /// With a monitor `m` of `Pool::make(alloc, 2, 3)?`, and `out`, a place of it:
 ///
@@ -90,12 +98,12 @@ impl MonitorData for Pool {
 
     fn rest_holds<W: Waits>(&self, lists: &W) -> bool {
         let free = self.free();
-        lists.count(0) == 0 || free == 0
+        lists.count(NONFREE) == 0 || free == 0
     }
 
     fn ready_holds<W: Waits>(&self, condition: usize, priority: u64, lists: &W) -> bool {
         let free = self.free();
-        free > 0 && (lists.count(0) == 0 || free == 1)
+        free > 0 && (lists.count(NONFREE) == 0 || free == 1)
     }
 
     ghost rest_inv = { λ p q h. h.inv };
@@ -154,9 +162,9 @@ impl Pool {
         }
         if m.state(&inside).free() == 0 {
             let held = m.state(&inside).held(stream);
-            inside = m.wait(rt, inside, 0, u64::from(held));
+            inside = m.wait(rt, inside, NONFREE, u64::from(held));
             if !m.state(&inside).has_stream(stream) {
-                let (out, _resumed) = m.signal_leave(rt, inside, 0);
+                let (out, _resumed) = m.signal_leave(rt, inside, NONFREE);
                 return (out, Err(NoStream));
             }
         }
@@ -184,7 +192,7 @@ impl Pool {
             return (m.leave(rt, inside), Err(refused));
         }
         M::state_mut(&mut inside, m).set_free(stream, buffer);
-        let (out, _resumed) = m.signal_leave(rt, inside, 0);
+        let (out, _resumed) = m.signal_leave(rt, inside, NONFREE);
         (out, Ok(()))
     }
 }

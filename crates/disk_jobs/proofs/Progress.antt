@@ -17,6 +17,7 @@ use Rattle.disk_jobs.specs.declared.fault.ServiceFault.TheVariants as faults
 use Rattle.disk_jobs.specs.JobLists.{JobList}
 use Rattle.disk_jobs.specs.JobTexts.{Ending, Outcome, told, told_from, jobs_of, then_on, one_line, at_end, at_cut}
 use Rattle.disk_jobs.specs.Readings.{BreaksOff, Gives, GivesTo, Follows, lines_of}
+use Rattle.disk_jobs.proofs.Limits.{one_line-counts}
 use Rattle.disk_jobs.proofs.JobFiles.{told_from-line, told_from-long_line, told_from-end}
 
 -- how far reading is: of the input t0 it has t left, and the rest is told from the jobs so far
@@ -54,6 +55,10 @@ module _ (number : ℕ) (s : Option JobList) (t0 t : List ℕ) (g : Going number
   behind-last : (l x : List ℕ) → NoNewline l → t ≡ l → x ≡ [] → x ≡ after_lines number t0
   behind-last l x n e z =
       z ∙ sym (ap (λ i. after_lines i t0) g.numbered ∙ ap (drop_through 10) (sym g.behind ∙ e) ∙ drop_through-last l n)
+
+  -- from the line at hand the jobs go on: the header's line and theirs are those that were read
+  lines-read : (j : JobList) (l : List ℕ) → number ≡ lines_of s + 1 → one_line s number l ≡ Ok j → number ≡ length j.cylinders + 1
+  lines-read j l c o = let k = one_line-counts s (Some j) number l o in omega (arith, k.0, c)
 
   -- what was read breaks off after the line at hand
   breaks : (l x : List ℕ) → NoNewline l → length l ≤ LONGEST_LINE → t ≡ l ++ x → BreaksOff t0 x
@@ -93,29 +98,32 @@ module _ (number : ℕ) (s : Option JobList) (t0 t : List ℕ) (g : Going number
 
   -- a line at fault, or for whose job there is no memory
   Gives-fault : (l x : List ℕ) (f : ServiceFault) (s' : Option JobList) → NoNewline l → length l ≤ LONGEST_LINE → t ≡ l ++ 10 ∷ x
-      → Follows (one_line s number l) number s' (Err f) → GivesTo t0 x s' (Err f)
-  Gives-fault l x faults.Memory s' n h e o =
+      → number ≡ lines_of s + 1 → Follows (one_line s number l) number s' (Err f) → GivesTo t0 x s' (Err f)
+  Gives-fault l x faults.Memory s' n h e c o =
       let next : Going (number + 1) (Some o.0) t0 x = Going-line o.0 l x n h e o.1 in (
         next.read,
+        o.0,
         next.whole,
-        ap (told at_cut) (sym (append-nil next.read)) ∙ next.goes at_cut []
-            ∙ told_from-end at_cut (Some o.0) (number + 1) [] (λ k d i. absurd (omega arith)) (omega arith),
+        ap jobs_of (sym (append-nil next.read)) ∙ next.goes at_end []
+            ∙ told_from-end at_end (Some o.0) (number + 1) [] (λ k d i. absurd (omega arith)) (omega arith),
+        o.2,
+        behind-line l x n e ∙ ap (λ i. after_lines i t0) (lines-read o.0 l c o.1),
       )
-  Gives-fault l x (faults.BadLine m) s' n h e o =
+  Gives-fault l x (faults.BadLine m) s' n h e c o =
       let told : jobs_of t0 ≡ Err (faults.BadLine number) =
       told-rest at_end ∙ ap (told_from at_end s number) e ∙ told_from-line at_end s number l x n h
       ∙ ap (λ (v : Outcome). then_on v (λ k. told_from at_end (Some k) (number + 1) x)) o.1 in
       subst (λ (i : ℕ). Gives t0 x (Err (faults.BadLine i))) (sym o.0) (told, inl (behind-line l x n e))
-  Gives-fault l x faults.NoHeader s' n h e o = absurd o
-  Gives-fault l x faults.Spawn s' n h e o = absurd o
-  Gives-fault l x faults.Torn s' n h e o = absurd o
-  Gives-fault l x faults.ReadFault s' n h e o = absurd o
-  Gives-fault l x faults.WriteFault s' n h e o = absurd o
+  Gives-fault l x faults.NoHeader s' n h e c o = absurd o
+  Gives-fault l x faults.Spawn s' n h e c o = absurd o
+  Gives-fault l x faults.Torn s' n h e c o = absurd o
+  Gives-fault l x faults.ReadFault s' n h e c o = absurd o
+  Gives-fault l x faults.WriteFault s' n h e c o = absurd o
 
   -- the last line, which has no end
   Gives-last : (l x : List ℕ) (r : Result (Unit {0}) ServiceFault) (s' : Option JobList) → NoNewline l → length l ≤ LONGEST_LINE
-      → t ≡ l → x ≡ [] → (l ≡ [] → ⊥) → Follows (one_line s number l) number s' r → GivesTo t0 x s' r
-  Gives-last l x r s' n h e z some o =
+      → t ≡ l → x ≡ [] → (l ≡ [] → ⊥) → number ≡ lines_of s + 1 → Follows (one_line s number l) number s' r → GivesTo t0 x s' r
+  Gives-last l x r s' n h e z some c o =
       let told-line : jobs_of t0 ≡ one_line s number l =
       told-rest at_end ∙ ap (told_from at_end s number) e ∙ told_from-end at_end s number l n h ∙ at_end-some s number l some in
       last r s' told-line o
@@ -124,7 +132,14 @@ module _ (number : ℕ) (s : Option JobList) (t0 t : List ℕ) (g : Going number
           → Follows (one_line s number l) number s' r → GivesTo t0 x s' r
       last (Ok u) None q o = absurd o
       last (Ok u) (Some j) q o = (q ∙ o, z)
-      last (Err faults.Memory) s' q o = breaks l x n h (e ∙ sym (append-nil l) ∙ ap (λ v. l ++ v) (sym z))
+      last (Err faults.Memory) s' q o = (
+        t0,
+        o.0,
+        sym (append-nil t0) ∙ ap (λ v. t0 ++ v) (sym z),
+        q ∙ o.1,
+        o.2,
+        behind-last l x n e z ∙ ap (λ i. after_lines i t0) (lines-read o.0 l c o.1),
+      )
       last (Err (faults.BadLine m)) s' q o =
           subst (λ (i : ℕ). Gives t0 x (Err (faults.BadLine i))) (sym o.0) (q ∙ o.1, inl (behind-last l x n e z))
       last (Err faults.NoHeader) s' q o = absurd o
@@ -181,13 +196,13 @@ module _ {k0 k : Option (List ℕ)} {number : ℕ} {s : Option JobList} (h : Kno
       h.goes r
 
   pub exit_last : (f : Ended) (line : List ℕ) (r : Result (Unit {0}) ServiceFault) (s' : Option JobList) → f ≡ how.Last → line ≡ l
-      → Reads k m (ReadsLine l (Ok f)) → (l ≡ [] → ⊥) → Follows (one_line s number line) number s' r
+      → Reads k m (ReadsLine l (Ok f)) → (l ≡ [] → ⊥) → number ≡ lines_of s + 1 → Follows (one_line s number line) number s' r
       → Reads k0 m (λ text left. GivesTo text left s' r)
-  exit_last f line r s' e i q z o =
+  exit_last f line r s' e i q z c o =
       Reads-trans k0 k m (Going number s) (ReadsLine l (Ok f)) (λ text left. GivesTo text left s' r)
       (λ t0 t x g p.
       let b : (t ≡ l) × (x ≡ []) = subst (λ (v : Ended). ReadsLine l (Ok v) t x) e p in
-      Gives-last number s t0 t g l x r s' one short b.0 b.1 z (subst (λ (v : List ℕ). Follows (one_line s number v) number s' r) i o))
+      Gives-last number s t0 t g l x r s' one short b.0 b.1 z c (subst (λ (v : List ℕ). Follows (one_line s number v) number s' r) i o))
       h.goes q
 
   pub exit_done : (f : Ended) → f ≡ how.Last → Reads k m (ReadsLine l (Ok f)) → l ≡ [] → number ≡ lines_of s + 1 → number ≢ 1
@@ -209,13 +224,13 @@ module _ {k0 k : Option (List ℕ)} {number : ℕ} {s : Option JobList} (h : Kno
       h.goes r
 
   pub exit_fault : (f : Ended) (line : List ℕ) (bad : ServiceFault) (s' : Option JobList) → f ≡ how.Line → line ≡ l
-      → Reads k m (ReadsLine l (Ok f)) → Follows (one_line s number line) number s' (Err bad)
+      → Reads k m (ReadsLine l (Ok f)) → number ≡ lines_of s + 1 → Follows (one_line s number line) number s' (Err bad)
       → Reads k0 m (λ text left. GivesTo text left s' (Err bad))
-  exit_fault f line bad s' e i r o =
+  exit_fault f line bad s' e i r c o =
       Reads-trans k0 k m (Going number s) (ReadsLine l (Ok f)) (λ text left. GivesTo text left s' (Err bad))
       (λ t0 t x g p.
       let b : t ≡ l ++ 10 ∷ x = subst (λ (v : Ended). ReadsLine l (Ok v) t x) e p in
-      Gives-fault number s t0 t g l x bad s' one short b
+      Gives-fault number s t0 t g l x bad s' one short b c
       (subst (λ (v : List ℕ). Follows (one_line s number v) number s' (Err bad)) i o))
       h.goes r
 

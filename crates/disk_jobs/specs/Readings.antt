@@ -1,5 +1,5 @@
 -- What reading a job file answers, and what it leaves of the text.
-use Rattle.std.specs.Prelude.{ℕ, ◌≡◌, ◌⊎◌, ◌+◌, ◌-◌, List, [], ◌++◌, length, drop, Option, Some, None, Result, Ok, Err}
+use Rattle.std.specs.Prelude.{ℕ, ◌≡◌, ◌<◌, ◌⊎◌, ◌+◌, ◌-◌, List, [], ◌++◌, length, drop, Option, Some, None, Result, Ok, Err}
 use Rattle.line_text.specs.declared.line.TheConstants.{LONGEST_LINE}
 use Rattle.line_text.specs.Line.{after_lines}
 use Rattle.disk_jobs.specs.declared.fault.ServiceFault.{ServiceFault}
@@ -11,6 +11,12 @@ use Rattle.disk_jobs.specs.JobTexts.{Outcome, jobs_of, told, at_cut}
 abbrev pub BreaksOff : List ℕ → List ℕ → Type 0
 BreaksOff text left =
     (read : List ℕ) × (text ≡ read ++ left) × (told at_cut read ≡ Err faults.ReadFault)
+
+-- what was read is a good header and good jobs, one at least, and no more than the line of the last
+abbrev pub EndsInJob : List ℕ → List ℕ → Type 0
+EndsInJob text left =
+    (read : List ℕ) × (j : JobList) × (text ≡ read ++ left) × (jobs_of read ≡ Ok j)
+    × (0 < length j.cylinders) × (left ≡ after_lines (length j.cylinders + 1) text)
 
 -- line i was read and its end, or as much of it as there may be and one byte more
 abbrev pub BehindLine : ℕ → List ℕ → List ℕ → Type 0
@@ -24,7 +30,8 @@ Gives text left (Err faults.NoHeader) = (jobs_of text ≡ Err faults.NoHeader) �
 Gives text left (Err (faults.BadLine i)) =
     (jobs_of text ≡ Err (faults.BadLine i)) × BehindLine i text left
 Gives text left (Err faults.ReadFault) = BreaksOff text left
-Gives text left (Err faults.Memory) = BreaksOff text left
+-- the last line that was read is a good job, as are those before it, and there is no room for it
+Gives text left (Err faults.Memory) = EndsInJob text left
 Gives text left (Err faults.Spawn) = ⊥
 Gives text left (Err faults.Torn) = ⊥
 Gives text left (Err faults.WriteFault) = ⊥
@@ -47,7 +54,8 @@ lines_of (Some j) = length j.cylinders + 1
 abbrev pub Follows : Outcome → ℕ → Option JobList → Result (Unit {0}) ServiceFault → Type 0
 Follows out i None (Ok u) = ⊥
 Follows out i (Some j) (Ok u) = out ≡ Ok j
-Follows out i s (Err faults.Memory) = (j : JobList) × (out ≡ Ok j)
+-- it is a good job, for which there is no room
+Follows out i s (Err faults.Memory) = (j : JobList) × (out ≡ Ok j) × (0 < length j.cylinders)
 Follows out i s (Err (faults.BadLine n)) = (n ≡ i) × (out ≡ Err (faults.BadLine i))
 Follows out i s (Err faults.NoHeader) = ⊥
 Follows out i s (Err faults.Spawn) = ⊥

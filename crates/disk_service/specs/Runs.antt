@@ -6,7 +6,7 @@ use Rattle.disk_jobs.specs.declared.fault.ServiceFault.{ServiceFault}
 use Rattle.disk_jobs.specs.declared.fault.ServiceFault.TheVariants as faults
 use Rattle.disk_jobs.specs.JobLists.{JobList}
 use Rattle.disk_jobs.specs.JobTexts.{jobs_of}
-use Rattle.disk_jobs.specs.Readings.{BreaksOff, Gives}
+use Rattle.disk_jobs.specs.Readings.{EndsInJob, Gives}
 use Rattle.disk_jobs.specs.Reports.{report_text}
 use Rattle.disk_jobs.specs.Services.{service}
 
@@ -25,7 +25,7 @@ Serves text left old new (Ok u) = Reported text left (λ report. Appends old new
 -- of the report a prefix is written, and not all
 Serves text left old new (Err faults.WriteFault) = Reported text left (λ report. AppendsPrefix old new report)
 -- nothing is written, for want of room for a job, or for the service of the jobs
-Serves text left old new (Err faults.Memory) = (BreaksOff text left ⊎ Spells text left) × (new ≡ old)
+Serves text left old new (Err faults.Memory) = (EndsInJob text left ⊎ Spells text left) × (new ≡ old)
 -- nothing is written, though the text spells jobs
 Serves text left old new (Err faults.Spawn) = Spells text left × (new ≡ old)
 Serves text left old new (Err faults.Torn) = Spells text left × (new ≡ old)

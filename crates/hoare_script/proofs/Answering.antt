@@ -12,7 +12,7 @@ use Rattle.hoare_script.specs.declared.lines.Command.{Command}
 use Rattle.hoare_script.specs.declared.lines.Header.{Header}
 use Rattle.hoare_script.specs.Lines.{command_of, header_of}
 use Rattle.hoare_script.specs.Scripts.{State, Start, Running, Outcome, one_line, header_line, command_line, opened_by}
-use Rattle.hoare_script.specs.Runs.{IsAt, Follows, OnFault}
+use Rattle.hoare_script.specs.Runs.{IsAt, Follows, IsGoodHeader, OnFault}
 
 -- a command's line, where a book stands
 pub one_line-command : (b d : Contents) (i : ℕ) (line : List ℕ) (old new : Option (List ℕ)) (r : Result (Unit {0}) ScriptFault)
@@ -37,10 +37,10 @@ one_line-header b i line k o (Running h) st = absurd st
 
 -- a header that opens no book
 pub one_line-no_header : (i : ℕ) (line : List ℕ) (k : Option (List ℕ)) (f : ScriptFault)
-    → ((f ≡ faults.Memory) ⊎ ((header_line i (header_of line) ≡ Err f) × (f ≡ faults.BadHeader i)))
+    → (((f ≡ faults.Memory) × IsGoodHeader line) ⊎ ((header_line i (header_of line) ≡ Err f) × (f ≡ faults.BadHeader i)))
     → (s : State) → IsAt None s → OnFault (one_line s i line) k k f
 unfolding one_line
-one_line-no_header i line k f (inl m) s st = subst (λ (v : ScriptFault). OnFault (one_line s i line) k k v) (sym m) (Appends-nil k)
+one_line-no_header i line k f (inl m) s st = subst (λ (v : ScriptFault). OnFault (one_line s i line) k k v) (sym m.0) (Appends-nil k)
 one_line-no_header i line k f (inr w) Start st = subst (λ (v : ScriptFault). OnFault (header_line i (header_of line)) k k v) (sym w.1) (w.0 ∙ ap Err w.1, Appends-nil k)
 one_line-no_header i line k f (inr w) (Running h) st = absurd st
 

@@ -5,6 +5,8 @@ use Rattle.std.proofs.KnownBytes.{Appends-nil, Appends-trans}
 use Rattle.std.proofs.lemmas.Bool.{ne_eqb}
 use Rattle.std.proofs.lemmas.Bool.Decides.{nat_tests}
 use Rattle.std.proofs.lemmas.List.{append-nil}
+use Rattle.std.proofs.lemmas.List.Splits.{slice_split_at, slice_split_none}
+use Rattle.std.specs.List.{slice_split}
 use Rattle.std.specs.Result.{IsOkAnd}
 use Rattle.std.specs.Io.BufRead.{drop_through}
 use Rattle.std.specs.Io.KnownBytes.{Appends}
@@ -15,14 +17,14 @@ use Rattle.line_text.specs.declared.line.Ended.TheVariants as how
 use Rattle.line_text.specs.declared.line.LineFault.{LineFault}
 use Rattle.line_text.specs.declared.line.LineFault.TheVariants as why
 use Rattle.line_text.specs.declared.line.TheConstants.{LONGEST_LINE}
-use Rattle.line_text.specs.Line.{ReadsLine, IsLineFor, NoNewline, after_lines}
+use Rattle.line_text.specs.Line.{ReadsLine, IsLineFor, NoNewline, after_lines, is_newline}
 use Rattle.line_text.specs.Streams.{Reads, AppendsPrefix}
 use Rattle.wait_book.specs.Contents.{Contents}
 use Rattle.hoare_script.specs.declared.fault.ScriptFault.{ScriptFault}
 use Rattle.hoare_script.specs.declared.fault.ScriptFault.TheVariants as faults
 use Rattle.hoare_script.specs.declared.runs.TheConstants.{MOST_BYTES}
 use Rattle.hoare_script.specs.Scripts.{State, Start, Running, Told, Ending, Outcome, told, told_from, prepend, stop, done, then_on, one_line, at_end, at_cut}
-use Rattle.hoare_script.specs.Runs.{IsAt, Follows, OnFault, Tells, Whole}
+use Rattle.hoare_script.specs.Runs.{IsAt, Follows, IsGoodHeader, OnFault, Tells, Whole}
 use Rattle.hoare_script.proofs.Answering.{one_line-number}
 use Rattle.hoare_script.proofs.Scripts.{told_from-line, told_from-long_line, told_from-past_limit, told_from-end}
 
@@ -180,24 +182,30 @@ module _ (number room : ℕ) (opened : Option Contents) (old now : Option (List 
   -- a line's fault
   Tells-fault : (new : Option (List ℕ)) (l x : List ℕ) (go : State → Told) (f : ScriptFault)
       → told_from at_end g.state number room t ≡ then_on (one_line g.state number l) go → x ≡ after_lines (suc g.lines) t0
-      → OnFault (one_line g.state number l) now new f → (f ≡ faults.Memory → g.state ≡ Start) → Tells t0 x old new (Err f)
-  Tells-fault new l x go faults.NoHeader e b o m = absurd o
-  Tells-fault new l x go (faults.BadLine i) e b o m = (
+      → OnFault (one_line g.state number l) now new f → (f ≡ faults.Memory → (g.state ≡ Start) × IsGoodHeader l)
+      → ((lines : List (List ℕ)) × (slice_split is_newline t ≡ l ∷ lines)) → Tells t0 x old new (Err f)
+  Tells-fault new l x go faults.NoHeader e b o m a = absurd o
+  Tells-fault new l x go (faults.BadLine i) e b o m a = (
     Whole-stop new (faults.BadLine i) o.1 (e ∙ ap (λ (v : Outcome). then_on v go) o.0),
     b ∙ ap (λ n. after_lines n t0) (sym g.numbered ∙ sym (one_line-number g.state number l (faults.BadLine i) o.0)),
   )
-  Tells-fault new l x go (faults.BadHeader i) e b o m = (
+  Tells-fault new l x go (faults.BadHeader i) e b o m a = (
     Whole-stop new (faults.BadHeader i) o.1 (e ∙ ap (λ (v : Outcome). then_on v go) o.0),
     b ∙ ap (λ n. after_lines n t0) (sym g.numbered ∙ sym (one_line-number g.state number l (faults.BadHeader i) o.0)),
   )
-  Tells-fault new l x go faults.ReadFault e b o m = absurd o
-  Tells-fault new l x go faults.WriteFault e b o m = Tells-break new x (one_line g.state number l) go e b o
-  Tells-fault new l x go faults.Memory e b o m = (
-    Appends-trans old now new [] [] (subst (λ (v : List ℕ). Appends old now v) (g.fresh (m refl)).0 g.appends) o,
-    b ∙ ap (λ n. after_lines (suc n) t0) (g.fresh (m refl)).1,
-  )
-  Tells-fault new l x go (faults.LineTooLong i) e b o m = absurd o
-  Tells-fault new l x go faults.TooMuch e b o m = absurd o
+  Tells-fault new l x go faults.ReadFault e b o m a = absurd o
+  Tells-fault new l x go faults.WriteFault e b o m a = Tells-break new x (one_line g.state number l) go e b o
+  Tells-fault new l x go faults.Memory e b o m a =
+      let first : (g.written ≡ []) × (g.lines ≡ 0) = g.fresh (m refl).0 in
+      let whole : t0 ≡ t = sym (g.behind ∙ ap (λ n. after_lines n t0) first.1) in (
+        (
+          (l, a.0, ap (slice_split is_newline) whole ∙ a.1, (m refl).1),
+          Appends-trans old now new [] [] (subst (λ (v : List ℕ). Appends old now v) first.0 g.appends) o,
+        ),
+        b ∙ ap (λ n. after_lines (suc n) t0) first.1,
+      )
+  Tells-fault new l x go (faults.LineTooLong i) e b o m a = absurd o
+  Tells-fault new l x go faults.TooMuch e b o m a = absurd o
 
   -- the last line is answered
   Tells-end : (new : Option (List ℕ)) (x : List ℕ) (out : Outcome) (P : State → Type 0)
@@ -329,29 +337,31 @@ module _ {k0 k old now : Option (List ℕ)} {number room : ℕ} {opened : Option
 
   last_line : (n : Option (List ℕ)) (d : Option Contents) (res : Result (Unit {0}) ScriptFault) (t0 t x : List ℕ)
       → (g : Going number room opened old now t0 t) → t ≡ l → x ≡ [] → (l ≡ [] → ⊥) → Follows (one_line g.state number l) now n d res
-      → (res ≡ Err faults.Memory → g.state ≡ Start) → Tells t0 x old n res
+      → (res ≡ Err faults.Memory → (g.state ≡ Start) × IsGoodHeader l) → Tells t0 x old n res
   last_line n d (Ok tt) t0 t x g e y z o c =
       Tells-end number room opened old now t0 t g n x (one_line g.state number l) (IsAt d) (told_from-last g.state t e z) y o
   last_line n d (Err f) t0 t x g e y z o c =
       Tells-fault number room opened old now t0 t g n l x (λ _. done) f (told_from-last g.state t e z)
       (behind-last number room opened old now t0 t g l x one e y) o (λ q. c (ap Err q))
+      ([], ap (slice_split is_newline) e ∙ slice_split_none is_newline l one)
 
   pub exit_last : (n : Option (List ℕ)) (d : Option Contents) (res : Result (Unit {0}) ScriptFault) (f : Ended) (line : List ℕ)
       → f ≡ how.Last → line ≡ l → Reads k m (ReadsLine l (Ok f)) → (l ≡ [] → ⊥)
       → ((s : State) → IsAt opened s → Follows (one_line s number line) now n d res)
-      → ((s : State) → IsAt opened s → res ≡ Err faults.Memory → s ≡ Start)
+      → ((s : State) → IsAt opened s → res ≡ Err faults.Memory → (s ≡ Start) × IsGoodHeader line)
       → Reads k0 m (λ text left. Tells text left old n res)
   exit_last n d res f line e i r z o c =
       Reads-trans k0 k m (Going number room opened old now) (ReadsLine l (Ok f)) (λ text left. Tells text left old n res)
       (λ t0 t x g p.
       let b : (t ≡ l) × (x ≡ []) = subst (λ (v : Ended). ReadsLine l (Ok v) t x) e p in
-      last_line n d res t0 t x g b.0 b.1 z (subst (λ (v : List ℕ). Follows (one_line g.state number v) now n d res) i (o g.state g.at)) (c g.state g.at))
+      last_line n d res t0 t x g b.0 b.1 z (subst (λ (v : List ℕ). Follows (one_line g.state number v) now n d res) i (o g.state g.at))
+      (λ q. subst (λ (v : List ℕ). (g.state ≡ Start) × IsGoodHeader v) i (c g.state g.at q)))
       h.goes r
 
   pub exit_fault : (n : Option (List ℕ)) (bad : ScriptFault) (f : Ended) (line : List ℕ)
       → f ≡ how.Line → line ≡ l → Reads k m (ReadsLine l (Ok f)) → length l < room
       → ((s : State) → IsAt opened s → OnFault (one_line s number line) now n bad)
-      → ((s : State) → IsAt opened s → bad ≡ faults.Memory → s ≡ Start)
+      → ((s : State) → IsAt opened s → bad ≡ faults.Memory → (s ≡ Start) × IsGoodHeader line)
       → Reads k0 m (λ text left. Tells text left old n (Err bad))
   exit_fault n bad f line e i r fits o c =
       Reads-trans k0 k m (Going number room opened old now) (ReadsLine l (Ok f)) (λ text left. Tells text left old n (Err bad))
@@ -360,7 +370,9 @@ module _ {k0 k old now : Option (List ℕ)} {number room : ℕ} {opened : Option
       Tells-fault number room opened old now t0 t g n l x (λ v. told_from at_end v (number + 1) (room - (length l + 1)) x) bad
       (ap (told_from at_end g.state number room) b ∙ told_from-line at_end g.state number room l x one short fits)
       (behind-line number room opened old now t0 t g l x one b)
-      (subst (λ (v : List ℕ). OnFault (one_line g.state number v) now n bad) i (o g.state g.at)) (c g.state g.at))
+      (subst (λ (v : List ℕ). OnFault (one_line g.state number v) now n bad) i (o g.state g.at))
+      (λ q. subst (λ (v : List ℕ). (g.state ≡ Start) × IsGoodHeader v) i (c g.state g.at q))
+      (slice_split is_newline x, ap (slice_split is_newline) b ∙ slice_split_at is_newline l 10 x one refl))
       h.goes r
 
   Going-next : (n : Option (List ℕ)) (d : Option Contents) (t0 t x : List ℕ) → (d ≡ None → ⊥) → (g : Going number room opened old now t0 t)

@@ -1,14 +1,17 @@
 -- What a run reads, writes and answers, by the input; and the status of a fault.
-use Rattle.std.specs.Prelude.{ℕ, suc, ◌≡◌, ◌≤◌, ◌<◌, ◌+◌, ◌-◌, Bool, true, false, List, [], ◌++◌, length, take, drop}
+use Rattle.std.specs.Prelude.{ℕ, suc, ◌≡◌, ◌≤◌, ◌<◌, ◌+◌, ◌-◌, Bool, true, false, List, [], ◌∷◌, ◌++◌, length, take, drop}
 use Rattle.std.specs.Prelude.{Option, Some, None, Result, Ok, Err, IsOkAnd, ⊤}
+use Rattle.std.specs.List.{slice_split}
+use Rattle.std.specs.Option.{IsSomeAnd}
 use Rattle.std.specs.Io.KnownBytes.{Appends}
 use Rattle.line_text.specs.declared.line.TheConstants.{LONGEST_LINE}
-use Rattle.line_text.specs.Line.{after_lines}
+use Rattle.line_text.specs.Line.{after_lines, is_newline}
 use Rattle.line_text.specs.Streams.{AppendsPrefix}
-use Rattle.wait_book.specs.Contents.{Contents, IsOf}
+use Rattle.wait_book.specs.Contents.{Contents, IsOf, make_refusal}
 use Rattle.hoare_script.specs.declared.runs.TheConstants.{MOST_BYTES}
 use Rattle.hoare_script.specs.declared.fault.ScriptFault.{ScriptFault}
 use Rattle.hoare_script.specs.declared.fault.ScriptFault.TheVariants as faults
+use Rattle.hoare_script.specs.Lines.{header_of}
 use Rattle.hoare_script.specs.Scripts.{State, Start, Running, Outcome, Told, told, at_end, at_cut}
 
 -- all that is told is written, and the fault is the one told
@@ -23,6 +26,16 @@ BreaksOff i text left old new =
     × (length (told at_cut read).written ≤ n) × (n < length (told at_end text).written)
     × Appends old new (take n (told at_end text).written)
 
+-- a line is a header, with as many places and conditions as a monitor may have
+abbrev pub IsGoodHeader : List ℕ → Type 0
+IsGoodHeader line = IsSomeAnd (header_of line) (λ h. make_refusal h.places h.conditions ≡ None)
+
+-- the first line of a text is one
+abbrev pub HasGoodHeader : List ℕ → Type 0
+HasGoodHeader text =
+    (line : List ℕ) × (lines : List (List ℕ))
+    × (slice_split is_newline text ≡ line ∷ lines) × IsGoodHeader line
+
 -- a run's verdict
 abbrev pub Verdict : Type 0
 Verdict = Result (Unit {0}) ScriptFault
@@ -34,7 +47,8 @@ Writes text left old new (Ok u) = Whole (told at_end text) old new None
 Writes text left old new (Err faults.ReadFault) =
     (read : List ℕ) × (text ≡ read ++ left) × Whole (told at_cut read) old new (Some faults.ReadFault)
 Writes text left old new (Err faults.WriteFault) = (i : ℕ) × BreaksOff i text left old new
-Writes text left old new (Err faults.Memory) = Appends old new []
+-- nothing, and the first line is a good header: it alone takes memory, and a bad one is answered as the fault it is
+Writes text left old new (Err faults.Memory) = HasGoodHeader text × Appends old new []
 -- the answers to the lines before it, and it is the fault that the text has
 Writes text left old new (Err f) = Whole (told at_end text) old new (Some f)
 
@@ -49,6 +63,7 @@ Leaves text left (Err (faults.LineTooLong i)) =
 -- its line and the end of it are read
 Leaves text left (Err (faults.BadLine i)) = left ≡ after_lines i text
 Leaves text left (Err (faults.BadHeader i)) = left ≡ after_lines i text
+-- the header and its end are read
 Leaves text left (Err faults.Memory) = left ≡ after_lines 1 text
 -- the line whose answer can't be written is the last that was read
 Leaves text left (Err faults.WriteFault) = (i : ℕ) × (left ≡ after_lines i text)

@@ -5,7 +5,7 @@ ghost use Rattle.line_text.specs.declared.line.TheConstants.{LONGEST_LINE};
 ghost use Rattle.line_text.specs.Streams.{HasRead, Reads, ReadsFrom, has_read_failed, has_write_failed, reader_name, writer_inside, writer_name};
 ghost use Rattle.wait_book.specs.Contents.{IsOf};
 ghost use Rattle.hoare_script.specs.Lines.{command_of, header_of};
-ghost use Rattle.hoare_script.specs.Runs.{Follows, IsAt, Leaves, Tells, Writes, is_read_fault, is_write_fault};
+ghost use Rattle.hoare_script.specs.Runs.{Follows, IsAt, IsGoodHeader, Leaves, Tells, Writes, is_read_fault, is_write_fault};
 ghost use Rattle.hoare_script.specs.Scripts.{Start, State, command_line, header_line, one_line};
 
 use crate::answers::answer_line;
@@ -24,9 +24,9 @@ use wait_book::steps::MakeRefused;
 pub const MOST_BYTES: usize = 1_048_576;
 
 /// Reads a script and writes the answer to each line after the header, before it answers the next. A fault ends it: its
-/// answer is the earliest of the text, unless a read, a write or memory fails first. No byte behind the one at which the
-/// verdict stands is read, so at most `MOST_BYTES` + 1 bytes are. An interrupted read or write counts as failed, and nothing is
-/// flushed.
+/// answer is the earliest of the text, unless a read, a write or memory fails first. `Memory` is answered to a good header
+/// alone. No byte behind the one at which the verdict stands is read, so at most `MOST_BYTES` + 1 bytes are. An interrupted
+/// read or write counts as failed, and nothing is flushed.
 pub fn run<R: Read, W: Write>(
     alloc: Global,
     reader: &mut R,
@@ -127,7 +127,8 @@ fn one_line<W: Write>(
         (W.contents (writer_inside writer.old)) (W.contents (writer_inside writer.new)) opened.new
         result }
     ensures opened { OnOk result (opened.new ≢ None) }
-    ensures memory { (s : State) → IsAt opened.old s → result ≡ Err ScriptFault.Memory → s ≡ Start }
+    ensures memory { (s : State) → IsAt opened.old s → result ≡ Err ScriptFault.Memory →
+        (s ≡ Start) × IsGoodHeader line.now }
     ensures no_read { is_read_fault result ≡ false }
     ensures write_fault { has_write_failed writer.new
         ≡ (has_write_failed writer.old || is_write_fault result) }
@@ -150,7 +151,7 @@ fn header_line(alloc: Global, number: u64, line: &[u8]) -> Result<Opened, Script
     ensures { MatchResult result
         (λ b. IsOkAnd (header_line number (header_of line.now))
         (λ p. (p.0 ≡ []) × IsAt (Some b) p.1))
-        (λ f. (f ≡ ScriptFault.Memory)
+        (λ f. ((f ≡ ScriptFault.Memory) × IsGoodHeader line.now)
         ⊎ ((header_line number (header_of line.now) ≡ Err f)
         × (f ≡ ScriptFault.BadHeader number))) }
 {

@@ -47,7 +47,7 @@ returns-then-not-is_empty-clause-told g c =
     progress.exit_last c.lines.invariant.goes (g.R.Read.remaining (reader_inside c.read_line.new.reader)) c.read_line.new.line.items
     e.one e.short c.in-Ok-Last.field-0 _ c.one_line.result c.one_line.new.jobs c.in-Ok-Last.field-0-is c.as_slice.ensures.value e.known
     (some_items c.read_line.new.line.items c.is_empty.result c.is_empty.ensures c.if-not-is_empty.true)
-    c.one_line.ensures.told
+    c.lines.invariant.numbered c.one_line.ensures.told
 
 pub returns-then-number-eq1-clause-told : goal.returns-then-number-eq1-clause-told
 returns-then-number-eq1-clause-told g c =
@@ -68,7 +68,7 @@ returns-in-Err-clause-told g c =
     let e = c.in-Ok-Line.ensures in
     progress.exit_fault c.lines.invariant.goes (g.R.Read.remaining (reader_inside c.read_line.new.reader)) c.read_line.new.line.items
     e.one e.short c.in-Ok-Line.field-0 _ c.in-Err.fault c.one_line-in-Ok-Line.new.jobs c.in-Ok-Line.field-0-is c.as_slice-in-Ok-Line.ensures.value e.known
-    c.in-Err.ensures.told
+    c.lines.invariant.numbered c.in-Err.ensures.told
 
 pub lines-preserved : goal.lines-preserved
 lines-preserved g c =

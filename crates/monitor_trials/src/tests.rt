@@ -1,10 +1,11 @@
 //! Tests across crates, by what they run on: the fake monitor, and rows of tests on both running doors.
 
 // A row on one door: it is made with these data and this many places, each acts by its number, and it is closed. It gives the
-// data that were left, and what the places answered. (The kind is that of a door of either kind.)
+// data that were left, and what the places answered. (A door of either kind is made with its kind, a ticket door with its first
+// ticket.)
 macro_rules! run_row {
-    ($rt:ident, $alloc:ident, $door:ident($($kind:expr)?), $acts:ident($($more:expr),*), $data:expr, $count:expr) => {{
-        let (door, outs) = $crate::tests::$door::made($rt, $alloc, $($kind,)? $data, $count);
+    ($rt:ident, $alloc:ident, $door:ident($($given:expr)?), $acts:ident($($more:expr),*), $data:expr, $count:expr) => {{
+        let (door, outs) = $crate::tests::$door::made($rt, $alloc, $($given,)? $data, $count);
         let (outs, answers) = $crate::tests::running::act_all($rt, $alloc, &door, outs, &|place| {
             $acts($rt, &door, place.1, place.0 $(, $more)*)
         });
@@ -26,6 +27,7 @@ mod limit;
 mod many_tickets;
 mod meanings;
 mod on_any_door;
+mod on_baton_door;
 mod on_ticket_door;
 mod refusals;
 mod rows;

@@ -8,12 +8,14 @@ use hoare_law::monitor::Monitor;
 use std::alloc::Global;
 use std::process::Abort;
 use ticket_door::door::TicketDoor;
+use ticket_door::laws::make_at;
 use ticket_door::place::TicketOut;
 
-/// A door with the data, and its places, in order. A refusal fails the test.
+/// A door with this first ticket and the data, and its places, in order. A refusal fails the test.
 pub fn made<D: MonitorData + Send + Drop, R: Abort>(
     rt: &R,
     alloc: Global,
+    first: u64,
     state: D,
     count: usize,
 ) -> (TicketDoor<D>, Vec<TicketOut<D>>)
@@ -22,7 +24,7 @@ pub fn made<D: MonitorData + Send + Drop, R: Abort>(
     ensures of { All (⟦<TicketDoor<D> as Monitor<D>>⟧.is_of result.0) result.1.items }
     ensures numbered { IsNumbered (⟦<TicketDoor<D> as Monitor<D>>⟧.place) result.1.items }
 {
-    let Ok(made) = TicketDoor::make(alloc, state, count) else {
+    let Ok(made) = make_at(alloc, state, count, first) else {
         panic!(rt; "no door was made")
     };
     made

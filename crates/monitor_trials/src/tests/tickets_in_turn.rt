@@ -1,4 +1,5 @@
 //! The ticket door on one thread: tickets in turn, past the last number, and places that meet.
+ghost use Rattle.std.specs.Prelude.{◌≡◌};
 
 use crate::tally::Tally;
 use crate::tests::compared::expect_same;
@@ -8,10 +9,34 @@ use std::process::Abort;
 use std::sync::Wait;
 use ticket_door::door::TicketDoor;
 use ticket_door::laws::make_at;
+use ticket_door::place::TicketOut;
+
+// Place a comes in at once, and leaves with a signal that nobody waits for; it meets b, and b asks and comes in. They come back in
+// this order, with whether a resumed somebody, and b's ticket.
+fn hands_up_and_meets<R: Wait>(
+    rt: &R,
+    door: &TicketDoor<Tally>,
+    a: TicketOut<Tally>,
+    b: TicketOut<Tally>,
+) -> ((TicketOut<Tally>, TicketOut<Tally>), (bool, u64))
+    requires a { ⟦<TicketDoor<Tally> as Monitor<Tally>>⟧.is_of door.now a }
+    requires b { ⟦<TicketDoor<Tally> as Monitor<Tally>>⟧.is_of door.now b }
+    ensures a { ⟦<TicketDoor<Tally> as Monitor<Tally>>⟧.is_of door.now result.0.0 }
+    ensures b { ⟦<TicketDoor<Tally> as Monitor<Tally>>⟧.is_of door.now result.0.1 }
+    ensures places { (result.0.0.place ≡ a.place) × (result.0.1.place ≡ b.place) }
+{
+    let (a, told) = door.hand_up(door.enter(rt, a), 0);
+    let (b, a) = door.meet(b, a);
+    let b = door.ask(b);
+    let ticket = b.ticket();
+    let b = door.give_up(door.come_in(rt, b));
+    ((a, b), (told, ticket))
+}
 
 /// On a door with this first ticket three places ask, in the order c, a, b, and come in by their tickets; c leaves the number
-/// 7. Their tickets, and the number that the door is closed with.
-fn three_ask<R: Wait + Abort>(rt: &R, alloc: Global, first: u64) -> ((u64, u64, u64), u64) {
+/// 7. Then a hands up to nobody, and meets b, which asks once more. The tickets of those that asked, whether a resumed somebody,
+/// and the number that the door is closed with.
+fn three_ask<R: Wait + Abort>(rt: &R, alloc: Global, first: u64) -> ([u64; 4], bool, u64) {
     let Ok((door, mut outs)) = make_at(alloc, Tally { value: 0 }, 3, first) else {
         panic!(rt; "no memory")
     };
@@ -25,20 +50,38 @@ fn three_ask<R: Wait + Abort>(rt: &R, alloc: Global, first: u64) -> ((u64, u64, 
     let mut inside = door.come_in(rt, c);
     TicketDoor::state_mut(&mut inside, &door).value = 7;
     outs.push_reserved(door.give_up(inside));
-    outs.push_reserved(door.give_up(door.come_in(rt, a)));
-    outs.push_reserved(door.give_up(door.come_in(rt, b)));
-    (tickets, door.close(outs).value)
+    let a = door.give_up(door.come_in(rt, a));
+    let b = door.give_up(door.come_in(rt, b));
+    let ((a, b), (told, last)) = hands_up_and_meets(rt, &door, a, b);
+    outs.push_reserved(a);
+    outs.push_reserved(b);
+    let tickets = [tickets.0, tickets.1, tickets.2, last];
+    (tickets, told, door.close(outs).value)
 }
 
 #[test]
 fn tickets_in_turn(rt: HostRuntime) {
-    expect_same(&rt, three_ask(&rt, rt.alloc(), 0), ((0, 1, 2), 7));
+    let asked = three_ask(&rt, rt.alloc(), 0);
+    expect_same(&rt, asked, ([0, 1, 2, 4], false, 7));
 }
 
 #[test]
 fn tickets_past_the_last_number(rt: HostRuntime) {
-    let asked = three_ask(&rt, rt.alloc(), u64::MAX);
-    expect_same(&rt, asked, ((18446744073709551615, 0, 1), 7));
+    for (first, tickets) in [
+        (18446744073709551615, [18446744073709551615, 0, 1, 3]),
+        (
+            18446744073709551613,
+            [
+                18446744073709551613,
+                18446744073709551614,
+                18446744073709551615,
+                1,
+            ],
+        ),
+    ] {
+        let asked = three_ask(&rt, rt.alloc(), first);
+        expect_same(&rt, asked, (tickets, false, 7));
+    }
 }
 
 #[test]

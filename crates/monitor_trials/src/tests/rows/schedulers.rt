@@ -4,7 +4,7 @@ ghost use Rattle.std.specs.Prelude.{◌≡◌};
 use crate::tests::fake::with_cells;
 use crate::tests::running::{DoorKind, answered, await_sign, watch};
 use hoare_law::monitor::Monitor;
-use plain_schedulers::buffer::{Buffer, MOST_CELLS};
+use plain_schedulers::buffer::{Buffer, BufferRefused, MOST_CELLS};
 use plain_schedulers::single::{NotOut, Single};
 use std::process::Abort;
 use std::rt::Clock;
@@ -98,5 +98,16 @@ fn items_come_out_in_order(host: HostRuntime) {
             let (_, answers) = run_row_on!(kind, rt, alloc, appends_or_removes(items), buffer, 2);
             answered(rt, kind, answers.as_slice(), &[0, items]);
         }
+    }
+}
+
+#[test]
+fn a_buffer_has_its_limits(rt: HostRuntime) {
+    for cells in [0, 4097] {
+        let made = Buffer::<u8>::make(rt.alloc(), cells);
+        assert!(rt;
+            matches!(made, Err(BufferRefused::BadSize)),
+            "{cells} cells"
+        );
     }
 }

@@ -124,6 +124,53 @@ pub fn calls_all<R: Wait, M: Monitor<Tally>>(rt: &R, m: &M, out: M::Out) -> (M::
     (out, u64::from(nobody && !told && !told_leaving))
 }
 
+// Waits, writes 2, waits again and writes 4: it answers what it found after each wait, 1 and 123 if nothing was lost.
+fn is_resumed_twice<R: Wait, M: Monitor<Tally>>(rt: &R, m: &M, out: M::Out) -> (M::Out, u64)
+    requires { M.is_of m.now out }
+    ensures of { M.is_of m.now result.0 }
+    ensures place { M.place result.0 ≡ M.place out }
+{
+    let inside = m.wait(rt, m.enter(rt, out), 0, 0);
+    let first = m.state(&inside).value;
+    let inside = m.wait(rt, write_digit(m, inside, 2), 0, 0);
+    let second = m.state(&inside).value;
+    let inside = write_digit(m, inside, 4);
+    let found = first.wrapping_mul(1000).wrapping_add(second);
+    (m.leave(rt, inside), found)
+}
+
+// Writes 1 once another waits, and signals; when it is back it writes 3, and leaves with a signal. It answers what it found when it
+// was back, if both signals resumed somebody.
+fn resumes_twice<R: Wait + Abort, M: Monitor<Tally>>(rt: &R, m: &M, out: M::Out) -> (M::Out, u64)
+    requires { M.is_of m.now out }
+    ensures of { M.is_of m.now result.0 }
+    ensures place { M.place result.0 ≡ M.place out }
+{
+    let inside = write_digit(m, watch(rt, m, out, 0, 1), 1);
+    let (inside, told) = m.signal(rt, inside, 0);
+    let found = m.state(&inside).value;
+    let (out, told_leaving) = m.signal_leave(rt, write_digit(m, inside, 3), 0);
+    (out, if told && told_leaving { found } else { 0 })
+}
+
+/// Place 0 waits twice, and place 1 resumes it by each of the two signals. They leave 1234, and answer 1123 and 12.
+pub fn resumes_by_each_signal<R: Wait + Abort, M: Monitor<Tally>>(
+    rt: &R,
+    m: &M,
+    out: M::Out,
+    place: usize,
+) -> (M::Out, u64)
+    requires { M.is_of m.now out }
+    ensures of { M.is_of m.now result.0 }
+    ensures place { M.place result.0 ≡ M.place out }
+{
+    if place == 0 {
+        is_resumed_twice(rt, m, out)
+    } else {
+        resumes_twice(rt, m, out)
+    }
+}
+
 /// The rows of a tally.
 #[derive(Clone, Copy)]
 enum TallyRow<'a> {

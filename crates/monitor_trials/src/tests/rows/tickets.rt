@@ -56,7 +56,7 @@ fn who_asked_comes_in_by_its_ticket(host: HostRuntime) {
     let (tally, tickets) = run_row!(
         rt,
         alloc,
-        on_ticket_door(),
+        on_ticket_door(0),
         asks_and_looks_late(&asked),
         Tally { value: 0 },
         3
@@ -65,7 +65,21 @@ fn who_asked_comes_in_by_its_ticket(host: HostRuntime) {
     expect_same(rt, tally.value, 123);
 }
 
-// Place 0 waits. Place 1 hands the monitor up to it, without waiting itself, and answers whether it resumed somebody.
+// Comes in and gives up.
+fn comes_and_goes<R: Wait>(
+    rt: &R,
+    door: &TicketDoor<Tally>,
+    out: TicketOut<Tally>,
+) -> TicketOut<Tally>
+    requires { ⟦<TicketDoor<Tally> as Monitor<Tally>>⟧.is_of door.now out }
+    ensures of { ⟦<TicketDoor<Tally> as Monitor<Tally>>⟧.is_of door.now result }
+    ensures place { result.place ≡ out.place }
+{
+    door.give_up(door.enter(rt, out))
+}
+
+// Place 0 draws three tickets, and waits at its fourth. Place 1 hands the monitor up to it, without waiting itself, and answers
+// whether it resumed somebody.
 fn waits_or_hands_up<R: Wait + Abort>(
     rt: &R,
     door: &TicketDoor<Tally>,
@@ -77,7 +91,8 @@ fn waits_or_hands_up<R: Wait + Abort>(
     ensures place { result.0.place ≡ out.place }
 {
     if place == 0 {
-        let inside = door.enter(rt, out);
+        let out = comes_and_goes(rt, door, comes_and_goes(rt, door, out));
+        let inside = door.enter(rt, comes_and_goes(rt, door, out));
         let inside = door.wait(rt, inside, 0, 0);
         let inside = write_digit(door, inside, 2);
         return (door.give_up(inside), 0);
@@ -88,17 +103,20 @@ fn waits_or_hands_up<R: Wait + Abort>(
     (out, u64::from(told))
 }
 
+// Also where the waiting place's tickets went on from the last number with 0.
 #[test]
 fn who_hands_up_resumes_who_waits(host: HostRuntime) {
     let (rt, alloc) = (&host, host.alloc());
-    let (tally, told) = run_row!(
-        rt,
-        alloc,
-        on_ticket_door(),
-        waits_or_hands_up(),
-        Tally { value: 0 },
-        2
-    );
-    expect_same(rt, told.as_slice(), [0, 1].as_slice());
-    expect_same(rt, tally.value, 12);
+    for first in [0, 18446744073709551613] {
+        let (tally, told) = run_row!(
+            rt,
+            alloc,
+            on_ticket_door(first),
+            waits_or_hands_up(),
+            Tally { value: 0 },
+            2
+        );
+        expect_same(rt, told.as_slice(), [0, 1].as_slice());
+        expect_same(rt, tally.value, 12);
+    }
 }

@@ -10,8 +10,11 @@ use hoare_law::waits::Waits;
 use std::marker::Model;
 use std::sync::Wait;
 
+/// The condition *all have come* of a `Barrier`: parties that have come wait there for the last.
+pub const ALL_HAVE_COME: usize = 0;
+
 /// A barrier for a fixed number of parties. `arrived` of them have come and not gone on, and `generation` counts, modulo 2^64, how often the
-/// parties have met. The one condition is 0, *all have come*; a party waits there with the generation as its priority.
+/// parties have met. The one condition is 0, *all have come* (`ALL_HAVE_COME`); a party waits there with the generation as its priority.
 #[derive(Drop)]
 pub struct Barrier {
     parties: u32,
@@ -40,8 +43,8 @@ pub enum Arrival {
 fn all_wait_with<W: Waits>(lists: &W, priority: u64) -> bool
     ensures { IsTrue result ↔ All (λ p. p ≡ priority) (W.waiting_priorities lists.now 0) }
 {
-    for i in 0..lists.count(0) {
-        if lists.priority(0, i) != priority {
+    for i in 0..lists.count(ALL_HAVE_COME) {
+        if lists.priority(ALL_HAVE_COME, i) != priority {
             return false;
         }
     }
@@ -64,14 +67,14 @@ impl MonitorData for Barrier {
 
     fn rest_holds<W: Waits>(&self, lists: &W) -> bool {
         self.arrived < self.parties
-            && lists.count(0) == self.arrived as usize
+            && lists.count(ALL_HAVE_COME) == self.arrived as usize
             && all_wait_with(lists, self.generation)
     }
 
     fn ready_holds<W: Waits>(&self, condition: usize, priority: u64, lists: &W) -> bool {
         self.arrived < self.parties
             && self.arrived > 0
-            && lists.count(0) == self.arrived as usize - 1
+            && lists.count(ALL_HAVE_COME) == self.arrived as usize - 1
             && self.generation == priority.wrapping_add(1)
             && all_wait_with(lists, priority)
     }
@@ -146,13 +149,13 @@ impl Barrier {
         let generation = m.state(&inside).generation();
         if m.state(&inside).lacks_one() {
             M::state_mut(&mut inside, m).open();
-            let (out, _resumed) = m.signal_leave(rt, inside, 0);
+            let (out, _resumed) = m.signal_leave(rt, inside, ALL_HAVE_COME);
             return (out, Arrival::Last(generation));
         }
         M::state_mut(&mut inside, m).come();
-        inside = m.wait(rt, inside, 0, generation);
+        inside = m.wait(rt, inside, ALL_HAVE_COME, generation);
         M::state_mut(&mut inside, m).go();
-        let (out, _resumed) = m.signal_leave(rt, inside, 0);
+        let (out, _resumed) = m.signal_leave(rt, inside, ALL_HAVE_COME);
         (out, Arrival::Waited(generation))
     }
 }

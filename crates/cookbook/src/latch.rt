@@ -5,12 +5,15 @@ ghost use Rattle.cookbook.specs.Latches.{LatchRests};
 ghost use Rattle.cookbook.specs.LatchTraces.{CountsDown, Passes};
 
 use hoare_law::data::MonitorData;
-use hoare_law::monitor::Monitor;
+use hoare_law::monitor::{Monitor, PLAIN};
 use hoare_law::waits::Waits;
 use std::marker::Model;
 use std::sync::Wait;
 
-/// How often a latch must be counted down still: it is open at 0. The one condition is 0, *the latch is open*.
+/// The condition *the latch is open* of a `Latch`: who waits there waits for the last count.
+pub const LATCH_IS_OPEN: usize = 0;
+
+/// How often a latch must be counted down still: it is open at 0. The one condition is 0, *the latch is open* (`LATCH_IS_OPEN`).
 #[derive(Drop)]
 pub struct Latch {
     left: u32,
@@ -39,7 +42,7 @@ impl MonitorData for Latch {
     ghost ready = { λ c p left q. LatchReady left };
 
     fn rest_holds<W: Waits>(&self, lists: &W) -> bool {
-        lists.count(0) == 0 || self.left > 0
+        lists.count(LATCH_IS_OPEN) == 0 || self.left > 0
     }
 
     fn ready_holds<W: Waits>(&self, condition: usize, priority: u64, lists: &W) -> bool {
@@ -86,7 +89,7 @@ impl Latch {
         if !m.state(&inside).is_open() {
             return m.leave(rt, inside);
         }
-        let (out, _resumed) = m.signal_leave(rt, inside, 0);
+        let (out, _resumed) = m.signal_leave(rt, inside, LATCH_IS_OPEN);
         out
     }
 
@@ -99,9 +102,9 @@ impl Latch {
     {
         let mut inside = m.enter(rt, out);
         if !m.state(&inside).is_open() {
-            inside = m.wait(rt, inside, 0, 0);
+            inside = m.wait(rt, inside, LATCH_IS_OPEN, PLAIN);
         }
-        let (out, _resumed) = m.signal_leave(rt, inside, 0);
+        let (out, _resumed) = m.signal_leave(rt, inside, LATCH_IS_OPEN);
         out
     }
 }

@@ -7,6 +7,3 @@ pub mod latch;
 pub mod mailbox;
 pub mod rendezvous;
 pub mod table;
-
-/// The priority of a wait without priorities: of those that wait with it, who has waited longest goes on first.
-pub(crate) const PLAIN: u64 = 0;

@@ -4,10 +4,9 @@ ghost use Rattle.hoare_law.specs.Priorities.{nobody};
 ghost use Rattle.cookbook.specs.Mailboxes.{MailRests, TakesMostUrgent};
 ghost use Rattle.cookbook.specs.MailboxTraces.{Sends, Receives};
 
-use crate::PLAIN;
 use arrayvec::ArrayVec;
 use hoare_law::data::MonitorData;
-use hoare_law::monitor::Monitor;
+use hoare_law::monitor::{Monitor, PLAIN};
 use hoare_law::waits::Waits;
 use std::marker::Model;
 use std::sync::Wait;

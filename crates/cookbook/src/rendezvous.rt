@@ -6,12 +6,15 @@ ghost use Rattle.cookbook.specs.Meetings.{IsOffered, IsAnswered, MeetingRests};
 ghost use Rattle.cookbook.specs.MeetingTraces.{Exchanges};
 
 use hoare_law::data::MonitorData;
-use hoare_law::monitor::Monitor;
+use hoare_law::monitor::{Monitor, PLAIN};
 use hoare_law::waits::Waits;
 use std::mem;
 use std::sync::Wait;
 
-/// How far a pair has come in its exchange. The one condition is 0, *my partner has come*.
+/// The condition *my partner has come* of a `Rendezvous`: who waits there offered a value, and waits for its partner's.
+pub const PARTNER_HAS_COME: usize = 0;
+
+/// How far a pair has come in its exchange. The one condition is 0, *my partner has come* (`PARTNER_HAS_COME`).
 #[derive(Drop)]
 pub enum Rendezvous<T> {
     /// Nobody waits for a partner.
@@ -38,15 +41,15 @@ impl<T: Drop> MonitorData for Rendezvous<T> {
 
     fn rest_holds<W: Waits>(&self, lists: &W) -> bool {
         match self {
-            Rendezvous::Empty => lists.count(0) == 0,
-            Rendezvous::Offered(_) => lists.count(0) == 1,
+            Rendezvous::Empty => lists.count(PARTNER_HAS_COME) == 0,
+            Rendezvous::Offered(_) => lists.count(PARTNER_HAS_COME) == 1,
             Rendezvous::Answered(_) => false,
         }
     }
 
     fn ready_holds<W: Waits>(&self, condition: usize, priority: u64, lists: &W) -> bool {
         match self {
-            Rendezvous::Answered(_) => lists.count(0) == 0,
+            Rendezvous::Answered(_) => lists.count(PARTNER_HAS_COME) == 0,
             _ => false,
         }
     }
@@ -120,11 +123,11 @@ impl<T: Drop> Rendezvous<T> {
         let mut inside = m.enter(rt, out);
         if m.state(&inside).is_offered() {
             let first = M::state_mut(&mut inside, m).answer(value);
-            let (out, _resumed) = m.signal_leave(rt, inside, 0);
+            let (out, _resumed) = m.signal_leave(rt, inside, PARTNER_HAS_COME);
             return (out, first);
         }
         M::state_mut(&mut inside, m).offer(value);
-        inside = m.wait(rt, inside, 0, 0);
+        inside = m.wait(rt, inside, PARTNER_HAS_COME, PLAIN);
         let second = M::state_mut(&mut inside, m).collect();
         (m.leave(rt, inside), second)
     }

@@ -5,9 +5,8 @@ ghost use Rattle.hoare_law.specs.Waiting.{waiting};
 ghost use Rattle.cookbook.specs.Tables.{TableHolds, TableRests, IsEating, CanEat, all_up, seated, risen};
 ghost use Rattle.cookbook.specs.TableTraces.{HandsOn, SitsDown, GetsUp};
 
-use crate::PLAIN;
 use hoare_law::data::MonitorData;
-use hoare_law::monitor::Monitor;
+use hoare_law::monitor::{Monitor, PLAIN};
 use hoare_law::waits::Waits;
 use std::marker::Model;
 use std::sync::Wait;

@@ -16,6 +16,9 @@ use crate::data::MonitorData;
 use crate::waits::Waits;
 use std::sync::Wait;
 
+/// The priority of a wait without priorities: of those that wait with it, who has waited longest goes on first.
+pub const PLAIN: u64 = 0;
+
 /// Hoare's monitor ("Monitors", Introduction and Scheduled Waits): who may do what with the data, what each call owes and what it gives.
 ///
 /// A place outside is an `Out`, a place inside an `In`, which has the data in hand. Neither can be copied, so no place is

@@ -5,10 +5,9 @@ ghost use Rattle.hoare_law.specs.Priorities.{nobody};
 ghost use Rattle.plain_schedulers.specs.Buffers.{BufferRests, Makes};
 ghost use Rattle.plain_schedulers.specs.BufferTraces.{Appends, Removes};
 
-use crate::PLAIN;
 use crate::buffer::ring::empty_cells;
 use hoare_law::data::MonitorData;
-use hoare_law::monitor::Monitor;
+use hoare_law::monitor::{Monitor, PLAIN};
 use hoare_law::waits::Waits;
 use std::alloc::Global;
 use std::marker::Model;

@@ -3,6 +3,3 @@
 
 pub mod buffer;
 pub mod single;
-
-/// The priority of a wait without priorities: of those that wait with it, who has waited longest goes on first.
-pub(crate) const PLAIN: u64 = 0;

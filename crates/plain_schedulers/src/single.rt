@@ -3,9 +3,8 @@ ghost use Rattle.hoare_law.specs.Priorities.{nobody};
 ghost use Rattle.plain_schedulers.specs.Singles.{SingleRests};
 ghost use Rattle.plain_schedulers.specs.SingleTraces.{Acquires, Releases};
 
-use crate::PLAIN;
 use hoare_law::data::MonitorData;
-use hoare_law::monitor::Monitor;
+use hoare_law::monitor::{Monitor, PLAIN};
 use hoare_law::waits::Waits;
 use std::marker::Model;
 use std::sync::Wait;

@@ -6,6 +6,3 @@ pub mod head;
 pub mod not_out;
 pub mod readers_writers;
 mod waiting;
-
-/// The priority of a wait without priorities: of those that wait with it, who has waited longest goes on first.
-pub(crate) const PLAIN: u64 = 0;

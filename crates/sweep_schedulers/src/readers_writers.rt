@@ -3,10 +3,9 @@ ghost use Rattle.hoare_law.specs.Priorities.{nobody};
 ghost use Rattle.sweep_schedulers.specs.ReadersWriters.{IsInUse, ReadersRest, unused, with_readers, with_writer, written};
 ghost use Rattle.sweep_schedulers.specs.ReadersWritersTraces.{Admits, EndsRead, EndsWrite, StartsRead, StartsWrite};
 
-use crate::PLAIN;
 use crate::not_out::NotOut;
 use hoare_law::data::MonitorData;
-use hoare_law::monitor::Monitor;
+use hoare_law::monitor::{Monitor, PLAIN};
 use hoare_law::waits::Waits;
 use std::fmt;
 use std::marker::Model;

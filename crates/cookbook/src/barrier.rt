@@ -118,7 +118,7 @@ impl Barrier {
         requires { self.old.arrived < self.old.parties }
         ensures { self.new ≡ one_more self.old }
     {
-        let _parties = self.parties; // a number of 64 bits, so that one more fits
+        let _parties = self.parties; // a number of 32 bits, so that one more fits
         self.arrived += 1;
     }
 

@@ -105,7 +105,7 @@ impl Permits {
         requires { self.old.free < self.old.total }
         ensures { self.new ≡ record self.old { free = self.old.free + 1 } }
     {
-        let _total = self.total; // a number of 64 bits, so that one more free permit fits
+        let _total = self.total; // a number of 32 bits, so that one more free permit fits
         self.free += 1;
     }
 

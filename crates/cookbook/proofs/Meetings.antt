@@ -10,7 +10,7 @@ use Rattle.hoare_law.proofs.Sorted.{length-put_in}
 use Rattle.hoare_law.proofs.Joined.{length-behind_first}
 use Rattle.cookbook.specs.declared.rendezvous.Rendezvous.{Rendezvous}
 use Rattle.cookbook.specs.declared.rendezvous.Rendezvous.TheVariants.{Empty, Offered, Answered}
-use Rattle.cookbook.specs.Meetings.{IsOffered, IsAnswered, MeetingRests, MeetingReady}
+use Rattle.cookbook.specs.Meetings.{IsOffered, MeetingRests, MeetingReady}
 
 -- where no offer is found, nobody is there
 pub found_empty : {T : Type 0} (s : Rendezvous T) (q : List ℕ) → MeetingRests s q → (IsOffered s → ⊥) → s ≡ Empty
@@ -39,12 +39,7 @@ MeetingRests-nobody d r one none = absurd (somebody_waits r one none)
 pub MeetingReady-answered : {T : Type 0} (d : Rendezvous T) (y : T) (r : List ℕ) → length r ≡ 1 → d ≡ Answered y → MeetingReady d (behind_first r)
 MeetingReady-answered d y r one state = rw state (omega (arith, one, length-behind_first r))
 
--- who is resumed finds an answer, and nobody else waits
-pub found_answer : {T : Type 0} (s : Rendezvous T) (q : List ℕ) → MeetingReady s q → IsAnswered s
-found_answer (Answered x) q ready = tt
-found_answer Empty q ready = absurd ready
-found_answer (Offered x) q ready = absurd ready
-
+-- who takes the answer leaves nobody waiting
 pub nobody_else : {T : Type 0} (s d : Rendezvous T) (q r : List ℕ) → MeetingReady s q → d ≡ Empty → r ≡ q → MeetingRests d r
 nobody_else (Answered x) d q r ready state lists = rw (state, lists) ready
 nobody_else Empty d q r ready state lists = absurd ready

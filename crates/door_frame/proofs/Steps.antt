@@ -61,6 +61,11 @@ pub told_as : {S V : Type 0} (holds : State S V → Type 0) (slots id : ℕ) (me
 told_as holds slots id me i f Then Other as_ ok s kept wide at small = let t = ok s kept wide at small in (t.0, t.1, t.2, t.3, as_ _ _ t.4)
 
 module _ {D : Type 0} where
+  -- what the first home holds, or d
+  abbrev lodged_or : Lodged D → List (ℕ × Option (Lodged D)) → Lodged D
+  lodged_or d ((m, Some y) ∷ ys) = y
+  lodged_or d _ = d
+
   -- a place that did nothing still fits where the log grows
   grows : (n : ℕ) (log : History D) (owner : ℕ → ℕ) (tickets tickets' : Tickets) (j : ℕ) (e : Event D) (t : Knowledge D) → place_of e ≢ t.place → tickets' t.place ≡ tickets t.place
       → Agrees n log owner tickets j t → Agrees n (with_event log e) owner tickets' j t
@@ -316,10 +321,6 @@ module _ {D : Type 0} (Starts : Bool → List ℕ → Type 0) (Tells : History D
         λ j g y is. let q = alone_is k j f g ((0, Some x) ∷ []) ((0, Some y) ∷ []) is in let is' : x ≡ y = ap (lodged_or x) q.2 in
             λ i. (alone (q.0 i) (with_event ((same ∙ q.1) i) (event (is' i).state)), []),
       )
-    where
-      lodged_or : Lodged D → List (ℕ × Option (Lodged D)) → Lodged D
-      lodged_or d ((m, Some y) ∷ ys) = y
-      lodged_or d _ = d
 
   pub begins_ok : (n slots id i : ℕ) (g : ℕ → ℕ) (st : Step (Option (Lodged D))) → ((ws : List ℕ) → Starts false ws → Starts true (set ws i (g (get_or ws i 0))))
       → Allows (K n) slots id (Unopened n, []) i g (begins st (Unopened n, []))
@@ -387,10 +388,6 @@ module _ {D : Type 0} (Starts : Bool → List ℕ → Type 0) (Tells : History D
       count : View D → ℕ
       count (Opening m) = m
       count _ = 0
-
-      lodged_or : Lodged D → List (ℕ × Option (Lodged D)) → Lodged D
-      lodged_or d ((m, Some y) ∷ ys) = y
-      lodged_or d _ = d
 
       told : (m : ℕ) (y : Lodged D) → ◌≡◌ {A = Sat D} (Opening n, (0, Some x) ∷ []) (Opening m, (0, Some y) ∷ []) → ◌≡◌ {A = Sat D} (Places (all_know 0 n (opened n conditions x.state)), [])
           (Places (all_know 0 m (opened m conditions y.state)), [])

@@ -7,7 +7,6 @@ use Rattle.hoare_law.specs.declared.turn.Turn.TheVariants.{Held}
 use Rattle.hoare_law.specs.Events.{place_of, own, newest, with_event}
 use Rattle.hoare_law.specs.Growth.{Begins, Grows, AddsLast, AddsTwo}
 use Rattle.hoare_law.specs.Lawful.{Rest, Ready, Owes, Stands}
-use Rattle.hoare_law.specs.Legal.{Allowed}
 use Rattle.hoare_law.specs.Priorities.{priorities}
 use Rattle.hoare_law.specs.Turns.{turn, turn_by, urgent, outside, is_out}
 use Rattle.hoare_law.proofs.Events.{own-push, newest-push}
@@ -95,10 +94,6 @@ module _ {S : Type 0} where
     unfolding Owes
     Owes-back f k s = tt
 
-    -- the last event was allowed
-    pub Allowed-last : (h : History S) (e : Event S) → Stands rest ready (with_event h e) → Allowed h e
-    Allowed-last h e stands = IsLegal-last h e stands.legal
-
     stood : (h : History S) (e : Event S) → Stands rest ready (with_event h e) → Stands rest ready h
     stood h e stands = Stands-front (Begins-push h e) stands
 
@@ -106,16 +101,16 @@ module _ {S : Type 0} where
     pub finds-admit : (h : History S) (k : ℕ) (s : S) → Stands rest ready (with_event h (Admit k s))
         → rest s (priorities (with_event h (Admit k s)).events)
     unfolding with_event
-    finds-admit h k s stands = admitted_finds h k s (stood h (Admit k s) stands) (Allowed-last h (Admit k s) stands)
+    finds-admit h k s stands = admitted_finds h k s (stood h (Admit k s) stands) (IsLegal-last h (Admit k s) stands.legal)
 
     pub finds-back : (h : History S) (k : ℕ) (s : S) → Stands rest ready (with_event h (Back k s))
         → rest s (priorities (with_event h (Back k s)).events)
     unfolding with_event
-    finds-back h k s stands = back_finds h k s (stood h (Back k s) stands) (Allowed-last h (Back k s) stands)
+    finds-back h k s stands = back_finds h k s (stood h (Back k s) stands) (IsLegal-last h (Back k s) stands.legal)
 
     pub finds-resume : (h f : History S) (k c p : ℕ) (s t : S) → own k h.events ≡ own k (with_event f (Wait k c p s)).events
         → Stands rest ready (with_event h (Resume k c t)) → ready c p t (priorities (with_event h (Resume k c t)).events)
     unfolding with_event
     finds-resume h f k c p s t same stands =
-        resumed_finds h k c p s t (stood h (Resume k c t) stands) (Allowed-last h (Resume k c t) stands)
+        resumed_finds h k c p s t (stood h (Resume k c t) stands) (IsLegal-last h (Resume k c t) stands.legal)
         (ap newest (same ∙ own-last k f.events (Wait k c p s) refl) ∙ newest-push (own k f.events) (Wait k c p s))

@@ -1,6 +1,5 @@
--- Who waits, whose turn it is and what is legal do not depend on the data.
-use Rattle.std.proofs.Common.{◌≡◌, ◌==◌, ◌&&◌, not, ℕ, List, [], ◌∷◌, ◌++◌, map, Bool, true, false, cond, leb, Option, Some, None, refl, ap, sym, ◌∙◌, subst}
-use Rattle.std.specs.Prelude.{IsSomeAnd}
+-- Who waits, who is chosen, whose turn it is and who is outside do not depend on the data.
+use Rattle.std.proofs.Common.{◌≡◌, ◌==◌, ◌&&◌, not, ℕ, List, [], ◌∷◌, map, Bool, true, false, cond, leb, Option, Some, None, refl, ap, sym, ◌∙◌}
 use Rattle.std.specs.Option.{option_map}
 use Rattle.std.specs.List.{find}
 use Rattle.std.proofs.lemmas.List.{map-append}
@@ -9,12 +8,10 @@ use Rattle.std.proofs.lemmas.List.Folds.{list_all-map}
 use Rattle.hoare_law.specs.declared.event.Event.{Event}
 use Rattle.hoare_law.specs.declared.event.History.{History}
 use Rattle.hoare_law.specs.declared.event.Event.TheVariants.{Admit, Wait, Signal, Pass, Leave, Resume, Back}
-use Rattle.hoare_law.specs.Events.{place_of, own, newest, with_event, cut_to}
-use Rattle.hoare_law.specs.Waiting.{filter_by_later, waits_on, priority_of, concerns, is_untouched, waiting, is_least, chosen, Chooses}
+use Rattle.hoare_law.specs.Events.{place_of, own, newest, with_event}
+use Rattle.hoare_law.specs.Waiting.{filter_by_later, waits_on, priority_of, concerns, is_untouched, waiting, is_least, chosen}
 use Rattle.hoare_law.specs.Turns.{is_signal, is_last_act, urgent, turn, turn_by, turn_after, is_out, outside}
 use Rattle.hoare_law.specs.Priorities.{in_order, priorities}
-use Rattle.hoare_law.specs.Legal.{Allowed, IsLegal}
-use Rattle.hoare_law.specs.Growth.{Begins}
 use Rattle.hoare_law.specs.Beside.Erasure.{without_data, all_without_data, erased}
 use Rattle.hoare_law.proofs.Turns.{filter-map}
 use Rattle.hoare_law.proofs.Filters.{list_all-same, find-same}
@@ -48,24 +45,6 @@ filter_by_later-map f test kept (x ∷ xs) same = ap (λ b. cond b (f x ∷ filt
 map-map_same : {X Y Z : Type 0} (f : X → Y) (g : Y → Z) (k : X → Z) (xs : List X) → ((x : X) → g (f x) ≡ k x) → map g (map f xs) ≡ map k xs
 map-map_same f g k [] same = refl
 map-map_same f g k (x ∷ xs) same = rw (same x, map-map_same f g k xs same) refl
-
--- y stands in a map of xs behind us, and is f of an element of xs
-record IsMapped {X Y : Type 0} (f : X → Y) (xs : List X) (us : List Y) (y : Y) : Type 0 where
-  front : List X
-  at : X
-  behind : List X
-  is : xs ≡ front ++ at ∷ behind
-  before : map f front ≡ us
-  maps : f at ≡ y
-
-mapped_behind : {X Y : Type 0} (f : X → Y) (x : X) (xs : List X) (u : Y) (us : List Y) (y : Y) → f x ≡ u → IsMapped f xs us y → IsMapped f (x ∷ xs) (u ∷ us) y
-mapped_behind f x xs u us y first m = record { front = x ∷ m.front; at = m.at; behind = m.behind; is = ap (λ l. x ∷ l) m.is; before = λ i. first i ∷ m.before i; maps = m.maps }
-
-map-split : {X Y : Type 0} (f : X → Y) (xs : List X) (us : List Y) (y : Y) (vs : List Y) → map f xs ≡ us ++ y ∷ vs → IsMapped f xs us y
-map-split f [] [] y vs is = absurd (cc)
-map-split f [] (u ∷ us) y vs is = absurd (cc)
-map-split f (x ∷ xs) [] y vs is = record { front = []; at = x; behind = xs; is = refl; before = refl; maps = cc }
-map-split f (x ∷ xs) (u ∷ us) y vs is = mapped_behind f x xs u us y (cc) (map-split f xs us y vs (cc))
 
 module _ {S : Type 0} where
   -- the place stays
@@ -189,24 +168,6 @@ module _ {S : Type 0} where
       ∙ find-map without_data (is_least (all_without_data (waiting c h))) (waiting c h)
       ∙ ap (option_map without_data) (find-same _ (is_least (waiting c h)) (waiting c h) (least-erased (waiting c h)))
 
-  -- so its place is chosen
-  pub Chooses-erased : (c w : ℕ) (h : List (Event S)) → Chooses c h w → Chooses c (all_without_data h) w
-  unfolding Chooses
-  Chooses-erased c w h is = subst (λ (o : Option (Event (Unit {0}))). IsSomeAnd o (λ e. place_of e ≡ w)) (sym (chosen-erased c h)) (by (chosen c h) is)
-    where
-      by : (o : Option (Event S)) → IsSomeAnd o (λ e. place_of e ≡ w) → IsSomeAnd (option_map without_data o) (λ e. place_of e ≡ w)
-      by None p = p
-      by (Some e) p = place_of-erased e ∙ p
-
-  -- and no other
-  pub Chooses-from_erased : (c w : ℕ) (h : List (Event S)) → Chooses c (all_without_data h) w → Chooses c h w
-  unfolding Chooses
-  Chooses-from_erased c w h is = by (chosen c h) (subst (λ (o : Option (Event (Unit {0}))). IsSomeAnd o (λ e. place_of e ≡ w)) (chosen-erased c h) is)
-    where
-      by : (o : Option (Event S)) → IsSomeAnd (option_map without_data o) (λ e. place_of e ≡ w) → IsSomeAnd o (λ e. place_of e ≡ w)
-      by None p = p
-      by (Some e) p = sym (place_of-erased e) ∙ p
-
   priorities_at : (h : List (Event S)) (c : ℕ) → priorities (all_without_data h) c ≡ priorities h c
   unfolding priorities
   priorities_at h c =
@@ -223,34 +184,3 @@ module _ {S : Type 0} where
   pub erased-push : (h : History S) (e : Event S) → erased (with_event h e) ≡ with_event (erased h) (without_data e)
   unfolding with_event
   erased-push h e = ap (λ l. record { places = h.places; conditions = h.conditions; opening = tt; events = l }) (map-append without_data h.events (e ∷ []))
-
-  -- a front stays a front
-  pub Begins-erased : {f h : History S} → Begins f h → Begins (erased f) (erased h)
-  Begins-erased {f = f} b = record {
-    places = b.places;
-    conditions = b.conditions;
-    opening = refl;
-    later = all_without_data b.later;
-    is = sym
-        (map-append without_data f.events b.later) ∙ ap all_without_data b.is;
-  }
-
-  -- what may come next may do so without its data
-  pub Allowed-erased : (f : History S) (e : Event S) → Allowed f e → Allowed (erased f) (without_data e)
-  Allowed-erased f (Admit k s) a = record { in_range = a.in_range; fits = (turn-erased f.events ∙ a.fits.0, outside-erased k f.events ∙ a.fits.1, refl) }
-  Allowed-erased f (Wait k c p s) a = record { in_range = a.in_range; fits = turn-erased f.events ∙ a.fits }
-  Allowed-erased f (Signal k c w s) a = record { in_range = a.in_range; fits = (turn-erased f.events ∙ a.fits.0, Chooses-erased c w f.events a.fits.1) }
-  Allowed-erased f (Pass k c w s) a = record { in_range = a.in_range; fits = (turn-erased f.events ∙ a.fits.0, Chooses-erased c w f.events a.fits.1) }
-  Allowed-erased f (Leave k s) a = record { in_range = a.in_range; fits = turn-erased f.events ∙ a.fits }
-  Allowed-erased f (Resume k c s) a = record { in_range = a.in_range; fits = (turn-erased f.events ∙ a.fits.0, refl) }
-  Allowed-erased f (Back k s) a = record { in_range = a.in_range; fits = (turn-erased f.events ∙ a.fits.0, refl) }
-
-  -- a legal history is legal without its data
-  pub IsLegal-erased : (h : History S) → IsLegal h → IsLegal (erased h)
-  IsLegal-erased h legal = record {
-    each = λ f later e is.
-        let r : IsMapped without_data h.events f e = map-split without_data h.events f e later is in
-        let a : Allowed (cut_to (erased h) (all_without_data r.front)) (without_data r.at) = Allowed-erased (cut_to h r.front) r.at (legal.each r.front r.behind r.at r.is) in
-        let b : Allowed (cut_to (erased h) f) (without_data r.at) = subst (λ (l : List (Event (Unit {0}))). Allowed (cut_to (erased h) l) (without_data r.at)) r.before a in
-        subst (λ (x : Event (Unit {0})). Allowed (cut_to (erased h) f) x) r.maps b;
-  }

@@ -2,6 +2,7 @@
 use Rattle.std.proofs.Common.{◌≡◌, ◌||◌, not, List, [], ◌∷◌, ◌++◌, map, Bool, true, false, cond, Some, refl, ap, sym, ◌∙◌, subst}
 use Rattle.std.specs.Prelude.{All}
 use Rattle.std.specs.List.{filter, list_all, find}
+use Rattle.std.proofs.lemmas.Bool.{not-true}
 use Rattle.std.proofs.lemmas.List.Elements.{All-nil, All-cons, All-head, All-tail}
 use Rattle.hoare_law.specs.Events.{newest}
 use Rattle.hoare_law.specs.Waiting.{filter_by_later}
@@ -20,11 +21,6 @@ more_before x xs (pushed ys y is) = pushed (x ∷ ys) y (ap (λ l. x ∷ l) is)
 pub has_last : {X : Type 0} (xs : List X) → HasLast xs
 has_last [] = nothing refl
 has_last (x ∷ xs) = more_before x xs (has_last xs)
-
--- the last element stays with one more before
-pub newest-cons : {X : Type 0} (x : X) (xs : List X) (y : X) → newest xs ≡ Some y → newest (x ∷ xs) ≡ Some y
-newest-cons x [] y is = absurd (cc)
-newest-cons x (z ∷ xs) y is = is
 
 -- a last element stands behind the others
 pub newest-some : {X : Type 0} (xs : List X) (x : X) → newest xs ≡ Some x → (ys : List X) × (xs ≡ ys ++ x ∷ [])
@@ -76,12 +72,8 @@ pub filter-none : {X : Type 0} (p : X → Bool) (xs : List X) → list_all (λ x
 filter-none p [] a = refl
 filter-none p (x ∷ xs) a =
     let b : (not (p x) ≡ true) × (list_all (λ y. not (p y)) xs ≡ true) = both_true _ _ a in
-    let f : p x ≡ false = not_true (p x) b.0 in
+    let f : p x ≡ false = not-true (p x) b.0 in
     rw f (filter-none p xs b.1)
-  where
-    not_true : (t : Bool) → not t ≡ true → t ≡ false
-    not_true true e = absurd (cc)
-    not_true false e = refl
 
 -- a test that none passes is left out
 pub filter-or : {X : Type 0} (p q : X → Bool) (xs : List X) → list_all (λ x. not (p x)) xs ≡ true → filter (λ x. not (p x || q x)) xs ≡ filter (λ x. not (q x)) xs

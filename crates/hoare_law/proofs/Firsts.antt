@@ -1,20 +1,14 @@
 -- The first of a list, and its elements by index.
-use Rattle.std.proofs.Common.{◌≡◌, ◌≢◌, ℕ, zero, suc, ◌<◌, length, arith, List, [], ◌∷◌, map, drop, Option, Some, None, refl}
+use Rattle.std.proofs.Common.{◌≡◌, ◌≢◌, ℕ, zero, suc, ◌<◌, length, arith, List, [], ◌∷◌, map, Option, Some, None, refl}
 use Rattle.std.specs.Prelude.{MatchOption, slice_index}
 use Rattle.std.specs.List.{slice_get}
 use Rattle.std.specs.Option.{option_map}
-use Rattle.hoare_law.specs.Priorities.{behind_first}
 use Rattle.hoare_law.proofs.Sorted.{first_of}
 
 -- the first through a map
 pub first_of-map : {X Y : Type 0} (f : X → Y) (xs : List X) → first_of (map f xs) ≡ option_map f (first_of xs)
 first_of-map f [] = refl
 first_of-map f (x ∷ xs) = refl
-
--- what stays where the first is dropped
-pub drop-first : {X : Type 0} (xs : List X) → drop 1 xs ≡ behind_first xs
-drop-first [] = refl
-drop-first (x ∷ xs) = refl
 
 -- a list is empty, or its first stands at index 0
 pub MatchOption-first_of : (o : Option ℕ) (xs : List ℕ) → o ≡ first_of xs → MatchOption o (xs ≡ []) (λ p. (xs ≢ []) × (p ≡ slice_index xs 0))

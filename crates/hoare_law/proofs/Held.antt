@@ -8,10 +8,10 @@ use Rattle.hoare_law.specs.declared.turn.Turn.{Turn}
 use Rattle.hoare_law.specs.declared.turn.Turn.TheVariants.{Free, Held, Owed, Return}
 use Rattle.hoare_law.specs.Events.{place_of, own, newest}
 use Rattle.hoare_law.specs.Waiting.{waits_on, concerns, waiting}
-use Rattle.hoare_law.specs.Turns.{is_signal, urgent, turn, turn_by, turn_given_up, is_out, outside}
+use Rattle.hoare_law.specs.Turns.{urgent, turn, turn_by, turn_given_up, is_out, outside}
 use Rattle.hoare_law.proofs.Events.{newest-push, own-push}
 use Rattle.hoare_law.proofs.Waiting.{waiting-push}
-use Rattle.hoare_law.proofs.Turns.{urgent-push, turn-push, outside-push}
+use Rattle.hoare_law.proofs.Turns.{turn-push, outside-push}
 use Rattle.hoare_law.proofs.Filters.{HasLast, nothing, pushed, has_last, list_all-filter_own, list_all-same}
 
 -- the event brings its place inside
@@ -33,7 +33,8 @@ gives_up (Wait k c p s) = true
 gives_up (Leave k s) = true
 gives_up _ = false
 
-not_held : (us : List ℕ) (k : ℕ) → turn_given_up us ≢ Held k
+-- given up, the monitor is nobody's
+pub not_held : (us : List ℕ) (k : ℕ) → turn_given_up us ≢ Held k
 not_held [] k e = cc
 not_held (u ∷ us) k e = cc
 
@@ -156,15 +157,6 @@ module _ {S : Type 0} where
   in_concerns_own (Pass i d v s) j is = absurd (cc)
   in_concerns_own (Leave i s) j is = refl
 
-  in_no_signal : (e : Event S) → brings_in e ≡ true → is_signal e ≡ false
-  in_no_signal (Admit j s) is = refl
-  in_no_signal (Resume j d s) is = refl
-  in_no_signal (Back j s) is = refl
-  in_no_signal (Wait j d p s) is = refl
-  in_no_signal (Signal j d v s) is = absurd (cc)
-  in_no_signal (Pass j d v s) is = refl
-  in_no_signal (Leave j s) is = refl
-
   in_not_out : (e : Event S) → brings_in e ≡ true → is_out (Some e) ≡ false
   in_not_out (Admit j s) is = refl
   in_not_out (Resume j d s) is = refl
@@ -190,17 +182,6 @@ module _ {S : Type 0} where
       ap (λ j. list_all (λ x. not (j == place_of x)) (waiting c h)) (sym r.3)
       ∙ ap (λ g. list_all (λ x. not (place_of r.0 == place_of x)) (waiting c g)) r.1.1
       ∙ waiting-in r.1.0 r.0 c r.2
-
-  -- nor as a signaller
-  pub urgent-held : (h : List (Event S)) (k : ℕ) → turn h ≡ Held k → list_all (λ u. not (k == u)) (urgent h) ≡ true
-  urgent-held h k is =
-      let r : (e : Event S) × Ends h e × (brings_in e ≡ true) × (place_of e ≡ k) = turn-held h k is in
-      let added : urgent (r.1.0 ++ r.0 ∷ []) ≡ filter (λ u. not (place_of r.0 == u)) (urgent r.1.0) =
-      urgent-push r.1.0 r.0 ∙ ap (λ b. filter (λ u. not (place_of r.0 == u)) (urgent r.1.0) ++ cond b (place_of r.0 ∷ []) []) (in_no_signal r.0 r.2) ∙ append-nil _ in
-      ap (λ j. list_all (λ u. not (j == u)) (urgent h)) (sym r.3)
-      ∙ ap (λ g. list_all (λ u. not (place_of r.0 == u)) (urgent g)) r.1.1
-      ∙ ap (list_all (λ u. not (place_of r.0 == u))) added
-      ∙ list_all-filter_own (λ u. not (place_of r.0 == u)) (urgent r.1.0)
 
   -- and is not outside
   pub outside-held : (h : List (Event S)) (k : ℕ) → turn h ≡ Held k → outside k h ≡ false

@@ -10,15 +10,12 @@ use Rattle.hoare_law.specs.Events.{place_of, with_event}
 use Rattle.hoare_law.specs.Lawful.{Rest, Ready, Owes}
 use Rattle.hoare_law.specs.Legal.{Allowed, IsLegal}
 use Rattle.hoare_law.specs.Priorities.{priorities, joined, taken}
-use Rattle.hoare_law.specs.Turns.{turn, turn_given_up, urgent, outside, is_out}
+use Rattle.hoare_law.specs.Turns.{turn, urgent, outside, is_out}
 use Rattle.hoare_law.specs.Waiting.{priority_of, chosen, Chooses}
+use Rattle.hoare_law.proofs.Held.{not_held}
 use Rattle.hoare_law.proofs.Priorities.{priorities-leave, priorities-wait, priorities-signal, priorities-pass, priorities-nobody, slice_index-chosen, waiting-unchosen}
 use Rattle.hoare_law.proofs.Turns.{outside-push, turn-push}
 use Rattle.hoare_law.proofs.Waiters.{held-in_range, chosen-in_range, place_in_range}
-
-given_up_held : (us : List ℕ) (j : ℕ) → turn_given_up us ≢ Held j
-given_up_held [] j e = cc
-given_up_held (u ∷ us) j e = cc
 
 held_other : (k : ℕ) (t u : Turn) → t ≡ Held k → t ≡ u → u ≡ Held k
 held_other k t u a b = sym b ∙ a
@@ -33,9 +30,9 @@ module _ {S : Type 0} where
   turn-left f (Back i s) k j may held is =
       let no : Return i ≡ Held k = held_other k (turn f.events) (Return i) held may.fits.0 in cc
   turn-left f (Wait i c p s) k j may held is =
-      given_up_held (urgent (f.events ++ Wait i c p s ∷ [])) j (sym (turn-push f.events (Wait i c p s)) ∙ is)
+      not_held (urgent (f.events ++ Wait i c p s ∷ [])) j (sym (turn-push f.events (Wait i c p s)) ∙ is)
   turn-left f (Leave i s) k j may held is =
-      given_up_held (urgent (f.events ++ Leave i s ∷ [])) j (sym (turn-push f.events (Leave i s)) ∙ is)
+      not_held (urgent (f.events ++ Leave i s ∷ [])) j (sym (turn-push f.events (Leave i s)) ∙ is)
   turn-left f (Signal i c w s) k j may held is =
       let no : Owed w c ≡ Held j = sym (turn-push f.events (Signal i c w s)) ∙ is in cc
   turn-left f (Pass i c w s) k j may held is =

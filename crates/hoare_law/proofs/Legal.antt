@@ -6,7 +6,7 @@ use Rattle.hoare_law.specs.Events.{with_event, cut_to}
 use Rattle.hoare_law.specs.Growth.{Begins}
 use Rattle.hoare_law.specs.Legal.{Allowed, IsLegal}
 use Rattle.hoare_law.specs.Lawful.{Rest, Ready, Owes, IsLawful, Stands}
-use Rattle.hoare_law.proofs.Events.{push-split}
+use Rattle.hoare_law.proofs.Events.{none-split, push-split}
 
 pub IsLegal-push : {S : Type 0} {h : History S} (e : Event S) → IsLegal h → Allowed h e → IsLegal (with_event h e)
 unfolding with_event
@@ -19,11 +19,7 @@ IsLegal-push {S = S} {h = h} e legal here = record {
 }
 
 pub IsLegal-none : {S : Type 0} (h : History S) → h.events ≡ [] → IsLegal h
-IsLegal-none h none = record { each = λ f g x is. absurd (no_event f g x (sym none ∙ is)) }
-  where
-    no_event : {X : Type 0} (f g : List X) (x : X) → [] ≡ f ++ x ∷ g → ⊥
-    no_event [] g x is = cc
-    no_event (y ∷ f) g x is = cc
+IsLegal-none h none = record { each = λ f g x is. absurd (none-split f g x (sym none ∙ is)) }
 
 pub IsLegal-front : {S : Type 0} {f h : History S} → Begins f h → IsLegal h → IsLegal f
 IsLegal-front {f = f} begins legal = record {
@@ -31,6 +27,7 @@ IsLegal-front {f = f} begins legal = record {
       (legal.each a (b ++ begins.later) x (sym begins.is ∙ (ap (λ y. y ++ begins.later) is ∙ append_assoc a (x ∷ b) begins.later)));
 }
 
+-- the last event was allowed
 pub IsLegal-last : {S : Type 0} (h : History S) (e : Event S) → IsLegal (with_event h e) → Allowed h e
 unfolding with_event
 IsLegal-last h e legal = legal.each h.events [] e refl
@@ -50,10 +47,6 @@ IsLawful-front {f = f} begins lawful = record {
   opens = rw begins.opening lawful.opens;
   each = λ a b x is. lawful.each a (b ++ begins.later) x (sym begins.is ∙ (ap (λ y. y ++ begins.later) is ∙ append_assoc a (x ∷ b) begins.later));
 }
-
-pub IsLawful-last : {S : Type 0} {rest : Rest S} {ready : Ready S} (h : History S) (e : Event S) → IsLawful rest ready (with_event h e) → Owes rest ready h.events e
-unfolding with_event
-IsLawful-last h e lawful = lawful.each h.events [] e refl
 
 pub Stands-push : {S : Type 0} {rest : Rest S} {ready : Ready S} {h : History S} (e : Event S) → Stands rest ready h → Allowed h e → Owes rest ready h.events e → Stands rest ready (with_event h e)
 Stands-push e stands allowed owes = record { legal = IsLegal-push e stands.legal allowed; lawful = IsLawful-push e stands.lawful owes }

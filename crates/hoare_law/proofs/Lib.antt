@@ -14,7 +14,6 @@ pub mod Fronts
 pub mod Erasure
 pub mod Rules
 pub mod Joined
-pub mod Searches
 pub mod Firsts
 pub mod Opening
 pub mod Entering

@@ -1,22 +1,19 @@
 -- A history in which nothing happened yet.
-use Rattle.std.proofs.Common.{◌≡◌, ℕ, true, List, [], ◌∷◌, ◌++◌, refl}
+use Rattle.std.proofs.Common.{◌≡◌, ℕ, true, refl}
 use Rattle.hoare_law.specs.declared.turn.Turn.TheVariants.{Free}
 use Rattle.hoare_law.specs.Events.{opened}
 use Rattle.hoare_law.specs.Lawful.{Rest, Ready, Stands}
 use Rattle.hoare_law.specs.Priorities.{nobody}
 use Rattle.hoare_law.specs.Turns.{turn, urgent, outside}
+use Rattle.hoare_law.proofs.Events.{none-split}
 use Rattle.hoare_law.proofs.Legal.{IsLegal-none}
-
-none_split : {X : Type 0} (f g : List X) (x : X) → [] ≡ f ++ x ∷ g → ⊥
-none_split [] g x is = cc
-none_split (y ∷ f) g x is = cc
 
 -- it is legal, and lawful where the opening data are at rest
 pub Stands-opened : {S : Type 0} (rest : Rest S) (ready : Ready S) (places conditions : ℕ) (s : S) → rest s nobody
     → Stands rest ready (opened places conditions s)
 Stands-opened rest ready places conditions s at_rest = record {
   legal = IsLegal-none (opened places conditions s) refl;
-  lawful = record { opens = at_rest; each = λ f g e is. absurd (none_split f g e is) };
+  lawful = record { opens = at_rest; each = λ f g e is. absurd (none-split f g e is) };
 }
 
 -- everybody is outside

@@ -13,7 +13,7 @@ use Rattle.hoare_law.specs.Events.{place_of, data_of, own, newest}
 use Rattle.hoare_law.specs.Waiting.{waits_on, priority_of, concerns, waiting, chosen, Chooses}
 use Rattle.hoare_law.specs.Turns.{is_signal, turn, is_out, outside}
 use Rattle.hoare_law.specs.Priorities.{put_in, in_order, priorities, joined, taken, behind_first}
-use Rattle.hoare_law.proofs.Tests.{both_true}
+use Rattle.hoare_law.proofs.Tests.{both_true, eq_swap}
 use Rattle.hoare_law.proofs.Waiting.{waiting-push}
 use Rattle.hoare_law.proofs.Sorted.{first_of, put_all-push, in_order-filter, map-put_in, map-in_order, in_order-none, in_order-short, IsNonDecreasing-in_order}
 use Rattle.hoare_law.proofs.Chosen.{chosen-first}
@@ -24,10 +24,6 @@ use Rattle.hoare_law.proofs.Waiters.{Waits, LastSignals, All-waiting, own-return
 some_and : {X : Type 0} (P : X → Type 0) (o : Option X) → IsSomeAnd o P → (x : X) × (o ≡ Some x) × P x
 some_and P None p = absurd p
 some_and P (Some x) p = (x, refl, p)
-
-same_test : (c d : ℕ) (t : Bool) → (d == c) ≡ t → (c == d) ≡ t
-same_test c d true is = eq-eqb c d (sym (eqb-true d c is))
-same_test c d false is = ne_eqb c d (λ same. true≢false (sym (eq-eqb d c (sym same)) ∙ is))
 
 first_is : {X : Type 0} (xs : List X) (x : X) → first_of xs ≡ Some x → xs ≡ x ∷ behind_first xs
 first_is [] x is = absurd (cc)
@@ -177,8 +173,8 @@ module _ {S : Type 0} where
   in_turn-wait h k c p d s is = ap (in_order priority_of) (waiting-wait h k c p d s is) ∙ by (d == c) refl
     where
       by : (t : Bool) → (d == c) ≡ t → in_order priority_of (waiting d h ++ cond (c == d) (Wait k c p s ∷ []) []) ≡ cond t (put_in priority_of (Wait k c p s) (in_turn h d)) (in_turn h d)
-      by true e = ap (λ t. in_order priority_of (waiting d h ++ cond t (Wait k c p s ∷ []) [])) (same_test c d true e) ∙ put_all-push priority_of [] (waiting d h) (Wait k c p s)
-      by false e = ap (λ t. in_order priority_of (waiting d h ++ cond t (Wait k c p s ∷ []) [])) (same_test c d false e) ∙ ap (in_order priority_of) (append-nil (waiting d h))
+      by true e = ap (λ t. in_order priority_of (waiting d h ++ cond t (Wait k c p s ∷ []) [])) (eq_swap c d ∙ e) ∙ put_all-push priority_of [] (waiting d h) (Wait k c p s)
+      by false e = ap (λ t. in_order priority_of (waiting d h ++ cond t (Wait k c p s ∷ []) [])) (eq_swap c d ∙ e) ∙ ap (in_order priority_of) (append-nil (waiting d h))
 
   priorities-wait_at : (h : List (Event S)) (k c p d : ℕ) (s : S) → turn h ≡ Held k → priorities (h ++ Wait k c p s ∷ []) d ≡ joined (priorities h) c p d
   unfolding priorities

@@ -8,7 +8,7 @@ use Rattle.std.specs.List.Sorted.{IsNonDecreasing}
 use Rattle.std.proofs.lemmas.Bool.Decides.{nat_tests}
 use Rattle.std.proofs.lemmas.List.{append-nil}
 use Rattle.hoare_law.proofs.Filters.{HasLast, nothing, pushed, has_last}
-use Rattle.std.proofs.lemmas.List.Elements.{filter-append, All-cons, All-head, All-tail}
+use Rattle.std.proofs.lemmas.List.Elements.{All-nil, All-cons, All-head, All-tail}
 use Rattle.std.specs.Prelude.{◌≢◌, slice_index, All}
 
 -- the first element
@@ -222,21 +222,6 @@ module _ {X : Type 0} (key : X → ℕ) where
   pub in_order-filtered : (p : X → Bool) (xs : List X) → in_order key xs ≡ xs → in_order key (filter p xs) ≡ filter p xs
   in_order-filtered p xs o = in_order-filter key p xs ∙ ap (filter p) o
 
-  -- a filter of what stands in order, with one more put in
-  pub filter-put_in : (p : X → Bool) (x : X) (xs : List X) → in_order key xs ≡ xs → filter p (put_in key x xs) ≡ cond (p x) (put_in key x (filter p xs)) (filter p xs)
-  filter-put_in p x xs o =
-      ap (filter p) (put_in-pushed x xs o) ∙ sym (in_order-filter key p (xs ++ x ∷ [])) ∙ ap (in_order key) (filter-append p xs (x ∷ []))
-      ∙ in_order-push (p x) x (filter p xs) ∙ ap (λ l. cond (p x) (put_in key x l) l) (in_order-filtered p xs o)
-
--- the same through a map that carries the key over
-pub map-filter_put_in : {X Y : Type 0} (f : X → Y) (key : Y → ℕ) (p : X → Bool) (x : X) (xs : List X) → in_order (λ v. key (f v)) xs ≡ xs
-    → map f (filter p (put_in (λ v. key (f v)) x xs)) ≡ cond (p x) (put_in key (f x) (map f (filter p xs))) (map f (filter p xs))
-map-filter_put_in f key p x xs o = ap (map f) (filter-put_in (λ v. key (f v)) p x xs o) ∙ by (p x) (filter p xs)
-  where
-    by : (t : Bool) (ys : List _) → map f (cond t (put_in (λ v. key (f v)) x ys) ys) ≡ cond t (put_in key (f x) (map f ys)) (map f ys)
-    by true ys = sym (put_in-map f key x ys)
-    by false ys = refl
-
 -- the first that passes a test is the first that a filter keeps
 pub find-filter : {X : Type 0} (p : X → Bool) (xs : List X) → find p xs ≡ first_of (filter p xs)
 find-filter p [] = refl
@@ -246,14 +231,27 @@ find-filter p (x ∷ xs) = by (p x) (find-filter p xs)
     by true rest = refl
     by false rest = rest
 
--- all of a list, and one more put in
+module _ {X : Type 0} (key : X → ℕ) (P : X → Type 0) where
+  -- all of a list, and one more put in by its key
+  pub All-put_in_by : (x : X) (xs : List X) → P x → All P xs → All P (put_in key x xs)
+  All-put_in_by x [] p a = All-cons P x [] p a
+  All-put_in_by x (y ∷ ys) p a = by (leb (key y) (key x)) (All-put_in_by x ys p (All-tail P y ys a))
+    where
+      by : (t : Bool) → All P (put_in key x ys) → All P (cond t (y ∷ put_in key x ys) (x ∷ y ∷ ys))
+      by true r = All-cons P y (put_in key x ys) (All-head P y ys a) r
+      by false r = All-cons P x (y ∷ ys) p a
+
+  All-put_all : (placed xs : List X) → All P placed → All P xs → All P (put_all key placed xs)
+  All-put_all placed [] a b = a
+  All-put_all placed (x ∷ xs) a b = All-put_all (put_in key x placed) xs (All-put_in_by x placed (All-head P x xs b) a) (All-tail P x xs b)
+
+  -- what holds of all holds of all in order
+  pub All-in_order : (xs : List X) → All P xs → All P (in_order key xs)
+  All-in_order xs a = All-put_all [] xs (All-nil P) a
+
+-- all of a list of numbers, and one more put in
 pub All-put_in : (P : ℕ → Type 0) (p : ℕ) (qs : List ℕ) → P p → All P qs → All P (put_in (λ n. n) p qs)
-All-put_in P p [] here all = All-cons P p [] here all
-All-put_in P p (q ∷ qs) here all =
-    elim (leb q p) as (λ b. All P (cond b (q ∷ put_in (λ n. n) p qs) (p ∷ q ∷ qs))) [
-      | true ↦ All-cons P q (put_in (λ n. n) p qs) (All-head P q qs all) (All-put_in P p qs here (All-tail P q qs all))
-      | false ↦ All-cons P p (q ∷ qs) here all
-    ]
+All-put_in = All-put_in_by (λ n. n)
 
 -- the first of numbers that do not decrease is the least
 pub All-behind_first : (qs : List ℕ) → IsNonDecreasing qs → qs ≢ [] → All (λ r. slice_index qs 0 ≤ r) (behind_first qs)

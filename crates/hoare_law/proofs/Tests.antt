@@ -1,7 +1,11 @@
 -- Tests on numbers and on all elements of a list, joined.
-use Rattle.std.proofs.Common.{◌≡◌, ℕ, ◌<◌, Bool, true, false, leb, ◌&&◌, List, [], ◌∷◌, ◌++◌, cond, refl, arith}
+use Rattle.std.proofs.Common.{◌≡◌, ℕ, ◌<◌, Bool, true, false, eqb, leb, ◌&&◌, List, [], ◌∷◌, ◌++◌, cond, refl, arith}
 use Rattle.std.specs.List.{list_all, filter}
 use Rattle.std.proofs.lemmas.Bool.Decides.{nat_tests}
+
+-- an equation read backwards
+pub eq_swap : (k j : ℕ) → eqb k j ≡ eqb j k
+eq_swap k j = grind (arith, nat_tests)
 
 -- both sides of a conjunction
 pub both_true : (a b : Bool) → (a && b) ≡ true → (a ≡ true) × (b ≡ true)

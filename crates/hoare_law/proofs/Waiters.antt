@@ -1,8 +1,9 @@
 -- What is known of a process that waits, of the one that is chosen, and of a waiting signaller.
 use Rattle.std.proofs.Common.{◌≡◌, ◌≢◌, ◌==◌, ◌&&◌, ◌||◌, ◌<◌, ◌≤◌, not, ℕ, List, [], ◌∷◌, ◌++◌, length}
-use Rattle.std.proofs.Common.{Bool, true, false, cond, Some, refl, ap, sym, ◌∙◌, subst, arith, eq-eqb, eqb-true, ne_eqb, true≢false}
+use Rattle.std.proofs.Common.{Bool, true, false, cond, Some, refl, ap, sym, ◌∙◌, subst, arith, eq-eqb, eqb-true, ne_eqb}
 use Rattle.std.specs.Prelude.{All}
 use Rattle.std.specs.List.{filter, list_all}
+use Rattle.std.proofs.lemmas.Bool.{not-true}
 use Rattle.std.proofs.lemmas.List.Elements.{All-head, All-weaker, All-map, filter-append}
 use Rattle.hoare_law.specs.declared.event.Event.{Event}
 use Rattle.hoare_law.specs.declared.event.History.{History}
@@ -12,14 +13,10 @@ use Rattle.hoare_law.specs.Events.{place_of, own, newest, cut_to}
 use Rattle.hoare_law.specs.Waiting.{filter_by_later, waits_on, concerns, is_untouched, is_least, waiting, chosen}
 use Rattle.hoare_law.specs.Turns.{is_signal, is_last_act, urgent, turn}
 use Rattle.hoare_law.specs.Legal.{IsInRange, IsLegal}
-use Rattle.hoare_law.proofs.Tests.{both_true}
+use Rattle.hoare_law.proofs.Tests.{both_true, eq_swap}
 use Rattle.hoare_law.proofs.Events.{newest-push}
 use Rattle.hoare_law.proofs.Filters.{filter-none, list_all-at, list_all-from_All, All-find, find-passes, All-filter_by_later}
 use Rattle.hoare_law.proofs.Held.{brings_in, hands_to, turn-held, turn-owed, turn-return}
-
-negated : (b : Bool) → not b ≡ true → b ≡ false
-negated true e = absurd (cc)
-negated false e = refl
 
 first : (a b : Bool) → not (a || b) ≡ true → a ≡ false
 first true b e = absurd (cc)
@@ -27,16 +24,13 @@ first false b e = refl
 
 -- an event that does not concern a place is not its own
 own_is_concerned : {S : Type 0} (e : Event S) (k : ℕ) → not (concerns k e) ≡ true → (place_of e == k) ≡ false
-own_is_concerned (Admit j s) k n = negated _ n
-own_is_concerned (Resume j c s) k n = negated _ n
-own_is_concerned (Back j s) k n = negated _ n
-own_is_concerned (Wait j c p s) k n = negated _ n
+own_is_concerned (Admit j s) k n = not-true _ n
+own_is_concerned (Resume j c s) k n = not-true _ n
+own_is_concerned (Back j s) k n = not-true _ n
+own_is_concerned (Wait j c p s) k n = not-true _ n
 own_is_concerned (Signal j c w s) k n = first _ _ n
 own_is_concerned (Pass j c w s) k n = first _ _ n
-own_is_concerned (Leave j s) k n = negated _ n
-
-swapped : (j k : ℕ) → (j == k) ≡ false → (k == j) ≡ false
-swapped j k e = ne_eqb k j (λ same. true≢false (sym (eq-eqb j k (sym same)) ∙ e))
+own_is_concerned (Leave j s) k n = not-true _ n
 
 module _ {S : Type 0} where
   -- x waits on c in h: it is a wait on c, and its place's last event
@@ -191,8 +185,8 @@ module _ {S : Type 0} where
       own_apart : is_untouched x h ≡ true → list_all (λ y. not (place_of x == place_of y)) (waiting c h) ≡ true
       own_apart a = list_all-from_All (λ y. not (place_of x == place_of y)) (waiting c h)
           (All-filter_by_later (λ y. not (place_of x == place_of y) ≡ true) (λ e later. waits_on c e && is_untouched e later) h
-          (λ f y later is t. ap not (swapped (place_of y) (place_of x) (own_is_concerned y (place_of x)
-          (list_all-at (λ z. not (concerns (place_of x) z)) f y later (ap (list_all (λ z. not (concerns (place_of x) z))) (sym is) ∙ a))))))
+          (λ f y later is t. ap not (eq_swap (place_of x) (place_of y) ∙ own_is_concerned y (place_of x)
+          (list_all-at (λ z. not (concerns (place_of x) z)) f y later (ap (list_all (λ z. not (concerns (place_of x) z))) (sym is) ∙ a)))))
 
       first_of : (t : Bool) → (w == place_of x) ≡ t → is_untouched x h ≡ true → length (filter (λ y. w == place_of y) (waiting c h)) ≤ 1
           → length (cond t (x ∷ filter (λ y. w == place_of y) (waiting c h)) (filter (λ y. w == place_of y) (waiting c h))) ≤ 1

@@ -1,11 +1,11 @@
 -- Each place does one thing in a history that a book is of, and its own last event says which.
-use Rattle.std.proofs.Common.{◌≡◌, ◌==◌, ◌<◌, ◌↔◌, ℕ, suc, Bool, true, false, cond, leb, eqb-true, arith}
+use Rattle.std.proofs.Common.{◌≡◌, ◌==◌, ◌<◌, ◌↔◌, ℕ, suc, Bool, true, false, cond, eqb-true, arith}
 use Rattle.std.proofs.Common.{List, [], ◌∷◌, ◌++◌, map, Option, Some, None, refl, ap, sym, ◌∙◌, subst}
 use Rattle.std.specs.Prelude.{All}
 use Rattle.std.specs.List.{filter, Contains}
 use Rattle.std.proofs.lemmas.Bool.Decides.{nat_tests}
 use Rattle.std.proofs.lemmas.List.{append-nil}
-use Rattle.std.proofs.lemmas.List.Elements.{All-nil, All-cons, All-head, All-tail, All-same, All-contains, All-contains_itself}
+use Rattle.std.proofs.lemmas.List.Elements.{All-head, All-tail, All-same, All-contains, All-contains_itself}
 use Rattle.hoare_law.specs.declared.event.Event.{Event}
 use Rattle.hoare_law.specs.declared.event.History.{History}
 use Rattle.hoare_law.specs.declared.event.Event.TheVariants.{Admit, Wait, Signal, Pass, Leave, Resume, Back}
@@ -14,9 +14,10 @@ use Rattle.hoare_law.specs.declared.turn.Turn.TheVariants.{Free, Held, Owed, Ret
 use Rattle.hoare_law.specs.Events.{place_of, own, newest, with_event}
 use Rattle.hoare_law.specs.Waiting.{waiting, priority_of}
 use Rattle.hoare_law.specs.Turns.{is_signal, urgent, turn, is_out, outside}
-use Rattle.hoare_law.specs.Priorities.{put_in, put_all, in_order}
+use Rattle.hoare_law.specs.Priorities.{in_order}
 use Rattle.hoare_law.proofs.Events.{newest-push, own-push}
 use Rattle.hoare_law.proofs.Held.{brings_in, own-held}
+use Rattle.hoare_law.proofs.Sorted.{All-in_order}
 use Rattle.hoare_law.proofs.Waiters.{Waits, LastSignals, All-waiting, All-urgent}
 use Rattle.wait_book.specs.declared.waiter.Waiter.{Waiter}
 use Rattle.wait_book.specs.Contents.{Contents, IsOf, times, times_in, times_in_hand, wait_of}
@@ -105,23 +106,6 @@ Does-last h k lanes.Signalling d =
 
 -- a place that is not outside stands in the book
 
-module _ {X : Type 0} (P : X → Type 0) (key : X → ℕ) where
-  All-put_in : (x : X) (xs : List X) → P x → All P xs → All P (put_in key x xs)
-  All-put_in x [] p a = All-cons P x [] p a
-  All-put_in x (y ∷ ys) p a = by (leb (key y) (key x)) (All-put_in x ys p (All-tail P y ys a))
-    where
-      by : (t : Bool) → All P (put_in key x ys) → All P (cond t (y ∷ put_in key x ys) (x ∷ y ∷ ys))
-      by true r = All-cons P y (put_in key x ys) (All-head P y ys a) r
-      by false r = All-cons P x (y ∷ ys) p a
-
-  All-put_all : (placed xs : List X) → All P placed → All P xs → All P (put_all key placed xs)
-  All-put_all placed [] a b = a
-  All-put_all placed (x ∷ xs) a b = All-put_all (put_in key x placed) xs (All-put_in x placed (All-head P x xs b) a) (All-tail P x xs b)
-
-  -- what holds of all holds of all in order
-  All-in_order : (xs : List X) → All P xs → All P (in_order key xs)
-  All-in_order xs a = All-put_all [] xs (All-nil P) a
-
 some_of : (n : ℕ) → (n == 0) ≡ false → 0 < n
 some_of n is = grind (arith, nat_tests)
 
@@ -176,7 +160,7 @@ Does-something b h k o claimed = by (outside k h.events) refl
 
     ordered : (c : ℕ) → All (Contains (waiting c h.events)) (map wait_of (filter (on c) b.waiters))
     ordered c = All-same (Contains (waiting c h.events)) (map wait_of (filter (on c) b.waiters)) (in_order priority_of (waiting c h.events)) (o.waiters c)
-        (All-in_order (Contains (waiting c h.events)) priority_of (waiting c h.events) (All-contains_itself (waiting c h.events)))
+        (All-in_order priority_of (Contains (waiting c h.events)) (waiting c h.events) (All-contains_itself (waiting c h.events)))
 
     by_wait : (t : Bool) → (times k (places b.waiters) == 0) ≡ t → 0 < times_in k b → (lane : Lane) × Does h k lane
     by_wait true n some = by_signal (times k b.signallers == 0) refl (eqb-true (times k (places b.waiters)) 0 n) some

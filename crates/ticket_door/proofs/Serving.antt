@@ -29,7 +29,7 @@ use Rattle.ticket_door.specs.Queue.{ticket_in}
 use Rattle.ticket_door.specs.Rule.{Starts, Tells, next_at, serving_at, bell_at, taken, rung}
 use Rattle.ticket_door.specs.Steps.{asks, looks, LooksAt}
 use Rattle.hoare_law.proofs.Admissions.{admissions-admit, admissions-other}
-use Rattle.ticket_door.proofs.Queue.{ticket_range, ticket_first, ticket_none, none_ticket, ticket_last, ticket_kept, ticket_else, once_more, below_more}
+use Rattle.ticket_door.proofs.Queue.{Some-injective, ticket_range, ticket_first, ticket_none, none_ticket, ticket_last, ticket_kept, ticket_else, once_more, below_more}
 use Rattle.ticket_door.proofs.Turns.{taken_le, taken_free, free_next, no_admit, held_busy, next_word, served_only}
 
 module _ {D : Type 0} (first n : ℕ) where
@@ -142,15 +142,12 @@ module _ {D : Type 0} (first n : ℕ) where
     pub looks_ok : (slots id k x : ℕ) (f : History D) (st : Step (Option (Lodged D))) → n ≤ 64 → outside k f.events ≡ true → Allows K slots id (asking k f x, []) serving_at (λ r. r)
         (looks first rest ready st (asking k f x, []))
     looks_ok slots id k x f st few out = frame.told_as K slots id (asking k f x, []) serving_at (λ r. r) _ (looks first rest ready st (asking k f x, []))
-        (λ r m c j g y is. let q = frame.sole_is k j f g (Some x) (Some y) [] [] is in let same : x ≡ y = some_same q.2 in
+        (λ r m c j g y is. let q = frame.sole_is k j f g (Some x) (Some y) [] [] is in let same : x ≡ y = Some-injective x y q.2 in
         subst (λ (p : ℕ × (History D × ℕ)). LooksAt first rest ready p.0 p.1.0 p.1.1 (asking k f x, []) r m) (λ i. (q.0 i, (q.1 i, same i))) c)
         (frame.comes_ok (Starts first n) (Tells first n) rest ready conditions n slots id k serving_at f (Some x) (Admit k) (λ r. r) (λ r. r ≡ (first + x) % 2 ^ 64) (λ log. admissions log.events ≡ x)
         (λ r. ℕ_discrete r ((first + x) % 2 ^ 64))
         (λ log tickets ws small t miss. refl)
         (λ log tickets ws stands places small same has t hit. brings k x f log tickets ws few out stands places small same has t hit))
-      where
-        some_same : {y : ℕ} → ◌≡◌ {A = Option ℕ} (Some x) (Some y) → x ≡ y
-        some_same e = cc
 
     -- the same of a seat with that view
     pub asks_at : (slots id k : ℕ) (f : History D) (st : Step (Option (Lodged D))) (m : Sat D) (start : ℕ) → m ≡ (alone k f, []) → first ≡ start

@@ -22,13 +22,14 @@ use Rattle.hoare_law.proofs.Filters.{filter-filter}
 use Rattle.hoare_law.proofs.Sorted.{in_order-filter, in_order-push, put_in-map}
 use Rattle.hoare_law.proofs.Chosen as law
 use Rattle.hoare_law.proofs.Sorted as sorted
+use Rattle.hoare_law.proofs.Tests.{eq_swap}
 use Rattle.wait_book.specs.declared.waiter.Waiter.{Waiter}
 use Rattle.wait_book.specs.Contents.{Contents, IsOf, next_of, one, times, times_in, wait_of, waiters_on}
 use Rattle.wait_book.specs.declared.steps.Next.TheVariants as next
 use Rattle.wait_book.specs.Stepping.{after_claim, after_signal, after_pass, settled}
 use Rattle.wait_book.specs.Insides.{IsSound}
 use Rattle.wait_book.specs.Queues.{PutsIn, TakesFirst}
-use Rattle.wait_book.proofs.Times.{eq_self, eq_swap, one_same, one_apart, filter-apart, filter-others}
+use Rattle.wait_book.proofs.Times.{eq_self, one_same, one_apart, filter-apart, filter-others}
 use Rattle.wait_book.proofs.Waiters.{on, places, key, times-taken, filter-taken, filter-taken_on}
 use Rattle.wait_book.proofs.Sound.{admitted, waited, left, resumed, returned, Enters, Holds, Resumes, holder_apart, hand_apart, held_hand, owed_hand, owed_condition}
 use Rattle.wait_book.proofs.Sound.{held_in_range, owed_in_range, return_in_range, return_in, return_front}

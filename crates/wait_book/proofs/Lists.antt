@@ -18,10 +18,6 @@ put_same c xs at = rw (eq_self c) refl
 pub put_other : (c d : ℕ) (xs : List Link) (at : ℕ → List Link) → d ≢ c → list_put c xs at d ≡ at d
 put_other c d xs at n = rw (eq_apart d c n) refl
 
--- lists that are the same one by one
-pub same_lists_at : {at bt : ℕ → List Link} → ((c : ℕ) → at c ≡ bt c) → at ≡ bt
-same_lists_at h = λ i c. h c i
-
 module _ {X : Type 0} (f : ℕ → Link → X) where
   -- a list beyond those that are looked at
   pub below_past : (n c : ℕ) (xs : List Link) (at : ℕ → List Link) → n ≤ c → all_below f n (list_put c xs at) ≡ all_below f n at
@@ -91,10 +87,6 @@ length_one f n c at l = omega (arith, measure_one f length length-append n c at 
 pub times_next : (f : ℕ → Link → ℕ) (k n : ℕ) (at : ℕ → List Link) → times k (all_below f (suc n) at) ≡ times k (all_below f n at) + times k (map (f n) (at n))
 unfolding all_below
 times_next f k n at = times-append k (all_below f n at) (map (f n) (at n))
-
-pub times_none : (f : ℕ → Link → ℕ) (k : ℕ) (at : ℕ → List Link) → times k (all_below f 0 at) ≡ 0
-unfolding all_below
-times_none f k at = refl
 
 pub length_next : {X : Type 0} (f : ℕ → Link → X) (n : ℕ) (at : ℕ → List Link) → length (all_below f (suc n) at) ≡ length (all_below f n at) + length (at n)
 unfolding all_below

@@ -14,11 +14,11 @@ use Rattle.hoare_law.proofs.Sorted as sorted
 use Rattle.hoare_law.proofs.Filters.{map-none}
 use Rattle.hoare_law.proofs.Firsts.{first_of-map, slice_index-map}
 use Rattle.hoare_law.proofs.Sorted.{map-in_order, in_order-none, map-put_in, find-filter}
+use Rattle.hoare_law.proofs.Tests.{eq_swap}
 use Rattle.wait_book.specs.declared.waiter.Waiter.{Waiter}
 use Rattle.wait_book.specs.Contents.{Contents, IsOf, priorities_on, wait_of, waiters_on}
 use Rattle.wait_book.specs.Insides.{IsSound}
 use Rattle.wait_book.specs.Queues.{PutsIn, TakesFirst}
-use Rattle.wait_book.proofs.Times.{eq_swap}
 use Rattle.wait_book.proofs.Waiters.{on, key, filter-taken_on, filter-taken_off}
 use Rattle.wait_book.proofs.Sound.{waited, resumed, Resumes, taken_ordered}
 use Rattle.wait_book.proofs.Histories.{chosen-first_on, chosen-nobody}

@@ -6,15 +6,12 @@ use Rattle.std.proofs.lemmas.Bool.Decides.{nat_tests}
 use Rattle.std.proofs.lemmas.Bool.{false≢true}
 use Rattle.std.proofs.lemmas.List.{map-id}
 use Rattle.hoare_law.proofs.Filters.{filter-all}
+use Rattle.hoare_law.proofs.Tests.{eq_swap}
 use Rattle.wait_book.specs.Contents.{one, times}
 
 -- a place is itself
 pub eq_self : (k : ℕ) → eqb k k ≡ true
 eq_self k = eq-eqb k k refl
-
--- an equation read backwards
-pub eq_swap : (k j : ℕ) → eqb k j ≡ eqb j k
-eq_swap k j = grind (arith, nat_tests)
 
 -- one, of a place and itself
 pub one_same : (k : ℕ) → one k k ≡ 1

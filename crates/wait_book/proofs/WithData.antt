@@ -16,7 +16,7 @@ use Rattle.hoare_law.proofs.Priorities.{waiting-no_priority, priorities-nobody}
 use Rattle.hoare_law.proofs.Sorted.{in_order-in_order, map-in_order}
 use Rattle.wait_book.specs.declared.waiter.Waiter.{Waiter}
 use Rattle.wait_book.specs.declared.steps.Next.{Next}
-use Rattle.wait_book.specs.Contents.{Contents, IsPlaceBelow, IsOf, next_of, priorities_on, times_in, wait_of, waiters_on}
+use Rattle.wait_book.specs.Contents.{Contents, IsOf, next_of, priorities_on, times_in, wait_of, waiters_on}
 use Rattle.wait_book.specs.Stepping.{after_claim, after_pass, after_signal, settled}
 
 priorities_of : (ws : List Waiter) → map priority_of (map wait_of ws) ≡ map (λ (w : Waiter). w.priority) ws
@@ -102,6 +102,3 @@ module _ {D : Type 0} where
 pub none-listed : (b : Bool) (q : List ℕ) → b ≡ false → (IsTrue b → q ≢ []) × (q ≢ [] → IsTrue b) → q ≡ []
 none-listed b [] n told = refl
 none-listed b (x ∷ q) n told = let yes : b ≡ true = told.1 (λ e. cc) in absurd (true≢false (sym yes ∙ n))
-
-pub IsPlaceBelow-same : (m n : ℕ) (next : Next) → m ≡ n → IsPlaceBelow m next → IsPlaceBelow n next
-IsPlaceBelow-same m n next same below = subst (λ (i : ℕ). IsPlaceBelow i next) same below

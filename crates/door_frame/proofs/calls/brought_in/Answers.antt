@@ -1,7 +1,7 @@
 use Rattle.std.proofs.Common.{ℕ, ◌<◌, ◌∙◌, subst}
 use Rattle.hoare_law.specs.declared.event.Event.TheVariants.{Admit}
 use Rattle.hoare_law.specs.Beside.Erasure.{erased}
-use Rattle.hoare_law.proofs.Entering.{Allowed-last}
+use Rattle.hoare_law.proofs.Legal.{IsLegal-last}
 use Rattle.wait_book.proofs.WithData.{turn-history, times_in-outside, IsOf-event}
 use Rattle.door_frame.specs.Seats.{IsInside}
 use Rattle.door_frame.proofs.Arrivals.{came_as}
@@ -12,19 +12,19 @@ pub admit-requires-clause-free : goal.admit-requires-clause-free
 admit-requires-clause-free g c =
     let D = g.D.MonitorData in
     let in_ = came_as (c.deref_mut.ensures.value ∙ c.parcel.view_is) c.requires.came.1 in
-    turn-history _ in_.log in_.book ∙ (Allowed-last D.rest D.ready in_.log _ in_.stands).fits.0
+    turn-history _ in_.log in_.book ∙ (IsLegal-last in_.log _ in_.stands.legal).fits.0
 
 pub admit-requires-clause-place : goal.admit-requires-clause-place
 admit-requires-clause-place g c =
     let D = g.D.MonitorData in
     let in_ = came_as (c.deref_mut.ensures.value ∙ c.parcel.view_is) c.requires.came.1 in
-    subst (λ (n : ℕ). c.args.place < n) in_.book.places (Allowed-last D.rest D.ready in_.log _ in_.stands).in_range
+    subst (λ (n : ℕ). c.args.place < n) in_.book.places (IsLegal-last in_.log _ in_.stands.legal).in_range
 
 pub admit-requires-clause-outside : goal.admit-requires-clause-outside
 admit-requires-clause-outside g c =
     let D = g.D.MonitorData in
     let in_ = came_as (c.deref_mut.ensures.value ∙ c.parcel.view_is) c.requires.came.1 in
-    times_in-outside _ in_.log _ in_.book (Allowed-last D.rest D.ready in_.log _ in_.stands).fits.1
+    times_in-outside _ in_.log _ in_.book (IsLegal-last in_.log _ in_.stands.legal).fits.1
 
 pub invariant_of-result-2 : goal.invariant_of-result-2
 invariant_of-result-2 g c =

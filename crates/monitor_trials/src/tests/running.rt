@@ -4,7 +4,7 @@ ghost use Rattle.std.specs.Fork.{AcceptsJobs, GivesJobs};
 ghost use Rattle.monitor_trials.specs.Numbered.{IsNumbered};
 
 use crate::tests::compared::expect_same;
-use crate::tests::limit::within;
+use crate::tests::limit::{VISITS, within};
 pub use any_door::DoorKind;
 use hoare_law::data::MonitorData;
 use hoare_law::monitor::Monitor;
@@ -87,7 +87,7 @@ pub fn act_all<
     (outs, answers)
 }
 
-/// Comes in once this many wait on the condition. The test fails after a million looks.
+/// Comes in once this many wait on the condition. The test fails after `VISITS` looks.
 pub fn watch<D: MonitorData, R: Wait + Abort, M: Monitor<D>>(
     rt: &R,
     m: &M,
@@ -101,7 +101,7 @@ pub fn watch<D: MonitorData, R: Wait + Abort, M: Monitor<D>>(
     ensures rest { D.rest (M.data_in result) (M.lists_in result) }
 {
     let mut out = out;
-    for _ in 0..1_000_000 {
+    for _ in 0..VISITS {
         let inside = m.enter(rt, out);
         if m.lists(&inside).count(condition) == waiting {
             return inside;

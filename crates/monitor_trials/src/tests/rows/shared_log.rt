@@ -1,6 +1,7 @@
 //! What the processes of a stress test write down outside the monitor, in one order, and how they pass the time.
 ghost use Rattle.std.specs.Prelude.{◌≡◌};
 
+use crate::tests::limit::VISITS;
 use crate::tests::rows::turns::count_waiting;
 use hoare_law::data::MonitorData;
 use hoare_law::monitor::Monitor;
@@ -61,7 +62,7 @@ pub fn draw(seed: u64) -> u64 {
         .wrapping_add(1442695040888963407)
 }
 
-/// Comes in and goes out until all `others` wait or have finished: whether any waits. The test fails after a million times.
+/// Comes in and goes out until all `others` wait or have finished: whether any waits. The test fails after `VISITS` times.
 pub fn await_others<L, D: MonitorData, R: Wait + Abort, M: Monitor<D>>(
     rt: &R,
     m: &M,
@@ -74,7 +75,7 @@ pub fn await_others<L, D: MonitorData, R: Wait + Abort, M: Monitor<D>>(
     ensures place { M.place result.0 ≡ M.place out }
 {
     let mut out = out;
-    for _ in 0..1_000_000 {
+    for _ in 0..VISITS {
         let finished = log.finished();
         let inside = m.enter(rt, out);
         let waiting = count_waiting(m, &inside);

@@ -1,6 +1,7 @@
 //! In which order processes begin to wait: each awaits its turn, and one gives the turns, the next once those before it wait.
 ghost use Rattle.std.specs.Prelude.{◌≡◌};
 
+use crate::tests::limit::VISITS;
 use hoare_law::data::MonitorData;
 use hoare_law::monitor::Monitor;
 use hoare_law::waits::Waits;
@@ -54,7 +55,7 @@ pub fn count_waiting<D: MonitorData, M: Monitor<D>>(m: &M, inside: &M::In) -> us
     (0..D::CONDITIONS).fold(0usize, |sum, c| sum.saturating_add(lists.count(c)))
 }
 
-/// Comes in and goes out until this many wait. The test fails after a million times.
+/// Comes in and goes out until this many wait. The test fails after `VISITS` times.
 pub fn watch<D: MonitorData, R: Wait + Abort, M: Monitor<D>>(
     rt: &R,
     m: &M,
@@ -66,7 +67,7 @@ pub fn watch<D: MonitorData, R: Wait + Abort, M: Monitor<D>>(
     ensures place { M.place result ≡ M.place out }
 {
     let mut out = out;
-    for _ in 0..1_000_000 {
+    for _ in 0..VISITS {
         let inside = m.enter(rt, out);
         let count = count_waiting(m, &inside);
         out = m.leave(rt, inside);

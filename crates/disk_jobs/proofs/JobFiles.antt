@@ -1,11 +1,10 @@
 -- What a job file is told, by how its next line ends.
-use Rattle.std.proofs.Common.{◌≡◌, ◌≢◌, ℕ, ◌+◌, ◌<◌, ◌≤◌, List, [], ◌∷◌, ◌++◌, length, Option, Some, Err, false}
-use Rattle.std.proofs.Common.{refl, ap, sym, ◌∙◌, append_assoc, length-append, arith}
+use Rattle.std.proofs.Common.{◌≡◌, ◌≢◌, ℕ, ◌+◌, ◌<◌, ◌≤◌, List, [], ◌∷◌, ◌++◌, length, Option, Some, Err}
+use Rattle.std.proofs.Common.{refl, ap, ◌∙◌, arith}
 use Rattle.std.specs.List.{slice_split}
-use Rattle.std.proofs.lemmas.Bool.{lt-ltb, le-ltb, ne_eqb}
-use Rattle.std.proofs.lemmas.List.Elements.{All-push}
+use Rattle.std.proofs.lemmas.Bool.{lt-ltb, le-ltb}
 use Rattle.std.proofs.lemmas.List.Splits.{slice_split_at, slice_split_none}
-use Rattle.line_text.proofs.Spelling.{slice_split-some, slice_split-prefix}
+use Rattle.line_text.proofs.Spelling.{slice_split-some, slice_split-longer}
 use Rattle.line_text.specs.Line.{NoNewline, is_newline}
 use Rattle.disk_jobs.specs.declared.fault.ServiceFault.TheVariants.{BadLine}
 use Rattle.disk_jobs.specs.JobLists.{JobList}
@@ -36,12 +35,8 @@ pub told_from-long_line : (e : Ending) (s : Option JobList) (i : ℕ) (l : List 
     → told_from e s i (l ++ b ∷ x) ≡ Err (BadLine i)
 unfolding told_from
 told_from-long_line e s i l b x n d h =
-    let f : (p : List ℕ) × (ps : List (List ℕ)) × (slice_split is_newline ((l ++ b ∷ []) ++ x) ≡ ((l ++ b ∷ []) ++ p) ∷ ps) =
-    slice_split-prefix (l ++ b ∷ []) x (All-push (λ c. is_newline c ≡ false) l b n (ne_eqb b 10 d)) in
-    ap (λ t. told_lines e s i (slice_split is_newline t)) (sym (append_assoc l (b ∷ []) x))
-    ∙ ap (told_lines e s i) f.2
-    ∙ told_lines-long e s i ((l ++ b ∷ []) ++ f.0) f.1
-    (omega (arith, length-append (l ++ b ∷ []) f.0, length-append l (b ∷ [])))
+    let f = slice_split-longer l x b n d in
+    ap (told_lines e s i) f.2 ∙ told_lines-long e s i f.0 f.1 (omega (arith, h, f.3))
 
 -- what follows the last whole line
 told_lines-last : (e : Ending) (s : Option JobList) (i : ℕ) (l : List ℕ) → length l ≤ 256 → told_lines e s i (l ∷ []) ≡ e s i l

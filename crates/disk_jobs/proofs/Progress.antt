@@ -1,10 +1,9 @@
 -- How reading a job file goes on, line by line.
-use Rattle.std.proofs.Common.{◌≡◌, ◌≢◌, ℕ, suc, ◌+◌, ◌-◌, ◌≤◌, List, [], ◌∷◌, ◌++◌, length, drop, Option, Some, None, Result, Ok, Err}
-use Rattle.std.proofs.Common.{refl, ap, sym, ◌∙◌, append_assoc, subst, arith, length-append, inl, inr}
+use Rattle.std.proofs.Common.{◌≡◌, ◌≢◌, ℕ, ◌+◌, ◌≤◌, List, [], ◌∷◌, ◌++◌, length, Option, Some, None, Result, Ok, Err}
+use Rattle.std.proofs.Common.{refl, ap, sym, ◌∙◌, append_assoc, subst, arith, inl, inr}
 use Rattle.std.proofs.lemmas.List.{append-nil}
-use Rattle.std.specs.Io.BufRead.{drop_through}
-use Rattle.line_text.proofs.AfterLines.{drop_through-line, drop_through-last}
-use Rattle.line_text.proofs.Streams.{Reads-trans, drop-read}
+use Rattle.line_text.proofs.AfterLines.{AtLine, AtLine-first, AtLine-next, after_lines-last, after_lines-line, after_lines-long_line, append-line}
+use Rattle.line_text.proofs.Streams.{Reads-line}
 use Rattle.line_text.specs.declared.line.Ended.{Ended}
 use Rattle.line_text.specs.declared.line.Ended.TheVariants as how
 use Rattle.line_text.specs.declared.line.LineFault.{LineFault}
@@ -23,15 +22,12 @@ use Rattle.disk_jobs.proofs.JobFiles.{told_from-line, told_from-long_line, told_
 -- how far reading is: of the input t0 it has t left, and the rest is told from the jobs so far
 pub record Going (number : ℕ) (s : Option JobList) (t0 t : List ℕ) : Type 0 where
   pub read : List ℕ
-  pub lines : ℕ
-  pub whole : t0 ≡ read ++ t
+  pub text : AtLine number read t0 t
   pub goes : (e : Ending) (x : List ℕ) → told e (read ++ x) ≡ told_from e s number x
-  pub numbered : number ≡ suc lines
-  pub behind : t ≡ after_lines lines t0
 
 -- nothing was read yet
 Going-start : (t : List ℕ) → Going 1 None t t
-Going-start t = record { read = []; lines = 0; whole = refl; goes = λ e x. refl; numbered = refl; behind = refl }
+Going-start t = record { read = []; text = AtLine-first t; goes = λ e x. refl }
 
 -- the last line, where it isn't empty
 at_end-some : (s : Option JobList) (i : ℕ) (l : List ℕ) → (l ≡ [] → ⊥) → at_end s i l ≡ one_line s i l
@@ -45,16 +41,7 @@ no_lines (Some j) h = absurd (omega arith)
 module _ (number : ℕ) (s : Option JobList) (t0 t : List ℕ) (g : Going number s t0 t) where
   -- the rest of what is told, from where reading is
   told-rest : (e : Ending) → told e t0 ≡ told_from e s number t
-  told-rest e = ap (told e) g.whole ∙ g.goes e t
-
-  -- what follows the line at hand and its end
-  behind-line : (l x : List ℕ) → NoNewline l → t ≡ l ++ 10 ∷ x → x ≡ after_lines number t0
-  behind-line l x n e =
-      sym (ap (λ i. after_lines i t0) g.numbered ∙ ap (drop_through 10) (sym g.behind ∙ e) ∙ drop_through-line l x n)
-
-  behind-last : (l x : List ℕ) → NoNewline l → t ≡ l → x ≡ [] → x ≡ after_lines number t0
-  behind-last l x n e z =
-      z ∙ sym (ap (λ i. after_lines i t0) g.numbered ∙ ap (drop_through 10) (sym g.behind ∙ e) ∙ drop_through-last l n)
+  told-rest e = ap (told e) g.text.whole ∙ g.goes e t
 
   -- from the line at hand the jobs go on: the header's line and theirs are those that were read
   lines-read : (j : JobList) (l : List ℕ) → number ≡ lines_of s + 1 → one_line s number l ≡ Ok j → number ≡ length j.cylinders + 1
@@ -64,37 +51,28 @@ module _ (number : ℕ) (s : Option JobList) (t0 t : List ℕ) (g : Going number
   breaks : (l x : List ℕ) → NoNewline l → length l ≤ LONGEST_LINE → t ≡ l ++ x → BreaksOff t0 x
   breaks l x n h e = (
     g.read ++ l,
-    g.whole ∙ ap (λ v. g.read ++ v) e ∙ sym (append_assoc g.read l x),
+    g.text.whole ∙ ap (λ v. g.read ++ v) e ∙ sym (append_assoc g.read l x),
     g.goes at_cut l ∙ told_from-end at_cut s number l n h,
   )
 
   -- the line was too long
   Gives-long_line : (l x : List ℕ) (b : ℕ) → NoNewline l → b ≢ 10 → length l ≡ LONGEST_LINE → t ≡ l ++ b ∷ x
       → Gives t0 x (Err (faults.BadLine number))
-  Gives-long_line l x b n d h e =
-      let line : number - 1 ≡ g.lines = omega (arith, g.numbered) in
-      let bytes : after_lines (number - 1) t0 ≡ (l ++ b ∷ []) ++ x =
-      ap (λ i. after_lines i t0) line ∙ sym g.behind ∙ e ∙ sym (append_assoc l (b ∷ []) x) in (
-        told-rest at_end ∙ ap (told_from at_end s number) e ∙ told_from-long_line at_end s number l b x n d h,
-        inr (sym (ap (drop (LONGEST_LINE + 1)) bytes ∙ drop-read (LONGEST_LINE + 1) (l ++ b ∷ []) x (omega (arith, length-append l (b ∷ []), h)))),
-      )
+  Gives-long_line l x b n d h e = (
+    told-rest at_end ∙ ap (told_from at_end s number) e ∙ told_from-long_line at_end s number l b x n d h,
+    inr (after_lines-long_line g.text l x b h e),
+  )
 
   -- a line and its end, from which the jobs go on
   Going-line : (j : JobList) (l x : List ℕ) → NoNewline l → length l ≤ LONGEST_LINE → t ≡ l ++ 10 ∷ x → one_line s number l ≡ Ok j
       → Going (number + 1) (Some j) t0 x
-  Going-line j l x n h e o =
-      let line : List ℕ = l ++ 10 ∷ [] in
-      record {
-        read = g.read ++ line;
-        lines = suc g.lines;
-        whole = g.whole ∙ ap (λ v. g.read ++ v) (e ∙ sym (append_assoc l (10 ∷ []) x)) ∙ sym (append_assoc g.read line x);
-        goes = λ f y.
-            ap (told f) (append_assoc g.read line y ∙ ap (λ v. g.read ++ v) (append_assoc l (10 ∷ []) y))
-            ∙ g.goes f (l ++ 10 ∷ y) ∙ told_from-line f s number l y n h
-            ∙ ap (λ (v : Outcome). then_on v (λ k. told_from f (Some k) (number + 1) y)) o;
-        numbered = omega (arith, g.numbered);
-        behind = behind-line l x n e ∙ ap (λ i. after_lines i t0) g.numbered;
-      }
+  Going-line j l x n h e o = record {
+    read = g.read ++ (l ++ 10 ∷ []);
+    text = AtLine-next g.text l x n e;
+    goes = λ f y.
+        ap (told f) (append-line g.read l 10 y) ∙ g.goes f (l ++ 10 ∷ y) ∙ told_from-line f s number l y n h
+        ∙ ap (λ (v : Outcome). then_on v (λ k. told_from f (Some k) (number + 1) y)) o;
+  }
 
   -- a line at fault, or for whose job there is no memory
   Gives-fault : (l x : List ℕ) (f : ServiceFault) (s' : Option JobList) → NoNewline l → length l ≤ LONGEST_LINE → t ≡ l ++ 10 ∷ x
@@ -103,17 +81,17 @@ module _ (number : ℕ) (s : Option JobList) (t0 t : List ℕ) (g : Going number
       let next : Going (number + 1) (Some o.0) t0 x = Going-line o.0 l x n h e o.1 in (
         next.read,
         o.0,
-        next.whole,
+        next.text.whole,
         ap jobs_of (sym (append-nil next.read)) ∙ next.goes at_end []
             ∙ told_from-end at_end (Some o.0) (number + 1) [] (λ k d i. absurd (omega arith)) (omega arith),
         o.2,
-        behind-line l x n e ∙ ap (λ i. after_lines i t0) (lines-read o.0 l c o.1),
+        after_lines-line g.text l x n e ∙ ap (λ i. after_lines i t0) (lines-read o.0 l c o.1),
       )
   Gives-fault l x (faults.BadLine m) s' n h e c o =
       let told : jobs_of t0 ≡ Err (faults.BadLine number) =
       told-rest at_end ∙ ap (told_from at_end s number) e ∙ told_from-line at_end s number l x n h
       ∙ ap (λ (v : Outcome). then_on v (λ k. told_from at_end (Some k) (number + 1) x)) o.1 in
-      subst (λ (i : ℕ). Gives t0 x (Err (faults.BadLine i))) (sym o.0) (told, inl (behind-line l x n e))
+      subst (λ (i : ℕ). Gives t0 x (Err (faults.BadLine i))) (sym o.0) (told, inl (after_lines-line g.text l x n e))
   Gives-fault l x faults.NoHeader s' n h e c o = absurd o
   Gives-fault l x faults.Spawn s' n h e c o = absurd o
   Gives-fault l x faults.Torn s' n h e c o = absurd o
@@ -138,10 +116,10 @@ module _ (number : ℕ) (s : Option JobList) (t0 t : List ℕ) (g : Going number
         sym (append-nil t0) ∙ ap (λ v. t0 ++ v) (sym z),
         q ∙ o.1,
         o.2,
-        behind-last l x n e z ∙ ap (λ i. after_lines i t0) (lines-read o.0 l c o.1),
+        after_lines-last g.text l x n e z ∙ ap (λ i. after_lines i t0) (lines-read o.0 l c o.1),
       )
       last (Err (faults.BadLine m)) s' q o =
-          subst (λ (i : ℕ). Gives t0 x (Err (faults.BadLine i))) (sym o.0) (q ∙ o.1, inl (behind-last l x n e z))
+          subst (λ (i : ℕ). Gives t0 x (Err (faults.BadLine i))) (sym o.0) (q ∙ o.1, inl (after_lines-last g.text l x n e z))
       last (Err faults.NoHeader) s' q o = absurd o
       last (Err faults.Spawn) s' q o = absurd o
       last (Err faults.Torn) s' q o = absurd o
@@ -178,70 +156,52 @@ Known-start (Some t) = record { goes = Going-start t }
 
 module _ {k0 k : Option (List ℕ)} {number : ℕ} {s : Option JobList} (h : Known k0 k number s) (m : Option (List ℕ)) (l : List ℕ)
     (one : NoNewline l) (short : length l ≤ LONGEST_LINE) where
+  -- the line at hand ends in this way
+  ended : (S : List ℕ → List ℕ → Type 0) (e f : Result Ended LineFault) → e ≡ f
+      → ((t0 t x : List ℕ) → Going number s t0 t → ReadsLine l f t x → S t0 x) → Reads k m (ReadsLine l e) → Reads k0 m S
+  ended S e f is go r = Reads-line k0 k m (Going number s) S l e f is go h.goes r
+
   pub exit_failed : (f : LineFault) (s' : Option JobList) → f ≡ why.Failed → Reads k m (ReadsLine l (Err f))
       → Reads k0 m (λ text left. GivesTo text left s' (Err faults.ReadFault))
-  exit_failed f s' e r =
-      Reads-trans k0 k m (Going number s) (ReadsLine l (Err f)) (λ text left. GivesTo text left s' (Err faults.ReadFault))
-      (λ t0 t x g p. breaks number s t0 t g l x one short (subst (λ (v : LineFault). ReadsLine l (Err v) t x) e p))
-      h.goes r
+  exit_failed f s' e r = ended (λ text left. GivesTo text left s' (Err faults.ReadFault)) (Err f) (Err why.Failed) (ap Err e)
+      (λ t0 t x g b. breaks number s t0 t g l x one short b) r
 
   pub exit_long : (f : LineFault) (s' : Option JobList) → f ≡ why.TooLong → Reads k m (ReadsLine l (Err f)) → IsLineFor 257 l (Err f)
       → Reads k0 m (λ text left. GivesTo text left s' (Err (faults.BadLine number)))
   exit_long f s' e r fits =
       let z : length l ≡ LONGEST_LINE = (subst (λ (v : LineFault). IsLineFor 257 l (Err v)) e fits).0 in
-      Reads-trans k0 k m (Going number s) (ReadsLine l (Err f)) (λ text left. GivesTo text left s' (Err (faults.BadLine number)))
-      (λ t0 t x g p.
-      let b : (b : ℕ) × (b ≢ 10) × (t ≡ l ++ b ∷ x) = subst (λ (v : LineFault). ReadsLine l (Err v) t x) e p in
-      Gives-long_line number s t0 t g l x b.0 one b.1 z b.2)
-      h.goes r
+      ended (λ text left. GivesTo text left s' (Err (faults.BadLine number))) (Err f) (Err why.TooLong) (ap Err e)
+      (λ t0 t x g b. Gives-long_line number s t0 t g l x b.0 one b.1 z b.2) r
 
   pub exit_last : (f : Ended) (line : List ℕ) (r : Result (Unit {0}) ServiceFault) (s' : Option JobList) → f ≡ how.Last → line ≡ l
       → Reads k m (ReadsLine l (Ok f)) → (l ≡ [] → ⊥) → number ≡ lines_of s + 1 → Follows (one_line s number line) number s' r
       → Reads k0 m (λ text left. GivesTo text left s' r)
-  exit_last f line r s' e i q z c o =
-      Reads-trans k0 k m (Going number s) (ReadsLine l (Ok f)) (λ text left. GivesTo text left s' r)
-      (λ t0 t x g p.
-      let b : (t ≡ l) × (x ≡ []) = subst (λ (v : Ended). ReadsLine l (Ok v) t x) e p in
-      Gives-last number s t0 t g l x r s' one short b.0 b.1 z c (subst (λ (v : List ℕ). Follows (one_line s number v) number s' r) i o))
-      h.goes q
+  exit_last f line r s' e i q z c o = ended (λ text left. GivesTo text left s' r) (Ok f) (Ok how.Last) (ap Ok e)
+      (λ t0 t x g b.
+      Gives-last number s t0 t g l x r s' one short b.0 b.1 z c (subst (λ (v : List ℕ). Follows (one_line s number v) number s' r) i o)) q
 
   pub exit_done : (f : Ended) → f ≡ how.Last → Reads k m (ReadsLine l (Ok f)) → l ≡ [] → number ≡ lines_of s + 1 → number ≢ 1
       → Reads k0 m (λ text left. GivesTo text left s (Ok tt))
-  exit_done f e r z c n =
-      Reads-trans k0 k m (Going number s) (ReadsLine l (Ok f)) (λ text left. GivesTo text left s (Ok tt))
-      (λ t0 t x g p.
-      let b : (t ≡ l) × (x ≡ []) = subst (λ (v : Ended). ReadsLine l (Ok v) t x) e p in
-      Gives-end number s t0 t g x (b.0 ∙ z) b.1 c n)
-      h.goes r
+  exit_done f e r z c n = ended (λ text left. GivesTo text left s (Ok tt)) (Ok f) (Ok how.Last) (ap Ok e)
+      (λ t0 t x g b. Gives-end number s t0 t g x (b.0 ∙ z) b.1 c n) r
 
   pub exit_empty : (f : Ended) (s' : Option JobList) → f ≡ how.Last → Reads k m (ReadsLine l (Ok f)) → l ≡ [] → number ≡ lines_of s + 1
       → number ≡ 1 → Reads k0 m (λ text left. GivesTo text left s' (Err faults.NoHeader))
-  exit_empty f s' e r z c n =
-      Reads-trans k0 k m (Going number s) (ReadsLine l (Ok f)) (λ text left. GivesTo text left s' (Err faults.NoHeader))
-      (λ t0 t x g p.
-      let b : (t ≡ l) × (x ≡ []) = subst (λ (v : Ended). ReadsLine l (Ok v) t x) e p in
-      Gives-no_header number s t0 t g x (b.0 ∙ z) b.1 c n)
-      h.goes r
+  exit_empty f s' e r z c n = ended (λ text left. GivesTo text left s' (Err faults.NoHeader)) (Ok f) (Ok how.Last) (ap Ok e)
+      (λ t0 t x g b. Gives-no_header number s t0 t g x (b.0 ∙ z) b.1 c n) r
 
   pub exit_fault : (f : Ended) (line : List ℕ) (bad : ServiceFault) (s' : Option JobList) → f ≡ how.Line → line ≡ l
       → Reads k m (ReadsLine l (Ok f)) → number ≡ lines_of s + 1 → Follows (one_line s number line) number s' (Err bad)
       → Reads k0 m (λ text left. GivesTo text left s' (Err bad))
-  exit_fault f line bad s' e i r c o =
-      Reads-trans k0 k m (Going number s) (ReadsLine l (Ok f)) (λ text left. GivesTo text left s' (Err bad))
-      (λ t0 t x g p.
-      let b : t ≡ l ++ 10 ∷ x = subst (λ (v : Ended). ReadsLine l (Ok v) t x) e p in
-      Gives-fault number s t0 t g l x bad s' one short b c
-      (subst (λ (v : List ℕ). Follows (one_line s number v) number s' (Err bad)) i o))
-      h.goes r
+  exit_fault f line bad s' e i r c o = ended (λ text left. GivesTo text left s' (Err bad)) (Ok f) (Ok how.Line) (ap Ok e)
+      (λ t0 t x g b.
+      Gives-fault number s t0 t g l x bad s' one short b c (subst (λ (v : List ℕ). Follows (one_line s number v) number s' (Err bad)) i o)) r
 
   pub next_line : (f : Ended) (line : List ℕ) (s' : Option JobList) → f ≡ how.Line → line ≡ l
       → Reads k m (ReadsLine l (Ok f)) → Follows (one_line s number line) number s' (Ok tt)
       → Known k0 m (number + 1) s'
   next_line f line None e i r o = absurd o
   next_line f line (Some j) e i r o = record {
-    goes = Reads-trans k0 k m (Going number s) (ReadsLine l (Ok f)) (Going (number + 1) (Some j))
-        (λ t0 t x g p.
-        let b : t ≡ l ++ 10 ∷ x = subst (λ (v : Ended). ReadsLine l (Ok v) t x) e p in
-        Going-line number s t0 t g j l x one short b (subst (λ (v : List ℕ). one_line s number v ≡ Ok j) i o))
-        h.goes r;
+    goes = ended (Going (number + 1) (Some j)) (Ok f) (Ok how.Line) (ap Ok e)
+        (λ t0 t x g b. Going-line number s t0 t g j l x one short b (subst (λ (v : List ℕ). one_line s number v ≡ Ok j) i o)) r;
   }

@@ -1,17 +1,14 @@
 -- How a run goes on, line by line.
 use Rattle.std.proofs.Common.{◌≡◌, ◌≢◌, ℕ, suc, ◌+◌, ◌-◌, ◌<◌, ◌≤◌, List, [], ◌∷◌, ◌++◌, length, take, drop, Option, Some, None, Result, Ok, Err}
-use Rattle.std.proofs.Common.{refl, ap, sym, ◌∙◌, append_assoc, subst, eqb, cond, true, arith, length-append}
+use Rattle.std.proofs.Common.{refl, ap, sym, ◌∙◌, append_assoc, subst, eqb, cond, Bool, true, false, arith, length-append}
 use Rattle.std.proofs.KnownBytes.{Appends-nil, Appends-trans}
-use Rattle.std.proofs.lemmas.Bool.{ne_eqb}
-use Rattle.std.proofs.lemmas.Bool.Decides.{nat_tests}
 use Rattle.std.proofs.lemmas.List.{append-nil}
 use Rattle.std.proofs.lemmas.List.Splits.{slice_split_at, slice_split_none}
 use Rattle.std.specs.List.{slice_split}
 use Rattle.std.specs.Result.{IsOkAnd}
-use Rattle.std.specs.Io.BufRead.{drop_through}
 use Rattle.std.specs.Io.KnownBytes.{Appends}
-use Rattle.line_text.proofs.AfterLines.{drop_through-line, drop_through-last}
-use Rattle.line_text.proofs.Streams.{Reads-trans, append-take_prefix, drop-read}
+use Rattle.line_text.proofs.AfterLines.{AtLine, AtLine-first, AtLine-next, after_lines-last, after_lines-line, after_lines-long_line, append-line}
+use Rattle.line_text.proofs.Streams.{Reads-line, append-take_prefix, drop-read}
 use Rattle.line_text.specs.declared.line.Ended.{Ended}
 use Rattle.line_text.specs.declared.line.Ended.TheVariants as how
 use Rattle.line_text.specs.declared.line.LineFault.{LineFault}
@@ -24,7 +21,7 @@ use Rattle.hoare_script.specs.declared.fault.ScriptFault.{ScriptFault}
 use Rattle.hoare_script.specs.declared.fault.ScriptFault.TheVariants as faults
 use Rattle.hoare_script.specs.declared.runs.TheConstants.{MOST_BYTES}
 use Rattle.hoare_script.specs.Scripts.{State, Start, Running, Told, Ending, Outcome, told, told_from, prepend, stop, done, then_on, one_line, at_end, at_cut}
-use Rattle.hoare_script.specs.Runs.{IsAt, Follows, IsGoodHeader, OnFault, Tells, Whole}
+use Rattle.hoare_script.specs.Runs.{IsAt, Follows, IsGoodHeader, OnFault, Tells, Verdict, Whole}
 use Rattle.hoare_script.proofs.Answering.{one_line-number}
 use Rattle.hoare_script.proofs.Scripts.{told_from-line, told_from-long_line, told_from-past_limit, told_from-end}
 
@@ -33,14 +30,11 @@ pub record Going (number room : ℕ) (opened : Option Contents) (old now : Optio
   pub state : State
   pub written : List ℕ
   pub read : List ℕ
-  pub lines : ℕ
-  pub whole : t0 ≡ read ++ t
+  pub text : AtLine number read t0 t
   pub at : IsAt opened state
   pub appends : Appends old now written
   pub goes : (e : Ending) (x : List ℕ) → told e (read ++ x) ≡ prepend written (told_from e state number room x)
-  pub fresh : state ≡ Start → (written ≡ []) × (lines ≡ 0)
-  pub numbered : number ≡ suc lines
-  pub behind : t ≡ after_lines lines t0
+  pub fresh : state ≡ Start → (written ≡ []) × (number ≡ 1)
   pub counted : length read + room ≡ MOST_BYTES
 
 -- nothing was read or written yet
@@ -49,14 +43,11 @@ Going-start old t = record {
   state = Start;
   written = [];
   read = [];
-  lines = 0;
-  whole = refl;
+  text = AtLine-first t;
   at = tt;
   appends = Appends-nil old;
   goes = λ e x. refl;
   fresh = λ h. (refl, refl);
-  numbered = refl;
-  behind = refl;
   counted = omega arith;
 }
 
@@ -89,20 +80,13 @@ at_end-some s i (b ∷ bs) n = refl
 module _ (number room : ℕ) (opened : Option Contents) (old now : Option (List ℕ)) (t0 t : List ℕ) (g : Going number room opened old now t0 t) where
   -- the rest of what is told, from where the run is
   told-rest : (e : Ending) → told e t0 ≡ prepend g.written (told_from e g.state number room t)
-  told-rest e = ap (told e) g.whole ∙ g.goes e t
+  told-rest e = ap (told e) g.text.whole ∙ g.goes e t
 
   -- a fault is told, and nothing more is written
   Whole-stop : (new : Option (List ℕ)) (f : ScriptFault) → Appends now new []
       → told_from at_end g.state number room t ≡ stop f → Whole (told at_end t0) old new (Some f)
   Whole-stop new f a e =
       Whole-fault old now new g.written (told at_end t0) f g.appends a (told-rest at_end ∙ ap (prepend g.written) e)
-
-  -- what follows the line at hand and its end
-  behind-line : (l x : List ℕ) → NoNewline l → t ≡ l ++ 10 ∷ x → x ≡ after_lines (suc g.lines) t0
-  behind-line l x n e = sym (ap (drop_through 10) (sym g.behind ∙ e) ∙ drop_through-line l x n)
-
-  behind-last : (l x : List ℕ) → NoNewline l → t ≡ l → x ≡ [] → x ≡ after_lines (suc g.lines) t0
-  behind-last l x n e z = z ∙ sym (ap (drop_through 10) (sym g.behind ∙ e) ∙ drop_through-last l n)
 
   -- what the lines before were answered
   told-before : (told at_cut g.read).written ≡ g.written
@@ -116,22 +100,18 @@ module _ (number room : ℕ) (opened : Option Contents) (old now : Option (List 
   -- the line was too long
   Tells-long_line : (l x : List ℕ) (b : ℕ) → NoNewline l → b ≢ 10 → length l ≡ LONGEST_LINE → LONGEST_LINE < room → t ≡ l ++ b ∷ x
       → Tells t0 x old now (Err (faults.LineTooLong number))
-  Tells-long_line l x b n d h r e =
-      let line : number - 1 ≡ g.lines = omega (arith, g.numbered) in
-      let bytes : after_lines (number - 1) t0 ≡ (l ++ b ∷ []) ++ x =
-      ap (λ i. after_lines i t0) line ∙ sym g.behind ∙ e ∙ sym (append_assoc l (b ∷ []) x) in (
-        Whole-stop now (faults.LineTooLong number) (Appends-nil now)
-            (ap (told_from at_end g.state number room) e ∙ told_from-long_line at_end g.state number room l b x n d h r),
-        sym (ap (drop (LONGEST_LINE + 1)) bytes ∙ drop-read (LONGEST_LINE + 1) (l ++ b ∷ []) x (omega (arith, length-append l (b ∷ []), h))),
-      )
+  Tells-long_line l x b n d h r e = (
+    Whole-stop now (faults.LineTooLong number) (Appends-nil now)
+        (ap (told_from at_end g.state number room) e ∙ told_from-long_line at_end g.state number room l b x n d h r),
+    after_lines-long_line g.text l x b h e,
+  )
 
   -- a byte past the limit
   Tells-past_limit : (l x : List ℕ) (b : ℕ) → NoNewline l → length l ≤ LONGEST_LINE → length l ≡ room → t ≡ l ++ b ∷ x
       → Tells t0 x old now (Err faults.TooMuch)
   Tells-past_limit l x b n h r e =
       let consumed : List ℕ = g.read ++ (l ++ b ∷ []) in
-      let bytes : t0 ≡ consumed ++ x =
-      g.whole ∙ ap (λ v. g.read ++ v) (e ∙ sym (append_assoc l (b ∷ []) x)) ∙ sym (append_assoc g.read (l ++ b ∷ []) x) in
+      let bytes : t0 ≡ consumed ++ x = g.text.whole ∙ ap (λ v. g.read ++ v) e ∙ sym (append-line g.read l b x) in
       let count : length consumed ≡ MOST_BYTES + 1 =
       omega (arith, length-append g.read (l ++ b ∷ []), length-append l (b ∷ []), g.counted, r) in (
         Whole-stop now faults.TooMuch (Appends-nil now)
@@ -143,7 +123,7 @@ module _ (number room : ℕ) (opened : Option Contents) (old now : Option (List 
   Tells-cut : (l x : List ℕ) → NoNewline l → length l ≤ LONGEST_LINE → length l ≤ room → t ≡ l ++ x
       → Tells t0 x old now (Err faults.ReadFault)
   Tells-cut l x n h r e =
-      let bytes : t0 ≡ (g.read ++ l) ++ x = g.whole ∙ ap (λ v. g.read ++ v) e ∙ sym (append_assoc g.read l x) in
+      let bytes : t0 ≡ (g.read ++ l) ++ x = g.text.whole ∙ ap (λ v. g.read ++ v) e ∙ sym (append_assoc g.read l x) in
       let fault : told at_cut (g.read ++ l) ≡ prepend g.written (stop faults.ReadFault) =
       g.goes at_cut l ∙ ap (prepend g.written) (told_from-end at_cut g.state number room l n h r) in (
         (g.read ++ l, bytes, Whole-fault old now now g.written (told at_cut (g.read ++ l)) faults.ReadFault g.appends (Appends-nil now) fault),
@@ -152,7 +132,7 @@ module _ (number room : ℕ) (opened : Option Contents) (old now : Option (List 
 
   -- a write fails in the middle of a line's answer
   Tells-break : (new : Option (List ℕ)) (x : List ℕ) (out : Outcome) (go : State → Told)
-      → told_from at_end g.state number room t ≡ then_on out go → x ≡ after_lines (suc g.lines) t0
+      → told_from at_end g.state number room t ≡ then_on out go → x ≡ after_lines number t0
       → IsOkAnd out (λ p. AppendsPrefix now new p.0) → Tells t0 x old new (Err faults.WriteFault)
   Tells-break new x out go e b o =
       let q : (p : List ℕ × State) × (out ≡ Ok p) × AppendsPrefix now new p.0 = IsOkAnd-parts out (λ p. AppendsPrefix now new p.0) o in
@@ -160,49 +140,50 @@ module _ (number room : ℕ) (opened : Option Contents) (old now : Option (List 
       let p : List ℕ = q.0.0 in
       let r : List ℕ = (go q.0.1).written in
       let n : ℕ = q.2.0 in
+      let next : number ≡ suc (number - 1) = omega (arith, g.text.some) in
       let all : (told at_end t0).written ≡ w ++ (p ++ r) =
       ap (λ (v : Told). v.written) (told-rest at_end ∙ ap (prepend w) (e ∙ ap (λ (v : Outcome). then_on v go) q.1)) in
       let some : take (length w + n) (told at_end t0).written ≡ w ++ take n p =
       ap (take (length w + n)) all ∙ sym (append-take_prefix w p r n (omega (arith, q.2.1))) in (
         (
-          g.lines,
+          number - 1,
           (
             g.read,
             length w + n,
-            g.whole ∙ ap (λ v. g.read ++ v) g.behind,
-            b,
+            g.text.whole ∙ ap (λ v. g.read ++ v) g.text.behind,
+            b ∙ ap (λ i. after_lines i t0) next,
             omega (arith, ap length told-before),
             omega (arith, ap length all, length-append w (p ++ r), length-append p r, q.2.1),
             subst (λ (v : List ℕ). Appends old new v) (sym some) (Appends-trans old now new w (take n p) g.appends q.2.2),
           ),
         ),
-        (suc g.lines, b),
+        (number, b),
       )
 
   -- a line's fault
   Tells-fault : (new : Option (List ℕ)) (l x : List ℕ) (go : State → Told) (f : ScriptFault)
-      → told_from at_end g.state number room t ≡ then_on (one_line g.state number l) go → x ≡ after_lines (suc g.lines) t0
+      → told_from at_end g.state number room t ≡ then_on (one_line g.state number l) go → x ≡ after_lines number t0
       → OnFault (one_line g.state number l) now new f → (f ≡ faults.Memory → (g.state ≡ Start) × IsGoodHeader l)
       → ((lines : List (List ℕ)) × (slice_split is_newline t ≡ l ∷ lines)) → Tells t0 x old new (Err f)
   Tells-fault new l x go faults.NoHeader e b o m a = absurd o
   Tells-fault new l x go (faults.BadLine i) e b o m a = (
     Whole-stop new (faults.BadLine i) o.1 (e ∙ ap (λ (v : Outcome). then_on v go) o.0),
-    b ∙ ap (λ n. after_lines n t0) (sym g.numbered ∙ sym (one_line-number g.state number l (faults.BadLine i) o.0)),
+    b ∙ ap (λ n. after_lines n t0) (sym (one_line-number g.state number l (faults.BadLine i) o.0)),
   )
   Tells-fault new l x go (faults.BadHeader i) e b o m a = (
     Whole-stop new (faults.BadHeader i) o.1 (e ∙ ap (λ (v : Outcome). then_on v go) o.0),
-    b ∙ ap (λ n. after_lines n t0) (sym g.numbered ∙ sym (one_line-number g.state number l (faults.BadHeader i) o.0)),
+    b ∙ ap (λ n. after_lines n t0) (sym (one_line-number g.state number l (faults.BadHeader i) o.0)),
   )
   Tells-fault new l x go faults.ReadFault e b o m a = absurd o
   Tells-fault new l x go faults.WriteFault e b o m a = Tells-break new x (one_line g.state number l) go e b o
   Tells-fault new l x go faults.Memory e b o m a =
-      let first : (g.written ≡ []) × (g.lines ≡ 0) = g.fresh (m refl).0 in
-      let whole : t0 ≡ t = sym (g.behind ∙ ap (λ n. after_lines n t0) first.1) in (
+      let first : (g.written ≡ []) × (number ≡ 1) = g.fresh (m refl).0 in
+      let whole : t0 ≡ t = sym (g.text.behind ∙ ap (λ n. after_lines (n - 1) t0) first.1) in (
         (
           (l, a.0, ap (slice_split is_newline) whole ∙ a.1, (m refl).1),
           Appends-trans old now new [] [] (subst (λ (v : List ℕ). Appends old now v) first.0 g.appends) o,
         ),
-        b ∙ ap (λ n. after_lines (suc n) t0) first.1,
+        b ∙ ap (λ n. after_lines n t0) first.1,
       )
   Tells-fault new l x go (faults.LineTooLong i) e b o m a = absurd o
   Tells-fault new l x go faults.TooMuch e b o m a = absurd o
@@ -227,18 +208,12 @@ module _ (number room : ℕ) (opened : Option Contents) (old now : Option (List 
       ap (told_from at_end g.state number room) e
       ∙ told_from-end at_end g.state number room [] (λ k d h. absurd (omega arith)) (omega arith) (omega arith)
 
-  -- the input is empty
-  Tells-no_header : (x : List ℕ) → t ≡ [] → x ≡ [] → number ≡ 1 → Tells t0 x old now (Err faults.NoHeader)
-  Tells-no_header x e z n =
-      let test : eqb number 1 ≡ true = grind (arith, nat_tests) in
-      (Whole-stop now faults.NoHeader (Appends-nil now) (told_from-nothing e ∙ ap (λ b. cond b (stop faults.NoHeader) done) test), z)
-
-  -- the input ends after a whole line
-  Tells-done : (x : List ℕ) → t ≡ [] → x ≡ [] → (number ≡ 1 → ⊥) → Tells t0 x old now (Ok tt)
-  Tells-done x e z n =
-      let rest : told_from at_end g.state number room t ≡ done =
-      told_from-nothing e ∙ ap (λ b. cond b (stop faults.NoHeader) done) (ne_eqb number 1 n) in
-      let all : told at_end t0 ≡ prepend g.written done = told-rest at_end ∙ ap (prepend g.written) rest in
+  -- the input is empty, or ends after a whole line
+  Tells-nothing : (x : List ℕ) (empty : Bool) → told_from at_end g.state number room t ≡ cond empty (stop faults.NoHeader) done → x ≡ []
+      → Tells t0 x old now (cond empty (Err faults.NoHeader) (Ok tt))
+  Tells-nothing x true e z = (Whole-stop now faults.NoHeader (Appends-nil now) e, z)
+  Tells-nothing x false e z =
+      let all : told at_end t0 ≡ prepend g.written done = told-rest at_end ∙ ap (prepend g.written) e in
       let text : g.written ≡ (told at_end t0).written = sym (append-nil g.written) ∙ sym (ap (λ (v : Told). v.written) all) in
       ((subst (λ (v : List ℕ). Appends old now v) text g.appends, ap (λ (v : Told). v.fault) all), z)
 
@@ -254,19 +229,15 @@ module _ (number room : ℕ) (opened : Option Contents) (old now : Option (List 
         state = q.0.1;
         written = g.written ++ q.0.0;
         read = g.read ++ line;
-        lines = suc g.lines;
-        whole = g.whole ∙ ap (λ v. g.read ++ v) (e ∙ sym (append_assoc l (10 ∷ []) x)) ∙ sym (append_assoc g.read line x);
+        text = AtLine-next g.text l x n e;
         at = q.2.1;
         appends = Appends-trans old now new g.written q.0.0 g.appends q.2.0;
         goes = λ f y.
-            ap (told f) (append_assoc g.read line y ∙ ap (λ v. g.read ++ v) (append_assoc l (10 ∷ []) y))
-            ∙ g.goes f (l ++ 10 ∷ y)
+            ap (told f) (append-line g.read l 10 y) ∙ g.goes f (l ++ 10 ∷ y)
             ∙ ap (prepend g.written) (told_from-line f g.state number room l y n h r
             ∙ ap (λ (v : Outcome). then_on v (λ s. told_from f s (number + 1) (room - (length l + 1)) y)) q.1)
             ∙ prepend-prepend g.written q.0.0 (told_from f q.0.1 (number + 1) (room - (length l + 1)) y);
         fresh = λ z. let bad : Some d ≡ None = IsAt-start (Some d) q.0.1 q.2.1 z in absurd (cc);
-        numbered = omega (arith, g.numbered);
-        behind = behind-line l x n e;
         counted = omega (arith, length-append g.read line, length-append l (10 ∷ []), g.counted, r);
       }
 
@@ -285,50 +256,36 @@ Known-start k old = record { goes = Reads-start k old }
 -- The ways out of the loop, and its turn: a line l was read, and m is left.
 module _ {k0 k old now : Option (List ℕ)} {number room : ℕ} {opened : Option Contents} (h : Known k0 k old now number room opened)
     (m : Option (List ℕ)) (l : List ℕ) (one : NoNewline l) (short : length l ≤ LONGEST_LINE) (within : length l ≤ room) where
+  -- the line at hand ends in this way
+  ended : (S : List ℕ → List ℕ → Type 0) (e f : Result Ended LineFault) → e ≡ f
+      → ((t0 t x : List ℕ) → Going number room opened old now t0 t → ReadsLine l f t x → S t0 x) → Reads k m (ReadsLine l e) → Reads k0 m S
+  ended S e f is go r = Reads-line k0 k m (Going number room opened old now) S l e f is go h.goes r
+
   pub exit_failed : (f : LineFault) → f ≡ why.Failed → Reads k m (ReadsLine l (Err f))
       → Reads k0 m (λ text left. Tells text left old now (Err faults.ReadFault))
-  exit_failed f e r =
-      Reads-trans k0 k m (Going number room opened old now) (ReadsLine l (Err f)) (λ text left. Tells text left old now (Err faults.ReadFault))
-      (λ t0 t x g p. Tells-cut number room opened old now t0 t g l x one short within (subst (λ (v : LineFault). ReadsLine l (Err v) t x) e p))
-      h.goes r
+  exit_failed f e r = ended (λ text left. Tells text left old now (Err faults.ReadFault)) (Err f) (Err why.Failed) (ap Err e)
+      (λ t0 t x g b. Tells-cut number room opened old now t0 t g l x one short within b) r
 
   pub exit_long : (f : LineFault) → f ≡ why.TooLong → Reads k m (ReadsLine l (Err f)) → IsLineFor room l (Err f)
       → Reads k0 m (λ text left. Tells text left old now (Err (faults.LineTooLong number)))
   exit_long f e r s =
       let fits : (length l ≡ LONGEST_LINE) × (LONGEST_LINE < room) = subst (λ (v : LineFault). IsLineFor room l (Err v)) e s in
-      Reads-trans k0 k m (Going number room opened old now) (ReadsLine l (Err f)) (λ text left. Tells text left old now (Err (faults.LineTooLong number)))
-      (λ t0 t x g p.
-      let b : (b : ℕ) × (b ≢ 10) × (t ≡ l ++ b ∷ x) = subst (λ (v : LineFault). ReadsLine l (Err v) t x) e p in
-      Tells-long_line number room opened old now t0 t g l x b.0 one b.1 fits.0 fits.1 b.2)
-      h.goes r
+      ended (λ text left. Tells text left old now (Err (faults.LineTooLong number))) (Err f) (Err why.TooLong) (ap Err e)
+      (λ t0 t x g b. Tells-long_line number room opened old now t0 t g l x b.0 one b.1 fits.0 fits.1 b.2) r
 
   pub exit_much : (f : LineFault) → f ≡ why.TooMuch → Reads k m (ReadsLine l (Err f)) → IsLineFor room l (Err f)
       → Reads k0 m (λ text left. Tells text left old now (Err faults.TooMuch))
   exit_much f e r s =
       let fits : length l ≡ room = subst (λ (v : LineFault). IsLineFor room l (Err v)) e s in
-      Reads-trans k0 k m (Going number room opened old now) (ReadsLine l (Err f)) (λ text left. Tells text left old now (Err faults.TooMuch))
-      (λ t0 t x g p.
-      let b : (b : ℕ) × (t ≡ l ++ b ∷ x) = subst (λ (v : LineFault). ReadsLine l (Err v) t x) e p in
-      Tells-past_limit number room opened old now t0 t g l x b.0 one short fits b.1)
-      h.goes r
+      ended (λ text left. Tells text left old now (Err faults.TooMuch)) (Err f) (Err why.TooMuch) (ap Err e)
+      (λ t0 t x g b. Tells-past_limit number room opened old now t0 t g l x b.0 one short fits b.1) r
 
-  pub exit_empty : (f : Ended) → f ≡ how.Last → Reads k m (ReadsLine l (Ok f)) → l ≡ [] → number ≡ 1
-      → Reads k0 m (λ text left. Tells text left old now (Err faults.NoHeader))
-  exit_empty f e r z n =
-      Reads-trans k0 k m (Going number room opened old now) (ReadsLine l (Ok f)) (λ text left. Tells text left old now (Err faults.NoHeader))
-      (λ t0 t x g p.
-      let b : (t ≡ l) × (x ≡ []) = subst (λ (v : Ended). ReadsLine l (Ok v) t x) e p in
-      Tells-no_header number room opened old now t0 t g x (b.0 ∙ z) b.1 n)
-      h.goes r
-
-  pub exit_done : (f : Ended) → f ≡ how.Last → Reads k m (ReadsLine l (Ok f)) → l ≡ [] → (number ≡ 1 → ⊥)
-      → Reads k0 m (λ text left. Tells text left old now (Ok tt))
-  exit_done f e r z n =
-      Reads-trans k0 k m (Going number room opened old now) (ReadsLine l (Ok f)) (λ text left. Tells text left old now (Ok tt))
-      (λ t0 t x g p.
-      let b : (t ≡ l) × (x ≡ []) = subst (λ (v : Ended). ReadsLine l (Ok v) t x) e p in
-      Tells-done number room opened old now t0 t g x (b.0 ∙ z) b.1 n)
-      h.goes r
+  pub exit_end : (res : Verdict) (f : Ended) → f ≡ how.Last → Reads k m (ReadsLine l (Ok f)) → l ≡ []
+      → res ≡ cond (eqb number 1) (Err faults.NoHeader) (Ok tt) → Reads k0 m (λ text left. Tells text left old now res)
+  exit_end res f e r z is = ended (λ text left. Tells text left old now res) (Ok f) (Ok how.Last) (ap Ok e)
+      (λ t0 t x g b.
+      subst (λ (v : Verdict). Tells t0 x old now v) (sym is)
+      (Tells-nothing number room opened old now t0 t g x (eqb number 1) (told_from-nothing number room opened old now t0 t g (b.0 ∙ z)) b.1)) r
 
   -- what the last line is told
   told_from-last : (s : State) (t : List ℕ) → t ≡ l → (l ≡ [] → ⊥) → told_from at_end s number room t ≡ then_on (one_line s number l) (λ _. done)
@@ -342,7 +299,7 @@ module _ {k0 k old now : Option (List ℕ)} {number room : ℕ} {opened : Option
       Tells-end number room opened old now t0 t g n x (one_line g.state number l) (IsAt d) (told_from-last g.state t e z) y o
   last_line n d (Err f) t0 t x g e y z o c =
       Tells-fault number room opened old now t0 t g n l x (λ _. done) f (told_from-last g.state t e z)
-      (behind-last number room opened old now t0 t g l x one e y) o (λ q. c (ap Err q))
+      (after_lines-last g.text l x one e y) o (λ q. c (ap Err q))
       ([], ap (slice_split is_newline) e ∙ slice_split_none is_newline l one)
 
   pub exit_last : (n : Option (List ℕ)) (d : Option Contents) (res : Result (Unit {0}) ScriptFault) (f : Ended) (line : List ℕ)
@@ -350,30 +307,24 @@ module _ {k0 k old now : Option (List ℕ)} {number room : ℕ} {opened : Option
       → ((s : State) → IsAt opened s → Follows (one_line s number line) now n d res)
       → ((s : State) → IsAt opened s → res ≡ Err faults.Memory → (s ≡ Start) × IsGoodHeader line)
       → Reads k0 m (λ text left. Tells text left old n res)
-  exit_last n d res f line e i r z o c =
-      Reads-trans k0 k m (Going number room opened old now) (ReadsLine l (Ok f)) (λ text left. Tells text left old n res)
-      (λ t0 t x g p.
-      let b : (t ≡ l) × (x ≡ []) = subst (λ (v : Ended). ReadsLine l (Ok v) t x) e p in
+  exit_last n d res f line e i r z o c = ended (λ text left. Tells text left old n res) (Ok f) (Ok how.Last) (ap Ok e)
+      (λ t0 t x g b.
       last_line n d res t0 t x g b.0 b.1 z (subst (λ (v : List ℕ). Follows (one_line g.state number v) now n d res) i (o g.state g.at))
-      (λ q. subst (λ (v : List ℕ). (g.state ≡ Start) × IsGoodHeader v) i (c g.state g.at q)))
-      h.goes r
+      (λ q. subst (λ (v : List ℕ). (g.state ≡ Start) × IsGoodHeader v) i (c g.state g.at q))) r
 
   pub exit_fault : (n : Option (List ℕ)) (bad : ScriptFault) (f : Ended) (line : List ℕ)
       → f ≡ how.Line → line ≡ l → Reads k m (ReadsLine l (Ok f)) → length l < room
       → ((s : State) → IsAt opened s → OnFault (one_line s number line) now n bad)
       → ((s : State) → IsAt opened s → bad ≡ faults.Memory → (s ≡ Start) × IsGoodHeader line)
       → Reads k0 m (λ text left. Tells text left old n (Err bad))
-  exit_fault n bad f line e i r fits o c =
-      Reads-trans k0 k m (Going number room opened old now) (ReadsLine l (Ok f)) (λ text left. Tells text left old n (Err bad))
-      (λ t0 t x g p.
-      let b : t ≡ l ++ 10 ∷ x = subst (λ (v : Ended). ReadsLine l (Ok v) t x) e p in
+  exit_fault n bad f line e i r fits o c = ended (λ text left. Tells text left old n (Err bad)) (Ok f) (Ok how.Line) (ap Ok e)
+      (λ t0 t x g b.
       Tells-fault number room opened old now t0 t g n l x (λ v. told_from at_end v (number + 1) (room - (length l + 1)) x) bad
       (ap (told_from at_end g.state number room) b ∙ told_from-line at_end g.state number room l x one short fits)
-      (behind-line number room opened old now t0 t g l x one b)
+      (after_lines-line g.text l x one b)
       (subst (λ (v : List ℕ). OnFault (one_line g.state number v) now n bad) i (o g.state g.at))
       (λ q. subst (λ (v : List ℕ). (g.state ≡ Start) × IsGoodHeader v) i (c g.state g.at q))
-      (slice_split is_newline x, ap (slice_split is_newline) b ∙ slice_split_at is_newline l 10 x one refl))
-      h.goes r
+      (slice_split is_newline x, ap (slice_split is_newline) b ∙ slice_split_at is_newline l 10 x one refl)) r
 
   Going-next : (n : Option (List ℕ)) (d : Option Contents) (t0 t x : List ℕ) → (d ≡ None → ⊥) → (g : Going number room opened old now t0 t)
       → length l < room → t ≡ l ++ 10 ∷ x → IsOkAnd (one_line g.state number l) (λ p. Appends now n p.0 × IsAt d p.1)
@@ -387,10 +338,8 @@ module _ {k0 k old now : Option (List ℕ)} {number room : ℕ} {opened : Option
       → Known k0 m old n (number + 1) (room - (size + 1)) d
   next_line n d f line size e j z i r fits o =
       let goes : Reads k0 m (Going (number + 1) (room - (length l + 1)) d old n) =
-      Reads-trans k0 k m (Going number room opened old now) (ReadsLine l (Ok f)) (Going (number + 1) (room - (length l + 1)) d old n)
-      (λ t0 t x g p.
-      let b : t ≡ l ++ 10 ∷ x = subst (λ (v : Ended). ReadsLine l (Ok v) t x) e p in
+      ended (Going (number + 1) (room - (length l + 1)) d old n) (Ok f) (Ok how.Line) (ap Ok e)
+      (λ t0 t x g b.
       Going-next n d t0 t x i g fits b
-      (subst (λ (v : List ℕ). IsOkAnd (one_line g.state number v) (λ p. Appends now n p.0 × IsAt d p.1)) j (o g.state g.at)))
-      h.goes r in
+      (subst (λ (v : List ℕ). IsOkAnd (one_line g.state number v) (λ p. Appends now n p.0 × IsAt d p.1)) j (o g.state g.at))) r in
       record { goes = subst (λ (u : ℕ). Reads k0 m (Going (number + 1) (room - (u + 1)) d old n)) (sym z) goes }

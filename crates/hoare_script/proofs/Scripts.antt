@@ -1,15 +1,14 @@
 -- What a script is told, by how its next line ends.
 use Rattle.std.proofs.Common.{◌≡◌, ◌≢◌, ℕ, suc, ◌+◌, ◌-◌, ◌<◌, ◌≤◌, Bool, true, false, cond, ltb, List, [], ◌∷◌, ◌++◌, length, take}
-use Rattle.std.proofs.Common.{refl, ap, sym, ◌∙◌, append_assoc, length-append, arith}
+use Rattle.std.proofs.Common.{refl, ap, sym, ◌∙◌, length-append, arith}
 use Rattle.std.specs.List.{slice_split}
 use Rattle.std.proofs.Math.Seq.{take-append-add, take-append_seam}
-use Rattle.std.proofs.lemmas.Bool.{lt-ltb, le-ltb, ne_eqb}
+use Rattle.std.proofs.lemmas.Bool.{lt-ltb, le-ltb}
 use Rattle.std.proofs.lemmas.Bool.Decides.{nat_tests}
 use Rattle.std.proofs.lemmas.List.{take_all}
-use Rattle.std.proofs.lemmas.List.Elements.{All-push}
 use Rattle.std.proofs.lemmas.List.Splits.{slice_split_at, slice_split_none}
 use Rattle.hoare_script.specs.declared.fault.ScriptFault.TheVariants as faults
-use Rattle.line_text.proofs.Spelling.{slice_split-some, slice_split-prefix}
+use Rattle.line_text.proofs.Spelling.{slice_split-some, slice_split-longer}
 use Rattle.line_text.specs.Line.{NoNewline, is_newline}
 use Rattle.hoare_script.specs.Scripts.{State, Ending, stop, one_line, then_on, told_lines, told_from}
 
@@ -54,15 +53,10 @@ pub told_from-long_line : (e : Ending) (s : State) (i room : ℕ) (l : List ℕ)
     → told_from e s i room (l ++ b ∷ x) ≡ stop (faults.LineTooLong i)
 unfolding told_from
 told_from-long_line e s i room l b x n d h r =
-    let y : List ℕ = take (room - (length l + 1)) x in
-    let bytes : take room (l ++ b ∷ x) ≡ (l ++ b ∷ []) ++ y = take-line room l b x (omega arith) ∙ sym (append_assoc l (b ∷ []) y) in
-    let f : (p : List ℕ) × (ps : List (List ℕ)) × (slice_split is_newline ((l ++ b ∷ []) ++ y) ≡ ((l ++ b ∷ []) ++ p) ∷ ps) =
-    slice_split-prefix (l ++ b ∷ []) y (All-push (λ c. is_newline c ≡ false) l b n (ne_eqb b 10 d)) in
-    let parts : slice_split is_newline (take room (l ++ b ∷ x)) ≡ ((l ++ b ∷ []) ++ f.0) ∷ f.1 =
-    ap (slice_split is_newline) bytes ∙ f.2 in
-    ap (told_lines e (ltb room (length (l ++ b ∷ x))) s i) parts
-    ∙ told_lines-long e (ltb room (length (l ++ b ∷ x))) s i ((l ++ b ∷ []) ++ f.0) f.1
-    (omega (arith, length-append (l ++ b ∷ []) f.0, length-append l (b ∷ [])))
+    let over : Bool = ltb room (length (l ++ b ∷ x)) in
+    let f = slice_split-longer l (take (room - (length l + 1)) x) b n d in
+    ap (told_lines e over s i) (ap (slice_split is_newline) (take-line room l b x (omega arith)) ∙ f.2)
+    ∙ told_lines-long e over s i f.0 f.1 (omega (arith, h, f.3))
 
 -- what follows the last whole line
 told_lines-last : (e : Ending) (over : Bool) (s : State) (i : ℕ) (l : List ℕ) → length l ≤ 256

@@ -1,5 +1,5 @@
 //! A whole script.
-ghost use Rattle.std.specs.Prelude.{◌≡◌, ◌≢◌, ◌≤◌, ◌+◌, ◌||◌, [], length, false, IsOkAnd, MatchResult, None, Some, Ok, Err, OnOk, ◌⊎◌};
+ghost use Rattle.std.specs.Prelude.{◌≡◌, ◌≢◌, ◌≤◌, ◌==◌, ◌+◌, ◌||◌, if◌then◌else◌, [], length, false, IsOkAnd, MatchResult, None, Some, Ok, Err, OnOk, ◌⊎◌};
 ghost use Rattle.hoare_law.specs.declared.event.History.{History};
 ghost use Rattle.line_text.specs.declared.line.TheConstants.{LONGEST_LINE};
 ghost use Rattle.line_text.specs.Streams.{HasRead, Reads, ReadsFrom, has_read_failed, has_write_failed, reader_name, writer_inside, writer_name};
@@ -94,15 +94,8 @@ fn answer_lines<R: Read, W: Write>(
             Err(LineFault::Failed) => return Err(ScriptFault::ReadFault),
             Err(LineFault::TooLong) => return Err(ScriptFault::LineTooLong(number)),
             Err(LineFault::TooMuch) => return Err(ScriptFault::TooMuch),
-            Ok(Ended::Last) => {
-                if !line.is_empty() {
-                    return one_line(alloc, writer, opened, number, line.as_slice());
-                }
-                if number == 1 {
-                    return Err(ScriptFault::NoHeader);
-                }
-                return Ok(());
-            }
+            Ok(Ended::Last) if line.is_empty() => return end_before(number),
+            Ok(Ended::Last) => return one_line(alloc, writer, opened, number, line.as_slice()),
             Ok(Ended::Line) => {
                 if let Err(fault) = one_line(alloc, writer, opened, number, line.as_slice()) {
                     return Err(fault);
@@ -111,6 +104,19 @@ fn answer_lines<R: Read, W: Write>(
                 number += 1;
             }
         }
+    }
+}
+
+// The text ends where the line with a number would begin: a script has one line at least.
+fn end_before(number: u64) -> Result<(), ScriptFault>
+    ensures value { result ≡ (if number == 1 then Err ScriptFault.NoHeader else Ok tt) }
+    ensures no_read { is_read_fault result ≡ false }
+    ensures no_write { is_write_fault result ≡ false }
+{
+    if number == 1 {
+        Err(ScriptFault::NoHeader)
+    } else {
+        Ok(())
     }
 }
 

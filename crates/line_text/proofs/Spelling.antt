@@ -1,10 +1,10 @@
 -- Words and numbers.
-use Rattle.std.proofs.Common.{◌≡◌, ℕ, suc, zero, ◌+◌, ◌*◌, ◌-◌, ◌^◌, ◌<◌, ◌≤◌, Bool, true, false, cond, eqb, ltb, ◌&&◌}
-use Rattle.std.proofs.Common.{List, [], ◌∷◌, ◌++◌, length, get_or, take, drop, Option, Some, None, refl, ap, ◌∙◌, ◌⊎◌, inl, inr, arith}
+use Rattle.std.proofs.Common.{◌≡◌, ◌≢◌, ℕ, suc, zero, ◌+◌, ◌*◌, ◌-◌, ◌^◌, ◌<◌, ◌≤◌, Bool, true, false, cond, eqb, ltb, ◌&&◌}
+use Rattle.std.proofs.Common.{List, [], ◌∷◌, ◌++◌, length, get_or, take, drop, Option, Some, None, refl, ap, sym, ◌∙◌, ◌⊎◌, inl, inr, append_assoc, length-append, arith}
 use Rattle.std.proofs.lemmas.Bool.{lt-ltb, le-ltb, ne_eqb}
 use Rattle.std.proofs.lemmas.Bool.Decides.{nat_tests}
 use Rattle.std.proofs.lemmas.Grind.{common_steps}
-use Rattle.std.proofs.lemmas.List.Elements.{All-head, All-tail}
+use Rattle.std.proofs.lemmas.List.Elements.{All-head, All-push, All-tail}
 use Rattle.std.proofs.lemmas.List.Splits.{length-slice_split, slice_split-cons_no}
 use Rattle.std.specs.Borrow.{Bor}
 use Rattle.std.specs.List.{slice_split, onto_first}
@@ -39,7 +39,7 @@ cons_of [] n = absurd (n refl)
 cons_of (p ∷ ps) n = (p, ps, refl)
 
 -- the first part begins with what has no separator
-pub slice_split-prefix : (l y : List ℕ) → NoNewline l
+slice_split-prefix : (l y : List ℕ) → NoNewline l
     → (p : List ℕ) × (ps : List (List ℕ)) × (slice_split is_newline (l ++ y) ≡ (l ++ p) ∷ ps)
 slice_split-prefix [] y n = cons_of (slice_split is_newline y) (slice_split-some is_newline y)
 slice_split-prefix (c ∷ l) y n =
@@ -49,6 +49,19 @@ slice_split-prefix (c ∷ l) y n =
       r.1,
       slice_split-cons_no is_newline c (l ++ y) (All-head (λ b. is_newline b ≡ false) c l n)
           ∙ ap (onto_first c) r.2,
+    )
+
+-- a line goes on by a byte that doesn't end it: the first part has more bytes
+pub slice_split-longer : (l y : List ℕ) (b : ℕ) → NoNewline l → b ≢ 10
+    → (p : List ℕ) × (ps : List (List ℕ)) × (slice_split is_newline (l ++ b ∷ y) ≡ p ∷ ps) × (length l < length p)
+slice_split-longer l y b n d =
+    let line : List ℕ = l ++ b ∷ [] in
+    let r : (p : List ℕ) × (ps : List (List ℕ)) × (slice_split is_newline (line ++ y) ≡ (line ++ p) ∷ ps) =
+    slice_split-prefix line y (All-push (λ c. is_newline c ≡ false) l b n (ne_eqb b 10 d)) in (
+      line ++ r.0,
+      r.1,
+      ap (slice_split is_newline) (sym (append_assoc l (b ∷ []) y)) ∙ r.2,
+      omega (arith, length-append line r.0, length-append l (b ∷ [])),
     )
 
 -- more digits make no less

@@ -1,9 +1,12 @@
 -- Known bytes of readers and writers.
-use Rattle.std.proofs.Common.{◌≡◌, ◌∙◌, ℕ, ◌+◌, ◌-◌, ◌≤◌, List, ◌++◌, length, take, drop, Option, Some, None, ap, sym, subst, length-append, length-drop, arith}
+use Rattle.std.proofs.Common.{◌≡◌, ◌∙◌, ℕ, ◌+◌, ◌-◌, ◌≤◌, List, ◌++◌, length, take, drop, Option, Some, None, Result, ap, sym, subst, length-append, length-drop, arith}
 use Rattle.std.proofs.KnownBytes.{Appends-trans}
 use Rattle.std.proofs.Math.Seq.{take-add, take-append-add, drop-append_seam}
 use Rattle.std.proofs.lemmas.List.{take_all, take-append-le}
 use Rattle.std.specs.Io.KnownBytes.{Appends}
+use Rattle.line_text.specs.declared.line.Ended.{Ended}
+use Rattle.line_text.specs.declared.line.LineFault.{LineFault}
+use Rattle.line_text.specs.Line.{ReadsLine}
 use Rattle.line_text.specs.Streams.{Reads, AppendsPrefix}
 
 -- more of a text is written: its next n bytes, of the m at most that were handed over
@@ -14,13 +17,14 @@ Appends-take a b c bs i n m l p q =
     subst (λ (v : List ℕ). Appends a c v) (sym (take-add i n bs))
     (Appends-trans a b c (take i bs) (take n (drop i bs)) p (subst (λ (v : List ℕ). Appends b c (take n v)) e q))
 
--- two reads, one after the other
-pub Reads-trans : (a b c : Option (List ℕ)) (P Q S : List ℕ → List ℕ → Type 0)
-    → ((t x y : List ℕ) → P t x → Q x y → S t y) → Reads a b P → Reads b c Q → Reads a c S
-Reads-trans None b c P Q S f p q = tt
-Reads-trans (Some t) None c P Q S f p q = absurd p
-Reads-trans (Some t) (Some x) None P Q S f p q = absurd q
-Reads-trans (Some t) (Some x) (Some y) P Q S f p q = f t x y p q
+-- a line is read after what was read before, and ends in this way
+pub Reads-line : (a b c : Option (List ℕ)) (P S : List ℕ → List ℕ → Type 0) (l : List ℕ) (e f : Result Ended LineFault) → e ≡ f
+    → ((t x y : List ℕ) → P t x → ReadsLine l f x y → S t y) → Reads a b P → Reads b c (ReadsLine l e) → Reads a c S
+Reads-line None b c P S l e f is go p q = tt
+Reads-line (Some t) None c P S l e f is go p q = absurd p
+Reads-line (Some t) (Some x) None P S l e f is go p q = absurd q
+Reads-line (Some t) (Some x) (Some y) P S l e f is go p q =
+    go t x y p (subst (λ (v : Result Ended LineFault). ReadsLine l v x y) is q)
 
 -- all of one text and a prefix of the next
 pub append-take_prefix : (w p r : List ℕ) (n : ℕ) → n ≤ length p → w ++ take n p ≡ take (length w + n) (w ++ (p ++ r))

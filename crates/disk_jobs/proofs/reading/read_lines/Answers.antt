@@ -1,5 +1,6 @@
-use Rattle.std.proofs.Common.{◌≡◌, ◌≤◌, ◌+◌, List, [], ◌∷◌, ℕ, length, Option, None, Bool, true, false, eqb, ap, sym, subst, refl, arith, rules}
+use Rattle.std.proofs.Common.{◌≡◌, ◌≤◌, ◌+◌, length, Option, None, ap, sym, subst, arith, rules}
 use Rattle.std.proofs.lemmas.Bool.Decides.{nat_tests}
+use Rattle.std.proofs.lemmas.List.{nil_from_length}
 use Rattle.line_text.specs.Streams.{reader_inside}
 use Rattle.disk_jobs.specs.JobLists.{JobList}
 use Rattle.disk_jobs.specs.Readings.{lines_of}
@@ -33,20 +34,12 @@ returns-in-Err-TooLong-clause-told g c =
     progress.exit_long c.lines.invariant.goes (g.R.Read.remaining (reader_inside c.read_line.new.reader)) c.read_line.new.line.items
     e.one e.short c.in-Err-TooLong.field-0 None c.in-Err-TooLong.field-0-is e.known e.fits
 
--- whether a list is empty, by the test of its length
-some_items : (xs : List ℕ) (b : Bool) → b ≡ eqb (length xs) 0 → b ≡ false → xs ≡ [] → ⊥
-some_items xs b e f z = let n : length xs ≡ 0 = ap length z in absurd (grind (arith, nat_tests))
-
-no_item : (xs : List ℕ) (b : Bool) → b ≡ eqb (length xs) 0 → b ≡ true → xs ≡ []
-no_item [] b e f = refl
-no_item (x ∷ xs) b e f = absurd (grind (arith, nat_tests))
-
 pub returns-then-not-is_empty-clause-told : goal.returns-then-not-is_empty-clause-told
 returns-then-not-is_empty-clause-told g c =
     let e = c.in-Ok-Last.ensures in
     progress.exit_last c.lines.invariant.goes (g.R.Read.remaining (reader_inside c.read_line.new.reader)) c.read_line.new.line.items
     e.one e.short c.in-Ok-Last.field-0 _ c.one_line.result c.one_line.new.jobs c.in-Ok-Last.field-0-is c.as_slice.ensures.value e.known
-    (some_items c.read_line.new.line.items c.is_empty.result c.is_empty.ensures c.if-not-is_empty.true)
+    (λ z. absurd (grind (arith, nat_tests, c.is_empty.ensures, c.if-not-is_empty.true, ap length z)))
     c.lines.invariant.numbered c.one_line.ensures.told
 
 pub returns-then-number-eq1-clause-told : goal.returns-then-number-eq1-clause-told
@@ -54,14 +47,14 @@ returns-then-number-eq1-clause-told g c =
     let e = c.in-Ok-Last.ensures in
     progress.exit_empty c.lines.invariant.goes (g.R.Read.remaining (reader_inside c.read_line.new.reader)) c.read_line.new.line.items
     e.one e.short c.in-Ok-Last.field-0 None c.in-Ok-Last.field-0-is e.known
-    (no_item c.read_line.new.line.items c.is_empty.result c.is_empty.ensures c.if-not-is_empty.false) c.lines.invariant.numbered c.if-number-eq1.true
+    (nil_from_length c.read_line.new.line.items (grind (arith, nat_tests, c.is_empty.ensures, c.if-not-is_empty.false))) c.lines.invariant.numbered c.if-number-eq1.true
 
 pub returns-in-Ok-Last-clause-told : goal.returns-in-Ok-Last-clause-told
 returns-in-Ok-Last-clause-told g c =
     let e = c.in-Ok-Last.ensures in
     progress.exit_done c.lines.invariant.goes (g.R.Read.remaining (reader_inside c.read_line.new.reader)) c.read_line.new.line.items
     e.one e.short c.in-Ok-Last.field-0 c.in-Ok-Last.field-0-is e.known
-    (no_item c.read_line.new.line.items c.is_empty.result c.is_empty.ensures c.if-not-is_empty.false) c.lines.invariant.numbered c.if-number-eq1.false
+    (nil_from_length c.read_line.new.line.items (grind (arith, nat_tests, c.is_empty.ensures, c.if-not-is_empty.false))) c.lines.invariant.numbered c.if-number-eq1.false
 
 pub returns-in-Err-clause-told : goal.returns-in-Err-clause-told
 returns-in-Err-clause-told g c =

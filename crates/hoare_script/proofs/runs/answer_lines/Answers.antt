@@ -1,5 +1,6 @@
-use Rattle.std.proofs.Common.{◌≡◌, ◌<◌, ℕ, List, [], ◌∷◌, length, ap, sym, subst, refl, arith, rules, Option, Bool, true, false, eqb, Err, Ok}
+use Rattle.std.proofs.Common.{◌≡◌, ◌<◌, ℕ, List, length, ap, sym, subst, arith, rules, Option, Err, Ok}
 use Rattle.std.proofs.lemmas.Bool.Decides.{nat_tests}
+use Rattle.std.proofs.lemmas.List.{nil_from_length}
 use Rattle.line_text.specs.declared.line.Ended.{Ended}
 use Rattle.line_text.specs.declared.line.Ended.TheVariants as how
 use Rattle.line_text.specs.Line.{IsLineFor}
@@ -47,36 +48,21 @@ returns-in-Err-TooMuch-clause-told g c =
     running.exit_much c.lines.invariant.goes (g.R.Read.remaining (reader_inside c.read_line.new.reader)) c.read_line.new.line.items
     e.one e.short e.within c.in-Err-TooMuch.field-0 c.in-Err-TooMuch.field-0-is e.known e.fits
 
--- whether a list is empty, by the test of its length
-some_items : (xs : List ℕ) (b : Bool) → b ≡ eqb (length xs) 0 → b ≡ false → xs ≡ [] → ⊥
-some_items xs b e f z = let n : length xs ≡ 0 = ap length z in absurd (grind (arith, nat_tests))
+pub returns-in-Ok-Last-clause-told : goal.returns-in-Ok-Last-clause-told
+returns-in-Ok-Last-clause-told g c =
+    let e = c.in-Ok-Last.ensures in
+    running.exit_end c.lines.invariant.goes (g.R.Read.remaining (reader_inside c.read_line.new.reader)) c.read_line.new.line.items
+    e.one e.short e.within c.end_before.result c.in-Ok-Last.field-0 c.in-Ok-Last.field-0-is e.known
+    (nil_from_length c.read_line.new.line.items (grind (arith, nat_tests, c.is_empty.ensures, c.if-is_empty.true))) c.end_before.ensures.value
 
-no_item : (xs : List ℕ) (b : Bool) → b ≡ eqb (length xs) 0 → b ≡ true → xs ≡ []
-no_item [] b e f = refl
-no_item (x ∷ xs) b e f = absurd (grind (arith, nat_tests))
-
-pub returns-then-not-is_empty-clause-told : goal.returns-then-not-is_empty-clause-told
-returns-then-not-is_empty-clause-told g c =
+pub returns-in-Ok-Last-2-clause-told : goal.returns-in-Ok-Last-2-clause-told
+returns-in-Ok-Last-2-clause-told g c =
     let e = c.in-Ok-Last.ensures in
     running.exit_last c.lines.invariant.goes (g.R.Read.remaining (reader_inside c.read_line.new.reader)) c.read_line.new.line.items
     e.one e.short e.within (g.W.Write.contents (writer_inside c.one_line.new.writer)) c.one_line.new.opened c.one_line.result
     c.in-Ok-Last.field-0 _ c.in-Ok-Last.field-0-is c.as_slice.ensures.value e.known
-    (some_items c.read_line.new.line.items c.is_empty.result c.is_empty.ensures c.if-not-is_empty.true)
+    (λ z. absurd (grind (arith, nat_tests, c.is_empty.ensures, c.if-is_empty.false, ap length z)))
     c.one_line.ensures.of c.one_line.ensures.memory
-
-pub returns-then-number-eq1-clause-told : goal.returns-then-number-eq1-clause-told
-returns-then-number-eq1-clause-told g c =
-    let e = c.in-Ok-Last.ensures in
-    running.exit_empty c.lines.invariant.goes (g.R.Read.remaining (reader_inside c.read_line.new.reader)) c.read_line.new.line.items
-    e.one e.short e.within c.in-Ok-Last.field-0 c.in-Ok-Last.field-0-is e.known
-    (no_item c.read_line.new.line.items c.is_empty.result c.is_empty.ensures c.if-not-is_empty.false) c.if-number-eq1.true
-
-pub returns-in-Ok-Last-clause-told : goal.returns-in-Ok-Last-clause-told
-returns-in-Ok-Last-clause-told g c =
-    let e = c.in-Ok-Last.ensures in
-    running.exit_done c.lines.invariant.goes (g.R.Read.remaining (reader_inside c.read_line.new.reader)) c.read_line.new.line.items
-    e.one e.short e.within c.in-Ok-Last.field-0 c.in-Ok-Last.field-0-is e.known
-    (no_item c.read_line.new.line.items c.is_empty.result c.is_empty.ensures c.if-not-is_empty.false) c.if-number-eq1.false
 
 pub returns-in-Err-clause-told : goal.returns-in-Err-clause-told
 returns-in-Err-clause-told g c =

@@ -10,6 +10,12 @@ pub const ROW: u64 = 28;
 /// The most rows that a picture has: with one more it is over 32,767 high, which viewers don't draw.
 pub const MOST_ROWS: usize = 1_164;
 
+/// How far the texts stand from the left and right edges.
+pub const MARGIN: u64 = 20;
+
+/// Where the header and the places' numbers stand.
+pub const HEAD_LINE: u64 = 42;
+
 /// The height above the first row.
 const HEAD: u64 = 64;
 
@@ -19,8 +25,17 @@ const LEGEND: u64 = 104;
 /// The least width, which the legend has room in.
 const LEAST_WIDTH: u64 = 560;
 
+/// The width of a character.
+const CHARACTER: u64 = 8;
+
+/// The room between the steps and the first box.
+const STEPS_GAP: u64 = 24;
+
 /// The room between two boxes.
 const GAP: u64 = 44;
+
+/// The room between the last box and the remarks.
+const REMARKS_GAP: u64 = 16;
 
 /// Where a place's lane stands: its middle, and half the width of its boxes.
 #[derive(Clone, Copy, Debug, Default, PartialEq, Eq)]
@@ -49,7 +64,7 @@ pub fn frame_of(chart: &Chart) -> Frame {
     let widths = widths_of(chart);
     let rows = chart.rows.len() as u64;
     let mut tracks = ArrayVec::new();
-    let mut edge = across(20, widths.steps).saturating_add(24);
+    let mut edge = across(MARGIN, widths.steps).saturating_add(STEPS_GAP);
     for column in widths.columns.as_slice() {
         let track = track_at(edge, *column);
         let _ = tracks.try_push(track);
@@ -71,7 +86,7 @@ fn track_at(edge: u64, column: Column) -> Track {
     let place = column.place;
     let name = place_text(place).len().saturating_add(6);
     let longest = column.width.saturating_add(1).max(name) as u64;
-    let half = longest.saturating_mul(4).saturating_add(6);
+    let half = longest.saturating_mul(CHARACTER / 2).saturating_add(6);
     Track {
         place,
         middle: edge.saturating_add(half),
@@ -79,23 +94,23 @@ fn track_at(edge: u64, column: Column) -> Track {
     }
 }
 
-// Remarks begin 16 after the last box.
+// Where remarks begin.
 fn remarks_after(tracks: &ArrayVec<Track, 64>, edge: u64) -> u64 {
     if tracks.is_empty() {
         return edge;
     }
-    edge.saturating_sub(GAP).saturating_add(16)
+    edge.saturating_sub(GAP).saturating_add(REMARKS_GAP)
 }
 
 fn width_of(remarks: u64, widths: &Widths) -> u64 {
     across(remarks, widths.remarks)
-        .saturating_add(20)
+        .saturating_add(MARGIN)
         .max(LEAST_WIDTH)
 }
 
 // Past this number of characters.
 fn across(from: u64, characters: usize) -> u64 {
-    from.saturating_add((characters as u64).saturating_mul(8))
+    from.saturating_add((characters as u64).saturating_mul(CHARACTER))
 }
 
 /// Where a row begins.

@@ -1,6 +1,6 @@
 //! The legend of an SVG.
 use crate::chart::Lane;
-use crate::shapes::{Area, Arrow, write_arrow, write_box};
+use crate::shapes::{Area, Arrow, BASELINE, write_arrow, write_box};
 use std::io;
 use std::io::Write;
 
@@ -52,7 +52,7 @@ fn write_arrows<W: Write>(writer: &mut W, first: u64) -> io::Result<()> {
 }
 
 fn write_note<W: Write>(writer: &mut W, x: u64, top: u64, note: &str) -> io::Result<()> {
-    let line = top.saturating_add(15);
+    let line = top.saturating_add(BASELINE);
     write!(
         writer,
         "<text class=\"note\" x=\"{x}\" y=\"{line}\">{note}</text>\n"

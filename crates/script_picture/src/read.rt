@@ -20,6 +20,9 @@ use std::alloc::Global;
 use std::io::Read;
 use wait_book::steps::MakeRefused;
 
+// The most lines of a script: each but the last takes a byte at least, its end.
+const MOST_LINES: u64 = MOST_BYTES as u64 + 1;
+
 /// A script that was opened by its header: what was read of it, its book, the bytes that may follow, and whether any do.
 #[derive(Drop)]
 pub struct Script {
@@ -105,7 +108,7 @@ impl Script {
             ≡ (has_read_failed reader.old || is_read_fault result) }
     {
         let mut line = ArrayVec::new();
-        'rows: for number in 2..1_048_579 {
+        'rows: for number in 2..=MOST_LINES {
             if self.ended == Ended::Last {
                 break;
             }

@@ -3,6 +3,9 @@ use crate::chart::Lane;
 use std::io;
 use std::io::Write;
 
+/// How far below the top of a box its text stands.
+pub const BASELINE: u64 = 15;
+
 /// Where a box stands: its middle, half its width, its top and its height.
 #[derive(Clone, Copy, Debug, PartialEq, Eq)]
 pub struct Area {
@@ -84,7 +87,7 @@ fn write_rectangle<W: Write>(writer: &mut W, class: &str, area: Area) -> io::Res
 // The beginning of a box's text.
 fn write_label<W: Write>(writer: &mut W, area: Area, class: &str) -> io::Result<()> {
     let middle = area.middle;
-    let line = area.top.saturating_add(15);
+    let line = area.top.saturating_add(BASELINE);
     write!(
         writer,
         "<text class=\"{class}\" x=\"{middle}\" y=\"{line}\">"
@@ -102,8 +105,8 @@ pub fn write_arrow<W: Write>(writer: &mut W, arrow: Arrow) -> io::Result<()> {
     write_tip(writer, arrow)
 }
 
-// A point so far to the right of another, or to the left.
-fn moved(x: u64, distance: u64, rightward: bool) -> u64 {
+/// A point so far to the right of another, or to the left.
+pub fn moved(x: u64, distance: u64, rightward: bool) -> u64 {
     if rightward {
         x.saturating_add(distance)
     } else {

@@ -5,9 +5,9 @@ use crate::about::write_description;
 use crate::chart::{
     Chart, HandOver, Lane, Row, advance, does, hand_over, lane_after, outside_lanes,
 };
-use crate::frame::{Frame, ROW, Track, frame_of, row_top};
+use crate::frame::{Frame, HEAD_LINE, MARGIN, ROW, Track, frame_of, row_top};
 use crate::legend::write_legend;
-use crate::shapes::{Area, Arrow, write_arrow, write_box, write_dot};
+use crate::shapes::{Area, Arrow, moved, write_arrow, write_box, write_dot};
 use crate::words::{Text, command_text, header_text, idle_text, remark_text};
 use arrayvec::ArrayVec;
 use hoare_script::answers::Answer;
@@ -65,11 +65,12 @@ fn write_opening<W: Write>(writer: &mut W, frame: &Frame) -> io::Result<()> {
 fn write_head<W: Write>(writer: &mut W, frame: &Frame, header: Header) -> io::Result<()> {
     writer.write_all(STYLE.as_bytes())?;
     write_page(writer, frame)?;
-    write_text(writer, "title", 20, 42, header_text(header))?;
+    write_text(writer, "title", MARGIN, HEAD_LINE, header_text(header))?;
     if frame.idle == 0 {
         return Ok(());
     }
-    write_text(writer, "note", frame.remarks, 42, idle_text(frame.idle))
+    let note = idle_text(frame.idle);
+    write_text(writer, "note", frame.remarks, HEAD_LINE, note)
 }
 
 fn write_page<W: Write>(writer: &mut W, frame: &Frame) -> io::Result<()> {
@@ -117,7 +118,7 @@ fn write_band<W: Write>(writer: &mut W, frame: &Frame, top: u64) -> io::Result<(
 // A row's step and remark, on a line of text.
 fn write_row<W: Write>(writer: &mut W, frame: &Frame, line: u64, row: Row) -> io::Result<()> {
     let class = class_of(row.answer);
-    write_text(writer, class, 20, line, command_text(row.command))?;
+    write_text(writer, class, MARGIN, line, command_text(row.command))?;
     let remark = remark_text(row.answer);
     if remark.is_empty() {
         return Ok(());
@@ -149,7 +150,7 @@ fn write_place<W: Write>(writer: &mut W, track: Track) -> io::Result<()> {
     let x = track.middle;
     write!(
         writer,
-        "<text class=\"head\" x=\"{x}\" y=\"42\">place {place}</text>"
+        "<text class=\"head\" x=\"{x}\" y=\"{HEAD_LINE}\">place {place}</text>"
     )
 }
 
@@ -263,24 +264,14 @@ fn write_crossing<W: Write>(
         return Ok(()); // never: a place that hands over or goes on is not idle
     };
     let middle = row_top(row).saturating_add(ROW / 2);
-    let reach = if gone { 0 } else { from.half };
-    let (from_side, to_side) = if over.from < over.to {
-        (
-            from.middle.saturating_add(reach),
-            to.middle.saturating_sub(to.half),
-        )
-    } else {
-        (
-            from.middle.saturating_sub(reach),
-            to.middle.saturating_add(to.half),
-        )
-    };
     if gone {
         write_dot(writer, from.middle, middle)?;
     }
+    let reach = if gone { 0 } else { from.half };
+    let rightward = over.from < over.to;
     let arrow = Arrow {
-        from: from_side,
-        to: to_side,
+        from: moved(from.middle, reach, rightward),
+        to: moved(to.middle, to.half, !rightward),
         middle,
         returns,
     };

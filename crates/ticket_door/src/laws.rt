@@ -11,7 +11,7 @@ ghost use Rattle.ticket_door.specs.Rule.{Starts};
 use crate::door::TicketDoor;
 use crate::place::TicketOut;
 use crate::rule::{Sizes, TicketTable, TicketWords};
-use crate::words::{NEXT, SERVING};
+use crate::words::{NEXT, SERVING, words_for};
 use door_frame::making::{deal, parkers, vacant};
 use door_frame::parcel::Parcel;
 use door_frame::plays::{Begin, DoorSeat, Open};
@@ -27,7 +27,7 @@ fn first_words(alloc: Global, places: usize, first: u64) -> Result<Vec<u64>, All
     requires { places ≤ 64 }
     ensures { IfOk result (λ w. Starts first places false w.items) }
 {
-    let mut words = vec![in alloc; 0; 8 * places + 16]?;
+    let mut words = vec![in alloc; 0; words_for(places)]?;
     words[NEXT] = first;
     words[SERVING] = first;
     Ok(words)

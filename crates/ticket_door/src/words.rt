@@ -1,12 +1,18 @@
 //! Where the door's words stand in the table: one to a line of the cache.
-ghost use Rattle.std.specs.Prelude.{◌≡◌, ◌<◌};
+ghost use Rattle.std.specs.Prelude.{◌≡◌, ◌<◌, ◌≤◌};
 ghost use Rattle.ticket_door.specs.Rule.{bell_at};
+
+// How many words a line of the cache has.
+const LINE: usize = 8;
+
+// Where the bells begin.
+const BELLS: usize = 2 * LINE;
 
 /// Which ticket is served.
 pub(crate) const SERVING: usize = 0;
 
 /// The next ticket to be drawn.
-pub(crate) const NEXT: usize = 8;
+pub(crate) const NEXT: usize = LINE;
 
 /// A bell that was rung.
 pub(crate) const RUNG: u64 = 1;
@@ -20,5 +26,13 @@ pub(crate) fn bell_of(place: usize) -> usize
     requires { place < 64 }
     ensures { result ≡ bell_at place }
 {
-    8 * place + 16
+    BELLS + LINE * place
+}
+
+/// How many words a door of this many places has: up to where one more bell would stand.
+pub(crate) fn words_for(places: usize) -> usize
+    requires { places ≤ 64 }
+    ensures { result ≡ bell_at places }
+{
+    BELLS + LINE * places
 }

@@ -1,6 +1,7 @@
 -- Who hands the monitor over has it before the row, and who goes on has it after the row.
 use Rattle.std.proofs.Common.{◌≡◌, ◌==◌, ◌<◌, ◌+◌, ◌↔◌, ℕ, Bool, true, false, cond, take, List, length, slice_index_or, Option, Some, None, refl, ap, sym, ◌∙◌, subst}
 use Rattle.std.specs.Prelude.{IsTrue}
+use Rattle.std.proofs.lemmas.List.{get_or_default}
 use Rattle.hoare_law.specs.declared.event.Event.TheVariants as event
 use Rattle.hoare_law.specs.declared.turn.Turn.{Turn}
 use Rattle.hoare_law.specs.declared.turn.Turn.TheVariants.{Free, Held, Owed, Return}
@@ -20,7 +21,7 @@ use Rattle.script_picture.specs.declared.chart.Lane.{Lane}
 use Rattle.script_picture.specs.declared.chart.Lane.TheVariants as lanes
 use Rattle.script_picture.specs.declared.chart.Row.{Row}
 use Rattle.script_picture.specs.Lanes.{actor, between, hand_over_answered, hand_over_commanded, hand_over}
-use Rattle.script_picture.specs.Shown.{Does, IsClaimed, Shows, IsTold, HandsOver, after_rows, opening}
+use Rattle.script_picture.specs.Shown.{Does, IsClaimed, Shows, IsTold, HandsOver, KeepsTurn, after_rows, opening}
 use Rattle.script_picture.proofs.Does.{Log}
 use Rattle.script_picture.proofs.Shown.{turn-with, held_test, held_is, claimed-step, places-after, Answered-at, Answered-before, after_rows-next}
 
@@ -104,3 +105,10 @@ HandsOver-between c seen i d old new over returns gone seen_is below is_told bef
       returns = told _ _ _ is_return (lane_says h old over.to lanes.Signalling (subst (λ (n : ℕ). over.to < n) (places-after h row.command) to_below) before);
       gone = told _ _ _ is_gone (lane_says _ new over.from lanes.Outside (subst (λ (n : ℕ). over.from < n) (sym same) from_below) after);
     }
+
+-- a row that hands nothing over
+pub KeepsTurn-at : (c : Chart) (seen : List Row) (i j : ℕ) (d : Row) → seen ≡ c.rows.items → j ≡ i → i < length seen
+    → hand_over (slice_index_or seen i d) ≡ None → KeepsTurn c j
+KeepsTurn-at c seen i j d seen_is at below none e =
+    ap (λ (l : List Row). hand_over (slice_index_or l j e)) (sym seen_is) ∙ ap (λ (n : ℕ). hand_over (slice_index_or seen n e)) at
+    ∙ ap hand_over (get_or_default seen i e d below) ∙ none

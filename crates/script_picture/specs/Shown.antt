@@ -19,6 +19,7 @@ use Rattle.script_picture.specs.declared.chart.Lane.TheVariants as lanes
 use Rattle.script_picture.specs.declared.chart.Row.{Row}
 use Rattle.script_picture.specs.declared.chart.Chart.{Chart}
 use Rattle.script_picture.specs.declared.read.Script.{Script}
+use Rattle.script_picture.specs.Lanes.{hand_over}
 
 -- place k does this where h happened: it is outside, it has the turn, it waits on a condition with a priority, or it is a
 -- waiting signaller. All four are the words of hoare_law
@@ -79,6 +80,10 @@ pub record HandsOver (c : Chart) (i : ℕ) (over : HandOver) (comes_back went_ou
   pub goes_on : Does (after_rows (opening c.header) (take (i + 1) c.rows.items)) over.to lanes.Inside
   pub returns : IsTrue comes_back ↔ Does (after_rows (opening c.header) (take i c.rows.items)) over.to lanes.Signalling
   pub gone : IsTrue went_out ↔ Does (after_rows (opening c.header) (take (i + 1) c.rows.items)) over.from lanes.Outside
+
+-- row i hands nothing over
+abbrev pub KeepsTurn : Chart → ℕ → Type 0
+KeepsTurn c i = (d : Row) → hand_over (slice_index_or c.rows.items i d) ≡ None
 
 -- one row more, of the command that a line spells
 abbrev pub IsRowMore : Option Command → List Row → List Row → Type 0

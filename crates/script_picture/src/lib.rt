@@ -3,12 +3,14 @@
 
 mod about;
 mod chart;
+mod crossings;
 pub mod fault;
 mod frame;
 mod legend;
 pub mod picture;
 mod read;
 mod shapes;
+mod spans;
 mod svg;
 mod text;
 mod widths;

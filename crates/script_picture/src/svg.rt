@@ -1,13 +1,13 @@
 //! The chart as an SVG.
-ghost use Rattle.script_picture.specs.Shown.{DoesDuring, HandsOver, IsTold};
+ghost use Rattle.std.specs.Prelude.{◌≡◌, IfOk, length};
+ghost use Rattle.script_picture.specs.Shown.{IsTold};
 
 use crate::about::write_description;
-use crate::chart::{
-    Chart, HandOver, Lane, Row, advance, does, hand_over, lane_after, outside_lanes,
-};
+use crate::chart::{Chart, Lane, Row, advance, does, hand_over, lane_after, outside_lanes};
+use crate::crossings::{Crossed, Crossing, write_crossing};
 use crate::frame::{Frame, HEAD_LINE, MARGIN, ROW, Track, frame_of, row_top};
 use crate::legend::write_legend;
-use crate::shapes::{Area, Arrow, moved, write_arrow, write_box, write_dot};
+use crate::spans::{Boxed, Span, write_span};
 use crate::words::{Text, command_text, header_text, idle_text, remark_text};
 use arrayvec::ArrayVec;
 use hoare_script::answers::Answer;
@@ -36,7 +36,7 @@ pub fn draw<W: Write>(writer: &mut W, chart: &Chart) -> io::Result<()>
     let frame = frame_of(chart);
     write_ground(writer, &frame, chart)?;
     write_boxes(writer, &frame, chart)?;
-    write_arrows(writer, &frame, chart)?;
+    let _crossed = write_arrows(writer, &frame, chart)?;
     write_legend(writer, row_top(frame.rows))?;
     writer.write_all(b"</svg>\n")
 }
@@ -158,122 +158,57 @@ fn write_lane<W: Write>(writer: &mut W, x: u64, top: u64, bottom: u64) -> io::Re
     write!(writer, "<path class=\"lane\" d=\"M{x} {top}V{bottom}\"/>\n")
 }
 
-// What a place does after each row from one on, up to another.
-#[derive(Clone, Copy)]
-struct Span {
-    lane: Lane,
-    since: u64,
-    end: u64,
-}
-
 // The boxes, lane by lane.
 fn write_boxes<W: Write>(writer: &mut W, frame: &Frame, chart: &Chart) -> io::Result<()>
     requires { IsTold chart.now }
 {
     for track in frame.tracks.as_slice() {
-        write_lane_boxes(writer, chart, *track)?;
+        let _boxed = write_lane_boxes(writer, chart, *track)?;
     }
     Ok(())
 }
 
-// A box for each thing that a place does, as long as it does it.
-fn write_lane_boxes<W: Write>(writer: &mut W, chart: &Chart, track: Track) -> io::Result<()>
+// A box for each thing that a place does, as long as it does it: they stand beside all rows.
+fn write_lane_boxes<W: Write>(writer: &mut W, chart: &Chart, track: Track) -> io::Result<Boxed>
     requires { IsTold chart.now }
+    ensures { IfOk result (λ boxed. boxed.row ≡ length chart.now.rows.items) }
 {
     let mut lane = Lane::Outside;
-    let mut since = 0;
+    let mut boxed = Boxed::nothing();
     'rows: for (i, row) in chart.rows.iter().enumerate() {
         let end = i as u64;
         let after = lane_after(*row, track.place, lane);
         if after != lane {
-            write_span(writer, chart, track, Span { lane, since, end })?;
-            since = end;
+            boxed = write_span(writer, chart, track, boxed, Span { lane, end })?;
         }
         lane = after;
     }
     let end = chart.rows.len() as u64;
-    write_span(writer, chart, track, Span { lane, since, end })
+    write_span(writer, chart, track, boxed, Span { lane, end })
 }
 
-// The box of what a place does. The chart is there for the clause: the place does this after each row that the box is beside.
-fn write_span<W: Write>(writer: &mut W, chart: &Chart, track: Track, span: Span) -> io::Result<()>
-    requires { DoesDuring chart.now track.place span.lane span.since span.end }
-{
-    let top = row_top(span.since);
-    let height = row_top(span.end).saturating_sub(top);
-    let area = Area {
-        middle: track.middle,
-        half: track.half,
-        top: top.saturating_add(3),
-        height: height.saturating_sub(6),
-    };
-    write_box(writer, span.lane, area)
-}
-
-// An arrow for each hand-over.
-fn write_arrows<W: Write>(writer: &mut W, frame: &Frame, chart: &Chart) -> io::Result<()>
+// An arrow for each hand-over: no row that hands over is passed over.
+fn write_arrows<W: Write>(writer: &mut W, frame: &Frame, chart: &Chart) -> io::Result<Crossed>
     requires { IsTold chart.now }
+    ensures { IfOk result (λ crossed. crossed.row ≡ length chart.now.rows.items) }
 {
     let mut lanes = outside_lanes(chart.header);
-    'rows: for (i, row) in chart.rows.iter().enumerate() {
+    let mut crossed = Crossed::nothing();
+    'rows: for row in chart.rows.iter() {
         if let Some(over) = hand_over(*row) {
             let returns = does(&lanes, over.to, Lane::Signalling);
             advance(lanes.as_mut_slice(), *row);
             let gone = does(&lanes, over.from, Lane::Outside);
-            let row = i as u64;
             let crossing = Crossing {
-                row,
                 over,
                 returns,
                 gone,
             };
-            write_crossing(writer, frame, chart, crossing)?;
+            crossed = write_crossing(writer, frame, chart, crossed, crossing)?;
         } else {
             advance(lanes.as_mut_slice(), *row);
+            crossed = crossed.past(chart);
         }
     }
-    Ok(())
-}
-
-// A hand-over at a row: whether the one that goes on returns, and whether the other is gone.
-#[derive(Clone, Copy)]
-struct Crossing {
-    row: u64,
-    over: HandOver,
-    returns: bool,
-    gone: bool,
-}
-
-// The arrow of a hand-over, between the sides of two boxes, or from a dot where the place is gone. The chart is there for the
-// clause: the one is inside before the row, and the other after it.
-fn write_crossing<W: Write>(
-    writer: &mut W,
-    frame: &Frame,
-    chart: &Chart,
-    crossing: Crossing,
-) -> io::Result<()>
-    requires { HandsOver chart.now crossing.row crossing.over crossing.returns crossing.gone }
-{
-    let Crossing {
-        row,
-        over,
-        returns,
-        gone,
-    } = crossing;
-    let (Some(from), Some(to)) = (frame.track(over.from), frame.track(over.to)) else {
-        return Ok(()); // never: a place that hands over or goes on is not idle
-    };
-    let middle = row_top(row).saturating_add(ROW / 2);
-    if gone {
-        write_dot(writer, from.middle, middle)?;
-    }
-    let reach = if gone { 0 } else { from.half };
-    let rightward = over.from < over.to;
-    let arrow = Arrow {
-        from: moved(from.middle, reach, rightward),
-        to: moved(to.middle, to.half, !rightward),
-        middle,
-        returns,
-    };
-    write_arrow(writer, arrow)
+    Ok(crossed)
 }

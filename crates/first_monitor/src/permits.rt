@@ -8,6 +8,9 @@ use hoare_law::monitor::Monitor;
 use hoare_law::waits::Waits;
 use std::sync::Wait;
 
+// The condition *a permit is free*: who takes waits there.
+const PERMIT_IS_FREE: usize = 0;
+
 /// How urgent a caller is. A class is the priority of its wait: the least goes first.
 #[derive(Clone, Copy, Debug, PartialEq, Eq)]
 pub enum Class {
@@ -40,8 +43,8 @@ pub struct Permits {
     free: u32,
 }
 
-// What holds of the data. `q` is, for each condition, the priorities of those that wait on it. The one condition is 0: "a
-// permit is free".
+// What holds of the data. `q` is, for each condition, the priorities of those that wait on it: `q 0` is that of `PERMIT_IS_FREE`,
+// the one condition.
 impl MonitorData for Permits {
     ghost use Rattle.std.specs.Prelude.{◌≤◌};
     ghost use Rattle.first_monitor.specs.Rests.{PermitsRest, PermitsReady};
@@ -61,11 +64,11 @@ impl MonitorData for Permits {
     ghost ready = { λ c p s q. PermitsReady s.total s.free (q 0) };
 
     fn rest_holds<W: Waits>(&self, lists: &W) -> bool {
-        self.free <= self.total && (lists.count(0) == 0 || self.free == 0)
+        self.free <= self.total && (lists.count(PERMIT_IS_FREE) == 0 || self.free == 0)
     }
 
     fn ready_holds<W: Waits>(&self, condition: usize, priority: u64, lists: &W) -> bool {
-        self.free <= self.total && self.free > 0 && (lists.count(0) == 0 || self.free == 1)
+        self.free <= self.total && self.free > 0 && (lists.count(PERMIT_IS_FREE) == 0 || self.free == 1)
     }
 
     ghost rest_inv = { λ s q h. h.within };
@@ -119,7 +122,7 @@ impl Permits {
         let mut inside = m.enter(rt, out);
         if m.state(&inside).is_none_free() {
             // Owed here: rest, with this process among the waiting. It has its cause: no permit is free.
-            inside = m.wait(rt, inside, 0, class.priority());
+            inside = m.wait(rt, inside, PERMIT_IS_FREE, class.priority());
             // Found here: ready, so a permit is free, without a second test.
         }
         M::state_mut(&mut inside, m).take_one();
@@ -143,7 +146,7 @@ impl Permits {
         }
         M::state_mut(&mut inside, m).put_one();
         // Owed here: ready if somebody waits (then no permit was free before, so exactly one is now), else rest.
-        let (out, _resumed) = m.signal_leave(rt, inside, 0);
+        let (out, _resumed) = m.signal_leave(rt, inside, PERMIT_IS_FREE);
         (out, Ok(()))
     }
 

@@ -29,6 +29,7 @@ mod meanings;
 mod on_any_door;
 mod on_baton_door;
 mod on_ticket_door;
+mod recipes_on_fake;
 mod refusals;
 mod rows;
 mod running;

@@ -80,6 +80,20 @@ fn acquires_twice<R: Wait + Abort>(rt: &R, alloc: Global) {
     gets_both(rt, &fake, out);
 }
 
+// Takes the item 8.
+fn gets_eight<R: Wait + Abort, M: Monitor<Single<u8>>>(rt: &R, m: &M, out: M::Out)
+    requires { M.is_of m.now out }
+{
+    let (_out, item) = Single::acquire(m, rt, out);
+    expect_same(rt, item, 8);
+}
+
+// The one answer is ready.
+fn acquires_once<R: Wait + Abort>(rt: &R, alloc: Global) {
+    let (fake, out) = with_answers(rt, alloc, with_item_out(rt, alloc), [Single::with(8)]);
+    gets_eight(rt, &fake, out);
+}
+
 // Puts an item in, takes it, and tries to put in two more: it takes the first, and the last comes back.
 fn puts_two_more<R: Wait + Abort, M: Monitor<Single<u8>>>(rt: &R, m: &M, out: M::Out)
     requires { M.is_of m.now out }
@@ -200,6 +214,7 @@ fn appends<R: Wait + Abort>(rt: &R, alloc: Global) {
 /// What a process does on the fake monitor.
 #[derive(Clone, Copy)]
 enum PlainRow {
+    AcquiresOnce,
     AcquiresTwice,
     Releases,
     WritesAndWaits,
@@ -212,6 +227,7 @@ enum PlainRow {
 // Does what the row says. What comes out wrong fails the test.
 fn acts<R: Wait + Abort>(rt: &R, alloc: Global, row: PlainRow) {
     match row {
+        PlainRow::AcquiresOnce => acquires_once(rt, alloc),
         PlainRow::AcquiresTwice => acquires_twice(rt, alloc),
         PlainRow::Releases => releases(rt, alloc),
         PlainRow::WritesAndWaits => writes_and_waits(rt, alloc),
@@ -229,6 +245,7 @@ fn runs<R: Threads + Wait + Abort + Clock + Sync>(rt: &R, alloc: Global, row: Pl
 
 #[test]
 fn an_acquire_goes_on_with_the_first_answer_that_is_ready(rt: HostRuntime) {
+    runs(&rt, rt.alloc(), PlainRow::AcquiresOnce);
     runs(&rt, rt.alloc(), PlainRow::AcquiresTwice);
 }
 

@@ -1,8 +1,13 @@
-//! Whether the schedulers' data are at rest, and ready for one that waits, as code tells it: with nobody waiting, and with one that
+//! Whether the data of the schedulers and of the cookbook are at rest, and ready for one that waits, as code tells it: with nobody waiting, and with one that
 //! waits on condition 0 with priority 5, or on condition 1.
 ghost use Rattle.std.specs.Prelude.{◌<◌};
 
 use crate::tests::compared::expect_same;
+use cookbook::barrier::Barrier;
+use cookbook::latch::Latch;
+use cookbook::mailbox::Mailbox;
+use cookbook::rendezvous::Rendezvous;
+use cookbook::table::Table;
 use hoare_law::data::MonitorData;
 use hoare_law::waits::{Joined, Nobody};
 use plain_schedulers::buffer::Buffer;
@@ -64,5 +69,20 @@ fn data_at_rest_and_ready(rt: HostRuntime) -> Result<(), Fail> {
     means(&rt, &Head::with('d', 9), (true, false, false), (true, true));
     let resource = ReadersWriters::with(0u64);
     means(&rt, &resource, (true, false, false), (true, true));
+    Ok(())
+}
+
+// A party may wait only where it was counted. Nobody waits at an open latch, nor for room in an empty mailbox, nor alone for an
+// answer, nor beside free seats; an open latch, an empty mailbox and an empty table are for who waits.
+#[test]
+fn recipes_at_rest_and_ready(rt: HostRuntime) -> Result<(), Fail> {
+    let nothing_waits = (true, false, true);
+    means(&rt, &Barrier::new(3), nothing_waits, (false, false));
+    means(&rt, &Latch::new(1), (true, true, true), (false, false));
+    means(&rt, &Latch::new(0), nothing_waits, (true, true));
+    means(&rt, &Mailbox::new(), nothing_waits, (true, false));
+    let alone = Rendezvous::<u8>::new();
+    means(&rt, &alone, nothing_waits, (false, false));
+    means(&rt, &Table::new(), (true, false, false), (true, true));
     Ok(())
 }

@@ -1,6 +1,7 @@
 //! The single item and the bounded buffer.
 ghost use Rattle.std.specs.Prelude.{◌≡◌};
 
+use crate::tests::compared::expect_same;
 use crate::tests::fake::with_cells;
 use crate::tests::running::{DoorKind, answered, await_sign, watch};
 use hoare_law::monitor::Monitor;
@@ -11,9 +12,50 @@ use std::rt::Clock;
 use std::sync::Wait;
 use std::sync::atomic::{AtomicBool, Ordering};
 
-// Place 0 takes the item, gives a sign, lets place 1 wait for the item, puts one in, takes 1's, puts it back and tries to put in
-// one more: it answers what it took twice and what came back, as three digits. Place 1 takes the item after the sign, puts in
-// another, and answers what it took.
+// Takes the item, gives a sign, lets another place wait for it, and puts it back: what it took.
+fn lends<R: Wait + Abort, M: Monitor<Single<u64>>>(
+    rt: &R,
+    m: &M,
+    out: M::Out,
+    sign: &AtomicBool,
+) -> (M::Out, u64)
+    requires { M.is_of m.now out }
+    ensures of { M.is_of m.now result.0 }
+    ensures place { M.place result.0 ≡ M.place out }
+{
+    let (out, item) = Single::acquire(m, rt, out);
+    sign.store(true, Ordering::SeqCst);
+    let out = m.leave(rt, watch(rt, m, out, 0, 1));
+    let (out, put) = Single::release(m, rt, out, 7);
+    expect_same(rt, put.is_ok(), true);
+    (out, item)
+}
+
+// Waits for the item after the sign, puts it back, tries to put a second one in, and takes the first again: what it took at first.
+fn borrows<R: Wait + Abort + Clock, M: Monitor<Single<u64>>>(
+    rt: &R,
+    m: &M,
+    out: M::Out,
+    sign: &AtomicBool,
+) -> (M::Out, u64)
+    requires { M.is_of m.now out }
+    ensures of { M.is_of m.now result.0 }
+    ensures place { M.place result.0 ≡ M.place out }
+{
+    await_sign(rt, sign);
+    let (out, item) = Single::acquire(m, rt, out);
+    let (out, put) = Single::release(m, rt, out, 7);
+    let (out, refused) = Single::release(m, rt, out, 9);
+    let back = match refused {
+        Ok(()) => None,
+        Err(NotOut { item }) => Some(item),
+    };
+    let (out, again) = Single::acquire(m, rt, out);
+    expect_same(rt, (put.is_ok(), back, again), (true, Some(9), 7));
+    (out, item)
+}
+
+// Place 0 lends the item, and place 1 borrows it.
 fn lends_or_borrows<R: Wait + Abort + Clock, M: Monitor<Single<u64>>>(
     rt: &R,
     m: &M,
@@ -25,28 +67,14 @@ fn lends_or_borrows<R: Wait + Abort + Clock, M: Monitor<Single<u64>>>(
     ensures of { M.is_of m.now result.0 }
     ensures place { M.place result.0 ≡ M.place out }
 {
-    if place > 0 {
-        await_sign(rt, sign);
-        let (out, item) = Single::acquire(m, rt, out);
-        let (out, _put) = Single::release(m, rt, out, 9);
-        return (out, item);
+    if place == 0 {
+        lends(rt, m, out, sign)
+    } else {
+        borrows(rt, m, out, sign)
     }
-    let (out, first) = Single::acquire(m, rt, out);
-    sign.store(true, Ordering::SeqCst);
-    let out = m.leave(rt, watch(rt, m, out, 0, 1));
-    let (out, _put) = Single::release(m, rt, out, 8);
-    let (out, second) = Single::acquire(m, rt, out);
-    let (out, _put) = Single::release(m, rt, out, second);
-    let (out, refused) = Single::release(m, rt, out, 6);
-    let back = match refused {
-        Ok(()) => 0,
-        Err(NotOut { item }) => item,
-    };
-    let took = first.wrapping_mul(10).wrapping_add(second);
-    (out, took.wrapping_mul(10).wrapping_add(back))
 }
 
-// Place 0 puts the numbers below this one in. Place 1 takes as many items out, and answers how many came in their turn.
+// Place 0 puts the numbers from 1 to this one in. Place 1 takes as many items out, and answers how many came in their turn.
 fn appends_or_removes<R: Wait, M: Monitor<Buffer<u64>>>(
     rt: &R,
     m: &M,
@@ -60,7 +88,7 @@ fn appends_or_removes<R: Wait, M: Monitor<Buffer<u64>>>(
 {
     let mut out = out;
     let mut in_turn = 0u64;
-    for turn in 0..count {
+    for turn in 1..=count {
         if place == 0 {
             out = Buffer::append(m, rt, out, turn);
         } else {
@@ -85,7 +113,7 @@ fn an_item_is_lent_and_comes_back(host: HostRuntime) {
             Single::with(7u64),
             2
         );
-        answered(rt, kind, answers.as_slice(), &[796, 8]);
+        answered(rt, kind, answers.as_slice(), &[7, 7]);
     }
 }
 

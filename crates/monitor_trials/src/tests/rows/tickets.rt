@@ -107,7 +107,7 @@ fn waits_or_hands_up<R: Wait + Abort>(
 #[test]
 fn who_hands_up_resumes_who_waits(host: HostRuntime) {
     let (rt, alloc) = (&host, host.alloc());
-    for first in [0, 18446744073709551613] {
+    for first in [0, 18446744073709551613, 18446744073709551615] {
         let (tally, told) = run_row!(
             rt,
             alloc,

@@ -11,13 +11,13 @@ use Rattle.hoare_law.specs.declared.event.Event.TheVariants.{Admit}
 use Rattle.hoare_law.specs.Events.{own, latest_data, opened, with_event}
 use Rattle.hoare_law.specs.Lawful.{Rest, Ready, Stands}
 use Rattle.hoare_law.specs.Priorities.{nobody}
-use Rattle.hoare_law.specs.Turns.{turn, outside, urgent}
+use Rattle.hoare_law.specs.Turns.{turn, outside, urgent, IsGivenUp}
 use Rattle.hoare_law.proofs.Entering.{outside-same}
 use Rattle.wait_book.specs.declared.steps.Next.{Next}
 use Rattle.wait_book.specs.Contents.{IsOf}
 use Rattle.door_frame.specs.declared.parcel.Lodged.{Lodged}
 use Rattle.door_frame.specs.declared.view.View.TheVariants.{Unopened, Opening}
-use Rattle.door_frame.specs.Rule.{Cells, Tickets, IsGivenUp, Kept}
+use Rattle.door_frame.specs.Rule.{Cells, Tickets, Kept}
 use Rattle.door_frame.specs.Steps.{Sat, Gives, begins, opens, gives_as, due}
 use Rattle.door_frame.specs.Views.{alone}
 use Rattle.door_frame.proofs.Steps as frame

@@ -1,9 +1,10 @@
 -- A place comes in: from outside, from a wait or from a signal.
-use Rattle.std.proofs.Common.{◌≡◌, ◌≢◌, ℕ, true, [], Option, Some, None, refl, ap, sym, ◌∙◌, subst}
+use Rattle.std.proofs.Common.{◌≡◌, ◌≢◌, ℕ, true, false, [], Option, Some, None, refl, ap, sym, ◌∙◌, subst}
 use Rattle.atomic_table.specs.Seated.{TableId}
 use Rattle.hoare_law.specs.declared.event.Event.{Event}
 use Rattle.hoare_law.specs.declared.event.History.{History}
 use Rattle.hoare_law.specs.declared.event.Event.TheVariants.{Admit, Wait, Signal, Pass, Leave, Resume, Back}
+use Rattle.hoare_law.specs.declared.turn.Turn.TheVariants.{Owed, Return}
 use Rattle.hoare_law.specs.Beside.Erasure.{erased}
 use Rattle.hoare_law.specs.Events.{place_of, own, newest, with_event}
 use Rattle.hoare_law.specs.Growth.{Begins, AddsLast, AddsTwo, Signals, resumed_one}
@@ -19,12 +20,12 @@ use Rattle.wait_book.specs.declared.steps.Next.{Next}
 use Rattle.wait_book.specs.declared.steps.Next.TheVariants.{For}
 use Rattle.wait_book.specs.Contents.{Contents, IsOf, next_of}
 use Rattle.wait_book.specs.Stepping.{settled, after_signal}
-use Rattle.wait_book.proofs.WithData.{IsOf-resume, IsOf-back}
+use Rattle.wait_book.proofs.WithData.{IsOf-claim}
 use Rattle.door_frame.specs.declared.parcel.Lodged.{Lodged}
 use Rattle.door_frame.specs.Departures.{place_for}
 use Rattle.door_frame.specs.Places.{DoorId, IsIn, IsOut, PlaceIn, PlaceOut, place_in}
 use Rattle.door_frame.specs.Steps.{Sat, Came, due, due_by}
-use Rattle.door_frame.proofs.Departures.{Resumes, resumes_signal, chooses}
+use Rattle.door_frame.proofs.Departures.{Resumes, resumes_handing, chooses}
 use Rattle.door_frame.proofs.Inside.{Holds}
 
 module _ {D : Type 0} where
@@ -72,24 +73,18 @@ module _ {D : Type 0} where
   is_due : (k : ℕ) (h : History D) (event : D → Event D) (b : Contents) (s : D) → ComesBack k event → Allowed h (event s) → IsDue k h event b s
   is_due k h event b s (from_wait c is) may =
       subst (λ (e : D → Event D). Allowed h (e s) → IsDue k h e b s) (sym is)
-      (λ a. record { turn_is = ap next_of a.fits.0; settles = λ o. IsOf-resume b h k c s a.fits.0 o }) may
+      (λ a. record { turn_is = ap next_of a.fits.0; settles = λ o. IsOf-claim b h (Owed k c) (Resume k c s) a.fits.0 refl o }) may
   is_due k h event b s (from_signal is) may =
       subst (λ (e : D → Event D). Allowed h (e s) → IsDue k h e b s) (sym is)
-      (λ a. record { turn_is = ap next_of a.fits.0; settles = λ o. IsOf-back b h k s a.fits.0 o }) may
+      (λ a. record { turn_is = ap next_of a.fits.0; settles = λ o. IsOf-claim b h (Return k) (Back k s) a.fits.0 refl o }) may
 
   pub is_due_by : (k : ℕ) (h f : History D) (b : Contents) (s : D) → Allowed h (due k f s) → IsDue k h (due k f) b s
   is_due_by k h f b s may = is_due k h (due k f) b s (comes_back k (newest (own k f.events))) may
 
-  -- who waited is due to be resumed, and who signalled to return
-  due_resumed : (f : History D) (k c p : ℕ) (s t : D) → due k (with_event f (Wait k c p s)) t ≡ Resume k c t
+  -- by an event of its own a place is due as that event says: who waited is to be resumed, who signalled to return
+  due_own : (f : History D) (k : ℕ) (e : Event D) (s : D) → place_of e ≡ k → due k (with_event f e) s ≡ due_by k (Some e) s
   unfolding with_event
-  due_resumed f k c p s t =
-      ap (λ o. due_by k o t) (ap newest (own-last k f.events (Wait k c p s) refl) ∙ newest-push (own k f.events) (Wait k c p s))
-
-  due_back : (f : History D) (k c w : ℕ) (s t : D) → due k (with_event f (Signal k c w s)) t ≡ Back k t
-  unfolding with_event
-  due_back f k c w s t =
-      ap (λ o. due_by k o t) (ap newest (own-last k f.events (Signal k c w s) refl) ∙ newest-push (own k f.events) (Signal k c w s))
+  due_own f k e s mine = ap (λ o. due_by k o s) (ap newest (own-last k f.events e mine) ∙ newest-push (own k f.events) e)
 
   module _ {rest : Rest D} {ready : Ready D} where
     -- the same of the data as the box lends them
@@ -141,7 +136,7 @@ module _ {D : Type 0} where
         resumed {y = y} c p z j h same b is =
             let w : Event D = Wait k c p x.state in
             let e : Event D = Resume k c y.state in
-            let which : due k (with_event f w) y.state ≡ e = due_resumed f k c p x.state y.state in
+            let which : due k (with_event f w) y.state ≡ e = due_own f k w y.state refl in
             let stands : Stands rest ready (with_event b.log e) = subst (λ (v : Event D). Stands rest ready (with_event b.log v)) which b.stands in
             let here : j ≡ place_in z k (with_event b.log e) y.state = is ∙ ap (λ (v : Event D). place_in z k (with_event b.log v) y.state) which in
             let sizes = after_own w h in
@@ -161,8 +156,8 @@ module _ {D : Type 0} where
             let v : ℕ = place_for who in
             let w : Event D = Signal k c v x.state in
             let e : Event D = Back k y.state in
-            let r : Resumes c f who = resumes_signal c b who h some book answer in
-            let which : due k (with_event f w) y.state ≡ e = due_back f k c v x.state y.state in
+            let r : Resumes c f who = resumes_handing false c b who h some book answer in
+            let which : due k (with_event f w) y.state ≡ e = due_own f k w y.state refl in
             let stands : Stands rest ready (with_event a.log e) = subst (λ (u : Event D). Stands rest ready (with_event a.log u)) which a.stands in
             let here : j ≡ place_in z k (with_event a.log e) y.state = is ∙ ap (λ (u : Event D). place_in z k (with_event a.log u) y.state) which in
             let sizes = after_own w h in

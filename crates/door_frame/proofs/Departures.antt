@@ -1,9 +1,9 @@
 -- Who is inside gives the monitor up: a wait, a leave, a signal or a pass.
-use Rattle.std.proofs.Common.{◌≡◌, ◌≢◌, ℕ, ◌<◌, true, [], Some, refl, ap, sym, ◌∙◌, subst}
+use Rattle.std.proofs.Common.{◌≡◌, ◌≢◌, ℕ, ◌<◌, Bool, true, [], Some, refl, ap, sym, ◌∙◌, subst}
 use Rattle.atomic_table.specs.Seated.{TableId}
 use Rattle.hoare_law.specs.declared.event.Event.{Event}
 use Rattle.hoare_law.specs.declared.event.History.{History}
-use Rattle.hoare_law.specs.declared.event.Event.TheVariants.{Wait, Signal, Pass, Leave}
+use Rattle.hoare_law.specs.declared.event.Event.TheVariants.{Wait, Pass, Leave}
 use Rattle.hoare_law.specs.declared.turn.Turn.{Turn}
 use Rattle.hoare_law.specs.declared.turn.Turn.TheVariants.{Free, Held, Owed, Return}
 use Rattle.hoare_law.specs.Beside.Erasure.{erased}
@@ -17,15 +17,17 @@ use Rattle.hoare_law.specs.Waiting.{chosen, Chooses}
 use Rattle.hoare_law.proofs.Entering.{outside-same}
 use Rattle.hoare_law.proofs.Growth.{Begins-refl}
 use Rattle.hoare_law.proofs.Entering as entering
-use Rattle.hoare_law.proofs.Leaving.{turn-left, turn-signal, turn-pass, outside-left, chosen-some, Chooses-place, Allowed-leave, Allowed-wait, Allowed-signal, Allowed-pass}
-use Rattle.hoare_law.proofs.Leaving.{Owes-leave, Owes-wait, Owes-signal, Owes-pass}
+use Rattle.hoare_law.proofs.Held.{handing, place_of-handing, data_of-handing}
+use Rattle.hoare_law.proofs.Leaving.{turn-left, turn-handing, outside-left, chosen-some, Chooses-place, Allowed-leave, Allowed-wait, Allowed-handing}
+use Rattle.hoare_law.proofs.Leaving.{Owes-leave, Owes-wait, Owes-handing}
 use Rattle.hoare_law.proofs.Legal.{Stands-push}
 use Rattle.hoare_law.proofs.Waiters.{held-in_range}
 use Rattle.wait_book.specs.declared.steps.Next.{Next}
 use Rattle.wait_book.specs.declared.steps.Next.TheVariants as next
 use Rattle.wait_book.specs.Contents.{Contents, IsOf, next_of}
-use Rattle.wait_book.specs.Stepping.{after_signal, after_pass}
-use Rattle.wait_book.proofs.WithData.{next-history, turn-history, IsOf-event, IsOf-signal, IsOf-pass}
+use Rattle.wait_book.specs.Stepping.{after_pass}
+use Rattle.wait_book.proofs.Histories.{after_handing}
+use Rattle.wait_book.proofs.WithData.{next-history, turn-history, IsOf-event, IsOf-handing}
 use Rattle.door_frame.specs.declared.parcel.Lodged.{Lodged}
 use Rattle.door_frame.specs.declared.departure.Departure.TheVariants as departure
 use Rattle.door_frame.specs.Departures.{place_for, event_of}
@@ -138,55 +140,37 @@ module _ {D : Type 0} where
     some_here : (c : ℕ) → Holds rest ready conditions d i t k f me x → priorities i.front.events c ≢ [] → (e : Event D) × (chosen c f.events ≡ Some e)
     some_here c h some = chosen-some c f.events (asked_here (λ j. priorities j.front.events c ≢ []) h some)
 
-    pub resumes_signal : (c : ℕ) (b : Contents) (who : Next) → Holds rest ready conditions d i t k f me x → priorities i.front.events c ≢ []
-        → IsOf b (after_signal (erased f) k c (chosen c (erased f).events)) → who ≡ next_of b.turn → Resumes c f who
-    resumes_signal c b who h some book is =
+    -- it hands the monitor over: by a pass where it goes out, else by a signal
+    pub resumes_handing : (out : Bool) (c : ℕ) (b : Contents) (who : Next) → Holds rest ready conditions d i t k f me x → priorities i.front.events c ≢ []
+        → IsOf b (after_handing out (erased f) k c (chosen c (erased f).events)) → who ≡ next_of b.turn → Resumes c f who
+    resumes_handing out c b who h some book is =
         let e = some_here c h some in
-        let after = IsOf-signal b f k c e.0 x.state e.1 book in record {
+        let w : ℕ = place_of e.0 in
+        let after = IsOf-handing out b f k c e.0 x.state e.1 book in record {
           chosen_one = e.0;
           is = e.1;
-          goes_on = handed_to (with_event f (Signal k c (place_of e.0) x.state)) (place_of e.0) c b who after (turn-signal f k c (place_of e.0) x.state) is;
+          goes_on = handed_to (with_event f (handing out k c w x.state)) w c b who after (turn-handing out f k c w x.state) is;
         }
 
-    pub gives_signal : (c : ℕ) (b : Contents) (who : Next) → Holds rest ready conditions d i t k f me x → c < conditions
+    allowed_handing : (out : Bool) (c : ℕ) (e : Event D) → Holds rest ready conditions d i t k f me x → c < conditions → chosen c f.events ≡ Some e
+        → Allowed f (handing out k c (place_of e) x.state)
+    allowed_handing out c e h small is = Allowed-handing out f k c e x.state h.within.stands.legal h.within.is_inside (below c h small) is
+
+    owes_handing : (out : Bool) (c : ℕ) (e : Event D) → Holds rest ready conditions d i t k f me x → chosen c f.events ≡ Some e → Handed ready c i
+        → Owes rest ready f.events (handing out k c (place_of e) x.state)
+    owes_handing out c e h is asked = Owes-handing rest ready out f k c e x.state h.within.is_inside is (asked_here (Handed ready c) h asked)
+
+    pub gives_handing : (out : Bool) (c : ℕ) (b : Contents) (who : Next) → Holds rest ready conditions d i t k f me x → c < conditions
         → priorities i.front.events c ≢ [] → Handed ready c i
-        → IsOf b (after_signal (erased f) k c (chosen c (erased f).events)) → who ≡ next_of b.turn
-        → MayGive rest ready (event_of k (departure.Signal c) who) k me (record { state = x.state; book = b }) who
-    gives_signal c b who h small some asked book is =
-        let r = resumes_signal c b who h some book is in
-        subst (λ (w : ℕ). MayGive rest ready (λ s. Signal k c w s) k me (record { state = x.state; book = b }) who) (sym r.goes_on)
-        (may_give (λ s. Signal k c (place_of r.chosen_one) s) b who h refl refl
-        (Allowed-signal f k c r.chosen_one x.state h.within.stands.legal h.within.is_inside (below c h small) r.is)
-        (Owes-signal rest ready f k c r.chosen_one x.state h.within.is_inside r.is (asked_here (Handed ready c) h asked))
-        (IsOf-signal b f k c r.chosen_one x.state r.is book) is)
-
-    resumes_pass : (c : ℕ) (b : Contents) (who : Next) → Holds rest ready conditions d i t k f me x → priorities i.front.events c ≢ []
-        → IsOf b (after_pass (erased f) k c (chosen c (erased f).events)) → who ≡ next_of b.turn → Resumes c f who
-    resumes_pass c b who h some book is =
-        let e = some_here c h some in
-        let after = IsOf-pass b f k c e.0 x.state e.1 book in record {
-          chosen_one = e.0;
-          is = e.1;
-          goes_on = handed_to (with_event f (Pass k c (place_of e.0) x.state)) (place_of e.0) c b who after (turn-pass f k c (place_of e.0) x.state) is;
-        }
-
-    allowed_pass : (c : ℕ) (e : Event D) → Holds rest ready conditions d i t k f me x → c < conditions → chosen c f.events ≡ Some e
-        → Allowed f (Pass k c (place_of e) x.state)
-    allowed_pass c e h small is = Allowed-pass f k c e x.state h.within.stands.legal h.within.is_inside (below c h small) is
-
-    owes_pass : (c : ℕ) (e : Event D) → Holds rest ready conditions d i t k f me x → chosen c f.events ≡ Some e → Handed ready c i
-        → Owes rest ready f.events (Pass k c (place_of e) x.state)
-    owes_pass c e h is asked = Owes-pass rest ready f k c e x.state h.within.is_inside is (asked_here (Handed ready c) h asked)
-
-    pub gives_pass : (c : ℕ) (b : Contents) (who : Next) → Holds rest ready conditions d i t k f me x → c < conditions
-        → priorities i.front.events c ≢ [] → Handed ready c i
-        → IsOf b (after_pass (erased f) k c (chosen c (erased f).events)) → who ≡ next_of b.turn
-        → MayGive rest ready (event_of k (departure.Pass c) who) k me (record { state = x.state; book = b }) who
-    gives_pass c b who h small some asked book is =
-        let r = resumes_pass c b who h some book is in
-        subst (λ (w : ℕ). MayGive rest ready (λ s. Pass k c w s) k me (record { state = x.state; book = b }) who) (sym r.goes_on)
-        (may_give (λ s. Pass k c (place_of r.chosen_one) s) b who h refl refl (allowed_pass c r.chosen_one h small r.is)
-        (owes_pass c r.chosen_one h r.is asked) (IsOf-pass b f k c r.chosen_one x.state r.is book) is)
+        → IsOf b (after_handing out (erased f) k c (chosen c (erased f).events)) → who ≡ next_of b.turn
+        → MayGive rest ready (λ s. handing out k c (place_for who) s) k me (record { state = x.state; book = b }) who
+    gives_handing out c b who h small some asked book is =
+        let r = resumes_handing out c b who h some book is in
+        let w : ℕ = place_of r.chosen_one in
+        subst (λ (j : ℕ). MayGive rest ready (λ s. handing out k c j s) k me (record { state = x.state; book = b }) who) (sym r.goes_on)
+        (may_give (λ s. handing out k c w s) b who h (place_of-handing out k c w x.state) (data_of-handing out k c w x.state)
+        (allowed_handing out c r.chosen_one h small r.is) (owes_handing out c r.chosen_one h r.is asked)
+        (IsOf-handing out b f k c r.chosen_one x.state r.is book) is)
 
     -- the place outside after an event by which it goes out
     went_out : (e : Event D) (z : TableId) (o : PlaceOut D) → Holds rest ready conditions d i t k f me x → place_of e ≡ k → is_out (Some e) ≡ true
@@ -217,12 +201,12 @@ module _ {D : Type 0} where
         → priorities i.front.events c ≢ [] → Handed ready c i → IsOf b (after_pass (erased f) k c (chosen c (erased f).events)) → who ≡ next_of b.turn
         → z ≡ t → o ≡ place_out z k (with_event f (Pass k c (place_for who) x.state)) → Passed rest ready conditions d i c o
     passed c b who z o h small some asked book is same gone =
-        let r = resumes_pass c b who h some book is in
+        let r = resumes_handing true c b who h some book is in
         let w : ℕ = place_for who in
         let out : Left rest ready conditions d k (with_event f (Pass k c w x.state)) o =
         subst (λ (j : ℕ). o ≡ place_out z k (with_event f (Pass k c j x.state)) → Left rest ready conditions d k (with_event f (Pass k c j x.state)) o)
         (sym r.goes_on)
-        (went_out (Pass k c (place_of r.chosen_one) x.state) z o h refl refl (allowed_pass c r.chosen_one h small r.is) (owes_pass c r.chosen_one h r.is asked) same)
+        (went_out (Pass k c (place_of r.chosen_one) x.state) z o h refl refl (allowed_handing true c r.chosen_one h small r.is) (owes_handing true c r.chosen_one h r.is asked) same)
         gone in record {
           of = out.of;
           place = asked_back (λ j. o.place ≡ j.place) h out.place;

@@ -18,14 +18,13 @@ use Rattle.hoare_law.specs.Beside.Erasure.{erased}
 use Rattle.hoare_law.specs.Lawful.{Rest, Ready, Owes, Stands}
 use Rattle.hoare_law.specs.Legal.{Allowed}
 use Rattle.hoare_law.specs.Priorities.{nobody}
-use Rattle.hoare_law.specs.Turns.{turn, outside}
+use Rattle.hoare_law.specs.Turns.{turn, outside, IsGivenUp}
 use Rattle.hoare_law.proofs.Events.{own-push, latest_data-push}
 use Rattle.hoare_law.proofs.Fronts.{still_held, own-owed, own-returning}
 use Rattle.hoare_law.proofs.Growth.{Begins-refl, Begins-trans, Begins-push}
 use Rattle.hoare_law.proofs.Legal.{Stands-push}
 use Rattle.hoare_law.proofs.Turns.{turn-push}
 use Rattle.hoare_law.proofs.Waiters.{owed-in_range, return-in_range}
-use Rattle.hoare_law.proofs.Entering.{Owes-admit, Owes-resume, Owes-back}
 use Rattle.hoare_law.proofs.Leaving.{turn-left}
 use Rattle.hoare_law.proofs.Opening.{turn-opened, Stands-opened}
 use Rattle.wait_book.specs.Contents.{IsOf}
@@ -34,7 +33,7 @@ use Rattle.door_frame.specs.declared.parcel.Lodged.{Lodged}
 use Rattle.door_frame.specs.declared.view.Knowledge.{Knowledge}
 use Rattle.door_frame.specs.declared.view.View.{View}
 use Rattle.door_frame.specs.declared.view.View.TheVariants.{Unopened, Opening, Places}
-use Rattle.door_frame.specs.Rule.{Tickets, IsGivenUp, Cells, Agrees, Lies, Running, Kept, raw, lent, runs}
+use Rattle.door_frame.specs.Rule.{Tickets, Cells, Agrees, Lies, Running, Kept, raw, lent, runs}
 use Rattle.door_frame.specs.Steps.{Sat, due, due_by, begins, opens, gives_as, Gives, Comes, Known, Learns, learns}
 use Rattle.door_frame.specs.Views.{knows, sole, alone, all_know, Each, EachOf, Without, Apart, ApartOf, knowing, places_behind, first_place, no_places}
 use Rattle.door_frame.proofs.Views.{only, set_only, only_at, at_end, given_to, given_here, given_else, handed, handed_here, handed_else, each_map, each_with, each-append, without}
@@ -117,30 +116,30 @@ module _ {D : Type 0} (rest : Rest D) (ready : Ready D) where
     pub inside : turn (with_event h e).events ≡ Held k
 
   pub enters_admit : (k : ℕ) (h : History D) → k < h.places → turn h.events ≡ Free → outside k h.events ≡ true → Enters k h (Admit k (latest_data h))
-  unfolding with_event
+  unfolding with_event Owes
   enters_admit k h below free out = record {
     allowed = record { in_range = below; fits = (free, out, refl) };
-    owes = Owes-admit rest ready h.events k (latest_data h);
+    owes = tt;
     mine = refl;
     inside = turn-push h.events (Admit k (latest_data h));
   }
 
   pub enters_due : (k : ℕ) (h f : History D) → Stands rest ready h → own k h.events ≡ own k f.events → IsDue k (turn h.events) → Enters k h (due k f (latest_data h))
-  unfolding with_event
+  unfolding with_event Owes
   enters_due k h f stands same is = subst (λ (l : List (Event D)). Enters k h (due_by k (newest l) (latest_data h))) same (by_turn is)
     where
       by_turn : IsDue k (turn h.events) → Enters k h (due k h (latest_data h))
       by_turn (owed c is) = let last = own-owed h k c stands.legal is in let s : D = latest_data h in
           subst (λ (o : Option (Event D)). Enters k h (due_by k o s)) (sym last.2) (record {
             allowed = record { in_range = owed-in_range h k c stands.legal is; fits = (is, refl) };
-            owes = Owes-resume rest ready h.events k c s;
+            owes = tt;
             mine = refl;
             inside = turn-push h.events (Resume k c s);
           })
       by_turn (returning is) = let last = own-returning h.events k is in let s : D = latest_data h in
           subst (λ (o : Option (Event D)). Enters k h (due_by k o s)) (sym last.3) (record {
             allowed = record { in_range = return-in_range h k stands.legal is; fits = (is, refl) };
-            owes = Owes-back rest ready h.events k s;
+            owes = tt;
             mine = refl;
             inside = turn-push h.events (Back k s);
           })

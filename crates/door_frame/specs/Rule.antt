@@ -4,13 +4,12 @@ use mathlib.Core.Option.{some, none}
 use lib.ListN.{get_elem?}
 use Rattle.atomic_table.specs.Table.{State}
 use Rattle.hoare_law.specs.declared.event.History.{History}
-use Rattle.hoare_law.specs.declared.turn.Turn.{Turn}
 use Rattle.hoare_law.specs.declared.turn.Turn.TheVariants.{Held}
 use Rattle.hoare_law.specs.Events.{own, latest_data}
 use Rattle.hoare_law.specs.Beside.Erasure.{erased}
 use Rattle.hoare_law.specs.Growth.{Begins}
 use Rattle.hoare_law.specs.Lawful.{Rest, Ready, Stands}
-use Rattle.hoare_law.specs.Turns.{turn}
+use Rattle.hoare_law.specs.Turns.{turn, IsGivenUp}
 use Rattle.wait_book.specs.Contents.{IsOf}
 use Rattle.door_frame.specs.declared.parcel.Lodged.{Lodged}
 use Rattle.door_frame.specs.declared.view.Knowledge.{Knowledge}
@@ -25,11 +24,6 @@ Cells D = State (Option (Lodged D)) (View D)
 -- which ticket each place has
 abbrev pub Tickets : Type 0
 Tickets = ℕ → Option ℕ
-
--- nobody is inside
-abbrev pub IsGivenUp : Turn → Type 0
-IsGivenUp (Held k) = ⊥
-IsGivenUp _ = Unit {0}
 
 module _ {D : Type 0} where
   -- a place of the seat: the log begins with its front, and has no other events of it

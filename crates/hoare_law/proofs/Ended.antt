@@ -2,7 +2,7 @@
 use Rattle.std.proofs.Common.{◌≡◌, ◌≢◌, ℕ, ◌<◌, true, false, List, [], Option, Some, None, refl, ap, sym, ◌∙◌, subst, true≢false}
 use Rattle.hoare_law.specs.declared.event.Event.{Event}
 use Rattle.hoare_law.specs.declared.event.History.{History}
-use Rattle.hoare_law.specs.declared.event.Event.TheVariants.{Admit, Wait, Signal, Pass, Leave, Resume, Back}
+use Rattle.hoare_law.specs.declared.event.Event.TheVariants.{Wait, Signal}
 use Rattle.hoare_law.specs.declared.turn.Turn.{Turn}
 use Rattle.hoare_law.specs.declared.turn.Turn.TheVariants.{Free, Held, Owed, Return}
 use Rattle.hoare_law.specs.Events.{place_of, own, newest, latest_data}
@@ -10,10 +10,10 @@ use Rattle.hoare_law.specs.Lawful.{Rest, Ready, Stands}
 use Rattle.hoare_law.specs.Legal.{IsLegal}
 use Rattle.hoare_law.specs.Priorities.{priorities, nobody}
 use Rattle.hoare_law.specs.Turns.{turn, outside, is_out}
-use Rattle.hoare_law.specs.Waiting.{waiting, chosen, waits_on}
+use Rattle.hoare_law.specs.Waiting.{waiting, chosen}
 use Rattle.hoare_law.proofs.Fronts.{rest-free, own-owed, own-returning}
 use Rattle.hoare_law.proofs.Held.{outside-held}
-use Rattle.hoare_law.proofs.Priorities.{waiting-unchosen, priorities-nobody}
+use Rattle.hoare_law.proofs.Priorities.{waiting-unchosen, waits_on-is, priorities-nobody}
 use Rattle.hoare_law.proofs.Waiters.{held-in_range, owed-in_range, return-in_range, chosen-waits, chosen-in_range, place_in_range}
 
 module _ {S : Type 0} where
@@ -25,15 +25,6 @@ module _ {S : Type 0} where
   not_outside : (h : List (Event S)) (k : ℕ) (e : Event S) → newest (own k h) ≡ Some e → is_out (Some e) ≡ false → outside k h ≢ true
   unfolding outside
   not_outside h k e last stays out = true≢false (sym out ∙ ap is_out last ∙ stays)
-
-  stays_in : (e : Event S) (c : ℕ) → waits_on c e ≡ true → is_out (Some e) ≡ false
-  stays_in (Wait k d p s) c is = refl
-  stays_in (Admit k s) c is = absurd (cc)
-  stays_in (Signal k d w s) c is = absurd (cc)
-  stays_in (Pass k d w s) c is = absurd (cc)
-  stays_in (Leave k s) c is = absurd (cc)
-  stays_in (Resume k d s) c is = absurd (cc)
-  stays_in (Back k s) c is = absurd (cc)
 
   pub turn-ended : (h : History S) → IsLegal h → AllOutside h → turn h.events ≡ Free
   turn-ended h legal out = by (turn h.events) refl
@@ -54,7 +45,7 @@ module _ {S : Type 0} where
       by (Some x) is =
           let w = chosen-waits c h.events x is in
           let here = place_in_range h x (chosen-in_range c h x legal is) in
-          absurd (not_outside h.events (place_of x) x w.last (stays_in x c w.on) (out (place_of x) here))
+          absurd (not_outside h.events (place_of x) x w.last (ap (λ y. is_out (Some y)) (waits_on-is c x w.on)) (out (place_of x) here))
 
   pub priorities-ended : (h : History S) → IsLegal h → AllOutside h → priorities h.events ≡ nobody
   priorities-ended h legal out = λ i c. priorities-nobody c h.events (waiting-ended h c legal out) i

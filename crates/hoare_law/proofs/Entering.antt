@@ -1,19 +1,22 @@
 -- A place comes in, from outside, from a wait or from a signal: its front, whose turn it is, and what it finds.
-use Rattle.std.proofs.Common.{◌≡◌, ℕ, true, cond, List, [], ◌∷◌, ◌++◌, Some, refl, ap, sym, ◌∙◌, subst, eq-eqb}
+use Rattle.std.proofs.Common.{◌≡◌, ◌==◌, not, ℕ, true, cond, List, [], ◌∷◌, ◌++◌, Some, refl, ap, sym, ◌∙◌, subst, eq-eqb}
+use Rattle.std.specs.List.{list_all}
 use Rattle.hoare_law.specs.declared.event.Event.{Event}
 use Rattle.hoare_law.specs.declared.event.History.{History}
 use Rattle.hoare_law.specs.declared.event.Event.TheVariants.{Admit, Wait, Signal, Pass, Leave, Resume, Back}
 use Rattle.hoare_law.specs.declared.turn.Turn.TheVariants.{Held}
-use Rattle.hoare_law.specs.Events.{place_of, own, newest, with_event}
+use Rattle.hoare_law.specs.Events.{place_of, data_of, own, newest, latest_data, with_event}
 use Rattle.hoare_law.specs.Growth.{Begins, Grows, AddsLast, AddsTwo}
-use Rattle.hoare_law.specs.Lawful.{Rest, Ready, Owes, Stands}
+use Rattle.hoare_law.specs.Lawful.{Rest, Ready, Stands}
 use Rattle.hoare_law.specs.Priorities.{priorities}
 use Rattle.hoare_law.specs.Turns.{turn, turn_by, urgent, outside, is_out}
+use Rattle.hoare_law.specs.Waiting.{waiting}
 use Rattle.hoare_law.proofs.Events.{own-push, newest-push}
-use Rattle.hoare_law.proofs.Fronts.{admitted_finds, resumed_finds, back_finds}
+use Rattle.hoare_law.proofs.Fronts.{rest-free, rest-return, ready-owed}
 use Rattle.hoare_law.proofs.Growth.{Begins-trans, Begins-push, Grows-one, Grows-trans}
-use Rattle.hoare_law.proofs.Held.{brings_in}
+use Rattle.hoare_law.proofs.Held.{brings_in, in_not_waiting, in_concerns_own}
 use Rattle.hoare_law.proofs.Legal.{IsLegal-last, Stands-front}
+use Rattle.hoare_law.proofs.Priorities.{priorities-own, waiting-outside, waiting-owed, waiting-return}
 use Rattle.hoare_law.proofs.Turns.{turn-push}
 
 held_by : {S : Type 0} (e : Event S) (us : List ℕ) → brings_in e ≡ true → turn_by e us ≡ Held (place_of e)
@@ -81,36 +84,38 @@ module _ {S : Type 0} where
       }
 
   module _ (rest : Rest S) (ready : Ready S) where
-    -- who comes in owes nothing
-    pub Owes-admit : (f : List (Event S)) (k : ℕ) (s : S) → Owes rest ready f (Admit k s)
-    unfolding Owes
-    Owes-admit f k s = tt
-
-    pub Owes-resume : (f : List (Event S)) (k c : ℕ) (s : S) → Owes rest ready f (Resume k c s)
-    unfolding Owes
-    Owes-resume f k c s = tt
-
-    pub Owes-back : (f : List (Event S)) (k : ℕ) (s : S) → Owes rest ready f (Back k s)
-    unfolding Owes
-    Owes-back f k s = tt
-
     stood : (h : History S) (e : Event S) → Stands rest ready (with_event h e) → Stands rest ready h
     stood h e stands = Stands-front (Begins-push h e) stands
 
-    -- what each kind finds
+    -- who comes in finds the data and the priorities as they were left
+    finds : (asks : S → (ℕ → List ℕ) → Type 0) (h : History S) (e : Event S) → brings_in e ≡ true
+        → ((d : ℕ) → list_all (λ x. not (place_of e == place_of x)) (waiting d h.events) ≡ true) → data_of e ≡ latest_data h
+        → asks (latest_data h) (priorities h.events) → asks (data_of e) (priorities (with_event h e).events)
+    unfolding with_event
+    finds asks h e brings apart same asked =
+        subst (asks (data_of e)) (sym (priorities-own h.events e (λ j. in_concerns_own e j brings) (λ d. in_not_waiting e d brings) apart))
+        (subst (λ (t : S). asks t (priorities h.events)) (sym same) asked)
+
+    -- each kind what it is to find
     pub finds-admit : (h : History S) (k : ℕ) (s : S) → Stands rest ready (with_event h (Admit k s))
         → rest s (priorities (with_event h (Admit k s)).events)
-    unfolding with_event
-    finds-admit h k s stands = admitted_finds h k s (stood h (Admit k s) stands) (IsLegal-last h (Admit k s) stands.legal)
+    finds-admit h k s stands =
+        let may = (IsLegal-last h (Admit k s) stands.legal).fits in
+        finds rest h (Admit k s) refl (λ d. waiting-outside h.events k d may.1) may.2
+        (rest-free h (stood h (Admit k s) stands).lawful may.0)
 
     pub finds-back : (h : History S) (k : ℕ) (s : S) → Stands rest ready (with_event h (Back k s))
         → rest s (priorities (with_event h (Back k s)).events)
-    unfolding with_event
-    finds-back h k s stands = back_finds h k s (stood h (Back k s) stands) (IsLegal-last h (Back k s) stands.legal)
+    finds-back h k s stands =
+        let may = (IsLegal-last h (Back k s) stands.legal).fits in
+        finds rest h (Back k s) refl (λ d. waiting-return h.events k d may.0) may.1
+        (rest-return h k (stood h (Back k s) stands).lawful may.0)
 
     pub finds-resume : (h f : History S) (k c p : ℕ) (s t : S) → own k h.events ≡ own k (with_event f (Wait k c p s)).events
         → Stands rest ready (with_event h (Resume k c t)) → ready c p t (priorities (with_event h (Resume k c t)).events)
     unfolding with_event
     finds-resume h f k c p s t same stands =
-        resumed_finds h k c p s t (stood h (Resume k c t) stands) (IsLegal-last h (Resume k c t) stands.legal)
-        (ap newest (same ∙ own-last k f.events (Wait k c p s) refl) ∙ newest-push (own k f.events) (Wait k c p s))
+        let may = (IsLegal-last h (Resume k c t) stands.legal).fits in
+        finds (ready c p) h (Resume k c t) refl (λ d. waiting-owed h.events k c d may.0) may.1
+        (ready-owed h k c p s (stood h (Resume k c t) stands) may.0
+        (ap newest (same ∙ own-last k f.events (Wait k c p s) refl) ∙ newest-push (own k f.events) (Wait k c p s)))

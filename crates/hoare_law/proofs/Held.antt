@@ -1,12 +1,12 @@
 -- Who has the turn, by the last event, and who waits meanwhile.
-use Rattle.std.proofs.Common.{◌≡◌, ◌≢◌, ◌==◌, ◌⊎◌, inl, inr, not, ℕ, List, [], ◌∷◌, ◌++◌, Bool, true, false, cond, Some, refl, ap, sym, ◌∙◌, eq-eqb}
+use Rattle.std.proofs.Common.{◌≡◌, ◌≢◌, ◌==◌, ◌||◌, ◌⊎◌, inl, inr, not, ℕ, List, [], ◌∷◌, ◌++◌, Bool, true, false, cond, Some, refl, ap, sym, ◌∙◌, eq-eqb}
 use Rattle.std.specs.List.{filter, list_all}
 use Rattle.std.proofs.lemmas.List.{append-nil}
 use Rattle.hoare_law.specs.declared.event.Event.{Event}
 use Rattle.hoare_law.specs.declared.event.Event.TheVariants.{Admit, Wait, Signal, Pass, Leave, Resume, Back}
 use Rattle.hoare_law.specs.declared.turn.Turn.{Turn}
 use Rattle.hoare_law.specs.declared.turn.Turn.TheVariants.{Free, Held, Owed, Return}
-use Rattle.hoare_law.specs.Events.{place_of, own, newest}
+use Rattle.hoare_law.specs.Events.{place_of, data_of, own, newest}
 use Rattle.hoare_law.specs.Waiting.{waits_on, concerns, waiting}
 use Rattle.hoare_law.specs.Turns.{urgent, turn, turn_by, turn_given_up, is_out, outside}
 use Rattle.hoare_law.proofs.Events.{newest-push, own-push}
@@ -21,11 +21,10 @@ brings_in (Resume k c s) = true
 brings_in (Back k s) = true
 brings_in _ = false
 
--- the event hands the monitor to w, that waits on c: a signal or a pass
-abbrev pub hands_to : {S : Type 0} → ℕ → ℕ → Event S → Type 0
-hands_to w c (Signal k d v s) = (v ≡ w) × (d ≡ c)
-hands_to w c (Pass k d v s) = (v ≡ w) × (d ≡ c)
-hands_to w c _ = ⊥
+-- k hands the monitor to w, that waits on c: by a pass where it goes out, else by a signal
+abbrev pub handing : {S : Type 0} → Bool → ℕ → ℕ → ℕ → S → Event S
+handing true k c w s = Pass k c w s
+handing false k c w s = Signal k c w s
 
 -- the event gives the monitor up to nobody in particular
 abbrev pub gives_up : {S : Type 0} → Event S → Bool
@@ -79,20 +78,28 @@ module _ {S : Type 0} where
       let b : (brings_in r.0 ≡ true) × (place_of r.0 ≡ k) = held_by r.0 (urgent h) k r.2 in
       (r.0, r.1, b.0, b.1)
 
-  owed_by : (e : Event S) (us : List ℕ) (w c : ℕ) → turn_by e us ≡ Owed w c → hands_to w c e
-  owed_by (Admit j s) us w c t = absurd (cc)
-  owed_by (Resume j d s) us w c t = absurd (cc)
-  owed_by (Back j s) us w c t = absurd (cc)
-  owed_by (Signal j d v s) us w c t = (cc, cc)
-  owed_by (Pass j d v s) us w c t = (cc, cc)
-  owed_by (Wait j d p s) us w c t = absurd (not_owed us w c t)
-  owed_by (Leave j s) us w c t = absurd (not_owed us w c t)
+  -- the last event handed the monitor to w, that waited on c
+  pub record EndsHanding (w c : ℕ) (h : List (Event S)) : Type 0 where
+    pub out : Bool
+    pub by : ℕ
+    pub left : S
+    pub before : List (Event S)
+    pub ends : h ≡ before ++ handing out by c w left ∷ []
 
-  -- the last event handed the monitor to whom it is owed
-  pub turn-owed : (h : List (Event S)) (w c : ℕ) → turn h ≡ Owed w c → (e : Event S) × Ends h e × hands_to w c e
+  owed_by : (h g : List (Event S)) (e : Event S) (us : List ℕ) (w c : ℕ) → h ≡ g ++ e ∷ [] → turn_by e us ≡ Owed w c → EndsHanding w c h
+  owed_by h g (Admit j s) us w c is t = absurd (cc)
+  owed_by h g (Resume j d s) us w c is t = absurd (cc)
+  owed_by h g (Back j s) us w c is t = absurd (cc)
+  owed_by h g (Signal j d v s) us w c is t = record { out = false; by = j; left = s; before = g; ends = cc }
+  owed_by h g (Pass j d v s) us w c is t = record { out = true; by = j; left = s; before = g; ends = cc }
+  owed_by h g (Wait j d p s) us w c is t = absurd (not_owed us w c t)
+  owed_by h g (Leave j s) us w c is t = absurd (not_owed us w c t)
+
+  -- so it did where the monitor is owed
+  pub turn-owed : (h : List (Event S)) (w c : ℕ) → turn h ≡ Owed w c → EndsHanding w c h
   turn-owed h w c is =
       let r : (e : Event S) × Ends h e × (turn_by e (urgent h) ≡ Owed w c) = turn_of_last h (Owed w c) is (λ e. cc) in
-      (r.0, r.1, owed_by r.0 (urgent h) w c r.2)
+      owed_by h r.1.0 r.0 (urgent h) w c r.1.1 r.2
 
   return_by : (e : Event S) (us : List ℕ) (k : ℕ) → turn_by e us ≡ Return k → (gives_up e ≡ true) × (turn_given_up us ≡ Return k)
   return_by (Admit j s) us k t = absurd (cc)
@@ -139,16 +146,39 @@ module _ {S : Type 0} where
       by (nothing none) = ap urgent none
       by (pushed g e ends) = (free_by e (urgent h) (turn_by_last g e h ends ∙ is)).1
 
-  in_not_waiting : (e : Event S) (c : ℕ) → brings_in e ≡ true → waits_on c e ≡ false
-  in_not_waiting (Admit j s) c is = refl
-  in_not_waiting (Resume j d s) c is = refl
-  in_not_waiting (Back j s) c is = refl
-  in_not_waiting (Wait j d p s) c is = absurd (cc)
-  in_not_waiting (Signal j d v s) c is = refl
-  in_not_waiting (Pass j d v s) c is = refl
-  in_not_waiting (Leave j s) c is = refl
+  -- k is the place that hands the monitor over, and s are the data that it leaves
+  pub place_of-handing : (out : Bool) (k c w : ℕ) (s : S) → place_of (handing out k c w s) ≡ k
+  place_of-handing true k c w s = refl
+  place_of-handing false k c w s = refl
 
-  in_concerns_own : (e : Event S) (j : ℕ) → brings_in e ≡ true → concerns j e ≡ (place_of e == j)
+  pub data_of-handing : (out : Bool) (k c w : ℕ) (s : S) → data_of (handing out k c w s) ≡ s
+  data_of-handing true k c w s = refl
+  data_of-handing false k c w s = refl
+
+  -- it waits on no condition, and k and w are concerned
+  pub waits_on-handing : (out : Bool) (d k c w : ℕ) (s : S) → waits_on d (handing out k c w s) ≡ false
+  waits_on-handing true d k c w s = refl
+  waits_on-handing false d k c w s = refl
+
+  pub concerns-handing : (out : Bool) (j k c w : ℕ) (s : S) → concerns j (handing out k c w s) ≡ (k == j || w == j)
+  concerns-handing true j k c w s = refl
+  concerns-handing false j k c w s = refl
+
+  -- what no wait is, waits on no condition
+  pub waits_not : (Is : Event S → Type 0) (e : Event S) (c : ℕ) → ((k d p : ℕ) (s : S) → Is (Wait k d p s) → ⊥) → Is e → waits_on c e ≡ false
+  waits_not Is (Wait k d p s) c never is = absurd (never k d p s is)
+  waits_not Is (Admit k s) c never is = refl
+  waits_not Is (Signal k d w s) c never is = refl
+  waits_not Is (Pass k d w s) c never is = refl
+  waits_not Is (Leave k s) c never is = refl
+  waits_not Is (Resume k d s) c never is = refl
+  waits_not Is (Back k s) c never is = refl
+
+  -- whoever comes in waits on none, and is alone concerned
+  pub in_not_waiting : (e : Event S) (c : ℕ) → brings_in e ≡ true → waits_on c e ≡ false
+  in_not_waiting e c is = waits_not (λ x. brings_in x ≡ true) e c (λ k d p s on. cc) is
+
+  pub in_concerns_own : (e : Event S) (j : ℕ) → brings_in e ≡ true → concerns j e ≡ (place_of e == j)
   in_concerns_own (Admit i s) j is = refl
   in_concerns_own (Resume i d s) j is = refl
   in_concerns_own (Back i s) j is = refl

@@ -1,5 +1,5 @@
 -- Who is inside gives the monitor up, by a wait, a leave, a signal or a pass: that it may, and what it owes.
-use Rattle.std.proofs.Common.{◌≡◌, ◌≢◌, ℕ, ◌<◌, true, cond, List, [], ◌∷◌, ◌++◌, Option, Some, None, refl, ap, sym, ◌∙◌, subst, eq-eqb}
+use Rattle.std.proofs.Common.{◌≡◌, ◌≢◌, ℕ, ◌<◌, Bool, true, false, cond, List, [], ◌∷◌, ◌++◌, Option, Some, None, refl, ap, sym, ◌∙◌, subst, eq-eqb}
 use Rattle.std.specs.Prelude.{IsSomeAnd, slice_index}
 use Rattle.hoare_law.specs.declared.event.Event.{Event}
 use Rattle.hoare_law.specs.declared.event.History.{History}
@@ -12,8 +12,8 @@ use Rattle.hoare_law.specs.Legal.{Allowed, IsLegal}
 use Rattle.hoare_law.specs.Priorities.{priorities, joined, taken}
 use Rattle.hoare_law.specs.Turns.{turn, urgent, outside, is_out}
 use Rattle.hoare_law.specs.Waiting.{priority_of, chosen, Chooses}
-use Rattle.hoare_law.proofs.Held.{not_held}
-use Rattle.hoare_law.proofs.Priorities.{priorities-leave, priorities-wait, priorities-signal, priorities-pass, priorities-nobody, slice_index-chosen, waiting-unchosen}
+use Rattle.hoare_law.proofs.Held.{handing, not_held}
+use Rattle.hoare_law.proofs.Priorities.{priorities-leave, priorities-wait, priorities-handing, priorities-nobody, slice_index-chosen, waiting-unchosen}
 use Rattle.hoare_law.proofs.Turns.{outside-push, turn-push}
 use Rattle.hoare_law.proofs.Waiters.{held-in_range, chosen-in_range, place_in_range}
 
@@ -39,13 +39,10 @@ module _ {S : Type 0} where
       let no : Owed w c ≡ Held j = sym (turn-push f.events (Pass i c w s)) ∙ is in cc
 
   -- the turn is that of whom a signal or a pass resumes
-  pub turn-signal : (h : History S) (k c w : ℕ) (s : S) → turn (with_event h (Signal k c w s)).events ≡ Owed w c
+  pub turn-handing : (out : Bool) (h : History S) (k c w : ℕ) (s : S) → turn (with_event h (handing out k c w s)).events ≡ Owed w c
   unfolding with_event
-  turn-signal h k c w s = turn-push h.events (Signal k c w s)
-
-  pub turn-pass : (h : History S) (k c w : ℕ) (s : S) → turn (with_event h (Pass k c w s)).events ≡ Owed w c
-  unfolding with_event
-  turn-pass h k c w s = turn-push h.events (Pass k c w s)
+  turn-handing true h k c w s = turn-push h.events (Pass k c w s)
+  turn-handing false h k c w s = turn-push h.events (Signal k c w s)
 
   -- k is outside after a leave or a pass
   pub outside-left : (f : History S) (k : ℕ) (e : Event S) → place_of e ≡ k → is_out (Some e) ≡ true → outside k (with_event f e).events ≡ true
@@ -72,19 +69,15 @@ module _ {S : Type 0} where
   pub Allowed-wait : (f : History S) (k c p : ℕ) (s : S) → IsLegal f → turn f.events ≡ Held k → c < f.conditions → Allowed f (Wait k c p s)
   Allowed-wait f k c p s legal held below = record { in_range = (held-in_range f k legal held, below); fits = held }
 
-  pub Allowed-signal : (f : History S) (k c : ℕ) (x : Event S) (s : S) → IsLegal f → turn f.events ≡ Held k → c < f.conditions
-      → chosen c f.events ≡ Some x → Allowed f (Signal k c (place_of x) s)
-  Allowed-signal f k c x s legal held below is = record {
-    in_range = (held-in_range f k legal held, below, place_in_range f x (chosen-in_range c f x legal is));
-    fits = (held, Chooses-place c f.events x is);
-  }
+  handing_allowed : (out : Bool) (f : History S) (k c w : ℕ) (s : S) → (k < f.places) × (c < f.conditions) × (w < f.places)
+      → (turn f.events ≡ Held k) × Chooses c f.events w → Allowed f (handing out k c w s)
+  handing_allowed true f k c w s in_range fits = record { in_range = in_range; fits = fits }
+  handing_allowed false f k c w s in_range fits = record { in_range = in_range; fits = fits }
 
-  pub Allowed-pass : (f : History S) (k c : ℕ) (x : Event S) (s : S) → IsLegal f → turn f.events ≡ Held k → c < f.conditions
-      → chosen c f.events ≡ Some x → Allowed f (Pass k c (place_of x) s)
-  Allowed-pass f k c x s legal held below is = record {
-    in_range = (held-in_range f k legal held, below, place_in_range f x (chosen-in_range c f x legal is));
-    fits = (held, Chooses-place c f.events x is);
-  }
+  pub Allowed-handing : (out : Bool) (f : History S) (k c : ℕ) (x : Event S) (s : S) → IsLegal f → turn f.events ≡ Held k → c < f.conditions
+      → chosen c f.events ≡ Some x → Allowed f (handing out k c (place_of x) s)
+  Allowed-handing out f k c x s legal held below is = handing_allowed out f k c (place_of x) s
+      (held-in_range f k legal held, below, place_in_range f x (chosen-in_range c f x legal is)) (held, Chooses-place c f.events x is)
 
   module _ (rest : Rest S) (ready : Ready S) where
     -- and pays what it owes
@@ -98,22 +91,17 @@ module _ {S : Type 0} where
     unfolding Owes
     Owes-wait f k c p s held asked = subst (rest s) (sym (priorities-wait f.events k c p s held)) asked
 
-    hands_ready : (f : History S) (c : ℕ) (x : Event S) (s : S) (after : ℕ → List ℕ) → chosen c f.events ≡ Some x
-        → after ≡ taken (priorities f.events) c → ready c (slice_index (priorities f.events c) 0) s (taken (priorities f.events) c)
-        → IsSomeAnd (chosen c f.events) (λ e. ready c (priority_of e) s after)
-    hands_ready f c x s after is same asked =
-        let first = slice_index-chosen c f.events x is in
-        subst (λ (o : Option (Event S)). IsSomeAnd o (λ e. ready c (priority_of e) s after)) (sym is)
-        (subst (ready c (priority_of x) s) (sym same) (subst (λ (p : ℕ). ready c p s (taken (priorities f.events) c)) first asked))
-
-    pub Owes-signal : (f : History S) (k c : ℕ) (x : Event S) (s : S) → turn f.events ≡ Held k → chosen c f.events ≡ Some x
-        → ready c (slice_index (priorities f.events c) 0) s (taken (priorities f.events) c) → Owes rest ready f.events (Signal k c (place_of x) s)
+    handing_owes : (out : Bool) (f : List (Event S)) (k c w : ℕ) (s : S)
+        → IsSomeAnd (chosen c f) (λ e. ready c (priority_of e) s (priorities (f ++ handing out k c w s ∷ []))) → Owes rest ready f (handing out k c w s)
     unfolding Owes
-    Owes-signal f k c x s held is asked =
-        hands_ready f c x s _ is (priorities-signal f.events k c (place_of x) s held (Chooses-place c f.events x is)) asked
+    handing_owes true f k c w s owed = owed
+    handing_owes false f k c w s owed = owed
 
-    pub Owes-pass : (f : History S) (k c : ℕ) (x : Event S) (s : S) → turn f.events ≡ Held k → chosen c f.events ≡ Some x
-        → ready c (slice_index (priorities f.events c) 0) s (taken (priorities f.events) c) → Owes rest ready f.events (Pass k c (place_of x) s)
-    unfolding Owes
-    Owes-pass f k c x s held is asked =
-        hands_ready f c x s _ is (priorities-pass f.events k c (place_of x) s held (Chooses-place c f.events x is)) asked
+    pub Owes-handing : (out : Bool) (f : History S) (k c : ℕ) (x : Event S) (s : S) → turn f.events ≡ Held k → chosen c f.events ≡ Some x
+        → ready c (slice_index (priorities f.events c) 0) s (taken (priorities f.events) c) → Owes rest ready f.events (handing out k c (place_of x) s)
+    Owes-handing out f k c x s held is asked =
+        let after : ℕ → List ℕ = priorities (f.events ++ handing out k c (place_of x) s ∷ []) in
+        let same = priorities-handing out f.events k c (place_of x) s held (Chooses-place c f.events x is) in
+        handing_owes out f.events k c (place_of x) s
+        (subst (λ (o : Option (Event S)). IsSomeAnd o (λ e. ready c (priority_of e) s after)) (sym is)
+        (subst (ready c (priority_of x) s) (sym same) (subst (λ (p : ℕ). ready c p s (taken (priorities f.events) c)) (slice_index-chosen c f.events x is) asked)))

@@ -18,7 +18,7 @@ use Rattle.hoare_law.proofs.Waiting.{waiting-push}
 use Rattle.hoare_law.proofs.Sorted.{first_of, put_all-push, in_order-filter, map-put_in, map-in_order, in_order-none, in_order-short, IsNonDecreasing-in_order}
 use Rattle.hoare_law.proofs.Chosen.{chosen-first}
 use Rattle.hoare_law.proofs.Filters.{map-none, filter-all, filter-or, list_all-filter_own, list_all-filter_none, list_all-same, list_all-from_All}
-use Rattle.hoare_law.proofs.Held.{hands_to, turn-owed, waiting-held}
+use Rattle.hoare_law.proofs.Held.{handing, waits_on-handing, concerns-handing, waits_not, turn-owed, waiting-held}
 use Rattle.hoare_law.proofs.Waiters.{Waits, LastSignals, All-waiting, own-return, chosen-waits, waiting-elsewhere, waiting-once}
 
 some_and : {X : Type 0} (P : X → Type 0) (o : Option X) → IsSomeAnd o P → (x : X) × (o ≡ Some x) × P x
@@ -54,52 +54,17 @@ module _ {S : Type 0} where
       (λ x w. ap not (ne_eqb k (place_of x) (λ same. true≢false (sym w.on ∙ apart x (ap (λ j. newest (own j h)) same ∙ w.last)))))
       (waiting d h) (All-waiting d h))
 
-  out_waits_not : (x : Event S) (d : ℕ) → is_out (Some x) ≡ true → waits_on d x ≡ false
-  out_waits_not (Wait k c p s) d is = absurd (cc)
-  out_waits_not (Admit k s) d is = refl
-  out_waits_not (Signal k c w s) d is = refl
-  out_waits_not (Pass k c w s) d is = refl
-  out_waits_not (Leave k s) d is = refl
-  out_waits_not (Resume k c s) d is = refl
-  out_waits_not (Back k s) d is = refl
-
-  signal_waits_not : (x : Event S) (d : ℕ) → is_signal x ≡ true → waits_on d x ≡ false
-  signal_waits_not (Wait k c p s) d is = absurd (cc)
-  signal_waits_not (Admit k s) d is = refl
-  signal_waits_not (Signal k c w s) d is = refl
-  signal_waits_not (Pass k c w s) d is = refl
-  signal_waits_not (Leave k s) d is = refl
-  signal_waits_not (Resume k c s) d is = refl
-  signal_waits_not (Back k s) d is = refl
-
   -- whoever is outside waits nowhere
   pub waiting-outside : (h : List (Event S)) (k d : ℕ) → outside k h ≡ true → list_all (λ x. not (k == place_of x)) (waiting d h) ≡ true
   unfolding outside
-  waiting-outside h k d is = waiting-apart h k d (λ x last. out_waits_not x d (ap is_out (sym last) ∙ is))
+  waiting-outside h k d is = waiting-apart h k d (λ x last. waits_not (λ y. is_out (Some y) ≡ true) x d (λ j c p s on. cc) (ap is_out (sym last) ∙ is))
 
   -- nor does a signaller that returns
   pub waiting-return : (h : List (Event S)) (k d : ℕ) → turn h ≡ Return k → list_all (λ x. not (k == place_of x)) (waiting d h) ≡ true
   waiting-return h k d is =
       let r : LastSignals h k = own-return h k is in
-      waiting-apart h k d (λ x last. let same : r.0 ≡ x = let e : Some r.0 ≡ Some x = sym r.1 ∙ last in cc in signal_waits_not x d (ap is_signal (sym same) ∙ r.2))
-
-  handed_concerned : (e : Event S) (k c j : ℕ) → hands_to k c e → not (concerns j e) ≡ true → not (k == j) ≡ true
-  handed_concerned (Signal i d v s) k c j to n = ap (λ w. not (w == j)) (sym to.0) ∙ second _ _ n
-  handed_concerned (Pass i d v s) k c j to n = ap (λ w. not (w == j)) (sym to.0) ∙ second _ _ n
-  handed_concerned (Admit i s) k c j to n = absurd to
-  handed_concerned (Wait i d p s) k c j to n = absurd to
-  handed_concerned (Leave i s) k c j to n = absurd to
-  handed_concerned (Resume i d s) k c j to n = absurd to
-  handed_concerned (Back i s) k c j to n = absurd to
-
-  handed_waits_not : (e : Event S) (k c d : ℕ) → hands_to k c e → waits_on d e ≡ false
-  handed_waits_not (Signal i b v s) k c d to = refl
-  handed_waits_not (Pass i b v s) k c d to = refl
-  handed_waits_not (Admit i s) k c d to = refl
-  handed_waits_not (Wait i b p s) k c d to = absurd to
-  handed_waits_not (Leave i s) k c d to = refl
-  handed_waits_not (Resume i b s) k c d to = refl
-  handed_waits_not (Back i s) k c d to = refl
+      waiting-apart h k d (λ x last. let same : r.0 ≡ x = let e : Some r.0 ≡ Some x = sym r.1 ∙ last in cc in
+      waits_not (λ y. is_signal y ≡ true) x d (λ j c p s on. cc) (ap is_signal (sym same) ∙ r.2))
 
   list_all-weaker : (p q : Event S → Bool) (xs : List (Event S)) → ((x : Event S) → p x ≡ true → q x ≡ true) → list_all p xs ≡ true → list_all q xs ≡ true
   list_all-weaker p q [] f a = refl
@@ -110,12 +75,15 @@ module _ {S : Type 0} where
   -- nor does the one that was resumed
   pub waiting-owed : (h : List (Event S)) (k c d : ℕ) → turn h ≡ Owed k c → list_all (λ x. not (k == place_of x)) (waiting d h) ≡ true
   waiting-owed h k c d is =
-      let r : (e : Event S) × ((g : List (Event S)) × (h ≡ g ++ e ∷ [])) × hands_to k c e = turn-owed h k c is in
-      let left : waiting d h ≡ filter (λ x. not (concerns (place_of x) r.0)) (waiting d r.1.0) =
-      ap (waiting d) r.1.1 ∙ waiting-push d r.1.0 r.0 ∙ ap (λ b. filter (λ x. not (concerns (place_of x) r.0)) (waiting d r.1.0) ++ cond b (r.0 ∷ []) [])
-      (handed_waits_not r.0 k c d r.2) ∙ append-nil _ in
-      list_all-weaker (λ x. not (concerns (place_of x) r.0)) (λ x. not (k == place_of x)) (waiting d h) (λ x n. handed_concerned r.0 k c (place_of x) r.2 n)
-      (ap (list_all (λ x. not (concerns (place_of x) r.0))) left ∙ list_all-filter_own (λ x. not (concerns (place_of x) r.0)) (waiting d r.1.0))
+      let r = turn-owed h k c is in
+      let g : List (Event S) = r.before in
+      let hand : Event S = handing r.out r.by c k r.left in
+      let left : waiting d h ≡ filter (λ x. not (concerns (place_of x) hand)) (waiting d g) =
+      ap (waiting d) r.ends ∙ waiting-push d g hand ∙ ap (λ b. filter (λ x. not (concerns (place_of x) hand)) (waiting d g) ++ cond b (hand ∷ []) [])
+      (waits_on-handing r.out d r.by c k r.left) ∙ append-nil _ in
+      list_all-weaker (λ x. not (concerns (place_of x) hand)) (λ x. not (k == place_of x)) (waiting d h)
+      (λ x n. second (r.by == place_of x) (k == place_of x) (ap not (sym (concerns-handing r.out (place_of x) r.by c k r.left)) ∙ n))
+      (ap (list_all (λ x. not (concerns (place_of x) hand))) left ∙ list_all-filter_own (λ x. not (concerns (place_of x) hand)) (waiting d g))
 
   -- an event of one that waits nowhere, which concerns no other, changes who waits only by its own wait
   waiting-own : (h : List (Event S)) (e : Event S) (d : ℕ) → ((j : ℕ) → concerns j e ≡ (place_of e == j))
@@ -128,41 +96,16 @@ module _ {S : Type 0} where
   pub waiting-wait : (h : List (Event S)) (k c p d : ℕ) (s : S) → turn h ≡ Held k → waiting d (h ++ Wait k c p s ∷ []) ≡ waiting d h ++ cond (c == d) (Wait k c p s ∷ []) []
   waiting-wait h k c p d s is = waiting-own h (Wait k c p s) d (λ j. refl) (waiting-held h k d is)
 
-  -- a leave changes nothing
-  pub waiting-leave : (h : List (Event S)) (k d : ℕ) (s : S) → turn h ≡ Held k → waiting d (h ++ Leave k s ∷ []) ≡ waiting d h
-  waiting-leave h k d s is = waiting-own h (Leave k s) d (λ j. refl) (waiting-held h k d is) ∙ append-nil _
+  -- so the priorities stay, where it is no wait
+  pub priorities-own : (h : List (Event S)) (e : Event S) → ((j : ℕ) → concerns j e ≡ (place_of e == j)) → ((d : ℕ) → waits_on d e ≡ false)
+      → ((d : ℕ) → list_all (λ x. not (place_of e == place_of x)) (waiting d h) ≡ true) → priorities (h ++ e ∷ []) ≡ priorities h
+  unfolding priorities
+  priorities-own h e own_alone no_wait apart = λ i d. map priority_of (in_order priority_of
+      ((waiting-own h e d own_alone (apart d) ∙ ap (λ b. waiting d h ++ cond b (e ∷ []) []) (no_wait d) ∙ append-nil _) i))
 
-  -- nor does an admission
-  pub waiting-admit : (h : List (Event S)) (k d : ℕ) (s : S) → outside k h ≡ true → waiting d (h ++ Admit k s ∷ []) ≡ waiting d h
-  waiting-admit h k d s is = waiting-own h (Admit k s) d (λ j. refl) (waiting-outside h k d is) ∙ append-nil _
-
-  -- nor a resumption
-  pub waiting-resume : (h : List (Event S)) (k c d : ℕ) (s : S) → turn h ≡ Owed k c → waiting d (h ++ Resume k c s ∷ []) ≡ waiting d h
-  waiting-resume h k c d s is = waiting-own h (Resume k c s) d (λ j. refl) (waiting-owed h k c d is) ∙ append-nil _
-
-  -- nor a signaller's return
-  pub waiting-back : (h : List (Event S)) (k d : ℕ) (s : S) → turn h ≡ Return k → waiting d (h ++ Back k s ∷ []) ≡ waiting d h
-  waiting-back h k d s is = waiting-own h (Back k s) d (λ j. refl) (waiting-return h k d is) ∙ append-nil _
-
-  -- so the priorities stay at a leave
+  -- as at a leave
   pub priorities-leave : (h : List (Event S)) (k : ℕ) (s : S) → turn h ≡ Held k → priorities (h ++ Leave k s ∷ []) ≡ priorities h
-  unfolding priorities
-  priorities-leave h k s is = λ i d. map priority_of (in_order priority_of (waiting-leave h k d s is i))
-
-  -- at an admission
-  pub priorities-admit : (h : List (Event S)) (k : ℕ) (s : S) → outside k h ≡ true → priorities (h ++ Admit k s ∷ []) ≡ priorities h
-  unfolding priorities
-  priorities-admit h k s is = λ i d. map priority_of (in_order priority_of (waiting-admit h k d s is i))
-
-  -- at a resumption
-  pub priorities-resume : (h : List (Event S)) (k c : ℕ) (s : S) → turn h ≡ Owed k c → priorities (h ++ Resume k c s ∷ []) ≡ priorities h
-  unfolding priorities
-  priorities-resume h k c s is = λ i d. map priority_of (in_order priority_of (waiting-resume h k c d s is i))
-
-  -- and at a signaller's return
-  pub priorities-back : (h : List (Event S)) (k : ℕ) (s : S) → turn h ≡ Return k → priorities (h ++ Back k s ∷ []) ≡ priorities h
-  unfolding priorities
-  priorities-back h k s is = λ i d. map priority_of (in_order priority_of (waiting-back h k d s is i))
+  priorities-leave h k s is = priorities-own h (Leave k s) (λ j. refl) (λ d. refl) (λ d. waiting-held h k d is)
 
   -- who waits on d, in the order in which signals would resume them
   abbrev pub in_turn : List (Event S) → ℕ → List (Event S)
@@ -265,15 +208,16 @@ module _ {S : Type 0} where
   map-behind_first [] = refl
   map-behind_first (x ∷ xs) = refl
 
-  -- an event that hands the monitor over takes the chosen one from those that wait
-  handed_over : (h : List (Event S)) (e : Event S) (k c w d : ℕ) → turn h ≡ Held k → Chooses c h w → ((j : ℕ) → concerns j e ≡ (k == j || w == j)) → waits_on d e ≡ false
-      → in_turn (h ++ e ∷ []) d ≡ cond (d == c) (behind_first (in_turn h d)) (in_turn h d)
-  handed_over h e k c w d is chooses concerned no_wait =
+  -- a signal and a pass take the chosen one from those that wait
+  in_turn-handing : (out : Bool) (h : List (Event S)) (k c w d : ℕ) (s : S) → turn h ≡ Held k → Chooses c h w
+      → in_turn (h ++ handing out k c w s ∷ []) d ≡ cond (d == c) (behind_first (in_turn h d)) (in_turn h d)
+  in_turn-handing out h k c w d s is chooses =
+      let e : Event S = handing out k c w s in
       let r : (x : Event S) × (chosen c h ≡ Some x) × (place_of x ≡ w) = Chooses-chosen c w h chooses in
       let left : waiting d (h ++ e ∷ []) ≡ filter (λ y. not (place_of r.0 == place_of y)) (waiting d h) =
       waiting-push d h e
-      ∙ ap (λ b. filter (λ x. not (concerns (place_of x) e)) (waiting d h) ++ cond b (e ∷ []) []) no_wait ∙ append-nil _
-      ∙ filter_agree (λ x. not (concerns (place_of x) e)) (λ x. not (k == place_of x || w == place_of x)) (λ x. ap not (concerned (place_of x))) (waiting d h)
+      ∙ ap (λ b. filter (λ x. not (concerns (place_of x) e)) (waiting d h) ++ cond b (e ∷ []) []) (waits_on-handing out d k c w s) ∙ append-nil _
+      ∙ filter_agree (λ x. not (concerns (place_of x) e)) (λ x. not (k == place_of x || w == place_of x)) (λ x. ap not (concerns-handing out (place_of x) k c w s)) (waiting d h)
       ∙ filter-or (λ x. k == place_of x) (λ x. w == place_of x) (waiting d h) (waiting-held h k d is)
       ∙ ap (λ j. filter (λ y. not (j == place_of y)) (waiting d h)) (sym r.2) in
       ap (in_order priority_of) left ∙ by r.0 r.1 (d == c) refl
@@ -286,14 +230,6 @@ module _ {S : Type 0} where
           (filter-all (λ y. not (place_of x == place_of y)) (waiting d h)
           (waiting-elsewhere c d h x (λ same. true≢false (sym (eq-eqb d c same) ∙ other)) (chosen-waits c h x some)))
 
-  -- a signal takes the first from those that wait
-  pub in_turn-signal : (h : List (Event S)) (k c w d : ℕ) (s : S) → turn h ≡ Held k → Chooses c h w → in_turn (h ++ Signal k c w s ∷ []) d ≡ cond (d == c) (behind_first (in_turn h d)) (in_turn h d)
-  in_turn-signal h k c w d s is chooses = handed_over h (Signal k c w s) k c w d is chooses (λ j. refl) refl
-
-  -- and so does a pass
-  pub in_turn-pass : (h : List (Event S)) (k c w d : ℕ) (s : S) → turn h ≡ Held k → Chooses c h w → in_turn (h ++ Pass k c w s ∷ []) d ≡ cond (d == c) (behind_first (in_turn h d)) (in_turn h d)
-  in_turn-pass h k c w d s is chooses = handed_over h (Pass k c w s) k c w d is chooses (λ j. refl) refl
-
   map-taken : (h : List (Event S)) (c d : ℕ) → map priority_of (cond (d == c) (behind_first (in_turn h d)) (in_turn h d)) ≡ taken (priorities h) c d
   unfolding priorities
   map-taken h c d = by (d == c)
@@ -302,12 +238,8 @@ module _ {S : Type 0} where
       by true = map-behind_first (in_turn h d)
       by false = refl
 
-  -- a signal takes the first priority
-  pub priorities-signal : (h : List (Event S)) (k c w : ℕ) (s : S) → turn h ≡ Held k → Chooses c h w → priorities (h ++ Signal k c w s ∷ []) ≡ taken (priorities h) c
+  -- and the first priority
+  pub priorities-handing : (out : Bool) (h : List (Event S)) (k c w : ℕ) (s : S) → turn h ≡ Held k → Chooses c h w
+      → priorities (h ++ handing out k c w s ∷ []) ≡ taken (priorities h) c
   unfolding priorities
-  priorities-signal h k c w s is chooses = λ i d. (ap (map priority_of) (in_turn-signal h k c w d s is chooses) ∙ map-taken h c d) i
-
-  -- and so does a pass
-  pub priorities-pass : (h : List (Event S)) (k c w : ℕ) (s : S) → turn h ≡ Held k → Chooses c h w → priorities (h ++ Pass k c w s ∷ []) ≡ taken (priorities h) c
-  unfolding priorities
-  priorities-pass h k c w s is chooses = λ i d. (ap (map priority_of) (in_turn-pass h k c w d s is chooses) ∙ map-taken h c d) i
+  priorities-handing out h k c w s is chooses = λ i d. (ap (map priority_of) (in_turn-handing out h k c w d s is chooses) ∙ map-taken h c d) i

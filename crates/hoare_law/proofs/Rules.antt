@@ -14,7 +14,8 @@ use Rattle.hoare_law.specs.Turns.{turn}
 use Rattle.hoare_law.specs.Legal.{Allowed}
 use Rattle.hoare_law.proofs.Tests.{both_true}
 use Rattle.hoare_law.proofs.Events.{latest_data-push}
-use Rattle.hoare_law.proofs.Turns.{turn-push}
+use Rattle.hoare_law.proofs.Held.{handing, data_of-handing}
+use Rattle.hoare_law.proofs.Leaving.{turn-handing}
 use Rattle.hoare_law.proofs.Waiters.{chosen-least}
 
 -- the one found stands behind those that fail the test
@@ -71,12 +72,8 @@ module _ {S : Type 0} where
   only_resume f (Leave j s) w c is a = let t : Held j ≡ Owed w c = sym a.fits ∙ is in absurd (cc)
   only_resume f (Back j s) w c is a = let t : Return j ≡ Owed w c = sym a.fits.0 ∙ is in absurd (cc)
 
-  -- behind a signal only the resumed one goes on, with the data as the signaller left them
-  pub after_signal : (f : History S) (k c w : ℕ) (s : S) (e : Event S) → Allowed (with_event f (Signal k c w s)) e → e ≡ Resume w c s
-  unfolding with_event
-  after_signal f k c w s e a = only_resume (with_event f (Signal k c w s)) e w c (turn-push f.events (Signal k c w s)) a ∙ ap (λ t. Resume w c t) (latest_data-push f (Signal k c w s))
-
-  -- and so behind a pass
-  pub after_pass : (f : History S) (k c w : ℕ) (s : S) (e : Event S) → Allowed (with_event f (Pass k c w s)) e → e ≡ Resume w c s
-  unfolding with_event
-  after_pass f k c w s e a = only_resume (with_event f (Pass k c w s)) e w c (turn-push f.events (Pass k c w s)) a ∙ ap (λ t. Resume w c t) (latest_data-push f (Pass k c w s))
+  -- behind a signal or a pass only the resumed one goes on, with the data as they were left
+  pub after_handing : (out : Bool) (f : History S) (k c w : ℕ) (s : S) (e : Event S) → Allowed (with_event f (handing out k c w s)) e → e ≡ Resume w c s
+  after_handing out f k c w s e a =
+      only_resume (with_event f (handing out k c w s)) e w c (turn-handing out f k c w s) a
+      ∙ ap (λ t. Resume w c t) (latest_data-push f (handing out k c w s) ∙ data_of-handing out k c w s)

@@ -16,7 +16,7 @@ use Rattle.hoare_law.specs.Legal.{IsInRange, IsLegal}
 use Rattle.hoare_law.proofs.Tests.{both_true, eq_swap}
 use Rattle.hoare_law.proofs.Events.{newest-push}
 use Rattle.hoare_law.proofs.Filters.{filter-none, list_all-at, list_all-from_All, All-find, find-passes, All-filter_by_later}
-use Rattle.hoare_law.proofs.Held.{brings_in, hands_to, turn-held, turn-owed, turn-return}
+use Rattle.hoare_law.proofs.Held.{brings_in, handing, turn-held, turn-owed, turn-return}
 
 first : (a b : Bool) → not (a || b) ≡ true → a ≡ false
 first true b e = absurd (cc)
@@ -103,14 +103,9 @@ module _ {S : Type 0} where
   place_in_range h (Resume k c s) r = r.0
   place_in_range h (Back k s) r = r
 
-  hand_in_range : (h : History S) (e : Event S) (w c : ℕ) → hands_to w c e → IsInRange h e → (w < h.places) × (c < h.conditions)
-  hand_in_range h (Signal k d v s) w c is r = (subst (λ (i : ℕ). i < h.places) is.0 r.2, subst (λ (i : ℕ). i < h.conditions) is.1 r.1)
-  hand_in_range h (Pass k d v s) w c is r = (subst (λ (i : ℕ). i < h.places) is.0 r.2, subst (λ (i : ℕ). i < h.conditions) is.1 r.1)
-  hand_in_range h (Admit k s) w c is r = absurd is
-  hand_in_range h (Wait k d p s) w c is r = absurd is
-  hand_in_range h (Leave k s) w c is r = absurd is
-  hand_in_range h (Resume k d s) w c is r = absurd is
-  hand_in_range h (Back k s) w c is r = absurd is
+  handing_in_range : (out : Bool) (h : History S) (k c w : ℕ) (s : S) → IsInRange h (handing out k c w s) → (w < h.places) × (c < h.conditions)
+  handing_in_range true h k c w s r = (r.2, r.1)
+  handing_in_range false h k c w s r = (r.2, r.1)
 
   -- who has the turn is a place of the monitor
   pub held-in_range : (h : History S) (k : ℕ) → IsLegal h → turn h.events ≡ Held k → k < h.places
@@ -121,8 +116,8 @@ module _ {S : Type 0} where
   -- so are place and condition to which it is owed
   pub owed-in_range : (h : History S) (w c : ℕ) → IsLegal h → turn h.events ≡ Owed w c → (w < h.places) × (c < h.conditions)
   owed-in_range h w c legal is =
-      let r : (e : Event S) × ((g : List (Event S)) × (h.events ≡ g ++ e ∷ [])) × hands_to w c e = turn-owed h.events w c is in
-      hand_in_range h r.0 w c r.2 (in_range-at h r.1.0 [] r.0 legal r.1.1)
+      let r = turn-owed h.events w c is in
+      handing_in_range r.out h r.by c w r.left (in_range-at h r.before [] (handing r.out r.by c w r.left) legal r.ends)
 
   -- so are the waiting signallers
   pub urgent-in_range : (h : History S) → IsLegal h → All (λ k. k < h.places) (urgent h.events)

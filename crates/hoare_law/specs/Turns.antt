@@ -44,6 +44,11 @@ turn_after (Some e) us = turn_by e us
 unfoldable pub turn : {S : Type 0} → List (Event S) → Turn
 turn h = turn_after (newest h) (urgent h)
 
+-- nobody is inside
+abbrev pub IsGivenUp : Turn → Type 0
+IsGivenUp (Held k) = ⊥
+IsGivenUp _ = Unit {0}
+
 -- a place with this last event is outside
 abbrev pub is_out : {S : Type 0} → Option (Event S) → Bool
 is_out None = true

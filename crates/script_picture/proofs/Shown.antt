@@ -7,7 +7,7 @@ use Rattle.hoare_law.specs.declared.turn.Turn.{Turn}
 use Rattle.hoare_law.specs.declared.turn.Turn.TheVariants.{Free, Held, Owed, Return}
 use Rattle.hoare_law.specs.Events.{place_of, opened, with_event}
 use Rattle.hoare_law.specs.Waiting.{chosen}
-use Rattle.hoare_law.specs.Turns.{urgent, turn, turn_by, turn_given_up}
+use Rattle.hoare_law.specs.Turns.{urgent, turn, turn_by, turn_given_up, IsGivenUp}
 use Rattle.hoare_law.proofs.Held.{brings_in}
 use Rattle.hoare_law.proofs.Opening.{turn-opened}
 use Rattle.hoare_law.proofs.Turns.{turn-push}
@@ -58,13 +58,7 @@ is_claimed (Return j) = tt
 claimed-settled : (h : Log) → IsClaimed (turn (settled h).events)
 claimed-settled h = subst IsClaimed (sym (turn-claim h (turn h.events) refl)) (is_claimed (turn h.events))
 
--- nobody is inside
-abbrev IsGivenUp : Turn → Type 0
-IsGivenUp Free = Unit {0}
-IsGivenUp (Held j) = ⊥
-IsGivenUp (Owed j c) = Unit {0}
-IsGivenUp (Return j) = Unit {0}
-
+-- nobody is inside after an event that brings nobody in
 given_to : (us : List ℕ) → IsGivenUp (turn_given_up us)
 given_to [] = tt
 given_to (u ∷ us) = tt

@@ -15,8 +15,10 @@ use Rattle.hoare_law.specs.Waiting.{waiting, waits_on, concerns, priority_of, ch
 use Rattle.hoare_law.specs.Turns.{urgent, turn, turn_by, outside, is_out, is_signal}
 use Rattle.hoare_law.specs.Priorities.{put_in, in_order, behind_first}
 use Rattle.hoare_law.specs.Legal.{Allowed}
+use Rattle.hoare_law.specs.Beside.Erasure.{without_data}
 use Rattle.hoare_law.proofs.Waiting.{waiting-push}
 use Rattle.hoare_law.proofs.Turns.{urgent-push, turn-push, outside-push, filter-map}
+use Rattle.hoare_law.proofs.Held.{handing}
 use Rattle.hoare_law.proofs.Legal.{IsLegal-push, IsLegal-none}
 use Rattle.hoare_law.proofs.Filters.{filter-filter}
 use Rattle.hoare_law.proofs.Sorted.{in_order-filter, in_order-push, put_in-map}
@@ -238,6 +240,17 @@ chosen-taken b h c w ws o t = chosen-first_on b h c o ∙ ap (λ l. sorted.first
 pub chosen-nobody : (b : Contents) (h : Log) (c : ℕ) → IsOf b h → waiters_on c b ≡ [] → chosen c h.events ≡ None
 chosen-nobody b h c o e = chosen-first_on b h c o ∙ ap (λ l. sorted.first_of (map wait_of l)) e
 
+-- what a pass adds where the place goes out, else what a signal adds
+abbrev pub after_handing : Bool → Log → ℕ → ℕ → Option Act → Log
+after_handing true = after_pass
+after_handing false = after_signal
+
+-- it hands the monitor to the one that is chosen
+pub after_handing-some : {D : Type 0} (out : Bool) (h : Log) (k c w : ℕ) (e : Act) (s : D) → place_of e ≡ w
+    → after_handing out h k c (Some e) ≡ with_event h (without_data (handing out k c w s))
+after_handing-some true h k c w e s is = ap (λ j. with_event h (Pass k c j tt)) is
+after_handing-some false h k c w e s is = ap (λ j. with_event h (Signal k c j tt)) is
+
 chooses : (b : Contents) (h : Log) (c w : ℕ) (ws : List Waiter) → IsOf b h → TakesFirst c b.waiters ws w → Chooses c h.events w
 unfolding Chooses
 chooses b h c w ws o t = subst (λ (x : Option Act). IsSomeAnd x (λ e. place_of e ≡ w)) (sym (chosen-taken b h c w ws o t)) t.place
@@ -254,9 +267,16 @@ module _ (b : Contents) (k c w : ℕ) (ws : List Waiter) (r : Resumes b k c w ws
   waiters_left : filter (λ (v : Waiter). not (k == v.place || w == v.place)) b.waiters ≡ ws
   waiters_left = filter-taken k c b.waiters ws w r.took (holder_apart b k r.by).0 (omega (arith, r.by.sound.once w))
 
-  -- a signal that resumes one
-  signalled_of : IsOf (resumed ws (b.signallers ++ k ∷ []) w c b) (with_event h (Signal k c w tt))
-  signalled_of =
+  -- k hands the monitor to the one resumed, and waits among the signallers unless it goes out
+  handed_of : (out : Bool) → IsOf (resumed ws (cond out b.signallers (b.signallers ++ k ∷ [])) w c b) (with_event h (without_data (handing {S = Unit {0}} out k c w tt)))
+  handed_of true =
+      IsOf-push b (resumed ws b.signallers w c b) h (Pass k c w tt) o refl refl
+      (record { in_range = ranges; fits = (o.turn_is ∙ r.by.inside, chooses b h c w ws o r.took) })
+      (waiters_kept b h (Pass k c w tt) ws (λ d. refl) waiters_left o)
+      (signallers_apart b k (holder_apart b k r.by).1) refl
+      (zero_is _ (omega (arith, passed_times b k c w k ws r, r.by.sound.once k, one_same k)))
+      (λ j q. omega (arith, passed_times b k c w j ws r, one_apart j k (eq_swap j k ∙ q)))
+  handed_of false =
       IsOf-push b (resumed ws (b.signallers ++ k ∷ []) w c b) h (Signal k c w tt) o refl refl
       (record { in_range = ranges; fits = (o.turn_is ∙ r.by.inside, chooses b h c w ws o r.took) })
       (waiters_kept b h (Signal k c w tt) ws (λ d. refl) waiters_left o)
@@ -264,37 +284,15 @@ module _ (b : Contents) (k c w : ℕ) (ws : List Waiter) (r : Resumes b k c w ws
       (positive _ (omega (arith, signalled_times b k c w k ws r, held_hand b k r.by.inside)))
       (λ j q. sym (signalled_times b k c w j ws r))
 
-  -- a pass that resumes one
-  passed_of : IsOf (resumed ws b.signallers w c b) (with_event h (Pass k c w tt))
-  passed_of =
-      IsOf-push b (resumed ws b.signallers w c b) h (Pass k c w tt) o refl refl
-      (record { in_range = ranges; fits = (o.turn_is ∙ r.by.inside, chooses b h c w ws o r.took) })
-      (waiters_kept b h (Pass k c w tt) ws (λ d. refl) waiters_left o)
-      (signallers_apart b k (holder_apart b k r.by).1) refl
-      (zero_is _ (omega (arith, passed_times b k c w k ws r, r.by.sound.once k, one_same k)))
-      (λ j q. omega (arith, passed_times b k c w j ws r, one_apart j k (eq_swap j k ∙ q)))
+  -- what a signal or a pass adds, where one is taken
+  pub after_handing-taken : (out : Bool) → IsOf (resumed ws (cond out b.signallers (b.signallers ++ k ∷ [])) w c b) (after_handing out h k c (chosen c h.events))
+  after_handing-taken out = subst (IsOf _)
+      (sym (ap (after_handing out h k c) (chosen-taken b h c w ws o r.took) ∙ after_handing-some out h k c w (wait_of r.took.first) tt r.took.place)) (handed_of out)
 
-  -- what a signal adds, where one is taken
-  pub after_signal-taken : IsOf (resumed ws (b.signallers ++ k ∷ []) w c b) (after_signal h k c (chosen c h.events))
-  after_signal-taken =
-      let d : Contents = resumed ws (b.signallers ++ k ∷ []) w c b in
-      subst (λ (x : Option Act). IsOf d (after_signal h k c x)) (sym (chosen-taken b h c w ws o r.took))
-      (subst (λ (j : ℕ). IsOf d (with_event h (Signal k c j tt))) (sym r.took.place) signalled_of)
-
-  -- what a pass adds, where one is taken
-  pub after_pass-taken : IsOf (resumed ws b.signallers w c b) (after_pass h k c (chosen c h.events))
-  after_pass-taken =
-      let d : Contents = resumed ws b.signallers w c b in
-      subst (λ (x : Option Act). IsOf d (after_pass h k c x)) (sym (chosen-taken b h c w ws o r.took))
-      (subst (λ (j : ℕ). IsOf d (with_event h (Pass k c j tt))) (sym r.took.place) passed_of)
-
--- what a signal adds where nobody waits
-pub after_signal-nobody : (b : Contents) (k c : ℕ) (h : Log) → waiters_on c b ≡ [] → IsOf b h → IsOf b (after_signal h k c (chosen c h.events))
-after_signal-nobody b k c h n o = subst (λ (x : Option Act). IsOf b (after_signal h k c x)) (sym (chosen-nobody b h c o n)) o
-
--- and a pass
-pub after_pass-nobody : (b d : Contents) (k c : ℕ) (h : Log) → waiters_on c b ≡ [] → IsOf b h → IsOf d (with_event h (Leave k tt)) → IsOf d (after_pass h k c (chosen c h.events))
-after_pass-nobody b d k c h n o x = subst (λ (y : Option Act). IsOf d (after_pass h k c y)) (sym (chosen-nobody b h c o n)) x
+-- and where nobody waits
+pub after_handing-nobody : (out : Bool) (b d : Contents) (k c : ℕ) (h : Log) → waiters_on c b ≡ [] → IsOf b h → IsOf d (after_handing out h k c None)
+    → IsOf d (after_handing out h k c (chosen c h.events))
+after_handing-nobody out b d k c h n o x = subst (λ (y : Option Act). IsOf d (after_handing out h k c y)) (sym (chosen-nobody b h c o n)) x
 
 -- whoever is owed the monitor goes on
 

@@ -3,21 +3,21 @@ use Rattle.std.proofs.Common.{◌≡◌, ◌≢◌, ℕ, Bool, true, false, IsTr
 use Rattle.std.specs.Option.{option_map}
 use Rattle.hoare_law.specs.declared.event.Event.{Event}
 use Rattle.hoare_law.specs.declared.event.History.{History}
-use Rattle.hoare_law.specs.declared.event.Event.TheVariants.{Signal, Pass, Resume, Back}
 use Rattle.hoare_law.specs.declared.turn.Turn.{Turn}
-use Rattle.hoare_law.specs.declared.turn.Turn.TheVariants.{Owed, Return}
 use Rattle.hoare_law.specs.Beside.Erasure.{erased, without_data}
 use Rattle.hoare_law.specs.Events.{place_of, with_event}
 use Rattle.hoare_law.specs.Priorities.{in_order, priorities}
 use Rattle.hoare_law.specs.Turns.{turn, outside}
 use Rattle.hoare_law.specs.Waiting.{priority_of, waiting, chosen}
 use Rattle.hoare_law.proofs.Erasure.{turn-erased, outside-erased, priorities-erased, erased-push, chosen-erased, place_of-erased, priority_of-erased}
+use Rattle.hoare_law.proofs.Held.{handing}
 use Rattle.hoare_law.proofs.Priorities.{waiting-no_priority, priorities-nobody}
 use Rattle.hoare_law.proofs.Sorted.{in_order-in_order, map-in_order}
 use Rattle.wait_book.specs.declared.waiter.Waiter.{Waiter}
 use Rattle.wait_book.specs.declared.steps.Next.{Next}
 use Rattle.wait_book.specs.Contents.{Contents, IsOf, next_of, priorities_on, times_in, wait_of, waiters_on}
-use Rattle.wait_book.specs.Stepping.{after_claim, after_pass, after_signal, settled}
+use Rattle.wait_book.specs.Stepping.{after_claim, settled}
+use Rattle.wait_book.proofs.Histories.{after_handing, after_handing-some}
 
 priorities_of : (ws : List Waiter) → map priority_of (map wait_of ws) ≡ map (λ (w : Waiter). w.priority) ws
 priorities_of [] = refl
@@ -54,32 +54,17 @@ module _ {D : Type 0} where
   pub IsOf-event : (b : Contents) (h : History D) (e : Event D) → IsOf b (with_event (erased h) (without_data e)) → IsOf b (erased (with_event h e))
   IsOf-event b h e o = subst (IsOf b) (sym (erased-push h e)) o
 
-  settled_as : (b : Contents) (h : History D) (t : Turn) → turn h.events ≡ t → IsOf b (settled (erased h)) → IsOf b (after_claim (erased h) t)
-  settled_as b h t is o = subst (λ (u : Turn). IsOf b (after_claim (erased h) u)) (turn-erased h.events ∙ is) o
-
-  -- so after a return from a wait and from a signal
-  pub IsOf-resume : (b : Contents) (h : History D) (k c : ℕ) (s : D) → turn h.events ≡ Owed k c → IsOf b (settled (erased h))
-      → IsOf b (erased (with_event h (Resume k c s)))
-  IsOf-resume b h k c s is o = IsOf-event b h (Resume k c s) (settled_as b h (Owed k c) is o)
-
-  pub IsOf-back : (b : Contents) (h : History D) (k : ℕ) (s : D) → turn h.events ≡ Return k → IsOf b (settled (erased h))
-      → IsOf b (erased (with_event h (Back k s)))
-  IsOf-back b h k s is o = IsOf-event b h (Back k s) (settled_as b h (Return k) is o)
+  -- so after the claim of the one who is owed the monitor, or who returns
+  pub IsOf-claim : (b : Contents) (h : History D) (t : Turn) (e : Event D) → turn h.events ≡ t → after_claim (erased h) t ≡ with_event (erased h) (without_data e)
+      → IsOf b (settled (erased h)) → IsOf b (erased (with_event h e))
+  IsOf-claim b h t e is adds o = IsOf-event b h e (subst (IsOf b) (ap (after_claim (erased h)) (turn-erased h.events ∙ is) ∙ adds) o)
 
   -- and after a signal and a pass
-  pub IsOf-signal : (b : Contents) (h : History D) (k c : ℕ) (x : Event D) (s : D) → chosen c h.events ≡ Some x
-      → IsOf b (after_signal (erased h) k c (chosen c (erased h).events)) → IsOf b (erased (with_event h (Signal k c (place_of x) s)))
-  IsOf-signal b h k c x s is o = IsOf-event b h (Signal k c (place_of x) s)
-      (subst (λ (w : ℕ). IsOf b (with_event (erased h) (Signal k c w tt))) (place_of-erased x)
-      (subst (λ (p : Option (Event (Unit {0}))). IsOf b (after_signal (erased h) k c p))
-      (chosen-erased c h.events ∙ ap (option_map without_data) is) o))
-
-  pub IsOf-pass : (b : Contents) (h : History D) (k c : ℕ) (x : Event D) (s : D) → chosen c h.events ≡ Some x
-      → IsOf b (after_pass (erased h) k c (chosen c (erased h).events)) → IsOf b (erased (with_event h (Pass k c (place_of x) s)))
-  IsOf-pass b h k c x s is o = IsOf-event b h (Pass k c (place_of x) s)
-      (subst (λ (w : ℕ). IsOf b (with_event (erased h) (Pass k c w tt))) (place_of-erased x)
-      (subst (λ (p : Option (Event (Unit {0}))). IsOf b (after_pass (erased h) k c p))
-      (chosen-erased c h.events ∙ ap (option_map without_data) is) o))
+  pub IsOf-handing : (out : Bool) (b : Contents) (h : History D) (k c : ℕ) (x : Event D) (s : D) → chosen c h.events ≡ Some x
+      → IsOf b (after_handing out (erased h) k c (chosen c (erased h).events)) → IsOf b (erased (with_event h (handing out k c (place_of x) s)))
+  IsOf-handing out b h k c x s is o = IsOf-event b h (handing out k c (place_of x) s) (subst (IsOf b)
+      (ap (after_handing out (erased h) k c) (chosen-erased c h.events ∙ ap (option_map without_data) is)
+      ∙ after_handing-some out (erased h) k c (place_of x) (without_data x) s (place_of-erased x)) o)
 
   -- somebody waits where a priority stands
   pub waits-listed : (b : Bool) (h : List (Event D)) (c : ℕ) → (IsTrue b → priorities h c ≢ []) × (priorities h c ≢ [] → IsTrue b)

@@ -6,7 +6,7 @@ use Rattle.hoare_law.proofs.Priorities.{waiting-no_priority}
 use Rattle.wait_book.proofs.WithData.{none-listed}
 use Rattle.door_frame.specs.Views.{front_of}
 use Rattle.door_frame.proofs.Arrivals.{returned}
-use Rattle.door_frame.proofs.Departures.{gives_signal}
+use Rattle.door_frame.proofs.Departures.{gives_handing}
 use Rattle.door_frame.proofs.Inside.{holds, turn_in_hand, small}
 use Rattle.door_frame.proofs.calls.signal.Goals as goal
 
@@ -19,7 +19,7 @@ hand_on-requires-clause-event g c =
     let f = front_of c.inside.inside.seat.me.0 c.inside.inside.alone in
     let h = holds (c.deref_mut.ensures.value ∙ c.parcel.view_is) c.inside.view_is c.inside.invariant c.requires.of in
     let told : IsTrue true → priorities c.args.inside.front.events c.args.condition ≢ [] = (c.if-not-queue.ensures.lists).0 in
-    gives_signal _ _ _ h c.requires.in_range (told refl) (c.requires.ready (told refl))
+    gives_handing false _ _ _ h c.requires.in_range (told refl) (c.requires.ready (told refl))
     (c.signal-next.ensures.of (erased f) h.book) c.signal-next.ensures.next
 
 pub claim-parcel-requires-clause-small : goal.claim-parcel-requires-clause-small

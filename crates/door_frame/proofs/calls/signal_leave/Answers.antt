@@ -5,7 +5,7 @@ use Rattle.hoare_law.specs.Priorities.{priorities}
 use Rattle.hoare_law.proofs.Priorities.{waiting-no_priority}
 use Rattle.wait_book.proofs.WithData.{none-listed}
 use Rattle.door_frame.specs.Views.{front_of}
-use Rattle.door_frame.proofs.Departures.{gives_pass, passed}
+use Rattle.door_frame.proofs.Departures.{gives_handing, passed}
 use Rattle.door_frame.proofs.Inside.{holds, turn_in_hand}
 use Rattle.door_frame.proofs.calls.signal_leave.Goals as goal
 
@@ -28,7 +28,7 @@ hand_on-requires-clause-event g c =
     let f = front_of c.inside.inside.seat.me.0 c.inside.inside.alone in
     let h = holds (c.deref_mut.ensures.value ∙ c.parcel.view_is) c.inside.view_is c.inside.invariant c.requires.of in
     let told : IsTrue true → priorities c.args.inside.front.events c.args.condition ≢ [] = (c.if-not-queue.ensures.lists).0 in
-    gives_pass _ _ _ h c.requires.in_range (told refl) (c.requires.ready (told refl))
+    gives_handing true _ _ _ h c.requires.in_range (told refl) (c.requires.ready (told refl))
     (c.pass-next.ensures.of (erased f) h.book) c.pass-next.ensures.next
 
 pub of_parts-requires : goal.of_parts-requires

@@ -1,4 +1,4 @@
-use Rattle.std.proofs.Common.{◌<◌, map, arith, rules, refl, ap, sym, ◌∙◌}
+use Rattle.std.proofs.Common.{◌<◌, true, map, arith, rules, refl, ap, sym, ◌∙◌}
 use Rattle.std.specs.List.{filter}
 use Rattle.hoare_law.specs.Priorities.{in_order}
 use Rattle.wait_book.specs.Contents.{Contents, IsOf, priorities_on}
@@ -25,7 +25,7 @@ returns-in_default-clause-of c = λ h o.
     let room = ap (λ (v : Lists). v.room) c.in_default.ensures.1 in
     let same = sound.parts room room (ap (λ (v : Lists). waiting_below 8 (list_at v)) c.in_default.ensures.1)
     (ap (λ (v : Lists). places_in (list_at v 8)) c.in_default.ensures.1) refl in
-    histories.after_pass-nobody b _ c.args.place c.args.condition h (waits-nobody c.args.condition c.self.inside.chains below c.in_default.ensures.0) now
+    histories.after_handing-nobody true b _ c.args.place c.args.condition h (waits-nobody c.args.condition c.self.inside.chains below c.in_default.ensures.0) now
     (c.leave.ensures.of h (histories.IsOf-same b _ h same now))
 
 pub returns-in_default-clause-somebody : goal.returns-in_default-clause-somebody
@@ -65,7 +65,7 @@ returns c =
     let same = signallers-same c.args.condition _ c.self.inside.chains c.take_first.new.self below t.lists in
     record {
       of = λ h o. histories.IsOf-same _ _ _ (sound.parts t.room t.room refl same refl)
-          (histories.after_pass-taken b c.args.place c.args.condition c.in-Some.successor _ r h (histories.IsOf-same _ b h (sym c.self.view_is) o));
+          (histories.after_handing-taken b c.args.place c.args.condition c.in-Some.successor _ r h (histories.IsOf-same _ b h (sym c.self.view_is) o) true);
       next = c.now.ensures.turn;
       somebody = λ some. (c.in-Some.successor, refl);
       answered = c.now.ensures.place;

@@ -1,8 +1,8 @@
-use Rattle.std.proofs.Common.{◌<◌, List, length, map, arith, refl, ap, sym, ◌∙◌}
+use Rattle.std.proofs.Common.{◌<◌, false, List, length, map, arith, refl, ap, sym, ◌∙◌}
 use Rattle.std.specs.List.{filter}
 use Rattle.hoare_law.specs.Priorities.{in_order}
 use Rattle.wait_book.specs.declared.waiter.Waiter.{Waiter}
-use Rattle.wait_book.specs.Contents.{Contents, times}
+use Rattle.wait_book.specs.Contents.{Contents, IsOf, times}
 use Rattle.wait_book.specs.Insides.{view_of, waiting_below}
 use Rattle.wait_book.specs.Lists.{Lists, list_at, places_in}
 use Rattle.wait_book.proofs.Sound as sound
@@ -24,10 +24,11 @@ returns-in_default-clause-of c = λ h o.
     let b : Contents = view_of c.self.inside in
     let below : c.args.condition < 8 = omega (arith, sound.same_condition b _ c.args.condition c.self.view_is c.requires.condition, c.self.invariant.few_conditions) in
     let nobody = waits-nobody c.args.condition c.self.inside.chains below c.in_default.ensures.0 in
+    let now : IsOf b h = histories.IsOf-same _ b h (sym c.self.view_is) o in
     let room = ap (λ (v : Lists). v.room) c.in_default.ensures.1 in
     histories.IsOf-same _ _ _ (sound.parts room room (ap (λ (v : Lists). waiting_below 8 (list_at v)) c.in_default.ensures.1)
     (ap (λ (v : Lists). places_in (list_at v 8)) c.in_default.ensures.1) refl)
-    (histories.after_signal-nobody b c.args.place c.args.condition h nobody (histories.IsOf-same _ b h (sym c.self.view_is) o))
+    (histories.after_handing-nobody false b b c.args.place c.args.condition h nobody now now)
 
 pub returns-in_default-clause-somebody : goal.returns-in_default-clause-somebody
 returns-in_default-clause-somebody c = λ some.
@@ -105,7 +106,7 @@ returns-clause-of c = λ h o.
     let s = signalled c.args.condition c.args.place c.in-Some.resumed c.self.inside.chains c.take_first.new.self c.append.new.self below c.in-Some.ensures c.append.ensures in
     let r = sound.resumes c.self.view_is c.self.invariant c.requires.inside c.requires.condition s.took in
     histories.IsOf-same _ _ _ (sound.parts s.room s.room s.waiters s.signallers refl)
-    (histories.after_signal-taken b c.args.place c.args.condition c.in-Some.resumed _ r h (histories.IsOf-same _ b h (sym c.self.view_is) o))
+    (histories.after_handing-taken b c.args.place c.args.condition c.in-Some.resumed _ r h (histories.IsOf-same _ b h (sym c.self.view_is) o) false)
 
 pub returns-clause-nobody : goal.returns-clause-nobody
 returns-clause-nobody c = λ none.

@@ -79,12 +79,23 @@ fn measure_order<R: Print + Clock>(
     println!(rt; "book_signal_leave_{name}_{waiters} {signals} ns")
 }
 
+// The figures of an order, with few, some and all places waiting.
+fn measure_each<R: Print + Clock>(
+    rt: &R,
+    book: &mut Book,
+    order: Order,
+    rounds: u64,
+) -> io::Result<()> {
+    for waiters in [1, 8, 63] {
+        measure_order(rt, book, order, waiters, rounds)?;
+    }
+    Ok(())
+}
+
 // The figures of all orders.
 fn measure_orders<R: Print + Clock>(rt: &R, book: &mut Book, rounds: u64) -> io::Result<()> {
     for order in [Order::Equal, Order::Rising, Order::Falling] {
-        for waiters in [1, 8, 63] {
-            measure_order(rt, book, order, waiters, rounds)?;
-        }
+        measure_each(rt, book, order, rounds)?;
     }
     let looks = each(look_at_clock(rt, rounds)?, rounds);
     println!(rt; "clock {looks} ns")?;

@@ -1,3 +1,4 @@
+//! What a worker brings: a job that was done.
 ghost use Rattle.std.specs.Prelude.{◌≡◌};
 ghost use Rattle.disk_jobs.specs.Services.{block_of, served};
 

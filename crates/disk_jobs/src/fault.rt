@@ -1,3 +1,4 @@
+//! What can go wrong with a job file or a service.
 ghost use Rattle.std.specs.Prelude.{◌≡◌};
 ghost use Rattle.disk_jobs.specs.Faults.{status_of};
 

@@ -1,3 +1,4 @@
+//! The jobs that a service is to do.
 ghost use Rattle.std.specs.Prelude.{◌≡◌, ◌<◌, ◌≤◌, ◌++◌, ◌∷◌, [], length, None, Some, IfOk, IfErr, MatchResult};
 ghost use Rattle.disk_jobs.specs.JobLists.{job_list, off_disk, refusal_of, with_job};
 

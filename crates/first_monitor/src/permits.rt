@@ -68,7 +68,9 @@ impl MonitorData for Permits {
     }
 
     fn ready_holds<W: Waits>(&self, condition: usize, priority: u64, lists: &W) -> bool {
-        self.free <= self.total && self.free > 0 && (lists.count(PERMIT_IS_FREE) == 0 || self.free == 1)
+        self.free <= self.total
+            && self.free > 0
+            && (lists.count(PERMIT_IS_FREE) == 0 || self.free == 1)
     }
 
     ghost rest_inv = { λ s q h. h.within };

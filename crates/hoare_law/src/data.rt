@@ -1,3 +1,4 @@
+//! The data of a monitor, with what always holds of them, what holds at rest, and what a resumed process finds.
 ghost use Rattle.std.specs.Prelude.{◌≡◌, ◌<◌, ◌↔◌, ℕ, List, IsTrue};
 
 use crate::waits::Waits;

@@ -1,3 +1,4 @@
+//! What happens at a monitor: events, and histories of them.
 use std::collections::LinkedList;
 
 /// One step of one process at a monitor. Histories stand in contracts alone: no value of this type is ever made.

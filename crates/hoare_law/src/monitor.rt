@@ -1,3 +1,4 @@
+//! What each monitor promises: its calls, as a trait.
 ghost use Rattle.std.specs.Prelude.{◌≡◌, ◌<◌, ◌↔◌, ◌≢◌, ℕ, List, [], slice_index, IsTrue, true, false, MatchOption};
 ghost use Rattle.std.specs.Borrow.{sem, Lends};
 ghost use Rattle.std.specs.List.Sorted.{IsNonDecreasing};

@@ -1,3 +1,5 @@
+//! Whose turn it is.
+
 /// Whose turn it is at a monitor.
 #[derive(Clone, Copy, Debug, PartialEq, Eq)]
 pub enum Turn {

@@ -1,3 +1,4 @@
+//! Data of which nothing is asked.
 use crate::data::MonitorData;
 use crate::waits::Waits;
 

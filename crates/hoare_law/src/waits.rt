@@ -1,3 +1,4 @@
+//! The priorities of those that wait, as code reads them.
 ghost use Rattle.std.specs.Prelude.{◌≡◌, ◌≢◌, ◌<◌, ◌≤◌, ◌-◌, ◌^◌, ℕ, List, [], length, slice_index};
 ghost use Rattle.hoare_law.specs.Priorities.{joined, taken};
 ghost use Rattle.std.specs.List.Sorted.{IsNonDecreasing};

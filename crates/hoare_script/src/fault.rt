@@ -1,3 +1,4 @@
+//! What can go wrong with a script.
 ghost use Rattle.std.specs.Prelude.{◌≡◌};
 ghost use Rattle.hoare_script.specs.Runs.{status_of};
 

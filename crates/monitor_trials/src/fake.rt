@@ -1,3 +1,4 @@
+//! The monitor for tests.
 ghost use Rattle.std.specs.Prelude.{◌≡◌, ◌<◌, ◌≤◌, IfOk, IfSome};
 ghost use Rattle.hoare_law.specs.Priorities.{nobody};
 ghost use Rattle.monitor_trials.specs.Stage.{opened};

@@ -1,3 +1,4 @@
+//! The steps of the monitor for tests, as loads of its word.
 ghost use Rattle.std.specs.Prelude.{◌≡◌};
 ghost use Rattle.hoare_law.specs.Events.{with_event};
 ghost use Rattle.monitor_trials.specs.Stage.{opened, event_of};

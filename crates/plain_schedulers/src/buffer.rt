@@ -1,3 +1,4 @@
+//! The bounded buffer.
 mod ring;
 
 ghost use Rattle.std.specs.Prelude.{◌≡◌, ◌<◌, ℕ, IfOk};

@@ -1,3 +1,4 @@
+//! A single item, for one process at a time.
 ghost use Rattle.std.specs.Prelude.{◌≡◌, ◌↔◌, ◌<◌, ℕ, IsSome, IsTrue, Some, None};
 ghost use Rattle.hoare_law.specs.Priorities.{nobody};
 ghost use Rattle.plain_schedulers.specs.Singles.{SingleRests};

@@ -1,3 +1,4 @@
+//! Which way the head of a disk goes.
 ghost use Rattle.std.specs.Prelude.{◌≡◌};
 ghost use Rattle.sweep_schedulers.specs.Heads.{sweep, opposite};
 

@@ -1,3 +1,4 @@
+//! The head of a disk, which sweeps to and fro.
 ghost use Rattle.std.specs.Prelude.{◌≡◌, ◌↔◌, ◌≤◌, IsTrue, None};
 ghost use Rattle.hoare_law.specs.Priorities.{nobody};
 ghost use Rattle.sweep_schedulers.specs.Heads.{HeadFree, HeadRests, OnSweeps};

@@ -1,3 +1,4 @@
+//! A refusal that gives an item back.
 use std::{error, fmt};
 
 /// Nothing is out, so nothing can be put in: the drive is in, or no writer is. What was handed in comes back.

@@ -1,3 +1,4 @@
+//! A value that many read at once and one writes alone.
 ghost use Rattle.std.specs.Prelude.{◌≡◌, ◌↔◌, ◌<◌, ◌-◌, IsTrue, false};
 ghost use Rattle.hoare_law.specs.Priorities.{nobody};
 ghost use Rattle.sweep_schedulers.specs.ReadersWriters.{IsInUse, ReadersRest, unused, with_readers, with_writer, written};

@@ -1,3 +1,4 @@
+//! A pool of buffers, for streams.
 mod marks;
 mod owners;
 

@@ -1,3 +1,4 @@
+//! The book of one monitor: who is inside, who waits and who signalled.
 mod stepping;
 mod waits;
 

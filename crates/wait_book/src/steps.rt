@@ -1,3 +1,5 @@
+//! Steps of a book, with their answers and refusals.
+
 /// Who goes on at the monitor.
 #[derive(Clone, Copy, Debug, PartialEq, Eq)]
 pub enum Next {

@@ -1,3 +1,5 @@
+//! A process that waits.
+
 /// A process that waits: its place, the condition that it waits on, and its priority. Only contracts speak of it, as of what
 /// a book contains; no value of it is made.
 #[derive(Clone, Copy)]

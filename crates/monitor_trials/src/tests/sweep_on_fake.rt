@@ -17,7 +17,7 @@ use std::rt::Clock;
 use std::sync::Wait;
 use std::thread::Threads;
 use sweep_schedulers::head::Head;
-use sweep_schedulers::readers_writers::{MOST_READERS, ReadersWriters};
+use sweep_schedulers::readers_writers::ReadersWriters;
 
 // A trip to these cylinders.
 fn trip_to<R: Abort, const N: usize>(rt: &R, alloc: Global, cylinders: [u16; N]) -> Trip {
@@ -77,7 +77,7 @@ fn writes_and_reads<R: Wait + Abort, M: Monitor<Shared>>(rt: &R, alloc: Global, 
     requires { M.is_of m.now out }
 {
     let out = writes(rt, m, out, 0, 4);
-    let out = reads_to_the_limit(rt, m, out, MOST_READERS, 4);
+    let out = reads_to_the_limit(rt, m, out, 1024, 4);
     ends_no_read(rt, alloc, m, out);
 }
 
@@ -142,7 +142,7 @@ fn is_no_writer<R: Wait + Abort, M: Monitor<Shared>>(rt: &R, m: &M, out: M::Out)
 // The most reads begin on one monitor and end on another.
 fn meets_late_readers<R: Wait + Abort>(rt: &R, alloc: Global) {
     let (fake, out) = with_answers(rt, alloc, ReadersWriters::with(4), []);
-    let (other, place) = reads_elsewhere(rt, alloc, &fake, out, MOST_READERS);
+    let (other, place) = reads_elsewhere(rt, alloc, &fake, out, 1024);
     is_no_writer(rt, &other, place);
 }
 

@@ -12,7 +12,7 @@ use std::rt::Clock;
 use std::sync::Wait;
 use std::thread::Threads;
 use timed_schedulers::alarm::Alarm;
-use timed_schedulers::pool::{MOST_BUFFERS, MOST_STREAMS, Pool};
+use timed_schedulers::pool::Pool;
 
 // Sleeps for two ticks from time 0, and goes on at 2.
 fn wakes_at_two<R: Wait + Abort, M: Monitor<Alarm>>(rt: &R, m: &M, out: M::Out)
@@ -81,7 +81,7 @@ fn finds_another_pool<R: Wait + Abort>(rt: &R, alloc: Global) {
 
 // The largest pool.
 fn takes_the_most<R: Wait + Abort>(rt: &R, alloc: Global) {
-    let most = with_buffers(rt, alloc, MOST_BUFFERS, MOST_STREAMS);
+    let most = with_buffers(rt, alloc, 1024, 256);
     let (fake, out) = with_answers(rt, alloc, most, []);
     takes_all(rt, &fake, out);
 }

@@ -1,3 +1,4 @@
+//! The book, step by step.
 mod filling;
 mod plain;
 mod steps;

@@ -1,3 +1,4 @@
+//! Lines, words and numbers of texts.
 mod forms;
 mod lines;
 mod texts;

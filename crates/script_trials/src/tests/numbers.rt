@@ -1,3 +1,5 @@
+//! Numbers in which no pattern shows.
+
 /// The next of a row of numbers in which no pattern shows: those of Knuth's MMIX, whose low digits repeat soon.
 pub fn next_number(number: u64) -> u64 {
     number

@@ -1,4 +1,4 @@
-// What scripts are drawn as, and how they end.
+//! What scripts are drawn as, and how they end.
 mod charts;
 mod faults;
 mod svgs;

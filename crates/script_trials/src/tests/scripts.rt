@@ -1,3 +1,4 @@
+//! Scripts: their rows, faults and limits.
 mod drawn;
 mod failures;
 mod faults;

@@ -1,3 +1,4 @@
+//! How a value is shown.
 use std::fmt::Display;
 use std::process::Abort;
 use std::test::Fail;

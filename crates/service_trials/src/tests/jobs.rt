@@ -1,3 +1,4 @@
+//! Job files, and what is gathered of results.
 mod failures;
 mod gathering;
 mod lines;

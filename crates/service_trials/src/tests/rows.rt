@@ -1,4 +1,4 @@
-// Whole job files, on both kinds of doors: what `run` writes, or why it writes nothing.
+//! Whole job files, on both kinds of doors: what `run` writes, or why it writes nothing.
 use crate::tests::limit::in_time;
 use disk_service::{Kind, ServiceFault, run};
 use std::alloc::{AllocError, Global};

@@ -1,4 +1,4 @@
-// The report is the same with any number of workers, byte for byte, and it is the one that is worked out here, apart.
+//! The report is the same with any number of workers, byte for byte, and it is the one that is worked out here, apart.
 use crate::tests::limit::in_time;
 use disk_service::{Jobs, NoGate, ServiceFault, serve, write_report};
 use std::alloc::{AllocError, Global};

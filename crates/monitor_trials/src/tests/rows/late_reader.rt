@@ -11,7 +11,6 @@ use std::process::Abort;
 use std::rt::Clock;
 use std::sync::Wait;
 use std::sync::atomic::{AtomicU32, Ordering};
-use sweep_schedulers::readers_writers::MOST_READERS;
 
 // Starts this many reads, lets the writer and then the late reader come to wait, and ends the reads; it
 // counts each one just before its end. Both wait until the last one ends.
@@ -53,7 +52,7 @@ fn writes_after_all<R: Wait + Abort + Clock, M: Monitor<Shared>>(
 {
     turns.await_turn(rt, 1);
     let out = starts_write(rt, m, out, 4);
-    expect_same(rt, ended.swap(0, Ordering::SeqCst), MOST_READERS);
+    expect_same(rt, ended.swap(0, Ordering::SeqCst), 1024);
     ends_write(rt, m, out, 6)
 }
 
@@ -88,7 +87,7 @@ pub fn reads_or_writes_late<R: Wait + Abort + Clock, M: Monitor<Shared>>(
     ensures place { M.place result.0 ≡ M.place out }
 {
     let out = match place {
-        0 => reads_while_both_wait(rt, m, out, turns, ended, MOST_READERS),
+        0 => reads_while_both_wait(rt, m, out, turns, ended, 1024),
         1 => writes_after_all(rt, m, out, turns, ended),
         _ => reads_late(rt, m, out, turns),
     };

@@ -16,9 +16,7 @@ use std::rt::Clock;
 use std::sync::Wait;
 use std::sync::atomic::AtomicU32;
 use sweep_schedulers::not_out::NotOut;
-use sweep_schedulers::readers_writers::{
-    MOST_READERS, NoReader, ReadPass, ReadersWriters, TooManyReaders,
-};
+use sweep_schedulers::readers_writers::{NoReader, ReadPass, ReadersWriters, TooManyReaders};
 
 /// A number that is read and written.
 pub type Shared = ReadersWriters<u64>;
@@ -273,7 +271,7 @@ fn writes_last<R: Wait + Abort + Clock, M: Monitor<Shared>>(
     turns.await_turn(rt, 3);
     let out = writes(rt, m, out, 3, 4);
     turns.start_again();
-    let out = reads_to_the_limit(rt, m, out, MOST_READERS, 4);
+    let out = reads_to_the_limit(rt, m, out, 1024, 4);
     ends_no_read(rt, alloc, m, out)
 }
 

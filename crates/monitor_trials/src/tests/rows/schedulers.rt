@@ -5,7 +5,7 @@ use crate::tests::compared::expect_same;
 use crate::tests::fake::with_cells;
 use crate::tests::running::{DoorKind, answered, await_sign, watch};
 use hoare_law::monitor::Monitor;
-use plain_schedulers::buffer::{Buffer, BufferRefused, MOST_CELLS};
+use plain_schedulers::buffer::{Buffer, BufferRefused};
 use plain_schedulers::single::{NotOut, Single};
 use std::process::Abort;
 use std::rt::Clock;
@@ -120,7 +120,7 @@ fn an_item_is_lent_and_comes_back(host: HostRuntime) {
 #[test]
 fn items_come_out_in_order(host: HostRuntime) {
     let (rt, alloc) = (&host, host.alloc());
-    for (cells, items) in [(1, 4), (MOST_CELLS, 5000)] {
+    for (cells, items) in [(1, 4), (4096, 5000)] {
         for kind in DoorKind::BOTH {
             let buffer = with_cells(rt, alloc, cells);
             let (_, answers) = run_row_on!(kind, rt, alloc, appends_or_removes(items), buffer, 2);

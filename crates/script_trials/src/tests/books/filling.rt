@@ -4,7 +4,7 @@ use super::plain::Plain;
 use crate::tests::numbers::next_number;
 use hoare_law::waits::Waits;
 use std::test::Fail;
-use wait_book::book::{Book, MOST_CONDITIONS, MOST_PLACES};
+use wait_book::book::Book;
 use wait_book::steps::{Next, Step};
 
 // How the processes that wait are told apart in one part of the run, and how they are resumed.
@@ -115,7 +115,7 @@ fn fullest(part: Part) -> (usize, usize) {
 // equal, rising, falling and mixed priorities; at last all at once.
 #[test]
 fn fills_and_empties_all_chains(rt: HostRuntime) -> Result<(), Fail> {
-    let mut book = Book::make(rt.alloc(), MOST_PLACES, MOST_CONDITIONS)?;
+    let mut book = Book::make(rt.alloc(), 64, 8)?;
     let mut plain = Plain::new();
     let mut number = 1;
     let mut most = 0;

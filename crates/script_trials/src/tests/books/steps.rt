@@ -1,9 +1,10 @@
+//! Steps of a book, and what each answers.
 use super::plain::Plain;
 use crate::tests::numbers::next_number;
 use hoare_law::waits::Waits;
 use std::process::Abort;
 use std::test::Fail;
-use wait_book::book::{Book, MOST_CONDITIONS, MOST_PLACES};
+use wait_book::book::Book;
 use wait_book::steps::{MakeRefused, Next, Step, StepRefused};
 
 #[test]
@@ -23,7 +24,7 @@ fn make_refuses_in_order(rt: HostRuntime) {
 
 #[test]
 fn make_takes_the_most(rt: HostRuntime) -> Result<(), Fail> {
-    let book = Book::make(rt.alloc(), MOST_PLACES, MOST_CONDITIONS)?;
+    let book = Book::make(rt.alloc(), 64, 8)?;
     assert!(rt; book.now() == Next::Free && book.outside(63));
     assert!(rt; !book.queue(7) && book.first(7).is_none() && book.count(7) == 0);
     Ok(())
@@ -153,7 +154,7 @@ fn mixed_step(now: Next, waits: u64, number: u64) -> Step {
 // answer it. No step asks for memory: `rt try --test --fail-alloc N` passes with this test from the same N on as without.
 #[test]
 fn long_mixed_run(rt: HostRuntime) -> Result<(), Fail> {
-    let mut book = Book::make(rt.alloc(), MOST_PLACES, MOST_CONDITIONS)?;
+    let mut book = Book::make(rt.alloc(), 64, 8)?;
     let mut plain = Plain::new();
     let mut number = 1;
     for i in 0..10_000 {

@@ -1,4 +1,4 @@
-// Lines of a form, and how a text is put together.
+//! Lines of a form, and how a text is put together.
 use arrayvec::ArrayVec;
 use line_text::forms::{one_number, two_numbers};
 use line_text::text::{append, append_number};

@@ -1,4 +1,4 @@
-// Lines, their limits, and what is left behind them.
+//! Lines, their limits, and what is left behind them.
 use arrayvec::ArrayVec;
 use line_text::line::{Ended, Line, LineFault, read_line};
 use line_text::reader::WatchedReader;

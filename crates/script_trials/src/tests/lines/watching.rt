@@ -1,4 +1,4 @@
-// What a watched reader and a watched writer do to those inside, and what they remember.
+//! What a watched reader and a watched writer do to those inside, and what they remember.
 use arrayvec::ArrayVec;
 use line_text::line::{Ended, Line, LineFault, read_line};
 use line_text::reader::{ReadFailed, WatchedReader};

@@ -1,4 +1,4 @@
-// What a line's words and numbers are.
+//! What a line's words and numbers are.
 use line_text::words::{first_word, number};
 
 #[test]

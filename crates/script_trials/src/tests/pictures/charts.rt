@@ -1,4 +1,4 @@
-// Charts that were drawn by hand.
+//! Charts that were drawn by hand.
 use super::{HAND_OVER, drawn_whole, is_drawn, sixty_four_waits};
 use script_picture::picture::Form;
 use std::io::Write;

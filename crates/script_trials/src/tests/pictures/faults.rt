@@ -1,4 +1,4 @@
-// Scripts that are at fault, or can't be read or drawn.
+//! Scripts that are at fault, or can't be read or drawn.
 use super::{drawn, drawn_whole, is_drawn, times};
 use crate::tests::shown::reads;
 use hoare_script::ScriptFault;

@@ -1,4 +1,4 @@
-// SVGs that were worked out by hand.
+//! SVGs that were worked out by hand.
 use super::{HAND_OVER, drawn_whole, sixty_four_waits, times};
 use script_picture::picture::Form;
 use std::test::Fail;

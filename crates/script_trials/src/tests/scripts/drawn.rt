@@ -1,5 +1,5 @@
-// Scripts that a generator draws, against a second interpreter. It keeps a list of what happened, filters it for each
-// answer, and shares nothing with the book.
+//! Scripts that a generator draws, against a second interpreter. It keeps a list of what happened, filters it for each
+//! answer, and shares nothing with the book.
 use super::told;
 use crate::tests::numbers::next_number;
 use std::alloc::Global;

@@ -1,4 +1,4 @@
-// A script that is cut off, a reader that fails and writers that fail, at each byte.
+//! A script that is cut off, a reader that fails and writers that fail, at each byte.
 use super::told;
 use arrayvec::ArrayVec;
 use hoare_script::{ScriptFault, run};

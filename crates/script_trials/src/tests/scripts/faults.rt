@@ -1,4 +1,4 @@
-// How a fault is shown, and the exit status that it gives.
+//! How a fault is shown, and the exit status that it gives.
 use crate::tests::shown::reads;
 use hoare_script::ScriptFault;
 use std::process::Abort;

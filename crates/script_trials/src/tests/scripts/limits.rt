@@ -1,4 +1,4 @@
-// Where the text itself ends a script.
+//! Where the text itself ends a script.
 use super::{is_told, told};
 use hoare_script::{ScriptFault, run};
 use std::io;

@@ -1,4 +1,4 @@
-// Each part of a script alone: the grammar, the book that a header opens, and how answers are spelled.
+//! Each part of a script alone: the grammar, the book that a header opens, and how answers are spelled.
 use hoare_script::answers::{Answer, answer_line, outcome_answer};
 use hoare_script::lines::{Command, Header, parse_command, parse_header};
 use hoare_script::opened::Opened;

@@ -1,6 +1,5 @@
-// What a run reads of its text, and what it leaves.
+//! What a run reads of its text, and what it leaves.
 use super::failures::Filling;
-use hoare_script::runs::MOST_BYTES;
 use hoare_script::{ScriptFault, run, run_watched};
 use line_text::reader::WatchedReader;
 use line_text::writer::WatchedWriter;
@@ -92,7 +91,7 @@ impl Read for Endless {
 // One byte more than a script may have is read, and none behind it.
 #[test]
 fn endless_script(rt: HostRuntime) {
-    let most = MOST_BYTES as u64;
+    let most = 1_048_576u64;
     let mut reader = Endless::new(b"leave 0\n", 1_048_577);
     let end = counted(&rt, &mut reader);
     assert_eq!(rt; end, (Err(ScriptFault::TooMuch), 1_048_577, 1_048_577));

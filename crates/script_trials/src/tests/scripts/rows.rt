@@ -1,4 +1,4 @@
-// Each row is a line with its answer, as it is written.
+//! Each row is a line with its answer, as it is written.
 use super::is_told;
 use hoare_script::ScriptFault;
 use std::io;

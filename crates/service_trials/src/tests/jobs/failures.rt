@@ -1,4 +1,4 @@
-// A job file that is cut off, a reader that fails and writers that fail, at each byte.
+//! A job file that is cut off, a reader that fails and writers that fail, at each byte.
 use arrayvec::ArrayVec;
 use disk_jobs::{Done, Report, ServiceFault, read_jobs, write_report};
 use std::io;

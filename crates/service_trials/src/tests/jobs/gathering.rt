@@ -1,4 +1,4 @@
-// What jobs can be made, and what is gathered of their results.
+//! What jobs can be made, and what is gathered of their results.
 use disk_jobs::{BadJobs, Done, Jobs, Report, ServiceFault, gather};
 use std::alloc::Global;
 use std::test::Fail;

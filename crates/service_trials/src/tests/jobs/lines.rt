@@ -1,4 +1,4 @@
-// Each fault of a job file at its line, and where reading stops.
+//! Each fault of a job file at its line, and where reading stops.
 use disk_jobs::{ServiceFault, read_jobs, read_jobs_watched};
 use line_text::reader::WatchedReader;
 use std::alloc::Global;
@@ -11,57 +11,52 @@ fn last_of(alloc: Global, file: &[u8]) -> Result<usize, ServiceFault> {
     read_jobs(alloc, &mut reader).map(|jobs| jobs.cylinders().len())
 }
 
+// Whether each file's first fault is a bad line with this number.
+fn is_bad_at(alloc: Global, number: u64, files: &[&[u8]]) -> bool {
+    let mut files = files.iter();
+    files.all(|file| last_of(alloc, file) == Err(ServiceFault::BadLine(number)))
+}
+
 #[test]
-fn faults_at_their_lines(rt: HostRuntime) {
-    for (file, wanted) in [
-        (b"\n".as_slice(), Err(ServiceFault::BadLine(1))),
-        (b"\ndisk 1 1\n".as_slice(), Err(ServiceFault::BadLine(1))),
-        (b"read 1\n".as_slice(), Err(ServiceFault::BadLine(1))),
-        (b"disk 65536 1\n".as_slice(), Err(ServiceFault::BadLine(1))),
-        (b"disk 1 0\n".as_slice(), Err(ServiceFault::BadLine(1))),
-        (b"disk 1\n".as_slice(), Err(ServiceFault::BadLine(1))),
-        (b"disk 1 1 1\n".as_slice(), Err(ServiceFault::BadLine(1))),
-        (b"disk 01 1\n".as_slice(), Err(ServiceFault::BadLine(1))),
-        (
-            b"disk 1 4294967297\n".as_slice(),
-            Err(ServiceFault::BadLine(1)),
-        ),
-        (b"disk 1 16".as_slice(), Ok(0)),
-        (b"disk 65535 16\n".as_slice(), Ok(0)),
-        (b"disk 1 1\n\n".as_slice(), Err(ServiceFault::BadLine(2))),
-        (
-            b"disk 1 1\ndisk 1 1\n".as_slice(),
-            Err(ServiceFault::BadLine(2)),
-        ),
-        (
-            b"disk 1 1\nread 1\nread 2\n".as_slice(),
-            Err(ServiceFault::BadLine(3)),
-        ),
-        (
-            b"disk 1 1\nread 1\nread x".as_slice(),
-            Err(ServiceFault::BadLine(3)),
-        ),
-        (
-            b"disk 1 1\nread 65537\n".as_slice(),
-            Err(ServiceFault::BadLine(2)),
-        ),
-        (
-            b"disk 1 1\nread 1 \n".as_slice(),
-            Err(ServiceFault::BadLine(2)),
-        ),
-        (
-            b"disk 65535 1\nread \xff\n".as_slice(),
-            Err(ServiceFault::BadLine(2)),
-        ),
-        (
-            b"disk 65535 1\nread \xff".as_slice(),
-            Err(ServiceFault::BadLine(2)),
-        ),
-        (b"\xff".as_slice(), Err(ServiceFault::BadLine(1))),
-        (b"disk 1 1\nread 1\nread 0".as_slice(), Ok(2)),
-    ] {
-        assert_eq!(rt; last_of(rt.alloc(), file), wanted);
+fn bad_headers(rt: HostRuntime) {
+    let files: [&[u8]; 10] = [
+        b"\n",
+        b"\ndisk 1 1\n",
+        b"read 1\n",
+        b"disk 65536 1\n",
+        b"disk 1 0\n",
+        b"disk 1\n",
+        b"disk 1 1 1\n",
+        b"disk 01 1\n",
+        b"disk 1 4294967297\n",
+        b"\xff",
+    ];
+    assert!(rt; is_bad_at(rt.alloc(), 1, files.as_slice()));
+}
+
+#[test]
+fn bad_jobs(rt: HostRuntime) {
+    let second: [&[u8]; 6] = [
+        b"disk 1 1\n\n",
+        b"disk 1 1\ndisk 1 1\n",
+        b"disk 1 1\nread 65537\n",
+        b"disk 1 1\nread 1 \n",
+        b"disk 65535 1\nread \xff\n",
+        b"disk 65535 1\nread \xff",
+    ];
+    assert!(rt; is_bad_at(rt.alloc(), 2, second.as_slice()));
+    let third: [&[u8]; 2] = [b"disk 1 1\nread 1\nread 2\n", b"disk 1 1\nread 1\nread x"];
+    assert!(rt; is_bad_at(rt.alloc(), 3, third.as_slice()));
+}
+
+#[test]
+fn files_without_a_fault(rt: HostRuntime) {
+    let headers: [&[u8]; 2] = [b"disk 1 16", b"disk 65535 16\n"];
+    for file in headers {
+        assert_eq!(rt; last_of(rt.alloc(), file), Ok(0));
     }
+    let two = b"disk 1 1\nread 1\nread 0".as_slice();
+    assert_eq!(rt; last_of(rt.alloc(), two), Ok(2));
 }
 
 #[test]

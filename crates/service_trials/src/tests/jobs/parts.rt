@@ -1,4 +1,4 @@
-// The kinds, and the faults with their texts and statuses.
+//! The kinds, and the faults with their texts and statuses.
 use disk_jobs::{BadJobs, Kind, ServiceFault, kind_of};
 use std::io::Write;
 use std::test::Fail;

@@ -13,9 +13,7 @@ use std::alloc::Global;
 use std::process::Abort;
 use std::rt::Clock;
 use std::sync::Wait;
-use timed_schedulers::pool::{
-    GiveRefused, MOST_BUFFERS, MOST_STREAMS, NoStream, Pool, PoolRefused,
-};
+use timed_schedulers::pool::{GiveRefused, NoStream, Pool, PoolRefused};
 
 /// A pool of this many buffers, for this many streams.
 pub fn with_buffers<R: Abort>(rt: &R, alloc: Global, buffers: u32, streams: u32) -> Pool
@@ -118,27 +116,19 @@ pub fn takes_all<R: Wait + Abort, M: Monitor<Pool>>(rt: &R, m: &M, out: M::Out) 
     ensures of { M.is_of m.now result }
     ensures place { M.place result ≡ M.place out }
 {
-    let stream = MOST_STREAMS - 1;
     let mut out = out;
-    for expected in 0..MOST_BUFFERS {
-        let (again, buffer) = takes(rt, m, out, stream);
+    for expected in 0..1024 {
+        let (again, buffer) = takes(rt, m, out, 255);
         expect_same(rt, buffer, expected);
         out = again;
     }
-    let out = gives(rt, m, out, stream, MOST_BUFFERS, Err(GiveRefused::NoBuffer));
-    let out = gives(rt, m, out, 0, MOST_BUFFERS - 1, Err(GiveRefused::NotHeld));
-    let out = gives(rt, m, out, stream, MOST_BUFFERS - 1, Ok(()));
-    let out = gives(
-        rt,
-        m,
-        out,
-        stream,
-        MOST_BUFFERS - 1,
-        Err(GiveRefused::NotHeld),
-    );
-    let out = is_no_stream(rt, m, out, MOST_STREAMS);
+    let out = gives(rt, m, out, 255, 1024, Err(GiveRefused::NoBuffer));
+    let out = gives(rt, m, out, 0, 1023, Err(GiveRefused::NotHeld));
+    let out = gives(rt, m, out, 255, 1023, Ok(()));
+    let out = gives(rt, m, out, 255, 1023, Err(GiveRefused::NotHeld));
+    let out = is_no_stream(rt, m, out, 256);
     let (out, buffer) = takes(rt, m, out, 0);
-    expect_same(rt, buffer, MOST_BUFFERS - 1);
+    expect_same(rt, buffer, 1023);
     out
 }
 

@@ -6,3 +6,4 @@ pub mod Departures
 pub mod Arrivals
 pub mod Close
 pub mod Opened
+pub mod PlacesInOrder

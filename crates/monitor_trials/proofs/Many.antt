@@ -1,13 +1,10 @@
 -- Many places, of which some are outside and others asked: none is lost on the way.
-use Rattle.std.proofs.Common.{ℕ, zero, suc, List, [], ◌∷◌, ◌++◌, map, length, ◌≡◌, ◌<◌, ◌≤◌, ◌+◌, ◌⊎◌, inl, inr, sym, ◌∙◌, subst, arith}
+use Rattle.std.proofs.Common.{ℕ, List, [], ◌∷◌, ◌++◌, map, length, ◌≡◌, ◌⊎◌, inl, inr, sym, ◌∙◌, subst, arith}
 use Rattle.std.specs.Prelude.{All}
 use Rattle.std.proofs.lemmas.List.{map-append}
 use Rattle.std.proofs.lemmas.List.Elements.{All-nil, All-cons, All-append}
-use Rattle.std.proofs.Math.Nat.{eq-or-lt_of_le}
-use Rattle.atomic_table.specs.Seated.{TableId}
-use Rattle.hoare_law.specs.declared.event.History.{History}
 use Rattle.hoare_law.specs.declared.unasked.Unasked.{Unasked}
-use Rattle.door_frame.specs.Places.{DoorId, PlaceOut, IsOut, HasPlace, places_from}
+use Rattle.door_frame.specs.Places.{DoorId, PlaceOut, IsOut, HasPlace}
 use Rattle.ticket_door.specs.Asked.{TicketDoorId, PlaceAsked, IsAsked, as_out}
 
 -- a place of a door of which nothing is asked, outside or asking
@@ -40,16 +37,6 @@ module _ {D : Type 0} where
   has-behind : (k : ℕ) (os ps : List (PlaceOut D)) → HasPlace k ps → HasPlace k (os ++ ps)
   has-behind k [] ps at = at
   has-behind k (o ∷ os) ps at = inr (has-behind k os ps at)
-
-  from-on : (k : ℕ) (z : TableId) (from n : ℕ) (f : History D) → k < from + suc n
-      → ((j : ℕ) → suc from ≤ j → j < suc from + n → HasPlace j (places_from z (suc from) n f)) → (from ≡ k) ⊎ (from < k) → HasPlace k (places_from z from (suc n) f)
-  from-on k z from n f lt later (inl is) = inl is
-  from-on k z from n f lt later (inr less) = inr (later k less (omega arith))
-
-  -- the places of a door that was made are all there
-  pub has-all : (k : ℕ) (z : TableId) (from n : ℕ) (f : History D) → from ≤ k → k < from + n → HasPlace k (places_from z from n f)
-  has-all k z from zero f le lt = absurd (omega arith)
-  has-all k z from (suc n) f le lt = from-on k z from n f lt (λ j ge less. has-all j z (suc from) n f ge less) (eq-or-lt_of_le le)
 
   -- the last of the places asks
   asked : (k : ℕ) (os : List (PlaceOut D)) (o : PlaceOut D) (qs : List (PlaceAsked D)) (a : PlaceAsked D) → a.place ≡ o.place

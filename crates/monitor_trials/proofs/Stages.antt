@@ -12,7 +12,7 @@ use Rattle.hoare_law.specs.Turns.{is_signal, urgent, turn, turn_by, is_out, outs
 use Rattle.hoare_law.specs.Legal.{Allowed}
 use Rattle.hoare_law.specs.Lawful.{Rest, Ready, Owes}
 use Rattle.hoare_law.specs.Priorities.{nobody, joined, priorities}
-use Rattle.hoare_law.specs.Growth.{Grows, AddsLast, AddsTwo}
+use Rattle.hoare_law.specs.Growth.{Grows, AddsTwo}
 use Rattle.hoare_law.proofs.Events.{newest-push, own-push, latest_data-push}
 use Rattle.hoare_law.proofs.Waiting.{waiting-push}
 use Rattle.hoare_law.proofs.Turns.{turn-push, urgent-push, outside-push}
@@ -150,12 +150,7 @@ module _ {S : Type 0} {rest : Rest S} {ready : Ready S} {n : ℕ} where
       (filter (λ x. not (concerns (place_of x) (Admit 1 s))) (cond b (Wait 0 c p s ∷ []) []) ++ []) ++ [] ≡ []) [ true ↦ refl | false ↦ refl ] in
       IsInside-resume (Stage-pass (Stage-admit (Stage-wait p i in_range rests)) in_range only none is_ready) in_range
 
--- a front grows by an event of its place
-pub AddsLast-one : {S : Type 0} (e : Event S) (h : History S) → AddsLast h e (with_event h e)
-unfolding with_event
-AddsLast-one e h = record { grows = Grows-one e h (with_event h e) refl; ends = newest-push h.events e }
-
--- and by one of another place, without an event of its own
+-- a front grows by an event of another place, without one of its own
 Grows-other : {S : Type 0} (k : ℕ) (e : Event S) (h : History S) → (place_of e == k) ≡ false → Grows k [] h (with_event h e)
 unfolding with_event
 Grows-other k e h other = record { begins = Begins-push h e; adds = own-push k h.events e ∙ ap (λ b. own k h.events ++ cond b (e ∷ []) []) other }

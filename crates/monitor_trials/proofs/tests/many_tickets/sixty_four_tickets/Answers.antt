@@ -2,7 +2,7 @@ use Rattle.std.proofs.Common.{rules, ℕ, arith, subst, sym}
 use Rattle.hoare_law.specs.declared.unasked.Unasked.{Unasked}
 use Rattle.hoare_law.specs.Events.{opened}
 use Rattle.door_frame.specs.Places.{HasPlace}
-use Rattle.monitor_trials.proofs.Many.{has-all}
+use Rattle.door_frame.proofs.PlacesInOrder.{has-all}
 use Rattle.monitor_trials.proofs.tests.many_tickets.sixty_four_tickets.Goals as goal
 
 pub close-tally-requires-clause-places : goal.close-tally-requires-clause-places

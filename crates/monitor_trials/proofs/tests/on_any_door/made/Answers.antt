@@ -1,5 +1,6 @@
 use Rattle.std.proofs.Common.{rules, length, ap, ◌∙◌}
-use Rattle.monitor_trials.proofs.Numbered.{length-places, IsNumbered-places}
+use Rattle.door_frame.proofs.PlacesInOrder.{length-places}
+use Rattle.monitor_trials.proofs.Numbered.{IsNumbered-places}
 use Rattle.monitor_trials.proofs.tests.on_any_door.made.Goals as goal
 
 pub returns-clause-count : goal.returns-clause-count

@@ -1,4 +1,4 @@
-use Rattle.std.proofs.Common.{◌≡◌, ◌≢◌, ◌<◌, ◌∙◌, ap, refl, sym, rules}
+use Rattle.std.proofs.Common.{◌≢◌, ◌<◌, ◌∙◌, ap, refl, sym, rules}
 use Rattle.hoare_law.proofs.Came.{Came, Came-at_once, Came-waited}
 use Rattle.hoare_law.proofs.Growth.{leaves-as, Finishes-exit}
 use Rattle.timed_schedulers.specs.Pools.{PoolReady, free_count, held}

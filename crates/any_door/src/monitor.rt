@@ -1,15 +1,17 @@
 //! The calls of a monitor, on a door of either kind.
 ghost use Rattle.std.specs.Prelude.{◌≡◌};
 ghost use Rattle.wait_book.specs.Contents.{IsPlaceBelow};
-ghost use Rattle.door_frame.specs.Steps.{MayGive};
-ghost use Rattle.door_frame.specs.Seats.{GoesOut};
+ghost use Rattle.door_frame.specs.Steps.{MayGive, MayNote};
+ghost use Rattle.door_frame.specs.Seats.{GoesOut, StaysIn};
 ghost use Rattle.door_frame.specs.Departures.{event_of};
+ghost use Rattle.door_frame.specs.Notices.{event_of_notice};
 ghost use Rattle.any_door.specs.Doors.{id_of};
 
 use crate::door::AnyDoor;
 use crossbeam_utils::sync::Parker;
 use door_frame::calls;
 use door_frame::departure::Departure;
+use door_frame::notice::Notice;
 use door_frame::parcel::Parcel;
 use door_frame::place::{Inside, Outside};
 use door_frame::plays::DoorSeat;
@@ -66,6 +68,21 @@ impl<D: MonitorData> Turnstile<D> for AnyDoor<D> {
             AnyDoor::Ticket(door) => door.hand_on(seat, parcel, place, departure, next),
         }
     }
+
+    #[inline]
+    fn note(&self, seat: &mut DoorSeat<D>, parcel: &Parcel<D>, place: usize, notice: Notice)
+        requires table { seat.old.table_id ≡ (id_of self.now).table }
+        requires event { MayNote D.rest D.ready (event_of_notice place notice parcel.now.state)
+            place seat.old.me }
+        ensures table { seat.new.table_id ≡ seat.old.table_id }
+        ensures stays { StaysIn place (event_of_notice place notice parcel.now.state)
+            seat.old.me seat.new.me }
+    {
+        match self {
+            AnyDoor::Baton(door) => door.note(seat, parcel, place, notice),
+            AnyDoor::Ticket(door) => door.note(seat, parcel, place, notice),
+        }
+    }
 }
 
 impl<D: MonitorData + Send> Monitor<D> for AnyDoor<D> {
@@ -80,9 +97,9 @@ impl<D: MonitorData + Send> Monitor<D> for AnyDoor<D> {
 
     type Lists = Book;
 
-    ghost is_of = { λ m o. IsOut D.rest D.ready D.CONDITIONS (id_of m) o };
+    ghost is_of = { λ m o. IsOut D.rest D.ready D.CONDITIONS D.MESA (id_of m) o };
 
-    ghost is_of_in = { λ m i. IsIn D.rest D.ready D.CONDITIONS (id_of m) i };
+    ghost is_of_in = { λ m i. IsIn D.rest D.ready D.CONDITIONS D.MESA (id_of m) i };
 
     ghost place = { λ o. o.place };
 
@@ -131,6 +148,14 @@ impl<D: MonitorData + Send> Monitor<D> for AnyDoor<D> {
         calls::signal_leave(self, inside, condition)
     }
 
+    fn notify(&self, inside: &mut Inside<D>, condition: usize) -> bool {
+        calls::notify(self, inside, condition)
+    }
+
+    fn broadcast(&self, inside: &mut Inside<D>, condition: usize) -> usize {
+        calls::broadcast(self, inside, condition)
+    }
+
     fn state<'a>(&self, inside: &'a Inside<D>) -> &'a D {
         inside.state()
     }
@@ -152,9 +177,9 @@ impl<D: MonitorData + Send> Monitor<D> for AnyDoor<D> {
         inside.first(condition)
     }
 
-    ghost stands = { λ m o h. (h.stands, h.conditions_are, h.is_outside) };
+    ghost stands = { λ m o h. (h.stands, h.conditions_are, h.mesa_are, h.is_outside) };
 
-    ghost stands_in = { λ m i h. (h.stands, h.conditions_are, h.is_inside) };
+    ghost stands_in = { λ m i h. (h.stands, h.conditions_are, h.mesa_are, h.is_inside) };
 
     ghost lists_are = { λ m i h. refl };
 
@@ -166,6 +191,7 @@ impl<D: MonitorData + Send> Monitor<D> for AnyDoor<D> {
       of = h.of;
       places = h.places;
       conditions_are = h.conditions_are;
+      mesa_are = h.mesa_are;
       stands = h.stands;
       is_inside = h.is_inside;
     } };

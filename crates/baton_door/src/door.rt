@@ -68,11 +68,11 @@ fn open<D: MonitorData>(table: &DoorTable<D>, seat: &mut DoorSeat<D>, parcel: Pa
         × (0 < table.now.shared.table_id.words) }
     requires seat { seat.old.me ≡ (Unopened table.now.shared.key, []) }
     requires rest { D.rest parcel.state nobody }
-    requires book { IsOf parcel.book (opened table.now.shared.key D.CONDITIONS tt) }
+    requires book { IsOf parcel.book (opened table.now.shared.key D.CONDITIONS D.MESA tt) }
     ensures table { seat.new.table_id ≡ seat.old.table_id }
     ensures opened { seat.new.me ≡ (
       Places (all_know 0 table.now.shared.key
-          (opened table.now.shared.key D.CONDITIONS parcel.state)),
+          (opened table.now.shared.key D.CONDITIONS D.MESA parcel.state)),
       [],
     ) }
 {
@@ -84,25 +84,26 @@ fn open<D: MonitorData>(table: &DoorTable<D>, seat: &mut DoorSeat<D>, parcel: Pa
 }
 
 impl<D: MonitorData + Send> Door<D> {
-    /// A door of 1 to 64 places and `D::CONDITIONS` conditions, 1 to 8, opened with the data, and its places, in order. The
-    /// caller owes `rest` with nobody waiting. Refused, in this order: `BadPlaces`, `BadConditions`, and `Memory` where the
-    /// room for all that the door will ever need can't be had. The data come back with each refusal.
+    /// A door of 1 to 64 places and `D::CONDITIONS` conditions, 1 to 8, of which the last `D::MESA` are Mesa conditions, opened with
+    /// the data, and its places, in order. The caller owes `rest` with nobody waiting. Refused, in this order: `BadPlaces`,
+    /// `BadConditions`, and `Memory` where the room for all that the door will ever need can't be had. The data come back with
+    /// each refusal.
     pub fn make(
         alloc: Global,
         state: D,
         places: usize,
     ) -> Result<(Door<D>, Vec<DoorOut<D>>), (D, MakeRefused)>
         requires rest { D.rest state nobody }
-        ensures made { IfOk result (λ r. (make_refusal places D.CONDITIONS ≡ None)
+        ensures made { IfOk result (λ r. (make_refusal places D.CONDITIONS D.MESA ≡ None)
             × (r.0.places ≡ places)) }
         ensures of { IfOk result (λ r. All (⟦<Door<D> as Monitor<D>>⟧.is_of r.0) r.1.items) }
         ensures places { IfOk result (λ r. r.1.items ≡ places_from r.0.table 0 places
-            (opened places D.CONDITIONS state)) }
+            (opened places D.CONDITIONS D.MESA state)) }
         ensures returned { IfErr result (λ e. e.0 ≡ state) }
-        ensures refused { IfErr result (λ e. (make_refusal places D.CONDITIONS ≡ Some e.1)
-            ⊎ ((make_refusal places D.CONDITIONS ≡ None) × (e.1 ≡ MakeRefused.Memory))) }
+        ensures refused { IfErr result (λ e. (make_refusal places D.CONDITIONS D.MESA ≡ Some e.1)
+            ⊎ ((make_refusal places D.CONDITIONS D.MESA ≡ None) × (e.1 ≡ MakeRefused.Memory))) }
     {
-        let book = match Book::make(alloc, places, D::CONDITIONS) {
+        let book = match Book::make(alloc, places, D::CONDITIONS, D::MESA) {
             Ok(book) => book,
             Err(refused) => return Err((state, refused)),
         };
@@ -129,7 +130,7 @@ impl<D: MonitorData + Send> Door<D> {
     pub fn close(self, outs: Vec<DoorOut<D>>) -> D
         requires of { All (⟦<Door<D> as Monitor<D>>⟧.is_of self) outs.items }
         requires places { (k : ℕ) → k < self.places → HasPlace k outs.items }
-        ensures closes { Closes D.rest D.ready D.CONDITIONS self outs.items result }
+        ensures closes { Closes D.rest D.ready D.CONDITIONS D.MESA self outs.items result }
         ensures rest { D.rest result nobody }
     {
         let Door { table, wakers: _ } = self;

@@ -1,9 +1,10 @@
 //! The calls of a monitor, on a door.
 ghost use Rattle.std.specs.Prelude.{◌≡◌};
 ghost use Rattle.wait_book.specs.Contents.{IsPlaceBelow};
-ghost use Rattle.door_frame.specs.Steps.{MayGive};
-ghost use Rattle.door_frame.specs.Seats.{GoesOut};
+ghost use Rattle.door_frame.specs.Steps.{MayGive, MayNote};
+ghost use Rattle.door_frame.specs.Seats.{GoesOut, StaysIn};
 ghost use Rattle.door_frame.specs.Departures.{event_of};
+ghost use Rattle.door_frame.specs.Notices.{event_of_notice};
 
 use crate::door::Door;
 use crate::place::{DoorIn, DoorOut};
@@ -12,6 +13,7 @@ use crate::word::{DOOR, HELD, owed};
 use crossbeam_utils::sync::Parker;
 use door_frame::calls;
 use door_frame::departure::Departure;
+use door_frame::notice::Notice;
 use door_frame::parcel::Parcel;
 use door_frame::plays::DoorSeat;
 use door_frame::slot::take_parcel;
@@ -29,7 +31,7 @@ impl<D: MonitorData> Turnstile<D> for Door<D> {
     /// The first try stands alone: it is short enough to be inlined.
     #[inline]
     fn admit<R: Wait>(&self, rt: &R, seat: &mut DoorSeat<D>, place: usize) -> Parcel<D> {
-        if self.try_enter(seat) {
+        if self.try_in(seat) {
             return take_parcel(&self.table, seat);
         }
         self.keep_trying(rt, seat);
@@ -79,6 +81,18 @@ impl<D: MonitorData> Turnstile<D> for Door<D> {
     {
         self.give::<Brand>(seat, parcel, place, departure, next);
     }
+
+    #[inline]
+    fn note(&self, seat: &mut DoorSeat<D>, parcel: &Parcel<D>, place: usize, notice: Notice)
+        requires table { seat.old.table_id ≡ self.now.table }
+        requires event { MayNote D.rest D.ready (event_of_notice place notice parcel.now.state)
+            place seat.old.me }
+        ensures table { seat.new.table_id ≡ seat.old.table_id }
+        ensures stays { StaysIn place (event_of_notice place notice parcel.now.state)
+            seat.old.me seat.new.me }
+    {
+        self.tell::<Brand>(seat, parcel, place, notice);
+    }
 }
 
 impl<D: MonitorData + Send> Monitor<D> for Door<D> {
@@ -93,9 +107,9 @@ impl<D: MonitorData + Send> Monitor<D> for Door<D> {
 
     type Lists = Book;
 
-    ghost is_of = { λ m o. IsOut D.rest D.ready D.CONDITIONS m o };
+    ghost is_of = { λ m o. IsOut D.rest D.ready D.CONDITIONS D.MESA m o };
 
-    ghost is_of_in = { λ m i. IsIn D.rest D.ready D.CONDITIONS m i };
+    ghost is_of_in = { λ m i. IsIn D.rest D.ready D.CONDITIONS D.MESA m i };
 
     ghost place = { λ o. o.place };
 
@@ -144,6 +158,14 @@ impl<D: MonitorData + Send> Monitor<D> for Door<D> {
         calls::signal_leave(self, inside, condition)
     }
 
+    fn notify(&self, inside: &mut DoorIn<D>, condition: usize) -> bool {
+        calls::notify(self, inside, condition)
+    }
+
+    fn broadcast(&self, inside: &mut DoorIn<D>, condition: usize) -> usize {
+        calls::broadcast(self, inside, condition)
+    }
+
     fn state<'a>(&self, inside: &'a DoorIn<D>) -> &'a D {
         inside.state()
     }
@@ -165,9 +187,9 @@ impl<D: MonitorData + Send> Monitor<D> for Door<D> {
         inside.first(condition)
     }
 
-    ghost stands = { λ m o h. (h.stands, h.conditions_are, h.is_outside) };
+    ghost stands = { λ m o h. (h.stands, h.conditions_are, h.mesa_are, h.is_outside) };
 
-    ghost stands_in = { λ m i h. (h.stands, h.conditions_are, h.is_inside) };
+    ghost stands_in = { λ m i h. (h.stands, h.conditions_are, h.mesa_are, h.is_inside) };
 
     ghost lists_are = { λ m i h. refl };
 
@@ -179,6 +201,7 @@ impl<D: MonitorData + Send> Monitor<D> for Door<D> {
       of = h.of;
       places = h.places;
       conditions_are = h.conditions_are;
+      mesa_are = h.mesa_are;
       stands = h.stands;
       is_inside = h.is_inside;
     } };

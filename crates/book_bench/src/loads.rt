@@ -1,4 +1,5 @@
-//! Loads on a book of queues: places wait, and signals resume them.
+//! Loads on a book of queues: places wait, and signals resume them, or a notify or a broadcast calls them.
+use hoare_law::waits::Waits;
 use std::io;
 use std::rt::Clock;
 use std::time::{Duration, Instant};
@@ -140,4 +141,73 @@ pub fn look_at_clock<R: Clock>(rt: &R, rounds: u64) -> io::Result<Duration> {
         spent = spent.saturating_add(start.elapsed(rt)?);
     }
     Ok(spent)
+}
+
+/// How those that wait are called.
+#[derive(Clone, Copy, PartialEq, Eq)]
+pub enum Call {
+    /// One by one.
+    Notify,
+    /// All at once.
+    Broadcast,
+    /// Not at all: they are counted.
+    Count,
+}
+
+impl Call {
+    // The last place, which is inside, does it to those that wait on condition 0. How many calls it took.
+    fn make(self, book: &mut Book, waiters: u64) -> u64 {
+        match self {
+            Call::Notify => {
+                for _ in 0..waiters {
+                    let _called = book.try_step(Step::Notify(SIGNALLER, 0));
+                }
+                waiters
+            }
+            Call::Broadcast => {
+                let _called = book.try_step(Step::Broadcast(SIGNALLER, 0));
+                1
+            }
+            Call::Count => (book.count(0) as u64).min(1),
+        }
+    }
+}
+
+// Who is inside goes out, and each that goes on after it, until the monitor is free.
+fn leave_all(book: &mut Book) {
+    for _ in 0..=SIGNALLER {
+        let Next::Held(place) = book.now() else {
+            return;
+        };
+        let _left = book.try_step(Step::Leave(place as u64));
+    }
+}
+
+/// What calls of a number of places that wait on condition 0, a Mesa condition, took in a number of rounds, and how
+/// many calls there were. With `Count` nobody is called by what is measured.
+pub fn spend_on_calls<R: Clock>(
+    rt: &R,
+    book: &mut Book,
+    call: Call,
+    waiters: u64,
+    rounds: u64,
+) -> io::Result<(Duration, u64)> {
+    let load = Load {
+        waiters,
+        conditions: 1,
+        order: Order::Equal,
+    };
+    let mut spent = Duration::ZERO;
+    let mut calls = 0u64;
+    for _ in 0..rounds {
+        load.enter_and_wait(book);
+        let _entered = book.try_step(Step::Enter(SIGNALLER));
+        let start = Instant::now(rt)?;
+        let made = call.make(book, waiters);
+        spent = spent.saturating_add(start.elapsed(rt)?);
+        calls = calls.wrapping_add(made);
+        let _called = book.try_step(Step::Broadcast(SIGNALLER, 0));
+        leave_all(book);
+    }
+    Ok((spent, calls))
 }

@@ -4,21 +4,23 @@
 
 mod loads;
 
-use crate::loads::{Load, Order, come_and_go, look_at_clock, spend};
-use std::alloc::AllocError;
+use crate::loads::{Call, Load, Order, come_and_go, look_at_clock, spend, spend_on_calls};
+use std::alloc::{AllocError, Global};
 use std::process::ExitCode;
 use std::rt::Clock;
 use std::time::Duration;
 use std::{env, io};
 use wait_book::book::{Book, MOST_CONDITIONS, MOST_PLACES};
 
-const NAMES: [&str; 10] = [
+const NAMES: [&str; 12] = [
     "book_enter_leave: a place comes in and goes out, where nobody waits (64 places, 8 conditions)",
     "book_enter_wait: a place comes in and waits on the next of eight conditions, with up to 62 others waiting",
     "book_signal_leave: a place is resumed by a signal and goes out, with up to 62 others waiting",
     "turns: TURNS in sum for each figure, which is their mean",
     "with --orders, on one condition:",
     "book_enter_wait_ORDER_N, book_signal_leave_ORDER_N: 1, 8 or 63 wait, with priorities that are equal, rising or falling",
+    "book_notify, book_broadcast_N: one of 63 is called, or all N, where 1 or 63 wait on a Mesa condition; the calls alone are measured",
+    "book_count_63: 63 that wait are counted, as a broadcast does that is told how many it called",
     "clock: two looks at the clock, of which a share is in each figure: once for N waits, and once for N signals",
     "size: the bytes of a book, without those on the heap",
     "usage: book_bench [--orders] TURNS",
@@ -102,6 +104,38 @@ fn measure_orders<R: Print + Clock>(rt: &R, book: &mut Book, rounds: u64) -> io:
     println!(rt; "size {} bytes", size_of::<Book>())
 }
 
+// The figure of calls of a number of places, of which each has a look at the clock in it, or 63 calls share one.
+fn measure_call<R: Print + Clock>(
+    rt: &R,
+    book: &mut Book,
+    call: Call,
+    waiters: u64,
+    rounds: u64,
+) -> io::Result<u128> {
+    let (spent, calls) = spend_on_calls(rt, book, call, waiters, rounds)?;
+    Ok(each(spent, calls))
+}
+
+// The figures of notifies and broadcasts, on a book whose conditions are Mesa conditions.
+fn measure_calls<R: Print + Clock>(rt: &R, book: &mut Book, rounds: u64) -> io::Result<()> {
+    let notify = measure_call(rt, book, Call::Notify, 63, rounds)?;
+    println!(rt; "book_notify {notify} ns")?;
+    for waiters in [1, 63] {
+        let broadcast = measure_call(rt, book, Call::Broadcast, waiters, rounds)?;
+        println!(rt; "book_broadcast_{waiters} {broadcast} ns")?;
+    }
+    let count = measure_call(rt, book, Call::Count, 63, rounds)?;
+    println!(rt; "book_count_63 {count} ns")
+}
+
+// A book of all places and conditions, of which the last `mesa` are Mesa conditions.
+fn full_book(alloc: Global, mesa: usize) -> anyhow::Result<Book> {
+    match Book::make(alloc, MOST_PLACES, MOST_CONDITIONS, mesa) {
+        Ok(book) => Ok(book),
+        Err(_) => Err(io::Error::from(AllocError).into()),
+    }
+}
+
 fn main(rt: HostRuntime) -> anyhow::Result<ExitCode> {
     let mut words = env::args(&rt)?;
     let _name = words.next();
@@ -117,11 +151,11 @@ fn main(rt: HostRuntime) -> anyhow::Result<ExitCode> {
         eprintln!(rt; "usage: book_bench [--orders] TURNS")?;
         return Ok(ExitCode::from(2));
     };
-    let Ok(mut book) = Book::make(rt.alloc(), MOST_PLACES, MOST_CONDITIONS) else {
-        return Err(io::Error::from(AllocError).into());
-    };
+    let mut book = full_book(rt.alloc(), 0)?;
     if of_orders {
         measure_orders(&rt, &mut book, turns / 63)?;
+        let mut mesa_book = full_book(rt.alloc(), MOST_CONDITIONS)?;
+        measure_calls(&rt, &mut mesa_book, turns / 63)?;
     } else {
         measure_full(&rt, &mut book, turns / 63)?;
     }

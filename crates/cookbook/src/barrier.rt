@@ -59,6 +59,10 @@ impl MonitorData for Barrier {
 
     ghost CONDITIONS = { 1 };
 
+    const MESA: usize = 0;
+
+    ghost MESA = { 0 };
+
     ghost inv = { λ b. b.arrived < b.parties };
 
     ghost rest = { λ b q. BarrierRests b (q 0) };

@@ -35,6 +35,10 @@ impl MonitorData for Latch {
 
     ghost CONDITIONS = { 1 };
 
+    const MESA: usize = 0;
+
+    ghost MESA = { 0 };
+
     ghost inv = { λ left. ⊤ };
 
     ghost rest = { λ left q. LatchRests left (q 0) };

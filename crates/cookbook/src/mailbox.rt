@@ -51,6 +51,10 @@ impl MonitorData for Mailbox {
 
     ghost CONDITIONS = { 2 };
 
+    const MESA: usize = 0;
+
+    ghost MESA = { 0 };
+
     ghost inv = { λ letters. length letters ≤ 8 };
 
     ghost rest = { λ letters q. MailRests (length letters) (q 0) (q 1) };

@@ -33,6 +33,10 @@ impl<T: Drop> MonitorData for Rendezvous<T> {
 
     ghost CONDITIONS = { 1 };
 
+    const MESA: usize = 0;
+
+    ghost MESA = { 0 };
+
     ghost inv = { λ s. ⊤ };
 
     ghost rest = { λ s q. MeetingRests s (q 0) };

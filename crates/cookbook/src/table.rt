@@ -40,6 +40,10 @@ impl MonitorData for Table {
 
     ghost CONDITIONS = { 5 };
 
+    const MESA: usize = 0;
+
+    ghost MESA = { 0 };
+
     ghost inv = { λ t. TableHolds t };
 
     ghost rest = { λ t q. TableRests t q };

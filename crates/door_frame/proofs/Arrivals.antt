@@ -3,19 +3,20 @@ use Rattle.std.proofs.Common.{◌≡◌, ◌≢◌, ℕ, true, false, [], Option
 use Rattle.atomic_table.specs.Seated.{TableId}
 use Rattle.hoare_law.specs.declared.event.Event.{Event}
 use Rattle.hoare_law.specs.declared.event.History.{History}
-use Rattle.hoare_law.specs.declared.event.Event.TheVariants.{Admit, Wait, Signal, Pass, Leave, Resume, Back}
+use Rattle.hoare_law.specs.declared.event.Event.TheVariants.{Admit, Wait, Signal, Pass, Leave, Resume, Back, Notify, Broadcast}
 use Rattle.hoare_law.specs.declared.turn.Turn.TheVariants.{Owed, Return}
 use Rattle.hoare_law.specs.Beside.Erasure.{erased}
 use Rattle.hoare_law.specs.Events.{place_of, own, newest, with_event}
 use Rattle.hoare_law.specs.Growth.{Begins, AddsLast, AddsTwo, Signals, resumed_one}
+use Rattle.hoare_law.specs.Kinds.{IsHoare, IsMesa}
 use Rattle.hoare_law.specs.Lawful.{Rest, Ready, Stands}
 use Rattle.hoare_law.specs.Legal.{Allowed}
 use Rattle.hoare_law.specs.Priorities.{priorities}
 use Rattle.hoare_law.specs.Turns.{turn}
 use Rattle.hoare_law.specs.Waiting.{chosen}
-use Rattle.hoare_law.proofs.Entering.{own-last, turn-in, sizes-with, AddsLast-one, AddsTwo-one, finds-admit, finds-back, finds-resume}
+use Rattle.hoare_law.proofs.Entering.{own-last, turn-in, sizes-with, AddsLast-one, AddsTwo-one, finds-admit, finds-back, finds-resume, finds-called}
 use Rattle.hoare_law.proofs.Events.{newest-push}
-use Rattle.hoare_law.proofs.Held.{brings_in}
+use Rattle.hoare_law.proofs.Held.{is_inside}
 use Rattle.wait_book.specs.declared.steps.Next.{Next}
 use Rattle.wait_book.specs.declared.steps.Next.TheVariants.{For}
 use Rattle.wait_book.specs.Contents.{Contents, IsOf, next_of}
@@ -30,22 +31,23 @@ use Rattle.door_frame.proofs.Inside.{Holds}
 
 module _ {D : Type 0} where
   -- what an enter says of the place inside
-  pub record Entered (rest : Rest D) (ready : Ready D) (conditions : ℕ) (d : DoorId) (o : PlaceOut D) (i : PlaceIn D) : Type 0 where
-    pub of : IsIn rest ready conditions d i
+  pub record Entered (rest : Rest D) (ready : Ready D) (conditions mesa : ℕ) (d : DoorId) (o : PlaceOut D) (i : PlaceIn D) : Type 0 where
+    pub of : IsIn rest ready conditions mesa d i
     pub place : i.place ≡ o.place
     pub rests : rest i.state (priorities i.front.events)
     pub front : AddsLast o.front (Admit o.place i.state) i.front
 
   -- what a wait says of the place inside
-  pub record Resumed (rest : Rest D) (ready : Ready D) (conditions : ℕ) (d : DoorId) (i : PlaceIn D) (c p : ℕ) (j : PlaceIn D) : Type 0 where
-    pub of : IsIn rest ready conditions d j
+  pub record Resumed (rest : Rest D) (ready : Ready D) (conditions mesa : ℕ) (d : DoorId) (i : PlaceIn D) (c p : ℕ) (j : PlaceIn D) : Type 0 where
+    pub of : IsIn rest ready conditions mesa d j
     pub place : j.place ≡ i.place
-    pub is_ready : ready c p j.state (priorities j.front.events)
+    pub is_ready : IsHoare conditions mesa c → ready c p j.state (priorities j.front.events)
+    pub rests : IsMesa conditions mesa c → rest j.state (priorities j.front.events)
     pub front : AddsTwo i.front (Wait i.place c p i.state) (Resume i.place c j.state) j.front
 
   -- what a signal that resumed somebody says of the place inside
-  pub record Returned (rest : Rest D) (ready : Ready D) (conditions : ℕ) (d : DoorId) (i : PlaceIn D) (c : ℕ) (j : PlaceIn D) : Type 0 where
-    pub of : IsIn rest ready conditions d j
+  pub record Returned (rest : Rest D) (ready : Ready D) (conditions mesa : ℕ) (d : DoorId) (i : PlaceIn D) (c : ℕ) (j : PlaceIn D) : Type 0 where
+    pub of : IsIn rest ready conditions mesa d j
     pub place : j.place ≡ i.place
     pub rests : rest j.state (priorities j.front.events)
     pub front : Signals i.place c i.state j.state i.front j.front true
@@ -64,6 +66,8 @@ module _ {D : Type 0} where
   comes_back k (Some (Leave j x)) = from_signal refl
   comes_back k (Some (Resume j c x)) = from_signal refl
   comes_back k (Some (Back j x)) = from_signal refl
+  comes_back k (Some (Notify j c w x)) = from_signal refl
+  comes_back k (Some (Broadcast j c x)) = from_signal refl
 
   -- the book says that it is its turn, and is of the history afterwards
   pub record IsDue (k : ℕ) (h : History D) (event : D → Event D) (b : Contents) (s : D) : Type 0 where
@@ -92,47 +96,48 @@ module _ {D : Type 0} where
         → Came rest ready k f event z None m
     came_as {k = k} {f = f} {event = event} {m = m} same c = subst (λ (x : Lodged D). Came rest ready k f event x None m) (sym same) c
 
-    module _ {conditions : ℕ} {d : DoorId} where
+    module _ {conditions mesa : ℕ} {d : DoorId} where
       -- who came in is inside, by its front
-      is_in : (t : TableId) (k : ℕ) (f log : History D) (e : Event D) (s : D) → t ≡ d.table → f.places ≡ d.places → f.conditions ≡ conditions
-          → Begins f log → Stands rest ready (with_event log e) → brings_in e ≡ true → place_of e ≡ k
-          → IsIn rest ready conditions d (place_in t k (with_event log e) s)
-      is_in t k f log e s of places conditions_are begins stands brings mine =
-          let sizes = sizes-with f log e d.places conditions begins places conditions_are in record {
+      is_in : (t : TableId) (k : ℕ) (f log : History D) (e : Event D) (s : D) → t ≡ d.table → f.places ≡ d.places → f.conditions ≡ conditions → f.mesa ≡ mesa
+          → Begins f log → Stands rest ready (with_event log e) → is_inside e ≡ true → place_of e ≡ k
+          → IsIn rest ready conditions mesa d (place_in t k (with_event log e) s)
+      is_in t k f log e s of places conditions_are mesa_are begins stands brings mine =
+          let sizes = sizes-with f log e d.places conditions mesa begins places conditions_are mesa_are in record {
             of = of;
             places = sizes.0;
             conditions_are = sizes.1;
+            mesa_are = sizes.2;
             stands = stands;
             is_inside = turn-in log k e brings mine;
           }
 
-      pub entered : {k : ℕ} {x : Lodged D} {m : Sat D} (o : PlaceOut D) (t : TableId) (i : PlaceIn D) → IsOut rest ready conditions d o
+      pub entered : {k : ℕ} {x : Lodged D} {m : Sat D} (o : PlaceOut D) (t : TableId) (i : PlaceIn D) → IsOut rest ready conditions mesa d o
           → t ≡ o.table → k ≡ o.place → (c : Came rest ready k o.front (Admit k) x None m)
-          → i ≡ place_in t k (with_event c.log (Admit k x.state)) x.state → Entered rest ready conditions d o i
+          → i ≡ place_in t k (with_event c.log (Admit k x.state)) x.state → Entered rest ready conditions mesa d o i
       entered {k = k} {x = x} {m = m} o t i out table place =
           subst (λ (j : ℕ). (c : Came rest ready j o.front (Admit j) x None m) → i ≡ place_in t j (with_event c.log (Admit j x.state)) x.state
-          → Entered rest ready conditions d o i) (sym place) at
+          → Entered rest ready conditions mesa d o i) (sym place) at
         where
           at : (c : Came rest ready o.place o.front (Admit o.place) x None m)
-              → i ≡ place_in t o.place (with_event c.log (Admit o.place x.state)) x.state → Entered rest ready conditions d o i
+              → i ≡ place_in t o.place (with_event c.log (Admit o.place x.state)) x.state → Entered rest ready conditions mesa d o i
           at c is =
               let e : Event D = Admit o.place x.state in
-              subst (Entered rest ready conditions d o) (sym is) (record {
-                of = is_in t o.place o.front c.log e x.state (table ∙ out.of) out.places out.conditions_are c.begins c.stands refl refl;
+              subst (Entered rest ready conditions mesa d o) (sym is) (record {
+                of = is_in t o.place o.front c.log e x.state (table ∙ out.of) out.places out.conditions_are out.mesa_are c.begins c.stands refl refl;
                 place = refl;
                 rests = finds-admit rest ready c.log o.place x.state c.stands;
                 front = AddsLast-one o.place o.front c.log e refl c.begins c.own_are;
               })
 
       module _ {i : PlaceIn D} {t : TableId} {k : ℕ} {f : History D} {me : Sat D} {x : Lodged D} where
-        after_own : (e : Event D) → Holds rest ready conditions d i t k f me x
-            → ((with_event f e).places ≡ d.places) × ((with_event f e).conditions ≡ conditions)
+        after_own : (e : Event D) → Holds rest ready conditions mesa d i t k f me x
+            → ((with_event f e).places ≡ d.places) × ((with_event f e).conditions ≡ conditions) × ((with_event f e).mesa ≡ mesa)
         unfolding with_event
-        after_own e h = (h.within.places, h.within.conditions_are)
+        after_own e h = (h.within.places, h.within.conditions_are, h.within.mesa_are)
 
-        pub resumed : {y : Lodged D} {m : Sat D} (c p : ℕ) (z : TableId) (j : PlaceIn D) → Holds rest ready conditions d i t k f me x → z ≡ t
+        pub resumed : {y : Lodged D} {m : Sat D} (c p : ℕ) (z : TableId) (j : PlaceIn D) → Holds rest ready conditions mesa d i t k f me x → z ≡ t
             → (b : Came rest ready k (with_event f (Wait k c p x.state)) (due k (with_event f (Wait k c p x.state))) y None m)
-            → j ≡ place_in z k (with_event b.log (due k (with_event f (Wait k c p x.state)) y.state)) y.state → Resumed rest ready conditions d i c p j
+            → j ≡ place_in z k (with_event b.log (due k (with_event f (Wait k c p x.state)) y.state)) y.state → Resumed rest ready conditions mesa d i c p j
         resumed {y = y} c p z j h same b is =
             let w : Event D = Wait k c p x.state in
             let e : Event D = Resume k c y.state in
@@ -140,18 +145,21 @@ module _ {D : Type 0} where
             let stands : Stands rest ready (with_event b.log e) = subst (λ (v : Event D). Stands rest ready (with_event b.log v)) which b.stands in
             let here : j ≡ place_in z k (with_event b.log e) y.state = is ∙ ap (λ (v : Event D). place_in z k (with_event b.log v) y.state) which in
             let sizes = after_own w h in
-            subst (Resumed rest ready conditions d i c p) (sym here) (record {
-              of = is_in z k (with_event f w) b.log e y.state (same ∙ h.within.of) sizes.0 sizes.1 b.begins stands refl refl;
+            let sized : (P : ℕ → ℕ → Type 0) → P conditions mesa → P b.log.conditions b.log.mesa =
+            λ P asked. subst (λ (q : ℕ × ℕ). P q.0 q.1) (λ j. ((sym sizes.1 ∙ b.begins.conditions) j, (sym sizes.2 ∙ b.begins.mesa) j)) asked in
+            subst (Resumed rest ready conditions mesa d i c p) (sym here) (record {
+              of = is_in z k (with_event f w) b.log e y.state (same ∙ h.within.of) sizes.0 sizes.1 sizes.2 b.begins stands refl refl;
               place = ap (λ (v : PlaceIn D). v.place) h.seen;
-              is_ready = finds-resume rest ready b.log f k c p x.state y.state b.own_are stands;
+              is_ready = λ hoare. finds-resume rest ready b.log f k c p x.state y.state b.own_are (sized (λ n m. IsHoare n m c) hoare) stands;
+              rests = λ called. finds-called rest ready b.log k c y.state (sized (λ n m. IsMesa n m c) called) stands;
               front = subst (λ (v : PlaceIn D). AddsTwo v.front (Wait v.place c p v.state) (Resume v.place c y.state) (with_event b.log e)) h.seen
                   (AddsTwo-one k f w b.log e refl refl b.begins b.own_are);
             })
 
-        pub returned : {y : Lodged D} {m : Sat D} (c : ℕ) (b : Contents) (who : Next) (z : TableId) (j : PlaceIn D) → Holds rest ready conditions d i t k f me x
+        pub returned : {y : Lodged D} {m : Sat D} (c : ℕ) (b : Contents) (who : Next) (z : TableId) (j : PlaceIn D) → Holds rest ready conditions mesa d i t k f me x
             → priorities i.front.events c ≢ [] → IsOf b (after_signal (erased f) k c (chosen c (erased f).events)) → who ≡ next_of b.turn → z ≡ t
             → (a : Came rest ready k (with_event f (Signal k c (place_for who) x.state)) (due k (with_event f (Signal k c (place_for who) x.state))) y None m)
-            → j ≡ place_in z k (with_event a.log (due k (with_event f (Signal k c (place_for who) x.state)) y.state)) y.state → Returned rest ready conditions d i c j
+            → j ≡ place_in z k (with_event a.log (due k (with_event f (Signal k c (place_for who) x.state)) y.state)) y.state → Returned rest ready conditions mesa d i c j
         returned {y = y} c b who z j h some book answer same a is =
             let v : ℕ = place_for who in
             let w : Event D = Signal k c v x.state in
@@ -161,8 +169,8 @@ module _ {D : Type 0} where
             let stands : Stands rest ready (with_event a.log e) = subst (λ (u : Event D). Stands rest ready (with_event a.log u)) which a.stands in
             let here : j ≡ place_in z k (with_event a.log e) y.state = is ∙ ap (λ (u : Event D). place_in z k (with_event a.log u) y.state) which in
             let sizes = after_own w h in
-            subst (Returned rest ready conditions d i c) (sym here) (record {
-              of = is_in z k (with_event f w) a.log e y.state (same ∙ h.within.of) sizes.0 sizes.1 a.begins stands refl refl;
+            subst (Returned rest ready conditions mesa d i c) (sym here) (record {
+              of = is_in z k (with_event f w) a.log e y.state (same ∙ h.within.of) sizes.0 sizes.1 sizes.2 a.begins stands refl refl;
               place = ap (λ (u : PlaceIn D). u.place) h.seen;
               rests = finds-back rest ready a.log k y.state stands;
               front = subst (λ (u : PlaceIn D). Signals u.place c u.state y.state u.front (with_event a.log e) true) h.seen

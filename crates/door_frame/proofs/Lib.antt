@@ -4,6 +4,7 @@ pub mod Seats
 pub mod Inside
 pub mod Departures
 pub mod Arrivals
+pub mod Notices
 pub mod Close
 pub mod Opened
 pub mod PlacesInOrder

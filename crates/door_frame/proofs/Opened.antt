@@ -8,23 +8,24 @@ use Rattle.hoare_law.specs.Priorities.{nobody}
 use Rattle.hoare_law.proofs.Opening.{Stands-opened, outside-opened}
 use Rattle.door_frame.specs.Places.{DoorId, PlaceOut, IsOut, places_from}
 
-module _ {D : Type 0} (rest : Rest D) (ready : Ready D) (conditions : ℕ) (d : DoorId) (s : D) where
+module _ {D : Type 0} (rest : Rest D) (ready : Ready D) (conditions mesa : ℕ) (d : DoorId) (s : D) where
   -- each of the first places is outside
   outside_from : (k m : ℕ) → k + m ≤ d.places → rest s nobody
-      → All (IsOut rest ready conditions d) (places_from d.table k m (opened d.places conditions s))
-  outside_from k zero fits at_rest = All-nil (IsOut rest ready conditions d)
-  outside_from k (suc m) fits at_rest = All-cons (IsOut rest ready conditions d) _ _
+      → All (IsOut rest ready conditions mesa d) (places_from d.table k m (opened d.places conditions mesa s))
+  outside_from k zero fits at_rest = All-nil (IsOut rest ready conditions mesa d)
+  outside_from k (suc m) fits at_rest = All-cons (IsOut rest ready conditions mesa d) _ _
       (record {
         of = refl;
         places = refl;
         below = omega arith;
         conditions_are = refl;
-        stands = Stands-opened rest ready d.places conditions s at_rest;
-        is_outside = outside-opened k d.places conditions s;
+        mesa_are = refl;
+        stands = Stands-opened rest ready d.places conditions mesa s at_rest;
+        is_outside = outside-opened k d.places conditions mesa s;
       })
       (outside_from (suc k) m (omega arith) at_rest)
 
   -- so are all that a door is made with
-  pub made_outside : (os : List (PlaceOut D)) → os ≡ places_from d.table 0 d.places (opened d.places conditions s) → rest s nobody
-      → All (IsOut rest ready conditions d) os
-  made_outside os are at_rest = subst (All (IsOut rest ready conditions d)) (sym are) (outside_from 0 d.places (omega arith) at_rest)
+  pub made_outside : (os : List (PlaceOut D)) → os ≡ places_from d.table 0 d.places (opened d.places conditions mesa s) → rest s nobody
+      → All (IsOut rest ready conditions mesa d) os
+  made_outside os are at_rest = subst (All (IsOut rest ready conditions mesa d)) (sym are) (outside_from 0 d.places (omega arith) at_rest)

@@ -24,8 +24,8 @@ use Rattle.hoare_law.proofs.Fronts.{still_held, own-owed, own-returning}
 use Rattle.hoare_law.proofs.Growth.{Begins-refl, Begins-trans, Begins-push}
 use Rattle.hoare_law.proofs.Legal.{Stands-push}
 use Rattle.hoare_law.proofs.Turns.{turn-push}
-use Rattle.hoare_law.proofs.Waiters.{owed-in_range, return-in_range}
-use Rattle.hoare_law.proofs.Leaving.{turn-left}
+use Rattle.hoare_law.proofs.Owed.{owed-in_range}
+use Rattle.hoare_law.proofs.Waiters.{return-in_range}
 use Rattle.hoare_law.proofs.Opening.{turn-opened, Stands-opened}
 use Rattle.wait_book.specs.Contents.{IsOf}
 use Rattle.wait_book.specs.declared.steps.Next.{Next}
@@ -34,7 +34,7 @@ use Rattle.door_frame.specs.declared.view.Knowledge.{Knowledge}
 use Rattle.door_frame.specs.declared.view.View.{View}
 use Rattle.door_frame.specs.declared.view.View.TheVariants.{Unopened, Opening, Places}
 use Rattle.door_frame.specs.Rule.{Tickets, Cells, Agrees, Lies, Running, Kept, raw, lent, runs}
-use Rattle.door_frame.specs.Steps.{Sat, due, due_by, begins, opens, gives_as, Gives, Comes, Known, Learns, learns}
+use Rattle.door_frame.specs.Steps.{Sat, due, due_by, begins, opens, gives_as, Gives, notes_as, Notes, Comes, Known, Learns, learns}
 use Rattle.door_frame.specs.Views.{knows, sole, alone, all_know, Each, EachOf, Without, Apart, ApartOf, knowing, places_behind, first_place, no_places}
 use Rattle.door_frame.proofs.Views.{only, set_only, only_at, at_end, given_to, given_here, given_else, handed, handed_here, handed_else, each_map, each_with, each-append, without}
 use Rattle.door_frame.proofs.Views.{all_know_apart, apart-append}
@@ -103,9 +103,10 @@ module _ {D : Type 0} where
   pub alone_is : (k j : ℕ) (f g : History D) (c d : List (ℕ × Option (Lodged D))) → ◌≡◌ {A = Sat D} (alone k f, c) (alone j g, d) → (k ≡ j) × (f ≡ g) × (c ≡ d)
   alone_is k j f g c d e = let s = sole_is k j f g None None c d e in (s.0, s.1, s.3)
 
-  places_kept : (n conditions : ℕ) (log : History D) (e : Event D) → log.places ≡ n → log.conditions ≡ conditions → ((with_event log e).places ≡ n) × ((with_event log e).conditions ≡ conditions)
+  sizes_kept : (n conditions mesa : ℕ) (log : History D) (e : Event D) → log.places ≡ n → log.conditions ≡ conditions → log.mesa ≡ mesa
+      → ((with_event log e).places ≡ n) × ((with_event log e).conditions ≡ conditions) × ((with_event log e).mesa ≡ mesa)
   unfolding with_event
-  places_kept n conditions log e p c = (p, c)
+  sizes_kept n conditions mesa log e p c m = (p, c, m)
 
 module _ {D : Type 0} (rest : Rest D) (ready : Ready D) where
   -- who may be brought in by which event, so far as the words don't matter
@@ -144,12 +145,12 @@ module _ {D : Type 0} (rest : Rest D) (ready : Ready D) where
             inside = turn-push h.events (Back k s);
           })
 
-module _ {D : Type 0} (Starts : Bool → List ℕ → Type 0) (Tells : History D → Tickets → List ℕ → Type 0) (rest : Rest D) (ready : Ready D) (conditions : ℕ) where
+module _ {D : Type 0} (Starts : Bool → List ℕ → Type 0) (Tells : History D → Tickets → List ℕ → Type 0) (rest : Rest D) (ready : Ready D) (conditions mesa : ℕ) where
   abbrev R : ℕ → Cells D → Type 0
-  R = Running Starts Tells rest ready conditions
+  R = Running Starts Tells rest ready conditions mesa
 
   abbrev K : ℕ → Cells D → Type 0
-  K = Kept Starts Tells rest ready conditions
+  K = Kept Starts Tells rest ready conditions mesa
 
   -- a seat that stands for places steps on an open door
   pub running : (n : ℕ) (s : Cells D) → K n s → (id : ℕ) (ts : List (Knowledge D)) → get_elem? s.views id ≡ some (Places ts) → R n s
@@ -187,13 +188,14 @@ module _ {D : Type 0} (Starts : Bool → List ℕ → Type 0) (Tells : History D
       → ((j : ℕ) → turn (with_event r.log e).events ≡ Held j → get_elem? homes' 0 ≡ some none)
       → R n record { words = words'; homes = homes'; views = set s.views id (sole k (with_event r.log e) o') }
   adds n s r id k f o o' tickets' e words' homes' at mine may owes deep now others tells home out = let fit = (r.fronts id (sole k f o) at).0 in let h : History D = with_event r.log e in
-      let kept = places_kept n conditions r.log e r.places r.conditions_are in record {
+      let kept = sizes_kept n conditions mesa r.log e r.places r.conditions_are r.mesa_are in record {
         log = h;
         owner = r.owner;
         tickets = tickets';
         one_slot = deep;
         places = kept.0;
         conditions_are = kept.1;
+        mesa_are = kept.2;
         fronts = agree_all n s r id k f h h o o' tickets' at
             (record { below = fit.below; owned = fit.owned; begins = Begins-refl h; own_are = refl; ticket_is = now })
             (λ j t ne q. grows n r.log r.owner r.tickets tickets' j e t (λ same. ne (sym same ∙ mine)) (others t.place ne) q);
@@ -221,6 +223,7 @@ module _ {D : Type 0} (Starts : Bool → List ℕ → Type 0) (Tells : History D
           one_slot = r.one_slot;
           places = r.places;
           conditions_are = r.conditions_are;
+          mesa_are = r.mesa_are;
           fronts = agree_all n s r id k f f r.log o d.0 d.1 at
               (record { below = fit.below; owned = fit.owned; begins = fit.begins; own_are = fit.own_are; ticket_is = d.2 })
               (λ j t ne q. reticketed n r.log r.owner r.tickets d.1 j t (d.3 t.place ne) q);
@@ -309,17 +312,54 @@ module _ {D : Type 0} (Starts : Bool → List ℕ → Type 0) (Tells : History D
       let told : Tells (with_event r.log e) r.tickets ws' = subst (λ (h : History D). Tells (with_event h e) r.tickets ws') (sym same)
       (tells r.tickets s.words (ap (λ (h : History D). h.places) (sym same) ∙ r.places) fit.below (subst (λ (h : History D). Tells h r.tickets s.words) same r.tells)) in
       let lies : Lies (with_event r.log e) x = subst (λ (h : History D). Lies (with_event h e) x) (sym same) (lies_of f e x p.same_data p.book) in
-      let gone : (j : ℕ) → turn (with_event r.log e).events ≢ Held j = subst (λ (h : History D). (j : ℕ) → turn (with_event h e).events ≢ Held j) (sym same)
-      (λ j. turn-left f e k j p.allowed p.inside) in (
+      let gone : IsGivenUp (turn (with_event r.log e).events) = subst (λ (h : History D). IsGivenUp (turn (with_event h e).events)) (sym same) p.given_up in (
         w,
         gives,
         tt,
         runs (adds n s r id k f None None r.tickets e ws' (set s.homes 0 (some (Some x))) at p.mine (subst (λ (h : History D). Allowed h e) (sym same) p.allowed)
             (subst (λ (h : History D). Owes rest ready h.events e) (sym same) p.owes) (length-set s.homes 0 (some (Some x)) ∙ deep)
-            fit.ticket_is (λ j ne. refl) told (λ _. (x, set_here s.homes 0 (some (Some x)) (omega (arith, deep)), lies)) (λ j held. absurd (gone j held))),
+            fit.ticket_is (λ j ne. refl) told (λ _. (x, set_here s.homes 0 (some (Some x)) (omega (arith, deep)), lies)) (λ j held. absurd (subst IsGivenUp held gone))),
         λ j g y is. let q = alone_is k j f g ((0, Some x) ∷ []) ((0, Some y) ∷ []) is in let is' : x ≡ y = ap (lodged_or x) q.2 in
             λ i. (alone (q.0 i) (with_event ((same ∙ q.1) i) (event (is' i).state)), []),
       )
+
+  -- who is inside goes on by the event and keeps the slot, and no word changes
+  notes_ok : (n slots id k i : ℕ) (f : History D) (event : History D → Event D) (st : Step (Option (Lodged D)))
+      → Notes rest ready (event f) k f → ((tickets : Tickets) (ws : List ℕ) → Tells f tickets ws → Tells (with_event f (event f)) tickets ws)
+      → Allows (K n) slots id (alone k f, (0, None) ∷ []) i (λ r. r) (notes_as event st (alone k f, (0, None) ∷ []))
+  notes_ok n slots id k i f event st p tells s kept wide at small =
+      let r = running n s kept id (knows k f None ∷ []) at in
+      let fit = (r.fronts id (alone k f) at).0 in
+      let e : Event D = event f in
+      let w : View D = alone k (with_event r.log e) in
+      let same : r.log ≡ f = still_held k f r.log r.stands.legal p.inside fit.begins fit.own_are in
+      let out : get_elem? s.homes 0 ≡ some none = r.out k (ap (λ (h : History D). turn h.events) same ∙ p.inside) in
+      let stays : turn (with_event r.log e).events ≡ Held k =
+      subst (λ (h : History D). turn (with_event h e).events ≡ Held k) (sym same) p.stays in
+      let told : Tells (with_event r.log e) r.tickets s.words =
+      subst (λ (h : History D). Tells (with_event h e) r.tickets s.words) (sym same)
+      (tells r.tickets s.words (subst (λ (h : History D). Tells h r.tickets s.words) same r.tells)) in
+      let now : R n record { words = s.words; homes = s.homes; views = set s.views id w } =
+      adds n s r id k f None None r.tickets e s.words s.homes at p.mine
+      (subst (λ (h : History D). Allowed h e) (sym same) p.allowed)
+      (subst (λ (h : History D). Owes rest ready h.events e) (sym same) p.owes)
+      r.one_slot fit.ticket_is (λ j ne. refl) told (λ up. absurd (subst IsGivenUp stays up)) (λ j held. out) in (
+        w,
+        keeps,
+        tt,
+        subst (λ (ws : List ℕ). K n record { words = ws; homes = s.homes; views = set s.views id w })
+            (sym (set-get_or s.words i 0)) (runs now),
+        λ j g is. let q = alone_is k j f g ((0, None) ∷ []) ((0, None) ∷ []) is in
+            λ i. (alone (q.0 i) (with_event ((same ∙ q.1) i) (event (q.1 i))), (0, None) ∷ []),
+      )
+
+  pub notes_at : (n slots id k i : ℕ) (f : History D) (event : History D → Event D) (st : Step (Option (Lodged D))) (m : Sat D)
+      → m ≡ (alone k f, (0, None) ∷ []) → Notes rest ready (event f) k f
+      → ((tickets : Tickets) (ws : List ℕ) → Tells f tickets ws → Tells (with_event f (event f)) tickets ws)
+      → Allows (K n) slots id m i (λ r. r) (notes_as event st m)
+  notes_at n slots id k i f event st m is p tells =
+      subst (λ (q : Sat D). Allows (K n) slots id q i (λ r. r) (notes_as event st q)) (sym is)
+      (notes_ok n slots id k i f event st p tells)
 
   pub begins_ok : (n slots id i : ℕ) (g : ℕ → ℕ) (st : Step (Option (Lodged D))) → ((ws : List ℕ) → Starts false ws → Starts true (set ws i (g (get_or ws i 0))))
       → Allows (K n) slots id (Unopened n, []) i g (begins st (Unopened n, []))
@@ -343,34 +383,35 @@ module _ {D : Type 0} (Starts : Bool → List ℕ → Type 0) (Tells : History D
   all_agree n h (suc count) k b = (record { below = omega arith; owned = refl; begins = Begins-refl h; own_are = refl; ticket_is = refl }, all_agree n h count (suc k) (omega arith))
 
   -- the door as it opens
-  opens_running : (n : ℕ) (x : Lodged D) (ws : List ℕ) → Stands rest ready (opened n conditions x.state) → IsOf x.book (opened n conditions tt) → Tells (opened n conditions x.state)
-      (λ _. None) ws → R n (record { words = ws; homes = some (Some x) ∷ []; views = Places (all_know 0 n (opened n conditions x.state)) ∷ [] })
+  opens_running : (n : ℕ) (x : Lodged D) (ws : List ℕ) → Stands rest ready (opened n conditions mesa x.state) → IsOf x.book (opened n conditions mesa tt) → Tells (opened n conditions mesa x.state)
+      (λ _. None) ws → R n (record { words = ws; homes = some (Some x) ∷ []; views = Places (all_know 0 n (opened n conditions mesa x.state)) ∷ [] })
   unfolding latest_data
   opens_running n x ws stands book tells = record {
-    log = opened n conditions x.state;
+    log = opened n conditions mesa x.state;
     owner = λ _. 0;
     tickets = λ _. None;
     one_slot = refl;
     places = refl;
     conditions_are = refl;
-    fronts = λ j v got. subst (λ (z : ℕ × View D). EachOf (Agrees n (opened n conditions x.state) (λ _. 0) (λ _. None) z.0) z.1)
-        (λ i. (sym (only_at (Places (all_know 0 n (opened n conditions x.state))) v j got) i, only (Places (all_know 0 n (opened n conditions x.state))) v j got i))
-        (all_agree n (opened n conditions x.state) n 0 (omega arith));
-    apart = λ j v got. subst ApartOf (only (Places (all_know 0 n (opened n conditions x.state))) v j got) (all_know_apart 0 n (opened n conditions x.state));
+    mesa_are = refl;
+    fronts = λ j v got. subst (λ (z : ℕ × View D). EachOf (Agrees n (opened n conditions mesa x.state) (λ _. 0) (λ _. None) z.0) z.1)
+        (λ i. (sym (only_at (Places (all_know 0 n (opened n conditions mesa x.state))) v j got) i, only (Places (all_know 0 n (opened n conditions mesa x.state))) v j got i))
+        (all_agree n (opened n conditions mesa x.state) n 0 (omega arith));
+    apart = λ j v got. subst ApartOf (only (Places (all_know 0 n (opened n conditions mesa x.state))) v j got) (all_know_apart 0 n (opened n conditions mesa x.state));
     stands = stands;
     tells = tells;
     home = λ _. (x, refl, record { latest = refl; book = book });
-    out = λ k held. let no : Free ≡ Held k = sym (turn-opened n conditions x.state) ∙ held in absurd (cc);
+    out = λ k held. let no : Free ≡ Held k = sym (turn-opened n conditions mesa x.state) ∙ held in absurd (cc);
   }
 
-  pub opens_ok : (n slots id i : ℕ) (g : ℕ → ℕ) (x : Lodged D) (st : Step (Option (Lodged D))) → Stands rest ready (opened n conditions x.state) → IsOf x.book (opened n conditions tt)
-      → ((ws : List ℕ) → Starts true ws → Tells (opened n conditions x.state) (λ _. None) (set ws i (g (get_or ws i 0))))
-      → Allows (K n) slots id (Opening n, (0, Some x) ∷ []) i g (λ r m'. opens conditions st (Opening n, (0, Some x) ∷ []) r m')
+  pub opens_ok : (n slots id i : ℕ) (g : ℕ → ℕ) (x : Lodged D) (st : Step (Option (Lodged D))) → Stands rest ready (opened n conditions mesa x.state) → IsOf x.book (opened n conditions mesa tt)
+      → ((ws : List ℕ) → Starts true ws → Tells (opened n conditions mesa x.state) (λ _. None) (set ws i (g (get_or ws i 0))))
+      → Allows (K n) slots id (Opening n, (0, Some x) ∷ []) i g (λ r m'. opens conditions mesa st (Opening n, (0, Some x) ∷ []) r m')
   opens_ok n slots id i g x st stands book tells s (raw b h e) wide at small = let other : Unopened n ≡ Opening n = only (Unopened n)
       (Opening n) id (ap (λ (y : List (View D)). get_elem? y id) (sym e) ∙ at) in absurd (cc)
   opens_ok n slots id i g x st stands book tells s (runs r) wide at small = absurd (r.fronts id (Opening n) at)
   opens_ok n slots id i g x st stands book tells s (lent b h e) wide at small = let at' : get_elem? (Opening n ∷ []) id ≡ some (Opening n) = ap (λ (y : List (View D)). get_elem? y id) (sym e) ∙ at in
-      let o : History D = opened n conditions x.state in let w : View D = Places (all_know 0 n o) in let ws' : List ℕ = set s.words i (g (get_or s.words i 0)) in
+      let o : History D = opened n conditions mesa x.state in let w : View D = Places (all_know 0 n o) in let ws' : List ℕ = set s.words i (g (get_or s.words i 0)) in
       let s' : Cells D = record { words = ws'; homes = some (Some x) ∷ []; views = w ∷ [] } in
       let now : stepped s i (g (get_or s.words i 0)) id ((0, Some x) ∷ []) w gives ≡ s' = λ j. record {
         words = ws';
@@ -388,10 +429,10 @@ module _ {D : Type 0} (Starts : Bool → List ℕ → Type 0) (Tells : History D
       count (Opening m) = m
       count _ = 0
 
-      told : (m : ℕ) (y : Lodged D) → ◌≡◌ {A = Sat D} (Opening n, (0, Some x) ∷ []) (Opening m, (0, Some y) ∷ []) → ◌≡◌ {A = Sat D} (Places (all_know 0 n (opened n conditions x.state)), [])
-          (Places (all_know 0 m (opened m conditions y.state)), [])
+      told : (m : ℕ) (y : Lodged D) → ◌≡◌ {A = Sat D} (Opening n, (0, Some x) ∷ []) (Opening m, (0, Some y) ∷ []) → ◌≡◌ {A = Sat D} (Places (all_know 0 n (opened n conditions mesa x.state)), [])
+          (Places (all_know 0 m (opened m conditions mesa y.state)), [])
       told m y is = let a : n ≡ m = ap (λ (z : Sat D). count z.0) is in let b_ : x ≡ y = ap (λ (z : Sat D). lodged_or x z.1) is in
-          λ i. (Places (all_know 0 (a i) (opened (a i) conditions (b_ i).state)), [])
+          λ i. (Places (all_know 0 (a i) (opened (a i) conditions mesa (b_ i).state)), [])
 
   -- the first seat takes the empty slot, by a step of any kind that begins the words
   pub begins_at : (n slots id i : ℕ) (g : ℕ → ℕ) (st : Step (Option (Lodged D))) (m : Sat D) → m ≡ (Unopened n, [])
@@ -400,12 +441,12 @@ module _ {D : Type 0} (Starts : Bool → List ℕ → Type 0) (Tells : History D
 
   -- and gives it back with the data, by one that opens them
   pub opens_at : (n slots id i : ℕ) (g : ℕ → ℕ) (x : Lodged D) (st : Step (Option (Lodged D))) (m : Sat D) → m ≡ (Opening n, (0, Some x) ∷ [])
-      → rest x.state nobody → IsOf x.book (opened n conditions tt)
-      → ((ws : List ℕ) → Starts true ws → Tells (opened n conditions x.state) (λ _. None) (set ws i (g (get_or ws i 0))))
-      → Allows (K n) slots id m i g (opens conditions st m)
+      → rest x.state nobody → IsOf x.book (opened n conditions mesa tt)
+      → ((ws : List ℕ) → Starts true ws → Tells (opened n conditions mesa x.state) (λ _. None) (set ws i (g (get_or ws i 0))))
+      → Allows (K n) slots id m i g (opens conditions mesa st m)
   opens_at n slots id i g x st m is at_rest book tells =
-      subst (λ (p : Sat D). Allows (K n) slots id p i g (opens conditions st p)) (sym is)
-      (opens_ok n slots id i g x st (Stands-opened rest ready n conditions x.state at_rest) book tells)
+      subst (λ (p : Sat D). Allows (K n) slots id p i g (opens conditions mesa st p)) (sym is)
+      (opens_ok n slots id i g x st (Stands-opened rest ready n conditions mesa x.state at_rest) book tells)
 
   -- what a seat knows agrees with the log, and no place stands there twice
   abbrev Fits : ℕ → History D → (ℕ → ℕ) → Tickets → ℕ → View D → Type 0
@@ -421,6 +462,7 @@ module _ {D : Type 0} (Starts : Bool → List ℕ → Type 0) (Tells : History D
     one_slot = r.one_slot;
     places = r.places;
     conditions_are = r.conditions_are;
+    mesa_are = r.mesa_are;
     fronts = λ j v got. (fit j v got).0;
     apart = λ j v got. (fit j v got).1;
     stands = r.stands;

@@ -4,3 +4,4 @@ pub mod Rule
 pub mod Steps
 pub mod Seats
 pub mod Departures
+pub mod Notices

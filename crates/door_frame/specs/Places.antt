@@ -59,13 +59,14 @@ module _ {D : Type 0} where
     pub begins : Begins o.front h
     pub own_are : own o.place h.events ≡ own o.place o.front.events
 
-  module _ (rest : Rest D) (ready : Ready D) (conditions : ℕ) where
+  module _ (rest : Rest D) (ready : Ready D) (conditions mesa : ℕ) where
     -- the place outside is of the door: what it knows is legal and lawful, and has it outside
     pub record IsOut (door : DoorId) (o : PlaceOut D) : Type 0 where
       pub of : o.table ≡ door.table
       pub places : o.front.places ≡ door.places
       pub below : o.place < door.places
       pub conditions_are : o.front.conditions ≡ conditions
+      pub mesa_are : o.front.mesa ≡ mesa
       pub stands : Stands rest ready o.front
       pub is_outside : outside o.place o.front.events ≡ true
 
@@ -74,6 +75,7 @@ module _ {D : Type 0} where
       pub of : i.table ≡ door.table
       pub places : i.front.places ≡ door.places
       pub conditions_are : i.front.conditions ≡ conditions
+      pub mesa_are : i.front.mesa ≡ mesa
       pub stands : Stands rest ready i.front
       pub is_inside : turn i.front.events ≡ Held i.place
 
@@ -82,6 +84,7 @@ module _ {D : Type 0} where
       pub history : History D
       pub places : history.places ≡ door.places
       pub conditions_are : history.conditions ≡ conditions
+      pub mesa_are : history.mesa ≡ mesa
       pub stands : Stands rest ready history
       pub told : All (IsTold history) os
       pub latest : s ≡ latest_data history

@@ -41,7 +41,7 @@ module _ {D : Type 0} where
 
   -- Of the words: Starts is what they are before the door opens (and by then whether the first seat has the slot), Tells what
   -- they say of the log and the tickets of an open door
-  module _ (Starts : Bool → List ℕ → Type 0) (Tells : History D → Tickets → List ℕ → Type 0) (rest : Rest D) (ready : Ready D) (conditions : ℕ) where
+  module _ (Starts : Bool → List ℕ → Type 0) (Tells : History D → Tickets → List ℕ → Type 0) (rest : Rest D) (ready : Ready D) (conditions mesa : ℕ) where
     -- the door is open
     pub record Running (n : ℕ) (s : Cells D) : Type 0 where
       pub log : History D
@@ -50,6 +50,7 @@ module _ {D : Type 0} where
       pub one_slot : length s.homes ≡ 1
       pub places : log.places ≡ n
       pub conditions_are : log.conditions ≡ conditions
+      pub mesa_are : log.mesa ≡ mesa
       -- 1. what each place knows is a beginning of the log, which has no other events of it
       pub fronts : (j : ℕ) (v : View D) → get_elem? s.views j ≡ some v → EachOf (Agrees n log owner tickets j) v
       -- and no seat has a place twice

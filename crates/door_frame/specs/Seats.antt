@@ -28,6 +28,11 @@ module _ {D : Type 0} where
   abbrev pub ComesIn : Rest D → Ready D → ℕ → (History D → D → Event D) → Sat D → Lodged D → Sat D → Type 0
   ComesIn rest ready k event me x me' = (f : History D) → IsAway k f me → Came rest ready k f (event f) x None me'
 
+  -- the seat of the place k, then inside, stayed inside by the event
+  abbrev pub StaysIn : ℕ → (History D → Event D) → Sat D → Sat D → Type 0
+  StaysIn k event me me' = (f : History D) → me ≡ (alone k f, (0, None) ∷ [])
+      → me' ≡ (alone k (with_event f (event f)), (0, None) ∷ [])
+
   -- the seat of the place k, then inside, gave up the data s by the event
   abbrev pub GoesOut : ℕ → (D → Event D) → Sat D → D → Sat D → Type 0
   GoesOut k event me s me' = (f : History D) → me ≡ (alone k f, (0, None) ∷ []) → IsAway k (with_event f (event s)) me'

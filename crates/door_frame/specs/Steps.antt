@@ -10,7 +10,7 @@ use Rattle.hoare_law.specs.Beside.Erasure.{erased}
 use Rattle.hoare_law.specs.Growth.{Begins}
 use Rattle.hoare_law.specs.Lawful.{Rest, Ready, Owes, Stands}
 use Rattle.hoare_law.specs.Legal.{Allowed}
-use Rattle.hoare_law.specs.Turns.{turn}
+use Rattle.hoare_law.specs.Turns.{turn, IsGivenUp}
 use Rattle.wait_book.specs.Contents.{IsOf, next_of}
 use Rattle.door_frame.specs.declared.parcel.Lodged.{Lodged}
 use Rattle.door_frame.specs.declared.view.View.{View}
@@ -38,8 +38,8 @@ module _ {D : Type 0} where
   abbrev pub begins : Told D
   begins st m r m' = (n : ℕ) → m.0 ≡ Unopened n → m' ≡ (Opening n, (0, None) ∷ [])
 
-  abbrev pub opens : ℕ → Told D
-  opens conditions st m r m' = (n : ℕ) (x : Lodged D) → m ≡ (Opening n, (0, Some x) ∷ []) → m' ≡ (Places (all_know 0 n (opened n conditions x.state)), [])
+  abbrev pub opens : ℕ → ℕ → Told D
+  opens conditions mesa st m r m' = (n : ℕ) (x : Lodged D) → m ≡ (Opening n, (0, Some x) ∷ []) → m' ≡ (Places (all_know 0 n (opened n conditions mesa x.state)), [])
 
   -- the event that the holder picked, of the data in the slot
   abbrev pub gives_as : (D → Event D) → Told D
@@ -51,6 +51,7 @@ module _ {D : Type 0} where
     pub mine : place_of (event x.state) ≡ k
     pub allowed : Allowed f (event x.state)
     pub owes : Owes rest ready f.events (event x.state)
+    pub given_up : IsGivenUp (turn (with_event f (event x.state)).events)
     pub same_data : data_of (event x.state) ≡ x.state
     pub book : IsOf x.book (erased (with_event f (event x.state)))
     pub next_is : next ≡ next_of (turn (with_event f (event x.state)).events)
@@ -58,6 +59,23 @@ module _ {D : Type 0} where
   -- the seat is that of the place k, inside with some f, which may do so
   abbrev pub MayGive : Rest D → Ready D → (D → Event D) → ℕ → Sat D → Lodged D → Next → Type 0
   MayGive rest ready event k me x next = (f : History D) × (me ≡ (alone k f, (0, None) ∷ [])) × Gives rest ready event k f x next
+
+  -- the event that the holder picked, of what it knew: it stays inside, with the slot in hand
+  abbrev pub notes_as : (History D → Event D) → Told D
+  notes_as event st m r m' = (k : ℕ) (f : History D) → m ≡ (alone k f, (0, None) ∷ [])
+      → m' ≡ (alone k (with_event f (event f)), (0, None) ∷ [])
+
+  -- the place k, inside with f, may go on by the event and stays inside
+  pub record Notes (rest : Rest D) (ready : Ready D) (e : Event D) (k : ℕ) (f : History D) : Type 0 where
+    pub inside : turn f.events ≡ Held k
+    pub mine : place_of e ≡ k
+    pub allowed : Allowed f e
+    pub owes : Owes rest ready f.events e
+    pub stays : turn (with_event f e).events ≡ Held k
+
+  -- the seat is that of the place k, inside with some f, which may do so
+  abbrev pub MayNote : Rest D → Ready D → (History D → Event D) → ℕ → Sat D → Type 0
+  MayNote rest ready event k me = (f : History D) × (me ≡ (alone k f, (0, None) ∷ [])) × Notes rest ready (event f) k f
 
   -- the place k, which knew f, came in by the event and found x; the slot that it holds has o
   pub record Came (rest : Rest D) (ready : Ready D) (k : ℕ) (f : History D) (event : D → Event D) (x : Lodged D) (o : Option (Lodged D)) (me : Sat D) : Type 0 where

@@ -1,14 +1,16 @@
 //! The calls of a monitor, on any door.
-ghost use Rattle.std.specs.Prelude.{◌≡◌, ◌≢◌, ◌<◌, ◌↔◌, ℕ, [], true, false, IsTrue, None};
+ghost use Rattle.std.specs.Prelude.{◌≡◌, ◌≢◌, ◌<◌, ◌↔◌, ℕ, [], length, true, false, IsTrue, None};
 ghost use Rattle.hoare_law.specs.declared.event.History.{History};
 ghost use Rattle.hoare_law.specs.declared.event.Event.TheVariants as event;
 ghost use Rattle.hoare_law.specs.Events.{with_event};
-ghost use Rattle.hoare_law.specs.Growth.{AddsLast, AddsTwo, Exits, Signals};
-ghost use Rattle.hoare_law.specs.Priorities.{joined, priorities};
+ghost use Rattle.hoare_law.specs.Growth.{AddsLast, AddsTwo, Broadcasts, Exits, Notifies, Signals};
+ghost use Rattle.hoare_law.specs.Kinds.{IsHoare, IsMesa};
+ghost use Rattle.hoare_law.specs.Priorities.{emptied, joined, priorities, taken};
 ghost use Rattle.door_frame.specs.Places.{IsOut, IsIn, Handed, place_in};
 ghost use Rattle.door_frame.specs.Steps.{Came, due};
 
 use crate::departure::Departure;
+use crate::notice::Notice;
 use crate::parcel::Parcel;
 use crate::place::{Inside, Outside};
 use crate::plays::DoorSeat;
@@ -71,8 +73,8 @@ pub fn enter<D: MonitorData, T: Turnstile<D>, R: Wait>(
     rt: &R,
     out: Outside<D>,
 ) -> Inside<D>
-    requires { IsOut D.rest D.ready D.CONDITIONS (T.id door.now) out }
-    ensures of { IsIn D.rest D.ready D.CONDITIONS (T.id door.now) result }
+    requires { IsOut D.rest D.ready D.CONDITIONS D.MESA (T.id door.now) out }
+    ensures of { IsIn D.rest D.ready D.CONDITIONS D.MESA (T.id door.now) result }
     ensures place { result.place ≡ out.place }
     ensures rest { D.rest result.state (priorities result.front.events) }
     ensures front { AddsLast out.front (event.Admit out.place result.state) result.front }
@@ -85,9 +87,9 @@ pub fn enter<D: MonitorData, T: Turnstile<D>, R: Wait>(
 /// `Monitor::leave`.
 #[inline]
 pub fn leave<D: MonitorData, T: Turnstile<D>>(door: &T, inside: Inside<D>) -> Outside<D>
-    requires of { IsIn D.rest D.ready D.CONDITIONS (T.id door.now) inside }
+    requires of { IsIn D.rest D.ready D.CONDITIONS D.MESA (T.id door.now) inside }
     requires rest { D.rest inside.state (priorities inside.front.events) }
-    ensures of { IsOut D.rest D.ready D.CONDITIONS (T.id door.now) result }
+    ensures of { IsOut D.rest D.ready D.CONDITIONS D.MESA (T.id door.now) result }
     ensures place { result.place ≡ inside.place }
     ensures front { result.front ≡ with_event inside.front (event.Leave inside.place inside.state) }
 {
@@ -110,13 +112,16 @@ pub fn wait<D: MonitorData, T: Turnstile<D>, R: Wait>(
     condition: usize,
     priority: u64,
 ) -> Inside<D>
-    requires of { IsIn D.rest D.ready D.CONDITIONS (T.id door.now) inside }
+    requires of { IsIn D.rest D.ready D.CONDITIONS D.MESA (T.id door.now) inside }
     requires in_range { condition < D.CONDITIONS }
     requires rest { D.rest inside.state
         (joined (priorities inside.front.events) condition priority) }
-    ensures of { IsIn D.rest D.ready D.CONDITIONS (T.id door.now) result }
+    ensures of { IsIn D.rest D.ready D.CONDITIONS D.MESA (T.id door.now) result }
     ensures place { result.place ≡ inside.place }
-    ensures ready { D.ready condition priority result.state (priorities result.front.events) }
+    ensures ready { IsHoare D.CONDITIONS D.MESA condition
+        → D.ready condition priority result.state (priorities result.front.events) }
+    ensures rest { IsMesa D.CONDITIONS D.MESA condition
+        → D.rest result.state (priorities result.front.events) }
     ensures front { AddsTwo inside.front (event.Wait inside.place condition priority inside.state)
         (event.Resume inside.place condition result.state) result.front }
 {
@@ -145,11 +150,11 @@ pub fn signal<D: MonitorData, T: Turnstile<D>, R: Wait>(
     inside: Inside<D>,
     condition: usize,
 ) -> (Inside<D>, bool)
-    requires of { IsIn D.rest D.ready D.CONDITIONS (T.id door.now) inside }
-    requires in_range { condition < D.CONDITIONS }
+    requires of { IsIn D.rest D.ready D.CONDITIONS D.MESA (T.id door.now) inside }
+    requires hoare { IsHoare D.CONDITIONS D.MESA condition }
     requires ready { priorities inside.front.events condition ≢ []
         → Handed D.ready condition inside }
-    ensures of { IsIn D.rest D.ready D.CONDITIONS (T.id door.now) result.0 }
+    ensures of { IsIn D.rest D.ready D.CONDITIONS D.MESA (T.id door.now) result.0 }
     ensures place { result.0.place ≡ inside.place }
     ensures told { IsTrue result.1 ↔ (priorities inside.front.events condition ≢ []) }
     ensures rest { result.1 ≡ true → D.rest result.0.state (priorities result.0.front.events) }
@@ -178,13 +183,13 @@ pub fn signal_leave<D: MonitorData, T: Turnstile<D>>(
     inside: Inside<D>,
     condition: usize,
 ) -> (Outside<D>, bool)
-    requires of { IsIn D.rest D.ready D.CONDITIONS (T.id door.now) inside }
-    requires in_range { condition < D.CONDITIONS }
+    requires of { IsIn D.rest D.ready D.CONDITIONS D.MESA (T.id door.now) inside }
+    requires hoare { IsHoare D.CONDITIONS D.MESA condition }
     requires ready { priorities inside.front.events condition ≢ []
         → Handed D.ready condition inside }
     requires rest { priorities inside.front.events condition ≡ []
         → D.rest inside.state (priorities inside.front.events) }
-    ensures of { IsOut D.rest D.ready D.CONDITIONS (T.id door.now) result.0 }
+    ensures of { IsOut D.rest D.ready D.CONDITIONS D.MESA (T.id door.now) result.0 }
     ensures place { result.0.place ≡ inside.place }
     ensures told { IsTrue result.1 ↔ (priorities inside.front.events condition ≢ []) }
     ensures front { Exits inside.place condition inside.state inside.front result.0.front result.1 }
@@ -201,4 +206,67 @@ pub fn signal_leave<D: MonitorData, T: Turnstile<D>>(
     let next = parcel.held.book.pass(place, condition);
     door.hand_on(&mut seat, parcel, place, Departure::Pass(condition), next);
     (Outside::of_parts(seat, place, parker), true)
+}
+
+/// `Monitor::notify`.
+pub fn notify<D: MonitorData, T: Turnstile<D>>(
+    door: &T,
+    inside: &mut Inside<D>,
+    condition: usize,
+) -> bool
+    requires of { IsIn D.rest D.ready D.CONDITIONS D.MESA (T.id door.now) inside.old }
+    requires mesa { IsMesa D.CONDITIONS D.MESA condition }
+    ensures of { IsIn D.rest D.ready D.CONDITIONS D.MESA (T.id door.now) inside.new }
+    ensures place { inside.new.place ≡ inside.old.place }
+    ensures data { inside.new.state ≡ inside.old.state }
+    ensures lists { priorities inside.new.front.events
+        ≡ taken (priorities inside.old.front.events) condition }
+    ensures told { IsTrue result ↔ (priorities inside.old.front.events condition ≢ []) }
+    ensures front { Notifies inside.old.place condition inside.old.state
+        inside.old.front inside.new.front result }
+{
+    if !inside.queue(condition) {
+        return false;
+    }
+    let place = inside.place;
+    door.note(
+        &mut inside.seat,
+        &inside.parcel,
+        place,
+        Notice::Notify(condition),
+    );
+    let parcel = &mut inside.parcel;
+    parcel.held.book.notify(place, condition);
+    true
+}
+
+/// `Monitor::broadcast`.
+pub fn broadcast<D: MonitorData, T: Turnstile<D>>(
+    door: &T,
+    inside: &mut Inside<D>,
+    condition: usize,
+) -> usize
+    requires of { IsIn D.rest D.ready D.CONDITIONS D.MESA (T.id door.now) inside.old }
+    requires mesa { IsMesa D.CONDITIONS D.MESA condition }
+    ensures of { IsIn D.rest D.ready D.CONDITIONS D.MESA (T.id door.now) inside.new }
+    ensures place { inside.new.place ≡ inside.old.place }
+    ensures data { inside.new.state ≡ inside.old.state }
+    ensures lists { priorities inside.new.front.events
+        ≡ emptied (priorities inside.old.front.events) condition }
+    ensures told { result ≡ length (priorities inside.old.front.events condition) }
+    ensures front { Broadcasts inside.old.place condition inside.old.state
+        inside.old.front inside.new.front }
+{
+    if !inside.queue(condition) {
+        return 0;
+    }
+    let place = inside.place;
+    door.note(
+        &mut inside.seat,
+        &inside.parcel,
+        place,
+        Notice::Broadcast(condition),
+    );
+    let parcel = &mut inside.parcel;
+    parcel.held.book.broadcast(place, condition)
 }

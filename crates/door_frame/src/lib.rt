@@ -6,6 +6,7 @@ pub mod calls;
 pub mod departure;
 pub mod looks;
 pub mod making;
+pub mod notice;
 pub mod parcel;
 pub mod place;
 pub mod plays;

@@ -86,10 +86,10 @@ pub fn closed<D: MonitorData, K, W: Words<D, K>>(
 ) -> D
     requires table { (0 < table.shared.table_id.words) × (table.shared.table_id.slots ≡ 1)
         × (0 < W.places table.shared.key) }
-    requires of { All (IsOut D.rest D.ready D.CONDITIONS
+    requires of { All (IsOut D.rest D.ready D.CONDITIONS D.MESA
         (door_of table.shared.table_id (W.places table.shared.key))) outs.items }
     requires places { (k : ℕ) → k < W.places table.shared.key → HasPlace k outs.items }
-    ensures closes { Closes D.rest D.ready D.CONDITIONS
+    ensures closes { Closes D.rest D.ready D.CONDITIONS D.MESA
         (door_of table.shared.table_id (W.places table.shared.key)) outs.items result }
     ensures rest { D.rest result nobody }
 {

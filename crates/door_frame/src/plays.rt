@@ -1,6 +1,6 @@
 //! What the steps tell that every door has.
 ghost use Rattle.door_frame.specs.Views.{places_behind, first_place, both_places, no_places};
-ghost use Rattle.door_frame.specs.Steps.{begins, opens, gives_as, learns};
+ghost use Rattle.door_frame.specs.Steps.{begins, opens, gives_as, notes_as, learns};
 
 use crate::parcel::Parcel;
 use crate::view::View;
@@ -22,7 +22,7 @@ impl<D> Play<Option<Parcel<D>>, View<D>> for Begin {
 pub struct Open;
 
 impl<D: MonitorData> Play<Option<Parcel<D>>, View<D>> for Open {
-    ghost then = { opens D.CONDITIONS };
+    ghost then = { opens D.CONDITIONS D.MESA };
 }
 
 /// The event of a step that gives the slot back, from the data in it. Each call picks it.
@@ -45,6 +45,29 @@ pub struct Give<J> {
 
 impl<D, J: PickedEvent<D>> Play<Option<Parcel<D>>, View<D>> for Give<J> {
     ghost then = { gives_as J.event };
+}
+
+/// The event of a step by which a place stays inside, from what it knew. Each call picks it.
+pub trait PickedNotice<D> {
+    ghost use Rattle.hoare_law.specs.declared.event.Event.{Event};
+    ghost use Rattle.hoare_law.specs.declared.event.History.{History};
+
+    ghost event: { History D → Event D };
+}
+
+impl<D> PickedNotice<D> for Brand {
+    ghost use Rattle.hoare_law.specs.declared.event.Event.TheVariants.{Leave};
+
+    ghost event = { λ f. Leave 0 f.opening };
+}
+
+/// The place inside calls others, and stays inside.
+pub struct Note<J> {
+    of: PhantomData<J>,
+}
+
+impl<D, J: PickedNotice<D>> Play<Option<Parcel<D>>, View<D>> for Note<J> {
+    ghost then = { notes_as J.event };
 }
 
 /// The places of a seat come to know the whole history.

@@ -32,7 +32,7 @@ pub struct Rule<W> {
 
 impl<D: MonitorData, K, W: Words<D, K>> TableRule<Option<Parcel<D>>, View<D>, K> for Rule<W> {
     ghost holds = { λ key. Kept (W.starts key) (W.tells key)
-        D.rest D.ready D.CONDITIONS (W.places key) };
+        D.rest D.ready D.CONDITIONS D.MESA (W.places key) };
 
     ghost first = { λ key. unopened (W.places key) };
 }

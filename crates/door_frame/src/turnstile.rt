@@ -1,14 +1,17 @@
-//! What a door has to do with its words: let a newcomer in, let a place come back, and give the monitor up.
+//! What a door has to do with its words: let a newcomer in, let a place come back, give the monitor up, and tell of
+//! a notice.
 ghost use Rattle.std.specs.Prelude.{◌≡◌, ◌<◌};
 ghost use Rattle.hoare_law.specs.declared.event.History.{History};
 ghost use Rattle.hoare_law.specs.declared.event.Event.TheVariants as event;
 ghost use Rattle.wait_book.specs.Contents.{IsPlaceBelow};
 ghost use Rattle.door_frame.specs.Places.{DoorId};
-ghost use Rattle.door_frame.specs.Steps.{MayGive, due};
-ghost use Rattle.door_frame.specs.Seats.{IsAway, IsNewcomer, ComesIn, GoesOut};
+ghost use Rattle.door_frame.specs.Steps.{MayGive, MayNote, due};
+ghost use Rattle.door_frame.specs.Seats.{IsAway, IsNewcomer, ComesIn, GoesOut, StaysIn};
 ghost use Rattle.door_frame.specs.Departures.{event_of};
+ghost use Rattle.door_frame.specs.Notices.{event_of_notice};
 
 use crate::departure::Departure;
+use crate::notice::Notice;
 use crate::parcel::Parcel;
 use crate::plays::DoorSeat;
 use crossbeam_utils::sync::Parker;
@@ -59,4 +62,14 @@ pub trait Turnstile<D: MonitorData> {
         ensures table { seat.new.table_id ≡ seat.old.table_id }
         ensures away { GoesOut place (event_of place departure next)
             seat.old.me parcel.state seat.new.me };
+
+    /// Tells of the notice's event: a look at a word, by which the place inside comes to know of it. What is found
+    /// isn't looked at, and no word changes. `parcel` is there for the data that the event has.
+    fn note(&self, seat: &mut DoorSeat<D>, parcel: &Parcel<D>, place: usize, notice: Notice)
+        requires table { seat.old.table_id ≡ (id self.now).table }
+        requires event { MayNote D.rest D.ready (event_of_notice place notice parcel.now.state)
+            place seat.old.me }
+        ensures table { seat.new.table_id ≡ seat.old.table_id }
+        ensures stays { StaysIn place (event_of_notice place notice parcel.now.state)
+            seat.old.me seat.new.me };
 }

@@ -53,6 +53,10 @@ impl MonitorData for Permits {
 
     ghost CONDITIONS = { 1 };
 
+    const MESA: usize = 0;
+
+    ghost MESA = { 0 };
+
     // Always: no more permits are free than there are.
     ghost inv = { λ s. s.free ≤ s.total };
 

@@ -14,7 +14,8 @@ use Rattle.hoare_law.specs.Waiting.{waiting, chosen}
 use Rattle.hoare_law.proofs.Fronts.{rest-free, own-owed, own-returning}
 use Rattle.hoare_law.proofs.Held.{outside-held}
 use Rattle.hoare_law.proofs.Priorities.{waiting-unchosen, waits_on-is, priorities-nobody}
-use Rattle.hoare_law.proofs.Waiters.{held-in_range, owed-in_range, return-in_range, chosen-waits, chosen-in_range, place_in_range}
+use Rattle.hoare_law.proofs.Owed.{owed-in_range}
+use Rattle.hoare_law.proofs.Waiters.{held-in_range, return-in_range, chosen-waits, chosen-in_range, place_in_range}
 
 module _ {S : Type 0} where
   -- everybody is outside

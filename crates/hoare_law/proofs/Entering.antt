@@ -3,30 +3,35 @@ use Rattle.std.proofs.Common.{◌≡◌, ◌==◌, not, ℕ, true, cond, List, [
 use Rattle.std.specs.List.{list_all}
 use Rattle.hoare_law.specs.declared.event.Event.{Event}
 use Rattle.hoare_law.specs.declared.event.History.{History}
-use Rattle.hoare_law.specs.declared.event.Event.TheVariants.{Admit, Wait, Signal, Pass, Leave, Resume, Back}
+use Rattle.hoare_law.specs.declared.event.Event.TheVariants.{Admit, Wait, Signal, Pass, Leave, Resume, Back, Notify, Broadcast}
 use Rattle.hoare_law.specs.declared.turn.Turn.TheVariants.{Held}
 use Rattle.hoare_law.specs.Events.{place_of, data_of, own, newest, latest_data, with_event}
 use Rattle.hoare_law.specs.Growth.{Begins, Grows, AddsLast, AddsTwo}
 use Rattle.hoare_law.specs.Lawful.{Rest, Ready, Stands}
 use Rattle.hoare_law.specs.Priorities.{priorities}
 use Rattle.hoare_law.specs.Turns.{turn, turn_by, urgent, outside, is_out}
+use Rattle.hoare_law.specs.Kinds.{IsHoare, IsMesa}
 use Rattle.hoare_law.specs.Waiting.{waiting}
+use Rattle.hoare_law.specs.Called.{called}
 use Rattle.hoare_law.proofs.Events.{own-push, newest-push}
-use Rattle.hoare_law.proofs.Fronts.{rest-free, rest-return, ready-owed}
+use Rattle.hoare_law.proofs.Fronts.{rest-free, rest-return, ready-owed, rest-owed}
 use Rattle.hoare_law.proofs.Growth.{Begins-trans, Begins-push, Grows-one, Grows-trans}
-use Rattle.hoare_law.proofs.Held.{brings_in, in_not_waiting, in_concerns_own}
+use Rattle.hoare_law.proofs.Held.{brings_in, brings_inside, is_inside, in_not_waiting, in_concerns_own}
 use Rattle.hoare_law.proofs.Legal.{IsLegal-last, Stands-front}
-use Rattle.hoare_law.proofs.Priorities.{priorities-own, waiting-outside, waiting-owed, waiting-return}
+use Rattle.hoare_law.proofs.Priorities.{priorities-own, waiting-outside, waiting-return}
+use Rattle.hoare_law.proofs.Owed.{waiting-owed}
 use Rattle.hoare_law.proofs.Turns.{turn-push}
 
-held_by : {S : Type 0} (e : Event S) (us : List ℕ) → brings_in e ≡ true → turn_by e us ≡ Held (place_of e)
-held_by (Admit j s) us b = refl
-held_by (Resume j c s) us b = refl
-held_by (Back j s) us b = refl
-held_by (Wait j c p s) us b = absurd (cc)
-held_by (Signal j c w s) us b = absurd (cc)
-held_by (Pass j c w s) us b = absurd (cc)
-held_by (Leave j s) us b = absurd (cc)
+held_by : {S : Type 0} (e : Event S) (us : List ℕ) (ws : List (Event S)) → is_inside e ≡ true → turn_by e us ws ≡ Held (place_of e)
+held_by (Admit j s) us ws b = refl
+held_by (Resume j c s) us ws b = refl
+held_by (Back j s) us ws b = refl
+held_by (Wait j c p s) us ws b = absurd (cc)
+held_by (Signal j c w s) us ws b = absurd (cc)
+held_by (Pass j c w s) us ws b = absurd (cc)
+held_by (Leave j s) us ws b = absurd (cc)
+held_by (Notify j c w s) us ws b = refl
+held_by (Broadcast j c s) us ws b = refl
 
 module _ {S : Type 0} where
   -- k's own events, one more at the end
@@ -45,22 +50,22 @@ module _ {S : Type 0} where
   unfolding with_event
   ends_with h e = newest-push h.events e
 
-  -- k is inside after an event that brings it in
-  pub turn-in : (h : History S) (k : ℕ) (e : Event S) → brings_in e ≡ true → place_of e ≡ k → turn (with_event h e).events ≡ Held k
+  -- k is inside after an event that brings it in, and after a call of its own
+  pub turn-in : (h : History S) (k : ℕ) (e : Event S) → is_inside e ≡ true → place_of e ≡ k → turn (with_event h e).events ≡ Held k
   unfolding with_event
-  turn-in h k e brings mine =
-      turn-push h.events e ∙ held_by e (urgent (h.events ++ e ∷ [])) brings ∙ ap (λ i. Held i) mine
+  turn-in h k e inside mine =
+      turn-push h.events e ∙ held_by e (urgent (h.events ++ e ∷ [])) (called (h.events ++ e ∷ [])) inside ∙ ap (λ i. Held i) mine
 
   -- a place is outside in each history with the same own events of it
   pub outside-same : (k : ℕ) (f h : History S) → own k h.events ≡ own k f.events → outside k f.events ≡ true → outside k h.events ≡ true
   unfolding outside
   outside-same k f h same out = ap (λ l. is_out (newest l)) same ∙ out
 
-  -- places and conditions stay
-  pub sizes-with : (f h : History S) (e : Event S) (n m : ℕ) → Begins f h → f.places ≡ n → f.conditions ≡ m
-      → ((with_event h e).places ≡ n) × ((with_event h e).conditions ≡ m)
+  -- places, conditions and Mesa conditions stay
+  pub sizes-with : (f h : History S) (e : Event S) (n m l : ℕ) → Begins f h → f.places ≡ n → f.conditions ≡ m → f.mesa ≡ l
+      → ((with_event h e).places ≡ n) × ((with_event h e).conditions ≡ m) × ((with_event h e).mesa ≡ l)
   unfolding with_event
-  sizes-with f h e n m begins p c = (sym begins.places ∙ p, sym begins.conditions ∙ c)
+  sizes-with f h e n m l begins p c k = (sym begins.places ∙ p, sym begins.conditions ∙ c, sym begins.mesa ∙ k)
 
   -- k, which knew f, adds one event last
   pub AddsLast-one : (k : ℕ) (f h : History S) (e : Event S) → place_of e ≡ k → Begins f h → own k h.events ≡ own k f.events
@@ -93,7 +98,7 @@ module _ {S : Type 0} where
         → asks (latest_data h) (priorities h.events) → asks (data_of e) (priorities (with_event h e).events)
     unfolding with_event
     finds asks h e brings apart same asked =
-        subst (asks (data_of e)) (sym (priorities-own h.events e (λ j. in_concerns_own e j brings) (λ d. in_not_waiting e d brings) apart))
+        subst (asks (data_of e)) (sym (priorities-own h.events e (λ d j. in_concerns_own e d j brings) (λ d. in_not_waiting e d (brings_inside e brings)) apart))
         (subst (λ (t : S). asks t (priorities h.events)) (sym same) asked)
 
     -- each kind what it is to find
@@ -111,11 +116,21 @@ module _ {S : Type 0} where
         finds rest h (Back k s) refl (λ d. waiting-return h.events k d may.0) may.1
         (rest-return h k (stood h (Back k s) stands).lawful may.0)
 
-    pub finds-resume : (h f : History S) (k c p : ℕ) (s t : S) → own k h.events ≡ own k (with_event f (Wait k c p s)).events
+    -- who waited on one of Hoare's conditions
+    pub finds-resume : (h f : History S) (k c p : ℕ) (s t : S) → own k h.events ≡ own k (with_event f (Wait k c p s)).events → IsHoare h.conditions h.mesa c
         → Stands rest ready (with_event h (Resume k c t)) → ready c p t (priorities (with_event h (Resume k c t)).events)
     unfolding with_event
-    finds-resume h f k c p s t same stands =
+    finds-resume h f k c p s t same hoare stands =
         let may = (IsLegal-last h (Resume k c t) stands.legal).fits in
-        finds (ready c p) h (Resume k c t) refl (λ d. waiting-owed h.events k c d may.0) may.1
-        (ready-owed h k c p s (stood h (Resume k c t) stands) may.0
+        let before = stood h (Resume k c t) stands in
+        finds (ready c p) h (Resume k c t) refl (λ d. waiting-owed h k c d before.legal may.0) may.1
+        (ready-owed h k c p s before hoare may.0
         (ap newest (same ∙ own-last k f.events (Wait k c p s) refl) ∙ newest-push (own k f.events) (Wait k c p s)))
+
+    -- and who waited on a Mesa condition
+    pub finds-called : (h : History S) (k c : ℕ) (t : S) → IsMesa h.conditions h.mesa c → Stands rest ready (with_event h (Resume k c t))
+        → rest t (priorities (with_event h (Resume k c t)).events)
+    finds-called h k c t mesa stands =
+        let may = (IsLegal-last h (Resume k c t) stands.legal).fits in
+        let before = stood h (Resume k c t) stands in
+        finds rest h (Resume k c t) refl (λ d. waiting-owed h k c d before.legal may.0) may.1 (rest-owed h k c before mesa may.0)

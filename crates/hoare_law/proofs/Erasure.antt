@@ -1,21 +1,23 @@
 -- Who waits, who is chosen, whose turn it is and who is outside do not depend on the data.
-use Rattle.std.proofs.Common.{◌≡◌, ◌==◌, ◌&&◌, not, ℕ, List, [], ◌∷◌, map, Bool, true, false, cond, leb, Option, Some, None, refl, ap, sym, ◌∙◌}
+use Rattle.std.proofs.Common.{◌≡◌, ◌==◌, ◌&&◌, not, ℕ, List, [], ◌∷◌, ◌++◌, map, Bool, true, false, cond, leb, Option, Some, None, refl, ap, sym, ◌∙◌}
 use Rattle.std.specs.Option.{option_map}
-use Rattle.std.specs.List.{find}
+use Rattle.std.specs.List.{find, filter}
 use Rattle.std.proofs.lemmas.List.{map-append}
 use Rattle.std.proofs.lemmas.List.Elements.{filter_agree}
 use Rattle.std.proofs.lemmas.List.Folds.{list_all-map}
 use Rattle.hoare_law.specs.declared.event.Event.{Event}
 use Rattle.hoare_law.specs.declared.event.History.{History}
-use Rattle.hoare_law.specs.declared.event.Event.TheVariants.{Admit, Wait, Signal, Pass, Leave, Resume, Back}
+use Rattle.hoare_law.specs.declared.turn.Turn.TheVariants.{Owed}
+use Rattle.hoare_law.specs.declared.event.Event.TheVariants.{Admit, Wait, Signal, Pass, Leave, Resume, Back, Notify, Broadcast}
 use Rattle.hoare_law.specs.Events.{place_of, own, newest, with_event}
-use Rattle.hoare_law.specs.Waiting.{filter_by_later, waits_on, priority_of, concerns, is_untouched, waiting, is_least, chosen}
-use Rattle.hoare_law.specs.Turns.{is_signal, is_last_act, urgent, turn, turn_by, turn_after, is_out, outside}
-use Rattle.hoare_law.specs.Priorities.{in_order, priorities}
+use Rattle.hoare_law.specs.Waiting.{filter_by_later, waits_on, priority_of, condition_of, concerns, is_last_act, is_untouched, waiting, is_least, chosen}
+use Rattle.hoare_law.specs.Called.{join_splits, called_by, called}
+use Rattle.hoare_law.specs.Turns.{is_signal, urgent, turn, turn_by, turn_given_up, turn_after, is_out, outside}
+use Rattle.hoare_law.specs.Priorities.{put_in, put_all, in_order, priorities}
 use Rattle.hoare_law.specs.Beside.Erasure.{without_data, all_without_data, erased}
 use Rattle.hoare_law.proofs.Turns.{filter-map}
 use Rattle.hoare_law.proofs.Filters.{list_all-same, find-same}
-use Rattle.hoare_law.proofs.Sorted.{map-in_order}
+use Rattle.hoare_law.proofs.Sorted.{map-in_order, put_in-map}
 
 -- maps and filters change places
 newest-map : {X Y : Type 0} (f : X → Y) (xs : List X) → newest (map f xs) ≡ option_map f (newest xs)
@@ -42,6 +44,17 @@ filter_by_later-map f test kept (x ∷ xs) same = ap (λ b. cond b (f x ∷ filt
     by true rest = ap (λ l. f x ∷ l) rest
     by false rest = rest
 
+-- what is made of each split, through maps
+join_splits-map : {X Y Z W : Type 0} (f : X → Y) (g : Z → W) (made : List Y → Y → List Y → List W) (makes : List X → X → List X → List Z) (before xs : List X)
+    → ((b : List X) (x : X) (later : List X) → made (map f b) (f x) (map f later) ≡ map g (makes b x later))
+    → join_splits made (map f before) (map f xs) ≡ map g (join_splits makes before xs)
+join_splits-map f g made makes before [] same = refl
+join_splits-map f g made makes before (x ∷ xs) same =
+    ap (λ l. l ++ join_splits made (map f before ++ f x ∷ []) (map f xs)) (same before x xs)
+    ∙ ap (λ l. map g (makes before x xs) ++ l)
+    (ap (λ b. join_splits made b (map f xs)) (sym (map-append f before (x ∷ []))) ∙ join_splits-map f g made makes (before ++ x ∷ []) xs same)
+    ∙ sym (map-append g (makes before x xs) (join_splits makes (before ++ x ∷ []) xs))
+
 map-map_same : {X Y Z : Type 0} (f : X → Y) (g : Y → Z) (k : X → Z) (xs : List X) → ((x : X) → g (f x) ≡ k x) → map g (map f xs) ≡ map k xs
 map-map_same f g k [] same = refl
 map-map_same f g k (x ∷ xs) same = rw (same x, map-map_same f g k xs same) refl
@@ -56,6 +69,8 @@ module _ {S : Type 0} where
   place_of-erased (Leave k s) = refl
   place_of-erased (Resume k c s) = refl
   place_of-erased (Back k s) = refl
+  place_of-erased (Notify k c w s) = refl
+  place_of-erased (Broadcast k c s) = refl
 
   -- the priority stays
   pub priority_of-erased : (e : Event S) → priority_of (without_data e) ≡ priority_of e
@@ -66,6 +81,8 @@ module _ {S : Type 0} where
   priority_of-erased (Leave k s) = refl
   priority_of-erased (Resume k c s) = refl
   priority_of-erased (Back k s) = refl
+  priority_of-erased (Notify k c w s) = refl
+  priority_of-erased (Broadcast k c s) = refl
 
   waits_on-erased : (c : ℕ) (e : Event S) → waits_on c (without_data e) ≡ waits_on c e
   waits_on-erased c (Admit k s) = refl
@@ -75,15 +92,19 @@ module _ {S : Type 0} where
   waits_on-erased c (Leave k s) = refl
   waits_on-erased c (Resume k d s) = refl
   waits_on-erased c (Back k s) = refl
+  waits_on-erased c (Notify k d w s) = refl
+  waits_on-erased c (Broadcast k d s) = refl
 
-  concerns-erased : (j : ℕ) (e : Event S) → concerns j (without_data e) ≡ concerns j e
-  concerns-erased j (Admit k s) = refl
-  concerns-erased j (Wait k d p s) = refl
-  concerns-erased j (Signal k d w s) = refl
-  concerns-erased j (Pass k d w s) = refl
-  concerns-erased j (Leave k s) = refl
-  concerns-erased j (Resume k d s) = refl
-  concerns-erased j (Back k s) = refl
+  concerns-erased : (c j : ℕ) (e : Event S) → concerns c j (without_data e) ≡ concerns c j e
+  concerns-erased c j (Admit k s) = refl
+  concerns-erased c j (Wait k d p s) = refl
+  concerns-erased c j (Signal k d w s) = refl
+  concerns-erased c j (Pass k d w s) = refl
+  concerns-erased c j (Leave k s) = refl
+  concerns-erased c j (Resume k d s) = refl
+  concerns-erased c j (Back k s) = refl
+  concerns-erased c j (Notify k d w s) = refl
+  concerns-erased c j (Broadcast k d s) = refl
 
   is_signal-erased : (e : Event S) → is_signal (without_data e) ≡ is_signal e
   is_signal-erased (Admit k s) = refl
@@ -93,15 +114,35 @@ module _ {S : Type 0} where
   is_signal-erased (Leave k s) = refl
   is_signal-erased (Resume k c s) = refl
   is_signal-erased (Back k s) = refl
+  is_signal-erased (Notify k c w s) = refl
+  is_signal-erased (Broadcast k c s) = refl
 
-  turn_by-erased : (e : Event S) (us : List ℕ) → turn_by (without_data e) us ≡ turn_by e us
-  turn_by-erased (Admit k s) us = refl
-  turn_by-erased (Wait k c p s) us = refl
-  turn_by-erased (Signal k c w s) us = refl
-  turn_by-erased (Pass k c w s) us = refl
-  turn_by-erased (Leave k s) us = refl
-  turn_by-erased (Resume k c s) us = refl
-  turn_by-erased (Back k s) us = refl
+  condition_of-erased : (e : Event S) → condition_of (without_data e) ≡ condition_of e
+  condition_of-erased (Admit k s) = refl
+  condition_of-erased (Wait k c p s) = refl
+  condition_of-erased (Signal k c w s) = refl
+  condition_of-erased (Pass k c w s) = refl
+  condition_of-erased (Leave k s) = refl
+  condition_of-erased (Resume k c s) = refl
+  condition_of-erased (Back k s) = refl
+  condition_of-erased (Notify k c w s) = refl
+  condition_of-erased (Broadcast k c s) = refl
+
+  given_up-erased : (us : List ℕ) (ws : List (Event S)) → turn_given_up us (all_without_data ws) ≡ turn_given_up us ws
+  given_up-erased [] [] = refl
+  given_up-erased [] (w ∷ ws) = λ i. Owed (place_of-erased w i) (condition_of-erased w i)
+  given_up-erased (u ∷ us) ws = refl
+
+  turn_by-erased : (e : Event S) (us : List ℕ) (ws : List (Event S)) → turn_by (without_data e) us (all_without_data ws) ≡ turn_by e us ws
+  turn_by-erased (Admit k s) us ws = refl
+  turn_by-erased (Wait k c p s) us ws = given_up-erased us ws
+  turn_by-erased (Signal k c w s) us ws = refl
+  turn_by-erased (Pass k c w s) us ws = refl
+  turn_by-erased (Leave k s) us ws = given_up-erased us ws
+  turn_by-erased (Resume k c s) us ws = refl
+  turn_by-erased (Back k s) us ws = refl
+  turn_by-erased (Notify k c w s) us ws = refl
+  turn_by-erased (Broadcast k c s) us ws = refl
 
   is_out-erased : (o : Option (Event S)) → is_out (option_map without_data o) ≡ is_out o
   is_out-erased None = refl
@@ -112,11 +153,13 @@ module _ {S : Type 0} where
   is_out-erased (Some (Leave k s)) = refl
   is_out-erased (Some (Resume k c s)) = refl
   is_out-erased (Some (Back k s)) = refl
+  is_out-erased (Some (Notify k c w s)) = refl
+  is_out-erased (Some (Broadcast k c s)) = refl
 
-  untouched-erased : (e : Event S) (later : List (Event S)) → is_untouched (without_data e) (all_without_data later) ≡ is_untouched e later
-  untouched-erased e later =
-      list_all-map (λ x. not (concerns (place_of (without_data e)) x)) without_data later
-      ∙ list_all-same _ (λ x. not (concerns (place_of e) x)) later (λ x. ap not (ap (λ j. concerns j (without_data x)) (place_of-erased e) ∙ concerns-erased (place_of e) x))
+  untouched-erased : (c : ℕ) (e : Event S) (later : List (Event S)) → is_untouched c (without_data e) (all_without_data later) ≡ is_untouched c e later
+  untouched-erased c e later =
+      list_all-map (λ x. not (concerns c (place_of (without_data e)) x)) without_data later
+      ∙ list_all-same _ (λ x. not (concerns c (place_of e) x)) later (λ x. ap not (ap (λ j. concerns c j (without_data x)) (place_of-erased e) ∙ concerns-erased c (place_of e) x))
 
   last_act-erased : (e : Event S) (later : List (Event S)) → is_last_act (without_data e) (all_without_data later) ≡ is_last_act e later
   last_act-erased e later =
@@ -134,7 +177,7 @@ module _ {S : Type 0} where
   -- the same wait
   pub waiting-erased : (c : ℕ) (h : List (Event S)) → waiting c (all_without_data h) ≡ all_without_data (waiting c h)
   unfolding waiting
-  waiting-erased c h = filter_by_later-map without_data _ (λ e later. waits_on c e && is_untouched e later) h (λ e later i. waits_on-erased c e i && untouched-erased e later i)
+  waiting-erased c h = filter_by_later-map without_data _ (λ e later. waits_on c e && is_untouched c e later) h (λ e later i. waits_on-erased c e i && untouched-erased c e later i)
 
   -- the same signallers wait
   pub urgent-erased : (h : List (Event S)) → urgent (all_without_data h) ≡ urgent h
@@ -143,14 +186,55 @@ module _ {S : Type 0} where
       ap (map place_of) (filter_by_later-map without_data _ (λ e later. is_signal e && is_last_act e later) h (λ e later i. is_signal-erased e i && last_act-erased e later i))
       ∙ map-map_same without_data place_of place_of _ place_of-erased
 
-  turn_after-erased : (o : Option (Event S)) (us : List ℕ) → turn_after (option_map without_data o) us ≡ turn_after o us
-  turn_after-erased None us = refl
-  turn_after-erased (Some e) us = turn_by-erased e us
+  put_in-erased : (x : Event S) (xs : List (Event S)) → put_in priority_of (without_data x) (all_without_data xs) ≡ all_without_data (put_in priority_of x xs)
+  put_in-erased x xs = put_in-map without_data priority_of x xs ∙ ap all_without_data (put_in-same xs)
+    where
+      put_in-same : (xs : List (Event S)) → put_in (λ y. priority_of (without_data y)) x xs ≡ put_in priority_of x xs
+      put_in-same [] = refl
+      put_in-same (y ∷ ys) = (λ i. cond (leb (priority_of-erased y i) (priority_of-erased x i)) (y ∷ put_in-same ys i) (x ∷ y ∷ ys))
+
+  put_all-erased : (placed xs : List (Event S)) → put_all priority_of (all_without_data placed) (all_without_data xs) ≡ all_without_data (put_all priority_of placed xs)
+  put_all-erased placed [] = refl
+  put_all-erased placed (x ∷ xs) = ap (λ l. put_all priority_of l (all_without_data xs)) (put_in-erased x placed) ∙ put_all-erased (put_in priority_of x placed) xs
+
+  -- the same in the same order
+  pub in_order-erased : (xs : List (Event S)) → in_order priority_of (all_without_data xs) ≡ all_without_data (in_order priority_of xs)
+  in_order-erased xs = put_all-erased [] xs
+
+  -- each event calls the same
+  called_by-erased : (f : List (Event S)) (e : Event S) → called_by (all_without_data f) (without_data e) ≡ all_without_data (called_by f e)
+  called_by-erased f (Notify k c w s) =
+      ap (filter (λ x. place_of x == w)) (waiting-erased c f)
+      ∙ filter-map without_data (λ x. place_of x == w) (waiting c f)
+      ∙ ap (map without_data) (filter_agree _ (λ x. place_of x == w) (λ x. ap (λ j. j == w) (place_of-erased x)) (waiting c f))
+  called_by-erased f (Broadcast k c s) = ap (in_order priority_of) (waiting-erased c f) ∙ in_order-erased (waiting c f)
+  called_by-erased f (Admit k s) = refl
+  called_by-erased f (Wait k c p s) = refl
+  called_by-erased f (Signal k c w s) = refl
+  called_by-erased f (Pass k c w s) = refl
+  called_by-erased f (Leave k s) = refl
+  called_by-erased f (Resume k c s) = refl
+  called_by-erased f (Back k s) = refl
+
+  -- the same are called
+  pub called-erased : (h : List (Event S)) → called (all_without_data h) ≡ all_without_data (called h)
+  unfolding called
+  called-erased h = join_splits-map without_data without_data
+      (λ before e later. filter (λ x. is_last_act x later) (called_by before e))
+      (λ before e later. filter (λ x. is_last_act x later) (called_by before e)) [] h
+      (λ before e later.
+      ap (filter (λ x. is_last_act x (all_without_data later))) (called_by-erased before e)
+      ∙ filter-map without_data (λ x. is_last_act x (all_without_data later)) (called_by before e)
+      ∙ ap (map without_data) (filter_agree _ (λ x. is_last_act x later) (λ x. last_act-erased x later) (called_by before e)))
+
+  turn_after-erased : (o : Option (Event S)) (us : List ℕ) (ws : List (Event S)) → turn_after (option_map without_data o) us (all_without_data ws) ≡ turn_after o us ws
+  turn_after-erased None us ws = refl
+  turn_after-erased (Some e) us ws = turn_by-erased e us ws
 
   -- the turn is the same
   pub turn-erased : (h : List (Event S)) → turn (all_without_data h) ≡ turn h
   unfolding turn
-  turn-erased h = (λ i. turn_after (newest-erased h i) (urgent-erased h i)) ∙ turn_after-erased (newest h) (urgent h)
+  turn-erased h = (λ i. turn_after (newest-erased h i) (urgent-erased h i) (called-erased h i)) ∙ turn_after-erased (newest h) (urgent h) (called h)
 
   -- the same are outside
   pub outside-erased : (k : ℕ) (h : List (Event S)) → outside k (all_without_data h) ≡ outside k h
@@ -183,4 +267,4 @@ module _ {S : Type 0} where
   -- one more event
   pub erased-push : (h : History S) (e : Event S) → erased (with_event h e) ≡ with_event (erased h) (without_data e)
   unfolding with_event
-  erased-push h e = ap (λ l. record { places = h.places; conditions = h.conditions; opening = tt; events = l }) (map-append without_data h.events (e ∷ []))
+  erased-push h e = ap (λ l. record { places = h.places; conditions = h.conditions; mesa = h.mesa; opening = tt; events = l }) (map-append without_data h.events (e ∷ []))

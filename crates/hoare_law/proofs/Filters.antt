@@ -1,5 +1,5 @@
 -- Filters, what they keep, and the last element of a list.
-use Rattle.std.proofs.Common.{◌≡◌, ◌||◌, not, List, [], ◌∷◌, ◌++◌, map, Bool, true, false, cond, Some, refl, ap, sym, ◌∙◌, subst}
+use Rattle.std.proofs.Common.{◌≡◌, ◌&&◌, ◌||◌, not, List, [], ◌∷◌, ◌++◌, map, Bool, true, false, cond, Some, refl, ap, sym, ◌∙◌, subst}
 use Rattle.std.specs.Prelude.{All}
 use Rattle.std.specs.List.{filter, list_all, find}
 use Rattle.std.proofs.lemmas.Bool.{not-true}
@@ -48,6 +48,32 @@ filter-filter p q (x ∷ xs) = by (p x) (q x) refl refl (filter-filter p q xs)
 pub filter-all : {X : Type 0} (p : X → Bool) (xs : List X) → list_all p xs ≡ true → filter p xs ≡ xs
 filter-all p [] a = refl
 filter-all p (x ∷ xs) a = let b : (p x ≡ true) × (list_all p xs ≡ true) = both_true _ _ a in rw b.0 (ap (λ l. x ∷ l) (filter-all p xs b.1))
+
+-- a filter by two tests, and by one after the other
+pub filter-and : {X : Type 0} (r p q : X → Bool) → ((x : X) → r x ≡ (p x && q x)) → (xs : List X) → filter r xs ≡ filter q (filter p xs)
+filter-and r p q is [] = refl
+filter-and r p q is (x ∷ xs) = ap (λ b. cond b (x ∷ filter r xs) (filter r xs)) (is x) ∙ by (p x) (filter-and r p q is xs)
+  where
+    by : (t : Bool) → filter r xs ≡ filter q (filter p xs) → cond (t && q x) (x ∷ filter r xs) (filter r xs) ≡ filter q (cond t (x ∷ filter p xs) (filter p xs))
+    by true rest = ap (λ l. cond (q x) (x ∷ l) l) rest
+    by false rest = rest
+
+-- a test that all pass
+pub filter-true : {X : Type 0} (xs : List X) → filter (λ x. true) xs ≡ xs
+filter-true [] = refl
+filter-true (x ∷ xs) = ap (λ l. x ∷ l) (filter-true xs)
+
+-- a test that none passes
+pub filter-false : {X : Type 0} (xs : List X) → filter (λ x. false) xs ≡ []
+filter-false [] = refl
+filter-false (x ∷ xs) = filter-false xs
+
+-- a test that holds wherever another does
+pub list_all-weaker : {X : Type 0} (p q : X → Bool) (xs : List X) → ((x : X) → p x ≡ true → q x ≡ true) → list_all p xs ≡ true → list_all q xs ≡ true
+list_all-weaker p q [] f a = refl
+list_all-weaker p q (x ∷ xs) f a =
+    let b : (p x ≡ true) × (list_all p xs ≡ true) = both_true _ _ a in
+    rw (f x b.0) (list_all-weaker p q xs f b.1)
 
 -- what a filter keeps passes its test
 pub list_all-filter_own : {X : Type 0} (p : X → Bool) (xs : List X) → list_all p (filter p xs) ≡ true

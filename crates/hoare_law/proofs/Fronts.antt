@@ -8,10 +8,11 @@ use Rattle.std.proofs.lemmas.List.{append-nil}
 use Rattle.std.proofs.lemmas.List.Elements.{filter-append}
 use Rattle.hoare_law.specs.declared.event.Event.{Event}
 use Rattle.hoare_law.specs.declared.event.History.{History}
-use Rattle.hoare_law.specs.declared.event.Event.TheVariants.{Admit, Wait, Signal, Pass, Leave, Resume, Back}
+use Rattle.hoare_law.specs.declared.event.Event.TheVariants.{Admit, Wait, Signal, Pass, Leave, Resume, Back, Notify, Broadcast}
 use Rattle.hoare_law.specs.declared.turn.Turn.{Turn}
 use Rattle.hoare_law.specs.declared.turn.Turn.TheVariants.{Free, Held, Owed, Return}
 use Rattle.hoare_law.specs.Events.{place_of, data_of, own, newest, latest_data, cut_to}
+use Rattle.hoare_law.specs.Kinds.{IsHoare, IsMesa}
 use Rattle.hoare_law.specs.Waiting.{priority_of, waiting, chosen, Chooses}
 use Rattle.hoare_law.specs.Turns.{is_signal, turn}
 use Rattle.hoare_law.specs.Priorities.{priorities}
@@ -20,9 +21,10 @@ use Rattle.hoare_law.specs.Lawful.{Rest, Ready, Owes, IsLawful, Stands}
 use Rattle.hoare_law.specs.Growth.{Begins}
 use Rattle.hoare_law.proofs.Events.{newest-push, own-push}
 use Rattle.hoare_law.proofs.Filters.{newest-some, list_all-at, list_all-filter_own}
-use Rattle.hoare_law.proofs.Held.{brings_in, EndsHanding, handing, place_of-handing, data_of-handing, gives_up, turn-owed, turn-return, turn-free, own-held, held_one}
+use Rattle.hoare_law.proofs.Held.{is_inside, EndsHanding, EndsCalled, IsOwed, handed, next_called, handing, place_of-handing, data_of-handing, gives_up, turn-owed, turn-return, turn-free, own-held, held_one}
 use Rattle.hoare_law.proofs.Waiters.{Waits, LastSignals, chosen-waits, own-return}
 use Rattle.hoare_law.proofs.Priorities.{Chooses-chosen, waits_on-is}
+use Rattle.hoare_law.proofs.Owed.{IsCalled, first-called, turn-handed, turn-called}
 
 none_added : {X : Type 0} (xs ys : List X) → xs ++ ys ≡ xs → ys ≡ []
 none_added xs [] same = refl
@@ -45,6 +47,8 @@ module _ {S : Type 0} where
   place_of-held h k (Leave j s) is a = held_one h.events j k a.fits is
   place_of-held h k (Signal j c w s) is a = held_one h.events j k a.fits.0 is
   place_of-held h k (Pass j c w s) is a = held_one h.events j k a.fits.0 is
+  place_of-held h k (Notify j c w s) is a = held_one h.events j k a.fits.0 is
+  place_of-held h k (Broadcast j c s) is a = held_one h.events j k a.fits.0 is
 
   -- a place whose turn it is at its front finds the history there, where it did nothing since
   pub still_held : (k : ℕ) (f log : History S) → IsLegal log → turn f.events ≡ Held k → Begins f log → own k log.events ≡ own k f.events → log ≡ f
@@ -54,7 +58,7 @@ module _ {S : Type 0} where
       one_more e more at placed = none_added (own k f.events) (own k (e ∷ more)) (sym (filter-append (λ x. place_of x == k) f.events (e ∷ more)) ∙ ap (own k) at ∙ same)
 
       by : (later : List (Event S)) → f.events ++ later ≡ log.events → log ≡ f
-      by [] at = λ i. record { places = sym begins.places i; conditions = sym begins.conditions i; opening = sym begins.opening i; events = (sym at ∙ append-nil f.events) i }
+      by [] at = λ i. record { places = sym begins.places i; conditions = sym begins.conditions i; mesa = sym begins.mesa i; opening = sym begins.opening i; events = (sym at ∙ append-nil f.events) i }
       by (e ∷ more) at =
           let placed : place_of e ≡ k = place_of-held (cut_to log f.events) k e is (legal.each f.events more e (sym at)) in
           let kept : own k (e ∷ more) ≡ e ∷ own k more = ap (λ b. cond b (e ∷ own k more) (own k more)) (eq-eqb (place_of e) k placed) in
@@ -69,13 +73,12 @@ module _ {S : Type 0} where
     pub last : newest (own k h) ≡ Some x
 
   handing_fits : (out : Bool) (f : History S) (k c w : ℕ) (s : S) → Allowed f (handing out k c w s) → (turn f.events ≡ Held k) × Chooses c f.events w
-  handing_fits true f k c w s a = a.fits
-  handing_fits false f k c w s a = a.fits
+  handing_fits true f k c w s a = (a.fits.0, a.fits.1)
+  handing_fits false f k c w s a = (a.fits.0, a.fits.1)
 
-  -- whom the monitor is owed was chosen: its own last event is its wait
-  pub owed-handed : (h : History S) (k c : ℕ) → IsLegal h → turn h.events ≡ Owed k c → (x : Event S) × IsHanded h.events k c x
-  owed-handed h k c legal is =
-      let r = turn-owed h.events k c is in
+  -- whom the monitor was handed was chosen: its own last event is its wait
+  pub owed-handed : (h : History S) (k c : ℕ) → IsLegal h → EndsHanding k c h.events → (x : Event S) × IsHanded h.events k c x
+  owed-handed h k c legal r =
       let j : ℕ = r.by in
       let g : List (Event S) = r.before in
       let hand : Event S = handing r.out j c k r.left in
@@ -83,11 +86,11 @@ module _ {S : Type 0} where
       let x : (x : Event S) × (chosen c g ≡ Some x) × (place_of x ≡ k) = Chooses-chosen c k g fits.1 in
       let waits : Waits c g x.0 = chosen-waits c g x.0 x.1 in
       let last : newest (own k g) ≡ Some x.0 = ap (λ i. newest (own i g)) (sym x.2) ∙ waits.last in
-      let came : (e : Event S) × (newest (own j g) ≡ Some e) × (brings_in e ≡ true) = own-held g j fits.0 in
+      let came : (e : Event S) × (newest (own j g) ≡ Some e) × (is_inside e ≡ true) = own-held g j fits.0 in
       let other : j ≢ k = λ same.
       let both : Some came.0 ≡ Some x.0 = sym came.1 ∙ ap (λ i. newest (own i g)) same ∙ last in
       let one : came.0 ≡ x.0 = cc in
-      true≢false (sym came.2 ∙ ap brings_in (one ∙ waits_on-is c x.0 waits.on)) in
+      true≢false (sym came.2 ∙ ap is_inside (one ∙ waits_on-is c x.0 waits.on)) in
       let apart : (place_of hand == k) ≡ false = ap (λ i. i == k) (place_of-handing r.out j c k r.left) ∙ ne_eqb j k other in
       let kept : own k h.events ≡ own k g = ap (own k) r.ends ∙ own-push k g hand ∙ ap (λ b. own k g ++ cond b (hand ∷ []) []) apart ∙ append-nil _ in (
         x.0,
@@ -118,6 +121,8 @@ module _ {S : Type 0} where
   give_up_owes rest ready g (Pass j d v s) is owes = absurd (cc)
   give_up_owes rest ready g (Resume j d s) is owes = absurd (cc)
   give_up_owes rest ready g (Back j s) is owes = absurd (cc)
+  give_up_owes rest ready g (Notify j d v s) is owes = absurd (cc)
+  give_up_owes rest ready g (Broadcast j d s) is owes = absurd (cc)
 
   module _ {rest : Rest S} {ready : Ready S} where
     given_up : (h : History S) (g : List (Event S)) (e : Event S) → IsLawful rest ready h → h.events ≡ g ++ e ∷ [] → gives_up e ≡ true → rest (latest_data h) (priorities h.events)
@@ -125,11 +130,11 @@ module _ {S : Type 0} where
         subst (λ (s : S). rest s (priorities h.events)) (sym (latest_data-ends h g e is))
         (subst (λ (l : List (Event S)). rest (data_of e) (priorities l)) (sym is) (give_up_owes rest ready g e gives (lawful.each g [] e is)))
 
-    -- whoever the monitor is owed finds what was to be ready for its wait
-    pub ready-owed : (h : History S) (k c p : ℕ) (s : S) → Stands rest ready h → turn h.events ≡ Owed k c → newest (own k h.events) ≡ Some (Wait k c p s)
-        → ready c p (latest_data h) (priorities h.events)
-    ready-owed h k c p s stands is last =
-        let r : (x : Event S) × IsHanded h.events k c x = owed-handed h k c stands.legal is in
+    -- whoever the monitor is owed, from one of Hoare's conditions, finds what was to be ready for its wait
+    pub ready-owed : (h : History S) (k c p : ℕ) (s : S) → Stands rest ready h → IsHoare h.conditions h.mesa c → turn h.events ≡ Owed k c
+        → newest (own k h.events) ≡ Some (Wait k c p s) → ready c p (latest_data h) (priorities h.events)
+    ready-owed h k c p s stands hoare is last =
+        let r : (x : Event S) × IsHanded h.events k c x = owed-handed h k c stands.legal (turn-handed h k c stands.legal hoare is) in
         let both : Some r.0 ≡ Some (Wait k c p s) = sym r.1.last ∙ last in
         let one : r.0 ≡ Wait k c p s = cc in
         let l = r.1.hand in
@@ -140,6 +145,12 @@ module _ {S : Type 0} where
         subst (λ (q : ℕ). ready c q (latest_data h) (priorities h.events)) (ap priority_of one)
         (subst (λ (t : S). ready c (priority_of r.0) t (priorities h.events)) (sym kept)
         (subst (λ (g : List (Event S)). ready c (priority_of r.0) l.left (priorities g)) (sym l.ends) found))
+
+    -- and from a Mesa condition finds the monitor at rest
+    pub rest-owed : (h : History S) (k c : ℕ) → Stands rest ready h → IsMesa h.conditions h.mesa c → turn h.events ≡ Owed k c → rest (latest_data h) (priorities h.events)
+    rest-owed h k c stands mesa is =
+        let r : EndsCalled k c h.events = turn-called h k c stands.legal mesa is in
+        given_up h r.ends.0 r.by stands.lawful r.ends.1 r.gives
 
     -- a signaller that returns finds the monitor at rest
     pub rest-return : (h : History S) (k : ℕ) → IsLawful rest ready h → turn h.events ≡ Return k → rest (latest_data h) (priorities h.events)
@@ -157,9 +168,17 @@ module _ {S : Type 0} where
 
   -- a place to which the monitor is owed did last wait
   pub own-owed : (h : History S) (k c : ℕ) → IsLegal h → turn h.events ≡ Owed k c → (p : ℕ) × (s : S) × (newest (own k h.events) ≡ Some (Wait k c p s))
-  own-owed h k c legal is =
-      let r : (x : Event S) × IsHanded h.events k c x = owed-handed h k c legal is in
-      (priority_of r.0, data_of r.0, r.1.last ∙ ap (λ x. Some x) r.1.is)
+  own-owed h k c legal is = by (turn-owed h.events k c is)
+    where
+      by : IsOwed k c h.events → (p : ℕ) × (s : S) × (newest (own k h.events) ≡ Some (Wait k c p s))
+      by (handed r) =
+          let x : (x : Event S) × IsHanded h.events k c x = owed-handed h k c legal r in
+          (priority_of x.0, data_of x.0, x.1.last ∙ ap (λ y. Some y) x.1.is)
+      by (next_called r) =
+          let x : Event S = r.first in
+          let was : IsCalled h x = first-called h k c legal r in
+          let is : x ≡ Wait k c (priority_of x) (data_of x) = waits_on-is _ x was.waits ∙ (λ i. Wait (r.place i) (r.on i) (priority_of x) (data_of x)) in
+          (priority_of x, data_of x, ap (λ j. newest (own j h.events)) (sym r.place) ∙ was.last ∙ ap (λ y. Some y) is)
 
   -- the own events of k are k's
   pub place_of-own : (h : List (Event S)) (k : ℕ) (x : Event S) → newest (own k h) ≡ Some x → place_of x ≡ k
@@ -175,6 +194,8 @@ module _ {S : Type 0} where
   signal_is (Leave k s) is = absurd (cc)
   signal_is (Resume k c s) is = absurd (cc)
   signal_is (Back k s) is = absurd (cc)
+  signal_is (Notify k c w s) is = absurd (cc)
+  signal_is (Broadcast k c s) is = absurd (cc)
 
   -- a place that returns did last signal
   pub own-returning : (h : List (Event S)) (k : ℕ) → turn h ≡ Return k → (c w : ℕ) × (s : S) × (newest (own k h) ≡ Some (Signal k c w s))

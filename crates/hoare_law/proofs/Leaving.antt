@@ -1,41 +1,39 @@
 -- Who is inside gives the monitor up, by a wait, a leave, a signal or a pass: that it may, and what it owes.
-use Rattle.std.proofs.Common.{◌≡◌, ◌≢◌, ℕ, ◌<◌, Bool, true, false, cond, List, [], ◌∷◌, ◌++◌, Option, Some, None, refl, ap, sym, ◌∙◌, subst, eq-eqb}
+use Rattle.std.proofs.Common.{◌≡◌, ◌≢◌, ℕ, ◌<◌, arith, Bool, true, false, cond, List, [], ◌∷◌, ◌++◌, Option, Some, None, refl, ap, sym, ◌∙◌, subst, eq-eqb}
 use Rattle.std.specs.Prelude.{IsSomeAnd, slice_index}
 use Rattle.hoare_law.specs.declared.event.Event.{Event}
 use Rattle.hoare_law.specs.declared.event.History.{History}
-use Rattle.hoare_law.specs.declared.event.Event.TheVariants.{Admit, Wait, Signal, Pass, Leave, Resume, Back}
-use Rattle.hoare_law.specs.declared.turn.Turn.{Turn}
-use Rattle.hoare_law.specs.declared.turn.Turn.TheVariants.{Free, Held, Owed, Return}
+use Rattle.hoare_law.specs.declared.event.Event.TheVariants.{Admit, Wait, Signal, Pass, Leave, Resume, Back, Notify, Broadcast}
+use Rattle.hoare_law.specs.declared.turn.Turn.TheVariants.{Held, Owed}
 use Rattle.hoare_law.specs.Events.{place_of, with_event}
 use Rattle.hoare_law.specs.Lawful.{Rest, Ready, Owes}
 use Rattle.hoare_law.specs.Legal.{Allowed, IsLegal}
 use Rattle.hoare_law.specs.Priorities.{priorities, joined, taken}
 use Rattle.hoare_law.specs.Turns.{turn, urgent, outside, is_out}
+use Rattle.hoare_law.specs.Kinds.{IsHoare}
 use Rattle.hoare_law.specs.Waiting.{priority_of, chosen, Chooses}
-use Rattle.hoare_law.proofs.Held.{handing, not_held}
+use Rattle.hoare_law.specs.Called.{called}
+use Rattle.hoare_law.proofs.Held.{handing, is_inside, not_held}
 use Rattle.hoare_law.proofs.Priorities.{priorities-leave, priorities-wait, priorities-handing, priorities-nobody, slice_index-chosen, waiting-unchosen}
 use Rattle.hoare_law.proofs.Turns.{outside-push, turn-push}
 use Rattle.hoare_law.proofs.Waiters.{held-in_range, chosen-in_range, place_in_range}
 
-held_other : (k : ℕ) (t u : Turn) → t ≡ Held k → t ≡ u → u ≡ Held k
-held_other k t u a b = sym b ∙ a
-
 module _ {S : Type 0} where
-  -- nobody is inside after an event of the one inside
-  pub turn-left : (f : History S) (e : Event S) (k j : ℕ) → Allowed f e → turn f.events ≡ Held k → turn (with_event f e).events ≢ Held j
+  -- nobody is inside after an event that isn't one of a process inside
+  pub turn-left : (f : History S) (e : Event S) (j : ℕ) → is_inside e ≡ false → turn (with_event f e).events ≢ Held j
   unfolding with_event
-  turn-left f (Admit i s) k j may held is = let no : Free ≡ Held k = held_other k (turn f.events) Free held may.fits.0 in cc
-  turn-left f (Resume i c s) k j may held is =
-      let no : Owed i c ≡ Held k = held_other k (turn f.events) (Owed i c) held may.fits.0 in cc
-  turn-left f (Back i s) k j may held is =
-      let no : Return i ≡ Held k = held_other k (turn f.events) (Return i) held may.fits.0 in cc
-  turn-left f (Wait i c p s) k j may held is =
-      not_held (urgent (f.events ++ Wait i c p s ∷ [])) j (sym (turn-push f.events (Wait i c p s)) ∙ is)
-  turn-left f (Leave i s) k j may held is =
-      not_held (urgent (f.events ++ Leave i s ∷ [])) j (sym (turn-push f.events (Leave i s)) ∙ is)
-  turn-left f (Signal i c w s) k j may held is =
+  turn-left f (Admit i s) j out is = absurd (cc)
+  turn-left f (Resume i c s) j out is = absurd (cc)
+  turn-left f (Back i s) j out is = absurd (cc)
+  turn-left f (Notify i c w s) j out is = absurd (cc)
+  turn-left f (Broadcast i c s) j out is = absurd (cc)
+  turn-left f (Wait i c p s) j out is =
+      let h : List (Event S) = f.events ++ Wait i c p s ∷ [] in not_held (urgent h) (called h) j (sym (turn-push f.events (Wait i c p s)) ∙ is)
+  turn-left f (Leave i s) j out is =
+      let h : List (Event S) = f.events ++ Leave i s ∷ [] in not_held (urgent h) (called h) j (sym (turn-push f.events (Leave i s)) ∙ is)
+  turn-left f (Signal i c w s) j out is =
       let no : Owed w c ≡ Held j = sym (turn-push f.events (Signal i c w s)) ∙ is in cc
-  turn-left f (Pass i c w s) k j may held is =
+  turn-left f (Pass i c w s) j out is =
       let no : Owed w c ≡ Held j = sym (turn-push f.events (Pass i c w s)) ∙ is in cc
 
   -- the turn is that of whom a signal or a pass resumes
@@ -70,14 +68,14 @@ module _ {S : Type 0} where
   Allowed-wait f k c p s legal held below = record { in_range = (held-in_range f k legal held, below); fits = held }
 
   handing_allowed : (out : Bool) (f : History S) (k c w : ℕ) (s : S) → (k < f.places) × (c < f.conditions) × (w < f.places)
-      → (turn f.events ≡ Held k) × Chooses c f.events w → Allowed f (handing out k c w s)
+      → (turn f.events ≡ Held k) × Chooses c f.events w × IsHoare f.conditions f.mesa c → Allowed f (handing out k c w s)
   handing_allowed true f k c w s in_range fits = record { in_range = in_range; fits = fits }
   handing_allowed false f k c w s in_range fits = record { in_range = in_range; fits = fits }
 
-  pub Allowed-handing : (out : Bool) (f : History S) (k c : ℕ) (x : Event S) (s : S) → IsLegal f → turn f.events ≡ Held k → c < f.conditions
+  pub Allowed-handing : (out : Bool) (f : History S) (k c : ℕ) (x : Event S) (s : S) → IsLegal f → turn f.events ≡ Held k → IsHoare f.conditions f.mesa c
       → chosen c f.events ≡ Some x → Allowed f (handing out k c (place_of x) s)
-  Allowed-handing out f k c x s legal held below is = handing_allowed out f k c (place_of x) s
-      (held-in_range f k legal held, below, place_in_range f x (chosen-in_range c f x legal is)) (held, Chooses-place c f.events x is)
+  Allowed-handing out f k c x s legal held hoare is = handing_allowed out f k c (place_of x) s
+      (held-in_range f k legal held, omega (arith, hoare), place_in_range f x (chosen-in_range c f x legal is)) (held, Chooses-place c f.events x is, hoare)
 
   module _ (rest : Rest S) (ready : Ready S) where
     -- and pays what it owes

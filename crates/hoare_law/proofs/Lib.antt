@@ -1,6 +1,7 @@
 pub mod Tests
 pub mod Events
 pub mod Waiting
+pub mod Called
 pub mod Turns
 pub mod Legal
 pub mod Chosen
@@ -10,6 +11,7 @@ pub mod Held
 pub mod Waiters
 pub mod Sorted
 pub mod Priorities
+pub mod Owed
 pub mod Fronts
 pub mod Erasure
 pub mod Rules
@@ -18,6 +20,7 @@ pub mod Firsts
 pub mod Opening
 pub mod Entering
 pub mod Leaving
+pub mod Calling
 pub mod Ended
 pub mod Admissions
 pub mod Came

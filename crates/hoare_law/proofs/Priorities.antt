@@ -4,21 +4,21 @@ use Rattle.std.proofs.Common.{false, cond, Option, Some, None, refl, ap, sym, �
 use Rattle.std.specs.Prelude.{IsSomeAnd, slice_index}
 use Rattle.std.specs.List.{filter, list_all}
 use Rattle.std.specs.List.Sorted.{IsNonDecreasing}
-use Rattle.std.proofs.lemmas.List.{append-nil}
+use Rattle.std.proofs.lemmas.List.{append-nil, length-map}
 use Rattle.std.proofs.lemmas.List.Elements.{All-weaker, filter_agree}
 use Rattle.hoare_law.specs.declared.event.Event.{Event}
-use Rattle.hoare_law.specs.declared.event.Event.TheVariants.{Admit, Wait, Signal, Pass, Leave, Resume, Back}
-use Rattle.hoare_law.specs.declared.turn.Turn.TheVariants.{Held, Owed, Return}
+use Rattle.hoare_law.specs.declared.event.Event.TheVariants.{Admit, Wait, Signal, Pass, Leave, Resume, Back, Notify, Broadcast}
+use Rattle.hoare_law.specs.declared.turn.Turn.TheVariants.{Held, Return}
 use Rattle.hoare_law.specs.Events.{place_of, data_of, own, newest}
 use Rattle.hoare_law.specs.Waiting.{waits_on, priority_of, concerns, waiting, chosen, Chooses}
 use Rattle.hoare_law.specs.Turns.{is_signal, turn, is_out, outside}
-use Rattle.hoare_law.specs.Priorities.{put_in, in_order, priorities, joined, taken, behind_first}
-use Rattle.hoare_law.proofs.Tests.{both_true, eq_swap}
+use Rattle.hoare_law.specs.Priorities.{put_in, in_order, priorities, joined, taken, emptied, behind_first}
+use Rattle.hoare_law.proofs.Tests.{eq_swap}
 use Rattle.hoare_law.proofs.Waiting.{waiting-push}
-use Rattle.hoare_law.proofs.Sorted.{first_of, put_all-push, in_order-filter, map-put_in, map-in_order, in_order-none, in_order-short, IsNonDecreasing-in_order}
+use Rattle.hoare_law.proofs.Sorted.{first_of, put_all-push, in_order-filter, map-put_in, map-in_order, in_order-none, in_order-short, length-in_order, IsNonDecreasing-in_order}
 use Rattle.hoare_law.proofs.Chosen.{chosen-first}
-use Rattle.hoare_law.proofs.Filters.{map-none, filter-all, filter-or, list_all-filter_own, list_all-filter_none, list_all-same, list_all-from_All}
-use Rattle.hoare_law.proofs.Held.{handing, waits_on-handing, concerns-handing, waits_not, turn-owed, waiting-held}
+use Rattle.hoare_law.proofs.Filters.{map-none, filter-all, filter-true, filter-false, filter-or, list_all-filter_none, list_all-same, list_all-from_All}
+use Rattle.hoare_law.proofs.Held.{handing, waits_on-handing, concerns-handing, waits_not, waiting-held}
 use Rattle.hoare_law.proofs.Waiters.{Waits, LastSignals, All-waiting, own-return, chosen-waits, waiting-elsewhere, waiting-once}
 
 some_and : {X : Type 0} (P : X → Type 0) (o : Option X) → IsSomeAnd o P → (x : X) × (o ≡ Some x) × P x
@@ -36,10 +36,6 @@ first_none (y ∷ xs) is = absurd (cc)
 no_length : {X : Type 0} (xs : List X) → length xs ≤ 0 → xs ≡ []
 no_length [] l = refl
 no_length (x ∷ xs) l = absurd (omega arith)
-
-second : (a b : Bool) → not (a || b) ≡ true → not b ≡ true
-second true b n = absurd (cc)
-second false b n = n
 
 module _ {S : Type 0} where
   -- they never decrease
@@ -66,46 +62,27 @@ module _ {S : Type 0} where
       waiting-apart h k d (λ x last. let same : r.0 ≡ x = let e : Some r.0 ≡ Some x = sym r.1 ∙ last in cc in
       waits_not (λ y. is_signal y ≡ true) x d (λ j c p s on. cc) (ap is_signal (sym same) ∙ r.2))
 
-  list_all-weaker : (p q : Event S → Bool) (xs : List (Event S)) → ((x : Event S) → p x ≡ true → q x ≡ true) → list_all p xs ≡ true → list_all q xs ≡ true
-  list_all-weaker p q [] f a = refl
-  list_all-weaker p q (x ∷ xs) f a =
-      let b : (p x ≡ true) × (list_all p xs ≡ true) = both_true _ _ a in
-      rw (f x b.0) (list_all-weaker p q xs f b.1)
-
-  -- nor does the one that was resumed
-  pub waiting-owed : (h : List (Event S)) (k c d : ℕ) → turn h ≡ Owed k c → list_all (λ x. not (k == place_of x)) (waiting d h) ≡ true
-  waiting-owed h k c d is =
-      let r = turn-owed h k c is in
-      let g : List (Event S) = r.before in
-      let hand : Event S = handing r.out r.by c k r.left in
-      let left : waiting d h ≡ filter (λ x. not (concerns (place_of x) hand)) (waiting d g) =
-      ap (waiting d) r.ends ∙ waiting-push d g hand ∙ ap (λ b. filter (λ x. not (concerns (place_of x) hand)) (waiting d g) ++ cond b (hand ∷ []) [])
-      (waits_on-handing r.out d r.by c k r.left) ∙ append-nil _ in
-      list_all-weaker (λ x. not (concerns (place_of x) hand)) (λ x. not (k == place_of x)) (waiting d h)
-      (λ x n. second (r.by == place_of x) (k == place_of x) (ap not (sym (concerns-handing r.out (place_of x) r.by c k r.left)) ∙ n))
-      (ap (list_all (λ x. not (concerns (place_of x) hand))) left ∙ list_all-filter_own (λ x. not (concerns (place_of x) hand)) (waiting d g))
-
   -- an event of one that waits nowhere, which concerns no other, changes who waits only by its own wait
-  waiting-own : (h : List (Event S)) (e : Event S) (d : ℕ) → ((j : ℕ) → concerns j e ≡ (place_of e == j))
+  waiting-own : (h : List (Event S)) (e : Event S) (d : ℕ) → ((j : ℕ) → concerns d j e ≡ (place_of e == j))
       → list_all (λ x. not (place_of e == place_of x)) (waiting d h) ≡ true → waiting d (h ++ e ∷ []) ≡ waiting d h ++ cond (waits_on d e) (e ∷ []) []
   waiting-own h e d own_alone apart = waiting-push d h e
-      ∙ ap (λ l. l ++ cond (waits_on d e) (e ∷ []) []) (filter-all (λ x. not (concerns (place_of x) e)) (waiting d h)
-      (list_all-same (λ x. not (concerns (place_of x) e)) (λ x. not (place_of e == place_of x)) (waiting d h) (λ x. ap not (own_alone (place_of x))) ∙ apart))
+      ∙ ap (λ l. l ++ cond (waits_on d e) (e ∷ []) []) (filter-all (λ x. not (concerns d (place_of x) e)) (waiting d h)
+      (list_all-same (λ x. not (concerns d (place_of x) e)) (λ x. not (place_of e == place_of x)) (waiting d h) (λ x. ap not (own_alone (place_of x))) ∙ apart))
 
   -- a wait adds itself
   pub waiting-wait : (h : List (Event S)) (k c p d : ℕ) (s : S) → turn h ≡ Held k → waiting d (h ++ Wait k c p s ∷ []) ≡ waiting d h ++ cond (c == d) (Wait k c p s ∷ []) []
   waiting-wait h k c p d s is = waiting-own h (Wait k c p s) d (λ j. refl) (waiting-held h k d is)
 
   -- so the priorities stay, where it is no wait
-  pub priorities-own : (h : List (Event S)) (e : Event S) → ((j : ℕ) → concerns j e ≡ (place_of e == j)) → ((d : ℕ) → waits_on d e ≡ false)
+  pub priorities-own : (h : List (Event S)) (e : Event S) → ((d j : ℕ) → concerns d j e ≡ (place_of e == j)) → ((d : ℕ) → waits_on d e ≡ false)
       → ((d : ℕ) → list_all (λ x. not (place_of e == place_of x)) (waiting d h) ≡ true) → priorities (h ++ e ∷ []) ≡ priorities h
   unfolding priorities
   priorities-own h e own_alone no_wait apart = λ i d. map priority_of (in_order priority_of
-      ((waiting-own h e d own_alone (apart d) ∙ ap (λ b. waiting d h ++ cond b (e ∷ []) []) (no_wait d) ∙ append-nil _) i))
+      ((waiting-own h e d (own_alone d) (apart d) ∙ ap (λ b. waiting d h ++ cond b (e ∷ []) []) (no_wait d) ∙ append-nil _) i))
 
   -- as at a leave
   pub priorities-leave : (h : List (Event S)) (k : ℕ) (s : S) → turn h ≡ Held k → priorities (h ++ Leave k s ∷ []) ≡ priorities h
-  priorities-leave h k s is = priorities-own h (Leave k s) (λ j. refl) (λ d. refl) (λ d. waiting-held h k d is)
+  priorities-leave h k s is = priorities-own h (Leave k s) (λ d j. refl) (λ d. refl) (λ d. waiting-held h k d is)
 
   -- who waits on d, in the order in which signals would resume them
   abbrev pub in_turn : List (Event S) → ℕ → List (Event S)
@@ -157,6 +134,8 @@ module _ {S : Type 0} where
   waits_on-is c (Leave k s) on = absurd (cc)
   waits_on-is c (Resume k d s) on = absurd (cc)
   waits_on-is c (Back k s) on = absurd (cc)
+  waits_on-is c (Notify k d w s) on = absurd (cc)
+  waits_on-is c (Broadcast k d s) on = absurd (cc)
 
   -- nobody is chosen only where nobody waits
   pub waiting-unchosen : (c : ℕ) (h : List (Event S)) → chosen c h ≡ None → waiting c h ≡ []
@@ -208,16 +187,15 @@ module _ {S : Type 0} where
   map-behind_first [] = refl
   map-behind_first (x ∷ xs) = refl
 
-  -- a signal and a pass take the chosen one from those that wait
-  in_turn-handing : (out : Bool) (h : List (Event S)) (k c w d : ℕ) (s : S) → turn h ≡ Held k → Chooses c h w
-      → in_turn (h ++ handing out k c w s ∷ []) d ≡ cond (d == c) (behind_first (in_turn h d)) (in_turn h d)
-  in_turn-handing out h k c w d s is chooses =
-      let e : Event S = handing out k c w s in
+  -- an event that concerns k, which is inside, and w, whom it chooses, takes the chosen one from those that wait
+  in_turn-takes : (h : List (Event S)) (e : Event S) (k c w d : ℕ) → waits_on d e ≡ false → ((j : ℕ) → concerns d j e ≡ (k == j || w == j)) → turn h ≡ Held k → Chooses c h w
+      → in_turn (h ++ e ∷ []) d ≡ cond (d == c) (behind_first (in_turn h d)) (in_turn h d)
+  in_turn-takes h e k c w d no_wait both is chooses =
       let r : (x : Event S) × (chosen c h ≡ Some x) × (place_of x ≡ w) = Chooses-chosen c w h chooses in
       let left : waiting d (h ++ e ∷ []) ≡ filter (λ y. not (place_of r.0 == place_of y)) (waiting d h) =
       waiting-push d h e
-      ∙ ap (λ b. filter (λ x. not (concerns (place_of x) e)) (waiting d h) ++ cond b (e ∷ []) []) (waits_on-handing out d k c w s) ∙ append-nil _
-      ∙ filter_agree (λ x. not (concerns (place_of x) e)) (λ x. not (k == place_of x || w == place_of x)) (λ x. ap not (concerns-handing out (place_of x) k c w s)) (waiting d h)
+      ∙ ap (λ b. filter (λ x. not (concerns d (place_of x) e)) (waiting d h) ++ cond b (e ∷ []) []) no_wait ∙ append-nil _
+      ∙ filter_agree (λ x. not (concerns d (place_of x) e)) (λ x. not (k == place_of x || w == place_of x)) (λ x. ap not (both (place_of x))) (waiting d h)
       ∙ filter-or (λ x. k == place_of x) (λ x. w == place_of x) (waiting d h) (waiting-held h k d is)
       ∙ ap (λ j. filter (λ y. not (j == place_of y)) (waiting d h)) (sym r.2) in
       ap (in_order priority_of) left ∙ by r.0 r.1 (d == c) refl
@@ -238,8 +216,42 @@ module _ {S : Type 0} where
       by true = map-behind_first (in_turn h d)
       by false = refl
 
-  -- and the first priority
+  -- a signal and a pass take the first priority
   pub priorities-handing : (out : Bool) (h : List (Event S)) (k c w : ℕ) (s : S) → turn h ≡ Held k → Chooses c h w
       → priorities (h ++ handing out k c w s ∷ []) ≡ taken (priorities h) c
   unfolding priorities
-  priorities-handing out h k c w s is chooses = λ i d. (ap (map priority_of) (in_turn-handing out h k c w d s is chooses) ∙ map-taken h c d) i
+  priorities-handing out h k c w s is chooses = λ i d.
+      (ap (map priority_of) (in_turn-takes h (handing out k c w s) k c w d (waits_on-handing out d k c w s) (λ j. concerns-handing out d j k c w s) is chooses) ∙ map-taken h c d) i
+
+  -- so does a notify
+  pub priorities-notify : (h : List (Event S)) (k c w : ℕ) (s : S) → turn h ≡ Held k → Chooses c h w → priorities (h ++ Notify k c w s ∷ []) ≡ taken (priorities h) c
+  unfolding priorities
+  priorities-notify h k c w s is chooses = λ i d. (ap (map priority_of) (in_turn-takes h (Notify k c w s) k c w d refl (λ j. refl) is chooses) ∙ map-taken h c d) i
+
+  -- a broadcast leaves nobody waiting on its condition, and the others as they were
+  pub waiting-broadcast : (h : List (Event S)) (k c d : ℕ) (s : S) → turn h ≡ Held k → waiting d (h ++ Broadcast k c s ∷ []) ≡ cond (d == c) [] (waiting d h)
+  waiting-broadcast h k c d s is =
+      waiting-push d h (Broadcast k c s) ∙ append-nil _
+      ∙ filter-or (λ x. k == place_of x) (λ x. c == d) (waiting d h) (waiting-held h k d is)
+      ∙ ap (λ b. filter (λ x. not b) (waiting d h)) (eq_swap c d)
+      ∙ by (d == c)
+    where
+      by : (t : Bool) → filter (λ x. not t) (waiting d h) ≡ cond t [] (waiting d h)
+      by true = filter-false (waiting d h)
+      by false = filter-true (waiting d h)
+
+  priorities-broadcast_at : (h : List (Event S)) (k c d : ℕ) (s : S) → turn h ≡ Held k → priorities (h ++ Broadcast k c s ∷ []) d ≡ emptied (priorities h) c d
+  unfolding priorities
+  priorities-broadcast_at h k c d s is = ap (λ ws. map priority_of (in_order priority_of ws)) (waiting-broadcast h k c d s is) ∙ by (d == c)
+    where
+      by : (t : Bool) → map priority_of (in_order priority_of (cond t [] (waiting d h))) ≡ cond t [] (map priority_of (in_turn h d))
+      by true = refl
+      by false = refl
+
+  pub priorities-broadcast : (h : List (Event S)) (k c : ℕ) (s : S) → turn h ≡ Held k → priorities (h ++ Broadcast k c s ∷ []) ≡ emptied (priorities h) c
+  priorities-broadcast h k c s is = λ i d. priorities-broadcast_at h k c d s is i
+
+  -- as many priorities wait as processes
+  pub length-priorities : (c : ℕ) (h : List (Event S)) → length (priorities h c) ≡ length (waiting c h)
+  unfolding priorities
+  length-priorities c h = length-map (in_turn h c) priority_of ∙ length-in_order priority_of (waiting c h)

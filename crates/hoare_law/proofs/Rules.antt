@@ -6,7 +6,7 @@ use Rattle.std.proofs.lemmas.Bool.Decides.{nat_tests}
 use Rattle.std.proofs.lemmas.List.Elements.{All-nil, All-cons, All-weaker}
 use Rattle.hoare_law.specs.declared.event.Event.{Event}
 use Rattle.hoare_law.specs.declared.event.History.{History}
-use Rattle.hoare_law.specs.declared.event.Event.TheVariants.{Admit, Wait, Signal, Pass, Leave, Resume, Back}
+use Rattle.hoare_law.specs.declared.event.Event.TheVariants.{Admit, Wait, Signal, Pass, Leave, Resume, Back, Notify, Broadcast}
 use Rattle.hoare_law.specs.declared.turn.Turn.TheVariants.{Free, Held, Owed, Return}
 use Rattle.hoare_law.specs.Events.{latest_data, with_event}
 use Rattle.hoare_law.specs.Waiting.{priority_of, waiting, is_least, chosen}
@@ -70,6 +70,8 @@ module _ {S : Type 0} where
   only_resume f (Signal j d v s) w c is a = let t : Held j ≡ Owed w c = sym a.fits.0 ∙ is in absurd (cc)
   only_resume f (Pass j d v s) w c is a = let t : Held j ≡ Owed w c = sym a.fits.0 ∙ is in absurd (cc)
   only_resume f (Leave j s) w c is a = let t : Held j ≡ Owed w c = sym a.fits ∙ is in absurd (cc)
+  only_resume f (Notify j d v s) w c is a = let t : Held j ≡ Owed w c = sym a.fits.0 ∙ is in absurd (cc)
+  only_resume f (Broadcast j d s) w c is a = let t : Held j ≡ Owed w c = sym a.fits.0 ∙ is in absurd (cc)
   only_resume f (Back j s) w c is a = let t : Return j ≡ Owed w c = sym a.fits.0 ∙ is in absurd (cc)
 
   -- behind a signal or a pass only the resumed one goes on, with the data as they were left

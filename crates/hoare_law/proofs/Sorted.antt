@@ -1,6 +1,6 @@
 -- Lists in order of their keys: what one more element, a filter and a map do to them, and that they rise.
 use Rattle.std.proofs.Common.{◌≡◌, ℕ, ◌<◌, Bool, true, false, cond, leb, ◌&&◌, List, [], ◌∷◌, ◌++◌, map}
-use Rattle.std.proofs.Common.{refl, ap, sym, ◌∙◌, zero, suc, ◌≤◌, length, get_or, subst, append_assoc, arith, Some, None, Option}
+use Rattle.std.proofs.Common.{refl, ap, sym, ◌∙◌, zero, suc, ◌+◌, ◌≤◌, length, get_or, subst, append_assoc, arith, Some, None, Option}
 use Rattle.std.specs.List.{list_all, filter, find}
 use Rattle.hoare_law.specs.Priorities.{behind_first, put_in, put_all, in_order}
 use Rattle.hoare_law.proofs.Tests.{both_true, not_below, lower, above, below, list_all-filter}
@@ -182,6 +182,15 @@ module _ {X : Type 0} (key : X → ℕ) where
       by : (t : Bool) → length (put_in key x ys) ≡ suc (length ys) → length (cond t (y ∷ put_in key x ys) (x ∷ y ∷ ys)) ≡ suc (suc (length ys))
       by true rest = ap suc rest
       by false rest = refl
+
+module _ {X : Type 0} (key : X → ℕ) where
+  length-put_all : (placed xs : List X) → length (put_all key placed xs) ≡ length placed + length xs
+  length-put_all placed [] = omega arith
+  length-put_all placed (x ∷ xs) = omega (arith, length-put_all (put_in key x placed) xs, length-put_in key x placed)
+
+  -- as many as there were
+  pub length-in_order : (xs : List X) → length (in_order key xs) ≡ length xs
+  length-in_order xs = omega (arith, length-put_all [] xs)
 
 above_all : (n : ℕ) (xs : List ℕ) (i d : ℕ) → list_all (λ x. leb n x) xs ≡ true → i < length xs → n ≤ get_or xs i d
 above_all n [] i d a l = absurd (omega arith)

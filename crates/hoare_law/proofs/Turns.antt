@@ -6,6 +6,7 @@ use Rattle.hoare_law.specs.declared.event.Event.{Event}
 use Rattle.hoare_law.specs.Events.{place_of, own, newest}
 use Rattle.hoare_law.specs.Turns.{is_signal, urgent, turn, turn_by, turn_after, is_out, outside}
 use Rattle.hoare_law.specs.Waiting.{filter_by_later}
+use Rattle.hoare_law.specs.Called.{called}
 use Rattle.hoare_law.proofs.Events.{newest-push, own-push}
 use Rattle.hoare_law.proofs.Waiting.{filter_by_later-push}
 
@@ -30,9 +31,9 @@ urgent-push {S = S} h e =
     ∙ ap (λ l. l ++ map place_of (cond (is_signal e) (e ∷ []) [])) (sym (filter-map place_of (λ u. not (place_of e == u)) kept))
     ∙ ap (λ l. filter (λ u. not (place_of e == u)) (map place_of kept) ++ l) (map_one (is_signal e) e)
 
-pub turn-push : {S : Type 0} (h : List (Event S)) (e : Event S) → turn (h ++ e ∷ []) ≡ turn_by e (urgent (h ++ e ∷ []))
+pub turn-push : {S : Type 0} (h : List (Event S)) (e : Event S) → turn (h ++ e ∷ []) ≡ turn_by e (urgent (h ++ e ∷ [])) (called (h ++ e ∷ []))
 unfolding turn
-turn-push h e = ap (λ o. turn_after o (urgent (h ++ e ∷ []))) (newest-push h e)
+turn-push h e = ap (λ o. turn_after o (urgent (h ++ e ∷ [])) (called (h ++ e ∷ []))) (newest-push h e)
 
 out_by : {S : Type 0} (b : Bool) (xs : List (Event S)) (e : Event S) → is_out (newest (xs ++ cond b (e ∷ []) [])) ≡ cond b (is_out (Some e)) (is_out (newest xs))
 out_by true xs e = ap is_out (newest-push xs e)

@@ -1,36 +1,21 @@
 -- What is known of a process that waits, of the one that is chosen, and of a waiting signaller.
-use Rattle.std.proofs.Common.{◌≡◌, ◌≢◌, ◌==◌, ◌&&◌, ◌||◌, ◌<◌, ◌≤◌, not, ℕ, List, [], ◌∷◌, ◌++◌, length}
+use Rattle.std.proofs.Common.{◌≡◌, ◌≢◌, ◌==◌, ◌&&◌, ◌<◌, ◌≤◌, not, ℕ, List, [], ◌∷◌, ◌++◌, length}
 use Rattle.std.proofs.Common.{Bool, true, false, cond, Some, refl, ap, sym, ◌∙◌, subst, arith, eq-eqb, eqb-true, ne_eqb}
 use Rattle.std.specs.Prelude.{All}
 use Rattle.std.specs.List.{filter, list_all}
-use Rattle.std.proofs.lemmas.Bool.{not-true}
 use Rattle.std.proofs.lemmas.List.Elements.{All-head, All-weaker, All-map, filter-append}
 use Rattle.hoare_law.specs.declared.event.Event.{Event}
 use Rattle.hoare_law.specs.declared.event.History.{History}
-use Rattle.hoare_law.specs.declared.event.Event.TheVariants.{Admit, Wait, Signal, Pass, Leave, Resume, Back}
-use Rattle.hoare_law.specs.declared.turn.Turn.TheVariants.{Held, Owed, Return}
+use Rattle.hoare_law.specs.declared.event.Event.TheVariants.{Admit, Wait, Signal, Pass, Leave, Resume, Back, Notify, Broadcast}
+use Rattle.hoare_law.specs.declared.turn.Turn.TheVariants.{Held, Return}
 use Rattle.hoare_law.specs.Events.{place_of, own, newest, cut_to}
-use Rattle.hoare_law.specs.Waiting.{filter_by_later, waits_on, concerns, is_untouched, is_least, waiting, chosen}
-use Rattle.hoare_law.specs.Turns.{is_signal, is_last_act, urgent, turn}
+use Rattle.hoare_law.specs.Waiting.{condition_of, filter_by_later, waits_on, concerns, is_last_act, is_untouched, is_least, waiting, chosen}
+use Rattle.hoare_law.specs.Turns.{is_signal, urgent, turn}
 use Rattle.hoare_law.specs.Legal.{IsInRange, IsLegal}
 use Rattle.hoare_law.proofs.Tests.{both_true, eq_swap}
 use Rattle.hoare_law.proofs.Events.{newest-push}
 use Rattle.hoare_law.proofs.Filters.{filter-none, list_all-at, list_all-from_All, All-find, find-passes, All-filter_by_later}
-use Rattle.hoare_law.proofs.Held.{brings_in, handing, turn-held, turn-owed, turn-return}
-
-first : (a b : Bool) → not (a || b) ≡ true → a ≡ false
-first true b e = absurd (cc)
-first false b e = refl
-
--- an event that does not concern a place is not its own
-own_is_concerned : {S : Type 0} (e : Event S) (k : ℕ) → not (concerns k e) ≡ true → (place_of e == k) ≡ false
-own_is_concerned (Admit j s) k n = not-true _ n
-own_is_concerned (Resume j c s) k n = not-true _ n
-own_is_concerned (Back j s) k n = not-true _ n
-own_is_concerned (Wait j c p s) k n = not-true _ n
-own_is_concerned (Signal j c w s) k n = first _ _ n
-own_is_concerned (Pass j c w s) k n = first _ _ n
-own_is_concerned (Leave j s) k n = not-true _ n
+use Rattle.hoare_law.proofs.Held.{is_inside, handing, own_is_concerned, turn-held, turn-return}
 
 module _ {S : Type 0} where
   -- x waits on c in h: it is a wait on c, and its place's last event
@@ -50,19 +35,19 @@ module _ {S : Type 0} where
       let whole : own k h ≡ own k f ++ x ∷ [] = ap (own k) is ∙ filter-append (λ y. place_of y == k) f (x ∷ later) ∙ ap (λ l. own k f ++ l) tail in
       ap newest whole ∙ newest-push (own k f) x
 
-  untouched_last : (k : ℕ) (later : List (Event S)) → list_all (λ y. not (concerns k y)) later ≡ true → list_all (λ y. not (place_of y == k)) later ≡ true
-  untouched_last k [] a = refl
-  untouched_last k (y ∷ later) a =
-      let b : (not (concerns k y) ≡ true) × (list_all (λ z. not (concerns k z)) later ≡ true) = both_true _ _ a in
-      rw (own_is_concerned y k b.0) (untouched_last k later b.1)
+  untouched_last : (c k : ℕ) (later : List (Event S)) → list_all (λ y. not (concerns c k y)) later ≡ true → list_all (λ y. not (place_of y == k)) later ≡ true
+  untouched_last c k [] a = refl
+  untouched_last c k (y ∷ later) a =
+      let b : (not (concerns c k y) ≡ true) × (list_all (λ z. not (concerns c k z)) later ≡ true) = both_true _ _ a in
+      rw (own_is_concerned y c k b.0) (untouched_last c k later b.1)
 
   -- each that waits is its place's last event
   pub All-waiting : (c : ℕ) (h : List (Event S)) → All (Waits c h) (waiting c h)
   unfolding waiting
-  All-waiting c h = All-filter_by_later (Waits c h) (λ e later. waits_on c e && is_untouched e later) h
+  All-waiting c h = All-filter_by_later (Waits c h) (λ e later. waits_on c e && is_untouched c e later) h
       (λ f x later is t.
-      let b : (waits_on c x ≡ true) × (is_untouched x later ≡ true) = both_true _ _ t in
-      record { on = b.0; last = newest-own_split f later x h is (untouched_last (place_of x) later b.1) })
+      let b : (waits_on c x ≡ true) × (is_untouched c x later ≡ true) = both_true _ _ t in
+      record { on = b.0; last = newest-own_split f later x h is (untouched_last c (place_of x) later b.1) })
 
   -- and each waiting signaller's last event is its signal
   abbrev pub LastSignals : List (Event S) → ℕ → Type 0
@@ -84,6 +69,8 @@ module _ {S : Type 0} where
   in_range_cut h f (Leave k s) r = r
   in_range_cut h f (Resume k c s) r = r
   in_range_cut h f (Back k s) r = r
+  in_range_cut h f (Notify k c w s) r = r
+  in_range_cut h f (Broadcast k c s) r = r
 
   -- wherever an event of a legal history stands, it is in range
   pub in_range-at : (h : History S) (f later : List (Event S)) (e : Event S) → IsLegal h → h.events ≡ f ++ e ∷ later → IsInRange h e
@@ -102,22 +89,18 @@ module _ {S : Type 0} where
   place_in_range h (Leave k s) r = r
   place_in_range h (Resume k c s) r = r.0
   place_in_range h (Back k s) r = r
+  place_in_range h (Notify k c w s) r = r.0
+  place_in_range h (Broadcast k c s) r = r.0
 
-  handing_in_range : (out : Bool) (h : History S) (k c w : ℕ) (s : S) → IsInRange h (handing out k c w s) → (w < h.places) × (c < h.conditions)
+  pub handing_in_range : (out : Bool) (h : History S) (k c w : ℕ) (s : S) → IsInRange h (handing out k c w s) → (w < h.places) × (c < h.conditions)
   handing_in_range true h k c w s r = (r.2, r.1)
   handing_in_range false h k c w s r = (r.2, r.1)
 
   -- who has the turn is a place of the monitor
   pub held-in_range : (h : History S) (k : ℕ) → IsLegal h → turn h.events ≡ Held k → k < h.places
   held-in_range h k legal is =
-      let r : (e : Event S) × ((g : List (Event S)) × (h.events ≡ g ++ e ∷ [])) × (brings_in e ≡ true) × (place_of e ≡ k) = turn-held h.events k is in
+      let r : (e : Event S) × ((g : List (Event S)) × (h.events ≡ g ++ e ∷ [])) × (is_inside e ≡ true) × (place_of e ≡ k) = turn-held h.events k is in
       subst (λ (i : ℕ). i < h.places) r.3 (place_in_range h r.0 (in_range-at h r.1.0 [] r.0 legal r.1.1))
-
-  -- so are place and condition to which it is owed
-  pub owed-in_range : (h : History S) (w c : ℕ) → IsLegal h → turn h.events ≡ Owed w c → (w < h.places) × (c < h.conditions)
-  owed-in_range h w c legal is =
-      let r = turn-owed h.events w c is in
-      handing_in_range r.out h r.by c w r.left (in_range-at h r.before [] (handing r.out r.by c w r.left) legal r.ends)
 
   -- so are the waiting signallers
   pub urgent-in_range : (h : History S) → IsLegal h → All (λ k. k < h.places) (urgent h.events)
@@ -142,12 +125,29 @@ module _ {S : Type 0} where
   -- and its wait is in range
   pub chosen-in_range : (c : ℕ) (h : History S) (x : Event S) → IsLegal h → chosen c h.events ≡ Some x → IsInRange h x
   unfolding chosen waiting
-  chosen-in_range c h x legal is = All-find (IsInRange h) (is_least (waiting c h.events)) (waiting c h.events) x is (All-in_range h (λ e later. waits_on c e && is_untouched e later) legal)
+  chosen-in_range c h x legal is = All-find (IsInRange h) (is_least (waiting c h.events)) (waiting c h.events) x is (All-in_range h (λ e later. waits_on c e && is_untouched c e later) legal)
 
   -- none that waits has a smaller priority
   pub chosen-least : (c : ℕ) (h : List (Event S)) (x : Event S) → chosen c h ≡ Some x → is_least (waiting c h) x ≡ true
   unfolding chosen
   chosen-least c h x is = find-passes (is_least (waiting c h)) (waiting c h) x is
+
+  -- a wait on c has c for its condition
+  pub condition-waits_on : (c : ℕ) (x : Event S) → waits_on c x ≡ true → condition_of x ≡ c
+  condition-waits_on c (Wait k d p s) on = eqb-true d c on
+  condition-waits_on c (Admit k s) on = absurd (cc)
+  condition-waits_on c (Signal k d w s) on = absurd (cc)
+  condition-waits_on c (Pass k d w s) on = absurd (cc)
+  condition-waits_on c (Leave k s) on = absurd (cc)
+  condition-waits_on c (Resume k d s) on = absurd (cc)
+  condition-waits_on c (Back k s) on = absurd (cc)
+  condition-waits_on c (Notify k d w s) on = absurd (cc)
+  condition-waits_on c (Broadcast k d s) on = absurd (cc)
+
+  -- and each that waits on c is in range in a legal history
+  pub waiting-in_range : (c : ℕ) (h : History S) → IsLegal h → All (IsInRange h) (waiting c h.events)
+  unfolding waiting
+  waiting-in_range c h legal = All-in_range h (λ e later. waits_on c e && is_untouched c e later) legal
 
   both_wait : (c d : ℕ) (x : Event S) → waits_on c x ≡ true → waits_on d x ≡ true → d ≡ c
   both_wait c d (Wait k i p s) a b = sym (eqb-true i d b) ∙ eqb-true i c a
@@ -157,6 +157,8 @@ module _ {S : Type 0} where
   both_wait c d (Leave k s) a b = absurd (cc)
   both_wait c d (Resume k i s) a b = absurd (cc)
   both_wait c d (Back k s) a b = absurd (cc)
+  both_wait c d (Notify k i w s) a b = absurd (cc)
+  both_wait c d (Broadcast k i s) a b = absurd (cc)
 
   -- a place waits on one condition
   pub waits_once : (c d : ℕ) (h : List (Event S)) (x y : Event S) → Waits c h x → Waits d h y → place_of x ≡ place_of y → d ≡ c
@@ -175,15 +177,15 @@ module _ {S : Type 0} where
   pub waiting-once : (c w : ℕ) (h : List (Event S)) → length (filter (λ x. w == place_of x) (waiting c h)) ≤ 1
   unfolding waiting
   waiting-once c w [] = omega arith
-  waiting-once c w (x ∷ h) = by (waits_on c x && is_untouched x h) refl (waiting-once c w h)
+  waiting-once c w (x ∷ h) = by (waits_on c x && is_untouched c x h) refl (waiting-once c w h)
     where
-      own_apart : is_untouched x h ≡ true → list_all (λ y. not (place_of x == place_of y)) (waiting c h) ≡ true
+      own_apart : is_untouched c x h ≡ true → list_all (λ y. not (place_of x == place_of y)) (waiting c h) ≡ true
       own_apart a = list_all-from_All (λ y. not (place_of x == place_of y)) (waiting c h)
-          (All-filter_by_later (λ y. not (place_of x == place_of y) ≡ true) (λ e later. waits_on c e && is_untouched e later) h
-          (λ f y later is t. ap not (eq_swap (place_of x) (place_of y) ∙ own_is_concerned y (place_of x)
-          (list_all-at (λ z. not (concerns (place_of x) z)) f y later (ap (list_all (λ z. not (concerns (place_of x) z))) (sym is) ∙ a)))))
+          (All-filter_by_later (λ y. not (place_of x == place_of y) ≡ true) (λ e later. waits_on c e && is_untouched c e later) h
+          (λ f y later is t. ap not (eq_swap (place_of x) (place_of y) ∙ own_is_concerned y c (place_of x)
+          (list_all-at (λ z. not (concerns c (place_of x) z)) f y later (ap (list_all (λ z. not (concerns c (place_of x) z))) (sym is) ∙ a)))))
 
-      first_of : (t : Bool) → (w == place_of x) ≡ t → is_untouched x h ≡ true → length (filter (λ y. w == place_of y) (waiting c h)) ≤ 1
+      first_of : (t : Bool) → (w == place_of x) ≡ t → is_untouched c x h ≡ true → length (filter (λ y. w == place_of y) (waiting c h)) ≤ 1
           → length (cond t (x ∷ filter (λ y. w == place_of y) (waiting c h)) (filter (λ y. w == place_of y) (waiting c h))) ≤ 1
       first_of true is a rest =
           let none : filter (λ y. w == place_of y) (waiting c h) ≡ [] = filter-none (λ y. w == place_of y) (waiting c h)
@@ -191,7 +193,7 @@ module _ {S : Type 0} where
           rw none (omega arith)
       first_of false is a rest = rest
 
-      by : (t : Bool) → (waits_on c x && is_untouched x h) ≡ t → length (filter (λ y. w == place_of y) (waiting c h)) ≤ 1
+      by : (t : Bool) → (waits_on c x && is_untouched c x h) ≡ t → length (filter (λ y. w == place_of y) (waiting c h)) ≤ 1
           → length (filter (λ y. w == place_of y) (cond t (x ∷ waiting c h) (waiting c h))) ≤ 1
       by true is rest = first_of (w == place_of x) refl (both_true _ _ is).1 rest
       by false is rest = rest

@@ -26,6 +26,6 @@ filter_by_later-push is q (x ∷ h) e =
     (kept_step (is x) (list_all (q x) h) (q x e) (λ y. q y e) x _ _ _ refl (filter_by_later-push is q h e))
 
 -- those that waited and aren't concerned by e, and e if it waits on c
-pub waiting-push : {S : Type 0} (c : ℕ) (h : List (Event S)) (e : Event S) → waiting c (h ++ e ∷ []) ≡ filter (λ x. not (concerns (place_of x) e)) (waiting c h) ++ cond (waits_on c e) (e ∷ []) []
+pub waiting-push : {S : Type 0} (c : ℕ) (h : List (Event S)) (e : Event S) → waiting c (h ++ e ∷ []) ≡ filter (λ x. not (concerns c (place_of x) e)) (waiting c h) ++ cond (waits_on c e) (e ∷ []) []
 unfolding waiting
-waiting-push c h e = filter_by_later-push (waits_on c) (λ x y. not (concerns (place_of x) y)) h e
+waiting-push c h e = filter_by_later-push (waits_on c) (λ x y. not (concerns c (place_of x) y)) h e

@@ -5,7 +5,7 @@ use Rattle.std.specs.List.{filter}
 use Rattle.std.specs.Option.{option_map}
 use Rattle.hoare_law.specs.declared.event.Event.{Event}
 use Rattle.hoare_law.specs.declared.event.History.{History}
-use Rattle.hoare_law.specs.declared.event.Event.TheVariants.{Admit, Wait, Signal, Pass, Leave, Resume, Back}
+use Rattle.hoare_law.specs.declared.event.Event.TheVariants.{Admit, Wait, Signal, Pass, Leave, Resume, Back, Notify, Broadcast}
 
 -- the place that acts
 abbrev pub place_of : {S : Type 0} → Event S → ℕ
@@ -16,8 +16,10 @@ place_of (Pass k c w s) = k
 place_of (Leave k s) = k
 place_of (Resume k c s) = k
 place_of (Back k s) = k
+place_of (Notify k c w s) = k
+place_of (Broadcast k c s) = k
 
--- the data as left, or as found
+-- the data as left, as found, or as they are in hand
 abbrev pub data_of : {S : Type 0} → Event S → S
 data_of (Admit k s) = s
 data_of (Wait k c p s) = s
@@ -26,6 +28,8 @@ data_of (Pass k c w s) = s
 data_of (Leave k s) = s
 data_of (Resume k c s) = s
 data_of (Back k s) = s
+data_of (Notify k c w s) = s
+data_of (Broadcast k c s) = s
 
 -- the own events of place k, in order
 abbrev pub own : {S : Type 0} → ℕ → List (Event S) → List (Event S)
@@ -49,6 +53,6 @@ with_event h e = record h { events = h.events ++ e ∷ [] }
 abbrev pub cut_to : {S : Type 0} → History S → List (Event S) → History S
 cut_to h f = record h { events = f }
 
--- a history in which nothing happened yet
-abbrev pub opened : {S : Type 0} → ℕ → ℕ → S → History S
-opened places conditions s = record { places = places; conditions = conditions; opening = s; events = [] }
+-- a history in which nothing happened yet, at a monitor of which the last `mesa` conditions are Mesa conditions
+abbrev pub opened : {S : Type 0} → ℕ → ℕ → ℕ → S → History S
+opened places conditions mesa s = record { places = places; conditions = conditions; mesa = mesa; opening = s; events = [] }

@@ -1,8 +1,8 @@
 -- How what a place knows of the history, its front, grows by a call.
-use Rattle.std.specs.Prelude.{ℕ, List, [], ◌∷◌, ◌++◌, ◌≡◌, Bool, true, false, Some}
+use Rattle.std.specs.Prelude.{ℕ, List, [], ◌∷◌, ◌++◌, ◌≡◌, ◌≢◌, Bool, true, false, Some}
 use Rattle.hoare_law.specs.declared.event.Event.{Event}
 use Rattle.hoare_law.specs.declared.event.History.{History}
-use Rattle.hoare_law.specs.declared.event.Event.TheVariants.{Admit, Wait, Signal, Pass, Leave, Resume, Back}
+use Rattle.hoare_law.specs.declared.event.Event.TheVariants.{Admit, Wait, Signal, Pass, Leave, Resume, Back, Notify, Broadcast}
 use Rattle.hoare_law.specs.Events.{place_of, own, newest, with_event}
 use Rattle.hoare_law.specs.Waiting.{waiting, Chooses}
 
@@ -10,6 +10,7 @@ use Rattle.hoare_law.specs.Waiting.{waiting, Chooses}
 pub record Begins {S : Type 0} (f h : History S) : Type 0 where
   pub places : f.places ≡ h.places
   pub conditions : f.conditions ≡ h.conditions
+  pub mesa : f.mesa ≡ h.mesa
   pub opening : f.opening ≡ h.opening
   pub later : List (Event S)
   pub is : f.events ++ later ≡ h.events
@@ -39,6 +40,16 @@ pub data Signals {S : Type 0} (k c : ℕ) (s t : S) (f h : History S) : Bool →
 pub data Exits {S : Type 0} (k c : ℕ) (s : S) (f h : History S) : Bool → Type 0 where
   passed_on : (w : ℕ) → Chooses c f.events w → h ≡ with_event f (Pass k c w s) → Exits k c s f h true
   just_left : waiting c f.events ≡ [] → h ≡ with_event f (Leave k s) → Exits k c s f h false
+
+-- what a notify adds: it called the one that a signal would resume, or nobody waited
+pub data Notifies {S : Type 0} (k c : ℕ) (s : S) (f h : History S) : Bool → Type 0 where
+  called_one : (w : ℕ) → Chooses c f.events w → h ≡ with_event f (Notify k c w s) → Notifies k c s f h true
+  nobody_called : waiting c f.events ≡ [] → h ≡ f → Notifies k c s f h false
+
+-- what a broadcast adds: it called all that waited, or nobody waited
+pub data Broadcasts {S : Type 0} (k c : ℕ) (s : S) (f h : History S) : Type 0 where
+  called_all : waiting c f.events ≢ [] → h ≡ with_event f (Broadcast k c s) → Broadcasts k c s f h
+  none_called : waiting c f.events ≡ [] → h ≡ f → Broadcasts k c s f h
 
 -- k came in, and goes on with what it then finds; g is its front then. Where what it first found held it up (of its front at that
 -- moment and of the data), it waited once, on the condition and with the priority that those data say

@@ -1,5 +1,6 @@
 -- Lawful histories: whenever the monitor is given up, what is owed holds (the paper's axioms for wait and signal, in which
--- the assertions may also speak of the waiting priorities: this project's choice).
+-- the assertions may also speak of the waiting priorities: this project's choice). A notify and a broadcast owe nothing: they don't
+-- give the monitor up, and who is called goes on where it was given up.
 use Rattle.std.specs.Prelude.{ℕ, List, [], ◌∷◌, ◌++◌, ◌≡◌, IsSomeAnd}
 use Rattle.hoare_law.specs.declared.event.Event.{Event}
 use Rattle.hoare_law.specs.declared.event.History.{History}

@@ -1,11 +1,12 @@
--- Legal histories: those of Hoare's machine.
-use Rattle.std.specs.Prelude.{List, ◌∷◌, ◌++◌, ◌<◌, ◌≡◌, true}
+-- Legal histories: those of Hoare's machine, with Mesa conditions beside Hoare's.
+use Rattle.std.specs.Prelude.{List, [], ◌∷◌, ◌++◌, ◌<◌, ◌≡◌, ◌≢◌, true}
 use Rattle.hoare_law.specs.declared.event.Event.{Event}
 use Rattle.hoare_law.specs.declared.event.History.{History}
-use Rattle.hoare_law.specs.declared.event.Event.TheVariants.{Admit, Wait, Signal, Pass, Leave, Resume, Back}
+use Rattle.hoare_law.specs.declared.event.Event.TheVariants.{Admit, Wait, Signal, Pass, Leave, Resume, Back, Notify, Broadcast}
 use Rattle.hoare_law.specs.declared.turn.Turn.TheVariants.{Free, Held, Owed, Return}
 use Rattle.hoare_law.specs.Events.{latest_data, cut_to}
-use Rattle.hoare_law.specs.Waiting.{Chooses}
+use Rattle.hoare_law.specs.Kinds.{IsHoare, IsMesa}
+use Rattle.hoare_law.specs.Waiting.{waiting, Chooses}
 use Rattle.hoare_law.specs.Turns.{turn, outside}
 
 -- the event's places and condition are the monitor's
@@ -17,16 +18,21 @@ IsInRange f (Pass k c w s) = (k < f.places) × (c < f.conditions) × (w < f.plac
 IsInRange f (Leave k s) = k < f.places
 IsInRange f (Resume k c s) = (k < f.places) × (c < f.conditions)
 IsInRange f (Back k s) = k < f.places
+IsInRange f (Notify k c w s) = (k < f.places) × (c < f.conditions) × (w < f.places)
+IsInRange f (Broadcast k c s) = (k < f.places) × (c < f.conditions)
 
--- the event is the turn's, finds the data as they were left, and resumes whom it should
+-- the event is the turn's, finds the data as they were left, resumes or calls whom it should, and suits the condition's kind: signals
+-- are for Hoare's, calls for Mesa conditions
 abbrev pub Fits : {S : Type 0} → History S → Event S → Type 0
 Fits f (Admit k s) = (turn f.events ≡ Free) × (outside k f.events ≡ true) × (s ≡ latest_data f)
 Fits f (Resume k c s) = (turn f.events ≡ Owed k c) × (s ≡ latest_data f)
 Fits f (Back k s) = (turn f.events ≡ Return k) × (s ≡ latest_data f)
 Fits f (Wait k c p s) = turn f.events ≡ Held k
 Fits f (Leave k s) = turn f.events ≡ Held k
-Fits f (Signal k c w s) = (turn f.events ≡ Held k) × Chooses c f.events w
-Fits f (Pass k c w s) = (turn f.events ≡ Held k) × Chooses c f.events w
+Fits f (Signal k c w s) = (turn f.events ≡ Held k) × Chooses c f.events w × IsHoare f.conditions f.mesa c
+Fits f (Pass k c w s) = (turn f.events ≡ Held k) × Chooses c f.events w × IsHoare f.conditions f.mesa c
+Fits f (Notify k c w s) = (turn f.events ≡ Held k) × Chooses c f.events w × IsMesa f.conditions f.mesa c
+Fits f (Broadcast k c s) = (turn f.events ≡ Held k) × (waiting c f.events ≢ []) × IsMesa f.conditions f.mesa c
 
 -- the event may come next
 pub record Allowed {S : Type 0} (f : History S) (e : Event S) : Type 0 where

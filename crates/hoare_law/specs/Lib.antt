@@ -1,8 +1,10 @@
 pub mod Events
+pub mod Kinds
 pub mod Waiting
+pub mod Priorities
+pub mod Called
 pub mod Turns
 pub mod Legal
-pub mod Priorities
 pub mod Lawful
 pub mod Growth
 pub mod Beside

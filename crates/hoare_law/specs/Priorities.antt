@@ -28,6 +28,10 @@ nobody c = []
 abbrev pub joined : (ℕ → List ℕ) → ℕ → ℕ → ℕ → List ℕ
 joined lists c p d = if d == c then put_in (λ n. n) p (lists d) else lists d
 
+-- the lists with nobody on c
+abbrev pub emptied : (ℕ → List ℕ) → ℕ → ℕ → List ℕ
+emptied lists c d = if d == c then [] else lists d
+
 -- all but the first
 abbrev pub behind_first : {X : Type 0} → List X → List X
 behind_first [] = []

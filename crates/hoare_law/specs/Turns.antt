@@ -1,48 +1,49 @@
--- Whose turn it is, and who is outside ("Monitors", Introduction, and Interpretation for the waiting signallers).
-use Rattle.std.specs.Prelude.{ℕ, List, [], ◌∷◌, ◌==◌, ◌&&◌, not, Bool, true, false, Option, Some, None, map}
-use Rattle.std.specs.List.{list_all}
+-- Whose turn it is, and who is outside ("Monitors", Introduction, and Interpretation for the waiting signallers; that the called go on
+-- behind them and before newcomers is this project's choice).
+use Rattle.std.specs.Prelude.{ℕ, List, [], ◌∷◌, ◌&&◌, Bool, true, false, Option, Some, None, map}
 use Rattle.hoare_law.specs.declared.event.Event.{Event}
-use Rattle.hoare_law.specs.declared.event.Event.TheVariants.{Admit, Wait, Signal, Pass, Leave, Resume, Back}
+use Rattle.hoare_law.specs.declared.event.Event.TheVariants.{Admit, Wait, Signal, Pass, Leave, Resume, Back, Notify, Broadcast}
 use Rattle.hoare_law.specs.declared.turn.Turn.{Turn}
 use Rattle.hoare_law.specs.declared.turn.Turn.TheVariants.{Free, Held, Owed, Return}
 use Rattle.hoare_law.specs.Events.{place_of, own, newest}
-use Rattle.hoare_law.specs.Waiting.{filter_by_later}
+use Rattle.hoare_law.specs.Waiting.{condition_of, filter_by_later, is_last_act}
+use Rattle.hoare_law.specs.Called.{called}
 
 abbrev pub is_signal : {S : Type 0} → Event S → Bool
 is_signal (Signal k c w s) = true
 is_signal _ = false
-
--- the place of e does nothing later
-abbrev pub is_last_act : {S : Type 0} → Event S → List (Event S) → Bool
-is_last_act e later = list_all (λ x. not (place_of x == place_of e)) later
 
 -- the waiting signallers: the places whose last event is a signal, in the order of those events (this project's choice: the
 -- longest waiting signaller goes on first)
 unfoldable pub urgent : {S : Type 0} → List (Event S) → List ℕ
 urgent h = map place_of (filter_by_later (λ e later. is_signal e && is_last_act e later) h)
 
--- the turn where the monitor is given up: the first waiting signaller's, else nobody's
-abbrev pub turn_given_up : List ℕ → Turn
-turn_given_up [] = Free
-turn_given_up (u ∷ us) = Return u
+-- the turn where the monitor is given up: the first waiting signaller's, else that of the first that was called, from the condition
+-- on which it waited, else nobody's
+abbrev pub turn_given_up : {S : Type 0} → List ℕ → List (Event S) → Turn
+turn_given_up [] [] = Free
+turn_given_up [] (w ∷ ws) = Owed (place_of w) (condition_of w)
+turn_given_up (u ∷ us) ws = Return u
 
--- the turn after an event, with these signallers waiting
-abbrev pub turn_by : {S : Type 0} → Event S → List ℕ → Turn
-turn_by (Admit k s) us = Held k
-turn_by (Resume k c s) us = Held k
-turn_by (Back k s) us = Held k
-turn_by (Signal k c w s) us = Owed w c
-turn_by (Pass k c w s) us = Owed w c
-turn_by (Wait k c p s) us = turn_given_up us
-turn_by (Leave k s) us = turn_given_up us
+-- the turn after an event, with these signallers waiting and these called
+abbrev pub turn_by : {S : Type 0} → Event S → List ℕ → List (Event S) → Turn
+turn_by (Admit k s) us ws = Held k
+turn_by (Resume k c s) us ws = Held k
+turn_by (Back k s) us ws = Held k
+turn_by (Notify k c w s) us ws = Held k
+turn_by (Broadcast k c s) us ws = Held k
+turn_by (Signal k c w s) us ws = Owed w c
+turn_by (Pass k c w s) us ws = Owed w c
+turn_by (Wait k c p s) us ws = turn_given_up us ws
+turn_by (Leave k s) us ws = turn_given_up us ws
 
-abbrev pub turn_after : {S : Type 0} → Option (Event S) → List ℕ → Turn
-turn_after None us = Free
-turn_after (Some e) us = turn_by e us
+abbrev pub turn_after : {S : Type 0} → Option (Event S) → List ℕ → List (Event S) → Turn
+turn_after None us ws = Free
+turn_after (Some e) us ws = turn_by e us ws
 
 -- whose turn it is, by the last event
 unfoldable pub turn : {S : Type 0} → List (Event S) → Turn
-turn h = turn_after (newest h) (urgent h)
+turn h = turn_after (newest h) (urgent h) (called h)
 
 -- nobody is inside
 abbrev pub IsGivenUp : Turn → Type 0

@@ -1,8 +1,8 @@
--- Who waits, and whom a signal resumes ("Monitors", Scheduled Waits).
+-- Who waits, and whom a signal resumes ("Monitors", Scheduled Waits) or a notify calls.
 use Rattle.std.specs.Prelude.{ℕ, List, [], ◌∷◌, ◌==◌, ◌&&◌, ◌||◌, not, nat_le, Bool, false, if◌then◌else◌, Option, IsSomeAnd, ◌≡◌}
 use Rattle.std.specs.List.{list_all, find}
 use Rattle.hoare_law.specs.declared.event.Event.{Event}
-use Rattle.hoare_law.specs.declared.event.Event.TheVariants.{Admit, Wait, Signal, Pass, Leave, Resume, Back}
+use Rattle.hoare_law.specs.declared.event.Event.TheVariants.{Admit, Wait, Signal, Pass, Leave, Resume, Back, Notify, Broadcast}
 use Rattle.hoare_law.specs.Events.{place_of}
 
 -- the elements that pass a test which also sees all that comes later
@@ -20,23 +20,35 @@ abbrev pub priority_of : {S : Type 0} → Event S → ℕ
 priority_of (Wait k c p s) = p
 priority_of _ = 0
 
--- place k acts, or is resumed by a signal or a pass
-abbrev pub concerns : {S : Type 0} → ℕ → Event S → Bool
-concerns k (Signal j c w s) = j == k || w == k
-concerns k (Pass j c w s) = j == k || w == k
-concerns k (Admit j s) = j == k
-concerns k (Wait j c p s) = j == k
-concerns k (Leave j s) = j == k
-concerns k (Resume j c s) = j == k
-concerns k (Back j s) = j == k
+-- the condition of a wait
+abbrev pub condition_of : {S : Type 0} → Event S → ℕ
+condition_of (Wait k c p s) = c
+condition_of _ = 0
 
--- nothing that comes later concerns the place of e
-abbrev pub is_untouched : {S : Type 0} → Event S → List (Event S) → Bool
-is_untouched e later = list_all (λ x. not (concerns (place_of e) x)) later
+-- the place of e does nothing later
+abbrev pub is_last_act : {S : Type 0} → Event S → List (Event S) → Bool
+is_last_act e later = list_all (λ x. not (place_of x == place_of e)) later
 
--- who waits on c: the waits on c whose place has no later event and isn't resumed by one, in order
+-- the event concerns place k, which waits on c: k acts, is resumed by a signal or a pass, is called by a notify, or all that wait
+-- on c are called by a broadcast
+abbrev pub concerns : {S : Type 0} → ℕ → ℕ → Event S → Bool
+concerns c k (Signal j d w s) = j == k || w == k
+concerns c k (Pass j d w s) = j == k || w == k
+concerns c k (Notify j d w s) = j == k || w == k
+concerns c k (Broadcast j d s) = j == k || d == c
+concerns c k (Admit j s) = j == k
+concerns c k (Wait j d p s) = j == k
+concerns c k (Leave j s) = j == k
+concerns c k (Resume j d s) = j == k
+concerns c k (Back j s) = j == k
+
+-- nothing that comes later concerns the place of e, which waits on c
+abbrev pub is_untouched : {S : Type 0} → ℕ → Event S → List (Event S) → Bool
+is_untouched c e later = list_all (λ x. not (concerns c (place_of e) x)) later
+
+-- who waits on c: the waits on c whose place has no later event and is neither resumed nor called by one, in order
 unfoldable pub waiting : {S : Type 0} → ℕ → List (Event S) → List (Event S)
-waiting c h = filter_by_later (λ e later. waits_on c e && is_untouched e later) h
+waiting c h = filter_by_later (λ e later. waits_on c e && is_untouched c e later) h
 
 -- no priority of ws undercuts that of e
 abbrev pub is_least : {S : Type 0} → List (Event S) → Event S → Bool

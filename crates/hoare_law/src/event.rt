@@ -3,7 +3,8 @@ use std::collections::LinkedList;
 
 /// One step of one process at a monitor. Histories stand in contracts alone: no value of this type is ever made.
 ///
-/// `data` is the monitor's data as left (`Wait`, `Signal`, `Pass`, `Leave`) or as found (`Admit`, `Resume`, `Back`).
+/// `data` is the monitor's data as left (`Wait`, `Signal`, `Pass`, `Leave`), as found (`Admit`, `Resume`, `Back`), or as they
+/// are then in hand (`Notify`, `Broadcast`).
 pub enum Event<S> {
     /// A newcomer comes in from outside.
     Admit {
@@ -36,7 +37,7 @@ pub enum Event<S> {
         place: usize,
         data: S,
     },
-    /// A process that waited on a condition goes on.
+    /// A process that waited on a condition, and was resumed or called, goes on.
     Resume {
         place: usize,
         condition: usize,
@@ -47,13 +48,27 @@ pub enum Event<S> {
         place: usize,
         data: S,
     },
+    /// The process inside calls a process that waits on a Mesa condition, and stays inside.
+    Notify {
+        place: usize,
+        condition: usize,
+        called: usize,
+        data: S,
+    },
+    /// The process inside calls all that wait on a Mesa condition, and stays inside.
+    Broadcast {
+        place: usize,
+        condition: usize,
+        data: S,
+    },
 }
 
-/// What happened at a monitor with these numbers of places and conditions, opened with this data: its events, the oldest
-/// first. No value of it is ever made.
+/// What happened at a monitor with these numbers of places and conditions, of which the last `mesa` are Mesa conditions, opened
+/// with this data: its events, the oldest first. No value of it is ever made.
 pub struct History<S> {
     pub places: usize,
     pub conditions: usize,
+    pub mesa: usize,
     pub opening: S,
     pub events: LinkedList<Event<S>>,
 }

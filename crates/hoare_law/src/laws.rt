@@ -1,11 +1,14 @@
 //! What follows from the rules of legal histories: functions that do nothing, whose contracts are the laws.
-ghost use Rattle.std.specs.Prelude.{◌≡◌, ◌≤◌, ◌<◌, ◌++◌, ◌∷◌, ℕ, List, [], All, Some, None, true, false};
+ghost use Rattle.std.specs.Prelude.{◌≡◌, ◌≢◌, ◌≤◌, ◌<◌, ◌++◌, ◌∷◌, ℕ, List, [], All, IsTrue, Some, None, true, false};
 ghost use Rattle.hoare_law.specs.declared.event.Event.{Event};
 ghost use Rattle.hoare_law.specs.declared.event.History.{History};
-ghost use Rattle.hoare_law.specs.declared.event.Event.TheVariants.{Admit, Signal, Pass, Resume, Back};
+ghost use Rattle.hoare_law.specs.declared.event.Event.TheVariants.{Admit, Signal, Pass, Resume, Back, Notify, Broadcast};
 ghost use Rattle.hoare_law.specs.declared.turn.Turn.TheVariants.{Free, Held};
-ghost use Rattle.hoare_law.specs.Events.{latest_data, with_event};
-ghost use Rattle.hoare_law.specs.Waiting.{priority_of, waiting, chosen};
+ghost use Rattle.hoare_law.specs.Events.{place_of, own, newest, latest_data, with_event};
+ghost use Rattle.hoare_law.specs.Kinds.{IsMesa};
+ghost use Rattle.hoare_law.specs.Waiting.{priority_of, condition_of, waits_on, waiting, chosen};
+ghost use Rattle.hoare_law.specs.Priorities.{in_order};
+ghost use Rattle.hoare_law.specs.Called.{called};
 ghost use Rattle.hoare_law.specs.Turns.{turn, urgent, outside};
 ghost use Rattle.hoare_law.specs.Legal.{Allowed, IsLegal};
 ghost use Rattle.hoare_law.specs.Growth.{Begins};
@@ -25,9 +28,50 @@ pub fn nothing_intervenes<S>()
         → Allowed (with_event h (Pass k c w s)) e → e ≡ Resume w c s }
 {}
 
-/// A newcomer comes in only where no signaller waits to return ("Monitors", Interpretation).
-pub fn signallers_first<S>()
-    ensures { (h : History S) (k : ℕ) (s : S) → Allowed h (Admit k s) → urgent h.events ≡ [] }
+/// A newcomer comes in only where no signaller waits to return ("Monitors", Interpretation), and nobody is called.
+pub fn newcomers_last<S>()
+    ensures signallers { (h : History S) (k : ℕ) (s : S) → Allowed h (Admit k s)
+        → urgent h.events ≡ [] }
+    ensures called { (h : History S) (k : ℕ) (s : S) → Allowed h (Admit k s)
+        → called h.events ≡ [] }
+{}
+
+/// A called process goes on only where no signaller waits to return, and of the called the one called first goes first.
+pub fn signallers_before_called<S>()
+    ensures signallers { (h : History S) (k c : ℕ) (s : S) → IsLegal h
+        → IsMesa h.conditions h.mesa c → Allowed h (Resume k c s) → urgent h.events ≡ [] }
+    ensures first { (h : History S) (k c : ℕ) (s : S) → IsLegal h
+        → IsMesa h.conditions h.mesa c → Allowed h (Resume k c s)
+        → (x : Event S) × (later : List (Event S)) × (called h.events ≡ x ∷ later)
+        × (place_of x ≡ k) × (condition_of x ≡ c) }
+{}
+
+/// A call leaves its caller inside with the data as they are: the next event is its own.
+pub fn caller_goes_on<S>()
+    ensures notify { (h : History S) (k c w : ℕ) (s : S) (e : Event S)
+        → Allowed (with_event h (Notify k c w s)) e → place_of e ≡ k }
+    ensures broadcast { (h : History S) (k c : ℕ) (s : S) (e : Event S)
+        → Allowed (with_event h (Broadcast k c s)) e → place_of e ≡ k }
+{}
+
+/// Who is called waits nowhere: it is a wait on a Mesa condition, its place's last event, and no list of waiting ones has its place.
+pub fn called_wait_nowhere<S>()
+    ensures { (h : History S) → IsLegal h → All (λ x.
+        (newest (own (place_of x) h.events) ≡ Some x)
+        × (IsTrue (waits_on (condition_of x) x))
+        × IsMesa h.conditions h.mesa (condition_of x)
+        × ((d : ℕ) → All (λ y. place_of x ≢ place_of y) (waiting d h.events))) (called h.events) }
+{}
+
+/// After a notify the one that a signal would have resumed is the last of those called, and after a broadcast all that waited on the
+/// condition are, in the order in which signals would have resumed them.
+pub fn called_in_turn<S>()
+    ensures notify { (h : History S) (k c w : ℕ) (s : S) → IsLegal h → Allowed h (Notify k c w s)
+        → (x : Event S) × (chosen c h.events ≡ Some x) × (place_of x ≡ w)
+        × (called (with_event h (Notify k c w s)).events ≡ called h.events ++ x ∷ []) }
+    ensures broadcast { (h : History S) (k c : ℕ) (s : S) → IsLegal h → Allowed h (Broadcast k c s)
+        → called (with_event h (Broadcast k c s)).events
+        ≡ called h.events ++ in_order priority_of (waiting c h.events) }
 {}
 
 /// Who is admitted was outside, and nobody was inside ("Monitors", Introduction).

@@ -1,14 +1,15 @@
 //! What each monitor promises: its calls, as a trait.
-ghost use Rattle.std.specs.Prelude.{◌≡◌, ◌<◌, ◌↔◌, ◌≢◌, ℕ, List, [], slice_index, IsTrue, true, false, MatchOption};
+ghost use Rattle.std.specs.Prelude.{◌≡◌, ◌<◌, ◌↔◌, ◌≢◌, ℕ, List, [], length, slice_index, IsTrue, true, false, MatchOption};
 ghost use Rattle.std.specs.Borrow.{sem, Lends};
 ghost use Rattle.std.specs.List.Sorted.{IsNonDecreasing};
 ghost use Rattle.std.specs.Option.{option_map};
-ghost use Rattle.hoare_law.specs.Priorities.{joined, taken, priorities};
+ghost use Rattle.hoare_law.specs.Kinds.{IsHoare, IsMesa};
+ghost use Rattle.hoare_law.specs.Priorities.{joined, taken, emptied, priorities};
 ghost use Rattle.hoare_law.specs.Events.{with_event};
 ghost use Rattle.hoare_law.specs.Waiting.{waiting, chosen, priority_of};
 ghost use Rattle.hoare_law.specs.Turns.{turn, outside};
 ghost use Rattle.hoare_law.specs.Lawful.{Stands};
-ghost use Rattle.hoare_law.specs.Growth.{AddsLast, AddsTwo, Exits, Signals};
+ghost use Rattle.hoare_law.specs.Growth.{AddsLast, AddsTwo, Broadcasts, Exits, Notifies, Signals};
 ghost use Rattle.hoare_law.specs.declared.event.History.{History};
 ghost use Rattle.hoare_law.specs.declared.event.Event.TheVariants as event;
 ghost use Rattle.hoare_law.specs.declared.turn.Turn.TheVariants as turns;
@@ -60,7 +61,7 @@ pub trait Monitor<D: MonitorData> {
     /// The place with other data in hand.
     ghost with_data: { Self.In → D → Self.In };
 
-    /// Comes in, once nobody is inside, nobody was resumed and no signaller waits. `rest` holds of what is found.
+    /// Comes in, once nobody is inside, nobody was resumed or called and no signaller waits. `rest` holds of what is found.
     fn enter<R: Wait>(&self, rt: &R, out: Self::Out) -> Self::In
         requires { is_of self.now out }
         ensures of { is_of_in self.now result }
@@ -78,26 +79,29 @@ pub trait Monitor<D: MonitorData> {
         ensures front { front result
             ≡ with_event (front_in inside) (event.Leave (place_in inside) (data_in inside)) };
 
-    /// Gives the monitor up until a signal on the condition resumes this process: of those that wait, the longest waiting of
-    /// least priority. The caller owes `rest` with itself among the waiting; it finds `ready`, and the data as the signaller
-    /// left them.
+    /// Gives the monitor up until this process is resumed by a signal on the condition, or called by a notify or a broadcast and the
+    /// monitor given up to it. The caller owes `rest` with itself among the waiting. From one of Hoare's conditions it comes back to
+    /// `ready`, and the data as the signaller left them; from a Mesa condition to `rest`, so that it tests again what it waited for.
     fn wait<R: Wait>(&self, rt: &R, inside: Self::In, condition: usize, priority: u64) -> Self::In
         requires of { is_of_in self.now inside }
         requires in_range { condition < D.CONDITIONS }
         requires rest { D.rest (data_in inside) (joined (lists_in inside) condition priority) }
         ensures of { is_of_in self.now result }
         ensures place { place_in result ≡ place_in inside }
-        ensures ready { D.ready condition priority (data_in result) (lists_in result) }
+        ensures ready { IsHoare D.CONDITIONS D.MESA condition
+            → D.ready condition priority (data_in result) (lists_in result) }
+        ensures rest { IsMesa D.CONDITIONS D.MESA condition
+            → D.rest (data_in result) (lists_in result) }
         ensures front { AddsTwo (front_in inside)
             (event.Wait (place_in inside) condition priority (data_in inside))
             (event.Resume (place_in inside) condition (data_in result)) (front_in result) };
 
-    /// Hands the monitor to the process that waits on the condition, if one does, and comes back before any newcomer: then the
-    /// answer is true, the caller owed `ready` for that process, and finds `rest`. Where nobody waits the answer is false and
-    /// nothing changed.
+    /// Hands the monitor to the process that waits on one of Hoare's conditions, if one does, and comes back before any newcomer:
+    /// then the answer is true, the caller owed `ready` for that process, and finds `rest`. Where nobody waits the answer is false
+    /// and nothing changed.
     fn signal<R: Wait>(&self, rt: &R, inside: Self::In, condition: usize) -> (Self::In, bool)
         requires of { is_of_in self.now inside }
-        requires in_range { condition < D.CONDITIONS }
+        requires hoare { IsHoare D.CONDITIONS D.MESA condition }
         requires ready { lists_in inside condition ≢ []
             → D.ready condition (slice_index (lists_in inside condition) 0) (data_in inside)
             (taken (lists_in inside) condition) }
@@ -113,7 +117,7 @@ pub trait Monitor<D: MonitorData> {
     /// owed what a `leave` owes. True exactly where somebody was resumed.
     fn signal_leave<R: Wait>(&self, rt: &R, inside: Self::In, condition: usize) -> (Self::Out, bool)
         requires of { is_of_in self.now inside }
-        requires in_range { condition < D.CONDITIONS }
+        requires hoare { IsHoare D.CONDITIONS D.MESA condition }
         requires ready { lists_in inside condition ≢ []
             → D.ready condition (slice_index (lists_in inside condition) 0) (data_in inside)
             (taken (lists_in inside) condition) }
@@ -123,6 +127,32 @@ pub trait Monitor<D: MonitorData> {
         ensures told { IsTrue result.1 ↔ (lists_in inside condition ≢ []) }
         ensures front { Exits (place_in inside) condition (data_in inside) (front_in inside)
             (front result.0) result.1 };
+
+    /// Calls the process that waits on a Mesa condition and that a signal would resume: the longest waiting of least priority. It
+    /// no longer waits there, and goes on once the monitor is given up and no signaller waits, behind those called before. The
+    /// caller stays inside, with the data as they are, and owes nothing. True exactly where somebody waited.
+    fn notify(&self, inside: &mut Self::In, condition: usize) -> bool
+        requires of { is_of_in self.now inside.old }
+        requires mesa { IsMesa D.CONDITIONS D.MESA condition }
+        ensures of { is_of_in self.now inside.new }
+        ensures place { place_in inside.new ≡ place_in inside.old }
+        ensures data { data_in inside.new ≡ data_in inside.old }
+        ensures lists { lists_in inside.new ≡ taken (lists_in inside.old) condition }
+        ensures told { IsTrue result ↔ (lists_in inside.old condition ≢ []) }
+        ensures front { Notifies (place_in inside.old) condition (data_in inside.old)
+            (front_in inside.old) (front_in inside.new) result };
+
+    /// Calls all that wait on a Mesa condition, in the order in which signals would resume them, and answers how many they are.
+    fn broadcast(&self, inside: &mut Self::In, condition: usize) -> usize
+        requires of { is_of_in self.now inside.old }
+        requires mesa { IsMesa D.CONDITIONS D.MESA condition }
+        ensures of { is_of_in self.now inside.new }
+        ensures place { place_in inside.new ≡ place_in inside.old }
+        ensures data { data_in inside.new ≡ data_in inside.old }
+        ensures lists { lists_in inside.new ≡ emptied (lists_in inside.old) condition }
+        ensures told { result ≡ length (lists_in inside.old condition) }
+        ensures front { Broadcasts (place_in inside.old) condition (data_in inside.old)
+            (front_in inside.old) (front_in inside.new) };
 
     /// The data in hand.
     fn state<'a>(&self, inside: &'a Self::In) -> &'a D
@@ -164,12 +194,12 @@ pub trait Monitor<D: MonitorData> {
     /// What a place outside knows is legal and lawful, and has it outside.
     ghost stands: { (m : Self) (o : Self.Out) → is_of m o
         → Stands D.rest D.ready (front o) × ((front o).conditions ≡ D.CONDITIONS)
-        × (outside (place o) (front o).events ≡ true) };
+        × ((front o).mesa ≡ D.MESA) × (outside (place o) (front o).events ≡ true) };
 
     /// What a place inside knows is legal and lawful, and has it inside.
     ghost stands_in: { (m : Self) (i : Self.In) → is_of_in m i
         → Stands D.rest D.ready (front_in i) × ((front_in i).conditions ≡ D.CONDITIONS)
-        × (turn (front_in i).events ≡ turns.Held (place_in i)) };
+        × ((front_in i).mesa ≡ D.MESA) × (turn (front_in i).events ≡ turns.Held (place_in i)) };
 
     /// The waiting priorities in hand are those of the front, and rise.
     ghost lists_are: { (m : Self) (i : Self.In) → is_of_in m i

@@ -16,6 +16,10 @@ impl<T, const COUNT: usize> MonitorData for Unasked<T, COUNT> {
 
     ghost CONDITIONS = { COUNT };
 
+    const MESA: usize = 0;
+
+    ghost MESA = { 0 };
+
     ghost inv = { λ s. ⊤ };
 
     ghost rest = { λ s q. ⊤ };

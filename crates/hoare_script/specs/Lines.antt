@@ -1,9 +1,9 @@
 -- How a line spells a header or a command. Its words and numbers are those of line_text.
 use Rattle.std.specs.Prelude.{ℕ, if◌then◌else◌, List, [], ◌∷◌, Option, Some, None, codes}
 use Rattle.std.specs.Str.{bytes_eq}
-use Rattle.line_text.specs.Forms.{two_numbers}
+use Rattle.line_text.specs.Forms.{three_numbers, two_numbers}
 use Rattle.line_text.specs.Words.{number_of, with_number, words_of}
-use Rattle.wait_book.specs.declared.steps.Step.TheVariants.{Enter, Wait, Signal, Pass, Leave}
+use Rattle.wait_book.specs.declared.steps.Step.TheVariants.{Enter, Wait, Signal, Pass, Leave, Notify, Broadcast}
 use Rattle.hoare_script.specs.declared.lines.Command.{Command}
 use Rattle.hoare_script.specs.declared.lines.Command.TheVariants.{Do, Queue, First}
 use Rattle.hoare_script.specs.declared.lines.Header.{Header}
@@ -19,7 +19,9 @@ named_one w n =
 abbrev pub named_two : List ℕ → ℕ → ℕ → Option Command
 named_two w k c =
     if bytes_eq w (codes "signal") then Some (Do (Signal k c))
-    else (if bytes_eq w (codes "pass") then Some (Do (Pass k c)) else None)
+    else (if bytes_eq w (codes "pass") then Some (Do (Pass k c))
+    else (if bytes_eq w (codes "notify") then Some (Do (Notify k c))
+    else (if bytes_eq w (codes "broadcast") then Some (Do (Broadcast k c)) else None)))
 
 abbrev pub named_three : List ℕ → ℕ → ℕ → ℕ → Option Command
 named_three w k c p = if bytes_eq w (codes "wait") then Some (Do (Wait k c p)) else None
@@ -48,10 +50,16 @@ command_of_words (w ∷ a ∷ b ∷ p ∷ x ∷ xs) = None
 unfoldable pub command_of : List ℕ → Option Command
 command_of line = command_of_words (words_of line)
 
-abbrev pub header_with : Option (ℕ × ℕ) → Option Header
-header_with None = None
-header_with (Some n) = Some (record { places = n.0; conditions = n.1 })
+-- with three numbers the last conditions are Mesa conditions, as many as the third says
+abbrev pub header_with_mesa : Option (ℕ × ℕ × ℕ) → Option Header
+header_with_mesa None = None
+header_with_mesa (Some n) = Some (record { places = n.0; conditions = n.1; mesa = n.2 })
+
+-- with two numbers none is
+abbrev pub header_with : Option (ℕ × ℕ) → Option (ℕ × ℕ × ℕ) → Option Header
+header_with (Some n) three = Some (record { places = n.0; conditions = n.1; mesa = 0 })
+header_with None three = header_with_mesa three
 
 -- the header that a line spells, with any numbers
 unfoldable pub header_of : List ℕ → Option Header
-header_of line = header_with (two_numbers (codes "monitor") line)
+header_of line = header_with (two_numbers (codes "monitor") line) (three_numbers (codes "monitor") line)

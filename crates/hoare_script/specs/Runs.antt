@@ -26,9 +26,9 @@ BreaksOff i text left old new =
     × (length (told at_cut read).written ≤ n) × (n < length (told at_end text).written)
     × Appends old new (take n (told at_end text).written)
 
--- a line is a header, with as many places and conditions as a monitor may have
+-- a line is a header, with as many places, conditions and Mesa conditions as a monitor may have
 abbrev pub IsGoodHeader : List ℕ → Type 0
-IsGoodHeader line = IsSomeAnd (header_of line) (λ h. make_refusal h.places h.conditions ≡ None)
+IsGoodHeader line = IsSomeAnd (header_of line) (λ h. make_refusal h.places h.conditions h.mesa ≡ None)
 
 -- the first line of a text is one
 abbrev pub HasGoodHeader : List ℕ → Type 0

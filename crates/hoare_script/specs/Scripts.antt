@@ -25,12 +25,12 @@ abbrev pub Outcome : Type 0
 Outcome = Result (List ℕ × State) ScriptFault
 
 abbrev pub opened_by : ℕ → Header → Option MakeRefused → Outcome
-opened_by i h None = Ok ([], Running (opened h.places h.conditions tt))
+opened_by i h None = Ok ([], Running (opened h.places h.conditions h.mesa tt))
 opened_by i h (Some r) = Err (faults.BadHeader i)
 
 abbrev pub header_line : ℕ → Option Header → Outcome
 header_line i None = Err (faults.BadHeader i)
-header_line i (Some h) = opened_by i h (make_refusal h.places h.conditions)
+header_line i (Some h) = opened_by i h (make_refusal h.places h.conditions h.mesa)
 
 abbrev pub command_line : History (Unit {0}) → ℕ → List ℕ → Option Command → Outcome
 command_line h i line None = Err (faults.BadLine i)

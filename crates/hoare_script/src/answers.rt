@@ -44,6 +44,7 @@ fn refusal_number(refused: StepRefused) -> u64
         StepRefused::NotOutside => 3,
         StepRefused::NotInside => 4,
         StepRefused::NoCondition => 5,
+        StepRefused::WrongKind => 6,
     }
 }
 

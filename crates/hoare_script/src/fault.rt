@@ -4,8 +4,8 @@ ghost use Rattle.hoare_script.specs.Runs.{status_of};
 
 use thiserror::Error;
 
-/// Why a script ends early. A fault stands at a byte of the input, and the earliest is answered. Lines are counted from 1,
-/// the header's.
+/// Why a script ends early. A fault stands at a byte of the input, and the earliest is answered. Lines are counted from
+/// 1, the header's.
 #[derive(Clone, Copy, Debug, PartialEq, Eq, Error)]
 pub enum ScriptFault {
     /// The input is empty.
@@ -14,7 +14,8 @@ pub enum ScriptFault {
     /// A line after the first has none of the forms of a command.
     #[error("fault 2 BadLine line {0}")]
     BadLine(u64),
-    /// The first line isn't `monitor P C` with 1 to 64 places and 1 to 8 conditions.
+    /// The first line isn't `monitor P C` with 1 to 64 places and 1 to 8 conditions, or `monitor P C M` with no more
+    /// Mesa conditions than conditions.
     #[error("fault 3 BadHeader line {0}")]
     BadHeader(u64),
     /// A read failed. The unfinished line before it isn't answered.

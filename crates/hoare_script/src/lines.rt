@@ -2,15 +2,17 @@
 ghost use Rattle.std.specs.Prelude.{◌≡◌};
 ghost use Rattle.hoare_script.specs.Lines.{command_of, command_of_one, command_of_three, command_of_two, header_of};
 
-use line_text::forms::two_numbers;
+use line_text::forms::{three_numbers, two_numbers};
 use line_text::words::{first_word, number};
 use wait_book::steps::Step;
 
-/// The first line of a script: the number of places, and the number of conditions.
+/// The first line of a script: the number of places, the number of conditions, and how many of these, the last ones,
+/// are Mesa conditions.
 #[derive(Clone, Copy, Debug, PartialEq, Eq)]
 pub struct Header {
     pub places: u64,
     pub conditions: u64,
+    pub mesa: u64,
 }
 
 /// What a later line asks.
@@ -56,6 +58,12 @@ fn with_two(word: &[u8], first: &[u8], second: &[u8]) -> Option<Command>
     if word == b"pass".as_slice() {
         return Some(Command::Do(Step::Pass(place, condition)));
     }
+    if word == b"notify".as_slice() {
+        return Some(Command::Do(Step::Notify(place, condition)));
+    }
+    if word == b"broadcast".as_slice() {
+        return Some(Command::Do(Step::Broadcast(place, condition)));
+    }
     None
 }
 
@@ -93,11 +101,22 @@ pub fn parse_command(line: &[u8]) -> Option<Command>
     with_three(word, first, second, third)
 }
 
-/// The header that a line spells, with any numbers.
+/// The header that a line spells, with any numbers. Without a third number no condition is a Mesa condition.
 #[tactic(auto, unfolding(crate::specs::Lines::header_of))]
 pub fn parse_header(line: &[u8]) -> Option<Header>
     ensures { result ≡ header_of line.now }
 {
-    let (places, conditions) = two_numbers(line, b"monitor")?;
-    Some(Header { places, conditions })
+    if let Some((places, conditions)) = two_numbers(line, b"monitor") {
+        return Some(Header {
+            places,
+            conditions,
+            mesa: 0,
+        });
+    }
+    let (places, conditions, mesa) = three_numbers(line, b"monitor")?;
+    Some(Header {
+        places,
+        conditions,
+        mesa,
+    })
 }

@@ -3,8 +3,9 @@ ghost use Rattle.std.specs.Prelude.{◌≡◌, MatchResult, None, Some, ◌⊎�
 ghost use Rattle.hoare_law.specs.declared.event.History.{History};
 ghost use Rattle.hoare_law.specs.Events.{opened};
 ghost use Rattle.wait_book.specs.Contents.{IsOf, make_refusal};
+ghost use Rattle.wait_book.specs.Stepping.{condition_refusal};
 ghost use Rattle.hoare_script.specs.declared.lines.Command.TheVariants as commands;
-ghost use Rattle.hoare_script.specs.Answers.{answer_to, history_after};
+ghost use Rattle.hoare_script.specs.Answers.{answer_to, history_after, notified, place_chosen};
 
 use crate::answers::{Answer, outcome_answer};
 use crate::lines::{Command, Header};
@@ -32,15 +33,17 @@ impl Model for Opened {
 }
 
 impl Opened {
-    /// A book of the header's numbers of places and conditions. Refused as `Book::make` refuses.
+    /// A book of the header's numbers of places, conditions and Mesa conditions. Refused as `Book::make` refuses.
     pub fn make(alloc: Global, header: Header) -> Result<Opened, MakeRefused>
         ensures { MatchResult result
-            (λ b. (make_refusal header.places header.conditions ≡ None)
-            × IsOf b (opened header.places header.conditions tt))
-            (λ e. (make_refusal header.places header.conditions ≡ Some e)
-            ⊎ ((make_refusal header.places header.conditions ≡ None) × (e ≡ MakeRefused.Memory))) }
+            (λ b. (make_refusal header.places header.conditions header.mesa ≡ None)
+            × IsOf b (opened header.places header.conditions header.mesa tt))
+            (λ e. (make_refusal header.places header.conditions header.mesa ≡ Some e)
+            ⊎ ((make_refusal header.places header.conditions header.mesa ≡ None)
+            × (e ≡ MakeRefused.Memory))) }
     {
-        match Book::make(alloc, header.places as usize, header.conditions as usize) {
+        let (places, conditions) = (header.places as usize, header.conditions as usize);
+        match Book::make(alloc, places, conditions, header.mesa as usize) {
             Ok(book) => Ok(Opened {
                 book,
                 conditions: header.conditions,
@@ -59,6 +62,36 @@ impl Opened {
             Command::Queue(condition) => self.queue(condition),
             Command::First(condition) => self.first(condition),
         }
+    }
+
+    /// The one place that a command would call: that of the process that a notify's condition would have resumed. None
+    /// of another command, and where nobody waits.
+    #[tactic(auto, unfolding(crate::specs::Answers::notified))]
+    pub fn notified(&self, command: Command) -> Option<usize>
+        ensures { (h : History (Unit {0})) → IsOf self.now h → result ≡ notified h command }
+    {
+        match command {
+            Command::Do(Step::Notify(_, condition)) => self.chosen(condition),
+            Command::Do(Step::Enter(_)) => None,
+            Command::Do(Step::Wait(_, _, _)) => None,
+            Command::Do(Step::Signal(_, _)) => None,
+            Command::Do(Step::Pass(_, _)) => None,
+            Command::Do(Step::Leave(_)) => None,
+            Command::Do(Step::Broadcast(_, _)) => None,
+            Command::Queue(_) => None,
+            Command::First(_) => None,
+        }
+    }
+
+    // Whom a signal would resume.
+    fn chosen(&self, condition: u64) -> Option<usize>
+        ensures { (h : History (Unit {0})) → IsOf self.now h →
+            result ≡ place_chosen h condition (condition_refusal h condition) }
+    {
+        if condition >= self.conditions {
+            return None;
+        }
+        self.book.chosen(condition as usize)
     }
 
     // Does a step.

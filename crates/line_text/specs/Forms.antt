@@ -20,3 +20,14 @@ two_of_words word _ = None
 -- the two numbers of a line that is a word and two numbers
 unfoldable pub two_numbers : List ℕ → List ℕ → Option (ℕ × ℕ)
 two_numbers word line = two_of_words word (words_of line)
+
+abbrev pub three_of_words : List ℕ → List (List ℕ) → Option (ℕ × ℕ × ℕ)
+three_of_words word (w ∷ a ∷ b ∷ c ∷ []) =
+    if bytes_eq w word then
+    with_number (number_of a) (λ x. with_number (number_of b) (λ y. with_number (number_of c) (λ z. Some (x, y, z))))
+    else None
+three_of_words word _ = None
+
+-- the three numbers of a line that is a word and three numbers
+unfoldable pub three_numbers : List ℕ → List ℕ → Option (ℕ × ℕ × ℕ)
+three_numbers word line = three_of_words word (words_of line)

@@ -1,6 +1,6 @@
 //! Lines of one form: a word and its numbers.
 ghost use Rattle.std.specs.Prelude.{◌≡◌};
-ghost use Rattle.line_text.specs.Forms.{one_number, two_numbers};
+ghost use Rattle.line_text.specs.Forms.{one_number, three_numbers, two_numbers};
 
 use crate::words::{first_word, number};
 
@@ -37,4 +37,25 @@ pub fn two_numbers(line: &[u8], word: &[u8]) -> Option<(u64, u64)>
     let first = number(first)?;
     let second = number(second)?;
     Some((first, second))
+}
+
+/// The three numbers of a line that is this word and three numbers.
+#[tactic(auto, unfolding(crate::specs::Forms::three_numbers))]
+pub fn three_numbers(line: &[u8], word: &[u8]) -> Option<(u64, u64, u64)>
+    ensures { result ≡ three_numbers word.now line.now }
+{
+    let (named, rest) = first_word(line);
+    let (first, rest) = first_word(rest?);
+    let (second, rest) = first_word(rest?);
+    let (third, rest) = first_word(rest?);
+    if let Some(_) = rest {
+        return None;
+    }
+    if named != word {
+        return None;
+    }
+    let first = number(first)?;
+    let second = number(second)?;
+    let third = number(third)?;
+    Some((first, second, third))
 }

@@ -9,10 +9,10 @@ use Rattle.ticket_door.specs.Asked.{TicketDoorId, PlaceAsked, IsAsked, as_out}
 
 -- a place of a door of which nothing is asked, outside or asking
 abbrev pub IsUnaskedOut : DoorId → PlaceOut (Unasked ℕ 1) → Type 0
-IsUnaskedOut = IsOut (λ s q. Unit {0}) (λ c p s q. Unit {0}) 1
+IsUnaskedOut = IsOut (λ s q. Unit {0}) (λ c p s q. Unit {0}) 1 0
 
 abbrev pub IsUnaskedAsking : TicketDoorId → PlaceAsked (Unasked ℕ 1) → Type 0
-IsUnaskedAsking = IsAsked (λ s q. Unit {0}) (λ c p s q. Unit {0}) 1
+IsUnaskedAsking = IsAsked (λ s q. Unit {0}) (λ c p s q. Unit {0}) 1 0
 
 -- what holds of them holds with one more
 pub all-and-one : {X : Type 0} (P : X → Type 0) (xs : List X) (x : X) → All P xs → P x → All P (xs ++ x ∷ [])

@@ -9,17 +9,19 @@ use Rattle.hoare_law.specs.Priorities.{nobody, priorities, in_order}
 use Rattle.hoare_law.specs.Lawful.{Rest, Ready, Stands}
 use Rattle.monitor_trials.specs.Stage.{IsOutside, IsInside}
 
-module _ {S : Type 0} {rest : Rest S} {ready : Ready S} {n : ℕ} where
+module _ {S : Type 0} {rest : Rest S} {ready : Ready S} {n m : ℕ} where
   -- what place 0 knows outside
-  pub outside_stands : {s : S} {h : History S} → IsOutside rest ready n s h → Stands rest ready h × (h.conditions ≡ n) × (outside 0 h.events ≡ true)
-  outside_stands o = (o.stage.stands, o.stage.conditions_are, o.stage.first_is)
+  pub outside_stands : {s : S} {h : History S} → IsOutside rest ready n m s h
+      → Stands rest ready h × (h.conditions ≡ n) × (h.mesa ≡ m) × (outside 0 h.events ≡ true)
+  outside_stands o = (o.stage.stands, o.stage.conditions_are, o.stage.mesa_are, o.stage.first_is)
 
   -- what it knows inside
-  pub inside_stands : {h : History S} → IsInside rest ready n h → Stands rest ready h × (h.conditions ≡ n) × (turn h.events ≡ Held 0)
-  inside_stands i = (i.stage.stands, i.stage.conditions_are, i.stage.turn_is)
+  pub inside_stands : {h : History S} → IsInside rest ready n m h
+      → Stands rest ready h × (h.conditions ≡ n) × (h.mesa ≡ m) × (turn h.events ≡ Held 0)
+  inside_stands i = (i.stage.stands, i.stage.conditions_are, i.stage.mesa_are, i.stage.turn_is)
 
   -- nobody waits by its front
-  pub lists_are : {h : History S} → IsInside rest ready n h → nobody ≡ priorities h.events
+  pub lists_are : {h : History S} → IsInside rest ready n m h → nobody ≡ priorities h.events
   unfolding priorities
   lists_are i = sym (λ k c. map priority_of (in_order priority_of (i.stage.waits_are c k)))
 

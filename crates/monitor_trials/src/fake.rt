@@ -17,8 +17,9 @@ use std::sync::Wait;
 
 /// A monitor for tests, of two places: place 0 is one thread's, and nobody has place 1, in whose name the answers come.
 ///
-/// A wait goes on with the first of the given answers that is ready for it, as if place 1 had come in, left the data so and
-/// passed. Where none is ready, it waits for ever.
+/// A wait on one of Hoare's conditions goes on with the first of the given answers that is ready for it, as if place 1 had come in,
+/// left the data so and passed. A wait on a Mesa condition goes on with the first that is at rest where nobody waits, as if place 1
+/// had come in, called it, left the data so and gone out. Where there is none, it waits for ever.
 #[derive(Drop)]
 pub struct Fake<D: MonitorData> {
     pub(crate) table: Table<(), History<D>, D, Opening, Global>,
@@ -61,9 +62,22 @@ fn next_ready<D: MonitorData + Drop>(
     None
 }
 
+// The first answer that is at rest where nobody waits. Those before it are dropped.
+fn next_at_rest<D: MonitorData + Drop>(answers: &mut VecDeque<D>) -> Option<D>
+    ensures { IfSome result
+        (λ a. FirstReady (λ d. D.rest d nobody) answers.old.items a answers.new.items) }
+{
+    while let Some(answer) = answers.pop_front() {
+        if answer.rest_holds(&Nobody) {
+            return Some(answer);
+        }
+    }
+    None
+}
+
 impl<D: MonitorData + Drop + Send> Fake<D> {
     /// A monitor with this data, and its place. Refused where there is no memory. The data has to be at rest where nobody
-    /// waits, and to have 1 to 8 conditions.
+    /// waits, and to have 1 to 8 conditions, of which at most all are Mesa conditions.
     pub fn of(
         alloc: Global,
         state: D,
@@ -71,11 +85,12 @@ impl<D: MonitorData + Drop + Send> Fake<D> {
     ) -> Result<(Fake<D>, FakeOut<D>), AllocError>
         requires rest { D.rest state nobody }
         requires conditions { (1 ≤ D.CONDITIONS) × (D.CONDITIONS ≤ 8) }
+        requires mesa { D.MESA ≤ D.CONDITIONS }
         ensures of { IfOk result (λ r. ⟦<Fake<D> as Monitor<D>>⟧.is_of r.0 r.1) }
         ensures given { IfOk result (λ r. r.0.given.value.items ≡ answers.items) }
         ensures place { IfOk result (λ r. ⟦<Fake<D> as Monitor<D>>⟧.place r.1 ≡ 0) }
         ensures front { IfOk result
-            (λ r. ⟦<Fake<D> as Monitor<D>>⟧.front r.1 ≡ opened D.CONDITIONS state) }
+            (λ r. ⟦<Fake<D> as Monitor<D>>⟧.front r.1 ≡ opened D.CONDITIONS D.MESA state) }
     {
         let (table, seat) = Table::of_words(alloc, &[0], &state)?;
         let given = Snapshot::of(&answers);
@@ -102,12 +117,12 @@ impl<D: MonitorData + Drop + Send> Monitor<D> for Fake<D> {
     type Lists = Nobody;
 
     ghost is_of = { λ m o. (o.seat.table_id ≡ m.table.shared.table_id)
-        × IsOutside D.rest D.ready D.CONDITIONS o.state o.seat.me.0
-        × IsLeft D.ready m.given.value.items o.seat.me.0.events o.answers.items };
+        × IsOutside D.rest D.ready D.CONDITIONS D.MESA o.state o.seat.me.0
+        × IsLeft D.rest D.ready m.given.value.items o.seat.me.0.events o.answers.items };
 
     ghost is_of_in = { λ m i. (i.seat.table_id ≡ m.table.shared.table_id)
-        × IsInside D.rest D.ready D.CONDITIONS i.seat.me.0
-        × IsLeft D.ready m.given.value.items i.seat.me.0.events i.answers.items };
+        × IsInside D.rest D.ready D.CONDITIONS D.MESA i.seat.me.0
+        × IsLeft D.rest D.ready m.given.value.items i.seat.me.0.events i.answers.items };
 
     ghost place = { λ o. 0 };
 
@@ -175,6 +190,22 @@ impl<D: MonitorData + Drop + Send> Monitor<D> for Fake<D> {
             },
             &left,
         );
+        if D::CONDITIONS - condition <= D::MESA {
+            let Some(state) = next_at_rest(&mut answers) else {
+                for _ in rt.forever() {}
+                unreachable!()
+            };
+            self.tell(&mut seat, 1, Deed::Enters, &left);
+            self.tell(&mut seat, 1, Deed::Calls { condition }, &state);
+            self.tell(&mut seat, 1, Deed::Leaves, &state);
+            self.tell(&mut seat, 0, Deed::GoesOn { condition }, &state);
+            return FakeIn {
+                state,
+                answers,
+                seat,
+                lists,
+            };
+        }
         let Some(state) = next_ready(&mut answers, condition, priority) else {
             for _ in rt.forever() {}
             unreachable!()
@@ -201,6 +232,14 @@ impl<D: MonitorData + Drop + Send> Monitor<D> for Fake<D> {
         _condition: usize,
     ) -> (FakeOut<D>, bool) {
         (self.leave(rt, inside), false)
+    }
+
+    fn notify(&self, _inside: &mut FakeIn<D>, _condition: usize) -> bool {
+        false
+    }
+
+    fn broadcast(&self, _inside: &mut FakeIn<D>, _condition: usize) -> usize {
+        0
     }
 
     fn state<'a>(&self, inside: &'a FakeIn<D>) -> &'a D {

@@ -15,7 +15,7 @@ pub(crate) struct Opening;
 impl<D: MonitorData> TableRule<(), History<D>, D> for Opening {
     ghost holds = { λ s table. Unit {0} };
 
-    ghost first = { λ s. opened D.CONDITIONS s };
+    ghost first = { λ s. opened D.CONDITIONS D.MESA s };
 }
 
 /// What a place does.
@@ -25,6 +25,8 @@ pub(crate) enum Deed {
     Waits { condition: usize, priority: u64 },
     /// Resumes place 0, which waits on the condition, and goes out.
     Passes { condition: usize },
+    /// Calls place 0, which waits on the Mesa condition, and stays inside.
+    Calls { condition: usize },
     /// Goes on after a wait on the condition.
     GoesOn { condition: usize },
     Leaves,

@@ -26,6 +26,7 @@ mod fake;
 mod limit;
 mod many_tickets;
 mod meanings;
+mod mesa_on_fake;
 mod on_any_door;
 mod on_baton_door;
 mod on_ticket_door;

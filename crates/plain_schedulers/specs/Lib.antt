@@ -3,3 +3,4 @@ pub mod SingleTraces
 pub mod Buffers
 pub mod BufferTraces
 pub mod Ring
+pub mod MesaTraces

@@ -1,4 +1,5 @@
 //! The bounded buffer.
+pub mod mesa;
 mod ring;
 
 ghost use Rattle.std.specs.Prelude.{◌≡◌, ◌<◌, ℕ, IfOk};
@@ -70,6 +71,10 @@ impl<T: Drop> MonitorData for Buffer<T> {
     const CONDITIONS: usize = 2;
 
     ghost CONDITIONS = { 2 };
+
+    const MESA: usize = 0;
+
+    ghost MESA = { 0 };
 
     ghost inv = { λ b. BufferHolds b };
 

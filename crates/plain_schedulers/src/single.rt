@@ -59,6 +59,10 @@ impl<T: Drop> MonitorData for Single<T> {
 
     ghost CONDITIONS = { 1 };
 
+    const MESA: usize = 0;
+
+    ghost MESA = { 0 };
+
     ghost inv = { λ s. ⊤ };
 
     ghost rest = { λ s q. SingleRests s (q 0) };

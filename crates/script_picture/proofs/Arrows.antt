@@ -8,9 +8,9 @@ use Rattle.hoare_law.specs.declared.turn.Turn.TheVariants.{Free, Held, Owed, Ret
 use Rattle.hoare_law.specs.Turns.{turn}
 use Rattle.hoare_law.proofs.Waiters.{held-in_range}
 use Rattle.wait_book.specs.declared.steps.Step.{Step}
-use Rattle.wait_book.specs.declared.steps.Step.TheVariants.{Enter, Wait, Signal, Pass, Leave}
+use Rattle.wait_book.specs.declared.steps.Step.TheVariants.{Enter, Wait, Signal, Pass, Leave, Notify, Broadcast}
 use Rattle.wait_book.specs.declared.steps.StepRefused.{StepRefused}
-use Rattle.wait_book.specs.Stepping.{condition_refusal, refusal_of, after_step}
+use Rattle.wait_book.specs.Stepping.{condition_refusal, kind_refusal, refusal_of, after_step}
 use Rattle.wait_book.proofs.Times.{eq_self}
 use Rattle.hoare_script.specs.Answers.{turn_answer, step_answer, history_by, answer_to, history_after}
 use Rattle.hoare_script.specs.declared.lines.Command.{Command}
@@ -50,8 +50,10 @@ had h (Enter j) to r other is =
     let same : j ≡ to = cc in
     let apart : true ≡ false = sym (eq_self j) ∙ ap (λ (n : ℕ). j == n) same ∙ other in absurd (cc)
 had h (Wait j c p) to r other is = held_is j (turn h.events) (held_test _ _ (condition_refusal h c) r)
-had h (Signal j c) to r other is = held_is j (turn h.events) (held_test _ _ (condition_refusal h c) r)
-had h (Pass j c) to r other is = held_is j (turn h.events) (held_test _ _ (condition_refusal h c) r)
+had h (Signal j c) to r other is = held_is j (turn h.events) (held_test _ _ (kind_refusal h false c) r)
+had h (Pass j c) to r other is = held_is j (turn h.events) (held_test _ _ (kind_refusal h false c) r)
+had h (Notify j c) to r other is = held_is j (turn h.events) (held_test _ _ (kind_refusal h true c) r)
+had h (Broadcast j c) to r other is = held_is j (turn h.events) (held_test _ _ (kind_refusal h true c) r)
 had h (Leave j) to r other is = held_is j (turn h.events) (held_test _ _ None r)
 
 handed_by : (h : Log) (s : Step) (o : Option StepRefused) (over : HandOver) → refusal_of h s ≡ o → hand_over_answered s (step_answer h s o) ≡ Some over
@@ -59,7 +61,7 @@ handed_by : (h : Log) (s : Step) (o : Option StepRefused) (over : HandOver) → 
 handed_by h s (Some r) over refused is = absurd (cc)
 handed_by h s None over refused is =
     let g : ((actor s == over.to) ≡ false) × (actor s ≡ over.from) × (turn (after_step h s).events ≡ Held over.to) =
-    goes_on s (turn (after_step h s).events) over (claimed-step h s) is in
+    goes_on s (turn (after_step h s).events) over (claimed-step h s refused) is in
     (had h s over.to refused g.0 g.2 ∙ ap Held g.1, g.2)
 
 handed : (h : Log) (c : Command) (over : HandOver) → hand_over_commanded c (answer_to h c) ≡ Some over
@@ -90,7 +92,7 @@ HandsOver-between c seen i d old new over returns gone seen_is below is_told bef
     let inside : i < length rows = subst (λ (l : List Row). i < length l) seen_is below in
     let h : Log = after_rows (opening c.header) (take i rows) in
     let next : after_rows (opening c.header) (take (i + 1) rows) ≡ history_after h row.command = after_rows-next (opening c.header) rows i d inside in
-    let answered : row.answer ≡ answer_to h row.command = (Answered-at (opening c.header) rows i d inside is_told.1).0 in
+    let answered : row.answer ≡ answer_to h row.command = (Answered-at (opening c.header) rows i d inside is_told.1).0.0 in
     let over_is : hand_over_commanded row.command (answer_to h row.command) ≡ Some over =
     ap (hand_over_commanded row.command) (sym answered) ∙ sym (ap (λ (l : List Row). hand_over (slice_index_or l i d)) seen_is) ∙ hands in
     let both : (turn h.events ≡ Held over.from) × (turn (history_after h row.command).events ≡ Held over.to) = handed h row.command over over_is in

@@ -1,26 +1,32 @@
 -- Each place does one thing in a history that a book is of, and its own last event says which.
-use Rattle.std.proofs.Common.{◌≡◌, ◌==◌, ◌<◌, ◌↔◌, ℕ, suc, Bool, true, false, cond, eqb-true, arith}
-use Rattle.std.proofs.Common.{List, [], ◌∷◌, ◌++◌, map, Option, Some, None, refl, ap, sym, ◌∙◌, subst}
+use Rattle.std.proofs.Common.{◌≡◌, ◌==◌, ◌<◌, ◌↔◌, ◌||◌, not, ℕ, suc, zero, Bool, true, false, cond, eqb-true, eq-eqb, arith}
+use Rattle.std.proofs.Common.{List, [], ◌∷◌, ◌++◌, length, slice_index_or, map, Option, Some, None, refl, ap, sym, ◌∙◌, subst}
 use Rattle.std.specs.Prelude.{All}
-use Rattle.std.specs.List.{filter, Contains}
+use Rattle.std.specs.List.{filter, list_all, Contains}
 use Rattle.std.proofs.lemmas.Bool.Decides.{nat_tests}
+use Rattle.std.proofs.lemmas.Bool.{not-true}
 use Rattle.std.proofs.lemmas.List.{append-nil}
-use Rattle.std.proofs.lemmas.List.Elements.{All-head, All-tail, All-same, All-contains, All-contains_itself}
+use Rattle.std.proofs.lemmas.List.Elements.{All-nil, All-cons, All-head, All-tail, All-same, All-weaker, All-contains, All-contains_itself}
 use Rattle.hoare_law.specs.declared.event.Event.{Event}
 use Rattle.hoare_law.specs.declared.event.History.{History}
-use Rattle.hoare_law.specs.declared.event.Event.TheVariants.{Admit, Wait, Signal, Pass, Leave, Resume, Back}
+use Rattle.hoare_law.specs.declared.event.Event.TheVariants.{Admit, Wait, Signal, Pass, Leave, Resume, Back, Notify, Broadcast}
 use Rattle.hoare_law.specs.declared.turn.Turn.{Turn}
 use Rattle.hoare_law.specs.declared.turn.Turn.TheVariants.{Free, Held, Owed, Return}
 use Rattle.hoare_law.specs.Events.{place_of, own, newest, with_event}
 use Rattle.hoare_law.specs.Waiting.{waiting, priority_of}
+use Rattle.hoare_law.specs.Called.{called, called_by}
+use Rattle.hoare_law.specs.Legal.{IsLegal}
 use Rattle.hoare_law.specs.Turns.{is_signal, urgent, turn, is_out, outside}
 use Rattle.hoare_law.specs.Priorities.{in_order}
+use Rattle.hoare_law.proofs.Called.{called-push}
 use Rattle.hoare_law.proofs.Events.{newest-push, own-push}
-use Rattle.hoare_law.proofs.Held.{brings_in, own-held}
+use Rattle.hoare_law.proofs.Held.{is_inside, own-held}
+use Rattle.hoare_law.proofs.Owed.{IsCalled, All-called}
 use Rattle.hoare_law.proofs.Sorted.{All-in_order}
+use Rattle.hoare_law.proofs.Tests.{both_true, eq_swap}
 use Rattle.hoare_law.proofs.Waiters.{Waits, LastSignals, All-waiting, All-urgent}
 use Rattle.wait_book.specs.declared.waiter.Waiter.{Waiter}
-use Rattle.wait_book.specs.Contents.{Contents, IsOf, times, times_in, times_in_hand, wait_of}
+use Rattle.wait_book.specs.Contents.{Contents, IsOf, hoare_of, times, times_in, times_in_hand, wait_of}
 use Rattle.wait_book.proofs.Times.{eq_self, one_apart}
 use Rattle.wait_book.proofs.Waiters.{on, places}
 use Rattle.script_picture.specs.declared.chart.Lane.{Lane}
@@ -34,75 +40,225 @@ Log = History (Unit {0})
 abbrev pub Act : Type 0
 Act = Event (Unit {0})
 
--- what the place of an event does then
-abbrev pub lane_by : Act → Lane
-lane_by (Admit k s) = lanes.Inside
-lane_by (Resume k c s) = lanes.Inside
-lane_by (Back k s) = lanes.Inside
-lane_by (Wait k c p s) = lanes.Waiting c p
-lane_by (Signal k c w s) = lanes.Signalling
-lane_by (Pass k c w s) = lanes.Outside
-lane_by (Leave k s) = lanes.Outside
+-- what the place of an event does then, and whether it was called since: one that waits may have been
+abbrev pub lane_by : Bool → Act → Lane
+lane_by t (Admit k s) = lanes.Inside
+lane_by t (Resume k c s) = lanes.Inside
+lane_by t (Back k s) = lanes.Inside
+lane_by t (Wait k c p s) = cond t (lanes.Called c p) (lanes.Waiting c p)
+lane_by t (Signal k c w s) = lanes.Signalling
+lane_by t (Pass k c w s) = lanes.Outside
+lane_by t (Leave k s) = lanes.Outside
+lane_by t (Notify k c w s) = lanes.Inside
+lane_by t (Broadcast k c s) = lanes.Inside
 
-abbrev pub lane_last : Option Act → Lane
-lane_last None = lanes.Outside
-lane_last (Some e) = lane_by e
+abbrev pub lane_last : Bool → Option Act → Lane
+lane_last t None = lanes.Outside
+lane_last t (Some e) = lane_by t e
 
--- what a place does by its own last event
+-- one of these has the place
+abbrev pub is_among : ℕ → List Act → Bool
+is_among k [] = false
+is_among k (e ∷ es) = place_of e == k || is_among k es
+
+-- what a place does by its own last event, and by whether it is called
 abbrev pub lane_of : Log → ℕ → Lane
-lane_of h k = lane_last (newest (own k h.events))
+lane_of h k = lane_last (is_among k (called h.events)) (newest (own k h.events))
 
-last_by : (t : Bool) (xs : List Act) (e : Act) → lane_last (newest (xs ++ cond t (e ∷ []) [])) ≡ cond t (lane_by e) (lane_last (newest xs))
-last_by true xs e = ap lane_last (newest-push xs e)
-last_by false xs e = ap (λ (l : List Act). lane_last (newest l)) (append-nil xs)
+-- a place once it is called
+abbrev pub lane_met : Lane → Lane
+lane_met lanes.Outside = lanes.Outside
+lane_met lanes.Inside = lanes.Inside
+lane_met (lanes.Waiting c p) = lanes.Called c p
+lane_met lanes.Signalling = lanes.Signalling
+lane_met (lanes.Called c p) = lanes.Called c p
 
--- one more event
-pub lane_of-push : (h : Log) (e : Act) (k : ℕ) → lane_of (with_event h e) k ≡ cond (place_of e == k) (lane_by e) (lane_of h k)
+or_false : (a : Bool) → (a || false) ≡ a
+or_false true = refl
+or_false false = refl
+
+is_among-append : (k : ℕ) (xs ys : List Act) → is_among k (xs ++ ys) ≡ (is_among k xs || is_among k ys)
+is_among-append k [] ys = refl
+is_among-append k (x ∷ xs) ys = by (place_of x == k) (is_among-append k xs ys)
+  where
+    by : (t : Bool) → is_among k (xs ++ ys) ≡ (is_among k xs || is_among k ys) → (t || is_among k (xs ++ ys)) ≡ ((t || is_among k xs) || is_among k ys)
+    by true rest = refl
+    by false rest = rest
+
+-- those of another place than j
+abbrev pub others : ℕ → List Act → List Act
+others j xs = filter (λ x. not (j == place_of x)) xs
+
+is_among-own : (j k : ℕ) (xs : List Act) → (j == k) ≡ true → is_among k (others j xs) ≡ false
+is_among-own j k [] is = refl
+is_among-own j k (x ∷ xs) is = by (j == place_of x) refl (is_among-own j k xs is)
+  where
+    by : (t : Bool) → (j == place_of x) ≡ t → is_among k (others j xs) ≡ false → is_among k (cond (not t) (x ∷ others j xs) (others j xs)) ≡ false
+    by true e rest = rest
+    by false e rest =
+        let off : (place_of x == k) ≡ false = eq_swap (place_of x) k ∙ ap (λ (n : ℕ). n == place_of x) (sym (eqb-true j k is)) ∙ e in
+        ap (λ (b : Bool). b || is_among k (others j xs)) off ∙ rest
+
+is_among-others : (j k : ℕ) (xs : List Act) → (j == k) ≡ false → is_among k (others j xs) ≡ is_among k xs
+is_among-others j k [] is = refl
+is_among-others j k (x ∷ xs) is = by (j == place_of x) refl (is_among-others j k xs is)
+  where
+    by : (t : Bool) → (j == place_of x) ≡ t → is_among k (others j xs) ≡ is_among k xs
+        → is_among k (cond (not t) (x ∷ others j xs) (others j xs)) ≡ (place_of x == k || is_among k xs)
+    by true e rest =
+        let off : (place_of x == k) ≡ false = ap (λ (n : ℕ). n == k) (sym (eqb-true j (place_of x) e)) ∙ is in
+        rest ∙ sym (ap (λ (b : Bool). b || is_among k xs) off)
+    by false e rest = ap (λ (b : Bool). place_of x == k || b) rest
+
+-- a place that is called as well
+met_by : (a : Bool) (e : Act) → lane_by true e ≡ lane_met (lane_by a e)
+met_by a (Admit k s) = refl
+met_by a (Resume k c s) = refl
+met_by a (Back k s) = refl
+met_by true (Wait k c p s) = refl
+met_by false (Wait k c p s) = refl
+met_by a (Signal k c w s) = refl
+met_by a (Pass k c w s) = refl
+met_by a (Leave k s) = refl
+met_by a (Notify k c w s) = refl
+met_by a (Broadcast k c s) = refl
+
+met_last : (a : Bool) (o : Option Act) → lane_last true o ≡ lane_met (lane_last a o)
+met_last a None = refl
+met_last a (Some e) = met_by a e
+
+lane_last-or : (a b : Bool) (o : Option Act) → lane_last (a || b) o ≡ cond b (lane_met (lane_last a o)) (lane_last a o)
+lane_last-or true true o = met_last true o
+lane_last-or true false o = refl
+lane_last-or false true o = met_last false o
+lane_last-or false false o = refl
+
+-- one that acts isn't called by that
+lane_by-own : (h : List Act) (e : Act) (a : Bool) → a ≡ false → lane_by (a || is_among (place_of e) (called_by h e)) e ≡ lane_by false e
+lane_by-own h (Admit k s) a is = refl
+lane_by-own h (Resume k c s) a is = refl
+lane_by-own h (Back k s) a is = refl
+lane_by-own h (Wait k c p s) a is = ap (λ (b : Bool). lane_by b (Wait k c p s)) (or_false a ∙ is)
+lane_by-own h (Signal k c w s) a is = refl
+lane_by-own h (Pass k c w s) a is = refl
+lane_by-own h (Leave k s) a is = refl
+lane_by-own h (Notify k c w s) a is = refl
+lane_by-own h (Broadcast k c s) a is = refl
+
+-- one more event: its place does what it says, and each that it calls is called
+pub lane_of-push : (h : Log) (e : Act) (k : ℕ) → lane_of (with_event h e) k
+    ≡ cond (place_of e == k) (lane_by false e) (cond (is_among k (called_by h.events e)) (lane_met (lane_of h k)) (lane_of h k))
 unfolding with_event
-lane_of-push h e k = ap (λ (l : List Act). lane_last (newest l)) (own-push k h.events e) ∙ last_by (place_of e == k) (own k h.events) e
+lane_of-push h e k =
+    ap (λ (b : Bool). lane_last b (newest (own k (h.events ++ e ∷ []))))
+    (ap (is_among k) (called-push h.events e) ∙ is_among-append k (others (place_of e) (called h.events)) (called_by h.events e))
+    ∙ ap (λ (l : List Act). lane_last (is_among k (others (place_of e) (called h.events)) || is_among k (called_by h.events e)) (newest l)) (own-push k h.events e)
+    ∙ by (place_of e == k) refl
+  where
+    by : (t : Bool) → (place_of e == k) ≡ t
+        → lane_last (is_among k (others (place_of e) (called h.events)) || is_among k (called_by h.events e)) (newest (own k h.events ++ cond t (e ∷ []) []))
+        ≡ cond t (lane_by false e) (cond (is_among k (called_by h.events e)) (lane_met (lane_of h k)) (lane_of h k))
+    by true is =
+        let a : Bool = is_among k (others (place_of e) (called h.events)) in
+        ap (lane_last (a || is_among k (called_by h.events e))) (newest-push (own k h.events) e)
+        ∙ ap (λ (j : ℕ). lane_by (a || is_among j (called_by h.events e)) e) (sym (eqb-true (place_of e) k is))
+        ∙ lane_by-own h.events e a (is_among-own (place_of e) k (called h.events) is)
+    by false is =
+        ap (λ (l : List Act). lane_last (is_among k (others (place_of e) (called h.events)) || is_among k (called_by h.events e)) (newest l)) (append-nil (own k h.events))
+        ∙ ap (λ (b : Bool). lane_last (b || is_among k (called_by h.events e)) (newest (own k h.events))) (is_among-others (place_of e) k (called h.events) is)
+        ∙ lane_last-or (is_among k (called h.events)) (is_among k (called_by h.events e)) (newest (own k h.events))
 
--- whatever a place does, its own last event says it
+-- whatever a place does, its own last event says it, and whether it is called
 
-out_is : (o : Option Act) → is_out o ≡ true → lanes.Outside ≡ lane_last o
-out_is None is = refl
-out_is (Some (Leave k s)) is = refl
-out_is (Some (Pass k c w s)) is = refl
-out_is (Some (Admit k s)) is = absurd (cc)
-out_is (Some (Resume k c s)) is = absurd (cc)
-out_is (Some (Back k s)) is = absurd (cc)
-out_is (Some (Wait k c p s)) is = absurd (cc)
-out_is (Some (Signal k c w s)) is = absurd (cc)
+out_is : (t : Bool) (o : Option Act) → is_out o ≡ true → lanes.Outside ≡ lane_last t o
+out_is t None is = refl
+out_is t (Some (Leave k s)) is = refl
+out_is t (Some (Pass k c w s)) is = refl
+out_is t (Some (Admit k s)) is = absurd (cc)
+out_is t (Some (Resume k c s)) is = absurd (cc)
+out_is t (Some (Back k s)) is = absurd (cc)
+out_is t (Some (Wait k c p s)) is = absurd (cc)
+out_is t (Some (Signal k c w s)) is = absurd (cc)
+out_is t (Some (Notify k c w s)) is = absurd (cc)
+out_is t (Some (Broadcast k c s)) is = absurd (cc)
 
-in_is : (e : Act) → brings_in e ≡ true → lanes.Inside ≡ lane_by e
-in_is (Admit k s) is = refl
-in_is (Resume k c s) is = refl
-in_is (Back k s) is = refl
-in_is (Wait k c p s) is = absurd (cc)
-in_is (Signal k c w s) is = absurd (cc)
-in_is (Pass k c w s) is = absurd (cc)
-in_is (Leave k s) is = absurd (cc)
+in_is : (t : Bool) (e : Act) → is_inside e ≡ true → lanes.Inside ≡ lane_by t e
+in_is t (Admit k s) is = refl
+in_is t (Resume k c s) is = refl
+in_is t (Back k s) is = refl
+in_is t (Notify k c w s) is = refl
+in_is t (Broadcast k c s) is = refl
+in_is t (Wait k c p s) is = absurd (cc)
+in_is t (Signal k c w s) is = absurd (cc)
+in_is t (Pass k c w s) is = absurd (cc)
+in_is t (Leave k s) is = absurd (cc)
 
-signal_is : (e : Act) → is_signal e ≡ true → lanes.Signalling ≡ lane_by e
-signal_is (Signal k c w s) is = refl
-signal_is (Admit k s) is = absurd (cc)
-signal_is (Resume k c s) is = absurd (cc)
-signal_is (Back k s) is = absurd (cc)
-signal_is (Wait k c p s) is = absurd (cc)
-signal_is (Pass k c w s) is = absurd (cc)
-signal_is (Leave k s) is = absurd (cc)
+signal_is : (t : Bool) (e : Act) → is_signal e ≡ true → lanes.Signalling ≡ lane_by t e
+signal_is t (Signal k c w s) is = refl
+signal_is t (Admit k s) is = absurd (cc)
+signal_is t (Resume k c s) is = absurd (cc)
+signal_is t (Back k s) is = absurd (cc)
+signal_is t (Wait k c p s) is = absurd (cc)
+signal_is t (Pass k c w s) is = absurd (cc)
+signal_is t (Leave k s) is = absurd (cc)
+signal_is t (Notify k c w s) is = absurd (cc)
+signal_is t (Broadcast k c s) is = absurd (cc)
 
-pub Does-last : (h : Log) (k : ℕ) (lane : Lane) → Does h k lane → lane ≡ lane_of h k
+-- what all pass, one of them passes
+all_pass : {X : Type 0} (p : X → Bool) (xs : List X) → list_all p xs ≡ true → All (λ x. p x ≡ true) xs
+all_pass p [] is = All-nil (λ x. p x ≡ true)
+all_pass p (x ∷ xs) is = let b = both_true _ _ is in All-cons (λ y. p y ≡ true) x xs b.0 (all_pass p xs b.1)
+
+-- a place is among those of which one has it
+among_at : (k : ℕ) (e : Act) (es : List Act) (i : ℕ) → place_of e ≡ k → i < length es → slice_index_or es i e ≡ e → is_among k es ≡ true
+among_at k e [] i mine below at = absurd (omega (arith, below))
+among_at k e (x ∷ es) zero mine below at = ap (λ (b : Bool). b || is_among k es) (eq-eqb (place_of x) k (ap place_of at ∙ mine))
+among_at k e (x ∷ es) (suc i) mine below at = by (place_of x == k) (among_at k e es i mine (omega (arith, below)) at)
+  where
+    by : (t : Bool) → is_among k es ≡ true → (t || is_among k es) ≡ true
+    by true rest = refl
+    by false rest = rest
+
+pub among_these : (k : ℕ) (e : Act) (es : List Act) → place_of e ≡ k → Contains es e → is_among k es ≡ true
+among_these k e es mine is = among_at k e es is.0 mine is.1 is.2
+
+-- and among none of which all have others
+pub among_none : (k : ℕ) (es : List Act) → All (λ x. (place_of x == k) ≡ false) es → is_among k es ≡ false
+among_none k [] all = refl
+among_none k (x ∷ es) all =
+    ap (λ (b : Bool). b || is_among k es) (All-head (λ y. (place_of y == k) ≡ false) x es all)
+    ∙ among_none k es (All-tail (λ y. (place_of y == k) ≡ false) x es all)
+
+-- who waits isn't called
+waits_uncalled : (h : Log) (k c p : ℕ) → IsLegal h → Contains (waiting c h.events) (Wait k c p tt) → is_among k (called h.events) ≡ false
+waits_uncalled h k c p legal d = among_none k (called h.events)
+    (All-weaker (IsCalled h) (λ x. (place_of x == k) ≡ false) apart (called h.events) (All-called h legal))
+  where
+    apart : (x : Act) → IsCalled h x → (place_of x == k) ≡ false
+    apart x was = not-true (place_of x == k)
+        (All-contains (λ y. not (place_of x == place_of y) ≡ true) (waiting c h.events) (Wait k c p tt)
+        (all_pass (λ y. not (place_of x == place_of y)) (waiting c h.events) (was.apart c)) d)
+
+-- who is inside does nothing else
+pub inside_last : (h : Log) (k : ℕ) → turn h.events ≡ Held k → lanes.Inside ≡ lane_of h k
+inside_last h k d =
+    let r : (e : Act) × (newest (own k h.events) ≡ Some e) × (is_inside e ≡ true) = own-held h.events k d in
+    in_is (is_among k (called h.events)) r.0 r.2 ∙ ap (lane_last (is_among k (called h.events))) (sym r.1)
+
+pub Does-last : (h : Log) (k : ℕ) (lane : Lane) → IsLegal h → Does h k lane → lane ≡ lane_of h k
 unfolding outside
-Does-last h k lanes.Outside d = out_is (newest (own k h.events)) d
-Does-last h k lanes.Inside d =
-    let r : (e : Act) × (newest (own k h.events) ≡ Some e) × (brings_in e ≡ true) = own-held h.events k d in
-    in_is r.0 r.2 ∙ ap lane_last (sym r.1)
-Does-last h k (lanes.Waiting c p) d =
+Does-last h k lanes.Outside legal d = out_is (is_among k (called h.events)) (newest (own k h.events)) d
+Does-last h k lanes.Inside legal d = inside_last h k d
+Does-last h k (lanes.Waiting c p) legal d =
     let w : Waits c h.events (Wait k c p tt) = All-contains (Waits c h.events) (waiting c h.events) (Wait k c p tt) (All-waiting c h.events) d in
-    ap lane_last (sym w.last)
-Does-last h k lanes.Signalling d =
+    ap (λ (b : Bool). cond b (lanes.Called c p) (lanes.Waiting c p)) (sym (waits_uncalled h k c p legal d)) ∙ ap (lane_last (is_among k (called h.events))) (sym w.last)
+Does-last h k lanes.Signalling legal d =
     let r : LastSignals h.events k = All-contains (LastSignals h.events) (urgent h.events) k (All-urgent h.events) d in
-    signal_is r.0 r.2 ∙ ap lane_last (sym r.1)
+    signal_is (is_among k (called h.events)) r.0 r.2 ∙ ap (lane_last (is_among k (called h.events))) (sym r.1)
+Does-last h k (lanes.Called c p) legal d =
+    let w : IsCalled h (Wait k c p tt) = All-contains (IsCalled h) (called h.events) (Wait k c p tt) (All-called h legal) d in
+    ap (λ (b : Bool). cond b (lanes.Called c p) (lanes.Waiting c p)) (sym (among_these k (Wait k c p tt) (called h.events) refl d))
+    ∙ ap (lane_last (is_among k (called h.events))) (sym w.last)
 
 -- a place that is not outside stands in the book
 
@@ -137,25 +293,47 @@ among k (u ∷ us) some = by (k == u) refl (λ is. among k us (omega (arith, som
     by true is later = (0, omega arith, sym (eqb-true k u is))
     by false is later = let r : Contains us k = later is in (suc r.0, omega (arith, r.1), r.2)
 
-in_hand : (h : Log) (k : ℕ) (t : Turn) → turn h.events ≡ t → IsClaimed t → 0 < times_in_hand k t → turn h.events ≡ Held k
-in_hand h k Free is claimed some = absurd (omega (arith, some))
-in_hand h k (Held j) is claimed some = by (k == j) refl
+-- a place that stands among those called
+among_called : (k : ℕ) (ws : List Waiter) → 0 < times k (places ws) → (w : Waiter) × (w.place ≡ k) × Contains (map wait_of ws) (wait_of w)
+among_called k [] some = absurd (omega (arith, some))
+among_called k (w ∷ ws) some = by (k == w.place) refl (λ is. among_called k ws (omega (arith, some, one_apart k w.place is)))
+  where
+    by : (t : Bool) → (k == w.place) ≡ t → ((k == w.place) ≡ false → (v : Waiter) × (v.place ≡ k) × Contains (map wait_of ws) (wait_of v))
+        → (v : Waiter) × (v.place ≡ k) × Contains (map wait_of (w ∷ ws)) (wait_of v)
+    by true is later = (w, sym (eqb-true k w.place is), (0, omega arith, refl))
+    by false is later =
+        let r : (v : Waiter) × (v.place ≡ k) × Contains (map wait_of ws) (wait_of v) = later is in
+        (r.0, r.1, (suc r.2.0, omega (arith, r.2.1), r.2.2))
+
+in_hand : (h : Log) (k m : ℕ) (t : Turn) → turn h.events ≡ t → IsClaimed t → 0 < times_in_hand k m t → turn h.events ≡ Held k
+in_hand h k m Free is claimed some = absurd (omega (arith, some))
+in_hand h k m (Held j) is claimed some = by (k == j) refl
   where
     by : (t : Bool) → (k == j) ≡ t → turn h.events ≡ Held k
     by true e = is ∙ ap Held (sym (eqb-true k j e))
     by false e = absurd (omega (arith, some, one_apart k j e))
-in_hand h k (Owed j c) is claimed some = absurd claimed
-in_hand h k (Return j) is claimed some = absurd claimed
+in_hand h k m (Owed j c) is claimed some = absurd claimed
+in_hand h k m (Return j) is claimed some = absurd claimed
 
 -- where nobody is owed the monitor, each place does something
 Does-something : (b : Contents) (h : Log) (k : ℕ) → IsOf b h → IsClaimed (turn h.events) → (lane : Lane) × Does h k lane
 Does-something b h k o claimed = by (outside k h.events) refl
   where
-    by_turn : times k (places b.waiters) ≡ 0 → times k b.signallers ≡ 0 → 0 < times_in k b → (lane : Lane) × Does h k lane
-    by_turn n m some = (lanes.Inside, in_hand h k (turn h.events) refl claimed (omega (arith, n, m, some, ap (times_in_hand k) o.turn_is)))
+    by_turn : times k (places b.waiters) ≡ 0 → times k b.signallers ≡ 0 → times k (places b.called) ≡ 0 → 0 < times_in k b → (lane : Lane) × Does h k lane
+    by_turn n m l some =
+        (lanes.Inside, in_hand h k (hoare_of b) (turn h.events) refl claimed (omega (arith, n, m, l, some, ap (times_in_hand k (hoare_of b)) o.turn_is)))
+
+    by_call : (t : Bool) → (times k (places b.called) == 0) ≡ t → times k (places b.waiters) ≡ 0 → times k b.signallers ≡ 0 → 0 < times_in k b → (lane : Lane) × Does h k lane
+    by_call true l n m some = by_turn n m (eqb-true (times k (places b.called)) 0 l) some
+    by_call false l n m some =
+        let r : (w : Waiter) × (w.place ≡ k) × Contains (map wait_of b.called) (wait_of w) = among_called k b.called (some_of (times k (places b.called)) l) in (
+          lanes.Called r.0.condition r.0.priority,
+          subst (λ (es : List Act). Contains es (Wait k r.0.condition r.0.priority tt)) (sym o.called_are)
+              (subst (λ (j : ℕ). Contains (map wait_of b.called) (Wait j r.0.condition r.0.priority tt)) r.1 r.2),
+        )
 
     by_signal : (t : Bool) → (times k b.signallers == 0) ≡ t → times k (places b.waiters) ≡ 0 → 0 < times_in k b → (lane : Lane) × Does h k lane
-    by_signal true m n some = by_turn n (eqb-true (times k b.signallers) 0 m) some
+    by_signal true m n some = by_call (times k (places b.called) == 0) refl n (eqb-true (times k b.signallers) 0 m) some
     by_signal false m n some = (lanes.Signalling, subst (λ (us : List ℕ). Contains us k) (sym o.signallers) (among k b.signallers (some_of (times k b.signallers) m)))
 
     ordered : (c : ℕ) → All (Contains (waiting c h.events)) (map wait_of (filter (on c) b.waiters))
@@ -176,8 +354,8 @@ Does-something b h k o claimed = by (outside k h.events) refl
 -- and nothing but what its own last event says
 pub Does-by_last : (b : Contents) (h : Log) (k : ℕ) (lane : Lane) → IsOf b h → IsClaimed (turn h.events) → Does h k lane ↔ (lane ≡ lane_of h k)
 Does-by_last b h k lane o claimed = (
-  Does-last h k lane,
+  Does-last h k lane o.legal,
   λ same.
       let r : (l : Lane) × Does h k l = Does-something b h k o claimed in
-      subst (λ (l : Lane). Does h k l) (Does-last h k r.0 r.1 ∙ sym same) r.1,
+      subst (λ (l : Lane). Does h k l) (Does-last h k r.0 o.legal r.1 ∙ sym same) r.1,
 )

@@ -3,3 +3,4 @@ pub mod Does
 pub mod Shown
 pub mod Reading
 pub mod Arrows
+pub mod Calling

@@ -5,11 +5,13 @@ use Rattle.hoare_law.specs.declared.event.History.{History}
 use Rattle.hoare_law.specs.declared.event.Event.TheVariants.{Wait}
 use Rattle.hoare_law.specs.declared.turn.Turn.{Turn}
 use Rattle.hoare_law.specs.declared.turn.Turn.TheVariants as turns
+use Rattle.hoare_law.specs.Called.{called}
 use Rattle.hoare_law.specs.Events.{opened}
+use Rattle.hoare_law.specs.Legal.{IsLegal}
 use Rattle.hoare_law.specs.Turns.{turn, urgent, outside}
 use Rattle.hoare_law.specs.Waiting.{waiting}
 use Rattle.wait_book.specs.Contents.{Contents, IsOf}
-use Rattle.hoare_script.specs.Answers.{answer_to, history_after}
+use Rattle.hoare_script.specs.Answers.{answer_to, history_after, notified}
 use Rattle.hoare_script.specs.declared.answers.Answer.{Answer}
 use Rattle.hoare_script.specs.declared.lines.Command.{Command}
 use Rattle.hoare_script.specs.declared.lines.Header.{Header}
@@ -21,13 +23,14 @@ use Rattle.script_picture.specs.declared.chart.Chart.{Chart}
 use Rattle.script_picture.specs.declared.read.Script.{Script}
 use Rattle.script_picture.specs.Lanes.{hand_over}
 
--- place k does this where h happened: it is outside, it has the turn, it waits on a condition with a priority, or it is a
--- waiting signaller. All four are the words of hoare_law
+-- place k does this where h happened: it is outside, it has the turn, it waits on a condition with a priority, it is a
+-- waiting signaller, or it was called from such a wait. All five are the words of hoare_law
 abbrev pub Does : History (Unit {0}) → ℕ → Lane → Type 0
 Does h k lanes.Outside = outside k h.events ≡ true
 Does h k lanes.Inside = turn h.events ≡ turns.Held k
 Does h k (lanes.Waiting c p) = Contains (waiting c h.events) (Wait k c p tt)
 Does h k lanes.Signalling = Contains (urgent h.events) k
+Does h k (lanes.Called c p) = Contains (called h.events) (Wait k c p tt)
 
 -- nobody is owed the monitor
 abbrev pub IsClaimed : Turn → Type 0
@@ -36,8 +39,10 @@ IsClaimed (turns.Held k) = ⊤
 IsClaimed (turns.Owed k c) = ⊥
 IsClaimed (turns.Return k) = ⊥
 
--- there is a lane for each place, and each place does what its lane says, and nothing else
+-- there is a lane for each place, and each place does what its lane says, and nothing else, where what happened is
+-- legal
 pub record Shows (h : History (Unit {0})) (drawn : List Lane) : Type 0 where
+  pub legal : IsLegal h
   pub claimed : IsClaimed (turn h.events)
   pub places : length drawn ≡ h.places
   pub each : (k : ℕ) → k < h.places → (lane : Lane) → Does h k lane ↔ (lane ≡ slice_index_or drawn k lanes.Outside)
@@ -46,10 +51,14 @@ pub record Shows (h : History (Unit {0})) (drawn : List Lane) : Type 0 where
 abbrev pub HasBook : History (Unit {0}) → Type 0
 HasBook h = (b : Contents) × IsOf b h
 
+-- a row has the answer that a history says, and the place that a notify calls there
+abbrev pub IsAnswered : History (Unit {0}) → Row → Type 0
+IsAnswered h row = (row.answer ≡ answer_to h row.command) × (row.notified ≡ notified h row.command)
+
 -- each row is answered as the history before it says
 abbrev pub Answered : History (Unit {0}) → List Row → Type 0
 Answered h [] = HasBook h
-Answered h (row ∷ rows) = HasBook h × (row.answer ≡ answer_to h row.command) × Answered (history_after h row.command) rows
+Answered h (row ∷ rows) = HasBook h × IsAnswered h row × Answered (history_after h row.command) rows
 
 -- what happened after the rows
 abbrev pub after_rows : History (Unit {0}) → List Row → History (Unit {0})
@@ -58,11 +67,11 @@ after_rows h (row ∷ rows) = after_rows (history_after h row.command) rows
 
 -- where nothing happened yet
 abbrev pub opening : Header → History (Unit {0})
-opening header = opened header.places header.conditions tt
+opening header = opened header.places header.conditions header.mesa tt
 
 -- the row is answered as a history says, and the lanes show that history with what the row adds
 abbrev pub IsShownAfter : List Lane → Row → Type 0
-IsShownAfter drawn row = (h : History (Unit {0})) × (row.answer ≡ answer_to h row.command) × Shows (history_after h row.command) drawn
+IsShownAfter drawn row = (h : History (Unit {0})) × IsAnswered h row × Shows (history_after h row.command) drawn
 
 -- there are as many places as a picture has lanes for, and each row is answered as the history since the opening says
 abbrev pub IsTold : Chart → Type 0
@@ -73,8 +82,8 @@ abbrev pub DoesDuring : Chart → ℕ → Lane → ℕ → ℕ → Type 0
 DoesDuring c k lane since end =
     (i : ℕ) → since ≤ i → i < end → Does (after_rows (opening c.header) (take (i + 1) c.rows.items)) k lane
 
--- one place is inside before row i, and another after it; it comes back if it was a waiting signaller before the row, and the one went
--- out if it is outside after the row
+-- one place is inside before row i, and another after it; it comes back if it was a waiting signaller before the row,
+-- and the one went out if it is outside after the row
 pub record HandsOver (c : Chart) (i : ℕ) (over : HandOver) (comes_back went_out : Bool) : Type 0 where
   pub gives : Does (after_rows (opening c.header) (take i c.rows.items)) over.from lanes.Inside
   pub goes_on : Does (after_rows (opening c.header) (take (i + 1) c.rows.items)) over.to lanes.Inside
@@ -85,10 +94,31 @@ pub record HandsOver (c : Chart) (i : ℕ) (over : HandOver) (comes_back went_ou
 abbrev pub KeepsTurn : Chart → ℕ → Type 0
 KeepsTurn c i = (d : Row) → hand_over (slice_index_or c.rows.items i d) ≡ None
 
+-- a place waits there, or was called from a wait
+abbrev pub IsWaiting : History (Unit {0}) → ℕ → Type 0
+IsWaiting h k = (c p : ℕ) × Does h k (lanes.Waiting c p)
+
+abbrev pub IsCalled : History (Unit {0}) → ℕ → Type 0
+IsCalled h k = (c p : ℕ) × Does h k (lanes.Called c p)
+
+-- one place is inside before row i, and another waits before it and is called after it
+pub record Calls (c : Chart) (i from to : ℕ) : Type 0 where
+  pub calls : Does (after_rows (opening c.header) (take i c.rows.items)) from lanes.Inside
+  pub waited : IsWaiting (after_rows (opening c.header) (take i c.rows.items)) to
+  pub called : IsCalled (after_rows (opening c.header) (take (i + 1) c.rows.items)) to
+
+-- row i doesn't call this place
+abbrev pub LeavesAlone : Chart → ℕ → ℕ → Type 0
+LeavesAlone c i k =
+    IsWaiting (after_rows (opening c.header) (take i c.rows.items)) k
+    → IsCalled (after_rows (opening c.header) (take (i + 1) c.rows.items)) k → ⊥
+
 -- one row more, of the command that a line spells
 abbrev pub IsRowMore : Option Command → List Row → List Row → Type 0
 IsRowMore None old new = ⊥
-IsRowMore (Some command) old new = (answer : Answer) × (new ≡ old ++ record { command = command; answer = answer } ∷ [])
+IsRowMore (Some command) old new =
+    (answer : Answer) × (notified : Option ℕ)
+    × (new ≡ old ++ record { command = command; answer = answer; notified = notified } ∷ [])
 
 -- the rows that were there stay, in front
 abbrev pub IsInFront : List Row → List Row → Type 0

@@ -1,10 +1,10 @@
 //! Rows and lanes: what each place does after each step, read off the answers.
 ghost use Rattle.std.specs.Prelude.{◌≡◌, ◌<◌, ◌≤◌, ◌↔◌, ℕ, IsTrue, length, slice_index_or};
 ghost use Rattle.hoare_law.specs.declared.event.History.{History};
-ghost use Rattle.hoare_script.specs.Answers.{answer_to, history_after};
+ghost use Rattle.hoare_script.specs.Answers.{history_after};
 ghost use Rattle.script_picture.specs.declared.chart.Lane.TheVariants as states;
-ghost use Rattle.script_picture.specs.Lanes.{actor, hand_over, lane_after, left_as};
-ghost use Rattle.script_picture.specs.Shown.{HasBook, Shows, opening};
+ghost use Rattle.script_picture.specs.Lanes.{actor, caller, hand_over, is_call, is_place, lane_after, lane_beside, lane_called, left_as};
+ghost use Rattle.script_picture.specs.Shown.{HasBook, IsAnswered, Shows, opening};
 
 use arrayvec::ArrayVec;
 use hoare_script::answers::Answer;
@@ -23,16 +23,19 @@ pub enum Lane {
     Waiting(u64, u64),
     /// It signalled, and waits for its return.
     Signalling,
+    /// It waited on this condition, with this priority, was called, and hasn't gone on yet.
+    Called(u64, u64),
 }
 
 /// What each of at most 64 places does.
 pub type Lanes = ArrayVec<Lane, 64>;
 
-/// A command with its answer.
+/// A command with its answer, and the place that it would call where it is a notify.
 #[derive(Clone, Copy, Debug, PartialEq, Eq)]
 pub struct Row {
     pub command: Command,
     pub answer: Answer,
+    pub notified: Option<usize>,
 }
 
 /// A script that was read: its header, and its rows in order.
@@ -59,6 +62,8 @@ fn actor(step: Step) -> u64
         Step::Signal(place, _) => place,
         Step::Pass(place, _) => place,
         Step::Leave(place) => place,
+        Step::Notify(place, _) => place,
+        Step::Broadcast(place, _) => place,
     }
 }
 
@@ -72,11 +77,59 @@ fn left_as(step: Step) -> Lane
         Step::Signal(_, _) => Lane::Signalling,
         Step::Pass(_, _) => Lane::Outside,
         Step::Leave(_) => Lane::Outside,
+        Step::Notify(_, _) => Lane::Inside,
+        Step::Broadcast(_, _) => Lane::Inside,
     }
 }
 
-/// What a place does after a row, by what it did before: the place of the answer is inside, the place of the step as the
-/// step leaves it, and each other as before. A refused step changes nothing, nor does a question.
+/// Whether a place is the one that is notified.
+fn is_place(notified: Option<usize>, place: u64) -> bool
+    ensures { result ≡ is_place notified place }
+{
+    match notified {
+        Some(called) => called as u64 == place,
+        None => false,
+    }
+}
+
+/// What a place does once those that wait on a condition are called: one that waits there is called, and any other goes
+/// on as before.
+fn lane_called(condition: u64, before: Lane) -> Lane
+    ensures { result ≡ lane_called condition before }
+{
+    match before {
+        Lane::Waiting(on, priority) => {
+            if on == condition {
+                Lane::Called(on, priority)
+            } else {
+                before
+            }
+        }
+        _ => before,
+    }
+}
+
+/// What a place does beside a step of another that doesn't let it go on: the one that is notified is called, and all
+/// that wait where a broadcast is.
+fn lane_beside(step: Step, notified: Option<usize>, place: u64, before: Lane) -> Lane
+    ensures { result ≡ lane_beside step notified place before }
+{
+    match step {
+        Step::Notify(_, condition) => {
+            if is_place(notified, place) {
+                lane_called(condition, before)
+            } else {
+                before
+            }
+        }
+        Step::Broadcast(_, condition) => lane_called(condition, before),
+        _ => before,
+    }
+}
+
+/// What a place does after a row, by what it did before: the place of the answer is inside, the place of the step as
+/// the step leaves it, who is called by it is called, and each other does as before. A refused step changes nothing,
+/// nor does a question.
 pub fn lane_after(row: Row, place: u64, before: Lane) -> Lane
     ensures { result ≡ lane_after row place before }
 {
@@ -94,7 +147,30 @@ pub fn lane_after(row: Row, place: u64, before: Lane) -> Lane
     if actor(step) == place {
         return left_as(step);
     }
-    before
+    lane_beside(step, row.notified, place, before)
+}
+
+/// Whether a place that waited is called.
+fn is_call(before: Lane, after: Lane) -> bool
+    ensures { result ≡ is_call before after }
+{
+    match (before, after) {
+        (Lane::Waiting(_, _), Lane::Called(_, _)) => true,
+        _ => false,
+    }
+}
+
+/// Who calls a place by a row, if one does, by what that did before.
+pub fn caller(row: Row, place: u64, before: Lane) -> Option<u64>
+    ensures { result ≡ caller row place before }
+{
+    let Command::Do(step) = row.command else {
+        return None;
+    };
+    if is_call(before, lane_after(row, place, before)) {
+        return Some(actor(step));
+    }
+    None
 }
 
 /// The hand-over of a row: from the place of the step to the place of the answer, if that is another.
@@ -143,14 +219,15 @@ pub fn does(lanes: &Lanes, place: u64, lane: Lane) -> bool
     lane_of(lanes, place) == lane
 }
 
-/// Takes all lanes past a row. Where the row is answered as a history says, lanes that show this history go on to show the
-/// history after the row: who waits there, who is a waiting signaller, whose turn it is, and who is outside.
+/// Takes all lanes past a row. Where the row is answered as a history says, lanes that show this history go on to show
+/// the history after the row: who waits there, who is a waiting signaller, who is called, whose turn it is, and who is
+/// outside.
 pub fn advance(lanes: &mut [Lane], row: Row)
     ensures length { length lanes.new ≡ length lanes.old }
     ensures each { (k : ℕ) → k < length lanes.old → slice_index_or lanes.new k states.Outside
         ≡ lane_after row k (slice_index_or lanes.old k states.Outside) }
     ensures shows { (h : History (Unit {0})) → HasBook (history_after h row.command)
-        → row.answer ≡ answer_to h row.command
+        → IsAnswered h row
         → Shows h lanes.old → Shows (history_after h row.command) lanes.new }
 {
     'places: for place in 0..lanes.len() {

@@ -25,6 +25,9 @@ const LEGEND: u64 = 104;
 /// The least width, which the legend has room in.
 const LEAST_WIDTH: u64 = 560;
 
+/// The least width where there are Mesa conditions.
+const LEAST_MESA_WIDTH: u64 = 708;
+
 /// The width of a character.
 const CHARACTER: u64 = 8;
 
@@ -75,7 +78,7 @@ pub fn frame_of(chart: &Chart) -> Frame {
         tracks,
         idle: widths.idle,
         remarks,
-        width: width_of(remarks, &widths),
+        width: width_of(remarks, &widths, chart.header.mesa),
         height: row_top(rows).saturating_add(LEGEND),
         rows,
     }
@@ -102,10 +105,15 @@ fn remarks_after(tracks: &ArrayVec<Track, 64>, edge: u64) -> u64 {
     edge.saturating_sub(GAP).saturating_add(REMARKS_GAP)
 }
 
-fn width_of(remarks: u64, widths: &Widths) -> u64 {
+fn width_of(remarks: u64, widths: &Widths, mesa: u64) -> u64 {
+    let least = if mesa == 0 {
+        LEAST_WIDTH
+    } else {
+        LEAST_MESA_WIDTH
+    };
     across(remarks, widths.remarks)
         .saturating_add(MARGIN)
-        .max(LEAST_WIDTH)
+        .max(least)
 }
 
 // Past this number of characters.

@@ -1,14 +1,18 @@
 //! The legend of an SVG.
 use crate::chart::Lane;
-use crate::shapes::{Area, Arrow, BASELINE, write_arrow, write_box};
+use crate::shapes::{Area, Arrow, BASELINE, write_arrow, write_box, write_call_arrow};
 use std::io;
 use std::io::Write;
 
-/// Writes what the shapes mean, below the rows.
-pub fn write_legend<W: Write>(writer: &mut W, bottom: u64) -> io::Result<()> {
+/// Writes what the shapes mean, below the rows. A call is among them where there are Mesa conditions.
+pub fn write_legend<W: Write>(writer: &mut W, bottom: u64, mesa: u64) -> io::Result<()> {
     let top = bottom.saturating_add(18);
     write_boxes(writer, top)?;
-    write_arrows(writer, top)
+    write_arrows(writer, top)?;
+    if mesa == 0 {
+        return Ok(());
+    }
+    write_call(writer, top.saturating_add(52))
 }
 
 // What a box means, for each of the three.
@@ -49,6 +53,19 @@ fn write_arrows<W: Write>(writer: &mut W, first: u64) -> io::Result<()> {
         top = top.saturating_add(26);
     }
     Ok(())
+}
+
+// What the arrow of a call and the box of who is called mean.
+fn write_call<W: Write>(writer: &mut W, top: u64) -> io::Result<()> {
+    let area = Area {
+        middle: 438,
+        half: 34,
+        top,
+        height: 22,
+    };
+    write_call_arrow(writer, 350, 404, top.saturating_add(11))?;
+    write_box(writer, Lane::Called(0, 0), area)?;
+    write_note(writer, 482, top, "is called, and goes on later")
 }
 
 fn write_note<W: Write>(writer: &mut W, x: u64, top: u64, note: &str) -> io::Result<()> {

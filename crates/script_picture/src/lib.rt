@@ -2,6 +2,7 @@
 #![tactic(auto)]
 
 mod about;
+mod calls;
 mod chart;
 mod crossings;
 pub mod fault;

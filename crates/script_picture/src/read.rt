@@ -65,7 +65,7 @@ pub fn open_script<R: Read>(
 fn open_book(alloc: Global, header: Header) -> Result<Opened, ScriptFault>
     ensures book { IfOk result (λ b. (header.places ≤ 64) × IsOf b (opening header)) }
     ensures fault { is_read_fault result ≡ false }
-    ensures refused { let refusal = make_refusal header.places header.conditions in
+    ensures refused { let refusal = make_refusal header.places header.conditions header.mesa in
         MatchResult result (λ b. refusal ≡ None) (λ f. f ≡ header_fault refusal) }
 {
     match Opened::make(alloc, header) {
@@ -135,8 +135,14 @@ impl Script {
         let Some(command) = parse_command(line) else {
             return Err(ScriptFault::BadLine(number));
         };
+        let notified = self.opened.notified(command);
         let answer = self.opened.answer(command);
-        match self.chart.rows.push(Row { command, answer }) {
+        let row = Row {
+            command,
+            answer,
+            notified,
+        };
+        match self.chart.rows.push(row) {
             Ok(()) => Ok(()),
             Err(_) => Err(ScriptFault::Memory),
         }

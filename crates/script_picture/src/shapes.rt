@@ -15,7 +15,7 @@ pub struct Area {
     pub height: u64,
 }
 
-/// An arrow along a row: from here to there, at this height. A return is dashed.
+/// An arrow of a hand-over along a row: from here to there, at this height. A return is dashed.
 #[derive(Clone, Copy, Debug, PartialEq, Eq)]
 pub struct Arrow {
     pub from: u64,
@@ -31,6 +31,7 @@ pub fn write_box<W: Write>(writer: &mut W, lane: Lane, area: Area) -> io::Result
         Lane::Inside => write_inside(writer, area),
         Lane::Waiting(condition, priority) => write_waiting(writer, condition, priority, area),
         Lane::Signalling => write_signalling(writer, area),
+        Lane::Called(_, _) => write_called(writer, area),
     }
 }
 
@@ -51,6 +52,13 @@ fn write_waiting<W: Write>(
     write_rectangle(writer, "waits", area)?;
     write_label(writer, area, "dark")?;
     write!(writer, "c{condition} p{priority}</text>\n")
+}
+
+// The box of who was called and goes on later.
+fn write_called<W: Write>(writer: &mut W, area: Area) -> io::Result<()> {
+    write_rectangle(writer, "called", area)?;
+    write_label(writer, area, "dark")?;
+    writer.write_all(b"called</text>\n")
 }
 
 // The box of who signalled and waits to return.
@@ -103,6 +111,18 @@ pub fn write_arrow<W: Write>(writer: &mut W, arrow: Arrow) -> io::Result<()> {
     write_shaft(writer, "edge", arrow.middle, begin, neck)?;
     write_shaft(writer, class, arrow.middle, arrow.from, neck)?;
     write_tip(writer, arrow)
+}
+
+/// Writes the arrow of a call, which is drawn before the boxes, so that it goes through behind them.
+pub fn write_call_arrow<W: Write>(writer: &mut W, from: u64, to: u64, y: u64) -> io::Result<()> {
+    let rightward = from < to;
+    let neck = moved(to, 8, !rightward);
+    write_shaft(writer, "arrow call", y, from, neck)?;
+    let back = if rightward { "-9" } else { "9" };
+    write!(
+        writer,
+        "<path class=\"tip\" d=\"M{to} {y}l{back}-5v10z\"/>\n"
+    )
 }
 
 /// A point so far to the right of another, or to the left.

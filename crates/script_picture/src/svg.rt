@@ -3,7 +3,8 @@ ghost use Rattle.std.specs.Prelude.{◌≡◌, IfOk, length};
 ghost use Rattle.script_picture.specs.Shown.{IsTold};
 
 use crate::about::write_description;
-use crate::chart::{Chart, Lane, Row, advance, does, hand_over, lane_after, outside_lanes};
+use crate::calls::{Call, Noted, write_call};
+use crate::chart::{Chart, Lane, Row, advance, caller, does, hand_over, lane_after, outside_lanes};
 use crate::crossings::{Crossed, Crossing, write_crossing};
 use crate::frame::{Frame, HEAD_LINE, MARGIN, ROW, Track, frame_of, row_top};
 use crate::legend::write_legend;
@@ -28,16 +29,23 @@ text{font-family:ui-monospace,Menlo,Consolas,'DejaVu Sans Mono',monospace;font-s
 </style>
 ";
 
+// What is added to it where there are Mesa conditions.
+const MESA_STYLE: &str = "<style>
+.called{fill:#dafbe1;stroke:#1a7f37;stroke-width:1.5}.call{stroke:#1a7f37;stroke-dasharray:2 2}.tip{fill:#1a7f37}
+</style>
+";
+
 /// Writes a chart: rows with their steps and remarks, a lane for each place with a box for each thing that it does, and an
-/// arrow for each hand-over. It names nothing outside itself.
+/// arrow for each call and each hand-over. It names nothing outside itself.
 pub fn draw<W: Write>(writer: &mut W, chart: &Chart) -> io::Result<()>
     requires { IsTold chart.now }
 {
     let frame = frame_of(chart);
     write_ground(writer, &frame, chart)?;
+    write_calls(writer, &frame, chart)?;
     write_boxes(writer, &frame, chart)?;
     let _crossed = write_arrows(writer, &frame, chart)?;
-    write_legend(writer, row_top(frame.rows))?;
+    write_legend(writer, row_top(frame.rows), chart.header.mesa)?;
     writer.write_all(b"</svg>\n")
 }
 
@@ -64,6 +72,9 @@ fn write_opening<W: Write>(writer: &mut W, frame: &Frame) -> io::Result<()> {
 // The styles, the white page, and what stands over the steps and the remarks.
 fn write_head<W: Write>(writer: &mut W, frame: &Frame, header: Header) -> io::Result<()> {
     writer.write_all(STYLE.as_bytes())?;
+    if header.mesa > 0 {
+        writer.write_all(MESA_STYLE.as_bytes())?;
+    }
     write_page(writer, frame)?;
     write_text(writer, "title", MARGIN, HEAD_LINE, header_text(header))?;
     if frame.idle == 0 {
@@ -156,6 +167,39 @@ fn write_place<W: Write>(writer: &mut W, track: Track) -> io::Result<()> {
 
 fn write_lane<W: Write>(writer: &mut W, x: u64, top: u64, bottom: u64) -> io::Result<()> {
     write!(writer, "<path class=\"lane\" d=\"M{x} {top}V{bottom}\"/>\n")
+}
+
+// The arrows of calls, lane by lane.
+fn write_calls<W: Write>(writer: &mut W, frame: &Frame, chart: &Chart) -> io::Result<()>
+    requires { IsTold chart.now }
+{
+    for track in frame.tracks.as_slice() {
+        let _noted = write_lane_calls(writer, frame, chart, *track)?;
+    }
+    Ok(())
+}
+
+// An arrow for each call of a place: no row that calls it is passed over.
+fn write_lane_calls<W: Write>(
+    writer: &mut W,
+    frame: &Frame,
+    chart: &Chart,
+    track: Track,
+) -> io::Result<Noted>
+    requires { IsTold chart.now }
+    ensures { IfOk result (λ noted. noted.row ≡ length chart.now.rows.items) }
+{
+    let mut lane = Lane::Outside;
+    let mut noted = Noted::nothing();
+    'rows: for row in chart.rows.iter() {
+        if let Some(from) = caller(*row, track.place, lane) {
+            noted = write_call(writer, frame, chart, noted, Call { from, to: track })?;
+        } else {
+            noted = noted.past(chart, track);
+        }
+        lane = lane_after(*row, track.place, lane);
+    }
+    Ok(noted)
 }
 
 // The boxes, lane by lane.

@@ -2,6 +2,7 @@
 //! follow in further blocks below, each with all steps.
 ghost use Rattle.script_picture.specs.Shown.{IsShownAfter, IsTold};
 
+use crate::calls::{Callers, callers_of};
 use crate::chart::{Chart, HandOver, Lanes, Row, advance, hand_over, lane_of, outside_lanes};
 use crate::widths::{Column, Widths, widths_of};
 use crate::words::{
@@ -28,17 +29,32 @@ struct Block {
     length: usize,
 }
 
-/// How an arrow goes through the gap between two lanes.
+/// Which part of an arrow goes through the gap between two lanes.
 #[derive(Clone, Copy, Debug, PartialEq, Eq)]
-enum Shaft {
+enum Part {
     Leftward,
     LeftHead,
     Rightward,
     RightHead,
 }
 
-/// Writes a chart: the header with the places' numbers, and a row for each command; and so again for each further block, after
-/// an empty line. What the lanes don't show stands in the last block, below its step where the line has no room for it.
+/// An arrow in a gap, and the letter of its line: `-` in a hand-over, `~` in a call.
+#[derive(Clone, Copy, Debug, PartialEq, Eq)]
+struct Shaft {
+    part: Part,
+    line: u8,
+}
+
+/// The arrows of a row: its hand-over, and who calls each place.
+#[derive(Drop)]
+struct Arrows {
+    over: Option<HandOver>,
+    callers: Callers,
+}
+
+/// Writes a chart: the header with the places' numbers, and a row for each command; and so again for each further
+/// block, after an empty line. What the lanes don't show stands in the last block, below its step where the line has no
+/// room for it.
 pub fn draw<W: Write>(writer: &mut W, chart: &Chart) -> io::Result<()>
     requires { IsTold chart.now }
 {
@@ -86,8 +102,12 @@ fn write_block<W: Write>(
     let mut lanes = outside_lanes(chart.header);
     write_head(writer, chart, widths, block)?;
     'rows: for row in chart.rows.iter() {
+        let arrows = Arrows {
+            over: hand_over(*row),
+            callers: callers_of(&lanes, *row),
+        };
         advance(lanes.as_mut_slice(), *row);
-        write_row(writer, widths, block, &lanes, *row)?;
+        write_row(writer, widths, block, &lanes, *row, &arrows)?;
     }
     Ok(())
 }
@@ -115,21 +135,21 @@ fn write_row<W: Write>(
     block: Block,
     lanes: &Lanes,
     row: Row,
+    arrows: &Arrows,
 ) -> io::Result<()>
     requires { IsShownAfter lanes.now.items row }
 {
-    let over = hand_over(row);
     let mut room = write_cell(writer, command_text(row.command), widths.steps)?;
     for i in block.first..block.end {
         let column = column_at(widths, i);
-        write_gap(writer, room, shaft_before(widths, i, over))?;
+        write_gap(writer, room, shaft_before(widths, i, arrows))?;
         room = write_cell(
             writer,
             lane_text(lane_of(lanes, column.place)),
             column.width,
         )?;
     }
-    let shaft = shaft_before(widths, block.end, over);
+    let shaft = shaft_before(widths, block.end, arrows);
     write_end(writer, widths, block, room, shaft, remark_text(row.answer))
 }
 
@@ -146,27 +166,51 @@ fn write_cell<W: Write>(writer: &mut W, text: Text, width: usize) -> io::Result<
 }
 
 // How an arrow goes through the gap before a column, if it does.
-fn shaft_before(widths: &Widths, i: usize, over: Option<HandOver>) -> Option<Shaft> {
+fn shaft_before(widths: &Widths, i: usize, arrows: &Arrows) -> Option<Shaft> {
     let columns = widths.columns.as_slice();
     let left = columns.get(i.checked_sub(1)?)?.place;
     let right = columns.get(i)?.place;
-    shaft_between(left, right, over?)
+    let Some(over) = arrows.over else {
+        let part = called_between(left, right, &arrows.callers)?;
+        return Some(Shaft { part, line: b'~' });
+    };
+    let part = part_between(left, right, over.from, over.to)?;
+    Some(Shaft { part, line: b'-' })
 }
 
-// How an arrow goes through the gap between the lanes of two places, if it does.
-fn shaft_between(left: u64, right: u64, over: HandOver) -> Option<Shaft> {
-    if over.from <= left && right <= over.to {
-        return Some(if right == over.to {
-            Shaft::RightHead
+// Which part of the arrows of a row's calls goes through the gap between the lanes of two places, if one does: a head,
+// where one of them ends there.
+fn called_between(left: u64, right: u64, callers: &Callers) -> Option<Part> {
+    let mut part = None;
+    for (to, from) in callers.as_slice().iter().enumerate() {
+        if let Some(from) = *from {
+            let next = part_between(left, right, from, to as u64);
+            if part.is_none() || is_head(next) {
+                part = next;
+            }
+        }
+    }
+    part
+}
+
+fn is_head(part: Option<Part>) -> bool {
+    matches!(part, Some(Part::LeftHead) | Some(Part::RightHead))
+}
+
+// Which part of an arrow goes through the gap between the lanes of two places, if one does.
+fn part_between(left: u64, right: u64, from: u64, to: u64) -> Option<Part> {
+    if from <= left && right <= to {
+        return Some(if right == to {
+            Part::RightHead
         } else {
-            Shaft::Rightward
+            Part::Rightward
         });
     }
-    if over.to <= left && right <= over.from {
-        return Some(if left == over.to {
-            Shaft::LeftHead
+    if to <= left && right <= from {
+        return Some(if left == to {
+            Part::LeftHead
         } else {
-            Shaft::Leftward
+            Part::Leftward
         });
     }
     None
@@ -183,16 +227,18 @@ fn write_gap<W: Write>(writer: &mut W, room: usize, shaft: Option<Shaft>) -> io:
 
 // An arrow, after a space.
 fn write_shaft<W: Write>(writer: &mut W, room: usize, shaft: Shaft) -> io::Result<()> {
-    writer.write_all(if shaft == Shaft::LeftHead {
-        b" <"
+    let line = [shaft.line];
+    writer.write_all(b" ")?;
+    writer.write_all(if shaft.part == Part::LeftHead {
+        b"<"
     } else {
-        b" -"
+        &line
     })?;
-    write_times(writer, b"-", room)?;
-    writer.write_all(if shaft == Shaft::RightHead {
+    write_times(writer, &line, room)?;
+    writer.write_all(if shaft.part == Part::RightHead {
         b">"
     } else {
-        b"-"
+        &line
     })
 }
 

@@ -28,7 +28,10 @@ fn append_number(text: &mut Text, number: u64) {
 
 /// The line that spells a header.
 pub fn header_text(header: Header) -> Text {
-    spelled(b"monitor", &[header.places, header.conditions])
+    if header.mesa == 0 {
+        return spelled(b"monitor", &[header.places, header.conditions]);
+    }
+    spelled(b"monitor", &[header.places, header.conditions, header.mesa])
 }
 
 /// The line that spells a command.
@@ -41,12 +44,16 @@ pub fn command_text(command: Command) -> Text {
         Command::Do(Step::Signal(place, condition)) => spelled(b"signal", &[place, condition]),
         Command::Do(Step::Pass(place, condition)) => spelled(b"pass", &[place, condition]),
         Command::Do(Step::Leave(place)) => spelled(b"leave", &[place]),
+        Command::Do(Step::Notify(place, condition)) => spelled(b"notify", &[place, condition]),
+        Command::Do(Step::Broadcast(place, condition)) => {
+            spelled(b"broadcast", &[place, condition])
+        }
         Command::Queue(condition) => spelled(b"queue", &[condition]),
         Command::First(condition) => spelled(b"first", &[condition]),
     }
 }
 
-/// What a lane shows: `.`, `[in]`, `sig`, or `cC:P` for a wait on condition C with priority P.
+/// What a lane shows: `.`, `[in]`, `sig`, `call`, or `cC:P` for a wait on condition C with priority P.
 pub fn lane_text(lane: Lane) -> Text {
     let mut text = ArrayVec::new();
     match lane {
@@ -58,6 +65,9 @@ pub fn lane_text(lane: Lane) -> Text {
         }
         Lane::Signalling => {
             let _ = text.try_extend_from_slice(b"sig");
+        }
+        Lane::Called(_, _) => {
+            let _ = text.try_extend_from_slice(b"call");
         }
         Lane::Waiting(condition, priority) => {
             let _ = text.try_extend_from_slice(b"c");

@@ -7,6 +7,7 @@ use Rattle.std.proofs.lemmas.List.Elements.{All-weaker}
 use Rattle.hoare_law.specs.declared.event.History.{History}
 use Rattle.hoare_law.specs.declared.event.Event.TheVariants.{Wait, Resume}
 use Rattle.hoare_law.specs.Growth.{AddsTwo}
+use Rattle.hoare_law.specs.Kinds.{IsHoare}
 use Rattle.hoare_law.specs.Priorities.{joined, taken}
 use Rattle.hoare_law.proofs.Sorted.{All-put_in, All-behind_first}
 use Rattle.sweep_schedulers.specs.declared.direction.Direction.{Direction}
@@ -128,10 +129,10 @@ HeadFree-turned f = record {
   };
 }
 
--- a sweep's condition is one of the two
-pub sweep_in_range : (dir : Direction) → sweep dir < 2
-sweep_in_range Up = omega arith
-sweep_in_range Down = omega arith
+-- a sweep's condition is one of the two, which both are Hoare's
+pub sweep_hoare : (dir : Direction) → IsHoare 2 0 (sweep dir)
+sweep_hoare Up = omega arith
+sweep_hoare Down = omega arith
 
 module _ {T : Type 0} (found : Disk T) {ups downs : List ℕ} where
   -- the head at the cylinder of the one that is granted, which is the first before the head

@@ -62,6 +62,10 @@ impl<T: Drop> MonitorData for Head<T> {
 
     ghost CONDITIONS = { 2 };
 
+    const MESA: usize = 0;
+
+    ghost MESA = { 0 };
+
     ghost inv = { λ d. HeadHolds d };
 
     ghost rest = { λ d q. HeadRests d (q 0) (q 1) };

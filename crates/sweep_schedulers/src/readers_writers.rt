@@ -96,6 +96,10 @@ impl<T: Copy> MonitorData for ReadersWriters<T> {
 
     ghost CONDITIONS = { 2 };
 
+    const MESA: usize = 0;
+
+    ghost MESA = { 0 };
+
     ghost inv = { λ s. ReadersHold s };
 
     ghost rest = { λ s q. ReadersRest s (q 0) (q 1) };

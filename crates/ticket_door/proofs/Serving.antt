@@ -19,7 +19,7 @@ use Rattle.wait_book.specs.declared.steps.Next.TheVariants as next
 use Rattle.wait_book.proofs.Times.{few_once, one_same}
 use Rattle.door_frame.specs.declared.parcel.Lodged.{Lodged}
 use Rattle.door_frame.specs.Rule.{Cells, Tickets, Kept}
-use Rattle.door_frame.specs.Steps.{Sat, Gives, gives_as}
+use Rattle.door_frame.specs.Steps.{Sat, Gives, Notes, gives_as, notes_as}
 use Rattle.door_frame.specs.Views.{alone, asking, sole}
 use Rattle.hoare_law.proofs.Entering.{outside-same}
 use Rattle.door_frame.proofs.Steps as frame
@@ -95,9 +95,25 @@ module _ {D : Type 0} (first n : ℕ) where
         bells = λ j b. get_or-set_other ws serving_at (bell_at j) _ 0 (λ eq. omega (arith, eq)) ∙ t.bells j b ∙ (ap (λ (u : Turn). rung u j) held ∙ sym (ap (λ (u : Turn). rung u j) free));
       }
 
-  module _ (rest : Rest D) (ready : Ready D) (conditions : ℕ) where
+  -- an event by which a place stays inside changes neither the tickets nor the words
+  stayed : (f : History D) (e : Event D) (tickets : Tickets) (ws : List ℕ) (k : ℕ) → turn f.events ≡ Held k → turn (with_event f e).events ≡ Held k
+      → admissions (with_event f e).events ≡ admissions f.events → Tells first n f tickets ws → Tells first n (with_event f e) tickets ws
+  stayed f e tickets ws k held stays same t = let turns : turn f.events ≡ turn (with_event f e).events = held ∙ sym stays in record {
+    words_are = t.words_are;
+    queue = t.queue;
+    once = t.once;
+    below = t.below;
+    tickets_are = λ j. t.tickets_are j ∙ ap (λ (m : ℕ). ticket_in m t.queue j) (sym same);
+    next = t.next ∙ ap (λ (m : ℕ). (first + (m + length t.queue)) % 2 ^ 64) (sym same);
+    served = t.served;
+    due = ap (λ (u : Turn). t.served + taken u) (sym turns) ∙ t.due ∙ sym same;
+    serving = t.serving;
+    bells = λ j b. t.bells j b ∙ ap (λ (u : Turn). rung u j) turns;
+  }
+
+  module _ (rest : Rest D) (ready : Ready D) (conditions mesa : ℕ) where
     abbrev K : Cells D → Type 0
-    K = Kept (Starts first n) (Tells first n) rest ready conditions n
+    K = Kept (Starts first n) (Tells first n) rest ready conditions mesa n
 
     abbrev Drawn : ℕ → History D → ℕ → Sat D → Type 0
     Drawn k f r m = (o : Option ℕ) × (m ≡ (sole k f o, [])) × ((x : ℕ) × (o ≡ Some x) × (r ≡ (first + x) % 2 ^ 64))
@@ -105,7 +121,7 @@ module _ {D : Type 0} (first n : ℕ) where
     pub asks_ok : (slots id k : ℕ) (f : History D) (st : Step (Option (Lodged D))) → Allows K slots id (alone k f, []) next_at (λ r. (r + 1) % 2 ^ 64) (asks first st (alone k f, []))
     asks_ok slots id k f st = frame.told_as K slots id (alone k f, []) next_at (λ r. (r + 1) % 2 ^ 64) _ (asks first st (alone k f, []))
         (λ r m (d : Drawn k f r m) j g is. let q = frame.alone_is k j f g [] [] is in (d.2.0, d.1 ∙ (λ i. (sole (q.0 i) (q.1 i) (d.2.1 i), [])), d.2.2))
-        (frame.draws_ok (Starts first n) (Tells first n) rest ready conditions n slots id k next_at f None (λ r. (r + 1) % 2 ^ 64) (λ o r. (x : ℕ) × (o ≡ Some x) × (r ≡ (first + x) % 2 ^ 64))
+        (frame.draws_ok (Starts first n) (Tells first n) rest ready conditions mesa n slots id k next_at f None (λ r. (r + 1) % 2 ^ 64) (λ o r. (x : ℕ) × (o ≡ Some x) × (r ≡ (first + x) % 2 ^ 64))
         (λ log tickets ws small none t. let x : ℕ = admissions log.events + length t.queue in (
           Some x,
           given_to tickets k (Some x),
@@ -116,7 +132,7 @@ module _ {D : Type 0} (first n : ℕ) where
         )))
 
     abbrev pub Admits : ℕ → ℕ → History D → Tickets → List ℕ → Type 0
-    Admits k x log tickets ws = frame.BringsIn (Starts first n) (Tells first n) rest ready conditions k serving_at (λ r. r) (λ h. admissions h.events ≡ x) log tickets ws (Admit k (latest_data log))
+    Admits k x log tickets ws = frame.BringsIn (Starts first n) (Tells first n) rest ready conditions mesa k serving_at (λ r. r) (λ h. admissions h.events ≡ x) log tickets ws (Admit k (latest_data log))
 
     brings : (k x : ℕ) (f log : History D) (tickets : Tickets) (ws : List ℕ) → n ≤ 64 → outside k f.events ≡ true → Stands rest ready log → log.places ≡ n → k < n
         → own k log.events ≡ own k f.events → tickets k ≡ Some x → Tells first n log tickets ws → get_or ws serving_at 0 ≡ (first + x) % 2 ^ 64 → Admits k x log tickets ws
@@ -144,7 +160,7 @@ module _ {D : Type 0} (first n : ℕ) where
     looks_ok slots id k x f st few out = frame.told_as K slots id (asking k f x, []) serving_at (λ r. r) _ (looks first rest ready st (asking k f x, []))
         (λ r m c j g y is. let q = frame.sole_is k j f g (Some x) (Some y) [] [] is in let same : x ≡ y = Some-injective x y q.2 in
         subst (λ (p : ℕ × (History D × ℕ)). LooksAt first rest ready p.0 p.1.0 p.1.1 (asking k f x, []) r m) (λ i. (q.0 i, (q.1 i, same i))) c)
-        (frame.comes_ok (Starts first n) (Tells first n) rest ready conditions n slots id k serving_at f (Some x) (Admit k) (λ r. r) (λ r. r ≡ (first + x) % 2 ^ 64) (λ log. admissions log.events ≡ x)
+        (frame.comes_ok (Starts first n) (Tells first n) rest ready conditions mesa n slots id k serving_at f (Some x) (Admit k) (λ r. r) (λ r. r ≡ (first + x) % 2 ^ 64) (λ log. admissions log.events ≡ x)
         (λ r. ℕ_discrete r ((first + x) % 2 ^ 64))
         (λ log tickets ws small t miss. refl)
         (λ log tickets ws stands places small same has t hit. brings k x f log tickets ws few out stands places small same has t hit))
@@ -162,7 +178,7 @@ module _ {D : Type 0} (first n : ℕ) where
     -- who gives the monitor up where nobody is owed it opens to the next
     pub gives_open : (slots id k : ℕ) (f : History D) (x : Lodged D) (event : D → Event D) (st : Step (Option (Lodged D))) → Gives rest ready event k f x next.Free
         → Allows K slots id (alone k f, (0, Some x) ∷ []) serving_at (λ r. (r + 1) % 2 ^ 64) (gives_as event st (alone k f, (0, Some x) ∷ []))
-    gives_open slots id k f x event st p = frame.gives_ok (Starts first n) (Tells first n) rest ready conditions n slots id k serving_at (λ r. (r + 1) % 2 ^ 64) f x next.Free event st p
+    gives_open slots id k f x event st p = frame.gives_ok (Starts first n) (Tells first n) rest ready conditions mesa n slots id k serving_at (λ r. (r + 1) % 2 ^ 64) f x next.Free event st p
         (λ tickets ws places small t. opened_gate f (event x.state) tickets ws k p.inside (free_next _ (sym p.next_is))
         (admissions-other f (event x.state) (no_admit f (event x.state) p.allowed (held_busy k _ p.inside))) t)
 
@@ -172,3 +188,11 @@ module _ {D : Type 0} (first n : ℕ) where
         → Allows K slots id m serving_at (λ r. (r + 1) % 2 ^ 64) (gives_as event st m)
     gives_open_at slots id k f x event st m is p =
         subst (λ (q : Sat D). Allows K slots id q serving_at (λ r. (r + 1) % 2 ^ 64) (gives_as event st q)) (sym is) (gives_open slots id k f x event st p)
+
+    -- who is inside calls others: a look at SERVING
+    pub notes_at : (slots id k : ℕ) (f : History D) (event : History D → Event D) (st : Step (Option (Lodged D))) (m : Sat D)
+        → m ≡ (alone k f, (0, None) ∷ []) → Notes rest ready (event f) k f → Allows K slots id m serving_at (λ r. r) (notes_as event st m)
+    notes_at slots id k f event st m is p =
+        frame.notes_at (Starts first n) (Tells first n) rest ready conditions mesa n slots id k serving_at f event st m is p
+        (λ tickets ws t. stayed f (event f) tickets ws k p.inside p.stays
+        (admissions-other f (event f) (no_admit f (event f) p.allowed (held_busy k _ p.inside))) t)

@@ -6,7 +6,7 @@ use Rattle.std.proofs.Math.Nat.{mod-add-mod}
 use Rattle.atomic_table.proofs.Lists.{one_turn}
 use Rattle.hoare_law.specs.declared.event.Event.{Event}
 use Rattle.hoare_law.specs.declared.event.History.{History}
-use Rattle.hoare_law.specs.declared.event.Event.TheVariants.{Admit, Wait, Signal, Pass, Leave, Resume, Back}
+use Rattle.hoare_law.specs.declared.event.Event.TheVariants.{Admit, Wait, Signal, Pass, Leave, Resume, Back, Notify, Broadcast}
 use Rattle.hoare_law.specs.declared.turn.Turn.{Turn}
 use Rattle.hoare_law.specs.declared.turn.Turn.TheVariants.{Free, Held, Owed, Return}
 use Rattle.hoare_law.specs.Legal.{Allowed}
@@ -88,6 +88,8 @@ no_admit f (Pass k c w s) may busy = refl
 no_admit f (Leave k s) may busy = refl
 no_admit f (Resume k c s) may busy = refl
 no_admit f (Back k s) may busy = refl
+no_admit f (Notify k c w s) may busy = refl
+no_admit f (Broadcast k c s) may busy = refl
 
 pub held_busy : (k : ℕ) (t : Turn) → t ≡ Held k → t ≢ Free
 held_busy k t is e = let no : Held k ≡ Free = sym is ∙ e in cc

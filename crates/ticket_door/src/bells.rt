@@ -6,15 +6,16 @@
 //! finds the bell silent, and parks again.
 ghost use Rattle.std.specs.Prelude.{◌≡◌, ◌<◌};
 ghost use Rattle.wait_book.specs.Contents.{IsPlaceBelow};
-ghost use Rattle.door_frame.specs.Steps.{MayGive};
-ghost use Rattle.door_frame.specs.Seats.{GoesOut};
+ghost use Rattle.door_frame.specs.Steps.{MayGive, MayNote};
+ghost use Rattle.door_frame.specs.Seats.{GoesOut, StaysIn};
 
 use crate::door::TicketDoor;
 use crate::words::{RUNG, SERVING, bell_of};
 use door_frame::departure::Departure;
 use door_frame::looks::LOOKS;
+use door_frame::notice::Notice;
 use door_frame::parcel::Parcel;
-use door_frame::plays::{DoorSeat, Give, PickedEvent};
+use door_frame::plays::{DoorSeat, Give, Note, PickedEvent, PickedNotice};
 use door_frame::slot::lay_parcel;
 use hoare_law::data::MonitorData;
 use std::hint;
@@ -64,6 +65,24 @@ impl<D: MonitorData> TicketDoor<D> {
             }
             Next::Held(_) => unreachable!(),
         }
+    }
+
+    /// A look at the word by which the place inside comes to know of an event that the call picks. What is found isn't
+    /// looked at. `parcel` and `notice` are there for the pick alone.
+    #[inline]
+    pub(crate) fn tell<J: PickedNotice<D>>(
+        &self,
+        seat: &mut DoorSeat<D>,
+        parcel: &Parcel<D>,
+        place: usize,
+        notice: Notice,
+    )
+        requires table { seat.old.table_id ≡ self.now.door.table }
+        requires event { MayNote D.rest D.ready J.event place seat.old.me }
+        ensures table { seat.new.table_id ≡ seat.old.table_id }
+        ensures stays { StaysIn place J.event seat.old.me seat.new.me }
+    {
+        self.table.shared.load::<Note<J>>(seat, SERVING);
     }
 
     /// Wakes a place, or lets its next park return at once.

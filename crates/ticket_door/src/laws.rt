@@ -39,11 +39,11 @@ fn open<D: MonitorData>(table: &TicketTable<D>, seat: &mut DoorSeat<D>, parcel: 
         × (0 < table.now.shared.table_id.words) }
     requires seat { seat.old.me ≡ (Unopened table.now.shared.key.places, []) }
     requires rest { D.rest parcel.state nobody }
-    requires book { IsOf parcel.book (opened table.now.shared.key.places D.CONDITIONS tt) }
+    requires book { IsOf parcel.book (opened table.now.shared.key.places D.CONDITIONS D.MESA tt) }
     ensures table { seat.new.table_id ≡ seat.old.table_id }
     ensures opened { seat.new.me ≡ (
       Places (all_know 0 table.now.shared.key.places
-          (opened table.now.shared.key.places D.CONDITIONS parcel.state)),
+          (opened table.now.shared.key.places D.CONDITIONS D.MESA parcel.state)),
       [],
     ) }
 {
@@ -60,16 +60,16 @@ pub fn make_at<D: MonitorData + Send>(
     first: u64,
 ) -> Result<(TicketDoor<D>, Vec<TicketOut<D>>), (D, MakeRefused)>
     requires rest { D.rest state nobody }
-    ensures made { IfOk result (λ r. (make_refusal places D.CONDITIONS ≡ None)
+    ensures made { IfOk result (λ r. (make_refusal places D.CONDITIONS D.MESA ≡ None)
         × (r.0.door.places ≡ places) × (r.0.first ≡ first)) }
     ensures of { IfOk result (λ r. All (⟦<TicketDoor<D> as Monitor<D>>⟧.is_of r.0) r.1.items) }
     ensures places { IfOk result (λ r. r.1.items ≡ places_from r.0.door.table 0 places
-        (opened places D.CONDITIONS state)) }
+        (opened places D.CONDITIONS D.MESA state)) }
     ensures returned { IfErr result (λ e. e.0 ≡ state) }
-    ensures refused { IfErr result (λ e. (make_refusal places D.CONDITIONS ≡ Some e.1)
-        ⊎ ((make_refusal places D.CONDITIONS ≡ None) × (e.1 ≡ MakeRefused.Memory))) }
+    ensures refused { IfErr result (λ e. (make_refusal places D.CONDITIONS D.MESA ≡ Some e.1)
+        ⊎ ((make_refusal places D.CONDITIONS D.MESA ≡ None) × (e.1 ≡ MakeRefused.Memory))) }
 {
-    let book = match Book::make(alloc, places, D::CONDITIONS) {
+    let book = match Book::make(alloc, places, D::CONDITIONS, D::MESA) {
         Ok(book) => book,
         Err(refused) => return Err((state, refused)),
     };

@@ -1,9 +1,10 @@
 //! The calls of a monitor, on a ticket door.
 ghost use Rattle.std.specs.Prelude.{◌≡◌};
 ghost use Rattle.wait_book.specs.Contents.{IsPlaceBelow};
-ghost use Rattle.door_frame.specs.Steps.{MayGive};
-ghost use Rattle.door_frame.specs.Seats.{GoesOut};
+ghost use Rattle.door_frame.specs.Steps.{MayGive, MayNote};
+ghost use Rattle.door_frame.specs.Seats.{GoesOut, StaysIn};
 ghost use Rattle.door_frame.specs.Departures.{event_of};
+ghost use Rattle.door_frame.specs.Notices.{event_of_notice};
 
 use crate::door::TicketDoor;
 use crate::place::{TicketIn, TicketOut};
@@ -12,6 +13,7 @@ use crate::words::{RUNG, SILENT, bell_of};
 use crossbeam_utils::sync::Parker;
 use door_frame::calls;
 use door_frame::departure::Departure;
+use door_frame::notice::Notice;
 use door_frame::parcel::Parcel;
 use door_frame::plays::DoorSeat;
 use door_frame::slot::take_parcel;
@@ -71,6 +73,18 @@ impl<D: MonitorData> Turnstile<D> for TicketDoor<D> {
     {
         self.give::<Brand>(seat, parcel, place, departure, next);
     }
+
+    #[inline]
+    fn note(&self, seat: &mut DoorSeat<D>, parcel: &Parcel<D>, place: usize, notice: Notice)
+        requires table { seat.old.table_id ≡ self.now.door.table }
+        requires event { MayNote D.rest D.ready (event_of_notice place notice parcel.now.state)
+            place seat.old.me }
+        ensures table { seat.new.table_id ≡ seat.old.table_id }
+        ensures stays { StaysIn place (event_of_notice place notice parcel.now.state)
+            seat.old.me seat.new.me }
+    {
+        self.tell::<Brand>(seat, parcel, place, notice);
+    }
 }
 
 impl<D: MonitorData + Send> Monitor<D> for TicketDoor<D> {
@@ -85,9 +99,9 @@ impl<D: MonitorData + Send> Monitor<D> for TicketDoor<D> {
 
     type Lists = Book;
 
-    ghost is_of = { λ m o. IsOut D.rest D.ready D.CONDITIONS m.door o };
+    ghost is_of = { λ m o. IsOut D.rest D.ready D.CONDITIONS D.MESA m.door o };
 
-    ghost is_of_in = { λ m i. IsIn D.rest D.ready D.CONDITIONS m.door i };
+    ghost is_of_in = { λ m i. IsIn D.rest D.ready D.CONDITIONS D.MESA m.door i };
 
     ghost place = { λ o. o.place };
 
@@ -141,6 +155,14 @@ impl<D: MonitorData + Send> Monitor<D> for TicketDoor<D> {
         calls::signal_leave(self, inside, condition)
     }
 
+    fn notify(&self, inside: &mut TicketIn<D>, condition: usize) -> bool {
+        calls::notify(self, inside, condition)
+    }
+
+    fn broadcast(&self, inside: &mut TicketIn<D>, condition: usize) -> usize {
+        calls::broadcast(self, inside, condition)
+    }
+
     fn state<'a>(&self, inside: &'a TicketIn<D>) -> &'a D {
         inside.state()
     }
@@ -162,9 +184,9 @@ impl<D: MonitorData + Send> Monitor<D> for TicketDoor<D> {
         inside.first(condition)
     }
 
-    ghost stands = { λ m o h. (h.stands, h.conditions_are, h.is_outside) };
+    ghost stands = { λ m o h. (h.stands, h.conditions_are, h.mesa_are, h.is_outside) };
 
-    ghost stands_in = { λ m i h. (h.stands, h.conditions_are, h.is_inside) };
+    ghost stands_in = { λ m i h. (h.stands, h.conditions_are, h.mesa_are, h.is_inside) };
 
     ghost lists_are = { λ m i h. refl };
 
@@ -176,6 +198,7 @@ impl<D: MonitorData + Send> Monitor<D> for TicketDoor<D> {
       of = h.of;
       places = h.places;
       conditions_are = h.conditions_are;
+      mesa_are = h.mesa_are;
       stands = h.stands;
       is_inside = h.is_inside;
     } };

@@ -91,6 +91,10 @@ impl MonitorData for Pool {
 
     ghost CONDITIONS = { 1 };
 
+    const MESA: usize = 0;
+
+    ghost MESA = { 0 };
+
     ghost inv = { λ p. PoolHolds p };
 
     ghost rest = { λ p q. PoolRests p (q 0) };

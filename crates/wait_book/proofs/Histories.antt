@@ -1,41 +1,47 @@
 -- What each call does to the histories that a book is of.
-use Rattle.std.proofs.Common.{◌≡◌, ◌==◌, ℕ, ◌+◌, ◌<◌, Bool, true, false, eqb-true, cond, not, ◌||◌, arith}
+use Rattle.std.proofs.Common.{◌≡◌, ◌≢◌, ◌==◌, ℕ, ◌+◌, ◌<◌, ◌≤◌, Bool, true, false, eq-eqb, eqb-true, cond, not, ◌||◌, inl, inr, arith}
 use Rattle.std.proofs.Common.{List, [], ◌∷◌, ◌++◌, map, Option, Some, None, refl, ap, sym, ◌∙◌, subst}
 use Rattle.std.specs.List.{filter}
-use Rattle.std.specs.Prelude.{IsSomeAnd}
+use Rattle.std.specs.Prelude.{IsSomeAnd, nat_lt}
+use Rattle.std.proofs.lemmas.Bool.{cases_lt}
 use Rattle.std.proofs.lemmas.Bool.Decides.{nat_tests}
-use Rattle.std.proofs.lemmas.List.{append-nil}
+use Rattle.std.proofs.lemmas.List.{append-nil, map-append}
+use Rattle.std.proofs.lemmas.List.Elements.{filter_agree}
 use Rattle.hoare_law.specs.declared.event.Event.{Event}
 use Rattle.hoare_law.specs.declared.event.History.{History}
-use Rattle.hoare_law.specs.declared.event.Event.TheVariants.{Admit, Signal, Pass, Leave, Resume, Back}
+use Rattle.hoare_law.specs.declared.event.Event.TheVariants.{Admit, Signal, Pass, Leave, Resume, Back, Notify, Broadcast}
 use Rattle.hoare_law.specs.declared.turn.Turn.{Turn}
 use Rattle.hoare_law.specs.declared.turn.Turn.TheVariants.{Free, Held, Owed, Return}
 use Rattle.hoare_law.specs.Events.{opened, place_of, with_event}
+use Rattle.hoare_law.specs.Kinds.{IsHoare, IsMesa}
 use Rattle.hoare_law.specs.Waiting.{waiting, waits_on, concerns, priority_of, chosen, Chooses}
+use Rattle.hoare_law.specs.Called.{called_by, called}
 use Rattle.hoare_law.specs.Turns.{urgent, turn, turn_by, outside, is_out, is_signal}
 use Rattle.hoare_law.specs.Priorities.{put_in, in_order, behind_first}
 use Rattle.hoare_law.specs.Legal.{Allowed}
 use Rattle.hoare_law.specs.Beside.Erasure.{without_data}
 use Rattle.hoare_law.proofs.Waiting.{waiting-push}
+use Rattle.hoare_law.proofs.Called.{called-push}
+use Rattle.hoare_law.proofs.Calling.{called_by-notify}
 use Rattle.hoare_law.proofs.Turns.{urgent-push, turn-push, outside-push, filter-map}
 use Rattle.hoare_law.proofs.Held.{handing}
 use Rattle.hoare_law.proofs.Legal.{IsLegal-push, IsLegal-none}
-use Rattle.hoare_law.proofs.Filters.{filter-filter}
+use Rattle.hoare_law.proofs.Filters.{filter-all, filter-filter, filter-or, list_all-filter_none, map-none}
 use Rattle.hoare_law.proofs.Sorted.{in_order-filter, in_order-push, put_in-map}
 use Rattle.hoare_law.proofs.Chosen as law
 use Rattle.hoare_law.proofs.Sorted as sorted
 use Rattle.hoare_law.proofs.Tests.{eq_swap}
 use Rattle.wait_book.specs.declared.waiter.Waiter.{Waiter}
-use Rattle.wait_book.specs.Contents.{Contents, IsOf, next_of, one, times, times_in, wait_of, waiters_on}
+use Rattle.wait_book.specs.Contents.{Contents, IsOf, hoare_of, next_of, one, times, times_in, wait_of, waiters_on}
 use Rattle.wait_book.specs.declared.steps.Next.TheVariants as next
-use Rattle.wait_book.specs.Stepping.{after_claim, after_signal, after_pass, settled}
-use Rattle.wait_book.specs.Insides.{IsSound}
-use Rattle.wait_book.specs.Queues.{PutsIn, TakesFirst}
-use Rattle.wait_book.proofs.Times.{eq_self, one_same, one_apart, filter-apart, filter-others}
+use Rattle.wait_book.specs.Stepping.{after_broadcast, after_claim, after_notify, after_signal, after_pass, settled}
+use Rattle.wait_book.specs.Insides.{IsCalledFirst, IsSound, chain_of}
+use Rattle.wait_book.specs.Queues.{PutsIn, TakesAll, TakesFirst}
+use Rattle.wait_book.proofs.Times.{eq_self, one_at, one_same, one_apart, filter-apart, filter-others, list_all-apart}
 use Rattle.wait_book.proofs.Waiters.{on, places, key, times-taken, filter-taken, filter-taken_on}
-use Rattle.wait_book.proofs.Sound.{admitted, waited, left, resumed, returned, Enters, Holds, Resumes, holder_apart, hand_apart, held_hand, owed_hand, owed_condition}
+use Rattle.wait_book.proofs.Sound.{admitted, claimed, told, waited, left, resumed, returned, went_on, Enters, Holds, Resumes, holder_apart, hand_apart, held_hand, owed_hand, owed_called, owed_condition, called_times}
 use Rattle.wait_book.proofs.Sound.{held_in_range, owed_in_range, return_in_range, return_in, return_front}
-use Rattle.wait_book.proofs.Sound.{waited_times, left_times, admitted_times, owed_times, returned_times, signalled_times, passed_times}
+use Rattle.wait_book.proofs.Sound.{waited_times, left_times, admitted_times, owed_times, went_on_times, returned_times, signalled_times, passed_times, notified_times, broadcast_times}
 
 -- a history and an event without data
 abbrev Log : Type 0
@@ -49,36 +55,57 @@ pub IsOf-same : (b d : Contents) (h : Log) → b ≡ d → IsOf b h → IsOf d h
 IsOf-same b d h e o = subst (λ (v : Contents). IsOf v h) e o
 
 -- a book where nothing happened
-pub IsOf-opened : (n m x y : ℕ) → IsOf (record { places = n; conditions = m; room_to_wait = x; room_to_signal = y; waiters = []; signallers = []; turn = Free }) (opened n m tt)
-unfolding waiting urgent turn outside
-IsOf-opened n m x y = record { legal = IsLegal-none (opened n m tt) refl; places = refl; conditions = refl; waiters = λ c. refl; signallers = refl; turn_is = refl; outside_are = λ k. refl }
+pub IsOf-opened : (n m l x y : ℕ) → IsOf (record { places = n; conditions = m; mesa = l; room_to_wait = x; room_to_signal = y; waiters = []; signallers = []; called = []; turn = Free }) (opened n m l tt)
+unfolding waiting urgent called turn outside
+IsOf-opened n m l x y = record {
+  legal = IsLegal-none (opened n m l tt) refl;
+  places = refl;
+  conditions = refl;
+  mesa = refl;
+  waiters = λ c. refl;
+  signallers = refl;
+  called_are = refl;
+  turn_is = refl;
+  outside_are = λ k. refl;
+}
 
 -- who waits, after an event that leaves these alone
 
 -- those whom an event leaves alone
 abbrev spared : Act → List Waiter → List Waiter
-spared e ws = filter (λ (w : Waiter). not (concerns w.place e)) ws
+spared e ws = filter (λ (w : Waiter). not (concerns w.condition w.place e)) ws
 
 -- they are those who wait by the events
 abbrev AreWaiting : List Waiter → List Act → Type 0
 AreWaiting ws h = (c : ℕ) → map wait_of (filter (on c) ws) ≡ in_order priority_of (waiting c h)
 
+-- two tests that agree on those that a filter keeps
+filter-agree_on : {X : Type 0} (r p q : X → Bool) (xs : List X) → ((x : X) → r x ≡ true → p x ≡ q x) → filter p (filter r xs) ≡ filter q (filter r xs)
+filter-agree_on r p q [] f = refl
+filter-agree_on {X = X} r p q (x ∷ xs) f = by (r x) refl (filter-agree_on r p q xs f)
+  where
+    by : (t : Bool) → r x ≡ t → filter p (filter r xs) ≡ filter q (filter r xs) → filter p (cond t (x ∷ filter r xs) (filter r xs)) ≡ filter q (cond t (x ∷ filter r xs) (filter r xs))
+    by true is rest = ap (λ b. cond b (x ∷ filter p (filter r xs)) (filter p (filter r xs))) (f x is) ∙ ap (λ l. cond (q x) (x ∷ l) l) rest
+    by false is rest = rest
+
 -- those who waited and stay
 waiters_stay : (b : Contents) (h : Log) (e : Act) (ws : List Waiter) → spared e b.waiters ≡ ws → IsOf b h
-    → (c : ℕ) → map wait_of (filter (on c) ws) ≡ in_order priority_of (filter (λ x. not (concerns (place_of x) e)) (waiting c h.events))
+    → (c : ℕ) → map wait_of (filter (on c) ws) ≡ in_order priority_of (filter (λ x. not (concerns c (place_of x) e)) (waiting c h.events))
 waiters_stay b h e ws f o c =
-    let p : Waiter → Bool = λ w. not (concerns w.place e) in
+    let p : Waiter → Bool = λ w. not (concerns w.condition w.place e) in
+    let q : Waiter → Bool = λ w. not (concerns c w.place e) in
     ap (λ l. map wait_of (filter (on c) l)) (sym f)
     ∙ ap (map wait_of) (filter-filter (on c) p b.waiters)
-    ∙ sym (filter-map wait_of (λ x. not (concerns (place_of x) e)) (waiters_on c b))
-    ∙ ap (filter (λ x. not (concerns (place_of x) e))) (o.waiters c)
-    ∙ sym (in_order-filter priority_of (λ x. not (concerns (place_of x) e)) (waiting c h.events))
+    ∙ ap (map wait_of) (filter-agree_on (on c) p q b.waiters (λ w is. ap (λ d. not (concerns d w.place e)) (eqb-true w.condition c is)))
+    ∙ sym (filter-map wait_of (λ x. not (concerns c (place_of x) e)) (waiters_on c b))
+    ∙ ap (filter (λ x. not (concerns c (place_of x) e))) (o.waiters c)
+    ∙ sym (in_order-filter priority_of (λ x. not (concerns c (place_of x) e)) (waiting c h.events))
 
 -- no event but a wait adds one who waits
 waiters_kept : (b : Contents) (h : Log) (e : Act) (ws : List Waiter) → ((c : ℕ) → waits_on c e ≡ false) → spared e b.waiters ≡ ws → IsOf b h
     → AreWaiting ws (h.events ++ e ∷ [])
 waiters_kept b h e ws n f o c =
-    let kept : List Act = filter (λ x. not (concerns (place_of x) e)) (waiting c h.events) in
+    let kept : List Act = filter (λ x. not (concerns c (place_of x) e)) (waiting c h.events) in
     waiters_stay b h e ws f o c
     ∙ ap (in_order priority_of) (sym (waiting-push c h.events e ∙ ap (λ t. kept ++ cond t (e ∷ []) []) (n c) ∙ append-nil _))
 
@@ -86,7 +113,7 @@ waiters_kept b h e ws n f o c =
 waiters_joined : (b : Contents) (h : Log) (w : Waiter) (ws : List Waiter) → PutsIn w b.waiters ws → spared (wait_of w) b.waiters ≡ b.waiters → IsOf b h
     → AreWaiting ws (h.events ++ wait_of w ∷ [])
 waiters_joined b h w ws p f o c =
-    let kept : List Act = filter (λ x. not (concerns (place_of x) (wait_of w))) (waiting c h.events) in
+    let kept : List Act = filter (λ x. not (concerns c (place_of x) (wait_of w))) (waiting c h.events) in
     ap (map wait_of) (p.on c) ∙ by (w.condition == c) (waiters_on c b)
     ∙ ap (λ l. cond (on c w) (put_in priority_of (wait_of w) l) l) (waiters_stay b h (wait_of w) b.waiters f o c)
     ∙ sym (in_order-push priority_of (on c w) (wait_of w) kept)
@@ -112,24 +139,29 @@ outside_kept b d h e o here off k =
     (λ q. subst (λ (j : ℕ). is_out (Some e) ≡ (times_in j d == 0)) q here) (off k)
 
 -- one more event, allowed, with what it does to each part
-pub IsOf-push : (b d : Contents) (h : Log) (e : Act) → IsOf b h → d.places ≡ b.places → d.conditions ≡ b.conditions → Allowed h e
+pub IsOf-push : (b d : Contents) (h : Log) (e : Act) → IsOf b h → d.places ≡ b.places → d.conditions ≡ b.conditions → d.mesa ≡ b.mesa → Allowed h e
     → AreWaiting d.waiters (h.events ++ e ∷ [])
     → filter (λ u. not (place_of e == u)) b.signallers ++ cond (is_signal e) (place_of e ∷ []) [] ≡ d.signallers
-    → turn_by e d.signallers ≡ d.turn
+    → filter (λ x. not (place_of e == place_of x)) (map wait_of b.called) ++ called_by h.events e ≡ map wait_of d.called
+    → turn_by e d.signallers (map wait_of d.called) ≡ d.turn
     → is_out (Some e) ≡ (times_in (place_of e) d == 0)
     → ((k : ℕ) → (place_of e == k) ≡ false → times_in k b ≡ times_in k d)
     → IsOf d (with_event h e)
 unfolding with_event
-IsOf-push b d h e o p q allowed ws us t here off =
+IsOf-push b d h e o p q m allowed ws us cs t here off =
     let signallers : urgent (h.events ++ e ∷ []) ≡ d.signallers =
     urgent-push h.events e ∙ ap (λ l. filter (λ u. not (place_of e == u)) l ++ cond (is_signal e) (place_of e ∷ []) []) o.signallers ∙ us in
+    let called_are : called (h.events ++ e ∷ []) ≡ map wait_of d.called =
+    called-push h.events e ∙ ap (λ l. filter (λ x. not (place_of e == place_of x)) l ++ called_by h.events e) o.called_are ∙ cs in
     record {
       legal = IsLegal-push e o.legal allowed;
       places = o.places ∙ sym p;
       conditions = o.conditions ∙ sym q;
+      mesa = o.mesa ∙ sym m;
       waiters = ws;
       signallers = signallers;
-      turn_is = turn-push h.events e ∙ ap (turn_by e) signallers ∙ t;
+      called_are = called_are;
+      turn_is = turn-push h.events e ∙ (λ i. turn_by e (signallers i) (called_are i)) ∙ t;
       outside_are = outside_kept b d h e o.outside_are here off;
     }
 
@@ -149,12 +181,16 @@ condition_fits : (b : Contents) (h : Log) (c : ℕ) → IsOf b h → c < b.condi
 condition_fits b h c o l = omega (arith, o.conditions)
 
 -- nobody who waits goes where only place k acts, who doesn't wait
-waiters_apart : (b : Contents) (k : ℕ) (e : Act) → ((j : ℕ) → (k == j) ≡ false → not (concerns j e) ≡ true) → times k (places b.waiters) ≡ 0
+waiters_apart : (b : Contents) (k : ℕ) (e : Act) → ((d j : ℕ) → (k == j) ≡ false → not (concerns d j e) ≡ true) → times k (places b.waiters) ≡ 0
     → spared e b.waiters ≡ b.waiters
-waiters_apart b k e t z = filter-apart (λ (w : Waiter). w.place) k (λ (w : Waiter). not (concerns w.place e)) b.waiters (λ v. t v.place) z
+waiters_apart b k e t z = filter-apart (λ (w : Waiter). w.place) k (λ (w : Waiter). not (concerns w.condition w.place e)) b.waiters (λ v. t v.condition v.place) z
 
 signallers_apart : (b : Contents) (k : ℕ) → times k b.signallers ≡ 0 → filter (λ u. not (k == u)) b.signallers ++ [] ≡ b.signallers
 signallers_apart b k z = append-nil _ ∙ filter-others k b.signallers z
+
+called_apart : (b : Contents) (k : ℕ) → times k (places b.called) ≡ 0 → filter (λ x. not (k == place_of x)) (map wait_of b.called) ++ [] ≡ map wait_of b.called
+called_apart b k z = append-nil _ ∙ filter-map wait_of (λ x. not (k == place_of x)) b.called
+    ∙ ap (map wait_of) (filter-apart (λ (w : Waiter). w.place) k (λ (w : Waiter). not (k == w.place)) b.called (λ v t. ap not t) z)
 
 -- a newcomer
 pub admitted_of : (b : Contents) (k : ℕ) (h : Log) → Enters b k → IsOf b h → IsOf (admitted k b) (with_event h (Admit k tt))
@@ -162,10 +198,10 @@ admitted_of b k h i o =
     let act : Act = Admit k tt in
     let e : b.turn ≡ Free = i.free in
     let z : times_in k b ≡ 0 = i.outside in
-    IsOf-push b (admitted k b) h act o refl refl
+    IsOf-push b (admitted k b) h act o refl refl refl
     (record { in_range = place_fits b h k o i.place; fits = (o.turn_is ∙ e, o.outside_are k ∙ sym (zero_is _ z), no_data _) })
-    (waiters_kept b h act b.waiters (λ c. refl) (waiters_apart b k act (λ j t. ap not t) (omega arith)) o)
-    (signallers_apart b k (omega arith)) refl
+    (waiters_kept b h act b.waiters (λ c. refl) (waiters_apart b k act (λ d j t. ap not t) (omega arith)) o)
+    (signallers_apart b k (omega arith)) (called_apart b k (omega arith)) refl
     (positive _ (omega (arith, admitted_times b k k e, one_same k)))
     (λ j t. omega (arith, admitted_times b k j e, one_apart j k (eq_swap j k ∙ t)))
 
@@ -175,13 +211,13 @@ pub waited_of : (b : Contents) (w : Waiter) (ws : List Waiter) (h : Log) → Put
 waited_of b w ws h p i l o =
     let s : IsSound b = i.sound in
     let e : b.turn ≡ Held w.place = i.inside in
-    let apart : (times w.place (places b.waiters) ≡ 0) × (times w.place b.signallers ≡ 0) = holder_apart b w.place i in
-    IsOf-push b (waited ws b) h (wait_of w) o refl refl
+    let apart = holder_apart b w.place i in
+    IsOf-push b (waited ws b) h (wait_of w) o refl refl refl
     (record { in_range = (place_fits b h w.place o (held_in_range b w.place s e), condition_fits b h w.condition o l); fits = o.turn_is ∙ e })
-    (waiters_joined b h w ws p (waiters_apart b w.place (wait_of w) (λ j t. ap not t) apart.0) o)
-    (signallers_apart b w.place apart.1) refl
-    (positive _ (omega (arith, waited_times b w ws w.place p e, held_hand b w.place e)))
-    (λ j t. sym (waited_times b w ws j p e))
+    (waiters_joined b h w ws p (waiters_apart b w.place (wait_of w) (λ d j t. ap not t) apart.0) o)
+    (signallers_apart b w.place apart.1) (called_apart b w.place apart.2) refl
+    (positive _ (omega (arith, waited_times b w ws w.place p s e, held_hand b w.place e)))
+    (λ j t. sym (waited_times b w ws j p s e))
 
 -- a leave
 pub left_of : (b : Contents) (k : ℕ) (h : Log) → Holds b k → IsOf b h → IsOf (left b) (with_event h (Leave k tt))
@@ -189,25 +225,48 @@ left_of b k h i o =
     let s : IsSound b = i.sound in
     let e : b.turn ≡ Held k = i.inside in
     let act : Act = Leave k tt in
-    let apart : (times k (places b.waiters) ≡ 0) × (times k b.signallers ≡ 0) = holder_apart b k i in
-    IsOf-push b (left b) h act o refl refl
+    let apart = holder_apart b k i in
+    IsOf-push b (left b) h act o refl refl refl
     (record { in_range = place_fits b h k o (held_in_range b k s e); fits = o.turn_is ∙ e })
-    (waiters_kept b h act b.waiters (λ c. refl) (waiters_apart b k act (λ j t. ap not t) apart.0) o)
-    (signallers_apart b k apart.1) refl
-    (zero_is _ (omega (arith, left_times b k k e, s.once k, one_same k)))
-    (λ j t. omega (arith, left_times b k j e, one_apart j k (eq_swap j k ∙ t)))
+    (waiters_kept b h act b.waiters (λ c. refl) (waiters_apart b k act (λ d j t. ap not t) apart.0) o)
+    (signallers_apart b k apart.1) (called_apart b k apart.2) refl
+    (zero_is _ (omega (arith, left_times b k k s e, s.once k, one_same k)))
+    (λ j t. omega (arith, left_times b k j s e, one_apart j k (eq_swap j k ∙ t)))
 
 -- the one resumed goes on
-pub owed_of : (b : Contents) (k c : ℕ) (h : Log) → IsSound b → b.turn ≡ Owed k c → IsOf b h → IsOf (admitted k b) (with_event h (Resume k c tt))
-owed_of b k c h s e o =
+pub owed_of : (b : Contents) (k c : ℕ) (h : Log) → IsSound b → b.turn ≡ Owed k c → c < hoare_of b → IsOf b h → IsOf (admitted k b) (with_event h (Resume k c tt))
+owed_of b k c h s e l o =
     let act : Act = Resume k c tt in
-    let apart : (times k (places b.waiters) ≡ 0) × (times k b.signallers ≡ 0) = hand_apart b k s (owed_hand b k c e) in
-    IsOf-push b (admitted k b) h act o refl refl
+    let apart = hand_apart b k s (owed_hand b k c e l) in
+    IsOf-push b (admitted k b) h act o refl refl refl
     (record { in_range = (place_fits b h k o (owed_in_range b k c s e), condition_fits b h c o (owed_condition b k c s e)); fits = (o.turn_is ∙ e, no_data _) })
-    (waiters_kept b h act b.waiters (λ d. refl) (waiters_apart b k act (λ j t. ap not t) apart.0) o)
-    (signallers_apart b k apart.1) refl
-    (positive _ (omega (arith, owed_times b k c k e, owed_hand b k c e)))
-    (λ j t. sym (owed_times b k c j e))
+    (waiters_kept b h act b.waiters (λ d. refl) (waiters_apart b k act (λ d j t. ap not t) apart.0) o)
+    (signallers_apart b k apart.1) (called_apart b k apart.2) refl
+    (positive _ (omega (arith, owed_times b k c k e l, owed_hand b k c e l)))
+    (λ j t. sym (owed_times b k c j e l))
+
+-- the first called goes
+first_goes : (k c : ℕ) (vs : List Waiter) → IsCalledFirst k c vs → times k (places vs) ≤ 1 → filter (λ x. not (k == place_of x)) (map wait_of vs) ≡ map wait_of (behind_first vs)
+first_goes k c [] f l = absurd f
+first_goes k c (w ∷ vs) f l =
+    let e : (k == w.place) ≡ true = eq-eqb k w.place (sym f.0) in
+    rw e (filter-map wait_of (λ x. not (k == place_of x)) vs
+    ∙ ap (map wait_of) (filter-apart (λ (v : Waiter). v.place) k (λ (v : Waiter). not (k == v.place)) vs (λ v t. ap not t) (omega (arith, l, one_at k w.place e))))
+
+-- the first that was called goes on
+pub went_on_of : (b : Contents) (k c : ℕ) (h : Log) → IsSound b → b.turn ≡ Owed k c → hoare_of b ≤ c → IsOf b h → IsOf (went_on k b) (with_event h (Resume k c tt))
+went_on_of b k c h s e l o =
+    let act : Act = Resume k c tt in
+    let first : IsCalledFirst k c b.called = owed_called b k c s e l in
+    let count = called_times k k c b.called first in
+    IsOf-push b (went_on k b) h act o refl refl refl
+    (record { in_range = (place_fits b h k o (owed_in_range b k c s e), condition_fits b h c o (owed_condition b k c s e)); fits = (o.turn_is ∙ e, no_data _) })
+    (waiters_kept b h act b.waiters (λ d. refl) (waiters_apart b k act (λ d j t. ap not t) (omega (arith, s.once k, one_same k, count))) o)
+    (signallers_apart b k (omega (arith, s.once k, one_same k, count)))
+    (append-nil _ ∙ first_goes k c b.called first (omega (arith, s.once k)))
+    refl
+    (positive _ (omega (arith, went_on_times b k c k s e l, one_same k, count)))
+    (λ j t. sym (went_on_times b k c j s e l))
 
 -- the first of a list whose places stand once
 front_goes : (k : ℕ) (us : List ℕ) → times k us ≡ 0 → filter (λ u. not (k == u)) (k ∷ us) ≡ us
@@ -220,10 +279,11 @@ returned_of b k h s e o =
     let rest : List ℕ = behind_first b.signallers in
     let front : b.signallers ≡ k ∷ rest = return_front b k s e in
     let count : times k b.signallers ≡ one k k + times k rest = ap (times k) front in
-    IsOf-push b (returned k b) h act o refl refl
+    IsOf-push b (returned k b) h act o refl refl refl
     (record { in_range = place_fits b h k o (return_in_range b k s e); fits = (o.turn_is ∙ e, no_data _) })
-    (waiters_kept b h act b.waiters (λ d. refl) (waiters_apart b k act (λ j t. ap not t) (omega (arith, s.once k, one_same k))) o)
-    (append-nil _ ∙ ap (filter (λ u. not (k == u))) front ∙ front_goes k rest (omega (arith, s.once k, one_same k))) refl
+    (waiters_kept b h act b.waiters (λ d. refl) (waiters_apart b k act (λ d j t. ap not t) (omega (arith, s.once k, one_same k))) o)
+    (append-nil _ ∙ ap (filter (λ u. not (k == u))) front ∙ front_goes k rest (omega (arith, s.once k, one_same k)))
+    (called_apart b k (omega (arith, s.once k, one_same k))) refl
     (positive _ (omega (arith, returned_times b k k s e, return_in b k s e)))
     (λ j t. sym (returned_times b k j s e))
 
@@ -258,6 +318,12 @@ chooses b h c w ws o t = subst (λ (x : Option Act). IsSomeAnd x (λ e. place_of
 taken_in_range : (b : Contents) (c w : ℕ) (ws : List Waiter) → IsSound b → TakesFirst c b.waiters ws w → w < b.places
 taken_in_range b c w ws s t = s.in_range w (omega (arith, times-taken w c b.waiters ws w t, one_same w))
 
+hoare_fits : (b : Contents) (h : Log) (c : ℕ) → IsOf b h → c < hoare_of b → IsHoare h.conditions h.mesa c
+hoare_fits b h c o l = omega (arith, o.conditions, o.mesa, l)
+
+mesa_fits : (b : Contents) (h : Log) (c : ℕ) → IsOf b h → IsMesa b.conditions b.mesa c → IsMesa h.conditions h.mesa c
+mesa_fits b h c o m = (omega (arith, o.conditions, m.0), omega (arith, o.conditions, o.mesa, m.1))
+
 module _ (b : Contents) (k c w : ℕ) (ws : List Waiter) (r : Resumes b k c w ws) (h : Log) (o : IsOf b h) where
   -- whoever signals is in range, and so are the condition and the one resumed
   ranges : (k < h.places) × (c < h.conditions) × (w < h.places)
@@ -268,26 +334,89 @@ module _ (b : Contents) (k c w : ℕ) (ws : List Waiter) (r : Resumes b k c w ws
   waiters_left = filter-taken k c b.waiters ws w r.took (holder_apart b k r.by).0 (omega (arith, r.by.sound.once w))
 
   -- k hands the monitor to the one resumed, and waits among the signallers unless it goes out
-  handed_of : (out : Bool) → IsOf (resumed ws (cond out b.signallers (b.signallers ++ k ∷ [])) w c b) (with_event h (without_data (handing {S = Unit {0}} out k c w tt)))
-  handed_of true =
-      IsOf-push b (resumed ws b.signallers w c b) h (Pass k c w tt) o refl refl
-      (record { in_range = ranges; fits = (o.turn_is ∙ r.by.inside, chooses b h c w ws o r.took) })
+  handed_of : c < hoare_of b → (out : Bool) → IsOf (resumed ws (cond out b.signallers (b.signallers ++ k ∷ [])) w c b) (with_event h (without_data (handing {S = Unit {0}} out k c w tt)))
+  handed_of l true =
+      IsOf-push b (resumed ws b.signallers w c b) h (Pass k c w tt) o refl refl refl
+      (record { in_range = ranges; fits = (o.turn_is ∙ r.by.inside, chooses b h c w ws o r.took, hoare_fits b h c o l) })
       (waiters_kept b h (Pass k c w tt) ws (λ d. refl) waiters_left o)
-      (signallers_apart b k (holder_apart b k r.by).1) refl
-      (zero_is _ (omega (arith, passed_times b k c w k ws r, r.by.sound.once k, one_same k)))
-      (λ j q. omega (arith, passed_times b k c w j ws r, one_apart j k (eq_swap j k ∙ q)))
-  handed_of false =
-      IsOf-push b (resumed ws (b.signallers ++ k ∷ []) w c b) h (Signal k c w tt) o refl refl
-      (record { in_range = ranges; fits = (o.turn_is ∙ r.by.inside, chooses b h c w ws o r.took) })
+      (signallers_apart b k (holder_apart b k r.by).1) (called_apart b k (holder_apart b k r.by).2) refl
+      (zero_is _ (omega (arith, passed_times b k c w k ws r l, r.by.sound.once k, one_same k)))
+      (λ j q. omega (arith, passed_times b k c w j ws r l, one_apart j k (eq_swap j k ∙ q)))
+  handed_of l false =
+      IsOf-push b (resumed ws (b.signallers ++ k ∷ []) w c b) h (Signal k c w tt) o refl refl refl
+      (record { in_range = ranges; fits = (o.turn_is ∙ r.by.inside, chooses b h c w ws o r.took, hoare_fits b h c o l) })
       (waiters_kept b h (Signal k c w tt) ws (λ d. refl) waiters_left o)
-      (ap (λ l. l ++ k ∷ []) (filter-others k b.signallers (holder_apart b k r.by).1)) refl
-      (positive _ (omega (arith, signalled_times b k c w k ws r, held_hand b k r.by.inside)))
-      (λ j q. sym (signalled_times b k c w j ws r))
+      (ap (λ l. l ++ k ∷ []) (filter-others k b.signallers (holder_apart b k r.by).1)) (called_apart b k (holder_apart b k r.by).2) refl
+      (positive _ (omega (arith, signalled_times b k c w k ws r l, held_hand b k r.by.inside)))
+      (λ j q. sym (signalled_times b k c w j ws r l))
 
   -- what a signal or a pass adds, where one is taken
-  pub after_handing-taken : (out : Bool) → IsOf (resumed ws (cond out b.signallers (b.signallers ++ k ∷ [])) w c b) (after_handing out h k c (chosen c h.events))
-  after_handing-taken out = subst (IsOf _)
-      (sym (ap (after_handing out h k c) (chosen-taken b h c w ws o r.took) ∙ after_handing-some out h k c w (wait_of r.took.first) tt r.took.place)) (handed_of out)
+  pub after_handing-taken : c < hoare_of b → (out : Bool) → IsOf (resumed ws (cond out b.signallers (b.signallers ++ k ∷ [])) w c b) (after_handing out h k c (chosen c h.events))
+  after_handing-taken l out = subst (IsOf _)
+      (sym (ap (after_handing out h k c) (chosen-taken b h c w ws o r.took) ∙ after_handing-some out h k c w (wait_of r.took.first) tt r.took.place)) (handed_of l out)
+
+  -- k calls the one that it takes
+  notified_of : IsMesa b.conditions b.mesa c → IsOf (told ws (b.called ++ r.took.first ∷ []) b) (with_event h (Notify k c w tt))
+  notified_of m =
+      let x : Act = wait_of r.took.first in
+      let one : called_by h.events (Notify k c w tt) ≡ x ∷ [] =
+      ap (λ j. called_by h.events (Notify k c j tt)) (sym r.took.place) ∙ called_by-notify h.events k c x tt (chosen-taken b h c w ws o r.took) in
+      IsOf-push b (told ws (b.called ++ r.took.first ∷ []) b) h (Notify k c w tt) o refl refl refl
+      (record { in_range = ranges; fits = (o.turn_is ∙ r.by.inside, chooses b h c w ws o r.took, mesa_fits b h c o m) })
+      (waiters_kept b h (Notify k c w tt) ws (λ d. refl) waiters_left o)
+      (signallers_apart b k (holder_apart b k r.by).1)
+      ((λ i. stay i ++ one i) ∙ sym (map-append wait_of b.called (r.took.first ∷ [])))
+      (sym r.by.inside)
+      (positive _ (omega (arith, notified_times b k c w k ws r, held_hand b k r.by.inside)))
+      (λ j q. sym (notified_times b k c w j ws r))
+    where
+      stay : filter (λ x. not (k == place_of x)) (map wait_of b.called) ≡ map wait_of b.called
+      stay = sym (append-nil _) ∙ called_apart b k (holder_apart b k r.by).2
+
+  pub after_notify-taken : IsMesa b.conditions b.mesa c → IsOf (told ws (b.called ++ r.took.first ∷ []) b) (after_notify h k c (chosen c h.events))
+  after_notify-taken m = subst (IsOf _)
+      (sym (ap (after_notify h k c) (chosen-taken b h c w ws o r.took) ∙ ap (λ j. with_event h (Notify k c j tt)) r.took.place)) (notified_of m)
+
+-- and where nobody waits, nobody is called
+pub after_notify-nobody : (b : Contents) (k c : ℕ) (h : Log) → waiters_on c b ≡ [] → IsOf b h → IsOf b (after_notify h k c (chosen c h.events))
+after_notify-nobody b k c h n o = subst (λ (y : Option Act). IsOf b (after_notify h k c y)) (sym (chosen-nobody b h c o n)) o
+
+-- k calls all that wait on c
+
+module _ (b : Contents) (k c : ℕ) (ws : List Waiter) (i : Holds b k) (m : IsMesa b.conditions b.mesa c) (t : TakesAll c b.waiters ws) (h : Log) (o : IsOf b h) where
+  stay_called : filter (λ x. not (k == place_of x)) (map wait_of b.called) ≡ map wait_of b.called
+  stay_called = sym (append-nil _) ∙ called_apart b k (holder_apart b k i).2
+
+  -- who waits on other conditions stays
+  others_left : spared (Broadcast k c tt) b.waiters ≡ ws
+  others_left =
+      filter-or (λ (w : Waiter). k == w.place) (λ (w : Waiter). c == w.condition) b.waiters
+      (list_all-apart (λ (v : Waiter). v.place) k (λ (v : Waiter). not (k == v.place)) b.waiters (λ v t. ap not t) (holder_apart b k i).0)
+      ∙ filter_agree (λ (w : Waiter). not (c == w.condition)) (λ (w : Waiter). not (w.condition == c)) (λ w. ap not (eq_swap c w.condition)) b.waiters
+      ∙ sym t.is
+
+  broadcast_of : waiting c h.events ≢ [] → IsOf (told ws (b.called ++ waiters_on c b) b) (with_event h (Broadcast k c tt))
+  broadcast_of some =
+      let s : IsSound b = i.sound in
+      IsOf-push b (told ws (b.called ++ waiters_on c b) b) h (Broadcast k c tt) o refl refl refl
+      (record { in_range = (place_fits b h k o (held_in_range b k s i.inside), condition_fits b h c o m.0); fits = (o.turn_is ∙ i.inside, some, mesa_fits b h c o m) })
+      (waiters_kept b h (Broadcast k c tt) ws (λ d. refl) others_left o)
+      (signallers_apart b k (holder_apart b k i).1)
+      ((λ j. stay_called j ++ sym (o.waiters c) j) ∙ sym (map-append wait_of b.called (waiters_on c b)))
+      (sym i.inside)
+      (positive _ (omega (arith, broadcast_times b c k ws t, held_hand b k i.inside)))
+      (λ j q. sym (broadcast_times b c j ws t))
+
+  pub after_broadcast-taken : IsOf (told ws (b.called ++ waiters_on c b) b) (after_broadcast h k c (waiting c h.events))
+  after_broadcast-taken = by (waiting c h.events) refl
+    where
+      by : (xs : List Act) → waiting c h.events ≡ xs → IsOf (told ws (b.called ++ waiters_on c b) b) (after_broadcast h k c xs)
+      by (x ∷ xs) is = broadcast_of (λ none. let no : x ∷ xs ≡ [] = sym is ∙ none in cc)
+      by [] is =
+          let none : waiters_on c b ≡ [] = map-none wait_of (waiters_on c b) (o.waiters c ∙ ap (in_order priority_of) is) in
+          let same : ws ≡ b.waiters = t.is ∙ filter-all (λ w. not (on c w)) b.waiters (list_all-filter_none (on c) b.waiters none) in
+          let is_called : b.called ++ waiters_on c b ≡ b.called = ap (λ l. b.called ++ l) none ∙ append-nil _ in
+          IsOf-same b _ h (λ j. told (sym same j) (sym is_called j) b) o
 
 -- and where nobody waits
 pub after_handing-nobody : (out : Bool) (b d : Contents) (k c : ℕ) (h : Log) → waiters_on c b ≡ [] → IsOf b h → IsOf d (after_handing out h k c None)
@@ -296,27 +425,19 @@ after_handing-nobody out b d k c h n o x = subst (λ (y : Option Act). IsOf d (a
 
 -- whoever is owed the monitor goes on
 
--- by a resumption
-pub settled-owed : (b : Contents) (k c : ℕ) (h : Log) → IsSound b → b.turn ≡ Owed k c → IsOf b h → IsOf (admitted k b) (settled h)
-settled-owed b k c h s e o = subst (λ (t : Turn). IsOf (admitted k b) (after_claim h t)) (sym (o.turn_is ∙ e)) (owed_of b k c h s e o)
+settles : (b d : Contents) (h : Log) (t : Turn) → b.turn ≡ t → IsOf b h → IsOf d (after_claim h t) → IsOf d (settled h)
+settles b d h t e o x = subst (λ (u : Turn). IsOf d (after_claim h u)) (sym (o.turn_is ∙ e)) x
 
--- or a return
-pub settled-returned : (b : Contents) (k : ℕ) (h : Log) → IsSound b → b.turn ≡ Return k → IsOf b h → IsOf (returned k b) (settled h)
-settled-returned b k h s e o = subst (λ (t : Turn). IsOf (returned k b) (after_claim h t)) (sym (o.turn_is ∙ e)) (returned_of b k h s e o)
-
--- the claim of the one who is owed, or who returns
-pub claim-owed : (t : Turn) (b : Contents) (k : ℕ) (h : Log) → b.turn ≡ t → next_of t ≡ next.For k → ((x : ℕ) → t ≡ Return x → ⊥) → IsSound b → IsOf b h
-    → IsOf (admitted k b) (settled h)
-claim-owed Free b k h e n r s o = absurd (cc)
-claim-owed (Held j) b k h e n r s o = absurd (cc)
-claim-owed (Owed j c) b k h e n r s o = let q : j ≡ k = cc in subst (λ (i : ℕ). IsOf (admitted i b) (settled h)) q (settled-owed b j c h s e o)
-claim-owed (Return j) b k h e n r s o = absurd (r j refl)
-
-pub claim-returned : (b : Contents) (j k : ℕ) (h : Log) → b.turn ≡ Return j → next_of b.turn ≡ next.For k → IsSound b → IsOf b h → IsOf (returned k b) (settled h)
-claim-returned b j k h e n s o =
-    let m : next.For j ≡ next.For k = ap next_of (sym e) ∙ n in
-    let q : j ≡ k = cc in
-    subst (λ (i : ℕ). IsOf (returned i b) (settled h)) q (settled-returned b j h s e o)
+-- the claim of the one who is owed, who returns, or who was called
+pub claimed_of : (t : Turn) (b : Contents) (k : ℕ) (h : Log) → b.turn ≡ t → next_of t ≡ next.For k → IsSound b → IsOf b h → IsOf (claimed (chain_of t (hoare_of b)) k b) (settled h)
+claimed_of Free b k h e n s o = absurd (cc)
+claimed_of (Held j) b k h e n s o = absurd (cc)
+claimed_of (Owed j c) b k h e n s o = let q : j ≡ k = cc in subst (λ (i : ℕ). IsOf (claimed (chain_of (Owed j c) (hoare_of b)) i b) (settled h)) q
+    (elim (cases_lt c (hoare_of b)) [
+      | inl l ↦ let f : nat_lt c (hoare_of b) ≡ true = grind (arith, nat_tests) in rw f (settles b (admitted j b) h (Owed j c) e o (owed_of b j c h s e l o))
+      | inr l ↦ let f : nat_lt c (hoare_of b) ≡ false = grind (arith, nat_tests) in rw f (settles b (went_on j b) h (Owed j c) e o (went_on_of b j c h s e l o))
+    ])
+claimed_of (Return j) b k h e n s o = let q : j ≡ k = cc in subst (λ (i : ℕ). IsOf (returned i b) (settled h)) q (settles b (returned j b) h (Return j) e o (returned_of b j h s e o))
 
 -- what the counts of a place say
 pub record SaysOutside (b : Contents) (k : ℕ) (r : Bool) : Type 0 where

@@ -2,6 +2,7 @@ pub mod Nodes
 pub mod Lists
 pub mod Chained
 pub mod Marks
+pub mod Kept
 pub mod Queued
 pub mod Times
 pub mod Waiters
@@ -10,3 +11,4 @@ pub mod Histories
 pub mod Priorities
 pub mod WithData
 pub mod Signalled
+pub mod Claimed

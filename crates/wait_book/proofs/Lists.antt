@@ -107,6 +107,9 @@ pub keys_middle : (k : ℕ) (xs : List Link) (x : Link) (ys : List Link) → tim
 keys_middle k [] x ys = omega arith
 keys_middle k (y ∷ xs) x ys = omega (arith, keys_middle k xs x ys)
 
+pub places_append : (k : ℕ) (xs ys : List Link) → times k (places_in (xs ++ ys)) ≡ times k (places_in xs) + times k (places_in ys)
+places_append k xs ys = ap (times k) (map-append (λ (x : Link). x.place) xs ys) ∙ times-append k (places_in xs) (places_in ys)
+
 pub keys_append : (k : ℕ) (xs ys : List Link) → times k (keys (xs ++ ys)) ≡ times k (keys xs) + times k (keys ys)
 keys_append k xs ys = ap (times k) (map-append (λ (x : Link). x.key) xs ys) ∙ times-append k (keys xs) (keys ys)
 

@@ -7,7 +7,7 @@ use Rattle.wait_book.specs.Contents.{one, times}
 use Rattle.wait_book.specs.Lists.{Lists, all_below, list_at, list_put, places_below, places_in}
 use Rattle.wait_book.specs.Linked.{AreMarked, marked}
 use Rattle.wait_book.proofs.Times.{one_same, one_apart}
-use Rattle.wait_book.proofs.Lists.{eq_apart, places_middle, times_put}
+use Rattle.wait_book.proofs.Lists.{eq_apart, places_append, places_middle, put_other, times_put}
 
 -- a mark that is set, and the others
 marked-set : (s : List Bool) (k : ℕ) (b : Bool) → k < length s → marked (set s k b) k ≡ cond b 1 0
@@ -45,7 +45,7 @@ AreMarked-none {at = at} h =
     let none : at ≡ (λ c. []) = λ i c. h c i in
     record {
       many = refl;
-      once = λ k. ap (λ (v : ℕ → List Link). times k (places_below 9 v)) none ∙ ap (times k) (no_places 9) ∙ sym (ap (λ (v : Bool). cond v 1 0) (no_mark 64 k));
+      once = λ k. ap (λ (v : ℕ → List Link). times k (places_below 10 v)) none ∙ ap (times k) (no_places 10) ∙ sym (ap (λ (v : Bool). cond v 1 0) (no_mark 64 k));
     }
 
 -- of an equal value
@@ -53,16 +53,16 @@ pub AreMarked-equal : {s : List Bool} {v w : Lists} → v ≡ w → AreMarked s 
 AreMarked-equal {s = s} e m = subst (λ (u : Lists). AreMarked s (list_at u)) e m
 
 -- a place that stood in no list, put into one
-pub AreMarked-put : {s : List Bool} {at bt : ℕ → List Link} (c : ℕ) (before after : List Link) (x : Link) → AreMarked s at → c < 9 → x.place < 64
-    → at c ≡ before ++ after → times x.place (places_below 9 at) ≡ 0 → ((d : ℕ) → bt d ≡ list_put c (before ++ x ∷ after) at d)
+pub AreMarked-put : {s : List Bool} {at bt : ℕ → List Link} (c : ℕ) (before after : List Link) (x : Link) → AreMarked s at → c < 10 → x.place < 64
+    → at c ≡ before ++ after → times x.place (places_below 10 at) ≡ 0 → ((d : ℕ) → bt d ≡ list_put c (before ++ x ∷ after) at d)
     → AreMarked (set s x.place true) bt
 AreMarked-put {s = s} {at = at} {bt = bt} c before after x m l within is apart lists =
     let same : bt ≡ list_put c (before ++ x ∷ after) at = λ i d. lists d i in
-    let more : (k : ℕ) → times k (places_below 9 bt) ≡ times k (places_below 9 at) + one k x.place = λ k.
+    let more : (k : ℕ) → times k (places_below 10 bt) ≡ times k (places_below 10 at) + one k x.place = λ k.
     omega (
       arith,
-      ap (λ (v : ℕ → List Link). times k (places_below 9 v)) same,
-      times_put (λ d (y : Link). y.place) k 9 c (before ++ x ∷ after) at l,
+      ap (λ (v : ℕ → List Link). times k (places_below 10 v)) same,
+      times_put (λ d (y : Link). y.place) k 10 c (before ++ x ∷ after) at l,
       places_middle k before x after,
       ap (λ v. times k (places_in v)) is,
     ) in
@@ -71,16 +71,16 @@ AreMarked-put {s = s} {at = at} {bt = bt} c before after x m l within is apart l
       once = λ k.
           elim (cases_eq k x.place) [
             | inl e ↦
-                let h : times x.place (places_below 9 bt) ≡ marked (set s x.place true) x.place =
+                let h : times x.place (places_below 10 bt) ≡ marked (set s x.place true) x.place =
                 omega (arith, more x.place, one_same x.place, marked-set s x.place true (omega (arith, m.many))) in
-                subst (λ (j : ℕ). times j (places_below 9 bt) ≡ marked (set s x.place true) j) (sym e) h
+                subst (λ (j : ℕ). times j (places_below 10 bt) ≡ marked (set s x.place true) j) (sym e) h
             | inr n ↦ omega (arith, more k, one_apart k x.place (eq_apart k x.place n), m.once k, marked-other s x.place k true n)
           ];
     }
 
-module _ {s : List Bool} {at : ℕ → List Link} (c : ℕ) (x : Link) (after : List Link) (m : AreMarked s at) (l : c < 9) (is : at c ≡ x ∷ after) where
-  taken_times : (k : ℕ) → times k (places_below 9 (list_put c after at)) + one k x.place ≡ times k (places_below 9 at)
-  taken_times k = omega (arith, times_put (λ d (y : Link). y.place) k 9 c after at l, ap (λ v. times k (places_in v)) is)
+module _ {s : List Bool} {at : ℕ → List Link} (c : ℕ) (x : Link) (after : List Link) (m : AreMarked s at) (l : c < 10) (is : at c ≡ x ∷ after) where
+  taken_times : (k : ℕ) → times k (places_below 10 (list_put c after at)) + one k x.place ≡ times k (places_below 10 at)
+  taken_times k = omega (arith, times_put (λ d (y : Link). y.place) k 10 c after at l, ap (λ v. times k (places_in v)) is)
 
   -- the first of a list has a mark
   pub first_within : x.place < 64
@@ -90,14 +90,32 @@ module _ {s : List Bool} {at : ℕ → List Link} (c : ℕ) (x : Link) (after : 
   pub AreMarked-taken : {bt : ℕ → List Link} (p : ℕ) → x.place ≡ p → ((d : ℕ) → bt d ≡ list_put c after at d) → AreMarked (set s p false) bt
   AreMarked-taken {bt = bt} p e lists =
       let same : bt ≡ list_put c after at = λ i d. lists d i in
-      let less : (k : ℕ) → times k (places_below 9 bt) + one k x.place ≡ times k (places_below 9 at) = λ k.
-      omega (arith, ap (λ (v : ℕ → List Link). times k (places_below 9 v)) same, taken_times k) in
-      let once : (k : ℕ) → times k (places_below 9 bt) ≡ marked (set s x.place false) k = λ k.
+      let less : (k : ℕ) → times k (places_below 10 bt) + one k x.place ≡ times k (places_below 10 at) = λ k.
+      omega (arith, ap (λ (v : ℕ → List Link). times k (places_below 10 v)) same, taken_times k) in
+      let once : (k : ℕ) → times k (places_below 10 bt) ≡ marked (set s x.place false) k = λ k.
       elim (cases_eq k x.place) [
         | inl q ↦
-            let h : times x.place (places_below 9 bt) ≡ marked (set s x.place false) x.place =
+            let h : times x.place (places_below 10 bt) ≡ marked (set s x.place false) x.place =
             omega (arith, less x.place, one_same x.place, m.once x.place, marked_few s x.place, marked-set s x.place false (omega (arith, first_within, m.many))) in
-            subst (λ (j : ℕ). times j (places_below 9 bt) ≡ marked (set s x.place false) j) (sym q) h
+            subst (λ (j : ℕ). times j (places_below 10 bt) ≡ marked (set s x.place false) j) (sym q) h
         | inr n ↦ omega (arith, less k, one_apart k x.place (eq_apart k x.place n), m.once k, marked-other s x.place k false n)
       ] in
       subst (λ (j : ℕ). AreMarked (set s j false) bt) e (record { many = length-set s x.place false ∙ m.many; once = once })
+
+-- a whole list put behind another
+pub AreMarked-joined : {s : List Bool} {at bt : ℕ → List Link} (c : ℕ) → AreMarked s at → c < 9 → ((d : ℕ) → bt d ≡ list_put c [] (list_put 9 (at 9 ++ at c) at) d) → AreMarked s bt
+AreMarked-joined {s = s} {at = at} {bt = bt} c m l lists =
+    let same : bt ≡ list_put c [] (list_put 9 (at 9 ++ at c) at) = λ i d. lists d i in
+    let off : list_put 9 (at 9 ++ at c) at c ≡ at c = put_other 9 c (at 9 ++ at c) at (omega arith) in
+    record {
+      many = m.many;
+      once = λ k. omega (
+        arith,
+        ap (λ (v : ℕ → List Link). times k (places_below 10 v)) same,
+        times_put (λ d (y : Link). y.place) k 10 c [] (list_put 9 (at 9 ++ at c) at) (omega arith),
+        times_put (λ d (y : Link). y.place) k 10 9 (at 9 ++ at c) at (omega arith),
+        places_append k (at 9) (at c),
+        ap (λ v. times k (places_in v)) off,
+        m.once k,
+      );
+    }

@@ -123,7 +123,7 @@ behind-contains s from xs to (Some b) e l = closes-contains s b to (closes s fro
 
 -- the node under b now names another key, and the others are as they were
 pub record Relinks (s t : Slab Node) (b : ℕ) (to : Option ℕ) : Type 0 where
-  pub changed : (n : Node) → get s b ≡ Some n → get t b ≡ Some (record { place = n.place; priority = n.priority; next = to })
+  pub changed : (n : Node) → get s b ≡ Some n → get t b ≡ Some (record { place = n.place; condition = n.condition; priority = n.priority; next = to })
   pub others : (k : ℕ) → k ≢ b → get t k ≡ get s k
 
 -- a list whose last node was changed so
@@ -162,7 +162,7 @@ walked_ends s from e = walk_linked (slab_len s) s from e.list e.linked e.few
 
 -- a step of a walk: the first, and what is left
 pub walked_first : (s : Slab Node) (from : Option ℕ) (k : ℕ) (n : Node) → Ends s from → from ≡ Some k → get s k ≡ Some n
-    → (walked s from ≡ record { key = k; place = n.place; priority = n.priority } ∷ walked s n.next) × Ends s n.next
+    → (walked s from ≡ record { key = k; place = n.place; condition = n.condition; priority = n.priority } ∷ walked s n.next) × Ends s n.next
 walked_first s from k n e f g =
     let o : Opens s k e.list = opens s from k e.list f e.linked in
     let same : Some n ≡ Some (node_of o.first o.next) = sym g ∙ o.node in
@@ -170,13 +170,13 @@ walked_first s from k n e f g =
     let short : length e.list ≡ suc (length o.after) = ap length o.is in
     let rest : Ends s o.next = record { list = o.after; linked = o.linked; few = omega (arith, e.few) } in (
       walked_ends s from e ∙ o.is ∙ by o.first o.key n o.next o.after is
-          ∙ ap (λ ys. record { key = k; place = n.place; priority = n.priority } ∷ ys) (sym (walked_ends s o.next rest) ∙ ap (λ (m : Node). walked s m.next) (sym is)),
+          ∙ ap (λ ys. record { key = k; place = n.place; condition = n.condition; priority = n.priority } ∷ ys) (sym (walked_ends s o.next rest) ∙ ap (λ (m : Node). walked s m.next) (sym is)),
       subst (λ (m : Node). Ends s m.next) (sym is) rest,
     )
   where
-    by : (x : Link) → x.key ≡ k → (m : Node) (next : Option ℕ) (ys : List Link) → m ≡ node_of x next → x ∷ ys ≡ record { key = k; place = m.place; priority = m.priority } ∷ ys
+    by : (x : Link) → x.key ≡ k → (m : Node) (next : Option ℕ) (ys : List Link) → m ≡ node_of x next → x ∷ ys ≡ record { key = k; place = m.place; condition = m.condition; priority = m.priority } ∷ ys
     by x q m next ys e =
-        let at : ℕ → Node → List Link = λ (j : ℕ) (v : Node). record { key = j; place = v.place; priority = v.priority } ∷ ys in
+        let at : ℕ → Node → List Link = λ (j : ℕ) (v : Node). record { key = j; place = v.place; condition = v.condition; priority = v.priority } ∷ ys in
         ap (at x.key) (sym e) ∙ ap (λ (j : ℕ). at j m) q
 
 -- those before the first of a higher priority number

@@ -8,8 +8,9 @@ use Rattle.std.proofs.lemmas.Bool.{cases_lt}
 use Rattle.std.proofs.lemmas.List.{length-map}
 use Rattle.std.proofs.lemmas.Simd.{map-map}
 use Rattle.hoare_law.specs.declared.event.History.{History}
+use Rattle.hoare_law.specs.Events.{place_of}
 use Rattle.hoare_law.specs.Waiting.{waiting, priority_of, chosen}
-use Rattle.hoare_law.specs.Priorities.{put_in, in_order, priorities, joined, taken, behind_first}
+use Rattle.hoare_law.specs.Priorities.{put_in, in_order, priorities, joined, taken, emptied, behind_first}
 use Rattle.hoare_law.proofs.Sorted as sorted
 use Rattle.hoare_law.proofs.Filters.{map-none}
 use Rattle.hoare_law.proofs.Firsts.{first_of-map, slice_index-map}
@@ -18,9 +19,9 @@ use Rattle.hoare_law.proofs.Tests.{eq_swap}
 use Rattle.wait_book.specs.declared.waiter.Waiter.{Waiter}
 use Rattle.wait_book.specs.Contents.{Contents, IsOf, priorities_on, wait_of, waiters_on}
 use Rattle.wait_book.specs.Insides.{IsSound}
-use Rattle.wait_book.specs.Queues.{PutsIn, TakesFirst}
+use Rattle.wait_book.specs.Queues.{PutsIn, TakesAll, TakesFirst}
 use Rattle.wait_book.proofs.Waiters.{on, key, filter-taken_on, filter-taken_off}
-use Rattle.wait_book.proofs.Sound.{waited, resumed, Resumes, taken_ordered}
+use Rattle.wait_book.proofs.Sound.{told, waited, resumed, Resumes, taken_ordered}
 use Rattle.wait_book.proofs.Histories.{chosen-first_on, chosen-nobody}
 
 -- they are those of the waiters as they stand
@@ -67,6 +68,15 @@ waiters_on-none b h c o n = map-none wait_of (waiters_on c b) (o.waiters c ∙ a
 pub first-chosen : (b : Contents) (h : History (Unit {0})) (c : ℕ) → IsOf b h → option_map key (find (on c) b.waiters) ≡ option_map priority_of (chosen c h.events)
 first-chosen b h c o = ap (option_map key) (find-filter (on c) b.waiters) ∙ sym (first_of-map key (waiters_on c b)) ∙ ap sorted.first_of (sym (map-map priority_of wait_of (waiters_on c b)))
     ∙ first_of-map priority_of (map wait_of (waiters_on c b)) ∙ ap (option_map priority_of) (sym (chosen-first_on b h c o))
+
+-- and its place is that of the chosen one
+pub first-chosen_place : (b : Contents) (h : History (Unit {0})) (c : ℕ) → IsOf b h
+    → option_map (λ (w : Waiter). w.place) (find (on c) b.waiters) ≡ option_map place_of (chosen c h.events)
+first-chosen_place b h c o =
+    let place : Waiter → ℕ = λ w. w.place in
+    ap (option_map place) (find-filter (on c) b.waiters) ∙ sym (first_of-map place (waiters_on c b))
+    ∙ ap sorted.first_of (sym (map-map place_of wait_of (waiters_on c b)))
+    ∙ first_of-map place_of (map wait_of (waiters_on c b)) ∙ ap (option_map place_of) (sym (chosen-first_on b h c o))
 
 -- and the first of the priorities
 pub first-priority : (b d : Contents) (c : ℕ) → b ≡ d → IsSound b → option_map key (find (on c) b.waiters) ≡ sorted.first_of (priorities_on d c)
@@ -167,3 +177,12 @@ queue_by (w ∷ ws) b h c f r e o q i =
 pub queue-waiting : (b : Contents) (h : History (Unit {0})) (c : ℕ) (f : Option ℕ) (r : Bool) → IsOf b h → f ≡ option_map priority_of (chosen c h.events) → r ≡ is_some f
     → SaysWaiting c h r
 queue-waiting b h c f r o q i = queue_by (waiters_on c b) b h c f r refl o q i
+
+-- a broadcast leaves none on its condition
+pub priorities_on-emptied : {b e : Contents} (c d : ℕ) (ws vs : List Waiter) → b ≡ e → TakesAll c b.waiters ws → priorities_on (told ws vs b) d ≡ emptied (priorities_on e) c d
+priorities_on-emptied {b = b} c d ws vs q t =
+    ap (λ l. in_order (λ p. p) (map key l)) (t.on d) ∙ by (d == c) ∙ ap (λ (v : Contents). emptied (priorities_on v) c d) q
+  where
+    by : (r : Bool) → in_order (λ p. p) (map key (cond r [] (waiters_on d b))) ≡ cond r [] (priorities_on b d)
+    by true = refl
+    by false = refl

@@ -1,21 +1,22 @@
--- What a change in one chain does to those who wait, and to the signallers.
-use Rattle.std.proofs.Common.{◌≡◌, ℕ, zero, suc, ◌+◌, ◌<◌, ◌≤◌, Bool, true, false, cond, eqb, leb, inl, inr, List, [], ◌∷◌, ◌++◌, length, map, Option, Some, None, refl, ap, sym, ◌∙◌, subst, arith}
+-- What a change in one chain does to those who wait, to the signallers and to the called.
+use Rattle.std.proofs.Common.{◌≡◌, ℕ, zero, suc, ◌+◌, ◌<◌, ◌≤◌, Bool, true, false, not, cond, eqb, eq-eqb, eqb-true, leb, inl, inr, List, [], ◌∷◌, ◌++◌, length, map, Option, Some, None, refl, ap, sym, ◌∙◌, subst, arith}
 use Rattle.std.proofs.lemmas.Bool.{cases_eq, cases_lt}
 use Rattle.std.proofs.lemmas.List.{append_assoc, append-nil, length-map, map-append}
 use Rattle.std.proofs.lemmas.List.Elements.{filter-append}
 use Rattle.std.proofs.lemmas.Simd.{map-map}
 use Rattle.std.specs.List.{filter, find, slice_get}
 use Rattle.std.specs.Option.{option_map}
-use Rattle.std.specs.Prelude.{MatchOption}
+use Rattle.std.specs.Prelude.{All, MatchOption}
+use Rattle.std.proofs.lemmas.List.Elements.{All-head, All-tail}
 use Rattle.std.specs.List.Sorted.{IsNonDecreasing}
 use Rattle.hoare_law.specs.Priorities.{put_in, in_order, behind_first}
 use Rattle.hoare_law.proofs.Sorted.{put_in-map, map-in_order, IsNonDecreasing-in_order, find-filter, first_of}
 use Rattle.wait_book.specs.declared.chains.Link.{Link}
 use Rattle.wait_book.specs.declared.waiter.Waiter.{Waiter}
 use Rattle.wait_book.specs.Contents.{times}
-use Rattle.wait_book.specs.Insides.{waiter_on, waiting_below}
-use Rattle.wait_book.specs.Lists.{Lists, IsPut, IsTaken, all_below, first_link, higher, list_at, list_put, lower, places_below, priorities, total, places_in}
-use Rattle.wait_book.specs.Queues.{PutsIn, TakesFirst}
+use Rattle.wait_book.specs.Insides.{called_in, waiter_of, waiter_on, waiting_below}
+use Rattle.wait_book.specs.Lists.{Lists, IsJoined, IsPut, IsTaken, all_below, first_link, higher, list_at, list_put, lower, places_below, priorities, total, places_in}
+use Rattle.wait_book.specs.Queues.{PutsIn, TakesAll, TakesFirst}
 use Rattle.wait_book.proofs.Times.{eq_self}
 use Rattle.wait_book.proofs.Waiters.{on, places, key}
 use Rattle.wait_book.proofs.Nodes.{lower-higher}
@@ -102,11 +103,11 @@ on_put c d x at l =
     ]
 
 -- what an insertion into the chain of a condition does to those who wait
-pub PutsIn-put : (c place priority : ℕ) (old new : Lists) → c < 8 → IsPut c (lower priority (list_at old c)) (higher priority (list_at old c)) place priority old new
+pub PutsIn-put : (c place priority : ℕ) (old new : Lists) → c < 8 → IsPut c (lower priority (list_at old c)) (higher priority (list_at old c)) place c priority old new
     → PutsIn (record { place = place; condition = c; priority = priority }) (waiting_below 8 (list_at old)) (waiting_below 8 (list_at new))
 PutsIn-put c place priority old new l p =
     let at : ℕ → List Link = list_at old in
-    let x : Link = record { key = p.key; place = place; priority = priority } in
+    let x : Link = record { key = p.key; place = place; condition = c; priority = priority } in
     let xs : List Link = lower priority (at c) ++ x ∷ higher priority (at c) in
     let lists : list_at new ≡ list_put c xs at = λ i d. p.lists d i in
     let is : waiting_below 8 (list_at new) ≡ waiting_below 8 (list_put c xs at) = ap (waiting_below 8) lists in
@@ -169,6 +170,11 @@ TakesFirst-taken c place old new l t =
     (subst (λ (j : ℕ). TakesFirst c (waiting_below 8 (list_at old)) (waiting_below 8 (list_put c t.after (list_at old))) j) t.first_place
     (taken_below 8 c t.first t.after (list_at old) l t.was))
 
+-- a list without a first one is empty
+pub first_none : (xs : List Link) → first_link xs ≡ None → xs ≡ []
+first_none [] e = refl
+first_none (x ∷ xs) e = absurd (cc)
+
 -- nobody waits where the chain is empty
 pub waits-nobody : (c : ℕ) (v : Lists) → c < 8 → list_at v c ≡ [] → filter (on c) (waiting_below 8 (list_at v)) ≡ []
 waits-nobody c v l e = on_chain 8 c (list_at v) l ∙ ap (map (waiter_on c)) e
@@ -178,27 +184,49 @@ pub signallers-same : (c : ℕ) (xs : List Link) (old new : Lists) → c < 8 →
     → places_in (list_at new 8) ≡ places_in (list_at old 8)
 signallers-same c xs old new l h = ap places_in (h 8 ∙ put_other c 8 xs (list_at old) (omega arith))
 
--- and those who wait, where the signallers' chain does
-pub waiters-same : (xs : List Link) (old new : Lists) → ((d : ℕ) → list_at new d ≡ list_put 8 xs (list_at old) d) → waiting_below 8 (list_at new) ≡ waiting_below 8 (list_at old)
-waiters-same xs old new h =
-    let lists : list_at new ≡ list_put 8 xs (list_at old) = λ i d. h d i in
-    ap (waiting_below 8) lists ∙ below_past waiter_on 8 8 xs (list_at old) (omega arith)
+-- and the called, where another chain changes
+pub called-same : (c : ℕ) (xs : List Link) (old new : Lists) → c < 9 → ((d : ℕ) → list_at new d ≡ list_put c xs (list_at old) d)
+    → called_in (list_at new 9) ≡ called_in (list_at old 9)
+called-same c xs old new l h = ap called_in (h 9 ∙ put_other c 9 xs (list_at old) (omega arith))
+
+-- and those who wait, where a chain changes that is no condition's
+pub waiters-same : (c : ℕ) (xs : List Link) (old new : Lists) → 8 ≤ c → ((d : ℕ) → list_at new d ≡ list_put c xs (list_at old) d) → waiting_below 8 (list_at new) ≡ waiting_below 8 (list_at old)
+waiters-same c xs old new l h =
+    let lists : list_at new ≡ list_put c xs (list_at old) = λ i d. h d i in
+    ap (waiting_below 8) lists ∙ below_past waiter_on 8 c xs (list_at old) l
+
+-- and the signallers, where the chain of the called does
+pub signallers-apart : (xs : List Link) (old new : Lists) → ((d : ℕ) → list_at new d ≡ list_put 9 xs (list_at old) d) → places_in (list_at new 8) ≡ places_in (list_at old 8)
+signallers-apart xs old new h = ap places_in (h 8 ∙ put_other 9 8 xs (list_at old) (omega arith))
 
 -- a signaller more
-pub signallers-more : (place priority : ℕ) (old new : Lists) → IsPut 8 (list_at old 8) [] place priority old new → places_in (list_at new 8) ≡ places_in (list_at old 8) ++ place ∷ []
-signallers-more place priority old new p =
+pub signallers-more : (place condition priority : ℕ) (old new : Lists) → IsPut 8 (list_at old 8) [] place condition priority old new
+    → places_in (list_at new 8) ≡ places_in (list_at old 8) ++ place ∷ []
+signallers-more place condition priority old new p =
     ap places_in (p.lists 8 ∙ put_same 8 _ (list_at old)) ∙ map-append (λ (x : Link). x.place) (list_at old 8) _
+
+-- one more called
+pub called-more : (place condition priority : ℕ) (old new : Lists) → IsPut 9 (list_at old 9) [] place condition priority old new
+    → called_in (list_at new 9) ≡ called_in (list_at old 9) ++ record { place = place; condition = condition; priority = priority } ∷ []
+called-more place condition priority old new p =
+    ap called_in (p.lists 9 ∙ put_same 9 _ (list_at old)) ∙ map-append waiter_of (list_at old 9) _
 
 -- the first signaller less
 pub signallers-less : (place : ℕ) (old new : Lists) → IsTaken 8 place old new → places_in (list_at new 8) ≡ behind_first (places_in (list_at old 8))
 signallers-less place old new t =
     ap places_in (t.lists 8 ∙ put_same 8 t.after (list_at old)) ∙ sym (ap (λ xs. behind_first (places_in xs)) t.was)
 
+-- the first called less
+pub called-less : (place : ℕ) (old new : Lists) → IsTaken 9 place old new → called_in (list_at new 9) ≡ behind_first (called_in (list_at old 9))
+called-less place old new t =
+    ap called_in (t.lists 9 ∙ put_same 9 t.after (list_at old)) ∙ sym (ap (λ xs. behind_first (called_in xs)) t.was)
+
 -- the longest waiting signaller goes on, if there is one
 pub record Shorter (old new : Lists) : Type 0 where
   pub room : new.room ≡ old.room
   pub waiters : waiting_below 8 (list_at new) ≡ waiting_below 8 (list_at old)
   pub signallers : places_in (list_at new 8) ≡ behind_first (places_in (list_at old 8))
+  pub called : called_in (list_at new 9) ≡ called_in (list_at old 9)
 
 pub shorter : (r : Option ℕ) (old new : Lists) → MatchOption r ((list_at old 8 ≡ []) × (new ≡ old)) (λ place. IsTaken 8 place old new) → Shorter old new
 shorter None old new m =
@@ -206,8 +234,100 @@ shorter None old new m =
       room = ap (λ (v : Lists). v.room) m.1;
       waiters = ap (λ (v : Lists). waiting_below 8 (list_at v)) m.1;
       signallers = ap (λ (v : Lists). places_in (list_at v 8)) m.1 ∙ ap places_in m.0 ∙ sym (ap (λ xs. behind_first (places_in xs)) m.0);
+      called = ap (λ (v : Lists). called_in (list_at v 9)) m.1;
     }
-shorter (Some place) old new t = record { room = t.room; waiters = waiters-same t.after old new t.lists; signallers = signallers-less place old new t }
+shorter (Some place) old new t =
+    record {
+      room = t.room;
+      waiters = waiters-same 8 t.after old new (omega arith) t.lists;
+      signallers = signallers-less place old new t;
+      called = called-same 8 t.after old new (omega arith) t.lists;
+    }
+
+-- or the first that was called
+pub record Fewer (old new : Lists) : Type 0 where
+  pub room : new.room ≡ old.room
+  pub waiters : waiting_below 8 (list_at new) ≡ waiting_below 8 (list_at old)
+  pub signallers : places_in (list_at new 8) ≡ places_in (list_at old 8)
+  pub called : called_in (list_at new 9) ≡ behind_first (called_in (list_at old 9))
+
+pub fewer : (r : Option ℕ) (old new : Lists) → MatchOption r ((list_at old 9 ≡ []) × (new ≡ old)) (λ place. IsTaken 9 place old new) → Fewer old new
+fewer None old new m =
+    record {
+      room = ap (λ (v : Lists). v.room) m.1;
+      waiters = ap (λ (v : Lists). waiting_below 8 (list_at v)) m.1;
+      signallers = ap (λ (v : Lists). places_in (list_at v 8)) m.1;
+      called = ap (λ (v : Lists). called_in (list_at v 9)) m.1 ∙ ap called_in m.0 ∙ sym (ap (λ xs. behind_first (called_in xs)) m.0);
+    }
+fewer (Some place) old new t =
+    record {
+      room = t.room;
+      waiters = waiters-same 9 t.after old new (omega arith) t.lists;
+      signallers = signallers-apart t.after old new t.lists;
+      called = called-less place old new t;
+    }
+
+-- all on a condition called
+
+-- those in another chain's are on another condition
+not_on : (t : Bool) (n c : ℕ) (xs : List Link) → eqb n c ≡ t → filter (λ w. not (on c w)) (map (waiter_on n) xs) ≡ map (waiter_on n) (cond t [] xs)
+not_on true n c [] e = refl
+not_on false n c [] e = refl
+not_on true n c (x ∷ xs) e = rw e (not_on true n c xs e)
+not_on false n c (x ∷ xs) e = rw e (ap (λ ws. waiter_on n x ∷ ws) (not_on false n c xs e))
+
+without : (n c : ℕ) (at : ℕ → List Link) → waiting_below n (list_put c [] at) ≡ filter (λ w. not (on c w)) (waiting_below n at)
+unfolding all_below
+without zero c at = refl
+without (suc n) c at =
+    ap (λ ws. ws ++ map (waiter_on n) (list_put c [] at n)) (without n c at)
+    ∙ ap (λ ws. filter (λ w. not (on c w)) (waiting_below n at) ++ ws) (sym (not_on (eqb n c) n c (at n) refl))
+    ∙ sym (filter-append (λ w. not (on c w)) (waiting_below n at) (map (waiter_on n) (at n)))
+
+kept_on : (t : Bool) (c d : ℕ) (ws : List Waiter) → eqb d c ≡ t → filter (on d) (filter (λ w. not (on c w)) ws) ≡ cond t [] (filter (on d) ws)
+kept_on true c d [] e = refl
+kept_on false c d [] e = refl
+kept_on t c d (w ∷ ws) e = by t (eqb w.condition c) (eqb w.condition d) e refl refl (kept_on t c d ws e)
+  where
+    by : (t r s : Bool) → eqb d c ≡ t → eqb w.condition c ≡ r → eqb w.condition d ≡ s → filter (on d) (filter (λ v. not (on c v)) ws) ≡ cond t [] (filter (on d) ws)
+        → filter (on d) (cond (not r) (w ∷ filter (λ v. not (on c v)) ws) (filter (λ v. not (on c v)) ws)) ≡ cond t [] (cond s (w ∷ filter (on d) ws) (filter (on d) ws))
+    by true true s e p q h = h
+    by true false true e p q h = let no : true ≡ false = sym (ap (λ x. eqb x c) (eqb-true w.condition d q) ∙ e) ∙ p in absurd (cc)
+    by true false false e p q h = rw q h
+    by false true true e p q h =
+        let same : d ≡ c = sym (eqb-true w.condition d q) ∙ eqb-true w.condition c p in
+        let no : true ≡ false = sym (eq-eqb d c same) ∙ e in absurd (cc)
+    by false true false e p q h = h
+    by false false true e p q h = rw q (ap (λ l. w ∷ l) h)
+    by false false false e p q h = rw q h
+
+waited_all : (c : ℕ) (xs : List Link) → All (λ (x : Link). x.condition ≡ c) xs → called_in xs ≡ map (waiter_on c) xs
+waited_all c [] a = refl
+waited_all c (x ∷ xs) a =
+    let here : x.condition ≡ c = All-head (λ (y : Link). y.condition ≡ c) x xs a in
+    (λ i. record { place = x.place; condition = here i; priority = x.priority } ∷ waited_all c xs (All-tail (λ (y : Link). y.condition ≡ c) x xs a) i)
+
+pub record AllCalled (c : ℕ) (old new : Lists) : Type 0 where
+  pub took : TakesAll c (waiting_below 8 (list_at old)) (waiting_below 8 (list_at new))
+  pub room : new.room ≡ old.room
+  pub signallers : places_in (list_at new 8) ≡ places_in (list_at old 8)
+  pub called : called_in (list_at new 9) ≡ called_in (list_at old 9) ++ filter (on c) (waiting_below 8 (list_at old))
+
+pub all_called : (c : ℕ) (old new : Lists) → c < 8 → IsJoined c old new → AllCalled c old new
+all_called c old new l j =
+    let at : ℕ → List Link = list_at old in
+    let zs : List Link = at 9 ++ at c in
+    let lists : list_at new ≡ list_put c [] (list_put 9 zs at) = λ i d. j.lists d i in
+    let is : waiting_below 8 (list_at new) ≡ filter (λ w. not (on c w)) (waiting_below 8 at) =
+    ap (waiting_below 8) lists ∙ without 8 c (list_put 9 zs at) ∙ ap (filter (λ w. not (on c w))) (below_past waiter_on 8 9 zs at (omega arith)) in
+    record {
+      took = record { on = λ d. ap (filter (on d)) is ∙ kept_on (eqb d c) c d (waiting_below 8 at) refl; is = is };
+      room = j.room;
+      signallers = ap places_in (j.lists 8 ∙ put_other c 8 [] (list_put 9 zs at) (omega arith) ∙ put_other 9 8 zs at (omega arith));
+      called = ap called_in (j.lists 9 ∙ put_other c 9 [] (list_put 9 zs at) (omega arith) ∙ put_same 9 zs at)
+          ∙ map-append waiter_of (at 9) (at c)
+          ∙ ap (λ ws. called_in (at 9) ++ ws) (waited_all c (at c) j.waited ∙ sym (on_chain 8 c at l));
+    }
 
 -- chains with nobody in them
 pub waits-none : (n : ℕ) (at : ℕ → List Link) → ((c : ℕ) → at c ≡ []) → waiting_below n at ≡ []
@@ -217,12 +337,26 @@ waits-none (suc n) at h = ap (λ xs. waiting_below n at ++ map (waiter_on n) xs)
 
 -- how many stand in all
 
-pub total_is : (v : Lists) → total v ≡ length (waiting_below 8 (list_at v)) + length (places_in (list_at v 8))
-total_is v = length_next (λ c (x : Link). x.key) 8 (list_at v) ∙ omega (arith, length_same (λ c (x : Link). x.key) waiter_on 8 (list_at v), length-map (list_at v 8) (λ (x : Link). x.place))
+pub total_is : (v : Lists) → total v ≡ length (waiting_below 8 (list_at v)) + length (places_in (list_at v 8)) + length (called_in (list_at v 9))
+total_is v = omega (
+  arith,
+  length_next (λ c (x : Link). x.key) 9 (list_at v),
+  length_next (λ c (x : Link). x.key) 8 (list_at v),
+  length_same (λ c (x : Link). x.key) waiter_on 8 (list_at v),
+  length-map (list_at v 8) (λ (x : Link). x.place),
+  length-map (list_at v 9) waiter_of,
+)
 
 -- how often a place stands in all
-pub times_all : (k : ℕ) (v : Lists) → times k (places_below 9 (list_at v)) ≡ times k (places (waiting_below 8 (list_at v))) + times k (places_in (list_at v 8))
-times_all k v = times_next (λ c (x : Link). x.place) k 8 (list_at v) ∙ omega (arith, ap (times k) (places_waiting 8 (list_at v)))
+pub times_all : (k : ℕ) (v : Lists) → times k (places_below 10 (list_at v))
+    ≡ times k (places (waiting_below 8 (list_at v))) + times k (places_in (list_at v 8)) + times k (places (called_in (list_at v 9)))
+times_all k v = omega (
+  arith,
+  times_next (λ c (x : Link). x.place) k 9 (list_at v),
+  times_next (λ c (x : Link). x.place) k 8 (list_at v),
+  ap (times k) (places_waiting 8 (list_at v)),
+  ap (times k) (map-map (λ (w : Waiter). w.place) waiter_of (list_at v 9)),
+)
 
 -- as many in the chain of a condition as wait on it
 pub chain-length : (c : ℕ) (v : Lists) → c < 8 → length (list_at v c) ≡ length (filter (on c) (waiting_below 8 (list_at v)))
@@ -239,6 +373,17 @@ first-chain c v l =
     ∙ sym (ap (option_map key) (find-filter (on c) (waiting_below 8 (list_at v))))
   where
     by : (xs : List Link) → option_map (λ (x : Link). x.priority) (first_link xs) ≡ option_map key (first_of (map (waiter_on c) xs))
+    by [] = refl
+    by (x ∷ xs) = refl
+
+-- and its place
+pub first_place-chain : (c : ℕ) (v : Lists) → c < 8
+    → option_map (λ (x : Link). x.place) (first_link (list_at v c)) ≡ option_map (λ (w : Waiter). w.place) (find (on c) (waiting_below 8 (list_at v)))
+first_place-chain c v l =
+    by (list_at v c) ∙ ap (λ ws. option_map (λ (w : Waiter). w.place) (first_of ws)) (sym (on_chain 8 c (list_at v) l))
+    ∙ sym (ap (option_map (λ (w : Waiter). w.place)) (find-filter (on c) (waiting_below 8 (list_at v))))
+  where
+    by : (xs : List Link) → option_map (λ (x : Link). x.place) (first_link xs) ≡ option_map (λ (w : Waiter). w.place) (first_of (map (waiter_on c) xs))
     by [] = refl
     by (x ∷ xs) = refl
 

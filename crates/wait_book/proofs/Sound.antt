@@ -1,21 +1,25 @@
 -- What keeps a book sound.
-use Rattle.std.proofs.Common.{◌≡◌, ◌==◌, ℕ, ◌+◌, ◌≤◌, ◌<◌, Bool, true, false, cond, not, ◌||◌, eqb, eqb-true, List, [], ◌∷◌, ◌++◌, length, refl, ap, sym, ◌∙◌, subst, arith}
+use Rattle.std.proofs.Common.{◌≡◌, ◌==◌, ℕ, ◌+◌, ◌-◌, ◌≤◌, ◌<◌, Bool, true, false, cond, not, ◌||◌, ◌⊎◌, inl, inr, ⊎_elim, eqb, eqb-true, List, [], ◌∷◌, ◌++◌, length, map, Option, Some, None, refl, ap, sym, ◌∙◌, subst, arith}
+use Rattle.std.specs.Prelude.{All, nat_lt}
 use Rattle.std.specs.List.{filter}
+use Rattle.std.proofs.lemmas.Bool.{cases_lt}
 use Rattle.std.proofs.lemmas.Bool.Decides.{nat_tests}
 use Rattle.std.proofs.lemmas.List.{length-map, length-append}
+use Rattle.std.proofs.lemmas.List.Elements.{All-nil, All-cons, All-head, All-tail, All-weaker}
 use Rattle.hoare_law.specs.declared.turn.Turn.{Turn}
 use Rattle.hoare_law.specs.declared.turn.Turn.TheVariants.{Free, Held, Owed, Return}
+use Rattle.hoare_law.specs.Kinds.{IsHoare, IsMesa}
 use Rattle.hoare_law.specs.Turns.{turn_given_up}
 use Rattle.hoare_law.specs.Priorities.{put_in, in_order, behind_first}
 use Rattle.hoare_law.proofs.Filters.{filter-filter}
 use Rattle.hoare_law.proofs.Sorted.{in_order-put_in, in_order-filtered}
 use Rattle.wait_book.specs.declared.waiter.Waiter.{Waiter}
-use Rattle.wait_book.specs.Contents.{Contents, SameSizes, next_of, one, times, times_in, times_in_hand, waiters_on}
+use Rattle.wait_book.specs.Contents.{Contents, SameSizes, hoare_of, next_of, one, times, times_in, times_in_hand, wait_of, waiters_on}
 use Rattle.wait_book.specs.declared.steps.Next.TheVariants as next
-use Rattle.wait_book.specs.Insides.{IsSound, IsTurnBeside}
-use Rattle.wait_book.specs.Queues.{PutsIn, TakesFirst}
+use Rattle.wait_book.specs.Insides.{IsCalledFirst, IsSound, IsTurnBeside, chain_of}
+use Rattle.wait_book.specs.Queues.{PutsIn, TakesAll, TakesFirst}
 use Rattle.wait_book.proofs.Times.{one_same, one_apart, one_le, times-append, few_once}
-use Rattle.wait_book.proofs.Waiters.{on, places, key, times-taken, filter-taken, filter-taken_off}
+use Rattle.wait_book.proofs.Waiters.{on, places, key, times-places, times-taken, filter-taken, filter-taken_off}
 
 -- what each call leaves
 
@@ -25,11 +29,11 @@ admitted k b = record b { turn = Held k }
 
 -- the one inside waits, with this list of those who wait
 abbrev pub waited : List Waiter → Contents → Contents
-waited ws b = record b { waiters = ws; turn = turn_given_up b.signallers }
+waited ws b = record b { waiters = ws; turn = turn_given_up b.signallers (map wait_of b.called) }
 
 -- the one inside goes out
 abbrev pub left : Contents → Contents
-left b = record b { turn = turn_given_up b.signallers }
+left b = record b { turn = turn_given_up b.signallers (map wait_of b.called) }
 
 -- place w is resumed on c, with these lists left
 abbrev pub resumed : List Waiter → List ℕ → ℕ → ℕ → Contents → Contents
@@ -39,45 +43,100 @@ resumed ws us w c b = record b { waiters = ws; signallers = us; turn = Owed w c 
 abbrev pub returned : ℕ → Contents → Contents
 returned k b = record b { signallers = behind_first b.signallers; turn = Held k }
 
+-- the first that was called goes on
+abbrev pub went_on : ℕ → Contents → Contents
+went_on k b = record b { called = behind_first b.called; turn = Held k }
+
+-- the one inside called some: these wait, and those are called
+abbrev pub told : List Waiter → List Waiter → Contents → Contents
+told ws vs b = record b { waiters = ws; called = vs }
+
+-- kinds of conditions
+
+pub hoare_below : (n m c : ℕ) → IsHoare n m c → c < n - m
+hoare_below n m c h = omega (arith, h)
+
+pub mesa_past : (n m c : ℕ) → IsMesa n m c → n - m ≤ c
+mesa_past n m c h = omega (arith, h.0, h.1)
+
+-- a place that was resumed has the turn by hand, and one that was called has not
+pub hand_hoare : (j k c m : ℕ) → c < m → times_in_hand j m (Owed k c) ≡ one j k
+hand_hoare j k c m l = let e : nat_lt c m ≡ true = grind (arith, nat_tests) in rw e refl
+
+pub hand_mesa : (j k c m : ℕ) → m ≤ c → times_in_hand j m (Owed k c) ≡ 0
+hand_mesa j k c m l = let e : nat_lt c m ≡ false = grind (arith, nat_tests) in rw e refl
+
 -- whose turn it is
 
--- a turn given up is in nobody's hand
-given_up_hand : (k : ℕ) (us : List ℕ) → times_in_hand k (turn_given_up us) ≡ 0
-given_up_hand k [] = refl
-given_up_hand k (u ∷ us) = refl
+-- the called waited behind Hoare's conditions
+abbrev ArePast : ℕ → List Waiter → Type 0
+ArePast m vs = All (λ (w : Waiter). m ≤ w.condition) vs
 
--- and stands beside its signallers
-given_up_fits : (us : List ℕ) (n : ℕ) → IsTurnBeside us n (turn_given_up us)
-given_up_fits [] n = refl
-given_up_fits (u ∷ us) n = refl
+are_past : (b : Contents) → IsSound b → ArePast (hoare_of b) b.called
+are_past b s = All-weaker (λ (w : Waiter). IsMesa b.conditions b.mesa w.condition) (λ (w : Waiter). hoare_of b ≤ w.condition)
+    (λ w h. mesa_past b.conditions b.mesa w.condition h) b.called s.on_mesa
+
+-- a turn given up is in nobody's hand
+given_up_hand : (k m : ℕ) (us : List ℕ) (vs : List Waiter) → ArePast m vs → times_in_hand k m (turn_given_up us (map wait_of vs)) ≡ 0
+given_up_hand k m [] [] a = refl
+given_up_hand k m [] (v ∷ vs) a = hand_mesa k v.place v.condition m (All-head (λ (w : Waiter). m ≤ w.condition) v vs a)
+given_up_hand k m (u ∷ us) vs a = refl
+
+-- and stands beside its signallers and its called
+given_up_fits : (us : List ℕ) (vs : List Waiter) (m : ℕ) → IsTurnBeside us vs m (turn_given_up us (map wait_of vs))
+given_up_fits [] [] m = refl
+given_up_fits [] (v ∷ vs) m = inr (refl, refl)
+given_up_fits (u ∷ us) vs m = refl
 
 -- by the turn that is known
-pub hand_of : (j : ℕ) (b : Contents) (t : Turn) → b.turn ≡ t → times_in_hand j b.turn ≡ times_in_hand j t
-hand_of j b t e = ap (times_in_hand j) e
+pub hand_of : (j : ℕ) (b : Contents) (t : Turn) → b.turn ≡ t → times_in_hand j (hoare_of b) b.turn ≡ times_in_hand j (hoare_of b) t
+hand_of j b t e = ap (times_in_hand j (hoare_of b)) e
 
 -- who is inside or resumed stands in no list
-pub hand_apart : (b : Contents) (k : ℕ) → IsSound b → times_in_hand k b.turn ≡ 1 → (times k (places b.waiters) ≡ 0) × (times k b.signallers ≡ 0)
-hand_apart b k s e = (omega (arith, s.once k), omega (arith, s.once k))
+pub hand_apart : (b : Contents) (k : ℕ) → IsSound b → times_in_hand k (hoare_of b) b.turn ≡ 1
+    → (times k (places b.waiters) ≡ 0) × (times k b.signallers ≡ 0) × (times k (places b.called) ≡ 0)
+hand_apart b k s e = (omega (arith, s.once k), omega (arith, s.once k), omega (arith, s.once k))
 
 -- who is inside has the turn by hand
-pub held_hand : (b : Contents) (k : ℕ) → b.turn ≡ Held k → times_in_hand k b.turn ≡ 1
+pub held_hand : (b : Contents) (k : ℕ) → b.turn ≡ Held k → times_in_hand k (hoare_of b) b.turn ≡ 1
 held_hand b k e = hand_of k b (Held k) e ∙ one_same k
 
 -- so does who is resumed
-pub owed_hand : (b : Contents) (k c : ℕ) → b.turn ≡ Owed k c → times_in_hand k b.turn ≡ 1
-owed_hand b k c e = hand_of k b (Owed k c) e ∙ one_same k
+pub owed_hand : (b : Contents) (k c : ℕ) → b.turn ≡ Owed k c → c < hoare_of b → times_in_hand k (hoare_of b) b.turn ≡ 1
+owed_hand b k c e l = hand_of k b (Owed k c) e ∙ hand_hoare k k c (hoare_of b) l ∙ one_same k
 
 -- and is a place of the book
-pub hand_in_range : (b : Contents) (k : ℕ) → IsSound b → times_in_hand k b.turn ≡ 1 → k < b.places
+pub hand_in_range : (b : Contents) (k : ℕ) → IsSound b → times_in_hand k (hoare_of b) b.turn ≡ 1 → k < b.places
 hand_in_range b k s e = s.in_range k (omega arith)
 
-front_of : (us : List ℕ) (n k : ℕ) → IsTurnBeside us n (Return k) → us ≡ k ∷ behind_first us
-front_of [] n k h = absurd h
-front_of (u ∷ us) n k h = ap (λ v. v ∷ us) h
+front_of : (us : List ℕ) (vs : List Waiter) (m k : ℕ) → IsTurnBeside us vs m (Return k) → us ≡ k ∷ behind_first us
+front_of [] vs m k h = absurd h
+front_of (u ∷ us) vs m k h = ap (λ v. v ∷ us) h
 
 -- who returns is the first signaller
 pub return_front : (b : Contents) (k : ℕ) → IsSound b → b.turn ≡ Return k → b.signallers ≡ k ∷ behind_first b.signallers
-return_front b k s e = front_of b.signallers b.conditions k (subst (λ (t : Turn). IsTurnBeside b.signallers b.conditions t) e s.turn_fits)
+return_front b k s e = front_of b.signallers b.called (hoare_of b) k (subst (λ (t : Turn). IsTurnBeside b.signallers b.called (hoare_of b) t) e s.turn_fits)
+
+-- whom the monitor is owed was resumed from one of Hoare's conditions, or called first
+pub owed_cases : (b : Contents) (k c : ℕ) → IsSound b → b.turn ≡ Owed k c → (c < hoare_of b) ⊎ IsCalledFirst k c b.called
+owed_cases b k c s e = subst (λ (t : Turn). IsTurnBeside b.signallers b.called (hoare_of b) t) e s.turn_fits
+
+-- so called first, where the condition is a Mesa condition
+pub owed_called : (b : Contents) (k c : ℕ) → IsSound b → b.turn ≡ Owed k c → hoare_of b ≤ c → IsCalledFirst k c b.called
+owed_called b k c s e l = ⊎_elim (λ h. absurd (omega (arith, h, l))) (λ f. f) (owed_cases b k c s e)
+
+-- how often a place stands among the called, where k was called first
+pub called_times : (j k c : ℕ) (vs : List Waiter) → IsCalledFirst k c vs → times j (places vs) ≡ one j k + times j (places (behind_first vs))
+called_times j k c [] f = absurd f
+called_times j k c (w ∷ vs) f = ap (λ p. one j p + times j (places vs)) f.0
+
+called_condition : (n m k c : ℕ) (vs : List Waiter) → All (λ (w : Waiter). IsMesa n m w.condition) vs → IsCalledFirst k c vs → c < n
+called_condition n m k c [] a f = absurd f
+called_condition n m k c (w ∷ vs) a f = subst (λ d. d < n) f.1 (All-head (λ (v : Waiter). IsMesa n m v.condition) w vs a).0
+
+All-behind : (P : Waiter → Type 0) (vs : List Waiter) → All P vs → All P (behind_first vs)
+All-behind P [] a = a
+All-behind P (w ∷ vs) a = All-tail P w vs a
 
 -- how often a place stands among the signallers, where the first returns
 return_times : (b : Contents) (k j : ℕ) → IsSound b → b.turn ≡ Return k → times j b.signallers ≡ one j k + times j (behind_first b.signallers)
@@ -89,7 +148,8 @@ return_in b k s e = omega (arith, return_times b k k s e, one_same k)
 
 -- the place that goes on is in range
 pub owed_in_range : (b : Contents) (k c : ℕ) → IsSound b → b.turn ≡ Owed k c → k < b.places
-owed_in_range b k c s e = hand_in_range b k s (owed_hand b k c e)
+owed_in_range b k c s e = ⊎_elim (λ l. hand_in_range b k s (owed_hand b k c e l))
+    (λ f. s.in_range k (omega (arith, called_times k k c b.called f, one_same k))) (owed_cases b k c s e)
 
 -- so is the one inside
 pub held_in_range : (b : Contents) (k : ℕ) → IsSound b → b.turn ≡ Held k → k < b.places
@@ -99,15 +159,25 @@ held_in_range b k s e = hand_in_range b k s (held_hand b k e)
 pub return_in_range : (b : Contents) (k : ℕ) → IsSound b → b.turn ≡ Return k → k < b.places
 return_in_range b k s e = s.in_range k (return_in b k s e)
 
--- the condition of the one resumed is the book's
+-- the condition of the one owed is the book's
 pub owed_condition : (b : Contents) (k c : ℕ) → IsSound b → b.turn ≡ Owed k c → c < b.conditions
-owed_condition b k c s e = subst (λ (t : Turn). IsTurnBeside b.signallers b.conditions t) e s.turn_fits
+owed_condition b k c s e = ⊎_elim (λ l. omega (arith, l)) (called_condition b.conditions b.mesa k c b.called s.on_mesa) (owed_cases b k c s e)
 
 -- what a call by the one inside is given
 
 -- a condition of an equal book
 pub same_condition : (b d : Contents) (c : ℕ) → b ≡ d → c < d.conditions → c < b.conditions
 same_condition b d c e h = subst (λ (v : Contents). c < v.conditions) (sym e) h
+
+-- so of its kinds
+pub same_hoare : (b d : Contents) (c : ℕ) → b ≡ d → IsHoare d.conditions d.mesa c → c < hoare_of b
+same_hoare b d c e h = subst (λ (v : Contents). c < hoare_of v) (sym e) (hoare_below d.conditions d.mesa c h)
+
+pub hoare_condition : (b d : Contents) (c : ℕ) → b ≡ d → IsHoare d.conditions d.mesa c → c < b.conditions
+hoare_condition b d c e h = same_condition b d c e (omega (arith, h))
+
+pub same_mesa : (b d : Contents) (c : ℕ) → b ≡ d → IsMesa d.conditions d.mesa c → IsMesa b.conditions b.mesa c
+same_mesa b d c e h = subst (λ (v : Contents). IsMesa v.conditions v.mesa c) (sym e) h
 
 -- a sound book, with place k inside
 pub record Holds (b : Contents) (k : ℕ) : Type 0 where
@@ -129,7 +199,7 @@ pub resumes : {b d : Contents} {k c w : ℕ} {ws : List Waiter} → b ≡ d → 
 resumes {b = b} {c = c} e s h l t = record { by = holds e s h; fits = same_condition b _ c e l; took = t }
 
 -- the one inside stands in no list
-pub holder_apart : (b : Contents) (k : ℕ) → Holds b k → (times k (places b.waiters) ≡ 0) × (times k b.signallers ≡ 0)
+pub holder_apart : (b : Contents) (k : ℕ) → Holds b k → (times k (places b.waiters) ≡ 0) × (times k b.signallers ≡ 0) × (times k (places b.called) ≡ 0)
 holder_apart b k o = hand_apart b k o.sound (held_hand b k o.inside)
 
 -- and doesn't wait in an equal book
@@ -156,29 +226,31 @@ enters {k = k} e s f l z = record {
 
 sound_fewer : (b d : Contents) → IsSound b → SameSizes b d → ((k : ℕ) → times_in k d ≤ times_in k b)
     → ((c : ℕ) → b.conditions ≤ c → waiters_on c d ≡ []) → ((c : ℕ) → in_order key (waiters_on c d) ≡ waiters_on c d)
-    → IsTurnBeside d.signallers d.conditions d.turn → IsSound d
-sound_fewer b d s e o a r t = record {
+    → All (λ (w : Waiter). IsMesa d.conditions d.mesa w.condition) d.called → IsTurnBeside d.signallers d.called (hoare_of d) d.turn → IsSound d
+sound_fewer b d s e o a r m t = record {
   some_places = omega (arith, e.0, s.some_places);
   few_places = omega (arith, e.0, s.few_places);
   some_conditions = omega (arith, e.1, s.some_conditions);
   few_conditions = omega (arith, e.1, s.few_conditions);
+  few_mesa = omega (arith, e.1, e.4, s.few_mesa);
   waiters_fit = omega (arith, e.0, e.2, s.waiters_fit);
   signallers_fit = omega (arith, e.0, e.3, s.signallers_fit);
   once = λ k. omega (arith, o k, s.once k);
   in_range = λ k p. omega (arith, o k, e.0, s.in_range k (omega (arith, o k)));
   on_conditions = λ c l. a c (omega (arith, e.1));
   ordered = r;
+  on_mesa = m;
   turn_fits = t;
 }
 
 same : (b : Contents) → SameSizes b b
-same b = (refl, refl, refl, refl)
+same b = (refl, refl, refl, refl, refl)
 
 -- wait
 
 -- a wait moves its place
-pub waited_times : (b : Contents) (w : Waiter) (ws : List Waiter) (j : ℕ) → PutsIn w b.waiters ws → b.turn ≡ Held w.place → times_in j (waited ws b) ≡ times_in j b
-waited_times b w ws j p e = omega (arith, p.more j, given_up_hand j b.signallers, hand_of j b (Held w.place) e)
+pub waited_times : (b : Contents) (w : Waiter) (ws : List Waiter) (j : ℕ) → PutsIn w b.waiters ws → IsSound b → b.turn ≡ Held w.place → times_in j (waited ws b) ≡ times_in j b
+waited_times b w ws j p s e = omega (arith, p.more j, given_up_hand j (hoare_of b) b.signallers b.called (are_past b s), hand_of j b (Held w.place) e)
 
 -- those on a condition stay in order
 waited_ordered : (b : Contents) (w : Waiter) (ws : List Waiter) (c : ℕ) → PutsIn w b.waiters ws → in_order key (waiters_on c b) ≡ waiters_on c b
@@ -198,8 +270,9 @@ waited_conditions b w ws c p l m n =
 
 -- and keeps the book sound
 pub waited_sound : (b : Contents) (w : Waiter) (ws : List Waiter) → PutsIn w b.waiters ws → Holds b w.place → w.condition < b.conditions → IsSound (waited ws b)
-waited_sound b w ws p o l = sound_fewer b (waited ws b) o.sound (same b) (λ j. omega (arith, waited_times b w ws j p o.inside))
-    (λ c m. waited_conditions b w ws c p l m (o.sound.on_conditions c m)) (λ c. waited_ordered b w ws c p (o.sound.ordered c)) (given_up_fits b.signallers b.conditions)
+waited_sound b w ws p o l = sound_fewer b (waited ws b) o.sound (same b) (λ j. omega (arith, waited_times b w ws j p o.sound o.inside))
+    (λ c m. waited_conditions b w ws c p l m (o.sound.on_conditions c m)) (λ c. waited_ordered b w ws c p (o.sound.ordered c)) o.sound.on_mesa
+    (given_up_fits b.signallers b.called (hoare_of b))
 
 -- no more wait than there are places
 pub few_waiters : (b : Contents) → IsSound b → length b.waiters ≤ 64
@@ -208,19 +281,31 @@ few_waiters b s =
     omega (arith, s.few_places, length-map b.waiters (λ (w : Waiter). w.place))
 
 -- there is room for the one inside
-pub room : (b : Contents) (k : ℕ) → Holds b k → length b.waiters + length b.signallers < b.places
+pub room : (b : Contents) (k : ℕ) → Holds b k → length b.waiters + length b.signallers + length b.called < b.places
 room b k o =
-    let all : List ℕ = k ∷ (places b.waiters ++ b.signallers) in
+    let behind : List ℕ = b.signallers ++ places b.called in
+    let all : List ℕ = k ∷ (places b.waiters ++ behind) in
     let few : length all ≤ b.places = few_once all b.places
-    (λ j. omega (arith, o.sound.once j, hand_of j b (Held k) o.inside, times-append j (places b.waiters) b.signallers))
-    (λ j p. o.sound.in_range j (omega (arith, hand_of j b (Held k) o.inside, times-append j (places b.waiters) b.signallers))) in
-    omega (arith, length-append (places b.waiters) b.signallers, length-map b.waiters (λ (w : Waiter). w.place))
+    (λ j. omega (arith, o.sound.once j, hand_of j b (Held k) o.inside, times-append j (places b.waiters) behind, times-append j b.signallers (places b.called)))
+    (λ j p. o.sound.in_range j (omega (arith, hand_of j b (Held k) o.inside, times-append j (places b.waiters) behind, times-append j b.signallers (places b.called)))) in
+    omega (
+      arith,
+      length-append (places b.waiters) behind,
+      length-append b.signallers (places b.called),
+      length-map b.waiters (λ (w : Waiter). w.place),
+      length-map b.called (λ (w : Waiter). w.place),
+    )
 
 -- leave
 
 -- a leave takes its place away
-pub left_times : (b : Contents) (k j : ℕ) → b.turn ≡ Held k → times_in j (left b) + one j k ≡ times_in j b
-left_times b k j e = omega (arith, given_up_hand j b.signallers, hand_of j b (Held k) e)
+pub left_times : (b : Contents) (k j : ℕ) → IsSound b → b.turn ≡ Held k → times_in j (left b) + one j k ≡ times_in j b
+left_times b k j s e = omega (arith, given_up_hand j (hoare_of b) b.signallers b.called (are_past b s), hand_of j b (Held k) e)
+
+-- and keeps the book sound
+pub left_sound : (b : Contents) (k : ℕ) → Holds b k → IsSound (left b)
+left_sound b k o = sound_fewer b (left b) o.sound (same b) (λ j. omega (arith, left_times b k j o.sound o.inside)) o.sound.on_conditions o.sound.ordered o.sound.on_mesa
+    (given_up_fits b.signallers b.called (hoare_of b))
 
 -- admit
 
@@ -245,44 +330,57 @@ admitted_sound b k i = record {
   few_places = i.sound.few_places;
   some_conditions = i.sound.some_conditions;
   few_conditions = i.sound.few_conditions;
+  few_mesa = i.sound.few_mesa;
   waiters_fit = i.sound.waiters_fit;
   signallers_fit = i.sound.signallers_fit;
   once = λ j. omega (arith, admitted_times b k j i.free, once_more (eqb j k) b k j refl i.outside (i.sound.once j));
   in_range = λ j p. ranged_more (eqb j k) b k j b.places refl i.place (i.sound.in_range j) (omega (arith, admitted_times b k j i.free));
   on_conditions = i.sound.on_conditions;
   ordered = i.sound.ordered;
+  on_mesa = i.sound.on_mesa;
   turn_fits = tt;
 }
 
 -- claim
 
 -- who is resumed goes on as often as it stood
-pub owed_times : (b : Contents) (k c j : ℕ) → b.turn ≡ Owed k c → times_in j (admitted k b) ≡ times_in j b
-owed_times b k c j e = omega (arith, hand_of j b (Owed k c) e)
+pub owed_times : (b : Contents) (k c j : ℕ) → b.turn ≡ Owed k c → c < hoare_of b → times_in j (admitted k b) ≡ times_in j b
+owed_times b k c j e l = omega (arith, hand_of j b (Owed k c) e, hand_hoare j k c (hoare_of b) l)
+
+-- and who is called, as well
+pub went_on_times : (b : Contents) (k c j : ℕ) → IsSound b → b.turn ≡ Owed k c → hoare_of b ≤ c → times_in j (went_on k b) ≡ times_in j b
+went_on_times b k c j s e l = omega (arith, hand_of j b (Owed k c) e, hand_mesa j k c (hoare_of b) l, called_times j k c b.called (owed_called b k c s e l))
 
 -- the first signaller goes on as often as it stood
 pub returned_times : (b : Contents) (k j : ℕ) → IsSound b → b.turn ≡ Return k → times_in j (returned k b) ≡ times_in j b
 returned_times b k j s e = omega (arith, hand_of j b (Return k) e, return_times b k j s e)
 
 -- either keeps the book sound
-pub owed_sound : (b : Contents) (k c : ℕ) → IsSound b → b.turn ≡ Owed k c → IsSound (admitted k b)
-owed_sound b k c s e = sound_fewer b (admitted k b) s (same b) (λ j. omega (arith, owed_times b k c j e)) s.on_conditions s.ordered tt
+pub owed_sound : (b : Contents) (k c : ℕ) → IsSound b → b.turn ≡ Owed k c → c < hoare_of b → IsSound (admitted k b)
+owed_sound b k c s e l = sound_fewer b (admitted k b) s (same b) (λ j. omega (arith, owed_times b k c j e l)) s.on_conditions s.ordered s.on_mesa tt
+
+pub went_on_sound : (b : Contents) (k c : ℕ) → IsSound b → b.turn ≡ Owed k c → hoare_of b ≤ c → IsSound (went_on k b)
+went_on_sound b k c s e l = sound_fewer b (went_on k b) s (same b) (λ j. omega (arith, went_on_times b k c j s e l)) s.on_conditions s.ordered
+    (All-behind (λ (w : Waiter). IsMesa b.conditions b.mesa w.condition) b.called s.on_mesa) tt
 
 pub returned_sound : (b : Contents) (k : ℕ) → IsSound b → b.turn ≡ Return k → IsSound (returned k b)
-returned_sound b k s e = sound_fewer b (returned k b) s (same b) (λ j. omega (arith, returned_times b k j s e)) s.on_conditions s.ordered tt
+returned_sound b k s e = sound_fewer b (returned k b) s (same b) (λ j. omega (arith, returned_times b k j s e)) s.on_conditions s.ordered s.on_mesa tt
 
--- by what the call asks for
-pub claim_owed_sound : (t : Turn) (b : Contents) (k : ℕ) → b.turn ≡ t → next_of t ≡ next.For k → ((x : ℕ) → t ≡ Return x → ⊥) → IsSound b → IsSound (admitted k b)
-claim_owed_sound Free b k e n r s = absurd (cc)
-claim_owed_sound (Held j) b k e n r s = absurd (cc)
-claim_owed_sound (Owed j c) b k e n r s = let q : j ≡ k = cc in subst (λ (i : ℕ). IsSound (admitted i b)) q (owed_sound b j c s e)
-claim_owed_sound (Return j) b k e n r s = absurd (r j refl)
+-- who goes on, by the chain in which it stands
+abbrev pub claimed : Option ℕ → ℕ → Contents → Contents
+claimed None k b = admitted k b
+claimed (Some n) k b = cond (n == 8) (returned k b) (went_on k b)
 
-pub claim_returned_sound : (b : Contents) (j k : ℕ) → b.turn ≡ Return j → next_of b.turn ≡ next.For k → IsSound b → IsSound (returned k b)
-claim_returned_sound b j k e n s =
-    let m : next.For j ≡ next.For k = ap next_of (sym e) ∙ n in
-    let q : j ≡ k = cc in
-    subst (λ (i : ℕ). IsSound (returned i b)) q (returned_sound b j s e)
+-- any of the three keeps the book sound
+pub claimed_sound : (t : Turn) (b : Contents) (k : ℕ) → b.turn ≡ t → next_of t ≡ next.For k → IsSound b → IsSound (claimed (chain_of t (hoare_of b)) k b)
+claimed_sound Free b k e n s = absurd (cc)
+claimed_sound (Held j) b k e n s = absurd (cc)
+claimed_sound (Owed j c) b k e n s = let q : j ≡ k = cc in subst (λ (i : ℕ). IsSound (claimed (chain_of (Owed j c) (hoare_of b)) i b)) q
+    (elim (cases_lt c (hoare_of b)) [
+      | inl l ↦ let f : nat_lt c (hoare_of b) ≡ true = grind (arith, nat_tests) in rw f (owed_sound b j c s e l)
+      | inr l ↦ let f : nat_lt c (hoare_of b) ≡ false = grind (arith, nat_tests) in rw f (went_on_sound b j c s e l)
+    ])
+claimed_sound (Return j) b k e n s = let q : j ≡ k = cc in subst (λ (i : ℕ). IsSound (returned i b)) q (returned_sound b j s e)
 
 -- signal and pass
 
@@ -304,54 +402,123 @@ taken_conditions b k c w ws r d l =
     apart c d n l m = grind (arith, nat_tests)
 
 -- a signal moves both places
-pub signalled_times : (b : Contents) (k c w j : ℕ) (ws : List Waiter) → Resumes b k c w ws → times_in j (resumed ws (b.signallers ++ k ∷ []) w c b) ≡ times_in j b
-signalled_times b k c w j ws r =
-    omega (arith, hand_of j b (Held k) r.by.inside, times-taken j c b.waiters ws w r.took, times-append j b.signallers (k ∷ []))
+pub signalled_times : (b : Contents) (k c w j : ℕ) (ws : List Waiter) → Resumes b k c w ws → c < hoare_of b → times_in j (resumed ws (b.signallers ++ k ∷ []) w c b) ≡ times_in j b
+signalled_times b k c w j ws r l =
+    omega (arith, hand_hoare j w c (hoare_of b) l, hand_of j b (Held k) r.by.inside, times-taken j c b.waiters ws w r.took, times-append j b.signallers (k ∷ []))
 
 -- a pass takes its caller away
-pub passed_times : (b : Contents) (k c w j : ℕ) (ws : List Waiter) → Resumes b k c w ws → times_in j (resumed ws b.signallers w c b) + one j k ≡ times_in j b
-passed_times b k c w j ws r = omega (arith, hand_of j b (Held k) r.by.inside, times-taken j c b.waiters ws w r.took)
+pub passed_times : (b : Contents) (k c w j : ℕ) (ws : List Waiter) → Resumes b k c w ws → c < hoare_of b → times_in j (resumed ws b.signallers w c b) + one j k ≡ times_in j b
+passed_times b k c w j ws r l = omega (arith, hand_hoare j w c (hoare_of b) l, hand_of j b (Held k) r.by.inside, times-taken j c b.waiters ws w r.took)
 
 -- either keeps the book sound, where no place stands more often
-resumed_sound : (b : Contents) (k c w : ℕ) (ws : List Waiter) (us : List ℕ) → Resumes b k c w ws
+resumed_sound : (b : Contents) (k c w : ℕ) (ws : List Waiter) (us : List ℕ) → Resumes b k c w ws → c < hoare_of b
     → ((j : ℕ) → times_in j (resumed ws us w c b) ≤ times_in j b) → IsSound (resumed ws us w c b)
-resumed_sound b k c w ws us r o = sound_fewer b (resumed ws us w c b) r.by.sound (same b) o
-    (taken_conditions b k c w ws r) (taken_ordered b k c w ws r) r.fits
+resumed_sound b k c w ws us r l o = sound_fewer b (resumed ws us w c b) r.by.sound (same b) o
+    (taken_conditions b k c w ws r) (taken_ordered b k c w ws r) r.by.sound.on_mesa (inl l)
 
 -- so does a signal
-pub signalled_sound : (b : Contents) (k c w : ℕ) (ws : List Waiter) → Resumes b k c w ws → IsSound (resumed ws (b.signallers ++ k ∷ []) w c b)
-signalled_sound b k c w ws r = resumed_sound b k c w ws (b.signallers ++ k ∷ []) r (λ j. omega (arith, signalled_times b k c w j ws r))
+pub signalled_sound : (b : Contents) (k c w : ℕ) (ws : List Waiter) → Resumes b k c w ws → c < hoare_of b → IsSound (resumed ws (b.signallers ++ k ∷ []) w c b)
+signalled_sound b k c w ws r l = resumed_sound b k c w ws (b.signallers ++ k ∷ []) r l (λ j. omega (arith, signalled_times b k c w j ws r l))
 
 -- and a pass
-pub passed_sound : (b : Contents) (k c w : ℕ) (ws : List Waiter) → Resumes b k c w ws → IsSound (resumed ws b.signallers w c b)
-passed_sound b k c w ws r = resumed_sound b k c w ws b.signallers r (λ j. omega (arith, passed_times b k c w j ws r))
+pub passed_sound : (b : Contents) (k c w : ℕ) (ws : List Waiter) → Resumes b k c w ws → c < hoare_of b → IsSound (resumed ws b.signallers w c b)
+passed_sound b k c w ws r l = resumed_sound b k c w ws b.signallers r l (λ j. omega (arith, passed_times b k c w j ws r l))
+
+-- notify and broadcast
+
+-- a notify moves the one that it calls
+pub notified_times : (b : Contents) (k c w j : ℕ) (ws : List Waiter) (r : Resumes b k c w ws) → times_in j (told ws (b.called ++ r.took.first ∷ []) b) ≡ times_in j b
+notified_times b k c w j ws r =
+    let e : one j r.took.first.place ≡ one j w = ap (one j) r.took.place in
+    omega (arith, times-taken j c b.waiters ws w r.took, times-places j b.called (r.took.first ∷ []))
+
+-- one more of whom a fact holds
+All-last : (P : Waiter → Type 0) (vs ws : List Waiter) → All P vs → All P ws → All P (vs ++ ws)
+All-last P [] ws a b = b
+All-last P (v ∷ vs) ws a b = All-cons P v (vs ++ ws) (All-head P v vs a) (All-last P vs ws (All-tail P v vs a) b)
+
+-- and keeps the book sound
+pub notified_sound : (b : Contents) (k c w : ℕ) (ws : List Waiter) (r : Resumes b k c w ws) → IsMesa b.conditions b.mesa c → IsSound (told ws (b.called ++ r.took.first ∷ []) b)
+notified_sound b k c w ws r m =
+    let mesa : Waiter → Type 0 = λ v. IsMesa b.conditions b.mesa v.condition in
+    sound_fewer b (told ws (b.called ++ r.took.first ∷ []) b) r.by.sound (same b) (λ j. omega (arith, notified_times b k c w j ws r))
+    (taken_conditions b k c w ws r) (taken_ordered b k c w ws r)
+    (All-last mesa b.called (r.took.first ∷ []) r.by.sound.on_mesa (All-cons mesa r.took.first [] (subst (λ (d : ℕ). IsMesa b.conditions b.mesa d) (sym r.took.on) m) (All-nil mesa)))
+    (subst (λ (t : Turn). IsTurnBeside b.signallers (b.called ++ r.took.first ∷ []) (hoare_of b) t) (sym r.by.inside) tt)
+
+-- those that a filter keeps, and the others
+times-filter : (j : ℕ) (p : Waiter → Bool) (ws : List Waiter) → times j (places ws) ≡ times j (places (filter (λ w. not (p w)) ws)) + times j (places (filter p ws))
+times-filter j p [] = omega arith
+times-filter j p (w ∷ ws) = by (p w) (times-filter j p ws)
+  where
+    by : (t : Bool) → times j (places ws) ≡ times j (places (filter (λ v. not (p v)) ws)) + times j (places (filter p ws))
+        → one j w.place + times j (places ws) ≡ times j (places (cond (not t) (w ∷ filter (λ v. not (p v)) ws) (filter (λ v. not (p v)) ws))) + times j (places (cond t (w ∷ filter p ws) (filter p ws)))
+    by true h = omega arith
+    by false h = omega arith
+
+-- a broadcast moves all that it calls
+pub broadcast_times : (b : Contents) (c j : ℕ) (ws : List Waiter) → TakesAll c b.waiters ws → times_in j (told ws (b.called ++ waiters_on c b) b) ≡ times_in j b
+broadcast_times b c j ws t =
+    omega (arith, times-filter j (on c) b.waiters, ap (λ l. times j (places l)) t.is, times-places j b.called (waiters_on c b))
+
+all_on : (P : ℕ → Type 0) (c : ℕ) (ws : List Waiter) → P c → All (λ (w : Waiter). P w.condition) (filter (on c) ws)
+all_on P c [] p = All-nil (λ (w : Waiter). P w.condition)
+all_on P c (w ∷ ws) p = by (w.condition == c) refl (all_on P c ws p)
+  where
+    by : (t : Bool) → (w.condition == c) ≡ t → All (λ (v : Waiter). P v.condition) (filter (on c) ws) → All (λ (v : Waiter). P v.condition) (cond t (w ∷ filter (on c) ws) (filter (on c) ws))
+    by true e a = All-cons (λ (v : Waiter). P v.condition) w (filter (on c) ws) (subst P (sym (eqb-true w.condition c e)) p) a
+    by false e a = a
+
+emptied_conditions : (b : Contents) (c d : ℕ) (ws : List Waiter) → TakesAll c b.waiters ws → waiters_on d b ≡ [] → filter (on d) ws ≡ []
+emptied_conditions b c d ws t n = t.on d ∙ by (d == c)
+  where
+    by : (q : Bool) → cond q [] (waiters_on d b) ≡ []
+    by true = refl
+    by false = n
+
+emptied_ordered : (b : Contents) (c d : ℕ) (ws : List Waiter) → TakesAll c b.waiters ws → in_order key (waiters_on d b) ≡ waiters_on d b → in_order key (filter (on d) ws) ≡ filter (on d) ws
+emptied_ordered b c d ws t o = ap (in_order key) (t.on d) ∙ by (d == c) ∙ sym (t.on d)
+  where
+    by : (q : Bool) → in_order key (cond q [] (waiters_on d b)) ≡ cond q [] (waiters_on d b)
+    by true = refl
+    by false = o
+
+-- and keeps the book sound
+pub broadcast_sound : (b : Contents) (k c : ℕ) (ws : List Waiter) → Holds b k → IsMesa b.conditions b.mesa c → TakesAll c b.waiters ws → IsSound (told ws (b.called ++ waiters_on c b) b)
+broadcast_sound b k c ws o m t =
+    sound_fewer b (told ws (b.called ++ waiters_on c b) b) o.sound (same b) (λ j. omega (arith, broadcast_times b c j ws t))
+    (λ d l. emptied_conditions b c d ws t (o.sound.on_conditions d l)) (λ d. emptied_ordered b c d ws t (o.sound.ordered d))
+    (All-last (λ (v : Waiter). IsMesa b.conditions b.mesa v.condition) b.called (waiters_on c b) o.sound.on_mesa (all_on (λ (d : ℕ). IsMesa b.conditions b.mesa d) c b.waiters m))
+    (subst (λ (t : Turn). IsTurnBeside b.signallers (b.called ++ waiters_on c b) (hoare_of b) t) (sym o.inside) tt)
 
 -- a new book
 
 -- a book where nobody is
-pub opened_sound : (n m x : ℕ) → 0 < n → n ≤ 64 → 0 < m → m ≤ 8 → n ≤ x
-    → IsSound (record { places = n; conditions = m; room_to_wait = x; room_to_signal = x; waiters = []; signallers = []; turn = Free })
-opened_sound n m x a b d e f = record {
+pub opened_sound : (n m l x : ℕ) → 0 < n → n ≤ 64 → 0 < m → m ≤ 8 → l ≤ m → n ≤ x
+    → IsSound (record { places = n; conditions = m; mesa = l; room_to_wait = x; room_to_signal = x; waiters = []; signallers = []; called = []; turn = Free })
+opened_sound n m l x a b d e g f = record {
   some_places = a;
   few_places = b;
   some_conditions = d;
   few_conditions = e;
+  few_mesa = g;
   waiters_fit = f;
   signallers_fit = f;
   once = λ k. omega arith;
   in_range = λ k p. absurd (omega arith);
-  on_conditions = λ c l. refl;
+  on_conditions = λ c q. refl;
   ordered = λ c. refl;
+  on_mesa = All-nil (λ (w : Waiter). IsMesa m l w.condition);
   turn_fits = refl;
 }
 
 -- an equal book
 
 -- a book with these parts
-pub parts : {n m : ℕ} {x y p q : ℕ} {ws vs : List Waiter} {us zs : List ℕ} {t r : Turn} → x ≡ y → p ≡ q → ws ≡ vs → us ≡ zs → t ≡ r
-    → (let b : Contents = record { places = n; conditions = m; room_to_wait = x; room_to_signal = p; waiters = ws; signallers = us; turn = t } in
-    let d : Contents = record { places = n; conditions = m; room_to_wait = y; room_to_signal = q; waiters = vs; signallers = zs; turn = r } in d ≡ b)
-parts e f a b t = cc
+pub parts : {n m l : ℕ} {x y p q : ℕ} {ws vs : List Waiter} {us zs : List ℕ} {cs ds : List Waiter} {t r : Turn} → x ≡ y → p ≡ q → ws ≡ vs → us ≡ zs → cs ≡ ds → t ≡ r
+    → (let b : Contents = record { places = n; conditions = m; mesa = l; room_to_wait = x; room_to_signal = p; waiters = ws; signallers = us; called = cs; turn = t } in
+    let d : Contents = record { places = n; conditions = m; mesa = l; room_to_wait = y; room_to_signal = q; waiters = vs; signallers = zs; called = ds; turn = r } in d ≡ b)
+parts e f a b k t = cc
 
 -- an equal book is sound
 pub IsSound-same : (b d : Contents) → d ≡ b → IsSound d → IsSound b

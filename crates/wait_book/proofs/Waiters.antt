@@ -51,7 +51,7 @@ length-taken c old new k t =
 -- what was taken, by place
 
 -- of two lists
-times-places : (j : ℕ) (xs ys : List Waiter) → times j (places (xs ++ ys)) ≡ times j (places xs) + times j (places ys)
+pub times-places : (j : ℕ) (xs ys : List Waiter) → times j (places (xs ++ ys)) ≡ times j (places xs) + times j (places ys)
 times-places j xs ys = ap (times j) (map-append (λ (w : Waiter). w.place) xs ys) ∙ times-append j (places xs) (places ys)
 
 -- the one taken out stands once less

@@ -4,19 +4,20 @@ use Rattle.std.specs.Option.{option_map}
 use Rattle.hoare_law.specs.declared.event.Event.{Event}
 use Rattle.hoare_law.specs.declared.event.History.{History}
 use Rattle.hoare_law.specs.declared.turn.Turn.{Turn}
+use Rattle.hoare_law.specs.declared.event.Event.TheVariants.{Notify, Broadcast}
 use Rattle.hoare_law.specs.Beside.Erasure.{erased, without_data}
 use Rattle.hoare_law.specs.Events.{place_of, with_event}
 use Rattle.hoare_law.specs.Priorities.{in_order, priorities}
 use Rattle.hoare_law.specs.Turns.{turn, outside}
 use Rattle.hoare_law.specs.Waiting.{priority_of, waiting, chosen}
-use Rattle.hoare_law.proofs.Erasure.{turn-erased, outside-erased, priorities-erased, erased-push, chosen-erased, place_of-erased, priority_of-erased}
+use Rattle.hoare_law.proofs.Erasure.{turn-erased, outside-erased, priorities-erased, erased-push, chosen-erased, place_of-erased, priority_of-erased, waiting-erased}
 use Rattle.hoare_law.proofs.Held.{handing}
 use Rattle.hoare_law.proofs.Priorities.{waiting-no_priority, priorities-nobody}
 use Rattle.hoare_law.proofs.Sorted.{in_order-in_order, map-in_order}
 use Rattle.wait_book.specs.declared.waiter.Waiter.{Waiter}
 use Rattle.wait_book.specs.declared.steps.Next.{Next}
 use Rattle.wait_book.specs.Contents.{Contents, IsOf, next_of, priorities_on, times_in, wait_of, waiters_on}
-use Rattle.wait_book.specs.Stepping.{after_claim, settled}
+use Rattle.wait_book.specs.Stepping.{after_broadcast, after_claim, after_notify, settled}
 use Rattle.wait_book.proofs.Histories.{after_handing, after_handing-some}
 
 priorities_of : (ws : List Waiter) → map priority_of (map wait_of ws) ≡ map (λ (w : Waiter). w.priority) ws
@@ -65,6 +66,23 @@ module _ {D : Type 0} where
   IsOf-handing out b h k c x s is o = IsOf-event b h (handing out k c (place_of x) s) (subst (IsOf b)
       (ap (after_handing out (erased h) k c) (chosen-erased c h.events ∙ ap (option_map without_data) is)
       ∙ after_handing-some out (erased h) k c (place_of x) (without_data x) s (place_of-erased x)) o)
+
+  -- and after a notify
+  pub IsOf-notify : (b : Contents) (h : History D) (k c : ℕ) (x : Event D) (s : D) → chosen c h.events ≡ Some x
+      → IsOf b (after_notify (erased h) k c (chosen c (erased h).events)) → IsOf b (erased (with_event h (Notify k c (place_of x) s)))
+  IsOf-notify b h k c x s is o = IsOf-event b h (Notify k c (place_of x) s) (subst (IsOf b)
+      (ap (after_notify (erased h) k c) (chosen-erased c h.events ∙ ap (option_map without_data) is)
+      ∙ ap (λ j. with_event (erased h) (Notify k c j tt)) (place_of-erased x)) o)
+
+  -- and after a broadcast
+  pub IsOf-broadcast : (b : Contents) (h : History D) (k c : ℕ) (s : D) → waiting c h.events ≢ []
+      → IsOf b (after_broadcast (erased h) k c (waiting c (erased h).events)) → IsOf b (erased (with_event h (Broadcast k c s)))
+  IsOf-broadcast b h k c s some o = by (waiting c h.events) refl
+    where
+      by : (xs : List (Event D)) → waiting c h.events ≡ xs → IsOf b (erased (with_event h (Broadcast k c s)))
+      by [] is = absurd (some is)
+      by (x ∷ xs) is = IsOf-event b h (Broadcast k c s) (subst (IsOf b)
+          (ap (after_broadcast (erased h) k c) (waiting-erased c h.events ∙ ap (map without_data) is)) o)
 
   -- somebody waits where a priority stands
   pub waits-listed : (b : Bool) (h : List (Event D)) (c : ℕ) → (IsTrue b → priorities h c ≢ []) × (priorities h c ≢ [] → IsTrue b)

@@ -9,7 +9,7 @@ use Rattle.wait_book.specs.Lists.{last_key, keys_below}
 
 -- the node of one that stands before the node under the next key
 abbrev pub node_of : Link → Option ℕ → Node
-node_of x next = record { place = x.place; priority = x.priority; next = next }
+node_of x next = record { place = x.place; condition = x.condition; priority = x.priority; next = next }
 
 -- from one key on, the nodes are those of a list; each holds the key of the next, and the last of them `to`
 abbrev pub IsLinked : Slab Node → Option ℕ → List Link → Option ℕ → Type 0
@@ -34,17 +34,17 @@ chain_at chains c = slice_index_or chains c empty
 abbrev pub held : Slab Node → ℕ → ℕ
 held s k = if is_some (get s k) then 1 else 0
 
--- there are nine chains, each is a list, and each node of the slab stands in them once
+-- there are ten chains, each is a list, and each node of the slab stands in them once
 pub record AreChains (s : Slab Node) (chains : List Chain) (at : ℕ → List Link) : Type 0 where
-  pub many : length chains ≡ 9
+  pub many : length chains ≡ 10
   pub linked : (c : ℕ) → IsChain s (chain_at chains c) (at c)
-  pub once : (k : ℕ) → times k (keys_below 9 at) ≡ held s k
-  pub counted : length (keys_below 9 at) ≡ slab_len s
+  pub once : (k : ℕ) → times k (keys_below 10 at) ≡ held s k
+  pub counted : length (keys_below 10 at) ≡ slab_len s
 
 -- the node under a key and those behind it
 abbrev pub found : (Option ℕ → List Link) → ℕ → Option Node → List Link
 found behind k None = []
-found behind k (Some x) = record { key = k; place = x.place; priority = x.priority } ∷ behind x.next
+found behind k (Some x) = record { key = k; place = x.place; condition = x.condition; priority = x.priority } ∷ behind x.next
 
 -- the nodes from a key on, n at most
 unfoldable pub walk : ℕ → Slab Node → Option ℕ → List Link

@@ -1,5 +1,5 @@
 -- What a book holds, and of which histories it is.
-use Rattle.std.specs.Prelude.{ℕ, ◌≡◌, ◌<◌, ◌+◌, ◌==◌, nat_le, ◌&&◌, if◌then◌else◌, List, [], ◌∷◌, map, Option, Some, None, ⊤}
+use Rattle.std.specs.Prelude.{ℕ, ◌≡◌, ◌<◌, ◌+◌, ◌-◌, ◌==◌, nat_le, nat_lt, ◌&&◌, if◌then◌else◌, List, [], ◌∷◌, map, Option, Some, None, ⊤}
 use Rattle.std.specs.List.{filter}
 use Rattle.hoare_law.specs.declared.event.Event.{Event}
 use Rattle.hoare_law.specs.declared.event.History.{History}
@@ -7,6 +7,7 @@ use Rattle.hoare_law.specs.declared.event.Event.TheVariants.{Wait}
 use Rattle.hoare_law.specs.declared.turn.Turn.{Turn}
 use Rattle.hoare_law.specs.declared.turn.Turn.TheVariants.{Free, Held, Owed, Return}
 use Rattle.hoare_law.specs.Waiting.{waiting, priority_of}
+use Rattle.hoare_law.specs.Called.{called}
 use Rattle.hoare_law.specs.Turns.{urgent, turn, outside}
 use Rattle.hoare_law.specs.Priorities.{in_order}
 use Rattle.hoare_law.specs.Legal.{IsLegal}
@@ -16,23 +17,25 @@ use Rattle.wait_book.specs.declared.steps.Next.TheVariants as next
 use Rattle.wait_book.specs.declared.steps.MakeRefused.{MakeRefused}
 use Rattle.wait_book.specs.declared.steps.MakeRefused.TheVariants.{BadPlaces, BadConditions}
 
--- what a book holds: its numbers of places and conditions, how many it has memory for to wait and as waiting signallers (it may be
--- one memory for both), who waits (on each condition by rising priority, equal ones by time), the signallers (the longest
--- waiting first), and whose turn it is
+-- what a book holds: its numbers of places, of conditions and of Mesa conditions among them, how many it has memory for to wait and
+-- as waiting signallers (it may be one memory for both), who waits (on each condition by rising priority, equal ones by time), the
+-- signallers (the longest waiting first), who was called (the first called first), and whose turn it is
 pub record Contents : Type 0 where
   pub places : ℕ
   pub conditions : ℕ
+  pub mesa : ℕ
   pub room_to_wait : ℕ
   pub room_to_signal : ℕ
   pub waiters : List Waiter
   pub signallers : List ℕ
+  pub called : List Waiter
   pub turn : Turn
 
--- as many places and conditions as before, and the memory that was there: no more was taken
+-- as many places, conditions and Mesa conditions as before, and the memory that was there: no more was taken
 abbrev pub SameSizes : Contents → Contents → Type 0
 SameSizes old new =
     (new.places ≡ old.places) × (new.conditions ≡ old.conditions)
-    × (new.room_to_wait ≡ old.room_to_wait) × (new.room_to_signal ≡ old.room_to_signal)
+    × (new.room_to_wait ≡ old.room_to_wait) × (new.room_to_signal ≡ old.room_to_signal) × (new.mesa ≡ old.mesa)
 
 -- who waits on c, in the order in which signals would resume them
 abbrev pub waiters_on : ℕ → Contents → List Waiter
@@ -51,17 +54,22 @@ abbrev pub times : ℕ → List ℕ → ℕ
 times k [] = 0
 times k (j ∷ js) = one k j + times k js
 
--- how often place k has the turn by hand: it is inside, or was resumed
-abbrev pub times_in_hand : ℕ → Turn → ℕ
-times_in_hand k Free = 0
-times_in_hand k (Held j) = one k j
-times_in_hand k (Owed j c) = one k j
-times_in_hand k (Return j) = 0
+-- how often place k has the turn by hand, where the first m conditions are Hoare's: it is inside, or was resumed (one that was
+-- called stands among the called until it goes on, as one that returns does among the signallers)
+abbrev pub times_in_hand : ℕ → ℕ → Turn → ℕ
+times_in_hand k m Free = 0
+times_in_hand k m (Held j) = one k j
+times_in_hand k m (Owed j c) = if nat_lt c m then one k j else 0
+times_in_hand k m (Return j) = 0
+
+-- how many conditions are Hoare's
+abbrev pub hoare_of : Contents → ℕ
+hoare_of b = b.conditions - b.mesa
 
 -- how often place k stands anywhere in the book
 abbrev pub times_in : ℕ → Contents → ℕ
 times_in k b =
-    times k (map (λ (w : Waiter). w.place) b.waiters) + (times k b.signallers + times_in_hand k b.turn)
+    times k (map (λ (w : Waiter). w.place) b.waiters) + (times k b.signallers + (times k (map (λ (w : Waiter). w.place) b.called) + times_in_hand k (hoare_of b) b.turn))
 
 -- the waiter as the event by which it began to wait
 abbrev pub wait_of : Waiter → Event (Unit {0})
@@ -72,8 +80,10 @@ pub record IsOf (b : Contents) (h : History (Unit {0})) : Type 0 where
   pub legal : IsLegal h
   pub places : h.places ≡ b.places
   pub conditions : h.conditions ≡ b.conditions
+  pub mesa : h.mesa ≡ b.mesa
   pub waiters : (c : ℕ) → map wait_of (waiters_on c b) ≡ in_order priority_of (waiting c h.events)
   pub signallers : urgent h.events ≡ b.signallers
+  pub called_are : called h.events ≡ map wait_of b.called
   pub turn_is : turn h.events ≡ b.turn
   pub outside_are : (k : ℕ) → outside k h.events ≡ (times_in k b == 0)
 
@@ -90,9 +100,9 @@ IsPlaceBelow n next.Free = ⊤
 IsPlaceBelow n (next.For k) = k < n
 IsPlaceBelow n (next.Held k) = k < n
 
--- the first refusal of these numbers of places and conditions, if memory is there
-abbrev pub make_refusal : ℕ → ℕ → Option MakeRefused
-make_refusal places conditions =
+-- the first refusal of these numbers of places, conditions and Mesa conditions, if memory is there
+abbrev pub make_refusal : ℕ → ℕ → ℕ → Option MakeRefused
+make_refusal places conditions mesa =
     if nat_le 1 places && nat_le places 64 then
-    (if nat_le 1 conditions && nat_le conditions 8 then None else Some BadConditions)
+    (if nat_le 1 conditions && (nat_le conditions 8 && nat_le mesa conditions) then None else Some BadConditions)
     else Some BadPlaces

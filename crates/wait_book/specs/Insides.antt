@@ -1,57 +1,81 @@
 -- How a book's fields stand for what it holds.
-use Rattle.std.specs.Prelude.{ℕ, ◌≡◌, ◌<◌, ◌≤◌, List, [], ◌∷◌, ⊤}
+use Rattle.std.specs.Prelude.{ℕ, ◌≡◌, ◌<◌, ◌≤◌, nat_lt, if◌then◌else◌, List, [], ◌∷◌, map, All, Option, Some, None, ⊤, ◌⊎◌}
 use Rattle.hoare_law.specs.declared.turn.Turn.{Turn}
 use Rattle.hoare_law.specs.declared.turn.Turn.TheVariants.{Free, Held, Owed, Return}
+use Rattle.hoare_law.specs.Kinds.{IsMesa}
 use Rattle.hoare_law.specs.Priorities.{in_order}
 use Rattle.wait_book.specs.declared.waiter.Waiter.{Waiter}
 use Rattle.wait_book.specs.declared.book.Book.TheInside.{Inside}
 use Rattle.wait_book.specs.declared.chains.Link.{Link}
-use Rattle.wait_book.specs.Contents.{Contents, times_in, waiters_on}
+use Rattle.wait_book.specs.Contents.{Contents, hoare_of, times_in, waiters_on}
 use Rattle.wait_book.specs.Lists.{all_below, list_at, places_in}
 
 -- one in the chain of a condition waits there
 abbrev pub waiter_on : ℕ → Link → Waiter
 waiter_on c x = record { place = x.place; condition = c; priority = x.priority }
 
+-- those that were called, each from the condition on which it waited
+abbrev pub waiter_of : Link → Waiter
+waiter_of x = record { place = x.place; condition = x.condition; priority = x.priority }
+
+abbrev pub called_in : List Link → List Waiter
+called_in xs = map waiter_of xs
+
 -- those in the first n chains
 abbrev pub waiting_below : ℕ → (ℕ → List Link) → List Waiter
 waiting_below n at = all_below waiter_on n at
 
--- what the fields hold: the first eight chains are those of the conditions, and the next one that of the signallers
+-- what the fields hold: the first eight chains are those of the conditions, then come that of the signallers and that of the called
 abbrev pub view_of : Inside → Contents
 view_of a = record {
   places = a.places;
   conditions = a.conditions;
+  mesa = a.mesa;
   room_to_wait = a.chains.room;
   room_to_signal = a.chains.room;
   waiters = waiting_below 8 (list_at a.chains);
   signallers = places_in (list_at a.chains 8);
+  called = called_in (list_at a.chains 9);
   turn = a.turn;
 }
 
--- the turn may stand beside these signallers, at a monitor with n conditions
-abbrev pub IsTurnBeside : List ℕ → ℕ → Turn → Type 0
-IsTurnBeside us n Free = us ≡ []
-IsTurnBeside us n (Held k) = ⊤
-IsTurnBeside us n (Owed k c) = c < n
-IsTurnBeside [] n (Return k) = ⊥
-IsTurnBeside (u ∷ us) n (Return k) = u ≡ k
+-- the chain in which a place stands that is to go on, where the first m conditions are Hoare's
+abbrev pub chain_of : Turn → ℕ → Option ℕ
+chain_of Free m = None
+chain_of (Held k) m = None
+chain_of (Owed k c) m = if nat_lt c m then None else Some 9
+chain_of (Return k) m = Some 8
+
+-- place k, which waited on c, was called first
+abbrev pub IsCalledFirst : ℕ → ℕ → List Waiter → Type 0
+IsCalledFirst k c [] = ⊥
+IsCalledFirst k c (w ∷ ws) = (w.place ≡ k) × (w.condition ≡ c)
+
+-- the turn may stand beside these signallers and these called, where the first m conditions are Hoare's
+abbrev pub IsTurnBeside : List ℕ → List Waiter → ℕ → Turn → Type 0
+IsTurnBeside us ws m Free = us ≡ []
+IsTurnBeside us ws m (Held k) = ⊤
+IsTurnBeside us ws m (Owed k c) = (c < m) ⊎ IsCalledFirst k c ws
+IsTurnBeside [] ws m (Return k) = ⊥
+IsTurnBeside (u ∷ us) ws m (Return k) = u ≡ k
 
 -- the sizes are in range, there is room for each place, each place stands once at most, those who wait on a condition stand
 -- in order, and nobody waits on a condition that isn't the book's (`on_conditions`: no call asks for it; it says that a
--- signal can reach everybody who waits)
+-- signal can reach everybody who waits), and whoever was called waited on a Mesa condition
 pub record IsSound (b : Contents) : Type 0 where
   pub some_places : 0 < b.places
   pub few_places : b.places ≤ 64
   pub some_conditions : 0 < b.conditions
   pub few_conditions : b.conditions ≤ 8
+  pub few_mesa : b.mesa ≤ b.conditions
   pub waiters_fit : b.places ≤ b.room_to_wait
   pub signallers_fit : b.places ≤ b.room_to_signal
   pub once : (k : ℕ) → times_in k b ≤ 1
   pub in_range : (k : ℕ) → 0 < times_in k b → k < b.places
   pub on_conditions : (c : ℕ) → b.conditions ≤ c → waiters_on c b ≡ []
   pub ordered : (c : ℕ) → in_order (λ (w : Waiter). w.priority) (waiters_on c b) ≡ waiters_on c b
-  pub turn_fits : IsTurnBeside b.signallers b.conditions b.turn
+  pub on_mesa : All (λ (w : Waiter). IsMesa b.conditions b.mesa w.condition) b.called
+  pub turn_fits : IsTurnBeside b.signallers b.called (hoare_of b) b.turn
 
 -- its fields hold what is sound
 abbrev pub IsGood : Inside → Type 0

@@ -1,5 +1,5 @@
 -- What a contract sees of the chains: the list of those in each.
-use Rattle.std.specs.Prelude.{ℕ, zero, suc, ◌≡◌, ◌==◌, nat_le, if◌then◌else◌, List, [], ◌∷◌, ◌++◌, map, length, Option, Some, None, slice_index_or}
+use Rattle.std.specs.Prelude.{ℕ, zero, suc, ◌≡◌, ◌==◌, All, nat_le, if◌then◌else◌, List, [], ◌∷◌, ◌++◌, map, length, Option, Some, None, slice_index_or}
 use Rattle.wait_book.specs.declared.chains.Link.{Link}
 
 -- memory for a number of nodes, and those in each chain, the first one first
@@ -38,7 +38,7 @@ places_below n at = all_below (λ c (x : Link). x.place) n at
 
 -- how many stand in the chains
 abbrev pub total : Lists → ℕ
-total v = length (keys_below 9 (list_at v))
+total v = length (keys_below 10 (list_at v))
 
 -- the first
 abbrev pub first_link : List Link → Option Link
@@ -68,10 +68,10 @@ abbrev pub list_put : ℕ → List Link → (ℕ → List Link) → ℕ → List
 list_put c xs at d = if d == c then xs else at d
 
 -- in chain c a place now stands between those before and those after
-pub record IsPut (c : ℕ) (before after : List Link) (place priority : ℕ) (old new : Lists) : Type 0 where
+pub record IsPut (c : ℕ) (before after : List Link) (place condition priority : ℕ) (old new : Lists) : Type 0 where
   pub key : ℕ
   pub lists : (d : ℕ) → list_at new d
-      ≡ list_put c (before ++ record { key = key; place = place; priority = priority } ∷ after) (list_at old) d
+      ≡ list_put c (before ++ record { key = key; place = place; condition = condition; priority = priority } ∷ after) (list_at old) d
   pub room : new.room ≡ old.room
 
 -- the first of chain c, a place, is taken out
@@ -81,4 +81,10 @@ pub record IsTaken (c place : ℕ) (old new : Lists) : Type 0 where
   pub was : list_at old c ≡ first ∷ after
   pub first_place : first.place ≡ place
   pub lists : (d : ℕ) → list_at new d ≡ list_put c after (list_at old) d
+  pub room : new.room ≡ old.room
+
+-- all in the chain of condition c now stand behind those that were called
+pub record IsJoined (c : ℕ) (old new : Lists) : Type 0 where
+  pub lists : (d : ℕ) → list_at new d ≡ list_put c [] (list_put 9 (list_at old 9 ++ list_at old c) (list_at old)) d
+  pub waited : All (λ (x : Link). x.condition ≡ c) (list_at old c)
   pub room : new.room ≡ old.room

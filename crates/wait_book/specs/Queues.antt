@@ -1,5 +1,5 @@
 -- What is put into the list of those who wait, and taken out of it.
-use Rattle.std.specs.Prelude.{ℕ, ◌≡◌, ◌+◌, ◌==◌, if◌then◌else◌, List, [], ◌∷◌, ◌++◌, map}
+use Rattle.std.specs.Prelude.{ℕ, ◌≡◌, ◌+◌, ◌==◌, not, if◌then◌else◌, List, [], ◌∷◌, ◌++◌, map}
 use Rattle.std.specs.List.{filter}
 use Rattle.hoare_law.specs.Priorities.{put_in}
 use Rattle.wait_book.specs.declared.waiter.Waiter.{Waiter}
@@ -22,3 +22,8 @@ pub record TakesFirst (c : ℕ) (old new : List Waiter) (k : ℕ) : Type 0 where
   pub none_before : filter (λ w. w.condition == c) before ≡ []
   pub on : first.condition ≡ c
   pub place : first.place ≡ k
+
+-- all on c are taken out of a list, and the others stay as they were
+pub record TakesAll (c : ℕ) (old new : List Waiter) : Type 0 where
+  pub on : (d : ℕ) → filter (λ (w : Waiter). w.condition == d) new ≡ (if d == c then [] else filter (λ (w : Waiter). w.condition == d) old)
+  pub is : new ≡ filter (λ (w : Waiter). not (w.condition == c)) old

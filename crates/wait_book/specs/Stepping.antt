@@ -1,17 +1,18 @@
 -- What one step does to a history, and when it is refused.
-use Rattle.std.specs.Prelude.{ℕ, ◌==◌, nat_lt, Bool, true, false, if◌then◌else◌, Option, Some, None, ⊤}
+use Rattle.std.specs.Prelude.{ℕ, ◌==◌, ◌-◌, nat_lt, List, [], ◌∷◌, Bool, true, false, if◌then◌else◌, Option, Some, None, ⊤}
 use Rattle.hoare_law.specs.declared.event.Event.{Event}
 use Rattle.hoare_law.specs.declared.event.History.{History}
 use Rattle.hoare_law.specs.declared.event.Event.TheVariants as event
 use Rattle.hoare_law.specs.declared.turn.Turn.{Turn}
 use Rattle.hoare_law.specs.declared.turn.Turn.TheVariants.{Free, Held, Owed, Return}
 use Rattle.hoare_law.specs.Events.{place_of, with_event}
-use Rattle.hoare_law.specs.Waiting.{chosen}
+use Rattle.hoare_law.specs.Kinds.{IsHoare, IsMesa}
+use Rattle.hoare_law.specs.Waiting.{waiting, chosen}
 use Rattle.hoare_law.specs.Turns.{turn, outside}
 use Rattle.wait_book.specs.declared.steps.Step.{Step}
-use Rattle.wait_book.specs.declared.steps.Step.TheVariants.{Enter, Wait, Signal, Pass, Leave}
+use Rattle.wait_book.specs.declared.steps.Step.TheVariants.{Enter, Wait, Signal, Pass, Leave, Notify, Broadcast}
 use Rattle.wait_book.specs.declared.steps.StepRefused.{StepRefused}
-use Rattle.wait_book.specs.declared.steps.StepRefused.TheVariants.{NoPlace, NotFree, NotOutside, NotInside, NoCondition}
+use Rattle.wait_book.specs.declared.steps.StepRefused.TheVariants.{NoPlace, NotFree, NotOutside, NotInside, NoCondition, WrongKind}
 use Rattle.wait_book.specs.declared.steps.Next.{Next}
 use Rattle.wait_book.specs.declared.steps.Next.TheVariants as next
 
@@ -39,13 +40,29 @@ act_refusal h k further =
 abbrev pub condition_refusal : History (Unit {0}) → ℕ → Option StepRefused
 condition_refusal h c = if nat_lt c h.conditions then None else Some NoCondition
 
+-- condition c is a Mesa condition where that is asked, else one of Hoare's
+abbrev pub IsOfKind : ℕ → ℕ → Bool → ℕ → Type 0
+IsOfKind n m true c = IsMesa n m c
+IsOfKind n m false c = IsHoare n m c
+
+-- it is there, and of the kind that is asked: a Mesa condition, or one of Hoare's
+abbrev pub kind_refusal : History (Unit {0}) → Bool → ℕ → Option StepRefused
+kind_refusal h true c =
+    if nat_lt c h.conditions then (if nat_lt c (h.conditions - h.mesa) then Some WrongKind else None)
+    else Some NoCondition
+kind_refusal h false c =
+    if nat_lt c h.conditions then (if nat_lt c (h.conditions - h.mesa) then None else Some WrongKind)
+    else Some NoCondition
+
 -- the first refusal that applies
 abbrev pub refusal_of : History (Unit {0}) → Step → Option StepRefused
 refusal_of h (Enter k) = enter_refusal h k
 refusal_of h (Wait k c p) = act_refusal h k (condition_refusal h c)
-refusal_of h (Signal k c) = act_refusal h k (condition_refusal h c)
-refusal_of h (Pass k c) = act_refusal h k (condition_refusal h c)
+refusal_of h (Signal k c) = act_refusal h k (kind_refusal h false c)
+refusal_of h (Pass k c) = act_refusal h k (kind_refusal h false c)
 refusal_of h (Leave k) = act_refusal h k None
+refusal_of h (Notify k c) = act_refusal h k (kind_refusal h true c)
+refusal_of h (Broadcast k c) = act_refusal h k (kind_refusal h true c)
 
 -- a signal resumes whom it should; where nobody waits it adds nothing
 abbrev pub after_signal : History (Unit {0}) → ℕ → ℕ → Option (Event (Unit {0})) → History (Unit {0})
@@ -57,6 +74,16 @@ abbrev pub after_pass : History (Unit {0}) → ℕ → ℕ → Option (Event (Un
 after_pass h k c None = with_event h (event.Leave k tt)
 after_pass h k c (Some e) = with_event h (event.Pass k c (place_of e) tt)
 
+-- a notify calls whom a signal would resume; where nobody waits it adds nothing
+abbrev pub after_notify : History (Unit {0}) → ℕ → ℕ → Option (Event (Unit {0})) → History (Unit {0})
+after_notify h k c None = h
+after_notify h k c (Some e) = with_event h (event.Notify k c (place_of e) tt)
+
+-- a broadcast calls all that wait; where nobody does it adds nothing
+abbrev pub after_broadcast : History (Unit {0}) → ℕ → ℕ → List (Event (Unit {0})) → History (Unit {0})
+after_broadcast h k c [] = h
+after_broadcast h k c (e ∷ es) = with_event h (event.Broadcast k c tt)
+
 -- whoever is owed the monitor goes on
 abbrev pub after_claim : History (Unit {0}) → Turn → History (Unit {0})
 after_claim h Free = h
@@ -67,13 +94,15 @@ after_claim h (Return k) = with_event h (event.Back k tt)
 abbrev pub settled : History (Unit {0}) → History (Unit {0})
 settled h = after_claim h (turn h.events)
 
--- the step, and whoever is then owed the monitor goes on
+-- the step, and whoever is then owed the monitor goes on (behind a notify and a broadcast nobody is: the caller stays inside)
 abbrev pub after_step : History (Unit {0}) → Step → History (Unit {0})
 after_step h (Enter k) = with_event h (event.Admit k tt)
 after_step h (Wait k c p) = settled (with_event h (event.Wait k c p tt))
 after_step h (Signal k c) = settled (after_signal h k c (chosen c h.events))
 after_step h (Pass k c) = settled (after_pass h k c (chosen c h.events))
 after_step h (Leave k) = settled (with_event h (event.Leave k tt))
+after_step h (Notify k c) = after_notify h k c (chosen c h.events)
+after_step h (Broadcast k c) = after_broadcast h k c (waiting c h.events)
 
 -- nobody is owed the monitor
 abbrev pub IsSettled : Next → Type 0

@@ -1,9 +1,9 @@
-//! The book of one monitor: who is inside, who waits and who signalled.
+//! The book of one monitor: who is inside, who waits, who signalled and who was called.
 mod stepping;
 mod waits;
 
-use crate::chains::{Chains, SIGNALLERS};
-use crate::queues::{first_priority, is_in_hand, turn_given_up};
+use crate::chains::{CALLED, Chains, SIGNALLERS};
+use crate::queues::{chain_of, first_place, first_priority, is_in_hand, turn_given_up};
 use crate::steps::{MakeRefused, Next};
 use hoare_law::turn::Turn;
 use std::alloc::Global;
@@ -15,14 +15,14 @@ pub const MOST_PLACES: usize = 64;
 /// The most conditions that a book has.
 pub const MOST_CONDITIONS: usize = 8;
 
-/// The queues of one monitor: who waits on each condition, who waits as a signaller, and whose turn it is ("Monitors",
-/// Introduction, Interpretation and Scheduled Waits). It is for one thread, and holds no data.
+/// The queues of one monitor: who waits on each condition, who waits as a signaller, who was called, and whose turn it is
+/// ("Monitors", Introduction, Interpretation and Scheduled Waits). It is for one thread, and holds no data.
 ///
 /// A clause of a call that changes it reads: for every history that the book was of, it is afterwards of that history with
 /// the call's event. `sizes` says that the call kept the places, the conditions and the memory that `make` took.
 ///
 /// ```rust
-/// let mut book = Book::make(alloc, 2, 1)?;
+/// let mut book = Book::make(alloc, 2, 1, 0)?; // 2 places, 1 condition, none of it a Mesa condition
 /// book.admit(0);
 /// assert_eq!(rt; book.wait(0, 0, 7), Next::Free); // on condition 0, with priority 7
 /// book.admit(1);
@@ -34,6 +34,7 @@ pub const MOST_CONDITIONS: usize = 8;
 pub struct Book {
     places: usize,
     conditions: usize,
+    mesa: usize,
     chains: Chains,
     turn: Turn,
 }
@@ -51,32 +52,40 @@ impl Model for Book {
 }
 
 impl Book {
-    ghost use Rattle.std.specs.Prelude.{◌≡◌, ◌≢◌, ◌<◌, ◌≤◌, ◌==◌, ◌↔◌, ℕ, [], IsTrue, MatchResult, MatchOption, IfOk, OnErr, ◌⊎◌, Some, None, slice_index, map};
+    ghost use Rattle.std.specs.Prelude.{◌≡◌, ◌≢◌, ◌<◌, ◌≤◌, ◌==◌, ◌↔◌, ℕ, [], length, IsTrue, MatchResult, MatchOption, IfOk, OnErr, ◌⊎◌, Some, None, slice_index, map};
     ghost use Rattle.std.specs.Option.{option_map};
     ghost use Rattle.hoare_law.specs.declared.event.History.{History};
     ghost use Rattle.hoare_law.specs.declared.event.Event.TheVariants as event;
     ghost use Rattle.hoare_law.specs.declared.turn.Turn.TheVariants as turns;
-    ghost use Rattle.hoare_law.specs.Events.{opened, with_event};
+    ghost use Rattle.hoare_law.specs.Events.{opened, place_of, with_event};
     ghost use Rattle.hoare_law.specs.Waiting.{waiting, chosen, priority_of};
     ghost use Rattle.hoare_law.specs.Turns.{turn, outside};
-    ghost use Rattle.hoare_law.specs.Priorities.{joined, taken};
+    ghost use Rattle.hoare_law.specs.Kinds.{IsHoare, IsMesa};
+    ghost use Rattle.hoare_law.specs.Priorities.{joined, taken, emptied};
     ghost use Rattle.wait_book.specs.Contents.{IsOf, IsPlaceBelow, SameSizes, make_refusal, next_of, priorities_on, times, times_in};
-    ghost use Rattle.wait_book.specs.Stepping.{IsSettled, after_pass, after_signal, after_step, refusal_of, settled};
+    ghost use Rattle.wait_book.specs.Stepping.{IsSettled, after_broadcast, after_notify, after_pass, after_signal, after_step, refusal_of, settled};
 
-    /// A book of 1 to 64 places and 1 to 8 conditions where nothing happened yet. Refused, in this order: `BadPlaces`,
-    /// `BadConditions`, and `Memory` where the room for all places to wait or to be waiting signallers can't be had.
-    pub fn make(alloc: Global, places: usize, conditions: usize) -> Result<Book, MakeRefused>
+    /// A book of 1 to 64 places and 1 to 8 conditions, of which the last `mesa` are Mesa conditions, where nothing happened yet.
+    /// Refused, in this order: `BadPlaces`, `BadConditions`, and `Memory` where the room for all places to wait, to be waiting
+    /// signallers or to be called can't be had.
+    pub fn make(
+        alloc: Global,
+        places: usize,
+        conditions: usize,
+        mesa: usize,
+    ) -> Result<Book, MakeRefused>
         ensures made { MatchResult result
-            (λ b. (make_refusal places conditions ≡ None) × IsOf b (opened places conditions tt))
-            (λ e. (make_refusal places conditions ≡ Some e)
-            ⊎ ((make_refusal places conditions ≡ None) × (e ≡ MakeRefused.Memory))) }
+            (λ b. (make_refusal places conditions mesa ≡ None)
+            × IsOf b (opened places conditions mesa tt))
+            (λ e. (make_refusal places conditions mesa ≡ Some e)
+            ⊎ ((make_refusal places conditions mesa ≡ None) × (e ≡ MakeRefused.Memory))) }
         ensures room { IfOk result
             (λ b. (places ≤ b.room_to_wait) × (places ≤ b.room_to_signal)) }
     {
         if places == 0 || places > MOST_PLACES {
             return Err(MakeRefused::BadPlaces);
         }
-        if conditions == 0 || conditions > MOST_CONDITIONS {
+        if conditions == 0 || conditions > MOST_CONDITIONS || mesa > conditions {
             return Err(MakeRefused::BadConditions);
         }
         let Ok(chains) = Chains::make(alloc, places) else {
@@ -85,6 +94,7 @@ impl Book {
         Ok(Book {
             places,
             conditions,
+            mesa,
             chains,
             turn: Turn::Free,
         })
@@ -105,7 +115,7 @@ impl Book {
         }
     }
 
-    /// Whether a place is outside: not inside, not waiting on a condition and no waiting signaller.
+    /// Whether a place is outside: not inside, not waiting on a condition, no waiting signaller and not called.
     pub fn outside(&self, place: usize) -> bool
         requires { place < self.now.places }
         ensures nowhere { result ≡ (times_in place self.now == 0) }
@@ -115,7 +125,7 @@ impl Book {
         if self.chains.holds(place) {
             return false;
         }
-        !is_in_hand(self.turn, place)
+        !is_in_hand(self.turn, self.conditions - self.mesa, place)
     }
 
     /// Whether somebody waits on a condition (Hoare's `queue`).
@@ -141,6 +151,15 @@ impl Book {
         first_priority(&self.chains, condition)
     }
 
+    /// The place of the process that a signal on a condition would resume, or a notify call, if somebody waits there.
+    pub fn chosen(&self, condition: usize) -> Option<usize>
+        requires { condition < self.now.conditions }
+        ensures of { (h : History (Unit {0})) → IsOf self.now h
+            → result ≡ option_map place_of (chosen condition h.events) }
+    {
+        first_place(&self.chains, condition)
+    }
+
     /// A newcomer comes in, where the monitor is free and its place is outside.
     pub fn admit(&mut self, place: usize)
         requires free { self.old.turn ≡ turns.Free }
@@ -155,7 +174,7 @@ impl Book {
         self.turn = Turn::Held(place); // free before
     }
 
-    /// The place that is handed the monitor goes on: it returns from a wait or from a signal.
+    /// The place that is handed the monitor goes on: it returns from a wait, by a signal or a call, or from a signal.
     pub fn claim(&mut self, place: usize)
         requires { next_of self.old.turn ≡ Next.For place }
         ensures inside { self.new.turn ≡ turns.Held place }
@@ -164,13 +183,14 @@ impl Book {
         ensures priorities { (c : ℕ) → priorities_on self.new c ≡ priorities_on self.old c }
         ensures sizes { SameSizes self.old self.new }
     {
-        if let Turn::Return(_) = self.turn {
-            self.chains.take_first(SIGNALLERS);
+        if let Some(chain) = chain_of(self.turn, self.conditions - self.mesa) {
+            self.chains.take_first(chain);
         }
         self.turn = Turn::Held(place); // owed before
     }
 
-    /// The place inside waits on a condition with a priority. The longest waiting signaller goes on, or nobody.
+    /// The place inside waits on a condition with a priority. The longest waiting signaller goes on, else
+    /// the first that was called, or nobody.
     pub fn wait(&mut self, place: usize, condition: usize, priority: u64) -> Next
         requires inside { self.old.turn ≡ turns.Held place }
         requires condition { condition < self.old.conditions }
@@ -188,7 +208,8 @@ impl Book {
         self.now()
     }
 
-    /// The place inside goes out. The longest waiting signaller goes on, or nobody.
+    /// The place inside goes out. The longest waiting signaller goes on, else
+    /// the first that was called, or nobody.
     pub fn leave(&mut self, place: usize) -> Next
         requires { self.old.turn ≡ turns.Held place }
         ensures of { (h : History (Unit {0})) → IsOf self.old h
@@ -203,11 +224,11 @@ impl Book {
         self.now()
     }
 
-    /// The place inside signals a condition: the longest waiting of least priority is handed the monitor, and the place is
+    /// The place inside signals one of Hoare's conditions: the longest waiting of least priority is handed the monitor, and the place is
     /// held up as a signaller. Where nobody waits, nothing changes.
     pub fn signal(&mut self, place: usize, condition: usize) -> Next
         requires inside { self.old.turn ≡ turns.Held place }
-        requires condition { condition < self.old.conditions }
+        requires hoare { IsHoare self.old.conditions self.old.mesa condition }
         ensures of { (h : History (Unit {0})) → IsOf self.old h
             → IsOf self.new (after_signal h place condition (chosen condition h.events)) }
         ensures next { result ≡ next_of self.new.turn }
@@ -223,16 +244,16 @@ impl Book {
         let Some(resumed) = self.chains.take_first(condition) else {
             return self.now();
         };
-        self.chains.append(SIGNALLERS, place, 0);
+        self.chains.append(SIGNALLERS, place, condition, 0);
         self.turn = Turn::Owed(resumed, condition);
         self.now()
     }
 
-    /// The place inside signals a condition as its last act: who is resumed is handed the monitor, and the place is outside.
+    /// The place inside signals one of Hoare's conditions as its last act: who is resumed is handed the monitor, and the place is outside.
     /// Where nobody waits, it leaves.
     pub fn pass(&mut self, place: usize, condition: usize) -> Next
         requires inside { self.old.turn ≡ turns.Held place }
-        requires condition { condition < self.old.conditions }
+        requires hoare { IsHoare self.old.conditions self.old.mesa condition }
         ensures of { (h : History (Unit {0})) → IsOf self.old h
             → IsOf self.new (after_pass h place condition (chosen condition h.events)) }
         ensures next { result ≡ next_of self.new.turn }
@@ -249,5 +270,46 @@ impl Book {
         };
         self.turn = Turn::Owed(successor, condition);
         self.now()
+    }
+
+    /// The place inside calls the process that a signal on a Mesa condition would resume, and stays inside. True exactly where
+    /// somebody waits there; where nobody does, nothing changes.
+    pub fn notify(&mut self, place: usize, condition: usize) -> bool
+        requires inside { self.old.turn ≡ turns.Held place }
+        requires mesa { IsMesa self.old.conditions self.old.mesa condition }
+        ensures of { (h : History (Unit {0})) → IsOf self.old h
+            → IsOf self.new (after_notify h place condition (chosen condition h.events)) }
+        ensures told { IsTrue result ↔ (priorities_on self.old condition ≢ []) }
+        ensures nobody { priorities_on self.old condition ≡ [] → self.new ≡ self.old }
+        ensures inside { self.new.turn ≡ turns.Held place }
+        ensures priorities { (c : ℕ)
+            → priorities_on self.new c ≡ taken (priorities_on self.old) condition c }
+        ensures sizes { SameSizes self.old self.new }
+    {
+        let Some(link) = self.chains.first(condition) else {
+            return false;
+        };
+        self.chains.take_first(condition);
+        self.chains
+            .append(CALLED, link.place, condition, link.priority);
+        true
+    }
+
+    /// The place inside calls all that wait on a Mesa condition, in the order in which signals would resume them, stays inside,
+    /// and is told how many they are.
+    pub fn broadcast(&mut self, place: usize, condition: usize) -> usize
+        requires inside { self.old.turn ≡ turns.Held place }
+        requires mesa { IsMesa self.old.conditions self.old.mesa condition }
+        ensures of { (h : History (Unit {0})) → IsOf self.old h
+            → IsOf self.new (after_broadcast h place condition (waiting condition h.events)) }
+        ensures told { result ≡ length (priorities_on self.old condition) }
+        ensures inside { self.new.turn ≡ turns.Held place }
+        ensures priorities { (c : ℕ)
+            → priorities_on self.new c ≡ emptied (priorities_on self.old) condition c }
+        ensures sizes { SameSizes self.old self.new }
+    {
+        let called = self.chains.on(condition).count();
+        self.chains.call_all(condition);
+        called
     }
 }

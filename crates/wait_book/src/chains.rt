@@ -1,11 +1,11 @@
-//! The chains of a book: who waits on each condition, and who waits as a signaller. The nodes of all chains lie in one slab, and
-//! each holds the key of the next one.
+//! The chains of a book: who waits on each condition, who waits as a signaller, and who was called. The nodes of all chains lie in
+//! one slab, and each holds the key of the next one.
 ghost use Rattle.std.specs.Prelude.{◌≡◌, ◌≢◌, ◌<◌, ◌≤◌, ◌==◌, ℕ, [], ◌++◌, List, Option, Some, None, is_some, if◌then◌else◌, not, IfOk, IfSome, MatchOption};
 ghost use Rattle.std.specs.List.Sorted.{IsNonDecreasing};
 ghost use Rattle.slab.specs.Slab.{get, slab_len, ContainsKey};
 ghost use Rattle.wait_book.specs.declared.chains.Link.{Link};
 ghost use Rattle.wait_book.specs.Contents.{times};
-ghost use Rattle.wait_book.specs.Lists.{IsPut, IsTaken, first_link, higher, keys, last_key, list_at, lower, places_below, priorities, total};
+ghost use Rattle.wait_book.specs.Lists.{IsJoined, IsPut, IsTaken, first_link, higher, keys, last_key, list_at, lower, places_below, priorities, total};
 ghost use Rattle.wait_book.specs.Chains.{IsLinked, held};
 
 mod links;
@@ -19,14 +19,18 @@ use std::marker::Model;
 /// The number of the signallers' chain, behind those of the conditions.
 pub(crate) const SIGNALLERS: usize = MOST_CONDITIONS;
 
-/// How many chains there are: one for each condition, and the signallers'.
-pub(crate) const CHAINS: usize = MOST_CONDITIONS + 1;
+/// The number of the chain of those that were called, behind the signallers'.
+pub(crate) const CALLED: usize = MOST_CONDITIONS + 1;
 
-/// One that stands in a chain: the key of its node, its place and its priority.
+/// How many chains there are: one for each condition, the signallers' and that of those called.
+pub(crate) const CHAINS: usize = MOST_CONDITIONS + 2;
+
+/// One that stands in a chain: the key of its node, its place, and the condition and the priority of its wait.
 #[derive(Clone, Copy)]
 pub(crate) struct Link {
     pub(crate) key: usize,
     pub(crate) place: usize,
+    pub(crate) condition: usize,
     pub(crate) priority: u64,
 }
 
@@ -34,6 +38,7 @@ pub(crate) struct Link {
 #[derive(Clone, Copy)]
 struct Node {
     place: usize,
+    condition: usize,
     priority: u64,
     next: Option<usize>,
 }
@@ -183,8 +188,16 @@ impl Chains {
     }
 
     // Puts a place that stands in no chain into one, behind a node or first.
-    fn link(&mut self, chain: usize, behind: Option<usize>, place: usize, priority: u64)
+    fn link(
+        &mut self,
+        chain: usize,
+        behind: Option<usize>,
+        place: usize,
+        condition: usize,
+        priority: u64,
+    )
         requires chain { chain < CHAINS }
+        requires condition { chain < SIGNALLERS → condition ≡ chain }
         requires place { place < MOST_PLACES }
         requires apart { times place (places_below CHAINS (list_at self.old)) ≡ 0 }
         requires room { total self.old < self.old.room }
@@ -192,12 +205,13 @@ impl Chains {
             × (list_at self.old chain ≡ before ++ after) × (behind ≡ last_key before) }
         ensures { (before after : List Link)
             → list_at self.old chain ≡ before ++ after → behind ≡ last_key before
-            → IsPut chain before after place priority self.old self.new }
+            → IsPut chain before after place condition priority self.old self.new }
     {
         let Chain { first, last } = self.chains[chain];
         let next = next_of(&self.nodes, first, behind);
         let node = Node {
             place,
+            condition,
             priority,
             next,
         };
@@ -208,16 +222,17 @@ impl Chains {
         self.standing[place] = true;
     }
 
-    /// Puts a place that stands in no chain behind all in one.
-    pub(crate) fn append(&mut self, chain: usize, place: usize, priority: u64)
+    /// Puts a place that stands in no chain behind all in one that is no condition's.
+    pub(crate) fn append(&mut self, chain: usize, place: usize, condition: usize, priority: u64)
         requires chain { chain < CHAINS }
+        requires no_condition { SIGNALLERS ≤ chain }
         requires place { place < MOST_PLACES }
         requires apart { times place (places_below CHAINS (list_at self.old)) ≡ 0 }
         requires room { total self.old < self.old.room }
-        ensures { IsPut chain (list_at self.old chain) [] place priority self.old self.new }
+        ensures { IsPut chain (list_at self.old chain) [] place condition priority self.old self.new }
     {
         let behind = self.chains[chain].last;
-        self.link(chain, behind, place, priority);
+        self.link(chain, behind, place, condition, priority);
     }
 
     /// Puts a place that stands in no chain into one that stands in order, behind those whose priority is its own or less.
@@ -228,10 +243,10 @@ impl Chains {
         requires room { total self.old < self.old.room }
         requires ordered { IsNonDecreasing (priorities (list_at self.old chain)) }
         ensures { let list = list_at self.old chain in
-            IsPut chain (lower priority list) (higher priority list) place priority self.old self.new }
+            IsPut chain (lower priority list) (higher priority list) place chain priority self.old self.new }
     {
         let behind = self.behind(chain, priority);
-        self.link(chain, behind, place, priority);
+        self.link(chain, behind, place, chain, priority);
     }
 
     /// Takes the first out of a chain, and answers its place.
@@ -250,5 +265,23 @@ impl Chains {
         };
         self.standing[node.place] = false;
         Some(node.place)
+    }
+
+    /// Puts all in the chain of a condition behind those that were called, in their order: one link is set, however many they are.
+    pub(crate) fn call_all(&mut self, chain: usize)
+        requires { chain < SIGNALLERS }
+        ensures { IsJoined chain self.old self.new }
+    {
+        let Chain { first, last } = self.chains[chain];
+        let Some(key) = first else {
+            return;
+        };
+        let called = self.chains[CALLED];
+        let first = set_next(&mut self.nodes, called.first, called.last, key);
+        self.chains[CALLED] = Chain { first, last };
+        self.chains[chain] = Chain {
+            first: None,
+            last: None,
+        };
     }
 }

@@ -1,22 +1,27 @@
-//! What a book asks of its turn, and of the signallers' chain.
-ghost use Rattle.std.specs.Prelude.{◌≡◌, ◌<◌, ◌==◌, not};
+//! What a book asks of its turn, and of the chains of signallers and of those called.
+ghost use Rattle.std.specs.Prelude.{◌≡◌, ◌<◌, ◌==◌, not, map};
 ghost use Rattle.std.specs.List.{slice_get};
 ghost use Rattle.std.specs.Option.{option_map};
 ghost use Rattle.hoare_law.specs.Turns.{turn_given_up};
-ghost use Rattle.wait_book.specs.Contents.{times_in_hand};
+ghost use Rattle.wait_book.specs.Contents.{times_in_hand, wait_of};
+ghost use Rattle.wait_book.specs.Insides.{called_in, chain_of};
 ghost use Rattle.wait_book.specs.Lists.{places_in};
 ghost use Rattle.wait_book.specs.Lists.{first_link, list_at};
 ghost use Rattle.wait_book.specs.declared.chains.Link.{Link};
 
-use crate::chains::{CHAINS, Chains, SIGNALLERS};
+use crate::chains::{CALLED, CHAINS, Chains, SIGNALLERS};
 use hoare_law::turn::Turn;
 
-/// Who goes on where the monitor is given up: the longest waiting signaller, or nobody.
+/// Who goes on where the monitor is given up: the longest waiting signaller, else the first that was called, else nobody.
 pub(crate) fn turn_given_up(chains: &Chains) -> Turn
-    ensures { result ≡ turn_given_up (places_in (list_at chains.now SIGNALLERS)) }
+    ensures { result ≡ turn_given_up (places_in (list_at chains.now SIGNALLERS))
+        (map wait_of (called_in (list_at chains.now CALLED))) }
 {
-    match chains.first(SIGNALLERS) {
-        Some(link) => Turn::Return(link.place),
+    if let Some(signaller) = chains.first(SIGNALLERS) {
+        return Turn::Return(signaller.place);
+    }
+    match chains.first(CALLED) {
+        Some(link) => Turn::Owed(link.place, link.condition),
         None => Turn::Free,
     }
 }
@@ -30,6 +35,15 @@ pub(crate) fn first_priority(chains: &Chains, condition: usize) -> Option<u64>
     chains.first(condition).map(|link| link.priority)
 }
 
+/// The place of the first that waits on a condition.
+pub(crate) fn first_place(chains: &Chains, condition: usize) -> Option<usize>
+    requires { condition < CHAINS }
+    ensures { result ≡ option_map (λ (x : Link). x.place)
+        (first_link (list_at chains.now condition)) }
+{
+    chains.first(condition).map(|link| link.place)
+}
+
 /// The priority of the `i`-th that waits on a condition, counted from 0.
 pub(crate) fn nth_priority(chains: &Chains, condition: usize, i: usize) -> Option<u64>
     requires { condition < CHAINS }
@@ -40,13 +54,25 @@ pub(crate) fn nth_priority(chains: &Chains, condition: usize, i: usize) -> Optio
     Some(link.priority)
 }
 
-/// Whether a place is the one inside, or was resumed.
-pub(crate) fn is_in_hand(turn: Turn, place: usize) -> bool
-    ensures { not result ≡ (times_in_hand place turn == 0) }
+/// Whether a place is the one inside, or was resumed from one of the first conditions, which are Hoare's.
+pub(crate) fn is_in_hand(turn: Turn, hoare: usize, place: usize) -> bool
+    ensures { not result ≡ (times_in_hand place hoare turn == 0) }
 {
     match turn {
         Turn::Held(k) => k == place,
-        Turn::Owed(k, _) => k == place,
+        Turn::Owed(k, c) => c < hoare && k == place,
         Turn::Free | Turn::Return(_) => false,
+    }
+}
+
+/// The chain in which a place stands that is to go on: that of the signallers where it returns from a signal, that of the called
+/// where it waited behind the first conditions, which are Hoare's; none where it was resumed.
+pub(crate) fn chain_of(turn: Turn, hoare: usize) -> Option<usize>
+    ensures { result ≡ chain_of turn hoare }
+{
+    match turn {
+        Turn::Return(_) => Some(SIGNALLERS),
+        Turn::Owed(_, c) => { if c < hoare { None } else { Some(CALLED) } }
+        Turn::Held(_) | Turn::Free => None,
     }
 }

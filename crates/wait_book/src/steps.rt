@@ -17,8 +17,8 @@ pub enum MakeRefused {
     /// No place, or over 64.
     #[error("a monitor has 1 to 64 places")]
     BadPlaces,
-    /// No condition, or over 8.
-    #[error("a monitor has 1 to 8 conditions")]
+    /// No condition, over 8, or more Mesa conditions than conditions.
+    #[error("a monitor has 1 to 8 conditions, and no more Mesa conditions")]
     BadConditions,
     /// The room for all that it will ever need can't be had.
     #[error("out of memory")]
@@ -38,6 +38,10 @@ pub enum Step {
     Pass(u64, u64),
     /// A place goes out.
     Leave(u64),
+    /// A place calls the process that a signal on a Mesa condition would resume, if one waits there.
+    Notify(u64, u64),
+    /// A place calls all that wait on a Mesa condition.
+    Broadcast(u64, u64),
 }
 
 /// Why a step isn't done. The first that applies is answered, and nothing changes.
@@ -58,4 +62,7 @@ pub enum StepRefused {
     /// The condition's number is that of none.
     #[error("there is no such condition")]
     NoCondition,
+    /// A signal or a pass on a Mesa condition, or a notify or a broadcast on one of Hoare's.
+    #[error("the condition is of the other kind")]
+    WrongKind,
 }

@@ -2,7 +2,7 @@
 use Rattle.std.specs.Prelude.{List, map}
 use Rattle.hoare_law.specs.declared.event.Event.{Event}
 use Rattle.hoare_law.specs.declared.event.History.{History}
-use Rattle.hoare_law.specs.declared.event.Event.TheVariants.{Admit, Wait, Signal, Pass, Leave, Resume, Back}
+use Rattle.hoare_law.specs.declared.event.Event.TheVariants.{Admit, Wait, Signal, Pass, Leave, Resume, Back, Notify, Broadcast}
 
 abbrev pub without_data : {S : Type 0} → Event S → Event (Unit {0})
 without_data (Admit k s) = Admit k tt
@@ -12,10 +12,12 @@ without_data (Pass k c w s) = Pass k c w tt
 without_data (Leave k s) = Leave k tt
 without_data (Resume k c s) = Resume k c tt
 without_data (Back k s) = Back k tt
+without_data (Notify k c w s) = Notify k c w tt
+without_data (Broadcast k c s) = Broadcast k c tt
 
 abbrev pub all_without_data : {S : Type 0} → List (Event S) → List (Event (Unit {0}))
 all_without_data h = map without_data h
 
 -- the history of the queues alone
 abbrev pub erased : {S : Type 0} → History S → History (Unit {0})
-erased h = record { places = h.places; conditions = h.conditions; opening = tt; events = all_without_data h.events }
+erased h = record { places = h.places; conditions = h.conditions; mesa = h.mesa; opening = tt; events = all_without_data h.events }

@@ -30,6 +30,7 @@ pub fn with_answers<R: Abort, D: MonitorData + Drop + Send, const N: usize>(
 ) -> (Fake<D>, FakeOut<D>)
     requires rest { D.rest state nobody }
     requires conditions { (1 ≤ D.CONDITIONS) × (D.CONDITIONS ≤ 8) }
+    requires mesa { D.MESA ≤ D.CONDITIONS }
     ensures { ⟦<Fake<D> as Monitor<D>>⟧.is_of result.0 result.1 }
 {
     let Ok(answers) = VecDeque::from_array(alloc, answers) else {

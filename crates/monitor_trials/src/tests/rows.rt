@@ -8,6 +8,7 @@ pub mod head;
 mod head_stress;
 mod history;
 mod late_reader;
+mod mesa;
 mod pool_stress;
 pub mod readers;
 mod readers_stress;

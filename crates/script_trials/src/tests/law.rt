@@ -37,7 +37,7 @@ fn newcomers_come_last<S>()
 {
     laws::nothing_intervenes::<S>();
     laws::admitted_from_outside::<S>();
-    laws::signallers_first::<S>();
+    laws::newcomers_last::<S>();
 }
 
 // That the calls return is all that a run can show of a law; what they say, the clauses of `newcomers_come_last` are proved by.

@@ -13,6 +13,10 @@ use std::test::Fail;
 const HAND_OVER: &[u8] =
     b"monitor 2 1\nenter 0\nwait 0 0 0\nenter 1\nsignal 1 0\nleave 0\nleave 1\n";
 
+// Three wait on a Mesa condition, a fourth calls all of them, and a fifth comes behind them.
+const BROADCAST: &[u8] =
+    b"monitor 5 1 1\nenter 0\nwait 0 0 2\nenter 1\nwait 1 0 1\nenter 2\nwait 2 0 1\nenter 3\nbroadcast 3 0\nenter 4\nleave 3\nenter 4\nleave 1\nleave 2\nleave 0\nenter 4\nleave 4\n";
+
 // What a script is drawn as, and how it ends.
 fn drawn(alloc: Global, script: &[u8], form: Form) -> (Result<(), PictureFault>, Vec<u8>) {
     let mut reader = script;

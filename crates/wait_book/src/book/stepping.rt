@@ -11,9 +11,11 @@ impl Book {
     ghost use Rattle.hoare_law.specs.declared.turn.Turn.TheVariants as turns;
     ghost use Rattle.wait_book.specs.declared.steps.StepRefused.{StepRefused};
     ghost use Rattle.wait_book.specs.Contents.{IsOf, SameSizes, next_of, times_in};
-    ghost use Rattle.wait_book.specs.Stepping.{IsSettled, act_refusal, after_step, condition_refusal, enter_refusal, refusal_of, settled};
+    ghost use Rattle.wait_book.specs.Stepping.{IsOfKind, IsSettled, act_refusal, after_step, condition_refusal, enter_refusal, kind_refusal, refusal_of, settled};
 
-    // Whoever is owed the monitor goes on.
+    // Whoever is owed the monitor goes on. It is called at three places of `try_step`, each of which is to have it in
+    // line.
+    #[inline(always)]
     fn settle(&mut self) -> Next
         ensures next { result ≡ next_of self.new.turn }
         ensures settled { IsSettled result }
@@ -77,6 +79,44 @@ impl Book {
         Ok(condition as usize)
     }
 
+    // The condition, if there is one of this number, and it is one of Hoare's or a Mesa condition as asked.
+    fn condition_of(&self, condition: u64, mesa: bool) -> Result<usize, StepRefused>
+        ensures ok { IfOk result (λ c. (c ≡ condition)
+            × IsOfKind self.now.conditions self.now.mesa mesa c) }
+        ensures of { (h : History (Unit {0})) → IsOf self.now h → MatchResult result
+            (λ _. kind_refusal h mesa condition ≡ None)
+            (λ r. kind_refusal h mesa condition ≡ Some r) }
+    {
+        let condition = self.condition(condition)?;
+        let hoare = condition < self.conditions - self.mesa;
+        if mesa {
+            if hoare {
+                return Err(StepRefused::WrongKind);
+            }
+        } else if !hoare {
+            return Err(StepRefused::WrongKind);
+        }
+        Ok(condition)
+    }
+
+    // The place, if it is inside, and the condition, if there is one of this number and kind.
+    fn holder_of(
+        &self,
+        place: u64,
+        condition: u64,
+        mesa: bool,
+    ) -> Result<(usize, usize), StepRefused>
+        ensures ok { IfOk result (λ r. (r.0 ≡ place) × (self.now.turn ≡ turns.Held r.0)
+            × (r.1 ≡ condition) × IsOfKind self.now.conditions self.now.mesa mesa r.1) }
+        ensures of { (h : History (Unit {0})) → IsOf self.now h
+            → let refusal = act_refusal h place (kind_refusal h mesa condition) in
+            MatchResult result (λ _. refusal ≡ None) (λ r. refusal ≡ Some r) }
+    {
+        let place = self.holder(place)?;
+        let condition = self.condition_of(condition, mesa)?;
+        Ok((place, condition))
+    }
+
     // The place, if it is inside, and the condition, if there is one of this number.
     fn holder_on(&self, place: u64, condition: u64) -> Result<(usize, usize), StepRefused>
         ensures ok { IfOk result (λ r. (r.0 ≡ place) × (self.now.turn ≡ turns.Held r.0)
@@ -90,9 +130,9 @@ impl Book {
         Ok((place, condition))
     }
 
-    /// Does a step, and then lets the place that is owed the monitor go on, so that the answer is who is inside, or that the
-    /// monitor is free. Refused, in this order: `NoPlace`; `NotFree` and `NotOutside` (an `Enter`); `NotInside` and
-    /// `NoCondition` (the others). A refusal changes nothing.
+    /// Does a step, and then lets the place that is owed the monitor go on, so that the answer is who is inside, or
+    /// that the monitor is free. Refused, in this order: `NoPlace`; `NotFree` and `NotOutside` (an `Enter`);
+    /// `NotInside`, `NoCondition` and `WrongKind` (the others). A refusal changes nothing.
     pub fn try_step(&mut self, step: Step) -> Result<Next, StepRefused>
         ensures of { (h : History (Unit {0})) → IsOf self.old h → MatchResult result
             (λ _. (refusal_of h step ≡ None) × IsOf self.new (after_step h step))
@@ -111,16 +151,28 @@ impl Book {
                 self.wait(place, condition, priority);
             }
             Step::Signal(place, condition) => {
-                let (place, condition) = self.holder_on(place, condition)?;
+                let (place, condition) = self.holder_of(place, condition, false)?;
                 self.signal(place, condition);
+                return Ok(self.settle());
             }
             Step::Pass(place, condition) => {
-                let (place, condition) = self.holder_on(place, condition)?;
+                let (place, condition) = self.holder_of(place, condition, false)?;
                 self.pass(place, condition);
+                return Ok(self.settle());
             }
             Step::Leave(place) => {
                 let place = self.holder(place)?;
                 self.leave(place);
+            }
+            Step::Notify(place, condition) => {
+                let (place, condition) = self.holder_of(place, condition, true)?;
+                self.notify(place, condition);
+                return Ok(Next::Held(place));
+            }
+            Step::Broadcast(place, condition) => {
+                let (place, condition) = self.holder_of(place, condition, true)?;
+                self.broadcast(place, condition);
+                return Ok(Next::Held(place));
             }
         }
         Ok(self.settle())

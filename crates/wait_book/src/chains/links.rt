@@ -40,6 +40,7 @@ impl<'a> Iterator for Links<'a> {
         Some(Link {
             key,
             place: node.place,
+            condition: node.condition,
             priority: node.priority,
         })
     }

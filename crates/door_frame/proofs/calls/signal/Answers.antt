@@ -19,7 +19,7 @@ hand_on-requires-clause-event g c =
     let f = front_of c.inside.inside.seat.me.0 c.inside.inside.alone in
     let h = holds (c.deref_mut.ensures.value ∙ c.parcel.view_is) c.inside.view_is c.inside.invariant c.requires.of in
     let told : IsTrue true → priorities c.args.inside.front.events c.args.condition ≢ [] = (c.if-not-queue.ensures.lists).0 in
-    gives_handing false _ _ _ h c.requires.in_range (told refl) (c.requires.ready (told refl))
+    gives_handing false _ _ _ h c.requires.hoare (told refl) (c.requires.ready (told refl))
     (c.signal-next.ensures.of (erased f) h.book) c.signal-next.ensures.next
 
 pub claim-parcel-requires-clause-small : goal.claim-parcel-requires-clause-small

@@ -28,7 +28,7 @@ hand_on-requires-clause-event g c =
     let f = front_of c.inside.inside.seat.me.0 c.inside.inside.alone in
     let h = holds (c.deref_mut.ensures.value ∙ c.parcel.view_is) c.inside.view_is c.inside.invariant c.requires.of in
     let told : IsTrue true → priorities c.args.inside.front.events c.args.condition ≢ [] = (c.if-not-queue.ensures.lists).0 in
-    gives_handing true _ _ _ h c.requires.in_range (told refl) (c.requires.ready (told refl))
+    gives_handing true _ _ _ h c.requires.hoare (told refl) (c.requires.ready (told refl))
     (c.pass-next.ensures.of (erased f) h.book) c.pass-next.ensures.next
 
 pub of_parts-requires : goal.of_parts-requires
@@ -39,7 +39,7 @@ returns g c =
     let f = front_of c.inside.inside.seat.me.0 c.inside.inside.alone in
     let h = holds (c.deref_mut.ensures.value ∙ c.parcel.view_is) c.inside.view_is c.inside.invariant c.requires.of in
     let told : IsTrue true → priorities c.args.inside.front.events c.args.condition ≢ [] = (c.if-not-queue.ensures.lists).0 in
-    let o = passed c.args.condition _ _ _ _ h c.requires.in_range (told refl) (c.requires.ready (told refl))
+    let o = passed c.args.condition _ _ _ _ h c.requires.hoare (told refl) (c.requires.ready (told refl))
     (c.pass-next.ensures.of (erased f) h.book) c.pass-next.ensures.next
     c.hand_on.ensures.table (c.of_parts.ensures _ (c.hand_on.ensures.away _ h.me_is)) in
     record { of = o.of; place = o.place; told = ((λ _. told refl), λ _. refl); front = o.front }

@@ -20,8 +20,8 @@ enum Kind {
     Mixed,
 }
 
-// 2,000 steps: the chain of a condition is filled in the first half, and emptied in the second, which fills and empties the
-// signallers' chain.
+// 2,000 steps: the chain of a condition is filled in the first half, and emptied in the second, which fills and empties
+// the signallers' chain.
 #[derive(Clone, Copy)]
 struct Part {
     condition: u64,
@@ -54,8 +54,8 @@ fn priority_of(kind: Kind, i: u64, number: u64) -> u64 {
     }
 }
 
-// Any step of the place inside, now and then on a condition that isn't there. Place 0 never waits, so that there is always
-// somebody who can come in.
+// Any step of the place inside, now and then on a condition that isn't there. Place 0 never waits, so that there is
+// always somebody who can come in.
 fn mixed_step(place: u64, number: u64) -> Step {
     let condition = (number >> 16) % 9;
     match (number >> 40) % 8 {
@@ -111,12 +111,12 @@ fn fullest(part: Part) -> (usize, usize) {
     }
 }
 
-// 100,000 steps of 64 places: each of the eight chains, and the signallers' chain, is filled up to 63 and emptied again, with
-// equal, rising, falling and mixed priorities; at last all at once.
+// 100,000 steps of 64 places: each of the eight chains, and the signallers' chain, is filled up to 63 and emptied
+// again, with equal, rising, falling and mixed priorities; at last all at once.
 #[test]
 fn fills_and_empties_all_chains(rt: HostRuntime) -> Result<(), Fail> {
-    let mut book = Book::make(rt.alloc(), 64, 8)?;
-    let mut plain = Plain::new();
+    let mut book = Book::make(rt.alloc(), 64, 8, 0)?;
+    let mut plain = Plain::new(0);
     let mut number = 1;
     let mut most = 0;
     for i in 0..100_000 {
@@ -137,6 +137,46 @@ fn fills_and_empties_all_chains(rt: HostRuntime) -> Result<(), Fail> {
                 "after step {i}"
             );
             assert_eq!(rt; plain.signallers(), 0);
+            most = 0;
+        }
+    }
+    Ok(())
+}
+
+// The place inside waits on one Mesa condition, or all are called and go out.
+fn calling_step(plain: &Plain, fills: bool, number: u64) -> Step {
+    let (Next::Held(inside) | Next::For(inside)) = plain.now() else {
+        return Step::Enter((number >> 32) % 64);
+    };
+    let place = inside as u64;
+    if fills && place != 0 {
+        return Step::Wait(place, 7, (number >> 24) % 4);
+    }
+    if fills || plain.count(7) == 0 {
+        return Step::Leave(place);
+    }
+    if (number >> 40) % 16 == 0 {
+        return Step::Broadcast(place, 7);
+    }
+    Step::Notify(place, 7)
+}
+
+// 10,000 steps: the chain of a Mesa condition is filled up to 63 and emptied into that of the called, by a broadcast or
+// by notifies, and this one is emptied by leaves.
+#[test]
+fn fills_and_empties_the_called(rt: HostRuntime) -> Result<(), Fail> {
+    let mut book = Book::make(rt.alloc(), 64, 8, 1)?;
+    let mut plain = Plain::new(1);
+    let mut number = 1;
+    let mut most = 0;
+    for i in 0..10_000u64 {
+        number = next_number(number);
+        let step = calling_step(&plain, i % 2_000 < 1_000, number);
+        assert_eq!(rt; book.try_step(step), plain.step(step), "step {i}: {step:?}");
+        assert!(rt; is_like(&book, &plain, 7), "after step {i}");
+        most = most.max(plain.called());
+        if i % 2_000 == 1_999 {
+            assert_eq!(rt; (plain.called(), most), (0, 63), "after step {i}");
             most = 0;
         }
     }

@@ -11,9 +11,11 @@ enum Where {
     // On a condition, with a priority.
     Waits(u64, u64, u64),
     Signals(u64),
+    // As the one called with this number.
+    Called(u64),
 }
 
-// One that may go on: its place, its priority and since when it waits.
+// One that may go on: its place, its priority and since when it waits. Signallers have priority 0, and the called 1.
 #[derive(Clone, Copy)]
 struct Candidate {
     place: usize,
@@ -29,21 +31,25 @@ fn preferred(best: Option<Candidate>, other: Candidate) -> Candidate {
     }
 }
 
-/// A monitor of 64 places and 8 conditions, told by where its places are.
+/// A monitor of 64 places and 8 conditions, of which the last `mesa` are Mesa conditions, told by where its places are.
 #[derive(Drop)]
 pub struct Plain {
     places: [Where; 64],
     inside: Option<usize>,
     steps: u64,
+    mesa: u64,
+    calls: u64,
 }
 
 impl Plain {
     /// Nobody is inside, and nobody waits.
-    pub fn new() -> Plain {
+    pub fn new(mesa: u64) -> Plain {
         Plain {
             places: [Where::Outside; 64],
             inside: None,
             steps: 0,
+            mesa,
+            calls: 0,
         }
     }
 
@@ -80,20 +86,23 @@ impl Plain {
         best.map(|one| one.place)
     }
 
-    // The signaller that waits longest.
+    // The signaller that waits longest, else the one that was called first.
     fn longest(&self) -> Option<usize> {
         let mut best = None;
         for (place, at) in self.places.iter().enumerate() {
-            if let Where::Signals(since) = *at {
-                best = Some(preferred(
-                    best,
-                    Candidate {
-                        place,
-                        priority: 0,
-                        since,
-                    },
-                ));
-            }
+            let (priority, since) = match *at {
+                Where::Signals(since) => (0, since),
+                Where::Called(number) => (1, number),
+                _ => continue,
+            };
+            best = Some(preferred(
+                best,
+                Candidate {
+                    place,
+                    priority,
+                    since,
+                },
+            ));
         }
         best.map(|one| one.place)
     }
@@ -120,6 +129,14 @@ impl Plain {
         found
     }
 
+    /// How many were called and haven't gone on.
+    pub fn called(&self) -> usize {
+        self.places
+            .iter()
+            .filter(|at| matches!(**at, Where::Called(_)))
+            .count()
+    }
+
     /// How many signallers wait.
     pub fn signallers(&self) -> usize {
         self.places
@@ -134,7 +151,7 @@ impl Plain {
         self.inside = Some(place);
     }
 
-    // The monitor is given up: to the signaller that waits longest, or nobody.
+    // The monitor is given up: to the signaller that waits longest, to the one that was called first, or nobody.
     fn give_up(&mut self) {
         self.inside = None;
         if let Some(place) = self.longest() {
@@ -179,6 +196,15 @@ impl Plain {
         Ok(place)
     }
 
+    // The place inside that acts on a condition, if that is a Mesa condition, or one of Hoare's, as asked.
+    fn actor_of(&self, place: u64, condition: u64, mesa: bool) -> Result<usize, StepRefused> {
+        let place = self.actor(place, condition)?;
+        if (condition.saturating_add(self.mesa) >= 8) != mesa {
+            return Err(StepRefused::WrongKind);
+        }
+        Ok(place)
+    }
+
     fn wait(&mut self, place: u64, condition: u64, priority: u64) -> Result<(), StepRefused> {
         let place = self.actor(place, condition)?;
         self.put(place, Where::Waits(condition, priority, self.steps));
@@ -187,7 +213,7 @@ impl Plain {
     }
 
     fn signal(&mut self, place: u64, condition: u64) -> Result<(), StepRefused> {
-        let place = self.actor(place, condition)?;
+        let place = self.actor_of(place, condition, false)?;
         if let Some(resumed) = self.chosen(condition) {
             self.put(place, Where::Signals(self.steps));
             self.go_on(resumed);
@@ -196,12 +222,34 @@ impl Plain {
     }
 
     fn pass(&mut self, place: u64, condition: u64) -> Result<(), StepRefused> {
-        let place = self.actor(place, condition)?;
+        let place = self.actor_of(place, condition, false)?;
         let resumed = self.chosen(condition);
         self.put(place, Where::Outside);
         match resumed {
             Some(successor) => self.go_on(successor),
             None => self.give_up(),
+        }
+        Ok(())
+    }
+
+    // The one that a signal would resume is called, if one waits.
+    fn call(&mut self, condition: u64) {
+        if let Some(called) = self.chosen(condition) {
+            self.put(called, Where::Called(self.calls));
+            self.calls = self.calls.wrapping_add(1);
+        }
+    }
+
+    fn notify(&mut self, place: u64, condition: u64) -> Result<(), StepRefused> {
+        self.actor_of(place, condition, true)?;
+        self.call(condition);
+        Ok(())
+    }
+
+    fn broadcast(&mut self, place: u64, condition: u64) -> Result<(), StepRefused> {
+        self.actor_of(place, condition, true)?;
+        for _ in 0..self.count(condition) {
+            self.call(condition);
         }
         Ok(())
     }
@@ -212,6 +260,8 @@ impl Plain {
             Step::Wait(place, condition, priority) => self.wait(place, condition, priority),
             Step::Signal(place, condition) => self.signal(place, condition),
             Step::Pass(place, condition) => self.pass(place, condition),
+            Step::Notify(place, condition) => self.notify(place, condition),
+            Step::Broadcast(place, condition) => self.broadcast(place, condition),
             Step::Leave(place) => {
                 let place = self.holder(place)?;
                 self.put(place, Where::Outside);

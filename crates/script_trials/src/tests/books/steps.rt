@@ -9,14 +9,15 @@ use wait_book::steps::{MakeRefused, Next, Step, StepRefused};
 
 #[test]
 fn make_refuses_in_order(rt: HostRuntime) {
-    for (places, conditions, want) in [
-        (0, 1, MakeRefused::BadPlaces),
-        (65, 9, MakeRefused::BadPlaces),
-        (1, 9, MakeRefused::BadConditions),
-        (1, 0, MakeRefused::BadConditions),
+    for (places, conditions, mesa, want) in [
+        (0, 1, 2, MakeRefused::BadPlaces),
+        (65, 9, 0, MakeRefused::BadPlaces),
+        (1, 9, 0, MakeRefused::BadConditions),
+        (1, 0, 0, MakeRefused::BadConditions),
+        (1, 1, 2, MakeRefused::BadConditions),
     ] {
         assert_eq!(rt;
-            Book::make(rt.alloc(), places, conditions).err(),
+            Book::make(rt.alloc(), places, conditions, mesa).err(),
             Some(want)
         );
     }
@@ -24,7 +25,7 @@ fn make_refuses_in_order(rt: HostRuntime) {
 
 #[test]
 fn make_takes_the_most(rt: HostRuntime) -> Result<(), Fail> {
-    let book = Book::make(rt.alloc(), 64, 8)?;
+    let book = Book::make(rt.alloc(), 64, 8, 8)?;
     assert!(rt; book.now() == Next::Free && book.outside(63));
     assert!(rt; !book.queue(7) && book.first(7).is_none() && book.count(7) == 0);
     Ok(())
@@ -38,7 +39,7 @@ fn answers<R: Abort>(rt: &R, book: &mut Book, step: Step, want: Result<Next, Ste
 
 #[test]
 fn steps_go_by_priority_then_time(rt: HostRuntime) -> Result<(), Fail> {
-    let mut book = Book::make(rt.alloc(), 5, 2)?;
+    let mut book = Book::make(rt.alloc(), 5, 2, 0)?;
     for (step, want) in [
         (Step::Enter(0), Next::Held(0)),
         (Step::Wait(0, 1, 7), Next::Free),
@@ -63,7 +64,7 @@ fn steps_go_by_priority_then_time(rt: HostRuntime) -> Result<(), Fail> {
 
 #[test]
 fn a_book_in_use_answers(rt: HostRuntime) -> Result<(), Fail> {
-    let mut book = Book::make(rt.alloc(), 4, 2)?;
+    let mut book = Book::make(rt.alloc(), 4, 2, 0)?;
     let first = (
         book.try_step(Step::Enter(0)),
         book.try_step(Step::Wait(0, 1, 9)),
@@ -85,7 +86,7 @@ fn a_book_in_use_answers(rt: HostRuntime) -> Result<(), Fail> {
 
 #[test]
 fn steps_are_refused_in_order(rt: HostRuntime) -> Result<(), Fail> {
-    let mut book = Book::make(rt.alloc(), 3, 1)?;
+    let mut book = Book::make(rt.alloc(), 3, 1, 0)?;
     for (step, want) in [
         (Step::Enter(3), Err(StepRefused::NoPlace)),
         (Step::Leave(u64::MAX), Err(StepRefused::NoPlace)),
@@ -108,10 +109,36 @@ fn steps_are_refused_in_order(rt: HostRuntime) -> Result<(), Fail> {
     Ok(())
 }
 
+// The kind of the condition is looked at last. Where nobody waits, each of the steps that suit it leaves its place
+// inside.
+#[test]
+fn kinds_are_refused_last(rt: HostRuntime) -> Result<(), Fail> {
+    let mut book = Book::make(rt.alloc(), 3, 2, 1)?;
+    for (step, want) in [
+        (Step::Notify(3, 2), Err(StepRefused::NoPlace)),
+        (Step::Broadcast(0, 2), Err(StepRefused::NotInside)),
+        (Step::Notify(0, 0), Err(StepRefused::NotInside)),
+        (Step::Enter(0), Ok(Next::Held(0))),
+        (Step::Notify(0, 2), Err(StepRefused::NoCondition)),
+        (Step::Broadcast(0, 2), Err(StepRefused::NoCondition)),
+        (Step::Notify(0, 0), Err(StepRefused::WrongKind)),
+        (Step::Broadcast(0, 0), Err(StepRefused::WrongKind)),
+        (Step::Signal(0, 1), Err(StepRefused::WrongKind)),
+        (Step::Pass(0, 1), Err(StepRefused::WrongKind)),
+        (Step::Notify(0, 1), Ok(Next::Held(0))),
+        (Step::Broadcast(0, 1), Ok(Next::Held(0))),
+        (Step::Signal(0, 0), Ok(Next::Held(0))),
+        (Step::Wait(0, 1, 0), Ok(Next::Free)),
+    ] {
+        answers(&rt, &mut book, step, want);
+    }
+    Ok(())
+}
+
 // Each call of its own, with what it asks for proved of the history so far.
 #[test]
 fn calls_hand_the_monitor_on(rt: HostRuntime) -> Result<(), Fail> {
-    let mut book = Book::make(rt.alloc(), 3, 2)?;
+    let mut book = Book::make(rt.alloc(), 3, 2, 0)?;
     book.admit(0);
     assert_eq!(rt; book.wait(0, 1, 7), Next::Free);
     book.admit(1);
@@ -128,8 +155,8 @@ fn calls_hand_the_monitor_on(rt: HostRuntime) -> Result<(), Fail> {
     Ok(())
 }
 
-// A newcomer's step, or one of the place inside, which waits in `waits` of 8 cases. Place 0 never waits, so that there is
-// always somebody who can come in.
+// A newcomer's step, or one of the place inside, which waits in `waits` of 8 cases. Place 0 never waits, so that there
+// is always somebody who can come in.
 fn mixed_step(now: Next, waits: u64, number: u64) -> Step {
     let condition = (number >> 16) % 8;
     let priority = (number >> 24) % 4;
@@ -150,17 +177,44 @@ fn mixed_step(now: Next, waits: u64, number: u64) -> Step {
     }
 }
 
-// 10,000 steps of 64 places on 8 conditions, by turns with many and with few waits, each answered as the definitions' filters
-// answer it. No step asks for memory: `rt try --test --fail-alloc N` passes with this test from the same N on as without.
+// 10,000 steps of 64 places on 8 conditions, by turns with many and with few waits, each answered as the definitions'
+// filters answer it. No step asks for memory: `rt try --test --fail-alloc N` passes with this test from the same N on
+// as without.
 #[test]
 fn long_mixed_run(rt: HostRuntime) -> Result<(), Fail> {
-    let mut book = Book::make(rt.alloc(), 64, 8)?;
-    let mut plain = Plain::new();
+    let mut book = Book::make(rt.alloc(), 64, 8, 0)?;
+    let mut plain = Plain::new(0);
     let mut number = 1;
     for i in 0..10_000 {
         number = next_number(number);
         let waits = if i % 2_000 < 1_000 { 5 } else { 2 };
         let step = mixed_step(plain.now(), waits, number);
+        assert_eq!(rt; book.try_step(step), plain.step(step), "step {i}: {step:?}");
+    }
+    Ok(())
+}
+
+// The same with notifies and broadcasts on the last four conditions.
+fn mesa_step(step: Step, number: u64) -> Step {
+    match step {
+        Step::Signal(place, condition) if condition >= 4 => Step::Notify(place, condition),
+        Step::Pass(place, condition) if condition >= 4 && number % 2 == 0 => {
+            Step::Broadcast(place, condition)
+        }
+        _ => step,
+    }
+}
+
+// As `long_mixed_run`, on four conditions of each kind. A pass on a Mesa condition is refused now and then.
+#[test]
+fn long_mesa_run(rt: HostRuntime) -> Result<(), Fail> {
+    let mut book = Book::make(rt.alloc(), 64, 8, 4)?;
+    let mut plain = Plain::new(4);
+    let mut number = 1;
+    for i in 0..10_000 {
+        number = next_number(number);
+        let waits = if i % 2_000 < 1_000 { 5 } else { 2 };
+        let step = mesa_step(mixed_step(plain.now(), waits, number), number);
         assert_eq!(rt; book.try_step(step), plain.step(step), "step {i}: {step:?}");
     }
     Ok(())

@@ -10,7 +10,7 @@ fn making_is_refused_plainly(rt: HostRuntime) -> Result<(), Fail> {
     reads(
         &rt,
         &MakeRefused::BadConditions,
-        "a monitor has 1 to 8 conditions",
+        "a monitor has 1 to 8 conditions, and no more Mesa conditions",
     )?;
     reads(&rt, &MakeRefused::Memory, "out of memory")
 }
@@ -25,5 +25,10 @@ fn steps_are_refused_plainly(rt: HostRuntime) -> Result<(), Fail> {
         "the place waits on a condition",
     )?;
     reads(&rt, &StepRefused::NotInside, "the place isn't inside")?;
-    reads(&rt, &StepRefused::NoCondition, "there is no such condition")
+    reads(&rt, &StepRefused::NoCondition, "there is no such condition")?;
+    reads(
+        &rt,
+        &StepRefused::WrongKind,
+        "the condition is of the other kind",
+    )
 }

@@ -1,6 +1,6 @@
 //! Lines of a form, and how a text is put together.
 use arrayvec::ArrayVec;
-use line_text::forms::{one_number, two_numbers};
+use line_text::forms::{one_number, three_numbers, two_numbers};
 use line_text::text::{append, append_number};
 
 #[test]
@@ -33,6 +33,21 @@ fn two_after_a_word(rt: HostRuntime) {
     ];
     for (line, wanted) in lines {
         assert_eq!(rt; two_numbers(line, b"disk"), wanted);
+    }
+}
+
+#[test]
+fn three_after_a_word(rt: HostRuntime) {
+    let lines: [(&[u8], Option<(u64, u64, u64)>); 6] = [
+        (b"monitor 4 2 1", Some((4, 2, 1))),
+        (b"monitor 1 2 4", Some((1, 2, 4))),
+        (b"monitor 4 2", None),
+        (b"monitor 4 2 x", None),
+        (b"monitor 4 2 1 0", None),
+        (b"Monitor 4 2 1", None),
+    ];
+    for (line, wanted) in lines {
+        assert_eq!(rt; three_numbers(line, b"monitor"), wanted);
     }
 }
 

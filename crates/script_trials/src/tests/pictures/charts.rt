@@ -1,5 +1,5 @@
 //! Charts that were drawn by hand.
-use super::{HAND_OVER, drawn_whole, is_drawn, sixty_four_waits};
+use super::{BROADCAST, HAND_OVER, drawn_whole, is_drawn, sixty_four_waits};
 use script_picture::picture::Form;
 use std::io::Write;
 use std::test::Fail;
@@ -72,7 +72,76 @@ enter 1        .       c1:5    .       .
     is_drawn(&rt, script, Ok(()), lines);
 }
 
-// Lanes that have no room side by side: two of them are 29 + 4 + 23 + 4 + 23 long with the step, and 3 more for an arrow.
+#[test]
+fn broadcast_as_text(rt: HostRuntime) {
+    let lines = b"monitor 5 1 1    0       1       2       3       4
+enter 0          [in]    .       .       .       .
+wait 0 0 2       c0:2    .       .       .       .       -> free
+enter 1          c0:2    [in]    .       .       .
+wait 1 0 1       c0:2    c0:1    .       .       .       -> free
+enter 2          c0:2    c0:1    [in]    .       .
+wait 2 0 1       c0:2    c0:1    c0:1    .       .       -> free
+enter 3          c0:2    c0:1    c0:1    [in]    .
+broadcast 3 0    call <~ call <~ call <~ [in]    .
+enter 4          call    call    call    [in]    .
+    -> refused 2 (the monitor isn't free)
+leave 3          call    [in] <- call -- .       .
+enter 4          call    [in]    call    .       .
+    -> refused 2 (the monitor isn't free)
+leave 1          call    . ----> [in]    .       .
+leave 2          [in] <- . ----- .       .       .
+leave 0          .       .       .       .       .       -> free
+enter 4          .       .       .       .       [in]
+leave 4          .       .       .       .       .       -> free
+";
+    is_drawn(&rt, BROADCAST, Ok(()), lines);
+}
+
+// A notify is an arrow that hands nothing over, and a signaller goes on before the one that is called.
+#[test]
+fn notify_as_text(rt: HostRuntime) {
+    let script =
+        b"monitor 4 2 1\nenter 0\nwait 0 0 0\nenter 1\nwait 1 1 0\nenter 2\nsignal 2 0\nnotify 0 0\nnotify 0 1\nleave 0\nleave 2\nleave 1\n";
+    let lines = b"monitor 4 2 1    0       1       2       (1 idle)
+enter 0          [in]    .       .
+wait 0 0 0       c0:0    .       .       -> free
+enter 1          c0:0    [in]    .
+wait 1 1 0       c0:0    c1:0    .       -> free
+enter 2          c0:0    c1:0    [in]
+signal 2 0       [in] <- c1:0 -- sig
+notify 0 0       [in]    c1:0    sig
+    -> refused 6 (the condition is of the other kind)
+notify 0 1       [in] ~> call    sig
+leave 0          . ----- call -> [in]
+leave 2          .       [in] <- .
+leave 1          .       .       .       -> free
+";
+    is_drawn(&rt, script, Ok(()), lines);
+}
+
+// Of two that wait with one priority a notify calls the one that waits longer, on whichever side it is, and of three on
+// another condition nobody.
+#[test]
+fn notified_in_order_as_text(rt: HostRuntime) {
+    let script =
+        b"monitor 4 2 2\nenter 3\nwait 3 0 1\nenter 0\nwait 0 0 1\nenter 1\nwait 1 1 0\nenter 2\nnotify 2 0\nnotify 2 0\nnotify 2 0\n";
+    let lines = b"monitor 4 2 2    0       1       2       3
+enter 3          .       .       .       [in]
+wait 3 0 1       .       .       .       c0:1    -> free
+enter 0          [in]    .       .       c0:1
+wait 0 0 1       c0:1    .       .       c0:1    -> free
+enter 1          c0:1    [in]    .       c0:1
+wait 1 1 0       c0:1    c1:0    .       c0:1    -> free
+enter 2          c0:1    c1:0    [in]    c0:1
+notify 2 0       c0:1    c1:0    [in] ~> call
+notify 2 0       call <~ c1:0 ~~ [in]    call
+notify 2 0       call    c1:0    [in]    call
+";
+    is_drawn(&rt, script, Ok(()), lines);
+}
+
+// Lanes that have no room side by side: two of them are 29 + 4 + 23 + 4 + 23 long with the step, and 3 more for an
+// arrow.
 #[test]
 fn folded_lanes_as_text(rt: HostRuntime) {
     let script =
@@ -100,9 +169,9 @@ leave 2                          c0:18446744073709551615    .       -> free
     is_drawn(&rt, script, Ok(()), lines);
 }
 
-// A lane stands beside another where the line has 80 letters at most with an arrow behind it, and so does a remark. The step has 29
-// letters, the first lane 4 + 23 and the second 4 + 3 and the digits of its priority: with 14 digits and 3 for an arrow that is 80. With 6
-// digits it is 69, and `-> free` is 4 + 7 more.
+// A lane stands beside another where the line has 80 letters at most with an arrow behind it, and so does a remark. The
+// step has 29 letters, the first lane 4 + 23 and the second 4 + 3 and the digits of its priority: with 14 digits and 3
+// for an arrow that is 80. With 6 digits it is 69, and `-> free` is 4 + 7 more.
 #[test]
 fn lines_of_eighty_as_text(rt: HostRuntime) -> Result<(), Fail> {
     for (priority, end) in [

@@ -1,12 +1,13 @@
 //! SVGs that were worked out by hand.
-use super::{HAND_OVER, drawn_whole, sixty_four_waits, times};
+use super::{BROADCAST, HAND_OVER, drawn_whole, sixty_four_waits, times};
 use script_picture::picture::Form;
 use std::test::Fail;
 
-// The whole picture of `HAND_OVER`, worked out by hand from the measures in the README. The longest step has 11 letters of 8 after a
-// margin of 20, and a box of 7 letters is 68 wide: so the lanes stand at 20 + 88 + 24 + 34 = 166 and 68 + 44 = 112 further, at
-// 278, and remarks begin at 278 + 34 + 16 = 328. Rows are 28 high from 64 on, so that the last one ends at 232 and the page at 336.
-// A box has 3 free above and below; an arrow runs along a row's middle, and its head is 8 long.
+// The whole picture of `HAND_OVER`, worked out by hand from the measures in the README. The longest step has 11 letters
+// of 8 after a margin of 20, and a box of 7 letters is 68 wide: so the lanes stand at 20 + 88 + 24 + 34 = 166 and 68 +
+// 44 = 112 further, at 278, and remarks begin at 278 + 34 + 16 = 328. Rows are 28 high from 64 on, so that the last one
+// ends at 232 and the page at 336. A box has 3 free above and below; an arrow runs along a row's middle, and its head
+// is 8 long.
 const HAND_OVER_DRAWN: &[u8] =
     b"<svg xmlns=\"http://www.w3.org/2000/svg\" width=\"560\" height=\"336\" viewBox=\"0 0 560 336\" role=\"img\" aria-labelledby=\"title\" aria-describedby=\"about\">
 <title id=\"title\">A monitor with 2 places and 1 condition, in a script of 6 steps</title>
@@ -77,10 +78,11 @@ fn hand_over_as_svg(rt: HostRuntime) {
     assert!(rt; text.as_slice() == HAND_OVER_DRAWN);
 }
 
-// Each lane as wide as its own texts. The longest step has 30 letters, so that lane 1 begins at 20 + 240 + 24 = 284; its longest text
-// is its name, of 7 letters of 8 with 6 at each side: it is 68 wide, and its middle is 318. Lane 13 begins 44 behind it, at 396, and
-// its longest text has 24 letters: it is 204 wide, and its middle is 498. Remarks begin 16 behind it, at 616, and the longest has 37
-// letters: the width is 616 + 296 + 20 = 932. Eight rows end at 288, and the page at 392. The other twelve places are idle.
+// Each lane as wide as its own texts. The longest step has 30 letters, so that lane 1 begins at 20 + 240 + 24 = 284;
+// its longest text is its name, of 7 letters of 8 with 6 at each side: it is 68 wide, and its middle is 318. Lane 13
+// begins 44 behind it, at 396, and its longest text has 24 letters: it is 204 wide, and its middle is 498. Remarks
+// begin 16 behind it, at 616, and the longest has 37 letters: the width is 616 + 296 + 20 = 932. Eight rows end at 288,
+// and the page at 392. The other twelve places are idle.
 #[test]
 fn wide_and_idle_lanes_as_svg(rt: HostRuntime) {
     let script =
@@ -122,9 +124,38 @@ fn wide_and_idle_lanes_as_svg(rt: HostRuntime) {
     assert_eq!(rt; times(text.as_slice(), b"class=\"head\""), 2);
 }
 
-// One wide lane leaves the others as they are: 20 + 29 * 8 + 24 = 276, then a lane of 204, 9 of 68 and 54 of 76 (their names have two
-// digits) with 63 gaps of 44, which is 7,692, then 16, a remark of 7 letters and 20. With 64 wide lanes, the widest picture that there
-// is but for longer steps and remarks: 20 + 30 * 8 + 24, then 64 * 204 + 63 * 44 = 15,828, then 16 + 56 + 20.
+// The longest step has 13 letters, so that the lanes stand at 20 + 104 + 24 + 34 = 182 and 112 further each, and
+// remarks begin at 630 + 34 + 16 = 680; the longest has 37 letters. The broadcast is the eighth row, from 260 on: its
+// arrows run at 274, from the side of place 3's box, at 518 - 34 = 484. Place 0 is called in five rows, place 1 in two
+// and place 2 in four. Sixteen rows end at 512.
+#[test]
+fn broadcast_as_svg(rt: HostRuntime) {
+    let text = drawn_whole(&rt, BROADCAST, Form::Svg);
+    for part in [
+        "<svg xmlns=\"http://www.w3.org/2000/svg\" width=\"996\" height=\"616\" viewBox=\"0 0 996 616\" role=\"img\"",
+        ">A monitor with 5 places and 1 condition (1 Mesa), in a script of 16 steps</title>",
+        " and 5 lanes, one for each place that comes in, with 3 hand-overs, 3 calls and 2 refusals.</desc>",
+        "<text class=\"title\" x=\"20\" y=\"42\">monitor 5 1 1</text>",
+        "<path class=\"arrow call\" d=\"M484 274H224\"/><path class=\"tip\" d=\"M216 274l9-5v10z\"/>",
+        "<path class=\"arrow call\" d=\"M484 274H336\"/><path class=\"tip\" d=\"M328 274l9-5v10z\"/>",
+        "<path class=\"arrow call\" d=\"M484 274H448\"/><path class=\"tip\" d=\"M440 274l9-5v10z\"/>",
+        "<rect class=\"called\" x=\"148\" y=\"263\" width=\"68\" height=\"134\" rx=\"4\"/>",
+        "<rect class=\"called\" x=\"260\" y=\"263\" width=\"68\" height=\"50\" rx=\"4\"/>",
+        "<rect class=\"called\" x=\"372\" y=\"263\" width=\"68\" height=\"106\" rx=\"4\"/>",
+        // the legend
+        "<path class=\"arrow call\" d=\"M350 593H396\"/><path class=\"tip\" d=\"M404 593l-9-5v10z\"/>",
+        "<rect class=\"called\" x=\"404\" y=\"582\" width=\"68\" height=\"22\" rx=\"4\"/>",
+        "<text class=\"note\" x=\"482\" y=\"597\">is called, and goes on later</text>",
+    ] {
+        assert_eq!(rt; times(text.as_slice(), part.as_bytes()), 1, "at {part}");
+    }
+    assert_eq!(rt; times(text.as_slice(), b"class=\"arrow call\""), 4);
+}
+
+// One wide lane leaves the others as they are: 20 + 29 * 8 + 24 = 276, then a lane of 204, 9 of 68 and 54 of 76 (their
+// names have two digits) with 63 gaps of 44, which is 7,692, then 16, a remark of 7 letters and 20. With 64 wide lanes,
+// the widest picture that there is but for longer steps and remarks: 20 + 30 * 8 + 24, then 64 * 204 + 63 * 44 =
+// 15,828, then 16 + 56 + 20.
 #[test]
 fn widths_of_sixty_four_lanes(rt: HostRuntime) -> Result<(), Fail> {
     for (greatest, want) in [(false, " width=\"8060\" "), (true, " width=\"16204\" ")] {

@@ -10,9 +10,11 @@ use std::test::Fail;
 
 const SCRIPTS: u64 = 4000;
 
+const MESA_SCRIPTS: u64 = 1000;
+
 const LINES: usize = 50;
 
-// What a place did. It signals or passes to the place that is resumed.
+// What a place did. It signals or passes to the place that is resumed, and notifies the one that is called.
 #[derive(Clone, Copy, PartialEq, Eq)]
 enum Deed {
     Enters,
@@ -20,6 +22,8 @@ enum Deed {
     Signals { resumed: u64 },
     Passes { resumed: u64 },
     Leaves,
+    Notifies { called: u64 },
+    Broadcasts { on: u64 },
     GoesOn,
     IsBack,
 }
@@ -31,10 +35,13 @@ struct Happening {
 }
 
 impl Happening {
-    fn resumes(self, place: u64) -> bool {
+    // Whether the place, which waits on a condition, waits there no longer.
+    fn ends_wait(self, place: u64, condition: u64) -> bool {
         match self.deed {
             Deed::Signals { resumed } | Deed::Passes { resumed } => resumed == place,
-            _ => false,
+            Deed::Notifies { called } => called == place,
+            Deed::Broadcasts { on } => on == condition || self.place == place,
+            _ => self.place == place,
         }
     }
 }
@@ -46,6 +53,8 @@ enum Line {
     Signal(u64, u64),
     Pass(u64, u64),
     Leave(u64),
+    Notify(u64, u64),
+    Broadcast(u64, u64),
     Queue(u64),
     First(u64),
 }
@@ -57,6 +66,8 @@ fn spell<W: Write>(to: &mut W, line: Line) -> io::Result<()> {
         Line::Signal(place, condition) => write!(to, "signal {place} {condition}"),
         Line::Pass(place, condition) => write!(to, "pass {place} {condition}"),
         Line::Leave(place) => write!(to, "leave {place}"),
+        Line::Notify(place, condition) => write!(to, "notify {place} {condition}"),
+        Line::Broadcast(place, condition) => write!(to, "broadcast {place} {condition}"),
         Line::Queue(condition) => write!(to, "queue {condition}"),
         Line::First(condition) => write!(to, "first {condition}"),
     }
@@ -66,6 +77,7 @@ fn spell<W: Write>(to: &mut W, line: Line) -> io::Result<()> {
 struct Machine {
     places: u64,
     conditions: u64,
+    mesa: u64,
     past: Vec<Happening>,
 }
 
@@ -74,7 +86,11 @@ impl Machine {
     fn inside(&self) -> Option<u64> {
         let last = self.past.last()?;
         match last.deed {
-            Deed::Enters | Deed::GoesOn | Deed::IsBack => Some(last.place),
+            Deed::Enters
+            | Deed::GoesOn
+            | Deed::IsBack
+            | Deed::Notifies { .. }
+            | Deed::Broadcasts { .. } => Some(last.place),
             _ => None,
         }
     }
@@ -84,18 +100,23 @@ impl Machine {
         last.is_none_or(|h| matches!(h.deed, Deed::Leaves | Deed::Passes { .. }))
     }
 
-    // Whether the place did nothing after that event, and nobody resumed it.
+    // Whether the place did nothing after that event.
     fn is_idle_since(&self, at: usize, place: u64) -> bool {
         let later = self.past.iter().skip(at.saturating_add(1));
-        later
-            .copied()
-            .all(|h| h.place != place && !h.resumes(place))
+        later.copied().all(|h| h.place != place)
     }
 
-    // Whom a signal would resume, and its priority: of those that wait, the first that no other undercuts.
-    fn chosen(&self, on: u64) -> Option<(u64, u64)> {
+    // Whether the place, which waits on a condition since one event, waits there before another.
+    fn waits_between(&self, at: usize, end: usize, place: u64, condition: u64) -> bool {
+        let later = self.past.iter().take(end).skip(at.saturating_add(1));
+        later.copied().all(|h| !h.ends_wait(place, condition))
+    }
+
+    // Of those that waited on a condition before an event and did nothing after it, the first that no other undercuts,
+    // and its priority.
+    fn least(&self, end: usize, on: u64) -> Option<(u64, u64)> {
         let mut chosen = None;
-        for (at, happening) in self.past.iter().enumerate() {
+        for (at, happening) in self.past.iter().take(end).enumerate() {
             let Deed::Waits {
                 condition,
                 priority,
@@ -107,11 +128,41 @@ impl Machine {
                 Some((_, least)) => priority < least,
                 None => true,
             };
-            if condition == on && is_less && self.is_idle_since(at, happening.place) {
-                chosen = Some((happening.place, priority));
+            let place = happening.place;
+            let waits = condition == on && self.waits_between(at, end, place, on);
+            if is_less && waits && self.is_idle_since(end, place) {
+                chosen = Some((place, priority));
             }
         }
         chosen
+    }
+
+    // Whom a signal would resume, and its priority.
+    fn chosen(&self, on: u64) -> Option<(u64, u64)> {
+        self.least(self.past.len(), on)
+    }
+
+    // Of those that an event called, the first that did nothing after it.
+    fn first_called_by(&self, at: usize, deed: Deed) -> Option<u64> {
+        match deed {
+            Deed::Notifies { called } if self.is_idle_since(at, called) => Some(called),
+            Deed::Broadcasts { on } => {
+                let (place, _) = self.least(at, on)?;
+                Some(place)
+            }
+            _ => None,
+        }
+    }
+
+    // Who was called first and didn't go on.
+    fn first_called(&self) -> Option<u64> {
+        for (at, happening) in self.past.iter().enumerate() {
+            let called = self.first_called_by(at, happening.deed);
+            if called.is_some() {
+                return called;
+            }
+        }
+        None
     }
 
     // The signaller that waits longest.
@@ -133,9 +184,12 @@ impl Machine {
     fn gives_up(&mut self, place: u64, deed: Deed) -> Result<(), Fail> {
         self.happens(place, deed)?;
         if let Some(signaller) = self.signaller() {
-            self.happens(signaller, Deed::IsBack)?;
+            return self.happens(signaller, Deed::IsBack);
         }
-        Ok(())
+        match self.first_called() {
+            Some(called) => self.happens(called, Deed::GoesOn),
+            None => Ok(()),
+        }
     }
 
     fn act(&mut self, line: Line) -> Result<(), Fail> {
@@ -163,6 +217,14 @@ impl Machine {
                 None => self.gives_up(place, Deed::Leaves),
             },
             Line::Leave(place) => self.gives_up(place, Deed::Leaves),
+            Line::Notify(place, condition) => match self.chosen(condition) {
+                Some((called, _)) => self.happens(place, Deed::Notifies { called }),
+                None => Ok(()),
+            },
+            Line::Broadcast(place, on) => match self.chosen(on) {
+                Some(_) => self.happens(place, Deed::Broadcasts { on }),
+                None => Ok(()),
+            },
             Line::Queue(_) | Line::First(_) => Ok(()),
         }
     }
@@ -200,16 +262,39 @@ impl Machine {
         }
     }
 
+    fn is_mesa(&self, condition: u64) -> bool {
+        condition < self.conditions && condition.saturating_add(self.mesa) >= self.conditions
+    }
+
+    // A condition that isn't there, or isn't a Mesa condition or one of Hoare's, as asked.
+    fn refuses_kind(&self, condition: u64, mesa: bool) -> Option<u8> {
+        let number = self.refuses_question(condition);
+        if number.is_none() && self.is_mesa(condition) != mesa {
+            return Some(6);
+        }
+        number
+    }
+
     fn refusal(&self, line: Line) -> Option<u8> {
         match line {
             Line::Enter(place) => self.refuses_entry(place),
             Line::Leave(place) => self.refuses_holder(place),
-            Line::Wait(place, condition, _)
-            | Line::Signal(place, condition)
-            | Line::Pass(place, condition) => match self.refuses_holder(place) {
+            Line::Wait(place, condition, _) => match self.refuses_holder(place) {
                 Some(number) => Some(number),
                 None => self.refuses_question(condition),
             },
+            Line::Signal(place, condition) | Line::Pass(place, condition) => {
+                match self.refuses_holder(place) {
+                    Some(number) => Some(number),
+                    None => self.refuses_kind(condition, false),
+                }
+            }
+            Line::Notify(place, condition) | Line::Broadcast(place, condition) => {
+                match self.refuses_holder(place) {
+                    Some(number) => Some(number),
+                    None => self.refuses_kind(condition, true),
+                }
+            }
             Line::Queue(condition) | Line::First(condition) => self.refuses_question(condition),
         }
     }
@@ -265,21 +350,34 @@ impl Machine {
             1 => Line::First(condition),
             _ if self.inside().is_none() => Line::Enter(place),
             2..=6 if newcomer.is_some() => Line::Wait(place, condition, lot / 65536 % 4),
-            7..=9 => Line::Pass(place, condition),
+            7..=9 => self.suited(Line::Pass(place, condition), is_strange),
             10 => Line::Enter(any),
             11 => Line::Leave(place),
-            _ => Line::Signal(place, condition),
+            _ => self.suited(Line::Signal(place, condition), is_strange),
         }
     }
 
-    // How many signals and passes resumed somebody.
+    // A line that suits the kind of its condition, unless it is to be strange.
+    fn suited(&self, line: Line, is_strange: bool) -> Line {
+        match line {
+            Line::Signal(place, condition) if !is_strange && self.is_mesa(condition) => {
+                Line::Notify(place, condition)
+            }
+            Line::Pass(place, condition) if !is_strange && self.is_mesa(condition) => {
+                Line::Broadcast(place, condition)
+            }
+            _ => line,
+        }
+    }
+
+    // How often somebody was resumed, or went on after a call.
     fn resumptions(&self) -> usize {
         self.past.iter().filter(|h| h.deed == Deed::GoesOn).count()
     }
 }
 
-// The machine of the script with this number.
-fn machine_of(alloc: Global, number: u64) -> Machine {
+// The machine of the script with this number, with so many Mesa conditions.
+fn machine_of(alloc: Global, number: u64, mesa: u64) -> Machine {
     Machine {
         places: if number % 100 == 0 {
             64
@@ -287,6 +385,7 @@ fn machine_of(alloc: Global, number: u64) -> Machine {
             number % 5 + 2
         },
         conditions: number % 3 + 1,
+        mesa,
         past: Vec::new(alloc),
     }
 }
@@ -310,11 +409,19 @@ fn draw<W: Write>(
 }
 
 // One script, answered twice: how many resumptions it had.
-fn is_answered_twice<R: Abort + AllocGlobal>(rt: &R, number: u64) -> Result<usize, Fail> {
-    let mut machine = machine_of(rt.alloc(), number);
+fn is_answered_twice<R: Abort + AllocGlobal>(
+    rt: &R,
+    number: u64,
+    mesa: u64,
+) -> Result<usize, Fail> {
+    let mut machine = machine_of(rt.alloc(), number, mesa);
     let mut script = Vec::new(rt.alloc());
     let mut answers = Vec::new(rt.alloc());
-    writeln!(script, "monitor {} {}", machine.places, machine.conditions)?;
+    write!(script, "monitor {} {}", machine.places, machine.conditions)?;
+    if mesa > 0 {
+        write!(script, " {mesa}")?;
+    }
+    writeln!(script)?;
     draw(&mut machine, number, &mut script, &mut answers)?;
     let (result, written) = told(rt.alloc(), script.as_slice());
     assert_eq!(rt; result, Ok(()), "script {number}");
@@ -326,8 +433,20 @@ fn is_answered_twice<R: Abort + AllocGlobal>(rt: &R, number: u64) -> Result<usiz
 fn two_hundred_thousand_lines(rt: HostRuntime) -> Result<(), Fail> {
     let mut resumptions = 0usize;
     for number in 0..SCRIPTS {
-        resumptions = resumptions.saturating_add(is_answered_twice(&rt, number)?);
+        resumptions = resumptions.saturating_add(is_answered_twice(&rt, number, 0)?);
     }
     assert!(rt; resumptions >= 14_000);
+    Ok(())
+}
+
+// With one Mesa condition or more.
+#[test]
+fn fifty_thousand_mesa_lines(rt: HostRuntime) -> Result<(), Fail> {
+    let mut resumptions = 0usize;
+    for number in 0..MESA_SCRIPTS {
+        let mesa = number / 3 % (number % 3 + 1) + 1;
+        resumptions = resumptions.saturating_add(is_answered_twice(&rt, number, mesa)?);
+    }
+    assert!(rt; resumptions >= 3_000);
     Ok(())
 }

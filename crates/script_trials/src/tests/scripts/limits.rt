@@ -42,6 +42,15 @@ fn header_limits(rt: HostRuntime) {
     check(&rt, b"monitor 1 0", Err(ScriptFault::BadHeader(1)));
 }
 
+#[test]
+fn mesa_limits(rt: HostRuntime) {
+    check(&rt, b"monitor 1 1 0", Ok(()));
+    check(&rt, b"monitor 64 8 8", Ok(()));
+    check(&rt, b"monitor 1 1 2", Err(ScriptFault::BadHeader(1)));
+    check(&rt, b"monitor 1 1 01", Err(ScriptFault::BadHeader(1)));
+    check(&rt, b"monitor 1 1 0 0", Err(ScriptFault::BadHeader(1)));
+}
+
 // A second header, an empty line, a second space, a leading 0 and the byte 255 spell nothing.
 #[test]
 fn bad_lines(rt: HostRuntime) {

@@ -5,17 +5,24 @@ use hoare_script::opened::Opened;
 use std::test::Fail;
 use wait_book::steps::{MakeRefused, Next, Step, StepRefused};
 
-fn header(places: u64, conditions: u64) -> Header {
-    Header { places, conditions }
+fn header(places: u64, conditions: u64, mesa: u64) -> Header {
+    Header {
+        places,
+        conditions,
+        mesa,
+    }
 }
 
 #[test]
 fn headers(rt: HostRuntime) {
-    let lines: [(&[u8], Option<Header>); 6] = [
-        (b"monitor 3 2", Some(header(3, 2))),
-        (b"monitor 65 0", Some(header(65, 0))),
+    let lines: [(&[u8], Option<Header>); 9] = [
+        (b"monitor 3 2", Some(header(3, 2, 0))),
+        (b"monitor 65 0", Some(header(65, 0, 0))),
+        (b"monitor 3 2 1", Some(header(3, 2, 1))),
+        (b"monitor 3 2 0", Some(header(3, 2, 0))),
         (b"monitor 3", None),
-        (b"monitor 3 2 1", None),
+        (b"monitor 3 2 x", None),
+        (b"monitor 3 2 1 0", None),
         (b"Monitor 3 2", None),
         (b"monitor 3 x", None),
     ];
@@ -26,19 +33,21 @@ fn headers(rt: HostRuntime) {
 
 #[test]
 fn commands(rt: HostRuntime) {
-    let commands: [(&[u8], Command); 7] = [
+    let commands: [(&[u8], Command); 9] = [
         (b"enter 4", Command::Do(Step::Enter(4))),
         (b"wait 1 2 3", Command::Do(Step::Wait(1, 2, 3))),
         (b"signal 1 2", Command::Do(Step::Signal(1, 2))),
         (b"pass 1 2", Command::Do(Step::Pass(1, 2))),
         (b"leave 5", Command::Do(Step::Leave(5))),
+        (b"notify 1 2", Command::Do(Step::Notify(1, 2))),
+        (b"broadcast 1 2", Command::Do(Step::Broadcast(1, 2))),
         (b"queue 6", Command::Queue(6)),
         (b"first 7", Command::First(7)),
     ];
     for (line, wanted) in commands {
         assert_eq!(rt; parse_command(line), Some(wanted));
     }
-    let others: [&[u8]; 9] = [
+    let others: [&[u8]; 11] = [
         b"",
         b"enter",
         b"enter 1 2",
@@ -46,6 +55,8 @@ fn commands(rt: HostRuntime) {
         b"wait 1 2 3 4",
         b"signal 1",
         b"pass 1 2 3",
+        b"notify 1",
+        b"broadcast 1 2 3",
         b"queue x",
         b"monitor 1 1",
     ];
@@ -56,7 +67,7 @@ fn commands(rt: HostRuntime) {
 
 #[test]
 fn opened_book(rt: HostRuntime) -> Result<(), Fail> {
-    let Ok(mut opened) = Opened::make(rt.alloc(), header(2, 1)) else {
+    let Ok(mut opened) = Opened::make(rt.alloc(), header(2, 1, 0)) else {
         return Err("no book")?;
     };
     for (command, answer) in [
@@ -74,13 +85,13 @@ fn opened_book(rt: HostRuntime) -> Result<(), Fail> {
 
 #[test]
 fn book_of_too_many_places(rt: HostRuntime) {
-    let made = Opened::make(rt.alloc(), header(65, 9));
+    let made = Opened::make(rt.alloc(), header(65, 9, 0));
     assert!(rt; matches!(made, Err(MakeRefused::BadPlaces)));
 }
 
 #[test]
 fn answers_as_spelled(rt: HostRuntime) {
-    let answers: [(Answer, &[u8]); 11] = [
+    let answers: [(Answer, &[u8]); 12] = [
         (Answer::Free, b"x -> free\n"),
         (Answer::Inside(63), b"x -> 63\n"),
         (Answer::Waiting(true), b"x -> true\n"),
@@ -98,6 +109,7 @@ fn answers_as_spelled(rt: HostRuntime) {
             Answer::Refused(StepRefused::NoCondition),
             b"x -> refused 5\n",
         ),
+        (Answer::Refused(StepRefused::WrongKind), b"x -> refused 6\n"),
     ];
     for (answer, wanted) in answers {
         assert_eq!(rt; answer_line(b"x", answer).as_slice(), wanted);

@@ -10,7 +10,7 @@ use Rattle.baton_door.proofs.door.Door.make.Goals as goal
 pub deal-outs-requires-clause-seat : goal.deal-outs-requires-clause-seat
 deal-outs-requires-clause-seat g c =
     let key = c.in-Ok-vacant.ensures.table.2 in
-    let h = opened c.in-Ok-vacant.made.0.shared.key g.D.MonitorData.CONDITIONS c.in-Ok-vacant.made.2.state in
+    let h = opened c.in-Ok-vacant.made.0.shared.key g.D.MonitorData.CONDITIONS g.D.MonitorData.MESA c.in-Ok-vacant.made.2.state in
     (h, c.open.ensures.opened ∙ ap (λ (n : ℕ). (Places (all_know 0 n h), [])) key)
 
 pub returns-clause-of : goal.returns-clause-of
@@ -19,8 +19,8 @@ returns-clause-of g c =
     let made = c.in-Ok-vacant.ensures in
     let t = c.in-Ok-vacant.made.0.shared in
     let s = c.in-Ok-vacant.made.2.state in
-    let h = opened t.key D.CONDITIONS s in
+    let h = opened t.key D.CONDITIONS D.MESA s in
     let d : DoorId = record { table = t.table_id; places = t.key } in
     let dealt = c.deal-outs.ensures h (c.open.ensures.opened ∙ ap (λ (n : ℕ). (Places (all_know 0 n h), [])) made.table.2) in
-    made_outside D.rest D.ready D.CONDITIONS d s _ (dealt ∙ ap (λ (n : ℕ). places_from t.table_id 0 n h) (sym made.table.2))
+    made_outside D.rest D.ready D.CONDITIONS D.MESA d s _ (dealt ∙ ap (λ (n : ℕ). places_from t.table_id 0 n h) (sym made.table.2))
     (subst (λ (r : g.row.D.Denot). D.rest r nobody) (sym made.parcel.0) c.requires.rest)

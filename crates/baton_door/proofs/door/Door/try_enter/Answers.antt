@@ -1,21 +1,48 @@
-use Rattle.std.proofs.Common.{eqb-true, eq-eqb, true≢false, sym, ◌∙◌, ap, arith}
-use Rattle.door_frame.specs.Places.{DoorId}
-use Rattle.baton_door.proofs.Steps.{admits_at}
+use Rattle.std.proofs.Common.{◌∙◌}
+use Rattle.door_frame.specs.Places.{place_out}
+use Rattle.door_frame.proofs.Arrivals.{entered}
+use Rattle.door_frame.proofs.Seats.{away_as, took}
 use Rattle.baton_door.proofs.door.Door.try_enter.Goals as goal
 
-pub compare_exchange-requires : goal.compare_exchange-requires
-compare_exchange-requires g c =
-    let out = c.requires.outside in
+pub try_in-requires-clause-outside : goal.try_in-requires-clause-outside
+try_in-requires-clause-outside g c =
+    (c.args.out.place, (c.args.out.front, c.into_parts-seat.ensures.2, c.requires.is_outside))
+
+-- where it isn't free
+
+pub of_parts-requires : goal.of_parts-requires
+of_parts-requires g c =
+    let parts = c.into_parts-seat.ensures in
+    (c.args.out.front, c.try_in.ensures.turned_away c.if-not-try_in.true ∙ away_as parts.1 parts.2)
+
+pub returns-then-not-try_in-clause-same : goal.returns-then-not-try_in-clause-same
+returns-then-not-try_in-clause-same g c =
+    let parts = c.into_parts-seat.ensures in
+    c.of_parts.ensures c.args.out.front (c.try_in.ensures.turned_away c.if-not-try_in.true ∙ away_as parts.1 parts.2)
+    ∙ (λ i. place_out ((c.try_in.ensures.table ∙ parts.0) i) (parts.1 i) c.args.out.front)
+
+-- where it is
+
+pub take_parcel-parcel-requires-clause-full : goal.take_parcel-parcel-requires-clause-full
+take_parcel-parcel-requires-clause-full g c =
+    let away = c.into_parts-seat.ensures.2 in
+    let t = c.try_in.ensures.let_in c.if-not-try_in.false c.args.out.place c.args.out.front away in (_, t.0, t.1.me_is)
+
+pub brought_in-requires : goal.brought_in-requires
+brought_in-requires g c =
     let D = g.D.MonitorData in
-    let table = c.requires.table ∙ ap (λ (d : DoorId). d.table) (sym c.self.view_is) in
-    let wide = c.self.invariant.words_are in
-    (table, omega (arith, wide), admits_at D.rest D.ready D.CONDITIONS _ _ _ _ _ _ out.1.1 out.1.2)
+    let parts = c.into_parts-seat.ensures in
+    let t = c.try_in.ensures.let_in c.if-not-try_in.false _ c.args.out.front (away_as parts.1 parts.2) in
+    let p = c.take_parcel-parcel.ensures in
+    record { came = (c.args.out.front, took D.rest D.ready t.1 p.taken p.empty) }
 
-pub returns-clause-turned_away : goal.returns-clause-turned_away
-returns-clause-turned_away g c = λ no.
-    let out = c.requires.outside in
-    (c.compare_exchange.ensures.2 out.0 out.1.0 out.1.1).0 (λ hit. true≢false (sym (eq-eqb c.compare_exchange.result 0 hit) ∙ no))
-
-pub returns-clause-let_in : goal.returns-clause-let_in
-returns-clause-let_in g c = λ is k f away.
-    let t = (c.compare_exchange.ensures.2 k f away).1 (eqb-true c.compare_exchange.result 0 is) in (t.0, t.1)
+pub returns : goal.returns
+returns g c =
+    let D = g.D.MonitorData in
+    let parts = c.into_parts-seat.ensures in
+    let t = c.try_in.ensures.let_in c.if-not-try_in.false _ c.args.out.front (away_as parts.1 parts.2) in
+    let p = c.take_parcel-parcel.ensures in
+    let came = took D.rest D.ready t.1 p.taken p.empty in
+    let table = p.table ∙ c.try_in.ensures.table ∙ parts.0 in
+    let e = entered c.args.out _ _ c.requires table parts.1 came (c.brought_in.ensures _ came) in
+    record { of = e.of; place = e.place; rest = e.rests; front = e.front; same = tt }

@@ -5,26 +5,26 @@ use Rattle.baton_door.proofs.monitor.DoorTurnstile.admit.Goals as goal
 pub keep_trying-requires-clause-outside : goal.keep_trying-requires-clause-outside
 keep_trying-requires-clause-outside g c =
     let out = c.requires.outside in
-    (c.args.place, (out.0, c.try_enter.ensures.turned_away c.if-try_enter.false ∙ out.1, out.2))
+    (c.args.place, (out.0, c.try_in.ensures.turned_away c.if-try_in.false ∙ out.1, out.2))
 
 pub take_parcel-requires-clause-full : goal.take_parcel-requires-clause-full
 take_parcel-requires-clause-full g c =
     let out = c.requires.outside in
-    let t = c.try_enter.ensures.let_in c.if-try_enter.true c.args.place out.0 out.1 in (_, t.0, t.1.me_is)
+    let t = c.try_in.ensures.let_in c.if-try_in.true c.args.place out.0 out.1 in (_, t.0, t.1.me_is)
 
-pub returns-then-try_enter-clause-came : goal.returns-then-try_enter-clause-came
-returns-then-try_enter-clause-came g c = λ f away.
+pub returns-then-try_in-clause-came : goal.returns-then-try_in-clause-came
+returns-then-try_in-clause-came g c = λ f away.
     let D = g.D.MonitorData in
-    let t = c.try_enter.ensures.let_in c.if-try_enter.true c.args.place f away in
+    let t = c.try_in.ensures.let_in c.if-try_in.true c.args.place f away in
     took D.rest D.ready t.1 c.take_parcel.ensures.taken c.take_parcel.ensures.empty
 
 pub take_parcel-requires-2-clause-full : goal.take_parcel-requires-2-clause-full
 take_parcel-requires-2-clause-full g c =
     let out = c.requires.outside in
-    let t = c.keep_trying.ensures.let_in c.args.place out.0 (c.try_enter.ensures.turned_away c.if-try_enter.false ∙ out.1) in (_, t.0, t.1.me_is)
+    let t = c.keep_trying.ensures.let_in c.args.place out.0 (c.try_in.ensures.turned_away c.if-try_in.false ∙ out.1) in (_, t.0, t.1.me_is)
 
 pub returns-clause-came : goal.returns-clause-came
 returns-clause-came g c = λ f away.
     let D = g.D.MonitorData in
-    let t = c.keep_trying.ensures.let_in c.args.place f (c.try_enter.ensures.turned_away c.if-try_enter.false ∙ away) in
+    let t = c.keep_trying.ensures.let_in c.args.place f (c.try_in.ensures.turned_away c.if-try_in.false ∙ away) in
     took D.rest D.ready t.1 c.take_parcel-2.ensures.taken c.take_parcel-2.ensures.empty

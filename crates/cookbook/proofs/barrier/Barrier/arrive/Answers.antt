@@ -25,7 +25,7 @@ wait-inside-requires-clause-rest g c =
     (rw c.state.ensures at c.generation-generation.ensures)
 
 pub signal_leave-out-requires-2-clause-ready : goal.signal_leave-out-requires-2-clause-ready
-signal_leave-out-requires-2-clause-ready g c = BarrierReady-gone c.wait-inside.ensures.ready
+signal_leave-out-requires-2-clause-ready g c = BarrierReady-gone (c.wait-inside.ensures.ready (omega arith))
     (g.met.M.Monitor.takes_data _ _ ∙ (rw c.state_mut-3.ensures.value at c.go.ensures)) (ap (λ lists. lists 0) (g.met.M.Monitor.keeps_lists _ _))
 
 pub returns-clause-trace : goal.returns-clause-trace
@@ -35,6 +35,6 @@ returns-clause-trace g c =
     let place = g.met.M.Monitor.keeps_place _ _ ∙ c.enter-inside.ensures.place in
     let one_more = g.met.M.Monitor.takes_data _ _ ∙ (rw c.state_mut-2.ensures.value at c.come.ensures) in
     rw told (waited _ _ _ _ c.enter-inside.ensures.front (omega (arith, c.enter-inside.ensures.rest.within, more))
-    (waits-as c.wait-inside.ensures.front place told one_more (g.met.M.Monitor.keeps_front _ _)) (c.wait-inside.ensures.ready.begun ∙ ap next told)
+    (waits-as c.wait-inside.ensures.front place told one_more (g.met.M.Monitor.keeps_front _ _)) ((c.wait-inside.ensures.ready (omega arith)).begun ∙ ap next told)
     (Finishes-exit c.signal_leave-out-2.ensures.front (g.met.M.Monitor.keeps_place _ _ ∙ (c.wait-inside.ensures.place ∙ place))
     (g.met.M.Monitor.takes_data _ _ ∙ (rw c.state_mut-3.ensures.value at c.go.ensures)) (g.met.M.Monitor.keeps_front _ _)))

@@ -1,4 +1,4 @@
-use Rattle.std.proofs.Common.{◌≡◌, ◌∙◌, ap, refl}
+use Rattle.std.proofs.Common.{arith, ◌≡◌, ◌∙◌, ap, refl}
 use Rattle.std.proofs.lemmas.Bool.{iff_false}
 use Rattle.hoare_law.proofs.Growth.{leaves-as}
 use Rattle.cookbook.specs.declared.rendezvous.Rendezvous.TheVariants.{Empty, Offered, Answered}
@@ -34,7 +34,7 @@ wait-inside-requires-clause-rest g c =
     MeetingRests-offered _ _ _ _ _ c.enter-inside.ensures.rest empty (g.met.M.Monitor.takes_data _ _ ∙ c.offer.ensures) (ap (λ lists. lists 0) (g.met.M.Monitor.keeps_lists _ _))
 
 pub leave-requires-clause-rest : goal.leave-requires-clause-rest
-leave-requires-clause-rest g c = nobody_else _ _ _ _ c.wait-inside.ensures.ready
+leave-requires-clause-rest g c = nobody_else _ _ _ _ (c.wait-inside.ensures.ready (omega arith))
     (g.met.M.Monitor.takes_data _ _ ∙ c.collect-second.ensures.after) (ap (λ lists. lists 0) (g.met.M.Monitor.keeps_lists _ _))
 
 pub returns-clause-trace : goal.returns-clause-trace

@@ -1,4 +1,4 @@
-use Rattle.std.proofs.Common.{◌∙◌, refl}
+use Rattle.std.proofs.Common.{arith, ◌∙◌, refl}
 use Rattle.std.proofs.lemmas.Bool.{iff_false}
 use Rattle.hoare_law.proofs.Came.{Came, Came-at_once, Came-waited}
 use Rattle.cookbook.specs.Tables.{TableHolds, CanEat}
@@ -12,9 +12,10 @@ came : (g : Over) (c : After-state_mut g) → Came g.M.Monitor c.args.m.now c.ar
     (λ t _. TableHolds t × CanEat t c.args.seat) c.if-not-can_eat.inside
 came g c = elim c.if-not-can_eat.branch [
   | then-not-can_eat w ↦
+      let ready = w.wait-inside.ensures.ready (omega (arith, c.requires.seat)) in
       let cannot = rw c.state.ensures at (iff_false c.can_eat.ensures w.if-not-can_eat.true) in
       rw w.inside-is (Came-waited g.M.Monitor c.enter-inside.ensures.place c.enter-inside.ensures.front cannot w.wait-inside.ensures.of w.wait-inside.ensures.place
-      w.wait-inside.ensures.front refl refl (w.wait-inside.ensures.ready.inv, w.wait-inside.ensures.ready.can))
+      w.wait-inside.ensures.front refl refl (ready.inv, ready.can))
   | else-not-can_eat w ↦
       let can = rw c.state.ensures at (c.can_eat.ensures.0 w.if-not-can_eat.false) in
       rw w.inside-is (Came-at_once g.M.Monitor c.enter-inside.ensures.of c.enter-inside.ensures.place c.enter-inside.ensures.front (λ cannot. cannot can)

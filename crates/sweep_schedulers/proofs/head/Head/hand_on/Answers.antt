@@ -5,7 +5,7 @@ use Rattle.hoare_law.proofs.Growth.{Finishes-exit}
 use Rattle.sweep_schedulers.specs.Heads.{HeadFree, HeadRests, Disk, sweep, turned}
 use Rattle.sweep_schedulers.specs.HeadTraces.{HandsOn, keeps, turns}
 use Rattle.sweep_schedulers.proofs.Lists.{none_told}
-use Rattle.sweep_schedulers.proofs.Sweeps.{HeadReady-first, HeadRests-nobody, HeadFree-turned, sweep_in_range}
+use Rattle.sweep_schedulers.proofs.Sweeps.{HeadReady-first, HeadRests-nobody, HeadFree-turned, sweep_hoare}
 use Rattle.sweep_schedulers.proofs.head.Head.hand_on.Given.{Over}
 use Rattle.sweep_schedulers.proofs.head.Head.hand_on.Goals as goal
 use Rattle.sweep_schedulers.proofs.head.Head.hand_on.Goals.{After-state-2, then-not-queue, else-not-queue}
@@ -56,8 +56,8 @@ swept g c =
 pub signal_leave-out-requires-clause-of : goal.signal_leave-out-requires-clause-of
 signal_leave-out-requires-clause-of g c = (swept g (goal.at.signal_leave-out-requires-clause-of g c).After-state-2).of
 
-pub signal_leave-out-requires-clause-in_range : goal.signal_leave-out-requires-clause-in_range
-signal_leave-out-requires-clause-in_range g c = rw c.sweep-sweep.ensures (sweep_in_range _)
+pub signal_leave-out-requires-clause-hoare : goal.signal_leave-out-requires-clause-hoare
+signal_leave-out-requires-clause-hoare g c = rw c.sweep-sweep.ensures (sweep_hoare _)
 
 pub signal_leave-out-requires-clause-ready : goal.signal_leave-out-requires-clause-ready
 signal_leave-out-requires-clause-ready g c =

@@ -3,7 +3,7 @@ use Rattle.std.proofs.lemmas.Bool.{iff_false}
 use Rattle.hoare_law.proofs.Growth.{leaves-as}
 use Rattle.sweep_schedulers.specs.Heads.{HeadRests, sent}
 use Rattle.sweep_schedulers.specs.HeadTraces.{Reaches, at_once, off_disk, granted, other_disk}
-use Rattle.sweep_schedulers.proofs.Sweeps.{HeadRests-joined, HeadRests-granted, HeadRests-at_once, HandsOn-as, Reaches-waited}
+use Rattle.sweep_schedulers.proofs.Sweeps.{HeadRests-joined, HeadRests-granted, HeadRests-at_once, HandsOn-as, Reaches-waited, sweep_hoare}
 use Rattle.sweep_schedulers.proofs.head.Head.request.Given.{Over}
 use Rattle.sweep_schedulers.proofs.head.Head.request.Goals as goal
 use Rattle.sweep_schedulers.proofs.head.Head.request.Goals.{After-state_mut, then-is_busy+else-cylmax, else-is_busy}
@@ -52,7 +52,7 @@ came g c =
             place = w.wait-inside.ensures.place ∙ c.enter-inside.ensures.place;
             on = on;
             same = same;
-            rests = HeadRests-granted (M.data_in w.wait-inside.result) w.wait-inside.ensures.ready
+            rests = HeadRests-granted (M.data_in w.wait-inside.result) (w.wait-inside.ensures.ready (rw w.stop_at-sweep.ensures.sweep (sweep_hoare _)))
                 w.state-then-is_busy.ensures w.stop_at-sweep.ensures.sweep w.stop_at-sweep.ensures.priority on same refl refl refl;
             reaches = Reaches-waited busy w.wait-inside.ensures.front c.enter-inside.ensures.place refl refl
                 w.state-then-is_busy.ensures w.stop_at-sweep.ensures.sweep w.stop_at-sweep.ensures.priority;

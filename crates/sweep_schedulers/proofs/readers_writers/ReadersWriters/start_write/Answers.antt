@@ -1,4 +1,4 @@
-use Rattle.std.proofs.Common.{◌∙◌, refl}
+use Rattle.std.proofs.Common.{arith, ◌∙◌, refl}
 use Rattle.std.proofs.lemmas.Bool.{iff_false}
 use Rattle.hoare_law.proofs.Came.{Came, Came-at_once, Came-waited}
 use Rattle.hoare_law.proofs.Growth.{leaves-as}
@@ -18,7 +18,7 @@ came g c = elim c.if-is_in_use.branch [
   | then-is_in_use w ↦
       let used = rw c.state.ensures at (c.is_in_use.ensures.0 w.if-is_in_use.true) in
       rw w.inside-is (Came-waited g.M.Monitor c.enter-inside.ensures.place c.enter-inside.ensures.front used w.wait-inside.ensures.of w.wait-inside.ensures.place
-      w.wait-inside.ensures.front refl refl w.wait-inside.ensures.ready)
+      w.wait-inside.ensures.front refl refl (w.wait-inside.ensures.ready (omega arith)))
   | else-is_in_use w ↦
       let unused = rw c.state.ensures at (iff_false c.is_in_use.ensures w.if-is_in_use.false) in
       rw w.inside-is (Came-at_once g.M.Monitor c.enter-inside.ensures.of c.enter-inside.ensures.place c.enter-inside.ensures.front unused

@@ -31,9 +31,10 @@ pub wait-inside-requires-clause-rest : goal.wait-inside-requires-clause-rest
 wait-inside-requires-clause-rest g c = Early-before c.rounds.invariant.early (omega (arith, c.time-now.ensures, c.state-in-rounds.ensures))
 
 pub rounds-preserved : goal.rounds-preserved
-rounds-preserved g c = record {
-  of = search rules;
-  place = search rules;
-  early = record { due = c.wait-inside.ensures.ready.due; others = inr c.wait-inside.ensures.ready.first };
-  waited = Waited-more c.rounds.invariant.waited (omega (arith, c.time-now.ensures, c.state-in-rounds.ensures)) c.wait-inside.ensures.front (search rules) (search rules) (search rules);
-}
+rounds-preserved g c =
+    let ready = c.wait-inside.ensures.ready (omega arith) in record {
+      of = search rules;
+      place = search rules;
+      early = record { due = ready.due; others = inr ready.first };
+      waited = Waited-more c.rounds.invariant.waited (omega (arith, c.time-now.ensures, c.state-in-rounds.ensures)) c.wait-inside.ensures.front (search rules) (search rules) (search rules);
+    }

@@ -1,4 +1,4 @@
-use Rattle.std.proofs.Common.{◌≢◌, ◌<◌, ◌∙◌, ap, refl, sym, rules}
+use Rattle.std.proofs.Common.{arith, ◌≢◌, ◌<◌, ◌∙◌, ap, refl, sym, rules}
 use Rattle.hoare_law.proofs.Came.{Came, Came-at_once, Came-waited}
 use Rattle.hoare_law.proofs.Growth.{leaves-as, Finishes-exit}
 use Rattle.timed_schedulers.specs.Pools.{PoolReady, free_count, held}
@@ -31,7 +31,7 @@ came g c =
           let none = rw c.state-2.ensures at (sym c.free.ensures.told ∙ w.if-free-eq0.true) in
           let stays = rw w.state-then-free-eq0-2.ensures at (w.has_stream-then-free-eq0.ensures.0 w.if-not-has_stream-2.false) in
           rw w.inside-is (Came-waited g.M.Monitor c.enter-inside.ensures.place c.enter-inside.ensures.front (stream, none) w.wait-inside.ensures.of
-          w.wait-inside.ensures.place w.wait-inside.ensures.front refl (search rules) (stays, w.wait-inside.ensures.ready))
+          w.wait-inside.ensures.place w.wait-inside.ensures.front refl (search rules) (stays, w.wait-inside.ensures.ready (omega arith)))
       | else-free-eq0 w ↦
           let some : free_count (g.M.Monitor.data_in c.enter-inside.result) ≢ 0 =
           λ none. w.if-free-eq0.false ((rw c.state-2.ensures at c.free.ensures.told) ∙ none) in

@@ -1,12 +1,12 @@
-use Rattle.std.proofs.Common.{◌<◌, arith, ap, sym, refl, ◌∙◌}
+use Rattle.std.proofs.Common.{◌<◌, map, arith, sym, refl, ◌∙◌}
 use Rattle.hoare_law.specs.Turns.{turn_given_up}
 use Rattle.wait_book.specs.declared.waiter.Waiter.{Waiter}
-use Rattle.wait_book.specs.Contents.{Contents}
+use Rattle.wait_book.specs.Contents.{Contents, wait_of}
 use Rattle.wait_book.specs.Insides.{view_of}
 use Rattle.wait_book.proofs.Sound as sound
 use Rattle.wait_book.proofs.Histories as histories
 use Rattle.wait_book.proofs.Priorities as priorities
-use Rattle.wait_book.proofs.Queued.{PutsIn-put, priorities-rise, signallers-same, times_all, total_is}
+use Rattle.wait_book.proofs.Queued.{PutsIn-put, called-same, priorities-rise, signallers-same, times_all, total_is}
 use Rattle.wait_book.proofs.book.Book.wait.Goals as goal
 
 pub insert-requires-clause-chain : goal.insert-requires-clause-chain
@@ -21,7 +21,7 @@ insert-requires-clause-place c =
 pub insert-requires-clause-apart : goal.insert-requires-clause-apart
 insert-requires-clause-apart c =
     let apart = sound.holder_apart (view_of c.self.inside) c.args.place (sound.holds c.self.view_is c.self.invariant c.requires.inside) in
-    omega (arith, times_all c.args.place c.self.inside.chains, apart.0, apart.1)
+    omega (arith, times_all c.args.place c.self.inside.chains, apart.0, apart.1, apart.2)
 
 pub insert-requires-clause-room : goal.insert-requires-clause-room
 insert-requires-clause-room c =
@@ -42,7 +42,8 @@ invariant_of-self c =
     let below : c.args.condition < 8 = omega (arith, fits, c.self.invariant.few_conditions) in
     let put = c.insert.ensures in
     let same = signallers-same c.args.condition _ c.self.inside.chains c.insert.new.self below put.lists in
-    sound.IsSound-same _ _ (sound.parts put.room put.room refl same (c.turn_given_up-self-inside.ensures ∙ ap turn_given_up same))
+    let called = called-same c.args.condition _ c.self.inside.chains c.insert.new.self (omega arith) put.lists in
+    sound.IsSound-same _ _ (sound.parts put.room put.room refl same called (c.turn_given_up-self-inside.ensures ∙ (λ i. turn_given_up (same i) (map wait_of (called i)))))
     (sound.waited_sound b _ _ (PutsIn-put c.args.condition c.args.place _ c.self.inside.chains c.insert.new.self below put) h fits)
 
 pub returns-clause-of : goal.returns-clause-of
@@ -55,7 +56,8 @@ returns-clause-of c = λ g o.
     let put = c.insert.ensures in
     let puts = PutsIn-put c.args.condition c.args.place _ c.self.inside.chains c.insert.new.self below put in
     let same = signallers-same c.args.condition _ c.self.inside.chains c.insert.new.self below put.lists in
-    let new = sound.parts put.room put.room refl same (c.turn_given_up-self-inside.ensures ∙ ap turn_given_up same) in
+    let called = called-same c.args.condition _ c.self.inside.chains c.insert.new.self (omega arith) put.lists in
+    let new = sound.parts put.room put.room refl same called (c.turn_given_up-self-inside.ensures ∙ (λ i. turn_given_up (same i) (map wait_of (called i)))) in
     histories.IsOf-same _ _ _ new (histories.waited_of b w _ g puts h fits (histories.IsOf-same _ b g (sym c.self.view_is) o))
 
 pub returns-clause-apart : goal.returns-clause-apart

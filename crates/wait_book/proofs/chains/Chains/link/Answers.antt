@@ -5,6 +5,7 @@ use Rattle.wait_book.specs.Chains.{chain_at}
 use Rattle.wait_book.proofs.Nodes.{behind-contains}
 use Rattle.wait_book.proofs.Chained.{AreChains-equal, AreChains-seen, AreChains-linked, Linking, cut, cut-stored, lists_are}
 use Rattle.wait_book.proofs.Marks.{AreMarked-equal, AreMarked-put}
+use Rattle.wait_book.proofs.Kept.{AreKept-equal, AreKept-put}
 use Rattle.wait_book.proofs.chains.Chains.link.Goals as goal
 
 pub next_of-next-requires : goal.next_of-next-requires
@@ -30,7 +31,7 @@ invariant_of-self c =
     let stored = c.insert_reserved-key.ensures in
     let put = c.set_next-first.ensures in
     let first = (chain_at c.self.inside.chains c.args.chain).first in
-    let x : Link = record { key = c.insert_reserved-key.result; place = c.args.place; priority = c.args.priority } in
+    let x : Link = record { key = c.insert_reserved-key.result; place = c.args.place; condition = c.args.condition; priority = c.args.priority } in
     let linking : Linking c.self.inside.nodes c.insert_reserved-key.new.self c.set_next-first.new.nodes first c.args.behind c.next_of-next.result c.set_next-first.result x = record {
       vacant = stored.was_vacant;
       stored = stored.updates;
@@ -44,6 +45,7 @@ invariant_of-self c =
     record {
       are = AreChains-seen are;
       places = AreMarked-put c.args.chain b.0 b.1 x marks c.requires.chain c.requires.place b.2 c.requires.apart (lists_are are);
+      kept = AreKept-put _ _ c.args.chain b.0 b.1 x (AreKept-equal c.self.view_is c.self.invariant.kept) b.2 c.requires.condition (lists_are are);
     }
 
 pub returns : goal.returns
@@ -52,7 +54,7 @@ returns c = λ before after is e.
     let stored = c.insert_reserved-key.ensures in
     let put = c.set_next-first.ensures in
     let first = (chain_at c.self.inside.chains c.args.chain).first in
-    let x : Link = record { key = c.insert_reserved-key.result; place = c.args.place; priority = c.args.priority } in
+    let x : Link = record { key = c.insert_reserved-key.result; place = c.args.place; condition = c.args.condition; priority = c.args.priority } in
     let linking : Linking c.self.inside.nodes c.insert_reserved-key.new.self c.set_next-first.new.nodes first c.args.behind c.next_of-next.result c.set_next-first.result x = record {
       vacant = stored.was_vacant;
       stored = stored.updates;

@@ -3,6 +3,7 @@ use Rattle.wait_book.specs.Lists.{Lists, list_at}
 use Rattle.wait_book.proofs.Nodes.{opens, opens-contains, linked_none}
 use Rattle.wait_book.proofs.Chained.{AreChains-equal, AreChains-seen, AreChains-taken, takes, lists_are}
 use Rattle.wait_book.proofs.Marks.{AreMarked-equal, AreMarked-taken, first_within}
+use Rattle.wait_book.proofs.Kept.{AreKept-equal, AreKept-taken}
 use Rattle.wait_book.proofs.chains.Chains.take_first.Goals as goal
 
 pub returns-in_err-first : goal.returns-in_err-first
@@ -35,6 +36,7 @@ invariant_of-self-2 c =
     record {
       are = AreChains-seen are;
       places = AreMarked-taken c.args.chain t.first t.after marks c.requires t.is c.remove-node.result.place t.place (lists_are are);
+      kept = AreKept-taken _ _ c.args.chain t.first t.after (AreKept-equal c.self.view_is c.self.invariant.kept) t.is (lists_are are);
     }
 
 pub returns : goal.returns

@@ -1,0 +1,21 @@
+use Rattle.std.proofs.Common.{eqb-true, eq-eqb, true≢false, sym, ◌∙◌, ap, arith}
+use Rattle.door_frame.specs.Places.{DoorId}
+use Rattle.baton_door.proofs.Steps.{admits_at}
+use Rattle.baton_door.proofs.door.Door.try_in.Goals as goal
+
+pub compare_exchange-requires : goal.compare_exchange-requires
+compare_exchange-requires g c =
+    let out = c.requires.outside in
+    let D = g.D.MonitorData in
+    let table = c.requires.table ∙ ap (λ (d : DoorId). d.table) (sym c.self.view_is) in
+    let wide = c.self.invariant.words_are in
+    (table, omega (arith, wide), admits_at D.rest D.ready D.CONDITIONS D.MESA _ _ _ _ _ _ out.1.1 out.1.2)
+
+pub returns-clause-turned_away : goal.returns-clause-turned_away
+returns-clause-turned_away g c = λ no.
+    let out = c.requires.outside in
+    (c.compare_exchange.ensures.2 out.0 out.1.0 out.1.1).0 (λ hit. true≢false (sym (eq-eqb c.compare_exchange.result 0 hit) ∙ no))
+
+pub returns-clause-let_in : goal.returns-clause-let_in
+returns-clause-let_in g c = λ is k f away.
+    let t = (c.compare_exchange.ensures.2 k f away).1 (eqb-true c.compare_exchange.result 0 is) in (t.0, t.1)

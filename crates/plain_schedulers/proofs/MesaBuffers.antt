@@ -1,0 +1,23 @@
+-- What a process adds that tests again, and what one adds that calls another.
+use Rattle.std.proofs.Common.{◌≡◌, ℕ, Bool, refl, ap, sym, ◌∙◌}
+use Rattle.hoare_law.specs.declared.event.History.{History}
+use Rattle.hoare_law.specs.declared.event.Event.TheVariants.{Wait, Leave, Resume}
+use Rattle.hoare_law.specs.Events.{with_event}
+use Rattle.hoare_law.specs.Growth.{AddsTwo, Notifies}
+use Rattle.plain_schedulers.specs.MesaTraces.{Rounds, again, Tells}
+
+module _ {S : Type 0} {k k1 c : ℕ} {f g h : History S} {found now : S} where
+  -- one more wait
+  pub Rounds-again : {held_up : S → Type 0} → Rounds k c held_up f g found → held_up found → AddsTwo g (Wait k1 c 0 found) (Resume k1 c now) h → k1 ≡ k
+      → Rounds k c held_up f h now
+  Rounds-again waited held adds place = again g h found now waited held (rw place at adds)
+
+module _ {S : Type 0} {k k1 k2 c : ℕ} {s s1 s2 : S} {f f1 g h : History S} {b : Bool} where
+  -- a call, and then a leave
+  pub Tells-leave : Notifies k1 c s1 f1 g b → k1 ≡ k → s1 ≡ s → f1 ≡ f → h ≡ with_event g (Leave k2 s2) → k2 ≡ k → s2 ≡ s → Tells k c s f h
+  Tells-leave notifies place state front leaves placed kept = record {
+    told = b;
+    front = g;
+    notifies = rw (place, state, front) at notifies;
+    leaves = rw (placed, kept) at leaves;
+  }

@@ -1,0 +1,177 @@
+//! The bounded buffer with Mesa conditions.
+ghost use Rattle.std.specs.Prelude.{◌≡◌, ◌≢◌, ◌↔◌, ◌<◌, ◌∷◌, ℕ, IsTrue, IfOk, length};
+ghost use Rattle.plain_schedulers.specs.Buffers.{BufferHolds, Makes, added};
+ghost use Rattle.plain_schedulers.specs.MesaTraces.{MesaAppends, MesaRemoves, Rounds};
+
+use super::{Buffer, BufferRefused, NONEMPTY, NONFULL};
+use hoare_law::data::MonitorData;
+use hoare_law::monitor::{Monitor, PLAIN};
+use hoare_law::waits::Waits;
+use std::alloc::Global;
+use std::marker::Model;
+use std::sync::Wait;
+
+/// A bounded buffer whose two conditions, numbered as those of `Buffer`, are Mesa conditions: who waited tests again, and whoever
+/// puts an item in or takes one out calls one process and goes on.
+#[derive(Drop)]
+pub struct MesaBuffer<T> {
+    buffer: Buffer<T>,
+}
+
+impl<T> Model for MesaBuffer<T> {
+    ghost use Rattle.plain_schedulers.specs.Buffers.{Buffered};
+
+    ghost Value = { Buffered T };
+
+    ghost view = { λ b. b.buffer };
+}
+
+impl<T: Drop> MonitorData for MesaBuffer<T> {
+    ghost use Rattle.plain_schedulers.specs.Buffers.{BufferHolds};
+
+    const CONDITIONS: usize = 2;
+
+    ghost CONDITIONS = { 2 };
+
+    const MESA: usize = 2;
+
+    ghost MESA = { 2 };
+
+    ghost inv = { λ b. BufferHolds b };
+
+    ghost rest = { λ b q. BufferHolds b };
+
+    ghost ready = { λ c p b q. BufferHolds b };
+
+    fn rest_holds<W: Waits>(&self, _lists: &W) -> bool {
+        let _len = self.buffer.len(); // what always holds of a buffer
+        true
+    }
+
+    fn ready_holds<W: Waits>(&self, _condition: usize, _priority: u64, _lists: &W) -> bool {
+        let _len = self.buffer.len();
+        true
+    }
+
+    ghost rest_inv = { λ b q h. h };
+
+    ghost ready_inv = { λ c p b q h. h };
+}
+
+impl<T: Drop> MesaBuffer<T> {
+    /// A buffer of 1 to 4096 cells with no item. Refused as `Buffer::make` does. No procedure takes memory.
+    pub fn make(alloc: Global, n: usize) -> Result<MesaBuffer<T>, BufferRefused>
+        ensures made { Makes n result }
+        ensures rest { IfOk result BufferHolds }
+    {
+        match Buffer::make(alloc, n) {
+            Ok(buffer) => Ok(MesaBuffer { buffer }),
+            Err(refused) => Err(refused),
+        }
+    }
+
+    // Whether no item is in.
+    fn is_empty(&self) -> bool
+        ensures { IsTrue result ↔ (length self.now.items ≡ 0) }
+    {
+        self.buffer.is_empty()
+    }
+
+    // Whether no cell is free.
+    fn is_full(&self) -> bool
+        ensures { IsTrue result ↔ (length self.now.items ≡ self.now.size) }
+    {
+        self.buffer.is_full()
+    }
+
+    // Puts an item in, as the newest.
+    fn push(&mut self, item: T)
+        requires room { length self.old.items < self.old.size }
+        ensures items { self.new ≡ added self.old item }
+        ensures holds { BufferHolds self.new }
+    {
+        self.buffer.push(item);
+        let _len = self.buffer.len();
+    }
+
+    // Takes the oldest item out.
+    fn pop(&mut self) -> T
+        requires some { 0 < length self.old.items }
+        ensures items { self.old.items ≡ result ∷ self.new.items }
+        ensures size { self.new.size ≡ self.old.size }
+        ensures holds { BufferHolds self.new }
+    {
+        let item = self.buffer.pop();
+        let _len = self.buffer.len();
+        item
+    }
+
+    // Comes in, and waits on nonfull as often as there is no room.
+    fn come_to_room<R: Wait, M: Monitor<MesaBuffer<T>>>(m: &M, rt: &R, out: M::Out) -> M::In
+        requires { M.is_of m.now out }
+        ensures of { M.is_of_in m.now result }
+        ensures place { M.place_in result ≡ M.place out }
+        ensures room { length (M.data_in result).items < (M.data_in result).size }
+        ensures comes { Rounds (M.place out) 1 (λ a. length a.items ≡ a.size) (M.front out)
+            (M.front_in result) (M.data_in result) }
+    {
+        let mut inside = m.enter(rt, out);
+        'rounds: for _ in rt.forever() {
+            if !m.state(&inside).is_full() {
+                return inside;
+            }
+            inside = m.wait(rt, inside, NONFULL, PLAIN);
+        }
+        unreachable!()
+    }
+
+    // Comes in, and waits on nonempty as often as there is no item.
+    fn come_to_item<R: Wait, M: Monitor<MesaBuffer<T>>>(m: &M, rt: &R, out: M::Out) -> M::In
+        requires { M.is_of m.now out }
+        ensures of { M.is_of_in m.now result }
+        ensures place { M.place_in result ≡ M.place out }
+        ensures some { 0 < length (M.data_in result).items }
+        ensures comes { Rounds (M.place out) 0 (λ a. length a.items ≡ 0) (M.front out)
+            (M.front_in result) (M.data_in result) }
+    {
+        let mut inside = m.enter(rt, out);
+        'rounds: for _ in rt.forever() {
+            if !m.state(&inside).is_empty() {
+                return inside;
+            }
+            inside = m.wait(rt, inside, NONEMPTY, PLAIN);
+        }
+        unreachable!()
+    }
+
+    /// Puts an item in, once there is room, and calls a process that waits for one.
+    pub fn append<R: Wait, M: Monitor<MesaBuffer<T>>>(
+        m: &M,
+        rt: &R,
+        out: M::Out,
+        item: T,
+    ) -> M::Out
+        requires { M.is_of m.now out }
+        ensures of { M.is_of m.now result }
+        ensures place { M.place result ≡ M.place out }
+        ensures trace { MesaAppends (M.place out) item (M.front out) (M.front result) }
+    {
+        let mut inside = MesaBuffer::come_to_room(m, rt, out);
+        M::state_mut(&mut inside, m).push(item);
+        m.notify(&mut inside, NONEMPTY);
+        m.leave(rt, inside)
+    }
+
+    /// Takes the oldest item out, once there is one, and calls a process that waits for room.
+    pub fn remove<R: Wait, M: Monitor<MesaBuffer<T>>>(m: &M, rt: &R, out: M::Out) -> (M::Out, T)
+        requires { M.is_of m.now out }
+        ensures of { M.is_of m.now result.0 }
+        ensures place { M.place result.0 ≡ M.place out }
+        ensures trace { MesaRemoves (M.place out) result.1 (M.front out) (M.front result.0) }
+    {
+        let mut inside = MesaBuffer::come_to_item(m, rt, out);
+        let item = M::state_mut(&mut inside, m).pop();
+        m.notify(&mut inside, NONFULL);
+        (m.leave(rt, inside), item)
+    }
+}

@@ -1,0 +1,46 @@
+-- Who goes on is taken out of the chain in which it stands, if it stands in one.
+use Rattle.std.proofs.Common.{◌≡◌, ◌==◌, ◌⊎◌, inl, inr, ℕ, Bool, true, false, cond, [], Option, Some, None, refl, sym, subst}
+use Rattle.std.specs.Prelude.{MatchOption, nat_lt}
+use Rattle.hoare_law.specs.declared.turn.Turn.{Turn}
+use Rattle.hoare_law.specs.declared.turn.Turn.TheVariants.{Free, Held, Owed, Return}
+use Rattle.wait_book.specs.declared.book.Book.TheInside.{Inside}
+use Rattle.wait_book.specs.Insides.{chain_of, view_of}
+use Rattle.wait_book.specs.Lists.{Lists, IsTaken, list_at}
+use Rattle.wait_book.proofs.Queued.{fewer, shorter}
+use Rattle.wait_book.specs.Contents.{Contents, priorities_on}
+use Rattle.wait_book.proofs.Sound.{admitted, claimed, parts, returned, went_on}
+
+-- it is that of the signallers or that of the called
+pub chain_of-fits : (t : Turn) (m n : ℕ) → chain_of t m ≡ Some n → (n ≡ 8) ⊎ (n ≡ 9)
+chain_of-fits Free m n e = absurd (cc)
+chain_of-fits (Held k) m n e = absurd (cc)
+chain_of-fits (Owed k c) m n e = by (nat_lt c m) e
+  where
+    by : (t : Bool) → cond t None (Some 9) ≡ Some n → (n ≡ 8) ⊎ (n ≡ 9)
+    by true q = absurd (cc)
+    by false q = inr (cc)
+chain_of-fits (Return k) m n e = inl (cc)
+
+-- what a book holds once the first of its chain is taken
+abbrev Took : ℕ → Option ℕ → Lists → Lists → Type 0
+Took n r old new = MatchOption r ((list_at old n ≡ []) × (new ≡ old)) (λ place. IsTaken n place old new)
+
+pub claimed-chain : (n k : ℕ) (a : Inside) (new : Lists) (r : Option ℕ) → (n ≡ 8) ⊎ (n ≡ 9) → Took n r a.chains new
+    → claimed (Some n) k (view_of a) ≡ admitted k (view_of (record a { chains = new }))
+claimed-chain n k a new r (inl e) m =
+    let took : Took 8 r a.chains new = subst (λ (j : ℕ). Took j r a.chains new) e m in
+    let s = shorter r a.chains new took in
+    subst (λ (j : ℕ). claimed (Some j) k (view_of a) ≡ admitted k (view_of (record a { chains = new }))) (sym e) (parts s.room s.room s.waiters s.signallers s.called refl)
+claimed-chain n k a new r (inr e) m =
+    let took : Took 9 r a.chains new = subst (λ (j : ℕ). Took j r a.chains new) e m in
+    let s = fewer r a.chains new took in
+    subst (λ (j : ℕ). claimed (Some j) k (view_of a) ≡ admitted k (view_of (record a { chains = new }))) (sym e) (parts s.room s.room s.waiters s.signallers s.called refl)
+
+-- the waiting priorities stay
+pub claimed-priorities : (o : Option ℕ) (k d : ℕ) (b : Contents) → priorities_on (claimed o k b) d ≡ priorities_on b d
+claimed-priorities None k d b = refl
+claimed-priorities (Some n) k d b = by (n == 8)
+  where
+    by : (t : Bool) → priorities_on (cond t (returned k b) (went_on k b)) d ≡ priorities_on b d
+    by true = refl
+    by false = refl

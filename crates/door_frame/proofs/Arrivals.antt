@@ -8,7 +8,7 @@ use Rattle.hoare_law.specs.declared.turn.Turn.TheVariants.{Owed, Return}
 use Rattle.hoare_law.specs.Beside.Erasure.{erased}
 use Rattle.hoare_law.specs.Events.{place_of, own, newest, with_event}
 use Rattle.hoare_law.specs.Growth.{Begins, AddsLast, AddsTwo, Signals, resumed_one}
-use Rattle.hoare_law.specs.Kinds.{IsHoare, IsMesa}
+use Rattle.hoare_law.specs.Sizes.{IsHoare, IsMesa}
 use Rattle.hoare_law.specs.Lawful.{Rest, Ready, Stands}
 use Rattle.hoare_law.specs.Legal.{Allowed}
 use Rattle.hoare_law.specs.Priorities.{priorities}

@@ -12,7 +12,7 @@ use Rattle.hoare_law.specs.declared.turn.Turn.TheVariants.{Held}
 use Rattle.hoare_law.specs.Beside.Erasure.{erased}
 use Rattle.hoare_law.specs.Events.{place_of, with_event}
 use Rattle.hoare_law.specs.Growth.{Notifies, Broadcasts, called_one, called_all}
-use Rattle.hoare_law.specs.Kinds.{IsMesa}
+use Rattle.hoare_law.specs.Sizes.{IsMesa}
 use Rattle.hoare_law.specs.Lawful.{Rest, Ready}
 use Rattle.hoare_law.specs.Priorities.{priorities, taken, emptied, behind_first}
 use Rattle.hoare_law.specs.Turns.{turn}

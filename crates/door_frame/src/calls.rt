@@ -4,7 +4,7 @@ ghost use Rattle.hoare_law.specs.declared.event.History.{History};
 ghost use Rattle.hoare_law.specs.declared.event.Event.TheVariants as event;
 ghost use Rattle.hoare_law.specs.Events.{with_event};
 ghost use Rattle.hoare_law.specs.Growth.{AddsLast, AddsTwo, Broadcasts, Exits, Notifies, Signals};
-ghost use Rattle.hoare_law.specs.Kinds.{IsHoare, IsMesa};
+ghost use Rattle.hoare_law.specs.Sizes.{IsHoare, IsMesa};
 ghost use Rattle.hoare_law.specs.Priorities.{emptied, joined, priorities, taken};
 ghost use Rattle.door_frame.specs.Places.{IsOut, IsIn, Handed, place_in};
 ghost use Rattle.door_frame.specs.Steps.{Came, due};

@@ -9,7 +9,7 @@ use Rattle.hoare_law.specs.declared.event.History.{History}
 use Rattle.hoare_law.specs.declared.event.Event.TheVariants.{Notify, Broadcast}
 use Rattle.hoare_law.specs.declared.turn.Turn.TheVariants.{Held}
 use Rattle.hoare_law.specs.Events.{place_of, own, newest, with_event}
-use Rattle.hoare_law.specs.Kinds.{IsMesa}
+use Rattle.hoare_law.specs.Sizes.{IsMesa}
 use Rattle.hoare_law.specs.Priorities.{in_order}
 use Rattle.hoare_law.specs.Called.{called_by, called}
 use Rattle.hoare_law.specs.Lawful.{Rest, Ready, Owes}
@@ -29,7 +29,7 @@ use Rattle.hoare_law.proofs.Waiters.{held-in_range, chosen-in_range, place_in_ra
 
 module _ {S : Type 0} where
   -- it may call the one that a signal would resume
-  pub Allowed-notify : (f : History S) (k c : ℕ) (x : Event S) (s : S) → IsLegal f → turn f.events ≡ Held k → IsMesa f.conditions f.mesa c → chosen c f.events ≡ Some x
+  pub Allowed-notify : (f : History S) (k c : ℕ) (x : Event S) (s : S) → IsLegal f → turn f.events ≡ Held k → IsMesa f.sizes.conditions f.sizes.mesa c → chosen c f.events ≡ Some x
       → Allowed f (Notify k c (place_of x) s)
   Allowed-notify f k c x s legal held mesa is = record {
     in_range = (held-in_range f k legal held, mesa.0, place_in_range f x (chosen-in_range c f x legal is));
@@ -37,7 +37,7 @@ module _ {S : Type 0} where
   }
 
   -- and all that wait, where somebody does
-  pub Allowed-broadcast : (f : History S) (k c : ℕ) (s : S) → IsLegal f → turn f.events ≡ Held k → IsMesa f.conditions f.mesa c → waiting c f.events ≢ []
+  pub Allowed-broadcast : (f : History S) (k c : ℕ) (s : S) → IsLegal f → turn f.events ≡ Held k → IsMesa f.sizes.conditions f.sizes.mesa c → waiting c f.events ≢ []
       → Allowed f (Broadcast k c s)
   Allowed-broadcast f k c s legal held mesa some = record { in_range = (held-in_range f k legal held, mesa.0); fits = (held, some, mesa) }
 
@@ -106,7 +106,7 @@ module _ {S : Type 0} where
       )
 
   abbrev CalledApart : History S → Event S → Type 0
-  CalledApart h x = (newest (own (place_of x) h.events) ≡ Some x) × (waits_on (condition_of x) x ≡ true) × IsMesa h.conditions h.mesa (condition_of x)
+  CalledApart h x = (newest (own (place_of x) h.events) ≡ Some x) × (waits_on (condition_of x) x ≡ true) × IsMesa h.sizes.conditions h.sizes.mesa (condition_of x)
       × ((d : ℕ) → All (λ y. place_of x ≢ place_of y) (waiting d h.events))
 
   -- who is called waits nowhere

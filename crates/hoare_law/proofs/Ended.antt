@@ -20,7 +20,7 @@ use Rattle.hoare_law.proofs.Waiters.{held-in_range, return-in_range, chosen-wait
 module _ {S : Type 0} where
   -- everybody is outside
   abbrev pub AllOutside : History S → Type 0
-  AllOutside h = (k : ℕ) → k < h.places → outside k h.events ≡ true
+  AllOutside h = (k : ℕ) → k < h.sizes.places → outside k h.events ≡ true
 
   -- a place whose last event isn't its going out is not outside
   not_outside : (h : List (Event S)) (k : ℕ) (e : Event S) → newest (own k h) ≡ Some e → is_out (Some e) ≡ false → outside k h ≢ true

@@ -3,6 +3,7 @@ use Rattle.std.proofs.Common.{◌≡◌, ◌==◌, not, ℕ, true, cond, List, [
 use Rattle.std.specs.List.{list_all}
 use Rattle.hoare_law.specs.declared.event.Event.{Event}
 use Rattle.hoare_law.specs.declared.event.History.{History}
+use Rattle.hoare_law.specs.declared.event.Sizes.{Sizes}
 use Rattle.hoare_law.specs.declared.event.Event.TheVariants.{Admit, Wait, Signal, Pass, Leave, Resume, Back, Notify, Broadcast}
 use Rattle.hoare_law.specs.declared.turn.Turn.TheVariants.{Held}
 use Rattle.hoare_law.specs.Events.{place_of, data_of, own, newest, latest_data, with_event}
@@ -10,7 +11,7 @@ use Rattle.hoare_law.specs.Growth.{Begins, Grows, AddsLast, AddsTwo}
 use Rattle.hoare_law.specs.Lawful.{Rest, Ready, Stands}
 use Rattle.hoare_law.specs.Priorities.{priorities}
 use Rattle.hoare_law.specs.Turns.{turn, turn_by, urgent, outside, is_out}
-use Rattle.hoare_law.specs.Kinds.{IsHoare, IsMesa}
+use Rattle.hoare_law.specs.Sizes.{IsHoare, IsMesa}
 use Rattle.hoare_law.specs.Waiting.{waiting}
 use Rattle.hoare_law.specs.Called.{called}
 use Rattle.hoare_law.proofs.Events.{own-push, newest-push}
@@ -61,11 +62,10 @@ module _ {S : Type 0} where
   unfolding outside
   outside-same k f h same out = ap (λ l. is_out (newest l)) same ∙ out
 
-  -- places, conditions and Mesa conditions stay
-  pub sizes-with : (f h : History S) (e : Event S) (n m l : ℕ) → Begins f h → f.places ≡ n → f.conditions ≡ m → f.mesa ≡ l
-      → ((with_event h e).places ≡ n) × ((with_event h e).conditions ≡ m) × ((with_event h e).mesa ≡ l)
+  -- its sizes stay
+  pub sizes-with : (f h : History S) (e : Event S) (n : Sizes) → Begins f h → f.sizes ≡ n → (with_event h e).sizes ≡ n
   unfolding with_event
-  sizes-with f h e n m l begins p c k = (sym begins.places ∙ p, sym begins.conditions ∙ c, sym begins.mesa ∙ k)
+  sizes-with f h e n begins is = sym begins.sizes ∙ is
 
   -- k, which knew f, adds one event last
   pub AddsLast-one : (k : ℕ) (f h : History S) (e : Event S) → place_of e ≡ k → Begins f h → own k h.events ≡ own k f.events
@@ -117,7 +117,7 @@ module _ {S : Type 0} where
         (rest-return h k (stood h (Back k s) stands).lawful may.0)
 
     -- who waited on one of Hoare's conditions
-    pub finds-resume : (h f : History S) (k c p : ℕ) (s t : S) → own k h.events ≡ own k (with_event f (Wait k c p s)).events → IsHoare h.conditions h.mesa c
+    pub finds-resume : (h f : History S) (k c p : ℕ) (s t : S) → own k h.events ≡ own k (with_event f (Wait k c p s)).events → IsHoare h.sizes.conditions h.sizes.mesa c
         → Stands rest ready (with_event h (Resume k c t)) → ready c p t (priorities (with_event h (Resume k c t)).events)
     unfolding with_event
     finds-resume h f k c p s t same hoare stands =
@@ -128,7 +128,7 @@ module _ {S : Type 0} where
         (ap newest (same ∙ own-last k f.events (Wait k c p s) refl) ∙ newest-push (own k f.events) (Wait k c p s)))
 
     -- and who waited on a Mesa condition
-    pub finds-called : (h : History S) (k c : ℕ) (t : S) → IsMesa h.conditions h.mesa c → Stands rest ready (with_event h (Resume k c t))
+    pub finds-called : (h : History S) (k c : ℕ) (t : S) → IsMesa h.sizes.conditions h.sizes.mesa c → Stands rest ready (with_event h (Resume k c t))
         → rest t (priorities (with_event h (Resume k c t)).events)
     finds-called h k c t mesa stands =
         let may = (IsLegal-last h (Resume k c t) stands.legal).fits in

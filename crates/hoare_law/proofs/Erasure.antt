@@ -267,4 +267,4 @@ module _ {S : Type 0} where
   -- one more event
   pub erased-push : (h : History S) (e : Event S) → erased (with_event h e) ≡ with_event (erased h) (without_data e)
   unfolding with_event
-  erased-push h e = ap (λ l. record { places = h.places; conditions = h.conditions; mesa = h.mesa; opening = tt; events = l }) (map-append without_data h.events (e ∷ []))
+  erased-push h e = ap (λ l. record { sizes = h.sizes; opening = tt; events = l }) (map-append without_data h.events (e ∷ []))

@@ -12,7 +12,7 @@ use Rattle.hoare_law.specs.declared.event.Event.TheVariants.{Admit, Wait, Signal
 use Rattle.hoare_law.specs.declared.turn.Turn.{Turn}
 use Rattle.hoare_law.specs.declared.turn.Turn.TheVariants.{Free, Held, Owed, Return}
 use Rattle.hoare_law.specs.Events.{place_of, data_of, own, newest, latest_data, cut_to}
-use Rattle.hoare_law.specs.Kinds.{IsHoare, IsMesa}
+use Rattle.hoare_law.specs.Sizes.{IsHoare, IsMesa}
 use Rattle.hoare_law.specs.Waiting.{priority_of, waiting, chosen, Chooses}
 use Rattle.hoare_law.specs.Turns.{is_signal, turn}
 use Rattle.hoare_law.specs.Priorities.{priorities}
@@ -58,7 +58,7 @@ module _ {S : Type 0} where
       one_more e more at placed = none_added (own k f.events) (own k (e ∷ more)) (sym (filter-append (λ x. place_of x == k) f.events (e ∷ more)) ∙ ap (own k) at ∙ same)
 
       by : (later : List (Event S)) → f.events ++ later ≡ log.events → log ≡ f
-      by [] at = λ i. record { places = sym begins.places i; conditions = sym begins.conditions i; mesa = sym begins.mesa i; opening = sym begins.opening i; events = (sym at ∙ append-nil f.events) i }
+      by [] at = λ i. record { sizes = sym begins.sizes i; opening = sym begins.opening i; events = (sym at ∙ append-nil f.events) i }
       by (e ∷ more) at =
           let placed : place_of e ≡ k = place_of-held (cut_to log f.events) k e is (legal.each f.events more e (sym at)) in
           let kept : own k (e ∷ more) ≡ e ∷ own k more = ap (λ b. cond b (e ∷ own k more) (own k more)) (eq-eqb (place_of e) k placed) in
@@ -131,7 +131,7 @@ module _ {S : Type 0} where
         (subst (λ (l : List (Event S)). rest (data_of e) (priorities l)) (sym is) (give_up_owes rest ready g e gives (lawful.each g [] e is)))
 
     -- whoever the monitor is owed, from one of Hoare's conditions, finds what was to be ready for its wait
-    pub ready-owed : (h : History S) (k c p : ℕ) (s : S) → Stands rest ready h → IsHoare h.conditions h.mesa c → turn h.events ≡ Owed k c
+    pub ready-owed : (h : History S) (k c p : ℕ) (s : S) → Stands rest ready h → IsHoare h.sizes.conditions h.sizes.mesa c → turn h.events ≡ Owed k c
         → newest (own k h.events) ≡ Some (Wait k c p s) → ready c p (latest_data h) (priorities h.events)
     ready-owed h k c p s stands hoare is last =
         let r : (x : Event S) × IsHanded h.events k c x = owed-handed h k c stands.legal (turn-handed h k c stands.legal hoare is) in
@@ -147,7 +147,7 @@ module _ {S : Type 0} where
         (subst (λ (g : List (Event S)). ready c (priority_of r.0) l.left (priorities g)) (sym l.ends) found))
 
     -- and from a Mesa condition finds the monitor at rest
-    pub rest-owed : (h : History S) (k c : ℕ) → Stands rest ready h → IsMesa h.conditions h.mesa c → turn h.events ≡ Owed k c → rest (latest_data h) (priorities h.events)
+    pub rest-owed : (h : History S) (k c : ℕ) → Stands rest ready h → IsMesa h.sizes.conditions h.sizes.mesa c → turn h.events ≡ Owed k c → rest (latest_data h) (priorities h.events)
     rest-owed h k c stands mesa is =
         let r : EndsCalled k c h.events = turn-called h k c stands.legal mesa is in
         given_up h r.ends.0 r.by stands.lawful r.ends.1 r.gives

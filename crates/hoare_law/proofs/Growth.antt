@@ -8,13 +8,11 @@ use Rattle.hoare_law.specs.Events.{own, place_of, with_event}
 use Rattle.hoare_law.specs.Growth.{Begins, Grows, AddsLast, AddsTwo, ComesTo, waited, Exits, just_left, Signals, resumed_one, nobody_waited, Finishes, exited, signalled}
 
 pub Begins-refl : {S : Type 0} (h : History S) → Begins h h
-Begins-refl h = record { places = refl; conditions = refl; mesa = refl; opening = refl; later = []; is = append-nil h.events }
+Begins-refl h = record { sizes = refl; opening = refl; later = []; is = append-nil h.events }
 
 pub Begins-trans : {S : Type 0} {f g h : History S} → Begins f g → Begins g h → Begins f h
 Begins-trans {f = f} a b = record {
-  places = a.places ∙ b.places;
-  conditions = a.conditions ∙ b.conditions;
-  mesa = a.mesa ∙ b.mesa;
+  sizes = a.sizes ∙ b.sizes;
   opening = a.opening ∙ b.opening;
   later = a.later ++ b.later;
   is = sym (append_assoc f.events a.later b.later) ∙ (ap (λ x. x ++ b.later) a.is ∙ b.is);
@@ -22,7 +20,7 @@ Begins-trans {f = f} a b = record {
 
 pub Begins-push : {S : Type 0} (h : History S) (e : Event S) → Begins h (with_event h e)
 unfolding with_event
-Begins-push h e = record { places = refl; conditions = refl; mesa = refl; opening = refl; later = e ∷ []; is = refl }
+Begins-push h e = record { sizes = refl; opening = refl; later = e ∷ []; is = refl }
 
 pub Grows-trans : {S : Type 0} {k : ℕ} {s t : List (Event S)} {f g h : History S} → Grows k s f g → Grows k t g h → Grows k (s ++ t) f h
 Grows-trans {k = k} {s = s} {t = t} {f = f} a b = record {
@@ -37,7 +35,7 @@ own-one e = grind (arith)
 pub Grows-one : {S : Type 0} (e : Event S) (f h : History S) → h ≡ with_event f e → Grows (place_of e) (e ∷ []) f h
 unfolding with_event
 Grows-one e f h is = rw is (record {
-  begins = record { places = refl; conditions = refl; mesa = refl; opening = refl; later = e ∷ []; is = refl };
+  begins = record { sizes = refl; opening = refl; later = e ∷ []; is = refl };
   adds = filter-append (λ x. place_of x == place_of e) f.events (e ∷ []) ∙ ap (λ x. own (place_of e) f.events ++ x) (own-one e);
 })
 

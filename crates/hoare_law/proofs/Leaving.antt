@@ -10,7 +10,7 @@ use Rattle.hoare_law.specs.Lawful.{Rest, Ready, Owes}
 use Rattle.hoare_law.specs.Legal.{Allowed, IsLegal}
 use Rattle.hoare_law.specs.Priorities.{priorities, joined, taken}
 use Rattle.hoare_law.specs.Turns.{turn, urgent, outside, is_out}
-use Rattle.hoare_law.specs.Kinds.{IsHoare}
+use Rattle.hoare_law.specs.Sizes.{IsHoare}
 use Rattle.hoare_law.specs.Waiting.{priority_of, chosen, Chooses}
 use Rattle.hoare_law.specs.Called.{called}
 use Rattle.hoare_law.proofs.Held.{handing, is_inside, not_held}
@@ -64,15 +64,15 @@ module _ {S : Type 0} where
   pub Allowed-leave : (f : History S) (k : ℕ) (s : S) → IsLegal f → turn f.events ≡ Held k → Allowed f (Leave k s)
   Allowed-leave f k s legal held = record { in_range = held-in_range f k legal held; fits = held }
 
-  pub Allowed-wait : (f : History S) (k c p : ℕ) (s : S) → IsLegal f → turn f.events ≡ Held k → c < f.conditions → Allowed f (Wait k c p s)
+  pub Allowed-wait : (f : History S) (k c p : ℕ) (s : S) → IsLegal f → turn f.events ≡ Held k → c < f.sizes.conditions → Allowed f (Wait k c p s)
   Allowed-wait f k c p s legal held below = record { in_range = (held-in_range f k legal held, below); fits = held }
 
-  handing_allowed : (out : Bool) (f : History S) (k c w : ℕ) (s : S) → (k < f.places) × (c < f.conditions) × (w < f.places)
-      → (turn f.events ≡ Held k) × Chooses c f.events w × IsHoare f.conditions f.mesa c → Allowed f (handing out k c w s)
+  handing_allowed : (out : Bool) (f : History S) (k c w : ℕ) (s : S) → (k < f.sizes.places) × (c < f.sizes.conditions) × (w < f.sizes.places)
+      → (turn f.events ≡ Held k) × Chooses c f.events w × IsHoare f.sizes.conditions f.sizes.mesa c → Allowed f (handing out k c w s)
   handing_allowed true f k c w s in_range fits = record { in_range = in_range; fits = fits }
   handing_allowed false f k c w s in_range fits = record { in_range = in_range; fits = fits }
 
-  pub Allowed-handing : (out : Bool) (f : History S) (k c : ℕ) (x : Event S) (s : S) → IsLegal f → turn f.events ≡ Held k → IsHoare f.conditions f.mesa c
+  pub Allowed-handing : (out : Bool) (f : History S) (k c : ℕ) (x : Event S) (s : S) → IsLegal f → turn f.events ≡ Held k → IsHoare f.sizes.conditions f.sizes.mesa c
       → chosen c f.events ≡ Some x → Allowed f (handing out k c (place_of x) s)
   Allowed-handing out f k c x s legal held hoare is = handing_allowed out f k c (place_of x) s
       (held-in_range f k legal held, omega (arith, hoare), place_in_range f x (chosen-in_range c f x legal is)) (held, Chooses-place c f.events x is, hoare)

@@ -23,7 +23,7 @@ IsLegal-none h none = record { each = λ f g x is. absurd (none-split f g x (sym
 
 pub IsLegal-front : {S : Type 0} {f h : History S} → Begins f h → IsLegal h → IsLegal f
 IsLegal-front {f = f} begins legal = record {
-  each = λ a b x is. rw (begins.places, begins.conditions, begins.mesa, begins.opening)
+  each = λ a b x is. rw (begins.sizes, begins.opening)
       (legal.each a (b ++ begins.later) x (sym begins.is ∙ (ap (λ y. y ++ begins.later) is ∙ append_assoc a (x ∷ b) begins.later)));
 }
 

@@ -11,7 +11,7 @@ use Rattle.hoare_law.specs.declared.event.History.{History}
 use Rattle.hoare_law.specs.declared.event.Event.TheVariants.{Admit, Wait, Signal, Pass, Leave, Resume, Back, Notify, Broadcast}
 use Rattle.hoare_law.specs.declared.turn.Turn.TheVariants.{Held, Owed}
 use Rattle.hoare_law.specs.Events.{place_of, own, newest, with_event, cut_to}
-use Rattle.hoare_law.specs.Kinds.{IsHoare, IsMesa}
+use Rattle.hoare_law.specs.Sizes.{IsHoare, IsMesa}
 use Rattle.hoare_law.specs.Waiting.{priority_of, condition_of, waits_on, concerns, waiting}
 use Rattle.hoare_law.specs.Called.{called_by, called}
 use Rattle.hoare_law.specs.Turns.{turn}
@@ -59,8 +59,8 @@ module _ {S : Type 0} where
   pub record IsCalled (h : History S) (x : Event S) : Type 0 where
     pub last : newest (own (place_of x) h.events) ≡ Some x
     pub waits : waits_on (condition_of x) x ≡ true
-    pub mesa : IsMesa h.conditions h.mesa (condition_of x)
-    pub place : place_of x < h.places
+    pub mesa : IsMesa h.sizes.conditions h.sizes.mesa (condition_of x)
+    pub place : place_of x < h.sizes.places
     pub apart : IsApart h.events x
 
   last_stays : (h : List (Event S)) (e x : Event S) → not (place_of e == place_of x) ≡ true → newest (own (place_of x) h) ≡ Some x
@@ -104,13 +104,13 @@ module _ {S : Type 0} where
       all_of (x ∷ xs) a = let b = both_true _ _ a in All-cons (λ x. not (k == place_of x) ≡ true) x xs b.0 (all_of xs b.1)
 
   -- one that waits is called by e, an event of k, which leaves nobody with its place waiting
-  called_now : (f : History S) (e x : Event S) (k c : ℕ) → place_of e ≡ k → IsMesa f.conditions f.mesa c → OthersWait f k c x → IsApart (f.events ++ e ∷ []) x → IsCalled (with_event f e) x
+  called_now : (f : History S) (e x : Event S) (k c : ℕ) → place_of e ≡ k → IsMesa f.sizes.conditions f.sizes.mesa c → OthersWait f k c x → IsApart (f.events ++ e ∷ []) x → IsCalled (with_event f e) x
   unfolding with_event
   called_now f e x k c mine mesa was apart =
       let on : condition_of x ≡ c = condition-waits_on c x was.0.0.on in record {
         last = last_stays f.events e x (ap (λ j. not (j == place_of x)) mine ∙ was.1) was.0.0.last;
         waits = ap (λ d. waits_on d x) on ∙ was.0.0.on;
-        mesa = subst (λ (d : ℕ). IsMesa f.conditions f.mesa d) (sym on) mesa;
+        mesa = subst (λ (d : ℕ). IsMesa f.sizes.conditions f.sizes.mesa d) (sym on) mesa;
         place = place_in_range f x was.0.1;
         apart = apart;
       }
@@ -193,40 +193,40 @@ module _ {S : Type 0} where
   first-called h w c legal r = All-head (IsCalled h) r.first r.others (subst (All (IsCalled h)) r.are (All-called h legal))
 
   -- the condition that it waited on is a Mesa condition
-  pub called-mesa : (h : History S) (w c : ℕ) → IsLegal h → EndsCalled w c h.events → IsMesa h.conditions h.mesa c
-  called-mesa h w c legal r = subst (λ (d : ℕ). IsMesa h.conditions h.mesa d) r.on (first-called h w c legal r).mesa
+  pub called-mesa : (h : History S) (w c : ℕ) → IsLegal h → EndsCalled w c h.events → IsMesa h.sizes.conditions h.sizes.mesa c
+  called-mesa h w c legal r = subst (λ (d : ℕ). IsMesa h.sizes.conditions h.sizes.mesa d) r.on (first-called h w c legal r).mesa
 
-  handing_hoare : (out : Bool) (f : History S) (k c w : ℕ) (s : S) → Allowed f (handing out k c w s) → IsHoare f.conditions f.mesa c
+  handing_hoare : (out : Bool) (f : History S) (k c w : ℕ) (s : S) → Allowed f (handing out k c w s) → IsHoare f.sizes.conditions f.sizes.mesa c
   handing_hoare true f k c w s may = may.fits.2
   handing_hoare false f k c w s may = may.fits.2
 
   -- and that of one that was resumed is one of Hoare's
-  pub handed-hoare : (h : History S) (w c : ℕ) → IsLegal h → EndsHanding w c h.events → IsHoare h.conditions h.mesa c
+  pub handed-hoare : (h : History S) (w c : ℕ) → IsLegal h → EndsHanding w c h.events → IsHoare h.sizes.conditions h.sizes.mesa c
   handed-hoare h w c legal r = handing_hoare r.out (cut_to h r.before) r.by c w r.left (legal.each r.before [] (handing r.out r.by c w r.left) r.ends)
 
   -- who is owed the monitor and waited on one of Hoare's conditions was resumed
-  pub turn-handed : (h : History S) (w c : ℕ) → IsLegal h → IsHoare h.conditions h.mesa c → turn h.events ≡ Owed w c → EndsHanding w c h.events
+  pub turn-handed : (h : History S) (w c : ℕ) → IsLegal h → IsHoare h.sizes.conditions h.sizes.mesa c → turn h.events ≡ Owed w c → EndsHanding w c h.events
   turn-handed h w c legal hoare is = by (turn-owed h.events w c is)
     where
       by : IsOwed w c h.events → EndsHanding w c h.events
       by (handed r) = r
-      by (next_called r) = absurd (one_kind h.conditions h.mesa c hoare (called-mesa h w c legal r))
+      by (next_called r) = absurd (one_kind h.sizes.conditions h.sizes.mesa c hoare (called-mesa h w c legal r))
 
   -- and who waited on a Mesa condition was called
-  pub turn-called : (h : History S) (w c : ℕ) → IsLegal h → IsMesa h.conditions h.mesa c → turn h.events ≡ Owed w c → EndsCalled w c h.events
+  pub turn-called : (h : History S) (w c : ℕ) → IsLegal h → IsMesa h.sizes.conditions h.sizes.mesa c → turn h.events ≡ Owed w c → EndsCalled w c h.events
   turn-called h w c legal mesa is = by (turn-owed h.events w c is)
     where
       by : IsOwed w c h.events → EndsCalled w c h.events
-      by (handed r) = absurd (one_kind h.conditions h.mesa c (handed-hoare h w c legal r) mesa)
+      by (handed r) = absurd (one_kind h.sizes.conditions h.sizes.mesa c (handed-hoare h w c legal r) mesa)
       by (next_called r) = r
 
   -- place and condition to which the monitor is owed are the monitor's
-  pub owed-in_range : (h : History S) (w c : ℕ) → IsLegal h → turn h.events ≡ Owed w c → (w < h.places) × (c < h.conditions)
+  pub owed-in_range : (h : History S) (w c : ℕ) → IsLegal h → turn h.events ≡ Owed w c → (w < h.sizes.places) × (c < h.sizes.conditions)
   owed-in_range h w c legal is = by (turn-owed h.events w c is)
     where
-      by : IsOwed w c h.events → (w < h.places) × (c < h.conditions)
+      by : IsOwed w c h.events → (w < h.sizes.places) × (c < h.sizes.conditions)
       by (handed r) = handing_in_range r.out h r.by c w r.left (in_range-at h r.before [] (handing r.out r.by c w r.left) legal r.ends)
-      by (next_called r) = (subst (λ (j : ℕ). j < h.places) r.place (first-called h w c legal r).place, (called-mesa h w c legal r).0)
+      by (next_called r) = (subst (λ (j : ℕ). j < h.sizes.places) r.place (first-called h w c legal r).place, (called-mesa h w c legal r).0)
 
   -- and the place waits nowhere
   pub waiting-owed : (h : History S) (k c d : ℕ) → IsLegal h → turn h.events ≡ Owed k c → list_all (λ x. not (k == place_of x)) (waiting d h.events) ≡ true

@@ -81,7 +81,7 @@ module _ {S : Type 0} where
   All-in_range h test legal = All-filter_by_later (IsInRange h) test h.events (λ f e later is t. in_range-at h f later e legal is)
 
   -- the place of an event in range is a place of the monitor
-  pub place_in_range : (h : History S) (e : Event S) → IsInRange h e → place_of e < h.places
+  pub place_in_range : (h : History S) (e : Event S) → IsInRange h e → place_of e < h.sizes.places
   place_in_range h (Admit k s) r = r
   place_in_range h (Wait k c p s) r = r.0
   place_in_range h (Signal k c w s) r = r.0
@@ -92,25 +92,25 @@ module _ {S : Type 0} where
   place_in_range h (Notify k c w s) r = r.0
   place_in_range h (Broadcast k c s) r = r.0
 
-  pub handing_in_range : (out : Bool) (h : History S) (k c w : ℕ) (s : S) → IsInRange h (handing out k c w s) → (w < h.places) × (c < h.conditions)
+  pub handing_in_range : (out : Bool) (h : History S) (k c w : ℕ) (s : S) → IsInRange h (handing out k c w s) → (w < h.sizes.places) × (c < h.sizes.conditions)
   handing_in_range true h k c w s r = (r.2, r.1)
   handing_in_range false h k c w s r = (r.2, r.1)
 
   -- who has the turn is a place of the monitor
-  pub held-in_range : (h : History S) (k : ℕ) → IsLegal h → turn h.events ≡ Held k → k < h.places
+  pub held-in_range : (h : History S) (k : ℕ) → IsLegal h → turn h.events ≡ Held k → k < h.sizes.places
   held-in_range h k legal is =
       let r : (e : Event S) × ((g : List (Event S)) × (h.events ≡ g ++ e ∷ [])) × (is_inside e ≡ true) × (place_of e ≡ k) = turn-held h.events k is in
-      subst (λ (i : ℕ). i < h.places) r.3 (place_in_range h r.0 (in_range-at h r.1.0 [] r.0 legal r.1.1))
+      subst (λ (i : ℕ). i < h.sizes.places) r.3 (place_in_range h r.0 (in_range-at h r.1.0 [] r.0 legal r.1.1))
 
   -- so are the waiting signallers
-  pub urgent-in_range : (h : History S) → IsLegal h → All (λ k. k < h.places) (urgent h.events)
+  pub urgent-in_range : (h : History S) → IsLegal h → All (λ k. k < h.sizes.places) (urgent h.events)
   unfolding urgent
-  urgent-in_range h legal = All-map (λ k. k < h.places) place_of _ (All-weaker (IsInRange h) (λ e. place_of e < h.places) (place_in_range h) _ (All-in_range h _ legal))
+  urgent-in_range h legal = All-map (λ k. k < h.sizes.places) place_of _ (All-weaker (IsInRange h) (λ e. place_of e < h.sizes.places) (place_in_range h) _ (All-in_range h _ legal))
 
   -- and the one that returns
-  pub return-in_range : (h : History S) (k : ℕ) → IsLegal h → turn h.events ≡ Return k → k < h.places
+  pub return-in_range : (h : History S) (k : ℕ) → IsLegal h → turn h.events ≡ Return k → k < h.sizes.places
   return-in_range h k legal is = let r = turn-return h.events k is in
-      All-head (λ (i : ℕ). i < h.places) k r.3 (subst (λ (us : List ℕ). All (λ (i : ℕ). i < h.places) us) r.4 (urgent-in_range h legal))
+      All-head (λ (i : ℕ). i < h.sizes.places) k r.3 (subst (λ (us : List ℕ). All (λ (i : ℕ). i < h.sizes.places) us) r.4 (urgent-in_range h legal))
 
   -- the last event of a place that returns is its signal
   pub own-return : (h : List (Event S)) (k : ℕ) → turn h ≡ Return k → LastSignals h k

@@ -5,6 +5,7 @@ use Rattle.std.specs.List.{filter}
 use Rattle.std.specs.Option.{option_map}
 use Rattle.hoare_law.specs.declared.event.Event.{Event}
 use Rattle.hoare_law.specs.declared.event.History.{History}
+use Rattle.hoare_law.specs.declared.event.Sizes.{Sizes}
 use Rattle.hoare_law.specs.declared.event.Event.TheVariants.{Admit, Wait, Signal, Pass, Leave, Resume, Back, Notify, Broadcast}
 
 -- the place that acts
@@ -53,6 +54,6 @@ with_event h e = record h { events = h.events ++ e ∷ [] }
 abbrev pub cut_to : {S : Type 0} → History S → List (Event S) → History S
 cut_to h f = record h { events = f }
 
--- a history in which nothing happened yet, at a monitor of which the last `mesa` conditions are Mesa conditions
-abbrev pub opened : {S : Type 0} → ℕ → ℕ → ℕ → S → History S
-opened places conditions mesa s = record { places = places; conditions = conditions; mesa = mesa; opening = s; events = [] }
+-- a history in which nothing happened yet
+abbrev pub opened : {S : Type 0} → Sizes → S → History S
+opened sizes s = record { sizes = sizes; opening = s; events = [] }

@@ -8,9 +8,7 @@ use Rattle.hoare_law.specs.Waiting.{waiting, Chooses}
 
 -- h begins with f
 pub record Begins {S : Type 0} (f h : History S) : Type 0 where
-  pub places : f.places ≡ h.places
-  pub conditions : f.conditions ≡ h.conditions
-  pub mesa : f.mesa ≡ h.mesa
+  pub sizes : f.sizes ≡ h.sizes
   pub opening : f.opening ≡ h.opening
   pub later : List (Event S)
   pub is : f.events ++ later ≡ h.events

@@ -5,21 +5,21 @@ use Rattle.hoare_law.specs.declared.event.History.{History}
 use Rattle.hoare_law.specs.declared.event.Event.TheVariants.{Admit, Wait, Signal, Pass, Leave, Resume, Back, Notify, Broadcast}
 use Rattle.hoare_law.specs.declared.turn.Turn.TheVariants.{Free, Held, Owed, Return}
 use Rattle.hoare_law.specs.Events.{latest_data, cut_to}
-use Rattle.hoare_law.specs.Kinds.{IsHoare, IsMesa}
+use Rattle.hoare_law.specs.Sizes.{IsHoare, IsMesa}
 use Rattle.hoare_law.specs.Waiting.{waiting, Chooses}
 use Rattle.hoare_law.specs.Turns.{turn, outside}
 
 -- the event's places and condition are the monitor's
 abbrev pub IsInRange : {S : Type 0} → History S → Event S → Type 0
-IsInRange f (Admit k s) = k < f.places
-IsInRange f (Wait k c p s) = (k < f.places) × (c < f.conditions)
-IsInRange f (Signal k c w s) = (k < f.places) × (c < f.conditions) × (w < f.places)
-IsInRange f (Pass k c w s) = (k < f.places) × (c < f.conditions) × (w < f.places)
-IsInRange f (Leave k s) = k < f.places
-IsInRange f (Resume k c s) = (k < f.places) × (c < f.conditions)
-IsInRange f (Back k s) = k < f.places
-IsInRange f (Notify k c w s) = (k < f.places) × (c < f.conditions) × (w < f.places)
-IsInRange f (Broadcast k c s) = (k < f.places) × (c < f.conditions)
+IsInRange f (Admit k s) = k < f.sizes.places
+IsInRange f (Wait k c p s) = (k < f.sizes.places) × (c < f.sizes.conditions)
+IsInRange f (Signal k c w s) = (k < f.sizes.places) × (c < f.sizes.conditions) × (w < f.sizes.places)
+IsInRange f (Pass k c w s) = (k < f.sizes.places) × (c < f.sizes.conditions) × (w < f.sizes.places)
+IsInRange f (Leave k s) = k < f.sizes.places
+IsInRange f (Resume k c s) = (k < f.sizes.places) × (c < f.sizes.conditions)
+IsInRange f (Back k s) = k < f.sizes.places
+IsInRange f (Notify k c w s) = (k < f.sizes.places) × (c < f.sizes.conditions) × (w < f.sizes.places)
+IsInRange f (Broadcast k c s) = (k < f.sizes.places) × (c < f.sizes.conditions)
 
 -- the event is the turn's, finds the data as they were left, resumes or calls whom it should, and suits the condition's kind: signals
 -- are for Hoare's, calls for Mesa conditions
@@ -29,10 +29,10 @@ Fits f (Resume k c s) = (turn f.events ≡ Owed k c) × (s ≡ latest_data f)
 Fits f (Back k s) = (turn f.events ≡ Return k) × (s ≡ latest_data f)
 Fits f (Wait k c p s) = turn f.events ≡ Held k
 Fits f (Leave k s) = turn f.events ≡ Held k
-Fits f (Signal k c w s) = (turn f.events ≡ Held k) × Chooses c f.events w × IsHoare f.conditions f.mesa c
-Fits f (Pass k c w s) = (turn f.events ≡ Held k) × Chooses c f.events w × IsHoare f.conditions f.mesa c
-Fits f (Notify k c w s) = (turn f.events ≡ Held k) × Chooses c f.events w × IsMesa f.conditions f.mesa c
-Fits f (Broadcast k c s) = (turn f.events ≡ Held k) × (waiting c f.events ≢ []) × IsMesa f.conditions f.mesa c
+Fits f (Signal k c w s) = (turn f.events ≡ Held k) × Chooses c f.events w × IsHoare f.sizes.conditions f.sizes.mesa c
+Fits f (Pass k c w s) = (turn f.events ≡ Held k) × Chooses c f.events w × IsHoare f.sizes.conditions f.sizes.mesa c
+Fits f (Notify k c w s) = (turn f.events ≡ Held k) × Chooses c f.events w × IsMesa f.sizes.conditions f.sizes.mesa c
+Fits f (Broadcast k c s) = (turn f.events ≡ Held k) × (waiting c f.events ≢ []) × IsMesa f.sizes.conditions f.sizes.mesa c
 
 -- the event may come next
 pub record Allowed {S : Type 0} (f : History S) (e : Event S) : Type 0 where

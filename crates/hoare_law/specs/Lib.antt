@@ -1,5 +1,5 @@
 pub mod Events
-pub mod Kinds
+pub mod Sizes
 pub mod Waiting
 pub mod Priorities
 pub mod Called

@@ -63,12 +63,18 @@ pub enum Event<S> {
     },
 }
 
-/// What happened at a monitor with these numbers of places and conditions, of which the last `mesa` are Mesa conditions, opened
-/// with this data: its events, the oldest first. No value of it is ever made.
-pub struct History<S> {
+/// The numbers of a monitor: how many places and conditions it has, and how many of the conditions, the last ones, are Mesa
+/// conditions.
+#[derive(Clone, Copy, Debug, PartialEq, Eq)]
+pub struct Sizes {
     pub places: usize,
     pub conditions: usize,
     pub mesa: usize,
+}
+
+/// What happened at a monitor of these sizes, opened with this data: its events, the oldest first. No value of it is ever made.
+pub struct History<S> {
+    pub sizes: Sizes,
     pub opening: S,
     pub events: LinkedList<Event<S>>,
 }

@@ -5,7 +5,7 @@ ghost use Rattle.hoare_law.specs.declared.event.History.{History};
 ghost use Rattle.hoare_law.specs.declared.event.Event.TheVariants.{Admit, Signal, Pass, Resume, Back, Notify, Broadcast};
 ghost use Rattle.hoare_law.specs.declared.turn.Turn.TheVariants.{Free, Held};
 ghost use Rattle.hoare_law.specs.Events.{place_of, own, newest, latest_data, with_event};
-ghost use Rattle.hoare_law.specs.Kinds.{IsMesa};
+ghost use Rattle.hoare_law.specs.Sizes.{IsMesa};
 ghost use Rattle.hoare_law.specs.Waiting.{priority_of, condition_of, waits_on, waiting, chosen};
 ghost use Rattle.hoare_law.specs.Priorities.{in_order};
 ghost use Rattle.hoare_law.specs.Called.{called};
@@ -39,9 +39,9 @@ pub fn newcomers_last<S>()
 /// A called process goes on only where no signaller waits to return, and of the called the one called first goes first.
 pub fn signallers_before_called<S>()
     ensures signallers { (h : History S) (k c : ℕ) (s : S) → IsLegal h
-        → IsMesa h.conditions h.mesa c → Allowed h (Resume k c s) → urgent h.events ≡ [] }
+        → IsMesa h.sizes.conditions h.sizes.mesa c → Allowed h (Resume k c s) → urgent h.events ≡ [] }
     ensures first { (h : History S) (k c : ℕ) (s : S) → IsLegal h
-        → IsMesa h.conditions h.mesa c → Allowed h (Resume k c s)
+        → IsMesa h.sizes.conditions h.sizes.mesa c → Allowed h (Resume k c s)
         → (x : Event S) × (later : List (Event S)) × (called h.events ≡ x ∷ later)
         × (place_of x ≡ k) × (condition_of x ≡ c) }
 {}
@@ -59,7 +59,7 @@ pub fn called_wait_nowhere<S>()
     ensures { (h : History S) → IsLegal h → All (λ x.
         (newest (own (place_of x) h.events) ≡ Some x)
         × (IsTrue (waits_on (condition_of x) x))
-        × IsMesa h.conditions h.mesa (condition_of x)
+        × IsMesa h.sizes.conditions h.sizes.mesa (condition_of x)
         × ((d : ℕ) → All (λ y. place_of x ≢ place_of y) (waiting d h.events))) (called h.events) }
 {}
 

@@ -3,7 +3,7 @@ ghost use Rattle.std.specs.Prelude.{◌≡◌, ◌<◌, ◌↔◌, ◌≢◌, �
 ghost use Rattle.std.specs.Borrow.{sem, Lends};
 ghost use Rattle.std.specs.List.Sorted.{IsNonDecreasing};
 ghost use Rattle.std.specs.Option.{option_map};
-ghost use Rattle.hoare_law.specs.Kinds.{IsHoare, IsMesa};
+ghost use Rattle.hoare_law.specs.Sizes.{IsHoare, IsMesa};
 ghost use Rattle.hoare_law.specs.Priorities.{joined, taken, emptied, priorities};
 ghost use Rattle.hoare_law.specs.Events.{with_event};
 ghost use Rattle.hoare_law.specs.Waiting.{waiting, chosen, priority_of};
@@ -193,13 +193,13 @@ pub trait Monitor<D: MonitorData> {
 
     /// What a place outside knows is legal and lawful, and has it outside.
     ghost stands: { (m : Self) (o : Self.Out) → is_of m o
-        → Stands D.rest D.ready (front o) × ((front o).conditions ≡ D.CONDITIONS)
-        × ((front o).mesa ≡ D.MESA) × (outside (place o) (front o).events ≡ true) };
+        → Stands D.rest D.ready (front o) × ((front o).sizes.conditions ≡ D.CONDITIONS)
+        × ((front o).sizes.mesa ≡ D.MESA) × (outside (place o) (front o).events ≡ true) };
 
     /// What a place inside knows is legal and lawful, and has it inside.
     ghost stands_in: { (m : Self) (i : Self.In) → is_of_in m i
-        → Stands D.rest D.ready (front_in i) × ((front_in i).conditions ≡ D.CONDITIONS)
-        × ((front_in i).mesa ≡ D.MESA) × (turn (front_in i).events ≡ turns.Held (place_in i)) };
+        → Stands D.rest D.ready (front_in i) × ((front_in i).sizes.conditions ≡ D.CONDITIONS)
+        × ((front_in i).sizes.mesa ≡ D.MESA) × (turn (front_in i).events ≡ turns.Held (place_in i)) };
 
     /// The waiting priorities in hand are those of the front, and rise.
     ghost lists_are: { (m : Self) (i : Self.In) → is_of_in m i

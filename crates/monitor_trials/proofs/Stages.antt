@@ -7,7 +7,7 @@ use Rattle.hoare_law.specs.declared.event.Event.TheVariants.{Admit, Wait, Pass, 
 use Rattle.hoare_law.specs.declared.turn.Turn.{Turn}
 use Rattle.hoare_law.specs.declared.turn.Turn.TheVariants.{Free, Held, Owed}
 use Rattle.hoare_law.specs.Called.{called, called_by}
-use Rattle.hoare_law.specs.Kinds.{IsHoare, IsMesa}
+use Rattle.hoare_law.specs.Sizes.{IsHoare, IsMesa}
 use Rattle.hoare_law.specs.Events.{place_of, data_of, own, latest_data, with_event}
 use Rattle.hoare_law.specs.Waiting.{waiting, waits_on, concerns, priority_of, chosen, Chooses, is_least}
 use Rattle.hoare_law.specs.Turns.{is_signal, urgent, turn, turn_by, is_out, outside}

@@ -7,7 +7,7 @@ use Rattle.std.proofs.lemmas.List.Elements.{All-weaker}
 use Rattle.hoare_law.specs.declared.event.History.{History}
 use Rattle.hoare_law.specs.declared.event.Event.TheVariants.{Wait, Resume}
 use Rattle.hoare_law.specs.Growth.{AddsTwo}
-use Rattle.hoare_law.specs.Kinds.{IsHoare}
+use Rattle.hoare_law.specs.Sizes.{IsHoare}
 use Rattle.hoare_law.specs.Priorities.{joined, taken}
 use Rattle.hoare_law.proofs.Sorted.{All-put_in, All-behind_first}
 use Rattle.sweep_schedulers.specs.declared.direction.Direction.{Direction}

@@ -2,7 +2,7 @@
 use Rattle.std.specs.Prelude.{ℕ, ◌≡◌, ◌<◌, ◌≤◌, nat_lt, if◌then◌else◌, List, [], ◌∷◌, map, All, Option, Some, None, ⊤, ◌⊎◌}
 use Rattle.hoare_law.specs.declared.turn.Turn.{Turn}
 use Rattle.hoare_law.specs.declared.turn.Turn.TheVariants.{Free, Held, Owed, Return}
-use Rattle.hoare_law.specs.Kinds.{IsMesa}
+use Rattle.hoare_law.specs.Sizes.{IsMesa}
 use Rattle.hoare_law.specs.Priorities.{in_order}
 use Rattle.wait_book.specs.declared.waiter.Waiter.{Waiter}
 use Rattle.wait_book.specs.declared.book.Book.TheInside.{Inside}

@@ -6,7 +6,7 @@ use Rattle.hoare_law.specs.declared.event.Event.TheVariants as event
 use Rattle.hoare_law.specs.declared.turn.Turn.{Turn}
 use Rattle.hoare_law.specs.declared.turn.Turn.TheVariants.{Free, Held, Owed, Return}
 use Rattle.hoare_law.specs.Events.{place_of, with_event}
-use Rattle.hoare_law.specs.Kinds.{IsHoare, IsMesa}
+use Rattle.hoare_law.specs.Sizes.{IsHoare, IsMesa}
 use Rattle.hoare_law.specs.Waiting.{waiting, chosen}
 use Rattle.hoare_law.specs.Turns.{turn, outside}
 use Rattle.wait_book.specs.declared.steps.Step.{Step}

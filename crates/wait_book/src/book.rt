@@ -60,7 +60,7 @@ impl Book {
     ghost use Rattle.hoare_law.specs.Events.{opened, place_of, with_event};
     ghost use Rattle.hoare_law.specs.Waiting.{waiting, chosen, priority_of};
     ghost use Rattle.hoare_law.specs.Turns.{turn, outside};
-    ghost use Rattle.hoare_law.specs.Kinds.{IsHoare, IsMesa};
+    ghost use Rattle.hoare_law.specs.Sizes.{IsHoare, IsMesa};
     ghost use Rattle.hoare_law.specs.Priorities.{joined, taken, emptied};
     ghost use Rattle.wait_book.specs.Contents.{IsOf, IsPlaceBelow, SameSizes, make_refusal, next_of, priorities_on, times, times_in};
     ghost use Rattle.wait_book.specs.Stepping.{IsSettled, after_broadcast, after_notify, after_pass, after_signal, after_step, refusal_of, settled};

@@ -20,4 +20,4 @@ all_without_data h = map without_data h
 
 -- the history of the queues alone
 abbrev pub erased : {S : Type 0} → History S → History (Unit {0})
-erased h = record { places = h.places; conditions = h.conditions; mesa = h.mesa; opening = tt; events = all_without_data h.events }
+erased h = record { sizes = h.sizes; opening = tt; events = all_without_data h.events }

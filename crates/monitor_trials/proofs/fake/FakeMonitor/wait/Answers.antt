@@ -1,5 +1,5 @@
 use Rattle.std.proofs.Common.{rules, arith}
-use Rattle.hoare_law.specs.Kinds.{IsHoare, IsMesa}
+use Rattle.hoare_law.specs.Sizes.{IsHoare, IsMesa}
 use Rattle.monitor_trials.proofs.Answers.{IsLeft-answered, IsLeft-called_back}
 use Rattle.monitor_trials.proofs.Stages.{IsInside-answered, IsInside-called_back, AddsTwo-answered, AddsTwo-called_back}
 use Rattle.monitor_trials.proofs.fake.FakeMonitor.wait.Goals as goal

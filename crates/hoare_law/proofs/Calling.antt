@@ -25,14 +25,14 @@ use Rattle.hoare_law.proofs.Rules.{chosen-longest}
 use Rattle.hoare_law.proofs.Owed.{IsCalled, All-called}
 use Rattle.hoare_law.proofs.Entering.{turn-in}
 use Rattle.hoare_law.proofs.Leaving.{Chooses-place}
-use Rattle.hoare_law.proofs.Waiters.{held-in_range, chosen-in_range, place_in_range, waiting-once}
+use Rattle.hoare_law.proofs.Waiters.{held-in_range, chosen-in_range, waiting-once}
 
 module _ {S : Type 0} where
   -- it may call the one that a signal would resume
   pub Allowed-notify : (f : History S) (k c : ℕ) (x : Event S) (s : S) → IsLegal f → turn f.events ≡ Held k → IsMesa f.sizes.conditions f.sizes.mesa c → chosen c f.events ≡ Some x
       → Allowed f (Notify k c (place_of x) s)
   Allowed-notify f k c x s legal held mesa is = record {
-    in_range = (held-in_range f k legal held, mesa.0, place_in_range f x (chosen-in_range c f x legal is));
+    in_range = (held-in_range f k legal held, (mesa.0, (chosen-in_range c f x legal is).0));
     fits = (held, Chooses-place c f.events x is, mesa);
   }
 

@@ -12,10 +12,10 @@ use Rattle.hoare_law.specs.Priorities.{priorities, nobody}
 use Rattle.hoare_law.specs.Turns.{turn, outside, is_out}
 use Rattle.hoare_law.specs.Waiting.{waiting, chosen}
 use Rattle.hoare_law.proofs.Fronts.{rest-free, own-owed, own-returning}
-use Rattle.hoare_law.proofs.Held.{outside-held}
-use Rattle.hoare_law.proofs.Priorities.{waiting-unchosen, waits_on-is, priorities-nobody}
+use Rattle.hoare_law.proofs.Held.{waits_on-is, outside-held}
+use Rattle.hoare_law.proofs.Priorities.{waiting-unchosen, priorities-nobody}
 use Rattle.hoare_law.proofs.Owed.{owed-in_range}
-use Rattle.hoare_law.proofs.Waiters.{held-in_range, return-in_range, chosen-waits, chosen-in_range, place_in_range}
+use Rattle.hoare_law.proofs.Waiters.{held-in_range, return-in_range, chosen-waits, chosen-in_range}
 
 module _ {S : Type 0} where
   -- everybody is outside
@@ -45,7 +45,7 @@ module _ {S : Type 0} where
       by None is = refl
       by (Some x) is =
           let w = chosen-waits c h.events x is in
-          let here = place_in_range h x (chosen-in_range c h x legal is) in
+          let here = (chosen-in_range c h x legal is).0 in
           absurd (not_outside h.events (place_of x) x w.last (ap (λ y. is_out (Some y)) (waits_on-is c x w.on)) (out (place_of x) here))
 
   pub priorities-ended : (h : History S) → IsLegal h → AllOutside h → priorities h.events ≡ nobody

@@ -1,38 +1,32 @@
 -- A place comes in, from outside, from a wait or from a signal: its front, whose turn it is, and what it finds.
-use Rattle.std.proofs.Common.{◌≡◌, ◌==◌, not, ℕ, true, cond, List, [], ◌∷◌, ◌++◌, Some, refl, ap, sym, ◌∙◌, subst, eq-eqb}
+use Rattle.std.proofs.Common.{◌≡◌, ◌==◌, not, ℕ, true, false, cond, List, [], ◌∷◌, ◌++◌, Some, refl, ap, sym, ◌∙◌, subst, eq-eqb}
 use Rattle.std.specs.List.{list_all}
 use Rattle.hoare_law.specs.declared.event.Event.{Event}
 use Rattle.hoare_law.specs.declared.event.History.{History}
 use Rattle.hoare_law.specs.declared.event.Sizes.{Sizes}
-use Rattle.hoare_law.specs.declared.event.Event.TheVariants.{Admit, Wait, Signal, Pass, Leave, Resume, Back, Notify, Broadcast}
+use Rattle.hoare_law.specs.declared.event.Event.TheVariants.{Admit, Wait, Resume, Back}
 use Rattle.hoare_law.specs.declared.turn.Turn.TheVariants.{Held}
 use Rattle.hoare_law.specs.Events.{place_of, data_of, own, newest, latest_data, with_event}
 use Rattle.hoare_law.specs.Growth.{Begins, Grows, AddsLast, AddsTwo}
 use Rattle.hoare_law.specs.Lawful.{Rest, Ready, Stands}
 use Rattle.hoare_law.specs.Priorities.{priorities}
-use Rattle.hoare_law.specs.Turns.{turn, turn_by, urgent, outside, is_out}
+use Rattle.hoare_law.specs.Turns.{After, stays, frees, hands, after, turn, turn_of, urgent, outside, is_out}
 use Rattle.hoare_law.specs.Sizes.{IsHoare, IsMesa}
-use Rattle.hoare_law.specs.Waiting.{waiting}
+use Rattle.hoare_law.specs.Waiting.{takes, waiting}
 use Rattle.hoare_law.specs.Called.{called}
 use Rattle.hoare_law.proofs.Events.{own-push, newest-push}
 use Rattle.hoare_law.proofs.Fronts.{rest-free, rest-return, ready-owed, rest-owed}
 use Rattle.hoare_law.proofs.Growth.{Begins-trans, Begins-push, Grows-one, Grows-trans}
-use Rattle.hoare_law.proofs.Held.{brings_in, brings_inside, is_inside, in_not_waiting, in_concerns_own}
+use Rattle.hoare_law.proofs.Held.{is_stay, is_inside, in_not_waiting, concerns-own}
 use Rattle.hoare_law.proofs.Legal.{IsLegal-last, Stands-front}
 use Rattle.hoare_law.proofs.Priorities.{priorities-own, waiting-outside, waiting-return}
 use Rattle.hoare_law.proofs.Owed.{waiting-owed}
 use Rattle.hoare_law.proofs.Turns.{turn-push}
 
-held_by : {S : Type 0} (e : Event S) (us : List ℕ) (ws : List (Event S)) → is_inside e ≡ true → turn_by e us ws ≡ Held (place_of e)
-held_by (Admit j s) us ws b = refl
-held_by (Resume j c s) us ws b = refl
-held_by (Back j s) us ws b = refl
-held_by (Wait j c p s) us ws b = absurd (cc)
-held_by (Signal j c w s) us ws b = absurd (cc)
-held_by (Pass j c w s) us ws b = absurd (cc)
-held_by (Leave j s) us ws b = absurd (cc)
-held_by (Notify j c w s) us ws b = refl
-held_by (Broadcast j c s) us ws b = refl
+held_by : {S : Type 0} (a : After) (k : ℕ) (us : List ℕ) (ws : List (Event S)) → is_stay a ≡ true → turn_of a k us ws ≡ Held k
+held_by stays k us ws is = refl
+held_by frees k us ws is = absurd (cc)
+held_by (hands w c) k us ws is = absurd (cc)
 
 module _ {S : Type 0} where
   -- k's own events, one more at the end
@@ -55,7 +49,7 @@ module _ {S : Type 0} where
   pub turn-in : (h : History S) (k : ℕ) (e : Event S) → is_inside e ≡ true → place_of e ≡ k → turn (with_event h e).events ≡ Held k
   unfolding with_event
   turn-in h k e inside mine =
-      turn-push h.events e ∙ held_by e (urgent (h.events ++ e ∷ [])) (called (h.events ++ e ∷ [])) inside ∙ ap (λ i. Held i) mine
+      turn-push h.events e ∙ held_by (after e) (place_of e) (urgent (h.events ++ e ∷ [])) (called (h.events ++ e ∷ [])) inside ∙ ap (λ i. Held i) mine
 
   -- a place is outside in each history with the same own events of it
   pub outside-same : (k : ℕ) (f h : History S) → own k h.events ≡ own k f.events → outside k f.events ≡ true → outside k h.events ≡ true
@@ -93,12 +87,12 @@ module _ {S : Type 0} where
     stood h e stands = Stands-front (Begins-push h e) stands
 
     -- who comes in finds the data and the priorities as they were left
-    finds : (asks : S → (ℕ → List ℕ) → Type 0) (h : History S) (e : Event S) → brings_in e ≡ true
+    finds : (asks : S → (ℕ → List ℕ) → Type 0) (h : History S) (e : Event S) → is_inside e ≡ true → ((d j : ℕ) → takes d j e ≡ false)
         → ((d : ℕ) → list_all (λ x. not (place_of e == place_of x)) (waiting d h.events) ≡ true) → data_of e ≡ latest_data h
         → asks (latest_data h) (priorities h.events) → asks (data_of e) (priorities (with_event h e).events)
     unfolding with_event
-    finds asks h e brings apart same asked =
-        subst (asks (data_of e)) (sym (priorities-own h.events e (λ d j. in_concerns_own e d j brings) (λ d. in_not_waiting e d (brings_inside e brings)) apart))
+    finds asks h e inside alone apart same asked =
+        subst (asks (data_of e)) (sym (priorities-own h.events e (λ d j. concerns-own e d j (alone d j)) (λ d. in_not_waiting e d inside) apart))
         (subst (λ (t : S). asks t (priorities h.events)) (sym same) asked)
 
     -- each kind what it is to find
@@ -106,14 +100,14 @@ module _ {S : Type 0} where
         → rest s (priorities (with_event h (Admit k s)).events)
     finds-admit h k s stands =
         let may = (IsLegal-last h (Admit k s) stands.legal).fits in
-        finds rest h (Admit k s) refl (λ d. waiting-outside h.events k d may.1) may.2
+        finds rest h (Admit k s) refl (λ d j. refl) (λ d. waiting-outside h.events k d may.1) may.2
         (rest-free h (stood h (Admit k s) stands).lawful may.0)
 
     pub finds-back : (h : History S) (k : ℕ) (s : S) → Stands rest ready (with_event h (Back k s))
         → rest s (priorities (with_event h (Back k s)).events)
     finds-back h k s stands =
         let may = (IsLegal-last h (Back k s) stands.legal).fits in
-        finds rest h (Back k s) refl (λ d. waiting-return h.events k d may.0) may.1
+        finds rest h (Back k s) refl (λ d j. refl) (λ d. waiting-return h.events k d may.0) may.1
         (rest-return h k (stood h (Back k s) stands).lawful may.0)
 
     -- who waited on one of Hoare's conditions
@@ -123,7 +117,7 @@ module _ {S : Type 0} where
     finds-resume h f k c p s t same hoare stands =
         let may = (IsLegal-last h (Resume k c t) stands.legal).fits in
         let before = stood h (Resume k c t) stands in
-        finds (ready c p) h (Resume k c t) refl (λ d. waiting-owed h k c d before.legal may.0) may.1
+        finds (ready c p) h (Resume k c t) refl (λ d j. refl) (λ d. waiting-owed h k c d before.legal may.0) may.1
         (ready-owed h k c p s before hoare may.0
         (ap newest (same ∙ own-last k f.events (Wait k c p s) refl) ∙ newest-push (own k f.events) (Wait k c p s)))
 
@@ -133,4 +127,4 @@ module _ {S : Type 0} where
     finds-called h k c t mesa stands =
         let may = (IsLegal-last h (Resume k c t) stands.legal).fits in
         let before = stood h (Resume k c t) stands in
-        finds rest h (Resume k c t) refl (λ d. waiting-owed h k c d before.legal may.0) may.1 (rest-owed h k c before mesa may.0)
+        finds rest h (Resume k c t) refl (λ d j. refl) (λ d. waiting-owed h k c d before.legal may.0) may.1 (rest-owed h k c before mesa may.0)

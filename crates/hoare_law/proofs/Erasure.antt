@@ -1,5 +1,5 @@
 -- Who waits, who is chosen, whose turn it is and who is outside do not depend on the data.
-use Rattle.std.proofs.Common.{◌≡◌, ◌==◌, ◌&&◌, not, ℕ, List, [], ◌∷◌, ◌++◌, map, Bool, true, false, cond, leb, Option, Some, None, refl, ap, sym, ◌∙◌}
+use Rattle.std.proofs.Common.{◌≡◌, ◌==◌, ◌&&◌, ◌||◌, not, ℕ, List, [], ◌∷◌, ◌++◌, map, Bool, true, false, cond, leb, Option, Some, None, refl, ap, sym, ◌∙◌}
 use Rattle.std.specs.Option.{option_map}
 use Rattle.std.specs.List.{find, filter}
 use Rattle.std.proofs.lemmas.List.{map-append}
@@ -10,9 +10,9 @@ use Rattle.hoare_law.specs.declared.event.History.{History}
 use Rattle.hoare_law.specs.declared.turn.Turn.TheVariants.{Owed}
 use Rattle.hoare_law.specs.declared.event.Event.TheVariants.{Admit, Wait, Signal, Pass, Leave, Resume, Back, Notify, Broadcast}
 use Rattle.hoare_law.specs.Events.{place_of, own, newest, with_event}
-use Rattle.hoare_law.specs.Waiting.{filter_by_later, waits_on, priority_of, condition_of, concerns, is_last_act, is_untouched, waiting, is_least, chosen}
+use Rattle.hoare_law.specs.Waiting.{filter_by_later, waits_on, priority_of, condition_of, takes, concerns, is_last_act, is_untouched, waiting, is_least, chosen}
 use Rattle.hoare_law.specs.Called.{join_splits, called_by, called}
-use Rattle.hoare_law.specs.Turns.{is_signal, urgent, turn, turn_by, turn_given_up, turn_after, is_out, outside}
+use Rattle.hoare_law.specs.Turns.{After, stays, frees, hands, after, is_signal, urgent, turn, turn_of, turn_by, turn_given_up, turn_after, is_out, outside}
 use Rattle.hoare_law.specs.Priorities.{put_in, put_all, in_order, priorities}
 use Rattle.hoare_law.specs.Beside.Erasure.{without_data, all_without_data, erased}
 use Rattle.hoare_law.proofs.Turns.{filter-map}
@@ -60,101 +60,53 @@ map-map_same f g k [] same = refl
 map-map_same f g k (x ∷ xs) same = rw (same x, map-map_same f g k xs same) refl
 
 module _ {S : Type 0} where
+  -- what is read off an event but its data: place, priority and condition, whether it is a wait on c, whom it takes from those that
+  -- wait, whether it is a signal, what it makes of the monitor, and whether its place is outside behind it
+  abbrev SameParts : Event (Unit {0}) → Event S → Type 0
+  SameParts d e =
+      (place_of d ≡ place_of e) × (priority_of d ≡ priority_of e) × (condition_of d ≡ condition_of e)
+      × ((c : ℕ) → waits_on c d ≡ waits_on c e) × ((c j : ℕ) → takes c j d ≡ takes c j e)
+      × (is_signal d ≡ is_signal e) × (after d ≡ after e) × (is_out (Some d) ≡ is_out (Some e))
+
+  -- is the same without them
+  same_parts : (e : Event S) → SameParts (without_data e) e
+  same_parts (Admit k s) = (refl, refl, refl, λ c. refl, λ c j. refl, refl, refl, refl)
+  same_parts (Wait k d p s) = (refl, refl, refl, λ c. refl, λ c j. refl, refl, refl, refl)
+  same_parts (Signal k d w s) = (refl, refl, refl, λ c. refl, λ c j. refl, refl, refl, refl)
+  same_parts (Pass k d w s) = (refl, refl, refl, λ c. refl, λ c j. refl, refl, refl, refl)
+  same_parts (Leave k s) = (refl, refl, refl, λ c. refl, λ c j. refl, refl, refl, refl)
+  same_parts (Resume k d s) = (refl, refl, refl, λ c. refl, λ c j. refl, refl, refl, refl)
+  same_parts (Back k s) = (refl, refl, refl, λ c. refl, λ c j. refl, refl, refl, refl)
+  same_parts (Notify k d w s) = (refl, refl, refl, λ c. refl, λ c j. refl, refl, refl, refl)
+  same_parts (Broadcast k d s) = (refl, refl, refl, λ c. refl, λ c j. refl, refl, refl, refl)
+
   -- the place stays
   pub place_of-erased : (e : Event S) → place_of (without_data e) ≡ place_of e
-  place_of-erased (Admit k s) = refl
-  place_of-erased (Wait k c p s) = refl
-  place_of-erased (Signal k c w s) = refl
-  place_of-erased (Pass k c w s) = refl
-  place_of-erased (Leave k s) = refl
-  place_of-erased (Resume k c s) = refl
-  place_of-erased (Back k s) = refl
-  place_of-erased (Notify k c w s) = refl
-  place_of-erased (Broadcast k c s) = refl
+  place_of-erased e = (same_parts e).0
 
   -- the priority stays
   pub priority_of-erased : (e : Event S) → priority_of (without_data e) ≡ priority_of e
-  priority_of-erased (Admit k s) = refl
-  priority_of-erased (Wait k c p s) = refl
-  priority_of-erased (Signal k c w s) = refl
-  priority_of-erased (Pass k c w s) = refl
-  priority_of-erased (Leave k s) = refl
-  priority_of-erased (Resume k c s) = refl
-  priority_of-erased (Back k s) = refl
-  priority_of-erased (Notify k c w s) = refl
-  priority_of-erased (Broadcast k c s) = refl
-
-  waits_on-erased : (c : ℕ) (e : Event S) → waits_on c (without_data e) ≡ waits_on c e
-  waits_on-erased c (Admit k s) = refl
-  waits_on-erased c (Wait k d p s) = refl
-  waits_on-erased c (Signal k d w s) = refl
-  waits_on-erased c (Pass k d w s) = refl
-  waits_on-erased c (Leave k s) = refl
-  waits_on-erased c (Resume k d s) = refl
-  waits_on-erased c (Back k s) = refl
-  waits_on-erased c (Notify k d w s) = refl
-  waits_on-erased c (Broadcast k d s) = refl
+  priority_of-erased e = (same_parts e).1
 
   concerns-erased : (c j : ℕ) (e : Event S) → concerns c j (without_data e) ≡ concerns c j e
-  concerns-erased c j (Admit k s) = refl
-  concerns-erased c j (Wait k d p s) = refl
-  concerns-erased c j (Signal k d w s) = refl
-  concerns-erased c j (Pass k d w s) = refl
-  concerns-erased c j (Leave k s) = refl
-  concerns-erased c j (Resume k d s) = refl
-  concerns-erased c j (Back k s) = refl
-  concerns-erased c j (Notify k d w s) = refl
-  concerns-erased c j (Broadcast k d s) = refl
-
-  is_signal-erased : (e : Event S) → is_signal (without_data e) ≡ is_signal e
-  is_signal-erased (Admit k s) = refl
-  is_signal-erased (Wait k c p s) = refl
-  is_signal-erased (Signal k c w s) = refl
-  is_signal-erased (Pass k c w s) = refl
-  is_signal-erased (Leave k s) = refl
-  is_signal-erased (Resume k c s) = refl
-  is_signal-erased (Back k s) = refl
-  is_signal-erased (Notify k c w s) = refl
-  is_signal-erased (Broadcast k c s) = refl
-
-  condition_of-erased : (e : Event S) → condition_of (without_data e) ≡ condition_of e
-  condition_of-erased (Admit k s) = refl
-  condition_of-erased (Wait k c p s) = refl
-  condition_of-erased (Signal k c w s) = refl
-  condition_of-erased (Pass k c w s) = refl
-  condition_of-erased (Leave k s) = refl
-  condition_of-erased (Resume k c s) = refl
-  condition_of-erased (Back k s) = refl
-  condition_of-erased (Notify k c w s) = refl
-  condition_of-erased (Broadcast k c s) = refl
+  concerns-erased c j e = λ i. place_of-erased e i == j || (same_parts e).4 c j i
 
   given_up-erased : (us : List ℕ) (ws : List (Event S)) → turn_given_up us (all_without_data ws) ≡ turn_given_up us ws
   given_up-erased [] [] = refl
-  given_up-erased [] (w ∷ ws) = λ i. Owed (place_of-erased w i) (condition_of-erased w i)
+  given_up-erased [] (w ∷ ws) = λ i. Owed (place_of-erased w i) ((same_parts w).2 i)
   given_up-erased (u ∷ us) ws = refl
 
   turn_by-erased : (e : Event S) (us : List ℕ) (ws : List (Event S)) → turn_by (without_data e) us (all_without_data ws) ≡ turn_by e us ws
-  turn_by-erased (Admit k s) us ws = refl
-  turn_by-erased (Wait k c p s) us ws = given_up-erased us ws
-  turn_by-erased (Signal k c w s) us ws = refl
-  turn_by-erased (Pass k c w s) us ws = refl
-  turn_by-erased (Leave k s) us ws = given_up-erased us ws
-  turn_by-erased (Resume k c s) us ws = refl
-  turn_by-erased (Back k s) us ws = refl
-  turn_by-erased (Notify k c w s) us ws = refl
-  turn_by-erased (Broadcast k c s) us ws = refl
+  turn_by-erased e us ws = (λ i. turn_of ((same_parts e).6 i) (place_of-erased e i) us (all_without_data ws)) ∙ by (after e)
+    where
+      by : (a : After) → turn_of a (place_of e) us (all_without_data ws) ≡ turn_of a (place_of e) us ws
+      by stays = refl
+      by frees = given_up-erased us ws
+      by (hands w c) = refl
 
   is_out-erased : (o : Option (Event S)) → is_out (option_map without_data o) ≡ is_out o
   is_out-erased None = refl
-  is_out-erased (Some (Admit k s)) = refl
-  is_out-erased (Some (Wait k c p s)) = refl
-  is_out-erased (Some (Signal k c w s)) = refl
-  is_out-erased (Some (Pass k c w s)) = refl
-  is_out-erased (Some (Leave k s)) = refl
-  is_out-erased (Some (Resume k c s)) = refl
-  is_out-erased (Some (Back k s)) = refl
-  is_out-erased (Some (Notify k c w s)) = refl
-  is_out-erased (Some (Broadcast k c s)) = refl
+  is_out-erased (Some e) = (same_parts e).7
 
   untouched-erased : (c : ℕ) (e : Event S) (later : List (Event S)) → is_untouched c (without_data e) (all_without_data later) ≡ is_untouched c e later
   untouched-erased c e later =
@@ -177,13 +129,13 @@ module _ {S : Type 0} where
   -- the same wait
   pub waiting-erased : (c : ℕ) (h : List (Event S)) → waiting c (all_without_data h) ≡ all_without_data (waiting c h)
   unfolding waiting
-  waiting-erased c h = filter_by_later-map without_data _ (λ e later. waits_on c e && is_untouched c e later) h (λ e later i. waits_on-erased c e i && untouched-erased c e later i)
+  waiting-erased c h = filter_by_later-map without_data _ (λ e later. waits_on c e && is_untouched c e later) h (λ e later i. (same_parts e).3 c i && untouched-erased c e later i)
 
   -- the same signallers wait
   pub urgent-erased : (h : List (Event S)) → urgent (all_without_data h) ≡ urgent h
   unfolding urgent
   urgent-erased h =
-      ap (map place_of) (filter_by_later-map without_data _ (λ e later. is_signal e && is_last_act e later) h (λ e later i. is_signal-erased e i && last_act-erased e later i))
+      ap (map place_of) (filter_by_later-map without_data _ (λ e later. is_signal e && is_last_act e later) h (λ e later i. (same_parts e).5 i && last_act-erased e later i))
       ∙ map-map_same without_data place_of place_of _ place_of-erased
 
   put_in-erased : (x : Event S) (xs : List (Event S)) → put_in priority_of (without_data x) (all_without_data xs) ≡ all_without_data (put_in priority_of x xs)

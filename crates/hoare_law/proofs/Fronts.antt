@@ -14,16 +14,16 @@ use Rattle.hoare_law.specs.declared.turn.Turn.TheVariants.{Free, Held, Owed, Ret
 use Rattle.hoare_law.specs.Events.{place_of, data_of, own, newest, latest_data, cut_to}
 use Rattle.hoare_law.specs.Sizes.{IsHoare, IsMesa}
 use Rattle.hoare_law.specs.Waiting.{priority_of, waiting, chosen, Chooses}
-use Rattle.hoare_law.specs.Turns.{is_signal, turn}
+use Rattle.hoare_law.specs.Turns.{After, stays, frees, hands, after, is_signal, turn}
 use Rattle.hoare_law.specs.Priorities.{priorities}
 use Rattle.hoare_law.specs.Legal.{Allowed, IsLegal}
-use Rattle.hoare_law.specs.Lawful.{Rest, Ready, Owes, IsLawful, Stands}
+use Rattle.hoare_law.specs.Lawful.{Rest, Ready, OwesAfter, Owes, IsLawful, Stands}
 use Rattle.hoare_law.specs.Growth.{Begins}
 use Rattle.hoare_law.proofs.Events.{newest-push, own-push}
 use Rattle.hoare_law.proofs.Filters.{newest-some, list_all-at, list_all-filter_own}
-use Rattle.hoare_law.proofs.Held.{is_inside, EndsHanding, EndsCalled, IsOwed, handed, next_called, handing, place_of-handing, data_of-handing, gives_up, turn-owed, turn-return, turn-free, own-held, held_one}
+use Rattle.hoare_law.proofs.Held.{is_inside, EndsHanding, EndsCalled, IsOwed, handed, next_called, handing, place_of-handing, data_of-handing, is_free, gives_up, waits_on-is, turn-owed, turn-return, turn-free, own-held, held_one}
 use Rattle.hoare_law.proofs.Waiters.{Waits, LastSignals, chosen-waits, own-return}
-use Rattle.hoare_law.proofs.Priorities.{Chooses-chosen, waits_on-is}
+use Rattle.hoare_law.proofs.Priorities.{Chooses-chosen}
 use Rattle.hoare_law.proofs.Owed.{IsCalled, first-called, turn-handed, turn-called}
 
 none_added : {X : Type 0} (xs ys : List X) → xs ++ ys ≡ xs → ys ≡ []
@@ -114,15 +114,12 @@ module _ {S : Type 0} where
 
   give_up_owes : (rest : Rest S) (ready : Ready S) (g : List (Event S)) (e : Event S) → gives_up e ≡ true → Owes rest ready g e → rest (data_of e) (priorities (g ++ e ∷ []))
   unfolding Owes
-  give_up_owes rest ready g (Wait j d p s) is owes = owes
-  give_up_owes rest ready g (Leave j s) is owes = owes
-  give_up_owes rest ready g (Admit j s) is owes = absurd (cc)
-  give_up_owes rest ready g (Signal j d v s) is owes = absurd (cc)
-  give_up_owes rest ready g (Pass j d v s) is owes = absurd (cc)
-  give_up_owes rest ready g (Resume j d s) is owes = absurd (cc)
-  give_up_owes rest ready g (Back j s) is owes = absurd (cc)
-  give_up_owes rest ready g (Notify j d v s) is owes = absurd (cc)
-  give_up_owes rest ready g (Broadcast j d s) is owes = absurd (cc)
+  give_up_owes rest ready g e is owes = by (after e) is owes
+    where
+      by : (a : After) → is_free a ≡ true → OwesAfter rest ready g e a → rest (data_of e) (priorities (g ++ e ∷ []))
+      by frees free owed = owed
+      by stays free owed = absurd (cc)
+      by (hands w c) free owed = absurd (cc)
 
   module _ {rest : Rest S} {ready : Ready S} where
     given_up : (h : History S) (g : List (Event S)) (e : Event S) → IsLawful rest ready h → h.events ≡ g ++ e ∷ [] → gives_up e ≡ true → rest (latest_data h) (priorities h.events)

@@ -1,5 +1,5 @@
 -- Who has the turn, by the last event, and who waits meanwhile.
-use Rattle.std.proofs.Common.{◌≡◌, ◌≢◌, ◌==◌, ◌||◌, ◌⊎◌, inl, inr, not, ℕ, List, [], ◌∷◌, ◌++◌, Bool, true, false, cond, Some, refl, ap, sym, ◌∙◌, eq-eqb}
+use Rattle.std.proofs.Common.{◌≡◌, ◌≢◌, ◌==◌, ◌||◌, ◌⊎◌, inl, inr, not, ℕ, List, [], ◌∷◌, ◌++◌, Bool, true, false, cond, Some, refl, ap, sym, ◌∙◌, subst, eq-eqb, eqb-true}
 use Rattle.std.specs.List.{filter, list_all}
 use Rattle.std.proofs.lemmas.Bool.{not-true}
 use Rattle.std.proofs.lemmas.List.{append-nil}
@@ -8,40 +8,35 @@ use Rattle.hoare_law.specs.declared.event.Event.TheVariants.{Admit, Wait, Signal
 use Rattle.hoare_law.specs.declared.turn.Turn.{Turn}
 use Rattle.hoare_law.specs.declared.turn.Turn.TheVariants.{Free, Held, Owed, Return}
 use Rattle.hoare_law.specs.Events.{place_of, data_of, own, newest}
-use Rattle.hoare_law.specs.Waiting.{condition_of, waits_on, concerns, waiting}
+use Rattle.hoare_law.specs.Waiting.{priority_of, condition_of, waits_on, takes, concerns, waiting}
 use Rattle.hoare_law.specs.Called.{called}
-use Rattle.hoare_law.specs.Turns.{urgent, turn, turn_by, turn_given_up, is_out, outside}
+use Rattle.hoare_law.specs.Turns.{After, stays, frees, hands, after, urgent, turn, turn_of, turn_by, turn_given_up, is_out, outside}
 use Rattle.hoare_law.proofs.Events.{newest-push, own-push}
 use Rattle.hoare_law.proofs.Waiting.{waiting-push}
 use Rattle.hoare_law.proofs.Turns.{turn-push, outside-push}
 use Rattle.hoare_law.proofs.Filters.{HasLast, nothing, pushed, has_last, list_all-filter_own, list_all-weaker}
 
--- the event brings its place inside
-abbrev pub brings_in : {S : Type 0} → Event S → Bool
-brings_in (Admit k s) = true
-brings_in (Resume k c s) = true
-brings_in (Back k s) = true
-brings_in _ = false
+-- the same place is inside after it
+abbrev pub is_stay : After → Bool
+is_stay stays = true
+is_stay _ = false
 
 -- the event's place is inside after it
 abbrev pub is_inside : {S : Type 0} → Event S → Bool
-is_inside (Admit k s) = true
-is_inside (Resume k c s) = true
-is_inside (Back k s) = true
-is_inside (Notify k c w s) = true
-is_inside (Broadcast k c s) = true
-is_inside _ = false
+is_inside e = is_stay (after e)
 
 -- k hands the monitor to w, that waits on c: by a pass where it goes out, else by a signal
 abbrev pub handing : {S : Type 0} → Bool → ℕ → ℕ → ℕ → S → Event S
 handing true k c w s = Pass k c w s
 handing false k c w s = Signal k c w s
 
+abbrev pub is_free : After → Bool
+is_free frees = true
+is_free _ = false
+
 -- the event gives the monitor up to nobody in particular
 abbrev pub gives_up : {S : Type 0} → Event S → Bool
-gives_up (Wait k c p s) = true
-gives_up (Leave k s) = true
-gives_up _ = false
+gives_up e = is_free (after e)
 
 -- given up, the monitor is held by nobody
 pub not_held : {S : Type 0} (us : List ℕ) (ws : List (Event S)) (k : ℕ) → turn_given_up us ws ≢ Held k
@@ -72,15 +67,39 @@ first false b e = refl
 
 -- an event that does not concern a place is not its own
 pub own_is_concerned : {S : Type 0} (e : Event S) (c k : ℕ) → not (concerns c k e) ≡ true → (place_of e == k) ≡ false
-own_is_concerned (Admit j s) c k n = not-true _ n
-own_is_concerned (Resume j d s) c k n = not-true _ n
-own_is_concerned (Back j s) c k n = not-true _ n
-own_is_concerned (Wait j d p s) c k n = not-true _ n
-own_is_concerned (Signal j d w s) c k n = first _ _ n
-own_is_concerned (Pass j d w s) c k n = first _ _ n
-own_is_concerned (Notify j d w s) c k n = first _ _ n
-own_is_concerned (Broadcast j d s) c k n = first _ _ n
-own_is_concerned (Leave j s) c k n = not-true _ n
+own_is_concerned e c k n = first (place_of e == k) (takes c k e) n
+
+-- and one that takes nobody concerns its own place alone
+pub concerns-own : {S : Type 0} (e : Event S) (c k : ℕ) → takes c k e ≡ false → concerns c k e ≡ (place_of e == k)
+concerns-own e c k none = ap (λ b. place_of e == k || b) none ∙ or_false (place_of e == k)
+  where
+    or_false : (b : Bool) → (b || false) ≡ b
+    or_false true = refl
+    or_false false = refl
+
+-- an event that hands the monitor on is a signal or a pass
+pub handing_is : {S : Type 0} (e : Event S) (w c : ℕ) → after e ≡ hands w c → (out : Bool) × (k : ℕ) × (s : S) × (e ≡ handing out k c w s)
+handing_is (Signal k d v s) w c is = (false, k, s, cc)
+handing_is (Pass k d v s) w c is = (true, k, s, cc)
+handing_is (Admit k s) w c is = absurd (cc)
+handing_is (Resume k d s) w c is = absurd (cc)
+handing_is (Back k s) w c is = absurd (cc)
+handing_is (Wait k d p s) w c is = absurd (cc)
+handing_is (Leave k s) w c is = absurd (cc)
+handing_is (Notify k d v s) w c is = absurd (cc)
+handing_is (Broadcast k d s) w c is = absurd (cc)
+
+-- a wait on c is made of its parts
+pub waits_on-is : {S : Type 0} (c : ℕ) (e : Event S) → waits_on c e ≡ true → e ≡ Wait (place_of e) c (priority_of e) (data_of e)
+waits_on-is c (Wait k d p s) on = ap (λ i. Wait k i p s) (eqb-true d c on)
+waits_on-is c (Admit k s) on = absurd (cc)
+waits_on-is c (Signal k d w s) on = absurd (cc)
+waits_on-is c (Pass k d w s) on = absurd (cc)
+waits_on-is c (Leave k s) on = absurd (cc)
+waits_on-is c (Resume k d s) on = absurd (cc)
+waits_on-is c (Back k s) on = absurd (cc)
+waits_on-is c (Notify k d w s) on = absurd (cc)
+waits_on-is c (Broadcast k d s) on = absurd (cc)
 
 module _ {S : Type 0} where
   -- a history whose last event is e
@@ -99,22 +118,16 @@ module _ {S : Type 0} where
       by (nothing none) = absurd (some (sym is ∙ ap turn none))
       by (pushed g e ends) = (e, (g, ends), turn_by_last g e h ends ∙ is)
 
-  held_by : (e : Event S) (us : List ℕ) (ws : List (Event S)) (k : ℕ) → turn_by e us ws ≡ Held k → (is_inside e ≡ true) × (place_of e ≡ k)
-  held_by (Admit j s) us ws k t = (refl, cc)
-  held_by (Resume j c s) us ws k t = (refl, cc)
-  held_by (Back j s) us ws k t = (refl, cc)
-  held_by (Notify j c w s) us ws k t = (refl, cc)
-  held_by (Broadcast j c s) us ws k t = (refl, cc)
-  held_by (Signal j c w s) us ws k t = absurd (cc)
-  held_by (Pass j c w s) us ws k t = absurd (cc)
-  held_by (Wait j c p s) us ws k t = absurd (not_held us ws k t)
-  held_by (Leave j s) us ws k t = absurd (not_held us ws k t)
+  held_of : (a : After) (j : ℕ) (us : List ℕ) (ws : List (Event S)) (k : ℕ) → turn_of a j us ws ≡ Held k → (is_stay a ≡ true) × (j ≡ k)
+  held_of stays j us ws k t = (refl, cc)
+  held_of frees j us ws k t = absurd (not_held us ws k t)
+  held_of (hands w c) j us ws k t = absurd (cc)
 
   -- the last event brought in the place whose turn it is, or is a call by it
   pub turn-held : (h : List (Event S)) (k : ℕ) → turn h ≡ Held k → (e : Event S) × Ends h e × (is_inside e ≡ true) × (place_of e ≡ k)
   turn-held h k is =
       let r : (e : Event S) × Ends h e × (turn_by e (urgent h) (called h) ≡ Held k) = turn_of_last h (Held k) is (λ e. cc) in
-      let b : (is_inside r.0 ≡ true) × (place_of r.0 ≡ k) = held_by r.0 (urgent h) (called h) k r.2 in
+      let b : (is_inside r.0 ≡ true) × (place_of r.0 ≡ k) = held_of (after r.0) (place_of r.0) (urgent h) (called h) k r.2 in
       (r.0, r.1, b.0, b.1)
 
   -- the last event handed the monitor to w, that waited on c
@@ -148,50 +161,43 @@ module _ {S : Type 0} where
       next_called (record { by = e; ends = ends; gives = gives; nobody = r.0; first = r.1; others = r.2; are = r.3; place = r.4; on = r.5 })
 
   owed_by : (h g : List (Event S)) (e : Event S) (w c : ℕ) → h ≡ g ++ e ∷ [] → turn_by e (urgent h) (called h) ≡ Owed w c → IsOwed w c h
-  owed_by h g (Admit j s) w c is t = absurd (cc)
-  owed_by h g (Resume j d s) w c is t = absurd (cc)
-  owed_by h g (Back j s) w c is t = absurd (cc)
-  owed_by h g (Notify j d v s) w c is t = absurd (cc)
-  owed_by h g (Broadcast j d s) w c is t = absurd (cc)
-  owed_by h g (Signal j d v s) w c is t = handed (record { out = false; by = j; left = s; before = g; ends = cc })
-  owed_by h g (Pass j d v s) w c is t = handed (record { out = true; by = j; left = s; before = g; ends = cc })
-  owed_by h g (Wait j d p s) w c is t = given_to_called h (Wait j d p s) w c (g, is) refl t
-  owed_by h g (Leave j s) w c is t = given_to_called h (Leave j s) w c (g, is) refl t
+  owed_by h g e w c is t = by (after e) refl t
+    where
+      by_hand : after e ≡ hands w c → IsOwed w c h
+      by_hand hand =
+          let r : (out : Bool) × (k : ℕ) × (s : S) × (e ≡ handing out k c w s) = handing_is e w c hand in
+          handed (record { out = r.0; by = r.1; left = r.2; before = g; ends = is ∙ ap (λ x. g ++ x ∷ []) r.3 })
+
+      by : (a : After) → after e ≡ a → turn_of a (place_of e) (urgent h) (called h) ≡ Owed w c → IsOwed w c h
+      by stays kind owed = absurd (cc)
+      by (hands v d) kind owed = by_hand (kind ∙ (let one : hands v d ≡ hands w c = cc in one))
+      by frees kind owed = given_to_called h e w c (g, is) (ap is_free kind) owed
 
   pub turn-owed : (h : List (Event S)) (w c : ℕ) → turn h ≡ Owed w c → IsOwed w c h
   turn-owed h w c is =
       let r : (e : Event S) × Ends h e × (turn_by e (urgent h) (called h) ≡ Owed w c) = turn_of_last h (Owed w c) is (λ e. cc) in
       owed_by h r.1.0 r.0 w c r.1.1 r.2
 
-  return_by : (e : Event S) (us : List ℕ) (ws : List (Event S)) (k : ℕ) → turn_by e us ws ≡ Return k → (gives_up e ≡ true) × (turn_given_up us ws ≡ Return k)
-  return_by (Admit j s) us ws k t = absurd (cc)
-  return_by (Resume j d s) us ws k t = absurd (cc)
-  return_by (Back j s) us ws k t = absurd (cc)
-  return_by (Notify j d v s) us ws k t = absurd (cc)
-  return_by (Broadcast j d s) us ws k t = absurd (cc)
-  return_by (Signal j d v s) us ws k t = absurd (cc)
-  return_by (Pass j d v s) us ws k t = absurd (cc)
-  return_by (Wait j d p s) us ws k t = (refl, t)
-  return_by (Leave j s) us ws k t = (refl, t)
+  return_of : (a : After) (j : ℕ) (us : List ℕ) (ws : List (Event S)) (k : ℕ) → turn_of a j us ws ≡ Return k → (is_free a ≡ true) × (turn_given_up us ws ≡ Return k)
+  return_of stays j us ws k t = absurd (cc)
+  return_of (hands w c) j us ws k t = absurd (cc)
+  return_of frees j us ws k t = (refl, t)
 
   -- the last event gave the monitor up, and k is the first waiting signaller
   pub turn-return : (h : List (Event S)) (k : ℕ) → turn h ≡ Return k → (e : Event S) × Ends h e × (gives_up e ≡ true) × (us : List ℕ) × (urgent h ≡ k ∷ us)
   turn-return h k is =
       let r : (e : Event S) × Ends h e × (turn_by e (urgent h) (called h) ≡ Return k) = turn_of_last h (Return k) is (λ e. cc) in
-      let g : (gives_up r.0 ≡ true) × (turn_given_up (urgent h) (called h) ≡ Return k) = return_by r.0 (urgent h) (called h) k r.2 in
+      let g : (gives_up r.0 ≡ true) × (turn_given_up (urgent h) (called h) ≡ Return k) = return_of (after r.0) (place_of r.0) (urgent h) (called h) k r.2 in
       let u : (us : List ℕ) × (urgent h ≡ k ∷ us) = returns_first (urgent h) (called h) k g.1 in
       (r.0, r.1, g.0, u.0, u.1)
 
-  free_by : (e : Event S) (us : List ℕ) (ws : List (Event S)) → turn_by e us ws ≡ Free → (gives_up e ≡ true) × (us ≡ []) × (ws ≡ [])
-  free_by (Admit j s) us ws t = absurd (cc)
-  free_by (Resume j d s) us ws t = absurd (cc)
-  free_by (Back j s) us ws t = absurd (cc)
-  free_by (Notify j d v s) us ws t = absurd (cc)
-  free_by (Broadcast j d s) us ws t = absurd (cc)
-  free_by (Signal j d v s) us ws t = absurd (cc)
-  free_by (Pass j d v s) us ws t = absurd (cc)
-  free_by (Wait j d p s) us ws t = let r = free_first us ws t in (refl, r.0, r.1)
-  free_by (Leave j s) us ws t = let r = free_first us ws t in (refl, r.0, r.1)
+  free_of : (a : After) (j : ℕ) (us : List ℕ) (ws : List (Event S)) → turn_of a j us ws ≡ Free → (is_free a ≡ true) × (us ≡ []) × (ws ≡ [])
+  free_of stays j us ws t = absurd (cc)
+  free_of (hands w c) j us ws t = absurd (cc)
+  free_of frees j us ws t = let r = free_first us ws t in (refl, r.0, r.1)
+
+  free_by : (g : List (Event S)) (e : Event S) (h : List (Event S)) → h ≡ g ++ e ∷ [] → turn h ≡ Free → (gives_up e ≡ true) × (urgent h ≡ []) × (called h ≡ [])
+  free_by g e h ends is = free_of (after e) (place_of e) (urgent h) (called h) (turn_by_last g e h ends ∙ is)
 
   -- nothing happened, or the last event gave the monitor up, where nobody's turn it is
   pub turn-free : (h : List (Event S)) → turn h ≡ Free → (h ≡ []) ⊎ ((e : Event S) × Ends h e × (gives_up e ≡ true))
@@ -199,7 +205,7 @@ module _ {S : Type 0} where
     where
       by : HasLast h → (h ≡ []) ⊎ ((e : Event S) × Ends h e × (gives_up e ≡ true))
       by (nothing none) = inl none
-      by (pushed g e ends) = inr (e, (g, ends), (free_by e (urgent h) (called h) (turn_by_last g e h ends ∙ is)).0)
+      by (pushed g e ends) = inr (e, (g, ends), (free_by g e h ends is).0)
 
   -- no signaller waits where nobody's turn it is
   pub urgent-free : (h : List (Event S)) → turn h ≡ Free → urgent h ≡ []
@@ -208,7 +214,7 @@ module _ {S : Type 0} where
     where
       by : HasLast h → urgent h ≡ []
       by (nothing none) = ap urgent none
-      by (pushed g e ends) = (free_by e (urgent h) (called h) (turn_by_last g e h ends ∙ is)).1
+      by (pushed g e ends) = (free_by g e h ends is).1
 
   -- and nobody is called
   pub called-free : (h : List (Event S)) → turn h ≡ Free → called h ≡ []
@@ -217,7 +223,7 @@ module _ {S : Type 0} where
     where
       by : HasLast h → called h ≡ []
       by (nothing none) = ap called none
-      by (pushed g e ends) = (free_by e (urgent h) (called h) (turn_by_last g e h ends ∙ is)).2
+      by (pushed g e ends) = (free_by g e h ends is).2
 
   -- k is the place that hands the monitor over, and s are the data that it leaves
   pub place_of-handing : (out : Bool) (k c w : ℕ) (s : S) → place_of (handing out k c w s) ≡ k
@@ -239,42 +245,15 @@ module _ {S : Type 0} where
 
   -- what no wait is, waits on no condition
   pub waits_not : (Is : Event S → Type 0) (e : Event S) (c : ℕ) → ((k d p : ℕ) (s : S) → Is (Wait k d p s) → ⊥) → Is e → waits_on c e ≡ false
-  waits_not Is (Wait k d p s) c never is = absurd (never k d p s is)
-  waits_not Is (Admit k s) c never is = refl
-  waits_not Is (Signal k d w s) c never is = refl
-  waits_not Is (Pass k d w s) c never is = refl
-  waits_not Is (Leave k s) c never is = refl
-  waits_not Is (Resume k d s) c never is = refl
-  waits_not Is (Back k s) c never is = refl
-  waits_not Is (Notify k d w s) c never is = refl
-  waits_not Is (Broadcast k d s) c never is = refl
+  waits_not Is e c never is = by (waits_on c e) refl
+    where
+      by : (t : Bool) → waits_on c e ≡ t → t ≡ false
+      by false no_wait = refl
+      by true on = absurd (never (place_of e) c (priority_of e) (data_of e) (subst Is (waits_on-is c e on) is))
 
   -- whoever is inside waits on none
   pub in_not_waiting : (e : Event S) (c : ℕ) → is_inside e ≡ true → waits_on c e ≡ false
   in_not_waiting e c is = waits_not (λ x. is_inside x ≡ true) e c (λ k d p s on. cc) is
-
-  -- whoever comes in is inside, and is alone concerned
-  pub brings_inside : (e : Event S) → brings_in e ≡ true → is_inside e ≡ true
-  brings_inside (Admit i s) is = refl
-  brings_inside (Resume i d s) is = refl
-  brings_inside (Back i s) is = refl
-  brings_inside (Wait i d p s) is = absurd (cc)
-  brings_inside (Signal i d v s) is = absurd (cc)
-  brings_inside (Pass i d v s) is = absurd (cc)
-  brings_inside (Leave i s) is = absurd (cc)
-  brings_inside (Notify i d v s) is = refl
-  brings_inside (Broadcast i d s) is = refl
-
-  pub in_concerns_own : (e : Event S) (d j : ℕ) → brings_in e ≡ true → concerns d j e ≡ (place_of e == j)
-  in_concerns_own (Admit i s) d j is = refl
-  in_concerns_own (Resume i c s) d j is = refl
-  in_concerns_own (Back i s) d j is = refl
-  in_concerns_own (Wait i c p s) d j is = refl
-  in_concerns_own (Signal i c v s) d j is = absurd (cc)
-  in_concerns_own (Pass i c v s) d j is = absurd (cc)
-  in_concerns_own (Leave i s) d j is = refl
-  in_concerns_own (Notify i c v s) d j is = absurd (cc)
-  in_concerns_own (Broadcast i c s) d j is = absurd (cc)
 
   in_not_out : (e : Event S) → is_inside e ≡ true → is_out (Some e) ≡ false
   in_not_out (Admit j s) is = refl

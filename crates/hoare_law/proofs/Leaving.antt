@@ -3,38 +3,34 @@ use Rattle.std.proofs.Common.{◌≡◌, ◌≢◌, ℕ, ◌<◌, arith, Bool, t
 use Rattle.std.specs.Prelude.{IsSomeAnd, slice_index}
 use Rattle.hoare_law.specs.declared.event.Event.{Event}
 use Rattle.hoare_law.specs.declared.event.History.{History}
-use Rattle.hoare_law.specs.declared.event.Event.TheVariants.{Admit, Wait, Signal, Pass, Leave, Resume, Back, Notify, Broadcast}
+use Rattle.hoare_law.specs.declared.event.Event.TheVariants.{Wait, Signal, Pass, Leave}
 use Rattle.hoare_law.specs.declared.turn.Turn.TheVariants.{Held, Owed}
 use Rattle.hoare_law.specs.Events.{place_of, with_event}
 use Rattle.hoare_law.specs.Lawful.{Rest, Ready, Owes}
 use Rattle.hoare_law.specs.Legal.{Allowed, IsLegal}
 use Rattle.hoare_law.specs.Priorities.{priorities, joined, taken}
-use Rattle.hoare_law.specs.Turns.{turn, urgent, outside, is_out}
+use Rattle.hoare_law.specs.Turns.{After, stays, frees, hands, after, turn, turn_of, urgent, outside, is_out}
 use Rattle.hoare_law.specs.Sizes.{IsHoare}
 use Rattle.hoare_law.specs.Waiting.{priority_of, chosen, Chooses}
 use Rattle.hoare_law.specs.Called.{called}
-use Rattle.hoare_law.proofs.Held.{handing, is_inside, not_held}
+use Rattle.hoare_law.proofs.Held.{handing, is_stay, is_inside, not_held}
 use Rattle.hoare_law.proofs.Priorities.{priorities-leave, priorities-wait, priorities-handing, priorities-nobody, slice_index-chosen, waiting-unchosen}
 use Rattle.hoare_law.proofs.Turns.{outside-push, turn-push}
-use Rattle.hoare_law.proofs.Waiters.{held-in_range, chosen-in_range, place_in_range}
+use Rattle.hoare_law.proofs.Waiters.{held-in_range, chosen-in_range}
 
 module _ {S : Type 0} where
   -- nobody is inside after an event that isn't one of a process inside
   pub turn-left : (f : History S) (e : Event S) (j : ℕ) → is_inside e ≡ false → turn (with_event f e).events ≢ Held j
   unfolding with_event
-  turn-left f (Admit i s) j out is = absurd (cc)
-  turn-left f (Resume i c s) j out is = absurd (cc)
-  turn-left f (Back i s) j out is = absurd (cc)
-  turn-left f (Notify i c w s) j out is = absurd (cc)
-  turn-left f (Broadcast i c s) j out is = absurd (cc)
-  turn-left f (Wait i c p s) j out is =
-      let h : List (Event S) = f.events ++ Wait i c p s ∷ [] in not_held (urgent h) (called h) j (sym (turn-push f.events (Wait i c p s)) ∙ is)
-  turn-left f (Leave i s) j out is =
-      let h : List (Event S) = f.events ++ Leave i s ∷ [] in not_held (urgent h) (called h) j (sym (turn-push f.events (Leave i s)) ∙ is)
-  turn-left f (Signal i c w s) j out is =
-      let no : Owed w c ≡ Held j = sym (turn-push f.events (Signal i c w s)) ∙ is in cc
-  turn-left f (Pass i c w s) j out is =
-      let no : Owed w c ≡ Held j = sym (turn-push f.events (Pass i c w s)) ∙ is in cc
+  turn-left f e j out is = by (after e) out (sym (turn-push f.events e) ∙ is)
+    where
+      h : List (Event S)
+      h = f.events ++ e ∷ []
+
+      by : (a : After) → is_stay a ≡ false → turn_of a (place_of e) (urgent h) (called h) ≢ Held j
+      by stays no_stay t = absurd (cc)
+      by frees no_stay t = not_held (urgent h) (called h) j t
+      by (hands w c) no_stay t = cc
 
   -- the turn is that of whom a signal or a pass resumes
   pub turn-handing : (out : Bool) (h : History S) (k c w : ℕ) (s : S) → turn (with_event h (handing out k c w s)).events ≡ Owed w c
@@ -62,12 +58,12 @@ module _ {S : Type 0} where
 
   -- each kind is allowed to the one inside
   pub Allowed-leave : (f : History S) (k : ℕ) (s : S) → IsLegal f → turn f.events ≡ Held k → Allowed f (Leave k s)
-  Allowed-leave f k s legal held = record { in_range = held-in_range f k legal held; fits = held }
+  Allowed-leave f k s legal held = record { in_range = (held-in_range f k legal held, tt); fits = held }
 
   pub Allowed-wait : (f : History S) (k c p : ℕ) (s : S) → IsLegal f → turn f.events ≡ Held k → c < f.sizes.conditions → Allowed f (Wait k c p s)
   Allowed-wait f k c p s legal held below = record { in_range = (held-in_range f k legal held, below); fits = held }
 
-  handing_allowed : (out : Bool) (f : History S) (k c w : ℕ) (s : S) → (k < f.sizes.places) × (c < f.sizes.conditions) × (w < f.sizes.places)
+  handing_allowed : (out : Bool) (f : History S) (k c w : ℕ) (s : S) → (k < f.sizes.places) × ((c < f.sizes.conditions) × (w < f.sizes.places))
       → (turn f.events ≡ Held k) × Chooses c f.events w × IsHoare f.sizes.conditions f.sizes.mesa c → Allowed f (handing out k c w s)
   handing_allowed true f k c w s in_range fits = record { in_range = in_range; fits = fits }
   handing_allowed false f k c w s in_range fits = record { in_range = in_range; fits = fits }
@@ -75,7 +71,7 @@ module _ {S : Type 0} where
   pub Allowed-handing : (out : Bool) (f : History S) (k c : ℕ) (x : Event S) (s : S) → IsLegal f → turn f.events ≡ Held k → IsHoare f.sizes.conditions f.sizes.mesa c
       → chosen c f.events ≡ Some x → Allowed f (handing out k c (place_of x) s)
   Allowed-handing out f k c x s legal held hoare is = handing_allowed out f k c (place_of x) s
-      (held-in_range f k legal held, omega (arith, hoare), place_in_range f x (chosen-in_range c f x legal is)) (held, Chooses-place c f.events x is, hoare)
+      (held-in_range f k legal held, (omega (arith, hoare), (chosen-in_range c f x legal is).0)) (held, Chooses-place c f.events x is, hoare)
 
   module _ (rest : Rest S) (ready : Ready S) where
     -- and pays what it owes

@@ -23,7 +23,7 @@ use Rattle.hoare_law.proofs.Waiting.{waiting-push}
 use Rattle.hoare_law.proofs.Called.{called-push}
 use Rattle.hoare_law.proofs.Sorted.{All-in_order}
 use Rattle.hoare_law.proofs.Held.{EndsHanding, EndsCalled, IsOwed, handed, next_called, handing, waits_on-handing, concerns-handing, turn-owed, waiting-held}
-use Rattle.hoare_law.proofs.Waiters.{Waits, All-waiting, condition-waits_on, waiting-in_range, waiting-elsewhere, place_in_range, in_range-at, handing_in_range}
+use Rattle.hoare_law.proofs.Waiters.{Waits, All-waiting, condition-waits_on, waiting-in_range, waiting-elsewhere, in_range-at, handing_in_range}
 
 second : (a b : Bool) → not (a || b) ≡ true → not b ≡ true
 second true b n = absurd (cc)
@@ -91,12 +91,12 @@ module _ {S : Type 0} where
 
   -- what is known of one that waits on c, beside k, which is inside
   abbrev OthersWait : History S → ℕ → ℕ → Event S → Type 0
-  OthersWait f k c x = (Waits c f.events x × IsInRange f x) × (not (k == place_of x) ≡ true)
+  OthersWait f k c x = (Waits c f.events x × IsInRange f.sizes x) × (not (k == place_of x) ≡ true)
 
   -- so is each
   others_wait : (f : History S) (k c : ℕ) → IsLegal f → turn f.events ≡ Held k → All (OthersWait f k c) (waiting c f.events)
-  others_wait f k c legal held = All-both (λ x. Waits c f.events x × IsInRange f x) (λ x. not (k == place_of x) ≡ true) (waiting c f.events)
-      (All-both (Waits c f.events) (IsInRange f) (waiting c f.events) (All-waiting c f.events) (waiting-in_range c f legal))
+  others_wait f k c legal held = All-both (λ x. Waits c f.events x × IsInRange f.sizes x) (λ x. not (k == place_of x) ≡ true) (waiting c f.events)
+      (All-both (Waits c f.events) (IsInRange f.sizes) (waiting c f.events) (All-waiting c f.events) (waiting-in_range c f legal))
       (all_of (waiting c f.events) (waiting-held f.events k c held))
     where
       all_of : (xs : List (Event S)) → list_all (λ x. not (k == place_of x)) xs ≡ true → All (λ x. not (k == place_of x) ≡ true) xs
@@ -111,7 +111,7 @@ module _ {S : Type 0} where
         last = last_stays f.events e x (ap (λ j. not (j == place_of x)) mine ∙ was.1) was.0.0.last;
         waits = ap (λ d. waits_on d x) on ∙ was.0.0.on;
         mesa = subst (λ (d : ℕ). IsMesa f.sizes.conditions f.sizes.mesa d) (sym on) mesa;
-        place = place_in_range f x was.0.1;
+        place = was.0.1.0;
         apart = apart;
       }
 

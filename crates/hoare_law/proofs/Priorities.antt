@@ -18,7 +18,7 @@ use Rattle.hoare_law.proofs.Waiting.{waiting-push}
 use Rattle.hoare_law.proofs.Sorted.{first_of, put_all-push, in_order-filter, map-put_in, map-in_order, in_order-none, in_order-short, length-in_order, IsNonDecreasing-in_order}
 use Rattle.hoare_law.proofs.Chosen.{chosen-first}
 use Rattle.hoare_law.proofs.Filters.{map-none, filter-all, filter-true, filter-false, filter-or, list_all-filter_none, list_all-same, list_all-from_All}
-use Rattle.hoare_law.proofs.Held.{handing, waits_on-handing, concerns-handing, waits_not, waiting-held}
+use Rattle.hoare_law.proofs.Held.{handing, waits_on-handing, concerns-handing, concerns-own, waits_not, waiting-held}
 use Rattle.hoare_law.proofs.Waiters.{Waits, LastSignals, All-waiting, own-return, chosen-waits, waiting-elsewhere, waiting-once}
 
 some_and : {X : Type 0} (P : X → Type 0) (o : Option X) → IsSomeAnd o P → (x : X) × (o ≡ Some x) × P x
@@ -71,7 +71,7 @@ module _ {S : Type 0} where
 
   -- a wait adds itself
   pub waiting-wait : (h : List (Event S)) (k c p d : ℕ) (s : S) → turn h ≡ Held k → waiting d (h ++ Wait k c p s ∷ []) ≡ waiting d h ++ cond (c == d) (Wait k c p s ∷ []) []
-  waiting-wait h k c p d s is = waiting-own h (Wait k c p s) d (λ j. refl) (waiting-held h k d is)
+  waiting-wait h k c p d s is = waiting-own h (Wait k c p s) d (λ j. concerns-own (Wait k c p s) d j refl) (waiting-held h k d is)
 
   -- so the priorities stay, where it is no wait
   pub priorities-own : (h : List (Event S)) (e : Event S) → ((d j : ℕ) → concerns d j e ≡ (place_of e == j)) → ((d : ℕ) → waits_on d e ≡ false)
@@ -82,7 +82,7 @@ module _ {S : Type 0} where
 
   -- as at a leave
   pub priorities-leave : (h : List (Event S)) (k : ℕ) (s : S) → turn h ≡ Held k → priorities (h ++ Leave k s ∷ []) ≡ priorities h
-  priorities-leave h k s is = priorities-own h (Leave k s) (λ d j. refl) (λ d. refl) (λ d. waiting-held h k d is)
+  priorities-leave h k s is = priorities-own h (Leave k s) (λ d j. concerns-own (Leave k s) d j refl) (λ d. refl) (λ d. waiting-held h k d is)
 
   -- who waits on d, in the order in which signals would resume them
   abbrev pub in_turn : List (Event S) → ℕ → List (Event S)
@@ -124,18 +124,6 @@ module _ {S : Type 0} where
   -- so at index 0 of them
   pub slice_index-chosen : (c : ℕ) (h : List (Event S)) (x : Event S) → chosen c h ≡ Some x → slice_index (priorities h c) 0 ≡ priority_of x
   slice_index-chosen c h x is = ap (λ l. slice_index l 0) (priorities-chosen c h x is)
-
-  -- a wait on c is made of its parts
-  pub waits_on-is : (c : ℕ) (x : Event S) → waits_on c x ≡ true → x ≡ Wait (place_of x) c (priority_of x) (data_of x)
-  waits_on-is c (Wait k d p s) on = ap (λ i. Wait k i p s) (eqb-true d c on)
-  waits_on-is c (Admit k s) on = absurd (cc)
-  waits_on-is c (Signal k d w s) on = absurd (cc)
-  waits_on-is c (Pass k d w s) on = absurd (cc)
-  waits_on-is c (Leave k s) on = absurd (cc)
-  waits_on-is c (Resume k d s) on = absurd (cc)
-  waits_on-is c (Back k s) on = absurd (cc)
-  waits_on-is c (Notify k d w s) on = absurd (cc)
-  waits_on-is c (Broadcast k d s) on = absurd (cc)
 
   -- nobody is chosen only where nobody waits
   pub waiting-unchosen : (c : ℕ) (h : List (Event S)) → chosen c h ≡ None → waiting c h ≡ []

@@ -15,7 +15,7 @@ use Rattle.hoare_law.specs.Legal.{IsInRange, IsLegal}
 use Rattle.hoare_law.proofs.Tests.{both_true, eq_swap}
 use Rattle.hoare_law.proofs.Events.{newest-push}
 use Rattle.hoare_law.proofs.Filters.{filter-none, list_all-at, list_all-from_All, All-find, find-passes, All-filter_by_later}
-use Rattle.hoare_law.proofs.Held.{is_inside, handing, own_is_concerned, turn-held, turn-return}
+use Rattle.hoare_law.proofs.Held.{is_inside, handing, own_is_concerned, waits_on-is, turn-held, turn-return}
 
 module _ {S : Type 0} where
   -- x waits on c in h: it is a wait on c, and its place's last event
@@ -61,51 +61,28 @@ module _ {S : Type 0} where
       let b : (is_signal x ≡ true) × (is_last_act x later ≡ true) = both_true _ _ t in
       (x, newest-own_split f later x h is b.1, b.0)))
 
-  in_range_cut : (h : History S) (f : List (Event S)) (e : Event S) → IsInRange (cut_to h f) e → IsInRange h e
-  in_range_cut h f (Admit k s) r = r
-  in_range_cut h f (Wait k c p s) r = r
-  in_range_cut h f (Signal k c w s) r = r
-  in_range_cut h f (Pass k c w s) r = r
-  in_range_cut h f (Leave k s) r = r
-  in_range_cut h f (Resume k c s) r = r
-  in_range_cut h f (Back k s) r = r
-  in_range_cut h f (Notify k c w s) r = r
-  in_range_cut h f (Broadcast k c s) r = r
-
   -- wherever an event of a legal history stands, it is in range
-  pub in_range-at : (h : History S) (f later : List (Event S)) (e : Event S) → IsLegal h → h.events ≡ f ++ e ∷ later → IsInRange h e
-  in_range-at h f later e legal is = in_range_cut h f e (legal.each f later e is).in_range
+  pub in_range-at : (h : History S) (f later : List (Event S)) (e : Event S) → IsLegal h → h.events ≡ f ++ e ∷ later → IsInRange h.sizes e
+  in_range-at h f later e legal is = (legal.each f later e is).in_range
 
   -- of each kind that stands by what comes later
-  pub All-in_range : (h : History S) (test : Event S → List (Event S) → Bool) → IsLegal h → All (IsInRange h) (filter_by_later test h.events)
-  All-in_range h test legal = All-filter_by_later (IsInRange h) test h.events (λ f e later is t. in_range-at h f later e legal is)
+  pub All-in_range : (h : History S) (test : Event S → List (Event S) → Bool) → IsLegal h → All (IsInRange h.sizes) (filter_by_later test h.events)
+  All-in_range h test legal = All-filter_by_later (IsInRange h.sizes) test h.events (λ f e later is t. in_range-at h f later e legal is)
 
-  -- the place of an event in range is a place of the monitor
-  pub place_in_range : (h : History S) (e : Event S) → IsInRange h e → place_of e < h.sizes.places
-  place_in_range h (Admit k s) r = r
-  place_in_range h (Wait k c p s) r = r.0
-  place_in_range h (Signal k c w s) r = r.0
-  place_in_range h (Pass k c w s) r = r.0
-  place_in_range h (Leave k s) r = r
-  place_in_range h (Resume k c s) r = r.0
-  place_in_range h (Back k s) r = r
-  place_in_range h (Notify k c w s) r = r.0
-  place_in_range h (Broadcast k c s) r = r.0
-
-  pub handing_in_range : (out : Bool) (h : History S) (k c w : ℕ) (s : S) → IsInRange h (handing out k c w s) → (w < h.sizes.places) × (c < h.sizes.conditions)
-  handing_in_range true h k c w s r = (r.2, r.1)
-  handing_in_range false h k c w s r = (r.2, r.1)
+  pub handing_in_range : (out : Bool) (h : History S) (k c w : ℕ) (s : S) → IsInRange h.sizes (handing out k c w s) → (w < h.sizes.places) × (c < h.sizes.conditions)
+  handing_in_range true h k c w s r = (r.1.1, r.1.0)
+  handing_in_range false h k c w s r = (r.1.1, r.1.0)
 
   -- who has the turn is a place of the monitor
   pub held-in_range : (h : History S) (k : ℕ) → IsLegal h → turn h.events ≡ Held k → k < h.sizes.places
   held-in_range h k legal is =
       let r : (e : Event S) × ((g : List (Event S)) × (h.events ≡ g ++ e ∷ [])) × (is_inside e ≡ true) × (place_of e ≡ k) = turn-held h.events k is in
-      subst (λ (i : ℕ). i < h.sizes.places) r.3 (place_in_range h r.0 (in_range-at h r.1.0 [] r.0 legal r.1.1))
+      subst (λ (i : ℕ). i < h.sizes.places) r.3 (in_range-at h r.1.0 [] r.0 legal r.1.1).0
 
   -- so are the waiting signallers
   pub urgent-in_range : (h : History S) → IsLegal h → All (λ k. k < h.sizes.places) (urgent h.events)
   unfolding urgent
-  urgent-in_range h legal = All-map (λ k. k < h.sizes.places) place_of _ (All-weaker (IsInRange h) (λ e. place_of e < h.sizes.places) (place_in_range h) _ (All-in_range h _ legal))
+  urgent-in_range h legal = All-map (λ k. k < h.sizes.places) place_of _ (All-weaker (IsInRange h.sizes) (λ e. place_of e < h.sizes.places) (λ e r. r.0) _ (All-in_range h _ legal))
 
   -- and the one that returns
   pub return-in_range : (h : History S) (k : ℕ) → IsLegal h → turn h.events ≡ Return k → k < h.sizes.places
@@ -123,9 +100,9 @@ module _ {S : Type 0} where
   chosen-waits c h x is = All-find (Waits c h) (is_least (waiting c h)) (waiting c h) x is (All-waiting c h)
 
   -- and its wait is in range
-  pub chosen-in_range : (c : ℕ) (h : History S) (x : Event S) → IsLegal h → chosen c h.events ≡ Some x → IsInRange h x
+  pub chosen-in_range : (c : ℕ) (h : History S) (x : Event S) → IsLegal h → chosen c h.events ≡ Some x → IsInRange h.sizes x
   unfolding chosen waiting
-  chosen-in_range c h x legal is = All-find (IsInRange h) (is_least (waiting c h.events)) (waiting c h.events) x is (All-in_range h (λ e later. waits_on c e && is_untouched c e later) legal)
+  chosen-in_range c h x legal is = All-find (IsInRange h.sizes) (is_least (waiting c h.events)) (waiting c h.events) x is (All-in_range h (λ e later. waits_on c e && is_untouched c e later) legal)
 
   -- none that waits has a smaller priority
   pub chosen-least : (c : ℕ) (h : List (Event S)) (x : Event S) → chosen c h ≡ Some x → is_least (waiting c h) x ≡ true
@@ -134,31 +111,15 @@ module _ {S : Type 0} where
 
   -- a wait on c has c for its condition
   pub condition-waits_on : (c : ℕ) (x : Event S) → waits_on c x ≡ true → condition_of x ≡ c
-  condition-waits_on c (Wait k d p s) on = eqb-true d c on
-  condition-waits_on c (Admit k s) on = absurd (cc)
-  condition-waits_on c (Signal k d w s) on = absurd (cc)
-  condition-waits_on c (Pass k d w s) on = absurd (cc)
-  condition-waits_on c (Leave k s) on = absurd (cc)
-  condition-waits_on c (Resume k d s) on = absurd (cc)
-  condition-waits_on c (Back k s) on = absurd (cc)
-  condition-waits_on c (Notify k d w s) on = absurd (cc)
-  condition-waits_on c (Broadcast k d s) on = absurd (cc)
+  condition-waits_on c x on = ap condition_of (waits_on-is c x on)
 
   -- and each that waits on c is in range in a legal history
-  pub waiting-in_range : (c : ℕ) (h : History S) → IsLegal h → All (IsInRange h) (waiting c h.events)
+  pub waiting-in_range : (c : ℕ) (h : History S) → IsLegal h → All (IsInRange h.sizes) (waiting c h.events)
   unfolding waiting
   waiting-in_range c h legal = All-in_range h (λ e later. waits_on c e && is_untouched c e later) legal
 
   both_wait : (c d : ℕ) (x : Event S) → waits_on c x ≡ true → waits_on d x ≡ true → d ≡ c
-  both_wait c d (Wait k i p s) a b = sym (eqb-true i d b) ∙ eqb-true i c a
-  both_wait c d (Admit k s) a b = absurd (cc)
-  both_wait c d (Signal k i w s) a b = absurd (cc)
-  both_wait c d (Pass k i w s) a b = absurd (cc)
-  both_wait c d (Leave k s) a b = absurd (cc)
-  both_wait c d (Resume k i s) a b = absurd (cc)
-  both_wait c d (Back k s) a b = absurd (cc)
-  both_wait c d (Notify k i w s) a b = absurd (cc)
-  both_wait c d (Broadcast k i s) a b = absurd (cc)
+  both_wait c d x a b = sym (condition-waits_on d x b) ∙ condition-waits_on c x a
 
   -- a place waits on one condition
   pub waits_once : (c d : ℕ) (h : List (Event S)) (x y : Event S) → Waits c h x → Waits d h y → place_of x ≡ place_of y → d ≡ c

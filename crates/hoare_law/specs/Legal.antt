@@ -1,25 +1,28 @@
 -- Legal histories: those of Hoare's machine, with Mesa conditions beside Hoare's.
-use Rattle.std.specs.Prelude.{List, [], ◌∷◌, ◌++◌, ◌<◌, ◌≡◌, ◌≢◌, true}
+use Rattle.std.specs.Prelude.{List, [], ◌∷◌, ◌++◌, ◌<◌, ◌≡◌, ◌≢◌, true, ⊤}
 use Rattle.hoare_law.specs.declared.event.Event.{Event}
 use Rattle.hoare_law.specs.declared.event.History.{History}
+use Rattle.hoare_law.specs.declared.event.Sizes.{Sizes}
 use Rattle.hoare_law.specs.declared.event.Event.TheVariants.{Admit, Wait, Signal, Pass, Leave, Resume, Back, Notify, Broadcast}
 use Rattle.hoare_law.specs.declared.turn.Turn.TheVariants.{Free, Held, Owed, Return}
-use Rattle.hoare_law.specs.Events.{latest_data, cut_to}
+use Rattle.hoare_law.specs.Events.{place_of, latest_data, cut_to}
 use Rattle.hoare_law.specs.Sizes.{IsHoare, IsMesa}
 use Rattle.hoare_law.specs.Waiting.{waiting, Chooses}
 use Rattle.hoare_law.specs.Turns.{turn, outside}
 
--- the event's places and condition are the monitor's
-abbrev pub IsInRange : {S : Type 0} → History S → Event S → Type 0
-IsInRange f (Admit k s) = k < f.sizes.places
-IsInRange f (Wait k c p s) = (k < f.sizes.places) × (c < f.sizes.conditions)
-IsInRange f (Signal k c w s) = (k < f.sizes.places) × (c < f.sizes.conditions) × (w < f.sizes.places)
-IsInRange f (Pass k c w s) = (k < f.sizes.places) × (c < f.sizes.conditions) × (w < f.sizes.places)
-IsInRange f (Leave k s) = k < f.sizes.places
-IsInRange f (Resume k c s) = (k < f.sizes.places) × (c < f.sizes.conditions)
-IsInRange f (Back k s) = k < f.sizes.places
-IsInRange f (Notify k c w s) = (k < f.sizes.places) × (c < f.sizes.conditions) × (w < f.sizes.places)
-IsInRange f (Broadcast k c s) = (k < f.sizes.places) × (c < f.sizes.conditions)
+-- the condition and the other place that the event names are the monitor's
+abbrev pub NamesInRange : {S : Type 0} → Sizes → Event S → Type 0
+NamesInRange n (Wait k c p s) = c < n.conditions
+NamesInRange n (Signal k c w s) = (c < n.conditions) × (w < n.places)
+NamesInRange n (Pass k c w s) = (c < n.conditions) × (w < n.places)
+NamesInRange n (Resume k c s) = c < n.conditions
+NamesInRange n (Notify k c w s) = (c < n.conditions) × (w < n.places)
+NamesInRange n (Broadcast k c s) = c < n.conditions
+NamesInRange n _ = ⊤
+
+-- so is its own place
+abbrev pub IsInRange : {S : Type 0} → Sizes → Event S → Type 0
+IsInRange n e = (place_of e < n.places) × NamesInRange n e
 
 -- the event is the turn's, finds the data as they were left, resumes or calls whom it should, and suits the condition's kind: signals
 -- are for Hoare's, calls for Mesa conditions
@@ -36,7 +39,7 @@ Fits f (Broadcast k c s) = (turn f.events ≡ Held k) × (waiting c f.events ≢
 
 -- the event may come next
 pub record Allowed {S : Type 0} (f : History S) (e : Event S) : Type 0 where
-  pub in_range : IsInRange f e
+  pub in_range : IsInRange f.sizes e
   pub fits : Fits f e
 
 -- each event was allowed after those before it

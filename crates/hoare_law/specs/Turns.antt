@@ -2,7 +2,7 @@
 -- behind them and before newcomers is this project's choice).
 use Rattle.std.specs.Prelude.{ℕ, List, [], ◌∷◌, ◌&&◌, Bool, true, false, Option, Some, None, map}
 use Rattle.hoare_law.specs.declared.event.Event.{Event}
-use Rattle.hoare_law.specs.declared.event.Event.TheVariants.{Admit, Wait, Signal, Pass, Leave, Resume, Back, Notify, Broadcast}
+use Rattle.hoare_law.specs.declared.event.Event.TheVariants.{Wait, Signal, Pass, Leave}
 use Rattle.hoare_law.specs.declared.turn.Turn.{Turn}
 use Rattle.hoare_law.specs.declared.turn.Turn.TheVariants.{Free, Held, Owed, Return}
 use Rattle.hoare_law.specs.Events.{place_of, own, newest}
@@ -25,17 +25,28 @@ turn_given_up [] [] = Free
 turn_given_up [] (w ∷ ws) = Owed (place_of w) (condition_of w)
 turn_given_up (u ∷ us) ws = Return u
 
--- the turn after an event, with these signallers waiting and these called
+-- what an event makes of the monitor: its place is inside, it is given up to nobody in particular, or it is handed to w, which
+-- waited on c
+pub data After : Type 0 where
+  stays : After
+  frees : After
+  hands : (w c : ℕ) → After
+
+abbrev pub after : {S : Type 0} → Event S → After
+after (Wait k c p s) = frees
+after (Leave k s) = frees
+after (Signal k c w s) = hands w c
+after (Pass k c w s) = hands w c
+after _ = stays
+
+-- the turn after an event of k, with these signallers waiting and these called
+abbrev pub turn_of : {S : Type 0} → After → ℕ → List ℕ → List (Event S) → Turn
+turn_of stays k us ws = Held k
+turn_of (hands w c) k us ws = Owed w c
+turn_of frees k us ws = turn_given_up us ws
+
 abbrev pub turn_by : {S : Type 0} → Event S → List ℕ → List (Event S) → Turn
-turn_by (Admit k s) us ws = Held k
-turn_by (Resume k c s) us ws = Held k
-turn_by (Back k s) us ws = Held k
-turn_by (Notify k c w s) us ws = Held k
-turn_by (Broadcast k c s) us ws = Held k
-turn_by (Signal k c w s) us ws = Owed w c
-turn_by (Pass k c w s) us ws = Owed w c
-turn_by (Wait k c p s) us ws = turn_given_up us ws
-turn_by (Leave k s) us ws = turn_given_up us ws
+turn_by e us ws = turn_of (after e) (place_of e) us ws
 
 abbrev pub turn_after : {S : Type 0} → Option (Event S) → List ℕ → List (Event S) → Turn
 turn_after None us ws = Free

@@ -2,7 +2,7 @@
 use Rattle.std.specs.Prelude.{ℕ, List, [], ◌∷◌, ◌==◌, ◌&&◌, ◌||◌, not, nat_le, Bool, false, if◌then◌else◌, Option, IsSomeAnd, ◌≡◌}
 use Rattle.std.specs.List.{list_all, find}
 use Rattle.hoare_law.specs.declared.event.Event.{Event}
-use Rattle.hoare_law.specs.declared.event.Event.TheVariants.{Admit, Wait, Signal, Pass, Leave, Resume, Back, Notify, Broadcast}
+use Rattle.hoare_law.specs.declared.event.Event.TheVariants.{Wait, Signal, Pass, Notify, Broadcast}
 use Rattle.hoare_law.specs.Events.{place_of}
 
 -- the elements that pass a test which also sees all that comes later
@@ -29,18 +29,17 @@ condition_of _ = 0
 abbrev pub is_last_act : {S : Type 0} → Event S → List (Event S) → Bool
 is_last_act e later = list_all (λ x. not (place_of x == place_of e)) later
 
--- the event concerns place k, which waits on c: k acts, is resumed by a signal or a pass, is called by a notify, or all that wait
--- on c are called by a broadcast
+-- the event takes place k from those that wait on c: it resumes k or calls it, or calls all that wait on c
+abbrev pub takes : {S : Type 0} → ℕ → ℕ → Event S → Bool
+takes c k (Signal j d w s) = w == k
+takes c k (Pass j d w s) = w == k
+takes c k (Notify j d w s) = w == k
+takes c k (Broadcast j d s) = d == c
+takes c k _ = false
+
+-- the event concerns place k, which waits on c: k acts, or is taken from those that wait
 abbrev pub concerns : {S : Type 0} → ℕ → ℕ → Event S → Bool
-concerns c k (Signal j d w s) = j == k || w == k
-concerns c k (Pass j d w s) = j == k || w == k
-concerns c k (Notify j d w s) = j == k || w == k
-concerns c k (Broadcast j d s) = j == k || d == c
-concerns c k (Admit j s) = j == k
-concerns c k (Wait j d p s) = j == k
-concerns c k (Leave j s) = j == k
-concerns c k (Resume j d s) = j == k
-concerns c k (Back j s) = j == k
+concerns c k e = place_of e == k || takes c k e
 
 -- nothing that comes later concerns the place of e, which waits on c
 abbrev pub is_untouched : {S : Type 0} → ℕ → Event S → List (Event S) → Bool

@@ -9,12 +9,13 @@ use Rattle.std.proofs.lemmas.List.{append-nil, map-append}
 use Rattle.std.proofs.lemmas.List.Elements.{filter_agree}
 use Rattle.hoare_law.specs.declared.event.Event.{Event}
 use Rattle.hoare_law.specs.declared.event.History.{History}
+use Rattle.hoare_law.specs.declared.event.Sizes.{Sizes}
 use Rattle.hoare_law.specs.declared.event.Event.TheVariants.{Admit, Signal, Pass, Leave, Resume, Back, Notify, Broadcast}
 use Rattle.hoare_law.specs.declared.turn.Turn.{Turn}
 use Rattle.hoare_law.specs.declared.turn.Turn.TheVariants.{Free, Held, Owed, Return}
 use Rattle.hoare_law.specs.Events.{opened, place_of, with_event}
 use Rattle.hoare_law.specs.Sizes.{IsHoare, IsMesa}
-use Rattle.hoare_law.specs.Waiting.{waiting, waits_on, concerns, priority_of, chosen, Chooses}
+use Rattle.hoare_law.specs.Waiting.{waiting, waits_on, takes, concerns, priority_of, chosen, Chooses}
 use Rattle.hoare_law.specs.Called.{called_by, called}
 use Rattle.hoare_law.specs.Turns.{urgent, turn, turn_by, outside, is_out, is_signal}
 use Rattle.hoare_law.specs.Priorities.{put_in, in_order, behind_first}
@@ -24,7 +25,7 @@ use Rattle.hoare_law.proofs.Waiting.{waiting-push}
 use Rattle.hoare_law.proofs.Called.{called-push}
 use Rattle.hoare_law.proofs.Calling.{called_by-notify}
 use Rattle.hoare_law.proofs.Turns.{urgent-push, turn-push, outside-push, filter-map}
-use Rattle.hoare_law.proofs.Held.{handing}
+use Rattle.hoare_law.proofs.Held.{handing, concerns-own}
 use Rattle.hoare_law.proofs.Legal.{IsLegal-push, IsLegal-none}
 use Rattle.hoare_law.proofs.Filters.{filter-all, filter-filter, filter-or, list_all-filter_none, map-none}
 use Rattle.hoare_law.proofs.Sorted.{in_order-filter, in_order-push, put_in-map}
@@ -55,13 +56,11 @@ pub IsOf-same : (b d : Contents) (h : Log) → b ≡ d → IsOf b h → IsOf d h
 IsOf-same b d h e o = subst (λ (v : Contents). IsOf v h) e o
 
 -- a book where nothing happened
-pub IsOf-opened : (n m l x y : ℕ) → IsOf (record { places = n; conditions = m; mesa = l; room_to_wait = x; room_to_signal = y; waiters = []; signallers = []; called = []; turn = Free }) (opened n m l tt)
+pub IsOf-opened : (n : Sizes) (x y : ℕ) → IsOf (record { sizes = n; room_to_wait = x; room_to_signal = y; waiters = []; signallers = []; called = []; turn = Free }) (opened n tt)
 unfolding waiting urgent called turn outside
-IsOf-opened n m l x y = record {
-  legal = IsLegal-none (opened n m l tt) refl;
-  places = refl;
-  conditions = refl;
-  mesa = refl;
+IsOf-opened n x y = record {
+  legal = IsLegal-none (opened n tt) refl;
+  sizes = refl;
   waiters = λ c. refl;
   signallers = refl;
   called_are = refl;
@@ -139,7 +138,7 @@ outside_kept b d h e o here off k =
     (λ q. subst (λ (j : ℕ). is_out (Some e) ≡ (times_in j d == 0)) q here) (off k)
 
 -- one more event, allowed, with what it does to each part
-pub IsOf-push : (b d : Contents) (h : Log) (e : Act) → IsOf b h → d.places ≡ b.places → d.conditions ≡ b.conditions → d.mesa ≡ b.mesa → Allowed h e
+pub IsOf-push : (b d : Contents) (h : Log) (e : Act) → IsOf b h → d.sizes ≡ b.sizes → Allowed h e
     → AreWaiting d.waiters (h.events ++ e ∷ [])
     → filter (λ u. not (place_of e == u)) b.signallers ++ cond (is_signal e) (place_of e ∷ []) [] ≡ d.signallers
     → filter (λ x. not (place_of e == place_of x)) (map wait_of b.called) ++ called_by h.events e ≡ map wait_of d.called
@@ -148,16 +147,14 @@ pub IsOf-push : (b d : Contents) (h : Log) (e : Act) → IsOf b h → d.places �
     → ((k : ℕ) → (place_of e == k) ≡ false → times_in k b ≡ times_in k d)
     → IsOf d (with_event h e)
 unfolding with_event
-IsOf-push b d h e o p q m allowed ws us cs t here off =
+IsOf-push b d h e o p allowed ws us cs t here off =
     let signallers : urgent (h.events ++ e ∷ []) ≡ d.signallers =
     urgent-push h.events e ∙ ap (λ l. filter (λ u. not (place_of e == u)) l ++ cond (is_signal e) (place_of e ∷ []) []) o.signallers ∙ us in
     let called_are : called (h.events ++ e ∷ []) ≡ map wait_of d.called =
     called-push h.events e ∙ ap (λ l. filter (λ x. not (place_of e == place_of x)) l ++ called_by h.events e) o.called_are ∙ cs in
     record {
       legal = IsLegal-push e o.legal allowed;
-      places = o.places ∙ sym p;
-      conditions = o.conditions ∙ sym q;
-      mesa = o.mesa ∙ sym m;
+      sizes = o.sizes ∙ sym p;
       waiters = ws;
       signallers = signallers;
       called_are = called_are;
@@ -174,16 +171,17 @@ zero_is n h = sym (ap (λ v. v == 0) h)
 no_data : (x : Unit {0}) → tt ≡ x
 no_data x = refl
 
-place_fits : (b : Contents) (h : Log) (k : ℕ) → IsOf b h → k < b.places → k < h.places
-place_fits b h k o l = omega (arith, o.places)
+place_fits : (b : Contents) (h : Log) (k : ℕ) → IsOf b h → k < b.sizes.places → k < h.sizes.places
+place_fits b h k o l = subst (λ (n : Sizes). k < n.places) (sym o.sizes) l
 
-condition_fits : (b : Contents) (h : Log) (c : ℕ) → IsOf b h → c < b.conditions → c < h.conditions
-condition_fits b h c o l = omega (arith, o.conditions)
+condition_fits : (b : Contents) (h : Log) (c : ℕ) → IsOf b h → c < b.sizes.conditions → c < h.sizes.conditions
+condition_fits b h c o l = subst (λ (n : Sizes). c < n.conditions) (sym o.sizes) l
 
--- nobody who waits goes where only place k acts, who doesn't wait
-waiters_apart : (b : Contents) (k : ℕ) (e : Act) → ((d j : ℕ) → (k == j) ≡ false → not (concerns d j e) ≡ true) → times k (places b.waiters) ≡ 0
+-- nobody who waits goes by an event of a place that doesn't wait, which takes nobody
+waiters_apart : (b : Contents) (e : Act) → ((d j : ℕ) → takes d j e ≡ false) → times (place_of e) (places b.waiters) ≡ 0
     → spared e b.waiters ≡ b.waiters
-waiters_apart b k e t z = filter-apart (λ (w : Waiter). w.place) k (λ (w : Waiter). not (concerns w.condition w.place e)) b.waiters (λ v. t v.condition v.place) z
+waiters_apart b e none z = filter-apart (λ (w : Waiter). w.place) (place_of e) (λ (w : Waiter). not (concerns w.condition w.place e)) b.waiters
+    (λ v apart. ap not (concerns-own e v.condition v.place (none v.condition v.place) ∙ apart)) z
 
 signallers_apart : (b : Contents) (k : ℕ) → times k b.signallers ≡ 0 → filter (λ u. not (k == u)) b.signallers ++ [] ≡ b.signallers
 signallers_apart b k z = append-nil _ ∙ filter-others k b.signallers z
@@ -198,23 +196,23 @@ admitted_of b k h i o =
     let act : Act = Admit k tt in
     let e : b.turn ≡ Free = i.free in
     let z : times_in k b ≡ 0 = i.outside in
-    IsOf-push b (admitted k b) h act o refl refl refl
-    (record { in_range = place_fits b h k o i.place; fits = (o.turn_is ∙ e, o.outside_are k ∙ sym (zero_is _ z), no_data _) })
-    (waiters_kept b h act b.waiters (λ c. refl) (waiters_apart b k act (λ d j t. ap not t) (omega arith)) o)
+    IsOf-push b (admitted k b) h act o refl
+    (record { in_range = (place_fits b h k o i.place, tt); fits = (o.turn_is ∙ e, o.outside_are k ∙ sym (zero_is _ z), no_data _) })
+    (waiters_kept b h act b.waiters (λ c. refl) (waiters_apart b act (λ d j. refl) (omega arith)) o)
     (signallers_apart b k (omega arith)) (called_apart b k (omega arith)) refl
     (positive _ (omega (arith, admitted_times b k k e, one_same k)))
     (λ j t. omega (arith, admitted_times b k j e, one_apart j k (eq_swap j k ∙ t)))
 
 -- a wait
-pub waited_of : (b : Contents) (w : Waiter) (ws : List Waiter) (h : Log) → PutsIn w b.waiters ws → Holds b w.place → w.condition < b.conditions → IsOf b h
+pub waited_of : (b : Contents) (w : Waiter) (ws : List Waiter) (h : Log) → PutsIn w b.waiters ws → Holds b w.place → w.condition < b.sizes.conditions → IsOf b h
     → IsOf (waited ws b) (with_event h (wait_of w))
 waited_of b w ws h p i l o =
     let s : IsSound b = i.sound in
     let e : b.turn ≡ Held w.place = i.inside in
     let apart = holder_apart b w.place i in
-    IsOf-push b (waited ws b) h (wait_of w) o refl refl refl
+    IsOf-push b (waited ws b) h (wait_of w) o refl
     (record { in_range = (place_fits b h w.place o (held_in_range b w.place s e), condition_fits b h w.condition o l); fits = o.turn_is ∙ e })
-    (waiters_joined b h w ws p (waiters_apart b w.place (wait_of w) (λ d j t. ap not t) apart.0) o)
+    (waiters_joined b h w ws p (waiters_apart b (wait_of w) (λ d j. refl) apart.0) o)
     (signallers_apart b w.place apart.1) (called_apart b w.place apart.2) refl
     (positive _ (omega (arith, waited_times b w ws w.place p s e, held_hand b w.place e)))
     (λ j t. sym (waited_times b w ws j p s e))
@@ -226,9 +224,9 @@ left_of b k h i o =
     let e : b.turn ≡ Held k = i.inside in
     let act : Act = Leave k tt in
     let apart = holder_apart b k i in
-    IsOf-push b (left b) h act o refl refl refl
-    (record { in_range = place_fits b h k o (held_in_range b k s e); fits = o.turn_is ∙ e })
-    (waiters_kept b h act b.waiters (λ c. refl) (waiters_apart b k act (λ d j t. ap not t) apart.0) o)
+    IsOf-push b (left b) h act o refl
+    (record { in_range = (place_fits b h k o (held_in_range b k s e), tt); fits = o.turn_is ∙ e })
+    (waiters_kept b h act b.waiters (λ c. refl) (waiters_apart b act (λ d j. refl) apart.0) o)
     (signallers_apart b k apart.1) (called_apart b k apart.2) refl
     (zero_is _ (omega (arith, left_times b k k s e, s.once k, one_same k)))
     (λ j t. omega (arith, left_times b k j s e, one_apart j k (eq_swap j k ∙ t)))
@@ -238,9 +236,9 @@ pub owed_of : (b : Contents) (k c : ℕ) (h : Log) → IsSound b → b.turn ≡ 
 owed_of b k c h s e l o =
     let act : Act = Resume k c tt in
     let apart = hand_apart b k s (owed_hand b k c e l) in
-    IsOf-push b (admitted k b) h act o refl refl refl
+    IsOf-push b (admitted k b) h act o refl
     (record { in_range = (place_fits b h k o (owed_in_range b k c s e), condition_fits b h c o (owed_condition b k c s e)); fits = (o.turn_is ∙ e, no_data _) })
-    (waiters_kept b h act b.waiters (λ d. refl) (waiters_apart b k act (λ d j t. ap not t) apart.0) o)
+    (waiters_kept b h act b.waiters (λ d. refl) (waiters_apart b act (λ d j. refl) apart.0) o)
     (signallers_apart b k apart.1) (called_apart b k apart.2) refl
     (positive _ (omega (arith, owed_times b k c k e l, owed_hand b k c e l)))
     (λ j t. sym (owed_times b k c j e l))
@@ -259,9 +257,9 @@ went_on_of b k c h s e l o =
     let act : Act = Resume k c tt in
     let first : IsCalledFirst k c b.called = owed_called b k c s e l in
     let count = called_times k k c b.called first in
-    IsOf-push b (went_on k b) h act o refl refl refl
+    IsOf-push b (went_on k b) h act o refl
     (record { in_range = (place_fits b h k o (owed_in_range b k c s e), condition_fits b h c o (owed_condition b k c s e)); fits = (o.turn_is ∙ e, no_data _) })
-    (waiters_kept b h act b.waiters (λ d. refl) (waiters_apart b k act (λ d j t. ap not t) (omega (arith, s.once k, one_same k, count))) o)
+    (waiters_kept b h act b.waiters (λ d. refl) (waiters_apart b act (λ d j. refl) (omega (arith, s.once k, one_same k, count))) o)
     (signallers_apart b k (omega (arith, s.once k, one_same k, count)))
     (append-nil _ ∙ first_goes k c b.called first (omega (arith, s.once k)))
     refl
@@ -279,9 +277,9 @@ returned_of b k h s e o =
     let rest : List ℕ = behind_first b.signallers in
     let front : b.signallers ≡ k ∷ rest = return_front b k s e in
     let count : times k b.signallers ≡ one k k + times k rest = ap (times k) front in
-    IsOf-push b (returned k b) h act o refl refl refl
-    (record { in_range = place_fits b h k o (return_in_range b k s e); fits = (o.turn_is ∙ e, no_data _) })
-    (waiters_kept b h act b.waiters (λ d. refl) (waiters_apart b k act (λ d j t. ap not t) (omega (arith, s.once k, one_same k))) o)
+    IsOf-push b (returned k b) h act o refl
+    (record { in_range = (place_fits b h k o (return_in_range b k s e), tt); fits = (o.turn_is ∙ e, no_data _) })
+    (waiters_kept b h act b.waiters (λ d. refl) (waiters_apart b act (λ d j. refl) (omega (arith, s.once k, one_same k))) o)
     (append-nil _ ∙ ap (filter (λ u. not (k == u))) front ∙ front_goes k rest (omega (arith, s.once k, one_same k)))
     (called_apart b k (omega (arith, s.once k, one_same k))) refl
     (positive _ (omega (arith, returned_times b k k s e, return_in b k s e)))
@@ -315,19 +313,19 @@ chooses : (b : Contents) (h : Log) (c w : ℕ) (ws : List Waiter) → IsOf b h �
 unfolding Chooses
 chooses b h c w ws o t = subst (λ (x : Option Act). IsSomeAnd x (λ e. place_of e ≡ w)) (sym (chosen-taken b h c w ws o t)) t.place
 
-taken_in_range : (b : Contents) (c w : ℕ) (ws : List Waiter) → IsSound b → TakesFirst c b.waiters ws w → w < b.places
+taken_in_range : (b : Contents) (c w : ℕ) (ws : List Waiter) → IsSound b → TakesFirst c b.waiters ws w → w < b.sizes.places
 taken_in_range b c w ws s t = s.in_range w (omega (arith, times-taken w c b.waiters ws w t, one_same w))
 
-hoare_fits : (b : Contents) (h : Log) (c : ℕ) → IsOf b h → c < hoare_of b → IsHoare h.conditions h.mesa c
-hoare_fits b h c o l = omega (arith, o.conditions, o.mesa, l)
+hoare_fits : (b : Contents) (h : Log) (c : ℕ) → IsOf b h → c < hoare_of b → IsHoare h.sizes.conditions h.sizes.mesa c
+hoare_fits b h c o l = subst (λ (n : Sizes). IsHoare n.conditions n.mesa c) (sym o.sizes) (omega (arith, l))
 
-mesa_fits : (b : Contents) (h : Log) (c : ℕ) → IsOf b h → IsMesa b.conditions b.mesa c → IsMesa h.conditions h.mesa c
-mesa_fits b h c o m = (omega (arith, o.conditions, m.0), omega (arith, o.conditions, o.mesa, m.1))
+mesa_fits : (b : Contents) (h : Log) (c : ℕ) → IsOf b h → IsMesa b.sizes.conditions b.sizes.mesa c → IsMesa h.sizes.conditions h.sizes.mesa c
+mesa_fits b h c o m = subst (λ (n : Sizes). IsMesa n.conditions n.mesa c) (sym o.sizes) m
 
 module _ (b : Contents) (k c w : ℕ) (ws : List Waiter) (r : Resumes b k c w ws) (h : Log) (o : IsOf b h) where
   -- whoever signals is in range, and so are the condition and the one resumed
-  ranges : (k < h.places) × (c < h.conditions) × (w < h.places)
-  ranges = (place_fits b h k o (held_in_range b k r.by.sound r.by.inside), condition_fits b h c o r.fits, place_fits b h w o (taken_in_range b c w ws r.by.sound r.took))
+  ranges : (k < h.sizes.places) × ((c < h.sizes.conditions) × (w < h.sizes.places))
+  ranges = (place_fits b h k o (held_in_range b k r.by.sound r.by.inside), (condition_fits b h c o r.fits, place_fits b h w o (taken_in_range b c w ws r.by.sound r.took)))
 
   -- who waits once the two places acted
   waiters_left : filter (λ (v : Waiter). not (k == v.place || w == v.place)) b.waiters ≡ ws
@@ -336,14 +334,14 @@ module _ (b : Contents) (k c w : ℕ) (ws : List Waiter) (r : Resumes b k c w ws
   -- k hands the monitor to the one resumed, and waits among the signallers unless it goes out
   handed_of : c < hoare_of b → (out : Bool) → IsOf (resumed ws (cond out b.signallers (b.signallers ++ k ∷ [])) w c b) (with_event h (without_data (handing {S = Unit {0}} out k c w tt)))
   handed_of l true =
-      IsOf-push b (resumed ws b.signallers w c b) h (Pass k c w tt) o refl refl refl
+      IsOf-push b (resumed ws b.signallers w c b) h (Pass k c w tt) o refl
       (record { in_range = ranges; fits = (o.turn_is ∙ r.by.inside, chooses b h c w ws o r.took, hoare_fits b h c o l) })
       (waiters_kept b h (Pass k c w tt) ws (λ d. refl) waiters_left o)
       (signallers_apart b k (holder_apart b k r.by).1) (called_apart b k (holder_apart b k r.by).2) refl
       (zero_is _ (omega (arith, passed_times b k c w k ws r l, r.by.sound.once k, one_same k)))
       (λ j q. omega (arith, passed_times b k c w j ws r l, one_apart j k (eq_swap j k ∙ q)))
   handed_of l false =
-      IsOf-push b (resumed ws (b.signallers ++ k ∷ []) w c b) h (Signal k c w tt) o refl refl refl
+      IsOf-push b (resumed ws (b.signallers ++ k ∷ []) w c b) h (Signal k c w tt) o refl
       (record { in_range = ranges; fits = (o.turn_is ∙ r.by.inside, chooses b h c w ws o r.took, hoare_fits b h c o l) })
       (waiters_kept b h (Signal k c w tt) ws (λ d. refl) waiters_left o)
       (ap (λ l. l ++ k ∷ []) (filter-others k b.signallers (holder_apart b k r.by).1)) (called_apart b k (holder_apart b k r.by).2) refl
@@ -356,12 +354,12 @@ module _ (b : Contents) (k c w : ℕ) (ws : List Waiter) (r : Resumes b k c w ws
       (sym (ap (after_handing out h k c) (chosen-taken b h c w ws o r.took) ∙ after_handing-some out h k c w (wait_of r.took.first) tt r.took.place)) (handed_of l out)
 
   -- k calls the one that it takes
-  notified_of : IsMesa b.conditions b.mesa c → IsOf (told ws (b.called ++ r.took.first ∷ []) b) (with_event h (Notify k c w tt))
+  notified_of : IsMesa b.sizes.conditions b.sizes.mesa c → IsOf (told ws (b.called ++ r.took.first ∷ []) b) (with_event h (Notify k c w tt))
   notified_of m =
       let x : Act = wait_of r.took.first in
       let one : called_by h.events (Notify k c w tt) ≡ x ∷ [] =
       ap (λ j. called_by h.events (Notify k c j tt)) (sym r.took.place) ∙ called_by-notify h.events k c x tt (chosen-taken b h c w ws o r.took) in
-      IsOf-push b (told ws (b.called ++ r.took.first ∷ []) b) h (Notify k c w tt) o refl refl refl
+      IsOf-push b (told ws (b.called ++ r.took.first ∷ []) b) h (Notify k c w tt) o refl
       (record { in_range = ranges; fits = (o.turn_is ∙ r.by.inside, chooses b h c w ws o r.took, mesa_fits b h c o m) })
       (waiters_kept b h (Notify k c w tt) ws (λ d. refl) waiters_left o)
       (signallers_apart b k (holder_apart b k r.by).1)
@@ -373,7 +371,7 @@ module _ (b : Contents) (k c w : ℕ) (ws : List Waiter) (r : Resumes b k c w ws
       stay : filter (λ x. not (k == place_of x)) (map wait_of b.called) ≡ map wait_of b.called
       stay = sym (append-nil _) ∙ called_apart b k (holder_apart b k r.by).2
 
-  pub after_notify-taken : IsMesa b.conditions b.mesa c → IsOf (told ws (b.called ++ r.took.first ∷ []) b) (after_notify h k c (chosen c h.events))
+  pub after_notify-taken : IsMesa b.sizes.conditions b.sizes.mesa c → IsOf (told ws (b.called ++ r.took.first ∷ []) b) (after_notify h k c (chosen c h.events))
   after_notify-taken m = subst (IsOf _)
       (sym (ap (after_notify h k c) (chosen-taken b h c w ws o r.took) ∙ ap (λ j. with_event h (Notify k c j tt)) r.took.place)) (notified_of m)
 
@@ -383,7 +381,7 @@ after_notify-nobody b k c h n o = subst (λ (y : Option Act). IsOf b (after_noti
 
 -- k calls all that wait on c
 
-module _ (b : Contents) (k c : ℕ) (ws : List Waiter) (i : Holds b k) (m : IsMesa b.conditions b.mesa c) (t : TakesAll c b.waiters ws) (h : Log) (o : IsOf b h) where
+module _ (b : Contents) (k c : ℕ) (ws : List Waiter) (i : Holds b k) (m : IsMesa b.sizes.conditions b.sizes.mesa c) (t : TakesAll c b.waiters ws) (h : Log) (o : IsOf b h) where
   stay_called : filter (λ x. not (k == place_of x)) (map wait_of b.called) ≡ map wait_of b.called
   stay_called = sym (append-nil _) ∙ called_apart b k (holder_apart b k i).2
 
@@ -398,7 +396,7 @@ module _ (b : Contents) (k c : ℕ) (ws : List Waiter) (i : Holds b k) (m : IsMe
   broadcast_of : waiting c h.events ≢ [] → IsOf (told ws (b.called ++ waiters_on c b) b) (with_event h (Broadcast k c tt))
   broadcast_of some =
       let s : IsSound b = i.sound in
-      IsOf-push b (told ws (b.called ++ waiters_on c b) b) h (Broadcast k c tt) o refl refl refl
+      IsOf-push b (told ws (b.called ++ waiters_on c b) b) h (Broadcast k c tt) o refl
       (record { in_range = (place_fits b h k o (held_in_range b k s i.inside), condition_fits b h c o m.0); fits = (o.turn_is ∙ i.inside, some, mesa_fits b h c o m) })
       (waiters_kept b h (Broadcast k c tt) ws (λ d. refl) others_left o)
       (signallers_apart b k (holder_apart b k i).1)

@@ -148,9 +148,9 @@ nth-priority {b = b} {d = d} c i {o = o} e s r l =
     ∙ ap (λ x. Some (slice_index x i)) (sym (priorities_on-are b c (s.ordered c))) ∙ ap (λ (v : Contents). Some (slice_index (priorities_on v c) i)) e
 
 -- so the condition is the book's
-pub fits-condition : (b d : Contents) (c i : ℕ) → b ≡ d → IsSound b → i < length (priorities_on d c) → c < b.conditions
+pub fits-condition : (b d : Contents) (c i : ℕ) → b ≡ d → IsSound b → i < length (priorities_on d c) → c < b.sizes.conditions
 fits-condition b d c i e s l =
-    elim (cases_lt c b.conditions) [
+    elim (cases_lt c b.sizes.conditions) [
       | inl h ↦ h
       | inr h ↦ absurd (omega (arith, length-waiters_on b d c i e s l, ap length (s.on_conditions c h)))
     ]

@@ -6,6 +6,7 @@ use Rattle.std.proofs.lemmas.Bool.{cases_lt}
 use Rattle.std.proofs.lemmas.Bool.Decides.{nat_tests}
 use Rattle.std.proofs.lemmas.List.{length-map, length-append}
 use Rattle.std.proofs.lemmas.List.Elements.{All-nil, All-cons, All-head, All-tail, All-weaker}
+use Rattle.hoare_law.specs.declared.event.Sizes.{Sizes}
 use Rattle.hoare_law.specs.declared.turn.Turn.{Turn}
 use Rattle.hoare_law.specs.declared.turn.Turn.TheVariants.{Free, Held, Owed, Return}
 use Rattle.hoare_law.specs.Sizes.{IsHoare, IsMesa}
@@ -73,8 +74,8 @@ abbrev ArePast : ℕ → List Waiter → Type 0
 ArePast m vs = All (λ (w : Waiter). m ≤ w.condition) vs
 
 are_past : (b : Contents) → IsSound b → ArePast (hoare_of b) b.called
-are_past b s = All-weaker (λ (w : Waiter). IsMesa b.conditions b.mesa w.condition) (λ (w : Waiter). hoare_of b ≤ w.condition)
-    (λ w h. mesa_past b.conditions b.mesa w.condition h) b.called s.on_mesa
+are_past b s = All-weaker (λ (w : Waiter). IsMesa b.sizes.conditions b.sizes.mesa w.condition) (λ (w : Waiter). hoare_of b ≤ w.condition)
+    (λ w h. mesa_past b.sizes.conditions b.sizes.mesa w.condition h) b.called s.on_mesa
 
 -- a turn given up is in nobody's hand
 given_up_hand : (k m : ℕ) (us : List ℕ) (vs : List Waiter) → ArePast m vs → times_in_hand k m (turn_given_up us (map wait_of vs)) ≡ 0
@@ -106,7 +107,7 @@ pub owed_hand : (b : Contents) (k c : ℕ) → b.turn ≡ Owed k c → c < hoare
 owed_hand b k c e l = hand_of k b (Owed k c) e ∙ hand_hoare k k c (hoare_of b) l ∙ one_same k
 
 -- and is a place of the book
-pub hand_in_range : (b : Contents) (k : ℕ) → IsSound b → times_in_hand k (hoare_of b) b.turn ≡ 1 → k < b.places
+pub hand_in_range : (b : Contents) (k : ℕ) → IsSound b → times_in_hand k (hoare_of b) b.turn ≡ 1 → k < b.sizes.places
 hand_in_range b k s e = s.in_range k (omega arith)
 
 front_of : (us : List ℕ) (vs : List Waiter) (m k : ℕ) → IsTurnBeside us vs m (Return k) → us ≡ k ∷ behind_first us
@@ -147,37 +148,37 @@ pub return_in : (b : Contents) (k : ℕ) → IsSound b → b.turn ≡ Return k �
 return_in b k s e = omega (arith, return_times b k k s e, one_same k)
 
 -- the place that goes on is in range
-pub owed_in_range : (b : Contents) (k c : ℕ) → IsSound b → b.turn ≡ Owed k c → k < b.places
+pub owed_in_range : (b : Contents) (k c : ℕ) → IsSound b → b.turn ≡ Owed k c → k < b.sizes.places
 owed_in_range b k c s e = ⊎_elim (λ l. hand_in_range b k s (owed_hand b k c e l))
     (λ f. s.in_range k (omega (arith, called_times k k c b.called f, one_same k))) (owed_cases b k c s e)
 
 -- so is the one inside
-pub held_in_range : (b : Contents) (k : ℕ) → IsSound b → b.turn ≡ Held k → k < b.places
+pub held_in_range : (b : Contents) (k : ℕ) → IsSound b → b.turn ≡ Held k → k < b.sizes.places
 held_in_range b k s e = hand_in_range b k s (held_hand b k e)
 
 -- and the one that returns
-pub return_in_range : (b : Contents) (k : ℕ) → IsSound b → b.turn ≡ Return k → k < b.places
+pub return_in_range : (b : Contents) (k : ℕ) → IsSound b → b.turn ≡ Return k → k < b.sizes.places
 return_in_range b k s e = s.in_range k (return_in b k s e)
 
 -- the condition of the one owed is the book's
-pub owed_condition : (b : Contents) (k c : ℕ) → IsSound b → b.turn ≡ Owed k c → c < b.conditions
-owed_condition b k c s e = ⊎_elim (λ l. omega (arith, l)) (called_condition b.conditions b.mesa k c b.called s.on_mesa) (owed_cases b k c s e)
+pub owed_condition : (b : Contents) (k c : ℕ) → IsSound b → b.turn ≡ Owed k c → c < b.sizes.conditions
+owed_condition b k c s e = ⊎_elim (λ l. omega (arith, l)) (called_condition b.sizes.conditions b.sizes.mesa k c b.called s.on_mesa) (owed_cases b k c s e)
 
 -- what a call by the one inside is given
 
 -- a condition of an equal book
-pub same_condition : (b d : Contents) (c : ℕ) → b ≡ d → c < d.conditions → c < b.conditions
-same_condition b d c e h = subst (λ (v : Contents). c < v.conditions) (sym e) h
+pub same_condition : (b d : Contents) (c : ℕ) → b ≡ d → c < d.sizes.conditions → c < b.sizes.conditions
+same_condition b d c e h = subst (λ (v : Contents). c < v.sizes.conditions) (sym e) h
 
 -- so of its kinds
-pub same_hoare : (b d : Contents) (c : ℕ) → b ≡ d → IsHoare d.conditions d.mesa c → c < hoare_of b
-same_hoare b d c e h = subst (λ (v : Contents). c < hoare_of v) (sym e) (hoare_below d.conditions d.mesa c h)
+pub same_hoare : (b d : Contents) (c : ℕ) → b ≡ d → IsHoare d.sizes.conditions d.sizes.mesa c → c < hoare_of b
+same_hoare b d c e h = subst (λ (v : Contents). c < hoare_of v) (sym e) (hoare_below d.sizes.conditions d.sizes.mesa c h)
 
-pub hoare_condition : (b d : Contents) (c : ℕ) → b ≡ d → IsHoare d.conditions d.mesa c → c < b.conditions
+pub hoare_condition : (b d : Contents) (c : ℕ) → b ≡ d → IsHoare d.sizes.conditions d.sizes.mesa c → c < b.sizes.conditions
 hoare_condition b d c e h = same_condition b d c e (omega (arith, h))
 
-pub same_mesa : (b d : Contents) (c : ℕ) → b ≡ d → IsMesa d.conditions d.mesa c → IsMesa b.conditions b.mesa c
-same_mesa b d c e h = subst (λ (v : Contents). IsMesa v.conditions v.mesa c) (sym e) h
+pub same_mesa : (b d : Contents) (c : ℕ) → b ≡ d → IsMesa d.sizes.conditions d.sizes.mesa c → IsMesa b.sizes.conditions b.sizes.mesa c
+same_mesa b d c e h = subst (λ (v : Contents). IsMesa v.sizes.conditions v.sizes.mesa c) (sym e) h
 
 -- a sound book, with place k inside
 pub record Holds (b : Contents) (k : ℕ) : Type 0 where
@@ -191,11 +192,11 @@ holds e s h = record { sound = s; inside = ap (λ (v : Contents). v.turn) e ∙ 
 -- k is inside, and w, who is the first of those who wait on c, is taken out of them, which leaves ws
 pub record Resumes (b : Contents) (k c w : ℕ) (ws : List Waiter) : Type 0 where
   pub by : Holds b k
-  pub fits : c < b.conditions
+  pub fits : c < b.sizes.conditions
   pub took : TakesFirst c b.waiters ws w
 
 -- from what a call asks for, and what taking the first did
-pub resumes : {b d : Contents} {k c w : ℕ} {ws : List Waiter} → b ≡ d → IsSound b → d.turn ≡ Held k → c < d.conditions → TakesFirst c b.waiters ws w → Resumes b k c w ws
+pub resumes : {b d : Contents} {k c w : ℕ} {ws : List Waiter} → b ≡ d → IsSound b → d.turn ≡ Held k → c < d.sizes.conditions → TakesFirst c b.waiters ws w → Resumes b k c w ws
 resumes {b = b} {c = c} e s h l t = record { by = holds e s h; fits = same_condition b _ c e l; took = t }
 
 -- the one inside stands in no list
@@ -210,41 +211,41 @@ apart_same {b = b} {k = k} e s h = subst (λ (v : Contents). times k (places v.w
 pub record Enters (b : Contents) (k : ℕ) : Type 0 where
   pub sound : IsSound b
   pub free : b.turn ≡ Free
-  pub place : k < b.places
+  pub place : k < b.sizes.places
   pub outside : times_in k b ≡ 0
 
 -- from what a call asks for
-pub enters : {b d : Contents} {k : ℕ} → b ≡ d → IsSound b → d.turn ≡ Free → k < d.places → times_in k d ≡ 0 → Enters b k
+pub enters : {b d : Contents} {k : ℕ} → b ≡ d → IsSound b → d.turn ≡ Free → k < d.sizes.places → times_in k d ≡ 0 → Enters b k
 enters {k = k} e s f l z = record {
   sound = s;
   free = ap (λ (v : Contents). v.turn) e ∙ f;
-  place = subst (λ (v : Contents). k < v.places) (sym e) l;
+  place = subst (λ (v : Contents). k < v.sizes.places) (sym e) l;
   outside = ap (times_in k) e ∙ z;
 }
 
 -- a book that holds no place more often, with the same sizes
 
 sound_fewer : (b d : Contents) → IsSound b → SameSizes b d → ((k : ℕ) → times_in k d ≤ times_in k b)
-    → ((c : ℕ) → b.conditions ≤ c → waiters_on c d ≡ []) → ((c : ℕ) → in_order key (waiters_on c d) ≡ waiters_on c d)
-    → All (λ (w : Waiter). IsMesa d.conditions d.mesa w.condition) d.called → IsTurnBeside d.signallers d.called (hoare_of d) d.turn → IsSound d
+    → ((c : ℕ) → b.sizes.conditions ≤ c → waiters_on c d ≡ []) → ((c : ℕ) → in_order key (waiters_on c d) ≡ waiters_on c d)
+    → All (λ (w : Waiter). IsMesa d.sizes.conditions d.sizes.mesa w.condition) d.called → IsTurnBeside d.signallers d.called (hoare_of d) d.turn → IsSound d
 sound_fewer b d s e o a r m t = record {
-  some_places = omega (arith, e.0, s.some_places);
-  few_places = omega (arith, e.0, s.few_places);
-  some_conditions = omega (arith, e.1, s.some_conditions);
-  few_conditions = omega (arith, e.1, s.few_conditions);
-  few_mesa = omega (arith, e.1, e.4, s.few_mesa);
-  waiters_fit = omega (arith, e.0, e.2, s.waiters_fit);
-  signallers_fit = omega (arith, e.0, e.3, s.signallers_fit);
+  some_places = subst (λ (n : Sizes). 0 < n.places) (sym e.0) s.some_places;
+  few_places = subst (λ (n : Sizes). n.places ≤ 64) (sym e.0) s.few_places;
+  some_conditions = subst (λ (n : Sizes). 0 < n.conditions) (sym e.0) s.some_conditions;
+  few_conditions = subst (λ (n : Sizes). n.conditions ≤ 8) (sym e.0) s.few_conditions;
+  few_mesa = subst (λ (n : Sizes). n.mesa ≤ n.conditions) (sym e.0) s.few_mesa;
+  waiters_fit = omega (arith, ap (λ (n : Sizes). n.places) e.0, e.1, s.waiters_fit);
+  signallers_fit = omega (arith, ap (λ (n : Sizes). n.places) e.0, e.2, s.signallers_fit);
   once = λ k. omega (arith, o k, s.once k);
-  in_range = λ k p. omega (arith, o k, e.0, s.in_range k (omega (arith, o k)));
-  on_conditions = λ c l. a c (omega (arith, e.1));
+  in_range = λ k p. subst (λ (n : Sizes). k < n.places) (sym e.0) (s.in_range k (omega (arith, o k)));
+  on_conditions = λ c l. a c (subst (λ (n : Sizes). n.conditions ≤ c) e.0 l);
   ordered = r;
   on_mesa = m;
   turn_fits = t;
 }
 
 same : (b : Contents) → SameSizes b b
-same b = (refl, refl, refl, refl, refl)
+same b = (refl, refl, refl)
 
 -- wait
 
@@ -262,14 +263,14 @@ waited_ordered b w ws c p o = ap (in_order key) (p.on c) ∙ by (w.condition == 
     by false = o
 
 -- and no other condition gets one
-waited_conditions : (b : Contents) (w : Waiter) (ws : List Waiter) (c : ℕ) → PutsIn w b.waiters ws → w.condition < b.conditions → b.conditions ≤ c
+waited_conditions : (b : Contents) (w : Waiter) (ws : List Waiter) (c : ℕ) → PutsIn w b.waiters ws → w.condition < b.sizes.conditions → b.sizes.conditions ≤ c
     → waiters_on c b ≡ [] → filter (on c) ws ≡ []
 waited_conditions b w ws c p l m n =
     let off : (w.condition == c) ≡ false = grind (arith, nat_tests) in
     p.on c ∙ ap (λ t. cond t (put_in key w (waiters_on c b)) (waiters_on c b)) off ∙ n
 
 -- and keeps the book sound
-pub waited_sound : (b : Contents) (w : Waiter) (ws : List Waiter) → PutsIn w b.waiters ws → Holds b w.place → w.condition < b.conditions → IsSound (waited ws b)
+pub waited_sound : (b : Contents) (w : Waiter) (ws : List Waiter) → PutsIn w b.waiters ws → Holds b w.place → w.condition < b.sizes.conditions → IsSound (waited ws b)
 waited_sound b w ws p o l = sound_fewer b (waited ws b) o.sound (same b) (λ j. omega (arith, waited_times b w ws j p o.sound o.inside))
     (λ c m. waited_conditions b w ws c p l m (o.sound.on_conditions c m)) (λ c. waited_ordered b w ws c p (o.sound.ordered c)) o.sound.on_mesa
     (given_up_fits b.signallers b.called (hoare_of b))
@@ -277,15 +278,15 @@ waited_sound b w ws p o l = sound_fewer b (waited ws b) o.sound (same b) (λ j. 
 -- no more wait than there are places
 pub few_waiters : (b : Contents) → IsSound b → length b.waiters ≤ 64
 few_waiters b s =
-    let few : length (places b.waiters) ≤ b.places = few_once (places b.waiters) b.places (λ j. omega (arith, s.once j)) (λ j p. s.in_range j (omega arith)) in
+    let few : length (places b.waiters) ≤ b.sizes.places = few_once (places b.waiters) b.sizes.places (λ j. omega (arith, s.once j)) (λ j p. s.in_range j (omega arith)) in
     omega (arith, s.few_places, length-map b.waiters (λ (w : Waiter). w.place))
 
 -- there is room for the one inside
-pub room : (b : Contents) (k : ℕ) → Holds b k → length b.waiters + length b.signallers + length b.called < b.places
+pub room : (b : Contents) (k : ℕ) → Holds b k → length b.waiters + length b.signallers + length b.called < b.sizes.places
 room b k o =
     let behind : List ℕ = b.signallers ++ places b.called in
     let all : List ℕ = k ∷ (places b.waiters ++ behind) in
-    let few : length all ≤ b.places = few_once all b.places
+    let few : length all ≤ b.sizes.places = few_once all b.sizes.places
     (λ j. omega (arith, o.sound.once j, hand_of j b (Held k) o.inside, times-append j (places b.waiters) behind, times-append j b.signallers (places b.called)))
     (λ j p. o.sound.in_range j (omega (arith, hand_of j b (Held k) o.inside, times-append j (places b.waiters) behind, times-append j b.signallers (places b.called)))) in
     omega (
@@ -334,7 +335,7 @@ admitted_sound b k i = record {
   waiters_fit = i.sound.waiters_fit;
   signallers_fit = i.sound.signallers_fit;
   once = λ j. omega (arith, admitted_times b k j i.free, once_more (eqb j k) b k j refl i.outside (i.sound.once j));
-  in_range = λ j p. ranged_more (eqb j k) b k j b.places refl i.place (i.sound.in_range j) (omega (arith, admitted_times b k j i.free));
+  in_range = λ j p. ranged_more (eqb j k) b k j b.sizes.places refl i.place (i.sound.in_range j) (omega (arith, admitted_times b k j i.free));
   on_conditions = i.sound.on_conditions;
   ordered = i.sound.ordered;
   on_mesa = i.sound.on_mesa;
@@ -361,7 +362,7 @@ owed_sound b k c s e l = sound_fewer b (admitted k b) s (same b) (λ j. omega (a
 
 pub went_on_sound : (b : Contents) (k c : ℕ) → IsSound b → b.turn ≡ Owed k c → hoare_of b ≤ c → IsSound (went_on k b)
 went_on_sound b k c s e l = sound_fewer b (went_on k b) s (same b) (λ j. omega (arith, went_on_times b k c j s e l)) s.on_conditions s.ordered
-    (All-behind (λ (w : Waiter). IsMesa b.conditions b.mesa w.condition) b.called s.on_mesa) tt
+    (All-behind (λ (w : Waiter). IsMesa b.sizes.conditions b.sizes.mesa w.condition) b.called s.on_mesa) tt
 
 pub returned_sound : (b : Contents) (k : ℕ) → IsSound b → b.turn ≡ Return k → IsSound (returned k b)
 returned_sound b k s e = sound_fewer b (returned k b) s (same b) (λ j. omega (arith, returned_times b k j s e)) s.on_conditions s.ordered s.on_mesa tt
@@ -393,9 +394,9 @@ taken_ordered b k c w ws r d =
     ap (in_order key) (sym is) ∙ in_order-filtered key stays (waiters_on d b) (r.by.sound.ordered d) ∙ is
 
 -- and nobody is left on another condition than before
-taken_conditions : (b : Contents) (k c w : ℕ) (ws : List Waiter) → Resumes b k c w ws → (d : ℕ) → b.conditions ≤ d → filter (on d) ws ≡ []
+taken_conditions : (b : Contents) (k c w : ℕ) (ws : List Waiter) → Resumes b k c w ws → (d : ℕ) → b.sizes.conditions ≤ d → filter (on d) ws ≡ []
 taken_conditions b k c w ws r d l =
-    let off : (c == d) ≡ false = apart c d b.conditions r.fits l in
+    let off : (c == d) ≡ false = apart c d b.sizes.conditions r.fits l in
     sym (filter-taken_off c d b.waiters ws w r.took off) ∙ r.by.sound.on_conditions d l
   where
     apart : (c d n : ℕ) → c < n → n ≤ d → (c == d) ≡ false
@@ -438,12 +439,12 @@ All-last P [] ws a b = b
 All-last P (v ∷ vs) ws a b = All-cons P v (vs ++ ws) (All-head P v vs a) (All-last P vs ws (All-tail P v vs a) b)
 
 -- and keeps the book sound
-pub notified_sound : (b : Contents) (k c w : ℕ) (ws : List Waiter) (r : Resumes b k c w ws) → IsMesa b.conditions b.mesa c → IsSound (told ws (b.called ++ r.took.first ∷ []) b)
+pub notified_sound : (b : Contents) (k c w : ℕ) (ws : List Waiter) (r : Resumes b k c w ws) → IsMesa b.sizes.conditions b.sizes.mesa c → IsSound (told ws (b.called ++ r.took.first ∷ []) b)
 notified_sound b k c w ws r m =
-    let mesa : Waiter → Type 0 = λ v. IsMesa b.conditions b.mesa v.condition in
+    let mesa : Waiter → Type 0 = λ v. IsMesa b.sizes.conditions b.sizes.mesa v.condition in
     sound_fewer b (told ws (b.called ++ r.took.first ∷ []) b) r.by.sound (same b) (λ j. omega (arith, notified_times b k c w j ws r))
     (taken_conditions b k c w ws r) (taken_ordered b k c w ws r)
-    (All-last mesa b.called (r.took.first ∷ []) r.by.sound.on_mesa (All-cons mesa r.took.first [] (subst (λ (d : ℕ). IsMesa b.conditions b.mesa d) (sym r.took.on) m) (All-nil mesa)))
+    (All-last mesa b.called (r.took.first ∷ []) r.by.sound.on_mesa (All-cons mesa r.took.first [] (subst (λ (d : ℕ). IsMesa b.sizes.conditions b.sizes.mesa d) (sym r.took.on) m) (All-nil mesa)))
     (subst (λ (t : Turn). IsTurnBeside b.signallers (b.called ++ r.took.first ∷ []) (hoare_of b) t) (sym r.by.inside) tt)
 
 -- those that a filter keeps, and the others
@@ -484,19 +485,19 @@ emptied_ordered b c d ws t o = ap (in_order key) (t.on d) ∙ by (d == c) ∙ sy
     by false = o
 
 -- and keeps the book sound
-pub broadcast_sound : (b : Contents) (k c : ℕ) (ws : List Waiter) → Holds b k → IsMesa b.conditions b.mesa c → TakesAll c b.waiters ws → IsSound (told ws (b.called ++ waiters_on c b) b)
+pub broadcast_sound : (b : Contents) (k c : ℕ) (ws : List Waiter) → Holds b k → IsMesa b.sizes.conditions b.sizes.mesa c → TakesAll c b.waiters ws → IsSound (told ws (b.called ++ waiters_on c b) b)
 broadcast_sound b k c ws o m t =
     sound_fewer b (told ws (b.called ++ waiters_on c b) b) o.sound (same b) (λ j. omega (arith, broadcast_times b c j ws t))
     (λ d l. emptied_conditions b c d ws t (o.sound.on_conditions d l)) (λ d. emptied_ordered b c d ws t (o.sound.ordered d))
-    (All-last (λ (v : Waiter). IsMesa b.conditions b.mesa v.condition) b.called (waiters_on c b) o.sound.on_mesa (all_on (λ (d : ℕ). IsMesa b.conditions b.mesa d) c b.waiters m))
+    (All-last (λ (v : Waiter). IsMesa b.sizes.conditions b.sizes.mesa v.condition) b.called (waiters_on c b) o.sound.on_mesa (all_on (λ (d : ℕ). IsMesa b.sizes.conditions b.sizes.mesa d) c b.waiters m))
     (subst (λ (t : Turn). IsTurnBeside b.signallers (b.called ++ waiters_on c b) (hoare_of b) t) (sym o.inside) tt)
 
 -- a new book
 
 -- a book where nobody is
-pub opened_sound : (n m l x : ℕ) → 0 < n → n ≤ 64 → 0 < m → m ≤ 8 → l ≤ m → n ≤ x
-    → IsSound (record { places = n; conditions = m; mesa = l; room_to_wait = x; room_to_signal = x; waiters = []; signallers = []; called = []; turn = Free })
-opened_sound n m l x a b d e g f = record {
+pub opened_sound : (n : Sizes) (x : ℕ) → 0 < n.places → n.places ≤ 64 → 0 < n.conditions → n.conditions ≤ 8 → n.mesa ≤ n.conditions → n.places ≤ x
+    → IsSound (record { sizes = n; room_to_wait = x; room_to_signal = x; waiters = []; signallers = []; called = []; turn = Free })
+opened_sound n x a b d e g f = record {
   some_places = a;
   few_places = b;
   some_conditions = d;
@@ -508,16 +509,16 @@ opened_sound n m l x a b d e g f = record {
   in_range = λ k p. absurd (omega arith);
   on_conditions = λ c q. refl;
   ordered = λ c. refl;
-  on_mesa = All-nil (λ (w : Waiter). IsMesa m l w.condition);
+  on_mesa = All-nil (λ (w : Waiter). IsMesa n.conditions n.mesa w.condition);
   turn_fits = refl;
 }
 
 -- an equal book
 
 -- a book with these parts
-pub parts : {n m l : ℕ} {x y p q : ℕ} {ws vs : List Waiter} {us zs : List ℕ} {cs ds : List Waiter} {t r : Turn} → x ≡ y → p ≡ q → ws ≡ vs → us ≡ zs → cs ≡ ds → t ≡ r
-    → (let b : Contents = record { places = n; conditions = m; mesa = l; room_to_wait = x; room_to_signal = p; waiters = ws; signallers = us; called = cs; turn = t } in
-    let d : Contents = record { places = n; conditions = m; mesa = l; room_to_wait = y; room_to_signal = q; waiters = vs; signallers = zs; called = ds; turn = r } in d ≡ b)
+pub parts : {n : Sizes} {x y p q : ℕ} {ws vs : List Waiter} {us zs : List ℕ} {cs ds : List Waiter} {t r : Turn} → x ≡ y → p ≡ q → ws ≡ vs → us ≡ zs → cs ≡ ds → t ≡ r
+    → (let b : Contents = record { sizes = n; room_to_wait = x; room_to_signal = p; waiters = ws; signallers = us; called = cs; turn = t } in
+    let d : Contents = record { sizes = n; room_to_wait = y; room_to_signal = q; waiters = vs; signallers = zs; called = ds; turn = r } in d ≡ b)
 parts e f a b k t = cc
 
 -- an equal book is sound

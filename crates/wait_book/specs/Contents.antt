@@ -3,6 +3,7 @@ use Rattle.std.specs.Prelude.{ℕ, ◌≡◌, ◌<◌, ◌+◌, ◌-◌, ◌==�
 use Rattle.std.specs.List.{filter}
 use Rattle.hoare_law.specs.declared.event.Event.{Event}
 use Rattle.hoare_law.specs.declared.event.History.{History}
+use Rattle.hoare_law.specs.declared.event.Sizes.{Sizes}
 use Rattle.hoare_law.specs.declared.event.Event.TheVariants.{Wait}
 use Rattle.hoare_law.specs.declared.turn.Turn.{Turn}
 use Rattle.hoare_law.specs.declared.turn.Turn.TheVariants.{Free, Held, Owed, Return}
@@ -17,13 +18,11 @@ use Rattle.wait_book.specs.declared.steps.Next.TheVariants as next
 use Rattle.wait_book.specs.declared.steps.MakeRefused.{MakeRefused}
 use Rattle.wait_book.specs.declared.steps.MakeRefused.TheVariants.{BadPlaces, BadConditions}
 
--- what a book holds: its numbers of places, of conditions and of Mesa conditions among them, how many it has memory for to wait and
+-- what a book holds: the sizes of its monitor, how many it has memory for to wait and
 -- as waiting signallers (it may be one memory for both), who waits (on each condition by rising priority, equal ones by time), the
 -- signallers (the longest waiting first), who was called (the first called first), and whose turn it is
 pub record Contents : Type 0 where
-  pub places : ℕ
-  pub conditions : ℕ
-  pub mesa : ℕ
+  pub sizes : Sizes
   pub room_to_wait : ℕ
   pub room_to_signal : ℕ
   pub waiters : List Waiter
@@ -31,11 +30,10 @@ pub record Contents : Type 0 where
   pub called : List Waiter
   pub turn : Turn
 
--- as many places, conditions and Mesa conditions as before, and the memory that was there: no more was taken
+-- the sizes stay, and the memory is what was there: no more was taken
 abbrev pub SameSizes : Contents → Contents → Type 0
 SameSizes old new =
-    (new.places ≡ old.places) × (new.conditions ≡ old.conditions)
-    × (new.room_to_wait ≡ old.room_to_wait) × (new.room_to_signal ≡ old.room_to_signal) × (new.mesa ≡ old.mesa)
+    (new.sizes ≡ old.sizes) × (new.room_to_wait ≡ old.room_to_wait) × (new.room_to_signal ≡ old.room_to_signal)
 
 -- who waits on c, in the order in which signals would resume them
 abbrev pub waiters_on : ℕ → Contents → List Waiter
@@ -64,7 +62,7 @@ times_in_hand k m (Return j) = 0
 
 -- how many conditions are Hoare's
 abbrev pub hoare_of : Contents → ℕ
-hoare_of b = b.conditions - b.mesa
+hoare_of b = b.sizes.conditions - b.sizes.mesa
 
 -- how often place k stands anywhere in the book
 abbrev pub times_in : ℕ → Contents → ℕ
@@ -78,9 +76,7 @@ wait_of w = Wait w.place w.condition w.priority tt
 -- the book is of the history: its lists, its turn and its places are what the history says
 pub record IsOf (b : Contents) (h : History (Unit {0})) : Type 0 where
   pub legal : IsLegal h
-  pub places : h.places ≡ b.places
-  pub conditions : h.conditions ≡ b.conditions
-  pub mesa : h.mesa ≡ b.mesa
+  pub sizes : h.sizes ≡ b.sizes
   pub waiters : (c : ℕ) → map wait_of (waiters_on c b) ≡ in_order priority_of (waiting c h.events)
   pub signallers : urgent h.events ≡ b.signallers
   pub called_are : called h.events ≡ map wait_of b.called
@@ -100,9 +96,9 @@ IsPlaceBelow n next.Free = ⊤
 IsPlaceBelow n (next.For k) = k < n
 IsPlaceBelow n (next.Held k) = k < n
 
--- the first refusal of these numbers of places, conditions and Mesa conditions, if memory is there
-abbrev pub make_refusal : ℕ → ℕ → ℕ → Option MakeRefused
-make_refusal places conditions mesa =
-    if nat_le 1 places && nat_le places 64 then
-    (if nat_le 1 conditions && (nat_le conditions 8 && nat_le mesa conditions) then None else Some BadConditions)
+-- the first refusal of these sizes, if memory is there
+abbrev pub make_refusal : Sizes → Option MakeRefused
+make_refusal n =
+    if nat_le 1 n.places && nat_le n.places 64 then
+    (if nat_le 1 n.conditions && (nat_le n.conditions 8 && nat_le n.mesa n.conditions) then None else Some BadConditions)
     else Some BadPlaces

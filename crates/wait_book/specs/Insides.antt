@@ -28,9 +28,7 @@ waiting_below n at = all_below waiter_on n at
 -- what the fields hold: the first eight chains are those of the conditions, then come that of the signallers and that of the called
 abbrev pub view_of : Inside → Contents
 view_of a = record {
-  places = a.places;
-  conditions = a.conditions;
-  mesa = a.mesa;
+  sizes = a.sizes;
   room_to_wait = a.chains.room;
   room_to_signal = a.chains.room;
   waiters = waiting_below 8 (list_at a.chains);
@@ -63,18 +61,18 @@ IsTurnBeside (u ∷ us) ws m (Return k) = u ≡ k
 -- in order, and nobody waits on a condition that isn't the book's (`on_conditions`: no call asks for it; it says that a
 -- signal can reach everybody who waits), and whoever was called waited on a Mesa condition
 pub record IsSound (b : Contents) : Type 0 where
-  pub some_places : 0 < b.places
-  pub few_places : b.places ≤ 64
-  pub some_conditions : 0 < b.conditions
-  pub few_conditions : b.conditions ≤ 8
-  pub few_mesa : b.mesa ≤ b.conditions
-  pub waiters_fit : b.places ≤ b.room_to_wait
-  pub signallers_fit : b.places ≤ b.room_to_signal
+  pub some_places : 0 < b.sizes.places
+  pub few_places : b.sizes.places ≤ 64
+  pub some_conditions : 0 < b.sizes.conditions
+  pub few_conditions : b.sizes.conditions ≤ 8
+  pub few_mesa : b.sizes.mesa ≤ b.sizes.conditions
+  pub waiters_fit : b.sizes.places ≤ b.room_to_wait
+  pub signallers_fit : b.sizes.places ≤ b.room_to_signal
   pub once : (k : ℕ) → times_in k b ≤ 1
-  pub in_range : (k : ℕ) → 0 < times_in k b → k < b.places
-  pub on_conditions : (c : ℕ) → b.conditions ≤ c → waiters_on c b ≡ []
+  pub in_range : (k : ℕ) → 0 < times_in k b → k < b.sizes.places
+  pub on_conditions : (c : ℕ) → b.sizes.conditions ≤ c → waiters_on c b ≡ []
   pub ordered : (c : ℕ) → in_order (λ (w : Waiter). w.priority) (waiters_on c b) ≡ waiters_on c b
-  pub on_mesa : All (λ (w : Waiter). IsMesa b.conditions b.mesa w.condition) b.called
+  pub on_mesa : All (λ (w : Waiter). IsMesa b.sizes.conditions b.sizes.mesa w.condition) b.called
   pub turn_fits : IsTurnBeside b.signallers b.called (hoare_of b) b.turn
 
 -- its fields hold what is sound

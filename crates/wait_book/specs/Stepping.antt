@@ -27,18 +27,18 @@ is_held_by k _ = false
 -- k comes in where it is a place, the monitor is free and k is outside
 abbrev pub enter_refusal : History (Unit {0}) → ℕ → Option StepRefused
 enter_refusal h k =
-    if nat_lt k h.places then
+    if nat_lt k h.sizes.places then
     (if is_free (turn h.events) then (if outside k h.events then None else Some NotOutside) else Some NotFree)
     else Some NoPlace
 
 -- k acts where it is a place and inside; else what refuses it further
 abbrev pub act_refusal : History (Unit {0}) → ℕ → Option StepRefused → Option StepRefused
 act_refusal h k further =
-    if nat_lt k h.places then (if is_held_by k (turn h.events) then further else Some NotInside)
+    if nat_lt k h.sizes.places then (if is_held_by k (turn h.events) then further else Some NotInside)
     else Some NoPlace
 
 abbrev pub condition_refusal : History (Unit {0}) → ℕ → Option StepRefused
-condition_refusal h c = if nat_lt c h.conditions then None else Some NoCondition
+condition_refusal h c = if nat_lt c h.sizes.conditions then None else Some NoCondition
 
 -- condition c is a Mesa condition where that is asked, else one of Hoare's
 abbrev pub IsOfKind : ℕ → ℕ → Bool → ℕ → Type 0
@@ -48,10 +48,10 @@ IsOfKind n m false c = IsHoare n m c
 -- it is there, and of the kind that is asked: a Mesa condition, or one of Hoare's
 abbrev pub kind_refusal : History (Unit {0}) → Bool → ℕ → Option StepRefused
 kind_refusal h true c =
-    if nat_lt c h.conditions then (if nat_lt c (h.conditions - h.mesa) then Some WrongKind else None)
+    if nat_lt c h.sizes.conditions then (if nat_lt c (h.sizes.conditions - h.sizes.mesa) then Some WrongKind else None)
     else Some NoCondition
 kind_refusal h false c =
-    if nat_lt c h.conditions then (if nat_lt c (h.conditions - h.mesa) then None else Some WrongKind)
+    if nat_lt c h.sizes.conditions then (if nat_lt c (h.sizes.conditions - h.sizes.mesa) then None else Some WrongKind)
     else Some NoCondition
 
 -- the first refusal that applies

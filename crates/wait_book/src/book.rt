@@ -5,6 +5,7 @@ mod waits;
 use crate::chains::{CALLED, Chains, SIGNALLERS};
 use crate::queues::{chain_of, first_place, first_priority, is_in_hand, turn_given_up};
 use crate::steps::{MakeRefused, Next};
+use hoare_law::event::Sizes;
 use hoare_law::turn::Turn;
 use std::alloc::Global;
 use std::marker::Model;
@@ -32,9 +33,7 @@ pub const MOST_CONDITIONS: usize = 8;
 /// ```
 #[derive(Drop)]
 pub struct Book {
-    places: usize,
-    conditions: usize,
-    mesa: usize,
+    sizes: Sizes,
     chains: Chains,
     turn: Turn,
 }
@@ -60,7 +59,7 @@ impl Book {
     ghost use Rattle.hoare_law.specs.Events.{opened, place_of, with_event};
     ghost use Rattle.hoare_law.specs.Waiting.{waiting, chosen, priority_of};
     ghost use Rattle.hoare_law.specs.Turns.{turn, outside};
-    ghost use Rattle.hoare_law.specs.Sizes.{IsHoare, IsMesa};
+    ghost use Rattle.hoare_law.specs.Sizes.{IsHoare, IsMesa, sizes_of};
     ghost use Rattle.hoare_law.specs.Priorities.{joined, taken, emptied};
     ghost use Rattle.wait_book.specs.Contents.{IsOf, IsPlaceBelow, SameSizes, make_refusal, next_of, priorities_on, times, times_in};
     ghost use Rattle.wait_book.specs.Stepping.{IsSettled, after_broadcast, after_notify, after_pass, after_signal, after_step, refusal_of, settled};
@@ -75,10 +74,11 @@ impl Book {
         mesa: usize,
     ) -> Result<Book, MakeRefused>
         ensures made { MatchResult result
-            (λ b. (make_refusal places conditions mesa ≡ None)
-            × IsOf b (opened places conditions mesa tt))
-            (λ e. (make_refusal places conditions mesa ≡ Some e)
-            ⊎ ((make_refusal places conditions mesa ≡ None) × (e ≡ MakeRefused.Memory))) }
+            (λ b. (make_refusal (sizes_of conditions mesa places) ≡ None)
+            × IsOf b (opened (sizes_of conditions mesa places) tt))
+            (λ e. (make_refusal (sizes_of conditions mesa places) ≡ Some e)
+            ⊎ ((make_refusal (sizes_of conditions mesa places) ≡ None)
+            × (e ≡ MakeRefused.Memory))) }
         ensures room { IfOk result
             (λ b. (places ≤ b.room_to_wait) × (places ≤ b.room_to_signal)) }
     {
@@ -92,9 +92,11 @@ impl Book {
             return Err(MakeRefused::Memory);
         };
         Ok(Book {
-            places,
-            conditions,
-            mesa,
+            sizes: Sizes {
+                places,
+                conditions,
+                mesa,
+            },
             chains,
             turn: Turn::Free,
         })
@@ -105,7 +107,7 @@ impl Book {
         ensures turn { result ≡ next_of self.now.turn }
         ensures of { (h : History (Unit {0})) → IsOf self.now h
             → result ≡ next_of (turn h.events) }
-        ensures place { IsPlaceBelow self.now.places result }
+        ensures place { IsPlaceBelow self.now.sizes.places result }
     {
         match self.turn {
             Turn::Free => Next::Free,
@@ -117,7 +119,7 @@ impl Book {
 
     /// Whether a place is outside: not inside, not waiting on a condition, no waiting signaller and not called.
     pub fn outside(&self, place: usize) -> bool
-        requires { place < self.now.places }
+        requires { place < self.now.sizes.places }
         ensures nowhere { result ≡ (times_in place self.now == 0) }
         ensures of { (h : History (Unit {0})) → IsOf self.now h
             → result ≡ outside place h.events }
@@ -125,12 +127,12 @@ impl Book {
         if self.chains.holds(place) {
             return false;
         }
-        !is_in_hand(self.turn, self.conditions - self.mesa, place)
+        !is_in_hand(self.turn, self.sizes.conditions - self.sizes.mesa, place)
     }
 
     /// Whether somebody waits on a condition (Hoare's `queue`).
     pub fn queue(&self, condition: usize) -> bool
-        requires { condition < self.now.conditions }
+        requires { condition < self.now.sizes.conditions }
         ensures lists { IsTrue result ↔ (priorities_on self.now condition ≢ []) }
         ensures of { (h : History (Unit {0})) → IsOf self.now h
             → (IsTrue result ↔ (waiting condition h.events ≢ [])) }
@@ -140,7 +142,7 @@ impl Book {
 
     /// The priority of the process that a signal on a condition would resume, if somebody waits there.
     pub fn first(&self, condition: usize) -> Option<u64>
-        requires { condition < self.now.conditions }
+        requires { condition < self.now.sizes.conditions }
         ensures lists { MatchOption result
             (priorities_on self.now condition ≡ [])
             (λ p. (priorities_on self.now condition ≢ [])
@@ -153,7 +155,7 @@ impl Book {
 
     /// The place of the process that a signal on a condition would resume, or a notify call, if somebody waits there.
     pub fn chosen(&self, condition: usize) -> Option<usize>
-        requires { condition < self.now.conditions }
+        requires { condition < self.now.sizes.conditions }
         ensures of { (h : History (Unit {0})) → IsOf self.now h
             → result ≡ option_map place_of (chosen condition h.events) }
     {
@@ -163,7 +165,7 @@ impl Book {
     /// A newcomer comes in, where the monitor is free and its place is outside.
     pub fn admit(&mut self, place: usize)
         requires free { self.old.turn ≡ turns.Free }
-        requires place { place < self.old.places }
+        requires place { place < self.old.sizes.places }
         requires outside { times_in place self.old ≡ 0 }
         ensures inside { self.new.turn ≡ turns.Held place }
         ensures of { (h : History (Unit {0})) → IsOf self.old h
@@ -183,7 +185,7 @@ impl Book {
         ensures priorities { (c : ℕ) → priorities_on self.new c ≡ priorities_on self.old c }
         ensures sizes { SameSizes self.old self.new }
     {
-        if let Some(chain) = chain_of(self.turn, self.conditions - self.mesa) {
+        if let Some(chain) = chain_of(self.turn, self.sizes.conditions - self.sizes.mesa) {
             self.chains.take_first(chain);
         }
         self.turn = Turn::Held(place); // owed before
@@ -193,11 +195,11 @@ impl Book {
     /// the first that was called, or nobody.
     pub fn wait(&mut self, place: usize, condition: usize, priority: u64) -> Next
         requires inside { self.old.turn ≡ turns.Held place }
-        requires condition { condition < self.old.conditions }
+        requires condition { condition < self.old.sizes.conditions }
         ensures of { (h : History (Unit {0})) → IsOf self.old h
             → IsOf self.new (with_event h (event.Wait place condition priority tt)) }
         ensures next { result ≡ next_of self.new.turn }
-        ensures answered { IsPlaceBelow self.new.places result }
+        ensures answered { IsPlaceBelow self.new.sizes.places result }
         ensures apart { times place (map (λ w. w.place) self.old.waiters) ≡ 0 }
         ensures priorities { (c : ℕ)
             → priorities_on self.new c ≡ joined (priorities_on self.old) condition priority c }
@@ -215,7 +217,7 @@ impl Book {
         ensures of { (h : History (Unit {0})) → IsOf self.old h
             → IsOf self.new (with_event h (event.Leave place tt)) }
         ensures next { result ≡ next_of self.new.turn }
-        ensures answered { IsPlaceBelow self.new.places result }
+        ensures answered { IsPlaceBelow self.new.sizes.places result }
         ensures apart { times place (map (λ w. w.place) self.old.waiters) ≡ 0 }
         ensures priorities { (c : ℕ) → priorities_on self.new c ≡ priorities_on self.old c }
         ensures sizes { SameSizes self.old self.new }
@@ -228,14 +230,14 @@ impl Book {
     /// held up as a signaller. Where nobody waits, nothing changes.
     pub fn signal(&mut self, place: usize, condition: usize) -> Next
         requires inside { self.old.turn ≡ turns.Held place }
-        requires hoare { IsHoare self.old.conditions self.old.mesa condition }
+        requires hoare { IsHoare self.old.sizes.conditions self.old.sizes.mesa condition }
         ensures of { (h : History (Unit {0})) → IsOf self.old h
             → IsOf self.new (after_signal h place condition (chosen condition h.events)) }
         ensures next { result ≡ next_of self.new.turn }
         ensures nobody { priorities_on self.old condition ≡ [] → self.new ≡ self.old }
         ensures somebody { priorities_on self.old condition ≢ []
             → (w : ℕ) × (self.new.turn ≡ turns.Owed w condition) }
-        ensures answered { IsPlaceBelow self.new.places result }
+        ensures answered { IsPlaceBelow self.new.sizes.places result }
         ensures apart { times place (map (λ w. w.place) self.old.waiters) ≡ 0 }
         ensures priorities { (c : ℕ)
             → priorities_on self.new c ≡ taken (priorities_on self.old) condition c }
@@ -253,13 +255,13 @@ impl Book {
     /// Where nobody waits, it leaves.
     pub fn pass(&mut self, place: usize, condition: usize) -> Next
         requires inside { self.old.turn ≡ turns.Held place }
-        requires hoare { IsHoare self.old.conditions self.old.mesa condition }
+        requires hoare { IsHoare self.old.sizes.conditions self.old.sizes.mesa condition }
         ensures of { (h : History (Unit {0})) → IsOf self.old h
             → IsOf self.new (after_pass h place condition (chosen condition h.events)) }
         ensures next { result ≡ next_of self.new.turn }
         ensures somebody { priorities_on self.old condition ≢ []
             → (w : ℕ) × (self.new.turn ≡ turns.Owed w condition) }
-        ensures answered { IsPlaceBelow self.new.places result }
+        ensures answered { IsPlaceBelow self.new.sizes.places result }
         ensures apart { times place (map (λ w. w.place) self.old.waiters) ≡ 0 }
         ensures priorities { (c : ℕ)
             → priorities_on self.new c ≡ taken (priorities_on self.old) condition c }
@@ -276,7 +278,7 @@ impl Book {
     /// somebody waits there; where nobody does, nothing changes.
     pub fn notify(&mut self, place: usize, condition: usize) -> bool
         requires inside { self.old.turn ≡ turns.Held place }
-        requires mesa { IsMesa self.old.conditions self.old.mesa condition }
+        requires mesa { IsMesa self.old.sizes.conditions self.old.sizes.mesa condition }
         ensures of { (h : History (Unit {0})) → IsOf self.old h
             → IsOf self.new (after_notify h place condition (chosen condition h.events)) }
         ensures told { IsTrue result ↔ (priorities_on self.old condition ≢ []) }
@@ -299,7 +301,7 @@ impl Book {
     /// and is told how many they are.
     pub fn broadcast(&mut self, place: usize, condition: usize) -> usize
         requires inside { self.old.turn ≡ turns.Held place }
-        requires mesa { IsMesa self.old.conditions self.old.mesa condition }
+        requires mesa { IsMesa self.old.sizes.conditions self.old.sizes.mesa condition }
         ensures of { (h : History (Unit {0})) → IsOf self.old h
             → IsOf self.new (after_broadcast h place condition (waiting condition h.events)) }
         ensures told { result ≡ length (priorities_on self.old condition) }

@@ -31,12 +31,12 @@ impl Book {
     // The place, if it may come in.
     fn newcomer(&self, place: u64) -> Result<usize, StepRefused>
         ensures ok { IfOk result (λ k. (k ≡ place) × (self.now.turn ≡ turns.Free)
-            × (k < self.now.places) × (times_in k self.now ≡ 0)) }
+            × (k < self.now.sizes.places) × (times_in k self.now ≡ 0)) }
         ensures of { (h : History (Unit {0})) → IsOf self.now h → MatchResult result
             (λ _. enter_refusal h place ≡ None)
             (λ r. enter_refusal h place ≡ Some r) }
     {
-        if place >= self.places as u64 {
+        if place >= self.sizes.places as u64 {
             return Err(StepRefused::NoPlace);
         }
         let place = place as usize;
@@ -57,7 +57,7 @@ impl Book {
             (λ _. act_refusal h place further ≡ further)
             (λ r. act_refusal h place further ≡ Some r) }
     {
-        if place >= self.places as u64 {
+        if place >= self.sizes.places as u64 {
             return Err(StepRefused::NoPlace);
         }
         match self.turn {
@@ -68,12 +68,12 @@ impl Book {
 
     // The condition, if there is one of this number.
     fn condition(&self, condition: u64) -> Result<usize, StepRefused>
-        ensures ok { IfOk result (λ c. (c ≡ condition) × (c < self.now.conditions)) }
+        ensures ok { IfOk result (λ c. (c ≡ condition) × (c < self.now.sizes.conditions)) }
         ensures of { (h : History (Unit {0})) → IsOf self.now h → MatchResult result
             (λ _. condition_refusal h condition ≡ None)
             (λ r. condition_refusal h condition ≡ Some r) }
     {
-        if condition >= self.conditions as u64 {
+        if condition >= self.sizes.conditions as u64 {
             return Err(StepRefused::NoCondition);
         }
         Ok(condition as usize)
@@ -82,13 +82,13 @@ impl Book {
     // The condition, if there is one of this number, and it is one of Hoare's or a Mesa condition as asked.
     fn condition_of(&self, condition: u64, mesa: bool) -> Result<usize, StepRefused>
         ensures ok { IfOk result (λ c. (c ≡ condition)
-            × IsOfKind self.now.conditions self.now.mesa mesa c) }
+            × IsOfKind self.now.sizes.conditions self.now.sizes.mesa mesa c) }
         ensures of { (h : History (Unit {0})) → IsOf self.now h → MatchResult result
             (λ _. kind_refusal h mesa condition ≡ None)
             (λ r. kind_refusal h mesa condition ≡ Some r) }
     {
         let condition = self.condition(condition)?;
-        let hoare = condition < self.conditions - self.mesa;
+        let hoare = condition < self.sizes.conditions - self.sizes.mesa;
         if mesa {
             if hoare {
                 return Err(StepRefused::WrongKind);
@@ -107,7 +107,7 @@ impl Book {
         mesa: bool,
     ) -> Result<(usize, usize), StepRefused>
         ensures ok { IfOk result (λ r. (r.0 ≡ place) × (self.now.turn ≡ turns.Held r.0)
-            × (r.1 ≡ condition) × IsOfKind self.now.conditions self.now.mesa mesa r.1) }
+            × (r.1 ≡ condition) × IsOfKind self.now.sizes.conditions self.now.sizes.mesa mesa r.1) }
         ensures of { (h : History (Unit {0})) → IsOf self.now h
             → let refusal = act_refusal h place (kind_refusal h mesa condition) in
             MatchResult result (λ _. refusal ≡ None) (λ r. refusal ≡ Some r) }
@@ -120,7 +120,7 @@ impl Book {
     // The place, if it is inside, and the condition, if there is one of this number.
     fn holder_on(&self, place: u64, condition: u64) -> Result<(usize, usize), StepRefused>
         ensures ok { IfOk result (λ r. (r.0 ≡ place) × (self.now.turn ≡ turns.Held r.0)
-            × (r.1 ≡ condition) × (r.1 < self.now.conditions)) }
+            × (r.1 ≡ condition) × (r.1 < self.now.sizes.conditions)) }
         ensures of { (h : History (Unit {0})) → IsOf self.now h
             → let refusal = act_refusal h place (condition_refusal h condition) in
             MatchResult result (λ _. refusal ≡ None) (λ r. refusal ≡ Some r) }

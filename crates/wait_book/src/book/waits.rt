@@ -20,7 +20,7 @@ impl Waits for Book {
         ensures of { (h : History (Unit {0})) → IsOf self.now h
             → priorities_on self.now condition ≡ priorities h.events condition }
     {
-        if condition >= self.conditions {
+        if condition >= self.sizes.conditions {
             return 0;
         }
         self.chains.on(condition).count()

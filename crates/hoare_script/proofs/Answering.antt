@@ -10,7 +10,7 @@ use Rattle.hoare_script.specs.declared.fault.ScriptFault.{ScriptFault}
 use Rattle.hoare_script.specs.declared.fault.ScriptFault.TheVariants as faults
 use Rattle.hoare_script.specs.declared.lines.Command.{Command}
 use Rattle.hoare_script.specs.declared.lines.Header.{Header}
-use Rattle.hoare_script.specs.Lines.{command_of, header_of}
+use Rattle.hoare_script.specs.Lines.{command_of, header_of, sizes_in}
 use Rattle.hoare_script.specs.Scripts.{State, Start, Running, Outcome, one_line, header_line, command_line, opened_by}
 use Rattle.hoare_script.specs.Runs.{IsAt, Follows, IsGoodHeader, OnFault}
 
@@ -62,7 +62,7 @@ opened_by-number i h (Some r) f e = let is : f ≡ faults.BadHeader i = cc in ap
 
 header_line-number : (i : ℕ) (h : Option Header) (f : ScriptFault) → header_line i h ≡ Err f → fault_line f ≡ i
 header_line-number i None f e = let is : f ≡ faults.BadHeader i = cc in ap fault_line is
-header_line-number i (Some h) f e = opened_by-number i h (make_refusal h.places h.conditions h.mesa) f e
+header_line-number i (Some h) f e = opened_by-number i h (make_refusal (sizes_in h)) f e
 
 -- a line's fault stands at that line
 pub one_line-number : (s : State) (i : ℕ) (line : List ℕ) (f : ScriptFault) → one_line s i line ≡ Err f → fault_line f ≡ i

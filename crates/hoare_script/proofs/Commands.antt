@@ -4,6 +4,7 @@ use Rattle.std.specs.Prelude.{IsTrue, MatchResult, IfOk, OnErr}
 use Rattle.std.specs.Option.{option_map}
 use Rattle.hoare_law.specs.declared.event.Event.{Event}
 use Rattle.hoare_law.specs.declared.event.History.{History}
+use Rattle.hoare_law.specs.declared.event.Sizes.{Sizes}
 use Rattle.hoare_law.specs.declared.turn.Turn.{Turn}
 use Rattle.hoare_law.specs.declared.turn.Turn.TheVariants as turns
 use Rattle.hoare_law.specs.Events.{place_of}
@@ -43,18 +44,18 @@ answer_to-Do old new h s (Err r) o m t e = (
   subst (λ (v : Option StepRefused). IsOf new (history_by h s v)) (sym m) (subst (λ (v : Contents). IsOf v h) (sym e) o),
 )
 
-condition_refusal-none : (b : Contents) (h : History (Unit {0})) (c : ℕ) → IsOf b h → c < b.conditions → condition_refusal h c ≡ None
-condition_refusal-none b h c o l = ap (λ t. cond t None (Some NoCondition)) (lt-ltb c h.conditions (subst (λ (n : ℕ). c < n) (sym o.conditions) l))
+condition_refusal-none : (b : Contents) (h : History (Unit {0})) (c : ℕ) → IsOf b h → c < b.sizes.conditions → condition_refusal h c ≡ None
+condition_refusal-none b h c o l = ap (λ t. cond t None (Some NoCondition)) (lt-ltb c h.sizes.conditions (subst (λ (n : Sizes). c < n.conditions) (sym o.sizes) l))
 
-condition_refusal-some : (b : Contents) (h : History (Unit {0})) (c : ℕ) → IsOf b h → b.conditions ≤ c → condition_refusal h c ≡ Some NoCondition
-condition_refusal-some b h c o l = ap (λ t. cond t None (Some NoCondition)) (le-ltb c h.conditions (subst (λ (n : ℕ). n ≤ c) (sym o.conditions) l))
+condition_refusal-some : (b : Contents) (h : History (Unit {0})) (c : ℕ) → IsOf b h → b.sizes.conditions ≤ c → condition_refusal h c ≡ Some NoCondition
+condition_refusal-some b h c o l = ap (λ t. cond t None (Some NoCondition)) (le-ltb c h.sizes.conditions (subst (λ (n : Sizes). n.conditions ≤ c) (sym o.sizes) l))
 
 -- no such condition
-pub answer_to-Queue_refused : (b : Contents) (h : History (Unit {0})) (c : ℕ) → IsOf b h → b.conditions ≤ c → Refused NoCondition ≡ answer_to h (Queue c)
+pub answer_to-Queue_refused : (b : Contents) (h : History (Unit {0})) (c : ℕ) → IsOf b h → b.sizes.conditions ≤ c → Refused NoCondition ≡ answer_to h (Queue c)
 unfolding answer_to
 answer_to-Queue_refused b h c o l = sym (ap (queue_answer h c) (condition_refusal-some b h c o l))
 
-pub answer_to-First_refused : (b : Contents) (h : History (Unit {0})) (c : ℕ) → IsOf b h → b.conditions ≤ c → Refused NoCondition ≡ answer_to h (First c)
+pub answer_to-First_refused : (b : Contents) (h : History (Unit {0})) (c : ℕ) → IsOf b h → b.sizes.conditions ≤ c → Refused NoCondition ≡ answer_to h (First c)
 unfolding answer_to
 answer_to-First_refused b h c o l = sym (ap (first_answer h c) (condition_refusal-some b h c o l))
 
@@ -64,7 +65,7 @@ is_nonempty-test false [] f g = refl
 is_nonempty-test true (x ∷ xs) f g = refl
 is_nonempty-test false (x ∷ xs) f g = g (λ e. cc)
 
-pub answer_to-Queue : (b : Contents) (h : History (Unit {0})) (c : ℕ) (t : Bool) → IsOf b h → c < b.conditions
+pub answer_to-Queue : (b : Contents) (h : History (Unit {0})) (c : ℕ) (t : Bool) → IsOf b h → c < b.sizes.conditions
     → (IsTrue t → waiting c h.events ≢ []) × (waiting c h.events ≢ [] → IsTrue t) → Waiting t ≡ answer_to h (Queue c)
 unfolding answer_to
 answer_to-Queue b h c t o l w = ap Waiting (is_nonempty-test t (waiting c h.events) w.0 w.1) ∙ sym (ap (queue_answer h c) (condition_refusal-none b h c o l))
@@ -78,17 +79,17 @@ priority_or_none-option_map : (e : Option (Event (Unit {0}))) → priority_or_no
 priority_or_none-option_map None = refl
 priority_or_none-option_map (Some e) = refl
 
-pub answer_to-First : (b : Contents) (h : History (Unit {0})) (c : ℕ) (p q : Option ℕ) → IsOf b h → c < b.conditions
+pub answer_to-First : (b : Contents) (h : History (Unit {0})) (c : ℕ) (p q : Option ℕ) → IsOf b h → c < b.sizes.conditions
     → p ≡ option_map priority_of (chosen c h.events) → p ≡ q → priority_or_none q ≡ answer_to h (First c)
 unfolding answer_to
 answer_to-First b h c p q o l e f =
     ap priority_or_none (sym f ∙ e) ∙ priority_or_none-option_map (chosen c h.events) ∙ sym (ap (first_answer h c) (condition_refusal-none b h c o l))
 
 -- whom a notify would call
-pub chosen-refused : (b : Contents) (h : History (Unit {0})) (c : ℕ) → IsOf b h → b.conditions ≤ c → None ≡ place_chosen h c (condition_refusal h c)
+pub chosen-refused : (b : Contents) (h : History (Unit {0})) (c : ℕ) → IsOf b h → b.sizes.conditions ≤ c → None ≡ place_chosen h c (condition_refusal h c)
 chosen-refused b h c o l = sym (ap (place_chosen h c) (condition_refusal-some b h c o l))
 
-pub chosen-answered : (b : Contents) (h : History (Unit {0})) (c : ℕ) (p : Option ℕ) → IsOf b h → c < b.conditions
+pub chosen-answered : (b : Contents) (h : History (Unit {0})) (c : ℕ) (p : Option ℕ) → IsOf b h → c < b.sizes.conditions
     → p ≡ option_map place_of (chosen c h.events) → p ≡ place_chosen h c (condition_refusal h c)
 chosen-answered b h c p o l e = e ∙ sym (ap (place_chosen h c) (condition_refusal-none b h c o l))
 

@@ -1,12 +1,18 @@
 -- How a line spells a header or a command. Its words and numbers are those of line_text.
 use Rattle.std.specs.Prelude.{ℕ, if◌then◌else◌, List, [], ◌∷◌, Option, Some, None, codes}
 use Rattle.std.specs.Str.{bytes_eq}
+use Rattle.hoare_law.specs.declared.event.Sizes.{Sizes}
+use Rattle.hoare_law.specs.Sizes.{sizes_of}
 use Rattle.line_text.specs.Forms.{three_numbers, two_numbers}
 use Rattle.line_text.specs.Words.{number_of, with_number, words_of}
 use Rattle.wait_book.specs.declared.steps.Step.TheVariants.{Enter, Wait, Signal, Pass, Leave, Notify, Broadcast}
 use Rattle.hoare_script.specs.declared.lines.Command.{Command}
 use Rattle.hoare_script.specs.declared.lines.Command.TheVariants.{Do, Queue, First}
 use Rattle.hoare_script.specs.declared.lines.Header.{Header}
+
+-- the sizes of the monitor that a header asks for
+abbrev pub sizes_in : Header → Sizes
+sizes_in h = sizes_of h.conditions h.mesa h.places
 
 -- a word and its numbers
 abbrev pub named_one : List ℕ → ℕ → Option Command

@@ -11,7 +11,7 @@ use Rattle.wait_book.specs.Contents.{Contents, IsOf, make_refusal}
 use Rattle.hoare_script.specs.declared.runs.TheConstants.{MOST_BYTES}
 use Rattle.hoare_script.specs.declared.fault.ScriptFault.{ScriptFault}
 use Rattle.hoare_script.specs.declared.fault.ScriptFault.TheVariants as faults
-use Rattle.hoare_script.specs.Lines.{header_of}
+use Rattle.hoare_script.specs.Lines.{header_of, sizes_in}
 use Rattle.hoare_script.specs.Scripts.{State, Start, Running, Outcome, Told, told, at_end, at_cut}
 
 -- all that is told is written, and the fault is the one told
@@ -28,7 +28,7 @@ BreaksOff i text left old new =
 
 -- a line is a header, with as many places, conditions and Mesa conditions as a monitor may have
 abbrev pub IsGoodHeader : List ℕ → Type 0
-IsGoodHeader line = IsSomeAnd (header_of line) (λ h. make_refusal h.places h.conditions h.mesa ≡ None)
+IsGoodHeader line = IsSomeAnd (header_of line) (λ h. make_refusal (sizes_in h) ≡ None)
 
 -- the first line of a text is one
 abbrev pub HasGoodHeader : List ℕ → Type 0

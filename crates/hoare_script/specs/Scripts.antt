@@ -12,7 +12,7 @@ use Rattle.hoare_script.specs.declared.fault.ScriptFault.{ScriptFault}
 use Rattle.hoare_script.specs.declared.fault.ScriptFault.TheVariants as faults
 use Rattle.hoare_script.specs.declared.lines.Header.{Header}
 use Rattle.hoare_script.specs.declared.lines.Command.{Command}
-use Rattle.hoare_script.specs.Lines.{command_of, header_of}
+use Rattle.hoare_script.specs.Lines.{command_of, header_of, sizes_in}
 use Rattle.hoare_script.specs.Answers.{answer_line, answer_to, history_after}
 
 -- how far a script is: before its header, or where a history happened
@@ -25,12 +25,12 @@ abbrev pub Outcome : Type 0
 Outcome = Result (List ℕ × State) ScriptFault
 
 abbrev pub opened_by : ℕ → Header → Option MakeRefused → Outcome
-opened_by i h None = Ok ([], Running (opened h.places h.conditions h.mesa tt))
+opened_by i h None = Ok ([], Running (opened (sizes_in h) tt))
 opened_by i h (Some r) = Err (faults.BadHeader i)
 
 abbrev pub header_line : ℕ → Option Header → Outcome
 header_line i None = Err (faults.BadHeader i)
-header_line i (Some h) = opened_by i h (make_refusal h.places h.conditions h.mesa)
+header_line i (Some h) = opened_by i h (make_refusal (sizes_in h))
 
 abbrev pub command_line : History (Unit {0}) → ℕ → List ℕ → Option Command → Outcome
 command_line h i line None = Err (faults.BadLine i)

@@ -5,6 +5,7 @@ ghost use Rattle.hoare_law.specs.Events.{opened};
 ghost use Rattle.wait_book.specs.Contents.{IsOf, make_refusal};
 ghost use Rattle.wait_book.specs.Stepping.{condition_refusal};
 ghost use Rattle.hoare_script.specs.declared.lines.Command.TheVariants as commands;
+ghost use Rattle.hoare_script.specs.Lines.{sizes_in};
 ghost use Rattle.hoare_script.specs.Answers.{answer_to, history_after, notified, place_chosen};
 
 use crate::answers::{Answer, outcome_answer};
@@ -29,17 +30,17 @@ impl Model for Opened {
 
     ghost view = { λ o. o.book };
 
-    ghost invariant = { λ o. o.conditions ≡ o.book.conditions };
+    ghost invariant = { λ o. o.conditions ≡ o.book.sizes.conditions };
 }
 
 impl Opened {
     /// A book of the header's numbers of places, conditions and Mesa conditions. Refused as `Book::make` refuses.
     pub fn make(alloc: Global, header: Header) -> Result<Opened, MakeRefused>
         ensures { MatchResult result
-            (λ b. (make_refusal header.places header.conditions header.mesa ≡ None)
-            × IsOf b (opened header.places header.conditions header.mesa tt))
-            (λ e. (make_refusal header.places header.conditions header.mesa ≡ Some e)
-            ⊎ ((make_refusal header.places header.conditions header.mesa ≡ None)
+            (λ b. (make_refusal (sizes_in header) ≡ None)
+            × IsOf b (opened (sizes_in header) tt))
+            (λ e. (make_refusal (sizes_in header) ≡ Some e)
+            ⊎ ((make_refusal (sizes_in header) ≡ None)
             × (e ≡ MakeRefused.Memory))) }
     {
         let (places, conditions) = (header.places as usize, header.conditions as usize);

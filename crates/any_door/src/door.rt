@@ -46,15 +46,15 @@ impl<D: MonitorData + Send> AnyDoor<D> {
         places: usize,
     ) -> Result<(AnyDoor<D>, Vec<Outside<D>>), (D, MakeRefused)>
         requires rest { D.rest state nobody }
-        ensures made { IfOk result (λ r. (make_refusal places D.CONDITIONS D.MESA ≡ None)
+        ensures made { IfOk result (λ r. (make_refusal (sizes_of D.CONDITIONS D.MESA places) ≡ None)
             × ((id_of r.0).places ≡ places)) }
         ensures kind { IfOk result (λ r. kind_behind r.0 ≡ kind) }
         ensures of { IfOk result (λ r. All (⟦<AnyDoor<D> as Monitor<D>>⟧.is_of r.0) r.1.items) }
         ensures places { IfOk result (λ r. r.1.items ≡ places_from (id_of r.0).table 0 places
-            (opened places D.CONDITIONS D.MESA state)) }
+            (opened (sizes_of D.CONDITIONS D.MESA places) state)) }
         ensures returned { IfErr result (λ e. e.0 ≡ state) }
-        ensures refused { IfErr result (λ e. (make_refusal places D.CONDITIONS D.MESA ≡ Some e.1)
-            ⊎ ((make_refusal places D.CONDITIONS D.MESA ≡ None) × (e.1 ≡ MakeRefused.Memory))) }
+        ensures refused { IfErr result (λ e. (make_refusal (sizes_of D.CONDITIONS D.MESA places) ≡ Some e.1)
+            ⊎ ((make_refusal (sizes_of D.CONDITIONS D.MESA places) ≡ None) × (e.1 ≡ MakeRefused.Memory))) }
     {
         match kind {
             DoorKind::Baton => {
@@ -74,7 +74,7 @@ impl<D: MonitorData + Send> AnyDoor<D> {
     pub fn close(self, outs: Vec<Outside<D>>) -> D
         requires of { All (⟦<AnyDoor<D> as Monitor<D>>⟧.is_of self) outs.items }
         requires places { (k : ℕ) → k < (id_of self).places → HasPlace k outs.items }
-        ensures closes { Closes D.rest D.ready D.CONDITIONS D.MESA (id_of self) outs.items result }
+        ensures closes { Closes D.rest D.ready (kinds_of D.CONDITIONS D.MESA) (id_of self) outs.items result }
         ensures rest { D.rest result nobody }
     {
         match self {

@@ -97,9 +97,9 @@ impl<D: MonitorData + Send> Monitor<D> for AnyDoor<D> {
 
     type Lists = Book;
 
-    ghost is_of = { λ m o. IsOut D.rest D.ready D.CONDITIONS D.MESA (id_of m) o };
+    ghost is_of = { λ m o. IsOut D.rest D.ready (kinds_of D.CONDITIONS D.MESA) (id_of m) o };
 
-    ghost is_of_in = { λ m i. IsIn D.rest D.ready D.CONDITIONS D.MESA (id_of m) i };
+    ghost is_of_in = { λ m i. IsIn D.rest D.ready (kinds_of D.CONDITIONS D.MESA) (id_of m) i };
 
     ghost place = { λ o. o.place };
 
@@ -177,9 +177,9 @@ impl<D: MonitorData + Send> Monitor<D> for AnyDoor<D> {
         inside.first(condition)
     }
 
-    ghost stands = { λ m o h. (h.stands, h.conditions_are, h.mesa_are, h.is_outside) };
+    ghost stands = { λ m o h. (h.stands, ap (λ (n : Sizes). n.conditions) h.sized, ap (λ (n : Sizes). n.mesa) h.sized, h.is_outside) };
 
-    ghost stands_in = { λ m i h. (h.stands, h.conditions_are, h.mesa_are, h.is_inside) };
+    ghost stands_in = { λ m i h. (h.stands, ap (λ (n : Sizes). n.conditions) h.sized, ap (λ (n : Sizes). n.mesa) h.sized, h.is_inside) };
 
     ghost lists_are = { λ m i h. refl };
 
@@ -189,9 +189,7 @@ impl<D: MonitorData + Send> Monitor<D> for AnyDoor<D> {
 
     ghost keeps_of = { λ m i d h. record {
       of = h.of;
-      places = h.places;
-      conditions_are = h.conditions_are;
-      mesa_are = h.mesa_are;
+      sized = h.sized;
       stands = h.stands;
       is_inside = h.is_inside;
     } };

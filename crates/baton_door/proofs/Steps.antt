@@ -49,7 +49,7 @@ begun ws b = record {
 
 module _ {D : Type 0} where
   -- and free where nothing happened yet
-  opened_tells : (n conditions mesa : ℕ) (s : D) (ws : List ℕ) → Starts true ws → Tells (opened n conditions mesa s) (λ _. None) (set ws 0 0)
+  opened_tells : (kinds : Kinds) (n : ℕ) (s : D) (ws : List ℕ) → Starts true ws → Tells (opened (sizes_at kinds n) s) (λ _. None) (set ws 0 0)
   unfolding turn urgent called
   opened_tells n conditions mesa s ws b = record {
     words_are = length-set ws 0 0 ∙ b.words_are;
@@ -68,18 +68,18 @@ module _ {D : Type 0} where
 
   module _ (rest : Rest D) (ready : Ready D) (conditions mesa n : ℕ) where
     abbrev K : Cells D → Type 0
-    K = Kept Starts Tells rest ready conditions mesa n
+    K = Kept Starts Tells rest ready kinds n
 
     -- the two opening steps
     pub begins_at : (slots id : ℕ) (m : Sat D) → m ≡ (Unopened n, [])
         → Allows K slots id m 0 (taken_at 0) (begins (step slots 0 0 1 none) m)
-    begins_at slots id m is = frame.begins_at Starts Tells rest ready conditions mesa n slots id 0 (taken_at 0) (step slots 0 0 1 none) m is begun
+    begins_at slots id m is = frame.begins_at Starts Tells rest ready kinds n slots id 0 (taken_at 0) (step slots 0 0 1 none) m is begun
 
     pub opens_at : (slots id : ℕ) (x : Lodged D) (m : Sat D) → m ≡ (Opening n, (0, Some x) ∷ []) → rest x.state nobody
-        → IsOf x.book (opened n conditions mesa tt)
-        → Allows K slots id m 0 (λ _. 0) (λ _. opens conditions mesa (step slots 0 0 0 none) m 0)
+        → IsOf x.book (opened (sizes_at kinds n) tt)
+        → Allows K slots id m 0 (λ _. 0) (λ _. opens kinds (step slots 0 0 0 none) m 0)
     opens_at slots id x m is at_rest book =
-        frame.opens_at Starts Tells rest ready conditions mesa n slots id 0 (λ _. 0) x (step slots 0 0 0 none) m is at_rest book
+        frame.opens_at Starts Tells rest ready kinds n slots id 0 (λ _. 0) x (step slots 0 0 0 none) m is at_rest book
         (λ ws b. opened_tells n conditions mesa x.state ws b)
 
     -- k comes in by the event where the word is as expected
@@ -93,7 +93,7 @@ module _ {D : Type 0} where
         (λ r m' c j g is.
         let q = frame.alone_is k j f g [] [] is in
         subst (λ (p : ℕ × History D). ComesAt expected rest ready event p.0 p.1 me r m') (λ i. (q.0 i, q.1 i)) c)
-        (frame.comes_ok Starts Tells rest ready conditions mesa n slots id k 0 f None (event k f) (taken_at expected) (λ r. r ≡ expected) (λ log. Unit {0})
+        (frame.comes_ok Starts Tells rest ready kinds n slots id k 0 f None (event k f) (taken_at expected) (λ r. r ≡ expected) (λ log. Unit {0})
         (λ r. ℕ_discrete r expected) (λ log tickets ws small t miss. taken_at-miss expected (get_or ws 0 0) miss) brings))
       where
         me : Sat D
@@ -101,7 +101,7 @@ module _ {D : Type 0} where
 
         brings : (log : History D) (tickets : Tickets) (ws : List ℕ) → Stands rest ready log → log.places ≡ n → k < n
             → own k log.events ≡ own k f.events → tickets k ≡ None → Tells log tickets ws → get_or ws 0 0 ≡ expected
-            → frame.BringsIn Starts Tells rest ready conditions mesa k 0 (taken_at expected) (λ log. Unit {0}) log tickets ws (event k f (latest_data log))
+            → frame.BringsIn Starts Tells rest ready kinds k 0 (taken_at expected) (λ log. Unit {0}) log tickets ws (event k f (latest_data log))
         brings log tickets ws stands places small same no_ticket t hit =
             let e = enters log stands (subst (λ (m : ℕ). k < m) (sym places) small) same (sym t.word ∙ hit) in
             let h : History D = with_event log (event k f (latest_data log)) in record {
@@ -140,7 +140,7 @@ module _ {D : Type 0} where
         → Allows K slots id m 0 (λ _. w) (λ _. gives_as event (step slots 0 w 0 none) m w)
     gives_at slots id k f x who event m w is p word =
         subst (λ (q : Sat D). Allows K slots id q 0 (λ _. w) (λ _. gives_as event (step slots 0 w 0 none) q w)) (sym is)
-        (frame.gives_ok Starts Tells rest ready conditions mesa n slots id k 0 (λ _. w) f x who event (step slots 0 w 0 none) p
+        (frame.gives_ok Starts Tells rest ready kinds n slots id k 0 (λ _. w) f x who event (step slots 0 w 0 none) p
         (λ tickets ws places small t.
         let h : History D = with_event f (event x.state) in
         rewritten f h tickets ws w (sym (word_of-next (turn h.events)) ∙ ap word_of_next (sym p.next_is) ∙ sym word) t))
@@ -149,7 +149,7 @@ module _ {D : Type 0} where
     pub notes_at : (slots id k : ℕ) (f : History D) (event : History D → Event D) (m : Sat D) → m ≡ (alone k f, (0, None) ∷ [])
         → Notes rest ready (event f) k f → Allows K slots id m 0 (λ r. r) (notes_as event (step slots 0 0 0 none) m)
     notes_at slots id k f event m is p =
-        frame.notes_at Starts Tells rest ready conditions mesa n slots id k 0 f event (step slots 0 0 0 none) m is p
+        frame.notes_at Starts Tells rest ready kinds n slots id k 0 f event (step slots 0 0 0 none) m is p
         (λ tickets ws t. record {
           words_are = t.words_are;
           word = t.word ∙ ap word_of (p.inside ∙ sym p.stays);

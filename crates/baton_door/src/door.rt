@@ -68,11 +68,11 @@ fn open<D: MonitorData>(table: &DoorTable<D>, seat: &mut DoorSeat<D>, parcel: Pa
         × (0 < table.now.shared.table_id.words) }
     requires seat { seat.old.me ≡ (Unopened table.now.shared.key, []) }
     requires rest { D.rest parcel.state nobody }
-    requires book { IsOf parcel.book (opened table.now.shared.key D.CONDITIONS D.MESA tt) }
+    requires book { IsOf parcel.book (opened (sizes_of D.CONDITIONS D.MESA table.now.shared.key) tt) }
     ensures table { seat.new.table_id ≡ seat.old.table_id }
     ensures opened { seat.new.me ≡ (
       Places (all_know 0 table.now.shared.key
-          (opened table.now.shared.key D.CONDITIONS D.MESA parcel.state)),
+          (opened (sizes_of D.CONDITIONS D.MESA table.now.shared.key) parcel.state)),
       [],
     ) }
 {
@@ -94,14 +94,14 @@ impl<D: MonitorData + Send> Door<D> {
         places: usize,
     ) -> Result<(Door<D>, Vec<DoorOut<D>>), (D, MakeRefused)>
         requires rest { D.rest state nobody }
-        ensures made { IfOk result (λ r. (make_refusal places D.CONDITIONS D.MESA ≡ None)
+        ensures made { IfOk result (λ r. (make_refusal (sizes_of D.CONDITIONS D.MESA places) ≡ None)
             × (r.0.places ≡ places)) }
         ensures of { IfOk result (λ r. All (⟦<Door<D> as Monitor<D>>⟧.is_of r.0) r.1.items) }
         ensures places { IfOk result (λ r. r.1.items ≡ places_from r.0.table 0 places
-            (opened places D.CONDITIONS D.MESA state)) }
+            (opened (sizes_of D.CONDITIONS D.MESA places) state)) }
         ensures returned { IfErr result (λ e. e.0 ≡ state) }
-        ensures refused { IfErr result (λ e. (make_refusal places D.CONDITIONS D.MESA ≡ Some e.1)
-            ⊎ ((make_refusal places D.CONDITIONS D.MESA ≡ None) × (e.1 ≡ MakeRefused.Memory))) }
+        ensures refused { IfErr result (λ e. (make_refusal (sizes_of D.CONDITIONS D.MESA places) ≡ Some e.1)
+            ⊎ ((make_refusal (sizes_of D.CONDITIONS D.MESA places) ≡ None) × (e.1 ≡ MakeRefused.Memory))) }
     {
         let book = match Book::make(alloc, places, D::CONDITIONS, D::MESA) {
             Ok(book) => book,
@@ -130,7 +130,7 @@ impl<D: MonitorData + Send> Door<D> {
     pub fn close(self, outs: Vec<DoorOut<D>>) -> D
         requires of { All (⟦<Door<D> as Monitor<D>>⟧.is_of self) outs.items }
         requires places { (k : ℕ) → k < self.places → HasPlace k outs.items }
-        ensures closes { Closes D.rest D.ready D.CONDITIONS D.MESA self outs.items result }
+        ensures closes { Closes D.rest D.ready (kinds_of D.CONDITIONS D.MESA) self outs.items result }
         ensures rest { D.rest result nobody }
     {
         let Door { table, wakers: _ } = self;

@@ -37,8 +37,8 @@ impl<D: MonitorData> Door<D> {
     /// `Monitor::enter` where nobody is inside and nobody is owed the monitor; else the place comes back as it was. It waits
     /// for nobody.
     pub fn try_enter(&self, out: DoorOut<D>) -> Result<DoorIn<D>, DoorOut<D>>
-        requires { IsOut D.rest D.ready D.CONDITIONS D.MESA self.now out }
-        ensures of { IfOk result (λ i. IsIn D.rest D.ready D.CONDITIONS D.MESA self.now i) }
+        requires { IsOut D.rest D.ready (kinds_of D.CONDITIONS D.MESA) self.now out }
+        ensures of { IfOk result (λ i. IsIn D.rest D.ready (kinds_of D.CONDITIONS D.MESA) self.now i) }
         ensures place { IfOk result (λ i. i.place ≡ out.place) }
         ensures rest { IfOk result (λ i. D.rest i.state (priorities i.front.events)) }
         ensures front { IfOk result

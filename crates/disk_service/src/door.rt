@@ -35,7 +35,7 @@ pub(crate) fn opened<D: MonitorData + Send + Drop>(
     requires { D.rest state nobody }
     ensures kind { IfOk result (λ r. kind_behind r.0 ≡ door_kind kind) }
     ensures size { IfOk result (λ r. (id_of r.0).places ≡ places) }
-    ensures places { IfOk result (λ r. AreFirst (terms D.rest D.ready D.CONDITIONS D.MESA)
+    ensures places { IfOk result (λ r. AreFirst (terms D.rest D.ready (kinds_of D.CONDITIONS D.MESA))
         (id_of r.0) places r.1.items) }
     ensures fault { IfErr result (λ f. f ≡ ServiceFault.Memory) }
 {
@@ -47,7 +47,7 @@ pub(crate) fn opened<D: MonitorData + Send + Drop>(
 
 /// The data that the places left: all of them are handed in.
 pub(crate) fn closed<D: MonitorData + Send>(door: AnyDoor<D>, places: Vec<Outside<D>>) -> D
-    requires { AreFirst (terms D.rest D.ready D.CONDITIONS D.MESA) (id_of door) (id_of door).places places.items }
+    requires { AreFirst (terms D.rest D.ready (kinds_of D.CONDITIONS D.MESA)) (id_of door) (id_of door).places places.items }
 {
     door.close(places)
 }

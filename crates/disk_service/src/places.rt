@@ -31,9 +31,9 @@ pub(crate) struct Places {
 fn take_last<D: MonitorData>(places: &mut Vec<Outside<D>>) -> Outside<D>
     requires { 0 < length places.old.items }
     ensures { (door : DoorId) (n : ℕ)
-        → AreFirst (terms D.rest D.ready D.CONDITIONS D.MESA) door (n + 1) places.old.items
-        → IsAt (terms D.rest D.ready D.CONDITIONS D.MESA) door n result
-        × AreFirst (terms D.rest D.ready D.CONDITIONS D.MESA) door n places.new.items }
+        → AreFirst (terms D.rest D.ready (kinds_of D.CONDITIONS D.MESA)) door (n + 1) places.old.items
+        → IsAt (terms D.rest D.ready (kinds_of D.CONDITIONS D.MESA)) door n result
+        × AreFirst (terms D.rest D.ready (kinds_of D.CONDITIONS D.MESA)) door n places.new.items }
 {
     match places.pop() {
         Some(place) => place,
@@ -47,9 +47,9 @@ fn put_last<D: MonitorData>(
     place: Outside<D>,
 ) -> Result<(), AllocError>
     ensures { IfOk result (λ _. (door : DoorId) (n : ℕ)
-        → AreFirst (terms D.rest D.ready D.CONDITIONS D.MESA) door n places.old.items
-        → IsAt (terms D.rest D.ready D.CONDITIONS D.MESA) door n place
-        → AreFirst (terms D.rest D.ready D.CONDITIONS D.MESA) door (n + 1) places.new.items) }
+        → AreFirst (terms D.rest D.ready (kinds_of D.CONDITIONS D.MESA)) door n places.old.items
+        → IsAt (terms D.rest D.ready (kinds_of D.CONDITIONS D.MESA)) door n place
+        → AreFirst (terms D.rest D.ready (kinds_of D.CONDITIONS D.MESA)) door (n + 1) places.new.items) }
 {
     places.push(place)?;
     Ok(())

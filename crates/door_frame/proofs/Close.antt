@@ -5,7 +5,9 @@ use Rattle.std.proofs.lemmas.List.Elements.{All-nil, All-cons, All-head, All-tai
 use mathlib.Core.Option.{some, some-injective}
 use lib.ListN.{get_elem?}
 use Rattle.atomic_table.specs.Table.{Final, Seen, Joins}
+use Rattle.hoare_law.specs.declared.event.Sizes.{Sizes}
 use Rattle.hoare_law.specs.declared.event.History.{History}
+use Rattle.hoare_law.specs.Sizes.{Kinds}
 use Rattle.hoare_law.specs.Lawful.{Rest, Ready}
 use Rattle.hoare_law.specs.Priorities.{nobody}
 use Rattle.hoare_law.specs.Turns.{turn, outside}
@@ -38,14 +40,14 @@ module _ {D : Type 0} where
       All-cons (IsTold log) o os (record { begins = agree.0.begins; own_are = agree.0.own_are }) (told_all n log owner tickets id os agree.1)
 
   -- what is found in the slot at the end
-  pub record Ends (rest : Rest D) (ready : Ready D) (conditions mesa : ℕ) (d : DoorId) (os : List (PlaceOut D)) (x : Lodged D) : Type 0 where
-    pub closes : Closes rest ready conditions mesa d os x.state
+  pub record Ends (rest : Rest D) (ready : Ready D) (kinds : Kinds) (d : DoorId) (os : List (PlaceOut D)) (x : Lodged D) : Type 0 where
+    pub closes : Closes rest ready kinds d os x.state
     pub rests : rest x.state nobody
 
   module _ (Starts : Bool → List ℕ → Type 0) (Tells : History D → Tickets → List ℕ → Type 0) (rest : Rest D) (ready : Ready D)
-      (conditions mesa : ℕ) (d : DoorId) where
+      (kinds : Kinds) (d : DoorId) where
     abbrev Of : PlaceOut D → Type 0
-    Of = IsOut rest ready conditions mesa d
+    Of = IsOut rest ready kinds d
 
     outside_at : (k : ℕ) (log : History D) (owner : ℕ → ℕ) (tickets : Tickets) (id : ℕ) (os : List (PlaceOut D)) → All Of os
         → Each (Agrees d.places log owner tickets id) (known_to os) → HasPlace k os → outside k log.events ≡ true
@@ -57,23 +59,21 @@ module _ {D : Type 0} where
 
     -- the slot is at home, with what one legal and lawful history left
     ends : (id : ℕ) (v : View D) (os : List (PlaceOut D)) (ws : List ℕ) (xs : List (Option (Lodged D))) → v ≡ Places (known_to os) → All Of os
-        → ((k : ℕ) → k < d.places → HasPlace k os) → Final (Seen (Kept Starts Tells rest ready conditions mesa d.places) id v) ws xs
-        → (x : Lodged D) × (get_elem? xs 0 ≡ some (Some x)) × Ends rest ready conditions mesa d os x
+        → ((k : ℕ) → k < d.places → HasPlace k os) → Final (Seen (Kept Starts Tells rest ready kinds d.places) id v) ws xs
+        → (x : Lodged D) × (get_elem? xs 0 ≡ some (Some x)) × Ends rest ready kinds d os x
     ends id v os ws xs is outs all fin =
         let at : get_elem? fin.0.views id ≡ some (Places (known_to os)) = fin.1.1 ∙ ap (λ u. some u) is in
-        let r = running Starts Tells rest ready conditions mesa d.places fin.0 fin.1.0 id (known_to os) at in
+        let r = running Starts Tells rest ready kinds d.places fin.0 fin.1.0 id (known_to os) at in
         let agree = r.fronts id (Places (known_to os)) at in
         let out : AllOutside r.log =
-        λ k small. outside_at k r.log r.owner r.tickets id os outs agree (all k (subst (λ (m : ℕ). k < m) r.places small)) in
+        λ k small. outside_at k r.log r.owner r.tickets id os outs agree (all k (subst (λ (m : Sizes). k < m.places) r.sized small)) in
         let home = r.home (given_up_free (turn r.log.events) (turn-ended r.log r.stands.legal out)) in (
           home.0,
           fin.4 0 (Some home.0) home.1,
           record {
             closes = record {
               history = r.log;
-              places = r.places;
-              conditions_are = r.conditions_are;
-              mesa_are = r.mesa_are;
+              sized = r.sized;
               stands = r.stands;
               told = told_all d.places r.log r.owner r.tickets id os agree;
               latest = home.2.latest;
@@ -85,8 +85,8 @@ module _ {D : Type 0} where
     -- the same of all that were handed in, once the last is joined
     pub ends_all : {id : ℕ} {v : View D} (ws : List ℕ) (xs : List (Option (Lodged D))) {os front : List (PlaceOut D)} (back : List (PlaceOut D))
         → os ≡ front ++ back → front ≡ [] → v ≡ Places (known_to back) → All Of os → ((k : ℕ) → k < d.places → HasPlace k os)
-        → Final (Seen (Kept Starts Tells rest ready conditions mesa d.places) id v) ws xs → {x : Option (Lodged D)} → get_elem? xs 0 ≡ some x
-        → (l : Lodged D) × (x ≡ Some l) × Ends rest ready conditions mesa d os l
+        → Final (Seen (Kept Starts Tells rest ready kinds d.places) id v) ws xs → {x : Option (Lodged D)} → get_elem? xs 0 ≡ some x
+        → (l : Lodged D) × (x ≡ Some l) × Ends rest ready kinds d os l
     ends_all {id = id} {v = v} ws xs {os = os} back split empty is outs all fin got =
         let same : os ≡ back = split ∙ ap (λ (l : List (PlaceOut D)). l ++ back) empty in
         let here : v ≡ Places (known_to os) = is ∙ ap (λ (l : List (PlaceOut D)). Places (known_to l)) (sym same) in
@@ -95,15 +95,15 @@ module _ {D : Type 0} where
 
     -- the seat of one place is joined to that of some
     pub joins_one : (id : ℕ) (v : View D) (other : ℕ) (w : View D) (os : List (PlaceOut D)) (k : ℕ) (f : History D) → v ≡ Places (known_to os)
-        → w ≡ alone k f → Joins (Kept Starts Tells rest ready conditions mesa d.places) id v other w (both_places v w) no_places
+        → w ≡ alone k f → Joins (Kept Starts Tells rest ready kinds d.places) id v other w (both_places v w) no_places
     joins_one id v other w os k f is lone =
-        subst (λ (p : View D × View D). Joins (Kept Starts Tells rest ready conditions mesa d.places) id p.0 other p.1 (both_places p.0 p.1) no_places)
+        subst (λ (p : View D × View D). Joins (Kept Starts Tells rest ready kinds d.places) id p.0 other p.1 (both_places p.0 p.1) no_places)
         (λ i. (sym is i, sym lone i))
-        (joins_ok Starts Tells rest ready conditions mesa d.places id (known_to os) other (knows k f None ∷ []))
+        (joins_ok Starts Tells rest ready kinds d.places id (known_to os) other (knows k f None ∷ []))
 
   -- what was found in the slot is what the call gives back
-  pub ends_at : (rest : Rest D) (ready : Ready D) (conditions mesa : ℕ) (d : DoorId) {os : List (PlaceOut D)} {l x : Lodged D} {s : D}
-      → Ends rest ready conditions mesa d os l → Some l ≡ Some x → x.state ≡ s → Closes rest ready conditions mesa d os s × rest s nobody
-  ends_at rest ready conditions mesa d {os = os} {l = l} {x = x} {s = s} e found is =
+  pub ends_at : (rest : Rest D) (ready : Ready D) (kinds : Kinds) (d : DoorId) {os : List (PlaceOut D)} {l x : Lodged D} {s : D}
+      → Ends rest ready kinds d os l → Some l ≡ Some x → x.state ≡ s → Closes rest ready kinds d os s × rest s nobody
+  ends_at rest ready kinds d {os = os} {l = l} {x = x} {s = s} e found is =
       let same : l.state ≡ s = ap (λ (o : Option (Lodged D)). (unwrap_or o l).state) found ∙ is in
-      subst (λ (t : D). Closes rest ready conditions mesa d os t × rest t nobody) same (e.closes, e.rests)
+      subst (λ (t : D). Closes rest ready kinds d os t × rest t nobody) same (e.closes, e.rests)

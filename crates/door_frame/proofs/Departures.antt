@@ -1,6 +1,7 @@
 -- Who is inside gives the monitor up: a wait, a leave, a signal or a pass.
 use Rattle.std.proofs.Common.{◌≡◌, ◌≢◌, ℕ, ◌<◌, Bool, true, false, [], Some, refl, ap, sym, ◌∙◌, subst}
 use Rattle.atomic_table.specs.Seated.{TableId}
+use Rattle.hoare_law.specs.declared.event.Sizes.{Sizes}
 use Rattle.hoare_law.specs.declared.event.Event.{Event}
 use Rattle.hoare_law.specs.declared.event.History.{History}
 use Rattle.hoare_law.specs.declared.event.Event.TheVariants.{Wait, Pass, Leave}
@@ -9,7 +10,7 @@ use Rattle.hoare_law.specs.declared.turn.Turn.TheVariants.{Free, Held, Owed, Ret
 use Rattle.hoare_law.specs.Beside.Erasure.{erased}
 use Rattle.hoare_law.specs.Events.{place_of, data_of, own, with_event}
 use Rattle.hoare_law.specs.Growth.{Begins, Exits, passed_on}
-use Rattle.hoare_law.specs.Sizes.{IsHoare}
+use Rattle.hoare_law.specs.Sizes.{IsHoare, Kinds, sizes_at}
 use Rattle.hoare_law.specs.Lawful.{Rest, Ready, Owes, Stands}
 use Rattle.hoare_law.specs.Legal.{Allowed}
 use Rattle.hoare_law.specs.Priorities.{priorities, joined}
@@ -77,46 +78,44 @@ module _ {D : Type 0} where
   handed_to h w c b who o is answered = ap place_for (answered ∙ ap next_of (turn-history b h o ∙ is))
 
   -- what a call that gave the monitor up for good says of the place outside
-  pub record Left (rest : Rest D) (ready : Ready D) (conditions mesa : ℕ) (d : DoorId) (k : ℕ) (h : History D) (o : PlaceOut D) : Type 0 where
-    pub of : IsOut rest ready conditions mesa d o
+  pub record Left (rest : Rest D) (ready : Ready D) (kinds : Kinds) (d : DoorId) (k : ℕ) (h : History D) (o : PlaceOut D) : Type 0 where
+    pub of : IsOut rest ready kinds d o
     pub place : o.place ≡ k
     pub front : o.front ≡ h
 
   -- what a pass says of the place outside
-  pub record Passed (rest : Rest D) (ready : Ready D) (conditions mesa : ℕ) (d : DoorId) (i : PlaceIn D) (c : ℕ) (o : PlaceOut D) : Type 0 where
-    pub of : IsOut rest ready conditions mesa d o
+  pub record Passed (rest : Rest D) (ready : Ready D) (kinds : Kinds) (d : DoorId) (i : PlaceIn D) (c : ℕ) (o : PlaceOut D) : Type 0 where
+    pub of : IsOut rest ready kinds d o
     pub place : o.place ≡ i.place
     pub front : Exits i.place c i.state i.front o.front true
 
   -- who learns the history stays outside
-  pub told_out : (rest : Rest D) (ready : Ready D) (conditions mesa : ℕ) (d : DoorId) (t : TableId) (o : PlaceOut D) (h : History D) → t ≡ d.table
-      → IsOut rest ready conditions mesa d o → Stands rest ready h → Begins o.front h → own o.place h.events ≡ own o.place o.front.events
-      → IsOut rest ready conditions mesa d (place_out t o.place h)
-  told_out rest ready conditions mesa d t o h of out stands begins same = record {
+  pub told_out : (rest : Rest D) (ready : Ready D) (kinds : Kinds) (d : DoorId) (t : TableId) (o : PlaceOut D) (h : History D) → t ≡ d.table
+      → IsOut rest ready kinds d o → Stands rest ready h → Begins o.front h → own o.place h.events ≡ own o.place o.front.events
+      → IsOut rest ready kinds d (place_out t o.place h)
+  told_out rest ready kinds d t o h of out stands begins same = record {
     of = of;
-    places = sym begins.places ∙ out.places;
+    sized = sym begins.sizes ∙ out.sized;
     below = out.below;
-    conditions_are = sym begins.conditions ∙ out.conditions_are;
-    mesa_are = sym begins.mesa ∙ out.mesa_are;
     stands = stands;
     is_outside = outside-same o.place o.front h same out.is_outside;
   }
 
-  module _ {rest : Rest D} {ready : Ready D} {conditions mesa : ℕ} {d : DoorId} {i : PlaceIn D} {t : TableId} {k : ℕ}
+  module _ {rest : Rest D} {ready : Ready D} {kinds : Kinds} {d : DoorId} {i : PlaceIn D} {t : TableId} {k : ℕ}
       {f : History D} {me : Sat D} {x : Lodged D} where
     -- what is asked of the place of the contract is asked of its parts
-    asked_here : (P : PlaceIn D → Type 0) → Holds rest ready conditions mesa d i t k f me x → P i → P (place_in t k f x.state)
+    asked_here : (P : PlaceIn D → Type 0) → Holds rest ready kinds d i t k f me x → P i → P (place_in t k f x.state)
     asked_here P h asked = subst P (sym h.seen) asked
 
-    asked_back : (P : PlaceIn D → Type 0) → Holds rest ready conditions mesa d i t k f me x → P (place_in t k f x.state) → P i
+    asked_back : (P : PlaceIn D → Type 0) → Holds rest ready kinds d i t k f me x → P (place_in t k f x.state) → P i
     asked_back P h told = subst P h.seen told
 
-    -- what holds of the door's numbers of conditions holds of the front's
-    pub sized_here : (P : ℕ → ℕ → Type 0) → Holds rest ready conditions mesa d i t k f me x → P conditions mesa → P f.conditions f.mesa
-    sized_here P h asked = subst (λ (n : ℕ). P n f.mesa) (sym h.within.conditions_are) (subst (λ (m : ℕ). P conditions m) (sym h.within.mesa_are) asked)
+    -- what holds of the door's sizes holds of the front's
+    pub sized_here : (P : Sizes → Type 0) → Holds rest ready kinds d i t k f me x → P (sizes_at kinds d.places) → P f.sizes
+    sized_here P h asked = subst P (sym h.within.sized) asked
 
     -- an event that is allowed and paid gives the monitor up
-    may_give : (event : D → Event D) (b : Contents) (who : Next) → Holds rest ready conditions mesa d i t k f me x
+    may_give : (event : D → Event D) (b : Contents) (who : Next) → Holds rest ready kinds d i t k f me x
         → place_of (event x.state) ≡ k → data_of (event x.state) ≡ x.state → is_inside (event x.state) ≡ false
         → Allowed f (event x.state) → Owes rest ready f.events (event x.state) → IsOf b (erased (with_event f (event x.state))) → who ≡ next_of b.turn
         → MayGive rest ready event k me (record { state = x.state; book = b }) who
@@ -135,31 +134,31 @@ module _ {D : Type 0} where
       },
     )
 
-    owes_leave : Holds rest ready conditions mesa d i t k f me x → rest i.state (priorities i.front.events) → Owes rest ready f.events (Leave k x.state)
+    owes_leave : Holds rest ready kinds d i t k f me x → rest i.state (priorities i.front.events) → Owes rest ready f.events (Leave k x.state)
     owes_leave h asked =
         Owes-leave rest ready f k x.state h.within.is_inside (asked_here (λ j. rest j.state (priorities j.front.events)) h asked)
 
-    pub gives_leave : (b : Contents) (who : Next) → Holds rest ready conditions mesa d i t k f me x → rest i.state (priorities i.front.events)
+    pub gives_leave : (b : Contents) (who : Next) → Holds rest ready kinds d i t k f me x → rest i.state (priorities i.front.events)
         → IsOf b (with_event (erased f) (Leave k tt)) → who ≡ next_of b.turn
         → MayGive rest ready (event_of k departure.Leave who) k me (record { state = x.state; book = b }) who
     gives_leave b who h asked book is =
         may_give (λ s. Leave k s) b who h refl refl refl (Allowed-leave f k x.state h.within.stands.legal h.within.is_inside)
         (owes_leave h asked) (IsOf-event b f (Leave k x.state) book) is
 
-    pub gives_wait : (c p : ℕ) (b : Contents) (who : Next) → Holds rest ready conditions mesa d i t k f me x → c < conditions
+    pub gives_wait : (c p : ℕ) (b : Contents) (who : Next) → Holds rest ready kinds d i t k f me x → c < kinds.conditions
         → rest i.state (joined (priorities i.front.events) c p) → IsOf b (with_event (erased f) (Wait k c p tt)) → who ≡ next_of b.turn
         → MayGive rest ready (event_of k (departure.Wait c p) who) k me (record { state = x.state; book = b }) who
     gives_wait c p b who h small asked book is =
         may_give (λ s. Wait k c p s) b who h refl refl refl
-        (Allowed-wait f k c p x.state h.within.stands.legal h.within.is_inside (sized_here (λ n m. c < n) h small))
+        (Allowed-wait f k c p x.state h.within.stands.legal h.within.is_inside (sized_here (λ n. c < n.conditions) h small))
         (Owes-wait rest ready f k c p x.state h.within.is_inside (asked_here (λ j. rest j.state (joined (priorities j.front.events) c p)) h asked))
         (IsOf-event b f (Wait k c p x.state) book) is
 
-    some_here : (c : ℕ) → Holds rest ready conditions mesa d i t k f me x → priorities i.front.events c ≢ [] → (e : Event D) × (chosen c f.events ≡ Some e)
+    some_here : (c : ℕ) → Holds rest ready kinds d i t k f me x → priorities i.front.events c ≢ [] → (e : Event D) × (chosen c f.events ≡ Some e)
     some_here c h some = chosen-some c f.events (asked_here (λ j. priorities j.front.events c ≢ []) h some)
 
     -- it hands the monitor over: by a pass where it goes out, else by a signal
-    pub resumes_handing : (out : Bool) (c : ℕ) (b : Contents) (who : Next) → Holds rest ready conditions mesa d i t k f me x → priorities i.front.events c ≢ []
+    pub resumes_handing : (out : Bool) (c : ℕ) (b : Contents) (who : Next) → Holds rest ready kinds d i t k f me x → priorities i.front.events c ≢ []
         → IsOf b (after_handing out (erased f) k c (chosen c (erased f).events)) → who ≡ next_of b.turn → Resumes c f who
     resumes_handing out c b who h some book is =
         let e = some_here c h some in
@@ -170,16 +169,16 @@ module _ {D : Type 0} where
           goes_on = handed_to (with_event f (handing out k c w x.state)) w c b who after (turn-handing out f k c w x.state) is;
         }
 
-    allowed_handing : (out : Bool) (c : ℕ) (e : Event D) → Holds rest ready conditions mesa d i t k f me x → IsHoare conditions mesa c → chosen c f.events ≡ Some e
+    allowed_handing : (out : Bool) (c : ℕ) (e : Event D) → Holds rest ready kinds d i t k f me x → IsHoare kinds.conditions kinds.mesa c → chosen c f.events ≡ Some e
         → Allowed f (handing out k c (place_of e) x.state)
     allowed_handing out c e h hoare is =
-        Allowed-handing out f k c e x.state h.within.stands.legal h.within.is_inside (sized_here (λ n m. IsHoare n m c) h hoare) is
+        Allowed-handing out f k c e x.state h.within.stands.legal h.within.is_inside (sized_here (λ n. IsHoare n.conditions n.mesa c) h hoare) is
 
-    owes_handing : (out : Bool) (c : ℕ) (e : Event D) → Holds rest ready conditions mesa d i t k f me x → chosen c f.events ≡ Some e → Handed ready c i
+    owes_handing : (out : Bool) (c : ℕ) (e : Event D) → Holds rest ready kinds d i t k f me x → chosen c f.events ≡ Some e → Handed ready c i
         → Owes rest ready f.events (handing out k c (place_of e) x.state)
     owes_handing out c e h is asked = Owes-handing rest ready out f k c e x.state h.within.is_inside is (asked_here (Handed ready c) h asked)
 
-    pub gives_handing : (out : Bool) (c : ℕ) (b : Contents) (who : Next) → Holds rest ready conditions mesa d i t k f me x → IsHoare conditions mesa c
+    pub gives_handing : (out : Bool) (c : ℕ) (b : Contents) (who : Next) → Holds rest ready kinds d i t k f me x → IsHoare kinds.conditions kinds.mesa c
         → priorities i.front.events c ≢ [] → Handed ready c i
         → IsOf b (after_handing out (erased f) k c (chosen c (erased f).events)) → who ≡ next_of b.turn
         → MayGive rest ready (λ s. handing out k c (place_for who) s) k me (record { state = x.state; book = b }) who
@@ -192,18 +191,16 @@ module _ {D : Type 0} where
         (IsOf-handing out b f k c r.chosen_one x.state r.is book) is)
 
     -- the place outside after an event by which it goes out
-    went_out : (e : Event D) (z : TableId) (o : PlaceOut D) → Holds rest ready conditions mesa d i t k f me x → place_of e ≡ k → is_out (Some e) ≡ true
+    went_out : (e : Event D) (z : TableId) (o : PlaceOut D) → Holds rest ready kinds d i t k f me x → place_of e ≡ k → is_out (Some e) ≡ true
         → Allowed f e → Owes rest ready f.events e → z ≡ t → o ≡ place_out z k (with_event f e)
-        → Left rest ready conditions mesa d k (with_event f e) o
+        → Left rest ready kinds d k (with_event f e) o
     went_out e z o h mine goes may owes same is =
-        let sizes = entering.sizes-with f f e d.places conditions mesa (Begins-refl f) h.within.places h.within.conditions_are h.within.mesa_are in
-        subst (Left rest ready conditions mesa d k (with_event f e)) (sym is) (record {
+        let sizes = entering.sizes-with f f e (sizes_at kinds d.places) (Begins-refl f) h.within.sized in
+        subst (Left rest ready kinds d k (with_event f e)) (sym is) (record {
           of = record {
             of = same ∙ h.within.of;
-            places = sizes.0;
-            below = subst (λ (m : ℕ). k < m) h.within.places (held-in_range f k h.within.stands.legal h.within.is_inside);
-            conditions_are = sizes.1;
-            mesa_are = sizes.2;
+            sized = sizes;
+            below = subst (λ (m : Sizes). k < m.places) h.within.sized (held-in_range f k h.within.stands.legal h.within.is_inside);
             stands = Stands-push e h.within.stands may owes;
             is_outside = outside-left f k e mine goes;
           };
@@ -211,20 +208,20 @@ module _ {D : Type 0} where
           front = refl;
         })
 
-    pub left : (z : TableId) (o : PlaceOut D) → Holds rest ready conditions mesa d i t k f me x → rest i.state (priorities i.front.events) → z ≡ t
-        → o ≡ place_out z k (with_event f (Leave k x.state)) → Left rest ready conditions mesa d i.place (with_event i.front (Leave i.place i.state)) o
+    pub left : (z : TableId) (o : PlaceOut D) → Holds rest ready kinds d i t k f me x → rest i.state (priorities i.front.events) → z ≡ t
+        → o ≡ place_out z k (with_event f (Leave k x.state)) → Left rest ready kinds d i.place (with_event i.front (Leave i.place i.state)) o
     left z o h asked same is =
-        asked_back (λ j. Left rest ready conditions mesa d j.place (with_event j.front (Leave j.place j.state)) o) h
+        asked_back (λ j. Left rest ready kinds d j.place (with_event j.front (Leave j.place j.state)) o) h
         (went_out (Leave k x.state) z o h refl refl (Allowed-leave f k x.state h.within.stands.legal h.within.is_inside) (owes_leave h asked) same is)
 
-    pub passed : (c : ℕ) (b : Contents) (who : Next) (z : TableId) (o : PlaceOut D) → Holds rest ready conditions mesa d i t k f me x → IsHoare conditions mesa c
+    pub passed : (c : ℕ) (b : Contents) (who : Next) (z : TableId) (o : PlaceOut D) → Holds rest ready kinds d i t k f me x → IsHoare kinds.conditions kinds.mesa c
         → priorities i.front.events c ≢ [] → Handed ready c i → IsOf b (after_pass (erased f) k c (chosen c (erased f).events)) → who ≡ next_of b.turn
-        → z ≡ t → o ≡ place_out z k (with_event f (Pass k c (place_for who) x.state)) → Passed rest ready conditions mesa d i c o
+        → z ≡ t → o ≡ place_out z k (with_event f (Pass k c (place_for who) x.state)) → Passed rest ready kinds d i c o
     passed c b who z o h hoare some asked book is same gone =
         let r = resumes_handing true c b who h some book is in
         let w : ℕ = place_for who in
-        let out : Left rest ready conditions mesa d k (with_event f (Pass k c w x.state)) o =
-        subst (λ (j : ℕ). o ≡ place_out z k (with_event f (Pass k c j x.state)) → Left rest ready conditions mesa d k (with_event f (Pass k c j x.state)) o)
+        let out : Left rest ready kinds d k (with_event f (Pass k c w x.state)) o =
+        subst (λ (j : ℕ). o ≡ place_out z k (with_event f (Pass k c j x.state)) → Left rest ready kinds d k (with_event f (Pass k c j x.state)) o)
         (sym r.goes_on)
         (went_out (Pass k c (place_of r.chosen_one) x.state) z o h refl refl (allowed_handing true c r.chosen_one h hoare r.is) (owes_handing true c r.chosen_one h r.is asked) same)
         gone in record {

@@ -1,7 +1,9 @@
 -- What a call knows of the place inside that it is handed.
 use Rattle.std.proofs.Common.{◌≡◌, ◌<◌, ℕ, [], ◌∷◌, None, sym, ap, ◌∙◌, subst}
 use Rattle.atomic_table.specs.Seated.{TableId}
+use Rattle.hoare_law.specs.declared.event.Sizes.{Sizes}
 use Rattle.hoare_law.specs.declared.event.History.{History}
+use Rattle.hoare_law.specs.Sizes.{Kinds, sizes_at}
 use Rattle.hoare_law.specs.declared.turn.Turn.TheVariants.{Held}
 use Rattle.hoare_law.specs.Beside.Erasure.{erased}
 use Rattle.hoare_law.specs.Lawful.{Rest, Ready}
@@ -17,37 +19,35 @@ use Rattle.door_frame.specs.Views.{alone}
 
 module _ {D : Type 0} where
   -- the place k, with the seat me, front f and the parcel x in hand, is the i of the contract
-  pub record Holds (rest : Rest D) (ready : Ready D) (conditions mesa : ℕ) (d : DoorId) (i : PlaceIn D) (t : TableId) (k : ℕ)
+  pub record Holds (rest : Rest D) (ready : Ready D) (kinds : Kinds) (d : DoorId) (i : PlaceIn D) (t : TableId) (k : ℕ)
       (f : History D) (me : Sat D) (x : Lodged D) : Type 0 where
     pub seen : place_in t k f x.state ≡ i
-    pub within : IsIn rest ready conditions mesa d (place_in t k f x.state)
+    pub within : IsIn rest ready kinds d (place_in t k f x.state)
     pub book : IsOf x.book (erased f)
     pub me_is : me ≡ (alone k f, (0, None) ∷ [])
 
-  module _ {rest : Rest D} {ready : Ready D} {conditions mesa : ℕ} {d : DoorId} {i : PlaceIn D} {t : TableId} {k : ℕ}
+  module _ {rest : Rest D} {ready : Ready D} {kinds : Kinds} {d : DoorId} {i : PlaceIn D} {t : TableId} {k : ℕ}
       {f : History D} {me : Sat D} {x : Lodged D} where
-    pub holds : {y : Lodged D} → x ≡ y → place_in t k f y.state ≡ i → IsInside k f me y.book → IsIn rest ready conditions mesa d i
-        → Holds rest ready conditions mesa d i t k f me x
+    pub holds : {y : Lodged D} → x ≡ y → place_in t k f y.state ≡ i → IsInside k f me y.book → IsIn rest ready kinds d i
+        → Holds rest ready kinds d i t k f me x
     holds same view inv of =
         let seen : place_in t k f x.state ≡ i = ap (λ (w : Lodged D). place_in t k f w.state) same ∙ view in record {
           seen = seen;
-          within = subst (IsIn rest ready conditions mesa d) (sym seen) of;
+          within = subst (IsIn rest ready kinds d) (sym seen) of;
           book = subst (λ (w : Lodged D). IsOf w.book (erased f)) (sym same) inv.1;
           me_is = inv.0;
         }
 
     -- the book says so too
-    pub turn_in_hand : Holds rest ready conditions mesa d i t k f me x → x.book.turn ≡ Held k
+    pub turn_in_hand : Holds rest ready kinds d i t k f me x → x.book.turn ≡ Held k
     turn_in_hand h = turn-history x.book f h.book ∙ h.within.is_inside
 
-    -- and has the numbers of conditions that the door has
-    pub sized_in_hand : (P : ℕ → ℕ → Type 0) → Holds rest ready conditions mesa d i t k f me x → P conditions mesa → P x.book.conditions x.book.mesa
-    sized_in_hand P h asked =
-        subst (λ (q : ℕ × ℕ). P q.0 q.1)
-        (λ j. ((sym h.within.conditions_are ∙ h.book.conditions) j, (sym h.within.mesa_are ∙ h.book.mesa) j)) asked
+    -- and has the door's sizes
+    pub sized_in_hand : (P : Sizes → Type 0) → Holds rest ready kinds d i t k f me x → P (sizes_at kinds d.places) → P x.book.sizes
+    sized_in_hand P h asked = subst P (sym h.within.sized ∙ h.book.sizes) asked
 
-    pub small : Holds rest ready conditions mesa d i t k f me x → k < d.places
-    small h = subst (λ (n : ℕ). k < n) h.within.places (held-in_range f k h.within.stands.legal h.within.is_inside)
+    pub small : Holds rest ready kinds d i t k f me x → k < d.places
+    small h = subst (λ (n : Sizes). k < n.places) h.within.sized (held-in_range f k h.within.stands.legal h.within.is_inside)
 
   -- the book that a call is lent is of the front
   pub book_in_hand : {k : ℕ} {f : History D} {me : Sat D} {b c : Contents} → b ≡ c → IsInside k f me c → IsOf b (erased f)

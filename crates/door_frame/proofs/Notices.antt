@@ -12,7 +12,7 @@ use Rattle.hoare_law.specs.declared.turn.Turn.TheVariants.{Held}
 use Rattle.hoare_law.specs.Beside.Erasure.{erased}
 use Rattle.hoare_law.specs.Events.{place_of, with_event}
 use Rattle.hoare_law.specs.Growth.{Notifies, Broadcasts, called_one, called_all}
-use Rattle.hoare_law.specs.Sizes.{IsMesa}
+use Rattle.hoare_law.specs.Sizes.{IsMesa, Kinds, sizes_at}
 use Rattle.hoare_law.specs.Lawful.{Rest, Ready}
 use Rattle.hoare_law.specs.Priorities.{priorities, taken, emptied, behind_first}
 use Rattle.hoare_law.specs.Turns.{turn}
@@ -72,17 +72,17 @@ module _ {D : Type 0} where
   listed-broadcast f k c s held = priorities-broadcast f.events k c s held
 
   -- what a notice says of the place inside: it is j, and was i
-  pub record Noted (rest : Rest D) (ready : Ready D) (conditions mesa : ℕ) (d : DoorId) (i : PlaceIn D)
+  pub record Noted (rest : Rest D) (ready : Ready D) (kinds : Kinds) (d : DoorId) (i : PlaceIn D)
       (notice : Notice) (j : PlaceIn D) : Type 0 where
-    pub of : IsIn rest ready conditions mesa d j
+    pub of : IsIn rest ready kinds d j
     pub place : j.place ≡ i.place
     pub data_are : j.state ≡ i.state
     pub front : j.front ≡ with_event i.front (event_of_notice i.place notice i.state i.front)
 
-  module _ {rest : Rest D} {ready : Ready D} {conditions mesa : ℕ} {d : DoorId} {i : PlaceIn D} where
+  module _ {rest : Rest D} {ready : Ready D} {kinds : Kinds} {d : DoorId} {i : PlaceIn D} where
     -- so after a notify where somebody waits
-    pub notified : (c : ℕ) {j : PlaceIn D} → IsIn rest ready conditions mesa d i → priorities i.front.events c ≢ []
-        → Noted rest ready conditions mesa d i (Notify c) j
+    pub notified : (c : ℕ) {j : PlaceIn D} → IsIn rest ready kinds d i → priorities i.front.events c ≢ []
+        → Noted rest ready kinds d i (Notify c) j
         → Notifies i.place c i.state i.front j.front true
         × (priorities j.front.events ≡ taken (priorities i.front.events) c)
     notified c of some n =
@@ -94,8 +94,8 @@ module _ {D : Type 0} where
         )
 
     -- and after a broadcast
-    pub all_called : (c : ℕ) {j : PlaceIn D} → IsIn rest ready conditions mesa d i → priorities i.front.events c ≢ []
-        → Noted rest ready conditions mesa d i (Broadcast c) j
+    pub all_called : (c : ℕ) {j : PlaceIn D} → IsIn rest ready kinds d i → priorities i.front.events c ≢ []
+        → Noted rest ready kinds d i (Broadcast c) j
         → Broadcasts i.place c i.state i.front j.front
         × (priorities j.front.events ≡ emptied (priorities i.front.events) c)
     all_called c of some n = (
@@ -104,20 +104,20 @@ module _ {D : Type 0} where
     )
 
     module _ {t : TableId} {k : ℕ} {f : History D} {me : Sat D} {x : Lodged D} where
-      some_listed : (c : ℕ) → Holds rest ready conditions mesa d i t k f me x → priorities i.front.events c ≢ []
+      some_listed : (c : ℕ) → Holds rest ready kinds d i t k f me x → priorities i.front.events c ≢ []
           → priorities f.events c ≢ []
       some_listed c h some = subst (λ (v : PlaceIn D). priorities v.front.events c ≢ []) (sym h.seen) some
 
-      somebody_waits : (c : ℕ) → Holds rest ready conditions mesa d i t k f me x → priorities i.front.events c ≢ []
+      somebody_waits : (c : ℕ) → Holds rest ready kinds d i t k f me x → priorities i.front.events c ≢ []
           → waiting c f.events ≢ []
       somebody_waits c h some = λ none. some_listed c h some (priorities-nobody c f.events none)
 
       -- it may call
-      pub notes_notify : (c : ℕ) → Holds rest ready conditions mesa d i t k f me x → IsMesa conditions mesa c
+      pub notes_notify : (c : ℕ) → Holds rest ready kinds d i t k f me x → IsMesa kinds.conditions kinds.mesa c
           → priorities i.front.events c ≢ [] → Notes rest ready (event_of_notice k (Notify c) x.state f) k f
       notes_notify c h mesa_c some =
           let legal = h.within.stands.legal in
-          let here : IsMesa f.conditions f.mesa c = sized_here (λ n m. IsMesa n m c) h mesa_c in
+          let here : IsMesa f.sizes.conditions f.sizes.mesa c = sized_here (λ n. IsMesa n.conditions n.mesa c) h mesa_c in
           let e = chosen-some c f.events (some_listed c h some) in
           subst (λ (w : ℕ). Notes rest ready (event.Notify k c w x.state) k f)
           (sym (chosen_place-is c f.events e.0 e.1)) (record {
@@ -128,11 +128,11 @@ module _ {D : Type 0} where
             stays = turn-notify f k c (place_of e.0) x.state;
           })
 
-      pub notes_broadcast : (c : ℕ) → Holds rest ready conditions mesa d i t k f me x → IsMesa conditions mesa c
+      pub notes_broadcast : (c : ℕ) → Holds rest ready kinds d i t k f me x → IsMesa kinds.conditions kinds.mesa c
           → priorities i.front.events c ≢ [] → Notes rest ready (event_of_notice k (Broadcast c) x.state f) k f
       notes_broadcast c h mesa_c some =
           let legal = h.within.stands.legal in
-          let here : IsMesa f.conditions f.mesa c = sized_here (λ n m. IsMesa n m c) h mesa_c in record {
+          let here : IsMesa f.sizes.conditions f.sizes.mesa c = sized_here (λ n. IsMesa n.conditions n.mesa c) h mesa_c in record {
             inside = h.within.is_inside;
             mine = refl;
             allowed = Allowed-broadcast f k c x.state legal h.within.is_inside here (somebody_waits c h some);
@@ -141,7 +141,7 @@ module _ {D : Type 0} where
           }
 
       -- the book in hand is then of the front
-      pub book_notified : (c : ℕ) (b : Contents) → Holds rest ready conditions mesa d i t k f me x
+      pub book_notified : (c : ℕ) (b : Contents) → Holds rest ready kinds d i t k f me x
           → priorities i.front.events c ≢ [] → IsOf b (after_notify (erased f) k c (chosen c (erased f).events))
           → IsOf b (erased (with_event f (event_of_notice k (Notify c) x.state f)))
       book_notified c b h some o =
@@ -150,27 +150,25 @@ module _ {D : Type 0} where
           (sym (chosen_place-is c f.events e.0 e.1))
           (IsOf-notify b f k c e.0 x.state e.1 o)
 
-      pub book_all_called : (c : ℕ) (b : Contents) → Holds rest ready conditions mesa d i t k f me x
+      pub book_all_called : (c : ℕ) (b : Contents) → Holds rest ready kinds d i t k f me x
           → priorities i.front.events c ≢ [] → IsOf b (after_broadcast (erased f) k c (waiting c (erased f).events))
           → IsOf b (erased (with_event f (event_of_notice k (Broadcast c) x.state f)))
       book_all_called c b h some o = IsOf-broadcast b f k c x.state (somebody_waits c h some) o
 
       -- and the place inside is what the call says
       pub noted : (notice : Notice) {z : TableId} {s : D} {me' : Sat D} (is : is_alone me'.0 ≡ true)
-          → Holds rest ready conditions mesa d i t k f me x → Notes rest ready (event_of_notice k notice x.state f) k f
+          → Holds rest ready kinds d i t k f me x → Notes rest ready (event_of_notice k notice x.state f) k f
           → z ≡ t → s ≡ x.state → me' ≡ (alone k (with_event f (event_of_notice k notice x.state f)), (0, None) ∷ [])
-          → Noted rest ready conditions mesa d i notice (place_in z k (front_of me'.0 is) s)
+          → Noted rest ready kinds d i notice (place_in z k (front_of me'.0 is) s)
       noted notice {z = z} {s = s} {me' = me'} is h n table same now =
           let e : Event D = event_of_notice k notice x.state f in
           let w = h.within in
-          let sizes = sizes-with f f e d.places conditions mesa (Begins-refl f) w.places w.conditions_are w.mesa_are in
-          at_front (λ (g : History D). Noted rest ready conditions mesa d i notice (place_in z k g s)) me' is
+          let sizes = sizes-with f f e (sizes_at kinds d.places) (Begins-refl f) w.sized in
+          at_front (λ (g : History D). Noted rest ready kinds d i notice (place_in z k g s)) me' is
           k (with_event f e) ((0, None) ∷ []) now (record {
             of = record {
               of = table ∙ w.of;
-              places = sizes.0;
-              conditions_are = sizes.1;
-              mesa_are = sizes.2;
+              sized = sizes;
               stands = Stands-push e w.stands n.allowed n.owes;
               is_inside = n.stays;
             };

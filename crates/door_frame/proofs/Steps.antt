@@ -8,7 +8,9 @@ use lib.ListN.{get_elem?}
 use lib.Seq.{set-get_or}
 use Rattle.atomic_table.specs.Table.{Step, Me, State, keeps, takes, gives, stepped, Allows, Splits, Joins}
 use Rattle.atomic_table.proofs.Lists.{at_set, set_here, set_else, set_again}
+use Rattle.hoare_law.specs.declared.event.Sizes.{Sizes}
 use Rattle.hoare_law.specs.declared.event.Event.{Event}
+use Rattle.hoare_law.specs.Sizes.{Kinds, sizes_at}
 use Rattle.hoare_law.specs.declared.event.History.{History}
 use Rattle.hoare_law.specs.declared.event.Event.TheVariants.{Admit, Resume, Back}
 use Rattle.hoare_law.specs.declared.turn.Turn.{Turn}
@@ -103,10 +105,9 @@ module _ {D : Type 0} where
   pub alone_is : (k j : ℕ) (f g : History D) (c d : List (ℕ × Option (Lodged D))) → ◌≡◌ {A = Sat D} (alone k f, c) (alone j g, d) → (k ≡ j) × (f ≡ g) × (c ≡ d)
   alone_is k j f g c d e = let s = sole_is k j f g None None c d e in (s.0, s.1, s.3)
 
-  sizes_kept : (n conditions mesa : ℕ) (log : History D) (e : Event D) → log.places ≡ n → log.conditions ≡ conditions → log.mesa ≡ mesa
-      → ((with_event log e).places ≡ n) × ((with_event log e).conditions ≡ conditions) × ((with_event log e).mesa ≡ mesa)
+  sizes_kept : (n : Sizes) (log : History D) (e : Event D) → log.sizes ≡ n → (with_event log e).sizes ≡ n
   unfolding with_event
-  sizes_kept n conditions mesa log e p c m = (p, c, m)
+  sizes_kept n log e is = is
 
 module _ {D : Type 0} (rest : Rest D) (ready : Ready D) where
   -- who may be brought in by which event, so far as the words don't matter
@@ -116,10 +117,10 @@ module _ {D : Type 0} (rest : Rest D) (ready : Ready D) where
     pub mine : place_of e ≡ k
     pub inside : turn (with_event h e).events ≡ Held k
 
-  pub enters_admit : (k : ℕ) (h : History D) → k < h.places → turn h.events ≡ Free → outside k h.events ≡ true → Enters k h (Admit k (latest_data h))
+  pub enters_admit : (k : ℕ) (h : History D) → k < h.sizes.places → turn h.events ≡ Free → outside k h.events ≡ true → Enters k h (Admit k (latest_data h))
   unfolding with_event Owes
   enters_admit k h below free out = record {
-    allowed = record { in_range = below; fits = (free, out, refl) };
+    allowed = record { in_range = (below, tt); fits = (free, out, refl) };
     owes = tt;
     mine = refl;
     inside = turn-push h.events (Admit k (latest_data h));
@@ -139,18 +140,18 @@ module _ {D : Type 0} (rest : Rest D) (ready : Ready D) where
           })
       by_turn (returning is) = let last = own-returning h.events k is in let s : D = latest_data h in
           subst (λ (o : Option (Event D)). Enters k h (due_by k o s)) (sym last.3) (record {
-            allowed = record { in_range = return-in_range h k stands.legal is; fits = (is, refl) };
+            allowed = record { in_range = (return-in_range h k stands.legal is, tt); fits = (is, refl) };
             owes = tt;
             mine = refl;
             inside = turn-push h.events (Back k s);
           })
 
-module _ {D : Type 0} (Starts : Bool → List ℕ → Type 0) (Tells : History D → Tickets → List ℕ → Type 0) (rest : Rest D) (ready : Ready D) (conditions mesa : ℕ) where
+module _ {D : Type 0} (Starts : Bool → List ℕ → Type 0) (Tells : History D → Tickets → List ℕ → Type 0) (rest : Rest D) (ready : Ready D) (kinds : Kinds) where
   abbrev R : ℕ → Cells D → Type 0
-  R = Running Starts Tells rest ready conditions mesa
+  R = Running Starts Tells rest ready kinds
 
   abbrev K : ℕ → Cells D → Type 0
-  K = Kept Starts Tells rest ready conditions mesa
+  K = Kept Starts Tells rest ready kinds
 
   -- a seat that stands for places steps on an open door
   pub running : (n : ℕ) (s : Cells D) → K n s → (id : ℕ) (ts : List (Knowledge D)) → get_elem? s.views id ≡ some (Places ts) → R n s
@@ -188,14 +189,12 @@ module _ {D : Type 0} (Starts : Bool → List ℕ → Type 0) (Tells : History D
       → ((j : ℕ) → turn (with_event r.log e).events ≡ Held j → get_elem? homes' 0 ≡ some none)
       → R n record { words = words'; homes = homes'; views = set s.views id (sole k (with_event r.log e) o') }
   adds n s r id k f o o' tickets' e words' homes' at mine may owes deep now others tells home out = let fit = (r.fronts id (sole k f o) at).0 in let h : History D = with_event r.log e in
-      let kept = sizes_kept n conditions mesa r.log e r.places r.conditions_are r.mesa_are in record {
+      let kept = sizes_kept (sizes_at kinds n) r.log e r.sized in record {
         log = h;
         owner = r.owner;
         tickets = tickets';
         one_slot = deep;
-        places = kept.0;
-        conditions_are = kept.1;
-        mesa_are = kept.2;
+        sized = kept;
         fronts = agree_all n s r id k f h h o o' tickets' at
             (record { below = fit.below; owned = fit.owned; begins = Begins-refl h; own_are = refl; ticket_is = now })
             (λ j t ne q. grows n r.log r.owner r.tickets tickets' j e t (λ same. ne (sym same ∙ mine)) (others t.place ne) q);
@@ -221,9 +220,7 @@ module _ {D : Type 0} (Starts : Bool → List ℕ → Type 0) (Tells : History D
           owner = r.owner;
           tickets = d.1;
           one_slot = r.one_slot;
-          places = r.places;
-          conditions_are = r.conditions_are;
-          mesa_are = r.mesa_are;
+          sized = r.sized;
           fronts = agree_all n s r id k f f r.log o d.0 d.1 at
               (record { below = fit.below; owned = fit.owned; begins = fit.begins; own_are = fit.own_are; ticket_is = d.2 })
               (λ j t ne q. reticketed n r.log r.owner r.tickets d.1 j t (d.3 t.place ne) q);
@@ -258,13 +255,13 @@ module _ {D : Type 0} (Starts : Bool → List ℕ → Type 0) (Tells : History D
   pub comes_ok : (n slots id k i : ℕ) (f : History D) (o : Option ℕ) (event : D → Event D) (g : ℕ → ℕ) (Hit : ℕ → Type 0) (Also : History D → Type 0)
       → ((x : ℕ) → Dec (Hit x))
       → ((log : History D) (tickets : Tickets) (ws : List ℕ) → k < n → Tells log tickets ws → (Hit (get_or ws i 0) → ⊥) → g (get_or ws i 0) ≡ get_or ws i 0)
-      → ((log : History D) (tickets : Tickets) (ws : List ℕ) → Stands rest ready log → log.places ≡ n → k < n → own k log.events ≡ own k f.events → tickets k ≡ o → Tells log tickets ws
+      → ((log : History D) (tickets : Tickets) (ws : List ℕ) → Stands rest ready log → log.sizes.places ≡ n → k < n → own k log.events ≡ own k f.events → tickets k ≡ o → Tells log tickets ws
       → Hit (get_or ws i 0) → BringsIn k i g Also log tickets ws (event (latest_data log)))
       → Allows (K n) slots id (sole k f o, []) i g (λ r m'. Comes rest ready Hit Also k f event (sole k f o, []) r m')
   comes_ok n slots id k i f o event g Hit Also test missed brings s kept wide at small = let r = running n s kept id (knows k f o ∷ []) at in let x : ℕ = get_or s.words i 0 in
       let v : View D = sole k f o in
       let deep = r.one_slot in let fit = (r.fronts id v at).0 in dite (test x)
-      (λ hit. let b0 = brings r.log r.tickets s.words r.stands r.places fit.below fit.own_are fit.ticket_is r.tells hit in let home = r.home b0.given_up in let l : Lodged D = home.0 in
+      (λ hit. let b0 = brings r.log r.tickets s.words r.stands (ap (λ (m : Sizes). m.places) r.sized) fit.below fit.own_are fit.ticket_is r.tells hit in let home = r.home b0.given_up in let l : Lodged D = home.0 in
       let e : Event D = event l.state in let h : History D = with_event r.log e in let w : View D = alone k h in
       let b : BringsIn k i g Also r.log r.tickets s.words e = subst (λ (d : D). BringsIn k i g Also r.log r.tickets s.words (event d)) (sym home.2.latest) b0 in (
         w,
@@ -303,14 +300,14 @@ module _ {D : Type 0} (Starts : Bool → List ℕ → Type 0) (Tells : History D
   lies_of f e x same book = record { latest = sym (latest_data-push f e ∙ same); book = book }
 
   pub gives_ok : (n slots id k i : ℕ) (g : ℕ → ℕ) (f : History D) (x : Lodged D) (next : Next) (event : D → Event D) (st : Step (Option (Lodged D))) → Gives rest ready event k f x next
-      → ((tickets : Tickets) (ws : List ℕ) → f.places ≡ n → k < n → Tells f tickets ws → Tells (with_event f (event x.state)) tickets (set ws i (g (get_or ws i 0))))
+      → ((tickets : Tickets) (ws : List ℕ) → f.sizes.places ≡ n → k < n → Tells f tickets ws → Tells (with_event f (event x.state)) tickets (set ws i (g (get_or ws i 0))))
       → Allows (K n) slots id (alone k f, (0, Some x) ∷ []) i g (λ r m'. gives_as event st (alone k f, (0, Some x) ∷ []) r m')
   gives_ok n slots id k i g f x next event st p tells s kept wide at small = let r = running n s kept id (knows k f None ∷ []) at in
       let deep = r.one_slot in let fit = (r.fronts id (alone k f) at).0 in let e : Event D = event x.state in
       let same : r.log ≡ f = still_held k f r.log r.stands.legal p.inside fit.begins fit.own_are in let w : View D = alone k (with_event r.log e) in
       let ws' : List ℕ = set s.words i (g (get_or s.words i 0)) in
       let told : Tells (with_event r.log e) r.tickets ws' = subst (λ (h : History D). Tells (with_event h e) r.tickets ws') (sym same)
-      (tells r.tickets s.words (ap (λ (h : History D). h.places) (sym same) ∙ r.places) fit.below (subst (λ (h : History D). Tells h r.tickets s.words) same r.tells)) in
+      (tells r.tickets s.words (ap (λ (h : History D). h.sizes.places) (sym same) ∙ ap (λ (m : Sizes). m.places) r.sized) fit.below (subst (λ (h : History D). Tells h r.tickets s.words) same r.tells)) in
       let lies : Lies (with_event r.log e) x = subst (λ (h : History D). Lies (with_event h e) x) (sym same) (lies_of f e x p.same_data p.book) in
       let gone : IsGivenUp (turn (with_event r.log e).events) = subst (λ (h : History D). IsGivenUp (turn (with_event h e).events)) (sym same) p.given_up in (
         w,
@@ -383,35 +380,33 @@ module _ {D : Type 0} (Starts : Bool → List ℕ → Type 0) (Tells : History D
   all_agree n h (suc count) k b = (record { below = omega arith; owned = refl; begins = Begins-refl h; own_are = refl; ticket_is = refl }, all_agree n h count (suc k) (omega arith))
 
   -- the door as it opens
-  opens_running : (n : ℕ) (x : Lodged D) (ws : List ℕ) → Stands rest ready (opened n conditions mesa x.state) → IsOf x.book (opened n conditions mesa tt) → Tells (opened n conditions mesa x.state)
-      (λ _. None) ws → R n (record { words = ws; homes = some (Some x) ∷ []; views = Places (all_know 0 n (opened n conditions mesa x.state)) ∷ [] })
+  opens_running : (n : ℕ) (x : Lodged D) (ws : List ℕ) → Stands rest ready (opened (sizes_at kinds n) x.state) → IsOf x.book (opened (sizes_at kinds n) tt) → Tells (opened (sizes_at kinds n) x.state)
+      (λ _. None) ws → R n (record { words = ws; homes = some (Some x) ∷ []; views = Places (all_know 0 n (opened (sizes_at kinds n) x.state)) ∷ [] })
   unfolding latest_data
   opens_running n x ws stands book tells = record {
-    log = opened n conditions mesa x.state;
+    log = opened (sizes_at kinds n) x.state;
     owner = λ _. 0;
     tickets = λ _. None;
     one_slot = refl;
-    places = refl;
-    conditions_are = refl;
-    mesa_are = refl;
-    fronts = λ j v got. subst (λ (z : ℕ × View D). EachOf (Agrees n (opened n conditions mesa x.state) (λ _. 0) (λ _. None) z.0) z.1)
-        (λ i. (sym (only_at (Places (all_know 0 n (opened n conditions mesa x.state))) v j got) i, only (Places (all_know 0 n (opened n conditions mesa x.state))) v j got i))
-        (all_agree n (opened n conditions mesa x.state) n 0 (omega arith));
-    apart = λ j v got. subst ApartOf (only (Places (all_know 0 n (opened n conditions mesa x.state))) v j got) (all_know_apart 0 n (opened n conditions mesa x.state));
+    sized = refl;
+    fronts = λ j v got. subst (λ (z : ℕ × View D). EachOf (Agrees n (opened (sizes_at kinds n) x.state) (λ _. 0) (λ _. None) z.0) z.1)
+        (λ i. (sym (only_at (Places (all_know 0 n (opened (sizes_at kinds n) x.state))) v j got) i, only (Places (all_know 0 n (opened (sizes_at kinds n) x.state))) v j got i))
+        (all_agree n (opened (sizes_at kinds n) x.state) n 0 (omega arith));
+    apart = λ j v got. subst ApartOf (only (Places (all_know 0 n (opened (sizes_at kinds n) x.state))) v j got) (all_know_apart 0 n (opened (sizes_at kinds n) x.state));
     stands = stands;
     tells = tells;
     home = λ _. (x, refl, record { latest = refl; book = book });
-    out = λ k held. let no : Free ≡ Held k = sym (turn-opened n conditions mesa x.state) ∙ held in absurd (cc);
+    out = λ k held. let no : Free ≡ Held k = sym (turn-opened (sizes_at kinds n) x.state) ∙ held in absurd (cc);
   }
 
-  pub opens_ok : (n slots id i : ℕ) (g : ℕ → ℕ) (x : Lodged D) (st : Step (Option (Lodged D))) → Stands rest ready (opened n conditions mesa x.state) → IsOf x.book (opened n conditions mesa tt)
-      → ((ws : List ℕ) → Starts true ws → Tells (opened n conditions mesa x.state) (λ _. None) (set ws i (g (get_or ws i 0))))
-      → Allows (K n) slots id (Opening n, (0, Some x) ∷ []) i g (λ r m'. opens conditions mesa st (Opening n, (0, Some x) ∷ []) r m')
+  pub opens_ok : (n slots id i : ℕ) (g : ℕ → ℕ) (x : Lodged D) (st : Step (Option (Lodged D))) → Stands rest ready (opened (sizes_at kinds n) x.state) → IsOf x.book (opened (sizes_at kinds n) tt)
+      → ((ws : List ℕ) → Starts true ws → Tells (opened (sizes_at kinds n) x.state) (λ _. None) (set ws i (g (get_or ws i 0))))
+      → Allows (K n) slots id (Opening n, (0, Some x) ∷ []) i g (λ r m'. opens kinds st (Opening n, (0, Some x) ∷ []) r m')
   opens_ok n slots id i g x st stands book tells s (raw b h e) wide at small = let other : Unopened n ≡ Opening n = only (Unopened n)
       (Opening n) id (ap (λ (y : List (View D)). get_elem? y id) (sym e) ∙ at) in absurd (cc)
   opens_ok n slots id i g x st stands book tells s (runs r) wide at small = absurd (r.fronts id (Opening n) at)
   opens_ok n slots id i g x st stands book tells s (lent b h e) wide at small = let at' : get_elem? (Opening n ∷ []) id ≡ some (Opening n) = ap (λ (y : List (View D)). get_elem? y id) (sym e) ∙ at in
-      let o : History D = opened n conditions mesa x.state in let w : View D = Places (all_know 0 n o) in let ws' : List ℕ = set s.words i (g (get_or s.words i 0)) in
+      let o : History D = opened (sizes_at kinds n) x.state in let w : View D = Places (all_know 0 n o) in let ws' : List ℕ = set s.words i (g (get_or s.words i 0)) in
       let s' : Cells D = record { words = ws'; homes = some (Some x) ∷ []; views = w ∷ [] } in
       let now : stepped s i (g (get_or s.words i 0)) id ((0, Some x) ∷ []) w gives ≡ s' = λ j. record {
         words = ws';
@@ -429,10 +424,10 @@ module _ {D : Type 0} (Starts : Bool → List ℕ → Type 0) (Tells : History D
       count (Opening m) = m
       count _ = 0
 
-      told : (m : ℕ) (y : Lodged D) → ◌≡◌ {A = Sat D} (Opening n, (0, Some x) ∷ []) (Opening m, (0, Some y) ∷ []) → ◌≡◌ {A = Sat D} (Places (all_know 0 n (opened n conditions mesa x.state)), [])
-          (Places (all_know 0 m (opened m conditions mesa y.state)), [])
+      told : (m : ℕ) (y : Lodged D) → ◌≡◌ {A = Sat D} (Opening n, (0, Some x) ∷ []) (Opening m, (0, Some y) ∷ []) → ◌≡◌ {A = Sat D} (Places (all_know 0 n (opened (sizes_at kinds n) x.state)), [])
+          (Places (all_know 0 m (opened (sizes_at kinds m) y.state)), [])
       told m y is = let a : n ≡ m = ap (λ (z : Sat D). count z.0) is in let b_ : x ≡ y = ap (λ (z : Sat D). lodged_or x z.1) is in
-          λ i. (Places (all_know 0 (a i) (opened (a i) conditions mesa (b_ i).state)), [])
+          λ i. (Places (all_know 0 (a i) (opened (sizes_at kinds (a i)) (b_ i).state)), [])
 
   -- the first seat takes the empty slot, by a step of any kind that begins the words
   pub begins_at : (n slots id i : ℕ) (g : ℕ → ℕ) (st : Step (Option (Lodged D))) (m : Sat D) → m ≡ (Unopened n, [])
@@ -441,12 +436,12 @@ module _ {D : Type 0} (Starts : Bool → List ℕ → Type 0) (Tells : History D
 
   -- and gives it back with the data, by one that opens them
   pub opens_at : (n slots id i : ℕ) (g : ℕ → ℕ) (x : Lodged D) (st : Step (Option (Lodged D))) (m : Sat D) → m ≡ (Opening n, (0, Some x) ∷ [])
-      → rest x.state nobody → IsOf x.book (opened n conditions mesa tt)
-      → ((ws : List ℕ) → Starts true ws → Tells (opened n conditions mesa x.state) (λ _. None) (set ws i (g (get_or ws i 0))))
-      → Allows (K n) slots id m i g (opens conditions mesa st m)
+      → rest x.state nobody → IsOf x.book (opened (sizes_at kinds n) tt)
+      → ((ws : List ℕ) → Starts true ws → Tells (opened (sizes_at kinds n) x.state) (λ _. None) (set ws i (g (get_or ws i 0))))
+      → Allows (K n) slots id m i g (opens kinds st m)
   opens_at n slots id i g x st m is at_rest book tells =
-      subst (λ (p : Sat D). Allows (K n) slots id p i g (opens conditions mesa st p)) (sym is)
-      (opens_ok n slots id i g x st (Stands-opened rest ready n conditions mesa x.state at_rest) book tells)
+      subst (λ (p : Sat D). Allows (K n) slots id p i g (opens kinds st p)) (sym is)
+      (opens_ok n slots id i g x st (Stands-opened rest ready (sizes_at kinds n) x.state at_rest) book tells)
 
   -- what a seat knows agrees with the log, and no place stands there twice
   abbrev Fits : ℕ → History D → (ℕ → ℕ) → Tickets → ℕ → View D → Type 0
@@ -460,9 +455,7 @@ module _ {D : Type 0} (Starts : Bool → List ℕ → Type 0) (Tells : History D
     owner = owner';
     tickets = r.tickets;
     one_slot = r.one_slot;
-    places = r.places;
-    conditions_are = r.conditions_are;
-    mesa_are = r.mesa_are;
+    sized = r.sized;
     fronts = λ j v got. (fit j v got).0;
     apart = λ j v got. (fit j v got).1;
     stands = r.stands;

@@ -2,6 +2,7 @@
 use Rattle.std.specs.Prelude.{◌≡◌, ◌⊎◌, ◌<◌, ℕ, zero, suc, true, List, [], ◌∷◌, All, slice_index}
 use Rattle.atomic_table.specs.Seated.{TableId}
 use Rattle.hoare_law.specs.declared.event.History.{History}
+use Rattle.hoare_law.specs.Sizes.{Kinds, sizes_at}
 use Rattle.hoare_law.specs.declared.turn.Turn.TheVariants.{Held}
 use Rattle.hoare_law.specs.Events.{own, latest_data}
 use Rattle.hoare_law.specs.Turns.{turn, outside}
@@ -59,32 +60,26 @@ module _ {D : Type 0} where
     pub begins : Begins o.front h
     pub own_are : own o.place h.events ≡ own o.place o.front.events
 
-  module _ (rest : Rest D) (ready : Ready D) (conditions mesa : ℕ) where
+  module _ (rest : Rest D) (ready : Ready D) (kinds : Kinds) where
     -- the place outside is of the door: what it knows is legal and lawful, and has it outside
     pub record IsOut (door : DoorId) (o : PlaceOut D) : Type 0 where
       pub of : o.table ≡ door.table
-      pub places : o.front.places ≡ door.places
+      pub sized : o.front.sizes ≡ sizes_at kinds door.places
       pub below : o.place < door.places
-      pub conditions_are : o.front.conditions ≡ conditions
-      pub mesa_are : o.front.mesa ≡ mesa
       pub stands : Stands rest ready o.front
       pub is_outside : outside o.place o.front.events ≡ true
 
     -- the same of a place inside
     pub record IsIn (door : DoorId) (i : PlaceIn D) : Type 0 where
       pub of : i.table ≡ door.table
-      pub places : i.front.places ≡ door.places
-      pub conditions_are : i.front.conditions ≡ conditions
-      pub mesa_are : i.front.mesa ≡ mesa
+      pub sized : i.front.sizes ≡ sizes_at kinds door.places
       pub stands : Stands rest ready i.front
       pub is_inside : turn i.front.events ≡ Held i.place
 
     -- one legal and lawful history of all places of the door ends with these data
     pub record Closes (door : DoorId) (os : List (PlaceOut D)) (s : D) : Type 0 where
       pub history : History D
-      pub places : history.places ≡ door.places
-      pub conditions_are : history.conditions ≡ conditions
-      pub mesa_are : history.mesa ≡ mesa
+      pub sized : history.sizes ≡ sizes_at kinds door.places
       pub stands : Stands rest ready history
       pub told : All (IsTold history) os
       pub latest : s ≡ latest_data history

@@ -4,6 +4,7 @@ use mathlib.Core.Option.{some, none}
 use lib.ListN.{get_elem?}
 use Rattle.atomic_table.specs.Table.{State}
 use Rattle.hoare_law.specs.declared.event.History.{History}
+use Rattle.hoare_law.specs.Sizes.{Kinds, sizes_at}
 use Rattle.hoare_law.specs.declared.turn.Turn.TheVariants.{Held}
 use Rattle.hoare_law.specs.Events.{own, latest_data}
 use Rattle.hoare_law.specs.Beside.Erasure.{erased}
@@ -41,16 +42,14 @@ module _ {D : Type 0} where
 
   -- Of the words: Starts is what they are before the door opens (and by then whether the first seat has the slot), Tells what
   -- they say of the log and the tickets of an open door
-  module _ (Starts : Bool → List ℕ → Type 0) (Tells : History D → Tickets → List ℕ → Type 0) (rest : Rest D) (ready : Ready D) (conditions mesa : ℕ) where
+  module _ (Starts : Bool → List ℕ → Type 0) (Tells : History D → Tickets → List ℕ → Type 0) (rest : Rest D) (ready : Ready D) (kinds : Kinds) where
     -- the door is open
     pub record Running (n : ℕ) (s : Cells D) : Type 0 where
       pub log : History D
       pub owner : ℕ → ℕ
       pub tickets : Tickets
       pub one_slot : length s.homes ≡ 1
-      pub places : log.places ≡ n
-      pub conditions_are : log.conditions ≡ conditions
-      pub mesa_are : log.mesa ≡ mesa
+      pub sized : log.sizes ≡ sizes_at kinds n
       -- 1. what each place knows is a beginning of the log, which has no other events of it
       pub fronts : (j : ℕ) (v : View D) → get_elem? s.views j ≡ some v → EachOf (Agrees n log owner tickets j) v
       -- and no seat has a place twice

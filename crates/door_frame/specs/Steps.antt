@@ -2,6 +2,7 @@
 use Rattle.std.specs.Prelude.{◌≡◌, ℕ, List, [], ◌∷◌, Option, Some, None}
 use Rattle.atomic_table.specs.Table.{Me, Step}
 use Rattle.hoare_law.specs.declared.event.Event.{Event}
+use Rattle.hoare_law.specs.Sizes.{Kinds, sizes_at}
 use Rattle.hoare_law.specs.declared.event.History.{History}
 use Rattle.hoare_law.specs.declared.event.Event.TheVariants.{Wait, Resume, Back}
 use Rattle.hoare_law.specs.declared.turn.Turn.TheVariants.{Held}
@@ -38,8 +39,8 @@ module _ {D : Type 0} where
   abbrev pub begins : Told D
   begins st m r m' = (n : ℕ) → m.0 ≡ Unopened n → m' ≡ (Opening n, (0, None) ∷ [])
 
-  abbrev pub opens : ℕ → ℕ → Told D
-  opens conditions mesa st m r m' = (n : ℕ) (x : Lodged D) → m ≡ (Opening n, (0, Some x) ∷ []) → m' ≡ (Places (all_know 0 n (opened n conditions mesa x.state)), [])
+  abbrev pub opens : Kinds → Told D
+  opens kinds st m r m' = (n : ℕ) (x : Lodged D) → m ≡ (Opening n, (0, Some x) ∷ []) → m' ≡ (Places (all_know 0 n (opened (sizes_at kinds n) x.state)), [])
 
   -- the event that the holder picked, of the data in the slot
   abbrev pub gives_as : (D → Event D) → Told D

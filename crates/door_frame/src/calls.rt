@@ -4,7 +4,7 @@ ghost use Rattle.hoare_law.specs.declared.event.History.{History};
 ghost use Rattle.hoare_law.specs.declared.event.Event.TheVariants as event;
 ghost use Rattle.hoare_law.specs.Events.{with_event};
 ghost use Rattle.hoare_law.specs.Growth.{AddsLast, AddsTwo, Broadcasts, Exits, Notifies, Signals};
-ghost use Rattle.hoare_law.specs.Sizes.{IsHoare, IsMesa};
+ghost use Rattle.hoare_law.specs.Sizes.{IsHoare, IsMesa, kinds_of};
 ghost use Rattle.hoare_law.specs.Priorities.{emptied, joined, priorities, taken};
 ghost use Rattle.door_frame.specs.Places.{IsOut, IsIn, Handed, place_in};
 ghost use Rattle.door_frame.specs.Steps.{Came, due};
@@ -73,8 +73,8 @@ pub fn enter<D: MonitorData, T: Turnstile<D>, R: Wait>(
     rt: &R,
     out: Outside<D>,
 ) -> Inside<D>
-    requires { IsOut D.rest D.ready D.CONDITIONS D.MESA (T.id door.now) out }
-    ensures of { IsIn D.rest D.ready D.CONDITIONS D.MESA (T.id door.now) result }
+    requires { IsOut D.rest D.ready (kinds_of D.CONDITIONS D.MESA) (T.id door.now) out }
+    ensures of { IsIn D.rest D.ready (kinds_of D.CONDITIONS D.MESA) (T.id door.now) result }
     ensures place { result.place ≡ out.place }
     ensures rest { D.rest result.state (priorities result.front.events) }
     ensures front { AddsLast out.front (event.Admit out.place result.state) result.front }
@@ -87,9 +87,9 @@ pub fn enter<D: MonitorData, T: Turnstile<D>, R: Wait>(
 /// `Monitor::leave`.
 #[inline]
 pub fn leave<D: MonitorData, T: Turnstile<D>>(door: &T, inside: Inside<D>) -> Outside<D>
-    requires of { IsIn D.rest D.ready D.CONDITIONS D.MESA (T.id door.now) inside }
+    requires of { IsIn D.rest D.ready (kinds_of D.CONDITIONS D.MESA) (T.id door.now) inside }
     requires rest { D.rest inside.state (priorities inside.front.events) }
-    ensures of { IsOut D.rest D.ready D.CONDITIONS D.MESA (T.id door.now) result }
+    ensures of { IsOut D.rest D.ready (kinds_of D.CONDITIONS D.MESA) (T.id door.now) result }
     ensures place { result.place ≡ inside.place }
     ensures front { result.front ≡ with_event inside.front (event.Leave inside.place inside.state) }
 {
@@ -112,11 +112,11 @@ pub fn wait<D: MonitorData, T: Turnstile<D>, R: Wait>(
     condition: usize,
     priority: u64,
 ) -> Inside<D>
-    requires of { IsIn D.rest D.ready D.CONDITIONS D.MESA (T.id door.now) inside }
+    requires of { IsIn D.rest D.ready (kinds_of D.CONDITIONS D.MESA) (T.id door.now) inside }
     requires in_range { condition < D.CONDITIONS }
     requires rest { D.rest inside.state
         (joined (priorities inside.front.events) condition priority) }
-    ensures of { IsIn D.rest D.ready D.CONDITIONS D.MESA (T.id door.now) result }
+    ensures of { IsIn D.rest D.ready (kinds_of D.CONDITIONS D.MESA) (T.id door.now) result }
     ensures place { result.place ≡ inside.place }
     ensures ready { IsHoare D.CONDITIONS D.MESA condition
         → D.ready condition priority result.state (priorities result.front.events) }
@@ -150,11 +150,11 @@ pub fn signal<D: MonitorData, T: Turnstile<D>, R: Wait>(
     inside: Inside<D>,
     condition: usize,
 ) -> (Inside<D>, bool)
-    requires of { IsIn D.rest D.ready D.CONDITIONS D.MESA (T.id door.now) inside }
+    requires of { IsIn D.rest D.ready (kinds_of D.CONDITIONS D.MESA) (T.id door.now) inside }
     requires hoare { IsHoare D.CONDITIONS D.MESA condition }
     requires ready { priorities inside.front.events condition ≢ []
         → Handed D.ready condition inside }
-    ensures of { IsIn D.rest D.ready D.CONDITIONS D.MESA (T.id door.now) result.0 }
+    ensures of { IsIn D.rest D.ready (kinds_of D.CONDITIONS D.MESA) (T.id door.now) result.0 }
     ensures place { result.0.place ≡ inside.place }
     ensures told { IsTrue result.1 ↔ (priorities inside.front.events condition ≢ []) }
     ensures rest { result.1 ≡ true → D.rest result.0.state (priorities result.0.front.events) }
@@ -183,13 +183,13 @@ pub fn signal_leave<D: MonitorData, T: Turnstile<D>>(
     inside: Inside<D>,
     condition: usize,
 ) -> (Outside<D>, bool)
-    requires of { IsIn D.rest D.ready D.CONDITIONS D.MESA (T.id door.now) inside }
+    requires of { IsIn D.rest D.ready (kinds_of D.CONDITIONS D.MESA) (T.id door.now) inside }
     requires hoare { IsHoare D.CONDITIONS D.MESA condition }
     requires ready { priorities inside.front.events condition ≢ []
         → Handed D.ready condition inside }
     requires rest { priorities inside.front.events condition ≡ []
         → D.rest inside.state (priorities inside.front.events) }
-    ensures of { IsOut D.rest D.ready D.CONDITIONS D.MESA (T.id door.now) result.0 }
+    ensures of { IsOut D.rest D.ready (kinds_of D.CONDITIONS D.MESA) (T.id door.now) result.0 }
     ensures place { result.0.place ≡ inside.place }
     ensures told { IsTrue result.1 ↔ (priorities inside.front.events condition ≢ []) }
     ensures front { Exits inside.place condition inside.state inside.front result.0.front result.1 }
@@ -214,9 +214,9 @@ pub fn notify<D: MonitorData, T: Turnstile<D>>(
     inside: &mut Inside<D>,
     condition: usize,
 ) -> bool
-    requires of { IsIn D.rest D.ready D.CONDITIONS D.MESA (T.id door.now) inside.old }
+    requires of { IsIn D.rest D.ready (kinds_of D.CONDITIONS D.MESA) (T.id door.now) inside.old }
     requires mesa { IsMesa D.CONDITIONS D.MESA condition }
-    ensures of { IsIn D.rest D.ready D.CONDITIONS D.MESA (T.id door.now) inside.new }
+    ensures of { IsIn D.rest D.ready (kinds_of D.CONDITIONS D.MESA) (T.id door.now) inside.new }
     ensures place { inside.new.place ≡ inside.old.place }
     ensures data { inside.new.state ≡ inside.old.state }
     ensures lists { priorities inside.new.front.events
@@ -246,9 +246,9 @@ pub fn broadcast<D: MonitorData, T: Turnstile<D>>(
     inside: &mut Inside<D>,
     condition: usize,
 ) -> usize
-    requires of { IsIn D.rest D.ready D.CONDITIONS D.MESA (T.id door.now) inside.old }
+    requires of { IsIn D.rest D.ready (kinds_of D.CONDITIONS D.MESA) (T.id door.now) inside.old }
     requires mesa { IsMesa D.CONDITIONS D.MESA condition }
-    ensures of { IsIn D.rest D.ready D.CONDITIONS D.MESA (T.id door.now) inside.new }
+    ensures of { IsIn D.rest D.ready (kinds_of D.CONDITIONS D.MESA) (T.id door.now) inside.new }
     ensures place { inside.new.place ≡ inside.old.place }
     ensures data { inside.new.state ≡ inside.old.state }
     ensures lists { priorities inside.new.front.events

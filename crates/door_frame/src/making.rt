@@ -1,6 +1,7 @@
 //! How a door is made, and taken apart.
 ghost use Rattle.std.specs.Prelude.{◌≡◌, ◌<◌, ◌≤◌, ℕ, List, [], false, length, vec_len, vec_capacity, IfOk, IfErr, All};
 ghost use Rattle.hoare_law.specs.declared.event.History.{History};
+ghost use Rattle.hoare_law.specs.Sizes.{kinds_of};
 ghost use Rattle.hoare_law.specs.Priorities.{nobody};
 ghost use Rattle.door_frame.specs.declared.view.View.TheVariants.{Unopened, Places};
 ghost use Rattle.door_frame.specs.Views.{all_know};
@@ -86,10 +87,10 @@ pub fn closed<D: MonitorData, K, W: Words<D, K>>(
 ) -> D
     requires table { (0 < table.shared.table_id.words) × (table.shared.table_id.slots ≡ 1)
         × (0 < W.places table.shared.key) }
-    requires of { All (IsOut D.rest D.ready D.CONDITIONS D.MESA
+    requires of { All (IsOut D.rest D.ready (kinds_of D.CONDITIONS D.MESA)
         (door_of table.shared.table_id (W.places table.shared.key))) outs.items }
     requires places { (k : ℕ) → k < W.places table.shared.key → HasPlace k outs.items }
-    ensures closes { Closes D.rest D.ready D.CONDITIONS D.MESA
+    ensures closes { Closes D.rest D.ready (kinds_of D.CONDITIONS D.MESA)
         (door_of table.shared.table_id (W.places table.shared.key)) outs.items result }
     ensures rest { D.rest result nobody }
 {

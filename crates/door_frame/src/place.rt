@@ -107,7 +107,7 @@ impl<D> Inside<D> {
 
     /// `Monitor::queue`.
     pub fn queue(&self, condition: usize) -> bool
-        requires { condition < self.now.front.conditions }
+        requires { condition < self.now.front.sizes.conditions }
         ensures lists { IsTrue result ↔ (priorities self.now.front.events condition ≢ []) }
         ensures front { IsTrue result ↔ (waiting condition self.now.front.events ≢ []) }
     {
@@ -116,7 +116,7 @@ impl<D> Inside<D> {
 
     /// `Monitor::first`.
     pub fn first(&self, condition: usize) -> Option<u64>
-        requires { condition < self.now.front.conditions }
+        requires { condition < self.now.front.sizes.conditions }
         ensures lists { MatchOption result (priorities self.now.front.events condition ≡ [])
             (λ p. (priorities self.now.front.events condition ≢ [])
             × (p ≡ slice_index (priorities self.now.front.events condition) 0)) }

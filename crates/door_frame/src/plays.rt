@@ -1,6 +1,7 @@
 //! What the steps tell that every door has.
 ghost use Rattle.door_frame.specs.Views.{places_behind, first_place, both_places, no_places};
 ghost use Rattle.door_frame.specs.Steps.{begins, opens, gives_as, notes_as, learns};
+ghost use Rattle.hoare_law.specs.Sizes.{kinds_of};
 
 use crate::parcel::Parcel;
 use crate::view::View;
@@ -22,7 +23,7 @@ impl<D> Play<Option<Parcel<D>>, View<D>> for Begin {
 pub struct Open;
 
 impl<D: MonitorData> Play<Option<Parcel<D>>, View<D>> for Open {
-    ghost then = { opens D.CONDITIONS D.MESA };
+    ghost then = { opens (kinds_of D.CONDITIONS D.MESA) };
 }
 
 /// The event of a step that gives the slot back, from the data in it. Each call picks it.

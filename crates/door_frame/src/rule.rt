@@ -1,6 +1,7 @@
 //! The rule of a door's table.
 ghost use Rattle.door_frame.specs.Rule.{Kept};
 ghost use Rattle.door_frame.specs.Views.{unopened};
+ghost use Rattle.hoare_law.specs.Sizes.{kinds_of};
 
 use crate::parcel::Parcel;
 use crate::view::View;
@@ -32,7 +33,7 @@ pub struct Rule<W> {
 
 impl<D: MonitorData, K, W: Words<D, K>> TableRule<Option<Parcel<D>>, View<D>, K> for Rule<W> {
     ghost holds = { λ key. Kept (W.starts key) (W.tells key)
-        D.rest D.ready D.CONDITIONS D.MESA (W.places key) };
+        D.rest D.ready (kinds_of D.CONDITIONS D.MESA) (W.places key) };
 
     ghost first = { λ key. unopened (W.places key) };
 }

@@ -16,3 +16,15 @@ IsHoare n m c = c + m < n
 -- c is a Mesa condition
 abbrev pub IsMesa : ℕ → ℕ → ℕ → Type 0
 IsMesa n m c = (c < n) × (n ≤ c + m)
+
+-- what the data say of the conditions: how many there are, and how many of them are Mesa conditions
+pub record Kinds : Type 0 where
+  pub conditions : ℕ
+  pub mesa : ℕ
+
+abbrev pub kinds_of : ℕ → ℕ → Kinds
+kinds_of conditions mesa = record { conditions = conditions; mesa = mesa }
+
+-- so the sizes at a number of places
+abbrev pub sizes_at : Kinds → ℕ → Sizes
+sizes_at kinds places = sizes_of kinds.conditions kinds.mesa places

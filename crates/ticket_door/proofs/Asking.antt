@@ -29,12 +29,12 @@ module _ {D : Type 0} where
   pub asking_by : (m : Sat D) (is : is_alone m.0 ≡ true) (k : ℕ) (f : History D) (x : ℕ) → IsAsking k f x m → IsAsking k (front_of m.0 is) (number_of m.0) m
   asking_by m is k f x e = e ∙ (λ i. (asking k (sym (asking_front m is k f x e) i) (sym (asking_number m k f x e) i), []))
 
-  module _ (rest : Rest D) (ready : Ready D) (conditions mesa : ℕ) where
-    pub asked_is : (d : TicketDoorId) (o : PlaceOut D) (a : PlaceAsked D) → IsOut rest ready conditions mesa d.door o → a.table ≡ d.door.table → a.place ≡ o.place → a.front ≡ o.front
+  module _ (rest : Rest D) (ready : Ready D) (kinds : Kinds) where
+    pub asked_is : (d : TicketDoorId) (o : PlaceOut D) (a : PlaceAsked D) → IsOut rest ready kinds d.door o → a.table ≡ d.door.table → a.place ≡ o.place → a.front ≡ o.front
         → a.ticket ≡ (d.first + a.number) % 2 ^ 64
-        → IsAsked rest ready conditions mesa d a
+        → IsAsked rest ready kinds d a
     asked_is d o a out of at front ticket = record {
-      out = subst (IsOut rest ready conditions mesa d.door) (λ i. record { table = (out.of ∙ sym of) i; place = sym at i; front = sym front i }) out;
+      out = subst (IsOut rest ready kinds d.door) (λ i. record { table = (out.of ∙ sym of) i; place = sym at i; front = sym front i }) out;
       ticket_is = ticket;
     }
 
@@ -51,17 +51,17 @@ module _ {D : Type 0} where
 
     -- what a place that asked finds inside, as its contract says it
     pub record CameIn (d : TicketDoorId) (a : PlaceAsked D) (i : PlaceIn D) : Type 0 where
-      pub of : IsIn rest ready conditions mesa d.door i
+      pub of : IsIn rest ready kinds d.door i
       pub place : i.place ≡ a.place
       pub rests : rest i.state (priorities i.front.events)
       pub front : AddsLast a.front (Admit a.place i.state) i.front
       pub in_turn : EntersBy d.first a.ticket i.front
 
     pub came_in : {d : TicketDoorId} {a b : PlaceAsked D} {i : PlaceIn D} {t : TableId} {x : Lodged D} {m : Sat D} → b ≡ a
-        → IsAsked rest ready conditions mesa d b → t ≡ b.table → (c : Came rest ready b.place b.front (Admit b.place) x None m)
+        → IsAsked rest ready kinds d b → t ≡ b.table → (c : Came rest ready b.place b.front (Admit b.place) x None m)
         → admissions c.log.events ≡ b.number → i ≡ place_in t b.place (with_event c.log (Admit b.place x.state)) x.state → CameIn d a i
     came_in {d = d} {b = b} {i = i} {t = t} {x = x} same asked table c counted is =
-        let e : Entered rest ready conditions mesa d.door (as_out b) i = entered (as_out b) t i asked.out table refl c is in
+        let e : Entered rest ready kinds d.door (as_out b) i = entered (as_out b) t i asked.out table refl c is in
         subst (λ (p : PlaceAsked D). CameIn d p i) same (record {
           of = e.of;
           place = e.place;

@@ -36,18 +36,18 @@ module _ {D : Type 0} where
   told_by h o k = record { begins = k.0; own_are = k.1 }
 
   -- the place that was o, and learnt h
-  pub record Learnt (rest : Rest D) (ready : Ready D) (conditions mesa : ℕ) (d : DoorId) (o : PlaceOut D) (h : History D) (r : PlaceOut D) : Type 0 where
-    pub of : IsOut rest ready conditions mesa d r
+  pub record Learnt (rest : Rest D) (ready : Ready D) (kinds : Kinds) (d : DoorId) (o : PlaceOut D) (h : History D) (r : PlaceOut D) : Type 0 where
+    pub of : IsOut rest ready kinds d r
     pub place : r.place ≡ o.place
     pub front : r.front ≡ h
 
   module _ (rest : Rest D) (ready : Ready D) where
-    pub out_as : (conditions mesa : ℕ) (d : DoorId) (o r : PlaceOut D) (t : TableId) (k : ℕ) (h : History D) → IsOut rest ready conditions mesa d o
+    pub out_as : (kinds : Kinds) (d : DoorId) (o r : PlaceOut D) (t : TableId) (k : ℕ) (h : History D) → IsOut rest ready kinds d o
         → Stands rest ready h → Known h (knows o.place o.front None) → t ≡ d.table → k ≡ o.place → r ≡ place_out t k h
-        → Learnt rest ready conditions mesa d o h r
+        → Learnt rest ready kinds d o h r
     out_as conditions mesa d o r t k h out stands known of place is =
-        subst (Learnt rest ready conditions mesa d o h) (sym (is ∙ (λ i. place_out t (place i) h)))
-        (record { of = told_out rest ready conditions mesa d t o h of out stands known.0 known.1; place = refl; front = refl })
+        subst (Learnt rest ready kinds d o h) (sym (is ∙ (λ i. place_out t (place i) h)))
+        (record { of = told_out rest ready kinds d t o h of out stands known.0 known.1; place = refl; front = refl })
 
     pub meets : (a b c d : PlaceOut D) (h : History D) {m : Sat D} → Learns rest ready h (both_of a b) m → c.front ≡ h → d.front ≡ h → Meets a b c d
     meets a b c d h l first second = record {

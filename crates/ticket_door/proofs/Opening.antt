@@ -21,7 +21,7 @@ use Rattle.ticket_door.specs.Rule.{Starts, Tells, next_at, serving_at, bell_at}
 
 module _ {D : Type 0} (first n : ℕ) where
   -- nobody asked and nobody is served
-  opened_tells : (conditions mesa : ℕ) (s : D) (ws : List ℕ) → Starts first n true ws → Tells first n (opened n conditions mesa s) (λ _. None) ws
+  opened_tells : (kinds : Kinds) (s : D) (ws : List ℕ) → Starts first n true ws → Tells first n (opened (sizes_at kinds n) s) (λ _. None) ws
   unfolding turn admissions urgent called
   opened_tells conditions mesa s ws st = record {
     words_are = st.words_are;
@@ -36,22 +36,22 @@ module _ {D : Type 0} (first n : ℕ) where
     bells = st.bells;
   }
 
-  module _ (rest : Rest D) (ready : Ready D) (conditions mesa : ℕ) where
+  module _ (rest : Rest D) (ready : Ready D) (kinds : Kinds) where
     begun : (ws : List ℕ) → Starts first n false ws → Starts first n true ws
     begun ws st = record { words_are = st.words_are; next = st.next; serving = st.serving; bells = st.bells }
 
     pub begins_at : (slots id : ℕ) (m : Sat D) → m ≡ (Unopened n, [])
-        → Allows (Kept (Starts first n) (Tells first n) rest ready conditions mesa n) slots id m serving_at (λ r. r) (begins (step slots serving_at 0 0 none) m)
+        → Allows (Kept (Starts first n) (Tells first n) rest ready kinds n) slots id m serving_at (λ r. r) (begins (step slots serving_at 0 0 none) m)
     begins_at slots id m is =
-        frame.begins_at (Starts first n) (Tells first n) rest ready conditions mesa n slots id serving_at (λ r. r) (step slots serving_at 0 0 none) m is
+        frame.begins_at (Starts first n) (Tells first n) rest ready kinds n slots id serving_at (λ r. r) (step slots serving_at 0 0 none) m is
         (λ ws st. subst (Starts first n true) (sym (set-get_or ws serving_at 0)) (begun ws st))
 
     pub opens_at : (slots id : ℕ) (x : Lodged D) (m : Sat D) → m ≡ (Opening n, (0, Some x) ∷ []) → rest x.state nobody
-        → IsOf x.book (opened n conditions mesa tt)
-        → Allows (Kept (Starts first n) (Tells first n) rest ready conditions mesa n) slots id m serving_at (λ r. r) (opens conditions mesa (step slots serving_at 0 0 none) m)
+        → IsOf x.book (opened (sizes_at kinds n) tt)
+        → Allows (Kept (Starts first n) (Tells first n) rest ready kinds n) slots id m serving_at (λ r. r) (opens kinds (step slots serving_at 0 0 none) m)
     opens_at slots id x m is at_rest book =
-        frame.opens_at (Starts first n) (Tells first n) rest ready conditions mesa n slots id serving_at (λ r. r) x (step slots serving_at 0 0 none) m is at_rest book
-        (λ ws st. subst (Tells first n (opened n conditions mesa x.state) (λ _. None)) (sym (set-get_or ws serving_at 0)) (opened_tells conditions mesa x.state ws st))
+        frame.opens_at (Starts first n) (Tells first n) rest ready kinds n slots id serving_at (λ r. r) x (step slots serving_at 0 0 none) m is at_rest book
+        (λ ws st. subst (Tells first n (opened (sizes_at kinds n) x.state) (λ _. None)) (sym (set-get_or ws serving_at 0)) (opened_tells conditions mesa x.state ws st))
 
 -- the words before the door opens
 pub started : (first n : ℕ) (ws : List ℕ) → first < 2 ^ 64 → ws ≡ set (set (replicate (8 * n + 16) 0) next_at first) serving_at first → Starts first n false ws

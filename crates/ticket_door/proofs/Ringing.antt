@@ -44,14 +44,14 @@ module _ {D : Type 0} (first n : ℕ) where
         (λ ne. get_or-set_other ws (bell_at k) (bell_at j) y 0 (λ eq. ne (omega (arith, eq))) ∙ t.bells j b ∙ sym (else_ j ne));
   }
 
-  module _ (rest : Rest D) (ready : Ready D) (conditions mesa : ℕ) where
+  module _ (rest : Rest D) (ready : Ready D) (kinds : Kinds) where
     abbrev K : Cells D → Type 0
-    K = Kept (Starts first n) (Tells first n) rest ready conditions mesa n
+    K = Kept (Starts first n) (Tells first n) rest ready kinds n
 
     -- who gives the monitor up where j is owed it rings j's bell
     pub gives_ring : (slots id k j : ℕ) (f : History D) (x : Lodged D) (event : D → Event D) (st : Step (Option (Lodged D))) → j < n → Gives rest ready event k f x (next.For j)
         → Allows K slots id (alone k f, (0, Some x) ∷ []) (bell_at j) (λ _. 1) (gives_as event st (alone k f, (0, Some x) ∷ []))
-    gives_ring slots id k j f x event st small p = frame.gives_ok (Starts first n) (Tells first n) rest ready conditions mesa n slots id k (bell_at j) (λ _. 1) f x (next.For j) event st p
+    gives_ring slots id k j f x event st small p = frame.gives_ok (Starts first n) (Tells first n) rest ready kinds n slots id k (bell_at j) (λ _. 1) f x (next.For j) event st p
         (λ tickets ws places below t. let h : History D = with_event f (event x.state) in let r = rings_due j (turn h.events) (for_next (turn h.events) j (sym p.next_is)) in
         rewritten f h tickets ws j 1 small (ap taken p.inside) r.busy (admissions-other f (event x.state) (no_admit f (event x.state) p.allowed (held_busy k _ p.inside))) r.here
         (λ i ne. r.else_ i ne ∙ sym (ap (λ (u : Turn). rung u i) p.inside)) t)
@@ -60,7 +60,7 @@ module _ {D : Type 0} (first n : ℕ) where
     hears_ok slots id k f st = frame.told_as K slots id (alone k f, []) (bell_at k) (λ _. 0) _ (hears rest ready st (alone k f, []))
         (λ r m c j g is. let q = frame.alone_is k j f g [] [] is in
         subst (λ (p : ℕ × History D). HearsAt rest ready p.0 p.1 (alone k f, []) r m) (λ i. (q.0 i, q.1 i)) c)
-        (frame.comes_ok (Starts first n) (Tells first n) rest ready conditions mesa n slots id k (bell_at k) f None (due k f) (λ _. 0) (λ r. r ≡ 1) (λ log. Unit {0})
+        (frame.comes_ok (Starts first n) (Tells first n) rest ready kinds n slots id k (bell_at k) f None (due k f) (λ _. 0) (λ r. r ≡ 1) (λ log. Unit {0})
         (λ r. ℕ_discrete r 1)
         (λ log tickets ws small t miss. let b = t.bells k small in sym (b ∙ rung_else (turn log.events) k (λ one. miss (b ∙ one))))
         (λ log tickets ws stands places small same has t hit. let is = rung_due (turn log.events) k (sym (t.bells k small) ∙ hit) in let r = rings_due k (turn log.events) is in

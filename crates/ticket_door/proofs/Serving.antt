@@ -111,9 +111,9 @@ module _ {D : Type 0} (first n : ℕ) where
     bells = λ j b. t.bells j b ∙ ap (λ (u : Turn). rung u j) turns;
   }
 
-  module _ (rest : Rest D) (ready : Ready D) (conditions mesa : ℕ) where
+  module _ (rest : Rest D) (ready : Ready D) (kinds : Kinds) where
     abbrev K : Cells D → Type 0
-    K = Kept (Starts first n) (Tells first n) rest ready conditions mesa n
+    K = Kept (Starts first n) (Tells first n) rest ready kinds n
 
     abbrev Drawn : ℕ → History D → ℕ → Sat D → Type 0
     Drawn k f r m = (o : Option ℕ) × (m ≡ (sole k f o, [])) × ((x : ℕ) × (o ≡ Some x) × (r ≡ (first + x) % 2 ^ 64))
@@ -121,7 +121,7 @@ module _ {D : Type 0} (first n : ℕ) where
     pub asks_ok : (slots id k : ℕ) (f : History D) (st : Step (Option (Lodged D))) → Allows K slots id (alone k f, []) next_at (λ r. (r + 1) % 2 ^ 64) (asks first st (alone k f, []))
     asks_ok slots id k f st = frame.told_as K slots id (alone k f, []) next_at (λ r. (r + 1) % 2 ^ 64) _ (asks first st (alone k f, []))
         (λ r m (d : Drawn k f r m) j g is. let q = frame.alone_is k j f g [] [] is in (d.2.0, d.1 ∙ (λ i. (sole (q.0 i) (q.1 i) (d.2.1 i), [])), d.2.2))
-        (frame.draws_ok (Starts first n) (Tells first n) rest ready conditions mesa n slots id k next_at f None (λ r. (r + 1) % 2 ^ 64) (λ o r. (x : ℕ) × (o ≡ Some x) × (r ≡ (first + x) % 2 ^ 64))
+        (frame.draws_ok (Starts first n) (Tells first n) rest ready kinds n slots id k next_at f None (λ r. (r + 1) % 2 ^ 64) (λ o r. (x : ℕ) × (o ≡ Some x) × (r ≡ (first + x) % 2 ^ 64))
         (λ log tickets ws small none t. let x : ℕ = admissions log.events + length t.queue in (
           Some x,
           given_to tickets k (Some x),
@@ -132,7 +132,7 @@ module _ {D : Type 0} (first n : ℕ) where
         )))
 
     abbrev pub Admits : ℕ → ℕ → History D → Tickets → List ℕ → Type 0
-    Admits k x log tickets ws = frame.BringsIn (Starts first n) (Tells first n) rest ready conditions mesa k serving_at (λ r. r) (λ h. admissions h.events ≡ x) log tickets ws (Admit k (latest_data log))
+    Admits k x log tickets ws = frame.BringsIn (Starts first n) (Tells first n) rest ready kinds k serving_at (λ r. r) (λ h. admissions h.events ≡ x) log tickets ws (Admit k (latest_data log))
 
     brings : (k x : ℕ) (f log : History D) (tickets : Tickets) (ws : List ℕ) → n ≤ 64 → outside k f.events ≡ true → Stands rest ready log → log.places ≡ n → k < n
         → own k log.events ≡ own k f.events → tickets k ≡ Some x → Tells first n log tickets ws → get_or ws serving_at 0 ≡ (first + x) % 2 ^ 64 → Admits k x log tickets ws
@@ -160,7 +160,7 @@ module _ {D : Type 0} (first n : ℕ) where
     looks_ok slots id k x f st few out = frame.told_as K slots id (asking k f x, []) serving_at (λ r. r) _ (looks first rest ready st (asking k f x, []))
         (λ r m c j g y is. let q = frame.sole_is k j f g (Some x) (Some y) [] [] is in let same : x ≡ y = Some-injective x y q.2 in
         subst (λ (p : ℕ × (History D × ℕ)). LooksAt first rest ready p.0 p.1.0 p.1.1 (asking k f x, []) r m) (λ i. (q.0 i, (q.1 i, same i))) c)
-        (frame.comes_ok (Starts first n) (Tells first n) rest ready conditions mesa n slots id k serving_at f (Some x) (Admit k) (λ r. r) (λ r. r ≡ (first + x) % 2 ^ 64) (λ log. admissions log.events ≡ x)
+        (frame.comes_ok (Starts first n) (Tells first n) rest ready kinds n slots id k serving_at f (Some x) (Admit k) (λ r. r) (λ r. r ≡ (first + x) % 2 ^ 64) (λ log. admissions log.events ≡ x)
         (λ r. ℕ_discrete r ((first + x) % 2 ^ 64))
         (λ log tickets ws small t miss. refl)
         (λ log tickets ws stands places small same has t hit. brings k x f log tickets ws few out stands places small same has t hit))
@@ -178,7 +178,7 @@ module _ {D : Type 0} (first n : ℕ) where
     -- who gives the monitor up where nobody is owed it opens to the next
     pub gives_open : (slots id k : ℕ) (f : History D) (x : Lodged D) (event : D → Event D) (st : Step (Option (Lodged D))) → Gives rest ready event k f x next.Free
         → Allows K slots id (alone k f, (0, Some x) ∷ []) serving_at (λ r. (r + 1) % 2 ^ 64) (gives_as event st (alone k f, (0, Some x) ∷ []))
-    gives_open slots id k f x event st p = frame.gives_ok (Starts first n) (Tells first n) rest ready conditions mesa n slots id k serving_at (λ r. (r + 1) % 2 ^ 64) f x next.Free event st p
+    gives_open slots id k f x event st p = frame.gives_ok (Starts first n) (Tells first n) rest ready kinds n slots id k serving_at (λ r. (r + 1) % 2 ^ 64) f x next.Free event st p
         (λ tickets ws places small t. opened_gate f (event x.state) tickets ws k p.inside (free_next _ (sym p.next_is))
         (admissions-other f (event x.state) (no_admit f (event x.state) p.allowed (held_busy k _ p.inside))) t)
 
@@ -193,6 +193,6 @@ module _ {D : Type 0} (first n : ℕ) where
     pub notes_at : (slots id k : ℕ) (f : History D) (event : History D → Event D) (st : Step (Option (Lodged D))) (m : Sat D)
         → m ≡ (alone k f, (0, None) ∷ []) → Notes rest ready (event f) k f → Allows K slots id m serving_at (λ r. r) (notes_as event st m)
     notes_at slots id k f event st m is p =
-        frame.notes_at (Starts first n) (Tells first n) rest ready conditions mesa n slots id k serving_at f event st m is p
+        frame.notes_at (Starts first n) (Tells first n) rest ready kinds n slots id k serving_at f event st m is p
         (λ tickets ws t. stayed f (event f) tickets ws k p.inside p.stays
         (admissions-other f (event f) (no_admit f (event f) p.allowed (held_busy k _ p.inside))) t)

@@ -40,10 +40,10 @@ module _ {D : Type 0} where
   abbrev pub as_out : PlaceAsked D → PlaceOut D
   as_out a = place_out a.table a.place a.front
 
-  module _ (rest : Rest D) (ready : Ready D) (conditions mesa : ℕ) where
+  module _ (rest : Rest D) (ready : Ready D) (kinds : Kinds) where
     -- it is of the door and outside, and its ticket is of its number
     pub record IsAsked (d : TicketDoorId) (a : PlaceAsked D) : Type 0 where
-      pub out : IsOut rest ready conditions mesa d.door (as_out a)
+      pub out : IsOut rest ready kinds d.door (as_out a)
       pub ticket_is : a.ticket ≡ (d.first + a.number) % 2 ^ 64
 
   -- h ends with an admission, and it is the one that is due to the ticket: the i-th, counted from 0, has the ticket first + i

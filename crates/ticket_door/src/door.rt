@@ -69,14 +69,14 @@ impl<D: MonitorData + Send> TicketDoor<D> {
         places: usize,
     ) -> Result<(TicketDoor<D>, Vec<TicketOut<D>>), (D, MakeRefused)>
         requires rest { D.rest state nobody }
-        ensures made { IfOk result (λ r. (make_refusal places D.CONDITIONS D.MESA ≡ None)
+        ensures made { IfOk result (λ r. (make_refusal (sizes_of D.CONDITIONS D.MESA places) ≡ None)
             × (r.0.door.places ≡ places) × (r.0.first ≡ 0)) }
         ensures of { IfOk result (λ r. All (⟦<TicketDoor<D> as Monitor<D>>⟧.is_of r.0) r.1.items) }
         ensures places { IfOk result (λ r. r.1.items ≡ places_from r.0.door.table 0 places
-            (opened places D.CONDITIONS D.MESA state)) }
+            (opened (sizes_of D.CONDITIONS D.MESA places) state)) }
         ensures returned { IfErr result (λ e. e.0 ≡ state) }
-        ensures refused { IfErr result (λ e. (make_refusal places D.CONDITIONS D.MESA ≡ Some e.1)
-            ⊎ ((make_refusal places D.CONDITIONS D.MESA ≡ None) × (e.1 ≡ MakeRefused.Memory))) }
+        ensures refused { IfErr result (λ e. (make_refusal (sizes_of D.CONDITIONS D.MESA places) ≡ Some e.1)
+            ⊎ ((make_refusal (sizes_of D.CONDITIONS D.MESA places) ≡ None) × (e.1 ≡ MakeRefused.Memory))) }
     {
         laws::make_at(alloc, state, places, 0)
     }
@@ -87,7 +87,7 @@ impl<D: MonitorData + Send> TicketDoor<D> {
     pub fn close(self, outs: Vec<TicketOut<D>>) -> D
         requires of { All (⟦<TicketDoor<D> as Monitor<D>>⟧.is_of self) outs.items }
         requires places { (k : ℕ) → k < self.door.places → HasPlace k outs.items }
-        ensures closes { Closes D.rest D.ready D.CONDITIONS D.MESA self.door outs.items result }
+        ensures closes { Closes D.rest D.ready (kinds_of D.CONDITIONS D.MESA) self.door outs.items result }
         ensures rest { D.rest result nobody }
     {
         let TicketDoor { table, wakers: _ } = self;

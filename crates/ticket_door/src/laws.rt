@@ -39,11 +39,11 @@ fn open<D: MonitorData>(table: &TicketTable<D>, seat: &mut DoorSeat<D>, parcel: 
         × (0 < table.now.shared.table_id.words) }
     requires seat { seat.old.me ≡ (Unopened table.now.shared.key.places, []) }
     requires rest { D.rest parcel.state nobody }
-    requires book { IsOf parcel.book (opened table.now.shared.key.places D.CONDITIONS D.MESA tt) }
+    requires book { IsOf parcel.book (opened (sizes_of D.CONDITIONS D.MESA table.now.shared.key.places) tt) }
     ensures table { seat.new.table_id ≡ seat.old.table_id }
     ensures opened { seat.new.me ≡ (
       Places (all_know 0 table.now.shared.key.places
-          (opened table.now.shared.key.places D.CONDITIONS D.MESA parcel.state)),
+          (opened (sizes_of D.CONDITIONS D.MESA table.now.shared.key.places) parcel.state)),
       [],
     ) }
 {
@@ -60,14 +60,14 @@ pub fn make_at<D: MonitorData + Send>(
     first: u64,
 ) -> Result<(TicketDoor<D>, Vec<TicketOut<D>>), (D, MakeRefused)>
     requires rest { D.rest state nobody }
-    ensures made { IfOk result (λ r. (make_refusal places D.CONDITIONS D.MESA ≡ None)
+    ensures made { IfOk result (λ r. (make_refusal (sizes_of D.CONDITIONS D.MESA places) ≡ None)
         × (r.0.door.places ≡ places) × (r.0.first ≡ first)) }
     ensures of { IfOk result (λ r. All (⟦<TicketDoor<D> as Monitor<D>>⟧.is_of r.0) r.1.items) }
     ensures places { IfOk result (λ r. r.1.items ≡ places_from r.0.door.table 0 places
-        (opened places D.CONDITIONS D.MESA state)) }
+        (opened (sizes_of D.CONDITIONS D.MESA places) state)) }
     ensures returned { IfErr result (λ e. e.0 ≡ state) }
-    ensures refused { IfErr result (λ e. (make_refusal places D.CONDITIONS D.MESA ≡ Some e.1)
-        ⊎ ((make_refusal places D.CONDITIONS D.MESA ≡ None) × (e.1 ≡ MakeRefused.Memory))) }
+    ensures refused { IfErr result (λ e. (make_refusal (sizes_of D.CONDITIONS D.MESA places) ≡ Some e.1)
+        ⊎ ((make_refusal (sizes_of D.CONDITIONS D.MESA places) ≡ None) × (e.1 ≡ MakeRefused.Memory))) }
 {
     let book = match Book::make(alloc, places, D::CONDITIONS, D::MESA) {
         Ok(book) => book,

@@ -14,10 +14,10 @@ impl<D: MonitorData> TicketDoor<D> {
     /// Two places outside meet: afterwards both know one history, which begins with what each of them knew, and in which
     /// each did nothing that it doesn't know of. They come back in the order in which they were handed in.
     pub fn meet(&self, a: TicketOut<D>, b: TicketOut<D>) -> (TicketOut<D>, TicketOut<D>)
-        requires a { IsOut D.rest D.ready D.CONDITIONS D.MESA self.now.door a }
-        requires b { IsOut D.rest D.ready D.CONDITIONS D.MESA self.now.door b }
-        ensures a { IsOut D.rest D.ready D.CONDITIONS D.MESA self.now.door result.0 }
-        ensures b { IsOut D.rest D.ready D.CONDITIONS D.MESA self.now.door result.1 }
+        requires a { IsOut D.rest D.ready (kinds_of D.CONDITIONS D.MESA) self.now.door a }
+        requires b { IsOut D.rest D.ready (kinds_of D.CONDITIONS D.MESA) self.now.door b }
+        ensures a { IsOut D.rest D.ready (kinds_of D.CONDITIONS D.MESA) self.now.door result.0 }
+        ensures b { IsOut D.rest D.ready (kinds_of D.CONDITIONS D.MESA) self.now.door result.1 }
         ensures places { (result.0.place ≡ a.place) × (result.1.place ≡ b.place) }
         ensures met { Meets a b result.0 result.1 }
     {

@@ -85,8 +85,8 @@ impl<D: MonitorData> TicketDoor<D> {
 
     /// Draws a ticket. The place is let in by it with `come_in`.
     pub fn ask(&self, out: TicketOut<D>) -> Asked<D>
-        requires { IsOut D.rest D.ready D.CONDITIONS D.MESA self.now.door out }
-        ensures of { IsAsked D.rest D.ready D.CONDITIONS D.MESA self.now result }
+        requires { IsOut D.rest D.ready (kinds_of D.CONDITIONS D.MESA) self.now.door out }
+        ensures of { IsAsked D.rest D.ready (kinds_of D.CONDITIONS D.MESA) self.now result }
         ensures place { result.place ≡ out.place }
         ensures front { result.front ≡ out.front }
     {
@@ -102,8 +102,8 @@ impl<D: MonitorData> TicketDoor<D> {
 
     /// Comes in, once the ticket is served.
     pub fn come_in<R: Wait>(&self, rt: &R, asked: Asked<D>) -> TicketIn<D>
-        requires { IsAsked D.rest D.ready D.CONDITIONS D.MESA self.now asked }
-        ensures of { IsIn D.rest D.ready D.CONDITIONS D.MESA self.now.door result }
+        requires { IsAsked D.rest D.ready (kinds_of D.CONDITIONS D.MESA) self.now asked }
+        ensures of { IsIn D.rest D.ready (kinds_of D.CONDITIONS D.MESA) self.now.door result }
         ensures place { result.place ≡ asked.place }
         ensures rest { D.rest result.state (priorities result.front.events) }
         ensures front { AddsLast asked.front (event.Admit asked.place result.state) result.front }
@@ -121,9 +121,9 @@ impl<D: MonitorData> TicketDoor<D> {
 
     /// `leave`, which waits for nobody.
     pub fn give_up(&self, inside: TicketIn<D>) -> TicketOut<D>
-        requires of { IsIn D.rest D.ready D.CONDITIONS D.MESA self.now.door inside }
+        requires of { IsIn D.rest D.ready (kinds_of D.CONDITIONS D.MESA) self.now.door inside }
         requires rest { D.rest inside.state (priorities inside.front.events) }
-        ensures of { IsOut D.rest D.ready D.CONDITIONS D.MESA self.now.door result }
+        ensures of { IsOut D.rest D.ready (kinds_of D.CONDITIONS D.MESA) self.now.door result }
         ensures place { result.place ≡ inside.place }
         ensures front { result.front ≡ with_event inside.front
             (event.Leave inside.place inside.state) }
@@ -133,13 +133,13 @@ impl<D: MonitorData> TicketDoor<D> {
 
     /// `signal_leave`, which waits for nobody.
     pub fn hand_up(&self, inside: TicketIn<D>, condition: usize) -> (TicketOut<D>, bool)
-        requires of { IsIn D.rest D.ready D.CONDITIONS D.MESA self.now.door inside }
+        requires of { IsIn D.rest D.ready (kinds_of D.CONDITIONS D.MESA) self.now.door inside }
         requires hoare { IsHoare D.CONDITIONS D.MESA condition }
         requires ready { priorities inside.front.events condition ≢ []
             → Handed D.ready condition inside }
         requires rest { priorities inside.front.events condition ≡ []
             → D.rest inside.state (priorities inside.front.events) }
-        ensures of { IsOut D.rest D.ready D.CONDITIONS D.MESA self.now.door result.0 }
+        ensures of { IsOut D.rest D.ready (kinds_of D.CONDITIONS D.MESA) self.now.door result.0 }
         ensures place { result.0.place ≡ inside.place }
         ensures told { IsTrue result.1 ↔ (priorities inside.front.events condition ≢ []) }
         ensures front { Exits inside.place condition inside.state inside.front

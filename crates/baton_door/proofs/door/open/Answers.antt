@@ -6,7 +6,7 @@ use Rattle.baton_door.proofs.door.open.Goals as goal
 pub compare_exchange-requires : goal.compare_exchange-requires
 compare_exchange-requires g c =
     let D = g.D.MonitorData in
-    (search rules, search rules, begins_at D.rest D.ready D.CONDITIONS D.MESA _ _ _ _ c.requires.seat)
+    (search rules, search rules, begins_at D.rest D.ready (kinds_of D.CONDITIONS D.MESA) _ _ _ _ c.requires.seat)
 
 pub lay_parcel-requires-clause-empty : goal.lay_parcel-requires-clause-empty
 lay_parcel-requires-clause-empty g c = (_, c.compare_exchange.ensures.2 _ (ap (λ (m : Sat g.row.D.Denot). m.0) c.requires.seat))
@@ -16,7 +16,7 @@ store-requires g c =
     let D = g.D.MonitorData in
     let begun = c.compare_exchange.ensures.2 _ (ap (λ (m : Sat g.row.D.Denot). m.0) c.requires.seat) in
     let laid = c.lay_parcel.ensures.laid ∙ ap (λ (m : Sat g.row.D.Denot). (m.0, (0, Some c.args.parcel) ∷ [])) begun in
-    (search rules, search rules, opens_at D.rest D.ready D.CONDITIONS D.MESA _ _ _ c.args.parcel _ laid c.requires.rest c.requires.book)
+    (search rules, search rules, opens_at D.rest D.ready (kinds_of D.CONDITIONS D.MESA) _ _ _ c.args.parcel _ laid c.requires.rest c.requires.book)
 
 pub returns-clause-opened : goal.returns-clause-opened
 returns-clause-opened g c =

@@ -1,4 +1,5 @@
 use Rattle.std.proofs.Common.{ℕ, ◌<◌, ◌∙◌, subst}
+use Rattle.hoare_law.specs.declared.event.Sizes.{Sizes}
 use Rattle.hoare_law.specs.declared.event.Event.TheVariants.{Admit}
 use Rattle.hoare_law.specs.Beside.Erasure.{erased}
 use Rattle.hoare_law.proofs.Legal.{IsLegal-last}
@@ -18,7 +19,7 @@ pub admit-requires-clause-place : goal.admit-requires-clause-place
 admit-requires-clause-place g c =
     let D = g.D.MonitorData in
     let in_ = came_as (c.deref_mut.ensures.value ∙ c.parcel.view_is) c.requires.came.1 in
-    subst (λ (n : ℕ). c.args.place < n) in_.book.places (IsLegal-last in_.log _ in_.stands.legal).in_range
+    subst (λ (n : Sizes). c.args.place < n.places) in_.book.sizes (IsLegal-last in_.log _ in_.stands.legal).in_range.0
 
 pub admit-requires-clause-outside : goal.admit-requires-clause-outside
 admit-requires-clause-outside g c =

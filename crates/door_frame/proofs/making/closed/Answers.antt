@@ -6,6 +6,7 @@ use Rattle.door_frame.specs.Steps.{Sat}
 use Rattle.door_frame.specs.Views.{both_places}
 use Rattle.door_frame.proofs.Close.{All-mid, ends_all, ends_at, joins_one, known_to}
 use Rattle.door_frame.proofs.making.closed.Goals as goal
+use Rattle.hoare_law.specs.Sizes.{kinds_of}
 
 pub loop-out-init : goal.loop-out-init
 loop-out-init g c =
@@ -13,7 +14,7 @@ loop-out-init g c =
     let t = c.args.table.shared in
     let d : DoorId = record { table = t.table_id; places = g.W.Words.places t.key } in
     let o = c.in-Some.first in
-    let P = IsOut D.rest D.ready D.CONDITIONS D.MESA d in
+    let P = IsOut D.rest D.ready (kinds_of D.CONDITIONS D.MESA) d in
     let mine = All-mid P c.pop.new.self.items o [] (subst (All P) (c.in-Some.ensures.items ∙ sym (append-nil _)) c.requires.of) in
     (c.into_parts-seat.ensures.0 ∙ mine.of, (o ∷ [], c.in-Some.ensures.items, c.into_parts-seat.ensures.2))
 
@@ -26,7 +27,7 @@ join_seat-requires g c =
     let q = t.key in
     let d : DoorId = record { table = t.table_id; places = W.places q } in
     let o = c.in-Some-pop.out in
-    let P = IsOut D.rest D.ready D.CONDITIONS D.MESA d in
+    let P = IsOut D.rest D.ready (kinds_of D.CONDITIONS D.MESA) d in
     let left = c.pop-in-loop-out.new.self.items in
     let items : c.args.outs.items ≡ (left ++ o ∷ []) ++ inv.1.0 =
     inv.1.1 ∙ ap (λ (l : List (PlaceOut g.row.D.Denot)). l ++ inv.1.0) c.in-Some-pop.ensures.items in
@@ -35,7 +36,7 @@ join_seat-requires g c =
       c.into_parts-other.ensures.0 ∙ mine.of,
       ap (λ (m : Sat g.row.D.Denot). m.1) c.into_parts-other.ensures.2,
       search rules,
-      joins_one (W.starts q) (W.tells q) D.rest D.ready D.CONDITIONS D.MESA d _ _ _ _ inv.1.0 o.place o.front
+      joins_one (W.starts q) (W.tells q) D.rest D.ready (kinds_of D.CONDITIONS D.MESA) d _ _ _ _ inv.1.0 o.place o.front
           (ap (λ (m : Sat g.row.D.Denot). m.0) inv.1.2) (ap (λ (m : Sat g.row.D.Denot). m.0) c.into_parts-other.ensures.2),
     )
 
@@ -61,7 +62,7 @@ unwrap-parcel-requires g c =
     let t = c.args.table.shared in
     let W = g.W.Words in
     let d : DoorId = record { table = t.table_id; places = W.places t.key } in
-    let fin = ends_all (W.starts t.key) (W.tells t.key) D.rest D.ready D.CONDITIONS D.MESA d _ _ inv.1.0 inv.1.1 (none_left _ _ _ p.items p.cases.0 p.rest)
+    let fin = ends_all (W.starts t.key) (W.tells t.key) D.rest D.ready (kinds_of D.CONDITIONS D.MESA) d _ _ inv.1.0 inv.1.1 (none_left _ _ _ p.items p.cases.0 p.rest)
     (ap (λ (m : Sat g.row.D.Denot). m.0) inv.1.2) c.requires.of c.requires.places c.close_with-closed.ensures.values.2 c.take.ensures.value in
     subst IsSome (sym fin.1) refl
 
@@ -73,7 +74,7 @@ returns g c =
     let t = c.args.table.shared in
     let W = g.W.Words in
     let d : DoorId = record { table = t.table_id; places = W.places t.key } in
-    let fin = ends_all (W.starts t.key) (W.tells t.key) D.rest D.ready D.CONDITIONS D.MESA d _ _ inv.1.0 inv.1.1 (none_left _ _ _ p.items p.cases.0 p.rest)
+    let fin = ends_all (W.starts t.key) (W.tells t.key) D.rest D.ready (kinds_of D.CONDITIONS D.MESA) d _ _ inv.1.0 inv.1.1 (none_left _ _ _ p.items p.cases.0 p.rest)
     (ap (λ (m : Sat g.row.D.Denot). m.0) inv.1.2) c.requires.of c.requires.places c.close_with-closed.ensures.values.2 c.take.ensures.value in
-    let e = ends_at D.rest D.ready D.CONDITIONS D.MESA d fin.2 (sym fin.1 ∙ c.unwrap-parcel.ensures) (sym c.into_data.ensures) in
+    let e = ends_at D.rest D.ready (kinds_of D.CONDITIONS D.MESA) d fin.2 (sym fin.1 ∙ c.unwrap-parcel.ensures) (sym c.into_data.ensures) in
     record { closes = e.0; rest = e.1 }

@@ -21,8 +21,8 @@ returns-clause-of g c =
     let t = c.in-Ok-vacant.made.0.shared in
     let key = ap (λ (z : Sizes). z.places) made.table.2 in
     let s = c.in-Ok-vacant.made.2.state in
-    let h = opened t.key.places D.CONDITIONS D.MESA s in
+    let h = opened (sizes_of D.CONDITIONS D.MESA t.key.places) s in
     let d : DoorId = record { table = t.table_id; places = t.key.places } in
     let dealt = c.deal-outs.ensures h (c.open.ensures.opened ∙ ap (λ (n : ℕ). (Places (all_know 0 n h), [])) key) in
-    made_outside D.rest D.ready D.CONDITIONS D.MESA d s _ (dealt ∙ ap (λ (n : ℕ). places_from t.table_id 0 n h) (sym key))
+    made_outside D.rest D.ready (kinds_of D.CONDITIONS D.MESA) d s _ (dealt ∙ ap (λ (n : ℕ). places_from t.table_id 0 n h) (sym key))
     (subst (λ (r : g.row.D.Denot). D.rest r nobody) (sym made.parcel.0) c.requires.rest)

@@ -9,7 +9,7 @@ compare_exchange-requires g c =
     let D = g.D.MonitorData in
     let table = c.requires.table ∙ ap (λ (d : DoorId). d.table) (sym c.self.view_is) in
     let wide = c.self.invariant.words_are in
-    (table, omega (arith, wide), admits_at D.rest D.ready D.CONDITIONS D.MESA _ _ _ _ _ _ out.1.1 out.1.2)
+    (table, omega (arith, wide), admits_at D.rest D.ready (kinds_of D.CONDITIONS D.MESA) _ _ _ _ _ _ out.1.1 out.1.2)
 
 pub returns-clause-turned_away : goal.returns-clause-turned_away
 returns-clause-turned_away g c = λ no.

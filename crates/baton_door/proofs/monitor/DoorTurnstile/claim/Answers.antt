@@ -18,7 +18,7 @@ compare_exchange-requires g c =
     let wide = c.self.invariant.words_are in (
       table,
       omega (arith, wide),
-      claims_at D.rest D.ready D.CONDITIONS D.MESA _ _ _ c.args.place away.0 _ _ (c.loop.invariant.2 ∙ away.1) c.owed-mine.ensures,
+      claims_at D.rest D.ready (kinds_of D.CONDITIONS D.MESA) _ _ _ c.args.place away.0 _ _ (c.loop.invariant.2 ∙ away.1) c.owed-mine.ensures,
     )
 
 pub take_parcel-requires-clause-full : goal.take_parcel-requires-clause-full

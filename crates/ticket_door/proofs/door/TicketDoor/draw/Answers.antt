@@ -14,7 +14,7 @@ fetch_add-requires g c =
     let first = ap (λ (d : TicketDoorId). d.first) c.self.view_is ∙ c.requires.first in (
       c.requires.table ∙ ap (λ (d : TicketDoorId). d.door.table) (sym c.self.view_is),
       omega (arith, wide),
-      asks_at t.key.first t.key.places D.rest D.ready D.CONDITIONS D.MESA _ _ c.args.place away.0 (step t.table_id.slots 8 1 0 none) _ _ away.1 first,
+      asks_at t.key.first t.key.places D.rest D.ready (kinds_of D.CONDITIONS D.MESA) _ _ c.args.place away.0 (step t.table_id.slots 8 1 0 none) _ _ away.1 first,
     )
 
 pub returns-clause-drawn : goal.returns-clause-drawn

@@ -19,7 +19,7 @@ fetch_add-requires g c =
     let gives = subst (Gives D.rest D.ready g.J.PickedEvent.event c.args.place e.0 c.args.parcel) c.in-Free.is e.2 in (
       c.lay_parcel.ensures.table ∙ c.requires.table ∙ ap (λ (d : TicketDoorId). d.door.table) (sym c.self.view_is),
       omega (arith, wide),
-      gives_open_at t.key.first t.key.places D.rest D.ready D.CONDITIONS D.MESA _ _ c.args.place e.0 c.args.parcel g.J.PickedEvent.event
+      gives_open_at t.key.first t.key.places D.rest D.ready (kinds_of D.CONDITIONS D.MESA) _ _ c.args.place e.0 c.args.parcel g.J.PickedEvent.event
           (step t.table_id.slots 0 1 0 none) _ laid gives,
     )
 
@@ -44,7 +44,7 @@ store-requires g c =
     let gives = subst (Gives D.rest D.ready g.J.PickedEvent.event c.args.place e.0 c.args.parcel) c.in-For.is e.2 in (
       c.lay_parcel.ensures.table ∙ c.requires.table ∙ ap (λ (d : TicketDoorId). d.door.table) (sym c.self.view_is),
       omega (arith, wide, below, c.bell_of.ensures),
-      gives_ring_at t.key.first t.key.places D.rest D.ready D.CONDITIONS D.MESA _ _ c.args.place j e.0 c.args.parcel g.J.PickedEvent.event _
+      gives_ring_at t.key.first t.key.places D.rest D.ready (kinds_of D.CONDITIONS D.MESA) _ _ c.args.place j e.0 c.args.parcel g.J.PickedEvent.event _
           _ below laid gives c.bell_of.ensures,
     )
 

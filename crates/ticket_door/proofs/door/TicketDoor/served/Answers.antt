@@ -17,7 +17,7 @@ load-serving-requires g c =
     let first = ap (λ (d : TicketDoorId). d.first) c.self.view_is ∙ c.requires.first in (
       c.loop.invariant.1 ∙ c.requires.table ∙ ap (λ (d : TicketDoorId). d.door.table) (sym c.self.view_is),
       omega (arith, wide),
-      looks_at t.key.first t.key.places D.rest D.ready D.CONDITIONS D.MESA _ _ c.args.place a.1 a.0 (step t.table_id.slots 0 0 0 none) _ _
+      looks_at t.key.first t.key.places D.rest D.ready (kinds_of D.CONDITIONS D.MESA) _ _ c.args.place a.1 a.0 (step t.table_id.slots 0 0 0 none) _ _
           (c.loop.invariant.2 ∙ a.2) first c.self.invariant.most a.4,
     )
 

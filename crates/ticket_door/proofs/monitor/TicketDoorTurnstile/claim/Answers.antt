@@ -19,7 +19,7 @@ swap-requires g c =
     let wide = c.self.invariant.words_are in (
       c.loop.invariant.1 ∙ c.requires.table ∙ ap (λ (d : TicketDoorId). d.door.table) (sym c.self.view_is),
       omega (arith, small, wide, c.bell_of-bell.ensures),
-      hears_at t.key.first t.key.places D.rest D.ready D.CONDITIONS D.MESA _ _ c.args.place away.0 _ _ (c.loop.invariant.2 ∙ away.1) c.bell_of-bell.ensures,
+      hears_at t.key.first t.key.places D.rest D.ready (kinds_of D.CONDITIONS D.MESA) _ _ c.args.place away.0 _ _ (c.loop.invariant.2 ∙ away.1) c.bell_of-bell.ensures,
     )
 
 pub take_parcel-requires-clause-full : goal.take_parcel-requires-clause-full

@@ -6,6 +6,7 @@ use native.Mathlib.Decide.{ℕ_discrete}
 use prog.Atomic.{either}
 use Rattle.atomic_table.specs.Table.{step, Allows}
 use Rattle.hoare_law.specs.declared.event.Event.{Event}
+use Rattle.hoare_law.specs.Sizes.{Kinds, sizes_at}
 use Rattle.hoare_law.specs.declared.event.History.{History}
 use Rattle.hoare_law.specs.declared.event.Event.TheVariants.{Admit}
 use Rattle.hoare_law.specs.Events.{own, latest_data, opened, with_event}
@@ -51,7 +52,7 @@ module _ {D : Type 0} where
   -- and free where nothing happened yet
   opened_tells : (kinds : Kinds) (n : ℕ) (s : D) (ws : List ℕ) → Starts true ws → Tells (opened (sizes_at kinds n) s) (λ _. None) (set ws 0 0)
   unfolding turn urgent called
-  opened_tells n conditions mesa s ws b = record {
+  opened_tells kinds n s ws b = record {
     words_are = length-set ws 0 0 ∙ b.words_are;
     word = written ws 0 b.words_are;
     no_tickets = λ k. refl;
@@ -66,7 +67,7 @@ module _ {D : Type 0} where
     no_tickets = t.no_tickets;
   }
 
-  module _ (rest : Rest D) (ready : Ready D) (conditions mesa n : ℕ) where
+  module _ (rest : Rest D) (ready : Ready D) (kinds : Kinds) (n : ℕ) where
     abbrev K : Cells D → Type 0
     K = Kept Starts Tells rest ready kinds n
 
@@ -80,11 +81,11 @@ module _ {D : Type 0} where
         → Allows K slots id m 0 (λ _. 0) (λ _. opens kinds (step slots 0 0 0 none) m 0)
     opens_at slots id x m is at_rest book =
         frame.opens_at Starts Tells rest ready kinds n slots id 0 (λ _. 0) x (step slots 0 0 0 none) m is at_rest book
-        (λ ws b. opened_tells n conditions mesa x.state ws b)
+        (λ ws b. opened_tells kinds n x.state ws b)
 
     -- k comes in by the event where the word is as expected
     comes_at : (slots id k expected : ℕ) (f : History D) (event : ℕ → History D → D → Event D) (m : Sat D) → m ≡ (alone k f, [])
-        → ((log : History D) → Stands rest ready log → k < log.places → own k log.events ≡ own k f.events → word_of (turn log.events) ≡ expected
+        → ((log : History D) → Stands rest ready log → k < log.sizes.places → own k log.events ≡ own k f.events → word_of (turn log.events) ≡ expected
         → IsGivenUp (turn log.events) × frame.Enters rest ready k log (event k f (latest_data log)))
         → Allows K slots id m 0 (taken_at expected) (comes rest ready event (step slots 0 expected 1 none) m)
     comes_at slots id k expected f event m at enters =
@@ -99,7 +100,7 @@ module _ {D : Type 0} where
         me : Sat D
         me = (alone k f, [])
 
-        brings : (log : History D) (tickets : Tickets) (ws : List ℕ) → Stands rest ready log → log.places ≡ n → k < n
+        brings : (log : History D) (tickets : Tickets) (ws : List ℕ) → Stands rest ready log → log.sizes.places ≡ n → k < n
             → own k log.events ≡ own k f.events → tickets k ≡ None → Tells log tickets ws → get_or ws 0 0 ≡ expected
             → frame.BringsIn Starts Tells rest ready kinds k 0 (taken_at expected) (λ log. Unit {0}) log tickets ws (event k f (latest_data log))
         brings log tickets ws stands places small same no_ticket t hit =

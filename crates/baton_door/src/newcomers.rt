@@ -1,6 +1,7 @@
 //! How newcomers come in.
 ghost use Rattle.std.specs.Prelude.{◌≡◌, true, false, IfOk, IfErr};
 ghost use Rattle.hoare_law.specs.declared.event.Event.TheVariants as event;
+ghost use Rattle.hoare_law.specs.Sizes.{kinds_of};
 ghost use Rattle.hoare_law.specs.Growth.{AddsLast};
 ghost use Rattle.hoare_law.specs.Priorities.{priorities};
 ghost use Rattle.door_frame.specs.Places.{IsOut, IsIn};

@@ -13,7 +13,7 @@ use Rattle.disk_service.specs.Desks.{IsStaffed}
 module _ {D : Type 0} where
   -- all places of a door that was made
   pub all-first : (t : Terms D) (door : DoorId) (n : ℕ) (f : History D) (os : List (PlaceOut D))
-      → All (IsOut t.rest t.ready t.conditions t.mesa door) os → os ≡ places_from door.table 0 n f → AreFirst t door n os
+      → All (IsOut t.rest t.ready t.kinds door) os → os ≡ places_from door.table 0 n f → AreFirst t door n os
   all-first t door n f os of is =
       let count : length os ≡ n = ap length is ∙ length-places door.table 0 n f in
       record {

@@ -1,6 +1,7 @@
 -- The doors of the service, and whose places are where.
 use Rattle.std.specs.Prelude.{ℕ, ◌+◌, ◌<◌, ◌≡◌, List, length, slice_index_or, Option}
 use Rattle.hoare_law.specs.Lawful.{Rest, Ready}
+use Rattle.hoare_law.specs.Sizes.{Kinds, kinds_of}
 use Rattle.door_frame.specs.Places.{DoorId, PlaceOut, IsOut}
 use Rattle.plain_schedulers.specs.Buffers.{Buffered, BufferRests, BufferReady}
 use Rattle.plain_schedulers.specs.Singles.{SingleRests, SingleReady}
@@ -21,16 +22,15 @@ use Rattle.disk_service.specs.declared.places.Places.{Places}
 pub record Terms (D : Type 0) : Type 1 where
   pub rest : Rest D
   pub ready : Ready D
-  pub conditions : ℕ
-  pub mesa : ℕ
+  pub kinds : Kinds
 
 module _ {D : Type 0} where
-  abbrev pub terms : Rest D → Ready D → ℕ → ℕ → Terms D
-  terms rest ready n m = record { rest = rest; ready = ready; conditions = n; mesa = m }
+  abbrev pub terms : Rest D → Ready D → Kinds → Terms D
+  terms rest ready kinds = record { rest = rest; ready = ready; kinds = kinds }
 
   -- it is place k of the door, outside
   pub record IsAt (t : Terms D) (door : DoorId) (k : ℕ) (o : PlaceOut D) : Type 0 where
-    pub out : IsOut t.rest t.ready t.conditions t.mesa door o
+    pub out : IsOut t.rest t.ready t.kinds door o
     pub number : o.place ≡ k
 
   -- they are the first n places of the door, in order, outside
@@ -39,22 +39,22 @@ module _ {D : Type 0} where
     pub each : (k : ℕ) (d : PlaceOut D) → k < n → IsAt t door k (slice_index_or os k d)
 
 abbrev pub items_terms : Terms (Buffered Item)
-items_terms = terms (λ b q. BufferRests b (q 0) (q 1)) (λ c p b q. BufferReady c b (q 0) (q 1)) 2 0
+items_terms = terms (λ b q. BufferRests b (q 0) (q 1)) (λ c p b q. BufferReady c b (q 0) (q 1)) (kinds_of 2 0)
 
 abbrev pub clock_terms : Terms ℕ
-clock_terms = terms (λ a q. AlarmRests a (q 0)) (λ c p a q. AlarmReady p a (q 0)) 1 0
+clock_terms = terms (λ a q. AlarmRests a (q 0)) (λ c p a q. AlarmReady p a (q 0)) (kinds_of 1 0)
 
 abbrev pub pool_terms : Terms Pooled
-pool_terms = terms (λ p q. PoolRests p (q 0)) (λ c n p q. PoolReady p (q 0)) 1 0
+pool_terms = terms (λ p q. PoolRests p (q 0)) (λ c n p q. PoolReady p (q 0)) (kinds_of 1 0)
 
 abbrev pub head_terms : Terms (Disk Drive)
-head_terms = terms (λ d q. HeadRests d (q 0) (q 1)) (λ c p d q. HeadReady c p d (q 0) (q 1)) 2 0
+head_terms = terms (λ d q. HeadRests d (q 0) (q 1)) (λ c p d q. HeadReady c p d (q 0) (q 1)) (kinds_of 2 0)
 
 abbrev pub totals_terms : Terms (Option Totals)
-totals_terms = terms (λ s q. SingleRests s (q 0)) (λ c p s q. SingleReady s) 1 0
+totals_terms = terms (λ s q. SingleRests s (q 0)) (λ c p s q. SingleReady s) (kinds_of 1 0)
 
 abbrev pub board_terms : Terms (Shared Board)
-board_terms = terms (λ s q. ReadersRest s (q 0) (q 1)) (λ c p s q. ReadersReady c s) 2 0
+board_terms = terms (λ s q. ReadersRest s (q 0) (q 1)) (λ c p s q. ReadersReady c s) (kinds_of 2 0)
 
 -- each place of the seat is the door's that has the seat's number
 pub record IsSeat (d : Doors) (s : Seat) : Type 0 where

@@ -1,6 +1,7 @@
 //! One door of the service: how it is opened and closed.
 ghost use Rattle.std.specs.Prelude.{◌≡◌, IfOk, IfErr};
 ghost use Rattle.hoare_law.specs.Priorities.{nobody};
+ghost use Rattle.hoare_law.specs.Sizes.{kinds_of};
 ghost use Rattle.any_door.specs.Doors.{id_of, kind_behind};
 ghost use Rattle.disk_service.specs.Doors.{AreFirst, terms};
 ghost use Rattle.disk_service.specs.Made.{door_kind};

@@ -3,6 +3,7 @@ ghost use Rattle.std.specs.Prelude.{◌≡◌, ◌+◌, ◌<◌, ℕ, length, If
 ghost use Rattle.door_frame.specs.Places.{DoorId};
 ghost use Rattle.disk_service.specs.Doors.{AreFirst, AreThere, IsAt, IsSeat, terms};
 ghost use Rattle.disk_service.specs.declared.doors.Doors.{Doors};
+ghost use Rattle.hoare_law.specs.Sizes.{kinds_of};
 
 use crate::data::{Board, Drive, Item, Totals};
 use crate::seat::Seat;

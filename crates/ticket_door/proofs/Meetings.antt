@@ -2,6 +2,7 @@
 use Rattle.std.proofs.Common.{◌≡◌, ℕ, List, [], ◌∷◌, None, refl, sym, ap, ◌∙◌, subst}
 use Rattle.atomic_table.specs.Seated.{TableId}
 use Rattle.hoare_law.specs.declared.event.History.{History}
+use Rattle.hoare_law.specs.Sizes.{Kinds}
 use Rattle.hoare_law.specs.Lawful.{Rest, Ready, Stands}
 use Rattle.door_frame.specs.declared.view.Knowledge.{Knowledge}
 use Rattle.door_frame.specs.declared.view.View.TheVariants.{Places}
@@ -45,7 +46,7 @@ module _ {D : Type 0} where
     pub out_as : (kinds : Kinds) (d : DoorId) (o r : PlaceOut D) (t : TableId) (k : ℕ) (h : History D) → IsOut rest ready kinds d o
         → Stands rest ready h → Known h (knows o.place o.front None) → t ≡ d.table → k ≡ o.place → r ≡ place_out t k h
         → Learnt rest ready kinds d o h r
-    out_as conditions mesa d o r t k h out stands known of place is =
+    out_as kinds d o r t k h out stands known of place is =
         subst (Learnt rest ready kinds d o h) (sym (is ∙ (λ i. place_out t (place i) h)))
         (record { of = told_out rest ready kinds d t o h of out stands known.0 known.1; place = refl; front = refl })
 

@@ -6,6 +6,7 @@ use lib.Seq.{set-get_or}
 use Rattle.std.proofs.lemmas.List.{get_or-set_other, get_or-replicate, length-replicate}
 use Rattle.atomic_table.specs.Table.{step, Allows}
 use Rattle.hoare_law.specs.Admissions.{admissions}
+use Rattle.hoare_law.specs.Sizes.{Kinds, sizes_at}
 use Rattle.hoare_law.specs.Called.{called}
 use Rattle.hoare_law.specs.Events.{opened}
 use Rattle.hoare_law.specs.Lawful.{Rest, Ready}
@@ -23,7 +24,7 @@ module _ {D : Type 0} (first n : ℕ) where
   -- nobody asked and nobody is served
   opened_tells : (kinds : Kinds) (s : D) (ws : List ℕ) → Starts first n true ws → Tells first n (opened (sizes_at kinds n) s) (λ _. None) ws
   unfolding turn admissions urgent called
-  opened_tells conditions mesa s ws st = record {
+  opened_tells kinds s ws st = record {
     words_are = st.words_are;
     queue = [];
     once = λ k. omega arith;
@@ -51,7 +52,7 @@ module _ {D : Type 0} (first n : ℕ) where
         → Allows (Kept (Starts first n) (Tells first n) rest ready kinds n) slots id m serving_at (λ r. r) (opens kinds (step slots serving_at 0 0 none) m)
     opens_at slots id x m is at_rest book =
         frame.opens_at (Starts first n) (Tells first n) rest ready kinds n slots id serving_at (λ r. r) x (step slots serving_at 0 0 none) m is at_rest book
-        (λ ws st. subst (Tells first n (opened (sizes_at kinds n) x.state) (λ _. None)) (sym (set-get_or ws serving_at 0)) (opened_tells conditions mesa x.state ws st))
+        (λ ws st. subst (Tells first n (opened (sizes_at kinds n) x.state) (λ _. None)) (sym (set-get_or ws serving_at 0)) (opened_tells kinds x.state ws st))
 
 -- the words before the door opens
 pub started : (first n : ℕ) (ws : List ℕ) → first < 2 ^ 64 → ws ≡ set (set (replicate (8 * n + 16) 0) next_at first) serving_at first → Starts first n false ws

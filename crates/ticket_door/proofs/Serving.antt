@@ -7,6 +7,7 @@ use native.Mathlib.Decide.{ℕ_discrete}
 use lib.Seq.{set-get_or}
 use Rattle.atomic_table.specs.Table.{Step, Allows}
 use Rattle.hoare_law.specs.declared.event.Event.{Event}
+use Rattle.hoare_law.specs.Sizes.{Kinds}
 use Rattle.hoare_law.specs.declared.event.History.{History}
 use Rattle.hoare_law.specs.declared.event.Event.TheVariants.{Admit}
 use Rattle.hoare_law.specs.declared.turn.Turn.{Turn}
@@ -134,7 +135,7 @@ module _ {D : Type 0} (first n : ℕ) where
     abbrev pub Admits : ℕ → ℕ → History D → Tickets → List ℕ → Type 0
     Admits k x log tickets ws = frame.BringsIn (Starts first n) (Tells first n) rest ready kinds k serving_at (λ r. r) (λ h. admissions h.events ≡ x) log tickets ws (Admit k (latest_data log))
 
-    brings : (k x : ℕ) (f log : History D) (tickets : Tickets) (ws : List ℕ) → n ≤ 64 → outside k f.events ≡ true → Stands rest ready log → log.places ≡ n → k < n
+    brings : (k x : ℕ) (f log : History D) (tickets : Tickets) (ws : List ℕ) → n ≤ 64 → outside k f.events ≡ true → Stands rest ready log → log.sizes.places ≡ n → k < n
         → own k log.events ≡ own k f.events → tickets k ≡ Some x → Tells first n log tickets ws → get_or ws serving_at 0 ≡ (first + x) % 2 ^ 64 → Admits k x log tickets ws
     brings k x f log tickets ws few out stands places small same has t hit = let a : ℕ = admissions log.events in let r = ticket_range a t.queue k x (sym (t.tickets_are k) ∙ has) in let d = t.due in
         let most = few_once t.queue n t.once t.below in let le1 = taken_le (turn log.events) in

@@ -1,6 +1,7 @@
 //! The running door: how it is made and closed.
 ghost use Rattle.std.specs.Prelude.{◌≡◌, ◌<◌, ◌⊎◌, ℕ, IfOk, IfErr, None, Some, All};
 ghost use Rattle.hoare_law.specs.Events.{opened};
+ghost use Rattle.hoare_law.specs.Sizes.{kinds_of, sizes_of};
 ghost use Rattle.hoare_law.specs.Priorities.{nobody};
 ghost use Rattle.wait_book.specs.Contents.{make_refusal};
 ghost use Rattle.door_frame.specs.Places.{places_from, HasPlace, Closes};

@@ -1,6 +1,7 @@
 //! A door with another first ticket.
 ghost use Rattle.std.specs.Prelude.{◌≡◌, ◌≤◌, ◌<◌, ◌⊎◌, [], false, IfOk, IfErr, None, Some, All};
 ghost use Rattle.hoare_law.specs.Events.{opened};
+ghost use Rattle.hoare_law.specs.Sizes.{sizes_of};
 ghost use Rattle.hoare_law.specs.Priorities.{nobody};
 ghost use Rattle.wait_book.specs.Contents.{IsOf, make_refusal};
 ghost use Rattle.door_frame.specs.declared.view.View.TheVariants.{Unopened, Places};

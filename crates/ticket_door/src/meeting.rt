@@ -2,6 +2,7 @@
 ghost use Rattle.std.specs.Prelude.{◌≡◌};
 ghost use Rattle.door_frame.specs.Places.{IsOut};
 ghost use Rattle.ticket_door.specs.Meeting.{Meets};
+ghost use Rattle.hoare_law.specs.Sizes.{kinds_of};
 
 use crate::door::TicketDoor;
 use crate::place::TicketOut;

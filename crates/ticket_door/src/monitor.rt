@@ -90,6 +90,7 @@ impl<D: MonitorData> Turnstile<D> for TicketDoor<D> {
 impl<D: MonitorData + Send> Monitor<D> for TicketDoor<D> {
     ghost use Rattle.std.specs.Prelude.{◌≡◌, ◌≢◌, ◌<◌, ℕ, refl};
     ghost use Rattle.hoare_law.specs.Priorities.{priorities};
+    ghost use Rattle.hoare_law.specs.Sizes.{kinds_of};
     ghost use Rattle.hoare_law.proofs.Priorities.{IsNonDecreasing-priorities};
     ghost use Rattle.door_frame.specs.Places.{PlaceIn, IsOut, IsIn, with_state};
 
@@ -184,9 +185,9 @@ impl<D: MonitorData + Send> Monitor<D> for TicketDoor<D> {
         inside.first(condition)
     }
 
-    ghost stands = { λ m o h. (h.stands, ap (λ (n : Sizes). n.conditions) h.sized, ap (λ (n : Sizes). n.mesa) h.sized, h.is_outside) };
+    ghost stands = { λ m o h. (h.stands, λ j. (h.sized j).conditions, λ j. (h.sized j).mesa, h.is_outside) };
 
-    ghost stands_in = { λ m i h. (h.stands, ap (λ (n : Sizes). n.conditions) h.sized, ap (λ (n : Sizes). n.mesa) h.sized, h.is_inside) };
+    ghost stands_in = { λ m i h. (h.stands, λ j. (h.sized j).conditions, λ j. (h.sized j).mesa, h.is_inside) };
 
     ghost lists_are = { λ m i h. refl };
 

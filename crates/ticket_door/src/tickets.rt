@@ -4,7 +4,7 @@ ghost use Rattle.hoare_law.specs.Events.{with_event};
 ghost use Rattle.hoare_law.specs.declared.event.History.{History};
 ghost use Rattle.hoare_law.specs.declared.event.Event.TheVariants as event;
 ghost use Rattle.hoare_law.specs.Growth.{AddsLast, Exits};
-ghost use Rattle.hoare_law.specs.Sizes.{IsHoare};
+ghost use Rattle.hoare_law.specs.Sizes.{IsHoare, kinds_of};
 ghost use Rattle.hoare_law.specs.Priorities.{priorities};
 ghost use Rattle.hoare_law.specs.Turns.{outside};
 ghost use Rattle.door_frame.specs.Places.{IsOut, IsIn, Handed};

@@ -2,6 +2,7 @@ use Rattle.std.proofs.Common.{rules, [], ◌∷◌, Some, ap, ◌∙◌}
 use Rattle.door_frame.specs.Steps.{Sat}
 use Rattle.baton_door.proofs.Steps.{begins_at, opens_at}
 use Rattle.baton_door.proofs.door.open.Goals as goal
+use Rattle.hoare_law.specs.Sizes.{kinds_of}
 
 pub compare_exchange-requires : goal.compare_exchange-requires
 compare_exchange-requires g c =

@@ -2,6 +2,7 @@ use Rattle.std.proofs.Common.{rules, [], ◌∷◌, Some, ap, ◌∙◌}
 use Rattle.door_frame.specs.Steps.{Sat}
 use Rattle.ticket_door.proofs.Opening.{begins_at, opens_at}
 use Rattle.ticket_door.proofs.laws.open.Goals as goal
+use Rattle.hoare_law.specs.Sizes.{kinds_of}
 
 pub load-requires : goal.load-requires
 load-requires g c =

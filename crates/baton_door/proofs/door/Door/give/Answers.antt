@@ -3,6 +3,7 @@ use Rattle.door_frame.specs.Places.{DoorId}
 use Rattle.door_frame.specs.Steps.{Sat}
 use Rattle.baton_door.proofs.Steps.{gives_at}
 use Rattle.baton_door.proofs.door.Door.give.Goals as goal
+use Rattle.hoare_law.specs.Sizes.{kinds_of}
 
 pub store-requires : goal.store-requires
 store-requires g c =

@@ -1,5 +1,6 @@
 use Rattle.std.proofs.Common.{ℕ, ap, sym, ◌∙◌, [], subst}
 use Rattle.hoare_law.specs.Events.{opened}
+use Rattle.hoare_law.specs.Sizes.{kinds_of, sizes_of}
 use Rattle.hoare_law.specs.Priorities.{nobody}
 use Rattle.door_frame.specs.Places.{DoorId, places_from}
 use Rattle.door_frame.specs.declared.view.View.TheVariants.{Places}
@@ -10,7 +11,7 @@ use Rattle.baton_door.proofs.door.Door.make.Goals as goal
 pub deal-outs-requires-clause-seat : goal.deal-outs-requires-clause-seat
 deal-outs-requires-clause-seat g c =
     let key = c.in-Ok-vacant.ensures.table.2 in
-    let h = opened c.in-Ok-vacant.made.0.shared.key g.D.MonitorData.CONDITIONS g.D.MonitorData.MESA c.in-Ok-vacant.made.2.state in
+    let h = opened (sizes_of g.D.MonitorData.CONDITIONS g.D.MonitorData.MESA c.in-Ok-vacant.made.0.shared.key) c.in-Ok-vacant.made.2.state in
     (h, c.open.ensures.opened ∙ ap (λ (n : ℕ). (Places (all_know 0 n h), [])) key)
 
 pub returns-clause-of : goal.returns-clause-of

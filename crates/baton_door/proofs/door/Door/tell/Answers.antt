@@ -2,6 +2,7 @@ use Rattle.std.proofs.Common.{arith, sym, ap, ◌∙◌}
 use Rattle.door_frame.specs.Places.{DoorId}
 use Rattle.baton_door.proofs.Steps.{notes_at}
 use Rattle.baton_door.proofs.door.Door.tell.Goals as goal
+use Rattle.hoare_law.specs.Sizes.{kinds_of}
 
 pub load-requires : goal.load-requires
 load-requires g c =

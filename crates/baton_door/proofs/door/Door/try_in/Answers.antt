@@ -2,6 +2,7 @@ use Rattle.std.proofs.Common.{eqb-true, eq-eqb, true≢false, sym, ◌∙◌, ap
 use Rattle.door_frame.specs.Places.{DoorId}
 use Rattle.baton_door.proofs.Steps.{admits_at}
 use Rattle.baton_door.proofs.door.Door.try_in.Goals as goal
+use Rattle.hoare_law.specs.Sizes.{kinds_of}
 
 pub compare_exchange-requires : goal.compare_exchange-requires
 compare_exchange-requires g c =

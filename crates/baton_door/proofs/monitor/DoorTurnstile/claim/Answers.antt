@@ -3,6 +3,7 @@ use Rattle.door_frame.specs.Places.{DoorId}
 use Rattle.door_frame.proofs.Seats.{took}
 use Rattle.baton_door.proofs.Steps.{claims_at}
 use Rattle.baton_door.proofs.monitor.DoorTurnstile.claim.Goals as goal
+use Rattle.hoare_law.specs.Sizes.{kinds_of}
 
 pub owed-mine-requires : goal.owed-mine-requires
 owed-mine-requires g c =

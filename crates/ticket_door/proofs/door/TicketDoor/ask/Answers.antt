@@ -2,6 +2,7 @@ use Rattle.std.proofs.Common.{◌+◌, ◌%◌, ◌^◌, sym, ap, ◌∙◌}
 use Rattle.door_frame.proofs.Seats.{away_as}
 use Rattle.ticket_door.proofs.Asking.{asking_alone, asking_front, asking_number, asking_by, asked_is}
 use Rattle.ticket_door.proofs.door.TicketDoor.ask.Goals as goal
+use Rattle.hoare_law.specs.Sizes.{kinds_of}
 
 pub draw-ticket-requires-clause-away : goal.draw-ticket-requires-clause-away
 draw-ticket-requires-clause-away g c = let p = c.into_parts-seat.ensures in (c.args.out.front, away_as p.1 p.2)

@@ -3,6 +3,7 @@ use Rattle.door_frame.specs.Views.{front_of}
 use Rattle.ticket_door.specs.Asked.{IsAsked, number_of}
 use Rattle.ticket_door.proofs.Asking.{came_in}
 use Rattle.ticket_door.proofs.door.TicketDoor.come_in.Goals as goal
+use Rattle.hoare_law.specs.Sizes.{kinds_of}
 
 pub served-parcel-requires-clause-asked : goal.served-parcel-requires-clause-asked
 served-parcel-requires-clause-asked g c =

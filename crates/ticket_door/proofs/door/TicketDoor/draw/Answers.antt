@@ -4,6 +4,7 @@ use Rattle.atomic_table.specs.Table.{step}
 use Rattle.ticket_door.specs.Asked.{TicketDoorId}
 use Rattle.ticket_door.proofs.Serving.{asks_at}
 use Rattle.ticket_door.proofs.door.TicketDoor.draw.Goals as goal
+use Rattle.hoare_law.specs.Sizes.{kinds_of}
 
 pub fetch_add-requires : goal.fetch_add-requires
 fetch_add-requires g c =

@@ -8,6 +8,7 @@ use Rattle.ticket_door.specs.Asked.{TicketDoorId}
 use Rattle.ticket_door.proofs.Serving.{gives_open_at}
 use Rattle.ticket_door.proofs.Ringing.{gives_ring_at}
 use Rattle.ticket_door.proofs.door.TicketDoor.give.Goals as goal
+use Rattle.hoare_law.specs.Sizes.{kinds_of}
 
 pub fetch_add-requires : goal.fetch_add-requires
 fetch_add-requires g c =

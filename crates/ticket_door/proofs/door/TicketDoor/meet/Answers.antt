@@ -10,6 +10,7 @@ use Rattle.ticket_door.specs.Asked.{TicketDoorId}
 use Rattle.ticket_door.specs.Rule.{Starts, Tells}
 use Rattle.ticket_door.proofs.Meetings.{both_of, joined, out_as, meets, went_first, went_second}
 use Rattle.ticket_door.proofs.door.TicketDoor.meet.Goals as goal
+use Rattle.hoare_law.specs.Sizes.{kinds_of}
 
 pub join_seat-requires : goal.join_seat-requires
 join_seat-requires g c =

@@ -2,6 +2,7 @@ use Rattle.std.proofs.Common.{◌≡◌, ℕ, ◌+◌, ◌%◌, ◌^◌, ap, sym
 use mathlib.Core.Option.{none}
 use Rattle.atomic_table.specs.Table.{step}
 use Rattle.hoare_law.specs.Admissions.{admissions}
+use Rattle.hoare_law.specs.Sizes.{kinds_of}
 use Rattle.door_frame.proofs.Steps.{sole_is}
 use Rattle.door_frame.proofs.Seats.{took_also}
 use Rattle.ticket_door.specs.Asked.{TicketDoorId}

@@ -4,6 +4,7 @@ use Rattle.atomic_table.specs.Table.{step}
 use Rattle.ticket_door.specs.Asked.{TicketDoorId}
 use Rattle.ticket_door.proofs.Serving.{notes_at}
 use Rattle.ticket_door.proofs.door.TicketDoor.tell.Goals as goal
+use Rattle.hoare_law.specs.Sizes.{kinds_of}
 
 pub load-requires : goal.load-requires
 load-requires g c =

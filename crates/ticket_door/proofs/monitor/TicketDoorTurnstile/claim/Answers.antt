@@ -3,6 +3,7 @@ use Rattle.door_frame.proofs.Seats.{took}
 use Rattle.ticket_door.specs.Asked.{TicketDoorId}
 use Rattle.ticket_door.proofs.Ringing.{hears_at}
 use Rattle.ticket_door.proofs.monitor.TicketDoorTurnstile.claim.Goals as goal
+use Rattle.hoare_law.specs.Sizes.{kinds_of}
 
 pub bell_of-bell-requires : goal.bell_of-bell-requires
 bell_of-bell-requires g c =

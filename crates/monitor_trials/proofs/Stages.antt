@@ -61,9 +61,7 @@ module _ {S : Type 0} {rest : Rest S} {ready : Ready S} {n m : ℕ} where
   IsOutside-opened {s = s} rests = record {
     stage = record {
       stands = record { legal = IsLegal-none (opened n m s) refl; lawful = record { opens = rests; each = λ f later e is. absurd (nothing f later e is) } };
-      places_are = refl;
-      conditions_are = refl;
-      mesa_are = refl;
+      sized = refl;
       turn_is = refl;
       data_are = refl;
       waits_are = λ c. refl;
@@ -91,9 +89,7 @@ module _ {S : Type 0} {rest : Rest S} {ready : Ready S} {n m : ℕ} where
       called-push h.events e ∙ (λ i. filter (λ x. not (place_of e == place_of x)) (stage.called_are i) ++ calls_them i) in
       record {
         stands = Stands-push e stage.stands allowed owes;
-        places_are = stage.places_are;
-        conditions_are = stage.conditions_are;
-        mesa_are = stage.mesa_are;
+        sized = stage.sized;
         turn_is = turn-push h.events e ∙ (λ i. turn_by e (quiet i) (calling i));
         data_are = latest_data-push h e;
         waits_are = λ c. waiting-push c h.events e ∙ ap (λ l. filter (λ x. not (concerns c (place_of x) e)) l ++ cond (waits_on c e) (e ∷ []) []) (stage.waits_are c);
@@ -119,7 +115,7 @@ module _ {S : Type 0} {rest : Rest S} {ready : Ready S} {n m : ℕ} where
   IsInside-admit {s = s} {h = h} o = record {
     found = s;
     stage = Stage-push (Admit 0 s) [] o.stage
-        (record { in_range = rw o.stage.places_are (omega arith); fits = (o.stage.turn_is, o.stage.first_is, sym o.stage.data_are) }) tt refl refl;
+        (record { in_range = (rw o.stage.sized (omega arith), tt); fits = (o.stage.turn_is, o.stage.first_is, sym o.stage.data_are) }) tt refl refl;
   }
 
   -- place 0 goes out
@@ -128,7 +124,7 @@ module _ {S : Type 0} {rest : Rest S} {ready : Ready S} {n m : ℕ} where
   IsOutside-leave {s = s} {h = h} i rests =
       let none : priorities (h.events ++ Leave 0 s ∷ []) ≡ nobody = priorities-leave h.events 0 s i.stage.turn_is ∙ none_listed i.stage in
       record {
-        stage = Stage-push (Leave 0 s) [] i.stage (record { in_range = rw i.stage.places_are (omega arith); fits = i.stage.turn_is }) (rw none rests) refl refl;
+        stage = Stage-push (Leave 0 s) [] i.stage (record { in_range = (rw i.stage.sized (omega arith), tt); fits = i.stage.turn_is }) (rw none rests) refl refl;
         rests = rests;
       }
 
@@ -139,14 +135,14 @@ module _ {S : Type 0} {rest : Rest S} {ready : Ready S} {n m : ℕ} where
   Stage-wait {c = c} p {s = s} {h = h} i in_range rests =
       let lists : priorities (h.events ++ Wait 0 c p s ∷ []) ≡ joined nobody c p = priorities-wait h.events 0 c p s i.stage.turn_is ∙ ap (λ q. joined q c p) (none_listed i.stage) in
       Stage-push (Wait 0 c p s) [] i.stage
-      (record { in_range = (rw i.stage.places_are (omega arith), rw i.stage.conditions_are in_range); fits = i.stage.turn_is }) (rw lists rests) refl refl
+      (record { in_range = (rw i.stage.sized (omega arith), rw i.stage.sized in_range); fits = i.stage.turn_is }) (rw lists rests) refl refl
 
   -- place 1 comes in
   pub Stage-admit : {s : S} {waits : ℕ → List (Event S)} {a : Bool} {h : History S} → Stage rest ready n m Free s waits [] a true h
       → Stage rest ready n m (Held 1) s (still_wait waits (Admit 1 s)) [] a false (with_event h (Admit 1 s))
   unfolding Owes
   Stage-admit {s = s} stage = Stage-push (Admit 1 s) [] stage
-      (record { in_range = rw stage.places_are (omega arith); fits = (stage.turn_is, stage.second_is, sym stage.data_are) }) tt refl refl
+      (record { in_range = (rw stage.sized (omega arith), tt); fits = (stage.turn_is, stage.second_is, sym stage.data_are) }) tt refl refl
 
   -- place 1 passes to the only one that waits
   pub Stage-pass : {c p : ℕ} {s x s1 : S} {waits : ℕ → List (Event S)} {h : History S} → Stage rest ready n m (Held 1) s1 waits [] false false h → IsHoare n m c
@@ -160,8 +156,8 @@ module _ {S : Type 0} {rest : Rest S} {ready : Ready S} {n m : ℕ} where
       let first : chosen c h.events ≡ Some (Wait 0 c p x) = chosen-only c h.events (stage.waits_are c ∙ only) in
       Stage-waits none (Stage-push (Pass 1 c 0 s) [] stage (record {
         in_range =
-            (rw stage.places_are (omega arith), rw stage.conditions_are (omega (arith, hoare)), rw stage.places_are (omega arith));
-        fits = (stage.turn_is, rw first refl, rw (stage.conditions_are, stage.mesa_are) hoare);
+            (rw stage.sized (omega arith), (rw stage.sized (omega (arith, hoare)), rw stage.sized (omega arith)));
+        fits = (stage.turn_is, rw first refl, rw stage.sized hoare);
       })
       (rw (first, lists) is_ready) refl refl)
 
@@ -174,8 +170,8 @@ module _ {S : Type 0} {rest : Rest S} {ready : Ready S} {n m : ℕ} where
       let first : chosen c h.events ≡ Some (Wait 0 c p x) = chosen-only c h.events (stage.waits_are c ∙ only) in
       Stage-waits none (Stage-push (Notify 1 c 0 s) (Wait 0 c p x ∷ []) stage (record {
         in_range =
-            (rw stage.places_are (omega arith), rw stage.conditions_are mesa.0, rw stage.places_are (omega arith));
-        fits = (stage.turn_is, rw first refl, rw (stage.conditions_are, stage.mesa_are) mesa);
+            (rw stage.sized (omega arith), (rw stage.sized mesa.0, rw stage.sized (omega arith)));
+        fits = (stage.turn_is, rw first refl, rw stage.sized mesa);
       })
       tt refl (called_by-notify h.events 1 c (Wait 0 c p x) s first))
 
@@ -185,7 +181,7 @@ module _ {S : Type 0} {rest : Rest S} {ready : Ready S} {n m : ℕ} where
   unfolding Owes
   Stage-leave {s = s} {h = h} stage rests =
       let none : priorities (h.events ++ Leave 1 s ∷ []) ≡ nobody = priorities-leave h.events 1 s stage.turn_is ∙ none_listed stage in
-      Stage-push (Leave 1 s) [] stage (record { in_range = rw stage.places_are (omega arith); fits = stage.turn_is }) (rw none rests) refl refl
+      Stage-push (Leave 1 s) [] stage (record { in_range = (rw stage.sized (omega arith), tt); fits = stage.turn_is }) (rw none rests) refl refl
 
   -- place 0 goes on
   pub IsInside-resume : {c : ℕ} {s : S} {calls : List (Event S)} {h : History S} → Stage rest ready n m (Owed 0 c) s none_wait calls false true h → c < n
@@ -195,7 +191,7 @@ module _ {S : Type 0} {rest : Rest S} {ready : Ready S} {n m : ℕ} where
     found = s;
     stage = subst (λ (calls : List (Event S)). Stage rest ready n m (Held 0) s none_wait calls false true (with_event h (Resume 0 c s))) alone
         (Stage-push (Resume 0 c s) [] stage
-        (record { in_range = (rw stage.places_are (omega arith), rw stage.conditions_are in_range); fits = (stage.turn_is, sym stage.data_are) }) tt refl refl);
+        (record { in_range = (rw stage.sized (omega arith), rw stage.sized in_range); fits = (stage.turn_is, sym stage.data_are) }) tt refl refl);
   }
 
   -- place 0 is inside again after a wait and its answer

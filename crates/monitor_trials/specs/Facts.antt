@@ -12,13 +12,13 @@ use Rattle.monitor_trials.specs.Stage.{IsOutside, IsInside}
 module _ {S : Type 0} {rest : Rest S} {ready : Ready S} {n m : ℕ} where
   -- what place 0 knows outside
   pub outside_stands : {s : S} {h : History S} → IsOutside rest ready n m s h
-      → Stands rest ready h × (h.conditions ≡ n) × (h.mesa ≡ m) × (outside 0 h.events ≡ true)
-  outside_stands o = (o.stage.stands, o.stage.conditions_are, o.stage.mesa_are, o.stage.first_is)
+      → Stands rest ready h × (h.sizes.conditions ≡ n) × (h.sizes.mesa ≡ m) × (outside 0 h.events ≡ true)
+  outside_stands o = (o.stage.stands, λ j. (o.stage.sized j).conditions, λ j. (o.stage.sized j).mesa, o.stage.first_is)
 
   -- what it knows inside
   pub inside_stands : {h : History S} → IsInside rest ready n m h
-      → Stands rest ready h × (h.conditions ≡ n) × (h.mesa ≡ m) × (turn h.events ≡ Held 0)
-  inside_stands i = (i.stage.stands, i.stage.conditions_are, i.stage.mesa_are, i.stage.turn_is)
+      → Stands rest ready h × (h.sizes.conditions ≡ n) × (h.sizes.mesa ≡ m) × (turn h.events ≡ Held 0)
+  inside_stands i = (i.stage.stands, λ j. (i.stage.sized j).conditions, λ j. (i.stage.sized j).mesa, i.stage.turn_is)
 
   -- nobody waits by its front
   pub lists_are : {h : History S} → IsInside rest ready n m h → nobody ≡ priorities h.events

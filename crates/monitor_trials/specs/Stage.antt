@@ -8,6 +8,7 @@ use Rattle.hoare_law.specs.declared.event.Event.TheVariants.{Admit, Wait, Pass, 
 use Rattle.monitor_trials.specs.declared.steps.Deed.{Deed}
 use Rattle.monitor_trials.specs.declared.steps.Deed.TheVariants.{Enters, Waits, Passes, Calls, GoesOn, Leaves}
 use Rattle.hoare_law.specs.Events as law
+use Rattle.hoare_law.specs.Sizes.{sizes_of}
 use Rattle.hoare_law.specs.Events.{latest_data}
 use Rattle.hoare_law.specs.Waiting.{waiting}
 use Rattle.hoare_law.specs.Called.{called}
@@ -17,7 +18,7 @@ use Rattle.hoare_law.specs.Lawful.{Rest, Ready, Stands}
 
 -- nothing happened yet, at two places
 abbrev pub opened : {S : Type 0} → ℕ → ℕ → S → History S
-opened n m s = law.opened 2 n m s
+opened n m s = law.opened (sizes_of n m 2) s
 
 -- the event of what place k does, with the state that it found or left
 abbrev pub event_of : {S : Type 0} → ℕ → Deed → S → Event S
@@ -37,9 +38,7 @@ module _ {S : Type 0} (rest : Rest S) (ready : Ready S) (conditions mesa : ℕ) 
   -- are outside or not
   pub record Stage (now : Turn) (s : S) (waits : ℕ → List (Event S)) (calls : List (Event S)) (first second : Bool) (h : History S) : Type 0 where
     pub stands : Stands rest ready h
-    pub places_are : h.places ≡ 2
-    pub conditions_are : h.conditions ≡ conditions
-    pub mesa_are : h.mesa ≡ mesa
+    pub sized : h.sizes ≡ sizes_of conditions mesa 2
     pub turn_is : turn h.events ≡ now
     pub data_are : latest_data h ≡ s
     pub waits_are : (c : ℕ) → waiting c h.events ≡ waits c

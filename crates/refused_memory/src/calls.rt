@@ -85,7 +85,7 @@ fn does_service<R: Threads + Wait + Sync>(rt: &R, alloc: Global, name: &[u8]) ->
 }
 
 fn makes_book(alloc: Global) -> Answer {
-    match Book::make(alloc, 3, 2) {
+    match Book::make(alloc, 3, 2, 1) {
         Ok(_book) => Answer::Made,
         Err(refused) => Answer::memory_if(refused == MakeRefused::Memory),
     }

@@ -4,7 +4,7 @@ use Rattle.atomic_table.specs.Seated.{TableId}
 use Rattle.hoare_law.specs.declared.event.Sizes.{Sizes}
 use Rattle.hoare_law.specs.declared.event.Event.{Event}
 use Rattle.hoare_law.specs.declared.event.History.{History}
-use Rattle.hoare_law.specs.declared.event.Event.TheVariants.{Admit, Wait, Signal, Pass, Leave, Resume, Back, Notify, Broadcast}
+use Rattle.hoare_law.specs.declared.event.Event.TheVariants.{Admit, Wait, Signal, Resume, Back}
 use Rattle.hoare_law.specs.declared.turn.Turn.TheVariants.{Owed, Return}
 use Rattle.hoare_law.specs.Beside.Erasure.{erased}
 use Rattle.hoare_law.specs.Events.{place_of, own, newest, with_event}
@@ -26,7 +26,7 @@ use Rattle.wait_book.proofs.WithData.{IsOf-claim}
 use Rattle.door_frame.specs.declared.parcel.Lodged.{Lodged}
 use Rattle.door_frame.specs.Departures.{place_for}
 use Rattle.door_frame.specs.Places.{DoorId, IsIn, IsOut, PlaceIn, PlaceOut, place_in}
-use Rattle.door_frame.specs.Steps.{Sat, Came, due, due_by}
+use Rattle.door_frame.specs.Steps.{Sat, Came, awaited, due, due_by, due_from}
 use Rattle.door_frame.proofs.Departures.{Resumes, resumes_handing, chooses}
 use Rattle.door_frame.proofs.Inside.{Holds}
 
@@ -58,17 +58,9 @@ module _ {D : Type 0} where
     from_wait : (c : ℕ) → event ≡ (λ s. Resume k c s) → ComesBack k event
     from_signal : event ≡ (λ s. Back k s) → ComesBack k event
 
-  comes_back : (k : ℕ) (o : Option (Event D)) → ComesBack k (due_by k o)
+  comes_back : (k : ℕ) (o : Option ℕ) → ComesBack k (due_from k o)
   comes_back k None = from_signal refl
-  comes_back k (Some (Wait j c p x)) = from_wait c refl
-  comes_back k (Some (Admit j x)) = from_signal refl
-  comes_back k (Some (Signal j c w x)) = from_signal refl
-  comes_back k (Some (Pass j c w x)) = from_signal refl
-  comes_back k (Some (Leave j x)) = from_signal refl
-  comes_back k (Some (Resume j c x)) = from_signal refl
-  comes_back k (Some (Back j x)) = from_signal refl
-  comes_back k (Some (Notify j c w x)) = from_signal refl
-  comes_back k (Some (Broadcast j c x)) = from_signal refl
+  comes_back k (Some c) = from_wait c refl
 
   -- the book says that it is its turn, and is of the history afterwards
   pub record IsDue (k : ℕ) (h : History D) (event : D → Event D) (b : Contents) (s : D) : Type 0 where
@@ -84,7 +76,7 @@ module _ {D : Type 0} where
       (λ a. record { turn_is = ap next_of a.fits.0; settles = λ o. IsOf-claim b h (Return k) (Back k s) a.fits.0 refl o }) may
 
   pub is_due_by : (k : ℕ) (h f : History D) (b : Contents) (s : D) → Allowed h (due k f s) → IsDue k h (due k f) b s
-  is_due_by k h f b s may = is_due k h (due k f) b s (comes_back k (newest (own k f.events))) may
+  is_due_by k h f b s may = is_due k h (due k f) b s (comes_back k (awaited (newest (own k f.events)))) may
 
   -- by an event of its own a place is due as that event says: who waited is to be resumed, who signalled to return
   due_own : (f : History D) (k : ℕ) (e : Event D) (s : D) → place_of e ≡ k → due k (with_event f e) s ≡ due_by k (Some e) s

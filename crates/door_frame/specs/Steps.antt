@@ -28,10 +28,18 @@ abbrev pub Told : Type 0 → Type 1
 Told D = Step (Option (Lodged D)) → Sat D → ℕ → Sat D → Type 0
 
 module _ {D : Type 0} where
-  -- how a place comes back, by its own last event: from a wait, or else from a signal
+  -- the condition on which a place waits that did this last, if it does
+  abbrev pub awaited : Option (Event D) → Option ℕ
+  awaited (Some (Wait j c p x)) = Some c
+  awaited _ = None
+
+  -- how a place comes back: from its wait on a condition, or else from a signal
+  abbrev pub due_from : ℕ → Option ℕ → D → Event D
+  due_from k (Some c) s = Resume k c s
+  due_from k None s = Back k s
+
   abbrev pub due_by : ℕ → Option (Event D) → D → Event D
-  due_by k (Some (Wait j c p x)) s = Resume k c s
-  due_by k _ s = Back k s
+  due_by k o s = due_from k (awaited o) s
 
   abbrev pub due : ℕ → History D → D → Event D
   due k f s = due_by k (newest (own k f.events)) s

@@ -145,12 +145,7 @@ impl<T: Drop> MesaBuffer<T> {
     }
 
     /// Puts an item in, once there is room, and calls a process that waits for one.
-    pub fn append<R: Wait, M: Monitor<MesaBuffer<T>>>(
-        m: &M,
-        rt: &R,
-        out: M::Out,
-        item: T,
-    ) -> M::Out
+    pub fn append<R: Wait, M: Monitor<MesaBuffer<T>>>(m: &M, rt: &R, out: M::Out, item: T) -> M::Out
         requires { M.is_of m.now out }
         ensures of { M.is_of m.now result }
         ensures place { M.place result ≡ M.place out }

@@ -6,10 +6,10 @@ pub returns-clause-trace : goal.returns-clause-trace
 returns-clause-trace g c =
     let place = (g.met.M.Monitor.keeps_place _ _ ∙ c.come_to_room-inside.ensures.place) in
     let state = (g.met.M.Monitor.takes_data _ _ ∙ (rw c.state_mut.ensures.value at c.push.ensures.items)) in record {
-    found = g.M.Monitor.data_in c.come_to_room-inside.result;
-    front = g.M.Monitor.front_in c.come_to_room-inside.result;
-    comes = c.come_to_room-inside.ensures.comes;
-    room = c.come_to_room-inside.ensures.room;
-    tells = Tells-leave c.notify.ensures.front place state (g.met.M.Monitor.keeps_front _ _)
-        c.leave.ensures.front (c.notify.ensures.place ∙ place) (c.notify.ensures.data ∙ state);
-  }
+      found = g.M.Monitor.data_in c.come_to_room-inside.result;
+      front = g.M.Monitor.front_in c.come_to_room-inside.result;
+      comes = c.come_to_room-inside.ensures.comes;
+      room = c.come_to_room-inside.ensures.room;
+      tells = Tells-leave c.notify.ensures.front place state (g.met.M.Monitor.keeps_front _ _)
+          c.leave.ensures.front (c.notify.ensures.place ∙ place) (c.notify.ensures.data ∙ state);
+    }

@@ -1,5 +1,6 @@
 -- One event more, and how many were let in.
-use Rattle.std.proofs.Common.{◌≡◌, ℕ, ◌+◌, Bool, true, false, cond, List, [], ◌∷◌, ◌++◌, length, refl, ap, ◌∙◌, arith, length-append}
+use Rattle.std.proofs.Common.{◌≡◌, ℕ, ◌+◌, Bool, true, false, cond, List, [], ◌∷◌, ◌++◌, length, refl, ap, ◌∙◌, arith}
+use Rattle.std.proofs.Common.{length-append}
 use Rattle.std.specs.List.{filter}
 use Rattle.std.proofs.lemmas.List.Elements.{filter-append}
 use Rattle.hoare_law.specs.declared.event.Event.{Event}
@@ -12,14 +13,19 @@ counted : {S : Type 0} (e : Event S) (b : Bool) → is_admit e ≡ b → length 
 counted e true is = rw is refl
 counted e false is = rw is refl
 
-admissions-push : {S : Type 0} (h : List (Event S)) (e : Event S) (b : Bool) → is_admit e ≡ b → admissions (h ++ e ∷ []) ≡ admissions h + cond b 1 0
+admissions-push : {S : Type 0} (h : List (Event S)) (e : Event S) (b : Bool) → is_admit e ≡ b
+    → admissions (h ++ e ∷ []) ≡ admissions h + cond b 1 0
 unfolding admissions
-admissions-push h e b is = ap length (filter-append is_admit h (e ∷ [])) ∙ length-append (filter is_admit h) (filter is_admit (e ∷ [])) ∙ ap (λ n. length (filter is_admit h) + n) (counted e b is)
+admissions-push h e b is =
+    ap length (filter-append is_admit h (e ∷ [])) ∙ length-append (filter is_admit h) (filter is_admit (e ∷ []))
+    ∙ ap (λ n. length (filter is_admit h) + n) (counted e b is)
 
-pub admissions-admit : {S : Type 0} (h : History S) (k : ℕ) (s : S) → admissions (with_event h (Admit k s)).events ≡ admissions h.events + 1
+pub admissions-admit : {S : Type 0} (h : History S) (k : ℕ) (s : S)
+    → admissions (with_event h (Admit k s)).events ≡ admissions h.events + 1
 unfolding with_event
 admissions-admit h k s = admissions-push h.events (Admit k s) true refl
 
-pub admissions-other : {S : Type 0} (h : History S) (e : Event S) → is_admit e ≡ false → admissions (with_event h e).events ≡ admissions h.events
+pub admissions-other : {S : Type 0} (h : History S) (e : Event S) → is_admit e ≡ false
+    → admissions (with_event h e).events ≡ admissions h.events
 unfolding with_event
 admissions-other h e other = let p = admissions-push h.events e false other in omega (arith, p)

@@ -1,5 +1,6 @@
 -- A history in which everybody is outside: it is nobody's turn, nobody waits, and the data are at rest.
-use Rattle.std.proofs.Common.{◌≡◌, ◌≢◌, ℕ, ◌<◌, true, false, List, [], Option, Some, None, refl, ap, sym, ◌∙◌, subst, true≢false}
+use Rattle.std.proofs.Common.{◌≡◌, ◌≢◌, ℕ, ◌<◌, true, false, List, [], Option, Some, None, refl, ap, sym, ◌∙◌, subst}
+use Rattle.std.proofs.Common.{true≢false}
 use Rattle.hoare_law.specs.declared.event.Event.{Event}
 use Rattle.hoare_law.specs.declared.event.History.{History}
 use Rattle.hoare_law.specs.declared.event.Event.TheVariants.{Wait, Signal}
@@ -23,7 +24,8 @@ module _ {S : Type 0} where
   AllOutside h = (k : ℕ) → k < h.sizes.places → outside k h.events ≡ true
 
   -- a place whose last event isn't its going out is not outside
-  not_outside : (h : List (Event S)) (k : ℕ) (e : Event S) → newest (own k h) ≡ Some e → is_out (Some e) ≡ false → outside k h ≢ true
+  not_outside : (h : List (Event S)) (k : ℕ) (e : Event S) → newest (own k h) ≡ Some e → is_out (Some e) ≡ false
+      → outside k h ≢ true
   unfolding outside
   not_outside h k e last stays out = true≢false (sym out ∙ ap is_out last ∙ stays)
 
@@ -36,7 +38,8 @@ module _ {S : Type 0} where
       by (Owed k c) is = let last = own-owed h k c legal is in
           absurd (not_outside h.events k (Wait k c last.0 last.1) last.2 refl (out k (owed-in_range h k c legal is).0))
       by (Return k) is = let last = own-returning h.events k is in
-          absurd (not_outside h.events k (Signal k last.0 last.1 last.2) last.3 refl (out k (return-in_range h k legal is)))
+          absurd
+          (not_outside h.events k (Signal k last.0 last.1 last.2) last.3 refl (out k (return-in_range h k legal is)))
 
   pub waiting-ended : (h : History S) (c : ℕ) → IsLegal h → AllOutside h → waiting c h.events ≡ []
   waiting-ended h c legal out = waiting-unchosen c h.events (by (chosen c h.events) refl)
@@ -46,13 +49,15 @@ module _ {S : Type 0} where
       by (Some x) is =
           let w = chosen-waits c h.events x is in
           let here = (chosen-in_range c h x legal is).0 in
-          absurd (not_outside h.events (place_of x) x w.last (ap (λ y. is_out (Some y)) (waits_on-is c x w.on)) (out (place_of x) here))
+          absurd
+          (not_outside h.events (place_of x) x w.last (ap (λ y. is_out (Some y)) (waits_on-is c x w.on)) (out (place_of x) here))
 
   pub priorities-ended : (h : History S) → IsLegal h → AllOutside h → priorities h.events ≡ nobody
   priorities-ended h legal out = λ i c. priorities-nobody c h.events (waiting-ended h c legal out) i
 
   -- the data are at rest, with nobody waiting
-  pub rest-ended : (rest : Rest S) (ready : Ready S) (h : History S) → Stands rest ready h → AllOutside h → rest (latest_data h) nobody
+  pub rest-ended : (rest : Rest S) (ready : Ready S) (h : History S) → Stands rest ready h → AllOutside h
+      → rest (latest_data h) nobody
   rest-ended rest ready h stands out =
       subst (λ (q : ℕ → List ℕ). rest (latest_data h) q) (priorities-ended h stands.legal out)
       (rest-free h stands.lawful (turn-ended h stands.legal out))

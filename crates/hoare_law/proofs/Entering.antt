@@ -1,5 +1,6 @@
 -- A place comes in, from outside, from a wait or from a signal: its front, whose turn it is, and what it finds.
-use Rattle.std.proofs.Common.{◌≡◌, ◌==◌, not, ℕ, true, false, cond, List, [], ◌∷◌, ◌++◌, Some, refl, ap, sym, ◌∙◌, subst, eq-eqb}
+use Rattle.std.proofs.Common.{◌≡◌, ◌==◌, not, ℕ, true, false, cond, List, [], ◌∷◌, ◌++◌, Some, refl, ap, sym, ◌∙◌}
+use Rattle.std.proofs.Common.{subst, eq-eqb}
 use Rattle.std.specs.List.{list_all}
 use Rattle.hoare_law.specs.declared.event.Event.{Event}
 use Rattle.hoare_law.specs.declared.event.History.{History}
@@ -23,7 +24,8 @@ use Rattle.hoare_law.proofs.Priorities.{priorities-own, waiting-outside, waiting
 use Rattle.hoare_law.proofs.Owed.{waiting-owed}
 use Rattle.hoare_law.proofs.Turns.{turn-push}
 
-held_by : {S : Type 0} (a : After) (k : ℕ) (us : List ℕ) (ws : List (Event S)) → is_stay a ≡ true → turn_of a k us ws ≡ Held k
+held_by : {S : Type 0} (a : After) (k : ℕ) (us : List ℕ) (ws : List (Event S)) → is_stay a ≡ true
+    → turn_of a k us ws ≡ Held k
 held_by stays k us ws is = refl
 held_by frees k us ws is = absurd (cc)
 held_by (hands w c) k us ws is = absurd (cc)
@@ -46,13 +48,17 @@ module _ {S : Type 0} where
   ends_with h e = newest-push h.events e
 
   -- k is inside after an event that brings it in, and after a call of its own
-  pub turn-in : (h : History S) (k : ℕ) (e : Event S) → is_inside e ≡ true → place_of e ≡ k → turn (with_event h e).events ≡ Held k
+  pub turn-in : (h : History S) (k : ℕ) (e : Event S) → is_inside e ≡ true → place_of e ≡ k
+      → turn (with_event h e).events ≡ Held k
   unfolding with_event
   turn-in h k e inside mine =
-      turn-push h.events e ∙ held_by (after e) (place_of e) (urgent (h.events ++ e ∷ [])) (called (h.events ++ e ∷ [])) inside ∙ ap (λ i. Held i) mine
+      turn-push h.events e
+      ∙ held_by (after e) (place_of e) (urgent (h.events ++ e ∷ [])) (called (h.events ++ e ∷ [])) inside
+      ∙ ap (λ i. Held i) mine
 
   -- a place is outside in each history with the same own events of it
-  pub outside-same : (k : ℕ) (f h : History S) → own k h.events ≡ own k f.events → outside k f.events ≡ true → outside k h.events ≡ true
+  pub outside-same : (k : ℕ) (f h : History S) → own k h.events ≡ own k f.events → outside k f.events ≡ true
+      → outside k h.events ≡ true
   unfolding outside
   outside-same k f h same out = ap (λ l. is_out (newest l)) same ∙ out
 
@@ -62,7 +68,8 @@ module _ {S : Type 0} where
   sizes-with f h e n begins is = sym begins.sizes ∙ is
 
   -- k, which knew f, adds one event last
-  pub AddsLast-one : (k : ℕ) (f h : History S) (e : Event S) → place_of e ≡ k → Begins f h → own k h.events ≡ own k f.events
+  pub AddsLast-one : (k : ℕ) (f h : History S) (e : Event S) → place_of e ≡ k → Begins f h
+      → own k h.events ≡ own k f.events
       → AddsLast f e (with_event h e)
   AddsLast-one k f h e mine begins same = record {
     grows = adds_one (place_of e) f h e refl begins
@@ -71,10 +78,12 @@ module _ {S : Type 0} where
   }
 
   -- and after an event of its own another
-  pub AddsTwo-one : (k : ℕ) (f : History S) (d : Event S) (h : History S) (e : Event S) → place_of d ≡ k → place_of e ≡ k
+  pub AddsTwo-one : (k : ℕ) (f : History S) (d : Event S) (h : History S) (e : Event S) → place_of d ≡ k
+      → place_of e ≡ k
       → Begins (with_event f d) h → own k h.events ≡ own k (with_event f d).events → AddsTwo f d e (with_event h e)
   AddsTwo-one k f d h e first mine begins same =
-      let one : AddsLast (with_event f d) e (with_event h e) = AddsLast-one k (with_event f d) h e mine begins same in record {
+      let one : AddsLast (with_event f d) e (with_event h e) = AddsLast-one k (with_event f d) h e mine begins same in
+      record {
         grows = Grows-trans
             (subst (λ (j : ℕ). Grows j (d ∷ []) f (with_event f d)) (first ∙ sym mine) (Grows-one d f (with_event f d) refl))
             one.grows;
@@ -87,12 +96,15 @@ module _ {S : Type 0} where
     stood h e stands = Stands-front (Begins-push h e) stands
 
     -- who comes in finds the data and the priorities as they were left
-    finds : (asks : S → (ℕ → List ℕ) → Type 0) (h : History S) (e : Event S) → is_inside e ≡ true → ((d j : ℕ) → takes d j e ≡ false)
-        → ((d : ℕ) → list_all (λ x. not (place_of e == place_of x)) (waiting d h.events) ≡ true) → data_of e ≡ latest_data h
+    finds : (asks : S → (ℕ → List ℕ) → Type 0) (h : History S) (e : Event S) → is_inside e ≡ true
+        → ((d j : ℕ) → takes d j e ≡ false)
+        → ((d : ℕ) → list_all (λ x. not (place_of e == place_of x)) (waiting d h.events) ≡ true)
+        → data_of e ≡ latest_data h
         → asks (latest_data h) (priorities h.events) → asks (data_of e) (priorities (with_event h e).events)
     unfolding with_event
     finds asks h e inside alone apart same asked =
-        subst (asks (data_of e)) (sym (priorities-own h.events e (λ d j. concerns-own e d j (alone d j)) (λ d. in_not_waiting e d inside) apart))
+        subst (asks (data_of e))
+        (sym (priorities-own h.events e (λ d j. concerns-own e d j (alone d j)) (λ d. in_not_waiting e d inside) apart))
         (subst (λ (t : S). asks t (priorities h.events)) (sym same) asked)
 
     -- each kind what it is to find
@@ -111,8 +123,10 @@ module _ {S : Type 0} where
         (rest-return h k (stood h (Back k s) stands).lawful may.0)
 
     -- who waited on one of Hoare's conditions
-    pub finds-resume : (h f : History S) (k c p : ℕ) (s t : S) → own k h.events ≡ own k (with_event f (Wait k c p s)).events → IsHoare h.sizes.conditions h.sizes.mesa c
-        → Stands rest ready (with_event h (Resume k c t)) → ready c p t (priorities (with_event h (Resume k c t)).events)
+    pub finds-resume : (h f : History S) (k c p : ℕ) (s t : S)
+        → own k h.events ≡ own k (with_event f (Wait k c p s)).events → IsHoare h.sizes.conditions h.sizes.mesa c
+        → Stands rest ready (with_event h (Resume k c t))
+        → ready c p t (priorities (with_event h (Resume k c t)).events)
     unfolding with_event
     finds-resume h f k c p s t same hoare stands =
         let may = (IsLegal-last h (Resume k c t) stands.legal).fits in
@@ -122,9 +136,11 @@ module _ {S : Type 0} where
         (ap newest (same ∙ own-last k f.events (Wait k c p s) refl) ∙ newest-push (own k f.events) (Wait k c p s)))
 
     -- and who waited on a Mesa condition
-    pub finds-called : (h : History S) (k c : ℕ) (t : S) → IsMesa h.sizes.conditions h.sizes.mesa c → Stands rest ready (with_event h (Resume k c t))
+    pub finds-called : (h : History S) (k c : ℕ) (t : S) → IsMesa h.sizes.conditions h.sizes.mesa c
+        → Stands rest ready (with_event h (Resume k c t))
         → rest t (priorities (with_event h (Resume k c t)).events)
     finds-called h k c t mesa stands =
         let may = (IsLegal-last h (Resume k c t) stands.legal).fits in
         let before = stood h (Resume k c t) stands in
-        finds rest h (Resume k c t) refl (λ d j. refl) (λ d. waiting-owed h k c d before.legal may.0) may.1 (rest-owed h k c before mesa may.0)
+        finds rest h (Resume k c t) refl (λ d j. refl) (λ d. waiting-owed h k c d before.legal may.0) may.1
+        (rest-owed h k c before mesa may.0)

@@ -1,5 +1,6 @@
 -- Who waits, who is chosen, whose turn it is and who is outside do not depend on the data.
-use Rattle.std.proofs.Common.{◌≡◌, ◌==◌, ◌&&◌, ◌||◌, not, ℕ, List, [], ◌∷◌, ◌++◌, map, Bool, true, false, cond, leb, Option, Some, None, refl, ap, sym, ◌∙◌}
+use Rattle.std.proofs.Common.{◌≡◌, ◌==◌, ◌&&◌, ◌||◌, not, ℕ, List, [], ◌∷◌, ◌++◌, map, Bool, true, false, cond, leb}
+use Rattle.std.proofs.Common.{Option, Some, None, refl, ap, sym, ◌∙◌}
 use Rattle.std.specs.Option.{option_map}
 use Rattle.std.specs.List.{find, filter}
 use Rattle.std.proofs.lemmas.List.{map-append}
@@ -8,11 +9,14 @@ use Rattle.std.proofs.lemmas.List.Folds.{list_all-map}
 use Rattle.hoare_law.specs.declared.event.Event.{Event}
 use Rattle.hoare_law.specs.declared.event.History.{History}
 use Rattle.hoare_law.specs.declared.turn.Turn.TheVariants.{Owed}
-use Rattle.hoare_law.specs.declared.event.Event.TheVariants.{Admit, Wait, Signal, Pass, Leave, Resume, Back, Notify, Broadcast}
+use Rattle.hoare_law.specs.declared.event.Event.TheVariants.{Admit, Wait, Signal, Pass, Leave, Resume, Back, Notify}
+use Rattle.hoare_law.specs.declared.event.Event.TheVariants.{Broadcast}
 use Rattle.hoare_law.specs.Events.{place_of, own, newest, with_event}
-use Rattle.hoare_law.specs.Waiting.{filter_by_later, waits_on, priority_of, condition_of, takes, concerns, is_last_act, is_untouched, waiting, is_least, chosen}
+use Rattle.hoare_law.specs.Waiting.{filter_by_later, waits_on, priority_of, condition_of, takes, concerns, is_last_act}
+use Rattle.hoare_law.specs.Waiting.{is_untouched, waiting, is_least, chosen}
 use Rattle.hoare_law.specs.Called.{join_splits, called_by, called}
-use Rattle.hoare_law.specs.Turns.{After, stays, frees, hands, after, is_signal, urgent, turn, turn_of, turn_by, turn_given_up, turn_after, is_out, outside}
+use Rattle.hoare_law.specs.Turns.{After, stays, frees, hands, after, is_signal, urgent, turn, turn_of, turn_by}
+use Rattle.hoare_law.specs.Turns.{turn_given_up, turn_after, is_out, outside}
 use Rattle.hoare_law.specs.Priorities.{put_in, put_all, in_order, priorities}
 use Rattle.hoare_law.specs.Beside.Erasure.{without_data, all_without_data, erased}
 use Rattle.hoare_law.proofs.Turns.{filter-map}
@@ -25,18 +29,23 @@ newest-map f [] = refl
 newest-map f (x ∷ []) = refl
 newest-map f (x ∷ y ∷ xs) = newest-map f (y ∷ xs)
 
-find-map : {X Y : Type 0} (f : X → Y) (p : Y → Bool) (xs : List X) → find p (map f xs) ≡ option_map f (find (λ x. p (f x)) xs)
+find-map : {X Y : Type 0} (f : X → Y) (p : Y → Bool) (xs : List X)
+    → find p (map f xs) ≡ option_map f (find (λ x. p (f x)) xs)
 find-map f p [] = refl
 find-map f p (x ∷ xs) = by (p (f x)) (find-map f p xs)
   where
-    by : (t : Bool) → find p (map f xs) ≡ option_map f (find (λ y. p (f y)) xs) → cond t (Some (f x)) (find p (map f xs)) ≡ option_map f (cond t (Some x) (find (λ y. p (f y)) xs))
+    by : (t : Bool) → find p (map f xs) ≡ option_map f (find (λ y. p (f y)) xs)
+        → cond t (Some (f x)) (find p (map f xs)) ≡ option_map f (cond t (Some x) (find (λ y. p (f y)) xs))
     by true rest = refl
     by false rest = rest
 
 filter_by_later-map : {X Y : Type 0} (f : X → Y) (test : Y → List Y → Bool) (kept : X → List X → Bool) (xs : List X)
-    → ((x : X) (later : List X) → test (f x) (map f later) ≡ kept x later) → filter_by_later test (map f xs) ≡ map f (filter_by_later kept xs)
+    → ((x : X) (later : List X) → test (f x) (map f later) ≡ kept x later)
+    → filter_by_later test (map f xs) ≡ map f (filter_by_later kept xs)
 filter_by_later-map f test kept [] same = refl
-filter_by_later-map f test kept (x ∷ xs) same = ap (λ b. cond b (f x ∷ filter_by_later test (map f xs)) (filter_by_later test (map f xs))) (same x xs) ∙ by (kept x xs)
+filter_by_later-map f test kept (x ∷ xs) same =
+    ap (λ b. cond b (f x ∷ filter_by_later test (map f xs)) (filter_by_later test (map f xs))) (same x xs)
+    ∙ by (kept x xs)
     (filter_by_later-map f test kept xs same)
   where
     by : (t : Bool) → filter_by_later test (map f xs) ≡ map f (filter_by_later kept xs)
@@ -55,12 +64,14 @@ join_splits-map f g made makes before (x ∷ xs) same =
     (ap (λ b. join_splits made b (map f xs)) (sym (map-append f before (x ∷ []))) ∙ join_splits-map f g made makes (before ++ x ∷ []) xs same)
     ∙ sym (map-append g (makes before x xs) (join_splits makes (before ++ x ∷ []) xs))
 
-map-map_same : {X Y Z : Type 0} (f : X → Y) (g : Y → Z) (k : X → Z) (xs : List X) → ((x : X) → g (f x) ≡ k x) → map g (map f xs) ≡ map k xs
+map-map_same : {X Y Z : Type 0} (f : X → Y) (g : Y → Z) (k : X → Z) (xs : List X) → ((x : X) → g (f x) ≡ k x)
+    → map g (map f xs) ≡ map k xs
 map-map_same f g k [] same = refl
 map-map_same f g k (x ∷ xs) same = rw (same x, map-map_same f g k xs same) refl
 
 module _ {S : Type 0} where
-  -- what is read off an event but its data: place, priority and condition, whether it is a wait on c, whom it takes from those that
+  -- what is read off an event but its data: place, priority and condition, whether it is a wait on c, whom it takes
+  -- from those that
   -- wait, whether it is a signal, what it makes of the monitor, and whether its place is outside behind it
   abbrev SameParts : Event (Unit {0}) → Event S → Type 0
   SameParts d e =
@@ -96,8 +107,10 @@ module _ {S : Type 0} where
   given_up-erased [] (w ∷ ws) = λ i. Owed (place_of-erased w i) ((same_parts w).2 i)
   given_up-erased (u ∷ us) ws = refl
 
-  turn_by-erased : (e : Event S) (us : List ℕ) (ws : List (Event S)) → turn_by (without_data e) us (all_without_data ws) ≡ turn_by e us ws
-  turn_by-erased e us ws = (λ i. turn_of ((same_parts e).6 i) (place_of-erased e i) us (all_without_data ws)) ∙ by (after e)
+  turn_by-erased : (e : Event S) (us : List ℕ) (ws : List (Event S))
+      → turn_by (without_data e) us (all_without_data ws) ≡ turn_by e us ws
+  turn_by-erased e us ws =
+      (λ i. turn_of ((same_parts e).6 i) (place_of-erased e i) us (all_without_data ws)) ∙ by (after e)
     where
       by : (a : After) → turn_of a (place_of e) us (all_without_data ws) ≡ turn_of a (place_of e) us ws
       by stays = refl
@@ -108,15 +121,19 @@ module _ {S : Type 0} where
   is_out-erased None = refl
   is_out-erased (Some e) = (same_parts e).7
 
-  untouched-erased : (c : ℕ) (e : Event S) (later : List (Event S)) → is_untouched c (without_data e) (all_without_data later) ≡ is_untouched c e later
+  untouched-erased : (c : ℕ) (e : Event S) (later : List (Event S))
+      → is_untouched c (without_data e) (all_without_data later) ≡ is_untouched c e later
   untouched-erased c e later =
       list_all-map (λ x. not (concerns c (place_of (without_data e)) x)) without_data later
-      ∙ list_all-same _ (λ x. not (concerns c (place_of e) x)) later (λ x. ap not (ap (λ j. concerns c j (without_data x)) (place_of-erased e) ∙ concerns-erased c (place_of e) x))
+      ∙ list_all-same _ (λ x. not (concerns c (place_of e) x)) later
+      (λ x. ap not (ap (λ j. concerns c j (without_data x)) (place_of-erased e) ∙ concerns-erased c (place_of e) x))
 
-  last_act-erased : (e : Event S) (later : List (Event S)) → is_last_act (without_data e) (all_without_data later) ≡ is_last_act e later
+  last_act-erased : (e : Event S) (later : List (Event S))
+      → is_last_act (without_data e) (all_without_data later) ≡ is_last_act e later
   last_act-erased e later =
       list_all-map (λ x. not (place_of x == place_of (without_data e))) without_data later
-      ∙ list_all-same _ (λ x. not (place_of x == place_of e)) later (λ x. ap not ((λ i. place_of-erased x i == place_of-erased e i)))
+      ∙ list_all-same _ (λ x. not (place_of x == place_of e)) later
+      (λ x. ap not ((λ i. place_of-erased x i == place_of-erased e i)))
 
   -- the last event stays
   pub newest-erased : (h : List (Event S)) → newest (all_without_data h) ≡ option_map without_data (newest h)
@@ -124,41 +141,54 @@ module _ {S : Type 0} where
 
   -- the own events stay
   pub own-erased : (k : ℕ) (h : List (Event S)) → own k (all_without_data h) ≡ all_without_data (own k h)
-  own-erased k h = filter-map without_data (λ e. place_of e == k) h ∙ ap (map without_data) (filter_agree _ (λ e. place_of e == k) (λ e. ap (λ j. j == k) (place_of-erased e)) h)
+  own-erased k h =
+      filter-map without_data (λ e. place_of e == k) h
+      ∙ ap (map without_data) (filter_agree _ (λ e. place_of e == k) (λ e. ap (λ j. j == k) (place_of-erased e)) h)
 
   -- the same wait
   pub waiting-erased : (c : ℕ) (h : List (Event S)) → waiting c (all_without_data h) ≡ all_without_data (waiting c h)
   unfolding waiting
-  waiting-erased c h = filter_by_later-map without_data _ (λ e later. waits_on c e && is_untouched c e later) h (λ e later i. (same_parts e).3 c i && untouched-erased c e later i)
+  waiting-erased c h =
+      filter_by_later-map without_data _ (λ e later. waits_on c e && is_untouched c e later) h
+      (λ e later i. (same_parts e).3 c i && untouched-erased c e later i)
 
   -- the same signallers wait
   pub urgent-erased : (h : List (Event S)) → urgent (all_without_data h) ≡ urgent h
   unfolding urgent
   urgent-erased h =
-      ap (map place_of) (filter_by_later-map without_data _ (λ e later. is_signal e && is_last_act e later) h (λ e later i. (same_parts e).5 i && last_act-erased e later i))
+      ap (map place_of)
+      (filter_by_later-map without_data _ (λ e later. is_signal e && is_last_act e later) h (λ e later i. (same_parts e).5 i && last_act-erased e later i))
       ∙ map-map_same without_data place_of place_of _ place_of-erased
 
-  put_in-erased : (x : Event S) (xs : List (Event S)) → put_in priority_of (without_data x) (all_without_data xs) ≡ all_without_data (put_in priority_of x xs)
+  put_in-erased : (x : Event S) (xs : List (Event S))
+      → put_in priority_of (without_data x) (all_without_data xs) ≡ all_without_data (put_in priority_of x xs)
   put_in-erased x xs = put_in-map without_data priority_of x xs ∙ ap all_without_data (put_in-same xs)
     where
       put_in-same : (xs : List (Event S)) → put_in (λ y. priority_of (without_data y)) x xs ≡ put_in priority_of x xs
       put_in-same [] = refl
-      put_in-same (y ∷ ys) = (λ i. cond (leb (priority_of-erased y i) (priority_of-erased x i)) (y ∷ put_in-same ys i) (x ∷ y ∷ ys))
+      put_in-same (y ∷ ys) =
+          (λ i. cond (leb (priority_of-erased y i) (priority_of-erased x i)) (y ∷ put_in-same ys i) (x ∷ y ∷ ys))
 
-  put_all-erased : (placed xs : List (Event S)) → put_all priority_of (all_without_data placed) (all_without_data xs) ≡ all_without_data (put_all priority_of placed xs)
+  put_all-erased : (placed xs : List (Event S))
+      → put_all priority_of (all_without_data placed) (all_without_data xs) ≡ all_without_data (put_all priority_of placed xs)
   put_all-erased placed [] = refl
-  put_all-erased placed (x ∷ xs) = ap (λ l. put_all priority_of l (all_without_data xs)) (put_in-erased x placed) ∙ put_all-erased (put_in priority_of x placed) xs
+  put_all-erased placed (x ∷ xs) =
+      ap (λ l. put_all priority_of l (all_without_data xs)) (put_in-erased x placed)
+      ∙ put_all-erased (put_in priority_of x placed) xs
 
   -- the same in the same order
-  pub in_order-erased : (xs : List (Event S)) → in_order priority_of (all_without_data xs) ≡ all_without_data (in_order priority_of xs)
+  pub in_order-erased : (xs : List (Event S))
+      → in_order priority_of (all_without_data xs) ≡ all_without_data (in_order priority_of xs)
   in_order-erased xs = put_all-erased [] xs
 
   -- each event calls the same
-  called_by-erased : (f : List (Event S)) (e : Event S) → called_by (all_without_data f) (without_data e) ≡ all_without_data (called_by f e)
+  called_by-erased : (f : List (Event S)) (e : Event S)
+      → called_by (all_without_data f) (without_data e) ≡ all_without_data (called_by f e)
   called_by-erased f (Notify k c w s) =
       ap (filter (λ x. place_of x == w)) (waiting-erased c f)
       ∙ filter-map without_data (λ x. place_of x == w) (waiting c f)
-      ∙ ap (map without_data) (filter_agree _ (λ x. place_of x == w) (λ x. ap (λ j. j == w) (place_of-erased x)) (waiting c f))
+      ∙ ap (map without_data)
+      (filter_agree _ (λ x. place_of x == w) (λ x. ap (λ j. j == w) (place_of-erased x)) (waiting c f))
   called_by-erased f (Broadcast k c s) = ap (in_order priority_of) (waiting-erased c f) ∙ in_order-erased (waiting c f)
   called_by-erased f (Admit k s) = refl
   called_by-erased f (Wait k c p s) = refl
@@ -177,27 +207,36 @@ module _ {S : Type 0} where
       (λ before e later.
       ap (filter (λ x. is_last_act x (all_without_data later))) (called_by-erased before e)
       ∙ filter-map without_data (λ x. is_last_act x (all_without_data later)) (called_by before e)
-      ∙ ap (map without_data) (filter_agree _ (λ x. is_last_act x later) (λ x. last_act-erased x later) (called_by before e)))
+      ∙ ap (map without_data)
+      (filter_agree _ (λ x. is_last_act x later) (λ x. last_act-erased x later) (called_by before e)))
 
-  turn_after-erased : (o : Option (Event S)) (us : List ℕ) (ws : List (Event S)) → turn_after (option_map without_data o) us (all_without_data ws) ≡ turn_after o us ws
+  turn_after-erased : (o : Option (Event S)) (us : List ℕ) (ws : List (Event S))
+      → turn_after (option_map without_data o) us (all_without_data ws) ≡ turn_after o us ws
   turn_after-erased None us ws = refl
   turn_after-erased (Some e) us ws = turn_by-erased e us ws
 
   -- the turn is the same
   pub turn-erased : (h : List (Event S)) → turn (all_without_data h) ≡ turn h
   unfolding turn
-  turn-erased h = (λ i. turn_after (newest-erased h i) (urgent-erased h i) (called-erased h i)) ∙ turn_after-erased (newest h) (urgent h) (called h)
+  turn-erased h =
+      (λ i. turn_after (newest-erased h i) (urgent-erased h i) (called-erased h i))
+      ∙ turn_after-erased (newest h) (urgent h) (called h)
 
   -- the same are outside
   pub outside-erased : (k : ℕ) (h : List (Event S)) → outside k (all_without_data h) ≡ outside k h
   unfolding outside
-  outside-erased k h = ap (λ l. is_out (newest l)) (own-erased k h) ∙ ap is_out (newest-erased (own k h)) ∙ is_out-erased (newest (own k h))
+  outside-erased k h =
+      ap (λ l. is_out (newest l)) (own-erased k h) ∙ ap is_out (newest-erased (own k h))
+      ∙ is_out-erased (newest (own k h))
 
   least-erased : (ws : List (Event S)) (e : Event S) → is_least (all_without_data ws) (without_data e) ≡ is_least ws e
-  least-erased ws e = list_all-map _ without_data ws ∙ list_all-same _ _ ws (λ x i. leb (priority_of-erased e i) (priority_of-erased x i))
+  least-erased ws e =
+      list_all-map _ without_data ws
+      ∙ list_all-same _ _ ws (λ x i. leb (priority_of-erased e i) (priority_of-erased x i))
 
   -- the same is chosen
-  pub chosen-erased : (c : ℕ) (h : List (Event S)) → chosen c (all_without_data h) ≡ option_map without_data (chosen c h)
+  pub chosen-erased : (c : ℕ) (h : List (Event S))
+      → chosen c (all_without_data h) ≡ option_map without_data (chosen c h)
   unfolding chosen
   chosen-erased c h =
       ap (λ ws. find (is_least ws) ws) (waiting-erased c h)
@@ -219,4 +258,5 @@ module _ {S : Type 0} where
   -- one more event
   pub erased-push : (h : History S) (e : Event S) → erased (with_event h e) ≡ with_event (erased h) (without_data e)
   unfolding with_event
-  erased-push h e = ap (λ l. record { sizes = h.sizes; opening = tt; events = l }) (map-append without_data h.events (e ∷ []))
+  erased-push h e =
+      ap (λ l. record { sizes = h.sizes; opening = tt; events = l }) (map-append without_data h.events (e ∷ []))

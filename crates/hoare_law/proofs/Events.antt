@@ -15,7 +15,8 @@ pub latest_data-push : {S : Type 0} (h : History S) (e : Event S) → latest_dat
 unfolding latest_data with_event
 latest_data-push h e = ap (λ o. unwrap_or (option_map data_of o) h.opening) (newest-push h.events e)
 
-pub own-push : {S : Type 0} (k : ℕ) (h : List (Event S)) (e : Event S) → own k (h ++ e ∷ []) ≡ own k h ++ cond (place_of e == k) (e ∷ []) []
+pub own-push : {S : Type 0} (k : ℕ) (h : List (Event S)) (e : Event S)
+    → own k (h ++ e ∷ []) ≡ own k h ++ cond (place_of e == k) (e ∷ []) []
 own-push k h e = filter-append (λ x. place_of x == k) h (e ∷ [])
 
 -- no element stands in an empty list
@@ -24,7 +25,8 @@ none-split [] g x is = cc
 none-split (y ∷ f) g x is = cc
 
 -- where an element of a list with one more stands: it is the last, or stood before
-pub push-split : {X : Type 0} (h : List X) (e : X) (f g : List X) (x : X) → h ++ e ∷ [] ≡ f ++ x ∷ g → ((h ≡ f) × (e ≡ x) × (g ≡ [])) ⊎ ((l : List X) × (h ≡ f ++ x ∷ l) × (g ≡ l ++ e ∷ []))
+pub push-split : {X : Type 0} (h : List X) (e : X) (f g : List X) (x : X) → h ++ e ∷ [] ≡ f ++ x ∷ g
+    → ((h ≡ f) × (e ≡ x) × (g ≡ [])) ⊎ ((l : List X) × (h ≡ f ++ x ∷ l) × (g ≡ l ++ e ∷ []))
 push-split [] e [] g x is = inl (refl, cc, cc)
 push-split [] e (y ∷ []) g x is = cc
 push-split [] e (y ∷ z ∷ f) g x is = cc

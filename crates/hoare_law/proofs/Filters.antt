@@ -1,5 +1,6 @@
 -- Filters, what they keep, and the last element of a list.
-use Rattle.std.proofs.Common.{◌≡◌, ◌&&◌, ◌||◌, not, List, [], ◌∷◌, ◌++◌, map, Bool, true, false, cond, Some, refl, ap, sym, ◌∙◌, subst}
+use Rattle.std.proofs.Common.{◌≡◌, ◌&&◌, ◌||◌, not, List, [], ◌∷◌, ◌++◌, map, Bool, true, false, cond, Some, refl, ap}
+use Rattle.std.proofs.Common.{sym, ◌∙◌, subst}
 use Rattle.std.specs.Prelude.{All}
 use Rattle.std.specs.List.{filter, list_all, find}
 use Rattle.std.proofs.lemmas.Bool.{not-true}
@@ -26,7 +27,8 @@ has_last (x ∷ xs) = more_before x xs (has_last xs)
 pub newest-some : {X : Type 0} (xs : List X) (x : X) → newest xs ≡ Some x → (ys : List X) × (xs ≡ ys ++ x ∷ [])
 newest-some [] x is = absurd (cc)
 newest-some (y ∷ []) x is = ([], cc)
-newest-some (y ∷ z ∷ xs) x is = let r : (ys : List _) × (z ∷ xs ≡ ys ++ x ∷ []) = newest-some (z ∷ xs) x is in (y ∷ r.0, ap (λ l. y ∷ l) r.1)
+newest-some (y ∷ z ∷ xs) x is =
+    let r : (ys : List _) × (z ∷ xs ≡ ys ++ x ∷ []) = newest-some (z ∷ xs) x is in (y ∷ r.0, ap (λ l. y ∷ l) r.1)
 
 -- only nothing is mapped to nothing
 pub map-none : {X Y : Type 0} (f : X → Y) (xs : List X) → map f xs ≡ [] → xs ≡ []
@@ -38,7 +40,8 @@ pub filter-filter : {X : Type 0} (p q : X → Bool) (xs : List X) → filter p (
 filter-filter p q [] = refl
 filter-filter p q (x ∷ xs) = by (p x) (q x) refl refl (filter-filter p q xs)
   where
-    by : (s t : Bool) → p x ≡ s → q x ≡ t → filter p (filter q xs) ≡ filter q (filter p xs) → filter p (cond t (x ∷ filter q xs) (filter q xs)) ≡ filter q (cond s (x ∷ filter p xs) (filter p xs))
+    by : (s t : Bool) → p x ≡ s → q x ≡ t → filter p (filter q xs) ≡ filter q (filter p xs)
+        → filter p (cond t (x ∷ filter q xs) (filter q xs)) ≡ filter q (cond s (x ∷ filter p xs) (filter p xs))
     by true true s t rest = rw (s, t) (ap (λ l. x ∷ l) rest)
     by true false s t rest = rw t rest
     by false true s t rest = rw s rest
@@ -47,14 +50,18 @@ filter-filter p q (x ∷ xs) = by (p x) (q x) refl refl (filter-filter p q xs)
 -- a filter keeps all that pass
 pub filter-all : {X : Type 0} (p : X → Bool) (xs : List X) → list_all p xs ≡ true → filter p xs ≡ xs
 filter-all p [] a = refl
-filter-all p (x ∷ xs) a = let b : (p x ≡ true) × (list_all p xs ≡ true) = both_true _ _ a in rw b.0 (ap (λ l. x ∷ l) (filter-all p xs b.1))
+filter-all p (x ∷ xs) a =
+    let b : (p x ≡ true) × (list_all p xs ≡ true) = both_true _ _ a in rw b.0 (ap (λ l. x ∷ l) (filter-all p xs b.1))
 
 -- a filter by two tests, and by one after the other
-pub filter-and : {X : Type 0} (r p q : X → Bool) → ((x : X) → r x ≡ (p x && q x)) → (xs : List X) → filter r xs ≡ filter q (filter p xs)
+pub filter-and : {X : Type 0} (r p q : X → Bool) → ((x : X) → r x ≡ (p x && q x)) → (xs : List X)
+    → filter r xs ≡ filter q (filter p xs)
 filter-and r p q is [] = refl
-filter-and r p q is (x ∷ xs) = ap (λ b. cond b (x ∷ filter r xs) (filter r xs)) (is x) ∙ by (p x) (filter-and r p q is xs)
+filter-and r p q is (x ∷ xs) =
+    ap (λ b. cond b (x ∷ filter r xs) (filter r xs)) (is x) ∙ by (p x) (filter-and r p q is xs)
   where
-    by : (t : Bool) → filter r xs ≡ filter q (filter p xs) → cond (t && q x) (x ∷ filter r xs) (filter r xs) ≡ filter q (cond t (x ∷ filter p xs) (filter p xs))
+    by : (t : Bool) → filter r xs ≡ filter q (filter p xs)
+        → cond (t && q x) (x ∷ filter r xs) (filter r xs) ≡ filter q (cond t (x ∷ filter p xs) (filter p xs))
     by true rest = ap (λ l. cond (q x) (x ∷ l) l) rest
     by false rest = rest
 
@@ -69,7 +76,8 @@ filter-false [] = refl
 filter-false (x ∷ xs) = filter-false xs
 
 -- a test that holds wherever another does
-pub list_all-weaker : {X : Type 0} (p q : X → Bool) (xs : List X) → ((x : X) → p x ≡ true → q x ≡ true) → list_all p xs ≡ true → list_all q xs ≡ true
+pub list_all-weaker : {X : Type 0} (p q : X → Bool) (xs : List X) → ((x : X) → p x ≡ true → q x ≡ true)
+    → list_all p xs ≡ true → list_all q xs ≡ true
 list_all-weaker p q [] f a = refl
 list_all-weaker p q (x ∷ xs) f a =
     let b : (p x ≡ true) × (list_all p xs ≡ true) = both_true _ _ a in
@@ -80,16 +88,19 @@ pub list_all-filter_own : {X : Type 0} (p : X → Bool) (xs : List X) → list_a
 list_all-filter_own p [] = refl
 list_all-filter_own p (x ∷ xs) = by (p x) refl (list_all-filter_own p xs)
   where
-    by : (t : Bool) → p x ≡ t → list_all p (filter p xs) ≡ true → list_all p (cond t (x ∷ filter p xs) (filter p xs)) ≡ true
+    by : (t : Bool) → p x ≡ t → list_all p (filter p xs) ≡ true
+        → list_all p (cond t (x ∷ filter p xs) (filter p xs)) ≡ true
     by true is rest = rw is rest
     by false is rest = rest
 
 -- where a filter keeps nothing, all fail its test
-pub list_all-filter_none : {X : Type 0} (p : X → Bool) (xs : List X) → filter p xs ≡ [] → list_all (λ x. not (p x)) xs ≡ true
+pub list_all-filter_none : {X : Type 0} (p : X → Bool) (xs : List X) → filter p xs ≡ []
+    → list_all (λ x. not (p x)) xs ≡ true
 list_all-filter_none p [] none = refl
 list_all-filter_none p (x ∷ xs) none = by (p x) refl none (list_all-filter_none p xs)
   where
-    by : (t : Bool) → p x ≡ t → cond t (x ∷ filter p xs) (filter p xs) ≡ [] → (filter p xs ≡ [] → list_all (λ y. not (p y)) xs ≡ true) → list_all (λ y. not (p y)) (x ∷ xs) ≡ true
+    by : (t : Bool) → p x ≡ t → cond t (x ∷ filter p xs) (filter p xs) ≡ []
+        → (filter p xs ≡ [] → list_all (λ y. not (p y)) xs ≡ true) → list_all (λ y. not (p y)) (x ∷ xs) ≡ true
     by true is e rest = absurd (cc)
     by false is e rest = rw is (rest e)
 
@@ -102,7 +113,8 @@ filter-none p (x ∷ xs) a =
     rw f (filter-none p xs b.1)
 
 -- a test that none passes is left out
-pub filter-or : {X : Type 0} (p q : X → Bool) (xs : List X) → list_all (λ x. not (p x)) xs ≡ true → filter (λ x. not (p x || q x)) xs ≡ filter (λ x. not (q x)) xs
+pub filter-or : {X : Type 0} (p q : X → Bool) (xs : List X) → list_all (λ x. not (p x)) xs ≡ true
+    → filter (λ x. not (p x || q x)) xs ≡ filter (λ x. not (q x)) xs
 filter-or p q [] a = refl
 filter-or p q (x ∷ xs) a =
     let b : (not (p x) ≡ true) × (list_all (λ y. not (p y)) xs ≡ true) = both_true _ _ a in
@@ -121,10 +133,13 @@ list_all-same p q (x ∷ xs) same = rw (same x, list_all-same p q xs same) refl
 -- a test of all, from a fact of all
 pub list_all-from_All : {X : Type 0} (p : X → Bool) (xs : List X) → All (λ x. p x ≡ true) xs → list_all p xs ≡ true
 list_all-from_All p [] a = refl
-list_all-from_All p (x ∷ xs) a = let b : p x ≡ true = All-head (λ y. p y ≡ true) x xs a in rw b (list_all-from_All p xs (All-tail (λ y. p y ≡ true) x xs a))
+list_all-from_All p (x ∷ xs) a =
+    let b : p x ≡ true = All-head (λ y. p y ≡ true) x xs a in
+    rw b (list_all-from_All p xs (All-tail (λ y. p y ≡ true) x xs a))
 
 -- what holds of all holds of one among them
-pub list_all-at : {X : Type 0} (p : X → Bool) (xs : List X) (x : X) (ys : List X) → list_all p (xs ++ x ∷ ys) ≡ true → p x ≡ true
+pub list_all-at : {X : Type 0} (p : X → Bool) (xs : List X) (x : X) (ys : List X) → list_all p (xs ++ x ∷ ys) ≡ true
+    → p x ≡ true
 list_all-at p [] x ys a = (both_true _ _ a).0
 list_all-at p (z ∷ xs) x ys a = list_all-at p xs x ys (both_true _ _ a).1
 
@@ -153,10 +168,13 @@ All-find P p (y ∷ xs) x is all = by (p y) is (λ f. All-find P p xs x f (All-t
 
 -- what holds of each that passes, by what comes later
 pub All-filter_by_later : {X : Type 0} (P : X → Type 0) (test : X → List X → Bool) (xs : List X)
-    → ((f : List X) (x : X) (later : List X) → xs ≡ f ++ x ∷ later → test x later ≡ true → P x) → All P (filter_by_later test xs)
+    → ((f : List X) (x : X) (later : List X) → xs ≡ f ++ x ∷ later → test x later ≡ true → P x)
+    → All P (filter_by_later test xs)
 All-filter_by_later P test [] holds = All-nil P
-All-filter_by_later P test (x ∷ xs) holds = by (test x xs) refl (All-filter_by_later P test xs (λ f y later is t. holds (x ∷ f) y later (ap (λ l. x ∷ l) is) t))
+All-filter_by_later P test (x ∷ xs) holds =
+    by (test x xs) refl (All-filter_by_later P test xs (λ f y later is t. holds (x ∷ f) y later (ap (λ l. x ∷ l) is) t))
   where
-    by : (t : Bool) → test x xs ≡ t → All P (filter_by_later test xs) → All P (cond t (x ∷ filter_by_later test xs) (filter_by_later test xs))
+    by : (t : Bool) → test x xs ≡ t → All P (filter_by_later test xs)
+        → All P (cond t (x ∷ filter_by_later test xs) (filter_by_later test xs))
     by true is all = All-cons P x (filter_by_later test xs) (holds [] x xs refl is) all
     by false is all = all

@@ -11,14 +11,16 @@ first_of-map f [] = refl
 first_of-map f (x ∷ xs) = refl
 
 -- a list is empty, or its first stands at index 0
-pub MatchOption-first_of : (o : Option ℕ) (xs : List ℕ) → o ≡ first_of xs → MatchOption o (xs ≡ []) (λ p. (xs ≢ []) × (p ≡ slice_index xs 0))
+pub MatchOption-first_of : (o : Option ℕ) (xs : List ℕ) → o ≡ first_of xs
+    → MatchOption o (xs ≡ []) (λ p. (xs ≢ []) × (p ≡ slice_index xs 0))
 MatchOption-first_of None [] e = refl
 MatchOption-first_of None (x ∷ xs) e = absurd (cc)
 MatchOption-first_of (Some p) [] e = absurd (cc)
 MatchOption-first_of (Some p) (x ∷ xs) e = ((λ q. absurd (cc)), cc)
 
 -- the i-th of a list's numbers
-pub slice_index-map : {X : Type 0} (f : X → ℕ) (xs : List X) (i : ℕ) (o : Option ℕ) → o ≡ option_map f (slice_get xs i) → i < length xs → o ≡ Some (slice_index (map f xs) i)
+pub slice_index-map : {X : Type 0} (f : X → ℕ) (xs : List X) (i : ℕ) (o : Option ℕ) → o ≡ option_map f (slice_get xs i)
+    → i < length xs → o ≡ Some (slice_index (map f xs) i)
 slice_index-map f [] i o e l = absurd (omega arith)
 slice_index-map f (x ∷ xs) zero o e l = e
 slice_index-map f (x ∷ xs) (suc i) o e l = slice_index-map f xs i o e (omega arith)

@@ -1,16 +1,19 @@
 -- Who has the turn, by the last event, and who waits meanwhile.
-use Rattle.std.proofs.Common.{◌≡◌, ◌≢◌, ◌==◌, ◌||◌, ◌⊎◌, inl, inr, not, ℕ, List, [], ◌∷◌, ◌++◌, Bool, true, false, cond, Some, refl, ap, sym, ◌∙◌, subst, eq-eqb, eqb-true}
+use Rattle.std.proofs.Common.{◌≡◌, ◌≢◌, ◌==◌, ◌||◌, ◌⊎◌, inl, inr, not, ℕ, List, [], ◌∷◌, ◌++◌, Bool, true, false, cond}
+use Rattle.std.proofs.Common.{Some, refl, ap, sym, ◌∙◌, subst, eq-eqb, eqb-true}
 use Rattle.std.specs.List.{filter, list_all}
 use Rattle.std.proofs.lemmas.Bool.{not-true}
 use Rattle.std.proofs.lemmas.List.{append-nil}
 use Rattle.hoare_law.specs.declared.event.Event.{Event}
-use Rattle.hoare_law.specs.declared.event.Event.TheVariants.{Admit, Wait, Signal, Pass, Leave, Resume, Back, Notify, Broadcast}
+use Rattle.hoare_law.specs.declared.event.Event.TheVariants.{Admit, Wait, Signal, Pass, Leave, Resume, Back, Notify}
+use Rattle.hoare_law.specs.declared.event.Event.TheVariants.{Broadcast}
 use Rattle.hoare_law.specs.declared.turn.Turn.{Turn}
 use Rattle.hoare_law.specs.declared.turn.Turn.TheVariants.{Free, Held, Owed, Return}
 use Rattle.hoare_law.specs.Events.{place_of, data_of, own, newest}
 use Rattle.hoare_law.specs.Waiting.{priority_of, condition_of, waits_on, takes, concerns, waiting}
 use Rattle.hoare_law.specs.Called.{called}
-use Rattle.hoare_law.specs.Turns.{After, stays, frees, hands, after, urgent, turn, turn_of, turn_by, turn_given_up, is_out, outside}
+use Rattle.hoare_law.specs.Turns.{After, stays, frees, hands, after, urgent, turn, turn_of, turn_by, turn_given_up}
+use Rattle.hoare_law.specs.Turns.{is_out, outside}
 use Rattle.hoare_law.proofs.Events.{newest-push, own-push}
 use Rattle.hoare_law.proofs.Waiting.{waiting-push}
 use Rattle.hoare_law.proofs.Turns.{turn-push, outside-push}
@@ -51,7 +54,8 @@ owed_first [] [] w c e = absurd (cc)
 owed_first [] (x ∷ xs) w c e = (refl, x, xs, refl, cc, cc)
 owed_first (u ∷ us) ws w c e = absurd (cc)
 
-returns_first : {S : Type 0} (us : List ℕ) (ws : List (Event S)) (k : ℕ) → turn_given_up us ws ≡ Return k → (vs : List ℕ) × (us ≡ k ∷ vs)
+returns_first : {S : Type 0} (us : List ℕ) (ws : List (Event S)) (k : ℕ) → turn_given_up us ws ≡ Return k
+    → (vs : List ℕ) × (us ≡ k ∷ vs)
 returns_first [] [] k e = absurd (cc)
 returns_first [] (w ∷ ws) k e = absurd (cc)
 returns_first (u ∷ us) ws k e = (us, cc)
@@ -78,7 +82,8 @@ concerns-own e c k none = ap (λ b. place_of e == k || b) none ∙ or_false (pla
     or_false false = refl
 
 -- an event that hands the monitor on is a signal or a pass
-pub handing_is : {S : Type 0} (e : Event S) (w c : ℕ) → after e ≡ hands w c → (out : Bool) × (k : ℕ) × (s : S) × (e ≡ handing out k c w s)
+pub handing_is : {S : Type 0} (e : Event S) (w c : ℕ) → after e ≡ hands w c
+    → (out : Bool) × (k : ℕ) × (s : S) × (e ≡ handing out k c w s)
 handing_is (Signal k d v s) w c is = (false, k, s, cc)
 handing_is (Pass k d v s) w c is = (true, k, s, cc)
 handing_is (Admit k s) w c is = absurd (cc)
@@ -90,7 +95,8 @@ handing_is (Notify k d v s) w c is = absurd (cc)
 handing_is (Broadcast k d s) w c is = absurd (cc)
 
 -- a wait on c is made of its parts
-pub waits_on-is : {S : Type 0} (c : ℕ) (e : Event S) → waits_on c e ≡ true → e ≡ Wait (place_of e) c (priority_of e) (data_of e)
+pub waits_on-is : {S : Type 0} (c : ℕ) (e : Event S) → waits_on c e ≡ true
+    → e ≡ Wait (place_of e) c (priority_of e) (data_of e)
 waits_on-is c (Wait k d p s) on = ap (λ i. Wait k i p s) (eqb-true d c on)
 waits_on-is c (Admit k s) on = absurd (cc)
 waits_on-is c (Signal k d w s) on = absurd (cc)
@@ -106,11 +112,13 @@ module _ {S : Type 0} where
   abbrev pub Ends : List (Event S) → Event S → Type 0
   Ends h e = (g : List (Event S)) × (h ≡ g ++ e ∷ [])
 
-  turn_by_last : (g : List (Event S)) (e : Event S) (h : List (Event S)) → h ≡ g ++ e ∷ [] → turn_by e (urgent h) (called h) ≡ turn h
+  turn_by_last : (g : List (Event S)) (e : Event S) (h : List (Event S)) → h ≡ g ++ e ∷ []
+      → turn_by e (urgent h) (called h) ≡ turn h
   turn_by_last g e h ends = ap (λ x. turn_by e (urgent x) (called x)) ends ∙ sym (turn-push g e) ∙ ap turn (sym ends)
 
   -- the turn is what the last event makes it
-  turn_of_last : (h : List (Event S)) (t : Turn) → turn h ≡ t → t ≢ Free → (e : Event S) × Ends h e × (turn_by e (urgent h) (called h) ≡ t)
+  turn_of_last : (h : List (Event S)) (t : Turn) → turn h ≡ t → t ≢ Free
+      → (e : Event S) × Ends h e × (turn_by e (urgent h) (called h) ≡ t)
   unfolding turn
   turn_of_last h t is some = by (has_last h)
     where
@@ -118,16 +126,20 @@ module _ {S : Type 0} where
       by (nothing none) = absurd (some (sym is ∙ ap turn none))
       by (pushed g e ends) = (e, (g, ends), turn_by_last g e h ends ∙ is)
 
-  held_of : (a : After) (j : ℕ) (us : List ℕ) (ws : List (Event S)) (k : ℕ) → turn_of a j us ws ≡ Held k → (is_stay a ≡ true) × (j ≡ k)
+  held_of : (a : After) (j : ℕ) (us : List ℕ) (ws : List (Event S)) (k : ℕ) → turn_of a j us ws ≡ Held k
+      → (is_stay a ≡ true) × (j ≡ k)
   held_of stays j us ws k t = (refl, cc)
   held_of frees j us ws k t = absurd (not_held us ws k t)
   held_of (hands w c) j us ws k t = absurd (cc)
 
   -- the last event brought in the place whose turn it is, or is a call by it
-  pub turn-held : (h : List (Event S)) (k : ℕ) → turn h ≡ Held k → (e : Event S) × Ends h e × (is_inside e ≡ true) × (place_of e ≡ k)
+  pub turn-held : (h : List (Event S)) (k : ℕ) → turn h ≡ Held k
+      → (e : Event S) × Ends h e × (is_inside e ≡ true) × (place_of e ≡ k)
   turn-held h k is =
-      let r : (e : Event S) × Ends h e × (turn_by e (urgent h) (called h) ≡ Held k) = turn_of_last h (Held k) is (λ e. cc) in
-      let b : (is_inside r.0 ≡ true) × (place_of r.0 ≡ k) = held_of (after r.0) (place_of r.0) (urgent h) (called h) k r.2 in
+      let r : (e : Event S) × Ends h e × (turn_by e (urgent h) (called h) ≡ Held k) =
+      turn_of_last h (Held k) is (λ e. cc) in
+      let b : (is_inside r.0 ≡ true) × (place_of r.0 ≡ k) =
+      held_of (after r.0) (place_of r.0) (urgent h) (called h) k r.2 in
       (r.0, r.1, b.0, b.1)
 
   -- the last event handed the monitor to w, that waited on c
@@ -155,12 +167,15 @@ module _ {S : Type 0} where
     handed : EndsHanding w c h → IsOwed w c h
     next_called : EndsCalled w c h → IsOwed w c h
 
-  given_to_called : (h : List (Event S)) (e : Event S) (w c : ℕ) → Ends h e → gives_up e ≡ true → turn_given_up (urgent h) (called h) ≡ Owed w c → IsOwed w c h
+  given_to_called : (h : List (Event S)) (e : Event S) (w c : ℕ) → Ends h e → gives_up e ≡ true
+      → turn_given_up (urgent h) (called h) ≡ Owed w c → IsOwed w c h
   given_to_called h e w c ends gives t =
       let r = owed_first (urgent h) (called h) w c t in
-      next_called (record { by = e; ends = ends; gives = gives; nobody = r.0; first = r.1; others = r.2; are = r.3; place = r.4; on = r.5 })
+      next_called
+      (record { by = e; ends = ends; gives = gives; nobody = r.0; first = r.1; others = r.2; are = r.3; place = r.4; on = r.5 })
 
-  owed_by : (h g : List (Event S)) (e : Event S) (w c : ℕ) → h ≡ g ++ e ∷ [] → turn_by e (urgent h) (called h) ≡ Owed w c → IsOwed w c h
+  owed_by : (h g : List (Event S)) (e : Event S) (w c : ℕ) → h ≡ g ++ e ∷ []
+      → turn_by e (urgent h) (called h) ≡ Owed w c → IsOwed w c h
   owed_by h g e w c is t = by (after e) refl t
     where
       by_hand : after e ≡ hands w c → IsOwed w c h
@@ -175,28 +190,35 @@ module _ {S : Type 0} where
 
   pub turn-owed : (h : List (Event S)) (w c : ℕ) → turn h ≡ Owed w c → IsOwed w c h
   turn-owed h w c is =
-      let r : (e : Event S) × Ends h e × (turn_by e (urgent h) (called h) ≡ Owed w c) = turn_of_last h (Owed w c) is (λ e. cc) in
+      let r : (e : Event S) × Ends h e × (turn_by e (urgent h) (called h) ≡ Owed w c) =
+      turn_of_last h (Owed w c) is (λ e. cc) in
       owed_by h r.1.0 r.0 w c r.1.1 r.2
 
-  return_of : (a : After) (j : ℕ) (us : List ℕ) (ws : List (Event S)) (k : ℕ) → turn_of a j us ws ≡ Return k → (is_free a ≡ true) × (turn_given_up us ws ≡ Return k)
+  return_of : (a : After) (j : ℕ) (us : List ℕ) (ws : List (Event S)) (k : ℕ) → turn_of a j us ws ≡ Return k
+      → (is_free a ≡ true) × (turn_given_up us ws ≡ Return k)
   return_of stays j us ws k t = absurd (cc)
   return_of (hands w c) j us ws k t = absurd (cc)
   return_of frees j us ws k t = (refl, t)
 
   -- the last event gave the monitor up, and k is the first waiting signaller
-  pub turn-return : (h : List (Event S)) (k : ℕ) → turn h ≡ Return k → (e : Event S) × Ends h e × (gives_up e ≡ true) × (us : List ℕ) × (urgent h ≡ k ∷ us)
+  pub turn-return : (h : List (Event S)) (k : ℕ) → turn h ≡ Return k
+      → (e : Event S) × Ends h e × (gives_up e ≡ true) × (us : List ℕ) × (urgent h ≡ k ∷ us)
   turn-return h k is =
-      let r : (e : Event S) × Ends h e × (turn_by e (urgent h) (called h) ≡ Return k) = turn_of_last h (Return k) is (λ e. cc) in
-      let g : (gives_up r.0 ≡ true) × (turn_given_up (urgent h) (called h) ≡ Return k) = return_of (after r.0) (place_of r.0) (urgent h) (called h) k r.2 in
+      let r : (e : Event S) × Ends h e × (turn_by e (urgent h) (called h) ≡ Return k) =
+      turn_of_last h (Return k) is (λ e. cc) in
+      let g : (gives_up r.0 ≡ true) × (turn_given_up (urgent h) (called h) ≡ Return k) =
+      return_of (after r.0) (place_of r.0) (urgent h) (called h) k r.2 in
       let u : (us : List ℕ) × (urgent h ≡ k ∷ us) = returns_first (urgent h) (called h) k g.1 in
       (r.0, r.1, g.0, u.0, u.1)
 
-  free_of : (a : After) (j : ℕ) (us : List ℕ) (ws : List (Event S)) → turn_of a j us ws ≡ Free → (is_free a ≡ true) × (us ≡ []) × (ws ≡ [])
+  free_of : (a : After) (j : ℕ) (us : List ℕ) (ws : List (Event S)) → turn_of a j us ws ≡ Free
+      → (is_free a ≡ true) × (us ≡ []) × (ws ≡ [])
   free_of stays j us ws t = absurd (cc)
   free_of (hands w c) j us ws t = absurd (cc)
   free_of frees j us ws t = let r = free_first us ws t in (refl, r.0, r.1)
 
-  free_by : (g : List (Event S)) (e : Event S) (h : List (Event S)) → h ≡ g ++ e ∷ [] → turn h ≡ Free → (gives_up e ≡ true) × (urgent h ≡ []) × (called h ≡ [])
+  free_by : (g : List (Event S)) (e : Event S) (h : List (Event S)) → h ≡ g ++ e ∷ [] → turn h ≡ Free
+      → (gives_up e ≡ true) × (urgent h ≡ []) × (called h ≡ [])
   free_by g e h ends is = free_of (after e) (place_of e) (urgent h) (called h) (turn_by_last g e h ends ∙ is)
 
   -- nothing happened, or the last event gave the monitor up, where nobody's turn it is
@@ -244,7 +266,8 @@ module _ {S : Type 0} where
   concerns-handing false d j k c w s = refl
 
   -- what no wait is, waits on no condition
-  pub waits_not : (Is : Event S → Type 0) (e : Event S) (c : ℕ) → ((k d p : ℕ) (s : S) → Is (Wait k d p s) → ⊥) → Is e → waits_on c e ≡ false
+  pub waits_not : (Is : Event S → Type 0) (e : Event S) (c : ℕ) → ((k d p : ℕ) (s : S) → Is (Wait k d p s) → ⊥) → Is e
+      → waits_on c e ≡ false
   waits_not Is e c never is = by (waits_on c e) refl
     where
       by : (t : Bool) → waits_on c e ≡ t → t ≡ false
@@ -267,16 +290,20 @@ module _ {S : Type 0} where
   in_not_out (Leave j s) is = absurd (cc)
 
   -- one that did last something else than to wait, waits nowhere
-  pub waiting-in : (g : List (Event S)) (e : Event S) (c : ℕ) → waits_on c e ≡ false → list_all (λ x. not (place_of e == place_of x)) (waiting c (g ++ e ∷ [])) ≡ true
+  pub waiting-in : (g : List (Event S)) (e : Event S) (c : ℕ) → waits_on c e ≡ false
+      → list_all (λ x. not (place_of e == place_of x)) (waiting c (g ++ e ∷ [])) ≡ true
   waiting-in g e c is =
       let added : waiting c (g ++ e ∷ []) ≡ filter (λ x. not (concerns c (place_of x) e)) (waiting c g) =
-      waiting-push c g e ∙ ap (λ b. filter (λ x. not (concerns c (place_of x) e)) (waiting c g) ++ cond b (e ∷ []) []) is ∙ append-nil _ in
-      list_all-weaker (λ x. not (concerns c (place_of x) e)) (λ x. not (place_of e == place_of x)) (waiting c (g ++ e ∷ []))
+      waiting-push c g e
+      ∙ ap (λ b. filter (λ x. not (concerns c (place_of x) e)) (waiting c g) ++ cond b (e ∷ []) []) is ∙ append-nil _ in
+      list_all-weaker (λ x. not (concerns c (place_of x) e)) (λ x. not (place_of e == place_of x))
+      (waiting c (g ++ e ∷ []))
       (λ x n. ap not (own_is_concerned e c (place_of x) n))
       (ap (list_all (λ x. not (concerns c (place_of x) e))) added ∙ list_all-filter_own (λ x. not (concerns c (place_of x) e)) (waiting c g))
 
   -- the place whose turn it is waits nowhere
-  pub waiting-held : (h : List (Event S)) (k c : ℕ) → turn h ≡ Held k → list_all (λ x. not (k == place_of x)) (waiting c h) ≡ true
+  pub waiting-held : (h : List (Event S)) (k c : ℕ) → turn h ≡ Held k
+      → list_all (λ x. not (k == place_of x)) (waiting c h) ≡ true
   waiting-held h k c is =
       let r : (e : Event S) × Ends h e × (is_inside e ≡ true) × (place_of e ≡ k) = turn-held h k is in
       ap (λ j. list_all (λ x. not (j == place_of x)) (waiting c h)) (sym r.3)
@@ -293,10 +320,13 @@ module _ {S : Type 0} where
       ∙ in_not_out r.0 r.2
 
   -- its own last event brought it in, or is its call
-  pub own-held : (h : List (Event S)) (k : ℕ) → turn h ≡ Held k → (e : Event S) × (newest (own k h) ≡ Some e) × (is_inside e ≡ true)
+  pub own-held : (h : List (Event S)) (k : ℕ) → turn h ≡ Held k
+      → (e : Event S) × (newest (own k h) ≡ Some e) × (is_inside e ≡ true)
   own-held h k is =
       let r : (e : Event S) × Ends h e × (is_inside e ≡ true) × (place_of e ≡ k) = turn-held h k is in
-      let last : own k h ≡ own k r.1.0 ++ r.0 ∷ [] = ap (own k) r.1.1 ∙ own-push k r.1.0 r.0 ∙ ap (λ b. own k r.1.0 ++ cond b (r.0 ∷ []) []) (eq-eqb (place_of r.0) k r.3) in
+      let last : own k h ≡ own k r.1.0 ++ r.0 ∷ [] =
+      ap (own k) r.1.1 ∙ own-push k r.1.0 r.0
+      ∙ ap (λ b. own k r.1.0 ++ cond b (r.0 ∷ []) []) (eq-eqb (place_of r.0) k r.3) in
       (r.0, ap newest last ∙ newest-push (own k r.1.0) r.0, r.2)
 
   -- at most one place has the turn

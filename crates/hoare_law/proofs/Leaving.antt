@@ -1,5 +1,6 @@
 -- Who is inside gives the monitor up, by a wait, a leave, a signal or a pass: that it may, and what it owes.
-use Rattle.std.proofs.Common.{◌≡◌, ◌≢◌, ℕ, ◌<◌, arith, Bool, true, false, cond, List, [], ◌∷◌, ◌++◌, Option, Some, None, refl, ap, sym, ◌∙◌, subst, eq-eqb}
+use Rattle.std.proofs.Common.{◌≡◌, ◌≢◌, ℕ, ◌<◌, arith, Bool, true, false, cond, List, [], ◌∷◌, ◌++◌, Option, Some, None}
+use Rattle.std.proofs.Common.{refl, ap, sym, ◌∙◌, subst, eq-eqb}
 use Rattle.std.specs.Prelude.{IsSomeAnd, slice_index}
 use Rattle.hoare_law.specs.declared.event.Event.{Event}
 use Rattle.hoare_law.specs.declared.event.History.{History}
@@ -14,7 +15,8 @@ use Rattle.hoare_law.specs.Sizes.{IsHoare}
 use Rattle.hoare_law.specs.Waiting.{priority_of, chosen, Chooses}
 use Rattle.hoare_law.specs.Called.{called}
 use Rattle.hoare_law.proofs.Held.{handing, is_stay, is_inside, not_held}
-use Rattle.hoare_law.proofs.Priorities.{priorities-leave, priorities-wait, priorities-handing, priorities-nobody, slice_index-chosen, waiting-unchosen}
+use Rattle.hoare_law.proofs.Priorities.{priorities-leave, priorities-wait, priorities-handing, priorities-nobody}
+use Rattle.hoare_law.proofs.Priorities.{slice_index-chosen, waiting-unchosen}
 use Rattle.hoare_law.proofs.Turns.{outside-push, turn-push}
 use Rattle.hoare_law.proofs.Waiters.{held-in_range, chosen-in_range}
 
@@ -33,16 +35,19 @@ module _ {S : Type 0} where
       by (hands w c) no_stay t = cc
 
   -- the turn is that of whom a signal or a pass resumes
-  pub turn-handing : (out : Bool) (h : History S) (k c w : ℕ) (s : S) → turn (with_event h (handing out k c w s)).events ≡ Owed w c
+  pub turn-handing : (out : Bool) (h : History S) (k c w : ℕ) (s : S)
+      → turn (with_event h (handing out k c w s)).events ≡ Owed w c
   unfolding with_event
   turn-handing true h k c w s = turn-push h.events (Pass k c w s)
   turn-handing false h k c w s = turn-push h.events (Signal k c w s)
 
   -- k is outside after a leave or a pass
-  pub outside-left : (f : History S) (k : ℕ) (e : Event S) → place_of e ≡ k → is_out (Some e) ≡ true → outside k (with_event f e).events ≡ true
+  pub outside-left : (f : History S) (k : ℕ) (e : Event S) → place_of e ≡ k → is_out (Some e) ≡ true
+      → outside k (with_event f e).events ≡ true
   unfolding with_event
   outside-left f k e mine out =
-      outside-push k f.events e ∙ ap (λ b. cond b (is_out (Some e)) (outside k f.events)) (eq-eqb (place_of e) k mine) ∙ out
+      outside-push k f.events e ∙ ap (λ b. cond b (is_out (Some e)) (outside k f.events)) (eq-eqb (place_of e) k mine)
+      ∙ out
 
   -- somebody is chosen where a priority stands
   pub chosen-some : (c : ℕ) (h : List (Event S)) → priorities h c ≢ [] → (x : Event S) × (chosen c h ≡ Some x)
@@ -60,18 +65,23 @@ module _ {S : Type 0} where
   pub Allowed-leave : (f : History S) (k : ℕ) (s : S) → IsLegal f → turn f.events ≡ Held k → Allowed f (Leave k s)
   Allowed-leave f k s legal held = record { in_range = (held-in_range f k legal held, tt); fits = held }
 
-  pub Allowed-wait : (f : History S) (k c p : ℕ) (s : S) → IsLegal f → turn f.events ≡ Held k → c < f.sizes.conditions → Allowed f (Wait k c p s)
+  pub Allowed-wait : (f : History S) (k c p : ℕ) (s : S) → IsLegal f → turn f.events ≡ Held k → c < f.sizes.conditions
+      → Allowed f (Wait k c p s)
   Allowed-wait f k c p s legal held below = record { in_range = (held-in_range f k legal held, below); fits = held }
 
-  handing_allowed : (out : Bool) (f : History S) (k c w : ℕ) (s : S) → (k < f.sizes.places) × ((c < f.sizes.conditions) × (w < f.sizes.places))
-      → (turn f.events ≡ Held k) × Chooses c f.events w × IsHoare f.sizes.conditions f.sizes.mesa c → Allowed f (handing out k c w s)
+  handing_allowed : (out : Bool) (f : History S) (k c w : ℕ) (s : S)
+      → (k < f.sizes.places) × ((c < f.sizes.conditions) × (w < f.sizes.places))
+      → (turn f.events ≡ Held k) × Chooses c f.events w × IsHoare f.sizes.conditions f.sizes.mesa c
+      → Allowed f (handing out k c w s)
   handing_allowed true f k c w s in_range fits = record { in_range = in_range; fits = fits }
   handing_allowed false f k c w s in_range fits = record { in_range = in_range; fits = fits }
 
-  pub Allowed-handing : (out : Bool) (f : History S) (k c : ℕ) (x : Event S) (s : S) → IsLegal f → turn f.events ≡ Held k → IsHoare f.sizes.conditions f.sizes.mesa c
+  pub Allowed-handing : (out : Bool) (f : History S) (k c : ℕ) (x : Event S) (s : S) → IsLegal f
+      → turn f.events ≡ Held k → IsHoare f.sizes.conditions f.sizes.mesa c
       → chosen c f.events ≡ Some x → Allowed f (handing out k c (place_of x) s)
   Allowed-handing out f k c x s legal held hoare is = handing_allowed out f k c (place_of x) s
-      (held-in_range f k legal held, (omega (arith, hoare), (chosen-in_range c f x legal is).0)) (held, Chooses-place c f.events x is, hoare)
+      (held-in_range f k legal held, (omega (arith, hoare), (chosen-in_range c f x legal is).0))
+      (held, Chooses-place c f.events x is, hoare)
 
   module _ (rest : Rest S) (ready : Ready S) where
     -- and pays what it owes
@@ -80,19 +90,23 @@ module _ {S : Type 0} where
     unfolding Owes
     Owes-leave f k s held asked = subst (rest s) (sym (priorities-leave f.events k s held)) asked
 
-    pub Owes-wait : (f : History S) (k c p : ℕ) (s : S) → turn f.events ≡ Held k → rest s (joined (priorities f.events) c p)
+    pub Owes-wait : (f : History S) (k c p : ℕ) (s : S) → turn f.events ≡ Held k
+        → rest s (joined (priorities f.events) c p)
         → Owes rest ready f.events (Wait k c p s)
     unfolding Owes
     Owes-wait f k c p s held asked = subst (rest s) (sym (priorities-wait f.events k c p s held)) asked
 
     handing_owes : (out : Bool) (f : List (Event S)) (k c w : ℕ) (s : S)
-        → IsSomeAnd (chosen c f) (λ e. ready c (priority_of e) s (priorities (f ++ handing out k c w s ∷ []))) → Owes rest ready f (handing out k c w s)
+        → IsSomeAnd (chosen c f) (λ e. ready c (priority_of e) s (priorities (f ++ handing out k c w s ∷ [])))
+        → Owes rest ready f (handing out k c w s)
     unfolding Owes
     handing_owes true f k c w s owed = owed
     handing_owes false f k c w s owed = owed
 
-    pub Owes-handing : (out : Bool) (f : History S) (k c : ℕ) (x : Event S) (s : S) → turn f.events ≡ Held k → chosen c f.events ≡ Some x
-        → ready c (slice_index (priorities f.events c) 0) s (taken (priorities f.events) c) → Owes rest ready f.events (handing out k c (place_of x) s)
+    pub Owes-handing : (out : Bool) (f : History S) (k c : ℕ) (x : Event S) (s : S) → turn f.events ≡ Held k
+        → chosen c f.events ≡ Some x
+        → ready c (slice_index (priorities f.events c) 0) s (taken (priorities f.events) c)
+        → Owes rest ready f.events (handing out k c (place_of x) s)
     Owes-handing out f k c x s held is asked =
         let after : ℕ → List ℕ = priorities (f.events ++ handing out k c (place_of x) s ∷ []) in
         let same = priorities-handing out f.events k c (place_of x) s held (Chooses-place c f.events x is) in

@@ -32,7 +32,8 @@ pub IsLegal-last : {S : Type 0} (h : History S) (e : Event S) → IsLegal (with_
 unfolding with_event
 IsLegal-last h e legal = legal.each h.events [] e refl
 
-pub IsLawful-push : {S : Type 0} {rest : Rest S} {ready : Ready S} {h : History S} (e : Event S) → IsLawful rest ready h → Owes rest ready h.events e → IsLawful rest ready (with_event h e)
+pub IsLawful-push : {S : Type 0} {rest : Rest S} {ready : Ready S} {h : History S} (e : Event S) → IsLawful rest ready h
+    → Owes rest ready h.events e → IsLawful rest ready (with_event h e)
 unfolding with_event
 IsLawful-push {S = S} {rest = rest} {ready = ready} {h = h} e lawful here = record {
   opens = lawful.opens;
@@ -42,14 +43,19 @@ IsLawful-push {S = S} {rest = rest} {ready = ready} {h = h} e lawful here = reco
       (push-split h.events e f g x is);
 }
 
-pub IsLawful-front : {S : Type 0} {rest : Rest S} {ready : Ready S} {f h : History S} → Begins f h → IsLawful rest ready h → IsLawful rest ready f
+pub IsLawful-front : {S : Type 0} {rest : Rest S} {ready : Ready S} {f h : History S} → Begins f h
+    → IsLawful rest ready h → IsLawful rest ready f
 IsLawful-front {f = f} begins lawful = record {
   opens = rw begins.opening lawful.opens;
   each = λ a b x is. lawful.each a (b ++ begins.later) x (sym begins.is ∙ (ap (λ y. y ++ begins.later) is ∙ append_assoc a (x ∷ b) begins.later));
 }
 
-pub Stands-push : {S : Type 0} {rest : Rest S} {ready : Ready S} {h : History S} (e : Event S) → Stands rest ready h → Allowed h e → Owes rest ready h.events e → Stands rest ready (with_event h e)
-Stands-push e stands allowed owes = record { legal = IsLegal-push e stands.legal allowed; lawful = IsLawful-push e stands.lawful owes }
+pub Stands-push : {S : Type 0} {rest : Rest S} {ready : Ready S} {h : History S} (e : Event S) → Stands rest ready h
+    → Allowed h e → Owes rest ready h.events e → Stands rest ready (with_event h e)
+Stands-push e stands allowed owes =
+    record { legal = IsLegal-push e stands.legal allowed; lawful = IsLawful-push e stands.lawful owes }
 
-pub Stands-front : {S : Type 0} {rest : Rest S} {ready : Ready S} {f h : History S} → Begins f h → Stands rest ready h → Stands rest ready f
-Stands-front begins stands = record { legal = IsLegal-front begins stands.legal; lawful = IsLawful-front begins stands.lawful }
+pub Stands-front : {S : Type 0} {rest : Rest S} {ready : Ready S} {f h : History S} → Begins f h → Stands rest ready h
+    → Stands rest ready f
+Stands-front begins stands =
+    record { legal = IsLegal-front begins stands.legal; lawful = IsLawful-front begins stands.lawful }

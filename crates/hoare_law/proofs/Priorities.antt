@@ -1,13 +1,15 @@
 -- The waiting priorities after one more event.
 use Rattle.std.proofs.Common.{◌≡◌, ◌==◌, ◌||◌, ◌≤◌, not, ℕ, suc, List, [], ◌∷◌, ◌++◌, length, map, Bool, true}
-use Rattle.std.proofs.Common.{false, cond, Option, Some, None, refl, ap, sym, ◌∙◌, subst, arith, eq-eqb, eqb-true, ne_eqb, true≢false}
+use Rattle.std.proofs.Common.{false, cond, Option, Some, None, refl, ap, sym, ◌∙◌, subst, arith, eq-eqb, eqb-true}
+use Rattle.std.proofs.Common.{ne_eqb, true≢false}
 use Rattle.std.specs.Prelude.{IsSomeAnd, slice_index}
 use Rattle.std.specs.List.{filter, list_all}
 use Rattle.std.specs.List.Sorted.{IsNonDecreasing}
 use Rattle.std.proofs.lemmas.List.{append-nil, length-map}
 use Rattle.std.proofs.lemmas.List.Elements.{All-weaker, filter_agree}
 use Rattle.hoare_law.specs.declared.event.Event.{Event}
-use Rattle.hoare_law.specs.declared.event.Event.TheVariants.{Admit, Wait, Signal, Pass, Leave, Resume, Back, Notify, Broadcast}
+use Rattle.hoare_law.specs.declared.event.Event.TheVariants.{Admit, Wait, Signal, Pass, Leave, Resume, Back, Notify}
+use Rattle.hoare_law.specs.declared.event.Event.TheVariants.{Broadcast}
 use Rattle.hoare_law.specs.declared.turn.Turn.TheVariants.{Held, Return}
 use Rattle.hoare_law.specs.Events.{place_of, data_of, own, newest}
 use Rattle.hoare_law.specs.Waiting.{waits_on, priority_of, concerns, waiting, chosen, Chooses}
@@ -15,11 +17,14 @@ use Rattle.hoare_law.specs.Turns.{is_signal, turn, is_out, outside}
 use Rattle.hoare_law.specs.Priorities.{put_in, in_order, priorities, joined, taken, emptied, behind_first}
 use Rattle.hoare_law.proofs.Tests.{eq_swap}
 use Rattle.hoare_law.proofs.Waiting.{waiting-push}
-use Rattle.hoare_law.proofs.Sorted.{first_of, put_all-push, in_order-filter, map-put_in, map-in_order, in_order-none, in_order-short, length-in_order, IsNonDecreasing-in_order}
+use Rattle.hoare_law.proofs.Sorted.{first_of, put_all-push, in_order-filter, map-put_in, map-in_order, in_order-none}
+use Rattle.hoare_law.proofs.Sorted.{in_order-short, length-in_order, IsNonDecreasing-in_order}
 use Rattle.hoare_law.proofs.Chosen.{chosen-first}
-use Rattle.hoare_law.proofs.Filters.{map-none, filter-all, filter-true, filter-false, filter-or, list_all-filter_none, list_all-same, list_all-from_All}
+use Rattle.hoare_law.proofs.Filters.{map-none, filter-all, filter-true, filter-false, filter-or, list_all-filter_none}
+use Rattle.hoare_law.proofs.Filters.{list_all-same, list_all-from_All}
 use Rattle.hoare_law.proofs.Held.{handing, waits_on-handing, concerns-handing, concerns-own, waits_not, waiting-held}
-use Rattle.hoare_law.proofs.Waiters.{Waits, LastSignals, All-waiting, own-return, chosen-waits, waiting-elsewhere, waiting-once}
+use Rattle.hoare_law.proofs.Waiters.{Waits, LastSignals, All-waiting, own-return, chosen-waits, waiting-elsewhere}
+use Rattle.hoare_law.proofs.Waiters.{waiting-once}
 
 some_and : {X : Type 0} (P : X → Type 0) (o : Option X) → IsSomeAnd o P → (x : X) × (o ≡ Some x) × P x
 some_and P None p = absurd p
@@ -41,22 +46,30 @@ module _ {S : Type 0} where
   -- they never decrease
   pub IsNonDecreasing-priorities : (h : List (Event S)) (c : ℕ) → IsNonDecreasing (priorities h c)
   unfolding priorities
-  IsNonDecreasing-priorities h c = subst IsNonDecreasing (sym (map-in_order priority_of (waiting c h))) (IsNonDecreasing-in_order (map priority_of (waiting c h)))
+  IsNonDecreasing-priorities h c =
+      subst IsNonDecreasing (sym (map-in_order priority_of (waiting c h)))
+      (IsNonDecreasing-in_order (map priority_of (waiting c h)))
 
   -- a place whose last event is no wait waits nowhere
-  pub waiting-apart : (h : List (Event S)) (k d : ℕ) → ((x : Event S) → newest (own k h) ≡ Some x → waits_on d x ≡ false) → list_all (λ x. not (k == place_of x)) (waiting d h) ≡ true
+  pub waiting-apart : (h : List (Event S)) (k d : ℕ)
+      → ((x : Event S) → newest (own k h) ≡ Some x → waits_on d x ≡ false)
+      → list_all (λ x. not (k == place_of x)) (waiting d h) ≡ true
   waiting-apart h k d apart = list_all-from_All (λ x. not (k == place_of x)) (waiting d h)
       (All-weaker (Waits d h) (λ x. not (k == place_of x) ≡ true)
       (λ x w. ap not (ne_eqb k (place_of x) (λ same. true≢false (sym w.on ∙ apart x (ap (λ j. newest (own j h)) same ∙ w.last)))))
       (waiting d h) (All-waiting d h))
 
   -- whoever is outside waits nowhere
-  pub waiting-outside : (h : List (Event S)) (k d : ℕ) → outside k h ≡ true → list_all (λ x. not (k == place_of x)) (waiting d h) ≡ true
+  pub waiting-outside : (h : List (Event S)) (k d : ℕ) → outside k h ≡ true
+      → list_all (λ x. not (k == place_of x)) (waiting d h) ≡ true
   unfolding outside
-  waiting-outside h k d is = waiting-apart h k d (λ x last. waits_not (λ y. is_out (Some y) ≡ true) x d (λ j c p s on. cc) (ap is_out (sym last) ∙ is))
+  waiting-outside h k d is =
+      waiting-apart h k d
+      (λ x last. waits_not (λ y. is_out (Some y) ≡ true) x d (λ j c p s on. cc) (ap is_out (sym last) ∙ is))
 
   -- nor does a signaller that returns
-  pub waiting-return : (h : List (Event S)) (k d : ℕ) → turn h ≡ Return k → list_all (λ x. not (k == place_of x)) (waiting d h) ≡ true
+  pub waiting-return : (h : List (Event S)) (k d : ℕ) → turn h ≡ Return k
+      → list_all (λ x. not (k == place_of x)) (waiting d h) ≡ true
   waiting-return h k d is =
       let r : LastSignals h k = own-return h k is in
       waiting-apart h k d (λ x last. let same : r.0 ≡ x = let e : Some r.0 ≡ Some x = sym r.1 ∙ last in cc in
@@ -64,71 +77,92 @@ module _ {S : Type 0} where
 
   -- an event of one that waits nowhere, which concerns no other, changes who waits only by its own wait
   waiting-own : (h : List (Event S)) (e : Event S) (d : ℕ) → ((j : ℕ) → concerns d j e ≡ (place_of e == j))
-      → list_all (λ x. not (place_of e == place_of x)) (waiting d h) ≡ true → waiting d (h ++ e ∷ []) ≡ waiting d h ++ cond (waits_on d e) (e ∷ []) []
+      → list_all (λ x. not (place_of e == place_of x)) (waiting d h) ≡ true
+      → waiting d (h ++ e ∷ []) ≡ waiting d h ++ cond (waits_on d e) (e ∷ []) []
   waiting-own h e d own_alone apart = waiting-push d h e
       ∙ ap (λ l. l ++ cond (waits_on d e) (e ∷ []) []) (filter-all (λ x. not (concerns d (place_of x) e)) (waiting d h)
       (list_all-same (λ x. not (concerns d (place_of x) e)) (λ x. not (place_of e == place_of x)) (waiting d h) (λ x. ap not (own_alone (place_of x))) ∙ apart))
 
   -- a wait adds itself
-  pub waiting-wait : (h : List (Event S)) (k c p d : ℕ) (s : S) → turn h ≡ Held k → waiting d (h ++ Wait k c p s ∷ []) ≡ waiting d h ++ cond (c == d) (Wait k c p s ∷ []) []
-  waiting-wait h k c p d s is = waiting-own h (Wait k c p s) d (λ j. concerns-own (Wait k c p s) d j refl) (waiting-held h k d is)
+  pub waiting-wait : (h : List (Event S)) (k c p d : ℕ) (s : S) → turn h ≡ Held k
+      → waiting d (h ++ Wait k c p s ∷ []) ≡ waiting d h ++ cond (c == d) (Wait k c p s ∷ []) []
+  waiting-wait h k c p d s is =
+      waiting-own h (Wait k c p s) d (λ j. concerns-own (Wait k c p s) d j refl) (waiting-held h k d is)
 
   -- so the priorities stay, where it is no wait
-  pub priorities-own : (h : List (Event S)) (e : Event S) → ((d j : ℕ) → concerns d j e ≡ (place_of e == j)) → ((d : ℕ) → waits_on d e ≡ false)
-      → ((d : ℕ) → list_all (λ x. not (place_of e == place_of x)) (waiting d h) ≡ true) → priorities (h ++ e ∷ []) ≡ priorities h
+  pub priorities-own : (h : List (Event S)) (e : Event S) → ((d j : ℕ) → concerns d j e ≡ (place_of e == j))
+      → ((d : ℕ) → waits_on d e ≡ false)
+      → ((d : ℕ) → list_all (λ x. not (place_of e == place_of x)) (waiting d h) ≡ true)
+      → priorities (h ++ e ∷ []) ≡ priorities h
   unfolding priorities
   priorities-own h e own_alone no_wait apart = λ i d. map priority_of (in_order priority_of
       ((waiting-own h e d (own_alone d) (apart d) ∙ ap (λ b. waiting d h ++ cond b (e ∷ []) []) (no_wait d) ∙ append-nil _) i))
 
   -- as at a leave
-  pub priorities-leave : (h : List (Event S)) (k : ℕ) (s : S) → turn h ≡ Held k → priorities (h ++ Leave k s ∷ []) ≡ priorities h
-  priorities-leave h k s is = priorities-own h (Leave k s) (λ d j. concerns-own (Leave k s) d j refl) (λ d. refl) (λ d. waiting-held h k d is)
+  pub priorities-leave : (h : List (Event S)) (k : ℕ) (s : S) → turn h ≡ Held k
+      → priorities (h ++ Leave k s ∷ []) ≡ priorities h
+  priorities-leave h k s is =
+      priorities-own h (Leave k s) (λ d j. concerns-own (Leave k s) d j refl) (λ d. refl) (λ d. waiting-held h k d is)
 
   -- who waits on d, in the order in which signals would resume them
   abbrev pub in_turn : List (Event S) → ℕ → List (Event S)
   in_turn h d = in_order priority_of (waiting d h)
 
   -- a wait is put in
-  pub in_turn-wait : (h : List (Event S)) (k c p d : ℕ) (s : S) → turn h ≡ Held k → in_turn (h ++ Wait k c p s ∷ []) d ≡ cond (d == c) (put_in priority_of (Wait k c p s) (in_turn h d)) (in_turn h d)
+  pub in_turn-wait : (h : List (Event S)) (k c p d : ℕ) (s : S) → turn h ≡ Held k
+      → in_turn (h ++ Wait k c p s ∷ []) d ≡ cond (d == c) (put_in priority_of (Wait k c p s) (in_turn h d)) (in_turn h d)
   in_turn-wait h k c p d s is = ap (in_order priority_of) (waiting-wait h k c p d s is) ∙ by (d == c) refl
     where
-      by : (t : Bool) → (d == c) ≡ t → in_order priority_of (waiting d h ++ cond (c == d) (Wait k c p s ∷ []) []) ≡ cond t (put_in priority_of (Wait k c p s) (in_turn h d)) (in_turn h d)
-      by true e = ap (λ t. in_order priority_of (waiting d h ++ cond t (Wait k c p s ∷ []) [])) (eq_swap c d ∙ e) ∙ put_all-push priority_of [] (waiting d h) (Wait k c p s)
-      by false e = ap (λ t. in_order priority_of (waiting d h ++ cond t (Wait k c p s ∷ []) [])) (eq_swap c d ∙ e) ∙ ap (in_order priority_of) (append-nil (waiting d h))
+      by : (t : Bool) → (d == c) ≡ t
+          → in_order priority_of (waiting d h ++ cond (c == d) (Wait k c p s ∷ []) []) ≡ cond t (put_in priority_of (Wait k c p s) (in_turn h d)) (in_turn h d)
+      by true e =
+          ap (λ t. in_order priority_of (waiting d h ++ cond t (Wait k c p s ∷ []) [])) (eq_swap c d ∙ e)
+          ∙ put_all-push priority_of [] (waiting d h) (Wait k c p s)
+      by false e =
+          ap (λ t. in_order priority_of (waiting d h ++ cond t (Wait k c p s ∷ []) [])) (eq_swap c d ∙ e)
+          ∙ ap (in_order priority_of) (append-nil (waiting d h))
 
-  priorities-wait_at : (h : List (Event S)) (k c p d : ℕ) (s : S) → turn h ≡ Held k → priorities (h ++ Wait k c p s ∷ []) d ≡ joined (priorities h) c p d
+  priorities-wait_at : (h : List (Event S)) (k c p d : ℕ) (s : S) → turn h ≡ Held k
+      → priorities (h ++ Wait k c p s ∷ []) d ≡ joined (priorities h) c p d
   unfolding priorities
   priorities-wait_at h k c p d s is = ap (map priority_of) (in_turn-wait h k c p d s is) ∙ by (d == c)
     where
-      by : (t : Bool) → map priority_of (cond t (put_in priority_of (Wait k c p s) (in_turn h d)) (in_turn h d)) ≡ cond t
+      by : (t : Bool)
+          → map priority_of (cond t (put_in priority_of (Wait k c p s) (in_turn h d)) (in_turn h d)) ≡ cond t
           (put_in (λ n. n) p (map priority_of (in_turn h d))) (map priority_of (in_turn h d))
       by true = map-put_in priority_of (Wait k c p s) (in_turn h d)
       by false = refl
 
   -- a wait puts its priority in
-  pub priorities-wait : (h : List (Event S)) (k c p : ℕ) (s : S) → turn h ≡ Held k → priorities (h ++ Wait k c p s ∷ []) ≡ joined (priorities h) c p
+  pub priorities-wait : (h : List (Event S)) (k c p : ℕ) (s : S) → turn h ≡ Held k
+      → priorities (h ++ Wait k c p s ∷ []) ≡ joined (priorities h) c p
   priorities-wait h k c p s is = λ i d. priorities-wait_at h k c p d s is i
 
   -- the chosen one is the first in order
-  pub in_turn-chosen : (c : ℕ) (h : List (Event S)) (x : Event S) → chosen c h ≡ Some x → in_turn h c ≡ x ∷ behind_first (in_turn h c)
+  pub in_turn-chosen : (c : ℕ) (h : List (Event S)) (x : Event S) → chosen c h ≡ Some x
+      → in_turn h c ≡ x ∷ behind_first (in_turn h c)
   unfolding chosen
   in_turn-chosen c h x is = first_is _ x (sym (chosen-first priority_of (waiting c h)) ∙ is)
 
   -- and its priority is the first of the waiting priorities
-  pub priorities-chosen : (c : ℕ) (h : List (Event S)) (x : Event S) → chosen c h ≡ Some x → priorities h c ≡ priority_of x ∷ behind_first (priorities h c)
+  pub priorities-chosen : (c : ℕ) (h : List (Event S)) (x : Event S) → chosen c h ≡ Some x
+      → priorities h c ≡ priority_of x ∷ behind_first (priorities h c)
   unfolding priorities
   priorities-chosen c h x is =
-      let e : priorities h c ≡ priority_of x ∷ map priority_of (behind_first (in_turn h c)) = ap (map priority_of) (in_turn-chosen c h x is) in
+      let e : priorities h c ≡ priority_of x ∷ map priority_of (behind_first (in_turn h c)) =
+      ap (map priority_of) (in_turn-chosen c h x is) in
       e ∙ ap (λ l. priority_of x ∷ behind_first l) (sym e)
 
   -- so at index 0 of them
-  pub slice_index-chosen : (c : ℕ) (h : List (Event S)) (x : Event S) → chosen c h ≡ Some x → slice_index (priorities h c) 0 ≡ priority_of x
+  pub slice_index-chosen : (c : ℕ) (h : List (Event S)) (x : Event S) → chosen c h ≡ Some x
+      → slice_index (priorities h c) 0 ≡ priority_of x
   slice_index-chosen c h x is = ap (λ l. slice_index l 0) (priorities-chosen c h x is)
 
   -- nobody is chosen only where nobody waits
   pub waiting-unchosen : (c : ℕ) (h : List (Event S)) → chosen c h ≡ None → waiting c h ≡ []
   unfolding chosen
-  waiting-unchosen c h is = in_order-none priority_of (waiting c h) (first_none _ (sym (chosen-first priority_of (waiting c h)) ∙ is))
+  waiting-unchosen c h is =
+      in_order-none priority_of (waiting c h) (first_none _ (sym (chosen-first priority_of (waiting c h)) ∙ is))
 
   -- where nobody waits, nobody is chosen
   pub chosen-nobody : (c : ℕ) (h : List (Event S)) → waiting c h ≡ [] → chosen c h ≡ None
@@ -146,29 +180,35 @@ module _ {S : Type 0} where
   waiting-no_priority c h none = in_order-none priority_of (waiting c h) (map-none priority_of _ none)
 
   -- somebody is chosen, whose place is w
-  pub Chooses-chosen : (c w : ℕ) (h : List (Event S)) → Chooses c h w → (x : Event S) × (chosen c h ≡ Some x) × (place_of x ≡ w)
+  pub Chooses-chosen : (c w : ℕ) (h : List (Event S)) → Chooses c h w
+      → (x : Event S) × (chosen c h ≡ Some x) × (place_of x ≡ w)
   unfolding Chooses
   Chooses-chosen c w h is = some_and (λ x. place_of x ≡ w) (chosen c h) is
 
   -- those in order behind the chosen one have other places
-  apart_behind : (c : ℕ) (h : List (Event S)) (x : Event S) → chosen c h ≡ Some x → list_all (λ y. not (place_of x == place_of y)) (behind_first (in_turn h c)) ≡ true
+  apart_behind : (c : ℕ) (h : List (Event S)) (x : Event S) → chosen c h ≡ Some x
+      → list_all (λ y. not (place_of x == place_of y)) (behind_first (in_turn h c)) ≡ true
   apart_behind c h x is =
       let short : filter (λ y. place_of x == place_of y) (in_turn h c) ≡ filter (λ y. place_of x == place_of y) (waiting c h) =
-      sym (in_order-filter priority_of (λ y. place_of x == place_of y) (waiting c h)) ∙ in_order-short priority_of _ (waiting-once c (place_of x) h) in
+      sym (in_order-filter priority_of (λ y. place_of x == place_of y) (waiting c h))
+      ∙ in_order-short priority_of _ (waiting-once c (place_of x) h) in
       let split : filter (λ y. place_of x == place_of y) (in_turn h c) ≡ x ∷ filter (λ y. place_of x == place_of y) (behind_first (in_turn h c)) =
       ap (filter (λ y. place_of x == place_of y)) (in_turn-chosen c h x is) ∙ ap
       (λ b. cond b (x ∷ filter (λ y. place_of x == place_of y) (behind_first (in_turn h c))) (filter (λ y. place_of x == place_of y) (behind_first (in_turn h c))))
       (eq-eqb (place_of x) (place_of x) refl) in
       let one : suc (length (filter (λ y. place_of x == place_of y) (behind_first (in_turn h c)))) ≡ length (filter (λ y. place_of x == place_of y) (waiting c h)) = ap length (sym split ∙ short) in
-      list_all-filter_none (λ y. place_of x == place_of y) _ (no_length _ (omega (arith, one, waiting-once c (place_of x) h)))
+      list_all-filter_none (λ y. place_of x == place_of y) _
+      (no_length _ (omega (arith, one, waiting-once c (place_of x) h)))
 
   -- who is left in order where the chosen one goes
-  in_turn-without : (c : ℕ) (h : List (Event S)) (x : Event S) → chosen c h ≡ Some x → in_order priority_of (filter (λ y. not (place_of x == place_of y)) (waiting c h)) ≡ behind_first (in_turn h c)
+  in_turn-without : (c : ℕ) (h : List (Event S)) (x : Event S) → chosen c h ≡ Some x
+      → in_order priority_of (filter (λ y. not (place_of x == place_of y)) (waiting c h)) ≡ behind_first (in_turn h c)
   in_turn-without c h x is =
       in_order-filter priority_of (λ y. not (place_of x == place_of y)) (waiting c h)
       ∙ ap (filter (λ y. not (place_of x == place_of y))) (in_turn-chosen c h x is)
       ∙ ap (λ b. cond (not b) (x ∷ filter (λ y. not (place_of x == place_of y)) (behind_first (in_turn h c)))
-      (filter (λ y. not (place_of x == place_of y)) (behind_first (in_turn h c)))) (eq-eqb (place_of x) (place_of x) refl)
+      (filter (λ y. not (place_of x == place_of y)) (behind_first (in_turn h c)))) (eq-eqb (place_of x)
+      (place_of x) refl)
       ∙ filter-all _ _ (apart_behind c h x is)
 
   map-behind_first : (xs : List (Event S)) → map priority_of (behind_first xs) ≡ behind_first (map priority_of xs)
@@ -176,14 +216,17 @@ module _ {S : Type 0} where
   map-behind_first (x ∷ xs) = refl
 
   -- an event that concerns k, which is inside, and w, whom it chooses, takes the chosen one from those that wait
-  in_turn-takes : (h : List (Event S)) (e : Event S) (k c w d : ℕ) → waits_on d e ≡ false → ((j : ℕ) → concerns d j e ≡ (k == j || w == j)) → turn h ≡ Held k → Chooses c h w
+  in_turn-takes : (h : List (Event S)) (e : Event S) (k c w d : ℕ) → waits_on d e ≡ false
+      → ((j : ℕ) → concerns d j e ≡ (k == j || w == j)) → turn h ≡ Held k → Chooses c h w
       → in_turn (h ++ e ∷ []) d ≡ cond (d == c) (behind_first (in_turn h d)) (in_turn h d)
   in_turn-takes h e k c w d no_wait both is chooses =
       let r : (x : Event S) × (chosen c h ≡ Some x) × (place_of x ≡ w) = Chooses-chosen c w h chooses in
       let left : waiting d (h ++ e ∷ []) ≡ filter (λ y. not (place_of r.0 == place_of y)) (waiting d h) =
       waiting-push d h e
-      ∙ ap (λ b. filter (λ x. not (concerns d (place_of x) e)) (waiting d h) ++ cond b (e ∷ []) []) no_wait ∙ append-nil _
-      ∙ filter_agree (λ x. not (concerns d (place_of x) e)) (λ x. not (k == place_of x || w == place_of x)) (λ x. ap not (both (place_of x))) (waiting d h)
+      ∙ ap (λ b. filter (λ x. not (concerns d (place_of x) e)) (waiting d h) ++ cond b (e ∷ []) []) no_wait
+      ∙ append-nil _
+      ∙ filter_agree (λ x. not (concerns d (place_of x) e)) (λ x. not (k == place_of x || w == place_of x))
+      (λ x. ap not (both (place_of x))) (waiting d h)
       ∙ filter-or (λ x. k == place_of x) (λ x. w == place_of x) (waiting d h) (waiting-held h k d is)
       ∙ ap (λ j. filter (λ y. not (j == place_of y)) (waiting d h)) (sym r.2) in
       ap (in_order priority_of) left ∙ by r.0 r.1 (d == c) refl
@@ -191,16 +234,20 @@ module _ {S : Type 0} where
       by : (x : Event S) → chosen c h ≡ Some x → (t : Bool) → (d == c) ≡ t
           → in_order priority_of (filter (λ y. not (place_of x == place_of y)) (waiting d h)) ≡ cond t (behind_first (in_turn h d)) (in_turn h d)
       by x some true same = let e : d ≡ c = eqb-true d c same in
-          subst (λ (b : ℕ). in_order priority_of (filter (λ y. not (place_of x == place_of y)) (waiting b h)) ≡ behind_first (in_turn h b)) (sym e) (in_turn-without c h x some)
+          subst
+          (λ (b : ℕ). in_order priority_of (filter (λ y. not (place_of x == place_of y)) (waiting b h)) ≡ behind_first (in_turn h b))
+          (sym e) (in_turn-without c h x some)
       by x some false other = ap (λ (l : List (Event S)). in_order priority_of l)
           (filter-all (λ y. not (place_of x == place_of y)) (waiting d h)
           (waiting-elsewhere c d h x (λ same. true≢false (sym (eq-eqb d c same) ∙ other)) (chosen-waits c h x some)))
 
-  map-taken : (h : List (Event S)) (c d : ℕ) → map priority_of (cond (d == c) (behind_first (in_turn h d)) (in_turn h d)) ≡ taken (priorities h) c d
+  map-taken : (h : List (Event S)) (c d : ℕ)
+      → map priority_of (cond (d == c) (behind_first (in_turn h d)) (in_turn h d)) ≡ taken (priorities h) c d
   unfolding priorities
   map-taken h c d = by (d == c)
     where
-      by : (t : Bool) → map priority_of (cond t (behind_first (in_turn h d)) (in_turn h d)) ≡ cond t (behind_first (map priority_of (in_turn h d))) (map priority_of (in_turn h d))
+      by : (t : Bool)
+          → map priority_of (cond t (behind_first (in_turn h d)) (in_turn h d)) ≡ cond t (behind_first (map priority_of (in_turn h d))) (map priority_of (in_turn h d))
       by true = map-behind_first (in_turn h d)
       by false = refl
 
@@ -212,12 +259,15 @@ module _ {S : Type 0} where
       (ap (map priority_of) (in_turn-takes h (handing out k c w s) k c w d (waits_on-handing out d k c w s) (λ j. concerns-handing out d j k c w s) is chooses) ∙ map-taken h c d) i
 
   -- so does a notify
-  pub priorities-notify : (h : List (Event S)) (k c w : ℕ) (s : S) → turn h ≡ Held k → Chooses c h w → priorities (h ++ Notify k c w s ∷ []) ≡ taken (priorities h) c
+  pub priorities-notify : (h : List (Event S)) (k c w : ℕ) (s : S) → turn h ≡ Held k → Chooses c h w
+      → priorities (h ++ Notify k c w s ∷ []) ≡ taken (priorities h) c
   unfolding priorities
-  priorities-notify h k c w s is chooses = λ i d. (ap (map priority_of) (in_turn-takes h (Notify k c w s) k c w d refl (λ j. refl) is chooses) ∙ map-taken h c d) i
+  priorities-notify h k c w s is chooses =
+      λ i d. (ap (map priority_of) (in_turn-takes h (Notify k c w s) k c w d refl (λ j. refl) is chooses) ∙ map-taken h c d) i
 
   -- a broadcast leaves nobody waiting on its condition, and the others as they were
-  pub waiting-broadcast : (h : List (Event S)) (k c d : ℕ) (s : S) → turn h ≡ Held k → waiting d (h ++ Broadcast k c s ∷ []) ≡ cond (d == c) [] (waiting d h)
+  pub waiting-broadcast : (h : List (Event S)) (k c d : ℕ) (s : S) → turn h ≡ Held k
+      → waiting d (h ++ Broadcast k c s ∷ []) ≡ cond (d == c) [] (waiting d h)
   waiting-broadcast h k c d s is =
       waiting-push d h (Broadcast k c s) ∙ append-nil _
       ∙ filter-or (λ x. k == place_of x) (λ x. c == d) (waiting d h) (waiting-held h k d is)
@@ -228,15 +278,19 @@ module _ {S : Type 0} where
       by true = filter-false (waiting d h)
       by false = filter-true (waiting d h)
 
-  priorities-broadcast_at : (h : List (Event S)) (k c d : ℕ) (s : S) → turn h ≡ Held k → priorities (h ++ Broadcast k c s ∷ []) d ≡ emptied (priorities h) c d
+  priorities-broadcast_at : (h : List (Event S)) (k c d : ℕ) (s : S) → turn h ≡ Held k
+      → priorities (h ++ Broadcast k c s ∷ []) d ≡ emptied (priorities h) c d
   unfolding priorities
-  priorities-broadcast_at h k c d s is = ap (λ ws. map priority_of (in_order priority_of ws)) (waiting-broadcast h k c d s is) ∙ by (d == c)
+  priorities-broadcast_at h k c d s is =
+      ap (λ ws. map priority_of (in_order priority_of ws)) (waiting-broadcast h k c d s is) ∙ by (d == c)
     where
-      by : (t : Bool) → map priority_of (in_order priority_of (cond t [] (waiting d h))) ≡ cond t [] (map priority_of (in_turn h d))
+      by : (t : Bool)
+          → map priority_of (in_order priority_of (cond t [] (waiting d h))) ≡ cond t [] (map priority_of (in_turn h d))
       by true = refl
       by false = refl
 
-  pub priorities-broadcast : (h : List (Event S)) (k c : ℕ) (s : S) → turn h ≡ Held k → priorities (h ++ Broadcast k c s ∷ []) ≡ emptied (priorities h) c
+  pub priorities-broadcast : (h : List (Event S)) (k c : ℕ) (s : S) → turn h ≡ Held k
+      → priorities (h ++ Broadcast k c s ∷ []) ≡ emptied (priorities h) c
   priorities-broadcast h k c s is = λ i d. priorities-broadcast_at h k c d s is i
 
   -- as many priorities wait as processes

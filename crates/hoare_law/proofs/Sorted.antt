@@ -1,6 +1,7 @@
 -- Lists in order of their keys: what one more element, a filter and a map do to them, and that they rise.
 use Rattle.std.proofs.Common.{◌≡◌, ℕ, ◌<◌, Bool, true, false, cond, leb, ◌&&◌, List, [], ◌∷◌, ◌++◌, map}
-use Rattle.std.proofs.Common.{refl, ap, sym, ◌∙◌, zero, suc, ◌+◌, ◌≤◌, length, get_or, subst, append_assoc, arith, Some, None, Option}
+use Rattle.std.proofs.Common.{refl, ap, sym, ◌∙◌, zero, suc, ◌+◌, ◌≤◌, length, get_or, subst, append_assoc, arith, Some}
+use Rattle.std.proofs.Common.{None, Option}
 use Rattle.std.specs.List.{list_all, filter, find}
 use Rattle.hoare_law.specs.Priorities.{behind_first, put_in, put_all, in_order}
 use Rattle.hoare_law.proofs.Tests.{both_true, not_below, lower, above, below, list_all-filter}
@@ -21,7 +22,8 @@ module _ {X : Type 0} (key : X → ℕ) where
   put_all-push vs [] w = refl
   put_all-push vs (x ∷ ws) w = put_all-push (put_in key x vs) ws w
 
-  pub list_all-lower : (n m : ℕ) (ws : List X) → m < n → list_all (λ v. leb n (key v)) ws ≡ true → list_all (λ v. leb m (key v)) ws ≡ true
+  pub list_all-lower : (n m : ℕ) (ws : List X) → m < n → list_all (λ v. leb n (key v)) ws ≡ true
+      → list_all (λ v. leb m (key v)) ws ≡ true
   list_all-lower n m [] l h = refl
   list_all-lower n m (x ∷ ws) l h =
       let parts : (leb n (key x) ≡ true) × (list_all (λ v. leb n (key v)) ws ≡ true) = both_true _ _ h in
@@ -34,15 +36,18 @@ module _ {X : Type 0} (key : X → ℕ) where
   Rising (v ∷ vs) = (list_all (λ x. leb (key v) (key x)) vs ≡ true) × Rising vs
 
   all_put_by : (t : Bool) (q : X → Bool) (w v : X) (vs : List X) → q w ≡ true → (q v && list_all q vs) ≡ true
-      → (list_all q vs ≡ true → list_all q (put_in key w vs) ≡ true) → list_all q (cond t (v ∷ put_in key w vs) (w ∷ v ∷ vs)) ≡ true
+      → (list_all q vs ≡ true → list_all q (put_in key w vs) ≡ true)
+      → list_all q (cond t (v ∷ put_in key w vs) (w ∷ v ∷ vs)) ≡ true
   all_put_by true q w v vs a b r = let p : (q v ≡ true) × (list_all q vs ≡ true) = both_true _ _ b in rw p.0 (r p.1)
   all_put_by false q w v vs a b r = rw a b
 
-  pub list_all-put_in : (q : X → Bool) (w : X) (vs : List X) → q w ≡ true → list_all q vs ≡ true → list_all q (put_in key w vs) ≡ true
+  pub list_all-put_in : (q : X → Bool) (w : X) (vs : List X) → q w ≡ true → list_all q vs ≡ true
+      → list_all q (put_in key w vs) ≡ true
   list_all-put_in q w [] a b = rw a refl
   list_all-put_in q w (v ∷ vs) a b = all_put_by (leb (key v) (key w)) q w v vs a b (list_all-put_in q w vs a)
 
-  rising_by : (t : Bool) (w v : X) (vs : List X) → leb (key v) (key w) ≡ t → list_all (λ x. leb (key v) (key x)) vs ≡ true → Rising vs → Rising (put_in key w vs)
+  rising_by : (t : Bool) (w v : X) (vs : List X) → leb (key v) (key w) ≡ t
+      → list_all (λ x. leb (key v) (key x)) vs ≡ true → Rising vs → Rising (put_in key w vs)
       → Rising (cond t (v ∷ put_in key w vs) (w ∷ v ∷ vs))
   rising_by true w v vs t a r p = (list_all-put_in (λ x. leb (key v) (key x)) w vs t a, p)
   rising_by false w v vs t a r p =
@@ -53,27 +58,35 @@ module _ {X : Type 0} (key : X → ℕ) where
   Rising-put_in w (v ∷ vs) r = rising_by (leb (key v) (key w)) w v vs refl r.0 r.1 (Rising-put_in w vs r.1)
 
   -- before a list of higher ones
-  pub put_front : (w : X) (n : ℕ) (vs : List X) → (key w) < n → list_all (λ x. leb n (key x)) vs ≡ true → put_in key w vs ≡ w ∷ vs
+  pub put_front : (w : X) (n : ℕ) (vs : List X) → (key w) < n → list_all (λ x. leb n (key x)) vs ≡ true
+      → put_in key w vs ≡ w ∷ vs
   put_front w n [] l a = refl
   put_front w n (v ∷ vs) l a =
       let p : (leb n (key v) ≡ true) × (list_all (λ x. leb n (key x)) vs ≡ true) = both_true _ _ a in
       rw (not_below n (key v) (key w) p.0 l) refl
 
   -- a filter and a waiter put in change places
-  keep_put_by : (t s : Bool) (p : X → Bool) (w v : X) (vs : List X) → p w ≡ true → p v ≡ s → leb (key v) (key w) ≡ t → list_all (λ x. leb (key v) (key x)) vs ≡ true
-      → filter p (put_in key w vs) ≡ put_in key w (filter p vs) → filter p (cond t (v ∷ put_in key w vs) (w ∷ v ∷ vs)) ≡ put_in key w
+  keep_put_by : (t s : Bool) (p : X → Bool) (w v : X) (vs : List X) → p w ≡ true → p v ≡ s → leb (key v) (key w) ≡ t
+      → list_all (λ x. leb (key v) (key x)) vs ≡ true
+      → filter p (put_in key w vs) ≡ put_in key w (filter p vs)
+      → filter p (cond t (v ∷ put_in key w vs) (w ∷ v ∷ vs)) ≡ put_in key w
       (cond s (v ∷ filter p vs) (filter p vs))
   keep_put_by true true p w v vs k s t a r = rw (s, t) (ap (λ l. v ∷ l) r)
   keep_put_by true false p w v vs k s t a r = rw s r
   keep_put_by false true p w v vs k s t a r = rw (k, s, t) refl
   keep_put_by false false p w v vs k s t a r =
-      rw (k, s) (sym (put_front w (key v) (filter p vs) (above (key v) (key w) t) (list_all-filter (λ x. leb (key v) (key x)) p vs a)))
+      rw (k, s)
+      (sym (put_front w (key v) (filter p vs) (above (key v) (key w) t) (list_all-filter (λ x. leb (key v) (key x)) p vs a)))
 
-  put_in-filter_kept : (p : X → Bool) (w : X) (vs : List X) → p w ≡ true → Rising vs → filter p (put_in key w vs) ≡ put_in key w (filter p vs)
+  put_in-filter_kept : (p : X → Bool) (w : X) (vs : List X) → p w ≡ true → Rising vs
+      → filter p (put_in key w vs) ≡ put_in key w (filter p vs)
   put_in-filter_kept p w [] k r = rw k refl
-  put_in-filter_kept p w (v ∷ vs) k r = keep_put_by (leb (key v) (key w)) (p v) p w v vs k refl refl r.0 (put_in-filter_kept p w vs k r.1)
+  put_in-filter_kept p w (v ∷ vs) k r =
+      keep_put_by (leb (key v) (key w)) (p v) p w v vs k refl refl r.0 (put_in-filter_kept p w vs k r.1)
 
-  drop_put_by : (t : Bool) (p : X → Bool) (w v : X) (vs : List X) → p w ≡ false → filter p (put_in key w vs) ≡ filter p vs → filter p (cond t (v ∷ put_in key w vs) (w ∷ v ∷ vs)) ≡ filter p (v ∷ vs)
+  drop_put_by : (t : Bool) (p : X → Bool) (w v : X) (vs : List X) → p w ≡ false
+      → filter p (put_in key w vs) ≡ filter p vs
+      → filter p (cond t (v ∷ put_in key w vs) (w ∷ v ∷ vs)) ≡ filter p (v ∷ vs)
   drop_put_by true p w v vs k r = ap (λ l. cond (p v) (v ∷ l) l) r
   drop_put_by false p w v vs k r = rw k refl
 
@@ -84,10 +97,15 @@ module _ {X : Type 0} (key : X → ℕ) where
   order_by : (t : Bool) (p : X → Bool) (vs ws : List X) (w : X) → p w ≡ t → Rising vs
       → ((us : List X) → Rising us → put_all key (filter p us) (filter p ws) ≡ filter p (put_all key us ws))
       → put_all key (filter p vs) (cond t (w ∷ filter p ws) (filter p ws)) ≡ filter p (put_all key (put_in key w vs) ws)
-  order_by true p vs ws w k r f = ap (λ l. put_all key l (filter p ws)) (sym (put_in-filter_kept p w vs k r)) ∙ f (put_in key w vs) (Rising-put_in w vs r)
-  order_by false p vs ws w k r f = ap (λ l. put_all key l (filter p ws)) (sym (put_in-filter_dropped p w vs k)) ∙ f (put_in key w vs) (Rising-put_in w vs r)
+  order_by true p vs ws w k r f =
+      ap (λ l. put_all key l (filter p ws)) (sym (put_in-filter_kept p w vs k r))
+      ∙ f (put_in key w vs) (Rising-put_in w vs r)
+  order_by false p vs ws w k r f =
+      ap (λ l. put_all key l (filter p ws)) (sym (put_in-filter_dropped p w vs k))
+      ∙ f (put_in key w vs) (Rising-put_in w vs r)
 
-  put_all-filter : (p : X → Bool) (ws vs : List X) → Rising vs → put_all key (filter p vs) (filter p ws) ≡ filter p (put_all key vs ws)
+  put_all-filter : (p : X → Bool) (ws vs : List X) → Rising vs
+      → put_all key (filter p vs) (filter p ws) ≡ filter p (put_all key vs ws)
   put_all-filter p [] vs r = refl
   put_all-filter p (w ∷ ws) vs r = order_by (p w) p vs ws w refl r (λ us q. put_all-filter p ws us q)
 
@@ -96,7 +114,8 @@ module _ {X : Type 0} (key : X → ℕ) where
   in_order-filter p ws = put_all-filter p ws [] tt
 
 -- a key that a map carries over
-pub put_in-map : {X Y : Type 0} (f : X → Y) (key : Y → ℕ) (x : X) (xs : List X) → put_in key (f x) (map f xs) ≡ map f (put_in (λ v. key (f v)) x xs)
+pub put_in-map : {X Y : Type 0} (f : X → Y) (key : Y → ℕ) (x : X) (xs : List X)
+    → put_in key (f x) (map f xs) ≡ map f (put_in (λ v. key (f v)) x xs)
 put_in-map f key x [] = refl
 put_in-map f key x (y ∷ ys) = by (leb (key (f y)) (key (f x))) (put_in-map f key x ys)
   where
@@ -112,7 +131,8 @@ module _ {X : Type 0} (key : X → ℕ) where
 
   map-put_all : (vs ws : List X) → map key (put_all key vs ws) ≡ put_all (λ n. n) (map key vs) (map key ws)
   map-put_all vs [] = refl
-  map-put_all vs (w ∷ ws) = map-put_all (put_in key w vs) ws ∙ ap (λ l. put_all (λ n. n) l (map key ws)) (map-put_in w vs)
+  map-put_all vs (w ∷ ws) =
+      map-put_all (put_in key w vs) ws ∙ ap (λ l. put_all (λ n. n) l (map key ws)) (map-put_in w vs)
 
   -- the keys of a list in order are its keys in order
   pub map-in_order : (xs : List X) → map key (in_order key xs) ≡ in_order (λ n. n) (map key xs)
@@ -126,11 +146,13 @@ module _ {X : Type 0} (key : X → ℕ) where
   pub Rising-in_order : (xs : List X) → Rising key (in_order key xs)
   Rising-in_order xs = Rising-put_all [] xs tt
 
-  before_last : (vs : List X) (w : X) (ws : List X) → Rising key (vs ++ w ∷ ws) → list_all (λ v. leb (key v) (key w)) vs ≡ true
+  before_last : (vs : List X) (w : X) (ws : List X) → Rising key (vs ++ w ∷ ws)
+      → list_all (λ v. leb (key v) (key w)) vs ≡ true
   before_last [] w ws r = refl
   before_last (v ∷ vs) w ws r = rw (all_at vs w ws r.0) (before_last vs w ws r.1)
     where
-      all_at : (us : List X) (u : X) (ts : List X) → list_all (λ x. leb (key v) (key x)) (us ++ u ∷ ts) ≡ true → leb (key v) (key u) ≡ true
+      all_at : (us : List X) (u : X) (ts : List X) → list_all (λ x. leb (key v) (key x)) (us ++ u ∷ ts) ≡ true
+          → leb (key v) (key u) ≡ true
       all_at [] u ts a = (both_true _ _ a).0
       all_at (x ∷ us) u ts a = all_at us u ts (both_true _ _ a).1
 
@@ -166,7 +188,8 @@ module _ {X : Type 0} (key : X → ℕ) where
     where
       by : HasLast xs → xs ≡ []
       by (nothing is) = is
-      by (pushed ys y is) = absurd (put_in-some y (in_order key ys) (sym (put_all-push key [] ys y) ∙ ap (in_order key) (sym is) ∙ none))
+      by (pushed ys y is) =
+          absurd (put_in-some y (in_order key ys) (sym (put_all-push key [] ys y) ∙ ap (in_order key) (sym is) ∙ none))
 
   -- at most one is in order
   pub in_order-short : (xs : List X) → length xs ≤ 1 → in_order key xs ≡ xs
@@ -179,7 +202,8 @@ module _ {X : Type 0} (key : X → ℕ) where
   length-put_in x [] = refl
   length-put_in x (y ∷ ys) = by (leb (key y) (key x)) (length-put_in x ys)
     where
-      by : (t : Bool) → length (put_in key x ys) ≡ suc (length ys) → length (cond t (y ∷ put_in key x ys) (x ∷ y ∷ ys)) ≡ suc (suc (length ys))
+      by : (t : Bool) → length (put_in key x ys) ≡ suc (length ys)
+          → length (cond t (y ∷ put_in key x ys) (x ∷ y ∷ ys)) ≡ suc (suc (length ys))
       by true rest = ap suc rest
       by false rest = refl
 
@@ -203,7 +227,8 @@ IsNonDecreasing-from_Rising [] r i j d below l = absurd (omega arith)
 IsNonDecreasing-from_Rising (x ∷ xs) r zero zero d below l = omega arith
 IsNonDecreasing-from_Rising (x ∷ xs) r zero (suc j) d below l = above_all x xs j d r.0 (omega arith)
 IsNonDecreasing-from_Rising (x ∷ xs) r (suc i) zero d below l = absurd (omega arith)
-IsNonDecreasing-from_Rising (x ∷ xs) r (suc i) (suc j) d below l = IsNonDecreasing-from_Rising xs r.1 i j d (omega arith) (omega arith)
+IsNonDecreasing-from_Rising (x ∷ xs) r (suc i) (suc j) d below l =
+    IsNonDecreasing-from_Rising xs r.1 i j d (omega arith) (omega arith)
 
 -- numbers in order do not decrease
 pub IsNonDecreasing-in_order : (xs : List ℕ) → IsNonDecreasing (in_order (λ n. n) xs)
@@ -215,7 +240,8 @@ module _ {X : Type 0} (key : X → ℕ) where
   in_order-in_order xs = in_order-rising key (in_order key xs) (Rising-in_order key xs)
 
   -- of a list and perhaps one more
-  pub in_order-push : (t : Bool) (x : X) (xs : List X) → in_order key (xs ++ cond t (x ∷ []) []) ≡ cond t (put_in key x (in_order key xs)) (in_order key xs)
+  pub in_order-push : (t : Bool) (x : X) (xs : List X)
+      → in_order key (xs ++ cond t (x ∷ []) []) ≡ cond t (put_in key x (in_order key xs)) (in_order key xs)
   in_order-push true x xs = put_all-push key [] xs x
   in_order-push false x xs = ap (in_order key) (append-nil xs)
 
@@ -225,7 +251,8 @@ module _ {X : Type 0} (key : X → ℕ) where
 
   -- one more put into what stands in order leaves it so
   pub in_order-put_in : (x : X) (xs : List X) → in_order key xs ≡ xs → in_order key (put_in key x xs) ≡ put_in key x xs
-  in_order-put_in x xs o = ap (in_order key) (put_in-pushed x xs o) ∙ in_order-in_order (xs ++ x ∷ []) ∙ sym (put_in-pushed x xs o)
+  in_order-put_in x xs o =
+      ap (in_order key) (put_in-pushed x xs o) ∙ in_order-in_order (xs ++ x ∷ []) ∙ sym (put_in-pushed x xs o)
 
   -- a filter leaves what stands in order so
   pub in_order-filtered : (p : X → Bool) (xs : List X) → in_order key xs ≡ xs → in_order key (filter p xs) ≡ filter p xs
@@ -236,7 +263,8 @@ pub find-filter : {X : Type 0} (p : X → Bool) (xs : List X) → find p xs ≡ 
 find-filter p [] = refl
 find-filter p (x ∷ xs) = by (p x) (find-filter p xs)
   where
-    by : (t : Bool) → find p xs ≡ first_of (filter p xs) → cond t (Some x) (find p xs) ≡ first_of (cond t (x ∷ filter p xs) (filter p xs))
+    by : (t : Bool) → find p xs ≡ first_of (filter p xs)
+        → cond t (Some x) (find p xs) ≡ first_of (cond t (x ∷ filter p xs) (filter p xs))
     by true rest = refl
     by false rest = rest
 
@@ -252,7 +280,8 @@ module _ {X : Type 0} (key : X → ℕ) (P : X → Type 0) where
 
   All-put_all : (placed xs : List X) → All P placed → All P xs → All P (put_all key placed xs)
   All-put_all placed [] a b = a
-  All-put_all placed (x ∷ xs) a b = All-put_all (put_in key x placed) xs (All-put_in_by x placed (All-head P x xs b) a) (All-tail P x xs b)
+  All-put_all placed (x ∷ xs) a b =
+      All-put_all (put_in key x placed) xs (All-put_in_by x placed (All-head P x xs b) a) (All-tail P x xs b)
 
   -- what holds of all holds of all in order
   pub All-in_order : (xs : List X) → All P xs → All P (in_order key xs)

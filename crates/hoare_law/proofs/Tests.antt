@@ -31,11 +31,14 @@ self_least n = grind (arith, nat_tests)
 pub below : (v w : ℕ) → leb v w ≡ false → leb w v ≡ true
 below v w h = grind (arith, nat_tests)
 
-pub list_all-push : {X : Type 0} (p : X → Bool) (ws : List X) (w : X) → list_all p (ws ++ w ∷ []) ≡ (list_all p ws && p w)
+pub list_all-push : {X : Type 0} (p : X → Bool) (ws : List X) (w : X)
+    → list_all p (ws ++ w ∷ []) ≡ (list_all p ws && p w)
 list_all-push p [] w = elim (p w) as (λ b. (b && true) ≡ b) [ true ↦ refl | false ↦ refl ]
-list_all-push p (x ∷ ws) w = elim (p x) as (λ b. (b && list_all p (ws ++ w ∷ [])) ≡ ((b && list_all p ws) && p w)) [ true ↦ list_all-push p ws w | false ↦ refl ]
+list_all-push p (x ∷ ws) w =
+    elim (p x) as (λ b. (b && list_all p (ws ++ w ∷ [])) ≡ ((b && list_all p ws) && p w)) [ true ↦ list_all-push p ws w | false ↦ refl ]
 
-pub list_all-filter : {X : Type 0} (q p : X → Bool) (vs : List X) → list_all q vs ≡ true → list_all q (filter p vs) ≡ true
+pub list_all-filter : {X : Type 0} (q p : X → Bool) (vs : List X) → list_all q vs ≡ true
+    → list_all q (filter p vs) ≡ true
 list_all-filter q p [] a = refl
 list_all-filter q p (v ∷ vs) a =
     let b : (q v ≡ true) × (list_all q vs ≡ true) = both_true _ _ a in

@@ -6,15 +6,18 @@ use Rattle.std.specs.List.{filter, list_all}
 use Rattle.std.proofs.lemmas.List.Elements.{All-head, All-weaker, All-map, filter-append}
 use Rattle.hoare_law.specs.declared.event.Event.{Event}
 use Rattle.hoare_law.specs.declared.event.History.{History}
-use Rattle.hoare_law.specs.declared.event.Event.TheVariants.{Admit, Wait, Signal, Pass, Leave, Resume, Back, Notify, Broadcast}
+use Rattle.hoare_law.specs.declared.event.Event.TheVariants.{Admit, Wait, Signal, Pass, Leave, Resume, Back, Notify}
+use Rattle.hoare_law.specs.declared.event.Event.TheVariants.{Broadcast}
 use Rattle.hoare_law.specs.declared.turn.Turn.TheVariants.{Held, Return}
 use Rattle.hoare_law.specs.Events.{place_of, own, newest, cut_to}
-use Rattle.hoare_law.specs.Waiting.{condition_of, filter_by_later, waits_on, concerns, is_last_act, is_untouched, is_least, waiting, chosen}
+use Rattle.hoare_law.specs.Waiting.{condition_of, filter_by_later, waits_on, concerns, is_last_act, is_untouched}
+use Rattle.hoare_law.specs.Waiting.{is_least, waiting, chosen}
 use Rattle.hoare_law.specs.Turns.{is_signal, urgent, turn}
 use Rattle.hoare_law.specs.Legal.{IsInRange, IsLegal}
 use Rattle.hoare_law.proofs.Tests.{both_true, eq_swap}
 use Rattle.hoare_law.proofs.Events.{newest-push}
-use Rattle.hoare_law.proofs.Filters.{filter-none, list_all-at, list_all-from_All, All-find, find-passes, All-filter_by_later}
+use Rattle.hoare_law.proofs.Filters.{filter-none, list_all-at, list_all-from_All, All-find, find-passes}
+use Rattle.hoare_law.proofs.Filters.{All-filter_by_later}
 use Rattle.hoare_law.proofs.Held.{is_inside, handing, own_is_concerned, waits_on-is, turn-held, turn-return}
 
 module _ {S : Type 0} where
@@ -27,15 +30,19 @@ module _ {S : Type 0} where
   own_none k later a = filter-none (λ x. place_of x == k) later a
 
   -- an event behind which its place does nothing is the place's last
-  newest-own_split : (f later : List (Event S)) (x : Event S) (h : List (Event S)) → h ≡ f ++ x ∷ later → list_all (λ y. not (place_of y == place_of x)) later ≡ true
+  newest-own_split : (f later : List (Event S)) (x : Event S) (h : List (Event S)) → h ≡ f ++ x ∷ later
+      → list_all (λ y. not (place_of y == place_of x)) later ≡ true
       → newest (own (place_of x) h) ≡ Some x
   newest-own_split f later x h is a =
       let k : ℕ = place_of x in
-      let tail : own k (x ∷ later) ≡ x ∷ [] = ap (λ b. cond b (x ∷ own k later) (own k later)) (eq-eqb k k refl) ∙ ap (λ l. x ∷ l) (own_none k later a) in
-      let whole : own k h ≡ own k f ++ x ∷ [] = ap (own k) is ∙ filter-append (λ y. place_of y == k) f (x ∷ later) ∙ ap (λ l. own k f ++ l) tail in
+      let tail : own k (x ∷ later) ≡ x ∷ [] =
+      ap (λ b. cond b (x ∷ own k later) (own k later)) (eq-eqb k k refl) ∙ ap (λ l. x ∷ l) (own_none k later a) in
+      let whole : own k h ≡ own k f ++ x ∷ [] =
+      ap (own k) is ∙ filter-append (λ y. place_of y == k) f (x ∷ later) ∙ ap (λ l. own k f ++ l) tail in
       ap newest whole ∙ newest-push (own k f) x
 
-  untouched_last : (c k : ℕ) (later : List (Event S)) → list_all (λ y. not (concerns c k y)) later ≡ true → list_all (λ y. not (place_of y == k)) later ≡ true
+  untouched_last : (c k : ℕ) (later : List (Event S)) → list_all (λ y. not (concerns c k y)) later ≡ true
+      → list_all (λ y. not (place_of y == k)) later ≡ true
   untouched_last c k [] a = refl
   untouched_last c k (y ∷ later) a =
       let b : (not (concerns c k y) ≡ true) × (list_all (λ z. not (concerns c k z)) later ≡ true) = both_true _ _ a in
@@ -56,38 +63,48 @@ module _ {S : Type 0} where
   -- so says each place that stands among the signallers
   pub All-urgent : (h : List (Event S)) → All (LastSignals h) (urgent h)
   unfolding urgent
-  All-urgent h = All-map (LastSignals h) place_of _ (All-filter_by_later (λ x. LastSignals h (place_of x)) (λ e later. is_signal e && is_last_act e later) h
+  All-urgent h =
+      All-map (LastSignals h) place_of _
+      (All-filter_by_later (λ x. LastSignals h (place_of x)) (λ e later. is_signal e && is_last_act e later) h
       (λ f x later is t.
       let b : (is_signal x ≡ true) × (is_last_act x later ≡ true) = both_true _ _ t in
       (x, newest-own_split f later x h is b.1, b.0)))
 
   -- wherever an event of a legal history stands, it is in range
-  pub in_range-at : (h : History S) (f later : List (Event S)) (e : Event S) → IsLegal h → h.events ≡ f ++ e ∷ later → IsInRange h.sizes e
+  pub in_range-at : (h : History S) (f later : List (Event S)) (e : Event S) → IsLegal h → h.events ≡ f ++ e ∷ later
+      → IsInRange h.sizes e
   in_range-at h f later e legal is = (legal.each f later e is).in_range
 
   -- of each kind that stands by what comes later
-  pub All-in_range : (h : History S) (test : Event S → List (Event S) → Bool) → IsLegal h → All (IsInRange h.sizes) (filter_by_later test h.events)
-  All-in_range h test legal = All-filter_by_later (IsInRange h.sizes) test h.events (λ f e later is t. in_range-at h f later e legal is)
+  pub All-in_range : (h : History S) (test : Event S → List (Event S) → Bool) → IsLegal h
+      → All (IsInRange h.sizes) (filter_by_later test h.events)
+  All-in_range h test legal =
+      All-filter_by_later (IsInRange h.sizes) test h.events (λ f e later is t. in_range-at h f later e legal is)
 
-  pub handing_in_range : (out : Bool) (h : History S) (k c w : ℕ) (s : S) → IsInRange h.sizes (handing out k c w s) → (w < h.sizes.places) × (c < h.sizes.conditions)
+  pub handing_in_range : (out : Bool) (h : History S) (k c w : ℕ) (s : S) → IsInRange h.sizes (handing out k c w s)
+      → (w < h.sizes.places) × (c < h.sizes.conditions)
   handing_in_range true h k c w s r = (r.1.1, r.1.0)
   handing_in_range false h k c w s r = (r.1.1, r.1.0)
 
   -- who has the turn is a place of the monitor
   pub held-in_range : (h : History S) (k : ℕ) → IsLegal h → turn h.events ≡ Held k → k < h.sizes.places
   held-in_range h k legal is =
-      let r : (e : Event S) × ((g : List (Event S)) × (h.events ≡ g ++ e ∷ [])) × (is_inside e ≡ true) × (place_of e ≡ k) = turn-held h.events k is in
+      let r : (e : Event S) × ((g : List (Event S)) × (h.events ≡ g ++ e ∷ [])) × (is_inside e ≡ true) × (place_of e ≡ k) =
+      turn-held h.events k is in
       subst (λ (i : ℕ). i < h.sizes.places) r.3 (in_range-at h r.1.0 [] r.0 legal r.1.1).0
 
   -- so are the waiting signallers
   pub urgent-in_range : (h : History S) → IsLegal h → All (λ k. k < h.sizes.places) (urgent h.events)
   unfolding urgent
-  urgent-in_range h legal = All-map (λ k. k < h.sizes.places) place_of _ (All-weaker (IsInRange h.sizes) (λ e. place_of e < h.sizes.places) (λ e r. r.0) _ (All-in_range h _ legal))
+  urgent-in_range h legal =
+      All-map (λ k. k < h.sizes.places) place_of _
+      (All-weaker (IsInRange h.sizes) (λ e. place_of e < h.sizes.places) (λ e r. r.0) _ (All-in_range h _ legal))
 
   -- and the one that returns
   pub return-in_range : (h : History S) (k : ℕ) → IsLegal h → turn h.events ≡ Return k → k < h.sizes.places
   return-in_range h k legal is = let r = turn-return h.events k is in
-      All-head (λ (i : ℕ). i < h.sizes.places) k r.3 (subst (λ (us : List ℕ). All (λ (i : ℕ). i < h.sizes.places) us) r.4 (urgent-in_range h legal))
+      All-head (λ (i : ℕ). i < h.sizes.places) k r.3
+      (subst (λ (us : List ℕ). All (λ (i : ℕ). i < h.sizes.places) us) r.4 (urgent-in_range h legal))
 
   -- the last event of a place that returns is its signal
   pub own-return : (h : List (Event S)) (k : ℕ) → turn h ≡ Return k → LastSignals h k
@@ -100,9 +117,12 @@ module _ {S : Type 0} where
   chosen-waits c h x is = All-find (Waits c h) (is_least (waiting c h)) (waiting c h) x is (All-waiting c h)
 
   -- and its wait is in range
-  pub chosen-in_range : (c : ℕ) (h : History S) (x : Event S) → IsLegal h → chosen c h.events ≡ Some x → IsInRange h.sizes x
+  pub chosen-in_range : (c : ℕ) (h : History S) (x : Event S) → IsLegal h → chosen c h.events ≡ Some x
+      → IsInRange h.sizes x
   unfolding chosen waiting
-  chosen-in_range c h x legal is = All-find (IsInRange h.sizes) (is_least (waiting c h.events)) (waiting c h.events) x is (All-in_range h (λ e later. waits_on c e && is_untouched c e later) legal)
+  chosen-in_range c h x legal is =
+      All-find (IsInRange h.sizes) (is_least (waiting c h.events)) (waiting c h.events) x is
+      (All-in_range h (λ e later. waits_on c e && is_untouched c e later) legal)
 
   -- none that waits has a smaller priority
   pub chosen-least : (c : ℕ) (h : List (Event S)) (x : Event S) → chosen c h ≡ Some x → is_least (waiting c h) x ≡ true
@@ -122,13 +142,15 @@ module _ {S : Type 0} where
   both_wait c d x a b = sym (condition-waits_on d x b) ∙ condition-waits_on c x a
 
   -- a place waits on one condition
-  pub waits_once : (c d : ℕ) (h : List (Event S)) (x y : Event S) → Waits c h x → Waits d h y → place_of x ≡ place_of y → d ≡ c
+  pub waits_once : (c d : ℕ) (h : List (Event S)) (x y : Event S) → Waits c h x → Waits d h y → place_of x ≡ place_of y
+      → d ≡ c
   waits_once c d h x y a b same =
       let one : x ≡ y = let e : Some x ≡ Some y = sym a.last ∙ ap (λ k. newest (own k h)) same ∙ b.last in cc in
       both_wait c d y (ap (waits_on c) (sym one) ∙ a.on) b.on
 
   -- whoever waits on c waits on no other condition
-  pub waiting-elsewhere : (c d : ℕ) (h : List (Event S)) (x : Event S) → d ≢ c → Waits c h x → list_all (λ y. not (place_of x == place_of y)) (waiting d h) ≡ true
+  pub waiting-elsewhere : (c d : ℕ) (h : List (Event S)) (x : Event S) → d ≢ c → Waits c h x
+      → list_all (λ y. not (place_of x == place_of y)) (waiting d h) ≡ true
   waiting-elsewhere c d h x apart a = list_all-from_All (λ y. not (place_of x == place_of y)) (waiting d h)
       (All-weaker (Waits d h) (λ y. not (place_of x == place_of y) ≡ true)
       (λ y b. ap not (ne_eqb (place_of x) (place_of y) (λ same. apart (waits_once c d h x y a b same))))
@@ -146,7 +168,8 @@ module _ {S : Type 0} where
           (λ f y later is t. ap not (eq_swap (place_of x) (place_of y) ∙ own_is_concerned y c (place_of x)
           (list_all-at (λ z. not (concerns c (place_of x) z)) f y later (ap (list_all (λ z. not (concerns c (place_of x) z))) (sym is) ∙ a)))))
 
-      first_of : (t : Bool) → (w == place_of x) ≡ t → is_untouched c x h ≡ true → length (filter (λ y. w == place_of y) (waiting c h)) ≤ 1
+      first_of : (t : Bool) → (w == place_of x) ≡ t → is_untouched c x h ≡ true
+          → length (filter (λ y. w == place_of y) (waiting c h)) ≤ 1
           → length (cond t (x ∷ filter (λ y. w == place_of y) (waiting c h)) (filter (λ y. w == place_of y) (waiting c h))) ≤ 1
       first_of true is a rest =
           let none : filter (λ y. w == place_of y) (waiting c h) ≡ [] = filter-none (λ y. w == place_of y) (waiting c h)
@@ -154,7 +177,8 @@ module _ {S : Type 0} where
           rw none (omega arith)
       first_of false is a rest = rest
 
-      by : (t : Bool) → (waits_on c x && is_untouched c x h) ≡ t → length (filter (λ y. w == place_of y) (waiting c h)) ≤ 1
+      by : (t : Bool) → (waits_on c x && is_untouched c x h) ≡ t
+          → length (filter (λ y. w == place_of y) (waiting c h)) ≤ 1
           → length (filter (λ y. w == place_of y) (cond t (x ∷ waiting c h) (waiting c h))) ≤ 1
       by true is rest = first_of (w == place_of x) refl (both_true _ _ is).1 rest
       by false is rest = rest

@@ -12,13 +12,15 @@ abbrev pub join_splits : {X Y : Type 0} → (List X → X → List X → List Y)
 join_splits f before [] = []
 join_splits f before (x ∷ later) = f before x later ++ join_splits f (before ++ x ∷ []) later
 
--- the waits of those that the event calls, where f came before: a notify calls the one that it names, a broadcast all that wait on
+-- the waits of those that the event calls, where f came before: a notify calls the one that it names, a broadcast all
+-- that wait on
 -- the condition, in the order in which signals would resume them
 abbrev pub called_by : {S : Type 0} → List (Event S) → Event S → List (Event S)
 called_by f (Notify k c w s) = filter (λ x. place_of x == w) (waiting c f)
 called_by f (Broadcast k c s) = in_order priority_of (waiting c f)
 called_by f _ = []
 
--- who is called, by their waits: of those that each event called the ones that did nothing since, in the order of the calls
+-- who is called, by their waits: of those that each event called the ones that did nothing since, in the order of the
+-- calls
 unfoldable pub called : {S : Type 0} → List (Event S) → List (Event S)
 called h = join_splits (λ before e later. filter (λ x. is_last_act x later) (called_by before e)) [] h

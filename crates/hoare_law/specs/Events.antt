@@ -1,4 +1,5 @@
--- Events and histories. A history is a list of events, the oldest first; every word of these files filters that list, and
+-- Events and histories. A history is a list of events, the oldest first; every word of these files filters that list,
+-- and
 -- no queue and no counter stands in it. The source is Hoare's paper, where nothing else is said.
 use Rattle.std.specs.Prelude.{ℕ, List, [], ◌∷◌, ◌++◌, ◌==◌, Option, Some, None, unwrap_or}
 use Rattle.std.specs.List.{filter}
@@ -6,7 +7,8 @@ use Rattle.std.specs.Option.{option_map}
 use Rattle.hoare_law.specs.declared.event.Event.{Event}
 use Rattle.hoare_law.specs.declared.event.History.{History}
 use Rattle.hoare_law.specs.declared.event.Sizes.{Sizes}
-use Rattle.hoare_law.specs.declared.event.Event.TheVariants.{Admit, Wait, Signal, Pass, Leave, Resume, Back, Notify, Broadcast}
+use Rattle.hoare_law.specs.declared.event.Event.TheVariants.{Admit, Wait, Signal, Pass, Leave, Resume, Back, Notify}
+use Rattle.hoare_law.specs.declared.event.Event.TheVariants.{Broadcast}
 
 -- the place that acts
 abbrev pub place_of : {S : Type 0} → Event S → ℕ

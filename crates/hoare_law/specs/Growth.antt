@@ -2,7 +2,8 @@
 use Rattle.std.specs.Prelude.{ℕ, List, [], ◌∷◌, ◌++◌, ◌≡◌, ◌≢◌, Bool, true, false, Some}
 use Rattle.hoare_law.specs.declared.event.Event.{Event}
 use Rattle.hoare_law.specs.declared.event.History.{History}
-use Rattle.hoare_law.specs.declared.event.Event.TheVariants.{Admit, Wait, Signal, Pass, Leave, Resume, Back, Notify, Broadcast}
+use Rattle.hoare_law.specs.declared.event.Event.TheVariants.{Admit, Wait, Signal, Pass, Leave, Resume, Back, Notify}
+use Rattle.hoare_law.specs.declared.event.Event.TheVariants.{Broadcast}
 use Rattle.hoare_law.specs.Events.{place_of, own, newest, with_event}
 use Rattle.hoare_law.specs.Waiting.{waiting, Chooses}
 
@@ -49,14 +50,18 @@ pub data Broadcasts {S : Type 0} (k c : ℕ) (s : S) (f h : History S) : Type 0 
   called_all : waiting c f.events ≢ [] → h ≡ with_event f (Broadcast k c s) → Broadcasts k c s f h
   none_called : waiting c f.events ≡ [] → h ≡ f → Broadcasts k c s f h
 
--- k came in, and goes on with what it then finds; g is its front then. Where what it first found held it up (of its front at that
+-- k came in, and goes on with what it then finds; g is its front then. Where what it first found held it up (of its
+-- front at that
 -- moment and of the data), it waited once, on the condition and with the priority that those data say
-pub data ComesTo {S : Type 0} (k : ℕ) (held_up : History S → S → Type 0) (condition priority : S → ℕ) (f g : History S) (found : S) : Type 0 where
+pub data ComesTo {S : Type 0} (k : ℕ) (held_up : History S → S → Type 0) (condition priority : S → ℕ) (f g : History S)
+    (found : S) : Type 0 where
   at_once : AddsLast f (Admit k found) g → (held_up g found → ⊥) → ComesTo k held_up condition priority f g found
   waited : (e : History S) (a : S) → AddsLast f (Admit k a) e → held_up e a
-      → AddsTwo e (Wait k (condition a) (priority a) a) (Resume k (condition a) found) g → ComesTo k held_up condition priority f g found
+      → AddsTwo e (Wait k (condition a) (priority a) a) (Resume k (condition a) found) g
+      → ComesTo k held_up condition priority f g found
 
--- k gives the monitor up with s by its last act: a signal on c joined with the exit, or a signal on c that resumed somebody, and
+-- k gives the monitor up with s by its last act: a signal on c joined with the exit, or a signal on c that resumed
+-- somebody, and
 -- then a plain exit
 pub data Finishes {S : Type 0} (k c : ℕ) (s : S) (f h : History S) : Type 0 where
   exited : (b : Bool) → Exits k c s f h b → Finishes k c s f h

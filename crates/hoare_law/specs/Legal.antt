@@ -3,7 +3,8 @@ use Rattle.std.specs.Prelude.{List, [], ◌∷◌, ◌++◌, ◌<◌, ◌≡◌,
 use Rattle.hoare_law.specs.declared.event.Event.{Event}
 use Rattle.hoare_law.specs.declared.event.History.{History}
 use Rattle.hoare_law.specs.declared.event.Sizes.{Sizes}
-use Rattle.hoare_law.specs.declared.event.Event.TheVariants.{Admit, Wait, Signal, Pass, Leave, Resume, Back, Notify, Broadcast}
+use Rattle.hoare_law.specs.declared.event.Event.TheVariants.{Admit, Wait, Signal, Pass, Leave, Resume, Back, Notify}
+use Rattle.hoare_law.specs.declared.event.Event.TheVariants.{Broadcast}
 use Rattle.hoare_law.specs.declared.turn.Turn.TheVariants.{Free, Held, Owed, Return}
 use Rattle.hoare_law.specs.Events.{place_of, latest_data, cut_to}
 use Rattle.hoare_law.specs.Sizes.{IsHoare, IsMesa}
@@ -24,7 +25,8 @@ NamesInRange n _ = ⊤
 abbrev pub IsInRange : {S : Type 0} → Sizes → Event S → Type 0
 IsInRange n e = (place_of e < n.places) × NamesInRange n e
 
--- the event is the turn's, finds the data as they were left, resumes or calls whom it should, and suits the condition's kind: signals
+-- the event is the turn's, finds the data as they were left, resumes or calls whom it should, and suits the condition's
+-- kind: signals
 -- are for Hoare's, calls for Mesa conditions
 abbrev pub Fits : {S : Type 0} → History S → Event S → Type 0
 Fits f (Admit k s) = (turn f.events ≡ Free) × (outside k f.events ≡ true) × (s ≡ latest_data f)
@@ -35,7 +37,8 @@ Fits f (Leave k s) = turn f.events ≡ Held k
 Fits f (Signal k c w s) = (turn f.events ≡ Held k) × Chooses c f.events w × IsHoare f.sizes.conditions f.sizes.mesa c
 Fits f (Pass k c w s) = (turn f.events ≡ Held k) × Chooses c f.events w × IsHoare f.sizes.conditions f.sizes.mesa c
 Fits f (Notify k c w s) = (turn f.events ≡ Held k) × Chooses c f.events w × IsMesa f.sizes.conditions f.sizes.mesa c
-Fits f (Broadcast k c s) = (turn f.events ≡ Held k) × (waiting c f.events ≢ []) × IsMesa f.sizes.conditions f.sizes.mesa c
+Fits f (Broadcast k c s) =
+    (turn f.events ≡ Held k) × (waiting c f.events ≢ []) × IsMesa f.sizes.conditions f.sizes.mesa c
 
 -- the event may come next
 pub record Allowed {S : Type 0} (f : History S) (e : Event S) : Type 0 where

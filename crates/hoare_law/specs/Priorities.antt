@@ -1,4 +1,5 @@
--- The waiting priorities: for each condition those of its waiting processes, in the order in which signals would resume them.
+-- The waiting priorities: for each condition those of its waiting processes, in the order in which signals would resume
+-- them.
 use Rattle.std.specs.Prelude.{ℕ, List, [], ◌∷◌, ◌==◌, nat_le, if◌then◌else◌, map}
 use Rattle.hoare_law.specs.declared.event.Event.{Event}
 use Rattle.hoare_law.specs.Waiting.{priority_of, waiting}

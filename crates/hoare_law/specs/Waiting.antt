@@ -1,5 +1,6 @@
 -- Who waits, and whom a signal resumes ("Monitors", Scheduled Waits) or a notify calls.
-use Rattle.std.specs.Prelude.{ℕ, List, [], ◌∷◌, ◌==◌, ◌&&◌, ◌||◌, not, nat_le, Bool, false, if◌then◌else◌, Option, IsSomeAnd, ◌≡◌}
+use Rattle.std.specs.Prelude.{ℕ, List, [], ◌∷◌, ◌==◌, ◌&&◌, ◌||◌, not, nat_le, Bool, false, if◌then◌else◌, Option}
+use Rattle.std.specs.Prelude.{IsSomeAnd, ◌≡◌}
 use Rattle.std.specs.List.{list_all, find}
 use Rattle.hoare_law.specs.declared.event.Event.{Event}
 use Rattle.hoare_law.specs.declared.event.Event.TheVariants.{Wait, Signal, Pass, Notify, Broadcast}
@@ -53,7 +54,8 @@ waiting c h = filter_by_later (λ e later. waits_on c e && is_untouched c e late
 abbrev pub is_least : {S : Type 0} → List (Event S) → Event S → Bool
 is_least ws e = list_all (λ x. nat_le (priority_of e) (priority_of x)) ws
 
--- whom a signal on c resumes: the first of those that wait whose priority no other undercuts (among equal priorities the
+-- whom a signal on c resumes: the first of those that wait whose priority no other undercuts (among equal priorities
+-- the
 -- longest waiting: the paper's rule for plain waits, this project's for equal given priorities)
 unfoldable pub chosen : {S : Type 0} → ℕ → List (Event S) → Option (Event S)
 chosen c h = find (is_least (waiting c h)) (waiting c h)

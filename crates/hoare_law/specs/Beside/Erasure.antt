@@ -2,7 +2,8 @@
 use Rattle.std.specs.Prelude.{List, map}
 use Rattle.hoare_law.specs.declared.event.Event.{Event}
 use Rattle.hoare_law.specs.declared.event.History.{History}
-use Rattle.hoare_law.specs.declared.event.Event.TheVariants.{Admit, Wait, Signal, Pass, Leave, Resume, Back, Notify, Broadcast}
+use Rattle.hoare_law.specs.declared.event.Event.TheVariants.{Admit, Wait, Signal, Pass, Leave, Resume, Back, Notify}
+use Rattle.hoare_law.specs.declared.event.Event.TheVariants.{Broadcast}
 
 abbrev pub without_data : {S : Type 0} → Event S → Event (Unit {0})
 without_data (Admit k s) = Admit k tt

@@ -3,4 +3,5 @@ use Rattle.hoare_law.proofs.waits.JoinedWaits.priority.Given as goal
 
 -- those so far are no higher than the one put in
 abbrev pub invariant-loop-j : goal.invariant-loop-j
-invariant-loop-j g l = (k : ℕ) → k < l.j → get_or (g.W.Waits.waiting_priorities l.self.lists.now l.self.condition) k 0 ≤ l.self.priority
+invariant-loop-j g l =
+    (k : ℕ) → k < l.j → get_or (g.W.Waits.waiting_priorities l.self.lists.now l.self.condition) k 0 ≤ l.self.priority

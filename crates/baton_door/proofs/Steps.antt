@@ -1,5 +1,6 @@
 -- Each step on the door's word keeps the rule.
-use Rattle.std.proofs.Common.{◌≡◌, ◌≢◌, ℕ, ◌+◌, ◌<◌, eqb, true, false, List, [], ◌∷◌, get_or, set, length, length-set, get_or-set_same, Some, None, refl, sym, ap, ◌∙◌}
+use Rattle.std.proofs.Common.{◌≡◌, ◌≢◌, ℕ, ◌+◌, ◌<◌, eqb, true, false, List, [], ◌∷◌, get_or, set, length, length-set}
+use Rattle.std.proofs.Common.{get_or-set_same, Some, None, refl, sym, ap, ◌∙◌}
 use Rattle.std.proofs.Common.{subst, arith, eq-eqb, ne_eqb}
 use mathlib.Core.Option.{none}
 use native.Mathlib.Decide.{ℕ_discrete}
@@ -50,7 +51,8 @@ begun ws b = record {
 
 module _ {D : Type 0} where
   -- and free where nothing happened yet
-  opened_tells : (kinds : Kinds) (n : ℕ) (s : D) (ws : List ℕ) → Starts true ws → Tells (opened (sizes_at kinds n) s) (λ _. None) (set ws 0 0)
+  opened_tells : (kinds : Kinds) (n : ℕ) (s : D) (ws : List ℕ) → Starts true ws
+      → Tells (opened (sizes_at kinds n) s) (λ _. None) (set ws 0 0)
   unfolding turn urgent called
   opened_tells kinds n s ws b = record {
     words_are = length-set ws 0 0 ∙ b.words_are;
@@ -59,7 +61,8 @@ module _ {D : Type 0} where
   }
 
   -- the word is set to what the turn after is
-  rewritten : (f h : History D) (tickets : Tickets) (ws : List ℕ) (w : ℕ) → word_of (turn h.events) ≡ w → Tells f tickets ws
+  rewritten : (f h : History D) (tickets : Tickets) (ws : List ℕ) (w : ℕ) → word_of (turn h.events) ≡ w
+      → Tells f tickets ws
       → Tells h tickets (set ws 0 w)
   rewritten f h tickets ws w is t = record {
     words_are = length-set ws 0 w ∙ t.words_are;
@@ -74,7 +77,8 @@ module _ {D : Type 0} where
     -- the two opening steps
     pub begins_at : (slots id : ℕ) (m : Sat D) → m ≡ (Unopened n, [])
         → Allows K slots id m 0 (taken_at 0) (begins (step slots 0 0 1 none) m)
-    begins_at slots id m is = frame.begins_at Starts Tells rest ready kinds n slots id 0 (taken_at 0) (step slots 0 0 1 none) m is begun
+    begins_at slots id m is =
+        frame.begins_at Starts Tells rest ready kinds n slots id 0 (taken_at 0) (step slots 0 0 1 none) m is begun
 
     pub opens_at : (slots id : ℕ) (x : Lodged D) (m : Sat D) → m ≡ (Opening n, (0, Some x) ∷ []) → rest x.state nobody
         → IsOf x.book (opened (sizes_at kinds n) tt)
@@ -84,23 +88,28 @@ module _ {D : Type 0} where
         (λ ws b. opened_tells kinds n x.state ws b)
 
     -- k comes in by the event where the word is as expected
-    comes_at : (slots id k expected : ℕ) (f : History D) (event : ℕ → History D → D → Event D) (m : Sat D) → m ≡ (alone k f, [])
+    comes_at : (slots id k expected : ℕ) (f : History D) (event : ℕ → History D → D → Event D) (m : Sat D)
+        → m ≡ (alone k f, [])
         → ((log : History D) → Stands rest ready log → k < log.sizes.places → own k log.events ≡ own k f.events → word_of (turn log.events) ≡ expected
         → IsGivenUp (turn log.events) × frame.Enters rest ready k log (event k f (latest_data log)))
         → Allows K slots id m 0 (taken_at expected) (comes rest ready event (step slots 0 expected 1 none) m)
     comes_at slots id k expected f event m at enters =
-        subst (λ (p : Sat D). Allows K slots id p 0 (taken_at expected) (comes rest ready event (step slots 0 expected 1 none) p)) (sym at)
+        subst
+        (λ (p : Sat D). Allows K slots id p 0 (taken_at expected) (comes rest ready event (step slots 0 expected 1 none) p))
+        (sym at)
         (frame.told_as K slots id me 0 (taken_at expected) _ (comes rest ready event (step slots 0 expected 1 none) me)
         (λ r m' c j g is.
         let q = frame.alone_is k j f g [] [] is in
         subst (λ (p : ℕ × History D). ComesAt expected rest ready event p.0 p.1 me r m') (λ i. (q.0 i, q.1 i)) c)
         (frame.comes_ok Starts Tells rest ready kinds n slots id k 0 f None (event k f) (taken_at expected) (λ r. r ≡ expected) (λ log. Unit {0})
-        (λ r. ℕ_discrete r expected) (λ log tickets ws small t miss. taken_at-miss expected (get_or ws 0 0) miss) brings))
+        (λ r. ℕ_discrete r expected)
+        (λ log tickets ws small t miss. taken_at-miss expected (get_or ws 0 0) miss) brings))
       where
         me : Sat D
         me = (alone k f, [])
 
-        brings : (log : History D) (tickets : Tickets) (ws : List ℕ) → Stands rest ready log → log.sizes.places ≡ n → k < n
+        brings : (log : History D) (tickets : Tickets) (ws : List ℕ) → Stands rest ready log → log.sizes.places ≡ n
+            → k < n
             → own k log.events ≡ own k f.events → tickets k ≡ None → Tells log tickets ws → get_or ws 0 0 ≡ expected
             → frame.BringsIn Starts Tells rest ready kinds k 0 (taken_at expected) (λ log. Unit {0}) log tickets ws (event k f (latest_data log))
         brings log tickets ws stands places small same no_ticket t hit =
@@ -147,7 +156,8 @@ module _ {D : Type 0} where
         rewritten f h tickets ws w (sym (word_of-next (turn h.events)) ∙ ap word_of_next (sym p.next_is) ∙ sym word) t))
 
     -- who is inside calls others: the word stays
-    pub notes_at : (slots id k : ℕ) (f : History D) (event : History D → Event D) (m : Sat D) → m ≡ (alone k f, (0, None) ∷ [])
+    pub notes_at : (slots id k : ℕ) (f : History D) (event : History D → Event D) (m : Sat D)
+        → m ≡ (alone k f, (0, None) ∷ [])
         → Notes rest ready (event f) k f → Allows K slots id m 0 (λ r. r) (notes_as event (step slots 0 0 0 none) m)
     notes_at slots id k f event m is p =
         frame.notes_at Starts Tells rest ready kinds n slots id k 0 f event (step slots 0 0 0 none) m is p

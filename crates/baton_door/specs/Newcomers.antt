@@ -14,4 +14,5 @@ module _ {D : Type 0} where
 
   -- it was let in, and the slot with what lies in it is its own
   abbrev pub IsLetIn : Rest D → Ready D → Sat D → Sat D → Type 0
-  IsLetIn rest ready me me' = (k : ℕ) (f : History D) → IsAway k f me → (x : Lodged D) × Came rest ready k f (Admit k) x (Some x) me'
+  IsLetIn rest ready me me' =
+      (k : ℕ) (f : History D) → IsAway k f me → (x : Lodged D) × Came rest ready k f (Admit k) x (Some x) me'

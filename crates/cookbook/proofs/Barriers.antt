@@ -6,7 +6,8 @@ use Rattle.hoare_law.proofs.Sorted.{All-put_in, length-put_in}
 use Rattle.cookbook.specs.Barriers.{Gathering, next, one_more, one_less, opened, BarrierRests, BarrierReady}
 
 -- one that is not the last may wait, with the generation as its priority
-pub BarrierRests-come : {b a : Gathering} {p : ℕ} {q : List ℕ} (r : List ℕ) → BarrierRests b q → b.arrived + 1 < b.parties → a ≡ one_more b → r ≡ q → p ≡ b.generation
+pub BarrierRests-come : {b a : Gathering} {p : ℕ} {q : List ℕ} (r : List ℕ) → BarrierRests b q
+    → b.arrived + 1 < b.parties → a ≡ one_more b → r ≡ q → p ≡ b.generation
     → BarrierRests a (put_in (λ n. n) p r)
 BarrierRests-come {b = b} {q = q} r rests room state lists priority = rw (state, lists, priority) (record {
   within = room;
@@ -15,7 +16,8 @@ BarrierRests-come {b = b} {q = q} r rests room state lists priority = rw (state,
 })
 
 -- where all that have come wait, came in generation p, and the next has begun, the first of them may go on
-first_ready : {b : Gathering} {p : ℕ} (q : List ℕ) → b.arrived < b.parties → length q ≡ b.arrived → b.generation ≡ next p → All (λ r. r ≡ p) q → q ≢ []
+first_ready : {b : Gathering} {p : ℕ} (q : List ℕ) → b.arrived < b.parties → length q ≡ b.arrived
+    → b.generation ≡ next p → All (λ r. r ≡ p) q → q ≢ []
     → BarrierReady (slice_index q 0) b (behind_first q)
 first_ready [] within all_wait begun of_last some = absurd (some refl)
 first_ready (x ∷ q) within all_wait begun of_last some =
@@ -28,10 +30,14 @@ first_ready (x ∷ q) within all_wait begun of_last some =
     })
 
 -- once the next generation has begun, the first of those that wait may go on
-pub BarrierReady-opened : {b d : Gathering} {q r : List ℕ} → BarrierRests b q → d ≡ opened b → r ≡ q → r ≢ [] → BarrierReady (slice_index r 0) d (behind_first r)
-BarrierReady-opened {q = q} rests state lists some = rw (state, lists) (first_ready q rests.within rests.all_wait refl rests.of_this (rw lists at some))
+pub BarrierReady-opened : {b d : Gathering} {q r : List ℕ} → BarrierRests b q → d ≡ opened b → r ≡ q → r ≢ []
+    → BarrierReady (slice_index r 0) d (behind_first r)
+BarrierReady-opened {q = q} rests state lists some =
+    rw (state, lists) (first_ready q rests.within rests.all_wait refl rests.of_this (rw lists at some))
 
 -- and so may the next, once the one before has gone on
-pub BarrierReady-gone : {b d : Gathering} {p : ℕ} {q r : List ℕ} → BarrierReady p b q → d ≡ one_less b → r ≡ q → r ≢ [] → BarrierReady (slice_index r 0) d (behind_first r)
+pub BarrierReady-gone : {b d : Gathering} {p : ℕ} {q r : List ℕ} → BarrierReady p b q → d ≡ one_less b → r ≡ q → r ≢ []
+    → BarrierReady (slice_index r 0) d (behind_first r)
 BarrierReady-gone {b = b} {q = q} found state lists some =
-    rw (state, lists) (first_ready q (omega (arith, found.within)) (omega (arith, found.but_one)) found.begun found.of_last (rw lists at some))
+    rw (state, lists)
+    (first_ready q (omega (arith, found.within)) (omega (arith, found.but_one)) found.begun found.of_last (rw lists at some))

@@ -1,6 +1,8 @@
--- Which letter of a mailbox is the most urgent, as far as it was looked through; and what a mailbox keeps of those that wait, as a letter goes in or
+-- Which letter of a mailbox is the most urgent, as far as it was looked through; and what a mailbox keeps of those that
+-- wait, as a letter goes in or
 -- comes out.
-use Rattle.std.proofs.Common.{◌≡◌, ◌≢◌, ℕ, suc, ◌+◌, ◌<◌, ◌≤◌, List, [], ◌∷◌, ◌++◌, length, length-append, get_or, take, drop, drop-cons, sym, ap, ◌∙◌, arith}
+use Rattle.std.proofs.Common.{◌≡◌, ◌≢◌, ℕ, suc, ◌+◌, ◌<◌, ◌≤◌, List, [], ◌∷◌, ◌++◌, length, length-append, get_or, take}
+use Rattle.std.proofs.Common.{drop, drop-cons, sym, ap, ◌∙◌, arith}
 use Rattle.std.specs.List.{remove}
 use Rattle.std.proofs.lemmas.List.{get_or-take, get_or-drop, get_or_default, length-take, length-drop, take-append-drop}
 use Rattle.cookbook.specs.declared.mailbox.Letter.{Letter}
@@ -14,7 +16,8 @@ pub record IsBest (letters : List Letter) (best i : ℕ) : Type 0 where
   pub least : (j : ℕ) (d : Letter) → j < i → (get_or letters best d).priority ≤ (get_or letters j d).priority
 
 -- the best of all is taken out
-pub TakesMostUrgent-best : {letters others : List Letter} {best i : ℕ} {x : Letter} → IsBest letters best i → length letters ≤ i → x ≡ get_or letters best x → others ≡ remove letters best
+pub TakesMostUrgent-best : {letters others : List Letter} {best i : ℕ} {x : Letter} → IsBest letters best i
+    → length letters ≤ i → x ≡ get_or letters best x → others ≡ remove letters best
     → TakesMostUrgent letters x others
 TakesMostUrgent-best {letters = letters} {best = best} {x = x} is all taken left =
     let here : (d : Letter) → x ≡ get_or letters best d = λ d. taken ∙ get_or_default letters best x d is.within in
@@ -27,15 +30,20 @@ TakesMostUrgent-best {letters = letters} {best = best} {x = x} is all taken left
           let lt : k < best = omega (arith, below, length-take best letters, is.within) in
           rw (here d, get_or-take best letters k d lt) (is.less k d lt);
       none_more_after = λ k d below.
-          rw (here d, get_or-drop (suc best) letters k d) (is.least (suc best + k) d (omega (arith, below, length-drop (suc best) letters, all)));
+          rw (here d, get_or-drop (suc best) letters k d)
+          (is.least (suc best + k) d (omega (arith, below, length-drop (suc best) letters, all)));
     }
 
 -- a letter that is taken out leaves one less
-one_less_of : {letters others : List Letter} {x : Letter} → TakesMostUrgent letters x others → length letters ≡ length others + 1
-one_less_of {x = x} takes = omega (arith, ap length takes.found, ap length takes.left, length-append takes.before (x ∷ takes.after), length-append takes.before takes.after)
+one_less_of : {letters others : List Letter} {x : Letter} → TakesMostUrgent letters x others
+    → length letters ≡ length others + 1
+one_less_of {x = x} takes =
+    omega
+    (arith, ap length takes.found, ap length takes.left, length-append takes.before (x ∷ takes.after), length-append takes.before takes.after)
 
 -- who needn't wait finds what one finds that waited
-pub RoomReady-at_once : {count : ℕ} {senders readers : List ℕ} → MailRests count senders readers → (count ≡ 8 → ⊥) → RoomReady count senders readers
+pub RoomReady-at_once : {count : ℕ} {senders readers : List ℕ} → MailRests count senders readers → (count ≡ 8 → ⊥)
+    → RoomReady count senders readers
 RoomReady-at_once rests room = record {
   within = rests.within;
   some = omega (arith, rests.within, room);
@@ -43,7 +51,8 @@ RoomReady-at_once rests room = record {
   empty = rests.empty;
 }
 
-pub LetterReady-at_once : {count : ℕ} {senders readers : List ℕ} → MailRests count senders readers → (count ≡ 0 → ⊥) → LetterReady count senders readers
+pub LetterReady-at_once : {count : ℕ} {senders readers : List ℕ} → MailRests count senders readers → (count ≡ 0 → ⊥)
+    → LetterReady count senders readers
 LetterReady-at_once rests some = record {
   within = rests.within;
   some = omega (arith, some);
@@ -54,7 +63,8 @@ LetterReady-at_once rests some = record {
 -- the lists after a change of the data are those before it: `same`
 module _ {d : List Letter} {q r : ℕ → List ℕ} where
   -- a letter was put in: who waits for mail may go on, and where nobody does rest holds
-  pub LetterReady-put : (a : List Letter) (x : Letter) → RoomReady (length a) (q 0) (q 1) → d ≡ a ++ x ∷ [] → r ≡ q → r 1 ≢ [] → LetterReady (length d) (r 0) (behind_first (r 1))
+  pub LetterReady-put : (a : List Letter) (x : Letter) → RoomReady (length a) (q 0) (q 1) → d ≡ a ++ x ∷ [] → r ≡ q
+      → r 1 ≢ [] → LetterReady (length d) (r 0) (behind_first (r 1))
   LetterReady-put a x ready is same wait =
       let one_more = length-append a (x ∷ []) in
       let none = ready.empty (rw same at wait) in
@@ -65,7 +75,8 @@ module _ {d : List Letter} {q r : ℕ → List ℕ} where
         full = λ others. omega (arith, one_more, ready.others others);
       })
 
-  pub MailRests-put : (a : List Letter) (x : Letter) → RoomReady (length a) (q 0) (q 1) → d ≡ a ++ x ∷ [] → r ≡ q → r 1 ≡ [] → MailRests (length d) (r 0) (r 1)
+  pub MailRests-put : (a : List Letter) (x : Letter) → RoomReady (length a) (q 0) (q 1) → d ≡ a ++ x ∷ [] → r ≡ q
+      → r 1 ≡ [] → MailRests (length d) (r 0) (r 1)
   MailRests-put a x ready is same nobody =
       let one_more = length-append a (x ∷ []) in
       rw is (record {
@@ -75,7 +86,8 @@ module _ {d : List Letter} {q r : ℕ → List ℕ} where
       })
 
   -- a letter was taken out: who waits for room may go on, and where nobody does rest holds
-  pub RoomReady-taken : {a b : List Letter} {x : Letter} → LetterReady (length a) (q 0) (q 1) → TakesMostUrgent a x b → d ≡ b → r ≡ q → r 0 ≢ []
+  pub RoomReady-taken : {a b : List Letter} {x : Letter} → LetterReady (length a) (q 0) (q 1) → TakesMostUrgent a x b
+      → d ≡ b → r ≡ q → r 0 ≢ []
       → RoomReady (length d) (behind_first (r 0)) (r 1)
   RoomReady-taken ready takes is same wait =
       let one_less = one_less_of takes in
@@ -87,7 +99,8 @@ module _ {d : List Letter} {q r : ℕ → List ℕ} where
         empty = λ others. omega (arith, one_less, ready.others others);
       })
 
-  pub MailRests-taken : {a b : List Letter} {x : Letter} → LetterReady (length a) (q 0) (q 1) → TakesMostUrgent a x b → d ≡ b → r ≡ q → r 0 ≡ []
+  pub MailRests-taken : {a b : List Letter} {x : Letter} → LetterReady (length a) (q 0) (q 1) → TakesMostUrgent a x b
+      → d ≡ b → r ≡ q → r 0 ≡ []
       → MailRests (length d) (r 0) (r 1)
   MailRests-taken ready takes is same nobody =
       let one_less = one_less_of takes in

@@ -19,13 +19,15 @@ found_empty (Offered x) q rests none = absurd (none tt)
 found_empty (Answered x) q rests none = absurd rests
 
 -- who finds nobody may wait with its offer
-pub MeetingRests-offered : {T : Type 0} (s d : Rendezvous T) (x : T) (q r : List ℕ) → MeetingRests s q → s ≡ Empty → d ≡ Offered x → r ≡ q → MeetingRests d (put_in (λ n. n) 0 r)
+pub MeetingRests-offered : {T : Type 0} (s d : Rendezvous T) (x : T) (q r : List ℕ) → MeetingRests s q → s ≡ Empty
+    → d ≡ Offered x → r ≡ q → MeetingRests d (put_in (λ n. n) 0 r)
 MeetingRests-offered s d x q r rests empty state lists =
     let none : length q ≡ 0 = rw empty at rests in
     rw (state, lists) (omega (arith, none, length-put_in (λ n. n) 0 q))
 
 -- where an offer was made one waits
-pub one_waits : {T : Type 0} (s : Rendezvous T) (x : T) (q r : List ℕ) → MeetingRests s q → s ≡ Offered x → r ≡ q → length r ≡ 1
+pub one_waits : {T : Type 0} (s : Rendezvous T) (x : T) (q r : List ℕ) → MeetingRests s q → s ≡ Offered x → r ≡ q
+    → length r ≡ 1
 one_waits s x q r rests offered lists = rw lists (rw offered at rests)
 
 pub somebody_waits : (r : List ℕ) → length r ≡ 1 → r ≢ []
@@ -36,11 +38,13 @@ pub MeetingRests-nobody : {T : Type 0} (d : Rendezvous T) (r : List ℕ) → len
 MeetingRests-nobody d r one none = absurd (somebody_waits r one none)
 
 -- who made the offer may go on with the answer
-pub MeetingReady-answered : {T : Type 0} (d : Rendezvous T) (y : T) (r : List ℕ) → length r ≡ 1 → d ≡ Answered y → MeetingReady d (behind_first r)
+pub MeetingReady-answered : {T : Type 0} (d : Rendezvous T) (y : T) (r : List ℕ) → length r ≡ 1 → d ≡ Answered y
+    → MeetingReady d (behind_first r)
 MeetingReady-answered d y r one state = rw state (omega (arith, one, length-behind_first r))
 
 -- who takes the answer leaves nobody waiting
-pub nobody_else : {T : Type 0} (s d : Rendezvous T) (q r : List ℕ) → MeetingReady s q → d ≡ Empty → r ≡ q → MeetingRests d r
+pub nobody_else : {T : Type 0} (s d : Rendezvous T) (q r : List ℕ) → MeetingReady s q → d ≡ Empty → r ≡ q
+    → MeetingRests d r
 nobody_else (Answered x) d q r ready state lists = rw (state, lists) ready
 nobody_else Empty d q r ready state lists = absurd ready
 nobody_else (Offered x) d q r ready state lists = absurd ready
@@ -51,6 +55,8 @@ pub record Passes_on {S : Type 0} (k c : ℕ) (s : S) (g h : History S) : Type 0
   pub chooses : Chooses c g.events to
   pub is : h ≡ with_event g (Pass k c to s)
 
-pub Exits-resumed : {S : Type 0} {k k1 c : ℕ} {s s1 : S} {g g1 h : History S} {b : Bool} → Exits k1 c s1 g1 h b → b ≡ true → k1 ≡ k → s1 ≡ s → g1 ≡ g → Passes_on k c s g h
-Exits-resumed {k1 = k1} {s1 = s1} {g1 = g1} (passed_on w chooses is) resumed place state front = rw (← place, ← state, ← front) (record { to = w; chooses = chooses; is = is })
+pub Exits-resumed : {S : Type 0} {k k1 c : ℕ} {s s1 : S} {g g1 h : History S} {b : Bool} → Exits k1 c s1 g1 h b
+    → b ≡ true → k1 ≡ k → s1 ≡ s → g1 ≡ g → Passes_on k c s g h
+Exits-resumed {k1 = k1} {s1 = s1} {g1 = g1} (passed_on w chooses is) resumed place state front =
+    rw (← place, ← state, ← front) (record { to = w; chooses = chooses; is = is })
 Exits-resumed (just_left none is) resumed place state front = absurd (true≢false (sym resumed))

@@ -1,5 +1,6 @@
 -- What the philosophers' table keeps, as one sits down and as one gets up.
-use Rattle.std.proofs.Common.{◌≡◌, ◌≢◌, ℕ, ◌+◌, ◌<◌, List, length, Bool, true, false, true≢false, get_or, sym, ap, subst, ◌∙◌, ⊎_elim, arith}
+use Rattle.std.proofs.Common.{◌≡◌, ◌≢◌, ℕ, ◌+◌, ◌<◌, List, length, Bool, true, false, true≢false, get_or, sym, ap}
+use Rattle.std.proofs.Common.{subst, ◌∙◌, ⊎_elim, arith}
 use Rattle.std.specs.Prelude.{slice_set, IsTrue}
 use Rattle.std.proofs.lemmas.Bool.{cases_eq}
 use Rattle.std.proofs.lemmas.List.{length-set, get_or-set_same, get_or-set_other}
@@ -12,7 +13,8 @@ abbrev pub IsApartBelow : List Bool → ℕ → Type 0
 IsApartBelow t n = (k : ℕ) → k < n → IsEating t k → get_or t (right_of k) false ≡ false
 
 -- where nobody ate, nobody eats once one has got up
-still_up : (t : List Bool) (j k : ℕ) → j < length t → get_or t k false ≡ false → get_or (slice_set t j false) k false ≡ false
+still_up : (t : List Bool) (j k : ℕ) → j < length t → get_or t k false ≡ false
+    → get_or (slice_set t j false) k false ≡ false
 still_up t j k within up = ⊎_elim
     (λ same. rw same (get_or-set_same t j false false within))
     (λ other. get_or-set_other t j k false false other ∙ up)
@@ -42,7 +44,8 @@ is_left : (j k : ℕ) → k < 5 → right_of k ≡ j → k ≡ left_of j
 is_left j k lt same = omega (arith, lt, same)
 
 -- who can eat and sits down eats beside nobody
-apart_seated : (t : List Bool) (j k : ℕ) → TableHolds t → j < 5 → CanEat t j → k < 5 → IsEating (slice_set t j true) k → get_or (slice_set t j true) (right_of k) false ≡ false
+apart_seated : (t : List Bool) (j k : ℕ) → TableHolds t → j < 5 → CanEat t j → k < 5 → IsEating (slice_set t j true) k
+    → get_or (slice_set t j true) (right_of k) false ≡ false
 apart_seated t j k holds below can lt eats = ⊎_elim
     (λ same. rw same (get_or-set_other t j (right_of j) true false (not_beside j below) ∙ can.right))
     (λ other.
@@ -60,7 +63,8 @@ TableHolds-seated t d j holds below can state = rw state (record {
 })
 
 -- The hand-over as a trace names it.
-pub HandsOn-as : {k k1 : ℕ} {t t1 : List Bool} {g g1 h : History (List Bool)} → HandsOn k1 t1 g1 h → k1 ≡ k → t1 ≡ t → g1 ≡ g → HandsOn k t g h
+pub HandsOn-as : {k k1 : ℕ} {t t1 : List Bool} {g g1 h : History (List Bool)} → HandsOn k1 t1 g1 h → k1 ≡ k → t1 ≡ t
+    → g1 ≡ g → HandsOn k t g h
 HandsOn-as hands_on place state front = rw (place, state, front) at hands_on
 
 -- what holds below n and of n holds below n + 1

@@ -7,7 +7,8 @@ use Rattle.hoare_law.specs.Growth.{AddsLast, ComesTo, Finishes}
 
 -- k counted the latch down and left it shut; or it opened it, or found it open, and resumed a process that waits
 pub data CountsDown (k : ℕ) (f h : History ℕ) : Type 0 where
-  stays_shut : (a : ℕ) (g : History ℕ) → AddsLast f (Admit k a) g → 1 < a → h ≡ with_event g (Leave k (a - 1)) → CountsDown k f h
+  stays_shut : (a : ℕ) (g : History ℕ) → AddsLast f (Admit k a) g → 1 < a → h ≡ with_event g (Leave k (a - 1))
+      → CountsDown k f h
   is_open : (a : ℕ) (g : History ℕ) → AddsLast f (Admit k a) g → a ≤ 1 → Finishes k 0 0 g h → CountsDown k f h
 
 -- k found the latch open, after a wait where it was shut, and resumed the next that waits

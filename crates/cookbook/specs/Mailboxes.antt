@@ -1,9 +1,11 @@
--- What holds of a mailbox and of those that wait at it. Condition 0 is "there is room", condition 1 is "there is mail"; a mailbox has
+-- What holds of a mailbox and of those that wait at it. Condition 0 is "there is room", condition 1 is "there is mail";
+-- a mailbox has
 -- room for 8 letters.
 use Rattle.std.specs.Prelude.{ℕ, zero, suc, List, [], ◌∷◌, ◌++◌, All, ◌≡◌, ◌≢◌, ◌<◌, ◌≤◌, ◌+◌}
 use Rattle.cookbook.specs.declared.mailbox.Letter.{Letter}
 
--- whenever the monitor is given up: who waits for room (the senders) finds none, and who waits for mail (the readers) finds none
+-- whenever the monitor is given up: who waits for room (the senders) finds none, and who waits for mail (the readers)
+-- finds none
 pub record MailRests (count : ℕ) (senders readers : List ℕ) : Type 0 where
   pub within : count ≤ 8
   pub full : senders ≢ [] → count ≡ 8

@@ -11,7 +11,8 @@ use Rattle.cookbook.specs.Tables.{IsEating, CanEat, seated, risen}
 -- k gives the monitor up with t: to one that waits and can eat, and where nobody waits who can eat, by a plain exit
 pub data HandsOn (k : ℕ) (t : List Bool) (f h : History (List Bool)) : Type 0 where
   to_one : (c : ℕ) → c < 5 → waiting c f.events ≢ [] → CanEat t c → Finishes k c t f h → HandsOn k t f h
-  to_nobody : ((c : ℕ) → c < 5 → waiting c f.events ≢ [] → CanEat t c → ⊥) → h ≡ with_event f (Leave k t) → HandsOn k t f h
+  to_nobody : ((c : ℕ) → c < 5 → waiting c f.events ≢ [] → CanEat t c → ⊥) → h ≡ with_event f (Leave k t)
+      → HandsOn k t f h
 
 -- k took both forks of the seat, after a wait on the seat's condition where it could not, and handed the monitor on
 pub record SitsDown (k seat : ℕ) (f h : History (List Bool)) : Type 0 where

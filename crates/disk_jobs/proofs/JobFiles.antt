@@ -11,7 +11,8 @@ use Rattle.disk_jobs.specs.JobLists.{JobList}
 use Rattle.disk_jobs.specs.JobTexts.{Ending, one_line, then_on, told_lines, told_from}
 
 -- a line that others follow
-told_lines-line : (e : Ending) (s : Option JobList) (i : ℕ) (l : List ℕ) (parts : List (List ℕ)) → (parts ≡ [] → ⊥) → length l ≤ 256
+told_lines-line : (e : Ending) (s : Option JobList) (i : ℕ) (l : List ℕ) (parts : List (List ℕ)) → (parts ≡ [] → ⊥)
+    → length l ≤ 256
     → told_lines e s i (l ∷ parts) ≡ then_on (one_line s i l) (λ j. told_lines e (Some j) (i + 1) parts)
 told_lines-line e s i l [] n h = absurd (n refl)
 told_lines-line e s i l (p ∷ ps) n h = rw (le-ltb 256 (length l) h) refl
@@ -31,7 +32,8 @@ told_from-line e s i l x n h =
     ∙ told_lines-line e s i l (slice_split is_newline x) (slice_split-some is_newline x) h
 
 -- a line that is too long
-pub told_from-long_line : (e : Ending) (s : Option JobList) (i : ℕ) (l : List ℕ) (b : ℕ) (x : List ℕ) → NoNewline l → b ≢ 10 → length l ≡ 256
+pub told_from-long_line : (e : Ending) (s : Option JobList) (i : ℕ) (l : List ℕ) (b : ℕ) (x : List ℕ) → NoNewline l
+    → b ≢ 10 → length l ≡ 256
     → told_from e s i (l ++ b ∷ x) ≡ Err (BadLine i)
 unfolding told_from
 told_from-long_line e s i l b x n d h =
@@ -39,10 +41,12 @@ told_from-long_line e s i l b x n d h =
     ap (told_lines e s i) f.2 ∙ told_lines-long e s i f.0 f.1 (omega (arith, h, f.3))
 
 -- what follows the last whole line
-told_lines-last : (e : Ending) (s : Option JobList) (i : ℕ) (l : List ℕ) → length l ≤ 256 → told_lines e s i (l ∷ []) ≡ e s i l
+told_lines-last : (e : Ending) (s : Option JobList) (i : ℕ) (l : List ℕ) → length l ≤ 256
+    → told_lines e s i (l ∷ []) ≡ e s i l
 told_lines-last e s i l h = rw (le-ltb 256 (length l) h) refl
 
 -- the end of the input, or of what could be read
-pub told_from-end : (e : Ending) (s : Option JobList) (i : ℕ) (l : List ℕ) → NoNewline l → length l ≤ 256 → told_from e s i l ≡ e s i l
+pub told_from-end : (e : Ending) (s : Option JobList) (i : ℕ) (l : List ℕ) → NoNewline l → length l ≤ 256
+    → told_from e s i l ≡ e s i l
 unfolding told_from
 told_from-end e s i l n h = ap (told_lines e s i) (slice_split_none is_newline l n) ∙ told_lines-last e s i l h

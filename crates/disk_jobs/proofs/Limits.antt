@@ -1,5 +1,6 @@
 -- Jobs in their limits.
-use Rattle.std.proofs.Common.{◌≡◌, ℕ, ◌+◌, ◌<◌, ◌≤◌, Bool, true, false, cond, List, [], ◌∷◌, length, Option, Some, None, Ok, Err, refl, ap, subst, arith, length-append}
+use Rattle.std.proofs.Common.{◌≡◌, ℕ, ◌+◌, ◌<◌, ◌≤◌, Bool, true, false, cond, List, [], ◌∷◌, length, Option, Some, None}
+use Rattle.std.proofs.Common.{Ok, Err, refl, ap, subst, arith, length-append}
 use Rattle.std.proofs.lemmas.Bool.Decides.{nat_tests}
 use Rattle.std.specs.Result.{IsOkAnd}
 use Rattle.std.specs.Prelude.{codes}
@@ -12,7 +13,8 @@ use Rattle.disk_jobs.specs.Readings.{Follows, lines_of}
 -- what is not refused is in the limits
 pub refusal_of-none : (j : JobList) → refusal_of j ≡ None → IsInLimits j
 unfolding refusal_of
-refusal_of-none j h = record { some = grind (arith, nat_tests); few = grind (arith, nat_tests); room = grind (arith, nat_tests) }
+refusal_of-none j h =
+    record { some = grind (arith, nat_tests); few = grind (arith, nat_tests); room = grind (arith, nat_tests) }
 
 -- what a test lets through
 cond-ok : (b : Bool) (k j : JobList) (f : ServiceFault) → cond b (Ok k) (Err f) ≡ Ok j → (b ≡ true) × (k ≡ j)
@@ -30,7 +32,8 @@ header-counts i (Some n) j e =
     let k = cond-ok _ _ j _ e in
     omega (arith, ap (λ (v : JobList). length v.cylinders) k.1)
 
-job-counts : (i : ℕ) (s : JobList) (n : Option ℕ) (j : JobList) → job_line s i n ≡ Ok j → (lines_of (Some j) ≡ lines_of (Some s) + 1) × (lines_of (Some j) ≤ 4097)
+job-counts : (i : ℕ) (s : JobList) (n : Option ℕ) (j : JobList) → job_line s i n ≡ Ok j
+    → (lines_of (Some j) ≡ lines_of (Some s) + 1) × (lines_of (Some j) ≤ 4097)
 job-counts i s None j e = cc
 job-counts i s (Some c) j e =
     let k = cond-ok _ _ j _ e in
@@ -43,9 +46,11 @@ pub one_line-counts : (s s' : Option JobList) (i : ℕ) (l : List ℕ) → Follo
     → (lines_of s' ≡ lines_of s + 1) × (lines_of s' ≤ 4097)
 unfolding one_line
 one_line-counts s None i l o = absurd o
-one_line-counts None (Some j) i l o = let e = header-counts i (two_numbers (codes "disk") l) j o in (omega arith, omega arith)
+one_line-counts None (Some j) i l o =
+    let e = header-counts i (two_numbers (codes "disk") l) j o in (omega arith, omega arith)
 one_line-counts (Some s) (Some j) i l o = job-counts i s (one_number (codes "read") l) j o
 
 -- a job that is let through
-pub job_line-good : (j : JobList) (i c : ℕ) (n : Option ℕ) → n ≡ Some c → c ≤ j.cylmax → length j.cylinders < 4096 → job_line j i n ≡ Ok (with_job j c)
+pub job_line-good : (j : JobList) (i c : ℕ) (n : Option ℕ) → n ≡ Some c → c ≤ j.cylmax → length j.cylinders < 4096
+    → job_line j i n ≡ Ok (with_job j c)
 job_line-good j i c n e h l = rw e (grind (arith, nat_tests))

@@ -1,5 +1,6 @@
 -- The lines of a report, one by one.
-use Rattle.std.proofs.Common.{◌≡◌, ℕ, zero, suc, ◌+◌, ◌<◌, List, [], ◌∷◌, ◌++◌, length, get_or, take, drop, Option, refl, ap, sym, ◌∙◌, add-one, append_assoc, length-append, subst, arith}
+use Rattle.std.proofs.Common.{◌≡◌, ℕ, zero, suc, ◌+◌, ◌<◌, List, [], ◌∷◌, ◌++◌, length, get_or, take, drop, Option}
+use Rattle.std.proofs.Common.{refl, ap, sym, ◌∙◌, add-one, append_assoc, length-append, subst, arith}
 use Rattle.std.proofs.KnownBytes.{Appends-trans}
 use Rattle.std.specs.Io.KnownBytes.{Appends}
 use Rattle.line_text.proofs.Streams.{AppendsPrefix-after}
@@ -15,7 +16,8 @@ lines_text-at [] i d h = absurd (omega arith)
 lines_text-at (x ∷ ds) zero d h = refl
 lines_text-at (x ∷ ds) (suc i) d h =
     ap (λ v. line_text x ++ v) (lines_text-at ds i d (omega arith))
-    ∙ sym (append_assoc (line_text x) (lines_text (take i ds)) (line_text (get_or ds i d) ++ lines_text (drop (suc i) ds)))
+    ∙ sym
+    (append_assoc (line_text x) (lines_text (take i ds)) (line_text (get_or ds i d) ++ lines_text (drop (suc i) ds)))
 
 -- one line more
 pub lines_text-take : (ds : List Served) (i : ℕ) (d : Served) → i < length ds
@@ -27,7 +29,8 @@ lines_text-take (x ∷ ds) (suc i) d h =
     ∙ sym (append_assoc (line_text x) (lines_text (take i ds)) (line_text (get_or ds i d)))
 
 -- the line at hand can't be written whole
-pub writing-breaks : (a b c : Option (List ℕ)) (ds : List Served) (i : ℕ) (d : Served) (t : List ℕ) → i < length ds → d ≡ get_or ds i d → t ≡ line_text d
+pub writing-breaks : (a b c : Option (List ℕ)) (ds : List Served) (i : ℕ) (d : Served) (t : List ℕ) → i < length ds
+    → d ≡ get_or ds i d → t ≡ line_text d
     → Appends a b (lines_text (take i ds)) → AppendsPrefix b c t → AppendsPrefix a c (lines_text ds)
 writing-breaks a b c ds i d t l is e p q =
     let text : t ≡ line_text (get_or ds i d) = e ∙ ap line_text is in
@@ -36,7 +39,8 @@ writing-breaks a b c ds i d t l is e p q =
     (subst (λ (v : List ℕ). AppendsPrefix b c v) text q))
 
 -- the line at hand is written
-pub writing-goes : (a b c : Option (List ℕ)) (ds : List Served) (i : ℕ) (d : Served) (t : List ℕ) → i < length ds → d ≡ get_or ds i d → t ≡ line_text d
+pub writing-goes : (a b c : Option (List ℕ)) (ds : List Served) (i : ℕ) (d : Served) (t : List ℕ) → i < length ds
+    → d ≡ get_or ds i d → t ≡ line_text d
     → Appends a b (lines_text (take i ds)) → Appends b c t → Appends a c (lines_text (take (i + 1) ds))
 writing-goes a b c ds i d t l is e p q =
     let text : lines_text (take i ds) ++ t ≡ lines_text (take (i + 1) ds) =
@@ -45,7 +49,8 @@ writing-goes a b c ds i d t l is e p q =
     subst (λ (v : List ℕ). Appends a c v) text (Appends-trans a b c (lines_text (take i ds)) t p q)
 
 -- the last line can't be written whole
-pub writing-ends : (a b c : Option (List ℕ)) (w r t : List ℕ) → t ≡ r → Appends a b w → AppendsPrefix b c t → AppendsPrefix a c (w ++ r)
+pub writing-ends : (a b c : Option (List ℕ)) (w r t : List ℕ) → t ≡ r → Appends a b w → AppendsPrefix b c t
+    → AppendsPrefix a c (w ++ r)
 writing-ends a b c w r t e p q =
     subst (λ (v : List ℕ). AppendsPrefix a c v) (ap (λ v. w ++ v) (append-nil r))
     (AppendsPrefix-after a b c w r [] p (subst (λ (v : List ℕ). AppendsPrefix b c v) e q))

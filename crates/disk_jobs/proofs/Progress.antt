@@ -2,7 +2,8 @@
 use Rattle.std.proofs.Common.{◌≡◌, ◌≢◌, ℕ, ◌+◌, ◌≤◌, List, [], ◌∷◌, ◌++◌, length, Option, Some, None, Result, Ok, Err}
 use Rattle.std.proofs.Common.{refl, ap, sym, ◌∙◌, append_assoc, subst, arith, inl, inr}
 use Rattle.std.proofs.lemmas.List.{append-nil}
-use Rattle.line_text.proofs.AfterLines.{AtLine, AtLine-first, AtLine-next, after_lines-last, after_lines-line, after_lines-long_line, append-line}
+use Rattle.line_text.proofs.AfterLines.{AtLine, AtLine-first, AtLine-next, after_lines-last, after_lines-line}
+use Rattle.line_text.proofs.AfterLines.{after_lines-long_line, append-line}
 use Rattle.line_text.proofs.Streams.{Reads-line}
 use Rattle.line_text.specs.declared.line.Ended.{Ended}
 use Rattle.line_text.specs.declared.line.Ended.TheVariants as how
@@ -44,7 +45,8 @@ module _ (number : ℕ) (s : Option JobList) (t0 t : List ℕ) (g : Going number
   told-rest e = ap (told e) g.text.whole ∙ g.goes e t
 
   -- from the line at hand the jobs go on: the header's line and theirs are those that were read
-  lines-read : (j : JobList) (l : List ℕ) → number ≡ lines_of s + 1 → one_line s number l ≡ Ok j → number ≡ length j.cylinders + 1
+  lines-read : (j : JobList) (l : List ℕ) → number ≡ lines_of s + 1 → one_line s number l ≡ Ok j
+      → number ≡ length j.cylinders + 1
   lines-read j l c o = let k = one_line-counts s (Some j) number l o in omega (arith, k.0, c)
 
   -- what was read breaks off after the line at hand
@@ -64,7 +66,8 @@ module _ (number : ℕ) (s : Option JobList) (t0 t : List ℕ) (g : Going number
   )
 
   -- a line and its end, from which the jobs go on
-  Going-line : (j : JobList) (l x : List ℕ) → NoNewline l → length l ≤ LONGEST_LINE → t ≡ l ++ 10 ∷ x → one_line s number l ≡ Ok j
+  Going-line : (j : JobList) (l x : List ℕ) → NoNewline l → length l ≤ LONGEST_LINE → t ≡ l ++ 10 ∷ x
+      → one_line s number l ≡ Ok j
       → Going (number + 1) (Some j) t0 x
   Going-line j l x n h e o = record {
     read = g.read ++ (l ++ 10 ∷ []);
@@ -75,7 +78,8 @@ module _ (number : ℕ) (s : Option JobList) (t0 t : List ℕ) (g : Going number
   }
 
   -- a line at fault, or for whose job there is no memory
-  Gives-fault : (l x : List ℕ) (f : ServiceFault) (s' : Option JobList) → NoNewline l → length l ≤ LONGEST_LINE → t ≡ l ++ 10 ∷ x
+  Gives-fault : (l x : List ℕ) (f : ServiceFault) (s' : Option JobList) → NoNewline l → length l ≤ LONGEST_LINE
+      → t ≡ l ++ 10 ∷ x
       → number ≡ lines_of s + 1 → Follows (one_line s number l) number s' (Err f) → GivesTo t0 x s' (Err f)
   Gives-fault l x faults.Memory s' n h e c o =
       let next : Going (number + 1) (Some o.0) t0 x = Going-line o.0 l x n h e o.1 in (
@@ -99,11 +103,14 @@ module _ (number : ℕ) (s : Option JobList) (t0 t : List ℕ) (g : Going number
   Gives-fault l x faults.WriteFault s' n h e c o = absurd o
 
   -- the last line, which has no end
-  Gives-last : (l x : List ℕ) (r : Result (Unit {0}) ServiceFault) (s' : Option JobList) → NoNewline l → length l ≤ LONGEST_LINE
-      → t ≡ l → x ≡ [] → (l ≡ [] → ⊥) → number ≡ lines_of s + 1 → Follows (one_line s number l) number s' r → GivesTo t0 x s' r
+  Gives-last : (l x : List ℕ) (r : Result (Unit {0}) ServiceFault) (s' : Option JobList) → NoNewline l
+      → length l ≤ LONGEST_LINE
+      → t ≡ l → x ≡ [] → (l ≡ [] → ⊥) → number ≡ lines_of s + 1 → Follows (one_line s number l) number s' r
+      → GivesTo t0 x s' r
   Gives-last l x r s' n h e z some c o =
       let told-line : jobs_of t0 ≡ one_line s number l =
-      told-rest at_end ∙ ap (told_from at_end s number) e ∙ told_from-end at_end s number l n h ∙ at_end-some s number l some in
+      told-rest at_end ∙ ap (told_from at_end s number) e ∙ told_from-end at_end s number l n h
+      ∙ at_end-some s number l some in
       last r s' told-line o
     where
       last : (r : Result (Unit {0}) ServiceFault) (s' : Option JobList) → jobs_of t0 ≡ one_line s number l
@@ -119,7 +126,8 @@ module _ (number : ℕ) (s : Option JobList) (t0 t : List ℕ) (g : Going number
         after_lines-last g.text l x n e z ∙ ap (λ i. after_lines i t0) (lines-read o.0 l c o.1),
       )
       last (Err (faults.BadLine m)) s' q o =
-          subst (λ (i : ℕ). Gives t0 x (Err (faults.BadLine i))) (sym o.0) (q ∙ o.1, inl (after_lines-last g.text l x n e z))
+          subst (λ (i : ℕ). Gives t0 x (Err (faults.BadLine i))) (sym o.0)
+          (q ∙ o.1, inl (after_lines-last g.text l x n e z))
       last (Err faults.NoHeader) s' q o = absurd o
       last (Err faults.Spawn) s' q o = absurd o
       last (Err faults.Torn) s' q o = absurd o
@@ -130,14 +138,17 @@ module _ (number : ℕ) (s : Option JobList) (t0 t : List ℕ) (g : Going number
   Gives-end : (x : List ℕ) → t ≡ [] → x ≡ [] → number ≡ lines_of s + 1 → number ≢ 1 → GivesTo t0 x s (Ok tt)
   Gives-end x e z c m =
       let told-end : jobs_of t0 ≡ at_end s number [] =
-      told-rest at_end ∙ ap (told_from at_end s number) e ∙ told_from-end at_end s number [] (λ k d i. absurd (omega arith)) (omega arith) in
+      told-rest at_end ∙ ap (told_from at_end s number) e
+      ∙ told_from-end at_end s number [] (λ k d i. absurd (omega arith)) (omega arith) in
       end s told-end c
     where
-      end : (s' : Option JobList) → jobs_of t0 ≡ at_end s' number [] → number ≡ lines_of s' + 1 → GivesTo t0 x s' (Ok tt)
+      end : (s' : Option JobList) → jobs_of t0 ≡ at_end s' number [] → number ≡ lines_of s' + 1
+          → GivesTo t0 x s' (Ok tt)
       end None q c = absurd (m c)
       end (Some j) q c = (q, z)
 
-  Gives-no_header : (x : List ℕ) → t ≡ [] → x ≡ [] → number ≡ lines_of s + 1 → number ≡ 1 → Gives t0 x (Err faults.NoHeader)
+  Gives-no_header : (x : List ℕ) → t ≡ [] → x ≡ [] → number ≡ lines_of s + 1 → number ≡ 1
+      → Gives t0 x (Err faults.NoHeader)
   Gives-no_header x e z c m =
       let none : s ≡ None = no_lines s (omega arith) in (
         told-rest at_end ∙ ap (told_from at_end s number) e
@@ -154,48 +165,60 @@ pub Known-start : (k : Option (List ℕ)) → Known k k 1 None
 Known-start None = record { goes = tt }
 Known-start (Some t) = record { goes = Going-start t }
 
-module _ {k0 k : Option (List ℕ)} {number : ℕ} {s : Option JobList} (h : Known k0 k number s) (m : Option (List ℕ)) (l : List ℕ)
+module _ {k0 k : Option (List ℕ)} {number : ℕ} {s : Option JobList} (h : Known k0 k number s) (m : Option (List ℕ))
+    (l : List ℕ)
     (one : NoNewline l) (short : length l ≤ LONGEST_LINE) where
   -- the line at hand ends in this way
   ended : (S : List ℕ → List ℕ → Type 0) (e f : Result Ended LineFault) → e ≡ f
-      → ((t0 t x : List ℕ) → Going number s t0 t → ReadsLine l f t x → S t0 x) → Reads k m (ReadsLine l e) → Reads k0 m S
+      → ((t0 t x : List ℕ) → Going number s t0 t → ReadsLine l f t x → S t0 x) → Reads k m (ReadsLine l e)
+      → Reads k0 m S
   ended S e f is go r = Reads-line k0 k m (Going number s) S l e f is go h.goes r
 
   pub exit_failed : (f : LineFault) (s' : Option JobList) → f ≡ why.Failed → Reads k m (ReadsLine l (Err f))
       → Reads k0 m (λ text left. GivesTo text left s' (Err faults.ReadFault))
-  exit_failed f s' e r = ended (λ text left. GivesTo text left s' (Err faults.ReadFault)) (Err f) (Err why.Failed) (ap Err e)
+  exit_failed f s' e r =
+      ended (λ text left. GivesTo text left s' (Err faults.ReadFault)) (Err f) (Err why.Failed) (ap Err e)
       (λ t0 t x g b. breaks number s t0 t g l x one short b) r
 
-  pub exit_long : (f : LineFault) (s' : Option JobList) → f ≡ why.TooLong → Reads k m (ReadsLine l (Err f)) → IsLineFor 257 l (Err f)
+  pub exit_long : (f : LineFault) (s' : Option JobList) → f ≡ why.TooLong → Reads k m (ReadsLine l (Err f))
+      → IsLineFor 257 l (Err f)
       → Reads k0 m (λ text left. GivesTo text left s' (Err (faults.BadLine number)))
   exit_long f s' e r fits =
       let z : length l ≡ LONGEST_LINE = (subst (λ (v : LineFault). IsLineFor 257 l (Err v)) e fits).0 in
       ended (λ text left. GivesTo text left s' (Err (faults.BadLine number))) (Err f) (Err why.TooLong) (ap Err e)
       (λ t0 t x g b. Gives-long_line number s t0 t g l x b.0 one b.1 z b.2) r
 
-  pub exit_last : (f : Ended) (line : List ℕ) (r : Result (Unit {0}) ServiceFault) (s' : Option JobList) → f ≡ how.Last → line ≡ l
-      → Reads k m (ReadsLine l (Ok f)) → (l ≡ [] → ⊥) → number ≡ lines_of s + 1 → Follows (one_line s number line) number s' r
+  pub exit_last : (f : Ended) (line : List ℕ) (r : Result (Unit {0}) ServiceFault) (s' : Option JobList) → f ≡ how.Last
+      → line ≡ l
+      → Reads k m (ReadsLine l (Ok f)) → (l ≡ [] → ⊥) → number ≡ lines_of s + 1
+      → Follows (one_line s number line) number s' r
       → Reads k0 m (λ text left. GivesTo text left s' r)
   exit_last f line r s' e i q z c o = ended (λ text left. GivesTo text left s' r) (Ok f) (Ok how.Last) (ap Ok e)
       (λ t0 t x g b.
-      Gives-last number s t0 t g l x r s' one short b.0 b.1 z c (subst (λ (v : List ℕ). Follows (one_line s number v) number s' r) i o)) q
+      Gives-last number s t0 t g l x r s' one short b.0 b.1 z c
+      (subst (λ (v : List ℕ). Follows (one_line s number v) number s' r) i o)) q
 
-  pub exit_done : (f : Ended) → f ≡ how.Last → Reads k m (ReadsLine l (Ok f)) → l ≡ [] → number ≡ lines_of s + 1 → number ≢ 1
+  pub exit_done : (f : Ended) → f ≡ how.Last → Reads k m (ReadsLine l (Ok f)) → l ≡ [] → number ≡ lines_of s + 1
+      → number ≢ 1
       → Reads k0 m (λ text left. GivesTo text left s (Ok tt))
   exit_done f e r z c n = ended (λ text left. GivesTo text left s (Ok tt)) (Ok f) (Ok how.Last) (ap Ok e)
       (λ t0 t x g b. Gives-end number s t0 t g x (b.0 ∙ z) b.1 c n) r
 
-  pub exit_empty : (f : Ended) (s' : Option JobList) → f ≡ how.Last → Reads k m (ReadsLine l (Ok f)) → l ≡ [] → number ≡ lines_of s + 1
+  pub exit_empty : (f : Ended) (s' : Option JobList) → f ≡ how.Last → Reads k m (ReadsLine l (Ok f)) → l ≡ []
+      → number ≡ lines_of s + 1
       → number ≡ 1 → Reads k0 m (λ text left. GivesTo text left s' (Err faults.NoHeader))
-  exit_empty f s' e r z c n = ended (λ text left. GivesTo text left s' (Err faults.NoHeader)) (Ok f) (Ok how.Last) (ap Ok e)
+  exit_empty f s' e r z c n =
+      ended (λ text left. GivesTo text left s' (Err faults.NoHeader)) (Ok f) (Ok how.Last) (ap Ok e)
       (λ t0 t x g b. Gives-no_header number s t0 t g x (b.0 ∙ z) b.1 c n) r
 
   pub exit_fault : (f : Ended) (line : List ℕ) (bad : ServiceFault) (s' : Option JobList) → f ≡ how.Line → line ≡ l
       → Reads k m (ReadsLine l (Ok f)) → number ≡ lines_of s + 1 → Follows (one_line s number line) number s' (Err bad)
       → Reads k0 m (λ text left. GivesTo text left s' (Err bad))
-  exit_fault f line bad s' e i r c o = ended (λ text left. GivesTo text left s' (Err bad)) (Ok f) (Ok how.Line) (ap Ok e)
+  exit_fault f line bad s' e i r c o =
+      ended (λ text left. GivesTo text left s' (Err bad)) (Ok f) (Ok how.Line) (ap Ok e)
       (λ t0 t x g b.
-      Gives-fault number s t0 t g l x bad s' one short b c (subst (λ (v : List ℕ). Follows (one_line s number v) number s' (Err bad)) i o)) r
+      Gives-fault number s t0 t g l x bad s' one short b c
+      (subst (λ (v : List ℕ). Follows (one_line s number v) number s' (Err bad)) i o)) r
 
   pub next_line : (f : Ended) (line : List ℕ) (s' : Option JobList) → f ≡ how.Line → line ≡ l
       → Reads k m (ReadsLine l (Ok f)) → Follows (one_line s number line) number s' (Ok tt)

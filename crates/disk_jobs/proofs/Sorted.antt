@@ -1,5 +1,6 @@
 -- Two lists with the same elements, both sorted by a number, have the same numbers.
-use Rattle.std.proofs.Common.{◌≡◌, ℕ, suc, ◌+◌, ◌<◌, ◌≤◌, List, [], ◌∷◌, length, map, get_or, cond, ltb, refl, ap, sym, ◌∙◌, arith}
+use Rattle.std.proofs.Common.{◌≡◌, ℕ, suc, ◌+◌, ◌<◌, ◌≤◌, List, [], ◌∷◌, length, map, get_or, cond, ltb, refl, ap, sym}
+use Rattle.std.proofs.Common.{◌∙◌, arith}
 use Rattle.std.proofs.lemmas.Bool.{le-ltb}
 use Rattle.std.proofs.lemmas.Bool.Decides.{nat_tests}
 use Rattle.std.proofs.lemmas.List.Sums.{sum_by-cons}
@@ -16,7 +17,8 @@ module _ {X : Type 0} (n : X → ℕ) where
   lower-none y [] h = refl
   lower-none y (x ∷ xs) h =
       sum_by-cons (λ z. cond (ltb (n z) y) 1 0) x xs
-      ∙ rw (le-ltb (n x) y (h 0 x (omega arith))) (ap (λ v. 0 + v) (lower-none y xs (λ k d i. h (suc k) d (omega arith))))
+      ∙ rw (le-ltb (n x) y (h 0 x (omega arith)))
+      (ap (λ v. 0 + v) (lower-none y xs (λ k d i. h (suc k) d (omega arith))))
 
   lower-first : (y : ℕ) (x : X) (xs : List X) → lower y (x ∷ xs) ≡ 0 → y ≤ n x
   lower-first y x xs h = first (n x) y (lower y xs) (sym (sum_by-cons (λ z. cond (ltb (n z) y) 1 0) x xs) ∙ h)
@@ -30,9 +32,11 @@ module _ {X : Type 0} (n : X → ℕ) where
 
   first-le : (x y : X) (xs ys : List X) → IsNonDecreasingBy n (y ∷ ys) → SameWeights (x ∷ xs) (y ∷ ys) → n y ≤ n x
   first-le x y xs ys up same =
-      lower-first (n y) x xs (same (λ v. cond (ltb v (n y)) 1 0) ∙ lower-none (n y) (y ∷ ys) (λ k d i. up 0 k d (omega arith) i))
+      lower-first (n y) x xs
+      (same (λ v. cond (ltb v (n y)) 1 0) ∙ lower-none (n y) (y ∷ ys) (λ k d i. up 0 k d (omega arith) i))
 
-  numbers-same : (xs ys : List X) → IsNonDecreasingBy n xs → IsNonDecreasingBy n ys → SameWeights xs ys → map n xs ≡ map n ys
+  numbers-same : (xs ys : List X) → IsNonDecreasingBy n xs → IsNonDecreasingBy n ys → SameWeights xs ys
+      → map n xs ≡ map n ys
   numbers-same [] [] up up' same = refl
   numbers-same [] (y ∷ ys) up up' same = absurd (omega (arith, same (λ v. 1), sum_by-cons (λ (z : X). 1) y ys))
   numbers-same (x ∷ xs) [] up up' same = absurd (omega (arith, same (λ v. 1), sum_by-cons (λ (z : X). 1) x xs))
@@ -43,7 +47,10 @@ module _ {X : Type 0} (n : X → ℕ) where
       let rest : SameWeights xs ys = λ f.
       omega (arith, same f, sum_by-cons (λ z. f (n z)) x xs, sum_by-cons (λ z. f (n z)) y ys, ap f e) in
       ap (λ v. v ∷ map n xs) e
-      ∙ ap (λ v. n y ∷ v) (numbers-same xs ys (IsNonDecreasingBy-drop n 1 (x ∷ xs) up) (IsNonDecreasingBy-drop n 1 (y ∷ ys) up') rest)
+      ∙ ap (λ v. n y ∷ v)
+      (numbers-same xs ys (IsNonDecreasingBy-drop n 1 (x ∷ xs) up) (IsNonDecreasingBy-drop n 1 (y ∷ ys) up') rest)
 
-  pub numbers-permutation : (xs ys : List X) → IsNonDecreasingBy n xs → IsNonDecreasingBy n ys → IsPermutation xs ys → map n xs ≡ map n ys
-  numbers-permutation xs ys up up' p = numbers-same xs ys up up' (λ f. sym (sum_by-IsPermutation (λ x. f (n x)) xs ys p))
+  pub numbers-permutation : (xs ys : List X) → IsNonDecreasingBy n xs → IsNonDecreasingBy n ys → IsPermutation xs ys
+      → map n xs ≡ map n ys
+  numbers-permutation xs ys up up' p =
+      numbers-same xs ys up up' (λ f. sym (sum_by-IsPermutation (λ x. f (n x)) xs ys p))

@@ -1,5 +1,6 @@
 -- The jobs of a service, and which can't be.
-use Rattle.std.specs.Prelude.{ℕ, suc, ◌<◌, ◌≤◌, nat_lt, nat_le, ◌&&◌, not, if◌then◌else◌, List, [], ◌∷◌, ◌++◌, length, Option, Some, None}
+use Rattle.std.specs.Prelude.{ℕ, suc, ◌<◌, ◌≤◌, nat_lt, nat_le, ◌&&◌, not, if◌then◌else◌, List, [], ◌∷◌, ◌++◌, length}
+use Rattle.std.specs.Prelude.{Option, Some, None}
 use Rattle.disk_jobs.specs.declared.jobs.BadJobs.{BadJobs}
 use Rattle.disk_jobs.specs.declared.jobs.BadJobs.TheVariants.{BadWorkers, TooMany, OffDisk}
 use Rattle.disk_jobs.specs.declared.jobs.TheConstants.{MOST_JOBS, MOST_WORKERS}

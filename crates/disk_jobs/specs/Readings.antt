@@ -1,5 +1,6 @@
 -- What reading a job file answers, and what it leaves of the text.
-use Rattle.std.specs.Prelude.{ℕ, ◌≡◌, ◌<◌, ◌⊎◌, ◌+◌, ◌-◌, List, [], ◌++◌, length, drop, Option, Some, None, Result, Ok, Err}
+use Rattle.std.specs.Prelude.{ℕ, ◌≡◌, ◌<◌, ◌⊎◌, ◌+◌, ◌-◌, List, [], ◌++◌, length, drop, Option, Some, None, Result, Ok}
+use Rattle.std.specs.Prelude.{Err}
 use Rattle.line_text.specs.declared.line.TheConstants.{LONGEST_LINE}
 use Rattle.line_text.specs.Line.{after_lines}
 use Rattle.disk_jobs.specs.declared.fault.ServiceFault.{ServiceFault}

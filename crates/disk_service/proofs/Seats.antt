@@ -25,7 +25,8 @@ module _ {D : Type 0} where
       }
 
   -- none of them is missing
-  pub has-first : (t : Terms D) (door : DoorId) (n : ℕ) (os : List (PlaceOut D)) → AreFirst t door n os → (k : ℕ) → k < n → HasPlace k os
+  pub has-first : (t : Terms D) (door : DoorId) (n : ℕ) (os : List (PlaceOut D)) → AreFirst t door n os → (k : ℕ)
+      → k < n → HasPlace k os
   has-first t door n os first k l = let c = first.count in has_nth os k k (omega arith) (λ d. (first.each k d l).number)
 
 -- the same number, in other words

@@ -23,7 +23,8 @@ pub record AreOf (kind : Kind) (d : Doors) : Type 0 where
   pub board : kind_behind d.board ≡ door_kind kind
 
 -- the door is of this kind and has n places, and they are its places
-pub record IsMade {D : Type 0} (t : Terms D) (k : Kind) (n : ℕ) (door : AnyDoor D) (os : List (PlaceOut D)) : Type 0 where
+pub record IsMade {D : Type 0} (t : Terms D) (k : Kind) (n : ℕ) (door : AnyDoor D)
+    (os : List (PlaceOut D)) : Type 0 where
   pub kind : kind_behind door ≡ door_kind k
   pub size : (id_of door).places ≡ n
   pub places : AreFirst t (id_of door) n os

@@ -1,5 +1,6 @@
 -- All places handed in: the log is the history that the door ends with.
-use Rattle.std.proofs.Common.{◌≡◌, inl, inr, ℕ, ◌<◌, Bool, true, List, [], ◌∷◌, ◌++◌, Option, Some, None, unwrap_or, sym, ap, ◌∙◌, subst}
+use Rattle.std.proofs.Common.{◌≡◌, inl, inr, ℕ, ◌<◌, Bool, true, List, [], ◌∷◌, ◌++◌, Option, Some, None, unwrap_or}
+use Rattle.std.proofs.Common.{sym, ap, ◌∙◌, subst}
 use Rattle.std.specs.Prelude.{All}
 use Rattle.std.proofs.lemmas.List.Elements.{All-nil, All-cons, All-head, All-tail}
 use mathlib.Core.Option.{some, some-injective}
@@ -37,29 +38,36 @@ module _ {D : Type 0} where
       → Each (Agrees n log owner tickets id) (known_to os) → All (IsTold log) os
   told_all n log owner tickets id [] agree = All-nil (IsTold log)
   told_all n log owner tickets id (o ∷ os) agree =
-      All-cons (IsTold log) o os (record { begins = agree.0.begins; own_are = agree.0.own_are }) (told_all n log owner tickets id os agree.1)
+      All-cons (IsTold log) o os (record { begins = agree.0.begins; own_are = agree.0.own_are })
+      (told_all n log owner tickets id os agree.1)
 
   -- what is found in the slot at the end
-  pub record Ends (rest : Rest D) (ready : Ready D) (kinds : Kinds) (d : DoorId) (os : List (PlaceOut D)) (x : Lodged D) : Type 0 where
+  pub record Ends (rest : Rest D) (ready : Ready D) (kinds : Kinds) (d : DoorId) (os : List (PlaceOut D))
+      (x : Lodged D) : Type 0 where
     pub closes : Closes rest ready kinds d os x.state
     pub rests : rest x.state nobody
 
-  module _ (Starts : Bool → List ℕ → Type 0) (Tells : History D → Tickets → List ℕ → Type 0) (rest : Rest D) (ready : Ready D)
+  module _ (Starts : Bool → List ℕ → Type 0) (Tells : History D → Tickets → List ℕ → Type 0) (rest : Rest D)
+      (ready : Ready D)
       (kinds : Kinds) (d : DoorId) where
     abbrev Of : PlaceOut D → Type 0
     Of = IsOut rest ready kinds d
 
-    outside_at : (k : ℕ) (log : History D) (owner : ℕ → ℕ) (tickets : Tickets) (id : ℕ) (os : List (PlaceOut D)) → All Of os
+    outside_at : (k : ℕ) (log : History D) (owner : ℕ → ℕ) (tickets : Tickets) (id : ℕ) (os : List (PlaceOut D))
+        → All Of os
         → Each (Agrees d.places log owner tickets id) (known_to os) → HasPlace k os → outside k log.events ≡ true
     outside_at k log owner tickets id [] outs agree at = absurd at
     outside_at k log owner tickets id (o ∷ os) outs agree (inl e) =
         subst (λ (j : ℕ). outside j log.events ≡ true) e
         (outside-same o.place o.front log agree.0.own_are (All-head Of o os outs).is_outside)
-    outside_at k log owner tickets id (o ∷ os) outs agree (inr at) = outside_at k log owner tickets id os (All-tail Of o os outs) agree.1 at
+    outside_at k log owner tickets id (o ∷ os) outs agree (inr at) =
+        outside_at k log owner tickets id os (All-tail Of o os outs) agree.1 at
 
     -- the slot is at home, with what one legal and lawful history left
-    ends : (id : ℕ) (v : View D) (os : List (PlaceOut D)) (ws : List ℕ) (xs : List (Option (Lodged D))) → v ≡ Places (known_to os) → All Of os
-        → ((k : ℕ) → k < d.places → HasPlace k os) → Final (Seen (Kept Starts Tells rest ready kinds d.places) id v) ws xs
+    ends : (id : ℕ) (v : View D) (os : List (PlaceOut D)) (ws : List ℕ) (xs : List (Option (Lodged D)))
+        → v ≡ Places (known_to os) → All Of os
+        → ((k : ℕ) → k < d.places → HasPlace k os)
+        → Final (Seen (Kept Starts Tells rest ready kinds d.places) id v) ws xs
         → (x : Lodged D) × (get_elem? xs 0 ≡ some (Some x)) × Ends rest ready kinds d os x
     ends id v os ws xs is outs all fin =
         let at : get_elem? fin.0.views id ≡ some (Places (known_to os)) = fin.1.1 ∙ ap (λ u. some u) is in
@@ -84,8 +92,10 @@ module _ {D : Type 0} where
 
     -- the same of all that were handed in, once the last is joined
     pub ends_all : {id : ℕ} {v : View D} (ws : List ℕ) (xs : List (Option (Lodged D))) {os front : List (PlaceOut D)} (back : List (PlaceOut D))
-        → os ≡ front ++ back → front ≡ [] → v ≡ Places (known_to back) → All Of os → ((k : ℕ) → k < d.places → HasPlace k os)
-        → Final (Seen (Kept Starts Tells rest ready kinds d.places) id v) ws xs → {x : Option (Lodged D)} → get_elem? xs 0 ≡ some x
+        → os ≡ front ++ back → front ≡ [] → v ≡ Places (known_to back) → All Of os
+        → ((k : ℕ) → k < d.places → HasPlace k os)
+        → Final (Seen (Kept Starts Tells rest ready kinds d.places) id v) ws xs → {x : Option (Lodged D)}
+        → get_elem? xs 0 ≡ some x
         → (l : Lodged D) × (x ≡ Some l) × Ends rest ready kinds d os l
     ends_all {id = id} {v = v} ws xs {os = os} back split empty is outs all fin got =
         let same : os ≡ back = split ∙ ap (λ (l : List (PlaceOut D)). l ++ back) empty in
@@ -94,10 +104,12 @@ module _ {D : Type 0} where
         (r.0, some-injective _ _ (sym got ∙ r.1), r.2)
 
     -- the seat of one place is joined to that of some
-    pub joins_one : (id : ℕ) (v : View D) (other : ℕ) (w : View D) (os : List (PlaceOut D)) (k : ℕ) (f : History D) → v ≡ Places (known_to os)
+    pub joins_one : (id : ℕ) (v : View D) (other : ℕ) (w : View D) (os : List (PlaceOut D)) (k : ℕ) (f : History D)
+        → v ≡ Places (known_to os)
         → w ≡ alone k f → Joins (Kept Starts Tells rest ready kinds d.places) id v other w (both_places v w) no_places
     joins_one id v other w os k f is lone =
-        subst (λ (p : View D × View D). Joins (Kept Starts Tells rest ready kinds d.places) id p.0 other p.1 (both_places p.0 p.1) no_places)
+        subst
+        (λ (p : View D × View D). Joins (Kept Starts Tells rest ready kinds d.places) id p.0 other p.1 (both_places p.0 p.1) no_places)
         (λ i. (sym is i, sym lone i))
         (joins_ok Starts Tells rest ready kinds d.places id (known_to os) other (knows k f None ∷ []))
 

@@ -20,7 +20,8 @@ use Rattle.hoare_law.proofs.Entering.{outside-same}
 use Rattle.hoare_law.proofs.Growth.{Begins-refl}
 use Rattle.hoare_law.proofs.Entering as entering
 use Rattle.hoare_law.proofs.Held.{is_inside, handing, place_of-handing, data_of-handing}
-use Rattle.hoare_law.proofs.Leaving.{turn-left, turn-handing, outside-left, chosen-some, Chooses-place, Allowed-leave, Allowed-wait, Allowed-handing}
+use Rattle.hoare_law.proofs.Leaving.{turn-left, turn-handing, outside-left, chosen-some, Chooses-place, Allowed-leave}
+use Rattle.hoare_law.proofs.Leaving.{Allowed-wait, Allowed-handing}
 use Rattle.hoare_law.proofs.Leaving.{Owes-leave, Owes-wait, Owes-handing}
 use Rattle.hoare_law.proofs.Legal.{Stands-push}
 use Rattle.hoare_law.proofs.Waiters.{held-in_range}
@@ -71,27 +72,33 @@ module _ {D : Type 0} where
     pub goes_on : place_for who ≡ place_of chosen_one
 
   pub chooses : (c : ℕ) (f : History D) (who : Next) → Resumes c f who → Chooses c f.events (place_for who)
-  chooses c f who r = subst (λ (w : ℕ). Chooses c f.events w) (sym r.goes_on) (Chooses-place c f.events r.chosen_one r.is)
+  chooses c f who r =
+      subst (λ (w : ℕ). Chooses c f.events w) (sym r.goes_on) (Chooses-place c f.events r.chosen_one r.is)
 
-  handed_to : (h : History D) (w c : ℕ) (b : Contents) (who : Next) → IsOf b (erased h) → turn h.events ≡ Owed w c → who ≡ next_of b.turn
+  handed_to : (h : History D) (w c : ℕ) (b : Contents) (who : Next) → IsOf b (erased h) → turn h.events ≡ Owed w c
+      → who ≡ next_of b.turn
       → place_for who ≡ w
   handed_to h w c b who o is answered = ap place_for (answered ∙ ap next_of (turn-history b h o ∙ is))
 
   -- what a call that gave the monitor up for good says of the place outside
-  pub record Left (rest : Rest D) (ready : Ready D) (kinds : Kinds) (d : DoorId) (k : ℕ) (h : History D) (o : PlaceOut D) : Type 0 where
+  pub record Left (rest : Rest D) (ready : Ready D) (kinds : Kinds) (d : DoorId) (k : ℕ) (h : History D)
+      (o : PlaceOut D) : Type 0 where
     pub of : IsOut rest ready kinds d o
     pub place : o.place ≡ k
     pub front : o.front ≡ h
 
   -- what a pass says of the place outside
-  pub record Passed (rest : Rest D) (ready : Ready D) (kinds : Kinds) (d : DoorId) (i : PlaceIn D) (c : ℕ) (o : PlaceOut D) : Type 0 where
+  pub record Passed (rest : Rest D) (ready : Ready D) (kinds : Kinds) (d : DoorId) (i : PlaceIn D) (c : ℕ)
+      (o : PlaceOut D) : Type 0 where
     pub of : IsOut rest ready kinds d o
     pub place : o.place ≡ i.place
     pub front : Exits i.place c i.state i.front o.front true
 
   -- who learns the history stays outside
-  pub told_out : (rest : Rest D) (ready : Ready D) (kinds : Kinds) (d : DoorId) (t : TableId) (o : PlaceOut D) (h : History D) → t ≡ d.table
-      → IsOut rest ready kinds d o → Stands rest ready h → Begins o.front h → own o.place h.events ≡ own o.place o.front.events
+  pub told_out : (rest : Rest D) (ready : Ready D) (kinds : Kinds) (d : DoorId) (t : TableId) (o : PlaceOut D) (h : History D)
+      → t ≡ d.table
+      → IsOut rest ready kinds d o → Stands rest ready h → Begins o.front h
+      → own o.place h.events ≡ own o.place o.front.events
       → IsOut rest ready kinds d (place_out t o.place h)
   told_out rest ready kinds d t o h of out stands begins same = record {
     of = of;
@@ -111,13 +118,15 @@ module _ {D : Type 0} where
     asked_back P h told = subst P h.seen told
 
     -- what holds of the door's sizes holds of the front's
-    pub sized_here : (P : Sizes → Type 0) → Holds rest ready kinds d i t k f me x → P (sizes_at kinds d.places) → P f.sizes
+    pub sized_here : (P : Sizes → Type 0) → Holds rest ready kinds d i t k f me x → P (sizes_at kinds d.places)
+        → P f.sizes
     sized_here P h asked = subst P (sym h.within.sized) asked
 
     -- an event that is allowed and paid gives the monitor up
     may_give : (event : D → Event D) (b : Contents) (who : Next) → Holds rest ready kinds d i t k f me x
         → place_of (event x.state) ≡ k → data_of (event x.state) ≡ x.state → is_inside (event x.state) ≡ false
-        → Allowed f (event x.state) → Owes rest ready f.events (event x.state) → IsOf b (erased (with_event f (event x.state))) → who ≡ next_of b.turn
+        → Allowed f (event x.state) → Owes rest ready f.events (event x.state)
+        → IsOf b (erased (with_event f (event x.state))) → who ≡ next_of b.turn
         → MayGive rest ready event k me (record { state = x.state; book = b }) who
     may_give event b who h mine same goes allowed owes book is = (
       f,
@@ -134,19 +143,25 @@ module _ {D : Type 0} where
       },
     )
 
-    owes_leave : Holds rest ready kinds d i t k f me x → rest i.state (priorities i.front.events) → Owes rest ready f.events (Leave k x.state)
+    owes_leave : Holds rest ready kinds d i t k f me x → rest i.state (priorities i.front.events)
+        → Owes rest ready f.events (Leave k x.state)
     owes_leave h asked =
-        Owes-leave rest ready f k x.state h.within.is_inside (asked_here (λ j. rest j.state (priorities j.front.events)) h asked)
+        Owes-leave rest ready f k x.state h.within.is_inside
+        (asked_here (λ j. rest j.state (priorities j.front.events)) h asked)
 
-    pub gives_leave : (b : Contents) (who : Next) → Holds rest ready kinds d i t k f me x → rest i.state (priorities i.front.events)
+    pub gives_leave : (b : Contents) (who : Next) → Holds rest ready kinds d i t k f me x
+        → rest i.state (priorities i.front.events)
         → IsOf b (with_event (erased f) (Leave k tt)) → who ≡ next_of b.turn
         → MayGive rest ready (event_of k departure.Leave who) k me (record { state = x.state; book = b }) who
     gives_leave b who h asked book is =
-        may_give (λ s. Leave k s) b who h refl refl refl (Allowed-leave f k x.state h.within.stands.legal h.within.is_inside)
+        may_give (λ s. Leave k s) b who h refl refl refl
+        (Allowed-leave f k x.state h.within.stands.legal h.within.is_inside)
         (owes_leave h asked) (IsOf-event b f (Leave k x.state) book) is
 
-    pub gives_wait : (c p : ℕ) (b : Contents) (who : Next) → Holds rest ready kinds d i t k f me x → c < kinds.conditions
-        → rest i.state (joined (priorities i.front.events) c p) → IsOf b (with_event (erased f) (Wait k c p tt)) → who ≡ next_of b.turn
+    pub gives_wait : (c p : ℕ) (b : Contents) (who : Next) → Holds rest ready kinds d i t k f me x
+        → c < kinds.conditions
+        → rest i.state (joined (priorities i.front.events) c p) → IsOf b (with_event (erased f) (Wait k c p tt))
+        → who ≡ next_of b.turn
         → MayGive rest ready (event_of k (departure.Wait c p) who) k me (record { state = x.state; book = b }) who
     gives_wait c p b who h small asked book is =
         may_give (λ s. Wait k c p s) b who h refl refl refl
@@ -154,12 +169,15 @@ module _ {D : Type 0} where
         (Owes-wait rest ready f k c p x.state h.within.is_inside (asked_here (λ j. rest j.state (joined (priorities j.front.events) c p)) h asked))
         (IsOf-event b f (Wait k c p x.state) book) is
 
-    some_here : (c : ℕ) → Holds rest ready kinds d i t k f me x → priorities i.front.events c ≢ [] → (e : Event D) × (chosen c f.events ≡ Some e)
+    some_here : (c : ℕ) → Holds rest ready kinds d i t k f me x → priorities i.front.events c ≢ []
+        → (e : Event D) × (chosen c f.events ≡ Some e)
     some_here c h some = chosen-some c f.events (asked_here (λ j. priorities j.front.events c ≢ []) h some)
 
     -- it hands the monitor over: by a pass where it goes out, else by a signal
-    pub resumes_handing : (out : Bool) (c : ℕ) (b : Contents) (who : Next) → Holds rest ready kinds d i t k f me x → priorities i.front.events c ≢ []
-        → IsOf b (after_handing out (erased f) k c (chosen c (erased f).events)) → who ≡ next_of b.turn → Resumes c f who
+    pub resumes_handing : (out : Bool) (c : ℕ) (b : Contents) (who : Next) → Holds rest ready kinds d i t k f me x
+        → priorities i.front.events c ≢ []
+        → IsOf b (after_handing out (erased f) k c (chosen c (erased f).events)) → who ≡ next_of b.turn
+        → Resumes c f who
     resumes_handing out c b who h some book is =
         let e = some_here c h some in
         let w : ℕ = place_of e.0 in
@@ -169,29 +187,37 @@ module _ {D : Type 0} where
           goes_on = handed_to (with_event f (handing out k c w x.state)) w c b who after (turn-handing out f k c w x.state) is;
         }
 
-    allowed_handing : (out : Bool) (c : ℕ) (e : Event D) → Holds rest ready kinds d i t k f me x → IsHoare kinds.conditions kinds.mesa c → chosen c f.events ≡ Some e
+    allowed_handing : (out : Bool) (c : ℕ) (e : Event D) → Holds rest ready kinds d i t k f me x
+        → IsHoare kinds.conditions kinds.mesa c → chosen c f.events ≡ Some e
         → Allowed f (handing out k c (place_of e) x.state)
     allowed_handing out c e h hoare is =
-        Allowed-handing out f k c e x.state h.within.stands.legal h.within.is_inside (sized_here (λ n. IsHoare n.conditions n.mesa c) h hoare) is
+        Allowed-handing out f k c e x.state h.within.stands.legal h.within.is_inside
+        (sized_here (λ n. IsHoare n.conditions n.mesa c) h hoare) is
 
-    owes_handing : (out : Bool) (c : ℕ) (e : Event D) → Holds rest ready kinds d i t k f me x → chosen c f.events ≡ Some e → Handed ready c i
+    owes_handing : (out : Bool) (c : ℕ) (e : Event D) → Holds rest ready kinds d i t k f me x
+        → chosen c f.events ≡ Some e → Handed ready c i
         → Owes rest ready f.events (handing out k c (place_of e) x.state)
-    owes_handing out c e h is asked = Owes-handing rest ready out f k c e x.state h.within.is_inside is (asked_here (Handed ready c) h asked)
+    owes_handing out c e h is asked =
+        Owes-handing rest ready out f k c e x.state h.within.is_inside is (asked_here (Handed ready c) h asked)
 
-    pub gives_handing : (out : Bool) (c : ℕ) (b : Contents) (who : Next) → Holds rest ready kinds d i t k f me x → IsHoare kinds.conditions kinds.mesa c
+    pub gives_handing : (out : Bool) (c : ℕ) (b : Contents) (who : Next) → Holds rest ready kinds d i t k f me x
+        → IsHoare kinds.conditions kinds.mesa c
         → priorities i.front.events c ≢ [] → Handed ready c i
         → IsOf b (after_handing out (erased f) k c (chosen c (erased f).events)) → who ≡ next_of b.turn
         → MayGive rest ready (λ s. handing out k c (place_for who) s) k me (record { state = x.state; book = b }) who
     gives_handing out c b who h hoare some asked book is =
         let r = resumes_handing out c b who h some book is in
         let w : ℕ = place_of r.chosen_one in
-        subst (λ (j : ℕ). MayGive rest ready (λ s. handing out k c j s) k me (record { state = x.state; book = b }) who) (sym r.goes_on)
+        subst (λ (j : ℕ). MayGive rest ready (λ s. handing out k c j s) k me (record { state = x.state; book = b }) who)
+        (sym r.goes_on)
         (may_give (λ s. handing out k c w s) b who h (place_of-handing out k c w x.state) (data_of-handing out k c w x.state)
-        (out-handing out k c w x.state) (allowed_handing out c r.chosen_one h hoare r.is) (owes_handing out c r.chosen_one h r.is asked)
+        (out-handing out k c w x.state) (allowed_handing out c r.chosen_one h hoare r.is)
+        (owes_handing out c r.chosen_one h r.is asked)
         (IsOf-handing out b f k c r.chosen_one x.state r.is book) is)
 
     -- the place outside after an event by which it goes out
-    went_out : (e : Event D) (z : TableId) (o : PlaceOut D) → Holds rest ready kinds d i t k f me x → place_of e ≡ k → is_out (Some e) ≡ true
+    went_out : (e : Event D) (z : TableId) (o : PlaceOut D) → Holds rest ready kinds d i t k f me x → place_of e ≡ k
+        → is_out (Some e) ≡ true
         → Allowed f e → Owes rest ready f.events e → z ≡ t → o ≡ place_out z k (with_event f e)
         → Left rest ready kinds d k (with_event f e) o
     went_out e z o h mine goes may owes same is =
@@ -208,20 +234,25 @@ module _ {D : Type 0} where
           front = refl;
         })
 
-    pub left : (z : TableId) (o : PlaceOut D) → Holds rest ready kinds d i t k f me x → rest i.state (priorities i.front.events) → z ≡ t
-        → o ≡ place_out z k (with_event f (Leave k x.state)) → Left rest ready kinds d i.place (with_event i.front (Leave i.place i.state)) o
+    pub left : (z : TableId) (o : PlaceOut D) → Holds rest ready kinds d i t k f me x
+        → rest i.state (priorities i.front.events) → z ≡ t
+        → o ≡ place_out z k (with_event f (Leave k x.state))
+        → Left rest ready kinds d i.place (with_event i.front (Leave i.place i.state)) o
     left z o h asked same is =
         asked_back (λ j. Left rest ready kinds d j.place (with_event j.front (Leave j.place j.state)) o) h
         (went_out (Leave k x.state) z o h refl refl (Allowed-leave f k x.state h.within.stands.legal h.within.is_inside) (owes_leave h asked) same is)
 
-    pub passed : (c : ℕ) (b : Contents) (who : Next) (z : TableId) (o : PlaceOut D) → Holds rest ready kinds d i t k f me x → IsHoare kinds.conditions kinds.mesa c
-        → priorities i.front.events c ≢ [] → Handed ready c i → IsOf b (after_pass (erased f) k c (chosen c (erased f).events)) → who ≡ next_of b.turn
+    pub passed : (c : ℕ) (b : Contents) (who : Next) (z : TableId) (o : PlaceOut D)
+        → Holds rest ready kinds d i t k f me x → IsHoare kinds.conditions kinds.mesa c
+        → priorities i.front.events c ≢ [] → Handed ready c i
+        → IsOf b (after_pass (erased f) k c (chosen c (erased f).events)) → who ≡ next_of b.turn
         → z ≡ t → o ≡ place_out z k (with_event f (Pass k c (place_for who) x.state)) → Passed rest ready kinds d i c o
     passed c b who z o h hoare some asked book is same gone =
         let r = resumes_handing true c b who h some book is in
         let w : ℕ = place_for who in
         let out : Left rest ready kinds d k (with_event f (Pass k c w x.state)) o =
-        subst (λ (j : ℕ). o ≡ place_out z k (with_event f (Pass k c j x.state)) → Left rest ready kinds d k (with_event f (Pass k c j x.state)) o)
+        subst
+        (λ (j : ℕ). o ≡ place_out z k (with_event f (Pass k c j x.state)) → Left rest ready kinds d k (with_event f (Pass k c j x.state)) o)
         (sym r.goes_on)
         (went_out (Pass k c (place_of r.chosen_one) x.state) z o h refl refl (allowed_handing true c r.chosen_one h hoare r.is) (owes_handing true c r.chosen_one h r.is asked) same)
         gone in record {

@@ -43,18 +43,22 @@ module _ {D : Type 0} where
     turn_in_hand h = turn-history x.book f h.book ∙ h.within.is_inside
 
     -- and has the door's sizes
-    pub sized_in_hand : (P : Sizes → Type 0) → Holds rest ready kinds d i t k f me x → P (sizes_at kinds d.places) → P x.book.sizes
+    pub sized_in_hand : (P : Sizes → Type 0) → Holds rest ready kinds d i t k f me x → P (sizes_at kinds d.places)
+        → P x.book.sizes
     sized_in_hand P h asked = subst P (sym h.within.sized ∙ h.book.sizes) asked
 
     pub small : Holds rest ready kinds d i t k f me x → k < d.places
-    small h = subst (λ (n : Sizes). k < n.places) h.within.sized (held-in_range f k h.within.stands.legal h.within.is_inside)
+    small h =
+        subst (λ (n : Sizes). k < n.places) h.within.sized (held-in_range f k h.within.stands.legal h.within.is_inside)
 
   -- the book that a call is lent is of the front
-  pub book_in_hand : {k : ℕ} {f : History D} {me : Sat D} {b c : Contents} → b ≡ c → IsInside k f me c → IsOf b (erased f)
+  pub book_in_hand : {k : ℕ} {f : History D} {me : Sat D} {b c : Contents} → b ≡ c → IsInside k f me c
+      → IsOf b (erased f)
   book_in_hand {f = f} same inv = subst (λ (a : Contents). IsOf a (erased f)) (sym same) inv.1
 
   -- so its priorities are those of the contract
-  pub listed_in_hand : {t : TableId} {k : ℕ} {f : History D} {s : D} {i : PlaceIn D} {me : Sat D} {b c : Contents} → b ≡ c → IsInside k f me c
+  pub listed_in_hand : {t : TableId} {k : ℕ} {f : History D} {s : D} {i : PlaceIn D} {me : Sat D} {b c : Contents}
+      → b ≡ c → IsInside k f me c
       → place_in t k f s ≡ i → priorities_on b ≡ priorities i.front.events
   listed_in_hand {f = f} {b = b} same inv view =
       priorities_on-history b f (book_in_hand same inv) ∙ ap (λ (j : PlaceIn D). priorities j.front.events) view

@@ -117,7 +117,8 @@ module _ {D : Type 0} where
           → priorities i.front.events c ≢ [] → Notes rest ready (event_of_notice k (Notify c) x.state f) k f
       notes_notify c h mesa_c some =
           let legal = h.within.stands.legal in
-          let here : IsMesa f.sizes.conditions f.sizes.mesa c = sized_here (λ n. IsMesa n.conditions n.mesa c) h mesa_c in
+          let here : IsMesa f.sizes.conditions f.sizes.mesa c =
+          sized_here (λ n. IsMesa n.conditions n.mesa c) h mesa_c in
           let e = chosen-some c f.events (some_listed c h some) in
           subst (λ (w : ℕ). Notes rest ready (event.Notify k c w x.state) k f)
           (sym (chosen_place-is c f.events e.0 e.1)) (record {
@@ -132,7 +133,9 @@ module _ {D : Type 0} where
           → priorities i.front.events c ≢ [] → Notes rest ready (event_of_notice k (Broadcast c) x.state f) k f
       notes_broadcast c h mesa_c some =
           let legal = h.within.stands.legal in
-          let here : IsMesa f.sizes.conditions f.sizes.mesa c = sized_here (λ n. IsMesa n.conditions n.mesa c) h mesa_c in record {
+          let here : IsMesa f.sizes.conditions f.sizes.mesa c =
+          sized_here (λ n. IsMesa n.conditions n.mesa c) h mesa_c in
+          record {
             inside = h.within.is_inside;
             mine = refl;
             allowed = Allowed-broadcast f k c x.state legal h.within.is_inside here (somebody_waits c h some);

@@ -25,6 +25,8 @@ module _ {D : Type 0} (rest : Rest D) (ready : Ready D) (kinds : Kinds) (d : Doo
       (outside_from (suc k) m (omega arith) at_rest)
 
   -- so are all that a door is made with
-  pub made_outside : (os : List (PlaceOut D)) → os ≡ places_from d.table 0 d.places (opened (sizes_at kinds d.places) s) → rest s nobody
+  pub made_outside : (os : List (PlaceOut D)) → os ≡ places_from d.table 0 d.places (opened (sizes_at kinds d.places) s)
+      → rest s nobody
       → All (IsOut rest ready kinds d) os
-  made_outside os are at_rest = subst (All (IsOut rest ready kinds d)) (sym are) (outside_from 0 d.places (omega arith) at_rest)
+  made_outside os are at_rest =
+      subst (All (IsOut rest ready kinds d)) (sym are) (outside_from 0 d.places (omega arith) at_rest)

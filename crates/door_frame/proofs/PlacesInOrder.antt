@@ -1,5 +1,6 @@
 -- The places of a door, in order: how many they are, which each is, and that none is missing.
-use Rattle.std.proofs.Common.{ℕ, zero, suc, List, [], ◌∷◌, ◌≡◌, ◌<◌, ◌≤◌, ◌+◌, ◌-◌, length, refl, ap, ◌∙◌, arith, inl, inr}
+use Rattle.std.proofs.Common.{ℕ, zero, suc, List, [], ◌∷◌, ◌≡◌, ◌<◌, ◌≤◌, ◌+◌, ◌-◌, length, refl, ap, ◌∙◌, arith, inl}
+use Rattle.std.proofs.Common.{inr}
 use Rattle.std.specs.Prelude.{slice_index_or}
 use Rattle.atomic_table.specs.Seated.{TableId}
 use Rattle.hoare_law.specs.declared.event.History.{History}
@@ -12,19 +13,23 @@ module _ {D : Type 0} where
   length-places z k (suc n) f = ap suc (length-places z (suc k) n f)
 
   -- place j of those from k on is k + j
-  pub nth-places : (z : TableId) (k n : ℕ) (f : History D) (j : ℕ) (d : PlaceOut D) → j < n → (slice_index_or (places_from z k n f) j d).place ≡ k + j
+  pub nth-places : (z : TableId) (k n : ℕ) (f : History D) (j : ℕ) (d : PlaceOut D) → j < n
+      → (slice_index_or (places_from z k n f) j d).place ≡ k + j
   nth-places z k zero f j d l = absurd (omega arith)
   nth-places z k (suc n) f zero d l = omega arith
   nth-places z k (suc n) f (suc j) d l = nth-places z (suc k) n f j d (omega arith) ∙ omega arith
 
   -- a place that stands somewhere in the list is there
-  pub has_nth : (os : List (PlaceOut D)) (j k : ℕ) → j < length os → ((d : PlaceOut D) → (slice_index_or os j d).place ≡ k) → HasPlace k os
+  pub has_nth : (os : List (PlaceOut D)) (j k : ℕ) → j < length os
+      → ((d : PlaceOut D) → (slice_index_or os j d).place ≡ k) → HasPlace k os
   has_nth [] j k l is = absurd (omega arith)
   has_nth (o ∷ os) zero k l is = inl (is o)
   has_nth (o ∷ os) (suc j) k l is = inr (has_nth os j k (omega arith) is)
 
   -- the places from one on are all there
-  pub has-all : (k : ℕ) (z : TableId) (from n : ℕ) (f : History D) → from ≤ k → k < from + n → HasPlace k (places_from z from n f)
+  pub has-all : (k : ℕ) (z : TableId) (from n : ℕ) (f : History D) → from ≤ k → k < from + n
+      → HasPlace k (places_from z from n f)
   has-all k z from n f le lt =
       let count = length-places z from n f in
-      has_nth (places_from z from n f) (k - from) k (omega arith) (λ d. nth-places z from n f (k - from) d (omega arith) ∙ omega arith)
+      has_nth (places_from z from n f) (k - from) k (omega arith)
+      (λ d. nth-places z from n f (k - from) d (omega arith) ∙ omega arith)

@@ -1,5 +1,6 @@
 -- What a seat holds, step upon step.
-use Rattle.std.proofs.Common.{◌≡◌, ◌<◌, ℕ, ◌+◌, ◌-◌, true, List, [], ◌∷◌, Option, Some, None, unwrap_or, sym, ap, ◌∙◌, subst}
+use Rattle.std.proofs.Common.{◌≡◌, ◌<◌, ℕ, ◌+◌, ◌-◌, true, List, [], ◌∷◌, Option, Some, None, unwrap_or, sym, ap, ◌∙◌}
+use Rattle.std.proofs.Common.{subst}
 use Rattle.atomic_table.specs.Table.{rest}
 use Rattle.hoare_law.specs.declared.event.Event.{Event}
 use Rattle.hoare_law.specs.declared.event.History.{History}
@@ -22,20 +23,24 @@ module _ {D : Type 0} where
   slot_or d (x ∷ xs) = x.1
 
   -- the only slot of a seat, with something else in it
-  pub slot_now : {v : View D} {m n : Sat D} (o p : Option (Lodged D)) → m ≡ (v, (0, o) ∷ []) → n ≡ (m.0, (0, p) ∷ rest m.1)
+  pub slot_now : {v : View D} {m n : Sat D} (o p : Option (Lodged D)) → m ≡ (v, (0, o) ∷ [])
+      → n ≡ (m.0, (0, p) ∷ rest m.1)
       → n ≡ (m.0, (0, p) ∷ [])
   slot_now {m = m} o p is now = now ∙ ap (λ (z : Sat D). (m.0, (0, p) ∷ rest z.1)) is
 
-  pub slot_has : {v : View D} {m : Sat D} (o p : Option (Lodged D)) → m ≡ (v, (0, p) ∷ []) → m.1 ≡ (0, o) ∷ rest m.1 → o ≡ p
+  pub slot_has : {v : View D} {m : Sat D} (o p : Option (Lodged D)) → m ≡ (v, (0, p) ∷ []) → m.1 ≡ (0, o) ∷ rest m.1
+      → o ≡ p
   slot_has o p is out = ap (slot_or o) (sym out) ∙ ap (λ (z : Sat D). slot_or o z.1) is
 
-  pub slot_is : {v : View D} {m : Sat D} (o p : Option (Lodged D)) → m ≡ (v, (0, o) ∷ []) → o ≡ p → m ≡ (m.0, (0, p) ∷ [])
+  pub slot_is : {v : View D} {m : Sat D} (o p : Option (Lodged D)) → m ≡ (v, (0, o) ∷ []) → o ≡ p
+      → m ≡ (m.0, (0, p) ∷ [])
   slot_is o p is same = is ∙ (λ i. ((sym is i).0, (0, same i) ∷ []))
 
   module _ (calm : Rest D) (ready : Ready D) where
     -- who came in takes what lies in the slot
     pub took_also : {k : ℕ} {f : History D} {event : D → Event D} {x y : Lodged D} {m n : Sat D} (Also : History D → Type 0)
-        (c : Came calm ready k f event x (Some x) m) → Also c.log → m ≡ (m.0, (0, Some y) ∷ []) → n ≡ (m.0, (0, None) ∷ [])
+        (c : Came calm ready k f event x (Some x) m) → Also c.log → m ≡ (m.0, (0, Some y) ∷ [])
+        → n ≡ (m.0, (0, None) ∷ [])
         → (d : Came calm ready k f event y None n) × Also d.log
     took_also {k = k} {f = f} {event = event} {x = x} {y = y} {m = m} {n = n} Also c also holds now =
         let lodged : Option (Lodged D) → Lodged D = λ o. unwrap_or o x in
@@ -52,22 +57,27 @@ module _ {D : Type 0} where
           also,
         )
 
-    pub took : {k : ℕ} {f : History D} {event : D → Event D} {x y : Lodged D} {m n : Sat D} → Came calm ready k f event x (Some x) m
+    pub took : {k : ℕ} {f : History D} {event : D → Event D} {x y : Lodged D} {m n : Sat D}
+        → Came calm ready k f event x (Some x) m
         → m ≡ (m.0, (0, Some y) ∷ []) → n ≡ (m.0, (0, None) ∷ []) → Came calm ready k f event y None n
     took c holds now = (took_also (λ log. Unit {0}) c tt holds now).0
 
-  pub is_alone-seat : (m : Sat D) (k : ℕ) (f : History D) (c : List (ℕ × Option (Lodged D))) → m ≡ (alone k f, c) → is_alone m.0 ≡ true
+  pub is_alone-seat : (m : Sat D) (k : ℕ) (f : History D) (c : List (ℕ × Option (Lodged D))) → m ≡ (alone k f, c)
+      → is_alone m.0 ≡ true
   is_alone-seat m k f c e = ap (λ (z : Sat D). is_alone z.0) e
 
-  pub front_is : (m : Sat D) (is : is_alone m.0 ≡ true) (k : ℕ) (f : History D) (c : List (ℕ × Option (Lodged D))) → m ≡ (alone k f, c) → front_of m.0 is ≡ f
+  pub front_is : (m : Sat D) (is : is_alone m.0 ≡ true) (k : ℕ) (f : History D) (c : List (ℕ × Option (Lodged D)))
+      → m ≡ (alone k f, c) → front_of m.0 is ≡ f
   front_is m is k f c e = front_of-alone m.0 is k f (ap (λ (z : Sat D). z.0) e)
 
   -- a seat stands by its own front
-  pub has_front : (m : Sat D) (is : is_alone m.0 ≡ true) (k : ℕ) (f : History D) (c : List (ℕ × Option (Lodged D))) → m ≡ (alone k f, c) → m ≡ (alone k (front_of m.0 is), c)
+  pub has_front : (m : Sat D) (is : is_alone m.0 ≡ true) (k : ℕ) (f : History D) (c : List (ℕ × Option (Lodged D)))
+      → m ≡ (alone k f, c) → m ≡ (alone k (front_of m.0 is), c)
   has_front m is k f c e = e ∙ ap (λ (h : History D). (alone k h, c)) (sym (front_is m is k f c e))
 
   -- what holds of the front that a seat has
-  pub at_front : (P : History D → Type 0) (m : Sat D) (is : is_alone m.0 ≡ true) (k : ℕ) (f : History D) (c : List (ℕ × Option (Lodged D))) → m ≡ (alone k f, c) → P f → P (front_of m.0 is)
+  pub at_front : (P : History D → Type 0) (m : Sat D) (is : is_alone m.0 ≡ true) (k : ℕ) (f : History D) (c : List (ℕ × Option (Lodged D)))
+      → m ≡ (alone k f, c) → P f → P (front_of m.0 is)
   at_front P m is k f c e p = subst P (sym (front_is m is k f c e)) p
 
   -- the seat of the first of some places is cut off

@@ -1,5 +1,6 @@
 -- The log, the fronts and the slot: each step keeps what the rule says of them, given what it does to the words.
-use Rattle.std.proofs.Common.{◌≡◌, ◌≢◌, ⊎_elim, ℕ, zero, suc, ◌+◌, ◌<◌, ◌≤◌, Bool, true, false, cond, List, [], ◌∷◌, ◌++◌, length, get_or, set, Option, Some, None, sym, refl}
+use Rattle.std.proofs.Common.{◌≡◌, ◌≢◌, ⊎_elim, ℕ, zero, suc, ◌+◌, ◌<◌, ◌≤◌, Bool, true, false, cond, List, [], ◌∷◌}
+use Rattle.std.proofs.Common.{◌++◌, length, get_or, set, Option, Some, None, sym, refl}
 use Rattle.std.proofs.Common.{ap, ◌∙◌, subst, arith, length-set, ne_eqb, append-nil}
 use mathlib.Core.Logic.{dite}
 use mathlib.Core.Option.{none, some}
@@ -36,9 +37,12 @@ use Rattle.door_frame.specs.declared.view.Knowledge.{Knowledge}
 use Rattle.door_frame.specs.declared.view.View.{View}
 use Rattle.door_frame.specs.declared.view.View.TheVariants.{Unopened, Opening, Places}
 use Rattle.door_frame.specs.Rule.{Tickets, Cells, Agrees, Lies, Running, Kept, raw, lent, runs}
-use Rattle.door_frame.specs.Steps.{Sat, due, due_by, begins, opens, gives_as, Gives, notes_as, Notes, Comes, Known, Learns, learns}
-use Rattle.door_frame.specs.Views.{knows, sole, alone, all_know, Each, EachOf, Without, Apart, ApartOf, knowing, places_behind, first_place, no_places}
-use Rattle.door_frame.proofs.Views.{only, set_only, only_at, at_end, given_to, given_here, given_else, handed, handed_here, handed_else, each_map, each_with, each-append, without}
+use Rattle.door_frame.specs.Steps.{Sat, due, due_by, begins, opens, gives_as, Gives, notes_as, Notes, Comes, Known}
+use Rattle.door_frame.specs.Steps.{Learns, learns}
+use Rattle.door_frame.specs.Views.{knows, sole, alone, all_know, Each, EachOf, Without, Apart, ApartOf, knowing}
+use Rattle.door_frame.specs.Views.{places_behind, first_place, no_places}
+use Rattle.door_frame.proofs.Views.{only, set_only, only_at, at_end, given_to, given_here, given_else, handed}
+use Rattle.door_frame.proofs.Views.{handed_here, handed_else, each_map, each_with, each-append, without}
 use Rattle.door_frame.proofs.Views.{all_know_apart, apart-append}
 
 abbrev Homes : Type 0 → Type 0
@@ -58,8 +62,10 @@ given_up_due k t (returning is) = subst IsGivenUp (sym is) tt
 
 -- what a step tells may be told in other words
 pub told_as : {S V : Type 0} (holds : State S V → Type 0) (slots id : ℕ) (me : Me S V) (i : ℕ) (f : ℕ → ℕ) (Then Other : ℕ → Me S V → Type 0)
-    → ((r : ℕ) (m : Me S V) → Then r m → Other r m) → Allows holds slots id me i f Then → Allows holds slots id me i f Other
-told_as holds slots id me i f Then Other as_ ok s kept wide at small = let t = ok s kept wide at small in (t.0, t.1, t.2, t.3, as_ _ _ t.4)
+    → ((r : ℕ) (m : Me S V) → Then r m → Other r m) → Allows holds slots id me i f Then
+    → Allows holds slots id me i f Other
+told_as holds slots id me i f Then Other as_ ok s kept wide at small =
+    let t = ok s kept wide at small in (t.0, t.1, t.2, t.3, as_ _ _ t.4)
 
 module _ {D : Type 0} where
   -- what the first home holds, or d
@@ -68,7 +74,8 @@ module _ {D : Type 0} where
   lodged_or d _ = d
 
   -- a place that did nothing still fits where the log grows
-  grows : (n : ℕ) (log : History D) (owner : ℕ → ℕ) (tickets tickets' : Tickets) (j : ℕ) (e : Event D) (t : Knowledge D) → place_of e ≢ t.place → tickets' t.place ≡ tickets t.place
+  grows : (n : ℕ) (log : History D) (owner : ℕ → ℕ) (tickets tickets' : Tickets) (j : ℕ) (e : Event D) (t : Knowledge D)
+      → place_of e ≢ t.place → tickets' t.place ≡ tickets t.place
       → Agrees n log owner tickets j t → Agrees n (with_event log e) owner tickets' j t
   unfolding with_event
   grows n log owner tickets tickets' j e t other same h = record {
@@ -79,12 +86,16 @@ module _ {D : Type 0} where
     ticket_is = same ∙ h.ticket_is;
   }
 
-  reowned : (n : ℕ) (log : History D) (owner owner' : ℕ → ℕ) (tickets : Tickets) (j j' : ℕ) (t : Knowledge D) → owner' t.place ≡ j' → Agrees n log owner tickets j t → Agrees n log owner' tickets j' t
-  reowned n log owner owner' tickets j j' t o h = record { below = h.below; owned = o; begins = h.begins; own_are = h.own_are; ticket_is = h.ticket_is }
+  reowned : (n : ℕ) (log : History D) (owner owner' : ℕ → ℕ) (tickets : Tickets) (j j' : ℕ) (t : Knowledge D)
+      → owner' t.place ≡ j' → Agrees n log owner tickets j t → Agrees n log owner' tickets j' t
+  reowned n log owner owner' tickets j j' t o h =
+      record { below = h.below; owned = o; begins = h.begins; own_are = h.own_are; ticket_is = h.ticket_is }
 
-  reticketed : (n : ℕ) (log : History D) (owner : ℕ → ℕ) (tickets tickets' : Tickets) (j : ℕ) (t : Knowledge D) → tickets' t.place ≡ tickets t.place → Agrees n log owner tickets j t
+  reticketed : (n : ℕ) (log : History D) (owner : ℕ → ℕ) (tickets tickets' : Tickets) (j : ℕ) (t : Knowledge D)
+      → tickets' t.place ≡ tickets t.place → Agrees n log owner tickets j t
       → Agrees n log owner tickets' j t
-  reticketed n log owner tickets tickets' j t same h = record { below = h.below; owned = h.owned; begins = h.begins; own_are = h.own_are; ticket_is = same ∙ h.ticket_is }
+  reticketed n log owner tickets tickets' j t same h =
+      record { below = h.below; owned = h.owned; begins = h.begins; own_are = h.own_are; ticket_is = same ∙ h.ticket_is }
 
   -- the place of a seat of one place, what it knows and its ticket
   abbrev pub acting : View D → ℕ
@@ -99,10 +110,13 @@ module _ {D : Type 0} where
   ticket_or d (Places (t ∷ ts)) = t.ticket
   ticket_or d _ = d
 
-  pub sole_is : (k j : ℕ) (f g : History D) (o p : Option ℕ) (c d : List (ℕ × Option (Lodged D))) → ◌≡◌ {A = Sat D} (sole k f o, c) (sole j g p, d) → (k ≡ j) × (f ≡ g) × (o ≡ p) × (c ≡ d)
-  sole_is k j f g o p c d e = (ap (λ (m : Sat D). acting m.0) e, ap (λ (m : Sat D). front_or f m.0) e, ap (λ (m : Sat D). ticket_or o m.0) e, ap (λ (m : Sat D). m.1) e)
+  pub sole_is : (k j : ℕ) (f g : History D) (o p : Option ℕ) (c d : List (ℕ × Option (Lodged D)))
+      → ◌≡◌ {A = Sat D} (sole k f o, c) (sole j g p, d) → (k ≡ j) × (f ≡ g) × (o ≡ p) × (c ≡ d)
+  sole_is k j f g o p c d e =
+      (ap (λ (m : Sat D). acting m.0) e, ap (λ (m : Sat D). front_or f m.0) e, ap (λ (m : Sat D). ticket_or o m.0) e, ap (λ (m : Sat D). m.1) e)
 
-  pub alone_is : (k j : ℕ) (f g : History D) (c d : List (ℕ × Option (Lodged D))) → ◌≡◌ {A = Sat D} (alone k f, c) (alone j g, d) → (k ≡ j) × (f ≡ g) × (c ≡ d)
+  pub alone_is : (k j : ℕ) (f g : History D) (c d : List (ℕ × Option (Lodged D)))
+      → ◌≡◌ {A = Sat D} (alone k f, c) (alone j g, d) → (k ≡ j) × (f ≡ g) × (c ≡ d)
   alone_is k j f g c d e = let s = sole_is k j f g None None c d e in (s.0, s.1, s.3)
 
   sizes_kept : (n : Sizes) (log : History D) (e : Event D) → log.sizes ≡ n → (with_event log e).sizes ≡ n
@@ -117,7 +131,8 @@ module _ {D : Type 0} (rest : Rest D) (ready : Ready D) where
     pub mine : place_of e ≡ k
     pub inside : turn (with_event h e).events ≡ Held k
 
-  pub enters_admit : (k : ℕ) (h : History D) → k < h.sizes.places → turn h.events ≡ Free → outside k h.events ≡ true → Enters k h (Admit k (latest_data h))
+  pub enters_admit : (k : ℕ) (h : History D) → k < h.sizes.places → turn h.events ≡ Free → outside k h.events ≡ true
+      → Enters k h (Admit k (latest_data h))
   unfolding with_event Owes
   enters_admit k h below free out = record {
     allowed = record { in_range = (below, tt); fits = (free, out, refl) };
@@ -126,9 +141,11 @@ module _ {D : Type 0} (rest : Rest D) (ready : Ready D) where
     inside = turn-push h.events (Admit k (latest_data h));
   }
 
-  pub enters_due : (k : ℕ) (h f : History D) → Stands rest ready h → own k h.events ≡ own k f.events → IsDue k (turn h.events) → Enters k h (due k f (latest_data h))
+  pub enters_due : (k : ℕ) (h f : History D) → Stands rest ready h → own k h.events ≡ own k f.events
+      → IsDue k (turn h.events) → Enters k h (due k f (latest_data h))
   unfolding with_event Owes
-  enters_due k h f stands same is = subst (λ (l : List (Event D)). Enters k h (due_by k (newest l) (latest_data h))) same (by_turn is)
+  enters_due k h f stands same is =
+      subst (λ (l : List (Event D)). Enters k h (due_by k (newest l) (latest_data h))) same (by_turn is)
     where
       by_turn : IsDue k (turn h.events) → Enters k h (due k h (latest_data h))
       by_turn (owed c is) = let last = own-owed h k c stands.legal is in let s : D = latest_data h in
@@ -146,7 +163,8 @@ module _ {D : Type 0} (rest : Rest D) (ready : Ready D) where
             inside = turn-push h.events (Back k s);
           })
 
-module _ {D : Type 0} (Starts : Bool → List ℕ → Type 0) (Tells : History D → Tickets → List ℕ → Type 0) (rest : Rest D) (ready : Ready D) (kinds : Kinds) where
+module _ {D : Type 0} (Starts : Bool → List ℕ → Type 0) (Tells : History D → Tickets → List ℕ → Type 0) (rest : Rest D)
+    (ready : Ready D) (kinds : Kinds) where
   abbrev R : ℕ → Cells D → Type 0
   R = Running Starts Tells rest ready kinds
 
@@ -154,28 +172,40 @@ module _ {D : Type 0} (Starts : Bool → List ℕ → Type 0) (Tells : History D
   K = Kept Starts Tells rest ready kinds
 
   -- a seat that stands for places steps on an open door
-  pub running : (n : ℕ) (s : Cells D) → K n s → (id : ℕ) (ts : List (Knowledge D)) → get_elem? s.views id ≡ some (Places ts) → R n s
+  pub running : (n : ℕ) (s : Cells D) → K n s → (id : ℕ) (ts : List (Knowledge D))
+      → get_elem? s.views id ≡ some (Places ts) → R n s
   running n s (runs r) id ts at = r
-  running n s (raw b h e) id ts at = let other : Unopened n ≡ Places ts = only (Unopened n) (Places ts) id (ap (λ (x : List (View D)). get_elem? x id) (sym e) ∙ at) in absurd (cc)
-  running n s (lent b h e) id ts at = let other : Opening n ≡ Places ts = only (Opening n) (Places ts) id (ap (λ (x : List (View D)). get_elem? x id) (sym e) ∙ at) in absurd (cc)
+  running n s (raw b h e) id ts at =
+      let other : Unopened n ≡ Places ts =
+      only (Unopened n) (Places ts) id (ap (λ (x : List (View D)). get_elem? x id) (sym e) ∙ at) in
+      absurd (cc)
+  running n s (lent b h e) id ts at =
+      let other : Opening n ≡ Places ts =
+      only (Opening n) (Places ts) id (ap (λ (x : List (View D)). get_elem? x id) (sym e) ∙ at) in
+      absurd (cc)
 
   -- the views where the seat id of the place k has another front and another ticket, and all else fits as before
-  agree_all : (n : ℕ) (s : Cells D) (r : R n s) (id k : ℕ) (f g h : History D) (o o' : Option ℕ) (tickets' : Tickets) → get_elem? s.views id ≡ some (sole k f o)
-      → Agrees n h r.owner tickets' id (knows k g o') → ((j : ℕ) (t : Knowledge D) → t.place ≢ k → Agrees n r.log r.owner r.tickets j t → Agrees n h r.owner tickets' j t)
-      → (j : ℕ) (v : View D) → get_elem? (set s.views id (sole k g o')) j ≡ some v → EachOf (Agrees n h r.owner tickets' j) v
+  agree_all : (n : ℕ) (s : Cells D) (r : R n s) (id k : ℕ) (f g h : History D) (o o' : Option ℕ) (tickets' : Tickets)
+      → get_elem? s.views id ≡ some (sole k f o)
+      → Agrees n h r.owner tickets' id (knows k g o')
+      → ((j : ℕ) (t : Knowledge D) → t.place ≢ k → Agrees n r.log r.owner r.tickets j t → Agrees n h r.owner tickets' j t)
+      → (j : ℕ) (v : View D) → get_elem? (set s.views id (sole k g o')) j ≡ some v
+      → EachOf (Agrees n h r.owner tickets' j) v
   agree_all n s r id k f g h o o' tickets' at here else_ j v got = let w : View D = sole k g o' in ⊎_elim
       (λ (t : (j ≡ id) × (w ≡ v)). subst (λ (z : ℕ × View D). EachOf (Agrees n h r.owner tickets' z.0) z.1) (λ i. (sym t.0 i, t.1 i)) (here, tt))
       (λ (t : (j ≢ id) × (get_elem? s.views j ≡ some v)). kept_all v t.0 (r.fronts j v t.1))
       (at_set s.views id j w v got)
     where
-      kept_all : (u : View D) → j ≢ id → EachOf (Agrees n r.log r.owner r.tickets j) u → EachOf (Agrees n h r.owner tickets' j) u
+      kept_all : (u : View D) → j ≢ id → EachOf (Agrees n r.log r.owner r.tickets j) u
+          → EachOf (Agrees n h r.owner tickets' j) u
       kept_all (Places ts) ne q0 = each_map (Agrees n r.log r.owner r.tickets j) (Agrees n h r.owner tickets' j)
           (λ u q. else_ j u (λ (same : u.place ≡ k). ne (sym q.owned ∙ (ap r.owner same ∙ (r.fronts id (sole k f o) at).0.owned))) q) ts q0
       kept_all (Unopened m) ne q0 = q0
       kept_all (Opening m) ne q0 = q0
 
   -- a seat of one place has it once
-  apart_sole : (n : ℕ) (s : Cells D) (r : R n s) (id k : ℕ) (g : History D) (o : Option ℕ) (j : ℕ) (v : View D) → get_elem? (set s.views id (sole k g o)) j ≡ some v → ApartOf v
+  apart_sole : (n : ℕ) (s : Cells D) (r : R n s) (id k : ℕ) (g : History D) (o : Option ℕ) (j : ℕ) (v : View D)
+      → get_elem? (set s.views id (sole k g o)) j ≡ some v → ApartOf v
   apart_sole n s r id k g o j v got = ⊎_elim
       (λ (t : (j ≡ id) × (sole k g o ≡ v)). subst ApartOf t.1 (tt, tt))
       (λ (t : (j ≢ id) × (get_elem? s.views j ≡ some v)). r.apart j v t.1)
@@ -184,11 +214,13 @@ module _ {D : Type 0} (Starts : Bool → List ℕ → Type 0) (Tells : History D
   -- one event more, of the place k
   adds : (n : ℕ) (s : Cells D) (r : R n s) (id k : ℕ) (f : History D) (o o' : Option ℕ) (tickets' : Tickets) (e : Event D) (words' : List ℕ) (homes' : Homes D)
       → get_elem? s.views id ≡ some (sole k f o) → place_of e ≡ k → Allowed r.log e → Owes rest ready r.log.events e
-      → length homes' ≡ 1 → tickets' k ≡ o' → ((j : ℕ) → j ≢ k → tickets' j ≡ r.tickets j) → Tells (with_event r.log e) tickets' words'
+      → length homes' ≡ 1 → tickets' k ≡ o' → ((j : ℕ) → j ≢ k → tickets' j ≡ r.tickets j)
+      → Tells (with_event r.log e) tickets' words'
       → (IsGivenUp (turn (with_event r.log e).events) → (x : Lodged D) × (get_elem? homes' 0 ≡ some (some (Some x))) × Lies (with_event r.log e) x)
       → ((j : ℕ) → turn (with_event r.log e).events ≡ Held j → get_elem? homes' 0 ≡ some none)
       → R n record { words = words'; homes = homes'; views = set s.views id (sole k (with_event r.log e) o') }
-  adds n s r id k f o o' tickets' e words' homes' at mine may owes deep now others tells home out = let fit = (r.fronts id (sole k f o) at).0 in let h : History D = with_event r.log e in
+  adds n s r id k f o o' tickets' e words' homes' at mine may owes deep now others tells home out =
+      let fit = (r.fronts id (sole k f o) at).0 in let h : History D = with_event r.log e in
       let kept = sizes_kept (sizes_at kinds n) r.log e r.sized in record {
         log = h;
         owner = r.owner;
@@ -208,9 +240,11 @@ module _ {D : Type 0} (Starts : Bool → List ℕ → Type 0) (Tells : History D
   -- the place k has another ticket, and the log stays
   pub draws_ok : (n slots id k i : ℕ) (f : History D) (o : Option ℕ) (g : ℕ → ℕ) (Then : Option ℕ → ℕ → Type 0)
       → ((log : History D) (tickets : Tickets) (ws : List ℕ) → k < n → tickets k ≡ o → Tells log tickets ws → (o' : Option ℕ) × (tickets' : Tickets) × (tickets' k ≡ o')
-      × ((j : ℕ) → j ≢ k → tickets' j ≡ tickets j) × Tells log tickets' (set ws i (g (get_or ws i 0))) × Then o' (get_or ws i 0))
+      × ((j : ℕ) → j ≢ k → tickets' j ≡ tickets j) × Tells log tickets' (set ws i (g (get_or ws i 0))) × Then o'
+      (get_or ws i 0))
       → Allows (K n) slots id (sole k f o, []) i g (λ r m'. (o' : Option ℕ) × (m' ≡ (sole k f o', [])) × Then o' r)
-  draws_ok n slots id k i f o g Then step_ s kept wide at small = let r = running n s kept id (knows k f o ∷ []) at in let fit = (r.fronts id (sole k f o) at).0 in
+  draws_ok n slots id k i f o g Then step_ s kept wide at small =
+      let r = running n s kept id (knows k f o ∷ []) at in let fit = (r.fronts id (sole k f o) at).0 in
       let d = step_ r.log r.tickets s.words fit.below fit.ticket_is r.tells in (
         sole k f d.0,
         keeps,
@@ -234,12 +268,15 @@ module _ {D : Type 0} (Starts : Bool → List ℕ → Type 0) (Tells : History D
       )
 
   -- a step that changes no word and no view
-  unmoved : (n : ℕ) (s : Cells D) (i id : ℕ) (v : View D) (c : List (ℕ × Option (Lodged D))) → get_elem? s.views id ≡ some v → K n s → K n (stepped s i (get_or s.words i 0) id c v keeps)
-  unmoved n s i id v c at kept = subst (λ (z : List ℕ × List (View D)). K n record { words = z.0; homes = s.homes; views = z.1 })
+  unmoved : (n : ℕ) (s : Cells D) (i id : ℕ) (v : View D) (c : List (ℕ × Option (Lodged D)))
+      → get_elem? s.views id ≡ some v → K n s → K n (stepped s i (get_or s.words i 0) id c v keeps)
+  unmoved n s i id v c at kept =
+      subst (λ (z : List ℕ × List (View D)). K n record { words = z.0; homes = s.homes; views = z.1 })
       (λ j. (sym (set-get_or s.words i 0) j, sym (set_again s.views id v at) j)) kept
 
   -- the event, of the data d, brings k in, who then has no ticket; the word i becomes g of what it was
-  pub record BringsIn (k i : ℕ) (g : ℕ → ℕ) (Also : History D → Type 0) (log : History D) (tickets : Tickets) (ws : List ℕ) (e : Event D) : Type 0 where
+  pub record BringsIn (k i : ℕ) (g : ℕ → ℕ) (Also : History D → Type 0) (log : History D) (tickets : Tickets)
+      (ws : List ℕ) (e : Event D) : Type 0 where
     pub given_up : IsGivenUp (turn log.events)
     pub allowed : Allowed log e
     pub owes : Owes rest ready log.events e
@@ -258,17 +295,21 @@ module _ {D : Type 0} (Starts : Bool → List ℕ → Type 0) (Tells : History D
       → ((log : History D) (tickets : Tickets) (ws : List ℕ) → Stands rest ready log → log.sizes.places ≡ n → k < n → own k log.events ≡ own k f.events → tickets k ≡ o → Tells log tickets ws
       → Hit (get_or ws i 0) → BringsIn k i g Also log tickets ws (event (latest_data log)))
       → Allows (K n) slots id (sole k f o, []) i g (λ r m'. Comes rest ready Hit Also k f event (sole k f o, []) r m')
-  comes_ok n slots id k i f o event g Hit Also test missed brings s kept wide at small = let r = running n s kept id (knows k f o ∷ []) at in let x : ℕ = get_or s.words i 0 in
+  comes_ok n slots id k i f o event g Hit Also test missed brings s kept wide at small =
+      let r = running n s kept id (knows k f o ∷ []) at in let x : ℕ = get_or s.words i 0 in
       let v : View D = sole k f o in
       let deep = r.one_slot in let fit = (r.fronts id v at).0 in dite (test x)
       (λ hit. let b0 = brings r.log r.tickets s.words r.stands (ap (λ (m : Sizes). m.places) r.sized) fit.below fit.own_are fit.ticket_is r.tells hit in let home = r.home b0.given_up in let l : Lodged D = home.0 in
       let e : Event D = event l.state in let h : History D = with_event r.log e in let w : View D = alone k h in
-      let b : BringsIn k i g Also r.log r.tickets s.words e = subst (λ (d : D). BringsIn k i g Also r.log r.tickets s.words (event d)) (sym home.2.latest) b0 in (
+      let b : BringsIn k i g Also r.log r.tickets s.words e =
+      subst (λ (d : D). BringsIn k i g Also r.log r.tickets s.words (event d)) (sym home.2.latest) b0 in (
         w,
         takes 0 (Some l),
         home.1,
-        runs (adds n s r id k f o None b.tickets' e (set s.words i (g x)) (set s.homes 0 none) at b.mine b.allowed b.owes (length-set s.homes 0 none
-            ∙ deep) b.no_ticket b.others b.tells (not_given_up l h b.inside) (λ j held. set_here s.homes 0 none (omega (arith, deep)))),
+        runs
+            (adds n s r id k f o None b.tickets' e (set s.words i (g x)) (set s.homes 0 none) at b.mine b.allowed b.owes (length-set s.homes 0 none
+            ∙ deep) b.no_ticket b.others b.tells (not_given_up l h b.inside) (λ j held. set_here s.homes 0 none
+            (omega (arith, deep)))),
         (
           (λ ne. absurd (ne hit)),
           λ _. (
@@ -289,40 +330,52 @@ module _ {D : Type 0} (Starts : Bool → List ℕ → Type 0) (Tells : History D
         v,
         keeps,
         tt,
-        subst (λ (y : ℕ). K n (stepped s i y id [] v keeps)) (sym (missed r.log r.tickets s.words fit.below r.tells miss)) (unmoved n s i id v [] at kept),
+        subst (λ (y : ℕ). K n (stepped s i y id [] v keeps))
+            (sym (missed r.log r.tickets s.words fit.below r.tells miss)) (unmoved n s i id v [] at kept),
         ((λ _. refl), λ hit. absurd (miss hit)),
       ))
     where
-      not_given_up : (l : Lodged D) (h : History D) → turn h.events ≡ Held k → IsGivenUp (turn h.events) → (x : Lodged D) × (get_elem? (set s.homes 0 none) 0 ≡ some (some (Some x))) × Lies h x
+      not_given_up : (l : Lodged D) (h : History D) → turn h.events ≡ Held k → IsGivenUp (turn h.events)
+          → (x : Lodged D) × (get_elem? (set s.homes 0 none) 0 ≡ some (some (Some x))) × Lies h x
       not_given_up l h held up = absurd (subst IsGivenUp held up)
 
-  lies_of : (f : History D) (e : Event D) (x : Lodged D) → data_of e ≡ x.state → IsOf x.book (erased (with_event f e)) → Lies (with_event f e) x
+  lies_of : (f : History D) (e : Event D) (x : Lodged D) → data_of e ≡ x.state → IsOf x.book (erased (with_event f e))
+      → Lies (with_event f e) x
   lies_of f e x same book = record { latest = sym (latest_data-push f e ∙ same); book = book }
 
-  pub gives_ok : (n slots id k i : ℕ) (g : ℕ → ℕ) (f : History D) (x : Lodged D) (next : Next) (event : D → Event D) (st : Step (Option (Lodged D))) → Gives rest ready event k f x next
+  pub gives_ok : (n slots id k i : ℕ) (g : ℕ → ℕ) (f : History D) (x : Lodged D) (next : Next) (event : D → Event D) (st : Step (Option (Lodged D)))
+      → Gives rest ready event k f x next
       → ((tickets : Tickets) (ws : List ℕ) → f.sizes.places ≡ n → k < n → Tells f tickets ws → Tells (with_event f (event x.state)) tickets (set ws i (g (get_or ws i 0))))
       → Allows (K n) slots id (alone k f, (0, Some x) ∷ []) i g (λ r m'. gives_as event st (alone k f, (0, Some x) ∷ []) r m')
-  gives_ok n slots id k i g f x next event st p tells s kept wide at small = let r = running n s kept id (knows k f None ∷ []) at in
+  gives_ok n slots id k i g f x next event st p tells s kept wide at small =
+      let r = running n s kept id (knows k f None ∷ []) at in
       let deep = r.one_slot in let fit = (r.fronts id (alone k f) at).0 in let e : Event D = event x.state in
-      let same : r.log ≡ f = still_held k f r.log r.stands.legal p.inside fit.begins fit.own_are in let w : View D = alone k (with_event r.log e) in
+      let same : r.log ≡ f = still_held k f r.log r.stands.legal p.inside fit.begins fit.own_are in
+      let w : View D = alone k (with_event r.log e) in
       let ws' : List ℕ = set s.words i (g (get_or s.words i 0)) in
       let told : Tells (with_event r.log e) r.tickets ws' = subst (λ (h : History D). Tells (with_event h e) r.tickets ws') (sym same)
       (tells r.tickets s.words (ap (λ (h : History D). h.sizes.places) (sym same) ∙ ap (λ (m : Sizes). m.places) r.sized) fit.below (subst (λ (h : History D). Tells h r.tickets s.words) same r.tells)) in
-      let lies : Lies (with_event r.log e) x = subst (λ (h : History D). Lies (with_event h e) x) (sym same) (lies_of f e x p.same_data p.book) in
-      let gone : IsGivenUp (turn (with_event r.log e).events) = subst (λ (h : History D). IsGivenUp (turn (with_event h e).events)) (sym same) p.given_up in (
+      let lies : Lies (with_event r.log e) x =
+      subst (λ (h : History D). Lies (with_event h e) x) (sym same) (lies_of f e x p.same_data p.book) in
+      let gone : IsGivenUp (turn (with_event r.log e).events) =
+      subst (λ (h : History D). IsGivenUp (turn (with_event h e).events)) (sym same) p.given_up in (
         w,
         gives,
         tt,
-        runs (adds n s r id k f None None r.tickets e ws' (set s.homes 0 (some (Some x))) at p.mine (subst (λ (h : History D). Allowed h e) (sym same) p.allowed)
-            (subst (λ (h : History D). Owes rest ready h.events e) (sym same) p.owes) (length-set s.homes 0 (some (Some x)) ∙ deep)
-            fit.ticket_is (λ j ne. refl) told (λ _. (x, set_here s.homes 0 (some (Some x)) (omega (arith, deep)), lies)) (λ j held. absurd (subst IsGivenUp held gone))),
+        runs
+            (adds n s r id k f None None r.tickets e ws' (set s.homes 0 (some (Some x))) at p.mine (subst (λ (h : History D). Allowed h e) (sym same) p.allowed)
+            (subst (λ (h : History D). Owes rest ready h.events e) (sym same) p.owes)
+            (length-set s.homes 0 (some (Some x)) ∙ deep)
+            fit.ticket_is (λ j ne. refl) told (λ _. (x, set_here s.homes 0 (some (Some x)) (omega (arith, deep)), lies))
+            (λ j held. absurd (subst IsGivenUp held gone))),
         λ j g y is. let q = alone_is k j f g ((0, Some x) ∷ []) ((0, Some y) ∷ []) is in let is' : x ≡ y = ap (lodged_or x) q.2 in
             λ i. (alone (q.0 i) (with_event ((same ∙ q.1) i) (event (is' i).state)), []),
       )
 
   -- who is inside goes on by the event and keeps the slot, and no word changes
   notes_ok : (n slots id k i : ℕ) (f : History D) (event : History D → Event D) (st : Step (Option (Lodged D)))
-      → Notes rest ready (event f) k f → ((tickets : Tickets) (ws : List ℕ) → Tells f tickets ws → Tells (with_event f (event f)) tickets ws)
+      → Notes rest ready (event f) k f
+      → ((tickets : Tickets) (ws : List ℕ) → Tells f tickets ws → Tells (with_event f (event f)) tickets ws)
       → Allows (K n) slots id (alone k f, (0, None) ∷ []) i (λ r. r) (notes_as event st (alone k f, (0, None) ∷ []))
   notes_ok n slots id k i f event st p tells s kept wide at small =
       let r = running n s kept id (knows k f None ∷ []) at in
@@ -358,30 +411,39 @@ module _ {D : Type 0} (Starts : Bool → List ℕ → Type 0) (Tells : History D
       subst (λ (q : Sat D). Allows (K n) slots id q i (λ r. r) (notes_as event st q)) (sym is)
       (notes_ok n slots id k i f event st p tells)
 
-  pub begins_ok : (n slots id i : ℕ) (g : ℕ → ℕ) (st : Step (Option (Lodged D))) → ((ws : List ℕ) → Starts false ws → Starts true (set ws i (g (get_or ws i 0))))
+  pub begins_ok : (n slots id i : ℕ) (g : ℕ → ℕ) (st : Step (Option (Lodged D)))
+      → ((ws : List ℕ) → Starts false ws → Starts true (set ws i (g (get_or ws i 0))))
       → Allows (K n) slots id (Unopened n, []) i g (begins st (Unopened n, []))
-  begins_ok n slots id i g st starts s (raw b h e) wide at small = let at' : get_elem? (Unopened n ∷ []) id ≡ some (Unopened n) = ap (λ (x : List (View D)). get_elem? x id) (sym e) ∙ at in (
-    Opening n,
-    takes 0 None,
-    ap (λ (x : Homes D). get_elem? x 0) h,
-    lent (starts s.words b) (ap (λ (x : Homes D). set x 0 none) h) (ap (λ (x : List (View D)). set x id (Opening n)) e ∙ set_only (Unopened n) (Opening n) (Unopened n) id at'),
-    λ m is. λ j. (Opening (count (is j)), (0, None) ∷ []),
-  )
+  begins_ok n slots id i g st starts s (raw b h e) wide at small =
+      let at' : get_elem? (Unopened n ∷ []) id ≡ some (Unopened n) =
+      ap (λ (x : List (View D)). get_elem? x id) (sym e) ∙ at in (
+        Opening n,
+        takes 0 None,
+        ap (λ (x : Homes D). get_elem? x 0) h,
+        lent (starts s.words b) (ap (λ (x : Homes D). set x 0 none) h)
+            (ap (λ (x : List (View D)). set x id (Opening n)) e ∙ set_only (Unopened n) (Opening n) (Unopened n) id at'),
+        λ m is. λ j. (Opening (count (is j)), (0, None) ∷ []),
+      )
     where
       count : View D → ℕ
       count (Unopened m) = m
       count _ = 0
-  begins_ok n slots id i g st starts s (lent b h e) wide at small = let other : Opening n ≡ Unopened n = only (Opening n)
+  begins_ok n slots id i g st starts s (lent b h e) wide at small =
+      let other : Opening n ≡ Unopened n = only (Opening n)
       (Unopened n) id (ap (λ (x : List (View D)). get_elem? x id) (sym e) ∙ at) in absurd (cc)
   begins_ok n slots id i g st starts s (runs r) wide at small = absurd (r.fronts id (Unopened n) at)
 
-  all_agree : (n : ℕ) (h : History D) (count k : ℕ) → k + count ≤ n → Each (Agrees n h (λ _. 0) (λ _. None) 0) (all_know k count h)
+  all_agree : (n : ℕ) (h : History D) (count k : ℕ) → k + count ≤ n
+      → Each (Agrees n h (λ _. 0) (λ _. None) 0) (all_know k count h)
   all_agree n h zero k b = tt
-  all_agree n h (suc count) k b = (record { below = omega arith; owned = refl; begins = Begins-refl h; own_are = refl; ticket_is = refl }, all_agree n h count (suc k) (omega arith))
+  all_agree n h (suc count) k b =
+      (record { below = omega arith; owned = refl; begins = Begins-refl h; own_are = refl; ticket_is = refl }, all_agree n h count (suc k) (omega arith))
 
   -- the door as it opens
-  opens_running : (n : ℕ) (x : Lodged D) (ws : List ℕ) → Stands rest ready (opened (sizes_at kinds n) x.state) → IsOf x.book (opened (sizes_at kinds n) tt) → Tells (opened (sizes_at kinds n) x.state)
-      (λ _. None) ws → R n (record { words = ws; homes = some (Some x) ∷ []; views = Places (all_know 0 n (opened (sizes_at kinds n) x.state)) ∷ [] })
+  opens_running : (n : ℕ) (x : Lodged D) (ws : List ℕ) → Stands rest ready (opened (sizes_at kinds n) x.state)
+      → IsOf x.book (opened (sizes_at kinds n) tt) → Tells (opened (sizes_at kinds n) x.state)
+      (λ _. None) ws → R n
+      (record { words = ws; homes = some (Some x) ∷ []; views = Places (all_know 0 n (opened (sizes_at kinds n) x.state)) ∷ [] })
   unfolding latest_data
   opens_running n x ws stands book tells = record {
     log = opened (sizes_at kinds n) x.state;
@@ -389,7 +451,8 @@ module _ {D : Type 0} (Starts : Bool → List ℕ → Type 0) (Tells : History D
     tickets = λ _. None;
     one_slot = refl;
     sized = refl;
-    fronts = λ j v got. subst (λ (z : ℕ × View D). EachOf (Agrees n (opened (sizes_at kinds n) x.state) (λ _. 0) (λ _. None) z.0) z.1)
+    fronts =
+        λ j v got. subst (λ (z : ℕ × View D). EachOf (Agrees n (opened (sizes_at kinds n) x.state) (λ _. 0) (λ _. None) z.0) z.1)
         (λ i. (sym (only_at (Places (all_know 0 n (opened (sizes_at kinds n) x.state))) v j got) i, only (Places (all_know 0 n (opened (sizes_at kinds n) x.state))) v j got i))
         (all_agree n (opened (sizes_at kinds n) x.state) n 0 (omega arith));
     apart = λ j v got. subst ApartOf (only (Places (all_know 0 n (opened (sizes_at kinds n) x.state))) v j got) (all_know_apart 0 n (opened (sizes_at kinds n) x.state));
@@ -399,14 +462,19 @@ module _ {D : Type 0} (Starts : Bool → List ℕ → Type 0) (Tells : History D
     out = λ k held. let no : Free ≡ Held k = sym (turn-opened (sizes_at kinds n) x.state) ∙ held in absurd (cc);
   }
 
-  pub opens_ok : (n slots id i : ℕ) (g : ℕ → ℕ) (x : Lodged D) (st : Step (Option (Lodged D))) → Stands rest ready (opened (sizes_at kinds n) x.state) → IsOf x.book (opened (sizes_at kinds n) tt)
+  pub opens_ok : (n slots id i : ℕ) (g : ℕ → ℕ) (x : Lodged D) (st : Step (Option (Lodged D)))
+      → Stands rest ready (opened (sizes_at kinds n) x.state) → IsOf x.book (opened (sizes_at kinds n) tt)
       → ((ws : List ℕ) → Starts true ws → Tells (opened (sizes_at kinds n) x.state) (λ _. None) (set ws i (g (get_or ws i 0))))
       → Allows (K n) slots id (Opening n, (0, Some x) ∷ []) i g (λ r m'. opens kinds st (Opening n, (0, Some x) ∷ []) r m')
-  opens_ok n slots id i g x st stands book tells s (raw b h e) wide at small = let other : Unopened n ≡ Opening n = only (Unopened n)
+  opens_ok n slots id i g x st stands book tells s (raw b h e) wide at small =
+      let other : Unopened n ≡ Opening n = only (Unopened n)
       (Opening n) id (ap (λ (y : List (View D)). get_elem? y id) (sym e) ∙ at) in absurd (cc)
   opens_ok n slots id i g x st stands book tells s (runs r) wide at small = absurd (r.fronts id (Opening n) at)
-  opens_ok n slots id i g x st stands book tells s (lent b h e) wide at small = let at' : get_elem? (Opening n ∷ []) id ≡ some (Opening n) = ap (λ (y : List (View D)). get_elem? y id) (sym e) ∙ at in
-      let o : History D = opened (sizes_at kinds n) x.state in let w : View D = Places (all_know 0 n o) in let ws' : List ℕ = set s.words i (g (get_or s.words i 0)) in
+  opens_ok n slots id i g x st stands book tells s (lent b h e) wide at small =
+      let at' : get_elem? (Opening n ∷ []) id ≡ some (Opening n) =
+      ap (λ (y : List (View D)). get_elem? y id) (sym e) ∙ at in
+      let o : History D = opened (sizes_at kinds n) x.state in
+      let w : View D = Places (all_know 0 n o) in let ws' : List ℕ = set s.words i (g (get_or s.words i 0)) in
       let s' : Cells D = record { words = ws'; homes = some (Some x) ∷ []; views = w ∷ [] } in
       let now : stepped s i (g (get_or s.words i 0)) id ((0, Some x) ∷ []) w gives ≡ s' = λ j. record {
         words = ws';
@@ -424,18 +492,23 @@ module _ {D : Type 0} (Starts : Bool → List ℕ → Type 0) (Tells : History D
       count (Opening m) = m
       count _ = 0
 
-      told : (m : ℕ) (y : Lodged D) → ◌≡◌ {A = Sat D} (Opening n, (0, Some x) ∷ []) (Opening m, (0, Some y) ∷ []) → ◌≡◌ {A = Sat D} (Places (all_know 0 n (opened (sizes_at kinds n) x.state)), [])
+      told : (m : ℕ) (y : Lodged D) → ◌≡◌ {A = Sat D} (Opening n, (0, Some x) ∷ []) (Opening m, (0, Some y) ∷ [])
+          → ◌≡◌ {A = Sat D} (Places (all_know 0 n (opened (sizes_at kinds n) x.state)), [])
           (Places (all_know 0 m (opened (sizes_at kinds m) y.state)), [])
-      told m y is = let a : n ≡ m = ap (λ (z : Sat D). count z.0) is in let b_ : x ≡ y = ap (λ (z : Sat D). lodged_or x z.1) is in
+      told m y is =
+          let a : n ≡ m = ap (λ (z : Sat D). count z.0) is in let b_ : x ≡ y = ap (λ (z : Sat D). lodged_or x z.1) is in
           λ i. (Places (all_know 0 (a i) (opened (sizes_at kinds (a i)) (b_ i).state)), [])
 
   -- the first seat takes the empty slot, by a step of any kind that begins the words
   pub begins_at : (n slots id i : ℕ) (g : ℕ → ℕ) (st : Step (Option (Lodged D))) (m : Sat D) → m ≡ (Unopened n, [])
-      → ((ws : List ℕ) → Starts false ws → Starts true (set ws i (g (get_or ws i 0)))) → Allows (K n) slots id m i g (begins st m)
-  begins_at n slots id i g st m is starts = subst (λ (p : Sat D). Allows (K n) slots id p i g (begins st p)) (sym is) (begins_ok n slots id i g st starts)
+      → ((ws : List ℕ) → Starts false ws → Starts true (set ws i (g (get_or ws i 0))))
+      → Allows (K n) slots id m i g (begins st m)
+  begins_at n slots id i g st m is starts =
+      subst (λ (p : Sat D). Allows (K n) slots id p i g (begins st p)) (sym is) (begins_ok n slots id i g st starts)
 
   -- and gives it back with the data, by one that opens them
-  pub opens_at : (n slots id i : ℕ) (g : ℕ → ℕ) (x : Lodged D) (st : Step (Option (Lodged D))) (m : Sat D) → m ≡ (Opening n, (0, Some x) ∷ [])
+  pub opens_at : (n slots id i : ℕ) (g : ℕ → ℕ) (x : Lodged D) (st : Step (Option (Lodged D))) (m : Sat D)
+      → m ≡ (Opening n, (0, Some x) ∷ [])
       → rest x.state nobody → IsOf x.book (opened (sizes_at kinds n) tt)
       → ((ws : List ℕ) → Starts true ws → Tells (opened (sizes_at kinds n) x.state) (λ _. None) (set ws i (g (get_or ws i 0))))
       → Allows (K n) slots id m i g (opens kinds st m)
@@ -449,7 +522,8 @@ module _ {D : Type 0} (Starts : Bool → List ℕ → Type 0) (Tells : History D
 
   -- the rule, with other views of the same log
   views_to : (n : ℕ) (s : Cells D) (r : R n s) (owner' : ℕ → ℕ) (views' : List (View D))
-      → ((j : ℕ) (v : View D) → get_elem? views' j ≡ some v → Fits n r.log owner' r.tickets j v) → R n record { words = s.words; homes = s.homes; views = views' }
+      → ((j : ℕ) (v : View D) → get_elem? views' j ≡ some v → Fits n r.log owner' r.tickets j v)
+      → R n record { words = s.words; homes = s.homes; views = views' }
   views_to n s r owner' views' fit = record {
     log = r.log;
     owner = owner';
@@ -464,15 +538,21 @@ module _ {D : Type 0} (Starts : Bool → List ℕ → Type 0) (Tells : History D
     out = r.out;
   }
 
-  map_all : (n : ℕ) (log : History D) (owner owner' : ℕ → ℕ) (tickets : Tickets) (j : ℕ) (v : View D) → ((t : Knowledge D) → Agrees n log owner tickets j t → owner' t.place ≡ j)
+  map_all : (n : ℕ) (log : History D) (owner owner' : ℕ → ℕ) (tickets : Tickets) (j : ℕ) (v : View D)
+      → ((t : Knowledge D) → Agrees n log owner tickets j t → owner' t.place ≡ j)
       → EachOf (Agrees n log owner tickets j) v → EachOf (Agrees n log owner' tickets j) v
-  map_all n log owner owner' tickets j (Places ts) f h = each_map (Agrees n log owner tickets j) (Agrees n log owner' tickets j) (λ t g. reowned n log owner owner' tickets j j t (f t g) g) ts h
+  map_all n log owner owner' tickets j (Places ts) f h =
+      each_map (Agrees n log owner tickets j) (Agrees n log owner' tickets j)
+      (λ t g. reowned n log owner owner' tickets j j t (f t g) g) ts h
   map_all n log owner owner' tickets j (Unopened m) f h = h
   map_all n log owner owner' tickets j (Opening m) f h = h
 
-  pub splits_ok : (n id k : ℕ) (f : History D) (ts : List (Knowledge D)) → Without k ts → Splits (K n) id (Places (knows k f None ∷ ts)) (Places ts) (alone k f)
-  splits_ok n id k f ts apart s kept at = let r = running n s kept id (knows k f None ∷ ts) at in let v : View D = Places (knows k f None ∷ ts) in
-      let fit = r.fronts id v at in let new : ℕ = length (set s.views id (Places ts)) in let owner' : ℕ → ℕ = given_to r.owner k new in
+  pub splits_ok : (n id k : ℕ) (f : History D) (ts : List (Knowledge D)) → Without k ts
+      → Splits (K n) id (Places (knows k f None ∷ ts)) (Places ts) (alone k f)
+  splits_ok n id k f ts apart s kept at =
+      let r = running n s kept id (knows k f None ∷ ts) at in let v : View D = Places (knows k f None ∷ ts) in
+      let fit = r.fronts id v at in
+      let new : ℕ = length (set s.views id (Places ts)) in let owner' : ℕ → ℕ = given_to r.owner k new in
       runs (views_to n s r owner' (set s.views id (Places ts) ++ alone k f ∷ []) (λ j u got. ⊎_elim
       (λ (here : get_elem? (set s.views id (Places ts)) j ≡ some u). ⊎_elim
       (λ (t : (j ≡ id) × (Places ts ≡ u)). subst (λ (z : ℕ × View D). Fits n r.log owner' r.tickets z.0 z.1) (λ i. (sym t.0 i, t.1 i)) (
@@ -482,7 +562,8 @@ module _ {D : Type 0} (Starts : Bool → List ℕ → Type 0) (Tells : History D
       ))
       (λ (t : (j ≢ id) × (get_elem? s.views j ≡ some u)). (
         map_all n r.log r.owner owner' r.tickets j u
-            (λ x h. given_else r.owner k new x.place (λ (same : x.place ≡ k). t.0 (sym h.owned ∙ (ap r.owner same ∙ fit.0.owned))) ∙ h.owned) (r.fronts j u t.1),
+            (λ x h. given_else r.owner k new x.place (λ (same : x.place ≡ k). t.0 (sym h.owned ∙ (ap r.owner same ∙ fit.0.owned))) ∙ h.owned)
+            (r.fronts j u t.1),
         r.apart j u t.1,
       ))
       (at_set s.views id j (Places ts) u here))
@@ -491,13 +572,17 @@ module _ {D : Type 0} (Starts : Bool → List ℕ → Type 0) (Tells : History D
       (at_end (set s.views id (Places ts)) (alone k f) u j got)))
 
   -- the first place is cut off
-  pub deals_ok : (n id k m : ℕ) (f : History D) → 0 < m → Splits (K n) id (Places (all_know k m f)) (places_behind (Places (all_know k m f))) (first_place (Places (all_know k m f)))
+  pub deals_ok : (n id k m : ℕ) (f : History D) → 0 < m
+      → Splits (K n) id (Places (all_know k m f)) (places_behind (Places (all_know k m f))) (first_place (Places (all_know k m f)))
   deals_ok n id k zero f more = absurd (omega arith)
   deals_ok n id k (suc m) f more = splits_ok n id k f (all_know (suc k) m f) (without k (suc k) m f (omega arith))
 
-  pub joins_ok : (n id : ℕ) (ts : List (Knowledge D)) (other : ℕ) (us : List (Knowledge D)) → Joins (K n) id (Places ts) other (Places us) (Places (us ++ ts)) no_places
-  joins_ok n id ts other us s kept at apart there = let r = running n s kept id ts at in let v : View D = Places ts in let w : View D = Places us in
-      let both : View D = Places (us ++ ts) in let fit = r.fronts id v at in let owner' : ℕ → ℕ = handed r.owner other id in
+  pub joins_ok : (n id : ℕ) (ts : List (Knowledge D)) (other : ℕ) (us : List (Knowledge D))
+      → Joins (K n) id (Places ts) other (Places us) (Places (us ++ ts)) no_places
+  joins_ok n id ts other us s kept at apart there =
+      let r = running n s kept id ts at in let v : View D = Places ts in let w : View D = Places us in
+      let both : View D = Places (us ++ ts) in
+      let fit = r.fronts id v at in let owner' : ℕ → ℕ = handed r.owner other id in
       let was : get_elem? s.views other ≡ some w = sym (set_else s.views id other both apart) ∙ there in
       runs (views_to n s r owner' (set (set s.views id both) other no_places) (λ j u got. ⊎_elim
       (λ (t : (j ≡ other) × (no_places ≡ u)). subst (Fits n r.log owner' r.tickets j) t.1 (tt, tt))
@@ -505,7 +590,8 @@ module _ {D : Type 0} (Starts : Bool → List ℕ → Type 0) (Tells : History D
       (λ (q : (j ≡ id) × (both ≡ u)). subst (λ (z : ℕ × View D). Fits n r.log owner' r.tickets z.0 z.1) (λ i. (sym q.0 i, q.1 i)) (
         each-append (Agrees n r.log owner' r.tickets id) us ts
             (each_map (Agrees n r.log r.owner r.tickets other) (Agrees n r.log owner' r.tickets id)
-            (λ x h. reowned n r.log r.owner owner' r.tickets other id x (handed_here r.owner other id x.place h.owned) h) us (r.fronts other w was))
+            (λ x h. reowned n r.log r.owner owner' r.tickets other id x (handed_here r.owner other id x.place h.owned) h) us
+            (r.fronts other w was))
             (each_map (Agrees n r.log r.owner r.tickets id) (Agrees n r.log owner' r.tickets id)
             (λ x h. reowned n r.log r.owner owner' r.tickets id id x (handed_else r.owner other id x.place (λ (e : r.owner x.place ≡ other). apart (sym e ∙ h.owned)) ∙ h.owned) h) ts fit),
         apart-append us ts (r.apart other w was) (r.apart id v at)
@@ -514,13 +600,15 @@ module _ {D : Type 0} (Starts : Bool → List ℕ → Type 0) (Tells : History D
       ))
       (λ (q : (j ≢ id) × (get_elem? s.views j ≡ some u)). (
         map_all n r.log r.owner owner' r.tickets j u
-            (λ x h. handed_else r.owner other id x.place (λ (e : r.owner x.place ≡ other). t.0 (sym h.owned ∙ e)) ∙ h.owned) (r.fronts j u q.1),
+            (λ x h. handed_else r.owner other id x.place (λ (e : r.owner x.place ≡ other). t.0 (sym h.owned ∙ e)) ∙ h.owned)
+            (r.fronts j u q.1),
         r.apart j u q.1,
       ))
       (at_set s.views id j both u t.1))
       (at_set (set s.views id both) other j no_places u got)))
 
-  knowing_agree : (n : ℕ) (log : History D) (owner : ℕ → ℕ) (tickets : Tickets) (j : ℕ) (ts : List (Knowledge D)) → Each (Agrees n log owner tickets j) ts
+  knowing_agree : (n : ℕ) (log : History D) (owner : ℕ → ℕ) (tickets : Tickets) (j : ℕ) (ts : List (Knowledge D))
+      → Each (Agrees n log owner tickets j) ts
       → Each (Agrees n log owner tickets j) (knowing log ts)
   knowing_agree n log owner tickets j [] h = tt
   knowing_agree n log owner tickets j (t ∷ ts) h = (
@@ -537,8 +625,10 @@ module _ {D : Type 0} (Starts : Bool → List ℕ → Type 0) (Tells : History D
   knowing_apart log (t ∷ ts) h = (knowing_without t.place log ts h.0, knowing_apart log ts h.1)
 
   -- a load by which the places of a seat come to know the whole log
-  pub learns_at : (n slots id : ℕ) (ts : List (Knowledge D)) (st : Step (Option (Lodged D))) (m : Sat D) → m ≡ (Places ts, []) → Allows (K n) slots id m 0 (λ r. r) (learns rest ready st m)
-  learns_at n slots id ts st m is = subst (λ (p : Sat D). Allows (K n) slots id p 0 (λ r. r) (learns rest ready st p)) (sym is) step_
+  pub learns_at : (n slots id : ℕ) (ts : List (Knowledge D)) (st : Step (Option (Lodged D))) (m : Sat D)
+      → m ≡ (Places ts, []) → Allows (K n) slots id m 0 (λ r. r) (learns rest ready st m)
+  learns_at n slots id ts st m is =
+      subst (λ (p : Sat D). Allows (K n) slots id p 0 (λ r. r) (learns rest ready st p)) (sym is) step_
     where
       stands_of : View D → List (Knowledge D)
       stands_of (Places us) = us
@@ -549,7 +639,8 @@ module _ {D : Type 0} (Starts : Bool → List ℕ → Type 0) (Tells : History D
         w,
         keeps,
         tt,
-        subst (λ (ws : List ℕ). K n record { words = ws; homes = s.homes; views = set s.views id w }) (sym (set-get_or s.words 0 0)) (runs (views_to n s r r.owner (set s.views id w)
+        subst (λ (ws : List ℕ). K n record { words = ws; homes = s.homes; views = set s.views id w })
+            (sym (set-get_or s.words 0 0)) (runs (views_to n s r r.owner (set s.views id w)
             (λ j u got. ⊎_elim
             (λ (t : (j ≡ id) × (w ≡ u)). subst (λ (z : ℕ × View D). Fits n r.log r.owner r.tickets z.0 z.1) (λ i. (sym t.0 i, t.1 i))
             (knowing_agree n r.log r.owner r.tickets id ts (r.fronts id (Places ts) at), knowing_apart r.log ts (r.apart id (Places ts) at)))
@@ -557,7 +648,8 @@ module _ {D : Type 0} (Starts : Bool → List ℕ → Type 0) (Tells : History D
             (at_set s.views id j w u got)))),
         λ us same. (
           r.log,
-          subst (λ (vs : List (Knowledge D)). Learns rest ready r.log vs (w, [])) (ap (λ (m : Sat D). stands_of m.0) same)
+          subst (λ (vs : List (Knowledge D)). Learns rest ready r.log vs (w, []))
+              (ap (λ (m : Sat D). stands_of m.0) same)
               (record {
                 me_is = refl;
                 stands = r.stands;

@@ -1,5 +1,6 @@
 -- Lists of places, and where a seat's view stands among all views.
-use Rattle.std.proofs.Common.{◌≡◌, ◌≢◌, ◌⊎◌, inl, inr, ⊎_elim, ℕ, zero, suc, ◌+◌, ◌-◌, ◌<◌, true, eqb, cond, List, [], ◌∷◌, ◌++◌, length, set, take, drop, None, refl, sym, ap, ◌∙◌}
+use Rattle.std.proofs.Common.{◌≡◌, ◌≢◌, ◌⊎◌, inl, inr, ⊎_elim, ℕ, zero, suc, ◌+◌, ◌-◌, ◌<◌, true, eqb, cond, List, []}
+use Rattle.std.proofs.Common.{◌∷◌, ◌++◌, length, set, take, drop, None, refl, sym, ap, ◌∙◌}
 use Rattle.std.proofs.Common.{subst, arith, eq-eqb, ne_eqb}
 use mathlib.Core.Option.{some, some-injective, some-ne-none}
 use lib.ListN.{get_elem?}
@@ -24,11 +25,14 @@ only_at v w zero e = refl
 only_at v w (suc i) e = absurd (some-ne-none w (sym e))
 
 -- the element at the end, and where it is
-pub at_end : {V : Type 0} (l : List V) (a b : V) (j : ℕ) → get_elem? (l ++ a ∷ []) j ≡ some b → (get_elem? l j ≡ some b) ⊎ ((j ≡ length l) × (a ≡ b))
+pub at_end : {V : Type 0} (l : List V) (a b : V) (j : ℕ) → get_elem? (l ++ a ∷ []) j ≡ some b
+    → (get_elem? l j ≡ some b) ⊎ ((j ≡ length l) × (a ≡ b))
 at_end [] a b zero e = inr (refl, some-injective a b e)
 at_end [] a b (suc j) e = absurd (some-ne-none b (sym e))
 at_end (x ∷ xs) a b zero e = inl e
-at_end (x ∷ xs) a b (suc j) e = ⊎_elim (λ (t : get_elem? xs j ≡ some b). inl t) (λ (t : (j ≡ length xs) × (a ≡ b)). inr (omega (arith, t.0), t.1)) (at_end xs a b j e)
+at_end (x ∷ xs) a b (suc j) e =
+    ⊎_elim (λ (t : get_elem? xs j ≡ some b). inl t) (λ (t : (j ≡ length xs) × (a ≡ b)). inr (omega (arith, t.0), t.1))
+    (at_end xs a b j e)
 
 -- the owners (or the tickets), with the place k now at the seat to
 abbrev pub given_to : {A : Type 0} → (ℕ → A) → ℕ → A → ℕ → A
@@ -51,11 +55,13 @@ pub handed_else : (owner : ℕ → ℕ) (other to i : ℕ) → owner i ≢ other
 handed_else owner other to i n = ap (λ b. cond b to (owner i)) (ne_eqb (owner i) other n)
 
 module _ {D : Type 0} where
-  pub each_map : (P Q : Knowledge D → Type 0) → ((t : Knowledge D) → P t → Q t) → (v : List (Knowledge D)) → Each P v → Each Q v
+  pub each_map : (P Q : Knowledge D → Type 0) → ((t : Knowledge D) → P t → Q t) → (v : List (Knowledge D)) → Each P v
+      → Each Q v
   each_map P Q f [] h = tt
   each_map P Q f (t ∷ ts) h = (f t h.0, each_map P Q f ts h.1)
 
-  pub each_with : (P Q R : Knowledge D → Type 0) → ((t : Knowledge D) → P t → Q t → R t) → (v : List (Knowledge D)) → Each P v → Each Q v → Each R v
+  pub each_with : (P Q R : Knowledge D → Type 0) → ((t : Knowledge D) → P t → Q t → R t) → (v : List (Knowledge D))
+      → Each P v → Each Q v → Each R v
   each_with P Q R f [] g h = tt
   each_with P Q R f (t ∷ ts) g h = (f t g.0 h.0, each_with P Q R f ts g.1 h.1)
 
@@ -71,19 +77,25 @@ module _ {D : Type 0} where
   all_know_apart k zero f = tt
   all_know_apart k (suc m) f = (without k (suc k) m f (omega arith), all_know_apart (suc k) m f)
 
-  pub apart-append : (us ts : List (Knowledge D)) → Apart us → Apart ts → Each (λ u. Without u.place ts) us → Apart (us ++ ts)
+  pub apart-append : (us ts : List (Knowledge D)) → Apart us → Apart ts → Each (λ u. Without u.place ts) us
+      → Apart (us ++ ts)
   apart-append [] ts a b c = b
   apart-append (u ∷ us) ts a b c = (each-append (λ t. t.place ≢ u.place) us ts a.0 c.0, apart-append us ts a.1 b c.1)
 
   -- the first of some places, and the others
-  pub dealt : (k m : ℕ) (f : History D) → 0 < m → (take 1 (all_know k m f) ≡ knows k f None ∷ []) × (drop 1 (all_know k m f) ≡ all_know (k + 1) (m - 1) f)
+  pub dealt : (k m : ℕ) (f : History D) → 0 < m
+      → (take 1 (all_know k m f) ≡ knows k f None ∷ []) × (drop 1 (all_know k m f) ≡ all_know (k + 1) (m - 1) f)
   dealt k zero f more = absurd (omega arith)
-  dealt k (suc m) f more = let a : suc k ≡ k + 1 = omega arith in let b : m ≡ suc m - 1 = omega arith in (refl, λ i. all_know (a i) (b i) f)
+  dealt k (suc m) f more =
+      let a : suc k ≡ k + 1 = omega arith in let b : m ≡ suc m - 1 = omega arith in (refl, λ i. all_know (a i) (b i) f)
 
-  pub places_more : (z : TableId) (k n : ℕ) (f : History D) → places_from z k (n + 1) f ≡ places_from z k n f ++ record { table = z; place = k + n; front = f } ∷ []
+  pub places_more : (z : TableId) (k n : ℕ) (f : History D)
+      → places_from z k (n + 1) f ≡ places_from z k n f ++ record { table = z; place = k + n; front = f } ∷ []
   places_more z k zero f = let a : k ≡ k + 0 = omega arith in λ i. record { table = z; place = a i; front = f } ∷ []
-  places_more z k (suc n) f = let a : suc n + 1 ≡ suc (n + 1) = omega arith in let b : suc k + n ≡ k + suc n = omega arith in
-      ap (λ (m : ℕ). places_from z k m f) a ∙ ap (λ (l : List (PlaceOut D)). record { table = z; place = k; front = f } ∷ l)
+  places_more z k (suc n) f =
+      let a : suc n + 1 ≡ suc (n + 1) = omega arith in let b : suc k + n ≡ k + suc n = omega arith in
+      ap (λ (m : ℕ). places_from z k m f) a
+      ∙ ap (λ (l : List (PlaceOut D)). record { table = z; place = k; front = f } ∷ l)
       (places_more z (suc k) n f ∙ ap (λ (m : ℕ). places_from z (suc k) n f ++ record { table = z; place = m; front = f } ∷ []) b)
 
   -- what is known of one place's seat

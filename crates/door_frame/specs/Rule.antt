@@ -1,4 +1,5 @@
--- What the rule of every door says: of the log, of what each seat knows, and of the slot. What its words say is each door's own.
+-- What the rule of every door says: of the log, of what each seat knows, and of the slot. What its words say is each
+-- door's own.
 use Rattle.std.specs.Prelude.{◌≡◌, ℕ, ◌<◌, Bool, true, false, List, [], ◌∷◌, Option, Some, None, length}
 use mathlib.Core.Option.{some, none}
 use lib.ListN.{get_elem?}
@@ -28,7 +29,8 @@ Tickets = ℕ → Option ℕ
 
 module _ {D : Type 0} where
   -- a place of the seat: the log begins with its front, and has no other events of it
-  pub record Agrees (n : ℕ) (log : History D) (owner : ℕ → ℕ) (tickets : Tickets) (seat : ℕ) (t : Knowledge D) : Type 0 where
+  pub record Agrees (n : ℕ) (log : History D) (owner : ℕ → ℕ) (tickets : Tickets) (seat : ℕ)
+      (t : Knowledge D) : Type 0 where
     pub below : t.place < n
     pub owned : owner t.place ≡ seat
     pub begins : Begins t.front log
@@ -40,9 +42,11 @@ module _ {D : Type 0} where
     pub latest : x.state ≡ latest_data h
     pub book : IsOf x.book (erased h)
 
-  -- Of the words: Starts is what they are before the door opens (and by then whether the first seat has the slot), Tells what
+  -- Of the words: Starts is what they are before the door opens (and by then whether the first seat has the slot),
+  -- Tells what
   -- they say of the log and the tickets of an open door
-  module _ (Starts : Bool → List ℕ → Type 0) (Tells : History D → Tickets → List ℕ → Type 0) (rest : Rest D) (ready : Ready D) (kinds : Kinds) where
+  module _ (Starts : Bool → List ℕ → Type 0) (Tells : History D → Tickets → List ℕ → Type 0) (rest : Rest D)
+      (ready : Ready D) (kinds : Kinds) where
     -- the door is open
     pub record Running (n : ℕ) (s : Cells D) : Type 0 where
       pub log : History D
@@ -59,7 +63,8 @@ module _ {D : Type 0} where
       -- 3. what the words say of the log and of the tickets
       pub tells : Tells log tickets s.words
       -- 4. where nobody is inside, the slot is at home, with what the log left
-      pub home : IsGivenUp (turn log.events) → (x : Lodged D) × (get_elem? s.homes 0 ≡ some (some (Some x))) × Lies log x
+      pub home : IsGivenUp (turn log.events)
+          → (x : Lodged D) × (get_elem? s.homes 0 ≡ some (some (Some x))) × Lies log x
       -- and where somebody is inside, it is out
       pub out : (k : ℕ) → turn log.events ≡ Held k → get_elem? s.homes 0 ≡ some none
 

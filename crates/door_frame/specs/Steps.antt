@@ -48,14 +48,19 @@ module _ {D : Type 0} where
   begins st m r m' = (n : ℕ) → m.0 ≡ Unopened n → m' ≡ (Opening n, (0, None) ∷ [])
 
   abbrev pub opens : Kinds → Told D
-  opens kinds st m r m' = (n : ℕ) (x : Lodged D) → m ≡ (Opening n, (0, Some x) ∷ []) → m' ≡ (Places (all_know 0 n (opened (sizes_at kinds n) x.state)), [])
+  opens kinds st m r m' =
+      (n : ℕ) (x : Lodged D) → m ≡ (Opening n, (0, Some x) ∷ [])
+      → m' ≡ (Places (all_know 0 n (opened (sizes_at kinds n) x.state)), [])
 
   -- the event that the holder picked, of the data in the slot
   abbrev pub gives_as : (D → Event D) → Told D
-  gives_as event st m r m' = (k : ℕ) (f : History D) (x : Lodged D) → m ≡ (alone k f, (0, Some x) ∷ []) → m' ≡ (alone k (with_event f (event x.state)), [])
+  gives_as event st m r m' =
+      (k : ℕ) (f : History D) (x : Lodged D) → m ≡ (alone k f, (0, Some x) ∷ [])
+      → m' ≡ (alone k (with_event f (event x.state)), [])
 
   -- the place k, inside with f, may give the slot back with x in it by the event, after which next goes on
-  pub record Gives (rest : Rest D) (ready : Ready D) (event : D → Event D) (k : ℕ) (f : History D) (x : Lodged D) (next : Next) : Type 0 where
+  pub record Gives (rest : Rest D) (ready : Ready D) (event : D → Event D) (k : ℕ) (f : History D) (x : Lodged D)
+      (next : Next) : Type 0 where
     pub inside : turn f.events ≡ Held k
     pub mine : place_of (event x.state) ≡ k
     pub allowed : Allowed f (event x.state)
@@ -67,7 +72,8 @@ module _ {D : Type 0} where
 
   -- the seat is that of the place k, inside with some f, which may do so
   abbrev pub MayGive : Rest D → Ready D → (D → Event D) → ℕ → Sat D → Lodged D → Next → Type 0
-  MayGive rest ready event k me x next = (f : History D) × (me ≡ (alone k f, (0, None) ∷ [])) × Gives rest ready event k f x next
+  MayGive rest ready event k me x next =
+      (f : History D) × (me ≡ (alone k f, (0, None) ∷ [])) × Gives rest ready event k f x next
 
   -- the event that the holder picked, of what it knew: it stays inside, with the slot in hand
   abbrev pub notes_as : (History D → Event D) → Told D
@@ -87,7 +93,8 @@ module _ {D : Type 0} where
   MayNote rest ready event k me = (f : History D) × (me ≡ (alone k f, (0, None) ∷ [])) × Notes rest ready (event f) k f
 
   -- the place k, which knew f, came in by the event and found x; the slot that it holds has o
-  pub record Came (rest : Rest D) (ready : Ready D) (k : ℕ) (f : History D) (event : D → Event D) (x : Lodged D) (o : Option (Lodged D)) (me : Sat D) : Type 0 where
+  pub record Came (rest : Rest D) (ready : Ready D) (k : ℕ) (f : History D) (event : D → Event D) (x : Lodged D)
+      (o : Option (Lodged D)) (me : Sat D) : Type 0 where
     pub log : History D
     pub me_is : me ≡ (alone k (with_event log (event x.state)), (0, o) ∷ [])
     pub begins : Begins f log
@@ -95,21 +102,26 @@ module _ {D : Type 0} where
     pub stands : Stands rest ready (with_event log (event x.state))
     pub book : IsOf x.book (erased log)
 
-  -- what a step tells that may bring the place k in: where the number found is a hit, k comes in by the event and takes the
+  -- what a step tells that may bring the place k in: where the number found is a hit, k comes in by the event and takes
+  -- the
   -- slot, and of the log before holds what Also says; else nothing happened
-  abbrev pub Comes : Rest D → Ready D → (ℕ → Type 0) → (History D → Type 0) → ℕ → History D → (D → Event D) → Sat D → ℕ → Sat D → Type 0
-  Comes rest ready Hit Also k f event m r m' = ((Hit r → ⊥) → m' ≡ m) × (Hit r → (x : Lodged D) × (c : Came rest ready k f event x (Some x) m') × Also c.log)
+  abbrev pub Comes : Rest D → Ready D → (ℕ → Type 0) → (History D → Type 0) → ℕ → History D → (D → Event D) → Sat D → ℕ
+      → Sat D → Type 0
+  Comes rest ready Hit Also k f event m r m' =
+      ((Hit r → ⊥) → m' ≡ m) × (Hit r → (x : Lodged D) × (c : Came rest ready k f event x (Some x) m') × Also c.log)
 
   -- the history begins with what the place knew, and has no other events of it
   abbrev pub Known : History D → Knowledge D → Type 0
   Known log t = Begins t.front log × (own t.place log.events ≡ own t.place t.front.events)
 
   -- the places of a seat know the whole history
-  pub record Learns (rest : Rest D) (ready : Ready D) (log : History D) (ts : List (Knowledge D)) (me : Sat D) : Type 0 where
+  pub record Learns (rest : Rest D) (ready : Ready D) (log : History D) (ts : List (Knowledge D))
+      (me : Sat D) : Type 0 where
     pub me_is : me ≡ (Places (knowing log ts), [])
     pub stands : Stands rest ready log
     pub fits : Each (Known log) ts
     pub apart : Apart ts
 
   abbrev pub learns : Rest D → Ready D → Told D
-  learns rest ready st m r m' = (ts : List (Knowledge D)) → m ≡ (Places ts, []) → (log : History D) × Learns rest ready log ts m'
+  learns rest ready st m r m' =
+      (ts : List (Knowledge D)) → m ≡ (Places ts, []) → (log : History D) × Learns rest ready log ts m'

@@ -1,5 +1,6 @@
 -- What a seat knows: before the door opens how many places it is to have, then the places that it stands for.
-use Rattle.std.specs.Prelude.{◌≡◌, ◌≢◌, ℕ, zero, suc, Bool, true, false, List, [], ◌∷◌, ◌++◌, take, drop, Option, Some, None}
+use Rattle.std.specs.Prelude.{◌≡◌, ◌≢◌, ℕ, zero, suc, Bool, true, false, List, [], ◌∷◌, ◌++◌, take, drop, Option, Some}
+use Rattle.std.specs.Prelude.{None}
 use Rattle.std.proofs.Common.{true≢false, sym}
 use Rattle.hoare_law.specs.declared.event.History.{History}
 use Rattle.door_frame.specs.declared.view.Knowledge.{Knowledge}

@@ -1,5 +1,6 @@
 -- What follows the lines of a text that were read.
-use Rattle.std.proofs.Common.{◌≡◌, ◌∙◌, ℕ, suc, ◌+◌, ◌-◌, ◌<◌, List, [], ◌∷◌, ◌++◌, length, drop, refl, ap, sym, cond, false, append_assoc, length-append, arith}
+use Rattle.std.proofs.Common.{◌≡◌, ◌∙◌, ℕ, suc, ◌+◌, ◌-◌, ◌<◌, List, [], ◌∷◌, ◌++◌, length, drop, refl, ap, sym, cond}
+use Rattle.std.proofs.Common.{false, append_assoc, length-append, arith}
 use Rattle.std.proofs.lemmas.List.Elements.{All-head, All-tail}
 use Rattle.std.specs.Io.BufRead.{drop_through}
 use Rattle.line_text.proofs.Streams.{drop-read}
@@ -50,10 +51,13 @@ module _ {number : ℕ} {read t0 t : List ℕ} (g : AtLine number read t0 t) (l 
   after_lines-last n e z = z ∙ sym (after_lines-next ∙ ap (drop_through 10) e ∙ drop_through-last l n)
 
   -- as much of it is read as a line may have, and one byte more
-  pub after_lines-long_line : (b : ℕ) → length l ≡ LONGEST_LINE → t ≡ l ++ b ∷ x → x ≡ drop (LONGEST_LINE + 1) (after_lines (number - 1) t0)
+  pub after_lines-long_line : (b : ℕ) → length l ≡ LONGEST_LINE → t ≡ l ++ b ∷ x
+      → x ≡ drop (LONGEST_LINE + 1) (after_lines (number - 1) t0)
   after_lines-long_line b h e =
-      let bytes : after_lines (number - 1) t0 ≡ (l ++ b ∷ []) ++ x = sym g.behind ∙ e ∙ sym (append_assoc l (b ∷ []) x) in
-      sym (ap (drop (LONGEST_LINE + 1)) bytes ∙ drop-read (LONGEST_LINE + 1) (l ++ b ∷ []) x (omega (arith, length-append l (b ∷ []), h)))
+      let bytes : after_lines (number - 1) t0 ≡ (l ++ b ∷ []) ++ x =
+      sym g.behind ∙ e ∙ sym (append_assoc l (b ∷ []) x) in
+      sym
+      (ap (drop (LONGEST_LINE + 1)) bytes ∙ drop-read (LONGEST_LINE + 1) (l ++ b ∷ []) x (omega (arith, length-append l (b ∷ []), h)))
 
   -- reading stands at the next line
   pub AtLine-next : NoNewline l → t ≡ l ++ 10 ∷ x → AtLine (number + 1) (read ++ (l ++ 10 ∷ [])) t0 x

@@ -1,6 +1,8 @@
 -- Words and numbers.
-use Rattle.std.proofs.Common.{◌≡◌, ◌≢◌, ℕ, suc, zero, ◌+◌, ◌*◌, ◌-◌, ◌^◌, ◌<◌, ◌≤◌, Bool, true, false, cond, eqb, ltb, ◌&&◌}
-use Rattle.std.proofs.Common.{List, [], ◌∷◌, ◌++◌, length, get_or, take, drop, Option, Some, None, refl, ap, sym, ◌∙◌, ◌⊎◌, inl, inr, append_assoc, length-append, arith}
+use Rattle.std.proofs.Common.{◌≡◌, ◌≢◌, ℕ, suc, zero, ◌+◌, ◌*◌, ◌-◌, ◌^◌, ◌<◌, ◌≤◌, Bool, true, false, cond, eqb, ltb}
+use Rattle.std.proofs.Common.{◌&&◌}
+use Rattle.std.proofs.Common.{List, [], ◌∷◌, ◌++◌, length, get_or, take, drop, Option, Some, None, refl, ap, sym, ◌∙◌}
+use Rattle.std.proofs.Common.{◌⊎◌, inl, inr, append_assoc, length-append, arith}
 use Rattle.std.proofs.lemmas.Bool.{lt-ltb, le-ltb, ne_eqb}
 use Rattle.std.proofs.lemmas.Bool.Decides.{nat_tests}
 use Rattle.std.proofs.lemmas.Grind.{common_steps}
@@ -16,7 +18,8 @@ pub slice_split-some : {X : Type 0} (test : X → Bool) (xs : List X) → slice_
 slice_split-some test xs h = omega (arith, length-slice_split test xs, ap length h)
 
 -- the first part ends at the first separator
-pub slice_split-at_first : (x : ℕ) (bs : List ℕ) (i : ℕ) → ((k : ℕ) → k < i → get_or bs k 0 ≡ x → ⊥) → i < length bs → get_or bs i 0 ≡ x
+pub slice_split-at_first : (x : ℕ) (bs : List ℕ) (i : ℕ) → ((k : ℕ) → k < i → get_or bs k 0 ≡ x → ⊥) → i < length bs
+    → get_or bs i 0 ≡ x
     → slice_split (λ b. eqb b x) bs ≡ take i bs ∷ slice_split (λ b. eqb b x) (drop (suc i) bs)
 slice_split-at_first x [] i n l e = absurd (omega arith)
 slice_split-at_first x (b ∷ bs) zero n l e =
@@ -27,7 +30,8 @@ slice_split-at_first x (b ∷ bs) (suc i) n l e =
     rw no (ap (onto_first b) (slice_split-at_first x bs i (λ k h. n (suc k) (omega arith)) (omega arith) e))
 
 -- no separator
-pub slice_split-whole : (x : ℕ) (bs : List ℕ) → ((k : ℕ) → k < length bs → get_or bs k 0 ≡ x → ⊥) → slice_split (λ b. eqb b x) bs ≡ bs ∷ []
+pub slice_split-whole : (x : ℕ) (bs : List ℕ) → ((k : ℕ) → k < length bs → get_or bs k 0 ≡ x → ⊥)
+    → slice_split (λ b. eqb b x) bs ≡ bs ∷ []
 slice_split-whole x [] n = refl
 slice_split-whole x (b ∷ bs) n =
     let no : eqb b x ≡ false = ne_eqb b x (n 0 (omega arith)) in
@@ -70,12 +74,14 @@ value_after-grows n [] = omega arith
 value_after-grows n (c ∷ cs) = omega (arith, value_after-grows (10 * n + (c - 48)) cs)
 
 -- the test of digits, and their value, from position i on
-pub all_digits-drop : (w : List ℕ) (i : ℕ) → i < length w → all_digits (drop i w) ≡ (is_digit (get_or w i 0) && all_digits (drop (suc i) w))
+pub all_digits-drop : (w : List ℕ) (i : ℕ) → i < length w
+    → all_digits (drop i w) ≡ (is_digit (get_or w i 0) && all_digits (drop (suc i) w))
 all_digits-drop [] i h = absurd (omega arith)
 all_digits-drop (c ∷ cs) zero h = refl
 all_digits-drop (c ∷ cs) (suc i) h = all_digits-drop cs i (omega arith)
 
-pub value_after-drop : (n : ℕ) (w : List ℕ) (i : ℕ) → i < length w → value_after n (drop i w) ≡ value_after (10 * n + (get_or w i 0 - 48)) (drop (suc i) w)
+pub value_after-drop : (n : ℕ) (w : List ℕ) (i : ℕ) → i < length w
+    → value_after n (drop i w) ≡ value_after (10 * n + (get_or w i 0 - 48)) (drop (suc i) w)
 value_after-drop n [] i h = absurd (omega arith)
 value_after-drop n (c ∷ cs) zero h = refl
 value_after-drop n (c ∷ cs) (suc i) h = value_after-drop n cs i (omega arith)
@@ -89,7 +95,8 @@ pub digits_of-no_digit : (w : List ℕ) (i : ℕ) → i < length w → all_digit
     → ((get_or w i 0 < 48) ⊎ (57 < get_or w i 0)) → None ≡ digits_of w
 unfolding digits_of
 digits_of-no_digit w i l a h =
-    let e : all_digits w ≡ false = a ∙ all_digits-drop w i l ∙ ap (λ b. b && all_digits (drop (suc i) w)) (is_digit-false (get_or w i 0) h) in
+    let e : all_digits w ≡ false =
+    a ∙ all_digits-drop w i l ∙ ap (λ b. b && all_digits (drop (suc i) w)) (is_digit-false (get_or w i 0) h) in
     rw e refl
 
 no_both : (a b : Bool) (v : ℕ) → b ≡ false → None ≡ cond (a && b) (Some v) None
@@ -101,12 +108,14 @@ pub digits_of-too_big : (w : List ℕ) (n i : ℕ) → i < length w → value_af
     → 2 ^ 64 ≤ 10 * n + (get_or w i 0 - 48) → None ≡ digits_of w
 unfolding digits_of
 digits_of-too_big w n i l v h =
-    let e : value_after 0 w ≡ value_after (10 * n + (get_or w i 0 - 48)) (drop (suc i) w) = v ∙ value_after-drop n w i l in
+    let e : value_after 0 w ≡ value_after (10 * n + (get_or w i 0 - 48)) (drop (suc i) w) =
+    v ∙ value_after-drop n w i l in
     no_both (all_digits w) (ltb (value_after 0 w) (2 ^ 64)) (value_after 0 w)
     (le-ltb (value_after 0 w) (2 ^ 64) (omega (arith, value_after-grows (10 * n + (get_or w i 0 - 48)) (drop (suc i) w))))
 
 -- digits all read
-pub digits_of-value : (w : List ℕ) (n i : ℕ) → length w ≤ i → all_digits w ≡ all_digits (drop i w) → value_after 0 w ≡ value_after n (drop i w)
+pub digits_of-value : (w : List ℕ) (n i : ℕ) → length w ≤ i → all_digits w ≡ all_digits (drop i w)
+    → value_after 0 w ≡ value_after n (drop i w)
     → n < 2 ^ 64 → Some n ≡ digits_of w
 unfolding digits_of
 digits_of-value w n i l a v h =

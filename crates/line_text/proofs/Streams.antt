@@ -1,5 +1,6 @@
 -- Known bytes of readers and writers.
-use Rattle.std.proofs.Common.{◌≡◌, ◌∙◌, ℕ, ◌+◌, ◌-◌, ◌≤◌, List, ◌++◌, length, take, drop, Option, Some, None, Result, ap, sym, subst, length-append, length-drop, arith}
+use Rattle.std.proofs.Common.{◌≡◌, ◌∙◌, ℕ, ◌+◌, ◌-◌, ◌≤◌, List, ◌++◌, length, take, drop, Option, Some, None, Result}
+use Rattle.std.proofs.Common.{ap, sym, subst, length-append, length-drop, arith}
 use Rattle.std.proofs.KnownBytes.{Appends-trans}
 use Rattle.std.proofs.Math.Seq.{take-add, take-append-add, drop-append_seam}
 use Rattle.std.proofs.lemmas.List.{take_all, take-append-le}
@@ -18,7 +19,8 @@ Appends-take a b c bs i n m l p q =
     (Appends-trans a b c (take i bs) (take n (drop i bs)) p (subst (λ (v : List ℕ). Appends b c (take n v)) e q))
 
 -- a line is read after what was read before, and ends in this way
-pub Reads-line : (a b c : Option (List ℕ)) (P S : List ℕ → List ℕ → Type 0) (l : List ℕ) (e f : Result Ended LineFault) → e ≡ f
+pub Reads-line : (a b c : Option (List ℕ)) (P S : List ℕ → List ℕ → Type 0) (l : List ℕ) (e f : Result Ended LineFault)
+    → e ≡ f
     → ((t x y : List ℕ) → P t x → ReadsLine l f x y → S t y) → Reads a b P → Reads b c (ReadsLine l e) → Reads a c S
 Reads-line None b c P S l e f is go p q = tt
 Reads-line (Some t) None c P S l e f is go p q = absurd p
@@ -35,7 +37,8 @@ pub drop-read : (n : ℕ) (p x : List ℕ) → length p ≡ n → drop n (p ++ x
 drop-read n p x h = subst (λ (m : ℕ). drop m (p ++ x) ≡ x) h (drop-append_seam p x)
 
 -- all of one text is written, and then a prefix of the next
-pub AppendsPrefix-after : (a b c : Option (List ℕ)) (w p r : List ℕ) → Appends a b w → AppendsPrefix b c p → AppendsPrefix a c (w ++ (p ++ r))
+pub AppendsPrefix-after : (a b c : Option (List ℕ)) (w p r : List ℕ) → Appends a b w → AppendsPrefix b c p
+    → AppendsPrefix a c (w ++ (p ++ r))
 AppendsPrefix-after a b c w p r h q = (
   length w + q.0,
   omega (arith, q.1, length-append w (p ++ r), length-append p r),

@@ -15,7 +15,8 @@ module _ {S : Type 0} {is_ready : S → Type 0} where
   FirstReady-here fits = record { dropped = []; order = refl; unready = All-nil (λ d. is_ready d → ⊥); fits = fits }
 
   -- it stands behind one that isn't ready
-  pub FirstReady-behind : {x a : S} {answers left : List S} → (is_ready x → ⊥) → FirstReady is_ready answers a left → FirstReady is_ready (x ∷ answers) a left
+  pub FirstReady-behind : {x a : S} {answers left : List S} → (is_ready x → ⊥) → FirstReady is_ready answers a left
+      → FirstReady is_ready (x ∷ answers) a left
   FirstReady-behind {x = x} unready t = record {
     dropped = x ∷ t.dropped;
     order = ap (λ l. x ∷ l) t.order;
@@ -25,18 +26,21 @@ module _ {S : Type 0} {is_ready : S → Type 0} where
 
 module _ {S : Type 0} {rest : Rest S} {ready : Ready S} {given : List S} where
   -- an event that returns from no wait leaves the answers
-  pub IsLeft-untouched : (h : History S) {left : List S} (e : Event S) → is_return e ≡ false → IsLeft rest ready given h.events left → IsLeft rest ready given (with_event h e).events left
+  pub IsLeft-untouched : (h : History S) {left : List S} (e : Event S) → is_return e ≡ false
+      → IsLeft rest ready given h.events left → IsLeft rest ready given (with_event h e).events left
   unfolding with_event
   IsLeft-untouched h e none l = untouched e none l
 
   -- a wait and its answer
-  pub IsLeft-answered : (h : History S) (c p : ℕ) (s a : S) {answers left : List S} → FirstReady (λ d. ready c p d nobody) answers a left
+  pub IsLeft-answered : (h : History S) (c p : ℕ) (s a : S) {answers left : List S}
+      → FirstReady (λ d. ready c p d nobody) answers a left
       → IsLeft rest ready given h.events answers → IsLeft rest ready given (answered c p s a h).events left
   unfolding with_event
   IsLeft-answered h c p s a first l = took c p s a first l
 
   -- a wait from which it was called
-  pub IsLeft-called_back : (h : History S) (c p : ℕ) (s a : S) {answers left : List S} → FirstReady (λ d. rest d nobody) answers a left
+  pub IsLeft-called_back : (h : History S) (c p : ℕ) (s a : S) {answers left : List S}
+      → FirstReady (λ d. rest d nobody) answers a left
       → IsLeft rest ready given h.events answers → IsLeft rest ready given (called_back c p s a h).events left
   unfolding with_event
   IsLeft-called_back h c p s a first l = took_called c p s a first l

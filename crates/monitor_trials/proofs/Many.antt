@@ -19,7 +19,8 @@ pub all-and-one : {X : Type 0} (P : X → Type 0) (xs : List X) (x : X) → All 
 all-and-one P xs x all one = All-append P xs (x ∷ []) all (All-cons P x [] one (All-nil P))
 
 module _ {D : Type 0} where
-  under : (k : ℕ) (o : PlaceOut D) (os ps : List (PlaceOut D)) → HasPlace k os ⊎ HasPlace k ps → HasPlace k (o ∷ os) ⊎ HasPlace k ps
+  under : (k : ℕ) (o : PlaceOut D) (os ps : List (PlaceOut D)) → HasPlace k os ⊎ HasPlace k ps
+      → HasPlace k (o ∷ os) ⊎ HasPlace k ps
   under k o os ps (inl at) = inl (inr at)
   under k o os ps (inr at) = inr at
 
@@ -39,21 +40,26 @@ module _ {D : Type 0} where
   has-behind k (o ∷ os) ps at = inr (has-behind k os ps at)
 
   -- the last of the places asks
-  asked : (k : ℕ) (os : List (PlaceOut D)) (o : PlaceOut D) (qs : List (PlaceAsked D)) (a : PlaceAsked D) → a.place ≡ o.place
+  asked : (k : ℕ) (os : List (PlaceOut D)) (o : PlaceOut D) (qs : List (PlaceAsked D)) (a : PlaceAsked D)
+      → a.place ≡ o.place
       → HasPlace k os ⊎ HasPlace k (o ∷ []) → HasPlace k os ⊎ HasPlace k (map as_out (qs ++ a ∷ []))
   asked k os o qs a same (inl at) = inl at
   asked k os o qs a same (inr (inl is)) =
-      inr (subst (HasPlace k) (sym (map-append as_out qs (a ∷ []))) (has-behind k (map as_out qs) (map as_out (a ∷ [])) (inl (same ∙ is))))
+      inr
+      (subst (HasPlace k) (sym (map-append as_out qs (a ∷ []))) (has-behind k (map as_out qs) (map as_out (a ∷ [])) (inl (same ∙ is))))
   asked k os o qs a same (inr (inr none)) = absurd none
 
-  pub asks-one : (k : ℕ) (os : List (PlaceOut D)) (o : PlaceOut D) (qs : List (PlaceAsked D)) (a : PlaceAsked D) → a.place ≡ o.place
+  pub asks-one : (k : ℕ) (os : List (PlaceOut D)) (o : PlaceOut D) (qs : List (PlaceAsked D)) (a : PlaceAsked D)
+      → a.place ≡ o.place
       → HasPlace k (os ++ o ∷ []) ⊎ HasPlace k (map as_out qs) → HasPlace k os ⊎ HasPlace k (map as_out (qs ++ a ∷ []))
   asks-one k os o qs a same (inl at) = asked k os o qs a same (has-either k os (o ∷ []) at)
   asks-one k os o qs a same (inr at) =
-      inr (subst (HasPlace k) (sym (map-append as_out qs (a ∷ []))) (has-before k (map as_out qs) (map as_out (a ∷ [])) at))
+      inr
+      (subst (HasPlace k) (sym (map-append as_out qs (a ∷ []))) (has-before k (map as_out qs) (map as_out (a ∷ [])) at))
 
   -- the first that asked is outside again
-  pub gives-up-one : (k : ℕ) (qs : List (PlaceAsked D)) (a : PlaceAsked D) (os : List (PlaceOut D)) (o : PlaceOut D) → o.place ≡ a.place
+  pub gives-up-one : (k : ℕ) (qs : List (PlaceAsked D)) (a : PlaceAsked D) (os : List (PlaceOut D)) (o : PlaceOut D)
+      → o.place ≡ a.place
       → HasPlace k (map as_out (a ∷ qs)) ⊎ HasPlace k os → HasPlace k (map as_out qs) ⊎ HasPlace k (os ++ o ∷ [])
   gives-up-one k qs a os o same (inl (inl is)) = inr (has-behind k os (o ∷ []) (inl (same ∙ is)))
   gives-up-one k qs a os o same (inl (inr at)) = inl at

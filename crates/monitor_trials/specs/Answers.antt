@@ -16,15 +16,19 @@ abbrev pub is_return : {S : Type 0} → Event S → Bool
 is_return (Resume k c s) = true
 is_return _ = false
 
--- the answers that are left of those given, after these events: each return from a wait took the first that was ready for it, and where
+-- the answers that are left of those given, after these events: each return from a wait took the first that was ready
+-- for it, and where
 -- it was called the first at rest
 pub data IsLeft {S : Type 0} (rest : Rest S) (ready : Ready S) (given : List S) : List (Event S) → List S → Type 0 where
   at_first : IsLeft rest ready given [] given
-  untouched : {h : List (Event S)} {left : List S} → (e : Event S) → is_return e ≡ false → IsLeft rest ready given h left
+  untouched : {h : List (Event S)} {left : List S} → (e : Event S) → is_return e ≡ false
+      → IsLeft rest ready given h left
       → IsLeft rest ready given (h ++ e ∷ []) left
-  took : {h : List (Event S)} {answers left : List S} → (c p : ℕ) → (s a : S) → FirstReady (λ d. ready c p d nobody) answers a left
+  took : {h : List (Event S)} {answers left : List S} → (c p : ℕ) → (s a : S)
+      → FirstReady (λ d. ready c p d nobody) answers a left
       → IsLeft rest ready given h answers
       → IsLeft rest ready given ((((h ++ Wait 0 c p s ∷ []) ++ Admit 1 s ∷ []) ++ Pass 1 c 0 a ∷ []) ++ Resume 0 c a ∷ []) left
-  took_called : {h : List (Event S)} {answers left : List S} → (c p : ℕ) → (s a : S) → FirstReady (λ d. rest d nobody) answers a left
+  took_called : {h : List (Event S)} {answers left : List S} → (c p : ℕ) → (s a : S)
+      → FirstReady (λ d. rest d nobody) answers a left
       → IsLeft rest ready given h answers
       → IsLeft rest ready given (((((h ++ Wait 0 c p s ∷ []) ++ Admit 1 s ∷ []) ++ Notify 1 c 0 a ∷ []) ++ Leave 1 a ∷ []) ++ Resume 0 c a ∷ []) left

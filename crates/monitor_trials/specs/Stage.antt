@@ -1,4 +1,5 @@
--- What the one place of a fake monitor knows. Its history has two places: its own, 0, and 1, in whose name the answers come.
+-- What the one place of a fake monitor knows. Its history has two places: its own, 0, and 1, in whose name the answers
+-- come.
 use Rattle.std.specs.Prelude.{ℕ, List, [], ◌≡◌, Bool, true, false}
 use Rattle.hoare_law.specs.declared.event.Event.{Event}
 use Rattle.hoare_law.specs.declared.event.History.{History}
@@ -34,9 +35,11 @@ abbrev pub none_wait : {S : Type 0} → ℕ → List (Event S)
 none_wait c = []
 
 module _ {S : Type 0} (rest : Rest S) (ready : Ready S) (conditions mesa : ℕ) where
-  -- h is legal and lawful; it is this turn; these were the data; these wait, these are called, and no signaller waits; places 0 and 1
+  -- h is legal and lawful; it is this turn; these were the data; these wait, these are called, and no signaller waits;
+  -- places 0 and 1
   -- are outside or not
-  pub record Stage (now : Turn) (s : S) (waits : ℕ → List (Event S)) (calls : List (Event S)) (first second : Bool) (h : History S) : Type 0 where
+  pub record Stage (now : Turn) (s : S) (waits : ℕ → List (Event S)) (calls : List (Event S)) (first second : Bool)
+      (h : History S) : Type 0 where
     pub stands : Stands rest ready h
     pub sized : h.sizes ≡ sizes_of conditions mesa 2
     pub turn_is : turn h.events ≡ now

@@ -1,11 +1,13 @@
--- What a buffer keeps of those that wait, as an item goes in or comes out. The lists after the change are those before it: `same`.
+-- What a buffer keeps of those that wait, as an item goes in or comes out. The lists after the change are those before
+-- it: `same`.
 use Rattle.std.proofs.Common.{◌≡◌, ◌≢◌, ℕ, ◌∷◌, List, [], length, length-append, ap, arith}
 use Rattle.hoare_law.specs.Priorities.{behind_first}
 use Rattle.plain_schedulers.specs.Buffers.{Buffered, BufferRests, ReadyNonempty, ReadyNonfull, added, with_items}
 
 module _ {T : Type 0} {b : Buffered T} where
   -- who needn't wait finds what one finds that waited
-  pub ReadyNonfull-at_once : {takers putters : List ℕ} → BufferRests b takers putters → (length b.items ≡ b.size → ⊥) → ReadyNonfull b takers putters
+  pub ReadyNonfull-at_once : {takers putters : List ℕ} → BufferRests b takers putters → (length b.items ≡ b.size → ⊥)
+      → ReadyNonfull b takers putters
   ReadyNonfull-at_once rests room = record {
     inv = rests.inv;
     room = omega (arith, rests.inv.fits, room);
@@ -13,7 +15,8 @@ module _ {T : Type 0} {b : Buffered T} where
     nonempty = rests.nonempty;
   }
 
-  pub ReadyNonempty-at_once : {takers putters : List ℕ} → BufferRests b takers putters → (length b.items ≡ 0 → ⊥) → ReadyNonempty b takers putters
+  pub ReadyNonempty-at_once : {takers putters : List ℕ} → BufferRests b takers putters → (length b.items ≡ 0 → ⊥)
+      → ReadyNonempty b takers putters
   ReadyNonempty-at_once rests some = record {
     inv = rests.inv;
     some = omega (arith, some);
@@ -23,7 +26,8 @@ module _ {T : Type 0} {b : Buffered T} where
 
 module _ {T : Type 0} {b d : Buffered T} {q q1 : ℕ → List ℕ} where
   -- an item was put in: who waits for one may go on, and where nobody does rest holds
-  pub ReadyNonempty-added : (x : T) → ReadyNonfull b (q 0) (q 1) → d ≡ added b x → q1 ≡ q → q1 0 ≢ [] → ReadyNonempty d (behind_first (q1 0)) (q1 1)
+  pub ReadyNonempty-added : (x : T) → ReadyNonfull b (q 0) (q 1) → d ≡ added b x → q1 ≡ q → q1 0 ≢ []
+      → ReadyNonempty d (behind_first (q1 0)) (q1 1)
   ReadyNonempty-added x ready is same waits =
       let one_more = length-append b.items (x ∷ []) in
       let none = ready.nonempty (rw same at waits) in
@@ -34,7 +38,8 @@ module _ {T : Type 0} {b d : Buffered T} {q q1 : ℕ → List ℕ} where
         nonfull = λ others. omega (arith, one_more, ready.others others, ready.inv.least);
       })
 
-  pub BufferRests-added : (x : T) → ReadyNonfull b (q 0) (q 1) → d ≡ added b x → q1 ≡ q → q1 0 ≡ [] → BufferRests d (q1 0) (q1 1)
+  pub BufferRests-added : (x : T) → ReadyNonfull b (q 0) (q 1) → d ≡ added b x → q1 ≡ q → q1 0 ≡ []
+      → BufferRests d (q1 0) (q1 1)
   BufferRests-added x ready is same nobody =
       let one_more = length-append b.items (x ∷ []) in
       rw is (record {
@@ -44,7 +49,8 @@ module _ {T : Type 0} {b d : Buffered T} {q q1 : ℕ → List ℕ} where
       })
 
   -- an item was taken out, and e is left: who waits for room may go on, and where nobody does rest holds
-  pub ReadyNonfull-removed : {e : Buffered T} {x : T} → ReadyNonempty b (q 0) (q 1) → b.items ≡ x ∷ e.items → e.size ≡ b.size → d ≡ e → q1 ≡ q
+  pub ReadyNonfull-removed : {e : Buffered T} {x : T} → ReadyNonempty b (q 0) (q 1) → b.items ≡ x ∷ e.items
+      → e.size ≡ b.size → d ≡ e → q1 ≡ q
       → q1 1 ≢ [] → ReadyNonfull d (q1 0) (behind_first (q1 1))
   ReadyNonfull-removed ready items size is same waits =
       let one_less = ap length items in
@@ -56,7 +62,8 @@ module _ {T : Type 0} {b d : Buffered T} {q q1 : ℕ → List ℕ} where
         nonempty = λ others. omega (arith, one_less, ready.others others);
       })
 
-  pub BufferRests-removed : {e : Buffered T} {x : T} → ReadyNonempty b (q 0) (q 1) → b.items ≡ x ∷ e.items → e.size ≡ b.size → d ≡ e → q1 ≡ q
+  pub BufferRests-removed : {e : Buffered T} {x : T} → ReadyNonempty b (q 0) (q 1) → b.items ≡ x ∷ e.items
+      → e.size ≡ b.size → d ≡ e → q1 ≡ q
       → q1 1 ≡ [] → BufferRests d (q1 0) (q1 1)
   BufferRests-removed ready items size is same nobody =
       let one_less = ap length items in

@@ -8,13 +8,15 @@ use Rattle.plain_schedulers.specs.MesaTraces.{Rounds, again, Tells}
 
 module _ {S : Type 0} {k k1 c : ℕ} {f g h : History S} {found now : S} where
   -- one more wait
-  pub Rounds-again : {held_up : S → Type 0} → Rounds k c held_up f g found → held_up found → AddsTwo g (Wait k1 c 0 found) (Resume k1 c now) h → k1 ≡ k
+  pub Rounds-again : {held_up : S → Type 0} → Rounds k c held_up f g found → held_up found
+      → AddsTwo g (Wait k1 c 0 found) (Resume k1 c now) h → k1 ≡ k
       → Rounds k c held_up f h now
   Rounds-again waited held adds place = again g h found now waited held (rw place at adds)
 
 module _ {S : Type 0} {k k1 k2 c : ℕ} {s s1 s2 : S} {f f1 g h : History S} {b : Bool} where
   -- a call, and then a leave
-  pub Tells-leave : Notifies k1 c s1 f1 g b → k1 ≡ k → s1 ≡ s → f1 ≡ f → h ≡ with_event g (Leave k2 s2) → k2 ≡ k → s2 ≡ s → Tells k c s f h
+  pub Tells-leave : Notifies k1 c s1 f1 g b → k1 ≡ k → s1 ≡ s → f1 ≡ f → h ≡ with_event g (Leave k2 s2) → k2 ≡ k
+      → s2 ≡ s → Tells k c s f h
   Tells-leave notifies place state front leaves placed kept = record {
     told = b;
     front = g;

@@ -1,12 +1,15 @@
 -- Lemmas about the cells of a buffer, which lie in a ring.
 use Rattle.std.proofs.Common.{ap, refl, ◌∙◌, ℕ, zero, suc, ◌+◌, ◌-◌, ◌%◌, ◌<◌, ◌≤◌, ◌⊎◌, inl, inr, List, []}
-use Rattle.std.proofs.Common.{◌∷◌, ◌++◌, length, get_or, set, take, drop, map, replicate, ◌≡◌, ◌≢◌, Option, Some, None, append_assoc, arith, length-append}
+use Rattle.std.proofs.Common.{◌∷◌, ◌++◌, length, get_or, set, take, drop, map, replicate, ◌≡◌, ◌≢◌, Option, Some, None}
+use Rattle.std.proofs.Common.{append_assoc, arith, length-append}
 use Rattle.std.proofs.Math.Nat.{mod-eq_of_lt, mod-eq-sub-mod}
 use Rattle.std.proofs.Math.Seq.{take-set-lt}
 use Rattle.std.proofs.lemmas.Bool.{cases_lt}
-use Rattle.std.proofs.lemmas.List.{append-nil, length-set, length-take, length-drop, length-map, length-replicate, map-append, set_split, drop_all, drop-drop, drop-append-le, drop-set-lt}
+use Rattle.std.proofs.lemmas.List.{append-nil, length-set, length-take, length-drop, length-map, length-replicate}
+use Rattle.std.proofs.lemmas.List.{map-append, set_split, drop_all, drop-drop, drop-append-le, drop-set-lt}
 use Rattle.std.proofs.lemmas.List.{drop-set-add, take-set-le, take_more_set, set-append_left, set-append_right, set_at}
-use Rattle.std.proofs.lemmas.List.{get_or-append_right, get_or_append_left, get_or-take, get_or-drop, get_or_at, replicate_more}
+use Rattle.std.proofs.lemmas.List.{get_or-append_right, get_or_append_left, get_or-take, get_or-drop, get_or_at}
+use Rattle.std.proofs.lemmas.List.{replicate_more}
 use Rattle.plain_schedulers.specs.Buffers.{BufferHolds, BufferRests, added, empty}
 use Rattle.hoare_law.specs.Priorities.{nobody}
 use Rattle.plain_schedulers.specs.Ring.{items_in, turned, ring_view, IsRing}
@@ -19,11 +22,14 @@ mod_wraps a n once = elim (cases_lt a n) [
 ]
 
 -- turned cells are as many
-length-turned : {T : Type 0} (last : ℕ) (cells : List (Option T)) → last < length cells → length (turned last cells) ≡ length cells
-length-turned last cells within = omega (arith, length-append (drop last cells) (take last cells), length-drop last cells, length-take last cells)
+length-turned : {T : Type 0} (last : ℕ) (cells : List (Option T)) → last < length cells
+    → length (turned last cells) ≡ length cells
+length-turned last cells within =
+    omega (arith, length-append (drop last cells) (take last cells), length-drop last cells, length-take last cells)
 
 -- from the next cell on, the cell that was written is the last
-turned-next : {T : Type 0} (last : ℕ) (cells : List (Option T)) (x : Option T) → last < length cells → turned ((last + 1) % length cells) (set cells last x) ≡ drop 1 (turned last cells) ++ x ∷ []
+turned-next : {T : Type 0} (last : ℕ) (cells : List (Option T)) (x : Option T) → last < length cells
+    → turned ((last + 1) % length cells) (set cells last x) ≡ drop 1 (turned last cells) ++ x ∷ []
 turned-next last cells x within = elim (mod_wraps (last + 1) (length cells) (omega arith)) [
   | inl below ↦ rw (
     below.1,
@@ -49,7 +55,8 @@ turned-next last cells x within = elim (mod_wraps (last + 1) (length cells) (ome
 ]
 
 -- the i-th of the turned cells is the cell i places on from the first of them
-get_or-turned : {T : Type 0} (last : ℕ) (cells : List (Option T)) (i : ℕ) (d : Option T) → last < length cells → i < length cells
+get_or-turned : {T : Type 0} (last : ℕ) (cells : List (Option T)) (i : ℕ) (d : Option T) → last < length cells
+    → i < length cells
     → get_or (turned last cells) i d ≡ get_or cells ((last + i) % length cells) d
 get_or-turned last cells i d within below = elim (mod_wraps (last + i) (length cells) (omega arith)) [
   | inl low ↦ rw (low.1, get_or_append_left (drop last cells) (take last cells) d i (omega (arith, length-drop last cells)), get_or-drop last cells i d) refl
@@ -57,14 +64,16 @@ get_or-turned last cells i d within below = elim (mod_wraps (last + i) (length c
       let at : (last + i) % length cells ≡ i - (length cells - last) = omega arith in
       rw (
         at,
-        get_or-append_right (drop last cells) (take last cells) (length cells - last) i d (length-drop last cells) (omega arith),
+        get_or-append_right (drop last cells) (take last cells) (length cells - last) i d (length-drop last cells)
+            (omega arith),
         get_or-take last cells
             (i - (length cells - last)) d (omega arith),
       ) refl
 ]
 
 -- a write i places on from the first of the turned cells is a write of the i-th
-turned-set : {T : Type 0} (last : ℕ) (cells : List (Option T)) (i : ℕ) (x : Option T) → last < length cells → i < length cells
+turned-set : {T : Type 0} (last : ℕ) (cells : List (Option T)) (i : ℕ) (x : Option T) → last < length cells
+    → i < length cells
     → turned last (set cells ((last + i) % length cells) x) ≡ set (turned last cells) i x
 turned-set last cells i x within below = elim (mod_wraps (last + i) (length cells) (omega arith)) [
   | inl low ↦ rw (
@@ -87,7 +96,9 @@ turned-set last cells i x within below = elim (mod_wraps (last + i) (length cell
 
 -- n empty cells and then these items: how many they are together
 length-filled : {T : Type 0} (n : ℕ) (xs : List T) → length (replicate n None ++ map Some xs) ≡ n + length xs
-length-filled {T = T} n xs = let none : Option T = None in length-append (replicate n none) (map Some xs) ∙ rw (length-replicate n none, length-map xs Some) refl
+length-filled {T = T} n xs =
+    let none : Option T = None in
+    length-append (replicate n none) (map Some xs) ∙ rw (length-replicate n none, length-map xs Some) refl
 
 -- the items in cells of which the last ones, and no others, hold items
 items_in-filled : {T : Type 0} (n : ℕ) (xs : List T) → items_in (replicate n None ++ map Some xs) ≡ xs
@@ -96,20 +107,26 @@ items_in-filled {T = T} zero (x ∷ xs) = ap (λ (l : List T). x ∷ l) (items_i
 items_in-filled (suc n) xs = items_in-filled n xs
 
 -- cells in a ring hold as many items as are counted
-pub length-items_in : {T : Type 0} {cells : List (Option T)} {last count : ℕ} → IsRing cells last count → length (items_in (turned last cells)) ≡ count
+pub length-items_in : {T : Type 0} {cells : List (Option T)} {last count : ℕ} → IsRing cells last count
+    → length (items_in (turned last cells)) ≡ count
 length-items_in {cells = cells} {last = last} {count = count} ring =
-    omega (arith, ap length ring.filled, length-turned last cells ring.last_within, length-filled (length cells - count) (items_in (turned last cells)))
+    omega
+    (arith, ap length ring.filled, length-turned last cells ring.last_within, length-filled (length cells - count) (items_in (turned last cells)))
 
 -- cells in a ring are those of a buffer: 1 to 4096, and no more items than cells
-pub BufferHolds-ring : {T : Type 0} {cells : List (Option T)} {last count : ℕ} → IsRing cells last count → BufferHolds (ring_view cells last)
-BufferHolds-ring ring = record { least = ring.least; most = ring.most; fits = let n = length-items_in ring in omega arith }
+pub BufferHolds-ring : {T : Type 0} {cells : List (Option T)} {last count : ℕ} → IsRing cells last count
+    → BufferHolds (ring_view cells last)
+BufferHolds-ring ring =
+    record { least = ring.least; most = ring.most; fits = let n = length-items_in ring in omega arith }
 
 -- cells whose turned list is n empty ones and then these items are in a ring
-IsRing-filled : {T : Type 0} (cells : List (Option T)) (last n : ℕ) (xs : List T) → 1 ≤ length cells → length cells ≤ 4096 → last < length cells
+IsRing-filled : {T : Type 0} (cells : List (Option T)) (last n : ℕ) (xs : List T) → 1 ≤ length cells
+    → length cells ≤ 4096 → last < length cells
     → turned last cells ≡ replicate n None ++ map Some xs → IsRing cells last (length xs)
 IsRing-filled {T = T} cells last n xs least most within filled =
     let items : items_in (turned last cells) ≡ xs = ap items_in filled ∙ items_in-filled n xs in
-    let all : n + length xs ≡ length cells = omega (arith, ap length filled, length-turned last cells within, length-filled n xs) in
+    let all : n + length xs ≡ length cells =
+    omega (arith, ap length filled, length-turned last cells within, length-filled n xs) in
     let free : length cells - length xs ≡ n = omega arith in
     record {
       least = least;
@@ -120,18 +137,21 @@ IsRing-filled {T = T} cells last n xs least most within filled =
     }
 
 -- empty cells are in a ring, from the first on
-pub IsRing-none : {T : Type 0} {cells : List (Option T)} {n : ℕ} → cells ≡ replicate n None → 1 ≤ n → n ≤ 4096 → IsRing cells 0 0
+pub IsRing-none : {T : Type 0} {cells : List (Option T)} {n : ℕ} → cells ≡ replicate n None → 1 ≤ n → n ≤ 4096
+    → IsRing cells 0 0
 IsRing-none {T = T} {cells = cells} {n = n} none least most =
     let vacant : Option T = None in
     let size : length cells ≡ n = ap length none ∙ length-replicate n vacant in
     IsRing-filled cells 0 n [] (omega arith) (omega arith) (omega arith) (ap (λ (l : List (Option T)). l ++ []) none)
 
 -- empty cells are a buffer with no item
-pub ring_view-none : {T : Type 0} {cells : List (Option T)} {n : ℕ} → cells ≡ replicate n None → ring_view cells 0 ≡ empty n
+pub ring_view-none : {T : Type 0} {cells : List (Option T)} {n : ℕ} → cells ≡ replicate n None
+    → ring_view cells 0 ≡ empty n
 ring_view-none {T = T} {cells = cells} {n = n} none =
     let vacant : Option T = None in
     let size : length cells ≡ n = ap length none ∙ length-replicate n vacant in
-    let items : items_in (cells ++ []) ≡ [] = ap (λ (l : List (Option T)). items_in (l ++ [])) none ∙ items_in-filled n [] in
+    let items : items_in (cells ++ []) ≡ [] =
+    ap (λ (l : List (Option T)). items_in (l ++ [])) none ∙ items_in-filled n [] in
     rw (size, items) refl
 
 -- rest holds of a buffer with no item and nobody waiting
@@ -143,33 +163,40 @@ BufferRests-empty n least most = record {
 }
 
 -- an item written in the last cell, from the next cell on
-filled-push : {T : Type 0} {cells : List (Option T)} {last count : ℕ} (x : T) → IsRing cells last count → count < length cells
+filled-push : {T : Type 0} {cells : List (Option T)} {last count : ℕ} (x : T) → IsRing cells last count
+    → count < length cells
     → turned ((last + 1) % length cells) (set cells last (Some x)) ≡ replicate (length cells - count - 1) None ++ map Some (items_in (turned last cells) ++ x ∷ [])
 filled-push {T = T} {cells = cells} {last = last} {count = count} x ring room =
     let items = items_in (turned last cells) in
     let free : length cells - count ≡ suc (length cells - count - 1) = omega arith in
-    let before : turned last cells ≡ None ∷ (replicate (length cells - count - 1) None ++ map Some items) = rw free at ring.filled in
+    let before : turned last cells ≡ None ∷ (replicate (length cells - count - 1) None ++ map Some items) =
+    rw free at ring.filled in
     turned-next last cells (Some x) ring.last_within ∙ ap (λ (l : List (Option T)). drop 1 l ++ Some x ∷ []) before ∙ rw
     (map-append Some items (x ∷ []), append_assoc (replicate (length cells - count - 1) None) (map Some items) (Some x ∷ [])) refl
 
 -- after an item is written in the last cell, the cells are in a ring with the next one as the last
-pub IsRing-push : {T : Type 0} {cells : List (Option T)} {last count n : ℕ} (x : T) → IsRing cells last count → length (items_in (turned last cells)) < length cells
+pub IsRing-push : {T : Type 0} {cells : List (Option T)} {last count n : ℕ} (x : T) → IsRing cells last count
+    → length (items_in (turned last cells)) < length cells
     → n ≡ length cells → IsRing (set cells last (Some x)) ((last + 1) % n) (count + 1)
 IsRing-push {cells = cells} {last = last} {count = count} x ring room size =
     let few = length-items_in ring in
     let same = length-set cells last (Some x) in
     let items = items_in (turned last cells) in
-    let more : length (items ++ x ∷ []) ≡ count + 1 = omega (arith, length-append items (x ∷ []), length-items_in ring) in
-    rw size (rw more at (IsRing-filled (set cells last (Some x)) ((last + 1) % length cells) (length cells - count - 1) (items ++ x ∷ []) (omega arith) (omega arith)
+    let more : length (items ++ x ∷ []) ≡ count + 1 =
+    omega (arith, length-append items (x ∷ []), length-items_in ring) in
+    rw size
+    (rw more at (IsRing-filled (set cells last (Some x)) ((last + 1) % length cells) (length cells - count - 1) (items ++ x ∷ []) (omega arith) (omega arith)
     (omega arith) (filled-push x ring (omega arith))))
 
 -- an item written in the last cell is the newest
-pub added-ring : {T : Type 0} {cells : List (Option T)} {last count n : ℕ} (x : T) → IsRing cells last count → length (items_in (turned last cells)) < length cells
+pub added-ring : {T : Type 0} {cells : List (Option T)} {last count n : ℕ} (x : T) → IsRing cells last count
+    → length (items_in (turned last cells)) < length cells
     → n ≡ length cells → ring_view (set cells last (Some x)) ((last + 1) % n) ≡ added (ring_view cells last) x
 added-ring {cells = cells} {last = last} {count = count} x ring room size =
     let few = length-items_in ring in
     let items : items_in (turned ((last + 1) % length cells) (set cells last (Some x))) ≡ items_in (turned last cells) ++ x ∷ [] = ap items_in
-    (filled-push x ring (omega arith)) ∙ items_in-filled (length cells - count - 1) (items_in (turned last cells) ++ x ∷ []) in
+    (filled-push x ring (omega arith))
+    ∙ items_in-filled (length cells - count - 1) (items_in (turned last cells) ++ x ∷ []) in
     rw (size, items, length-set cells last (Some x)) refl
 
 -- the oldest item and its cell, and the turned cells once it is emptied
@@ -181,7 +208,8 @@ record Oldest {T : Type 0} (cells : List (Option T)) (last count at : ℕ) : Typ
   after : turned last (set cells at None) ≡ replicate (length cells - count + 1) None ++ map Some others
 
 -- where an item is in, the oldest is in the cell count places before the last, around the end
-Oldest-ring : {T : Type 0} {cells : List (Option T)} {last count : ℕ} → IsRing cells last count → 0 < count → Oldest cells last count ((last + length cells - count) % length cells)
+Oldest-ring : {T : Type 0} {cells : List (Option T)} {last count : ℕ} → IsRing cells last count → 0 < count
+    → Oldest cells last count ((last + length cells - count) % length cells)
 Oldest-ring {T = T} {cells = cells} {last = last} {count = count} ring some =
     let n = length cells - count in
     let place : last + length cells - count ≡ last + n = omega arith in
@@ -208,7 +236,8 @@ Oldest-ring {T = T} {cells = cells} {last = last} {count = count} ring some =
     ] refl
 
 -- the cell count places before the last, around the end, isn't empty
-pub oldest_is_in : {T : Type 0} {cells : List (Option T)} {last count n : ℕ} {a : Option T} → IsRing cells last count → 0 < length (items_in (turned last cells))
+pub oldest_is_in : {T : Type 0} {cells : List (Option T)} {last count n : ℕ} {a : Option T} → IsRing cells last count
+    → 0 < length (items_in (turned last cells))
     → n ≡ length cells → a ≡ get_or cells ((last + n - count) % n) a → a ≢ None
 oldest_is_in {cells = cells} {last = last} {count = count} {a = a} ring some size read none =
     let few = length-items_in ring in
@@ -219,7 +248,8 @@ oldest_is_in {cells = cells} {last = last} {count = count} {a = a} ring some siz
     cc
 
 -- the item in that cell is the oldest, and once it is taken out the others are left
-pub items_in-pop : {T : Type 0} {cells : List (Option T)} {last count n : ℕ} {a : Option T} (x : T) → IsRing cells last count → 0 < length (items_in (turned last cells))
+pub items_in-pop : {T : Type 0} {cells : List (Option T)} {last count n : ℕ} {a : Option T} (x : T)
+    → IsRing cells last count → 0 < length (items_in (turned last cells))
     → n ≡ length cells → a ≡ get_or cells ((last + n - count) % n) a → a ≡ Some x
     → items_in (turned last cells) ≡ x ∷ items_in (turned last (set cells ((last + n - count) % n) None))
 items_in-pop {cells = cells} {last = last} {count = count} {a = a} x ring some size read is =
@@ -231,7 +261,8 @@ items_in-pop {cells = cells} {last = last} {count = count} {a = a} x ring some s
     rw (size, same, ap items_in o.after, items_in-filled (length cells - count + 1) o.others) o.items
 
 -- once it is taken out, the cells are in a ring with one item fewer
-pub IsRing-pop : {T : Type 0} {cells : List (Option T)} {last count n : ℕ} → IsRing cells last count → 0 < length (items_in (turned last cells)) → n ≡ length cells
+pub IsRing-pop : {T : Type 0} {cells : List (Option T)} {last count n : ℕ} → IsRing cells last count
+    → 0 < length (items_in (turned last cells)) → n ≡ length cells
     → IsRing (set cells ((last + n - count) % n) None) last (count - 1)
 IsRing-pop {cells = cells} {last = last} {count = count} ring some size =
     let few = length-items_in ring in
@@ -239,4 +270,5 @@ IsRing-pop {cells = cells} {last = last} {count = count} ring some size =
     let at = (last + length cells - count) % length cells in
     let same = length-set cells at None in
     let fewer : length o.others ≡ count - 1 = omega (arith, ap length o.items) in
-    rw size (rw fewer at (IsRing-filled (set cells at None) last (length cells - count + 1) o.others (omega arith) (omega arith) (omega arith) o.after))
+    rw size
+    (rw fewer at (IsRing-filled (set cells at None) last (length cells - count + 1) o.others (omega arith) (omega arith) (omega arith) o.after))

@@ -4,7 +4,8 @@ use Rattle.hoare_law.specs.declared.event.History.{History}
 use Rattle.hoare_law.specs.Growth.{ComesTo, Finishes}
 use Rattle.plain_schedulers.specs.Buffers.{Buffered, added, with_items}
 
--- k put x in as the newest, after a wait on nonfull where there was no room, and resumed a process that waits on nonempty
+-- k put x in as the newest, after a wait on nonfull where there was no room, and resumed a process that waits on
+-- nonempty
 pub record Appends {T : Type 0} (k : ℕ) (x : T) (f h : History (Buffered T)) : Type 0 where
   pub found : Buffered T
   pub front : History (Buffered T)

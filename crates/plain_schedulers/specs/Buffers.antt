@@ -59,6 +59,7 @@ pub data Makes {T : Type 0} (n : ℕ) : Result (Buffered T) BufferRefused → Ty
   made : 1 ≤ n → n ≤ 4096 → Makes n (Ok (empty n))
 
 -- ready holds of nothing of which what always holds does not
-pub inv_of_ready : {T : Type 0} (c : ℕ) (b : Buffered T) (takers putters : List ℕ) → BufferReady c b takers putters → BufferHolds b
+pub inv_of_ready : {T : Type 0} (c : ℕ) (b : Buffered T) (takers putters : List ℕ) → BufferReady c b takers putters
+    → BufferHolds b
 inv_of_ready zero b takers putters h = h.inv
 inv_of_ready (suc c) b takers putters h = h.inv

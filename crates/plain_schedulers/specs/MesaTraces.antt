@@ -19,7 +19,8 @@ pub record Tells {S : Type 0} (k c : ℕ) (s : S) (f h : History S) : Type 0 whe
   pub notifies : Notifies k c s f front told
   pub leaves : h ≡ with_event front (Leave k s)
 
--- k put x in as the newest, after as many waits on nonfull as it found no room, and called a process that waits on nonempty
+-- k put x in as the newest, after as many waits on nonfull as it found no room, and called a process that waits on
+-- nonempty
 pub record MesaAppends {T : Type 0} (k : ℕ) (x : T) (f h : History (Buffered T)) : Type 0 where
   pub found : Buffered T
   pub front : History (Buffered T)
@@ -27,7 +28,8 @@ pub record MesaAppends {T : Type 0} (k : ℕ) (x : T) (f h : History (Buffered T
   pub room : length found.items < found.size
   pub tells : Tells k 0 (added found x) front h
 
--- k took out x, the oldest, after as many waits on nonempty as it found none, and called a process that waits on nonfull
+-- k took out x, the oldest, after as many waits on nonempty as it found none, and called a process that waits on
+-- nonfull
 pub record MesaRemoves {T : Type 0} (k : ℕ) (x : T) (f h : History (Buffered T)) : Type 0 where
   pub found : Buffered T
   pub others : List T

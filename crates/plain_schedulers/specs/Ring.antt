@@ -1,5 +1,6 @@
 -- The cells of a buffer, in a ring.
-use Rattle.std.specs.Prelude.{ℕ, ◌-◌, ◌<◌, ◌≤◌, List, [], ◌∷◌, ◌++◌, length, take, drop, map, replicate, ◌≡◌, Option, Some, None}
+use Rattle.std.specs.Prelude.{ℕ, ◌-◌, ◌<◌, ◌≤◌, List, [], ◌∷◌, ◌++◌, length, take, drop, map, replicate, ◌≡◌, Option}
+use Rattle.std.specs.Prelude.{Some, None}
 use Rattle.plain_schedulers.specs.Buffers.{Buffered}
 
 -- the items that lie in the cells

@@ -15,7 +15,8 @@ pub record Acquires {T : Type 0} (k : ℕ) (item : T) (f h : History (Option T))
   pub leaves : h ≡ with_event front (Leave k None)
 
 -- k put the item in and resumed a process that waits on nonbusy, or was refused and has the item back
-pub data Releases {T : Type 0} (k : ℕ) (item : T) (f h : History (Option T)) : Result (Unit {0}) (NotOut T) → Type 0 where
+pub data Releases {T : Type 0} (k : ℕ) (item : T) (f h : History (Option T)) : Result (Unit {0})
+    (NotOut T) → Type 0 where
   put_in : (a : Option T) (g : History (Option T)) → AddsLast f (Admit k a) g → a ≡ None
       → Finishes k 0 (Some item) g h → Releases k item f h (Ok tt)
   refused : (a : Option T) (g : History (Option T)) → AddsLast f (Admit k a) g → IsSome a

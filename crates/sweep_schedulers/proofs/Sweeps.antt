@@ -1,5 +1,6 @@
 -- What a disk head keeps of its waiting requests: as one joins, as one is granted, and as the head is handed on.
-use Rattle.std.proofs.Common.{◌≡◌, ◌≢◌, ℕ, ◌-◌, ◌<◌, ◌≤◌, List, [], ◌∷◌, Bool, true, false, cond, leb, None, refl, arith}
+use Rattle.std.proofs.Common.{◌≡◌, ◌≢◌, ℕ, ◌-◌, ◌<◌, ◌≤◌, List, [], ◌∷◌, Bool, true, false, cond, leb, None, refl}
+use Rattle.std.proofs.Common.{arith}
 use Rattle.std.specs.Prelude.{slice_index}
 use Rattle.std.specs.List.Sorted.{IsNonDecreasing}
 use Rattle.std.proofs.lemmas.Bool.Decides.{nat_tests}
@@ -12,7 +13,8 @@ use Rattle.hoare_law.specs.Priorities.{joined, taken}
 use Rattle.hoare_law.proofs.Sorted.{All-put_in, All-behind_first}
 use Rattle.sweep_schedulers.specs.declared.direction.Direction.{Direction}
 use Rattle.sweep_schedulers.specs.declared.direction.Direction.TheVariants.{Up, Down}
-use Rattle.sweep_schedulers.specs.Heads.{Disk, sweep, opposite, turned, sent, toward, priority_at, HeadRests, HeadReady, HeadFree}
+use Rattle.sweep_schedulers.specs.Heads.{Disk, sweep, opposite, turned, sent, toward, priority_at, HeadRests, HeadReady}
+use Rattle.sweep_schedulers.specs.Heads.{HeadFree}
 use Rattle.sweep_schedulers.specs.HeadTraces.{Reaches, waited, HandsOn}
 use Rattle.sweep_schedulers.proofs.Lists.{All-others, All-first}
 
@@ -34,7 +36,8 @@ toward_ahead d dest = ahead_by d dest (leb d.headpos dest) (leb dest d.headpos) 
 
 module _ {T : Type 0} {d : Disk T} (lists : ℕ → List ℕ) where
   -- one more waits, for a cylinder before the head
-  rests_by : (dir : Direction) (dest : ℕ) → IsAhead d dir dest → dest ≤ d.cylmax → d.drive ≡ None → HeadRests d (lists 0) (lists 1)
+  rests_by : (dir : Direction) (dest : ℕ) → IsAhead d dir dest → dest ≤ d.cylmax → d.drive ≡ None
+      → HeadRests d (lists 0) (lists 1)
       → HeadRests d (joined lists (sweep dir) (priority_at d.cylmax dir dest) 0) (joined lists (sweep dir) (priority_at d.cylmax dir dest) 1)
   rests_by Up dest ahead on busy r = record {
     inv = r.inv;
@@ -60,7 +63,8 @@ module _ {T : Type 0} {d : Disk T} (lists : ℕ → List ℕ) where
   }
 
   -- a request joins the sweep that reaches its cylinder
-  pub HeadRests-joined : {d1 : Disk T} {c p dest : ℕ} → HeadRests d (lists 0) (lists 1) → d.drive ≡ None → dest ≤ d.cylmax → d1 ≡ d → c ≡ sweep (toward dest d1)
+  pub HeadRests-joined : {d1 : Disk T} {c p dest : ℕ} → HeadRests d (lists 0) (lists 1) → d.drive ≡ None
+      → dest ≤ d.cylmax → d1 ≡ d → c ≡ sweep (toward dest d1)
       → p ≡ priority_at d1.cylmax (toward dest d1) dest → HeadRests d (joined lists c p 0) (joined lists c p 1)
   HeadRests-joined {c = c} {p = p} {dest = dest} r busy on same to with =
       let sweeps : c ≡ sweep (toward dest d) = rw same at to in
@@ -68,7 +72,8 @@ module _ {T : Type 0} {d : Disk T} (lists : ℕ → List ℕ) where
       rw (sweeps, urgent) (rests_by (toward dest d) dest (toward_ahead d dest) on busy r)
 
   -- with the drive in, the first of the present sweep may go on
-  first_by : (dir : Direction) → d.direction ≡ dir → ((i : ℕ) → IsNonDecreasing (lists i)) → lists (sweep dir) ≢ [] → HeadFree d (lists 0) (lists 1)
+  first_by : (dir : Direction) → d.direction ≡ dir → ((i : ℕ) → IsNonDecreasing (lists i)) → lists (sweep dir) ≢ []
+      → HeadFree d (lists 0) (lists 1)
       → HeadReady (sweep dir) (slice_index (lists (sweep dir)) 0) d (taken lists (sweep dir) 0) (taken lists (sweep dir) 1)
   first_by Up is rise some f = record {
     free = record {
@@ -103,7 +108,8 @@ module _ {T : Type 0} {d : Disk T} (lists : ℕ → List ℕ) where
     below = All-first (λ p. d.cylmax - p ≤ d.headpos) (lists 1) some f.sweeps.below;
   }
 
-  pub HeadReady-first : {d1 : Disk T} {c : ℕ} → HeadFree d (lists 0) (lists 1) → ((i : ℕ) → IsNonDecreasing (lists i)) → d1 ≡ d
+  pub HeadReady-first : {d1 : Disk T} {c : ℕ} → HeadFree d (lists 0) (lists 1) → ((i : ℕ) → IsNonDecreasing (lists i))
+      → d1 ≡ d
       → c ≡ sweep d1.direction → lists c ≢ []
       → HeadReady c (slice_index (lists c) 0) d (taken lists c 0) (taken lists c 1)
   HeadReady-first {c = c} f rise same is some =
@@ -111,13 +117,17 @@ module _ {T : Type 0} {d : Disk T} (lists : ℕ → List ℕ) where
       rw on (first_by d.direction refl rise (rw on at some) f)
 
   -- with the drive in, rest holds where nobody waits for either sweep
-  pub HeadRests-nobody : (dir : Direction) → lists (sweep dir) ≡ [] → lists (sweep (opposite dir)) ≡ [] → HeadFree d (lists 0) (lists 1)
+  pub HeadRests-nobody : (dir : Direction) → lists (sweep dir) ≡ [] → lists (sweep (opposite dir)) ≡ []
+      → HeadFree d (lists 0) (lists 1)
       → HeadRests d (lists 0) (lists 1)
-  HeadRests-nobody Up none other f = record { inv = f.inv; up_busy = λ some. absurd (some none); down_busy = λ some. absurd (some other); sweeps = f.sweeps }
-  HeadRests-nobody Down none other f = record { inv = f.inv; up_busy = λ some. absurd (some other); down_busy = λ some. absurd (some none); sweeps = f.sweeps }
+  HeadRests-nobody Up none other f =
+      record { inv = f.inv; up_busy = λ some. absurd (some none); down_busy = λ some. absurd (some other); sweeps = f.sweeps }
+  HeadRests-nobody Down none other f =
+      record { inv = f.inv; up_busy = λ some. absurd (some other); down_busy = λ some. absurd (some none); sweeps = f.sweeps }
 
 -- a drive that is in stays so as the head turns
-pub HeadFree-turned : {T : Type 0} {d : Disk T} {ups downs : List ℕ} → HeadFree d ups downs → HeadFree (turned d) ups downs
+pub HeadFree-turned : {T : Type 0} {d : Disk T} {ups downs : List ℕ} → HeadFree d ups downs
+    → HeadFree (turned d) ups downs
 HeadFree-turned f = record {
   inv = f.inv;
   is_in = f.is_in;
@@ -164,13 +174,15 @@ module _ {T : Type 0} (found : Disk T) {ups downs : List ℕ} where
 
   -- a request that waited is granted
   pub HeadRests-granted : {a a1 s1 : Disk T} {c p dest : ℕ} {us ds : List ℕ} → HeadReady c p found ups downs → a1 ≡ a
-      → c ≡ sweep (toward dest a1) → p ≡ priority_at a1.cylmax (toward dest a1) dest → dest ≤ a.cylmax → found.cylmax ≡ a.cylmax
+      → c ≡ sweep (toward dest a1) → p ≡ priority_at a1.cylmax (toward dest a1) dest → dest ≤ a.cylmax
+      → found.cylmax ≡ a.cylmax
       → s1 ≡ sent found dest → us ≡ ups → ds ≡ downs → HeadRests s1 us ds
   HeadRests-granted {a = a} {dest = dest} r same to with on disk state up down =
       rw (state, up, down) (granted_by (toward dest a) dest a.cylmax on disk (rw (to, with, same) at r))
 
 module _ {T : Type 0} (found : Disk T) where
-  nobody_by : (us ds : List ℕ) (dest : ℕ) → (found.drive ≡ None → ⊥) → dest ≤ found.cylmax → HeadRests found us ds → HeadRests (sent found dest) us ds
+  nobody_by : (us ds : List ℕ) (dest : ℕ) → (found.drive ≡ None → ⊥) → dest ≤ found.cylmax → HeadRests found us ds
+      → HeadRests (sent found dest) us ds
   nobody_by [] [] dest is_in on r = record {
     inv = on;
     up_busy = λ some. refl;
@@ -186,16 +198,21 @@ module _ {T : Type 0} (found : Disk T) where
   nobody_by [] (x ∷ ds) dest is_in on r = absurd (is_in (r.down_busy (λ e. cc)))
 
   -- a request that found the drive in is granted: nobody waited
-  pub HeadRests-at_once : {s1 : Disk T} {dest : ℕ} {us ds ups downs : List ℕ} → HeadRests found ups downs → (found.drive ≡ None → ⊥) → dest ≤ found.cylmax
+  pub HeadRests-at_once : {s1 : Disk T} {dest : ℕ} {us ds ups downs : List ℕ} → HeadRests found ups downs
+      → (found.drive ≡ None → ⊥) → dest ≤ found.cylmax
       → s1 ≡ sent found dest → us ≡ ups → ds ≡ downs → HeadRests s1 us ds
-  HeadRests-at_once {dest = dest} {ups = ups} {downs = downs} r is_in on state up down = rw (state, up, down) (nobody_by ups downs dest is_in on r)
+  HeadRests-at_once {dest = dest} {ups = ups} {downs = downs} r is_in on state up down =
+      rw (state, up, down) (nobody_by ups downs dest is_in on r)
 
 -- from the clause of a wait to the trace of a request
-pub Reaches-waited : {T : Type 0} {k k1 c p dest : ℕ} {a a1 s1 found : Disk T} {e g1 h : History (Disk T)} → a.drive ≡ None
+pub Reaches-waited : {T : Type 0} {k k1 c p dest : ℕ} {a a1 s1 found : Disk T} {e g1 h : History (Disk T)}
+    → a.drive ≡ None
     → AddsTwo g1 (Wait k1 c p s1) (Resume k1 c found) h → k1 ≡ k → s1 ≡ a → g1 ≡ e → a1 ≡ a
     → c ≡ sweep (toward dest a1) → p ≡ priority_at a1.cylmax (toward dest a1) dest → Reaches k dest a e h found
-Reaches-waited busy waits place state front same to with = waited _ _ busy (rw (place, state, front, to, with, same) at waits)
+Reaches-waited busy waits place state front same to with =
+    waited _ _ busy (rw (place, state, front, to, with, same) at waits)
 
 -- how the head was handed on, with place, data and front by other names
-pub HandsOn-as : {T : Type 0} {k k1 : ℕ} {d d1 : Disk T} {g g1 h : History (Disk T)} → HandsOn k1 d1 g1 h → k1 ≡ k → d1 ≡ d → g1 ≡ g → HandsOn k d g h
+pub HandsOn-as : {T : Type 0} {k k1 : ℕ} {d d1 : Disk T} {g g1 h : History (Disk T)} → HandsOn k1 d1 g1 h → k1 ≡ k
+    → d1 ≡ d → g1 ≡ g → HandsOn k d g h
 HandsOn-as hands place state front = rw (place, state, front) at hands

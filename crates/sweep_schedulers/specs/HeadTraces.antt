@@ -9,20 +9,25 @@ use Rattle.sweep_schedulers.specs.declared.head.OffDisk.{OffDisk}
 use Rattle.sweep_schedulers.specs.declared.not_out.NotOut.{NotOut}
 use Rattle.sweep_schedulers.specs.Heads.{Disk, sweep, opposite, turned, put, sent, toward, priority_at}
 
--- k asked for dest, found a, and went on with what it then found: a itself where the drive was in; else it waited once, for the
+-- k asked for dest, found a, and went on with what it then found: a itself where the drive was in; else it waited once,
+-- for the
 -- sweep that reaches dest
-pub data Reaches {T : Type 0} (k dest : ℕ) (a : Disk T) (e : History (Disk T)) : History (Disk T) → Disk T → Type 0 where
+pub data Reaches {T : Type 0} (k dest : ℕ) (a : Disk T) (e : History (Disk T)) : History
+    (Disk T) → Disk T → Type 0 where
   at_once : IsSome a.drive → Reaches k dest a e e a
   waited : (g : History (Disk T)) (found : Disk T) → a.drive ≡ None
       → (let c = sweep (toward dest a) in AddsTwo e (Wait k c (priority_at a.cylmax (toward dest a) dest) a) (Resume k c found) g)
       → Reaches k dest a e g found
 
--- k's last act, with d: a signal on the present sweep where somebody waits there, and else on the other one, to which the head turns
+-- k's last act, with d: a signal on the present sweep where somebody waits there, and else on the other one, to which
+-- the head turns
 pub data HandsOn {T : Type 0} (k : ℕ) (d : Disk T) (g h : History (Disk T)) : Type 0 where
   keeps : waiting (sweep d.direction) g.events ≢ [] → Finishes k (sweep d.direction) d g h → HandsOn k d g h
-  turns : waiting (sweep d.direction) g.events ≡ [] → Finishes k (sweep (opposite d.direction)) (turned d) g h → HandsOn k d g h
+  turns : waiting (sweep d.direction) g.events ≡ [] → Finishes k (sweep (opposite d.direction)) (turned d) g h
+      → HandsOn k d g h
 
--- k has the drive, with the head at dest; or dest is off the disk; or k waited, found another disk, and handed on what it found
+-- k has the drive, with the head at dest; or dest is off the disk; or k waited, found another disk, and handed on what
+-- it found
 pub data Requests {T : Type 0} (k dest : ℕ) (f h : History (Disk T)) : Result T OffDisk → Type 0 where
   off_disk : (a : Disk T) (g : History (Disk T)) (o : OffDisk) → AddsLast f (Admit k a) g → a.cylmax < dest
       → h ≡ with_event g (Leave k a) → Requests k dest f h (Err o)
@@ -33,7 +38,8 @@ pub data Requests {T : Type 0} (k dest : ℕ) (f h : History (Disk T)) : Result 
       → Reaches k dest a e g found → found.cylmax ≢ a.cylmax → HandsOn k found g h → Requests k dest f h (Err o)
 
 -- k put the drive in and handed it on, or was refused and has the drive back
-pub data Releases {T : Type 0} (k : ℕ) (drive : T) (f h : History (Disk T)) : Result (Unit {0}) (NotOut T) → Type 0 where
+pub data Releases {T : Type 0} (k : ℕ) (drive : T) (f h : History (Disk T)) : Result (Unit {0})
+    (NotOut T) → Type 0 where
   put_in : (a : Disk T) (g : History (Disk T)) → AddsLast f (Admit k a) g → a.drive ≡ None
       → HandsOn k (put a drive) g h → Releases k drive f h (Ok tt)
   refused : (a : Disk T) (g : History (Disk T)) → AddsLast f (Admit k a) g → IsSome a.drive

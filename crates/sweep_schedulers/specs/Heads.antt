@@ -1,5 +1,6 @@
 -- What holds of a disk head and its waiting requests. Condition 0 is upsweep, condition 1 is downsweep.
-use Rattle.std.specs.Prelude.{ℕ, zero, suc, ◌-◌, ◌≤◌, nat_le, if◌then◌else◌, List, [], All, ◌≡◌, ◌≢◌, Option, Some, None, IsSome}
+use Rattle.std.specs.Prelude.{ℕ, zero, suc, ◌-◌, ◌≤◌, nat_le, if◌then◌else◌, List, [], All, ◌≡◌, ◌≢◌, Option, Some}
+use Rattle.std.specs.Prelude.{None, IsSome}
 use Rattle.sweep_schedulers.specs.declared.direction.Direction.{Direction}
 use Rattle.sweep_schedulers.specs.declared.direction.Direction.TheVariants.{Up, Down}
 
@@ -39,7 +40,8 @@ sent d dest = record d { drive = None; headpos = dest }
 abbrev pub toward : {T : Type 0} → ℕ → Disk T → Direction
 toward dest d = if nat_le d.headpos dest then (if nat_le dest d.headpos then d.direction else Up) else Down
 
--- with which priority dest waits for that sweep: the cylinder on the way up, its distance from the last one on the way down
+-- with which priority dest waits for that sweep: the cylinder on the way up, its distance from the last one on the way
+-- down
 abbrev pub priority_at : ℕ → Direction → ℕ → ℕ
 priority_at cylmax Up dest = dest
 priority_at cylmax Down dest = cylmax - dest
@@ -48,7 +50,8 @@ priority_at cylmax Down dest = cylmax - dest
 abbrev pub HeadHolds : {T : Type 0} → Disk T → Type 0
 HeadHolds d = d.headpos ≤ d.cylmax
 
--- who waits for the upsweep waits for a cylinder that lies before the head on the way up, who waits for the downsweep on the way down
+-- who waits for the upsweep waits for a cylinder that lies before the head on the way up, who waits for the downsweep
+-- on the way down
 pub record OnSweeps {T : Type 0} (d : Disk T) (ups downs : List ℕ) : Type 0 where
   pub ups_on_disk : All (λ p. p ≤ d.cylmax) ups
   pub downs_on_disk : All (λ p. p ≤ d.cylmax) downs

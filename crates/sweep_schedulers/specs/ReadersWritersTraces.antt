@@ -1,4 +1,5 @@
--- What the procedures of readers and writers add to the history. Whether somebody waits is asked of the front at that moment.
+-- What the procedures of readers and writers add to the history. Whether somebody waits is asked of the front at that
+-- moment.
 use Rattle.std.specs.Prelude.{ℕ, ◌-◌, ◌+◌, ◌<◌, [], true, false, ◌≡◌, ◌≢◌, ◌⊎◌, Result, Ok, Err}
 use Rattle.hoare_law.specs.declared.event.History.{History}
 use Rattle.hoare_law.specs.declared.event.Event.TheVariants.{Admit, Leave}
@@ -21,7 +22,8 @@ pub data Admits {T : Type 0} (s : Shared T) : Shared T → Result (ReadPass × T
   full : (e : TooManyReaders) → s.readers ≡ 1024 → Admits s s (Err e)
 
 -- k came to be admitted or refused, and in both cases resumed a process that waits on oktoread
-pub record StartsRead {T : Type 0} (k : ℕ) (f h : History (Shared T)) (read : Result (ReadPass × T) TooManyReaders) : Type 0 where
+pub record StartsRead {T : Type 0} (k : ℕ) (f h : History (Shared T))
+    (read : Result (ReadPass × T) TooManyReaders) : Type 0 where
   pub found : Shared T
   pub after : Shared T
   pub front : History (Shared T)
@@ -29,8 +31,10 @@ pub record StartsRead {T : Type 0} (k : ℕ) (f h : History (Shared T)) (read : 
   pub admits : Admits found after read
   pub finishes : Finishes k 0 after front h
 
--- k was the last reader, and resumed a process that waits on oktowrite; or it left other readers in; or it was refused, and has its pass
-pub data EndsRead {T : Type 0} (k : ℕ) (pass : ReadPass) (f h : History (Shared T)) : Result (Unit {0}) NoReader → Type 0 where
+-- k was the last reader, and resumed a process that waits on oktowrite; or it left other readers in; or it was refused,
+-- and has its pass
+pub data EndsRead {T : Type 0} (k : ℕ) (pass : ReadPass) (f h : History (Shared T)) : Result
+    (Unit {0}) NoReader → Type 0 where
   no_reader : (a : Shared T) (g : History (Shared T)) → AddsLast f (Admit k a) g → a.readers ≡ 0
       → h ≡ with_event g (Leave k a) → EndsRead k pass f h (Err (record { pass = pass }))
   last : (a : Shared T) (g : History (Shared T)) → AddsLast f (Admit k a) g → a.readers ≡ 1
@@ -46,11 +50,15 @@ pub record StartsWrite {T : Type 0} (k : ℕ) (value : T) (f h : History (Shared
   pub has : value ≡ found.value
   pub leaves : h ≡ with_event front (Leave k (with_writer found))
 
--- k left its value, and resumed a process that waits on oktoread if there is one, else one that waits on oktowrite; or it was refused
-pub data EndsWrite {T : Type 0} (k : ℕ) (value : T) (f h : History (Shared T)) : Result (Unit {0}) (NotOut T) → Type 0 where
-  to_readers : (a : Shared T) (g : History (Shared T)) → AddsLast f (Admit k a) g → a.busy ≡ true → waiting 0 g.events ≢ []
+-- k left its value, and resumed a process that waits on oktoread if there is one, else one that waits on oktowrite; or
+-- it was refused
+pub data EndsWrite {T : Type 0} (k : ℕ) (value : T) (f h : History (Shared T)) : Result (Unit {0})
+    (NotOut T) → Type 0 where
+  to_readers : (a : Shared T) (g : History (Shared T)) → AddsLast f (Admit k a) g → a.busy ≡ true
+      → waiting 0 g.events ≢ []
       → Finishes k 0 (written a value) g h → EndsWrite k value f h (Ok tt)
-  to_writers : (a : Shared T) (g : History (Shared T)) → AddsLast f (Admit k a) g → a.busy ≡ true → waiting 0 g.events ≡ []
+  to_writers : (a : Shared T) (g : History (Shared T)) → AddsLast f (Admit k a) g → a.busy ≡ true
+      → waiting 0 g.events ≡ []
       → Finishes k 1 (written a value) g h → EndsWrite k value f h (Ok tt)
   refused : (a : Shared T) (g : History (Shared T)) → AddsLast f (Admit k a) g → a.busy ≡ false
       → h ≡ with_event g (Leave k a) → EndsWrite k value f h (Err (record { item = value }))

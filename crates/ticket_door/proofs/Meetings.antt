@@ -23,12 +23,14 @@ module _ {D : Type 0} where
   joined a b p q is = is ∙ (λ i. (both_places (p i).0 (q i).0, (p i).1))
 
   -- the seat of a is left, and that of b is cut off
-  pub went_first : (a b : PlaceOut D) {rest : Rest D} {ready : Ready D} {h : History D} {k : ℕ} {m n : Sat D} → k ≡ a.place
+  pub went_first : (a b : PlaceOut D) {rest : Rest D} {ready : Ready D} {h : History D} {k : ℕ} {m n : Sat D}
+      → k ≡ a.place
       → Learns rest ready h (both_of a b) m → n ≡ (places_behind m.0, m.1) → IsAway k h n
   went_first a b {h = h} place l is =
       is ∙ (ap (λ (z : Sat D). (places_behind z.0, z.1)) l.me_is ∙ (λ i. (alone (sym place i) h, [])))
 
-  pub went_second : (a b : PlaceOut D) {rest : Rest D} {ready : Ready D} {h : History D} {k : ℕ} {m n : Sat D} → k ≡ b.place
+  pub went_second : (a b : PlaceOut D) {rest : Rest D} {ready : Ready D} {h : History D} {k : ℕ} {m n : Sat D}
+      → k ≡ b.place
       → Learns rest ready h (both_of a b) m → n ≡ (first_place m.0, []) → IsAway k h n
   went_second a b {h = h} place l is =
       is ∙ (ap (λ (z : Sat D). (first_place z.0, [])) l.me_is ∙ (λ i. (alone (sym place i) h, [])))
@@ -37,20 +39,23 @@ module _ {D : Type 0} where
   told_by h o k = record { begins = k.0; own_are = k.1 }
 
   -- the place that was o, and learnt h
-  pub record Learnt (rest : Rest D) (ready : Ready D) (kinds : Kinds) (d : DoorId) (o : PlaceOut D) (h : History D) (r : PlaceOut D) : Type 0 where
+  pub record Learnt (rest : Rest D) (ready : Ready D) (kinds : Kinds) (d : DoorId) (o : PlaceOut D) (h : History D)
+      (r : PlaceOut D) : Type 0 where
     pub of : IsOut rest ready kinds d r
     pub place : r.place ≡ o.place
     pub front : r.front ≡ h
 
   module _ (rest : Rest D) (ready : Ready D) where
-    pub out_as : (kinds : Kinds) (d : DoorId) (o r : PlaceOut D) (t : TableId) (k : ℕ) (h : History D) → IsOut rest ready kinds d o
+    pub out_as : (kinds : Kinds) (d : DoorId) (o r : PlaceOut D) (t : TableId) (k : ℕ) (h : History D)
+        → IsOut rest ready kinds d o
         → Stands rest ready h → Known h (knows o.place o.front None) → t ≡ d.table → k ≡ o.place → r ≡ place_out t k h
         → Learnt rest ready kinds d o h r
     out_as kinds d o r t k h out stands known of place is =
         subst (Learnt rest ready kinds d o h) (sym (is ∙ (λ i. place_out t (place i) h)))
         (record { of = told_out rest ready kinds d t o h of out stands known.0 known.1; place = refl; front = refl })
 
-    pub meets : (a b c d : PlaceOut D) (h : History D) {m : Sat D} → Learns rest ready h (both_of a b) m → c.front ≡ h → d.front ≡ h → Meets a b c d
+    pub meets : (a b c d : PlaceOut D) (h : History D) {m : Sat D} → Learns rest ready h (both_of a b) m → c.front ≡ h
+        → d.front ≡ h → Meets a b c d
     meets a b c d h l first second = record {
       one = first ∙ sym second;
       first = subst (λ (f : History D). IsTold f a) (sym second) (told_by h a l.fits.1.0);

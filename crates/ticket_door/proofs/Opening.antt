@@ -1,5 +1,6 @@
 -- The first seat opens the door, by two looks at SERVING.
-use Rattle.std.proofs.Common.{◌≡◌, ℕ, ◌+◌, ◌*◌, ◌<◌, ◌%◌, ◌^◌, true, false, List, [], ◌∷◌, set, length, length-set, get_or-set_same, Some, None, refl, sym, ap, ◌∙◌, subst, arith}
+use Rattle.std.proofs.Common.{◌≡◌, ℕ, ◌+◌, ◌*◌, ◌<◌, ◌%◌, ◌^◌, true, false, List, [], ◌∷◌, set, length, length-set}
+use Rattle.std.proofs.Common.{get_or-set_same, Some, None, refl, sym, ap, ◌∙◌, subst, arith}
 use mathlib.Core.Option.{none}
 use lib.ListN.{replicate}
 use lib.Seq.{set-get_or}
@@ -22,7 +23,8 @@ use Rattle.ticket_door.specs.Rule.{Starts, Tells, next_at, serving_at, bell_at}
 
 module _ {D : Type 0} (first n : ℕ) where
   -- nobody asked and nobody is served
-  opened_tells : (kinds : Kinds) (s : D) (ws : List ℕ) → Starts first n true ws → Tells first n (opened (sizes_at kinds n) s) (λ _. None) ws
+  opened_tells : (kinds : Kinds) (s : D) (ws : List ℕ) → Starts first n true ws
+      → Tells first n (opened (sizes_at kinds n) s) (λ _. None) ws
   unfolding turn admissions urgent called
   opened_tells kinds s ws st = record {
     words_are = st.words_are;
@@ -44,25 +46,29 @@ module _ {D : Type 0} (first n : ℕ) where
     pub begins_at : (slots id : ℕ) (m : Sat D) → m ≡ (Unopened n, [])
         → Allows (Kept (Starts first n) (Tells first n) rest ready kinds n) slots id m serving_at (λ r. r) (begins (step slots serving_at 0 0 none) m)
     begins_at slots id m is =
-        frame.begins_at (Starts first n) (Tells first n) rest ready kinds n slots id serving_at (λ r. r) (step slots serving_at 0 0 none) m is
+        frame.begins_at (Starts first n) (Tells first n) rest ready kinds n slots id serving_at (λ r. r)
+        (step slots serving_at 0 0 none) m is
         (λ ws st. subst (Starts first n true) (sym (set-get_or ws serving_at 0)) (begun ws st))
 
     pub opens_at : (slots id : ℕ) (x : Lodged D) (m : Sat D) → m ≡ (Opening n, (0, Some x) ∷ []) → rest x.state nobody
         → IsOf x.book (opened (sizes_at kinds n) tt)
         → Allows (Kept (Starts first n) (Tells first n) rest ready kinds n) slots id m serving_at (λ r. r) (opens kinds (step slots serving_at 0 0 none) m)
     opens_at slots id x m is at_rest book =
-        frame.opens_at (Starts first n) (Tells first n) rest ready kinds n slots id serving_at (λ r. r) x (step slots serving_at 0 0 none) m is at_rest book
+        frame.opens_at (Starts first n) (Tells first n) rest ready kinds n slots id serving_at (λ r. r) x
+        (step slots serving_at 0 0 none) m is at_rest book
         (λ ws st. subst (Tells first n (opened (sizes_at kinds n) x.state) (λ _. None)) (sym (set-get_or ws serving_at 0)) (opened_tells kinds x.state ws st))
 
 -- the words before the door opens
-pub started : (first n : ℕ) (ws : List ℕ) → first < 2 ^ 64 → ws ≡ set (set (replicate (8 * n + 16) 0) next_at first) serving_at first → Starts first n false ws
+pub started : (first n : ℕ) (ws : List ℕ) → first < 2 ^ 64
+    → ws ≡ set (set (replicate (8 * n + 16) 0) next_at first) serving_at first → Starts first n false ws
 started first n ws small is = subst (Starts first n false) (sym is) (record {
   words_are = long;
   next = get_or-set_other (set zeros next_at first) serving_at next_at first 0 (λ e. omega (arith, e))
       ∙ get_or-set_same zeros next_at first 0 (omega (arith, wide)) ∙ same;
   serving = get_or-set_same (set zeros next_at first) serving_at first 0 (omega (arith, length-set zeros next_at first, wide)) ∙ same;
   bells = λ k b. get_or-set_other (set zeros next_at first) serving_at (bell_at k) first 0 (λ e. omega (arith, e))
-      ∙ get_or-set_other zeros next_at (bell_at k) first 0 (λ e. omega (arith, e)) ∙ get_or-replicate (8 * n + 16) (bell_at k) 0 0 (omega (arith, b));
+      ∙ get_or-set_other zeros next_at (bell_at k) first 0 (λ e. omega (arith, e))
+      ∙ get_or-replicate (8 * n + 16) (bell_at k) 0 0 (omega (arith, b));
 })
   where
     zeros : List ℕ

@@ -1,5 +1,6 @@
 -- Tickets of the places that asked.
-use Rattle.std.proofs.Common.{◌≡◌, ◌≢◌, ℕ, suc, ◌+◌, ◌<◌, ◌≤◌, eqb, cond, List, [], ◌∷◌, ◌++◌, length, Option, Some, None, refl, sym, ap, ◌∙◌, subst, arith}
+use Rattle.std.proofs.Common.{◌≡◌, ◌≢◌, ℕ, suc, ◌+◌, ◌<◌, ◌≤◌, eqb, cond, List, [], ◌∷◌, ◌++◌, length, Option, Some}
+use Rattle.std.proofs.Common.{None, refl, sym, ap, ◌∙◌, subst, arith}
 use Rattle.std.proofs.Common.{eq-eqb, ne_eqb, unwrap_or}
 use mathlib.Core.Logic.{dite}
 use native.Mathlib.Decide.{ℕ_discrete}
@@ -64,7 +65,8 @@ once_more q k once z j = dite (ℕ_discrete j k)
     omega (arith, times-append j q (k ∷ []), t, o))
     (λ ne. omega (arith, times-append j q (k ∷ []), once j, one_apart j k (ne_eqb j k ne)))
 
-pub below_more : (q : List ℕ) (k n : ℕ) → k < n → ((j : ℕ) → 0 < times j q → j < n) → (j : ℕ) → 0 < times j (q ++ k ∷ []) → j < n
+pub below_more : (q : List ℕ) (k n : ℕ) → k < n → ((j : ℕ) → 0 < times j q → j < n) → (j : ℕ)
+    → 0 < times j (q ++ k ∷ []) → j < n
 below_more q k n small below j some = dite (ℕ_discrete j k)
     (λ same. omega (arith, small, same))
     (λ ne. below j (omega (arith, some, times-append j q (k ∷ []), one_apart j k (ne_eqb j k ne))))

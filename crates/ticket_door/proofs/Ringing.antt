@@ -1,5 +1,6 @@
 -- The pass "bells": who hands over rings, and who is rung comes back.
-use Rattle.std.proofs.Common.{◌≡◌, ◌≢◌, ℕ, ◌+◌, ◌<◌, ◌%◌, ◌^◌, List, [], ◌∷◌, get_or, set, length, length-set, get_or-set_same, Option, Some, None, refl, sym, ap, ◌∙◌, subst, arith}
+use Rattle.std.proofs.Common.{◌≡◌, ◌≢◌, ℕ, ◌+◌, ◌<◌, ◌%◌, ◌^◌, List, [], ◌∷◌, get_or, set, length, length-set}
+use Rattle.std.proofs.Common.{get_or-set_same, Option, Some, None, refl, sym, ap, ◌∙◌, subst, arith}
 use Rattle.std.proofs.lemmas.List.{get_or-set_other}
 use mathlib.Core.Logic.{dite}
 use native.Mathlib.Decide.{ℕ_discrete}
@@ -27,7 +28,8 @@ use Rattle.ticket_door.proofs.Turns.{for_next, rings_due, rung_else, rung_due, n
 
 module _ {D : Type 0} (first n : ℕ) where
   -- a bell has another number, where the turn is somebody's before and after
-  rewritten : (f h : History D) (tickets : Tickets) (ws : List ℕ) (k y : ℕ) → k < n → taken (turn f.events) ≡ 1 → taken (turn h.events) ≡ 1 → admissions h.events ≡ admissions f.events
+  rewritten : (f h : History D) (tickets : Tickets) (ws : List ℕ) (k y : ℕ) → k < n → taken (turn f.events) ≡ 1
+      → taken (turn h.events) ≡ 1 → admissions h.events ≡ admissions f.events
       → rung (turn h.events) k ≡ y → ((j : ℕ) → j ≢ k → rung (turn h.events) j ≡ rung (turn f.events) j)
       → Tells first n f tickets ws → Tells first n h tickets (set ws (bell_at k) y)
   rewritten f h tickets ws k y small before after same here else_ t = let wide = t.words_are in record {
@@ -50,22 +52,29 @@ module _ {D : Type 0} (first n : ℕ) where
     K = Kept (Starts first n) (Tells first n) rest ready kinds n
 
     -- who gives the monitor up where j is owed it rings j's bell
-    pub gives_ring : (slots id k j : ℕ) (f : History D) (x : Lodged D) (event : D → Event D) (st : Step (Option (Lodged D))) → j < n → Gives rest ready event k f x (next.For j)
+    pub gives_ring : (slots id k j : ℕ) (f : History D) (x : Lodged D) (event : D → Event D) (st : Step (Option (Lodged D)))
+        → j < n → Gives rest ready event k f x (next.For j)
         → Allows K slots id (alone k f, (0, Some x) ∷ []) (bell_at j) (λ _. 1) (gives_as event st (alone k f, (0, Some x) ∷ []))
-    gives_ring slots id k j f x event st small p = frame.gives_ok (Starts first n) (Tells first n) rest ready kinds n slots id k (bell_at j) (λ _. 1) f x (next.For j) event st p
+    gives_ring slots id k j f x event st small p =
+        frame.gives_ok (Starts first n) (Tells first n) rest ready kinds n slots id k (bell_at j) (λ _. 1) f x
+        (next.For j) event st p
         (λ tickets ws places below t. let h : History D = with_event f (event x.state) in let r = rings_due j (turn h.events) (for_next (turn h.events) j (sym p.next_is)) in
-        rewritten f h tickets ws j 1 small (ap taken p.inside) r.busy (admissions-other f (event x.state) (no_admit f (event x.state) p.allowed (held_busy k _ p.inside))) r.here
+        rewritten f h tickets ws j 1 small (ap taken p.inside) r.busy
+        (admissions-other f (event x.state) (no_admit f (event x.state) p.allowed (held_busy k _ p.inside))) r.here
         (λ i ne. r.else_ i ne ∙ sym (ap (λ (u : Turn). rung u i) p.inside)) t)
 
-    pub hears_ok : (slots id k : ℕ) (f : History D) (st : Step (Option (Lodged D))) → Allows K slots id (alone k f, []) (bell_at k) (λ _. 0) (hears rest ready st (alone k f, []))
-    hears_ok slots id k f st = frame.told_as K slots id (alone k f, []) (bell_at k) (λ _. 0) _ (hears rest ready st (alone k f, []))
+    pub hears_ok : (slots id k : ℕ) (f : History D) (st : Step (Option (Lodged D)))
+        → Allows K slots id (alone k f, []) (bell_at k) (λ _. 0) (hears rest ready st (alone k f, []))
+    hears_ok slots id k f st =
+        frame.told_as K slots id (alone k f, []) (bell_at k) (λ _. 0) _ (hears rest ready st (alone k f, []))
         (λ r m c j g is. let q = frame.alone_is k j f g [] [] is in
         subst (λ (p : ℕ × History D). HearsAt rest ready p.0 p.1 (alone k f, []) r m) (λ i. (q.0 i, q.1 i)) c)
         (frame.comes_ok (Starts first n) (Tells first n) rest ready kinds n slots id k (bell_at k) f None (due k f) (λ _. 0) (λ r. r ≡ 1) (λ log. Unit {0})
         (λ r. ℕ_discrete r 1)
         (λ log tickets ws small t miss. let b = t.bells k small in sym (b ∙ rung_else (turn log.events) k (λ one. miss (b ∙ one))))
         (λ log tickets ws stands places small same has t hit. let is = rung_due (turn log.events) k (sym (t.bells k small) ∙ hit) in let r = rings_due k (turn log.events) is in
-        let e = frame.enters_due rest ready k log f stands same is in let h : History D = with_event log (due k f (latest_data log)) in record {
+        let e = frame.enters_due rest ready k log f stands same is in
+        let h : History D = with_event log (due k f (latest_data log)) in record {
           given_up = frame.given_up_due k (turn log.events) is;
           allowed = e.allowed;
           owes = e.owes;
@@ -75,21 +84,28 @@ module _ {D : Type 0} (first n : ℕ) where
           tickets' = tickets;
           no_ticket = has;
           others = λ j ne. refl;
-          tells = rewritten log h tickets ws k 0 small r.busy (ap taken e.inside) (admissions-other log (due k f (latest_data log))
-              (no_admit log (due k f (latest_data log)) e.allowed (due_busy k _ is))) (ap (λ (u : Turn). rung u k) e.inside)
+          tells =
+              rewritten log h tickets ws k 0 small r.busy (ap taken e.inside)
+              (admissions-other log (due k f (latest_data log))
+              (no_admit log (due k f (latest_data log)) e.allowed (due_busy k _ is))) (ap
+              (λ (u : Turn). rung u k) e.inside)
               (λ j ne. ap (λ (u : Turn). rung u j) e.inside ∙ sym (r.else_ j ne)) t;
         }))
 
     -- the same of a seat with that view, and a word that is the bell's
-    pub gives_ring_at : (slots id k j : ℕ) (f : History D) (x : Lodged D) (event : D → Event D) (bell : ℕ) (m : Sat D) → j < n
+    pub gives_ring_at : (slots id k j : ℕ) (f : History D) (x : Lodged D) (event : D → Event D) (bell : ℕ) (m : Sat D)
+        → j < n
         → m ≡ (alone k f, (0, Some x) ∷ []) → Gives rest ready event k f x (next.For j) → bell ≡ bell_at j
         → Allows K slots id m bell (λ _. 1) (λ _. gives_as event (step slots bell 1 0 none) m 1)
     gives_ring_at slots id k j f x event bell m small is p here =
-        subst (λ (q : Sat D × ℕ). Allows K slots id q.0 q.1 (λ _. 1) (λ _. gives_as event (step slots q.1 1 0 none) q.0 1)) (λ i. (sym is i, sym here i))
+        subst
+        (λ (q : Sat D × ℕ). Allows K slots id q.0 q.1 (λ _. 1) (λ _. gives_as event (step slots q.1 1 0 none) q.0 1))
+        (λ i. (sym is i, sym here i))
         (gives_ring slots id k j f x event (step slots (bell_at j) 1 0 none) small p)
 
     pub hears_at : (slots id k : ℕ) (f : History D) (bell : ℕ) (m : Sat D) → m ≡ (alone k f, []) → bell ≡ bell_at k
         → Allows K slots id m bell (λ _. 0) (hears rest ready (step slots bell 0 0 none) m)
     hears_at slots id k f bell m is here =
-        subst (λ (q : Sat D × ℕ). Allows K slots id q.0 q.1 (λ _. 0) (hears rest ready (step slots q.1 0 0 none) q.0)) (λ i. (sym is i, sym here i))
+        subst (λ (q : Sat D × ℕ). Allows K slots id q.0 q.1 (λ _. 0) (hears rest ready (step slots q.1 0 0 none) q.0))
+        (λ i. (sym is i, sym here i))
         (hears_ok slots id k f (step slots (bell_at k) 0 0 none))

@@ -1,5 +1,6 @@
 -- The pass "tickets": who asks draws the next ticket, who is served comes in, and who opens serves the next.
-use Rattle.std.proofs.Common.{◌≡◌, ℕ, suc, ◌+◌, ◌<◌, ◌≤◌, ◌%◌, ◌^◌, true, List, [], ◌∷◌, ◌++◌, get_or, set, length, length-set, length-append}
+use Rattle.std.proofs.Common.{◌≡◌, ℕ, suc, ◌+◌, ◌<◌, ◌≤◌, ◌%◌, ◌^◌, true, List, [], ◌∷◌, ◌++◌, get_or, set, length}
+use Rattle.std.proofs.Common.{length-set, length-append}
 use Rattle.std.proofs.Common.{get_or-set_same, Option, Some, None, refl, sym, ap, ◌∙◌, subst, arith}
 use Rattle.std.proofs.lemmas.List.{get_or-set_other}
 use mathlib.Core.Logic.{dite}
@@ -30,14 +31,17 @@ use Rattle.ticket_door.specs.Queue.{ticket_in}
 use Rattle.ticket_door.specs.Rule.{Starts, Tells, next_at, serving_at, bell_at, taken, rung}
 use Rattle.ticket_door.specs.Steps.{asks, looks, LooksAt}
 use Rattle.hoare_law.proofs.Admissions.{admissions-admit, admissions-other}
-use Rattle.ticket_door.proofs.Queue.{Some-injective, ticket_range, ticket_first, ticket_none, none_ticket, ticket_last, ticket_kept, ticket_else, once_more, below_more}
+use Rattle.ticket_door.proofs.Queue.{Some-injective, ticket_range, ticket_first, ticket_none, none_ticket, ticket_last}
+use Rattle.ticket_door.proofs.Queue.{ticket_kept, ticket_else, once_more, below_more}
 use Rattle.ticket_door.proofs.Turns.{taken_le, taken_free, free_next, no_admit, held_busy, next_word, served_only}
 
 module _ {D : Type 0} (first n : ℕ) where
   -- one more place in the queue
-  asked : (log : History D) (tickets : Tickets) (ws : List ℕ) (k : ℕ) → k < n → tickets k ≡ None → (t : Tells first n log tickets ws)
+  asked : (log : History D) (tickets : Tickets) (ws : List ℕ) (k : ℕ) → k < n → tickets k ≡ None
+      → (t : Tells first n log tickets ws)
       → Tells first n log (given_to tickets k (Some (admissions log.events + length t.queue))) (set ws next_at ((get_or ws next_at 0 + 1) % 2 ^ 64))
-  asked log tickets ws k small none t = let a : ℕ = admissions log.events in let q : List ℕ = t.queue in let x : ℕ = a + length q in
+  asked log tickets ws k small none t =
+      let a : ℕ = admissions log.events in let q : List ℕ = t.queue in let x : ℕ = a + length q in
       let ws' : List ℕ = set ws next_at ((get_or ws next_at 0 + 1) % 2 ^ 64) in
       let z : times k q ≡ 0 = ticket_none a q k (sym (t.tickets_are k) ∙ none) in let wide = t.words_are in record {
         words_are = length-set ws next_at _ ∙ wide;
@@ -47,7 +51,9 @@ module _ {D : Type 0} (first n : ℕ) where
         tickets_are = λ j. dite (ℕ_discrete j k)
             (λ same. subst (λ (i : ℕ). given_to tickets k (Some x) i ≡ ticket_in a (q ++ k ∷ []) i) (sym same) (given_here tickets k (Some x) ∙ sym (ticket_last a q k z)))
             (λ ne. given_else tickets k (Some x) j ne ∙ t.tickets_are j ∙ sym (ticket_kept a q k j ne));
-        next = get_or-set_same ws next_at _ 0 (omega (arith, wide)) ∙ ap (λ (m : ℕ). (m + 1) % 2 ^ 64) t.next ∙ next_word first x ∙ ap (λ (m : ℕ). (first + m) % 2 ^ 64)
+        next =
+            get_or-set_same ws next_at _ 0 (omega (arith, wide)) ∙ ap (λ (m : ℕ). (m + 1) % 2 ^ 64) t.next
+            ∙ next_word first x ∙ ap (λ (m : ℕ). (first + m) % 2 ^ 64)
             (let l = length-append q (k ∷ []) in let same : x + 1 ≡ a + length (q ++ k ∷ []) = omega (arith, l) in same);
         served = t.served;
         due = t.due;
@@ -56,12 +62,17 @@ module _ {D : Type 0} (first n : ℕ) where
       }
 
   -- the first of the queue is let in
-  looked : (log : History D) (tickets : Tickets) (ws : List ℕ) (k : ℕ) (rest : List ℕ) (s : D) → (t : Tells first n log tickets ws) → t.queue ≡ k ∷ rest → turn log.events ≡ Free
+  looked : (log : History D) (tickets : Tickets) (ws : List ℕ) (k : ℕ) (rest : List ℕ) (s : D)
+      → (t : Tells first n log tickets ws) → t.queue ≡ k ∷ rest → turn log.events ≡ Free
       → turn (with_event log (Admit k s)).events ≡ Held k
       → Tells first n (with_event log (Admit k s)) (given_to tickets k None) (set ws serving_at (get_or ws serving_at 0))
-  looked log tickets ws k rest s t is free held = let a : ℕ = admissions log.events in let h : History D = with_event log (Admit k s) in let more = admissions-admit log k s in
-      let out : times k rest ≡ 0 = let once = subst (λ (q : List ℕ). times k q ≤ 1) is (t.once k) in omega (arith, once, one_same k) in
-      let before : taken (turn log.events) ≡ 0 = ap taken free in let after : taken (turn h.events) ≡ 1 = ap taken held in
+  looked log tickets ws k rest s t is free held =
+      let a : ℕ = admissions log.events in
+      let h : History D = with_event log (Admit k s) in let more = admissions-admit log k s in
+      let out : times k rest ≡ 0 = let once = subst (λ (q : List ℕ). times k q ≤ 1) is (t.once k) in
+      omega (arith, once, one_same k) in
+      let before : taken (turn log.events) ≡ 0 = ap taken free in
+      let after : taken (turn h.events) ≡ 1 = ap taken held in
       subst (Tells first n h (given_to tickets k None)) (sym (set-get_or ws serving_at 0)) (record {
         words_are = t.words_are;
         queue = rest;
@@ -79,10 +90,12 @@ module _ {D : Type 0} (first n : ℕ) where
       })
 
   -- the next is served
-  opened_gate : (f : History D) (e : Event D) (tickets : Tickets) (ws : List ℕ) (k : ℕ) → turn f.events ≡ Held k → turn (with_event f e).events ≡ Free
+  opened_gate : (f : History D) (e : Event D) (tickets : Tickets) (ws : List ℕ) (k : ℕ) → turn f.events ≡ Held k
+      → turn (with_event f e).events ≡ Free
       → admissions (with_event f e).events ≡ admissions f.events → Tells first n f tickets ws
       → Tells first n (with_event f e) tickets (set ws serving_at ((get_or ws serving_at 0 + 1) % 2 ^ 64))
-  opened_gate f e tickets ws k held free same t = let wide = t.words_are in let before : taken (turn f.events) ≡ 1 = ap taken held in
+  opened_gate f e tickets ws k held free same t =
+      let wide = t.words_are in let before : taken (turn f.events) ≡ 1 = ap taken held in
       let after : taken (turn (with_event f e).events) ≡ 0 = ap taken free in record {
         words_are = length-set ws serving_at _ ∙ wide;
         queue = t.queue;
@@ -97,9 +110,12 @@ module _ {D : Type 0} (first n : ℕ) where
       }
 
   -- an event by which a place stays inside changes neither the tickets nor the words
-  stayed : (f : History D) (e : Event D) (tickets : Tickets) (ws : List ℕ) (k : ℕ) → turn f.events ≡ Held k → turn (with_event f e).events ≡ Held k
-      → admissions (with_event f e).events ≡ admissions f.events → Tells first n f tickets ws → Tells first n (with_event f e) tickets ws
-  stayed f e tickets ws k held stays same t = let turns : turn f.events ≡ turn (with_event f e).events = held ∙ sym stays in record {
+  stayed : (f : History D) (e : Event D) (tickets : Tickets) (ws : List ℕ) (k : ℕ) → turn f.events ≡ Held k
+      → turn (with_event f e).events ≡ Held k
+      → admissions (with_event f e).events ≡ admissions f.events → Tells first n f tickets ws
+      → Tells first n (with_event f e) tickets ws
+  stayed f e tickets ws k held stays same t = let turns : turn f.events ≡ turn (with_event f e).events = held
+  ∙ sym stays in record {
     words_are = t.words_are;
     queue = t.queue;
     once = t.once;
@@ -119,8 +135,10 @@ module _ {D : Type 0} (first n : ℕ) where
     abbrev Drawn : ℕ → History D → ℕ → Sat D → Type 0
     Drawn k f r m = (o : Option ℕ) × (m ≡ (sole k f o, [])) × ((x : ℕ) × (o ≡ Some x) × (r ≡ (first + x) % 2 ^ 64))
 
-    pub asks_ok : (slots id k : ℕ) (f : History D) (st : Step (Option (Lodged D))) → Allows K slots id (alone k f, []) next_at (λ r. (r + 1) % 2 ^ 64) (asks first st (alone k f, []))
-    asks_ok slots id k f st = frame.told_as K slots id (alone k f, []) next_at (λ r. (r + 1) % 2 ^ 64) _ (asks first st (alone k f, []))
+    pub asks_ok : (slots id k : ℕ) (f : History D) (st : Step (Option (Lodged D)))
+        → Allows K slots id (alone k f, []) next_at (λ r. (r + 1) % 2 ^ 64) (asks first st (alone k f, []))
+    asks_ok slots id k f st =
+        frame.told_as K slots id (alone k f, []) next_at (λ r. (r + 1) % 2 ^ 64) _ (asks first st (alone k f, []))
         (λ r m (d : Drawn k f r m) j g is. let q = frame.alone_is k j f g [] [] is in (d.2.0, d.1 ∙ (λ i. (sole (q.0 i) (q.1 i) (d.2.1 i), [])), d.2.2))
         (frame.draws_ok (Starts first n) (Tells first n) rest ready kinds n slots id k next_at f None (λ r. (r + 1) % 2 ^ 64) (λ o r. (x : ℕ) × (o ≡ Some x) × (r ≡ (first + x) % 2 ^ 64))
         (λ log tickets ws small none t. let x : ℕ = admissions log.events + length t.queue in (
@@ -133,17 +151,29 @@ module _ {D : Type 0} (first n : ℕ) where
         )))
 
     abbrev pub Admits : ℕ → ℕ → History D → Tickets → List ℕ → Type 0
-    Admits k x log tickets ws = frame.BringsIn (Starts first n) (Tells first n) rest ready kinds k serving_at (λ r. r) (λ h. admissions h.events ≡ x) log tickets ws (Admit k (latest_data log))
+    Admits k x log tickets ws =
+        frame.BringsIn (Starts first n) (Tells first n) rest ready kinds k serving_at (λ r. r)
+        (λ h. admissions h.events ≡ x) log tickets ws (Admit k (latest_data log))
 
-    brings : (k x : ℕ) (f log : History D) (tickets : Tickets) (ws : List ℕ) → n ≤ 64 → outside k f.events ≡ true → Stands rest ready log → log.sizes.places ≡ n → k < n
-        → own k log.events ≡ own k f.events → tickets k ≡ Some x → Tells first n log tickets ws → get_or ws serving_at 0 ≡ (first + x) % 2 ^ 64 → Admits k x log tickets ws
-    brings k x f log tickets ws few out stands places small same has t hit = let a : ℕ = admissions log.events in let r = ticket_range a t.queue k x (sym (t.tickets_are k) ∙ has) in let d = t.due in
+    brings : (k x : ℕ) (f log : History D) (tickets : Tickets) (ws : List ℕ) → n ≤ 64 → outside k f.events ≡ true
+        → Stands rest ready log → log.sizes.places ≡ n → k < n
+        → own k log.events ≡ own k f.events → tickets k ≡ Some x → Tells first n log tickets ws
+        → get_or ws serving_at 0 ≡ (first + x) % 2 ^ 64 → Admits k x log tickets ws
+    brings k x f log tickets ws few out stands places small same has t hit =
+        let a : ℕ = admissions log.events in
+        let r = ticket_range a t.queue k x (sym (t.tickets_are k) ∙ has) in let d = t.due in
         let most = few_once t.queue n t.once t.below in let le1 = taken_le (turn log.events) in
-        let now : t.served ≡ x = served_only first t.served x (omega (arith, r.0, d)) (omega (arith, r.1, d, le1, most, few)) (sym t.serving ∙ hit) in
-        let free : turn log.events ≡ Free = taken_free (turn log.events) (omega (arith, now, d, r.0)) in let none : taken (turn log.events) ≡ 0 = ap taken free in
+        let now : t.served ≡ x =
+        served_only first t.served x (omega (arith, r.0, d)) (omega (arith, r.1, d, le1, most, few))
+        (sym t.serving ∙ hit) in
+        let free : turn log.events ≡ Free = taken_free (turn log.events) (omega (arith, now, d, r.0)) in
+        let none : taken (turn log.events) ≡ 0 = ap taken free in
         let here : a ≡ x = omega (arith, now, d, none) in
         let firsts = ticket_first a t.queue k (sym (t.tickets_are k) ∙ has ∙ ap (λ (m : ℕ). Some m) (sym here)) in
-        let e = frame.enters_admit rest ready k log (subst (λ (m : ℕ). k < m) (sym places) small) free (outside-same k f log same out) in record {
+        let e =
+        frame.enters_admit rest ready k log (subst (λ (m : ℕ). k < m) (sym places) small) free
+        (outside-same k f log same out) in
+        record {
           given_up = frame.given_up_free (turn log.events) free;
           allowed = e.allowed;
           owes = e.owes;
@@ -156,30 +186,42 @@ module _ {D : Type 0} (first n : ℕ) where
           tells = looked log tickets ws k firsts.0 (latest_data log) t firsts.1 free e.inside;
         }
 
-    pub looks_ok : (slots id k x : ℕ) (f : History D) (st : Step (Option (Lodged D))) → n ≤ 64 → outside k f.events ≡ true → Allows K slots id (asking k f x, []) serving_at (λ r. r)
+    pub looks_ok : (slots id k x : ℕ) (f : History D) (st : Step (Option (Lodged D))) → n ≤ 64
+        → outside k f.events ≡ true → Allows K slots id (asking k f x, []) serving_at (λ r. r)
         (looks first rest ready st (asking k f x, []))
-    looks_ok slots id k x f st few out = frame.told_as K slots id (asking k f x, []) serving_at (λ r. r) _ (looks first rest ready st (asking k f x, []))
+    looks_ok slots id k x f st few out =
+        frame.told_as K slots id (asking k f x, []) serving_at (λ r. r) _ (looks first rest ready st (asking k f x, []))
         (λ r m c j g y is. let q = frame.sole_is k j f g (Some x) (Some y) [] [] is in let same : x ≡ y = Some-injective x y q.2 in
-        subst (λ (p : ℕ × (History D × ℕ)). LooksAt first rest ready p.0 p.1.0 p.1.1 (asking k f x, []) r m) (λ i. (q.0 i, (q.1 i, same i))) c)
+        subst (λ (p : ℕ × (History D × ℕ)). LooksAt first rest ready p.0 p.1.0 p.1.1 (asking k f x, []) r m)
+        (λ i. (q.0 i, (q.1 i, same i))) c)
         (frame.comes_ok (Starts first n) (Tells first n) rest ready kinds n slots id k serving_at f (Some x) (Admit k) (λ r. r) (λ r. r ≡ (first + x) % 2 ^ 64) (λ log. admissions log.events ≡ x)
         (λ r. ℕ_discrete r ((first + x) % 2 ^ 64))
         (λ log tickets ws small t miss. refl)
         (λ log tickets ws stands places small same has t hit. brings k x f log tickets ws few out stands places small same has t hit))
 
     -- the same of a seat with that view
-    pub asks_at : (slots id k : ℕ) (f : History D) (st : Step (Option (Lodged D))) (m : Sat D) (start : ℕ) → m ≡ (alone k f, []) → first ≡ start
+    pub asks_at : (slots id k : ℕ) (f : History D) (st : Step (Option (Lodged D))) (m : Sat D) (start : ℕ)
+        → m ≡ (alone k f, []) → first ≡ start
         → Allows K slots id m next_at (λ r. (r + 1) % 2 ^ 64) (asks start st m)
-    asks_at slots id k f st m start is same = subst (λ (p : Sat D × ℕ). Allows K slots id p.0 next_at (λ r. (r + 1) % 2 ^ 64) (asks p.1 st p.0)) (λ i. (sym is i, same i)) (asks_ok slots id k f st)
+    asks_at slots id k f st m start is same =
+        subst (λ (p : Sat D × ℕ). Allows K slots id p.0 next_at (λ r. (r + 1) % 2 ^ 64) (asks p.1 st p.0))
+        (λ i. (sym is i, same i)) (asks_ok slots id k f st)
 
-    pub looks_at : (slots id k x : ℕ) (f : History D) (st : Step (Option (Lodged D))) (m : Sat D) (start : ℕ) → m ≡ (asking k f x, []) → first ≡ start → n ≤ 64 → outside k f.events ≡ true
+    pub looks_at : (slots id k x : ℕ) (f : History D) (st : Step (Option (Lodged D))) (m : Sat D) (start : ℕ)
+        → m ≡ (asking k f x, []) → first ≡ start → n ≤ 64 → outside k f.events ≡ true
         → Allows K slots id m serving_at (λ r. r) (looks start rest ready st m)
-    looks_at slots id k x f st m start is same few out = subst (λ (p : Sat D × ℕ). Allows K slots id p.0 serving_at (λ r. r) (looks p.1 rest ready st p.0)) (λ i. (sym is i, same i))
+    looks_at slots id k x f st m start is same few out =
+        subst (λ (p : Sat D × ℕ). Allows K slots id p.0 serving_at (λ r. r) (looks p.1 rest ready st p.0))
+        (λ i. (sym is i, same i))
         (looks_ok slots id k x f st few out)
 
     -- who gives the monitor up where nobody is owed it opens to the next
-    pub gives_open : (slots id k : ℕ) (f : History D) (x : Lodged D) (event : D → Event D) (st : Step (Option (Lodged D))) → Gives rest ready event k f x next.Free
+    pub gives_open : (slots id k : ℕ) (f : History D) (x : Lodged D) (event : D → Event D) (st : Step (Option (Lodged D)))
+        → Gives rest ready event k f x next.Free
         → Allows K slots id (alone k f, (0, Some x) ∷ []) serving_at (λ r. (r + 1) % 2 ^ 64) (gives_as event st (alone k f, (0, Some x) ∷ []))
-    gives_open slots id k f x event st p = frame.gives_ok (Starts first n) (Tells first n) rest ready kinds n slots id k serving_at (λ r. (r + 1) % 2 ^ 64) f x next.Free event st p
+    gives_open slots id k f x event st p =
+        frame.gives_ok (Starts first n) (Tells first n) rest ready kinds n slots id k serving_at
+        (λ r. (r + 1) % 2 ^ 64) f x next.Free event st p
         (λ tickets ws places small t. opened_gate f (event x.state) tickets ws k p.inside (free_next _ (sym p.next_is))
         (admissions-other f (event x.state) (no_admit f (event x.state) p.allowed (held_busy k _ p.inside))) t)
 
@@ -188,11 +230,13 @@ module _ {D : Type 0} (first n : ℕ) where
         → m ≡ (alone k f, (0, Some x) ∷ []) → Gives rest ready event k f x next.Free
         → Allows K slots id m serving_at (λ r. (r + 1) % 2 ^ 64) (gives_as event st m)
     gives_open_at slots id k f x event st m is p =
-        subst (λ (q : Sat D). Allows K slots id q serving_at (λ r. (r + 1) % 2 ^ 64) (gives_as event st q)) (sym is) (gives_open slots id k f x event st p)
+        subst (λ (q : Sat D). Allows K slots id q serving_at (λ r. (r + 1) % 2 ^ 64) (gives_as event st q)) (sym is)
+        (gives_open slots id k f x event st p)
 
     -- who is inside calls others: a look at SERVING
     pub notes_at : (slots id k : ℕ) (f : History D) (event : History D → Event D) (st : Step (Option (Lodged D))) (m : Sat D)
-        → m ≡ (alone k f, (0, None) ∷ []) → Notes rest ready (event f) k f → Allows K slots id m serving_at (λ r. r) (notes_as event st m)
+        → m ≡ (alone k f, (0, None) ∷ []) → Notes rest ready (event f) k f
+        → Allows K slots id m serving_at (λ r. r) (notes_as event st m)
     notes_at slots id k f event st m is p =
         frame.notes_at (Starts first n) (Tells first n) rest ready kinds n slots id k serving_at f event st m is p
         (λ tickets ws t. stayed f (event f) tickets ws k p.inside p.stays

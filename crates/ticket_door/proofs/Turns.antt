@@ -6,7 +6,8 @@ use Rattle.std.proofs.Math.Nat.{mod-add-mod}
 use Rattle.atomic_table.proofs.Lists.{one_turn}
 use Rattle.hoare_law.specs.declared.event.Event.{Event}
 use Rattle.hoare_law.specs.declared.event.History.{History}
-use Rattle.hoare_law.specs.declared.event.Event.TheVariants.{Admit, Wait, Signal, Pass, Leave, Resume, Back, Notify, Broadcast}
+use Rattle.hoare_law.specs.declared.event.Event.TheVariants.{Admit, Wait, Signal, Pass, Leave, Resume, Back, Notify}
+use Rattle.hoare_law.specs.declared.event.Event.TheVariants.{Broadcast}
 use Rattle.hoare_law.specs.declared.turn.Turn.{Turn}
 use Rattle.hoare_law.specs.declared.turn.Turn.TheVariants.{Free, Held, Owed, Return}
 use Rattle.hoare_law.specs.Legal.{Allowed}
@@ -56,7 +57,9 @@ for_next (Owed k c) j e = owed c (let same : k ≡ j = cc in ap (λ i. Owed i c)
 for_next (Return k) j e = returning (let same : k ≡ j = cc in ap (λ i. Return i) same)
 
 bell_else : (j k : ℕ) → one j k ≢ 1 → one j k ≡ 0
-bell_else j k n = dite (ℕ_discrete j k) (λ same. absurd (n (subst (λ i. one j i ≡ 1) same (one_same j)))) (λ ne. one_apart j k (ne_eqb j k ne))
+bell_else j k n =
+    dite (ℕ_discrete j k) (λ same. absurd (n (subst (λ i. one j i ≡ 1) same (one_same j))))
+    (λ ne. one_apart j k (ne_eqb j k ne))
 
 bell_due : (j k : ℕ) → one j k ≡ 1 → j ≡ k
 bell_due j k e = dite (ℕ_discrete j k) (λ same. same) (λ ne. absurd (omega (arith, one_apart j k (ne_eqb j k ne), e)))
@@ -96,8 +99,13 @@ held_busy k t is e = let no : Held k ≡ Free = sym is ∙ e in cc
 
 -- the next ticket's word
 pub next_word : (first x : ℕ) → ((first + x) % 2 ^ 64 + 1) % 2 ^ 64 ≡ (first + (x + 1)) % 2 ^ 64
-next_word first x = mod-add-mod (first + x) (2 ^ 64) 1 ∙ ap (λ n. n % 2 ^ 64) (let same : first + x + 1 ≡ first + (x + 1) = omega arith in same)
+next_word first x =
+    mod-add-mod (first + x) (2 ^ 64) 1
+    ∙ ap (λ n. n % 2 ^ 64) (let same : first + x + 1 ≡ first + (x + 1) = omega arith in same)
 
 -- a ticket not far ahead of who is served has the word of who is served only if it is it
-pub served_only : (first served x : ℕ) → served ≤ x → x < served + 66 → (first + served) % 2 ^ 64 ≡ (first + x) % 2 ^ 64 → served ≡ x
-served_only first served x le lt e = let same = one_turn (first + served) (first + x) (2 ^ 64) (omega (arith, le)) (omega (arith, lt)) e in omega (arith, same)
+pub served_only : (first served x : ℕ) → served ≤ x → x < served + 66 → (first + served) % 2 ^ 64 ≡ (first + x) % 2 ^ 64
+    → served ≡ x
+served_only first served x le lt e =
+    let same = one_turn (first + served) (first + x) (2 ^ 64) (omega (arith, le)) (omega (arith, lt)) e in
+    omega (arith, same)

@@ -22,7 +22,8 @@ pub record TicketDoorId : Type 0 where
 abbrev pub ticket_door : TableId → Sizes → TicketDoorId
 ticket_door z key = record { door = record { table = z; places = key.places }; first = key.first }
 
--- a place that asked: number counts the tickets from 0, and ticket is that number with the first ticket added, modulo 2^64
+-- a place that asked: number counts the tickets from 0, and ticket is that number with the first ticket added, modulo
+-- 2^64
 pub record PlaceAsked (D : Type 0) : Type 0 where
   pub table : TableId
   pub place : ℕ
@@ -47,7 +48,8 @@ module _ {D : Type 0} where
       pub out : IsOut rest ready kinds d.door (as_out a)
       pub ticket_is : a.ticket ≡ (d.first + a.number) % 2 ^ 64
 
-  -- h ends with an admission, and it is the one that is due to the ticket: the i-th, counted from 0, has the ticket first + i
+  -- h ends with an admission, and it is the one that is due to the ticket: the i-th, counted from 0, has the ticket
+  -- first + i
   pub record EntersBy (first ticket : ℕ) (h : History D) : Type 0 where
     pub before : History D
     pub event : Event D

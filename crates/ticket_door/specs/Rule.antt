@@ -38,7 +38,8 @@ pub record Starts (first n : ℕ) (begun : Bool) (words : List ℕ) : Type 0 whe
   pub serving : slice_index words serving_at ≡ first % 2 ^ 64
   pub bells : (k : ℕ) → k < n → slice_index words (bell_at k) ≡ 0
 
--- of a door with n places whose first ticket is `first`. Tickets are counted from 0; the words have them with `first` added, modulo 2^64
+-- of a door with n places whose first ticket is `first`. Tickets are counted from 0; the words have them with `first`
+-- added, modulo 2^64
 pub record Tells {D : Type 0} (first n : ℕ) (log : History D) (tickets : Tickets) (words : List ℕ) : Type 0 where
   pub words_are : length words ≡ 8 * n + 16
   -- who asked, in the order of tickets: from the number of those let in on, each once

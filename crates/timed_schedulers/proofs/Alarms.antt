@@ -27,7 +27,8 @@ pub record Early (setting now : ℕ) (q : List ℕ) : Type 0 where
 pub Waited-none : {k setting a s : ℕ} {f g : History ℕ} → AddsLast f (Admit k s) g → a ≡ s → Waited k setting a f g s
 Waited-none {g = g} enters same = rw same (record { front = g; enters = enters; rounds = none })
 
-pub Waited-more : {k k1 setting a s now found : ℕ} {f g g1 h : History ℕ} → Waited k setting a f g found → found < setting
+pub Waited-more : {k k1 setting a s now found : ℕ} {f g g1 h : History ℕ} → Waited k setting a f g found
+    → found < setting
     → AddsTwo g1 (Wait k1 0 setting s) (Resume k1 0 now) h → k1 ≡ k → s ≡ found → g1 ≡ g → Waited k setting a f h now
 Waited-more {now = now} {found = found} {g = g} {h = h} w early waits place state front = record {
   front = w.front;
@@ -36,7 +37,8 @@ Waited-more {now = now} {found = found} {g = g} {h = h} w early waits place stat
 }
 
 -- before the setting, who waits is due later than the time, and so is the setting
-pub Early-before : {setting now : ℕ} {q : List ℕ} → Early setting now q → now < setting → All (λ r. now < r) (put_in (λ n. n) setting q)
+pub Early-before : {setting now : ℕ} {q : List ℕ} → Early setting now q → now < setting
+    → All (λ r. now < r) (put_in (λ n. n) setting q)
 Early-before {setting = setting} {now = now} {q = q} e before = All-put_in (λ r. now < r) setting q before
     (⊎_elim (λ all. all) (λ all. All-weaker (λ r. setting ≤ r) (λ r. now < r) (λ x l. omega arith) q all) e.others)
 
@@ -50,16 +52,19 @@ Early-after {setting = setting} {now = now} {q = q} e =
     e.others
 
 -- where nobody who waits is overdue, the first is due no later than the others
-pub AlarmReady-first : {now now1 : ℕ} {q q1 : List ℕ} → IsNonDecreasing q → All (λ r. now ≤ r) q → now1 ≡ now → q1 ≡ q → q1 ≢ []
+pub AlarmReady-first : {now now1 : ℕ} {q q1 : List ℕ} → IsNonDecreasing q → All (λ r. now ≤ r) q → now1 ≡ now → q1 ≡ q
+    → q1 ≢ []
     → AlarmReady (slice_index q1 0) now1 (behind_first q1)
 AlarmReady-first {now = now} {q = q} rises all time same some =
     let waits : q ≢ [] = λ none. some (same ∙ none) in
     rw (time, same) (record { due = all 0 0 (length-some q waits); first = All-behind_first q rises waits })
 
 -- at its setting it signals and leaves
-pub woken : {k k1 n a setting found answer s : ℕ} {f g g1 h : History ℕ} {b : Bool} → Waited k setting a f g found → setting ≡ a + n → found ≡ setting
+pub woken : {k k1 n a setting found answer s : ℕ} {f g g1 h : History ℕ} {b : Bool} → Waited k setting a f g found
+    → setting ≡ a + n → found ≡ setting
     → answer ≡ found → setting < 2 ^ 64 → Exits k1 0 s g1 h b → k1 ≡ k → s ≡ found → g1 ≡ g → Wakes k n f h (Ok answer)
 woken {n = n} {a = a} {found = found} {answer = answer} {g = g} w sum due told small exits place state front =
     let then : found ≡ a + n = due ∙ sum in
     let last : answer ≡ a + n = told ∙ then in
-    rw last (woke a w.front g w.enters (rw sum at small) (rw (sum, then) at w.rounds) (Finishes-exit exits place (state ∙ then) front))
+    rw last
+    (woke a w.front g w.enters (rw sum at small) (rw (sum, then) at w.rounds) (Finishes-exit exits place (state ∙ then) front))

@@ -7,14 +7,16 @@ use Rattle.hoare_law.specs.Growth.{AddsLast, AddsTwo, Finishes}
 use Rattle.timed_schedulers.specs.declared.alarm.TooFar.{TooFar}
 use Rattle.timed_schedulers.specs.declared.alarm.ClockFull.{ClockFull}
 
--- k, which was inside with the front e and found the time a, waited on wakeup with its setting as often as it found an earlier time;
+-- k, which was inside with the front e and found the time a, waited on wakeup with its setting as often as it found an
+-- earlier time;
 -- g is its front now, and the time that it finds
 pub data Rounds (k setting : ℕ) (e : History ℕ) (a : ℕ) : History ℕ → ℕ → Type 0 where
   none : Rounds k setting e a e a
   more : (g h : History ℕ) (found now : ℕ) → Rounds k setting e a g found → found < setting
       → AddsTwo g (Wait k 0 setting found) (Resume k 0 now) h → Rounds k setting e a h now
 
--- k was refused, for its setting is past the last time; or it waited until its setting, the time that it found and n, resumed a
+-- k was refused, for its setting is past the last time; or it waited until its setting, the time that it found and n,
+-- resumed a
 -- process that waits on wakeup, and answers its setting
 pub data Wakes (k n : ℕ) (f h : History ℕ) : Result ℕ TooFar → Type 0 where
   too_far : (a : ℕ) (g : History ℕ) (e : TooFar) → AddsLast f (Admit k a) g → 2 ^ 64 ≤ a + n
@@ -22,7 +24,8 @@ pub data Wakes (k n : ℕ) (f h : History ℕ) : Result ℕ TooFar → Type 0 wh
   woke : (a : ℕ) (e g : History ℕ) → AddsLast f (Admit k a) e → a + n < 2 ^ 64 → Rounds k (a + n) e a g (a + n)
       → Finishes k 0 (a + n) g h → Wakes k n f h (Ok (a + n))
 
--- k was refused at the last time; or it set the next, resumed a process that waits on wakeup, and answers the time that it set
+-- k was refused at the last time; or it set the next, resumed a process that waits on wakeup, and answers the time that
+-- it set
 pub data Ticks (k : ℕ) (f h : History ℕ) : Result ℕ ClockFull → Type 0 where
   full : (a : ℕ) (g : History ℕ) (e : ClockFull) → AddsLast f (Admit k a) g → a ≡ 2 ^ 64 - 1
       → h ≡ with_event g (Leave k a) → Ticks k f h (Err e)

@@ -1,5 +1,6 @@
 -- How a pool is kept: which buffers have an owner, as the bits of words, and what is counted.
-use Rattle.std.specs.Prelude.{ℕ, ◌*◌, ◌/◌, ◌%◌, ◌<◌, ◌≤◌, ◌≡◌, List, length, slice_index, slice_index_or, Option, Some, None, is_none, IfSome, All}
+use Rattle.std.specs.Prelude.{ℕ, ◌*◌, ◌/◌, ◌%◌, ◌<◌, ◌≤◌, ◌≡◌, List, length, slice_index, slice_index_or, Option, Some}
+use Rattle.std.specs.Prelude.{None, is_none, IfSome, All}
 use Rattle.std.specs.List.{count_by}
 use Rattle.std.specs.Int.{bit_at}
 use Rattle.timed_schedulers.specs.Pools.{IsSize, is_own}
@@ -13,7 +14,8 @@ abbrev pub owned : Option ℕ → ℕ
 owned None = 0
 owned (Some s) = 1
 
--- the owners are streams; how many buffers each stream holds and how many are free is counted; the marked buffers have an owner
+-- the owners are streams; how many buffers each stream holds and how many are free is counted; the marked buffers have
+-- an owner
 pub record IsKept (owners : List (Option ℕ)) (counts : List ℕ) (free : ℕ) (words : List ℕ) : Type 0 where
   pub size : IsSize (length owners) (length counts)
   pub streams : All (λ owner. IfSome owner (λ s. s < length counts)) owners

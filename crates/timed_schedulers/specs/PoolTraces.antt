@@ -13,16 +13,21 @@ use Rattle.timed_schedulers.specs.declared.pool.GiveRefused.{GiveRefused}
 abbrev pub MustWait : ℕ → History Pooled → Pooled → Type 0
 MustWait s _ a = (s < a.streams) × (free_count a ≡ 0)
 
--- k took the least-numbered free buffer for s, after a wait on nonfree, with as many as s held, where none was free. Or it was
--- refused, for s is no stream: at once, or late, after a wait in which another pool took this one's place; then it resumed a process
+-- k took the least-numbered free buffer for s, after a wait on nonfree, with as many as s held, where none was free. Or
+-- it was
+-- refused, for s is no stream: at once, or late, after a wait in which another pool took this one's place; then it
+-- resumed a process
 -- that waits on nonfree
 pub data Takes (k s : ℕ) (f h : History Pooled) : Result ℕ NoStream → Type 0 where
   refused : (a : Pooled) (g : History Pooled) (e : NoStream) → AddsLast f (Admit k a) g → a.streams ≤ s
       → h ≡ with_event g (Leave k a) → Takes k s f h (Err e)
-  took : (found : Pooled) (g : History Pooled) (b : ℕ) → ComesTo k (MustWait s) (λ _. 0) (held s) f g found → s < found.streams
-      → position is_none found.owners ≡ Some b → h ≡ with_event g (Leave k (with_owner found b (Some s))) → Takes k s f h (Ok b)
+  took : (found : Pooled) (g : History Pooled) (b : ℕ) → ComesTo k (MustWait s) (λ _. 0) (held s) f g found
+      → s < found.streams
+      → position is_none found.owners ≡ Some b → h ≡ with_event g (Leave k (with_owner found b (Some s)))
+      → Takes k s f h (Ok b)
   late : (a found : Pooled) (d g : History Pooled) (e : NoStream) → AddsLast f (Admit k a) d → MustWait s d a
-      → AddsTwo d (Wait k 0 (held s a) a) (Resume k 0 found) g → found.streams ≤ s → Finishes k 0 found g h → Takes k s f h (Err e)
+      → AddsTwo d (Wait k 0 (held s a) a) (Resume k 0 found) g → found.streams ≤ s → Finishes k 0 found g h
+      → Takes k s f h (Err e)
 
 -- k was refused, or made buffer b free that s held, and resumed a process that waits on nonfree
 pub data Gives (k s b : ℕ) (f h : History Pooled) : Result (Unit {0}) GiveRefused → Type 0 where

@@ -1,5 +1,6 @@
 -- What holds of a pool of buffers and its waiting processes. Condition 0 is nonfree.
-use Rattle.std.specs.Prelude.{ℕ, ◌==◌, ◌<◌, ◌≤◌, Bool, false, List, [], length, replicate, slice_set, slice_index_or, ◌≡◌, ◌≢◌, Option, Some, None, is_none, IfSome, Result, Ok, Err, All}
+use Rattle.std.specs.Prelude.{ℕ, ◌==◌, ◌<◌, ◌≤◌, Bool, false, List, [], length, replicate, slice_set, slice_index_or}
+use Rattle.std.specs.Prelude.{◌≡◌, ◌≢◌, Option, Some, None, is_none, IfSome, Result, Ok, Err, All}
 use Rattle.std.specs.List.{count_by}
 use Rattle.timed_schedulers.specs.declared.pool.PoolRefused.{PoolRefused}
 use Rattle.timed_schedulers.specs.declared.pool.PoolRefused.TheVariants as refused
@@ -65,5 +66,6 @@ pub data Makes (buffers streams : ℕ) : Result Pooled PoolRefused → Type 0 wh
 pub data Judges (s b : ℕ) (p : Pooled) : Result (Unit {0}) GiveRefused → Type 0 where
   no_stream : p.streams ≤ s → Judges s b p (Err give.NoStream)
   no_buffer : s < p.streams → length p.owners ≤ b → Judges s b p (Err give.NoBuffer)
-  not_held : s < p.streams → b < length p.owners → slice_index_or p.owners b None ≢ Some s → Judges s b p (Err give.NotHeld)
+  not_held : s < p.streams → b < length p.owners → slice_index_or p.owners b None ≢ Some s
+      → Judges s b p (Err give.NotHeld)
   may : s < p.streams → b < length p.owners → slice_index_or p.owners b None ≡ Some s → Judges s b p (Ok tt)

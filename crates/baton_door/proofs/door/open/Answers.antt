@@ -10,7 +10,8 @@ compare_exchange-requires g c =
     (search rules, search rules, begins_at D.rest D.ready (kinds_of D.CONDITIONS D.MESA) _ _ _ _ c.requires.seat)
 
 pub lay_parcel-requires-clause-empty : goal.lay_parcel-requires-clause-empty
-lay_parcel-requires-clause-empty g c = (_, c.compare_exchange.ensures.2 _ (ap (λ (m : Sat g.row.D.Denot). m.0) c.requires.seat))
+lay_parcel-requires-clause-empty g c =
+    (_, c.compare_exchange.ensures.2 _ (ap (λ (m : Sat g.row.D.Denot). m.0) c.requires.seat))
 
 pub store-requires : goal.store-requires
 store-requires g c =

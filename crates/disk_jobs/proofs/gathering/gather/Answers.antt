@@ -16,6 +16,7 @@ returns-else-agrees-clause-ok c =
           let b = agrees-sorted c.args.list.now.cylinders c.args.results.items lines c.args.jobs c.args.sum c.args.done
           c.sort_unstable_by_key.ensures.permutation up a in
           sym c.if-agrees.false
-          ∙ c.agrees.ensures.1 (subst (λ (v : List Served). AgreesInOrder c.args.list.now.cylinders v c.args.jobs c.args.sum c.args.done)
+          ∙ c.agrees.ensures.1
+          (subst (λ (v : List Served). AgreesInOrder c.args.list.now.cylinders v c.args.jobs c.args.sum c.args.done)
           (sym c.as_slice.ensures.value) b)),
     )

@@ -1,7 +1,8 @@
 use Rattle.std.proofs.Common.{refl, arith}
 use Rattle.disk_jobs.proofs.Gathered.{length-differs, differs-at, same_at_each}
 use Rattle.disk_jobs.proofs.gathering.is_in_order.Goals as goal
-use Rattle.disk_jobs.proofs.gathering.is_in_order.Goals.{then-job-i-via-then-job-i, then-job-i-via-else-job-i+then-cylinder-cylinders}
+use Rattle.disk_jobs.proofs.gathering.is_in_order.Goals.{then-job-i-via-then-job-i}
+use Rattle.disk_jobs.proofs.gathering.is_in_order.Goals.{then-job-i-via-else-job-i+then-cylinder-cylinders}
 
 pub returns-then-lines-cylinders : goal.returns-then-lines-cylinders
 returns-then-lines-cylinders c = length-differs c.args.cylinders.now c.args.lines.now c.if-lines-cylinders.true

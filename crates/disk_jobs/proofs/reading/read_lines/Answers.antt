@@ -25,19 +25,22 @@ lines-init g c =
 pub returns-in-Err-Failed-clause-told : goal.returns-in-Err-Failed-clause-told
 returns-in-Err-Failed-clause-told g c =
     let e = c.in-Err-Failed.ensures in
-    progress.exit_failed c.lines.invariant.goes (g.R.Read.remaining (reader_inside c.read_line.new.reader)) c.read_line.new.line.items
+    progress.exit_failed c.lines.invariant.goes
+    (g.R.Read.remaining (reader_inside c.read_line.new.reader)) c.read_line.new.line.items
     e.one e.short c.in-Err-Failed.field-0 None c.in-Err-Failed.field-0-is e.known
 
 pub returns-in-Err-TooLong-clause-told : goal.returns-in-Err-TooLong-clause-told
 returns-in-Err-TooLong-clause-told g c =
     let e = c.in-Err-TooLong.ensures in
-    progress.exit_long c.lines.invariant.goes (g.R.Read.remaining (reader_inside c.read_line.new.reader)) c.read_line.new.line.items
+    progress.exit_long c.lines.invariant.goes
+    (g.R.Read.remaining (reader_inside c.read_line.new.reader)) c.read_line.new.line.items
     e.one e.short c.in-Err-TooLong.field-0 None c.in-Err-TooLong.field-0-is e.known e.fits
 
 pub returns-then-not-is_empty-clause-told : goal.returns-then-not-is_empty-clause-told
 returns-then-not-is_empty-clause-told g c =
     let e = c.in-Ok-Last.ensures in
-    progress.exit_last c.lines.invariant.goes (g.R.Read.remaining (reader_inside c.read_line.new.reader)) c.read_line.new.line.items
+    progress.exit_last c.lines.invariant.goes
+    (g.R.Read.remaining (reader_inside c.read_line.new.reader)) c.read_line.new.line.items
     e.one e.short c.in-Ok-Last.field-0 _ c.one_line.result c.one_line.new.jobs c.in-Ok-Last.field-0-is c.as_slice.ensures.value e.known
     (λ z. absurd (grind (arith, nat_tests, c.is_empty.ensures, c.if-not-is_empty.true, ap length z)))
     c.lines.invariant.numbered c.one_line.ensures.told
@@ -45,21 +48,24 @@ returns-then-not-is_empty-clause-told g c =
 pub returns-then-number-eq1-clause-told : goal.returns-then-number-eq1-clause-told
 returns-then-number-eq1-clause-told g c =
     let e = c.in-Ok-Last.ensures in
-    progress.exit_empty c.lines.invariant.goes (g.R.Read.remaining (reader_inside c.read_line.new.reader)) c.read_line.new.line.items
+    progress.exit_empty c.lines.invariant.goes
+    (g.R.Read.remaining (reader_inside c.read_line.new.reader)) c.read_line.new.line.items
     e.one e.short c.in-Ok-Last.field-0 None c.in-Ok-Last.field-0-is e.known
     (nil_from_length c.read_line.new.line.items (grind (arith, nat_tests, c.is_empty.ensures, c.if-not-is_empty.false))) c.lines.invariant.numbered c.if-number-eq1.true
 
 pub returns-in-Ok-Last-clause-told : goal.returns-in-Ok-Last-clause-told
 returns-in-Ok-Last-clause-told g c =
     let e = c.in-Ok-Last.ensures in
-    progress.exit_done c.lines.invariant.goes (g.R.Read.remaining (reader_inside c.read_line.new.reader)) c.read_line.new.line.items
+    progress.exit_done c.lines.invariant.goes
+    (g.R.Read.remaining (reader_inside c.read_line.new.reader)) c.read_line.new.line.items
     e.one e.short c.in-Ok-Last.field-0 c.in-Ok-Last.field-0-is e.known
     (nil_from_length c.read_line.new.line.items (grind (arith, nat_tests, c.is_empty.ensures, c.if-not-is_empty.false))) c.lines.invariant.numbered c.if-number-eq1.false
 
 pub returns-in-Err-clause-told : goal.returns-in-Err-clause-told
 returns-in-Err-clause-told g c =
     let e = c.in-Ok-Line.ensures in
-    progress.exit_fault c.lines.invariant.goes (g.R.Read.remaining (reader_inside c.read_line.new.reader)) c.read_line.new.line.items
+    progress.exit_fault c.lines.invariant.goes
+    (g.R.Read.remaining (reader_inside c.read_line.new.reader)) c.read_line.new.line.items
     e.one e.short c.in-Ok-Line.field-0 _ c.in-Err.fault c.one_line-in-Ok-Line.new.jobs c.in-Ok-Line.field-0-is c.as_slice-in-Ok-Line.ensures.value e.known
     c.lines.invariant.numbered c.in-Err.ensures.told
 
@@ -71,7 +77,9 @@ lines-preserved g c =
     record {
       numbered = omega (arith, n.0, c.lines.invariant.numbered);
       few = omega (arith, n.0, n.1, c.lines.invariant.numbered);
-      goes = progress.next_line c.lines.invariant.goes (g.R.Read.remaining (reader_inside c.read_line.new.reader)) c.read_line.new.line.items
+      goes =
+          progress.next_line c.lines.invariant.goes
+          (g.R.Read.remaining (reader_inside c.read_line.new.reader)) c.read_line.new.line.items
           e.one e.short c.in-Ok-Line.field-0 _ c.one_line-in-Ok-Line.new.jobs c.in-Ok-Line.field-0-is c.as_slice-in-Ok-Line.ensures.value e.known
           c.in_default.ensures.told;
       calls = omega (arith, short, e.counts.0, c.lines.invariant.calls);

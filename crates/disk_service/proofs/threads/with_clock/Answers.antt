@@ -10,13 +10,15 @@ take_seat-mine-requires g c =
 pub take_seat-seat-requires : goal.take_seat-seat-requires
 take_seat-seat-requires g c =
     let workers = c.workers-workers.ensures.value in
-    let there = there-at (c.args.jobs.now.workers + 2) (c.workers-workers.result + 1 + 1) (omega arith) c.requires.places in
+    let there =
+    there-at (c.args.jobs.now.workers + 2) (c.workers-workers.result + 1 + 1) (omega arith) c.requires.places in
     (c.args.doors.now, c.take_seat-mine.ensures.left _ there)
 
 pub start_clock-requires-clause-seat : goal.start_clock-requires-clause-seat
 start_clock-requires-clause-seat g c =
     let workers = c.workers-workers.ensures.value in
-    let there = there-at (c.args.jobs.now.workers + 2) (c.workers-workers.result + 1 + 1) (omega arith) c.requires.places in
+    let there =
+    there-at (c.args.jobs.now.workers + 2) (c.workers-workers.result + 1 + 1) (omega arith) c.requires.places in
     let seat = c.take_seat-seat.ensures.seat _ (c.take_seat-mine.ensures.left _ there) in
     search rules
 
@@ -24,7 +26,8 @@ pub with_workers-mine-requires-clause-desk : goal.with_workers-mine-requires-cla
 with_workers-mine-requires-clause-desk g c =
     let workers = c.workers-workers.ensures.value in
     let rooms = c.requires.rooms in
-    let there = there-at (c.args.jobs.now.workers + 2) (c.workers-workers.result + 1 + 1) (omega arith) c.requires.places in
+    let there =
+    there-at (c.args.jobs.now.workers + 2) (c.workers-workers.result + 1 + 1) (omega arith) c.requires.places in
     λ _ _. record {
       places = c.take_seat-seat.ensures.left _ (c.take_seat-mine.ensures.left _ there);
       rooms = omega arith;
@@ -33,5 +36,6 @@ with_workers-mine-requires-clause-desk g c =
 pub with_workers-mine-requires-clause-seat : goal.with_workers-mine-requires-clause-seat
 with_workers-mine-requires-clause-seat g c =
     let workers = c.workers-workers.ensures.value in
-    let there = there-at (c.args.jobs.now.workers + 2) (c.workers-workers.result + 1 + 1) (omega arith) c.requires.places in
+    let there =
+    there-at (c.args.jobs.now.workers + 2) (c.workers-workers.result + 1 + 1) (omega arith) c.requires.places in
     λ _ _. c.take_seat-mine.ensures.seat _ there

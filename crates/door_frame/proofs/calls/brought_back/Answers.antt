@@ -13,7 +13,8 @@ claim-requires g c =
     let D = g.D.MonitorData in
     let f = c.requires.came.0 in
     let in_ = came_as (c.deref_mut.ensures.value ∙ c.parcel.view_is) c.requires.came.1 in
-    let due = is_due_by c.args.place in_.log f c.deref_mut.result.now.book _ (IsLegal-last in_.log _ in_.stands.legal) in
+    let due =
+    is_due_by c.args.place in_.log f c.deref_mut.result.now.book _ (IsLegal-last in_.log _ in_.stands.legal) in
     ap next_of (turn-history _ in_.log in_.book) ∙ due.turn_is
 
 pub invariant_of-result-2 : goal.invariant_of-result-2

@@ -18,5 +18,7 @@ pub returns : goal.returns
 returns g c =
     let parts = c.into_parts-seat.ensures in
     let came = c.admit-parcel.ensures.came c.args.out.front (away_as parts.1 parts.2) in
-    let e = entered c.args.out _ _ c.requires (c.admit-parcel.ensures.table ∙ parts.0) parts.1 came (c.brought_in.ensures _ came) in
+    let e =
+    entered c.args.out _ _ c.requires (c.admit-parcel.ensures.table ∙ parts.0) parts.1 came
+    (c.brought_in.ensures _ came) in
     record { of = e.of; place = e.place; rest = e.rests; front = e.front }

@@ -7,7 +7,8 @@ use Rattle.door_frame.proofs.calls.leave.Goals as goal
 
 pub leave-next-requires : goal.leave-next-requires
 leave-next-requires g c =
-    turn_in_hand (holds (c.deref_mut.ensures.value ∙ c.parcel.view_is) c.inside.view_is c.inside.invariant c.requires.of)
+    turn_in_hand
+    (holds (c.deref_mut.ensures.value ∙ c.parcel.view_is) c.inside.view_is c.inside.invariant c.requires.of)
 
 pub hand_on-requires-clause-event : goal.hand_on-requires-clause-event
 hand_on-requires-clause-event g c =
@@ -21,5 +22,6 @@ of_parts-requires g c = (_, c.hand_on.ensures.away _ c.inside.invariant.0)
 pub returns : goal.returns
 returns g c =
     let h = holds (c.deref_mut.ensures.value ∙ c.parcel.view_is) c.inside.view_is c.inside.invariant c.requires.of in
-    let o = left _ _ h c.requires.rest c.hand_on.ensures.table (c.of_parts.ensures _ (c.hand_on.ensures.away _ h.me_is)) in
+    let o =
+    left _ _ h c.requires.rest c.hand_on.ensures.table (c.of_parts.ensures _ (c.hand_on.ensures.away _ h.me_is)) in
     record { of = o.of; place = o.place; front = o.front }

@@ -12,13 +12,15 @@ use Rattle.door_frame.proofs.calls.signal.Goals as goal
 
 pub signal-next-requires-clause-inside : goal.signal-next-requires-clause-inside
 signal-next-requires-clause-inside g c =
-    turn_in_hand (holds (c.deref_mut.ensures.value ∙ c.parcel.view_is) c.inside.view_is c.inside.invariant c.requires.of)
+    turn_in_hand
+    (holds (c.deref_mut.ensures.value ∙ c.parcel.view_is) c.inside.view_is c.inside.invariant c.requires.of)
 
 pub hand_on-requires-clause-event : goal.hand_on-requires-clause-event
 hand_on-requires-clause-event g c =
     let f = front_of c.inside.inside.seat.me.0 c.inside.inside.alone in
     let h = holds (c.deref_mut.ensures.value ∙ c.parcel.view_is) c.inside.view_is c.inside.invariant c.requires.of in
-    let told : IsTrue true → priorities c.args.inside.front.events c.args.condition ≢ [] = (c.if-not-queue.ensures.lists).0 in
+    let told : IsTrue true → priorities c.args.inside.front.events c.args.condition ≢ [] =
+    (c.if-not-queue.ensures.lists).0 in
     gives_handing false _ _ _ h c.requires.hoare (told refl) (c.requires.ready (told refl))
     (c.signal-next.ensures.of (erased f) h.book) c.signal-next.ensures.next
 
@@ -30,17 +32,20 @@ pub claim-parcel-requires-clause-away : goal.claim-parcel-requires-clause-away
 claim-parcel-requires-clause-away g c = (_, c.hand_on.ensures.away _ c.inside.invariant.0)
 
 pub brought_back-requires : goal.brought_back-requires
-brought_back-requires g c = record { came = (_, c.claim-parcel.ensures.came _ (c.hand_on.ensures.away _ c.inside.invariant.0)) }
+brought_back-requires g c =
+    record { came = (_, c.claim-parcel.ensures.came _ (c.hand_on.ensures.away _ c.inside.invariant.0)) }
 
 pub returns : goal.returns
 returns g c =
     let f = front_of c.inside.inside.seat.me.0 c.inside.inside.alone in
     let h = holds (c.deref_mut.ensures.value ∙ c.parcel.view_is) c.inside.view_is c.inside.invariant c.requires.of in
-    let told : IsTrue true → priorities c.args.inside.front.events c.args.condition ≢ [] = (c.if-not-queue.ensures.lists).0 in
+    let told : IsTrue true → priorities c.args.inside.front.events c.args.condition ≢ [] =
+    (c.if-not-queue.ensures.lists).0 in
     let came = c.claim-parcel.ensures.came _ (c.hand_on.ensures.away _ h.me_is) in
     let r = returned c.args.condition _ _ _ _ h (told refl) (c.signal-next.ensures.of (erased f) h.book) c.signal-next.ensures.next
     (c.claim-parcel.ensures.table ∙ c.hand_on.ensures.table) came (c.brought_back.ensures _ came) in
     record { of = r.of; place = r.place; told = ((λ _. told refl), λ _. refl); rest = λ _. r.rests; same = λ no. absurd (cc); front = r.front }
 
 pub returns-then-not-queue-clause-front : goal.returns-then-not-queue-clause-front
-returns-then-not-queue-clause-front g c = nobody_waited (waiting-no_priority _ _ (none-listed false _ refl c.if-not-queue.ensures.lists)) refl refl
+returns-then-not-queue-clause-front g c =
+    nobody_waited (waiting-no_priority _ _ (none-listed false _ refl c.if-not-queue.ensures.lists)) refl refl

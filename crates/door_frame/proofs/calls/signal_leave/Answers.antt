@@ -21,13 +21,15 @@ returns-then-not-queue-clause-front g c =
 
 pub pass-next-requires-clause-inside : goal.pass-next-requires-clause-inside
 pass-next-requires-clause-inside g c =
-    turn_in_hand (holds (c.deref_mut.ensures.value ∙ c.parcel.view_is) c.inside.view_is c.inside.invariant c.requires.of)
+    turn_in_hand
+    (holds (c.deref_mut.ensures.value ∙ c.parcel.view_is) c.inside.view_is c.inside.invariant c.requires.of)
 
 pub hand_on-requires-clause-event : goal.hand_on-requires-clause-event
 hand_on-requires-clause-event g c =
     let f = front_of c.inside.inside.seat.me.0 c.inside.inside.alone in
     let h = holds (c.deref_mut.ensures.value ∙ c.parcel.view_is) c.inside.view_is c.inside.invariant c.requires.of in
-    let told : IsTrue true → priorities c.args.inside.front.events c.args.condition ≢ [] = (c.if-not-queue.ensures.lists).0 in
+    let told : IsTrue true → priorities c.args.inside.front.events c.args.condition ≢ [] =
+    (c.if-not-queue.ensures.lists).0 in
     gives_handing true _ _ _ h c.requires.hoare (told refl) (c.requires.ready (told refl))
     (c.pass-next.ensures.of (erased f) h.book) c.pass-next.ensures.next
 
@@ -38,7 +40,8 @@ pub returns : goal.returns
 returns g c =
     let f = front_of c.inside.inside.seat.me.0 c.inside.inside.alone in
     let h = holds (c.deref_mut.ensures.value ∙ c.parcel.view_is) c.inside.view_is c.inside.invariant c.requires.of in
-    let told : IsTrue true → priorities c.args.inside.front.events c.args.condition ≢ [] = (c.if-not-queue.ensures.lists).0 in
+    let told : IsTrue true → priorities c.args.inside.front.events c.args.condition ≢ [] =
+    (c.if-not-queue.ensures.lists).0 in
     let o = passed c.args.condition _ _ _ _ h c.requires.hoare (told refl) (c.requires.ready (told refl))
     (c.pass-next.ensures.of (erased f) h.book) c.pass-next.ensures.next
     c.hand_on.ensures.table (c.of_parts.ensures _ (c.hand_on.ensures.away _ h.me_is)) in

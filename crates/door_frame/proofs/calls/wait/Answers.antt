@@ -8,13 +8,15 @@ use Rattle.door_frame.proofs.calls.wait.Goals as goal
 
 pub wait-next-requires-clause-inside : goal.wait-next-requires-clause-inside
 wait-next-requires-clause-inside g c =
-    turn_in_hand (holds (c.deref_mut.ensures.value ∙ c.parcel.view_is) c.inside.view_is c.inside.invariant c.requires.of)
+    turn_in_hand
+    (holds (c.deref_mut.ensures.value ∙ c.parcel.view_is) c.inside.view_is c.inside.invariant c.requires.of)
 
 pub hand_on-requires-clause-event : goal.hand_on-requires-clause-event
 hand_on-requires-clause-event g c =
     let f = front_of c.inside.inside.seat.me.0 c.inside.inside.alone in
     let h = holds (c.deref_mut.ensures.value ∙ c.parcel.view_is) c.inside.view_is c.inside.invariant c.requires.of in
-    gives_wait _ _ _ _ h c.requires.in_range c.requires.rest (c.wait-next.ensures.of (erased f) h.book) c.wait-next.ensures.next
+    gives_wait _ _ _ _ h c.requires.in_range c.requires.rest
+    (c.wait-next.ensures.of (erased f) h.book) c.wait-next.ensures.next
 
 pub claim-parcel-requires-clause-small : goal.claim-parcel-requires-clause-small
 claim-parcel-requires-clause-small g c =
@@ -24,11 +26,14 @@ pub claim-parcel-requires-clause-away : goal.claim-parcel-requires-clause-away
 claim-parcel-requires-clause-away g c = (_, c.hand_on.ensures.away _ c.inside.invariant.0)
 
 pub brought_back-requires : goal.brought_back-requires
-brought_back-requires g c = record { came = (_, c.claim-parcel.ensures.came _ (c.hand_on.ensures.away _ c.inside.invariant.0)) }
+brought_back-requires g c =
+    record { came = (_, c.claim-parcel.ensures.came _ (c.hand_on.ensures.away _ c.inside.invariant.0)) }
 
 pub returns : goal.returns
 returns g c =
     let h = holds (c.deref_mut.ensures.value ∙ c.parcel.view_is) c.inside.view_is c.inside.invariant c.requires.of in
     let came = c.claim-parcel.ensures.came _ (c.hand_on.ensures.away _ h.me_is) in
-    let r = resumed c.args.condition c.args.priority _ _ h (c.claim-parcel.ensures.table ∙ c.hand_on.ensures.table) came (c.brought_back.ensures _ came) in
+    let r =
+    resumed c.args.condition c.args.priority _ _ h (c.claim-parcel.ensures.table ∙ c.hand_on.ensures.table) came
+    (c.brought_back.ensures _ came) in
     record { of = r.of; place = r.place; ready = r.is_ready; rest = r.rests; front = r.front }

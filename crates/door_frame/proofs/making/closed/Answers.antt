@@ -1,4 +1,5 @@
-use Rattle.std.proofs.Common.{rules, ◌≡◌, ℕ, ◌-◌, List, ◌∷◌, ◌++◌, [], take, IsSome, refl, sym, ap, ◌∙◌, subst, arith, append-nil, append_assoc}
+use Rattle.std.proofs.Common.{rules, ◌≡◌, ℕ, ◌-◌, List, ◌∷◌, ◌++◌, [], take, IsSome, refl, sym, ap, ◌∙◌, subst, arith}
+use Rattle.std.proofs.Common.{append-nil, append_assoc}
 use Rattle.std.specs.Prelude.{All}
 use Rattle.door_frame.specs.declared.view.View.TheVariants.{Places}
 use Rattle.door_frame.specs.Places.{DoorId, PlaceOut, IsOut}
@@ -15,7 +16,8 @@ loop-out-init g c =
     let d : DoorId = record { table = t.table_id; places = g.W.Words.places t.key } in
     let o = c.in-Some.first in
     let P = IsOut D.rest D.ready (kinds_of D.CONDITIONS D.MESA) d in
-    let mine = All-mid P c.pop.new.self.items o [] (subst (All P) (c.in-Some.ensures.items ∙ sym (append-nil _)) c.requires.of) in
+    let mine =
+    All-mid P c.pop.new.self.items o [] (subst (All P) (c.in-Some.ensures.items ∙ sym (append-nil _)) c.requires.of) in
     (c.into_parts-seat.ensures.0 ∙ mine.of, (o ∷ [], c.in-Some.ensures.items, c.into_parts-seat.ensures.2))
 
 pub join_seat-requires : goal.join_seat-requires
@@ -37,7 +39,8 @@ join_seat-requires g c =
       ap (λ (m : Sat g.row.D.Denot). m.1) c.into_parts-other.ensures.2,
       search rules,
       joins_one (W.starts q) (W.tells q) D.rest D.ready (kinds_of D.CONDITIONS D.MESA) d _ _ _ _ inv.1.0 o.place o.front
-          (ap (λ (m : Sat g.row.D.Denot). m.0) inv.1.2) (ap (λ (m : Sat g.row.D.Denot). m.0) c.into_parts-other.ensures.2),
+          (ap (λ (m : Sat g.row.D.Denot). m.0) inv.1.2)
+          (ap (λ (m : Sat g.row.D.Denot). m.0) c.into_parts-other.ensures.2),
     )
 
 pub loop-out-preserved : goal.loop-out-preserved
@@ -52,7 +55,8 @@ loop-out-preserved g c =
     (c.join_seat.ensures.0 ∙ inv.0, (o ∷ inv.1.0, items ∙ append_assoc left (o ∷ []) inv.1.0, both))
 
 none_left : {A : Type 0} (n : ℕ) (l new : List A) → l ≡ new ++ [] → n ≡ 0 → new ≡ take (n - 1) l → l ≡ []
-none_left n l new items none rest = let z : n - 1 ≡ 0 = omega arith in items ∙ (append-nil new ∙ (rest ∙ ap (λ (m : ℕ). take m l) z))
+none_left n l new items none rest =
+    let z : n - 1 ≡ 0 = omega arith in items ∙ (append-nil new ∙ (rest ∙ ap (λ (m : ℕ). take m l) z))
 
 pub unwrap-parcel-requires : goal.unwrap-parcel-requires
 unwrap-parcel-requires g c =
@@ -76,5 +80,7 @@ returns g c =
     let d : DoorId = record { table = t.table_id; places = W.places t.key } in
     let fin = ends_all (W.starts t.key) (W.tells t.key) D.rest D.ready (kinds_of D.CONDITIONS D.MESA) d _ _ inv.1.0 inv.1.1 (none_left _ _ _ p.items p.cases.0 p.rest)
     (ap (λ (m : Sat g.row.D.Denot). m.0) inv.1.2) c.requires.of c.requires.places c.close_with-closed.ensures.values.2 c.take.ensures.value in
-    let e = ends_at D.rest D.ready (kinds_of D.CONDITIONS D.MESA) d fin.2 (sym fin.1 ∙ c.unwrap-parcel.ensures) (sym c.into_data.ensures) in
+    let e =
+    ends_at D.rest D.ready (kinds_of D.CONDITIONS D.MESA) d fin.2 (sym fin.1 ∙ c.unwrap-parcel.ensures)
+    (sym c.into_data.ensures) in
     record { closes = e.0; rest = e.1 }

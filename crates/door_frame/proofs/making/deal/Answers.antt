@@ -1,4 +1,5 @@
-use Rattle.std.proofs.Common.{rules, length, option_to_list, ◌≡◌, ℕ, ◌+◌, ◌-◌, ◌∷◌, [], ◌++◌, sym, ap, ◌∙◌, subst, arith}
+use Rattle.std.proofs.Common.{rules, length, option_to_list, ◌≡◌, ℕ, ◌+◌, ◌-◌, ◌∷◌, [], ◌++◌, sym, ap, ◌∙◌, subst}
+use Rattle.std.proofs.Common.{arith}
 use Rattle.atomic_table.specs.Table.{Splits}
 use Rattle.door_frame.specs.declared.view.View.{View}
 use Rattle.door_frame.specs.declared.view.View.TheVariants.{Places}
@@ -22,7 +23,8 @@ split_seat-cut-requires g c =
     let K = Kept (W.starts q) (W.tells q) D.rest D.ready (kinds_of D.CONDITIONS D.MESA) (W.places q) in (
       search rules,
       search rules,
-      subst (λ (v : View g.row.D.Denot). Splits K c.loop-place.seat.id v (places_behind v) (first_place v)) (sym (ap (λ (m : Sat g.row.D.Denot). m.0) me))
+      subst (λ (v : View g.row.D.Denot). Splits K c.loop-place.seat.id v (places_behind v) (first_place v))
+          (sym (ap (λ (m : Sat g.row.D.Denot). m.0) me))
           (deals_ok (W.starts q) (W.tells q) D.rest D.ready (kinds_of D.CONDITIONS D.MESA) _ _ c.loop-place.place (c.args.places - c.loop-place.place) all.0
           (omega (arith, c.loop-place-test.true))),
     )
@@ -47,7 +49,9 @@ loop-place-preserved g c =
       c.split_seat-cut.ensures.0 ∙ inv.0,
       (λ f is.
           let m = inv.1 f is in
-          let cut = cut_off k (c.args.places - k) f (omega (arith, c.loop-place-test.true)) m.0 c.split_seat-cut.ensures.4 c.split_seat-cut.ensures.2 in (
+          let cut =
+          cut_off k (c.args.places - k) f
+          (omega (arith, c.loop-place-test.true)) m.0 c.split_seat-cut.ensures.4 c.split_seat-cut.ensures.2 in (
             cut.1 ∙ ap (λ (n : ℕ). (Places (all_know (k + 1) n f), [])) less,
             c.push_reserved.ensures.items
                 ∙ ap (λ o. c.loop-place.outs.items ++ o ∷ []) (c.of_parts.ensures f cut.0)
@@ -55,5 +59,6 @@ loop-place-preserved g c =
           )),
       search rules,
       search rules,
-      omega (arith, c.pop.ensures.len, ap (λ o. length (option_to_list o)) c.unwrap-parker.ensures, inv.4, c.loop-place-test.true),
+      omega
+          (arith, c.pop.ensures.len, ap (λ o. length (option_to_list o)) c.unwrap-parker.ensures, inv.4, c.loop-place-test.true),
     )

@@ -9,7 +9,8 @@ exchange-requires g c =
     (search rules, (Some full.1, one_slot _ _ (ap (λ (m : Sat g.row.D.Denot). m.1) full.2)))
 
 pub unwrap-requires : goal.unwrap-requires
-unwrap-requires g c = let full = c.requires.full in subst IsSome (sym (slot_has _ (Some full.1) full.2 c.exchange.ensures.2)) refl
+unwrap-requires g c =
+    let full = c.requires.full in subst IsSome (sym (slot_has _ (Some full.1) full.2 c.exchange.ensures.2)) refl
 
 pub returns : goal.returns
 returns g c =

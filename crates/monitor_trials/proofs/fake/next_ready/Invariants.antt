@@ -5,7 +5,8 @@ use Rattle.monitor_trials.proofs.fake.next_ready.Given as goal
 
 -- the first ready one of those that are left is the first of all
 abbrev pub invariant-loop-answer : goal.invariant-loop-answer
-invariant-loop-answer g l = (a : _) (left : _) → FirstReady (λ d. g.D.MonitorData.ready l.condition l.priority d nobody) l.answers.items a left
+invariant-loop-answer g l =
+    (a : _) (left : _) → FirstReady (λ d. g.D.MonitorData.ready l.condition l.priority d nobody) l.answers.items a left
     → FirstReady (λ d. g.D.MonitorData.ready l.condition l.priority d nobody) l.fn.answers.items a left
 
 abbrev pub decreases-loop-answer : goal.decreases-loop-answer

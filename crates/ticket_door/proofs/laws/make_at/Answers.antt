@@ -12,7 +12,9 @@ use Rattle.ticket_door.proofs.laws.make_at.Goals as goal
 pub deal-outs-requires-clause-seat : goal.deal-outs-requires-clause-seat
 deal-outs-requires-clause-seat g c =
     let key = ap (λ (z : Sizes). z.places) c.in-Ok-vacant.ensures.table.2 in
-    let h = opened (sizes_of g.D.MonitorData.CONDITIONS g.D.MonitorData.MESA c.in-Ok-vacant.made.0.shared.key.places) c.in-Ok-vacant.made.2.state in
+    let h =
+    opened
+    (sizes_of g.D.MonitorData.CONDITIONS g.D.MonitorData.MESA c.in-Ok-vacant.made.0.shared.key.places) c.in-Ok-vacant.made.2.state in
     (h, c.open.ensures.opened ∙ ap (λ (n : ℕ). (Places (all_know 0 n h), [])) key)
 
 pub returns-clause-of : goal.returns-clause-of
@@ -25,5 +27,6 @@ returns-clause-of g c =
     let h = opened (sizes_of D.CONDITIONS D.MESA t.key.places) s in
     let d : DoorId = record { table = t.table_id; places = t.key.places } in
     let dealt = c.deal-outs.ensures h (c.open.ensures.opened ∙ ap (λ (n : ℕ). (Places (all_know 0 n h), [])) key) in
-    made_outside D.rest D.ready (kinds_of D.CONDITIONS D.MESA) d s _ (dealt ∙ ap (λ (n : ℕ). places_from t.table_id 0 n h) (sym key))
+    made_outside D.rest D.ready (kinds_of D.CONDITIONS D.MESA) d s _
+    (dealt ∙ ap (λ (n : ℕ). places_from t.table_id 0 n h) (sym key))
     (subst (λ (r : g.row.D.Denot). D.rest r nobody) (sym made.parcel.0) c.requires.rest)

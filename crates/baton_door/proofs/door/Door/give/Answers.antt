@@ -14,7 +14,8 @@ store-requires g c =
     let laid = c.lay_parcel.ensures.laid ∙ ap (λ (m : Sat g.row.D.Denot). (m.0, (0, Some c.args.parcel) ∷ [])) e.1 in (
       table,
       omega (arith, wide),
-      gives_at D.rest D.ready (kinds_of D.CONDITIONS D.MESA) _ _ _ c.args.place e.0 c.args.parcel c.args.next g.J.PickedEvent.event _ _ laid e.2 c.word_of_next.ensures,
+      gives_at D.rest D.ready
+          (kinds_of D.CONDITIONS D.MESA) _ _ _ c.args.place e.0 c.args.parcel c.args.next g.J.PickedEvent.event _ _ laid e.2 c.word_of_next.ensures,
     )
 
 pub returns-in-For-clause-away : goal.returns-in-For-clause-away

@@ -11,7 +11,9 @@ use Rattle.baton_door.proofs.door.Door.make.Goals as goal
 pub deal-outs-requires-clause-seat : goal.deal-outs-requires-clause-seat
 deal-outs-requires-clause-seat g c =
     let key = c.in-Ok-vacant.ensures.table.2 in
-    let h = opened (sizes_of g.D.MonitorData.CONDITIONS g.D.MonitorData.MESA c.in-Ok-vacant.made.0.shared.key) c.in-Ok-vacant.made.2.state in
+    let h =
+    opened
+    (sizes_of g.D.MonitorData.CONDITIONS g.D.MonitorData.MESA c.in-Ok-vacant.made.0.shared.key) c.in-Ok-vacant.made.2.state in
     (h, c.open.ensures.opened ∙ ap (λ (n : ℕ). (Places (all_know 0 n h), [])) key)
 
 pub returns-clause-of : goal.returns-clause-of
@@ -22,6 +24,8 @@ returns-clause-of g c =
     let s = c.in-Ok-vacant.made.2.state in
     let h = opened (sizes_of D.CONDITIONS D.MESA t.key) s in
     let d : DoorId = record { table = t.table_id; places = t.key } in
-    let dealt = c.deal-outs.ensures h (c.open.ensures.opened ∙ ap (λ (n : ℕ). (Places (all_know 0 n h), [])) made.table.2) in
-    made_outside D.rest D.ready (kinds_of D.CONDITIONS D.MESA) d s _ (dealt ∙ ap (λ (n : ℕ). places_from t.table_id 0 n h) (sym made.table.2))
+    let dealt =
+    c.deal-outs.ensures h (c.open.ensures.opened ∙ ap (λ (n : ℕ). (Places (all_know 0 n h), [])) made.table.2) in
+    made_outside D.rest D.ready (kinds_of D.CONDITIONS D.MESA) d s _
+    (dealt ∙ ap (λ (n : ℕ). places_from t.table_id 0 n h) (sym made.table.2))
     (subst (λ (r : g.row.D.Denot). D.rest r nobody) (sym made.parcel.0) c.requires.rest)

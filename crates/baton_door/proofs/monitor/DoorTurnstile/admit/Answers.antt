@@ -21,7 +21,8 @@ returns-then-try_in-clause-came g c = λ f away.
 pub take_parcel-requires-2-clause-full : goal.take_parcel-requires-2-clause-full
 take_parcel-requires-2-clause-full g c =
     let out = c.requires.outside in
-    let t = c.keep_trying.ensures.let_in c.args.place out.0 (c.try_in.ensures.turned_away c.if-try_in.false ∙ out.1) in (_, t.0, t.1.me_is)
+    let t = c.keep_trying.ensures.let_in c.args.place out.0 (c.try_in.ensures.turned_away c.if-try_in.false ∙ out.1) in
+    (_, t.0, t.1.me_is)
 
 pub returns-clause-came : goal.returns-clause-came
 returns-clause-came g c = λ f away.

@@ -19,13 +19,16 @@ compare_exchange-requires g c =
     let wide = c.self.invariant.words_are in (
       table,
       omega (arith, wide),
-      claims_at D.rest D.ready (kinds_of D.CONDITIONS D.MESA) _ _ _ c.args.place away.0 _ _ (c.loop.invariant.2 ∙ away.1) c.owed-mine.ensures,
+      claims_at D.rest D.ready (kinds_of D.CONDITIONS D.MESA) _ _ _ c.args.place away.0 _ _
+          (c.loop.invariant.2 ∙ away.1) c.owed-mine.ensures,
     )
 
 pub take_parcel-requires-clause-full : goal.take_parcel-requires-clause-full
 take_parcel-requires-clause-full g c =
     let away = c.requires.away in
-    let t = (c.compare_exchange.ensures.2 c.args.place away.0 (c.loop.invariant.2 ∙ away.1)).1 c.if-compare_exchange-mine.true in (_, t.0, t.1.me_is)
+    let t =
+    (c.compare_exchange.ensures.2 c.args.place away.0 (c.loop.invariant.2 ∙ away.1)).1 c.if-compare_exchange-mine.true in
+    (_, t.0, t.1.me_is)
 
 pub returns-then-compare_exchange-mine-clause-came : goal.returns-then-compare_exchange-mine-clause-came
 returns-then-compare_exchange-mine-clause-came g c = λ f is.
@@ -37,5 +40,6 @@ pub loop-preserved : goal.loop-preserved
 loop-preserved g c =
     let away = c.requires.away in
     let inv = c.loop.invariant in
-    let missed = (c.compare_exchange.ensures.2 c.args.place away.0 (inv.2 ∙ away.1)).0 c.if-compare_exchange-mine.false in
+    let missed =
+    (c.compare_exchange.ensures.2 c.args.place away.0 (inv.2 ∙ away.1)).0 c.if-compare_exchange-mine.false in
     ((tt, tt), c.compare_exchange.ensures.0 ∙ inv.1, missed ∙ inv.2)

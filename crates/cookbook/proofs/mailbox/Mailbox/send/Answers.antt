@@ -9,16 +9,19 @@ use Rattle.cookbook.proofs.mailbox.Mailbox.send.Goals as goal
 use Rattle.cookbook.proofs.mailbox.Mailbox.send.Goals.{After-state_mut, then-is_full, else-is_full}
 
 -- it came in and, after a wait or without one, finds room
-came : (g : Over) (c : After-state_mut g) → Came g.M.Monitor c.args.m.now c.args.out (λ _ a. length a ≡ 8) (λ _. 0) (λ _. c.args.letter.priority)
+came : (g : Over) (c : After-state_mut g)
+    → Came g.M.Monitor c.args.m.now c.args.out (λ _ a. length a ≡ 8) (λ _. 0) (λ _. c.args.letter.priority)
     (λ b q. RoomReady (length b) (q 0) (q 1)) c.if-is_full.inside
 came g c = elim c.if-is_full.branch [
   | then-is_full w ↦
       let full = rw c.state.ensures at (c.is_full.ensures.0 w.if-is_full.true) in
-      rw w.inside-is (Came-waited g.M.Monitor c.enter-inside.ensures.place c.enter-inside.ensures.front full w.wait-inside.ensures.of w.wait-inside.ensures.place
+      rw w.inside-is
+      (Came-waited g.M.Monitor c.enter-inside.ensures.place c.enter-inside.ensures.front full w.wait-inside.ensures.of w.wait-inside.ensures.place
       w.wait-inside.ensures.front refl refl (w.wait-inside.ensures.ready (omega arith)))
   | else-is_full w ↦
       let room = rw c.state.ensures at (iff_false c.is_full.ensures w.if-is_full.false) in
-      rw w.inside-is (Came-at_once g.M.Monitor c.enter-inside.ensures.of c.enter-inside.ensures.place c.enter-inside.ensures.front room
+      rw w.inside-is
+      (Came-at_once g.M.Monitor c.enter-inside.ensures.of c.enter-inside.ensures.place c.enter-inside.ensures.front room
       (RoomReady-at_once c.enter-inside.ensures.rest room))
 ]
 
@@ -26,18 +29,23 @@ pub put-requires : goal.put-requires
 put-requires g c = rw c.state_mut.ensures.value (came g c).ready.some
 
 pub signal_leave-out-requires-clause-of : goal.signal_leave-out-requires-clause-of
-signal_leave-out-requires-clause-of g c = g.met.M.Monitor.keeps_of _ _ _ (came g (goal.at.signal_leave-out-requires-clause-of g c).After-state_mut).of
+signal_leave-out-requires-clause-of g c =
+    g.met.M.Monitor.keeps_of _ _ _ (came g (goal.at.signal_leave-out-requires-clause-of g c).After-state_mut).of
 
 pub signal_leave-out-requires-clause-ready : goal.signal_leave-out-requires-clause-ready
-signal_leave-out-requires-clause-ready g c = LetterReady-put _ _ (came g (goal.at.signal_leave-out-requires-clause-ready g c).After-state_mut).ready
+signal_leave-out-requires-clause-ready g c =
+    LetterReady-put _ _ (came g (goal.at.signal_leave-out-requires-clause-ready g c).After-state_mut).ready
     (g.met.M.Monitor.takes_data _ _ ∙ (rw c.state_mut.ensures.value at c.put.ensures)) (g.met.M.Monitor.keeps_lists _ _)
 
 pub signal_leave-out-requires-clause-rest : goal.signal_leave-out-requires-clause-rest
-signal_leave-out-requires-clause-rest g c = MailRests-put _ _ (came g (goal.at.signal_leave-out-requires-clause-rest g c).After-state_mut).ready
+signal_leave-out-requires-clause-rest g c =
+    MailRests-put _ _ (came g (goal.at.signal_leave-out-requires-clause-rest g c).After-state_mut).ready
     (g.met.M.Monitor.takes_data _ _ ∙ (rw c.state_mut.ensures.value at c.put.ensures)) (g.met.M.Monitor.keeps_lists _ _)
 
 pub returns-clause-place : goal.returns-clause-place
-returns-clause-place g c = c.signal_leave-out.ensures.place ∙ (g.met.M.Monitor.keeps_place _ _ ∙ (came g (goal.at.returns-clause-place g c).After-state_mut).place)
+returns-clause-place g c =
+    c.signal_leave-out.ensures.place
+    ∙ (g.met.M.Monitor.keeps_place _ _ ∙ (came g (goal.at.returns-clause-place g c).After-state_mut).place)
 
 pub returns-clause-trace : goal.returns-clause-trace
 returns-clause-trace g c =
@@ -48,5 +56,6 @@ returns-clause-trace g c =
       comes = inside.comes;
       room = inside.ready.some;
       finishes = Finishes-exit c.signal_leave-out.ensures.front (g.met.M.Monitor.keeps_place _ _ ∙ inside.place)
-          (g.met.M.Monitor.takes_data _ _ ∙ (rw c.state_mut.ensures.value at c.put.ensures)) (g.met.M.Monitor.keeps_front _ _);
+          (g.met.M.Monitor.takes_data _ _ ∙ (rw c.state_mut.ensures.value at c.put.ensures))
+          (g.met.M.Monitor.keeps_front _ _);
     }

@@ -16,6 +16,9 @@ returns g c =
     record {
       lists = subst (λ (q : List ℕ). MatchOption c.first.result (q ≡ []) (λ p. (q ≢ []) × (p ≡ slice_index q 0)))
           (ap (λ (q : ℕ → List ℕ). q c.args.condition) are) c.first.ensures.lists;
-      front = first-history c.first.result f c.args.condition (c.first.ensures.of (erased f) (book_in_hand c.book.ensures c.self.invariant))
-          ∙ ap (λ (i : PlaceIn g.row.D.Denot). option_map priority_of (chosen c.args.condition i.front.events)) c.self.view_is;
+      front =
+          first-history c.first.result f c.args.condition
+          (c.first.ensures.of (erased f) (book_in_hand c.book.ensures c.self.invariant))
+          ∙ ap
+          (λ (i : PlaceIn g.row.D.Denot). option_map priority_of (chosen c.args.condition i.front.events)) c.self.view_is;
     }

@@ -10,7 +10,8 @@ loop-out-preserved c =
     let inv = c.loop-out.invariant in
     let asks = c.loop-out.asks.items in (
       rw c.pop.ensures.rest (All-take (IsUnaskedOut c.args.door.now.door) _ c.loop-out.outs.items inv.0),
-      rw c.push_back_reserved.ensures.items (all-and-one (IsUnaskedAsking c.args.door.now) asks c.ask.result inv.1 c.ask.ensures.of),
+      rw c.push_back_reserved.ensures.items
+          (all-and-one (IsUnaskedAsking c.args.door.now) asks c.ask.result inv.1 c.ask.ensures.of),
       search rules,
       search rules,
       λ k at. rw c.push_back_reserved.ensures.items (asks-one k c.pop.new.self.items c.in-Some.out asks c.ask.result c.ask.ensures.place

@@ -10,8 +10,10 @@ pub loop-asked-preserved : goal.loop-asked-preserved
 loop-asked-preserved g c =
     let inv = c.loop-asked.invariant in
     let outs = c.loop-asked.outs.items in (
-      All-tail (IsUnaskedAsking c.args.door.now) c.in-Some.asked c.pop_front.new.self.items (subst (All (IsUnaskedAsking c.args.door.now)) c.in-Some.ensures.items inv.0),
-      rw c.push_reserved-in-Some.ensures.items (all-and-one (IsUnaskedOut c.args.door.now.door) outs c.give_up.result inv.1 c.give_up.ensures.of),
+      All-tail (IsUnaskedAsking c.args.door.now) c.in-Some.asked c.pop_front.new.self.items
+          (subst (All (IsUnaskedAsking c.args.door.now)) c.in-Some.ensures.items inv.0),
+      rw c.push_reserved-in-Some.ensures.items
+          (all-and-one (IsUnaskedOut c.args.door.now.door) outs c.give_up.result inv.1 c.give_up.ensures.of),
       search rules,
       search rules,
       λ k at. rw c.push_reserved-in-Some.ensures.items (gives-up-one k c.pop_front.new.self.items c.in-Some.asked outs c.give_up.result (search rules)

@@ -11,8 +11,10 @@ abbrev pub invariant-loop-asked : goal.invariant-loop-asked
 invariant-loop-asked g l =
     All (IsUnaskedAsking l.door) l.asks.items
     × All (IsUnaskedOut l.door.door) l.outs.items
-    × (deque_len l.asks + vec_len l.outs ≤ vec_capacity l.outs) × (deque_len l.asks + vec_len l.came ≤ vec_capacity l.came)
-    × ((k : ℕ) → HasPlace k (map as_out l.fn.asks.items) → HasPlace k (map as_out l.asks.items) ⊎ HasPlace k l.outs.items)
+    × (deque_len l.asks + vec_len l.outs ≤ vec_capacity l.outs) ×
+    (deque_len l.asks + vec_len l.came ≤ vec_capacity l.came)
+    ×
+    ((k : ℕ) → HasPlace k (map as_out l.fn.asks.items) → HasPlace k (map as_out l.asks.items) ⊎ HasPlace k l.outs.items)
 
 abbrev pub decreases-loop-asked : goal.decreases-loop-asked
 decreases-loop-asked g l = deque_len l.asks

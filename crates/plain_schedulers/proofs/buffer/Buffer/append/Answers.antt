@@ -9,16 +9,19 @@ use Rattle.plain_schedulers.proofs.buffer.Buffer.append.Goals as goal
 use Rattle.plain_schedulers.proofs.buffer.Buffer.append.Goals.{After-state_mut, then-is_full, else-is_full}
 
 -- it came in and, after a wait or without one, finds room
-came : (g : Over) (c : After-state_mut g) → Came g.M.Monitor c.args.m.now c.args.out (λ _ a. length a.items ≡ a.size) (λ _. 1) (λ _. 0)
+came : (g : Over) (c : After-state_mut g)
+    → Came g.M.Monitor c.args.m.now c.args.out (λ _ a. length a.items ≡ a.size) (λ _. 1) (λ _. 0)
     (λ b q. ReadyNonfull b (q 0) (q 1)) c.if-is_full.inside
 came g c = elim c.if-is_full.branch [
   | then-is_full w ↦
       let full = rw c.state.ensures at (c.is_full.ensures.0 w.if-is_full.true) in
-      rw w.inside-is (Came-waited g.M.Monitor c.enter-inside.ensures.place c.enter-inside.ensures.front full w.wait-inside.ensures.of w.wait-inside.ensures.place
+      rw w.inside-is
+      (Came-waited g.M.Monitor c.enter-inside.ensures.place c.enter-inside.ensures.front full w.wait-inside.ensures.of w.wait-inside.ensures.place
       w.wait-inside.ensures.front refl refl (w.wait-inside.ensures.ready (omega arith)))
   | else-is_full w ↦
       let room = rw c.state.ensures at (iff_false c.is_full.ensures w.if-is_full.false) in
-      rw w.inside-is (Came-at_once g.M.Monitor c.enter-inside.ensures.of c.enter-inside.ensures.place c.enter-inside.ensures.front room
+      rw w.inside-is
+      (Came-at_once g.M.Monitor c.enter-inside.ensures.of c.enter-inside.ensures.place c.enter-inside.ensures.front room
       (ReadyNonfull-at_once c.enter-inside.ensures.rest room))
 ]
 
@@ -26,18 +29,25 @@ pub push-requires : goal.push-requires
 push-requires g c = rw c.state_mut.ensures.value (came g c).ready.room
 
 pub signal_leave-out-requires-clause-of : goal.signal_leave-out-requires-clause-of
-signal_leave-out-requires-clause-of g c = g.met.M.Monitor.keeps_of _ _ _ (came g (goal.at.signal_leave-out-requires-clause-of g c).After-state_mut).of
+signal_leave-out-requires-clause-of g c =
+    g.met.M.Monitor.keeps_of _ _ _ (came g (goal.at.signal_leave-out-requires-clause-of g c).After-state_mut).of
 
 pub signal_leave-out-requires-clause-ready : goal.signal_leave-out-requires-clause-ready
-signal_leave-out-requires-clause-ready g c = ReadyNonempty-added _ (came g (goal.at.signal_leave-out-requires-clause-ready g c).After-state_mut).ready
-    (g.met.M.Monitor.takes_data _ _ ∙ (rw c.state_mut.ensures.value at c.push.ensures)) (g.met.M.Monitor.keeps_lists _ _)
+signal_leave-out-requires-clause-ready g c =
+    ReadyNonempty-added _ (came g (goal.at.signal_leave-out-requires-clause-ready g c).After-state_mut).ready
+    (g.met.M.Monitor.takes_data _ _ ∙ (rw c.state_mut.ensures.value at c.push.ensures))
+    (g.met.M.Monitor.keeps_lists _ _)
 
 pub signal_leave-out-requires-clause-rest : goal.signal_leave-out-requires-clause-rest
-signal_leave-out-requires-clause-rest g c = BufferRests-added _ (came g (goal.at.signal_leave-out-requires-clause-rest g c).After-state_mut).ready
-    (g.met.M.Monitor.takes_data _ _ ∙ (rw c.state_mut.ensures.value at c.push.ensures)) (g.met.M.Monitor.keeps_lists _ _)
+signal_leave-out-requires-clause-rest g c =
+    BufferRests-added _ (came g (goal.at.signal_leave-out-requires-clause-rest g c).After-state_mut).ready
+    (g.met.M.Monitor.takes_data _ _ ∙ (rw c.state_mut.ensures.value at c.push.ensures))
+    (g.met.M.Monitor.keeps_lists _ _)
 
 pub returns-clause-place : goal.returns-clause-place
-returns-clause-place g c = c.signal_leave-out.ensures.place ∙ (g.met.M.Monitor.keeps_place _ _ ∙ (came g (goal.at.returns-clause-place g c).After-state_mut).place)
+returns-clause-place g c =
+    c.signal_leave-out.ensures.place
+    ∙ (g.met.M.Monitor.keeps_place _ _ ∙ (came g (goal.at.returns-clause-place g c).After-state_mut).place)
 
 pub returns-clause-trace : goal.returns-clause-trace
 returns-clause-trace g c =
@@ -48,5 +58,6 @@ returns-clause-trace g c =
       comes = inside.comes;
       room = inside.ready.room;
       finishes = Finishes-exit c.signal_leave-out.ensures.front (g.met.M.Monitor.keeps_place _ _ ∙ inside.place)
-          (g.met.M.Monitor.takes_data _ _ ∙ (rw c.state_mut.ensures.value at c.push.ensures)) (g.met.M.Monitor.keeps_front _ _);
+          (g.met.M.Monitor.takes_data _ _ ∙ (rw c.state_mut.ensures.value at c.push.ensures))
+          (g.met.M.Monitor.keeps_front _ _);
     }

@@ -6,4 +6,5 @@ pub invariant_of-self : goal.invariant_of-self
 invariant_of-self g c = IsRing-push c.args.item c.self.invariant (rw (← c.self.view_is) at c.requires) (omega arith)
 
 pub returns : goal.returns
-returns g c = rw (← c.self.view_is) (added-ring c.args.item c.self.invariant (rw (← c.self.view_is) at c.requires) (omega arith))
+returns g c =
+    rw (← c.self.view_is) (added-ring c.args.item c.self.invariant (rw (← c.self.view_is) at c.requires) (omega arith))

@@ -19,6 +19,8 @@ returns-clause-trace g c =
         | else-not-is_in w ↦ rw w.inside-is (at_once c.enter-inside.ensures.front (search rules))
       ];
       is_in = search rules;
-      leaves = leaves-as c.leave.ensures.front (g.met.M.Monitor.keeps_place _ _ ∙ place) (g.met.M.Monitor.takes_data _ _ ∙ c.take.ensures.after)
+      leaves =
+          leaves-as c.leave.ensures.front (g.met.M.Monitor.keeps_place _ _ ∙ place)
+          (g.met.M.Monitor.takes_data _ _ ∙ c.take.ensures.after)
           (g.met.M.Monitor.keeps_front _ _);
     }

@@ -4,7 +4,8 @@ use Rattle.plain_schedulers.specs.SingleTraces.{put_in, refused}
 use Rattle.plain_schedulers.proofs.single.Single.release.Goals as goal
 
 pub returns-then-is_in-clause-trace : goal.returns-then-is_in-clause-trace
-returns-then-is_in-clause-trace g c = refused _ _ c.enter-inside.ensures.front (rw c.state.ensures at (c.is_in.ensures.0 c.if-is_in.true))
+returns-then-is_in-clause-trace g c =
+    refused _ _ c.enter-inside.ensures.front (rw c.state.ensures at (c.is_in.ensures.0 c.if-is_in.true))
     (leaves-as c.leave.ensures.front c.enter-inside.ensures.place refl refl)
 
 pub returns-clause-trace : goal.returns-clause-trace

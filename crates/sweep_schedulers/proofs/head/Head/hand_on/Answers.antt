@@ -19,8 +19,10 @@ swept : (g : Over) (c : After-state-2 g) →
       place : M.place_in inside ≡ M.place_in c.args.inside;
       front : M.front_in inside ≡ M.front_in c.args.inside;
       free : HeadFree (M.data_in inside) (M.lists_in inside 0) (M.lists_in inside 1);
-      rest : M.lists_in inside (sweep (M.data_in inside).direction) ≡ [] → HeadRests (M.data_in inside) (M.lists_in inside 0) (M.lists_in inside 1);
-      hands : (h : History (Disk g.row.T.Denot)) → Finishes (M.place_in c.args.inside) (sweep (M.data_in inside).direction) (M.data_in inside) (M.front_in c.args.inside) h
+      rest : M.lists_in inside (sweep (M.data_in inside).direction) ≡ []
+          → HeadRests (M.data_in inside) (M.lists_in inside 0) (M.lists_in inside 1);
+      hands : (h : History (Disk g.row.T.Denot))
+          → Finishes (M.place_in c.args.inside) (sweep (M.data_in inside).direction) (M.data_in inside) (M.front_in c.args.inside) h
           → HandsOn (M.place_in c.args.inside) (M.data_in c.args.inside) (M.front_in c.args.inside) h;
     }
 swept g c =
@@ -32,8 +34,10 @@ swept g c =
     let told = rw present at c.queue.ensures.front in
     elim c.if-not-queue.branch [
       | then-not-queue w ↦
-          let state : M.data_in c.if-not-queue.inside ≡ turned found = ap M.data_in w.inside-is ∙ (met.takes_data _ _ ∙ (rw w.state_mut.ensures.value at w.turn.ensures)) in
-          let lists : M.lists_in c.if-not-queue.inside ≡ M.lists_in c.args.inside = ap M.lists_in w.inside-is ∙ met.keeps_lists _ _ in
+          let state : M.data_in c.if-not-queue.inside ≡ turned found =
+          ap M.data_in w.inside-is ∙ (met.takes_data _ _ ∙ (rw w.state_mut.ensures.value at w.turn.ensures)) in
+          let lists : M.lists_in c.if-not-queue.inside ≡ M.lists_in c.args.inside =
+          ap M.lists_in w.inside-is ∙ met.keeps_lists _ _ in
           record {
             of = rw w.inside-is (met.keeps_of _ _ _ c.requires.of);
             place = ap M.place_in w.inside-is ∙ met.keeps_place _ _;
@@ -61,19 +65,23 @@ signal_leave-out-requires-clause-hoare g c = rw c.sweep-sweep.ensures (sweep_hoa
 
 pub signal_leave-out-requires-clause-ready : goal.signal_leave-out-requires-clause-ready
 signal_leave-out-requires-clause-ready g c =
-    HeadReady-first (g.M.Monitor.lists_in c.if-not-queue.inside) (swept g (goal.at.signal_leave-out-requires-clause-ready g c).After-state-2).free
+    HeadReady-first (g.M.Monitor.lists_in c.if-not-queue.inside)
+    (swept g (goal.at.signal_leave-out-requires-clause-ready g c).After-state-2).free
     (λ i. g.met.M.Monitor.rise c.args.m.now c.if-not-queue.inside i (swept g (goal.at.signal_leave-out-requires-clause-ready g c).After-state-2).of)
     c.state-2.ensures c.sweep-sweep.ensures
 
 pub signal_leave-out-requires-clause-rest : goal.signal_leave-out-requires-clause-rest
 signal_leave-out-requires-clause-rest g c =
-    rw c.sweep-sweep.ensures (rw c.state-2.ensures (swept g (goal.at.signal_leave-out-requires-clause-rest g c).After-state-2).rest)
+    rw c.sweep-sweep.ensures
+    (rw c.state-2.ensures (swept g (goal.at.signal_leave-out-requires-clause-rest g c).After-state-2).rest)
 
 pub returns-clause-place : goal.returns-clause-place
-returns-clause-place g c = c.signal_leave-out.ensures.place ∙ (swept g (goal.at.returns-clause-place g c).After-state-2).place
+returns-clause-place g c =
+    c.signal_leave-out.ensures.place ∙ (swept g (goal.at.returns-clause-place g c).After-state-2).place
 
 pub returns-clause-trace : goal.returns-clause-trace
 returns-clause-trace g c =
     let inside = swept g (goal.at.returns-clause-trace g c).After-state-2 in
-    let on : c.sweep-sweep.result ≡ sweep (g.M.Monitor.data_in c.if-not-queue.inside).direction = rw c.state-2.ensures at c.sweep-sweep.ensures in
+    let on : c.sweep-sweep.result ≡ sweep (g.M.Monitor.data_in c.if-not-queue.inside).direction =
+    rw c.state-2.ensures at c.sweep-sweep.ensures in
     inside.hands _ (Finishes-exit (rw on at c.signal_leave-out.ensures.front) inside.place refl inside.front)

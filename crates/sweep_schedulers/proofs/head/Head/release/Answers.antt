@@ -6,9 +6,12 @@ use Rattle.sweep_schedulers.proofs.head.Head.release.Goals as goal
 
 pub returns-then-not-is_busy-clause-trace : goal.returns-then-not-is_busy-clause-trace
 returns-then-not-is_busy-clause-trace g c =
-    refused _ _ c.enter-inside.ensures.front (search rules) (leaves-as c.leave.ensures.front c.enter-inside.ensures.place refl refl)
+    refused _ _ c.enter-inside.ensures.front (search rules)
+    (leaves-as c.leave.ensures.front c.enter-inside.ensures.place refl refl)
 
 pub returns-clause-trace : goal.returns-clause-trace
 returns-clause-trace g c =
-    put_in _ _ c.enter-inside.ensures.front (search rules) (HandsOn-as c.hand_on.ensures.trace (g.met.M.Monitor.keeps_place _ _ ∙ c.enter-inside.ensures.place)
-    (g.met.M.Monitor.takes_data _ _ ∙ (rw c.state_mut.ensures.value at c.put.ensures)) (g.met.M.Monitor.keeps_front _ _))
+    put_in _ _ c.enter-inside.ensures.front (search rules)
+    (HandsOn-as c.hand_on.ensures.trace (g.met.M.Monitor.keeps_place _ _ ∙ c.enter-inside.ensures.place)
+    (g.met.M.Monitor.takes_data _ _ ∙ (rw c.state_mut.ensures.value at c.put.ensures))
+    (g.met.M.Monitor.keeps_front _ _))

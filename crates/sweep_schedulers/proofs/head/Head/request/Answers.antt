@@ -3,14 +3,16 @@ use Rattle.std.proofs.lemmas.Bool.{iff_false}
 use Rattle.hoare_law.proofs.Growth.{leaves-as}
 use Rattle.sweep_schedulers.specs.Heads.{HeadRests, sent}
 use Rattle.sweep_schedulers.specs.HeadTraces.{Reaches, at_once, off_disk, granted, other_disk}
-use Rattle.sweep_schedulers.proofs.Sweeps.{HeadRests-joined, HeadRests-granted, HeadRests-at_once, HandsOn-as, Reaches-waited, sweep_hoare}
+use Rattle.sweep_schedulers.proofs.Sweeps.{HeadRests-joined, HeadRests-granted, HeadRests-at_once, HandsOn-as}
+use Rattle.sweep_schedulers.proofs.Sweeps.{Reaches-waited, sweep_hoare}
 use Rattle.sweep_schedulers.proofs.head.Head.request.Given.{Over}
 use Rattle.sweep_schedulers.proofs.head.Head.request.Goals as goal
 use Rattle.sweep_schedulers.proofs.head.Head.request.Goals.{After-state_mut, then-is_busy+else-cylmax, else-is_busy}
 
 pub returns-then-dest-cylmax-clause-trace : goal.returns-then-dest-cylmax-clause-trace
 returns-then-dest-cylmax-clause-trace g c =
-    off_disk _ _ _ c.enter-inside.ensures.front (search rules) (leaves-as c.leave.ensures.front c.enter-inside.ensures.place refl refl)
+    off_disk _ _ _ c.enter-inside.ensures.front (search rules)
+    (leaves-as c.leave.ensures.front c.enter-inside.ensures.place refl refl)
 
 pub wait-inside-requires-clause-rest : goal.wait-inside-requires-clause-rest
 wait-inside-requires-clause-rest g c =
@@ -24,7 +26,8 @@ returns-then-cylmax-clause-trace g c =
     other_disk _ _ _ _ _ c.enter-inside.ensures.front (search rules)
     (Reaches-waited busy c.wait-inside.ensures.front c.enter-inside.ensures.place refl refl
     c.state-then-is_busy.ensures c.stop_at-sweep.ensures.sweep c.stop_at-sweep.ensures.priority)
-    (search rules) (HandsOn-as c.hand_on.ensures.trace (c.wait-inside.ensures.place ∙ c.enter-inside.ensures.place) refl refl)
+    (search rules)
+    (HandsOn-as c.hand_on.ensures.trace (c.wait-inside.ensures.place ∙ c.enter-inside.ensures.place) refl refl)
 
 -- it came in and, after a wait or without one, finds the drive in, and dest on the disk
 came : (g : Over) (c : After-state_mut g) →
@@ -52,7 +55,9 @@ came g c =
             place = w.wait-inside.ensures.place ∙ c.enter-inside.ensures.place;
             on = on;
             same = same;
-            rests = HeadRests-granted (M.data_in w.wait-inside.result) (w.wait-inside.ensures.ready (rw w.stop_at-sweep.ensures.sweep (sweep_hoare _)))
+            rests =
+                HeadRests-granted (M.data_in w.wait-inside.result)
+                (w.wait-inside.ensures.ready (rw w.stop_at-sweep.ensures.sweep (sweep_hoare _)))
                 w.state-then-is_busy.ensures w.stop_at-sweep.ensures.sweep w.stop_at-sweep.ensures.priority on same refl refl refl;
             reaches = Reaches-waited busy w.wait-inside.ensures.front c.enter-inside.ensures.place refl refl
                 w.state-then-is_busy.ensures w.stop_at-sweep.ensures.sweep w.stop_at-sweep.ensures.priority;
@@ -73,20 +78,26 @@ pub send-requires : goal.send-requires
 send-requires g c = let inside = came g c in rw (c.state_mut.ensures.value, inside.same) inside.on
 
 pub leave-requires-in-Some-clause-of : goal.leave-requires-in-Some-clause-of
-leave-requires-in-Some-clause-of g c = g.met.M.Monitor.keeps_of _ _ _ (came g (goal.at.leave-requires-in-Some-clause-of g c).After-state_mut).of
+leave-requires-in-Some-clause-of g c =
+    g.met.M.Monitor.keeps_of _ _ _ (came g (goal.at.leave-requires-in-Some-clause-of g c).After-state_mut).of
 
 pub leave-requires-in-Some-clause-rest : goal.leave-requires-in-Some-clause-rest
 leave-requires-in-Some-clause-rest g c =
-    let state = g.met.M.Monitor.takes_data c.if-is_busy.inside c.send.new.self ∙ (rw c.state_mut.ensures.value at c.send.ensures.after) in
+    let state =
+    g.met.M.Monitor.takes_data c.if-is_busy.inside c.send.new.self
+    ∙ (rw c.state_mut.ensures.value at c.send.ensures.after) in
     let lists = g.met.M.Monitor.keeps_lists c.if-is_busy.inside c.send.new.self in
     rw (state, lists) (came g (goal.at.leave-requires-in-Some-clause-rest g c).After-state_mut).rests
 
 pub returns-clause-place : goal.returns-clause-place
-returns-clause-place g c = c.leave-in-Some.ensures.place ∙ (g.met.M.Monitor.keeps_place _ _ ∙ (came g (goal.at.returns-clause-place g c).After-state_mut).place)
+returns-clause-place g c =
+    c.leave-in-Some.ensures.place
+    ∙ (g.met.M.Monitor.keeps_place _ _ ∙ (came g (goal.at.returns-clause-place g c).After-state_mut).place)
 
 pub returns-clause-trace : goal.returns-clause-trace
 returns-clause-trace g c =
     let inside = came g (goal.at.returns-clause-trace g c).After-state_mut in
     granted _ _ _ _ _ c.enter-inside.ensures.front inside.on inside.reaches inside.same (search rules)
     (leaves-as c.leave-in-Some.ensures.front (g.met.M.Monitor.keeps_place _ _ ∙ inside.place)
-    (g.met.M.Monitor.takes_data _ _ ∙ (rw c.state_mut.ensures.value at c.send.ensures.after)) (g.met.M.Monitor.keeps_front _ _))
+    (g.met.M.Monitor.takes_data _ _ ∙ (rw c.state_mut.ensures.value at c.send.ensures.after))
+    (g.met.M.Monitor.keeps_front _ _))

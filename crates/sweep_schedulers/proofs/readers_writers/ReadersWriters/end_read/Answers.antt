@@ -5,12 +5,15 @@ use Rattle.sweep_schedulers.proofs.readers_writers.ReadersWriters.end_read.Goals
 
 pub returns-then-readers-eq0-clause-trace : goal.returns-then-readers-eq0-clause-trace
 returns-then-readers-eq0-clause-trace g c =
-    no_reader _ _ c.enter-inside.ensures.front (search rules) (leaves-as c.leave.ensures.front c.enter-inside.ensures.place refl refl)
+    no_reader _ _ c.enter-inside.ensures.front (search rules)
+    (leaves-as c.leave.ensures.front c.enter-inside.ensures.place refl refl)
 
 pub returns-then-left-gt0-clause-trace : goal.returns-then-left-gt0-clause-trace
 returns-then-left-gt0-clause-trace g c =
-    others _ _ c.enter-inside.ensures.front (search rules) (leaves-as c.leave-then-left-gt0.ensures.front (g.met.M.Monitor.keeps_place _ _ ∙ c.enter-inside.ensures.place)
-    (g.met.M.Monitor.takes_data _ _ ∙ (rw c.state_mut.ensures.value at c.dismiss-left.ensures.after)) (g.met.M.Monitor.keeps_front _ _))
+    others _ _ c.enter-inside.ensures.front (search rules)
+    (leaves-as c.leave-then-left-gt0.ensures.front (g.met.M.Monitor.keeps_place _ _ ∙ c.enter-inside.ensures.place)
+    (g.met.M.Monitor.takes_data _ _ ∙ (rw c.state_mut.ensures.value at c.dismiss-left.ensures.after))
+    (g.met.M.Monitor.keeps_front _ _))
 
 pub returns-clause-trace : goal.returns-clause-trace
 returns-clause-trace g c =

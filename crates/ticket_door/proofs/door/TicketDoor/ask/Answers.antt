@@ -22,8 +22,10 @@ returns-clause-of g c =
     let D = g.D.MonitorData in
     let p = c.into_parts-seat.ensures in
     let d = c.draw-ticket.ensures.drawn c.args.out.front (away_as p.1 p.2) in
-    asked_is D.rest D.ready (kinds_of D.CONDITIONS D.MESA) c.args.self.now c.args.out _ c.requires (c.draw-ticket.ensures.table ∙ p.0 ∙ c.requires.of) p.1
-    (asking_front _ _ _ _ d.0 d.1) (d.2 ∙ ap (λ n. (c.args.self.now.first + n) % 2 ^ 64) (sym (asking_number _ _ _ d.0 d.1)))
+    asked_is D.rest D.ready (kinds_of D.CONDITIONS D.MESA) c.args.self.now c.args.out _ c.requires
+    (c.draw-ticket.ensures.table ∙ p.0 ∙ c.requires.of) p.1
+    (asking_front _ _ _ _ d.0 d.1)
+    (d.2 ∙ ap (λ n. (c.args.self.now.first + n) % 2 ^ 64) (sym (asking_number _ _ _ d.0 d.1)))
 
 pub returns-clause-front : goal.returns-clause-front
 returns-clause-front g c =

@@ -5,4 +5,5 @@ use Rattle.ticket_door.proofs.door.TicketDoor.close.Goals as goal
 
 pub closed-requires-clause-places : goal.closed-requires-clause-places
 closed-requires-clause-places g c =
-    subst (λ (d : TicketDoorId). (k : ℕ) → k < d.door.places → HasPlace k c.args.outs.items) (sym c.self.view_is) c.requires.places
+    subst (λ (d : TicketDoorId). (k : ℕ) → k < d.door.places → HasPlace k c.args.outs.items)
+    (sym c.self.view_is) c.requires.places

@@ -15,9 +15,11 @@ fetch_add-requires g c =
     let first = ap (λ (d : TicketDoorId). d.first) c.self.view_is ∙ c.requires.first in (
       c.requires.table ∙ ap (λ (d : TicketDoorId). d.door.table) (sym c.self.view_is),
       omega (arith, wide),
-      asks_at t.key.first t.key.places D.rest D.ready (kinds_of D.CONDITIONS D.MESA) _ _ c.args.place away.0 (step t.table_id.slots 8 1 0 none) _ _ away.1 first,
+      asks_at t.key.first t.key.places D.rest D.ready (kinds_of D.CONDITIONS D.MESA) _ _ c.args.place away.0
+          (step t.table_id.slots 8 1 0 none) _ _ away.1 first,
     )
 
 pub returns-clause-drawn : goal.returns-clause-drawn
 returns-clause-drawn g c = λ f is.
-    let d = c.fetch_add.ensures.2 c.args.place f is in (d.0, d.1, d.2 ∙ ap (λ n. (n + d.0) % 2 ^ 64) (sym c.requires.first))
+    let d = c.fetch_add.ensures.2 c.args.place f is in
+    (d.0, d.1, d.2 ∙ ap (λ n. (n + d.0) % 2 ^ 64) (sym c.requires.first))

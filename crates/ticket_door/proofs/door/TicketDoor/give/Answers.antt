@@ -20,13 +20,15 @@ fetch_add-requires g c =
     let gives = subst (Gives D.rest D.ready g.J.PickedEvent.event c.args.place e.0 c.args.parcel) c.in-Free.is e.2 in (
       c.lay_parcel.ensures.table ∙ c.requires.table ∙ ap (λ (d : TicketDoorId). d.door.table) (sym c.self.view_is),
       omega (arith, wide),
-      gives_open_at t.key.first t.key.places D.rest D.ready (kinds_of D.CONDITIONS D.MESA) _ _ c.args.place e.0 c.args.parcel g.J.PickedEvent.event
+      gives_open_at t.key.first t.key.places D.rest D.ready
+          (kinds_of D.CONDITIONS D.MESA) _ _ c.args.place e.0 c.args.parcel g.J.PickedEvent.event
           (step t.table_id.slots 0 1 0 none) _ laid gives,
     )
 
 pub bell_of-requires : goal.bell_of-requires
 bell_of-requires g c =
-    let below : c.in-For.resumed < c.args.self.now.door.places = subst (IsPlaceBelow c.args.self.now.door.places) c.in-For.is c.requires.next in
+    let below : c.in-For.resumed < c.args.self.now.door.places =
+    subst (IsPlaceBelow c.args.self.now.door.places) c.in-For.is c.requires.next in
     let places = ap (λ (d : TicketDoorId). d.door.places) c.self.view_is in
     let most = c.self.invariant.most in
     omega (arith, below, places, most)
@@ -39,13 +41,15 @@ store-requires g c =
     let j = c.in-For.resumed in
     let wide = c.self.invariant.words_are in
     let places = ap (λ (d : TicketDoorId). d.door.places) c.self.view_is in
-    let asked : j < c.args.self.now.door.places = subst (IsPlaceBelow c.args.self.now.door.places) c.in-For.is c.requires.next in
+    let asked : j < c.args.self.now.door.places =
+    subst (IsPlaceBelow c.args.self.now.door.places) c.in-For.is c.requires.next in
     let below : j < t.key.places = omega (arith, asked, places) in
     let laid = c.lay_parcel.ensures.laid ∙ ap (λ (m : Sat g.row.D.Denot). (m.0, (0, Some c.args.parcel) ∷ [])) e.1 in
     let gives = subst (Gives D.rest D.ready g.J.PickedEvent.event c.args.place e.0 c.args.parcel) c.in-For.is e.2 in (
       c.lay_parcel.ensures.table ∙ c.requires.table ∙ ap (λ (d : TicketDoorId). d.door.table) (sym c.self.view_is),
       omega (arith, wide, below, c.bell_of.ensures),
-      gives_ring_at t.key.first t.key.places D.rest D.ready (kinds_of D.CONDITIONS D.MESA) _ _ c.args.place j e.0 c.args.parcel g.J.PickedEvent.event _
+      gives_ring_at t.key.first t.key.places D.rest D.ready
+          (kinds_of D.CONDITIONS D.MESA) _ _ c.args.place j e.0 c.args.parcel g.J.PickedEvent.event _
           _ below laid gives c.bell_of.ensures,
     )
 
@@ -60,8 +64,10 @@ unreachable-requires g c =
 
 pub returns-in-Free-clause-away : goal.returns-in-Free-clause-away
 returns-in-Free-clause-away g c = λ f is.
-    c.fetch_add.ensures.2 c.args.place f c.args.parcel (c.lay_parcel.ensures.laid ∙ ap (λ (m : Sat g.row.D.Denot). (m.0, (0, Some c.args.parcel) ∷ [])) is)
+    c.fetch_add.ensures.2 c.args.place f c.args.parcel
+    (c.lay_parcel.ensures.laid ∙ ap (λ (m : Sat g.row.D.Denot). (m.0, (0, Some c.args.parcel) ∷ [])) is)
 
 pub returns-in-For-clause-away : goal.returns-in-For-clause-away
 returns-in-For-clause-away g c = λ f is.
-    c.store.ensures.2 c.args.place f c.args.parcel (c.lay_parcel.ensures.laid ∙ ap (λ (m : Sat g.row.D.Denot). (m.0, (0, Some c.args.parcel) ∷ [])) is)
+    c.store.ensures.2 c.args.place f c.args.parcel
+    (c.lay_parcel.ensures.laid ∙ ap (λ (m : Sat g.row.D.Denot). (m.0, (0, Some c.args.parcel) ∷ [])) is)

@@ -26,7 +26,8 @@ join_seat-requires g c =
       pb.0 ∙ c.requires.b.of ∙ table,
       ap (λ (m : Sat g.row.D.Denot). m.1) pb.2,
       omega (arith, wide),
-      joins_one (Starts t.key.first t.key.places) (Tells t.key.first t.key.places) D.rest D.ready (kinds_of D.CONDITIONS D.MESA)
+      joins_one (Starts t.key.first t.key.places) (Tells t.key.first t.key.places) D.rest D.ready
+          (kinds_of D.CONDITIONS D.MESA)
           (record { table = t.table_id; places = t.key.places }) _ _ _ _ (a ∷ []) b.place b.front
           (ap (λ (m : Sat g.row.D.Denot). m.0) pa.2) (ap (λ (m : Sat g.row.D.Denot). m.0) pb.2),
     )
@@ -41,7 +42,8 @@ load-requires g c =
     let wide = c.self.invariant.words_are in (
       c.join_seat.ensures.0 ∙ pa.0 ∙ c.requires.a.of ∙ table,
       omega (arith, wide),
-      learns_at (Starts t.key.first t.key.places) (Tells t.key.first t.key.places) D.rest D.ready (kinds_of D.CONDITIONS D.MESA) t.key.places _ _
+      learns_at (Starts t.key.first t.key.places) (Tells t.key.first t.key.places) D.rest D.ready
+          (kinds_of D.CONDITIONS D.MESA) t.key.places _ _
           (both_of c.args.a c.args.b) (step t.table_id.slots 0 0 0 none) _ both,
     )
 
@@ -54,11 +56,14 @@ split_seat-cut-requires g c =
     let b = c.args.b in
     let pa = c.into_parts-seat.ensures in
     let l = c.load.ensures.2 (both_of a b) (joined a b pa.2 c.into_parts-other.ensures.2 c.join_seat.ensures.2) in
-    let K = Kept (Starts t.key.first t.key.places) (Tells t.key.first t.key.places) D.rest D.ready (kinds_of D.CONDITIONS D.MESA) t.key.places in
+    let K =
+    Kept (Starts t.key.first t.key.places) (Tells t.key.first t.key.places) D.rest D.ready
+    (kinds_of D.CONDITIONS D.MESA) t.key.places in
     let wide = c.self.invariant.words_are in (
       c.load.ensures.0 ∙ c.join_seat.ensures.0 ∙ pa.0 ∙ c.requires.a.of ∙ table,
       omega (arith, wide),
-      subst (λ (m : Sat g.row.D.Denot). Splits K c.load.new.seat.id m.0 (places_behind m.0) (first_place m.0)) (sym l.1.me_is)
+      subst (λ (m : Sat g.row.D.Denot). Splits K c.load.new.seat.id m.0 (places_behind m.0) (first_place m.0))
+          (sym l.1.me_is)
           (splits_ok (Starts t.key.first t.key.places) (Tells t.key.first t.key.places) D.rest D.ready (kinds_of D.CONDITIONS D.MESA) t.key.places _ b.place l.0
           (knows a.place l.0 None ∷ []) (l.1.apart.0.0, tt)),
     )
@@ -66,7 +71,9 @@ split_seat-cut-requires g c =
 pub of_parts-requires : goal.of_parts-requires
 of_parts-requires g c =
     let pa = c.into_parts-seat.ensures in
-    let l = c.load.ensures.2 (both_of c.args.a c.args.b) (joined c.args.a c.args.b pa.2 c.into_parts-other.ensures.2 c.join_seat.ensures.2) in
+    let l =
+    c.load.ensures.2 (both_of c.args.a c.args.b)
+    (joined c.args.a c.args.b pa.2 c.into_parts-other.ensures.2 c.join_seat.ensures.2) in
     (l.0, went_first c.args.a c.args.b pa.1 l.1 c.split_seat-cut.ensures.2)
 
 pub of_parts-requires-2 : goal.of_parts-requires-2
@@ -88,6 +95,10 @@ returns g c =
     let one = c.of_parts.ensures l.0 (went_first a b pa.1 l.1 c.split_seat-cut.ensures.2) in
     let two = c.of_parts-2.ensures l.0 (went_second a b pb.1 l.1 c.split_seat-cut.ensures.4) in
     let at = c.load.ensures.0 ∙ c.join_seat.ensures.0 ∙ pa.0 ∙ c.requires.a.of in
-    let p = out_as D.rest D.ready (kinds_of D.CONDITIONS D.MESA) d a _ _ _ l.0 c.requires.a l.1.stands l.1.fits.1.0 (c.split_seat-cut.ensures.0 ∙ at) pa.1 one in
-    let q = out_as D.rest D.ready (kinds_of D.CONDITIONS D.MESA) d b _ _ _ l.0 c.requires.b l.1.stands l.1.fits.0 (c.split_seat-cut.ensures.3 ∙ at) pb.1 two in
+    let p =
+    out_as D.rest D.ready (kinds_of D.CONDITIONS D.MESA) d a _ _ _ l.0 c.requires.a l.1.stands l.1.fits.1.0
+    (c.split_seat-cut.ensures.0 ∙ at) pa.1 one in
+    let q =
+    out_as D.rest D.ready (kinds_of D.CONDITIONS D.MESA) d b _ _ _ l.0 c.requires.b l.1.stands l.1.fits.0
+    (c.split_seat-cut.ensures.3 ∙ at) pb.1 two in
     record { a = p.of; b = q.of; places = (p.place, q.place); met = meets D.rest D.ready a b _ _ l.0 l.1 p.front q.front }

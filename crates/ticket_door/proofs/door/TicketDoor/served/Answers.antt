@@ -18,7 +18,8 @@ load-serving-requires g c =
     let first = ap (λ (d : TicketDoorId). d.first) c.self.view_is ∙ c.requires.first in (
       c.loop.invariant.1 ∙ c.requires.table ∙ ap (λ (d : TicketDoorId). d.door.table) (sym c.self.view_is),
       omega (arith, wide),
-      looks_at t.key.first t.key.places D.rest D.ready (kinds_of D.CONDITIONS D.MESA) _ _ c.args.place a.1 a.0 (step t.table_id.slots 0 0 0 none) _ _
+      looks_at t.key.first t.key.places D.rest D.ready (kinds_of D.CONDITIONS D.MESA) _ _ c.args.place a.1 a.0
+          (step t.table_id.slots 0 0 0 none) _ _
           (c.loop.invariant.2 ∙ a.2) first c.self.invariant.most a.4,
     )
 
@@ -38,7 +39,8 @@ returns-then-serving-ticket-clause-came g c = λ f x is.
     let same : c.load-serving.result ≡ (g.J.Counting.first + x) % 2 ^ 64 =
     c.if-serving-ticket.true ∙ a.3 ∙ (λ i. (c.requires.first i + n i) % 2 ^ 64) in
     let t = (c.load-serving.ensures.2 c.args.place f x (c.loop.invariant.2 ∙ is)).1 same in
-    took_also D.rest D.ready (λ log. admissions log.events ≡ x) t.1 t.2 c.take_parcel.ensures.taken c.take_parcel.ensures.empty
+    took_also D.rest D.ready
+    (λ log. admissions log.events ≡ x) t.1 t.2 c.take_parcel.ensures.taken c.take_parcel.ensures.empty
 
 pub loop-preserved : goal.loop-preserved
 loop-preserved g c =

@@ -14,7 +14,8 @@ load-requires g c =
     let wide = c.self.invariant.words_are in (
       c.requires.table ∙ ap (λ (d : TicketDoorId). d.door.table) (sym c.self.view_is),
       omega (arith, wide),
-      notes_at t.key.first t.key.places D.rest D.ready (kinds_of D.CONDITIONS D.MESA) _ _ c.args.place e.0 g.J.PickedNotice.event
+      notes_at t.key.first t.key.places D.rest D.ready
+          (kinds_of D.CONDITIONS D.MESA) _ _ c.args.place e.0 g.J.PickedNotice.event
           (step t.table_id.slots 0 0 0 none) _ e.1 e.2,
     )
 

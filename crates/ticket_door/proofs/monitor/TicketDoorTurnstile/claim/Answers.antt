@@ -20,13 +20,15 @@ swap-requires g c =
     let wide = c.self.invariant.words_are in (
       c.loop.invariant.1 ∙ c.requires.table ∙ ap (λ (d : TicketDoorId). d.door.table) (sym c.self.view_is),
       omega (arith, small, wide, c.bell_of-bell.ensures),
-      hears_at t.key.first t.key.places D.rest D.ready (kinds_of D.CONDITIONS D.MESA) _ _ c.args.place away.0 _ _ (c.loop.invariant.2 ∙ away.1) c.bell_of-bell.ensures,
+      hears_at t.key.first t.key.places D.rest D.ready (kinds_of D.CONDITIONS D.MESA) _ _ c.args.place away.0 _ _
+          (c.loop.invariant.2 ∙ away.1) c.bell_of-bell.ensures,
     )
 
 pub take_parcel-requires-clause-full : goal.take_parcel-requires-clause-full
 take_parcel-requires-clause-full g c =
     let away = c.requires.away in
-    let t = (c.swap.ensures.2 c.args.place away.0 (c.loop.invariant.2 ∙ away.1)).1 c.if-swap-eq-RUNG.true in (_, t.0, t.1.me_is)
+    let t = (c.swap.ensures.2 c.args.place away.0 (c.loop.invariant.2 ∙ away.1)).1 c.if-swap-eq-RUNG.true in
+    (_, t.0, t.1.me_is)
 
 pub returns-then-swap-eq-RUNG-clause-came : goal.returns-then-swap-eq-RUNG-clause-came
 returns-then-swap-eq-RUNG-clause-came g c = λ f is.

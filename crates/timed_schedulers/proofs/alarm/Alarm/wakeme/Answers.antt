@@ -18,7 +18,8 @@ rounds-init g c = record {
 }
 
 pub signal_leave-out-requires-clause-ready : goal.signal_leave-out-requires-clause-ready
-signal_leave-out-requires-clause-ready g c = AlarmReady-first (g.met.M.Monitor.rise _ _ 0 c.rounds.invariant.of) (Early-after c.rounds.invariant.early) refl refl
+signal_leave-out-requires-clause-ready g c =
+    AlarmReady-first (g.met.M.Monitor.rise _ _ 0 c.rounds.invariant.of) (Early-after c.rounds.invariant.early) refl refl
 
 pub returns-then-now-setting-clause-trace : goal.returns-then-now-setting-clause-trace
 returns-then-now-setting-clause-trace g c = woken c.rounds.invariant.waited
@@ -28,7 +29,8 @@ returns-then-now-setting-clause-trace g c = woken c.rounds.invariant.waited
     c.signal_leave-out.ensures.front (search rules) (search rules) (search rules)
 
 pub wait-inside-requires-clause-rest : goal.wait-inside-requires-clause-rest
-wait-inside-requires-clause-rest g c = Early-before c.rounds.invariant.early (omega (arith, c.time-now.ensures, c.state-in-rounds.ensures))
+wait-inside-requires-clause-rest g c =
+    Early-before c.rounds.invariant.early (omega (arith, c.time-now.ensures, c.state-in-rounds.ensures))
 
 pub rounds-preserved : goal.rounds-preserved
 rounds-preserved g c =

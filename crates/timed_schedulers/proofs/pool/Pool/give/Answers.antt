@@ -5,19 +5,26 @@ use Rattle.timed_schedulers.proofs.Pools.{PoolReady-freed}
 use Rattle.timed_schedulers.proofs.pool.Pool.give.Goals as goal
 
 pub returns-in-Err-clause-trace : goal.returns-in-Err-clause-trace
-returns-in-Err-clause-trace g c = refused _ _ _ c.enter-inside.ensures.front (search rules) (leaves-as c.leave.ensures.front c.enter-inside.ensures.place refl refl)
+returns-in-Err-clause-trace g c =
+    refused _ _ _ c.enter-inside.ensures.front (search rules)
+    (leaves-as c.leave.ensures.front c.enter-inside.ensures.place refl refl)
 
 pub signal_leave-out-requires-clause-ready : goal.signal_leave-out-requires-clause-ready
-signal_leave-out-requires-clause-ready g c = PoolReady-freed {b = c.args.buffer} {s = c.args.stream} c.enter-inside.ensures.rest (search rules) (search rules)
-    (g.met.M.Monitor.takes_data _ _ ∙ (rw c.state_mut.ensures.value at c.set_free.ensures)) (ap (λ q. q 0) (g.met.M.Monitor.keeps_lists _ _))
+signal_leave-out-requires-clause-ready g c =
+    PoolReady-freed {b = c.args.buffer} {s = c.args.stream} c.enter-inside.ensures.rest (search rules) (search rules)
+    (g.met.M.Monitor.takes_data _ _ ∙ (rw c.state_mut.ensures.value at c.set_free.ensures))
+    (ap (λ q. q 0) (g.met.M.Monitor.keeps_lists _ _))
 
 pub returns-clause-trace : goal.returns-clause-trace
-returns-clause-trace g c = gave _ _ c.enter-inside.ensures.front (search rules) (Finishes-exit c.signal_leave-out.ensures.front
+returns-clause-trace g c =
+    gave _ _ c.enter-inside.ensures.front (search rules) (Finishes-exit c.signal_leave-out.ensures.front
     (g.met.M.Monitor.keeps_place _ _ ∙ c.enter-inside.ensures.place)
-    (g.met.M.Monitor.takes_data _ _ ∙ (rw c.state_mut.ensures.value at c.set_free.ensures)) (g.met.M.Monitor.keeps_front _ _))
+    (g.met.M.Monitor.takes_data _ _ ∙ (rw c.state_mut.ensures.value at c.set_free.ensures))
+    (g.met.M.Monitor.keeps_front _ _))
 
 pub signal_leave-out-requires-clause-of : goal.signal_leave-out-requires-clause-of
 signal_leave-out-requires-clause-of g c = g.met.M.Monitor.keeps_of _ _ _ c.enter-inside.ensures.of
 
 pub returns-clause-place : goal.returns-clause-place
-returns-clause-place g c = c.signal_leave-out.ensures.place ∙ (g.met.M.Monitor.keeps_place _ _ ∙ c.enter-inside.ensures.place)
+returns-clause-place g c =
+    c.signal_leave-out.ensures.place ∙ (g.met.M.Monitor.keeps_place _ _ ∙ c.enter-inside.ensures.place)

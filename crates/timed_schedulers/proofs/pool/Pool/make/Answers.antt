@@ -6,7 +6,11 @@ pub returns-then-buffers-eq0-clause-made : goal.returns-then-buffers-eq0-clause-
 returns-then-buffers-eq0-clause-made c = bad_size (λ size. omega (arith, c.then-buffers-eq0.either, size))
 
 pub returns-in-Ok-clause-made : goal.returns-in-Ok-clause-made
-returns-in-Ok-clause-made c = rw c.in-Ok.ensures (made (record { some_buffer = omega arith; most_buffers = omega arith; some_stream = omega arith; most_streams = omega arith }))
+returns-in-Ok-clause-made c =
+    rw c.in-Ok.ensures
+    (made (record { some_buffer = omega arith; most_buffers = omega arith; some_stream = omega arith; most_streams = omega arith }))
 
 pub returns-in-Err-clause-made : goal.returns-in-Err-clause-made
-returns-in-Err-clause-made c = no_memory (record { some_buffer = omega arith; most_buffers = omega arith; some_stream = omega arith; most_streams = omega arith })
+returns-in-Err-clause-made c =
+    no_memory
+    (record { some_buffer = omega arith; most_buffers = omega arith; some_stream = omega arith; most_streams = omega arith })

@@ -6,7 +6,8 @@ use Rattle.timed_schedulers.proofs.Marks.{mark_of-set_same, mark_of-set_other}
 use Rattle.timed_schedulers.proofs.pool.marks.mark.Goals as goal
 
 pub returns-clause-marked : goal.returns-clause-marked
-returns-clause-marked c = mark_of-set_same c.args.words.now.items c.args.i _ c.requires ∙ bit_at_set_same w64 _ _ (omega arith)
+returns-clause-marked c =
+    mark_of-set_same c.args.words.now.items c.args.i _ c.requires ∙ bit_at_set_same w64 _ _ (omega arith)
 
 pub returns-clause-others : goal.returns-clause-others
 returns-clause-others c = λ j other. mark_of-set_other c.args.words.now.items c.args.i j _ c.requires other

@@ -6,7 +6,8 @@ use Rattle.timed_schedulers.proofs.Marks.{mark_of-set_same, mark_of-set_other}
 use Rattle.timed_schedulers.proofs.pool.marks.unmark.Goals as goal
 
 pub returns-clause-unmarked : goal.returns-clause-unmarked
-returns-clause-unmarked c = mark_of-set_same c.args.words.now.items c.args.i _ c.requires ∙ bit_at_clear_same w64 _ _ (omega arith)
+returns-clause-unmarked c =
+    mark_of-set_same c.args.words.now.items c.args.i _ c.requires ∙ bit_at_clear_same w64 _ _ (omega arith)
 
 pub returns-clause-others : goal.returns-clause-others
 returns-clause-others c = λ j other. mark_of-set_other c.args.words.now.items c.args.i j _ c.requires other

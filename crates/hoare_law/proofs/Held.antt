@@ -2,7 +2,6 @@
 use Rattle.std.proofs.Common.{◌≡◌, ◌≢◌, ◌==◌, ◌||◌, ◌⊎◌, inl, inr, not, ℕ, List, [], ◌∷◌, ◌++◌, Bool, true, false, cond}
 use Rattle.std.proofs.Common.{Some, refl, ap, sym, ◌∙◌, subst, eq-eqb, eqb-true}
 use Rattle.std.specs.List.{filter, list_all}
-use Rattle.std.proofs.lemmas.Bool.{not-true}
 use Rattle.std.proofs.lemmas.List.{append-nil}
 use Rattle.hoare_law.specs.declared.event.Event.{Event}
 use Rattle.hoare_law.specs.declared.event.Event.TheVariants.{Admit, Wait, Signal, Pass, Leave, Resume, Back, Notify}

@@ -6,10 +6,8 @@ use Rattle.std.specs.List.{filter, list_all}
 use Rattle.std.proofs.lemmas.List.Elements.{All-head, All-weaker, All-map, filter-append}
 use Rattle.hoare_law.specs.declared.event.Event.{Event}
 use Rattle.hoare_law.specs.declared.event.History.{History}
-use Rattle.hoare_law.specs.declared.event.Event.TheVariants.{Admit, Wait, Signal, Pass, Leave, Resume, Back, Notify}
-use Rattle.hoare_law.specs.declared.event.Event.TheVariants.{Broadcast}
 use Rattle.hoare_law.specs.declared.turn.Turn.TheVariants.{Held, Return}
-use Rattle.hoare_law.specs.Events.{place_of, own, newest, cut_to}
+use Rattle.hoare_law.specs.Events.{place_of, own, newest}
 use Rattle.hoare_law.specs.Waiting.{condition_of, filter_by_later, waits_on, concerns, is_last_act, is_untouched}
 use Rattle.hoare_law.specs.Waiting.{is_least, waiting, chosen}
 use Rattle.hoare_law.specs.Turns.{is_signal, urgent, turn}

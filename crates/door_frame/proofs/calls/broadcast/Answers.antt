@@ -1,4 +1,4 @@
-use Rattle.std.proofs.Common.{◌≡◌, ◌≢◌, [], length, true, false, IsTrue, ap, sym, ◌∙◌, refl}
+use Rattle.std.proofs.Common.{length, false, ap, sym, ◌∙◌, refl}
 use Rattle.hoare_law.specs.Beside.Erasure.{erased}
 use Rattle.hoare_law.specs.Growth.{none_called}
 use Rattle.hoare_law.proofs.Priorities.{waiting-no_priority}

@@ -1,4 +1,4 @@
-use Rattle.std.proofs.Common.{◌≡◌, ◌≢◌, [], true, false, IsTrue, ap, ◌∙◌, refl}
+use Rattle.std.proofs.Common.{false, ap, ◌∙◌, refl}
 use Rattle.hoare_law.specs.Beside.Erasure.{erased}
 use Rattle.hoare_law.specs.Growth.{nobody_called}
 use Rattle.hoare_law.proofs.Priorities.{waiting-no_priority}

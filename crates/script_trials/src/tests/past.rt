@@ -192,10 +192,7 @@ impl Past {
     }
 
     /// Does a step: what it answers, and how many it called.
-    pub fn step(
-        &mut self,
-        step: Step,
-    ) -> Result<(Result<Next, StepRefused>, usize), AllocError> {
+    pub fn step(&mut self, step: Step) -> Result<(Result<Next, StepRefused>, usize), AllocError> {
         if let Some(refused) = self.refusal(step)? {
             return Ok((Err(refused), 0));
         }

@@ -137,7 +137,10 @@ fn drawn(past: &Past, lot: u64) -> Result<Line, Fail> {
 
 // How often somebody was resumed, or went on after a call.
 fn resumptions(past: &Past) -> usize {
-    let returns = past.events.iter().filter(|event| matches!(**event, Event::Resume(_, _)));
+    let returns = past
+        .events
+        .iter()
+        .filter(|event| matches!(**event, Event::Resume(_, _)));
     returns.count()
 }
 

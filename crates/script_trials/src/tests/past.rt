@@ -1,5 +1,5 @@
-//! A monitor that keeps nothing but the list of all that happened there, and reads each answer off that list by the filters of
-//! `past/filters.rt`. It stands beside the book, and shares no code with it.
+//! A monitor that keeps nothing but the list of all that happened there, and reads each answer off that list by the
+//! filters of `past/filters.rt`. It stands beside the book, and shares no code with it.
 pub mod event;
 pub mod filters;
 

@@ -1,6 +1,6 @@
-//! The book beside two monitors that are written apart: one filters the list of all that happened (`past`), the other is told by where its
-//! places are (`plain`). After each drawn step all three say the same of who waits, who was called, whose turn it is and who is
-//! outside.
+//! The book beside two monitors that are written apart: one filters the list of all that happened (`past`), the other
+//! is told by where its places are (`plain`). After each drawn step all three say the same of who waits, who was
+//! called, whose turn it is and who is outside.
 use super::plain::Plain;
 use super::sized::SizedBook;
 use crate::tests::numbers::next_number;
@@ -142,7 +142,8 @@ impl Three {
         true
     }
 
-    // Whether all three say the same of the called and of the signallers: the book shows them as the turn, when it comes to them.
+    // Whether the list and the table say the same of the called and of the signallers. The book shows these as the
+    // turn, when it comes to them.
     fn agree_to_come(&self, tally: &mut Tally) -> Result<bool, Fail> {
         let signallers = self.past.urgent()?;
         let called = self.past.called()?;

@@ -1,12 +1,13 @@
-//! A monitor told by where its places are, as the definitions' filters tell it: each place knows where it is and since when, and who
-//! goes on is found by looking at all places. No code of the book is used for it.
+//! A monitor told by where its places are, as the definitions' filters tell it: each place knows where it is and since
+//! when, and who goes on is found by looking at all places. No code of the book is used for it.
 
 mod place;
 
 use place::{Where, is_before, is_better};
 use wait_book::steps::{Next, Step, StepRefused};
 
-/// A monitor of at most 64 places, of whose conditions the last `mesa` are Mesa conditions, told by where its places are.
+/// A monitor of at most 64 places, of whose conditions the last `mesa` are Mesa conditions, told by where its places
+/// are.
 #[derive(Drop)]
 pub struct Plain {
     size: u64,

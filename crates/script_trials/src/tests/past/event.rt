@@ -58,8 +58,8 @@ impl Event {
         matches!(self, Event::Wait(_, on, _) if on == condition)
     }
 
-    /// Whether it concerns a place that waits on a condition: the place acts, is resumed or called, or all that wait there are
-    /// called.
+    /// Whether it concerns a place that waits on a condition: the place acts, is resumed or called, or all that wait
+    /// there are called.
     pub fn concerns(self, condition: usize, place: usize) -> bool {
         let is_named = match self {
             Event::Signal(_, _, named) | Event::Pass(_, _, named) | Event::Notify(_, _, named) => {

@@ -1,5 +1,5 @@
-//! Scripts that a generator draws, against a second interpreter. It keeps the list of all that happened, filters it for each
-//! answer (`past`), and shares nothing with the book.
+//! Scripts that a generator draws, against a second interpreter. It keeps the list of all that happened, filters it for
+//! each answer (`past`), and shares nothing with the book.
 use super::told;
 use crate::tests::numbers::next_number;
 use crate::tests::past::Past;

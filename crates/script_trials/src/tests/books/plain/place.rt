@@ -15,8 +15,8 @@ pub enum Where {
     Called(u64),
 }
 
-/// Whether the one goes on before the other: of two that wait on one condition the one of lesser priority, or else the one
-/// that waits longer; the signallers, each in turn, before the called, each in turn.
+/// Whether the one goes on before the other: of two that wait on one condition the one of lesser priority, or else the
+/// one that waits longer; the signallers, each in turn, before the called, each in turn.
 pub fn is_before(one: Where, other: Where) -> bool {
     match (one, other) {
         (Where::Waits(on, priority, since), Where::Waits(there, least, last)) => {

@@ -4,6 +4,7 @@ mod books;
 mod law;
 mod lines;
 mod numbers;
+mod past;
 mod pictures;
 mod scripts;
 mod shown;

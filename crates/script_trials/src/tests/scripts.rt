@@ -3,6 +3,7 @@ mod drawn;
 mod failures;
 mod faults;
 mod limits;
+mod mesa_rows;
 mod parts;
 mod reading;
 mod rows;

@@ -116,7 +116,7 @@ fn fullest(part: Part) -> (usize, usize) {
 #[test]
 fn fills_and_empties_all_chains(rt: HostRuntime) -> Result<(), Fail> {
     let mut book = Book::make(rt.alloc(), 64, 8, 0)?;
-    let mut plain = Plain::new(0);
+    let mut plain = Plain::new(64, 8, 0);
     let mut number = 1;
     let mut most = 0;
     for i in 0..100_000 {
@@ -166,7 +166,7 @@ fn calling_step(plain: &Plain, fills: bool, number: u64) -> Step {
 #[test]
 fn fills_and_empties_the_called(rt: HostRuntime) -> Result<(), Fail> {
     let mut book = Book::make(rt.alloc(), 64, 8, 1)?;
-    let mut plain = Plain::new(1);
+    let mut plain = Plain::new(64, 8, 1);
     let mut number = 1;
     let mut most = 0;
     for i in 0..10_000u64 {

@@ -1,63 +1,79 @@
-//! A monitor told by where its places are, as the definitions' filters tell it: each place knows where it is and since when, and who
-//! goes on is found by looking at all places. No code of the book is used for it.
+//! A monitor told by where its places are, as the definitions' filters tell it: each place knows where it is and since
+//! when, and who goes on is found by looking at all places. No code of the book is used for it.
 
+mod place;
+
+use place::{Where, is_before, is_better};
 use wait_book::steps::{Next, Step, StepRefused};
 
-// Where a place is, and since which step it waits there.
-#[derive(Clone, Copy, PartialEq, Eq)]
-enum Where {
-    Outside,
-    Inside,
-    // On a condition, with a priority.
-    Waits(u64, u64, u64),
-    Signals(u64),
-    // As the one called with this number.
-    Called(u64),
-}
-
-// One that may go on: its place, its priority and since when it waits. Signallers have priority 0, and the called 1.
-#[derive(Clone, Copy)]
-struct Candidate {
-    place: usize,
-    priority: u64,
-    since: u64,
-}
-
-// Of two, the one of lesser priority, or else the one that waits longer.
-fn preferred(best: Option<Candidate>, other: Candidate) -> Candidate {
-    match best {
-        Some(one) if (one.priority, one.since) < (other.priority, other.since) => one,
-        _ => other,
-    }
-}
-
-/// A monitor of 64 places and 8 conditions, of which the last `mesa` are Mesa conditions, told by where its places are.
+/// A monitor of at most 64 places, of whose conditions the last `mesa` are Mesa conditions, told by where its places
+/// are.
 #[derive(Drop)]
 pub struct Plain {
+    size: u64,
+    conditions: u64,
+    mesa: u64,
     places: [Where; 64],
     inside: Option<usize>,
     steps: u64,
-    mesa: u64,
     calls: u64,
 }
 
 impl Plain {
     /// Nobody is inside, and nobody waits.
-    pub fn new(mesa: u64) -> Plain {
+    pub fn new(size: u64, conditions: u64, mesa: u64) -> Plain {
         Plain {
+            size,
+            conditions,
+            mesa,
             places: [Where::Outside; 64],
             inside: None,
             steps: 0,
-            mesa,
             calls: 0,
         }
     }
 
+    // Where each place is.
+    fn standing(&self) -> &[Where] {
+        &self.places[..(self.size as usize).min(64)]
+    }
+
     fn at(&self, place: u64) -> Option<Where> {
-        if place >= 64 {
+        if place >= self.size {
             return None;
         }
         self.places.get(place as usize).copied()
+    }
+
+    /// Whether a place is outside.
+    pub fn outside(&self, place: u64) -> bool {
+        self.at(place) == Some(Where::Outside)
+    }
+
+    /// Whether a place waits on a condition.
+    pub fn waits_on(&self, place: u64, condition: u64) -> bool {
+        matches!(self.at(place), Some(Where::Waits(on, _, _)) if on == condition)
+    }
+
+    /// Whether a place was called and hasn't gone on.
+    pub fn is_called(&self, place: u64) -> bool {
+        matches!(self.at(place), Some(Where::Called(_)))
+    }
+
+    /// Whether a place is a waiting signaller.
+    pub fn signals(&self, place: u64) -> bool {
+        matches!(self.at(place), Some(Where::Signals(_)))
+    }
+
+    /// How many go on before a place, which waits on a condition, is a signaller or was called.
+    pub fn before(&self, place: u64) -> usize {
+        let Some(at) = self.at(place) else {
+            return 0;
+        };
+        self.standing()
+            .iter()
+            .filter(|one| is_before(**one, at))
+            .count()
     }
 
     fn put(&mut self, place: usize, at: Where) {
@@ -69,47 +85,30 @@ impl Plain {
     // Whom a signal on a condition resumes.
     fn chosen(&self, condition: u64) -> Option<usize> {
         let mut best = None;
-        for (place, at) in self.places.iter().enumerate() {
-            if let Where::Waits(on, priority, since) = *at {
-                if on == condition {
-                    best = Some(preferred(
-                        best,
-                        Candidate {
-                            place,
-                            priority,
-                            since,
-                        },
-                    ));
-                }
+        for (place, at) in self.standing().iter().enumerate() {
+            let waits = matches!(*at, Where::Waits(on, _, _) if on == condition);
+            if waits && is_better(*at, best) {
+                best = Some((place, *at));
             }
         }
-        best.map(|one| one.place)
+        best.map(|(place, _)| place)
     }
 
     // The signaller that waits longest, else the one that was called first.
     fn longest(&self) -> Option<usize> {
         let mut best = None;
-        for (place, at) in self.places.iter().enumerate() {
-            let (priority, since) = match *at {
-                Where::Signals(since) => (0, since),
-                Where::Called(number) => (1, number),
-                _ => continue,
-            };
-            best = Some(preferred(
-                best,
-                Candidate {
-                    place,
-                    priority,
-                    since,
-                },
-            ));
+        for (place, at) in self.standing().iter().enumerate() {
+            let may_go_on = matches!(*at, Where::Signals(_) | Where::Called(_));
+            if may_go_on && is_better(*at, best) {
+                best = Some((place, *at));
+            }
         }
-        best.map(|one| one.place)
+        best.map(|(place, _)| place)
     }
 
     /// How many wait on a condition.
     pub fn count(&self, condition: u64) -> usize {
-        self.places
+        self.standing()
             .iter()
             .filter(|at| matches!(**at, Where::Waits(on, _, _) if on == condition))
             .count()
@@ -118,8 +117,8 @@ impl Plain {
     /// The least and the greatest priority on a condition.
     pub fn extremes(&self, condition: u64) -> Option<(u64, u64)> {
         let mut found = None;
-        for at in self.places {
-            if let Where::Waits(on, priority, _) = at {
+        for at in self.standing() {
+            if let Where::Waits(on, priority, _) = *at {
                 if on == condition {
                     let (least, greatest) = found.unwrap_or((priority, priority));
                     found = Some((least.min(priority), greatest.max(priority)));
@@ -131,15 +130,20 @@ impl Plain {
 
     /// How many were called and haven't gone on.
     pub fn called(&self) -> usize {
-        self.places
+        self.standing()
             .iter()
             .filter(|at| matches!(**at, Where::Called(_)))
             .count()
     }
 
+    /// Whether somebody goes on where the place inside gives the monitor up.
+    pub fn is_awaited(&self) -> bool {
+        self.longest().is_some()
+    }
+
     /// How many signallers wait.
     pub fn signallers(&self) -> usize {
-        self.places
+        self.standing()
             .iter()
             .filter(|at| matches!(**at, Where::Signals(_)))
             .count()
@@ -183,7 +187,7 @@ impl Plain {
     }
 
     fn condition(&self, condition: u64) -> Result<(), StepRefused> {
-        if condition >= 8 {
+        if condition >= self.conditions {
             return Err(StepRefused::NoCondition);
         }
         Ok(())
@@ -199,7 +203,7 @@ impl Plain {
     // The place inside that acts on a condition, if that is a Mesa condition, or one of Hoare's, as asked.
     fn actor_of(&self, place: u64, condition: u64, mesa: bool) -> Result<usize, StepRefused> {
         let place = self.actor(place, condition)?;
-        if (condition.saturating_add(self.mesa) >= 8) != mesa {
+        if (condition.saturating_add(self.mesa) >= self.conditions) != mesa {
             return Err(StepRefused::WrongKind);
         }
         Ok(place)

@@ -183,7 +183,7 @@ fn mixed_step(now: Next, waits: u64, number: u64) -> Step {
 #[test]
 fn long_mixed_run(rt: HostRuntime) -> Result<(), Fail> {
     let mut book = Book::make(rt.alloc(), 64, 8, 0)?;
-    let mut plain = Plain::new(0);
+    let mut plain = Plain::new(64, 8, 0);
     let mut number = 1;
     for i in 0..10_000 {
         number = next_number(number);
@@ -209,7 +209,7 @@ fn mesa_step(step: Step, number: u64) -> Step {
 #[test]
 fn long_mesa_run(rt: HostRuntime) -> Result<(), Fail> {
     let mut book = Book::make(rt.alloc(), 64, 8, 4)?;
-    let mut plain = Plain::new(4);
+    let mut plain = Plain::new(64, 8, 4);
     let mut number = 1;
     for i in 0..10_000 {
         number = next_number(number);

@@ -47,6 +47,7 @@ fn mesa_limits(rt: HostRuntime) {
     check(&rt, b"monitor 1 1 0", Ok(()));
     check(&rt, b"monitor 64 8 8", Ok(()));
     check(&rt, b"monitor 1 1 2", Err(ScriptFault::BadHeader(1)));
+    check(&rt, b"monitor 64 8 9", Err(ScriptFault::BadHeader(1)));
     check(&rt, b"monitor 1 1 01", Err(ScriptFault::BadHeader(1)));
     check(&rt, b"monitor 1 1 0 0", Err(ScriptFault::BadHeader(1)));
 }

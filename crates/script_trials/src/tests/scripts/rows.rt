@@ -19,8 +19,8 @@ fn add_row<W: Write>(script: &mut W, answers: &mut W, row: &str) -> Result<(), F
     Ok(())
 }
 
-// Runs the script of a header and of the rows' lines, whose answers are the rows.
-fn check<R: Abort + AllocGlobal>(rt: &R, header: &str, rows: &[&str]) -> Result<(), Fail> {
+/// Runs the script of a header and of the rows' lines, whose answers are the rows.
+pub fn check<R: Abort + AllocGlobal>(rt: &R, header: &str, rows: &[&str]) -> Result<(), Fail> {
     let mut script = Vec::new(rt.alloc());
     let mut answers = Vec::new(rt.alloc());
     writeln!(script, "{header}")?;
@@ -166,58 +166,6 @@ fn pass_and_leave(rt: HostRuntime) -> Result<(), Fail> {
         "pass 1 0 -> free",
     ];
     check(&rt, "monitor 2 1", &rows)
-}
-
-// Who is called goes on behind the one that calls it, before a newcomer, and is no longer counted as waiting.
-#[test]
-fn notify_one(rt: HostRuntime) -> Result<(), Fail> {
-    let rows = [
-        "enter 0 -> 0",
-        "wait 0 0 0 -> free",
-        "enter 1 -> 1",
-        "signal 1 0 -> refused 6",
-        "notify 1 0 -> 1",
-        "queue 0 -> false",
-        "enter 2 -> refused 2",
-        "leave 1 -> 0",
-        "leave 0 -> free",
-    ];
-    check(&rt, "monitor 3 1 1", &rows)
-}
-
-// All are called in the order in which signals would resume them.
-#[test]
-fn broadcast_all(rt: HostRuntime) -> Result<(), Fail> {
-    let rows = [
-        "enter 0 -> 0",
-        "wait 0 0 2 -> free",
-        "enter 1 -> 1",
-        "wait 1 0 1 -> free",
-        "enter 2 -> 2",
-        "broadcast 2 0 -> 2",
-        "leave 2 -> 1",
-        "leave 1 -> 0",
-        "leave 0 -> free",
-    ];
-    check(&rt, "monitor 4 1 1", &rows)
-}
-
-#[test]
-fn signaller_before_called(rt: HostRuntime) -> Result<(), Fail> {
-    let rows = [
-        "enter 0 -> 0",
-        "wait 0 0 0 -> free",
-        "enter 1 -> 1",
-        "wait 1 1 0 -> free",
-        "enter 2 -> 2",
-        "signal 2 0 -> 0",
-        "notify 0 0 -> refused 6",
-        "notify 0 1 -> 0",
-        "leave 0 -> 2",
-        "leave 2 -> 1",
-        "leave 1 -> free",
-    ];
-    check(&rt, "monitor 4 2 1", &rows)
 }
 
 // The place comes in and waits.

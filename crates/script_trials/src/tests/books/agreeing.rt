@@ -1,0 +1,271 @@
+//! The book beside two monitors that are written apart: one filters the list of all that happened (`past`), the other
+//! is told by where its places are (`plain`). After each drawn step all three say the same of who waits, who was
+//! called, whose turn it is and who is outside.
+use super::plain::Plain;
+use super::sized::SizedBook;
+use crate::tests::numbers::next_number;
+use crate::tests::past::Past;
+use crate::tests::past::event::Event;
+use crate::tests::past::filters::{chosen, in_order};
+use std::alloc::Global;
+use std::test::Fail;
+use wait_book::steps::{Next, Step};
+
+// Numbers of conditions and of Mesa conditions among them.
+const KINDS: [(u64, u64); 14] = [
+    (1, 0),
+    (1, 1),
+    (2, 0),
+    (2, 1),
+    (2, 2),
+    (3, 0),
+    (3, 1),
+    (3, 2),
+    (3, 3),
+    (4, 0),
+    (4, 1),
+    (4, 2),
+    (4, 3),
+    (4, 4),
+];
+
+const STEPS: u64 = 40;
+
+// 50 of each number of places and of each of `KINDS`.
+const HISTORIES: u64 = 5_600;
+
+// How often something came up.
+#[derive(Clone, Copy, Default, Debug)]
+struct Tally {
+    done: usize,
+    refused: usize,
+    // Two or more are called.
+    several_called: usize,
+    // Somebody is called while a signaller waits.
+    beside_signallers: usize,
+    // Who was called and waited again was called again.
+    called_again: usize,
+    broadcasts_of_several: usize,
+}
+
+fn count(counter: &mut usize, comes_up: bool) {
+    *counter = counter.saturating_add(comes_up as usize);
+}
+
+// Whether these wait on a condition of the plain monitor, in this order.
+fn stand_waiting(plain: &Plain, condition: u64, waits: &[Event]) -> bool {
+    for at in 0..waits.len() {
+        let place = waits[at].place() as u64;
+        if !plain.waits_on(place, condition) || plain.before(place) != at {
+            return false;
+        }
+    }
+    plain.count(condition) == waits.len()
+}
+
+// Whether these are the signallers of the plain monitor, in this order.
+fn stand_signalling(plain: &Plain, places: &[usize]) -> bool {
+    for at in 0..places.len() {
+        let place = places[at] as u64;
+        if !plain.signals(place) || plain.before(place) != at {
+            return false;
+        }
+    }
+    plain.signallers() == places.len()
+}
+
+// Whether these are called in the plain monitor, in this order, behind so many signallers.
+fn stand_called(plain: &Plain, signallers: usize, waits: &[Event]) -> bool {
+    for at in 0..waits.len() {
+        let place = waits[at].place() as u64;
+        if !plain.is_called(place) || plain.before(place).checked_sub(signallers) != Some(at) {
+            return false;
+        }
+    }
+    plain.called() == waits.len()
+}
+
+#[derive(Drop)]
+struct Three {
+    past: Past,
+    plain: Plain,
+    book: SizedBook,
+}
+
+impl Three {
+    fn make(alloc: Global, places: u64, conditions: u64, mesa: u64) -> Result<Three, Fail> {
+        Ok(Three {
+            past: Past::new(alloc, places, conditions, mesa),
+            plain: Plain::new(places, conditions, mesa),
+            book: SizedBook::make(alloc, places as usize, conditions as usize, mesa as usize)?,
+        })
+    }
+
+    // Does a step: whether all three answer the same.
+    fn step(&mut self, step: Step, tally: &mut Tally) -> Result<bool, Fail> {
+        let told = self.past.step(step)?;
+        let (answer, calls) = told;
+        count(&mut tally.done, answer.is_ok());
+        count(&mut tally.refused, answer.is_err());
+        count(&mut tally.broadcasts_of_several, calls > 1);
+        Ok(self.plain.step(step) == answer && self.book.step(step) == told)
+    }
+
+    fn agree_on(&self, condition: usize) -> Result<bool, Fail> {
+        let by_time = self.past.waiting(condition)?;
+        let waits = in_order(self.past.alloc, by_time.as_slice())?;
+        Ok(
+            chosen(by_time.as_slice()) == waits.first().copied()
+                && stand_waiting(&self.plain, condition as u64, waits.as_slice())
+                && self.book.has_waiting(condition, waits.as_slice()),
+        )
+    }
+
+    fn agree_on_all(&self) -> Result<bool, Fail> {
+        for condition in 0..self.past.conditions {
+            if !self.agree_on(condition as usize)? {
+                return Ok(false);
+            }
+        }
+        Ok(true)
+    }
+
+    fn agree_outside(&self) -> bool {
+        for place in 0..self.past.places {
+            let outside = self.past.outside(place as usize);
+            if self.plain.outside(place) != outside
+                || self.book.outside(place as usize) != outside
+            {
+                return false;
+            }
+        }
+        true
+    }
+
+    // Whether the list and the table say the same of the called and of the signallers. The book shows these as the
+    // turn, when it comes to them.
+    fn agree_to_come(&self, tally: &mut Tally) -> Result<bool, Fail> {
+        let signallers = self.past.urgent()?;
+        let called = self.past.called()?;
+        count(&mut tally.several_called, called.len() > 1);
+        let beside = !called.is_empty() && !signallers.is_empty();
+        count(&mut tally.beside_signallers, beside);
+        let behind = signallers.len();
+        Ok(
+            stand_signalling(&self.plain, signallers.as_slice())
+                && stand_called(&self.plain, behind, called.as_slice()),
+        )
+    }
+
+    fn agree(&self, tally: &mut Tally) -> Result<bool, Fail> {
+        let now = self.past.now()?;
+        Ok(
+            self.plain.now() == now
+                && self.book.now() == now
+                && self.agree_outside()
+                && self.agree_on_all()?
+                && self.agree_to_come(tally)?,
+        )
+    }
+
+    // A place that is outside, if there is one.
+    fn newcomer(&self, lot: u64) -> Option<u64> {
+        let first = lot % self.past.places.max(1);
+        let mut places = (first..self.past.places).chain(0..first);
+        places.find(|place| self.plain.outside(*place))
+    }
+
+    // A step of any place, mostly refused.
+    fn strange(&self, lot: u64) -> Step {
+        let place = lot / 64 % self.past.places.saturating_add(1);
+        let condition = lot / 1024 % self.past.conditions.saturating_add(1);
+        match lot % 7 {
+            0 => Step::Enter(place),
+            1 => Step::Wait(place, condition, 1),
+            2 => Step::Signal(place, condition),
+            3 => Step::Pass(place, condition),
+            4 => Step::Notify(place, condition),
+            5 => Step::Broadcast(place, condition),
+            _ => Step::Leave(place),
+        }
+    }
+
+    // A step of the place inside that isn't refused. It waits where another can go on.
+    fn suited(&self, place: u64, lot: u64) -> Step {
+        let condition = lot / 64 % self.past.conditions.max(1);
+        let goes_on = self.newcomer(lot).is_some() || self.plain.is_awaited();
+        match (lot % 16, self.past.is_mesa(condition)) {
+            (0..=7, _) if goes_on => Step::Wait(place, condition, lot / 1024 % 3),
+            (0..=11, false) => Step::Signal(place, condition),
+            (12, false) => Step::Pass(place, condition),
+            (0..=9, true) => Step::Notify(place, condition),
+            (10..=13, true) => Step::Broadcast(place, condition),
+            _ => Step::Leave(place),
+        }
+    }
+
+    // The next step: mostly one that isn't refused.
+    fn drawn(&self, lot: u64) -> Step {
+        let further = lot / 16;
+        match (self.plain.now(), self.newcomer(further)) {
+            (Next::Held(place), _) if lot % 16 != 0 => self.suited(place as u64, further),
+            (Next::Free, Some(place)) if lot % 16 != 0 => Step::Enter(place),
+            _ => self.strange(further),
+        }
+    }
+}
+
+// How often a place that was called, and waited again at once, went on again by a call.
+fn calls_again(past: &Past) -> usize {
+    let mut found = 0usize;
+    for at in 0..past.events.len() {
+        let event = past.events[at];
+        let mut own = past.events[..at]
+            .iter()
+            .rev()
+            .filter(|other| other.place() == event.place());
+        let before = own.nth(1).copied();
+        if past.is_called_back(Some(event)) && past.is_called_back(before) {
+            found = found.saturating_add(1);
+        }
+    }
+    found
+}
+
+// The history with this number: whether all three agree throughout.
+fn history(alloc: Global, number: u64, tally: &mut Tally) -> Result<bool, Fail> {
+    let (conditions, mesa) = KINDS[(number / 8 % 14) as usize];
+    let mut three = Three::make(alloc, number % 8 + 1, conditions, mesa)?;
+    let mut lot = number;
+    for _ in 0..STEPS {
+        lot = next_number(lot);
+        let step = three.drawn(lot >> 24);
+        if !three.step(step, tally)? || !three.agree(tally)? {
+            return Ok(false);
+        }
+    }
+    tally.called_again = tally.called_again.saturating_add(calls_again(&three.past));
+    Ok(true)
+}
+
+// Whether what is worth seeing came up often.
+fn is_rich(tally: Tally) -> bool {
+    tally.done >= 200_000
+        && tally.refused >= 10_000
+        && tally.several_called >= 10_000
+        && tally.beside_signallers >= 1_500
+        && tally.called_again >= 3_000
+        && tally.broadcasts_of_several >= 2_500
+}
+
+// 224,000 drawn steps, of 1 to 8 places on 1 to 4 conditions, of which none to all are Mesa conditions.
+#[test]
+fn three_monitors_agree(rt: HostRuntime) -> Result<(), Fail> {
+    let mut tally = Tally::default();
+    for number in 0..HISTORIES {
+        let agree = history(rt.alloc(), number, &mut tally)?;
+        assert!(rt; agree, "history {number}");
+    }
+    assert!(rt; is_rich(tally), "{tally:?}");
+    Ok(())
+}

@@ -1,0 +1,118 @@
+//! A book with its numbers, by which its calls are made where they may be.
+ghost use Rattle.std.specs.Prelude.{◌≡◌, IfSome};
+ghost use Rattle.hoare_law.specs.declared.turn.Turn.TheVariants as turns;
+ghost use Rattle.hoare_law.specs.Kinds.{IsMesa};
+
+use crate::tests::past::event::Event;
+use hoare_law::waits::Waits;
+use std::alloc::Global;
+use wait_book::book::Book;
+use wait_book::steps::{MakeRefused, Next, Step, StepRefused};
+
+/// A book with its numbers of places, conditions and Mesa conditions.
+#[derive(Drop)]
+pub struct SizedBook {
+    book: Book,
+    places: usize,
+    conditions: usize,
+    mesa: usize,
+    ghost places_are: { places ≡ book.places },
+    ghost conditions_are: { conditions ≡ book.conditions },
+    ghost mesa_are: { mesa ≡ book.mesa },
+}
+
+impl SizedBook {
+    /// A book of these numbers, where nothing happened yet.
+    pub fn make(
+        alloc: Global,
+        places: usize,
+        conditions: usize,
+        mesa: usize,
+    ) -> Result<SizedBook, MakeRefused> {
+        match Book::make(alloc, places, conditions, mesa) {
+            Ok(book) => Ok(SizedBook {
+                book,
+                places,
+                conditions,
+                mesa,
+            }),
+            Err(refused) => Err(refused),
+        }
+    }
+
+    /// Who goes on.
+    pub fn now(&self) -> Next {
+        self.book.now()
+    }
+
+    /// Whether a place is outside.
+    pub fn outside(&self, place: usize) -> bool {
+        place < self.places && self.book.outside(place)
+    }
+
+    // The place inside and the Mesa condition, if these are their numbers.
+    fn caller(&self, place: u64, condition: u64) -> Option<(usize, usize)>
+        ensures { IfSome result (λ r. (self.now.book.turn ≡ turns.Held r.0)
+            × IsMesa self.now.book.conditions self.now.book.mesa r.1) }
+    {
+        let (place, condition) = (place as usize, condition as usize);
+        if condition >= self.conditions || self.conditions - condition > self.mesa {
+            return None;
+        }
+        match self.book.now() {
+            Next::Held(holder) if holder == place => Some((holder, condition)),
+            _ => None,
+        }
+    }
+
+    /// What a step answers, and how many it called. A notify and a broadcast are done by calls of their own.
+    pub fn step(&mut self, step: Step) -> (Result<Next, StepRefused>, usize) {
+        let calls = match step {
+            Step::Notify(place, condition) => self.notify(place, condition),
+            Step::Broadcast(place, condition) => self.broadcast(place, condition),
+            _ => None,
+        };
+        match calls {
+            Some(called) => (Ok(self.book.now()), called),
+            None => (self.book.try_step(step), 0),
+        }
+    }
+
+    // How many a notify calls, if its place may call.
+    fn notify(&mut self, place: u64, condition: u64) -> Option<usize> {
+        let (place, condition) = self.caller(place, condition)?;
+        let is_called = self.book.notify(place, condition);
+        Some(is_called as usize)
+    }
+
+    // How many a broadcast calls, if its place may call.
+    fn broadcast(&mut self, place: u64, condition: u64) -> Option<usize> {
+        let (place, condition) = self.caller(place, condition)?;
+        Some(self.book.broadcast(place, condition))
+    }
+
+    /// Whether these wait on a condition, in the order in which signals would resume them.
+    pub fn has_waiting(&self, condition: usize, waits: &[Event]) -> bool {
+        if condition >= self.conditions || self.book.count(condition) != waits.len() {
+            return false;
+        }
+        let first = waits.first().copied();
+        self.book.queue(condition) == first.is_some()
+            && self.book.first(condition) == first.map(Event::priority)
+            && self.book.chosen(condition) == first.map(Event::place)
+            && self.has_priorities(condition, waits)
+    }
+
+    // Whether the priorities on a condition begin with those of the waits.
+    fn has_priorities(&self, condition: usize, waits: &[Event]) -> bool {
+        for at in 0..waits.len() {
+            if at >= self.book.count(condition) {
+                return false;
+            }
+            if self.book.priority(condition, at) != waits[at].priority() {
+                return false;
+            }
+        }
+        true
+    }
+}

@@ -252,10 +252,11 @@ takes {s = s} {t = t} {chains = chains} {at = at} c k n i e g u =
     }
 
 -- the chains without it
-pub AreChains-taken : {s t : Slab Node} {chains : List Chain} {at : ℕ → List Link} {last2 : Option ℕ} (c k : ℕ) (n : Node)
-    → last2 ≡ cond (is_some n.next) (chain_at chains c).last None → AreChains s chains at → c < 10 → (g : Takes s t k (at c) n) → slab_len t + 1 ≡ slab_len s
-    → AreChains t (set chains c (record { first = n.next; last = last2 })) (list_put c g.after at)
-AreChains-taken {s = s} {t = t} {chains = chains} {at = at} {last2 = last2} c k n e i l g len =
+pub AreChains-taken : {s t : Slab Node} {chains : List Chain} {at : ℕ → List Link} {new : Chain} (c k : ℕ) (n : Node)
+    → new.first ≡ n.next → new.last ≡ cond (is_some n.next) (chain_at chains c).last None
+    → AreChains s chains at → c < 10 → (g : Takes s t k (at c) n) → slab_len t + 1 ≡ slab_len s
+    → AreChains t (set chains c new) (list_put c g.after at)
+AreChains-taken {s = s} {t = t} {chains = chains} {at = at} {new = new} c k n f e i l g len =
     let once : (j : ℕ) → one j g.first.key + times j (keys g.after) ≤ held s j = λ j. omega (arith, once_in i j c l, ap (λ v. times j (keys v)) g.is) in
     let gone : (j : ℕ) → held t j + one j g.first.key ≡ held s j = λ j.
     elim (cases_eq j g.first.key) [
@@ -266,9 +267,9 @@ AreChains-taken {s = s} {t = t} {chains = chains} {at = at} {last2 = last2} c k 
       | inr off ↦ omega (arith, held_same s t j (g.updates.others j off), one_apart j g.first.key (eq_apart j g.first.key off))
     ] in
     let same : (j : ℕ) → j ≡ g.first.key → one j g.first.key ≡ 1 = λ j q. subst (λ (v : ℕ). one v g.first.key ≡ 1) (sym q) (one_same g.first.key) in
-    let new : Chain = record { first = n.next; last = last2 } in
     let here : IsChain t new g.after = record {
-      linked = IsLinked-same s t n.next g.after None (λ j p. g.updates.others j (λ q. omega (arith, once j, held_few s j, same j q))) g.linked;
+      linked = subst (λ (v : Option ℕ). IsLinked t v g.after None) (sym f)
+          (IsLinked-same s t n.next g.after None (λ j p. g.updates.others j (λ q. omega (arith, once j, held_few s j, same j q))) g.linked);
       last = e ∙ last_taken s (chain_at chains c).last n.next g.first g.after ((i.linked c).last ∙ ap last_key g.is) g.linked;
     } in
     let there : (d : ℕ) → d ≢ c → IsChain t (chain_at chains d) (at d) =

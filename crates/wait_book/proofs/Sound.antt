@@ -13,6 +13,8 @@ use Rattle.hoare_law.specs.Turns.{turn_given_up}
 use Rattle.hoare_law.specs.Priorities.{put_in, in_order, behind_first}
 use Rattle.hoare_law.proofs.Filters.{filter-filter}
 use Rattle.hoare_law.proofs.Sorted.{in_order-put_in, in_order-filtered}
+use Rattle.wait_book.specs.declared.book.TheConstants.{MOST_CONDITIONS, MOST_PLACES}
+use Rattle.wait_book.specs.declared.chains.TheConstants.{SIGNALLERS}
 use Rattle.wait_book.specs.declared.waiter.Waiter.{Waiter}
 use Rattle.wait_book.specs.Contents.{Contents, SameSizes, hoare_of, next_of, one, times, times_in, times_in_hand, wait_of, waiters_on}
 use Rattle.wait_book.specs.declared.steps.Next.TheVariants as next
@@ -275,7 +277,7 @@ waited_sound b w ws p o l = sound_fewer b (waited ws b) o.sound (same b) (λ j. 
     (given_up_fits b.signallers b.called (hoare_of b))
 
 -- no more wait than there are places
-pub few_waiters : (b : Contents) → IsSound b → length b.waiters ≤ 64
+pub few_waiters : (b : Contents) → IsSound b → length b.waiters ≤ MOST_PLACES
 few_waiters b s =
     let few : length (places b.waiters) ≤ b.places = few_once (places b.waiters) b.places (λ j. omega (arith, s.once j)) (λ j p. s.in_range j (omega arith)) in
     omega (arith, s.few_places, length-map b.waiters (λ (w : Waiter). w.place))
@@ -369,7 +371,7 @@ returned_sound b k s e = sound_fewer b (returned k b) s (same b) (λ j. omega (a
 -- who goes on, by the chain in which it stands
 abbrev pub claimed : Option ℕ → ℕ → Contents → Contents
 claimed None k b = admitted k b
-claimed (Some n) k b = cond (n == 8) (returned k b) (went_on k b)
+claimed (Some n) k b = cond (n == SIGNALLERS) (returned k b) (went_on k b)
 
 -- any of the three keeps the book sound
 pub claimed_sound : (t : Turn) (b : Contents) (k : ℕ) → b.turn ≡ t → next_of t ≡ next.For k → IsSound b → IsSound (claimed (chain_of t (hoare_of b)) k b)
@@ -494,7 +496,7 @@ broadcast_sound b k c ws o m t =
 -- a new book
 
 -- a book where nobody is
-pub opened_sound : (n m l x : ℕ) → 0 < n → n ≤ 64 → 0 < m → m ≤ 8 → l ≤ m → n ≤ x
+pub opened_sound : (n m l x : ℕ) → 0 < n → n ≤ MOST_PLACES → 0 < m → m ≤ MOST_CONDITIONS → l ≤ m → n ≤ x
     → IsSound (record { places = n; conditions = m; mesa = l; room_to_wait = x; room_to_signal = x; waiters = []; signallers = []; called = []; turn = Free })
 opened_sound n m l x a b d e g f = record {
   some_places = a;

@@ -11,6 +11,7 @@ use Rattle.hoare_law.specs.Called.{called}
 use Rattle.hoare_law.specs.Turns.{urgent, turn, outside}
 use Rattle.hoare_law.specs.Priorities.{in_order}
 use Rattle.hoare_law.specs.Legal.{IsLegal}
+use Rattle.wait_book.specs.declared.book.TheConstants.{MOST_CONDITIONS, MOST_PLACES}
 use Rattle.wait_book.specs.declared.waiter.Waiter.{Waiter}
 use Rattle.wait_book.specs.declared.steps.Next.{Next}
 use Rattle.wait_book.specs.declared.steps.Next.TheVariants as next
@@ -103,6 +104,6 @@ IsPlaceBelow n (next.Held k) = k < n
 -- the first refusal of these numbers of places, conditions and Mesa conditions, if memory is there
 abbrev pub make_refusal : ℕ → ℕ → ℕ → Option MakeRefused
 make_refusal places conditions mesa =
-    if nat_le 1 places && nat_le places 64 then
-    (if nat_le 1 conditions && (nat_le conditions 8 && nat_le mesa conditions) then None else Some BadConditions)
+    if nat_le 1 places && nat_le places MOST_PLACES then
+    (if nat_le 1 conditions && (nat_le conditions MOST_CONDITIONS && nat_le mesa conditions) then None else Some BadConditions)
     else Some BadPlaces

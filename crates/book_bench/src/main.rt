@@ -19,8 +19,8 @@ const NAMES: [&str; 12] = [
     "turns: TURNS in sum for each figure, which is their mean",
     "with --orders, on one condition:",
     "book_enter_wait_ORDER_N, book_signal_leave_ORDER_N: 1, 8 or 63 wait, with priorities that are equal, rising or falling",
-    "book_notify, book_broadcast_N: one of 63 is called, or all N, where 1 or 63 wait on a Mesa condition; the calls alone are measured",
-    "book_count_63: 63 that wait are counted, as a broadcast does that is told how many it called",
+    "book_notify, book_broadcast_N: one of 63 is called, or all N, where 1, 8 or 63 wait on a Mesa condition; the calls alone are measured",
+    "book_count_N: N that wait are counted, as a broadcast does that tells how many it called",
     "clock: two looks at the clock, of which a share is in each figure: once for N waits, and once for N signals",
     "size: the bytes of a book, without those on the heap",
     "usage: book_bench [--orders] TURNS",
@@ -120,12 +120,13 @@ fn measure_call<R: Print + Clock>(
 fn measure_calls<R: Print + Clock>(rt: &R, book: &mut Book, rounds: u64) -> io::Result<()> {
     let notify = measure_call(rt, book, Call::Notify, 63, rounds)?;
     println!(rt; "book_notify {notify} ns")?;
-    for waiters in [1, 63] {
+    for waiters in [1, 8, 63] {
         let broadcast = measure_call(rt, book, Call::Broadcast, waiters, rounds)?;
         println!(rt; "book_broadcast_{waiters} {broadcast} ns")?;
+        let count = measure_call(rt, book, Call::Count, waiters, rounds)?;
+        println!(rt; "book_count_{waiters} {count} ns")?;
     }
-    let count = measure_call(rt, book, Call::Count, 63, rounds)?;
-    println!(rt; "book_count_63 {count} ns")
+    Ok(())
 }
 
 // A book of all places and conditions, of which the last `mesa` are Mesa conditions.

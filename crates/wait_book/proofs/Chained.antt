@@ -3,6 +3,7 @@ use Rattle.std.proofs.Common.{◌≡◌, ◌≢◌, ℕ, zero, suc, ◌+◌, ◌
 use Rattle.std.proofs.lemmas.Bool.{cases_eq, cases_lt}
 use Rattle.std.proofs.lemmas.List.{append-nil, get_or-set_same, get_or-set_other, get_or_past, length-append, length-set}
 use Rattle.slab.specs.Slab.{Slab, get, slab_len, Updates}
+use Rattle.wait_book.specs.declared.chains.TheConstants.{CALLED, CHAINS}
 use Rattle.wait_book.specs.declared.chains.Node.{Node}
 use Rattle.wait_book.specs.declared.chains.Chain.{Chain}
 use Rattle.wait_book.specs.declared.chains.Link.{Link}
@@ -28,15 +29,15 @@ held_same : (s t : Slab Node) (k : ℕ) → get t k ≡ get s k → held t k ≡
 held_same s t k e = ap (λ o. cond (is_some o) 1 0) e
 
 -- where there are no more chains there is no list
-pub beyond : {s : Slab Node} {chains : List Chain} {at : ℕ → List Link} → AreChains s chains at → (c : ℕ) → 10 ≤ c → at c ≡ []
+pub beyond : {s : Slab Node} {chains : List Chain} {at : ℕ → List Link} → AreChains s chains at → (c : ℕ) → CHAINS ≤ c → at c ≡ []
 beyond {s = s} {chains = chains} {at = at} i c l =
     linked_none s (chain_at chains c).first (at c) (ap (λ (v : Chain). v.first) (get_or_past chains c empty (omega (arith, i.many)))) (i.linked c).linked
 
 -- no list is longer than the slab
 pub chain_few : {s : Slab Node} {chains : List Chain} {at : ℕ → List Link} → AreChains s chains at → (c : ℕ) → length (at c) ≤ slab_len s
 chain_few {at = at} i c =
-    elim (cases_lt c 10) [
-      | inl l ↦ omega (arith, length_one (λ d (x : Link). x.key) 10 c at l, i.counted)
+    elim (cases_lt c CHAINS) [
+      | inl l ↦ omega (arith, length_one (λ d (x : Link). x.key) CHAINS c at l, i.counted)
       | inr m ↦ omega (arith, ap length (beyond i c m))
     ]
 
@@ -78,36 +79,36 @@ unfolding all_below
 no_keys zero = refl
 no_keys (suc n) = append-nil _ ∙ no_keys n
 
-pub AreChains-none : (s : Slab Node) → s.slots ≡ [] → AreChains s (replicate 10 empty) (λ c. [])
+pub AreChains-none : (s : Slab Node) → s.slots ≡ [] → AreChains s (replicate CHAINS empty) (λ c. [])
 AreChains-none s e = record {
   many = refl;
-  linked = λ c. subst (λ (v : Chain). IsChain s v []) (sym (no_chain 10 c)) (record { linked = refl; last = refl });
-  once = λ k. ap (times k) (no_keys 10) ∙ sym (held_none s k (ap (λ (slots : List (Option Node)). get_or slots k None) e));
-  counted = ap length (no_keys 10) ∙ sym (ap (count_by is_some) e);
+  linked = λ c. subst (λ (v : Chain). IsChain s v []) (sym (no_chain CHAINS c)) (record { linked = refl; last = refl });
+  once = λ k. ap (times k) (no_keys CHAINS) ∙ sym (held_none s k (ap (λ (slots : List (Option Node)). get_or slots k None) e));
+  counted = ap length (no_keys CHAINS) ∙ sym (ap (count_by is_some) e);
 }
 
 -- where keys stand
 
 -- in two chains no more often than in all
-pub apart : {s : Slab Node} {chains : List Chain} {at : ℕ → List Link} → AreChains s chains at → (k c d : ℕ) → c < 10 → d ≢ c
+pub apart : {s : Slab Node} {chains : List Chain} {at : ℕ → List Link} → AreChains s chains at → (k c d : ℕ) → c < CHAINS → d ≢ c
     → times k (keys (at c)) + times k (keys (at d)) ≤ held s k
 apart {s = s} {at = at} i k c d l n =
-    elim (cases_lt d 10) [
-      | inl m ↦ omega (arith, times_two (λ e (x : Link). x.key) k 10 c d at l m n, i.once k)
-      | inr m ↦ omega (arith, times_one (λ e (x : Link). x.key) k 10 c at l, i.once k, ap (λ v. times k (keys v)) (beyond i d m))
+    elim (cases_lt d CHAINS) [
+      | inl m ↦ omega (arith, times_two (λ e (x : Link). x.key) k CHAINS c d at l m n, i.once k)
+      | inr m ↦ omega (arith, times_one (λ e (x : Link). x.key) k CHAINS c at l, i.once k, ap (λ v. times k (keys v)) (beyond i d m))
     ]
 
 -- in one chain once at most
-pub once_in : {s : Slab Node} {chains : List Chain} {at : ℕ → List Link} → AreChains s chains at → (k c : ℕ) → c < 10 → times k (keys (at c)) ≤ held s k
-once_in {at = at} i k c l = omega (arith, times_one (λ e (x : Link). x.key) k 10 c at l, i.once k)
+pub once_in : {s : Slab Node} {chains : List Chain} {at : ℕ → List Link} → AreChains s chains at → (k c : ℕ) → c < CHAINS → times k (keys (at c)) ≤ held s k
+once_in {at = at} i k c l = omega (arith, times_one (λ e (x : Link). x.key) k CHAINS c at l, i.once k)
 
 -- one chain changes
 
 -- the chain that was set
-chain_same : (chains : List Chain) (c : ℕ) (v : Chain) → length chains ≡ 10 → c < 10 → chain_at (set chains c v) c ≡ v
+chain_same : (chains : List Chain) (c : ℕ) (v : Chain) → length chains ≡ CHAINS → c < CHAINS → chain_at (set chains c v) c ≡ v
 chain_same chains c v m l = get_or-set_same chains c v empty (omega arith)
 
-chains_put : (s : Slab Node) (chains : List Chain) (at : ℕ → List Link) (c : ℕ) (v : Chain) (xs : List Link) → length chains ≡ 10 → c < 10 → IsChain s v xs
+chains_put : (s : Slab Node) (chains : List Chain) (at : ℕ → List Link) (c : ℕ) (v : Chain) (xs : List Link) → length chains ≡ CHAINS → c < CHAINS → IsChain s v xs
     → ((d : ℕ) → d ≢ c → IsChain s (chain_at chains d) (at d)) → (d : ℕ) → IsChain s (chain_at (set chains c v) d) (list_put c xs at d)
 chains_put s chains at c v xs m l here there d =
     elim (cases_eq d c) [
@@ -137,7 +138,7 @@ cut {s = s} {chains = chains} c before after i is =
     record { next = r.0; front = r.1; back = r.2 }
 
 -- they are as they were where a node is stored under a vacant key
-pub cut-stored : {s mid : Slab Node} {chains : List Chain} {at : ℕ → List Link} {n : Node} (c k : ℕ) (before after : List Link) (next : Option ℕ) → AreChains s chains at → c < 10
+pub cut-stored : {s mid : Slab Node} {chains : List Chain} {at : ℕ → List Link} {n : Node} (c k : ℕ) (before after : List Link) (next : Option ℕ) → AreChains s chains at → c < CHAINS
     → at c ≡ before ++ after → get s k ≡ None → Updates s mid k (Some n) → IsLinked s (chain_at chains c).first before next → IsLinked mid (chain_at chains c).first before next
 cut-stored {s = s} {mid = mid} {chains = chains} c k before after next i l is vacant u front =
     IsLinked-same s mid (chain_at chains c).first before next
@@ -198,7 +199,7 @@ last_put s last next before x (y ∷ ys) e l =
 
 -- the chains with a new node, wherever the list was cut
 pub AreChains-linked : {s mid t : Slab Node} {chains : List Chain} {at : ℕ → List Link} {behind next first2 last2 : Option ℕ} {x : Link} (c : ℕ) (before after : List Link)
-    → AreChains s chains at → c < 10 → Linking s mid t (chain_at chains c).first behind next first2 x → last2 ≡ cond (is_some next) (chain_at chains c).last (Some x.key)
+    → AreChains s chains at → c < CHAINS → Linking s mid t (chain_at chains c).first behind next first2 x → last2 ≡ cond (is_some next) (chain_at chains c).last (Some x.key)
     → ((front : List Link) (to : Option ℕ) → IsLinked s (chain_at chains c).first front to → behind ≡ last_key front → next ≡ to)
     → at c ≡ before ++ after → behind ≡ last_key before
     → AreChains t (set chains c (record { first = first2; last = last2 })) (list_put c (before ++ x ∷ after) at)
@@ -221,8 +222,8 @@ AreChains-linked {s = s} {t = t} {chains = chains} {at = at} {behind = behind} {
     record {
       many = length-set chains c new ∙ i.many;
       linked = chains_put t chains at c new (before ++ x ∷ after) i.many l here others;
-      once = λ k. omega (arith, times_put (λ d (y : Link). y.key) k 10 c (before ++ x ∷ after) at l, keys_middle k before x after, ap (λ v. times k (keys v)) is, i.once k, linking_held g k);
-      counted = omega (arith, length_put (λ d (y : Link). y.key) 10 c (before ++ x ∷ after) at l, length_middle before x after, ap length is, i.counted, g.longer);
+      once = λ k. omega (arith, times_put (λ d (y : Link). y.key) k CHAINS c (before ++ x ∷ after) at l, keys_middle k before x after, ap (λ v. times k (keys v)) is, i.once k, linking_held g k);
+      counted = omega (arith, length_put (λ d (y : Link). y.key) CHAINS c (before ++ x ∷ after) at l, length_middle before x after, ap length is, i.counted, g.longer);
     }
 
 -- a node taken out
@@ -252,10 +253,11 @@ takes {s = s} {t = t} {chains = chains} {at = at} c k n i e g u =
     }
 
 -- the chains without it
-pub AreChains-taken : {s t : Slab Node} {chains : List Chain} {at : ℕ → List Link} {last2 : Option ℕ} (c k : ℕ) (n : Node)
-    → last2 ≡ cond (is_some n.next) (chain_at chains c).last None → AreChains s chains at → c < 10 → (g : Takes s t k (at c) n) → slab_len t + 1 ≡ slab_len s
-    → AreChains t (set chains c (record { first = n.next; last = last2 })) (list_put c g.after at)
-AreChains-taken {s = s} {t = t} {chains = chains} {at = at} {last2 = last2} c k n e i l g len =
+pub AreChains-taken : {s t : Slab Node} {chains : List Chain} {at : ℕ → List Link} {new : Chain} (c k : ℕ) (n : Node)
+    → new.first ≡ n.next → new.last ≡ cond (is_some n.next) (chain_at chains c).last None
+    → AreChains s chains at → c < CHAINS → (g : Takes s t k (at c) n) → slab_len t + 1 ≡ slab_len s
+    → AreChains t (set chains c new) (list_put c g.after at)
+AreChains-taken {s = s} {t = t} {chains = chains} {at = at} {new = new} c k n f e i l g len =
     let once : (j : ℕ) → one j g.first.key + times j (keys g.after) ≤ held s j = λ j. omega (arith, once_in i j c l, ap (λ v. times j (keys v)) g.is) in
     let gone : (j : ℕ) → held t j + one j g.first.key ≡ held s j = λ j.
     elim (cases_eq j g.first.key) [
@@ -266,9 +268,9 @@ AreChains-taken {s = s} {t = t} {chains = chains} {at = at} {last2 = last2} c k 
       | inr off ↦ omega (arith, held_same s t j (g.updates.others j off), one_apart j g.first.key (eq_apart j g.first.key off))
     ] in
     let same : (j : ℕ) → j ≡ g.first.key → one j g.first.key ≡ 1 = λ j q. subst (λ (v : ℕ). one v g.first.key ≡ 1) (sym q) (one_same g.first.key) in
-    let new : Chain = record { first = n.next; last = last2 } in
     let here : IsChain t new g.after = record {
-      linked = IsLinked-same s t n.next g.after None (λ j p. g.updates.others j (λ q. omega (arith, once j, held_few s j, same j q))) g.linked;
+      linked = subst (λ (v : Option ℕ). IsLinked t v g.after None) (sym f)
+          (IsLinked-same s t n.next g.after None (λ j p. g.updates.others j (λ q. omega (arith, once j, held_few s j, same j q))) g.linked);
       last = e ∙ last_taken s (chain_at chains c).last n.next g.first g.after ((i.linked c).last ∙ ap last_key g.is) g.linked;
     } in
     let there : (d : ℕ) → d ≢ c → IsChain t (chain_at chains d) (at d) =
@@ -277,8 +279,8 @@ AreChains-taken {s = s} {t = t} {chains = chains} {at = at} {last2 = last2} c k 
     record {
       many = length-set chains c new ∙ i.many;
       linked = chains_put t chains at c new g.after i.many l here there;
-      once = λ j. omega (arith, times_put (λ d (y : Link). y.key) j 10 c g.after at l, ap (λ v. times j (keys v)) g.is, i.once j, gone j);
-      counted = omega (arith, length_put (λ d (y : Link). y.key) 10 c g.after at l, ap length g.is, i.counted, len);
+      once = λ j. omega (arith, times_put (λ d (y : Link). y.key) j CHAINS c g.after at l, ap (λ v. times j (keys v)) g.is, i.once j, gone j);
+      counted = omega (arith, length_put (λ d (y : Link). y.key) CHAINS c g.after at l, ap length g.is, i.counted, len);
     }
   where
     last_taken : (s : Slab Node) (last next : Option ℕ) (x : Link) (after : List Link) → last ≡ last_key (x ∷ after) → IsLinked s next after None
@@ -297,33 +299,33 @@ pub record Joining (s t : Slab Node) (called : Chain) (key : ℕ) (first2 : Opti
   pub as_long : slab_len t ≡ slab_len s
 
 pub AreChains-joined : {s t : Slab Node} {chains : List Chain} {at : ℕ → List Link} {first2 : Option ℕ} (c key : ℕ)
-    → AreChains s chains at → c < 9 → (chain_at chains c).first ≡ Some key → Joining s t (chain_at chains 9) key first2
-    → AreChains t (set (set chains 9 (record { first = first2; last = (chain_at chains c).last })) c empty) (list_put c [] (list_put 9 (at 9 ++ at c) at))
+    → AreChains s chains at → c < CALLED → (chain_at chains c).first ≡ Some key → Joining s t (chain_at chains CALLED) key first2
+    → AreChains t (set (set chains CALLED (record { first = first2; last = (chain_at chains c).last })) c empty) (list_put c [] (list_put CALLED (at CALLED ++ at c) at))
 AreChains-joined {s = s} {t = t} {chains = chains} {at = at} {first2 = first2} c key i l starts g =
-    let xs : List Link = at 9 in
+    let xs : List Link = at CALLED in
     let ys : List Link = at c in
     let o : Opens s key ys = opens s (chain_at chains c).first key ys starts (i.linked c).linked in
-    let stays : (d : ℕ) → d ≢ 9 → IsChain t (chain_at chains d) (at d) = λ d off.
+    let stays : (d : ℕ) → d ≢ CALLED → IsChain t (chain_at chains d) (at d) = λ d off.
     chain_kept s t (chain_at chains d) (at d)
-    (λ k p. g.others k (λ b. omega (arith, apart i k 9 d (omega arith) off, held_few s k, last_within k xs (sym (i.linked 9).last ∙ b)))) (i.linked d) in
+    (λ k p. g.others k (λ b. omega (arith, apart i k CALLED d (omega arith) off, held_few s k, last_within k xs (sym (i.linked CALLED).last ∙ b)))) (i.linked d) in
     let front : IsLinked t first2 xs (Some key) =
-    g.linked xs None (i.linked 9).linked (i.linked 9).last (λ k. omega (arith, once_in i k 9 (omega arith), held_few s k)) in
+    g.linked xs None (i.linked CALLED).linked (i.linked CALLED).last (λ k. omega (arith, once_in i k CALLED (omega arith), held_few s k)) in
     let back : IsLinked t (Some key) ys None = subst (λ (k : Option ℕ). IsLinked t k ys None) starts (stays c (omega arith)).linked in
     let new : Chain = record { first = first2; last = (chain_at chains c).last } in
     let here : IsChain t new (xs ++ ys) = record {
       linked = IsLinked-append t first2 xs (Some key) ys None front back;
       last = (i.linked c).last ∙ ap last_key o.is ∙ sym (last_append None xs o.first o.after) ∙ ap (λ zs. last_key (xs ++ zs)) (sym o.is);
     } in
-    let joined : (d : ℕ) → IsChain t (chain_at (set chains 9 new) d) (list_put 9 (xs ++ ys) at d) = chains_put t chains at 9 new (xs ++ ys) i.many (omega arith) here stays in
-    let many : length (set chains 9 new) ≡ 10 = length-set chains 9 new ∙ i.many in
-    let off : list_put 9 (xs ++ ys) at c ≡ ys = put_other 9 c (xs ++ ys) at (omega arith) in
+    let joined : (d : ℕ) → IsChain t (chain_at (set chains CALLED new) d) (list_put CALLED (xs ++ ys) at d) = chains_put t chains at CALLED new (xs ++ ys) i.many (omega arith) here stays in
+    let many : length (set chains CALLED new) ≡ CHAINS = length-set chains CALLED new ∙ i.many in
+    let off : list_put CALLED (xs ++ ys) at c ≡ ys = put_other CALLED c (xs ++ ys) at (omega arith) in
     record {
-      many = length-set (set chains 9 new) c empty ∙ many;
-      linked = chains_put t (set chains 9 new) (list_put 9 (xs ++ ys) at) c empty [] many (omega arith) (record { linked = refl; last = refl }) (λ d n. joined d);
+      many = length-set (set chains CALLED new) c empty ∙ many;
+      linked = chains_put t (set chains CALLED new) (list_put CALLED (xs ++ ys) at) c empty [] many (omega arith) (record { linked = refl; last = refl }) (λ d n. joined d);
       once = λ k. omega (
         arith,
-        times_put (λ d (y : Link). y.key) k 10 c [] (list_put 9 (xs ++ ys) at) (omega arith),
-        times_put (λ d (y : Link). y.key) k 10 9 (xs ++ ys) at (omega arith),
+        times_put (λ d (y : Link). y.key) k CHAINS c [] (list_put CALLED (xs ++ ys) at) (omega arith),
+        times_put (λ d (y : Link). y.key) k CHAINS CALLED (xs ++ ys) at (omega arith),
         keys_append k xs ys,
         ap (λ v. times k (keys v)) off,
         i.once k,
@@ -331,8 +333,8 @@ AreChains-joined {s = s} {t = t} {chains = chains} {at = at} {first2 = first2} c
       );
       counted = omega (
         arith,
-        length_put (λ d (y : Link). y.key) 10 c [] (list_put 9 (xs ++ ys) at) (omega arith),
-        length_put (λ d (y : Link). y.key) 10 9 (xs ++ ys) at (omega arith),
+        length_put (λ d (y : Link). y.key) CHAINS c [] (list_put CALLED (xs ++ ys) at) (omega arith),
+        length_put (λ d (y : Link). y.key) CHAINS CALLED (xs ++ ys) at (omega arith),
         length-append xs ys,
         ap length off,
         i.counted,

@@ -4,6 +4,8 @@ use Rattle.std.specs.Prelude.{All}
 use Rattle.std.proofs.lemmas.Bool.{cases_eq}
 use Rattle.std.proofs.lemmas.List.{append-nil}
 use Rattle.std.proofs.lemmas.List.Elements.{All-nil, All-cons, All-head, All-tail}
+use Rattle.wait_book.specs.declared.book.TheConstants.{MOST_CONDITIONS}
+use Rattle.wait_book.specs.declared.chains.TheConstants.{CALLED}
 use Rattle.wait_book.specs.declared.chains.Link.{Link}
 use Rattle.wait_book.specs.Lists.{Lists, IsJoined, list_at, list_put}
 use Rattle.wait_book.specs.Linked.{AreKept}
@@ -21,7 +23,7 @@ pub AreKept-none : (at : ℕ → List Link) → ((c : ℕ) → at c ≡ []) → 
 AreKept-none at none = λ c l. subst (All (Waited c)) (sym (none c)) (All-nil (Waited c))
 
 -- another list in chain c
-pub AreKept-list : (at bt : ℕ → List Link) (c : ℕ) (xs : List Link) → AreKept at → (c < 8 → All (Waited c) xs) → ((d : ℕ) → bt d ≡ list_put c xs at d) → AreKept bt
+pub AreKept-list : (at bt : ℕ → List Link) (c : ℕ) (xs : List Link) → AreKept at → (c < MOST_CONDITIONS → All (Waited c) xs) → ((d : ℕ) → bt d ≡ list_put c xs at d) → AreKept bt
 AreKept-list at bt c xs m here lists = λ d l.
     elim (cases_eq d c) [
       | inl e ↦
@@ -35,7 +37,7 @@ with_one c [] after x e a = All-cons (Waited c) x after e a
 with_one c (y ∷ before) after x e a =
     All-cons (Waited c) y (before ++ x ∷ after) (All-head (Waited c) y (before ++ after) a) (with_one c before after x e (All-tail (Waited c) y (before ++ after) a))
 
-pub AreKept-put : (at bt : ℕ → List Link) (c : ℕ) (before after : List Link) (x : Link) → AreKept at → at c ≡ before ++ after → (c < 8 → x.condition ≡ c)
+pub AreKept-put : (at bt : ℕ → List Link) (c : ℕ) (before after : List Link) (x : Link) → AreKept at → at c ≡ before ++ after → (c < MOST_CONDITIONS → x.condition ≡ c)
     → ((d : ℕ) → bt d ≡ list_put c (before ++ x ∷ after) at d) → AreKept bt
 AreKept-put at bt c before after x m is on lists = AreKept-list at bt c (before ++ x ∷ after) m (λ l. with_one c before after x (on l) (subst (All (Waited c)) is (m c l))) lists
 
@@ -43,30 +45,30 @@ pub AreKept-taken : (at bt : ℕ → List Link) (c : ℕ) (x : Link) (after : Li
 AreKept-taken at bt c x after m is lists = AreKept-list at bt c after m (λ l. All-tail (Waited c) x after (subst (All (Waited c)) is (m c l))) lists
 
 -- all of chain c put behind those called
-pub AreKept-joined : (at bt : ℕ → List Link) (c : ℕ) (xs : List Link) → AreKept at → ((d : ℕ) → bt d ≡ list_put c [] (list_put 9 xs at) d) → AreKept bt
+pub AreKept-joined : (at bt : ℕ → List Link) (c : ℕ) (xs : List Link) → AreKept at → ((d : ℕ) → bt d ≡ list_put c [] (list_put CALLED xs at) d) → AreKept bt
 AreKept-joined at bt c xs m lists =
-    AreKept-list (list_put 9 xs at) bt c [] (AreKept-list at (list_put 9 xs at) 9 xs m (λ l. absurd (omega arith)) (λ d. refl)) (λ l. All-nil (Waited c)) lists
+    AreKept-list (list_put CALLED xs at) bt c [] (AreKept-list at (list_put CALLED xs at) CALLED xs m (λ l. absurd (omega arith)) (λ d. refl)) (λ l. All-nil (Waited c)) lists
 
 -- where a chain has nobody, nothing changes
-pub joined-none : (c : ℕ) (v : Lists) → c < 8 → list_at v c ≡ [] → IsJoined c v v
+pub joined-none : (c : ℕ) (v : Lists) → c < MOST_CONDITIONS → list_at v c ≡ [] → IsJoined c v v
 joined-none c v l none = record {
   lists = λ d. sym (by d);
   waited = subst (All (Waited c)) (sym none) (All-nil (Waited c));
   room = refl;
 }
   where
-    called : list_at v 9 ++ list_at v c ≡ list_at v 9
-    called = ap (λ l. list_at v 9 ++ l) none ∙ append-nil (list_at v 9)
+    called : list_at v CALLED ++ list_at v c ≡ list_at v CALLED
+    called = ap (λ l. list_at v CALLED ++ l) none ∙ append-nil (list_at v CALLED)
 
-    nine : (d : ℕ) → list_put 9 (list_at v 9 ++ list_at v c) (list_at v) d ≡ list_at v d
-    nine d = elim (cases_eq d 9) [
-      | inl e ↦ subst (λ (j : ℕ). list_put 9 (list_at v 9 ++ list_at v c) (list_at v) j ≡ list_at v j) (sym e) (put_same 9 (list_at v 9 ++ list_at v c) (list_at v) ∙ called)
-      | inr n ↦ put_other 9 d (list_at v 9 ++ list_at v c) (list_at v) n
+    unjoined : (d : ℕ) → list_put CALLED (list_at v CALLED ++ list_at v c) (list_at v) d ≡ list_at v d
+    unjoined d = elim (cases_eq d CALLED) [
+      | inl e ↦ subst (λ (j : ℕ). list_put CALLED (list_at v CALLED ++ list_at v c) (list_at v) j ≡ list_at v j) (sym e) (put_same CALLED (list_at v CALLED ++ list_at v c) (list_at v) ∙ called)
+      | inr n ↦ put_other CALLED d (list_at v CALLED ++ list_at v c) (list_at v) n
     ]
 
-    by : (d : ℕ) → list_put c [] (list_put 9 (list_at v 9 ++ list_at v c) (list_at v)) d ≡ list_at v d
+    by : (d : ℕ) → list_put c [] (list_put CALLED (list_at v CALLED ++ list_at v c) (list_at v)) d ≡ list_at v d
     by d = elim (cases_eq d c) [
-      | inl e ↦ subst (λ (j : ℕ). list_put c [] (list_put 9 (list_at v 9 ++ list_at v c) (list_at v)) j ≡ list_at v j) (sym e)
-          (put_same c [] (list_put 9 (list_at v 9 ++ list_at v c) (list_at v)) ∙ sym none)
-      | inr n ↦ put_other c d [] (list_put 9 (list_at v 9 ++ list_at v c) (list_at v)) n ∙ nine d
+      | inl e ↦ subst (λ (j : ℕ). list_put c [] (list_put CALLED (list_at v CALLED ++ list_at v c) (list_at v)) j ≡ list_at v j) (sym e)
+          (put_same c [] (list_put CALLED (list_at v CALLED ++ list_at v c) (list_at v)) ∙ sym none)
+      | inr n ↦ put_other c d [] (list_put CALLED (list_at v CALLED ++ list_at v c) (list_at v)) n ∙ unjoined d
     ]

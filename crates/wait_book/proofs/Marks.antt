@@ -2,6 +2,8 @@
 use Rattle.std.proofs.Common.{◌≡◌, ◌≢◌, ℕ, zero, suc, ◌+◌, ◌<◌, ◌≤◌, Bool, true, false, cond, inl, inr, List, [], ◌∷◌, ◌++◌, length, get_or, set, replicate, refl, ap, sym, ◌∙◌, subst, arith}
 use Rattle.std.proofs.lemmas.Bool.{cases_eq, cases_lt}
 use Rattle.std.proofs.lemmas.List.{append-nil, get_or-set_same, get_or-set_other, get_or_past, length-set}
+use Rattle.wait_book.specs.declared.book.TheConstants.{MOST_PLACES}
+use Rattle.wait_book.specs.declared.chains.TheConstants.{CALLED, CHAINS}
 use Rattle.wait_book.specs.declared.chains.Link.{Link}
 use Rattle.wait_book.specs.Contents.{one, times}
 use Rattle.wait_book.specs.Lists.{Lists, all_below, list_at, list_put, places_below, places_in}
@@ -40,12 +42,12 @@ unfolding all_below
 no_places zero = refl
 no_places (suc n) = append-nil _ ∙ no_places n
 
-pub AreMarked-none : {at : ℕ → List Link} → ((c : ℕ) → at c ≡ []) → AreMarked (replicate 64 false) at
+pub AreMarked-none : {at : ℕ → List Link} → ((c : ℕ) → at c ≡ []) → AreMarked (replicate MOST_PLACES false) at
 AreMarked-none {at = at} h =
     let none : at ≡ (λ c. []) = λ i c. h c i in
     record {
       many = refl;
-      once = λ k. ap (λ (v : ℕ → List Link). times k (places_below 10 v)) none ∙ ap (times k) (no_places 10) ∙ sym (ap (λ (v : Bool). cond v 1 0) (no_mark 64 k));
+      once = λ k. ap (λ (v : ℕ → List Link). times k (places_below CHAINS v)) none ∙ ap (times k) (no_places CHAINS) ∙ sym (ap (λ (v : Bool). cond v 1 0) (no_mark MOST_PLACES k));
     }
 
 -- of an equal value
@@ -53,16 +55,16 @@ pub AreMarked-equal : {s : List Bool} {v w : Lists} → v ≡ w → AreMarked s 
 AreMarked-equal {s = s} e m = subst (λ (u : Lists). AreMarked s (list_at u)) e m
 
 -- a place that stood in no list, put into one
-pub AreMarked-put : {s : List Bool} {at bt : ℕ → List Link} (c : ℕ) (before after : List Link) (x : Link) → AreMarked s at → c < 10 → x.place < 64
-    → at c ≡ before ++ after → times x.place (places_below 10 at) ≡ 0 → ((d : ℕ) → bt d ≡ list_put c (before ++ x ∷ after) at d)
+pub AreMarked-put : {s : List Bool} {at bt : ℕ → List Link} (c : ℕ) (before after : List Link) (x : Link) → AreMarked s at → c < CHAINS → x.place < MOST_PLACES
+    → at c ≡ before ++ after → times x.place (places_below CHAINS at) ≡ 0 → ((d : ℕ) → bt d ≡ list_put c (before ++ x ∷ after) at d)
     → AreMarked (set s x.place true) bt
 AreMarked-put {s = s} {at = at} {bt = bt} c before after x m l within is apart lists =
     let same : bt ≡ list_put c (before ++ x ∷ after) at = λ i d. lists d i in
-    let more : (k : ℕ) → times k (places_below 10 bt) ≡ times k (places_below 10 at) + one k x.place = λ k.
+    let more : (k : ℕ) → times k (places_below CHAINS bt) ≡ times k (places_below CHAINS at) + one k x.place = λ k.
     omega (
       arith,
-      ap (λ (v : ℕ → List Link). times k (places_below 10 v)) same,
-      times_put (λ d (y : Link). y.place) k 10 c (before ++ x ∷ after) at l,
+      ap (λ (v : ℕ → List Link). times k (places_below CHAINS v)) same,
+      times_put (λ d (y : Link). y.place) k CHAINS c (before ++ x ∷ after) at l,
       places_middle k before x after,
       ap (λ v. times k (places_in v)) is,
     ) in
@@ -71,50 +73,50 @@ AreMarked-put {s = s} {at = at} {bt = bt} c before after x m l within is apart l
       once = λ k.
           elim (cases_eq k x.place) [
             | inl e ↦
-                let h : times x.place (places_below 10 bt) ≡ marked (set s x.place true) x.place =
+                let h : times x.place (places_below CHAINS bt) ≡ marked (set s x.place true) x.place =
                 omega (arith, more x.place, one_same x.place, marked-set s x.place true (omega (arith, m.many))) in
-                subst (λ (j : ℕ). times j (places_below 10 bt) ≡ marked (set s x.place true) j) (sym e) h
+                subst (λ (j : ℕ). times j (places_below CHAINS bt) ≡ marked (set s x.place true) j) (sym e) h
             | inr n ↦ omega (arith, more k, one_apart k x.place (eq_apart k x.place n), m.once k, marked-other s x.place k true n)
           ];
     }
 
-module _ {s : List Bool} {at : ℕ → List Link} (c : ℕ) (x : Link) (after : List Link) (m : AreMarked s at) (l : c < 10) (is : at c ≡ x ∷ after) where
-  taken_times : (k : ℕ) → times k (places_below 10 (list_put c after at)) + one k x.place ≡ times k (places_below 10 at)
-  taken_times k = omega (arith, times_put (λ d (y : Link). y.place) k 10 c after at l, ap (λ v. times k (places_in v)) is)
+module _ {s : List Bool} {at : ℕ → List Link} (c : ℕ) (x : Link) (after : List Link) (m : AreMarked s at) (l : c < CHAINS) (is : at c ≡ x ∷ after) where
+  taken_times : (k : ℕ) → times k (places_below CHAINS (list_put c after at)) + one k x.place ≡ times k (places_below CHAINS at)
+  taken_times k = omega (arith, times_put (λ d (y : Link). y.place) k CHAINS c after at l, ap (λ v. times k (places_in v)) is)
 
   -- the first of a list has a mark
-  pub first_within : x.place < 64
+  pub first_within : x.place < MOST_PLACES
   first_within = omega (arith, m.many, marked_within s x.place (omega (arith, taken_times x.place, one_same x.place, m.once x.place)))
 
   -- the first of a list, taken out
   pub AreMarked-taken : {bt : ℕ → List Link} (p : ℕ) → x.place ≡ p → ((d : ℕ) → bt d ≡ list_put c after at d) → AreMarked (set s p false) bt
   AreMarked-taken {bt = bt} p e lists =
       let same : bt ≡ list_put c after at = λ i d. lists d i in
-      let less : (k : ℕ) → times k (places_below 10 bt) + one k x.place ≡ times k (places_below 10 at) = λ k.
-      omega (arith, ap (λ (v : ℕ → List Link). times k (places_below 10 v)) same, taken_times k) in
-      let once : (k : ℕ) → times k (places_below 10 bt) ≡ marked (set s x.place false) k = λ k.
+      let less : (k : ℕ) → times k (places_below CHAINS bt) + one k x.place ≡ times k (places_below CHAINS at) = λ k.
+      omega (arith, ap (λ (v : ℕ → List Link). times k (places_below CHAINS v)) same, taken_times k) in
+      let once : (k : ℕ) → times k (places_below CHAINS bt) ≡ marked (set s x.place false) k = λ k.
       elim (cases_eq k x.place) [
         | inl q ↦
-            let h : times x.place (places_below 10 bt) ≡ marked (set s x.place false) x.place =
+            let h : times x.place (places_below CHAINS bt) ≡ marked (set s x.place false) x.place =
             omega (arith, less x.place, one_same x.place, m.once x.place, marked_few s x.place, marked-set s x.place false (omega (arith, first_within, m.many))) in
-            subst (λ (j : ℕ). times j (places_below 10 bt) ≡ marked (set s x.place false) j) (sym q) h
+            subst (λ (j : ℕ). times j (places_below CHAINS bt) ≡ marked (set s x.place false) j) (sym q) h
         | inr n ↦ omega (arith, less k, one_apart k x.place (eq_apart k x.place n), m.once k, marked-other s x.place k false n)
       ] in
       subst (λ (j : ℕ). AreMarked (set s j false) bt) e (record { many = length-set s x.place false ∙ m.many; once = once })
 
 -- a whole list put behind another
-pub AreMarked-joined : {s : List Bool} {at bt : ℕ → List Link} (c : ℕ) → AreMarked s at → c < 9 → ((d : ℕ) → bt d ≡ list_put c [] (list_put 9 (at 9 ++ at c) at) d) → AreMarked s bt
+pub AreMarked-joined : {s : List Bool} {at bt : ℕ → List Link} (c : ℕ) → AreMarked s at → c < CALLED → ((d : ℕ) → bt d ≡ list_put c [] (list_put CALLED (at CALLED ++ at c) at) d) → AreMarked s bt
 AreMarked-joined {s = s} {at = at} {bt = bt} c m l lists =
-    let same : bt ≡ list_put c [] (list_put 9 (at 9 ++ at c) at) = λ i d. lists d i in
-    let off : list_put 9 (at 9 ++ at c) at c ≡ at c = put_other 9 c (at 9 ++ at c) at (omega arith) in
+    let same : bt ≡ list_put c [] (list_put CALLED (at CALLED ++ at c) at) = λ i d. lists d i in
+    let off : list_put CALLED (at CALLED ++ at c) at c ≡ at c = put_other CALLED c (at CALLED ++ at c) at (omega arith) in
     record {
       many = m.many;
       once = λ k. omega (
         arith,
-        ap (λ (v : ℕ → List Link). times k (places_below 10 v)) same,
-        times_put (λ d (y : Link). y.place) k 10 c [] (list_put 9 (at 9 ++ at c) at) (omega arith),
-        times_put (λ d (y : Link). y.place) k 10 9 (at 9 ++ at c) at (omega arith),
-        places_append k (at 9) (at c),
+        ap (λ (v : ℕ → List Link). times k (places_below CHAINS v)) same,
+        times_put (λ d (y : Link). y.place) k CHAINS c [] (list_put CALLED (at CALLED ++ at c) at) (omega arith),
+        times_put (λ d (y : Link). y.place) k CHAINS CALLED (at CALLED ++ at c) at (omega arith),
+        places_append k (at CALLED) (at c),
         ap (λ v. times k (places_in v)) off,
         m.once k,
       );

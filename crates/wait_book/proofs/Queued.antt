@@ -1,5 +1,5 @@
 -- What a change in one chain does to those who wait, to the signallers and to the called.
-use Rattle.std.proofs.Common.{◌≡◌, ℕ, zero, suc, ◌+◌, ◌<◌, ◌≤◌, Bool, true, false, not, cond, eqb, eq-eqb, eqb-true, leb, inl, inr, List, [], ◌∷◌, ◌++◌, length, map, Option, Some, None, refl, ap, sym, ◌∙◌, subst, arith}
+use Rattle.std.proofs.Common.{◌≡◌, ◌≢◌, ℕ, zero, suc, ◌+◌, ◌<◌, ◌≤◌, Bool, true, false, not, cond, eqb, eq-eqb, eqb-true, leb, inl, inr, List, [], ◌∷◌, ◌++◌, length, map, Option, Some, None, refl, ap, sym, ◌∙◌, subst, arith}
 use Rattle.std.proofs.lemmas.Bool.{cases_eq, cases_lt}
 use Rattle.std.proofs.lemmas.List.{append_assoc, append-nil, length-map, map-append}
 use Rattle.std.proofs.lemmas.List.Elements.{filter-append}
@@ -11,6 +11,8 @@ use Rattle.std.proofs.lemmas.List.Elements.{All-head, All-tail}
 use Rattle.std.specs.List.Sorted.{IsNonDecreasing}
 use Rattle.hoare_law.specs.Priorities.{put_in, in_order, behind_first}
 use Rattle.hoare_law.proofs.Sorted.{put_in-map, map-in_order, IsNonDecreasing-in_order, find-filter, first_of}
+use Rattle.wait_book.specs.declared.book.TheConstants.{MOST_CONDITIONS}
+use Rattle.wait_book.specs.declared.chains.TheConstants.{CALLED, CHAINS, SIGNALLERS}
 use Rattle.wait_book.specs.declared.chains.Link.{Link}
 use Rattle.wait_book.specs.declared.waiter.Waiter.{Waiter}
 use Rattle.wait_book.specs.Contents.{times}
@@ -86,7 +88,7 @@ put_lower x (y ∷ ys) = by (leb y.priority x.priority) (put_lower x ys)
 put_waiters : (c : ℕ) (x : Link) (xs : List Link) → map (waiter_on c) (lower x.priority xs ++ x ∷ higher x.priority xs) ≡ put_in key (waiter_on c x) (map (waiter_on c) xs)
 put_waiters c x xs = sym (put_in-map (waiter_on c) key x xs ∙ ap (map (waiter_on c)) (put_lower x xs))
 
-on_put : (c d : ℕ) (x : Link) (at : ℕ → List Link) → d < 8
+on_put : (c d : ℕ) (x : Link) (at : ℕ → List Link) → d < MOST_CONDITIONS
     → map (waiter_on d) (list_put c (lower x.priority (at c) ++ x ∷ higher x.priority (at c)) at d)
     ≡ cond (eqb c d) (put_in key (waiter_on c x) (map (waiter_on d) (at d))) (map (waiter_on d) (at d))
 on_put c d x at l =
@@ -103,28 +105,28 @@ on_put c d x at l =
     ]
 
 -- what an insertion into the chain of a condition does to those who wait
-pub PutsIn-put : (c place priority : ℕ) (old new : Lists) → c < 8 → IsPut c (lower priority (list_at old c)) (higher priority (list_at old c)) place c priority old new
-    → PutsIn (record { place = place; condition = c; priority = priority }) (waiting_below 8 (list_at old)) (waiting_below 8 (list_at new))
+pub PutsIn-put : (c place priority : ℕ) (old new : Lists) → c < MOST_CONDITIONS → IsPut c (lower priority (list_at old c)) (higher priority (list_at old c)) place c priority old new
+    → PutsIn (record { place = place; condition = c; priority = priority }) (waiting_below MOST_CONDITIONS (list_at old)) (waiting_below MOST_CONDITIONS (list_at new))
 PutsIn-put c place priority old new l p =
     let at : ℕ → List Link = list_at old in
     let x : Link = record { key = p.key; place = place; condition = c; priority = priority } in
     let xs : List Link = lower priority (at c) ++ x ∷ higher priority (at c) in
     let lists : list_at new ≡ list_put c xs at = λ i d. p.lists d i in
-    let is : waiting_below 8 (list_at new) ≡ waiting_below 8 (list_put c xs at) = ap (waiting_below 8) lists in
+    let is : waiting_below MOST_CONDITIONS (list_at new) ≡ waiting_below MOST_CONDITIONS (list_put c xs at) = ap (waiting_below MOST_CONDITIONS) lists in
     record {
-      on = λ d. ap (filter (on d)) is ∙ elim (cases_lt d 8) [
+      on = λ d. ap (filter (on d)) is ∙ elim (cases_lt d MOST_CONDITIONS) [
         | inl m ↦
-            on_chain 8 d (list_put c xs at) m ∙ on_put c d x at m
-            ∙ ap (λ ws. cond (eqb c d) (put_in key (waiter_on c x) ws) ws) (sym (on_chain 8 d at m))
+            on_chain MOST_CONDITIONS d (list_put c xs at) m ∙ on_put c d x at m
+            ∙ ap (λ ws. cond (eqb c d) (put_in key (waiter_on c x) ws) ws) (sym (on_chain MOST_CONDITIONS d at m))
         | inr m ↦
-            on_before 8 d (list_put c xs at) m ∙ sym (on_before 8 d at m)
-            ∙ ap (λ t. cond t (put_in key (waiter_on c x) (filter (on d) (waiting_below 8 at))) (filter (on d) (waiting_below 8 at))) (sym (eq_apart c d (omega arith)))
+            on_before MOST_CONDITIONS d (list_put c xs at) m ∙ sym (on_before MOST_CONDITIONS d at m)
+            ∙ ap (λ t. cond t (put_in key (waiter_on c x) (filter (on d) (waiting_below MOST_CONDITIONS at))) (filter (on d) (waiting_below MOST_CONDITIONS at))) (sym (eq_apart c d (omega arith)))
       ];
       more = λ k.
-          let counted = times_put (λ e (y : Link). y.place) k 8 c xs at l in
+          let counted = times_put (λ e (y : Link). y.place) k MOST_CONDITIONS c xs at l in
           let middle = places_middle k (lower priority (at c)) x (higher priority (at c)) in
           let whole = ap (λ ys. times k (places_in ys)) (lower-higher priority (at c)) in
-          omega (arith, ap (λ ws. times k (places ws)) is, ap (times k) (places_waiting 8 (list_put c xs at)), ap (times k) (places_waiting 8 at));
+          omega (arith, ap (λ ws. times k (places ws)) is, ap (times k) (places_waiting MOST_CONDITIONS (list_put c xs at)), ap (times k) (places_waiting MOST_CONDITIONS at));
     }
 
 -- the first taken out
@@ -163,12 +165,12 @@ taken_below (suc n) c x after at l e =
     ]
 
 -- what is taken out of the chain of a condition is taken out of those who wait
-pub TakesFirst-taken : (c place : ℕ) (old new : Lists) → c < 8 → IsTaken c place old new → TakesFirst c (waiting_below 8 (list_at old)) (waiting_below 8 (list_at new)) place
+pub TakesFirst-taken : (c place : ℕ) (old new : Lists) → c < MOST_CONDITIONS → IsTaken c place old new → TakesFirst c (waiting_below MOST_CONDITIONS (list_at old)) (waiting_below MOST_CONDITIONS (list_at new)) place
 TakesFirst-taken c place old new l t =
     let lists : list_at new ≡ list_put c t.after (list_at old) = λ i d. t.lists d i in
-    subst (λ (at : ℕ → List Link). TakesFirst c (waiting_below 8 (list_at old)) (waiting_below 8 at) place) (sym lists)
-    (subst (λ (j : ℕ). TakesFirst c (waiting_below 8 (list_at old)) (waiting_below 8 (list_put c t.after (list_at old))) j) t.first_place
-    (taken_below 8 c t.first t.after (list_at old) l t.was))
+    subst (λ (at : ℕ → List Link). TakesFirst c (waiting_below MOST_CONDITIONS (list_at old)) (waiting_below MOST_CONDITIONS at) place) (sym lists)
+    (subst (λ (j : ℕ). TakesFirst c (waiting_below MOST_CONDITIONS (list_at old)) (waiting_below MOST_CONDITIONS (list_put c t.after (list_at old))) j) t.first_place
+    (taken_below MOST_CONDITIONS c t.first t.after (list_at old) l t.was))
 
 -- a list without a first one is empty
 pub first_none : (xs : List Link) → first_link xs ≡ None → xs ≡ []
@@ -176,96 +178,56 @@ first_none [] e = refl
 first_none (x ∷ xs) e = absurd (cc)
 
 -- nobody waits where the chain is empty
-pub waits-nobody : (c : ℕ) (v : Lists) → c < 8 → list_at v c ≡ [] → filter (on c) (waiting_below 8 (list_at v)) ≡ []
-waits-nobody c v l e = on_chain 8 c (list_at v) l ∙ ap (map (waiter_on c)) e
+pub waits-nobody : (c : ℕ) (v : Lists) → c < MOST_CONDITIONS → list_at v c ≡ [] → filter (on c) (waiting_below MOST_CONDITIONS (list_at v)) ≡ []
+waits-nobody c v l e = on_chain MOST_CONDITIONS c (list_at v) l ∙ ap (map (waiter_on c)) e
 
--- the signallers, where the chain of a condition changes
-pub signallers-same : (c : ℕ) (xs : List Link) (old new : Lists) → c < 8 → ((d : ℕ) → list_at new d ≡ list_put c xs (list_at old) d)
-    → places_in (list_at new 8) ≡ places_in (list_at old 8)
-signallers-same c xs old new l h = ap places_in (h 8 ∙ put_other c 8 xs (list_at old) (omega arith))
-
--- and the called, where another chain changes
-pub called-same : (c : ℕ) (xs : List Link) (old new : Lists) → c < 9 → ((d : ℕ) → list_at new d ≡ list_put c xs (list_at old) d)
-    → called_in (list_at new 9) ≡ called_in (list_at old 9)
-called-same c xs old new l h = ap called_in (h 9 ∙ put_other c 9 xs (list_at old) (omega arith))
+-- another chain than the one that changes
+pub chain-same : {Y : Type 0} (g : List Link → Y) (c d : ℕ) (xs : List Link) (old new : Lists) → d ≢ c
+    → ((e : ℕ) → list_at new e ≡ list_put c xs (list_at old) e) → g (list_at new d) ≡ g (list_at old d)
+chain-same g c d xs old new n h = ap g (h d ∙ put_other c d xs (list_at old) n)
 
 -- and those who wait, where a chain changes that is no condition's
-pub waiters-same : (c : ℕ) (xs : List Link) (old new : Lists) → 8 ≤ c → ((d : ℕ) → list_at new d ≡ list_put c xs (list_at old) d) → waiting_below 8 (list_at new) ≡ waiting_below 8 (list_at old)
+pub waiters-same : (c : ℕ) (xs : List Link) (old new : Lists) → MOST_CONDITIONS ≤ c
+    → ((d : ℕ) → list_at new d ≡ list_put c xs (list_at old) d)
+    → waiting_below MOST_CONDITIONS (list_at new) ≡ waiting_below MOST_CONDITIONS (list_at old)
 waiters-same c xs old new l h =
     let lists : list_at new ≡ list_put c xs (list_at old) = λ i d. h d i in
-    ap (waiting_below 8) lists ∙ below_past waiter_on 8 c xs (list_at old) l
+    ap (waiting_below MOST_CONDITIONS) lists ∙ below_past waiter_on MOST_CONDITIONS c xs (list_at old) l
 
--- and the signallers, where the chain of the called does
-pub signallers-apart : (xs : List Link) (old new : Lists) → ((d : ℕ) → list_at new d ≡ list_put 9 xs (list_at old) d) → places_in (list_at new 8) ≡ places_in (list_at old 8)
-signallers-apart xs old new h = ap places_in (h 8 ∙ put_other 9 8 xs (list_at old) (omega arith))
+-- one more behind all in a chain
+pub chain-more : {X : Type 0} (f : Link → X) (c place condition priority : ℕ) (old new : Lists)
+    → (p : IsPut c (list_at old c) [] place condition priority old new) → map f (list_at new c)
+    ≡ map f (list_at old c) ++ f (record { key = p.key; place = place; condition = condition; priority = priority }) ∷ []
+chain-more f c place condition priority old new p =
+    ap (map f) (p.lists c ∙ put_same c _ (list_at old)) ∙ map-append f (list_at old c) _
 
--- a signaller more
-pub signallers-more : (place condition priority : ℕ) (old new : Lists) → IsPut 8 (list_at old 8) [] place condition priority old new
-    → places_in (list_at new 8) ≡ places_in (list_at old 8) ++ place ∷ []
-signallers-more place condition priority old new p =
-    ap places_in (p.lists 8 ∙ put_same 8 _ (list_at old)) ∙ map-append (λ (x : Link). x.place) (list_at old 8) _
-
--- one more called
-pub called-more : (place condition priority : ℕ) (old new : Lists) → IsPut 9 (list_at old 9) [] place condition priority old new
-    → called_in (list_at new 9) ≡ called_in (list_at old 9) ++ record { place = place; condition = condition; priority = priority } ∷ []
-called-more place condition priority old new p =
-    ap called_in (p.lists 9 ∙ put_same 9 _ (list_at old)) ∙ map-append waiter_of (list_at old 9) _
-
--- the first signaller less
-pub signallers-less : (place : ℕ) (old new : Lists) → IsTaken 8 place old new → places_in (list_at new 8) ≡ behind_first (places_in (list_at old 8))
-signallers-less place old new t =
-    ap places_in (t.lists 8 ∙ put_same 8 t.after (list_at old)) ∙ sym (ap (λ xs. behind_first (places_in xs)) t.was)
-
--- the first called less
-pub called-less : (place : ℕ) (old new : Lists) → IsTaken 9 place old new → called_in (list_at new 9) ≡ behind_first (called_in (list_at old 9))
-called-less place old new t =
-    ap called_in (t.lists 9 ∙ put_same 9 t.after (list_at old)) ∙ sym (ap (λ xs. behind_first (called_in xs)) t.was)
-
--- the longest waiting signaller goes on, if there is one
-pub record Shorter (old new : Lists) : Type 0 where
+-- the first of a chain less, if there is one
+pub record Shorter (c : ℕ) (old new : Lists) : Type 0 where
   pub room : new.room ≡ old.room
-  pub waiters : waiting_below 8 (list_at new) ≡ waiting_below 8 (list_at old)
-  pub signallers : places_in (list_at new 8) ≡ behind_first (places_in (list_at old 8))
-  pub called : called_in (list_at new 9) ≡ called_in (list_at old 9)
+  pub waiters : waiting_below MOST_CONDITIONS (list_at new) ≡ waiting_below MOST_CONDITIONS (list_at old)
+  pub less : list_at new c ≡ behind_first (list_at old c)
+  pub others : (d : ℕ) → d ≢ c → list_at new d ≡ list_at old d
 
-pub shorter : (r : Option ℕ) (old new : Lists) → MatchOption r ((list_at old 8 ≡ []) × (new ≡ old)) (λ place. IsTaken 8 place old new) → Shorter old new
-shorter None old new m =
+pub shorter : (c : ℕ) (r : Option ℕ) (old new : Lists) → MOST_CONDITIONS ≤ c
+    → MatchOption r ((list_at old c ≡ []) × (new ≡ old)) (λ place. IsTaken c place old new) → Shorter c old new
+shorter c None old new l m =
     record {
       room = ap (λ (v : Lists). v.room) m.1;
-      waiters = ap (λ (v : Lists). waiting_below 8 (list_at v)) m.1;
-      signallers = ap (λ (v : Lists). places_in (list_at v 8)) m.1 ∙ ap places_in m.0 ∙ sym (ap (λ xs. behind_first (places_in xs)) m.0);
-      called = ap (λ (v : Lists). called_in (list_at v 9)) m.1;
+      waiters = ap (λ (v : Lists). waiting_below MOST_CONDITIONS (list_at v)) m.1;
+      less = ap (λ (v : Lists). list_at v c) m.1 ∙ m.0 ∙ sym (ap behind_first m.0);
+      others = λ d n. ap (λ (v : Lists). list_at v d) m.1;
     }
-shorter (Some place) old new t =
+shorter c (Some place) old new l t =
     record {
       room = t.room;
-      waiters = waiters-same 8 t.after old new (omega arith) t.lists;
-      signallers = signallers-less place old new t;
-      called = called-same 8 t.after old new (omega arith) t.lists;
+      waiters = waiters-same c t.after old new l t.lists;
+      less = t.lists c ∙ put_same c t.after (list_at old) ∙ sym (ap behind_first t.was);
+      others = λ d n. t.lists d ∙ put_other c d t.after (list_at old) n;
     }
 
--- or the first that was called
-pub record Fewer (old new : Lists) : Type 0 where
-  pub room : new.room ≡ old.room
-  pub waiters : waiting_below 8 (list_at new) ≡ waiting_below 8 (list_at old)
-  pub signallers : places_in (list_at new 8) ≡ places_in (list_at old 8)
-  pub called : called_in (list_at new 9) ≡ behind_first (called_in (list_at old 9))
-
-pub fewer : (r : Option ℕ) (old new : Lists) → MatchOption r ((list_at old 9 ≡ []) × (new ≡ old)) (λ place. IsTaken 9 place old new) → Fewer old new
-fewer None old new m =
-    record {
-      room = ap (λ (v : Lists). v.room) m.1;
-      waiters = ap (λ (v : Lists). waiting_below 8 (list_at v)) m.1;
-      signallers = ap (λ (v : Lists). places_in (list_at v 8)) m.1;
-      called = ap (λ (v : Lists). called_in (list_at v 9)) m.1 ∙ ap called_in m.0 ∙ sym (ap (λ xs. behind_first (called_in xs)) m.0);
-    }
-fewer (Some place) old new t =
-    record {
-      room = t.room;
-      waiters = waiters-same 9 t.after old new (omega arith) t.lists;
-      signallers = signallers-apart t.after old new t.lists;
-      called = called-less place old new t;
-    }
+pub behind_first-map : {X : Type 0} (f : Link → X) (xs : List Link) → map f (behind_first xs) ≡ behind_first (map f xs)
+behind_first-map f [] = refl
+behind_first-map f (x ∷ xs) = refl
 
 -- all on a condition called
 
@@ -308,25 +270,25 @@ waited_all c (x ∷ xs) a =
     (λ i. record { place = x.place; condition = here i; priority = x.priority } ∷ waited_all c xs (All-tail (λ (y : Link). y.condition ≡ c) x xs a) i)
 
 pub record AllCalled (c : ℕ) (old new : Lists) : Type 0 where
-  pub took : TakesAll c (waiting_below 8 (list_at old)) (waiting_below 8 (list_at new))
+  pub took : TakesAll c (waiting_below MOST_CONDITIONS (list_at old)) (waiting_below MOST_CONDITIONS (list_at new))
   pub room : new.room ≡ old.room
-  pub signallers : places_in (list_at new 8) ≡ places_in (list_at old 8)
-  pub called : called_in (list_at new 9) ≡ called_in (list_at old 9) ++ filter (on c) (waiting_below 8 (list_at old))
+  pub signallers : places_in (list_at new SIGNALLERS) ≡ places_in (list_at old SIGNALLERS)
+  pub called : called_in (list_at new CALLED) ≡ called_in (list_at old CALLED) ++ filter (on c) (waiting_below MOST_CONDITIONS (list_at old))
 
-pub all_called : (c : ℕ) (old new : Lists) → c < 8 → IsJoined c old new → AllCalled c old new
+pub all_called : (c : ℕ) (old new : Lists) → c < MOST_CONDITIONS → IsJoined c old new → AllCalled c old new
 all_called c old new l j =
     let at : ℕ → List Link = list_at old in
-    let zs : List Link = at 9 ++ at c in
-    let lists : list_at new ≡ list_put c [] (list_put 9 zs at) = λ i d. j.lists d i in
-    let is : waiting_below 8 (list_at new) ≡ filter (λ w. not (on c w)) (waiting_below 8 at) =
-    ap (waiting_below 8) lists ∙ without 8 c (list_put 9 zs at) ∙ ap (filter (λ w. not (on c w))) (below_past waiter_on 8 9 zs at (omega arith)) in
+    let zs : List Link = at CALLED ++ at c in
+    let lists : list_at new ≡ list_put c [] (list_put CALLED zs at) = λ i d. j.lists d i in
+    let is : waiting_below MOST_CONDITIONS (list_at new) ≡ filter (λ w. not (on c w)) (waiting_below MOST_CONDITIONS at) =
+    ap (waiting_below MOST_CONDITIONS) lists ∙ without MOST_CONDITIONS c (list_put CALLED zs at) ∙ ap (filter (λ w. not (on c w))) (below_past waiter_on MOST_CONDITIONS CALLED zs at (omega arith)) in
     record {
-      took = record { on = λ d. ap (filter (on d)) is ∙ kept_on (eqb d c) c d (waiting_below 8 at) refl; is = is };
+      took = record { on = λ d. ap (filter (on d)) is ∙ kept_on (eqb d c) c d (waiting_below MOST_CONDITIONS at) refl; is = is };
       room = j.room;
-      signallers = ap places_in (j.lists 8 ∙ put_other c 8 [] (list_put 9 zs at) (omega arith) ∙ put_other 9 8 zs at (omega arith));
-      called = ap called_in (j.lists 9 ∙ put_other c 9 [] (list_put 9 zs at) (omega arith) ∙ put_same 9 zs at)
-          ∙ map-append waiter_of (at 9) (at c)
-          ∙ ap (λ ws. called_in (at 9) ++ ws) (waited_all c (at c) j.waited ∙ sym (on_chain 8 c at l));
+      signallers = ap places_in (j.lists SIGNALLERS ∙ put_other c SIGNALLERS [] (list_put CALLED zs at) (omega arith) ∙ put_other CALLED SIGNALLERS zs at (omega arith));
+      called = ap called_in (j.lists CALLED ∙ put_other c CALLED [] (list_put CALLED zs at) (omega arith) ∙ put_same CALLED zs at)
+          ∙ map-append waiter_of (at CALLED) (at c)
+          ∙ ap (λ ws. called_in (at CALLED) ++ ws) (waited_all c (at c) j.waited ∙ sym (on_chain MOST_CONDITIONS c at l));
     }
 
 -- chains with nobody in them
@@ -337,59 +299,59 @@ waits-none (suc n) at h = ap (λ xs. waiting_below n at ++ map (waiter_on n) xs)
 
 -- how many stand in all
 
-pub total_is : (v : Lists) → total v ≡ length (waiting_below 8 (list_at v)) + length (places_in (list_at v 8)) + length (called_in (list_at v 9))
+pub total_is : (v : Lists) → total v ≡ length (waiting_below MOST_CONDITIONS (list_at v)) + length (places_in (list_at v SIGNALLERS)) + length (called_in (list_at v CALLED))
 total_is v = omega (
   arith,
-  length_next (λ c (x : Link). x.key) 9 (list_at v),
-  length_next (λ c (x : Link). x.key) 8 (list_at v),
-  length_same (λ c (x : Link). x.key) waiter_on 8 (list_at v),
-  length-map (list_at v 8) (λ (x : Link). x.place),
-  length-map (list_at v 9) waiter_of,
+  length_next (λ c (x : Link). x.key) CALLED (list_at v),
+  length_next (λ c (x : Link). x.key) MOST_CONDITIONS (list_at v),
+  length_same (λ c (x : Link). x.key) waiter_on MOST_CONDITIONS (list_at v),
+  length-map (list_at v SIGNALLERS) (λ (x : Link). x.place),
+  length-map (list_at v CALLED) waiter_of,
 )
 
 -- how often a place stands in all
-pub times_all : (k : ℕ) (v : Lists) → times k (places_below 10 (list_at v))
-    ≡ times k (places (waiting_below 8 (list_at v))) + times k (places_in (list_at v 8)) + times k (places (called_in (list_at v 9)))
+pub times_all : (k : ℕ) (v : Lists) → times k (places_below CHAINS (list_at v))
+    ≡ times k (places (waiting_below MOST_CONDITIONS (list_at v))) + times k (places_in (list_at v SIGNALLERS)) + times k (places (called_in (list_at v CALLED)))
 times_all k v = omega (
   arith,
-  times_next (λ c (x : Link). x.place) k 9 (list_at v),
-  times_next (λ c (x : Link). x.place) k 8 (list_at v),
-  ap (times k) (places_waiting 8 (list_at v)),
-  ap (times k) (map-map (λ (w : Waiter). w.place) waiter_of (list_at v 9)),
+  times_next (λ c (x : Link). x.place) k CALLED (list_at v),
+  times_next (λ c (x : Link). x.place) k MOST_CONDITIONS (list_at v),
+  ap (times k) (places_waiting MOST_CONDITIONS (list_at v)),
+  ap (times k) (map-map (λ (w : Waiter). w.place) waiter_of (list_at v CALLED)),
 )
 
 -- as many in the chain of a condition as wait on it
-pub chain-length : (c : ℕ) (v : Lists) → c < 8 → length (list_at v c) ≡ length (filter (on c) (waiting_below 8 (list_at v)))
-chain-length c v l = sym (ap length (on_chain 8 c (list_at v) l) ∙ length-map (list_at v c) (waiter_on c))
+pub chain-length : (c : ℕ) (v : Lists) → c < MOST_CONDITIONS → length (list_at v c) ≡ length (filter (on c) (waiting_below MOST_CONDITIONS (list_at v)))
+chain-length c v l = sym (ap length (on_chain MOST_CONDITIONS c (list_at v) l) ∙ length-map (list_at v c) (waiter_on c))
 
 -- no more in the chain of a condition than wait
-pub chain-few : (c : ℕ) (v : Lists) → c < 8 → length (list_at v c) ≤ length (waiting_below 8 (list_at v))
-chain-few c v l = length_one waiter_on 8 c (list_at v) l
+pub chain-few : (c : ℕ) (v : Lists) → c < MOST_CONDITIONS → length (list_at v c) ≤ length (waiting_below MOST_CONDITIONS (list_at v))
+chain-few c v l = length_one waiter_on MOST_CONDITIONS c (list_at v) l
 
 -- the first of a condition
-pub first-chain : (c : ℕ) (v : Lists) → c < 8 → option_map (λ (x : Link). x.priority) (first_link (list_at v c)) ≡ option_map key (find (on c) (waiting_below 8 (list_at v)))
+pub first-chain : (c : ℕ) (v : Lists) → c < MOST_CONDITIONS → option_map (λ (x : Link). x.priority) (first_link (list_at v c)) ≡ option_map key (find (on c) (waiting_below MOST_CONDITIONS (list_at v)))
 first-chain c v l =
-    by (list_at v c) ∙ ap (λ ws. option_map key (first_of ws)) (sym (on_chain 8 c (list_at v) l))
-    ∙ sym (ap (option_map key) (find-filter (on c) (waiting_below 8 (list_at v))))
+    by (list_at v c) ∙ ap (λ ws. option_map key (first_of ws)) (sym (on_chain MOST_CONDITIONS c (list_at v) l))
+    ∙ sym (ap (option_map key) (find-filter (on c) (waiting_below MOST_CONDITIONS (list_at v))))
   where
     by : (xs : List Link) → option_map (λ (x : Link). x.priority) (first_link xs) ≡ option_map key (first_of (map (waiter_on c) xs))
     by [] = refl
     by (x ∷ xs) = refl
 
 -- and its place
-pub first_place-chain : (c : ℕ) (v : Lists) → c < 8
-    → option_map (λ (x : Link). x.place) (first_link (list_at v c)) ≡ option_map (λ (w : Waiter). w.place) (find (on c) (waiting_below 8 (list_at v)))
+pub first_place-chain : (c : ℕ) (v : Lists) → c < MOST_CONDITIONS
+    → option_map (λ (x : Link). x.place) (first_link (list_at v c)) ≡ option_map (λ (w : Waiter). w.place) (find (on c) (waiting_below MOST_CONDITIONS (list_at v)))
 first_place-chain c v l =
-    by (list_at v c) ∙ ap (λ ws. option_map (λ (w : Waiter). w.place) (first_of ws)) (sym (on_chain 8 c (list_at v) l))
-    ∙ sym (ap (option_map (λ (w : Waiter). w.place)) (find-filter (on c) (waiting_below 8 (list_at v))))
+    by (list_at v c) ∙ ap (λ ws. option_map (λ (w : Waiter). w.place) (first_of ws)) (sym (on_chain MOST_CONDITIONS c (list_at v) l))
+    ∙ sym (ap (option_map (λ (w : Waiter). w.place)) (find-filter (on c) (waiting_below MOST_CONDITIONS (list_at v))))
   where
     by : (xs : List Link) → option_map (λ (x : Link). x.place) (first_link xs) ≡ option_map (λ (w : Waiter). w.place) (first_of (map (waiter_on c) xs))
     by [] = refl
     by (x ∷ xs) = refl
 
 -- the i-th of a condition
-pub nth-chain : (c i : ℕ) (v : Lists) → c < 8 → option_map (λ (x : Link). x.priority) (slice_get (list_at v c) i) ≡ option_map key (slice_get (filter (on c) (waiting_below 8 (list_at v))) i)
-nth-chain c i v l = by i (list_at v c) ∙ ap (λ ws. option_map key (slice_get ws i)) (sym (on_chain 8 c (list_at v) l))
+pub nth-chain : (c i : ℕ) (v : Lists) → c < MOST_CONDITIONS → option_map (λ (x : Link). x.priority) (slice_get (list_at v c) i) ≡ option_map key (slice_get (filter (on c) (waiting_below MOST_CONDITIONS (list_at v))) i)
+nth-chain c i v l = by i (list_at v c) ∙ ap (λ ws. option_map key (slice_get ws i)) (sym (on_chain MOST_CONDITIONS c (list_at v) l))
   where
     by : (i : ℕ) (xs : List Link) → option_map (λ (x : Link). x.priority) (slice_get xs i) ≡ option_map key (slice_get (map (waiter_on c) xs) i)
     by i [] = refl
@@ -398,13 +360,13 @@ nth-chain c i v l = by i (list_at v c) ∙ ap (λ ws. option_map key (slice_get 
 
 -- the priorities in the chain of a condition
 
-pub priorities-chain : (c : ℕ) (v : Lists) → c < 8 → map key (filter (on c) (waiting_below 8 (list_at v))) ≡ priorities (list_at v c)
-priorities-chain c v l = ap (map key) (on_chain 8 c (list_at v) l) ∙ map-map key (waiter_on c) (list_at v c)
+pub priorities-chain : (c : ℕ) (v : Lists) → c < MOST_CONDITIONS → map key (filter (on c) (waiting_below MOST_CONDITIONS (list_at v))) ≡ priorities (list_at v c)
+priorities-chain c v l = ap (map key) (on_chain MOST_CONDITIONS c (list_at v) l) ∙ map-map key (waiter_on c) (list_at v c)
 
 -- they don't fall where those who wait stand in order
-pub priorities-rise : (c : ℕ) (v : Lists) → c < 8 → in_order key (filter (on c) (waiting_below 8 (list_at v))) ≡ filter (on c) (waiting_below 8 (list_at v))
+pub priorities-rise : (c : ℕ) (v : Lists) → c < MOST_CONDITIONS → in_order key (filter (on c) (waiting_below MOST_CONDITIONS (list_at v))) ≡ filter (on c) (waiting_below MOST_CONDITIONS (list_at v))
     → IsNonDecreasing (priorities (list_at v c))
 priorities-rise c v l o =
-    let ws : List Waiter = filter (on c) (waiting_below 8 (list_at v)) in
+    let ws : List Waiter = filter (on c) (waiting_below MOST_CONDITIONS (list_at v)) in
     let same : in_order (λ n. n) (map key ws) ≡ priorities (list_at v c) = sym (map-in_order key ws) ∙ ap (map key) o ∙ priorities-chain c v l in
     subst IsNonDecreasing same (IsNonDecreasing-in_order (map key ws))

@@ -2,40 +2,44 @@
 use Rattle.std.proofs.Common.{◌≡◌, ◌<◌, ℕ, List, [], ◌∷◌, ◌++◌, map, Option, Some, None, arith, ap, sym, subst, ◌∙◌}
 use Rattle.std.specs.List.{filter}
 use Rattle.std.specs.Prelude.{MatchOption}
+use Rattle.wait_book.specs.declared.book.TheConstants.{MOST_CONDITIONS}
+use Rattle.wait_book.specs.declared.chains.TheConstants.{CALLED, SIGNALLERS}
 use Rattle.wait_book.specs.declared.chains.Link.{Link}
 use Rattle.wait_book.specs.declared.waiter.Waiter.{Waiter}
-use Rattle.wait_book.specs.Insides.{called_in, waiter_on, waiting_below}
+use Rattle.wait_book.specs.Insides.{called_in, waiter_of, waiter_on, waiting_below}
 use Rattle.wait_book.specs.Lists.{Lists, IsPut, IsTaken, first_link, list_at, places_in}
 use Rattle.wait_book.specs.Queues.{TakesFirst}
 use Rattle.wait_book.proofs.Waiters.{on, filter-taken_on}
-use Rattle.wait_book.proofs.Queued.{TakesFirst-taken, called-more, called-same, on_chain, signallers-apart, signallers-more, signallers-same, waiters-same}
+use Rattle.wait_book.proofs.Queued.{TakesFirst-taken, chain-more, chain-same, on_chain, waiters-same}
 
 -- who is resumed is taken out first, and then the signaller stands behind those held up before
 pub record Signalled (c place resumed : ℕ) (old between new : Lists) : Type 0 where
-  pub took : TakesFirst c (waiting_below 8 (list_at old)) (waiting_below 8 (list_at between)) resumed
+  pub took : TakesFirst c (waiting_below MOST_CONDITIONS (list_at old)) (waiting_below MOST_CONDITIONS (list_at between)) resumed
   pub room : new.room ≡ old.room
-  pub waiters : waiting_below 8 (list_at new) ≡ waiting_below 8 (list_at between)
-  pub signallers : places_in (list_at new 8) ≡ places_in (list_at old 8) ++ place ∷ []
-  pub called : called_in (list_at new 9) ≡ called_in (list_at old 9)
+  pub waiters : waiting_below MOST_CONDITIONS (list_at new) ≡ waiting_below MOST_CONDITIONS (list_at between)
+  pub signallers : places_in (list_at new SIGNALLERS) ≡ places_in (list_at old SIGNALLERS) ++ place ∷ []
+  pub called : called_in (list_at new CALLED) ≡ called_in (list_at old CALLED)
 
-pub signalled : (c place resumed : ℕ) (old between new : Lists) → c < 8 → IsTaken c resumed old between → IsPut 8 (list_at between 8) [] place c 0 between new
+pub signalled : (c place resumed : ℕ) (old between new : Lists) → c < MOST_CONDITIONS → IsTaken c resumed old between → IsPut SIGNALLERS (list_at between SIGNALLERS) [] place c 0 between new
     → Signalled c place resumed old between new
 signalled c place resumed old between new l t p =
     record {
       took = TakesFirst-taken c resumed old between l t;
       room = p.room ∙ t.room;
-      waiters = waiters-same 8 _ between new (omega arith) p.lists;
-      signallers = signallers-more place c 0 between new p ∙ ap (λ us. us ++ place ∷ []) (signallers-same c _ old between l t.lists);
-      called = called-same 8 _ between new (omega arith) p.lists ∙ called-same c _ old between (omega arith) t.lists;
+      waiters = waiters-same SIGNALLERS _ between new (omega arith) p.lists;
+      signallers = chain-more (λ (x : Link). x.place) SIGNALLERS place c 0 between new p
+          ∙ ap (λ us. us ++ place ∷ []) (chain-same places_in c SIGNALLERS _ old between (omega arith) t.lists);
+      called = chain-same called_in SIGNALLERS CALLED _ between new (omega arith) p.lists
+          ∙ chain-same called_in c CALLED _ old between (omega arith) t.lists;
     }
 
 -- who is called is taken out first, and then stands behind those called before
 pub record Notified (c place : ℕ) (old between new : Lists) : Type 0 where
-  pub took : TakesFirst c (waiting_below 8 (list_at old)) (waiting_below 8 (list_at between)) place
+  pub took : TakesFirst c (waiting_below MOST_CONDITIONS (list_at old)) (waiting_below MOST_CONDITIONS (list_at between)) place
   pub room : new.room ≡ old.room
-  pub waiters : waiting_below 8 (list_at new) ≡ waiting_below 8 (list_at between)
-  pub signallers : places_in (list_at new 8) ≡ places_in (list_at old 8)
-  pub called : called_in (list_at new 9) ≡ called_in (list_at old 9) ++ took.first ∷ []
+  pub waiters : waiting_below MOST_CONDITIONS (list_at new) ≡ waiting_below MOST_CONDITIONS (list_at between)
+  pub signallers : places_in (list_at new SIGNALLERS) ≡ places_in (list_at old SIGNALLERS)
+  pub called : called_in (list_at new CALLED) ≡ called_in (list_at old CALLED) ++ took.first ∷ []
 
 -- the first of a chain is the one taken
 pub taken_is : (c : ℕ) (x : Link) (r : Option ℕ) (old new : Lists) → Some x ≡ first_link (list_at old c)
@@ -47,29 +51,30 @@ taken_is c x (Some p) old new is t =
     subst (λ (j : ℕ). IsTaken c j old new) (sym t.first_place ∙ ap (λ (y : Link). y.place) (sym one)) t
 
 -- the waiter that is taken out of those who wait is that of the chain's first
-first_waiter : (c : ℕ) (x : Link) (old between : Lists) → c < 8 → Some x ≡ first_link (list_at old c) → (t : TakesFirst c (waiting_below 8 (list_at old)) (waiting_below 8 (list_at between)) x.place)
+first_waiter : (c : ℕ) (x : Link) (old between : Lists) → c < MOST_CONDITIONS → Some x ≡ first_link (list_at old c) → (t : TakesFirst c (waiting_below MOST_CONDITIONS (list_at old)) (waiting_below MOST_CONDITIONS (list_at between)) x.place)
     → waiter_on c x ≡ t.first
 first_waiter c x old between l is t =
-    let left : filter (on c) (waiting_below 8 (list_at old)) ≡ t.first ∷ filter (on c) (waiting_below 8 (list_at between)) = filter-taken_on c _ _ x.place t in
-    let right : filter (on c) (waiting_below 8 (list_at old)) ≡ map (waiter_on c) (list_at old c) = on_chain 8 c (list_at old) l in
+    let left : filter (on c) (waiting_below MOST_CONDITIONS (list_at old)) ≡ t.first ∷ filter (on c) (waiting_below MOST_CONDITIONS (list_at between)) = filter-taken_on c _ _ x.place t in
+    let right : filter (on c) (waiting_below MOST_CONDITIONS (list_at old)) ≡ map (waiter_on c) (list_at old c) = on_chain MOST_CONDITIONS c (list_at old) l in
     by (list_at old c) is (sym right ∙ left)
   where
     by : (xs : List Link) → Some x ≡ first_link xs → {w : Waiter} {ws : List Waiter} → map (waiter_on c) xs ≡ w ∷ ws → waiter_on c x ≡ w
     by [] q e = absurd (cc)
     by (y ∷ ys) q e = let same : x ≡ y = cc in ap (waiter_on c) same ∙ (cc)
 
-pub notified : (c : ℕ) (x : Link) (r : Option ℕ) (old between new : Lists) → c < 8 → Some x ≡ first_link (list_at old c)
+pub notified : (c : ℕ) (x : Link) (r : Option ℕ) (old between new : Lists) → c < MOST_CONDITIONS → Some x ≡ first_link (list_at old c)
     → MatchOption r ((list_at old c ≡ []) × (between ≡ old)) (λ place. IsTaken c place old between)
-    → IsPut 9 (list_at between 9) [] x.place c x.priority between new → Notified c x.place old between new
+    → IsPut CALLED (list_at between CALLED) [] x.place c x.priority between new → Notified c x.place old between new
 notified c x r old between new l is m p =
     let t : IsTaken c x.place old between = taken_is c x r old between is m in
     let took = TakesFirst-taken c x.place old between l t in
     record {
       took = took;
       room = p.room ∙ t.room;
-      waiters = waiters-same 9 _ between new (omega arith) p.lists;
-      signallers = signallers-apart _ between new p.lists ∙ signallers-same c _ old between l t.lists;
-      called = called-more x.place c x.priority between new p
-          ∙ ap (λ ws. ws ++ waiter_on c x ∷ []) (called-same c _ old between (omega arith) t.lists)
-          ∙ ap (λ w. called_in (list_at old 9) ++ w ∷ []) (first_waiter c x old between l is took);
+      waiters = waiters-same CALLED _ between new (omega arith) p.lists;
+      signallers = chain-same places_in CALLED SIGNALLERS _ between new (omega arith) p.lists
+          ∙ chain-same places_in c SIGNALLERS _ old between (omega arith) t.lists;
+      called = chain-more waiter_of CALLED x.place c x.priority between new p
+          ∙ ap (λ ws. ws ++ waiter_on c x ∷ []) (chain-same called_in c CALLED _ old between (omega arith) t.lists)
+          ∙ ap (λ w. called_in (list_at old CALLED) ++ w ∷ []) (first_waiter c x old between l is took);
     }

@@ -14,6 +14,8 @@ use Rattle.hoare_law.specs.Turns.{turn_given_up}
 use Rattle.hoare_law.specs.Priorities.{put_in, in_order, behind_first}
 use Rattle.hoare_law.proofs.Filters.{filter-filter}
 use Rattle.hoare_law.proofs.Sorted.{in_order-put_in, in_order-filtered}
+use Rattle.wait_book.specs.declared.book.TheConstants.{MOST_CONDITIONS, MOST_PLACES}
+use Rattle.wait_book.specs.declared.chains.TheConstants.{SIGNALLERS}
 use Rattle.wait_book.specs.declared.waiter.Waiter.{Waiter}
 use Rattle.wait_book.specs.Contents.{Contents, SameSizes, hoare_of, next_of, one, times, times_in, times_in_hand, wait_of, waiters_on}
 use Rattle.wait_book.specs.declared.steps.Next.TheVariants as next
@@ -230,9 +232,9 @@ sound_fewer : (b d : Contents) → IsSound b → SameSizes b d → ((k : ℕ) �
     → All (λ (w : Waiter). IsMesa d.sizes.conditions d.sizes.mesa w.condition) d.called → IsTurnBeside d.signallers d.called (hoare_of d) d.turn → IsSound d
 sound_fewer b d s e o a r m t = record {
   some_places = subst (λ (n : Sizes). 0 < n.places) (sym e.0) s.some_places;
-  few_places = subst (λ (n : Sizes). n.places ≤ 64) (sym e.0) s.few_places;
+  few_places = subst (λ (n : Sizes). n.places ≤ MOST_PLACES) (sym e.0) s.few_places;
   some_conditions = subst (λ (n : Sizes). 0 < n.conditions) (sym e.0) s.some_conditions;
-  few_conditions = subst (λ (n : Sizes). n.conditions ≤ 8) (sym e.0) s.few_conditions;
+  few_conditions = subst (λ (n : Sizes). n.conditions ≤ MOST_CONDITIONS) (sym e.0) s.few_conditions;
   few_mesa = subst (λ (n : Sizes). n.mesa ≤ n.conditions) (sym e.0) s.few_mesa;
   waiters_fit = omega (arith, ap (λ (n : Sizes). n.places) e.0, e.1, s.waiters_fit);
   signallers_fit = omega (arith, ap (λ (n : Sizes). n.places) e.0, e.2, s.signallers_fit);
@@ -276,7 +278,7 @@ waited_sound b w ws p o l = sound_fewer b (waited ws b) o.sound (same b) (λ j. 
     (given_up_fits b.signallers b.called (hoare_of b))
 
 -- no more wait than there are places
-pub few_waiters : (b : Contents) → IsSound b → length b.waiters ≤ 64
+pub few_waiters : (b : Contents) → IsSound b → length b.waiters ≤ MOST_PLACES
 few_waiters b s =
     let few : length (places b.waiters) ≤ b.sizes.places = few_once (places b.waiters) b.sizes.places (λ j. omega (arith, s.once j)) (λ j p. s.in_range j (omega arith)) in
     omega (arith, s.few_places, length-map b.waiters (λ (w : Waiter). w.place))
@@ -370,7 +372,7 @@ returned_sound b k s e = sound_fewer b (returned k b) s (same b) (λ j. omega (a
 -- who goes on, by the chain in which it stands
 abbrev pub claimed : Option ℕ → ℕ → Contents → Contents
 claimed None k b = admitted k b
-claimed (Some n) k b = cond (n == 8) (returned k b) (went_on k b)
+claimed (Some n) k b = cond (n == SIGNALLERS) (returned k b) (went_on k b)
 
 -- any of the three keeps the book sound
 pub claimed_sound : (t : Turn) (b : Contents) (k : ℕ) → b.turn ≡ t → next_of t ≡ next.For k → IsSound b → IsSound (claimed (chain_of t (hoare_of b)) k b)
@@ -495,7 +497,7 @@ broadcast_sound b k c ws o m t =
 -- a new book
 
 -- a book where nobody is
-pub opened_sound : (n : Sizes) (x : ℕ) → 0 < n.places → n.places ≤ 64 → 0 < n.conditions → n.conditions ≤ 8 → n.mesa ≤ n.conditions → n.places ≤ x
+pub opened_sound : (n : Sizes) (x : ℕ) → 0 < n.places → n.places ≤ MOST_PLACES → 0 < n.conditions → n.conditions ≤ MOST_CONDITIONS → n.mesa ≤ n.conditions → n.places ≤ x
     → IsSound (record { sizes = n; room_to_wait = x; room_to_signal = x; waiters = []; signallers = []; called = []; turn = Free })
 opened_sound n x a b d e g f = record {
   some_places = a;

@@ -1,6 +1,7 @@
 -- How nodes in a slab stand for lists.
 use Rattle.std.specs.Prelude.{ℕ, zero, suc, ◌≡◌, ◌≤◌, if◌then◌else◌, List, [], ◌∷◌, map, length, Option, Some, None, is_some, slice_index_or}
 use Rattle.slab.specs.Slab.{Slab, get, slab_len}
+use Rattle.wait_book.specs.declared.chains.TheConstants.{CHAINS}
 use Rattle.wait_book.specs.declared.chains.Node.{Node}
 use Rattle.wait_book.specs.declared.chains.Chain.{Chain}
 use Rattle.wait_book.specs.declared.chains.Link.{Link}
@@ -34,12 +35,12 @@ chain_at chains c = slice_index_or chains c empty
 abbrev pub held : Slab Node → ℕ → ℕ
 held s k = if is_some (get s k) then 1 else 0
 
--- there are ten chains, each is a list, and each node of the slab stands in them once
+-- there are all chains, each is a list, and each node of the slab stands in them once
 pub record AreChains (s : Slab Node) (chains : List Chain) (at : ℕ → List Link) : Type 0 where
-  pub many : length chains ≡ 10
+  pub many : length chains ≡ CHAINS
   pub linked : (c : ℕ) → IsChain s (chain_at chains c) (at c)
-  pub once : (k : ℕ) → times k (keys_below 10 at) ≡ held s k
-  pub counted : length (keys_below 10 at) ≡ slab_len s
+  pub once : (k : ℕ) → times k (keys_below CHAINS at) ≡ held s k
+  pub counted : length (keys_below CHAINS at) ≡ slab_len s
 
 -- the node under a key and those behind it
 abbrev pub found : (Option ℕ → List Link) → ℕ → Option Node → List Link

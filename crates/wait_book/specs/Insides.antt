@@ -4,6 +4,8 @@ use Rattle.hoare_law.specs.declared.turn.Turn.{Turn}
 use Rattle.hoare_law.specs.declared.turn.Turn.TheVariants.{Free, Held, Owed, Return}
 use Rattle.hoare_law.specs.Sizes.{IsMesa}
 use Rattle.hoare_law.specs.Priorities.{in_order}
+use Rattle.wait_book.specs.declared.book.TheConstants.{MOST_CONDITIONS, MOST_PLACES}
+use Rattle.wait_book.specs.declared.chains.TheConstants.{CALLED, SIGNALLERS}
 use Rattle.wait_book.specs.declared.waiter.Waiter.{Waiter}
 use Rattle.wait_book.specs.declared.book.Book.TheInside.{Inside}
 use Rattle.wait_book.specs.declared.chains.Link.{Link}
@@ -25,15 +27,15 @@ called_in xs = map waiter_of xs
 abbrev pub waiting_below : ℕ → (ℕ → List Link) → List Waiter
 waiting_below n at = all_below waiter_on n at
 
--- what the fields hold: the first eight chains are those of the conditions, then come that of the signallers and that of the called
+-- what the fields hold: the first chains are those of the conditions, then come that of the signallers and that of the called
 abbrev pub view_of : Inside → Contents
 view_of a = record {
   sizes = a.sizes;
   room_to_wait = a.chains.room;
   room_to_signal = a.chains.room;
-  waiters = waiting_below 8 (list_at a.chains);
-  signallers = places_in (list_at a.chains 8);
-  called = called_in (list_at a.chains 9);
+  waiters = waiting_below MOST_CONDITIONS (list_at a.chains);
+  signallers = places_in (list_at a.chains SIGNALLERS);
+  called = called_in (list_at a.chains CALLED);
   turn = a.turn;
 }
 
@@ -41,8 +43,8 @@ view_of a = record {
 abbrev pub chain_of : Turn → ℕ → Option ℕ
 chain_of Free m = None
 chain_of (Held k) m = None
-chain_of (Owed k c) m = if nat_lt c m then None else Some 9
-chain_of (Return k) m = Some 8
+chain_of (Owed k c) m = if nat_lt c m then None else Some CALLED
+chain_of (Return k) m = Some SIGNALLERS
 
 -- place k, which waited on c, was called first
 abbrev pub IsCalledFirst : ℕ → ℕ → List Waiter → Type 0
@@ -62,9 +64,9 @@ IsTurnBeside (u ∷ us) ws m (Return k) = u ≡ k
 -- signal can reach everybody who waits), and whoever was called waited on a Mesa condition
 pub record IsSound (b : Contents) : Type 0 where
   pub some_places : 0 < b.sizes.places
-  pub few_places : b.sizes.places ≤ 64
+  pub few_places : b.sizes.places ≤ MOST_PLACES
   pub some_conditions : 0 < b.sizes.conditions
-  pub few_conditions : b.sizes.conditions ≤ 8
+  pub few_conditions : b.sizes.conditions ≤ MOST_CONDITIONS
   pub few_mesa : b.sizes.mesa ≤ b.sizes.conditions
   pub waiters_fit : b.sizes.places ≤ b.room_to_wait
   pub signallers_fit : b.sizes.places ≤ b.room_to_signal

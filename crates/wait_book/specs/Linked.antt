@@ -1,5 +1,7 @@
 -- How the fields of the chains stand for lists.
 use Rattle.std.specs.Prelude.{ℕ, ◌≡◌, ◌<◌, All, Bool, false, if◌then◌else◌, List, length, slice_index_or}
+use Rattle.wait_book.specs.declared.book.TheConstants.{MOST_CONDITIONS, MOST_PLACES}
+use Rattle.wait_book.specs.declared.chains.TheConstants.{CHAINS}
 use Rattle.wait_book.specs.declared.chains.Chains.TheInside as chains
 use Rattle.wait_book.specs.declared.chains.Link.{Link}
 use Rattle.wait_book.specs.Contents.{times}
@@ -16,12 +18,12 @@ marked s k = if slice_index_or s k false then 1 else 0
 
 -- those and no other places stand in the lists that are marked, and each once
 pub record AreMarked (s : List Bool) (at : ℕ → List Link) : Type 0 where
-  pub many : length s ≡ 64
-  pub once : (k : ℕ) → times k (places_below 10 at) ≡ marked s k
+  pub many : length s ≡ MOST_PLACES
+  pub once : (k : ℕ) → times k (places_below CHAINS at) ≡ marked s k
 
 -- those in the chain of a condition wait there
 abbrev pub AreKept : (ℕ → List Link) → Type 0
-AreKept at = (c : ℕ) → c < 8 → All (λ (x : Link). x.condition ≡ c) (at c)
+AreKept at = (c : ℕ) → c < MOST_CONDITIONS → All (λ (x : Link). x.condition ≡ c) (at c)
 
 -- the nodes stand for those lists, and the marks tell their places
 pub record IsGood (a : chains.Inside) : Type 0 where

@@ -1,5 +1,6 @@
 -- What a contract sees of the chains: the list of those in each.
 use Rattle.std.specs.Prelude.{ℕ, zero, suc, ◌≡◌, ◌==◌, All, nat_le, if◌then◌else◌, List, [], ◌∷◌, ◌++◌, map, length, Option, Some, None, slice_index_or}
+use Rattle.wait_book.specs.declared.chains.TheConstants.{CALLED, CHAINS}
 use Rattle.wait_book.specs.declared.chains.Link.{Link}
 
 -- memory for a number of nodes, and those in each chain, the first one first
@@ -38,7 +39,7 @@ places_below n at = all_below (λ c (x : Link). x.place) n at
 
 -- how many stand in the chains
 abbrev pub total : Lists → ℕ
-total v = length (keys_below 10 (list_at v))
+total v = length (keys_below CHAINS (list_at v))
 
 -- the first
 abbrev pub first_link : List Link → Option Link
@@ -85,6 +86,6 @@ pub record IsTaken (c place : ℕ) (old new : Lists) : Type 0 where
 
 -- all in the chain of condition c now stand behind those that were called
 pub record IsJoined (c : ℕ) (old new : Lists) : Type 0 where
-  pub lists : (d : ℕ) → list_at new d ≡ list_put c [] (list_put 9 (list_at old 9 ++ list_at old c) (list_at old)) d
+  pub lists : (d : ℕ) → list_at new d ≡ list_put c [] (list_put CALLED (list_at old CALLED ++ list_at old c) (list_at old)) d
   pub waited : All (λ (x : Link). x.condition ≡ c) (list_at old c)
   pub room : new.room ≡ old.room

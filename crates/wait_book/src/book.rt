@@ -177,6 +177,7 @@ impl Book {
     }
 
     /// The place that is handed the monitor goes on: it returns from a wait, by a signal or a call, or from a signal.
+    #[inline(always)] // as `settle` is, which calls it
     pub fn claim(&mut self, place: usize)
         requires { next_of self.old.turn ≡ Next.For place }
         ensures inside { self.new.turn ≡ turns.Held place }
@@ -276,6 +277,7 @@ impl Book {
 
     /// The place inside calls the process that a signal on a Mesa condition would resume, and stays inside. True exactly where
     /// somebody waits there; where nobody does, nothing changes.
+    #[inline(never)] // apart, so that `try_step` stays small
     pub fn notify(&mut self, place: usize, condition: usize) -> bool
         requires inside { self.old.turn ≡ turns.Held place }
         requires mesa { IsMesa self.old.sizes.conditions self.old.sizes.mesa condition }
@@ -299,6 +301,7 @@ impl Book {
 
     /// The place inside calls all that wait on a Mesa condition, in the order in which signals would resume them, stays inside,
     /// and is told how many they are.
+    #[inline(never)] // apart, so that `try_step` stays small
     pub fn broadcast(&mut self, place: usize, condition: usize) -> usize
         requires inside { self.old.turn ≡ turns.Held place }
         requires mesa { IsMesa self.old.sizes.conditions self.old.sizes.mesa condition }

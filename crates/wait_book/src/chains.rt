@@ -117,6 +117,17 @@ fn last_after(next: Option<usize>, last: Option<usize>, otherwise: Option<usize>
     }
 }
 
+// The first of a chain went: the next one is its first, and where there is none, none is its last.
+fn move_on(chain: &mut Chain, next: Option<usize>)
+    ensures first { chain.new.first ≡ next }
+    ensures last { chain.new.last ≡ (if is_some next then chain.old.last else None) }
+{
+    chain.first = next;
+    if next.is_none() {
+        chain.last = None;
+    }
+}
+
 impl Chains {
     /// Empty chains, with memory for this number of nodes.
     pub(crate) fn make(alloc: Global, places: usize) -> Result<Chains, AllocError>
@@ -187,7 +198,9 @@ impl Chains {
         self.walk_behind(chain, priority)
     }
 
-    // Puts a place that stands in no chain into one, behind a node or first.
+    // Puts a place that stands in no chain into one, behind a node or first. In line, as `append` and `take_first` are:
+    // called apart they make a step of a book a tenth longer.
+    #[inline(always)]
     fn link(
         &mut self,
         chain: usize,
@@ -223,6 +236,7 @@ impl Chains {
     }
 
     /// Puts a place that stands in no chain behind all in one that is no condition's.
+    #[inline(always)]
     pub(crate) fn append(&mut self, chain: usize, place: usize, condition: usize, priority: u64)
         requires chain { chain < CHAINS }
         requires no_condition { SIGNALLERS ≤ chain }
@@ -250,19 +264,16 @@ impl Chains {
     }
 
     /// Takes the first out of a chain, and answers its place.
+    #[inline(always)]
     pub(crate) fn take_first(&mut self, chain: usize) -> Option<usize>
         requires { chain < CHAINS }
         ensures { MatchOption result
             ((list_at self.old chain ≡ []) × (self.new ≡ self.old))
             (λ place. IsTaken chain place self.old self.new) }
     {
-        let Chain { first, last } = self.chains[chain];
+        let first = self.chains[chain].first;
         let node = self.nodes.remove(first?);
-        let last = last_after(node.next, last, None);
-        self.chains[chain] = Chain {
-            first: node.next,
-            last,
-        };
+        move_on(&mut self.chains[chain], node.next);
         self.standing[node.place] = false;
         Some(node.place)
     }

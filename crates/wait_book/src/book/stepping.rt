@@ -22,10 +22,14 @@ impl Book {
         ensures of { (h : History (Unit {0})) → IsOf self.old h → IsOf self.new (settled h) }
         ensures sizes { SameSizes self.old self.new }
     {
-        if let Next::For(place) = self.now() {
-            self.claim(place);
+        match self.now() {
+            Next::For(place) => {
+                self.claim(place);
+                Next::Held(place)
+            }
+            Next::Held(place) => Next::Held(place),
+            Next::Free => Next::Free,
         }
-        self.now()
     }
 
     // The place, if it may come in.
@@ -145,6 +149,7 @@ impl Book {
             Step::Enter(place) => {
                 let place = self.newcomer(place)?;
                 self.admit(place);
+                return Ok(Next::Held(place));
             }
             Step::Wait(place, condition, priority) => {
                 let (place, condition) = self.holder_on(place, condition)?;

@@ -1,4 +1,5 @@
 use Rattle.std.proofs.Common.{ap, arith, ◌∙◌}
+use Rattle.wait_book.specs.declared.chains.TheConstants.{CALLED}
 use Rattle.wait_book.specs.Lists.{Lists, list_at}
 use Rattle.wait_book.specs.Chains.{chain_at}
 use Rattle.wait_book.proofs.Nodes.{behind-contains, linked_none}
@@ -16,13 +17,13 @@ returns-in_default c =
 pub set_next-first-requires : goal.set_next-first-requires
 set_next-first-requires c =
     let i = AreChains-equal c.self.view_is c.self.invariant.are in
-    behind-contains c.self.inside.nodes _ (list_at c.args.self.now 9) _ _ (i.linked 9).last (i.linked 9).linked
+    behind-contains c.self.inside.nodes _ (list_at c.args.self.now CALLED) _ _ (i.linked CALLED).last (i.linked CALLED).linked
 
 pub invariant_of-self : goal.invariant_of-self
 invariant_of-self c =
     let i = AreChains-equal c.self.view_is c.self.invariant.are in
     let put = c.set_next-first.ensures in
-    let joining : Joining c.self.inside.nodes c.set_next-first.new.nodes (chain_at c.self.inside.chains 9) c.in-Some.key c.set_next-first.result = record {
+    let joining : Joining c.self.inside.nodes c.set_next-first.new.nodes (chain_at c.self.inside.chains CALLED) c.in-Some.key c.set_next-first.result = record {
       linked = put.linked;
       others = put.others;
       held_on = put.held;
@@ -39,7 +40,7 @@ pub returns : goal.returns
 returns c =
     let i = AreChains-equal c.self.view_is c.self.invariant.are in
     let put = c.set_next-first.ensures in
-    let joining : Joining c.self.inside.nodes c.set_next-first.new.nodes (chain_at c.self.inside.chains 9) c.in-Some.key c.set_next-first.result = record {
+    let joining : Joining c.self.inside.nodes c.set_next-first.new.nodes (chain_at c.self.inside.chains CALLED) c.in-Some.key c.set_next-first.result = record {
       linked = put.linked;
       others = put.others;
       held_on = put.held;

@@ -31,7 +31,7 @@ invariant_of-self-2 c =
     let i = AreChains-equal c.self.view_is c.self.invariant.are in
     let node = c.remove-node.ensures in
     let t = takes c.args.chain c.in_ok-first.field-0 c.remove-node.result i c.in_ok-first.was node.value node.updates in
-    let are = AreChains-taken c.args.chain c.in_ok-first.field-0 c.remove-node.result c.last_after-last.ensures i c.requires t node.len in
+    let are = AreChains-taken c.args.chain c.in_ok-first.field-0 c.remove-node.result c.move_on.ensures.first c.move_on.ensures.last i c.requires t node.len in
     let marks = AreMarked-equal c.self.view_is c.self.invariant.places in
     record {
       are = AreChains-seen are;
@@ -49,6 +49,6 @@ returns c =
       after = t.after;
       was = t.is;
       first_place = t.place;
-      lists = λ d. lists_are (AreChains-taken c.args.chain c.in_ok-first.field-0 c.remove-node.result c.last_after-last.ensures i c.requires t node.len) d;
+      lists = λ d. lists_are (AreChains-taken c.args.chain c.in_ok-first.field-0 c.remove-node.result c.move_on.ensures.first c.move_on.ensures.last i c.requires t node.len) d;
       room = node.capacity ∙ ap (λ (v : Lists). v.room) c.self.view_is;
     }

@@ -1,5 +1,6 @@
 use Rattle.std.proofs.Common.{◌≡◌, ◌<◌, Some, ◌∙◌, arith}
 use Rattle.std.specs.Prelude.{slice_index}
+use Rattle.wait_book.specs.declared.book.TheConstants.{MOST_CONDITIONS}
 use Rattle.wait_book.specs.Contents.{priorities_on}
 use Rattle.wait_book.specs.Insides.{view_of}
 use Rattle.wait_book.proofs.Priorities as priorities
@@ -12,14 +13,14 @@ nth_priority-requires c =
 
 pub unreachable-requires : goal.unreachable-requires
 unreachable-requires c =
-    let below : c.args.condition < 8 =
+    let below : c.args.condition < MOST_CONDITIONS =
     omega (arith, priorities.fits-condition (view_of c.self.inside) _ c.args.condition c.args.i c.self.view_is c.self.invariant c.requires, c.self.invariant.few_conditions) in
     c.in_default.not-Some _ (priorities.nth-priority c.args.condition c.args.i c.self.view_is c.self.invariant
     (c.nth_priority.ensures ∙ nth-chain c.args.condition c.args.i c.self.inside.chains below) c.requires)
 
 pub returns : goal.returns
 returns c =
-    let below : c.args.condition < 8 =
+    let below : c.args.condition < MOST_CONDITIONS =
     omega (arith, priorities.fits-condition (view_of c.self.inside) _ c.args.condition c.args.i c.self.view_is c.self.invariant c.requires, c.self.invariant.few_conditions) in
     let e : c.nth_priority.result ≡ Some (slice_index (priorities_on c.args.self.now c.args.condition) c.args.i) =
     priorities.nth-priority c.args.condition c.args.i c.self.view_is c.self.invariant

@@ -1,4 +1,4 @@
-use Rattle.std.proofs.Common.{None, arith, ap, sym, ◌∙◌, subst, take, ◌+◌, ◌≤◌, ◌≡◌, ℕ, List, rules}
+use Rattle.std.proofs.Common.{[], arith, ap, sym, ◌∙◌, subst, take, ◌+◌, ◌≤◌, ◌≡◌, ℕ, List, rules}
 use Rattle.wait_book.specs.declared.steps.Step.TheVariants as steps
 use Rattle.hoare_script.specs.declared.answers.Answer.TheVariants as answers
 use Rattle.hoare_script.specs.declared.lines.Command.TheVariants as commands
@@ -26,7 +26,7 @@ rows-preserved g c =
     let after : Lane = c.lane_after-after.result in
     let next : Follows (opening header) rows (c.rows.i + 1) place after × Does (after_rows (opening header) (take (c.rows.i + 1) rows)) place after =
     Follows-next (opening header) rows c.deref-row-items.result.now c.rows.i place
-    (record { command = commands.Do (steps.Enter 0); answer = answers.Free; notified = None })
+    (record { command = commands.Do (steps.Enter 0); answer = answers.Free; numbers = [] })
     c.rows.lane after c.deref-row-items.ensures.value
     c.rows-test.true c.requires.1 c.lane_after-after.ensures c.rows.invariant.follows in
     let is : (c.if-ne.lane ≡ after) × DoesDuring c.args.chart.now place after c.if-ne.boxed.row (c.rows.i + 1) × (c.if-ne.boxed.row ≤ c.rows.i + 1) = elim c.if-ne.branch [

@@ -1,4 +1,4 @@
-use Rattle.std.proofs.Common.{None, ◌∙◌, ◌+◌, ◌<◌, ℕ, List, length, arith, ap, sym, subst}
+use Rattle.std.proofs.Common.{[], ◌∙◌, ◌+◌, ◌<◌, ℕ, List, length, arith, ap, sym, subst}
 use Rattle.wait_book.specs.declared.steps.Step.TheVariants as steps
 use Rattle.hoare_script.specs.declared.answers.Answer.TheVariants as answers
 use Rattle.hoare_script.specs.declared.lines.Command.TheVariants as commands
@@ -12,7 +12,7 @@ use Rattle.script_picture.proofs.svg.write_lane_calls.Goals as goal
 
 -- what stands for a row beyond the last
 abbrev no_row : Row
-no_row = record { command = commands.Do (steps.Enter 0); answer = answers.Free; notified = None }
+no_row = record { command = commands.Do (steps.Enter 0); answer = answers.Free; numbers = [] }
 
 pub rows-init : goal.rows-init
 rows-init g c = record {

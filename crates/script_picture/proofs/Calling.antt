@@ -47,18 +47,12 @@ call_calls before after is =
 
 -- a place that goes on as it did isn't called, nor one that comes in
 call_itself : (l : Lane) → is_call l l ≡ true → ⊥
-call_itself lanes.Outside is = cc
-call_itself lanes.Inside is = cc
-call_itself lanes.Signalling is = cc
-call_itself (lanes.Waiting c p) is = cc
-call_itself (lanes.Called c p n) is = cc
+call_itself l is =
+    let w = call_waits l l is in let v = call_calls l l is in
+    let clash : lanes.Waiting w.0 w.1 ≡ lanes.Called v.0 v.1 v.2 = sym w.2 ∙ v.3 in cc
 
 call_inside : (l : Lane) → is_call l lanes.Inside ≡ true → ⊥
-call_inside lanes.Outside is = cc
-call_inside lanes.Inside is = cc
-call_inside lanes.Signalling is = cc
-call_inside (lanes.Waiting c p) is = cc
-call_inside (lanes.Called c p n) is = cc
+call_inside l is = let v = call_calls l lanes.Inside is in let clash : lanes.Inside ≡ lanes.Called v.0 v.1 v.2 = v.3 in cc
 
 call_beside : (t : Bool) (before after : Lane) → (is_call before after ≡ true → ⊥) → is_call before (cond t lanes.Inside after) ≡ true → ⊥
 call_beside true before after never is = call_inside before is
@@ -66,20 +60,15 @@ call_beside false before after never is = never is
 
 -- nor one that has no number afterwards, or had one before
 call_unnumbered : (l : Lane) → is_call l (lane_beside 0 l) ≡ true → ⊥
-call_unnumbered lanes.Outside is = cc
-call_unnumbered lanes.Inside is = cc
-call_unnumbered lanes.Signalling is = cc
-call_unnumbered (lanes.Waiting c p) is = cc
-call_unnumbered (lanes.Called c p n) is = cc
+call_unnumbered l is =
+    let w = call_waits l _ is in let v = call_calls l _ is in
+    let clash : lanes.Waiting w.0 w.1 ≡ lanes.Called v.0 v.1 v.2 = sym (ap (lane_beside 0) w.2) ∙ v.3 in cc
 
 call_numbered : (n : ℕ) (l after : Lane) → (n == 0) ≡ false → l ≡ lane_beside n l → is_call l after ≡ true → ⊥
-call_numbered n lanes.Outside after off same is = cc
-call_numbered n lanes.Inside after off same is = cc
-call_numbered n lanes.Signalling after off same is = cc
-call_numbered n (lanes.Called c p m) after off same is = cc
-call_numbered n (lanes.Waiting c p) after off same is =
-    let clash : lanes.Waiting c p ≡ lanes.Called c p n =
-    same ∙ ap (λ (b : Bool). cond b (lanes.Waiting c p) (lanes.Called c p n)) off in cc
+call_numbered n l after off same is =
+    let w = call_waits l after is in
+    let clash : lanes.Waiting w.0 w.1 ≡ lanes.Called w.0 w.1 n =
+    sym w.2 ∙ same ∙ ap (lane_beside n) w.2 ∙ ap (λ (b : Bool). cond b (lanes.Waiting w.0 w.1) (lanes.Called w.0 w.1 n)) off in cc
 
 -- who comes in calls nobody
 enter_calls : (h : Log) (j k : ℕ)

@@ -73,20 +73,32 @@ beside_numbered n m c p = by (m == 0)
     by true = refl
     by false = refl
 
-beside_by : (n m : ℕ) (e : Act) → lane_by n e ≡ lane_beside n (lane_by m e)
-beside_by n m (Wait k c p s) = beside_numbered n m c p
-beside_by n m (Admit k s) = refl
-beside_by n m (Resume k c s) = refl
-beside_by n m (Back k s) = refl
-beside_by n m (Signal k c w s) = refl
-beside_by n m (Pass k c w s) = refl
-beside_by n m (Leave k s) = refl
-beside_by n m (Notify k c w s) = refl
-beside_by n m (Broadcast k c s) = refl
+-- what an event tells of its place: which of the tests of events it passes, and what another number changes
+record Told (n m : ℕ) (e : Act) : Type 0 where
+  inside : is_inside e ≡ true → lanes.Inside ≡ lane_by n e
+  signals : is_signal e ≡ true → lanes.Signalling ≡ lane_by n e
+  out : is_out (Some e) ≡ true → lanes.Outside ≡ lane_by n e
+  beside : lane_by n e ≡ lane_beside n (lane_by m e)
+
+told : (n m : ℕ) (e : Act) → Told n m e
+told n m (Admit k s) = record { inside = λ is. refl; signals = λ is. absurd (cc); out = λ is. absurd (cc); beside = refl }
+told n m (Resume k c s) = record { inside = λ is. refl; signals = λ is. absurd (cc); out = λ is. absurd (cc); beside = refl }
+told n m (Back k s) = record { inside = λ is. refl; signals = λ is. absurd (cc); out = λ is. absurd (cc); beside = refl }
+told n m (Notify k c w s) = record { inside = λ is. refl; signals = λ is. absurd (cc); out = λ is. absurd (cc); beside = refl }
+told n m (Broadcast k c s) = record { inside = λ is. refl; signals = λ is. absurd (cc); out = λ is. absurd (cc); beside = refl }
+told n m (Signal k c w s) = record { inside = λ is. absurd (cc); signals = λ is. refl; out = λ is. absurd (cc); beside = refl }
+told n m (Pass k c w s) = record { inside = λ is. absurd (cc); signals = λ is. absurd (cc); out = λ is. refl; beside = refl }
+told n m (Leave k s) = record { inside = λ is. absurd (cc); signals = λ is. absurd (cc); out = λ is. refl; beside = refl }
+told n m (Wait k c p s) = record {
+  inside = λ is. absurd (cc);
+  signals = λ is. absurd (cc);
+  out = λ is. absurd (cc);
+  beside = beside_numbered n m c p;
+}
 
 pub lane_beside-last : (n m : ℕ) (o : Option Act) → lane_last n o ≡ lane_beside n (lane_last m o)
 lane_beside-last n m None = refl
-lane_beside-last n m (Some e) = beside_by n m e
+lane_beside-last n m (Some e) = (told n m e).beside
 
 -- one more event: its place does what it says, and each other as before
 pub lane_as-push : (n : ℕ) (h : Log) (e : Act) (k : ℕ)
@@ -165,39 +177,9 @@ uncalled-push h e k nobody off =
 
 -- whatever a place does, its own last event says it, and whether it is called
 
-out_is : (t : ℕ) (o : Option Act) → is_out o ≡ true → lanes.Outside ≡ lane_last t o
-out_is t None is = refl
-out_is t (Some (Leave k s)) is = refl
-out_is t (Some (Pass k c w s)) is = refl
-out_is t (Some (Admit k s)) is = absurd (cc)
-out_is t (Some (Resume k c s)) is = absurd (cc)
-out_is t (Some (Back k s)) is = absurd (cc)
-out_is t (Some (Wait k c p s)) is = absurd (cc)
-out_is t (Some (Signal k c w s)) is = absurd (cc)
-out_is t (Some (Notify k c w s)) is = absurd (cc)
-out_is t (Some (Broadcast k c s)) is = absurd (cc)
-
-in_is : (t : ℕ) (e : Act) → is_inside e ≡ true → lanes.Inside ≡ lane_by t e
-in_is t (Admit k s) is = refl
-in_is t (Resume k c s) is = refl
-in_is t (Back k s) is = refl
-in_is t (Notify k c w s) is = refl
-in_is t (Broadcast k c s) is = refl
-in_is t (Wait k c p s) is = absurd (cc)
-in_is t (Signal k c w s) is = absurd (cc)
-in_is t (Pass k c w s) is = absurd (cc)
-in_is t (Leave k s) is = absurd (cc)
-
-signal_is : (t : ℕ) (e : Act) → is_signal e ≡ true → lanes.Signalling ≡ lane_by t e
-signal_is t (Signal k c w s) is = refl
-signal_is t (Admit k s) is = absurd (cc)
-signal_is t (Resume k c s) is = absurd (cc)
-signal_is t (Back k s) is = absurd (cc)
-signal_is t (Wait k c p s) is = absurd (cc)
-signal_is t (Pass k c w s) is = absurd (cc)
-signal_is t (Leave k s) is = absurd (cc)
-signal_is t (Notify k c w s) is = absurd (cc)
-signal_is t (Broadcast k c s) is = absurd (cc)
+out_is : (n : ℕ) (o : Option Act) → is_out o ≡ true → lanes.Outside ≡ lane_last n o
+out_is n None is = refl
+out_is n (Some e) is = (told n n e).out is
 
 -- what all pass, one of them passes
 all_pass : {X : Type 0} (p : X → Bool) (xs : List X) → list_all p xs ≡ true → All (λ x. p x ≡ true) xs
@@ -239,7 +221,7 @@ pub inside_last : (h : Log) (k : ℕ) → turn h.events ≡ Held k → lanes.Ins
 inside_last h k d =
     let n : ℕ = number_called h.events k in
     let r : (e : Act) × (newest (own k h.events) ≡ Some e) × (is_inside e ≡ true) = own-held h.events k d in
-    in_is n r.0 r.2 ∙ ap (lane_last n) (sym r.1)
+    (told n n r.0).inside r.2 ∙ ap (lane_last n) (sym r.1)
 
 pub Does-last : (h : Log) (k : ℕ) (lane : Lane) → IsLegal h → Does h k lane → lane ≡ lane_of h k
 unfolding outside
@@ -252,7 +234,7 @@ Does-last h k (lanes.Waiting c p) legal d =
     ∙ ap (lane_last (number_called h.events k)) (sym w.last)
 Does-last h k lanes.Signalling legal d =
     let r : LastSignals h.events k = All-contains (LastSignals h.events) (urgent h.events) k (All-urgent h.events) d in
-    signal_is (number_called h.events k) r.0 r.2 ∙ ap (lane_last (number_called h.events k)) (sym r.1)
+    (told (number_called h.events k) 0 r.0).signals r.2 ∙ ap (lane_last (number_called h.events k)) (sym r.1)
 Does-last h k (lanes.Called c p m) legal d =
     let n : ℕ = number_called h.events k in
     let w : IsCalled h (Wait k c p tt) = All-contains (IsCalled h) (called h.events) (Wait k c p tt) (All-called h legal) d.0 in

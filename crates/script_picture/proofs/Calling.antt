@@ -1,5 +1,6 @@
 -- Who calls is inside before the row, and who is called waits before it and is called after it.
-use Rattle.std.proofs.Common.{◌≡◌, ◌==◌, ◌<◌, ◌+◌, ℕ, Bool, true, false, cond, take, List, length, slice_index_or, Option, Some, None, refl, ap, sym, ◌∙◌, subst}
+use Rattle.std.proofs.Common.{◌≡◌, ◌==◌, ◌<◌, ◌+◌, ℕ, Bool, true, false, cond, take, List, length, slice_index_or}
+use Rattle.std.proofs.Common.{Option, Some, None, refl, ap, sym, ◌∙◌, subst}
 use Rattle.hoare_law.specs.declared.event.Event.TheVariants.{Admit}
 use Rattle.hoare_law.specs.declared.turn.Turn.{Turn}
 use Rattle.hoare_law.specs.declared.turn.Turn.TheVariants.{Free, Held, Owed, Return}
@@ -19,10 +20,13 @@ use Rattle.script_picture.specs.declared.chart.Chart.{Chart}
 use Rattle.script_picture.specs.declared.chart.Lane.{Lane}
 use Rattle.script_picture.specs.declared.chart.Lane.TheVariants as lanes
 use Rattle.script_picture.specs.declared.chart.Row.{Row}
-use Rattle.script_picture.specs.Lanes.{actor, caller, caller_commanded, is_call, lane_answered, lane_beside, lane_commanded, lane_after}
+use Rattle.script_picture.specs.Lanes.{actor, caller, caller_commanded, is_call, lane_answered, lane_beside}
+use Rattle.script_picture.specs.Lanes.{lane_commanded, lane_after}
 use Rattle.script_picture.specs.Shown.{Does, HasBook, IsAnswered, IsTold, Calls, LeavesAlone, after_rows, opening}
-use Rattle.script_picture.proofs.Does.{Log, lane_of, lane_beside-last, is_among, is_among-less, number_none, number_some, uncalled-push, Does-last, Does-by_last}
-use Rattle.script_picture.proofs.Shown.{Follows, Follows-next, held_test, held_is, Answered-at, Answered-before, after_rows-next}
+use Rattle.script_picture.proofs.Does.{Log, lane_of, lane_beside-last, is_among, is_among-less, number_none}
+use Rattle.script_picture.proofs.Does.{number_some, uncalled-push, Does-last, Does-by_last}
+use Rattle.script_picture.proofs.Shown.{Follows, Follows-next, held_test, held_is, Answered-at, Answered-before}
+use Rattle.script_picture.proofs.Shown.{after_rows-next}
 
 -- a call is from a wait
 call_waits : (before after : Lane) → is_call before after ≡ true → (c p : ℕ) × (before ≡ lanes.Waiting c p)
@@ -32,7 +36,8 @@ call_waits lanes.Inside after is = absurd (cc)
 call_waits lanes.Signalling after is = absurd (cc)
 call_waits (lanes.Called c p n) after is = absurd (cc)
 
-waiting_called : (c p : ℕ) (after : Lane) → is_call (lanes.Waiting c p) after ≡ true → (d q n : ℕ) × (after ≡ lanes.Called d q n)
+waiting_called : (c p : ℕ) (after : Lane) → is_call (lanes.Waiting c p) after ≡ true
+    → (d q n : ℕ) × (after ≡ lanes.Called d q n)
 waiting_called c p (lanes.Called d q n) is = (d, q, n, refl)
 waiting_called c p lanes.Outside is = absurd (cc)
 waiting_called c p lanes.Inside is = absurd (cc)
@@ -52,9 +57,11 @@ call_itself l is =
     let clash : lanes.Waiting w.0 w.1 ≡ lanes.Called v.0 v.1 v.2 = sym w.2 ∙ v.3 in cc
 
 call_inside : (l : Lane) → is_call l lanes.Inside ≡ true → ⊥
-call_inside l is = let v = call_calls l lanes.Inside is in let clash : lanes.Inside ≡ lanes.Called v.0 v.1 v.2 = v.3 in cc
+call_inside l is =
+    let v = call_calls l lanes.Inside is in let clash : lanes.Inside ≡ lanes.Called v.0 v.1 v.2 = v.3 in cc
 
-call_beside : (t : Bool) (before after : Lane) → (is_call before after ≡ true → ⊥) → is_call before (cond t lanes.Inside after) ≡ true → ⊥
+call_beside : (t : Bool) (before after : Lane) → (is_call before after ≡ true → ⊥)
+    → is_call before (cond t lanes.Inside after) ≡ true → ⊥
 call_beside true before after never is = call_inside before is
 call_beside false before after never is = never is
 
@@ -68,7 +75,8 @@ call_numbered : (n : ℕ) (l after : Lane) → (n == 0) ≡ false → l ≡ lane
 call_numbered n l after off same is =
     let w = call_waits l after is in
     let clash : lanes.Waiting w.0 w.1 ≡ lanes.Called w.0 w.1 n =
-    sym w.2 ∙ same ∙ ap (lane_beside n) w.2 ∙ ap (λ (b : Bool). cond b (lanes.Waiting w.0 w.1) (lanes.Called w.0 w.1 n)) off in cc
+    sym w.2 ∙ same ∙ ap (lane_beside n) w.2
+    ∙ ap (λ (b : Bool). cond b (lanes.Waiting w.0 w.1) (lanes.Called w.0 w.1 n)) off in cc
 
 -- who comes in calls nobody
 enter_calls : (h : Log) (j k : ℕ)
@@ -80,9 +88,11 @@ enter_calls h j k is = by (is_among k (called h.events)) refl
         call_numbered (number_called h.events k) (lane_of h k) _ (number_some 0 k (called h.events) on)
         (lane_beside-last (number_called h.events k) (number_called h.events k) (newest (own k h.events))) is
     by false off =
-        let none : number_called (with_event h (Admit j tt)).events k ≡ 0 = number_none 0 k (called (with_event h (Admit j tt)).events)
+        let none : number_called (with_event h (Admit j tt)).events k ≡ 0 =
+        number_none 0 k (called (with_event h (Admit j tt)).events)
         (uncalled-push h (Admit j tt) k refl (is_among-less j k (called h.events) off)) in
-        call_unnumbered (lane_of h k) (ap (λ (n : ℕ). is_call (lane_of h k) (lane_beside n (lane_of h k))) (sym none) ∙ is)
+        call_unnumbered (lane_of h k) (ap (λ (n : ℕ). is_call (lane_of h k) (lane_beside n (lane_of h k))) (sym none)
+        ∙ is)
 
 enter_answered : (n j k : ℕ) (before : Lane) (t : Turn) → (is_call before (lane_beside n before) ≡ true → ⊥)
     → is_call before (lane_answered (Enter j) n k before (turn_answer t)) ≡ true → ⊥
@@ -123,10 +133,13 @@ calls_inside : (h : Log) (c : Command) (k from : ℕ)
     → (turn h.events ≡ Held from) × (is_call (lane_of h k) (lane_said h c k) ≡ true)
 unfolding answer_to history_after
 calls_inside h (Do s) k from is =
-    let m = made (is_call (lane_of h k) (lane_said h (Do s) k)) (actor s) from is in (by (refusal_of h s) refl m.0 ∙ ap Held m.1, m.0)
+    let m =
+    made (is_call (lane_of h k) (lane_said h (Do s) k)) (actor s) from is in
+    (by (refusal_of h s) refl m.0 ∙ ap Held m.1, m.0)
   where
     by : (o : Option StepRefused) → refusal_of h s ≡ o
-        → is_call (lane_of h k) (lane_answered s (number_called (history_by h s o).events k) k (lane_of h k) (step_answer h s o)) ≡ true
+        → is_call (lane_of h k)
+        (lane_answered s (number_called (history_by h s o).events k) k (lane_of h k) (step_answer h s o)) ≡ true
         → turn h.events ≡ Held (actor s)
     by None r call = acts h s k r call
     by (Some r) refused call = absurd (call_itself (lane_of h k) call)
@@ -134,19 +147,27 @@ calls_inside h (Queue c) k from is = absurd (cc)
 calls_inside h (First c) k from is = absurd (cc)
 
 -- a command by which nobody is called doesn't call
-calls_nobody : (c : Command) (k : ℕ) (before : Lane) (row : Row) → row.command ≡ c → caller row k before ≡ None → is_call before (lane_after row k before) ≡ true → ⊥
+calls_nobody : (c : Command) (k : ℕ) (before : Lane) (row : Row) → row.command ≡ c → caller row k before ≡ None
+    → is_call before (lane_after row k before) ≡ true → ⊥
 calls_nobody (Do s) k before row at none call =
     let off : is_call before (lane_after row k before) ≡ false =
-    unmade (is_call before (lane_after row k before)) (actor s) (ap (λ (x : Command). caller_commanded x before (lane_after row k before)) (sym at) ∙ none) in
+    unmade (is_call before (lane_after row k before)) (actor s)
+    (ap (λ (x : Command). caller_commanded x before (lane_after row k before)) (sym at) ∙ none) in
     let clash : true ≡ false = sym call ∙ off in cc
 calls_nobody (Queue c) k before row at none call =
-    call_itself before (ap (λ (x : Command). is_call before (lane_commanded x (slice_index_or row.numbers k 0) k before row.answer)) (sym at) ∙ call)
+    call_itself before (ap
+    (λ (x : Command). is_call before (lane_commanded x (slice_index_or row.numbers k 0) k before row.answer))
+    (sym at) ∙ call)
 calls_nobody (First c) k before row at none call =
-    call_itself before (ap (λ (x : Command). is_call before (lane_commanded x (slice_index_or row.numbers k 0) k before row.answer)) (sym at) ∙ call)
+    call_itself before (ap
+    (λ (x : Command). is_call before (lane_commanded x (slice_index_or row.numbers k 0) k before row.answer))
+    (sym at) ∙ call)
 
 -- a row that calls, by what its places do before it
-pub Calls-at : (c : Chart) (seen : List Row) (i : ℕ) (d : Row) (k : ℕ) (lane : Lane) (from : ℕ) → seen ≡ c.rows.items → i < length seen → IsTold c
-    → Follows (opening c.header) c.rows.items i k lane → caller (slice_index_or seen i d) k lane ≡ Some from → Calls c i from k
+pub Calls-at : (c : Chart) (seen : List Row) (i : ℕ) (d : Row) (k : ℕ) (lane : Lane) (from : ℕ) → seen ≡ c.rows.items
+    → i < length seen → IsTold c
+    → Follows (opening c.header) c.rows.items i k lane → caller (slice_index_or seen i d) k lane ≡ Some from
+    → Calls c i from k
 Calls-at c seen i d k lane from seen_is below is_told follows calls =
     let rows : List Row = c.rows.items in
     let row : Row = slice_index_or rows i d in
@@ -154,17 +175,24 @@ Calls-at c seen i d k lane from seen_is below is_told follows calls =
     let inside : i < length rows = subst (λ (l : List Row). i < length l) seen_is below in
     let book : HasBook g = Answered-before (opening c.header) rows i inside is_told.1 in
     let answered : IsAnswered g row = (Answered-at (opening c.header) rows i d inside is_told.1).0 in
-    let row_calls : caller row k lane ≡ Some from = ap (λ (l : List Row). caller (slice_index_or l i d) k lane) (sym seen_is) ∙ calls in
+    let row_calls : caller row k lane ≡ Some from =
+    ap (λ (l : List Row). caller (slice_index_or l i d) k lane) (sym seen_is) ∙ calls in
     let said : lane_said g row.command k ≡ lane_after row k lane =
-    ap (lane_commanded row.command (number_called (history_after g row.command).events k) k (lane_of g k)) (sym answered.0)
-    ∙ ap (λ (n : ℕ). lane_commanded row.command n k (lane_of g k) row.answer) (sym (answered.1 k)) ∙ ap (lane_after row k) (sym follows.does) in
-    let both = calls_inside g row.command k from (ap (λ (l : Lane). caller_commanded row.command l (lane_said g row.command k)) (sym follows.does)
+    ap (lane_commanded row.command (number_called (history_after g row.command).events k) k (lane_of g k))
+    (sym answered.0)
+    ∙ ap (λ (n : ℕ). lane_commanded row.command n k (lane_of g k) row.answer) (sym (answered.1 k))
+    ∙ ap (lane_after row k) (sym follows.does) in
+    let both =
+    calls_inside g row.command k from
+    (ap (λ (l : Lane). caller_commanded row.command l (lane_said g row.command k)) (sym follows.does)
     ∙ ap (caller_commanded row.command lane) said ∙ row_calls) in
     let call : is_call lane (lane_after row k lane) ≡ true =
     ap (is_call lane) (sym said) ∙ ap (λ (l : Lane). is_call l (lane_said g row.command k)) follows.does ∙ both.1 in
     let waits : (e p : ℕ) × (lane ≡ lanes.Waiting e p) = call_waits lane _ call in
-    let called : (e q n : ℕ) × (lane_after row k lane ≡ lanes.Called e q n) = call_calls lane (lane_after row k lane) call in
-    let next = Follows-next (opening c.header) rows rows i k d lane (lane_after row k lane) refl inside is_told.1 refl follows in
+    let called : (e q n : ℕ) × (lane_after row k lane ≡ lanes.Called e q n) =
+    call_calls lane (lane_after row k lane) call in
+    let next =
+    Follows-next (opening c.header) rows rows i k d lane (lane_after row k lane) refl inside is_told.1 refl follows in
     record {
       calls = both.0;
       waited = (
@@ -172,12 +200,20 @@ Calls-at c seen i d k lane from seen_is below is_told follows calls =
         waits.1,
         (Does-by_last book.0 g k (lanes.Waiting waits.0 waits.1) book.1 follows.claimed).1 (sym waits.2 ∙ follows.does),
       );
-      called = (called.0, called.1, called.2, subst (λ (l : Lane). Does (after_rows (opening c.header) (take (i + 1) rows)) k l) called.3 next.1);
+      called = (
+        called.0,
+        called.1,
+        called.2,
+        subst (λ (l : Lane). Does (after_rows (opening c.header) (take (i + 1) rows)) k l)
+            called.3 next.1,
+      );
     }
 
 -- and one that doesn't
-pub LeavesAlone-at : (c : Chart) (seen : List Row) (i : ℕ) (d : Row) (k : ℕ) (lane : Lane) → seen ≡ c.rows.items → i < length seen → IsTold c
-    → Follows (opening c.header) c.rows.items i k lane → caller (slice_index_or seen i d) k lane ≡ None → LeavesAlone c i k
+pub LeavesAlone-at : (c : Chart) (seen : List Row) (i : ℕ) (d : Row) (k : ℕ) (lane : Lane) → seen ≡ c.rows.items
+    → i < length seen → IsTold c
+    → Follows (opening c.header) c.rows.items i k lane → caller (slice_index_or seen i d) k lane ≡ None
+    → LeavesAlone c i k
 LeavesAlone-at c seen i d k lane seen_is below is_told follows calls = λ waits called.
     let rows : List Row = c.rows.items in
     let row : Row = slice_index_or rows i d in
@@ -185,11 +221,17 @@ LeavesAlone-at c seen i d k lane seen_is below is_told follows calls = λ waits 
     let inside : i < length rows = subst (λ (l : List Row). i < length l) seen_is below in
     let book : HasBook g = Answered-before (opening c.header) rows i inside is_told.1 in
     let after : HasBook (history_after g row.command) = (Answered-at (opening c.header) rows i d inside is_told.1).1 in
-    let none : caller row k lane ≡ None = ap (λ (l : List Row). caller (slice_index_or l i d) k lane) (sym seen_is) ∙ calls in
-    let next = Follows-next (opening c.header) rows rows i k d lane (lane_after row k lane) refl inside is_told.1 refl follows in
-    let same : after_rows (opening c.header) (take (i + 1) rows) ≡ history_after g row.command = after_rows-next (opening c.header) rows i d inside in
-    let was : lane ≡ lanes.Waiting waits.0 waits.1 = follows.does ∙ sym (Does-last g k (lanes.Waiting waits.0 waits.1) book.1.legal waits.2) in
+    let none : caller row k lane ≡ None =
+    ap (λ (l : List Row). caller (slice_index_or l i d) k lane) (sym seen_is) ∙ calls in
+    let next =
+    Follows-next (opening c.header) rows rows i k d lane (lane_after row k lane) refl inside is_told.1 refl follows in
+    let same : after_rows (opening c.header) (take (i + 1) rows) ≡ history_after g row.command =
+    after_rows-next (opening c.header) rows i d inside in
+    let was : lane ≡ lanes.Waiting waits.0 waits.1 =
+    follows.does ∙ sym (Does-last g k (lanes.Waiting waits.0 waits.1) book.1.legal waits.2) in
     let is : lane_after row k lane ≡ lanes.Called called.0 called.1 called.2 =
-    next.0.does ∙ sym (Does-last (after_rows (opening c.header) (take (i + 1) rows)) k (lanes.Called called.0 called.1 called.2)
+    next.0.does ∙ sym (Does-last (after_rows (opening c.header) (take (i + 1) rows)) k
+    (lanes.Called called.0 called.1 called.2)
     (subst (λ (x : Log). IsLegal x) (sym same) after.1.legal) called.3) in
-    calls_nobody row.command k lane row refl none (ap (λ (l : Lane). is_call l (lane_after row k lane)) was ∙ ap (is_call (lanes.Waiting waits.0 waits.1)) is)
+    calls_nobody row.command k lane row refl none (ap (λ (l : Lane). is_call l (lane_after row k lane)) was
+    ∙ ap (is_call (lanes.Waiting waits.0 waits.1)) is)

@@ -1,15 +1,19 @@
 -- Each place does one thing in a history that a book is of, and its own last event says which.
-use Rattle.std.proofs.Common.{◌≡◌, ◌==◌, ◌<◌, ◌+◌, ◌↔◌, ◌||◌, not, ℕ, suc, zero, Bool, true, false, cond, eqb-true, eq-eqb, arith}
-use Rattle.std.proofs.Common.{List, [], ◌∷◌, ◌++◌, length, slice_index_or, map, Option, Some, None, refl, ap, sym, ◌∙◌, subst}
+use Rattle.std.proofs.Common.{◌≡◌, ◌==◌, ◌<◌, ◌+◌, ◌↔◌, ◌||◌, not, ℕ, suc, zero, Bool, true, false, cond, eqb-true}
+use Rattle.std.proofs.Common.{eq-eqb, arith}
+use Rattle.std.proofs.Common.{List, [], ◌∷◌, ◌++◌, length, slice_index_or, map, Option, Some, None, refl, ap, sym, ◌∙◌}
+use Rattle.std.proofs.Common.{subst}
 use Rattle.std.specs.Prelude.{All}
 use Rattle.std.specs.List.{filter, list_all, Contains}
 use Rattle.std.proofs.lemmas.Bool.Decides.{nat_tests}
 use Rattle.std.proofs.lemmas.Bool.{not-true}
 use Rattle.std.proofs.lemmas.List.{append-nil}
-use Rattle.std.proofs.lemmas.List.Elements.{All-nil, All-cons, All-head, All-tail, All-same, All-weaker, All-contains, All-contains_itself}
+use Rattle.std.proofs.lemmas.List.Elements.{All-nil, All-cons, All-head, All-tail, All-same, All-weaker, All-contains}
+use Rattle.std.proofs.lemmas.List.Elements.{All-contains_itself}
 use Rattle.hoare_law.specs.declared.event.Event.{Event}
 use Rattle.hoare_law.specs.declared.event.History.{History}
-use Rattle.hoare_law.specs.declared.event.Event.TheVariants.{Admit, Wait, Signal, Pass, Leave, Resume, Back, Notify, Broadcast}
+use Rattle.hoare_law.specs.declared.event.Event.TheVariants.{Admit, Wait, Signal, Pass, Leave, Resume, Back, Notify}
+use Rattle.hoare_law.specs.declared.event.Event.TheVariants.{Broadcast}
 use Rattle.hoare_law.specs.declared.turn.Turn.{Turn}
 use Rattle.hoare_law.specs.declared.turn.Turn.TheVariants.{Free, Held, Owed, Return}
 use Rattle.hoare_law.specs.Events.{place_of, own, newest, with_event}
@@ -42,7 +46,8 @@ Log = History (Unit {0})
 abbrev pub Act : Type 0
 Act = Event (Unit {0})
 
--- what the place of an event does then, by its number among those that were called since: one that waits may be one of them
+-- what the place of an event does then, by its number among those that were called since: one that waits may be one of
+-- them
 abbrev pub lane_by : ℕ → Act → Lane
 lane_by n (Admit k s) = lanes.Inside
 lane_by n (Resume k c s) = lanes.Inside
@@ -80,21 +85,19 @@ record Told (n m : ℕ) (e : Act) : Type 0 where
   out : is_out (Some e) ≡ true → lanes.Outside ≡ lane_by n e
   beside : lane_by n e ≡ lane_beside n (lane_by m e)
 
+never : {X : Type 0} → false ≡ true → X
+never is = absurd (cc)
+
 told : (n m : ℕ) (e : Act) → Told n m e
-told n m (Admit k s) = record { inside = λ is. refl; signals = λ is. absurd (cc); out = λ is. absurd (cc); beside = refl }
-told n m (Resume k c s) = record { inside = λ is. refl; signals = λ is. absurd (cc); out = λ is. absurd (cc); beside = refl }
-told n m (Back k s) = record { inside = λ is. refl; signals = λ is. absurd (cc); out = λ is. absurd (cc); beside = refl }
-told n m (Notify k c w s) = record { inside = λ is. refl; signals = λ is. absurd (cc); out = λ is. absurd (cc); beside = refl }
-told n m (Broadcast k c s) = record { inside = λ is. refl; signals = λ is. absurd (cc); out = λ is. absurd (cc); beside = refl }
-told n m (Signal k c w s) = record { inside = λ is. absurd (cc); signals = λ is. refl; out = λ is. absurd (cc); beside = refl }
-told n m (Pass k c w s) = record { inside = λ is. absurd (cc); signals = λ is. absurd (cc); out = λ is. refl; beside = refl }
-told n m (Leave k s) = record { inside = λ is. absurd (cc); signals = λ is. absurd (cc); out = λ is. refl; beside = refl }
-told n m (Wait k c p s) = record {
-  inside = λ is. absurd (cc);
-  signals = λ is. absurd (cc);
-  out = λ is. absurd (cc);
-  beside = beside_numbered n m c p;
-}
+told n m (Admit k s) = record { inside = λ is. refl; signals = never; out = never; beside = refl }
+told n m (Resume k c s) = record { inside = λ is. refl; signals = never; out = never; beside = refl }
+told n m (Back k s) = record { inside = λ is. refl; signals = never; out = never; beside = refl }
+told n m (Notify k c w s) = record { inside = λ is. refl; signals = never; out = never; beside = refl }
+told n m (Broadcast k c s) = record { inside = λ is. refl; signals = never; out = never; beside = refl }
+told n m (Signal k c w s) = record { inside = never; signals = λ is. refl; out = never; beside = refl }
+told n m (Pass k c w s) = record { inside = never; signals = never; out = λ is. refl; beside = refl }
+told n m (Leave k s) = record { inside = never; signals = never; out = λ is. refl; beside = refl }
+told n m (Wait k c p s) = record { inside = never; signals = never; out = never; beside = beside_numbered n m c p }
 
 pub lane_beside-last : (n m : ℕ) (o : Option Act) → lane_last n o ≡ lane_beside n (lane_last m o)
 lane_beside-last n m None = refl
@@ -122,7 +125,8 @@ pub number_none : (n k : ℕ) (es : List Act) → is_among k es ≡ false → nu
 number_none n k [] is = refl
 number_none n k (e ∷ es) is = by (place_of e == k) is (number_none (n + 1) k es)
   where
-    by : (t : Bool) → (t || is_among k es) ≡ false → (is_among k es ≡ false → number_from (n + 1) k (map place_of es) ≡ 0)
+    by : (t : Bool) → (t || is_among k es) ≡ false
+        → (is_among k es ≡ false → number_from (n + 1) k (map place_of es) ≡ 0)
         → cond t (n + 1) (number_from (n + 1) k (map place_of es)) ≡ 0
     by true off rest = absurd (cc)
     by false off rest = rest off
@@ -131,7 +135,8 @@ pub number_some : (n k : ℕ) (es : List Act) → is_among k es ≡ true → (nu
 number_some n k [] is = absurd (cc)
 number_some n k (e ∷ es) is = by (place_of e == k) is (number_some (n + 1) k es)
   where
-    by : (t : Bool) → (t || is_among k es) ≡ true → (is_among k es ≡ true → (number_from (n + 1) k (map place_of es) == 0) ≡ false)
+    by : (t : Bool) → (t || is_among k es) ≡ true
+        → (is_among k es ≡ true → (number_from (n + 1) k (map place_of es) == 0) ≡ false)
         → (cond t (n + 1) (number_from (n + 1) k (map place_of es)) == 0) ≡ false
     by true on rest = grind (arith, nat_tests)
     by false on rest = rest on
@@ -168,11 +173,13 @@ is_among-less j k (x ∷ xs) is = by (place_of x == k) refl is (is_among-less j 
     by false e off rest = kept (not (j == place_of x)) e (rest off)
 
 -- an event that calls nobody
-pub uncalled-push : (h : Log) (e : Act) (k : ℕ) → called_by h.events e ≡ [] → is_among k (others (place_of e) (called h.events)) ≡ false
+pub uncalled-push : (h : Log) (e : Act) (k : ℕ) → called_by h.events e ≡ []
+    → is_among k (others (place_of e) (called h.events)) ≡ false
     → is_among k (called (with_event h e).events) ≡ false
 unfolding with_event
 uncalled-push h e k nobody off =
-    ap (is_among k) (called-push h.events e ∙ ap (λ (es : List Act). others (place_of e) (called h.events) ++ es) nobody ∙ append-nil _)
+    ap (is_among k) (called-push h.events e
+    ∙ ap (λ (es : List Act). others (place_of e) (called h.events) ++ es) nobody ∙ append-nil _)
     ∙ off
 
 -- whatever a place does, its own last event says it, and whether it is called
@@ -187,9 +194,11 @@ all_pass p [] is = All-nil (λ x. p x ≡ true)
 all_pass p (x ∷ xs) is = let b = both_true _ _ is in All-cons (λ y. p y ≡ true) x xs b.0 (all_pass p xs b.1)
 
 -- a place is among those of which one has it
-among_at : (k : ℕ) (e : Act) (es : List Act) (i : ℕ) → place_of e ≡ k → i < length es → slice_index_or es i e ≡ e → is_among k es ≡ true
+among_at : (k : ℕ) (e : Act) (es : List Act) (i : ℕ) → place_of e ≡ k → i < length es → slice_index_or es i e ≡ e
+    → is_among k es ≡ true
 among_at k e [] i mine below at = absurd (omega (arith, below))
-among_at k e (x ∷ es) zero mine below at = ap (λ (b : Bool). b || is_among k es) (eq-eqb (place_of x) k (ap place_of at ∙ mine))
+among_at k e (x ∷ es) zero mine below at =
+    ap (λ (b : Bool). b || is_among k es) (eq-eqb (place_of x) k (ap place_of at ∙ mine))
 among_at k e (x ∷ es) (suc i) mine below at = by (place_of x == k) (among_at k e es i mine (omega (arith, below)) at)
   where
     by : (t : Bool) → is_among k es ≡ true → (t || is_among k es) ≡ true
@@ -207,7 +216,8 @@ among_none k (x ∷ es) all =
     ∙ among_none k es (All-tail (λ y. (place_of y == k) ≡ false) x es all)
 
 -- who waits isn't called
-waits_uncalled : (h : Log) (k c p : ℕ) → IsLegal h → Contains (waiting c h.events) (Wait k c p tt) → is_among k (called h.events) ≡ false
+waits_uncalled : (h : Log) (k c p : ℕ) → IsLegal h → Contains (waiting c h.events) (Wait k c p tt)
+    → is_among k (called h.events) ≡ false
 waits_uncalled h k c p legal d = among_none k (called h.events)
     (All-weaker (IsCalled h) (λ x. (place_of x == k) ≡ false) apart (called h.events) (All-called h legal))
   where
@@ -237,8 +247,10 @@ Does-last h k lanes.Signalling legal d =
     (told (number_called h.events k) 0 r.0).signals r.2 ∙ ap (lane_last (number_called h.events k)) (sym r.1)
 Does-last h k (lanes.Called c p m) legal d =
     let n : ℕ = number_called h.events k in
-    let w : IsCalled h (Wait k c p tt) = All-contains (IsCalled h) (called h.events) (Wait k c p tt) (All-called h legal) d.0 in
-    let some : (n == 0) ≡ false = number_some 0 k (called h.events) (among_these k (Wait k c p tt) (called h.events) refl d.0) in
+    let w : IsCalled h (Wait k c p tt) =
+    All-contains (IsCalled h) (called h.events) (Wait k c p tt) (All-called h legal) d.0 in
+    let some : (n == 0) ≡ false =
+    number_some 0 k (called h.events) (among_these k (Wait k c p tt) (called h.events) refl d.0) in
     ap (λ (i : ℕ). lanes.Called c p i) d.1
     ∙ sym (ap (λ (b : Bool). cond b (lanes.Waiting c p) (lanes.Called c p n)) some) ∙ ap (lane_last n) (sym w.last)
 
@@ -248,23 +260,34 @@ some_of : (n : ℕ) → (n == 0) ≡ false → 0 < n
 some_of n is = grind (arith, nat_tests)
 
 -- a place that stands among those who wait, with what holds of them on each condition
-among_waiters : (P : ℕ → Act → Type 0) (k : ℕ) (ws : List Waiter) → ((c : ℕ) → All (P c) (map wait_of (filter (on c) ws))) → 0 < times k (places ws)
+among_waiters : (P : ℕ → Act → Type 0) (k : ℕ) (ws : List Waiter)
+    → ((c : ℕ) → All (P c) (map wait_of (filter (on c) ws))) → 0 < times k (places ws)
     → (w : Waiter) × (w.place ≡ k) × P w.condition (wait_of w)
 among_waiters P k [] all some = absurd (omega (arith, some))
 among_waiters P k (w ∷ ws) all some =
-    by (k == w.place) refl (λ is. among_waiters P k ws (λ c. others (on c w) c (all c)) (omega (arith, some, one_apart k w.place is)))
+    by (k == w.place) refl
+    (λ is. among_waiters P k ws (λ c. others (on c w) c (all c)) (omega (arith, some, one_apart k w.place is)))
   where
     first : (t : Bool) → (w.condition == w.condition) ≡ t → t ≡ true
-        → All (P w.condition) (map wait_of (cond t (w ∷ filter (on w.condition) ws) (filter (on w.condition) ws))) → P w.condition (wait_of w)
+        → All (P w.condition) (map wait_of (cond t (w ∷ filter (on w.condition) ws) (filter (on w.condition) ws)))
+        → P w.condition (wait_of w)
     first true is e a = All-head (P w.condition) (wait_of w) (map wait_of (filter (on w.condition) ws)) a
     first false is e a = absurd (cc)
 
-    others : (t : Bool) (c : ℕ) → All (P c) (map wait_of (cond t (w ∷ filter (on c) ws) (filter (on c) ws))) → All (P c) (map wait_of (filter (on c) ws))
+    others : (t : Bool) (c : ℕ) → All (P c) (map wait_of (cond t (w ∷ filter (on c) ws) (filter (on c) ws)))
+        → All (P c) (map wait_of (filter (on c) ws))
     others true c a = All-tail (P c) (wait_of w) (map wait_of (filter (on c) ws)) a
     others false c a = a
 
-    by : (t : Bool) → (k == w.place) ≡ t → ((k == w.place) ≡ false → (v : Waiter) × (v.place ≡ k) × P v.condition (wait_of v)) → (v : Waiter) × (v.place ≡ k) × P v.condition (wait_of v)
-    by true is later = (w, sym (eqb-true k w.place is), first (w.condition == w.condition) refl (eq_self w.condition) (all w.condition))
+    by : (t : Bool) → (k == w.place) ≡ t
+        → ((k == w.place) ≡ false → (v : Waiter) × (v.place ≡ k) × P v.condition (wait_of v))
+        → (v : Waiter) × (v.place ≡ k) × P v.condition (wait_of v)
+    by true is later = (
+      w,
+      sym (eqb-true k w.place is),
+      first (w.condition == w.condition) refl (eq_self w.condition)
+          (all w.condition),
+    )
     by false is later = later is
 
 among : (k : ℕ) (us : List ℕ) → 0 < times k us → Contains us k
@@ -276,18 +299,22 @@ among k (u ∷ us) some = by (k == u) refl (λ is. among k us (omega (arith, som
     by false is later = let r : Contains us k = later is in (suc r.0, omega (arith, r.1), r.2)
 
 -- a place that stands among those called
-among_called : (k : ℕ) (ws : List Waiter) → 0 < times k (places ws) → (w : Waiter) × (w.place ≡ k) × Contains (map wait_of ws) (wait_of w)
+among_called : (k : ℕ) (ws : List Waiter) → 0 < times k (places ws)
+    → (w : Waiter) × (w.place ≡ k) × Contains (map wait_of ws) (wait_of w)
 among_called k [] some = absurd (omega (arith, some))
-among_called k (w ∷ ws) some = by (k == w.place) refl (λ is. among_called k ws (omega (arith, some, one_apart k w.place is)))
+among_called k (w ∷ ws) some =
+    by (k == w.place) refl (λ is. among_called k ws (omega (arith, some, one_apart k w.place is)))
   where
-    by : (t : Bool) → (k == w.place) ≡ t → ((k == w.place) ≡ false → (v : Waiter) × (v.place ≡ k) × Contains (map wait_of ws) (wait_of v))
+    by : (t : Bool) → (k == w.place) ≡ t
+        → ((k == w.place) ≡ false → (v : Waiter) × (v.place ≡ k) × Contains (map wait_of ws) (wait_of v))
         → (v : Waiter) × (v.place ≡ k) × Contains (map wait_of (w ∷ ws)) (wait_of v)
     by true is later = (w, sym (eqb-true k w.place is), (0, omega arith, refl))
     by false is later =
         let r : (v : Waiter) × (v.place ≡ k) × Contains (map wait_of ws) (wait_of v) = later is in
         (r.0, r.1, (suc r.2.0, omega (arith, r.2.1), r.2.2))
 
-in_hand : (h : Log) (k m : ℕ) (t : Turn) → turn h.events ≡ t → IsClaimed t → 0 < times_in_hand k m t → turn h.events ≡ Held k
+in_hand : (h : Log) (k m : ℕ) (t : Turn) → turn h.events ≡ t → IsClaimed t → 0 < times_in_hand k m t
+    → turn h.events ≡ Held k
 in_hand h k m Free is claimed some = absurd (omega (arith, some))
 in_hand h k m (Held j) is claimed some = by (k == j) refl
   where
@@ -301,11 +328,16 @@ in_hand h k m (Return j) is claimed some = absurd claimed
 Does-something : (b : Contents) (h : Log) (k : ℕ) → IsOf b h → IsClaimed (turn h.events) → (lane : Lane) × Does h k lane
 Does-something b h k o claimed = by (outside k h.events) refl
   where
-    by_turn : times k (places b.waiters) ≡ 0 → times k b.signallers ≡ 0 → times k (places b.called) ≡ 0 → 0 < times_in k b → (lane : Lane) × Does h k lane
-    by_turn n m l some =
-        (lanes.Inside, in_hand h k (hoare_of b) (turn h.events) refl claimed (omega (arith, n, m, l, some, ap (times_in_hand k (hoare_of b)) o.turn_is)))
+    by_turn : times k (places b.waiters) ≡ 0 → times k b.signallers ≡ 0 → times k (places b.called) ≡ 0
+        → 0 < times_in k b → (lane : Lane) × Does h k lane
+    by_turn n m l some = (
+      lanes.Inside,
+      in_hand h k (hoare_of b) (turn h.events) refl claimed
+          (omega (arith, n, m, l, some, ap (times_in_hand k (hoare_of b)) o.turn_is)),
+    )
 
-    by_call : (t : Bool) → (times k (places b.called) == 0) ≡ t → times k (places b.waiters) ≡ 0 → times k b.signallers ≡ 0 → 0 < times_in k b → (lane : Lane) × Does h k lane
+    by_call : (t : Bool) → (times k (places b.called) == 0) ≡ t → times k (places b.waiters) ≡ 0
+        → times k b.signallers ≡ 0 → 0 < times_in k b → (lane : Lane) × Does h k lane
     by_call true l n m some = by_turn n m (eqb-true (times k (places b.called)) 0 l) some
     by_call false l n m some =
         let r : (w : Waiter) × (w.place ≡ k) × Contains (map wait_of b.called) (wait_of w) =
@@ -318,27 +350,40 @@ Does-something b h k o claimed = by (outside k h.events) refl
           ),
         )
 
-    by_signal : (t : Bool) → (times k b.signallers == 0) ≡ t → times k (places b.waiters) ≡ 0 → 0 < times_in k b → (lane : Lane) × Does h k lane
+    by_signal : (t : Bool) → (times k b.signallers == 0) ≡ t → times k (places b.waiters) ≡ 0 → 0 < times_in k b
+        → (lane : Lane) × Does h k lane
     by_signal true m n some = by_call (times k (places b.called) == 0) refl n (eqb-true (times k b.signallers) 0 m) some
-    by_signal false m n some = (lanes.Signalling, subst (λ (us : List ℕ). Contains us k) (sym o.signallers) (among k b.signallers (some_of (times k b.signallers) m)))
+    by_signal false m n some = (
+      lanes.Signalling,
+      subst (λ (us : List ℕ). Contains us k) (sym o.signallers)
+          (among k b.signallers (some_of (times k b.signallers) m)),
+    )
 
     ordered : (c : ℕ) → All (Contains (waiting c h.events)) (map wait_of (filter (on c) b.waiters))
-    ordered c = All-same (Contains (waiting c h.events)) (map wait_of (filter (on c) b.waiters)) (in_order priority_of (waiting c h.events)) (o.waiters c)
-        (All-in_order priority_of (Contains (waiting c h.events)) (waiting c h.events) (All-contains_itself (waiting c h.events)))
+    ordered c =
+        All-same (Contains (waiting c h.events)) (map wait_of (filter (on c) b.waiters))
+        (in_order priority_of (waiting c h.events)) (o.waiters c)
+        (All-in_order priority_of (Contains (waiting c h.events)) (waiting c h.events)
+        (All-contains_itself (waiting c h.events)))
 
     by_wait : (t : Bool) → (times k (places b.waiters) == 0) ≡ t → 0 < times_in k b → (lane : Lane) × Does h k lane
     by_wait true n some = by_signal (times k b.signallers == 0) refl (eqb-true (times k (places b.waiters)) 0 n) some
     by_wait false n some =
         let r : (w : Waiter) × (w.place ≡ k) × Contains (waiting w.condition h.events) (wait_of w) =
-        among_waiters (λ c. Contains (waiting c h.events)) k b.waiters ordered (some_of (times k (places b.waiters)) n) in
-        (lanes.Waiting r.0.condition r.0.priority, subst (λ (j : ℕ). Contains (waiting r.0.condition h.events) (Wait j r.0.condition r.0.priority tt)) r.1 r.2)
+        among_waiters (λ c. Contains (waiting c h.events)) k b.waiters ordered
+        (some_of (times k (places b.waiters)) n) in (
+          lanes.Waiting r.0.condition r.0.priority,
+          subst (λ (j : ℕ). Contains (waiting r.0.condition h.events) (Wait j r.0.condition r.0.priority tt))
+              r.1 r.2,
+        )
 
     by : (t : Bool) → outside k h.events ≡ t → (lane : Lane) × Does h k lane
     by true is = (lanes.Outside, is)
     by false is = by_wait (times k (places b.waiters) == 0) refl (some_of (times_in k b) (sym (o.outside_are k) ∙ is))
 
 -- and nothing but what its own last event says
-pub Does-by_last : (b : Contents) (h : Log) (k : ℕ) (lane : Lane) → IsOf b h → IsClaimed (turn h.events) → Does h k lane ↔ (lane ≡ lane_of h k)
+pub Does-by_last : (b : Contents) (h : Log) (k : ℕ) (lane : Lane) → IsOf b h → IsClaimed (turn h.events)
+    → Does h k lane ↔ (lane ≡ lane_of h k)
 Does-by_last b h k lane o claimed = (
   Does-last h k lane o.legal,
   λ same.

@@ -23,13 +23,15 @@ pub few_places : (n m q : ℕ) → make_refusal n m q ≡ None → n ≤ 64
 few_places n m q is = by (leb 1 n) (leb n 64) refl is
   where
     by : (a b : Bool) → leb n 64 ≡ b
-        → cond (a && b) (cond (leb 1 m && (leb m 8 && leb q m)) None (Some BadConditions)) (Some BadPlaces) ≡ None → n ≤ 64
+        → cond (a && b) (cond (leb 1 m && (leb m 8 && leb q m)) None (Some BadConditions)) (Some BadPlaces) ≡ None
+        → n ≤ 64
     by true true e x = grind (arith, nat_tests)
     by true false e x = absurd (cc)
     by false b e x = absurd (cc)
 
 -- what a book answers, as one more row
-pub answered_row : (h : Log) (rows : List Row) (old new : Contents) (command : Command) (answer : Answer) (numbers : List ℕ) → h.places ≤ 64
+pub answered_row : (h : Log) (rows : List Row) (old new : Contents) (command : Command) (answer : Answer)
+    (numbers : List ℕ) → h.places ≤ 64
     → ((g : Log) → IsOf old g → (answer ≡ answer_to g command) × IsOf new (history_after g command))
     → ((g : Log) → IsOf new g → g.places ≤ 64 → (k : ℕ) → slice_index_or numbers k 0 ≡ number_called g.events k)
     → Answered h rows → IsOf old (after_rows h rows)
@@ -50,7 +52,8 @@ answered_row h rows old new command answer numbers few told numbered answered of
     places-rows f (r ∷ rs) = places-rows (history_after f r.command) rs ∙ places-after f r.command
 
 -- a place beyond the last has no number, and so stands in no list of them
-pub number-beyond : (b : Contents) (h : Log) (numbers : List ℕ) (k : ℕ) → IsOf b h → h.places ≤ 64 → length numbers ≡ 64 → 64 ≤ k
+pub number-beyond : (b : Contents) (h : Log) (numbers : List ℕ) (k : ℕ) → IsOf b h → h.places ≤ 64
+    → length numbers ≡ 64 → 64 ≤ k
     → slice_index_or numbers k 0 ≡ number_called h.events k
 number-beyond b h numbers k o few long beyond =
     get_or_past numbers k 0 (omega (arith, long, beyond))
@@ -64,7 +67,8 @@ number-beyond b h numbers k o few long beyond =
 pub front_self : (xs : List Row) → IsInFront xs xs
 front_self xs = ([], sym (append-nil xs))
 
-pub front_more : (first old new : List Row) (command : Option Command) → IsInFront first old → IsRowMore command old new → IsInFront first new
+pub front_more : (first old new : List Row) (command : Option Command) → IsInFront first old
+    → IsRowMore command old new → IsInFront first new
 front_more first old new None front row = absurd row
 front_more first old new (Some c) front row =
     let one : List Row = record { command = c; answer = row.0; numbers = row.1 } ∷ [] in

@@ -3,7 +3,8 @@ use Rattle.std.proofs.Common.{◌≡◌, ◌==◌, ◌||◌, ◌<◌, ◌↔◌,
 use Rattle.std.specs.Prelude.{All}
 use Rattle.std.specs.List.{refill, Contains}
 use Rattle.std.specs.Option.{option_map}
-use Rattle.std.proofs.Common.{suc, zero, ◌+◌, add-one, arith, take, drop, List, [], ◌∷◌, ◌++◌, length, slice_index_or, Option, Some, None, refl, ap, sym, ◌∙◌, subst}
+use Rattle.std.proofs.Common.{suc, zero, ◌+◌, add-one, arith, take, drop, List, [], ◌∷◌, ◌++◌, length, slice_index_or}
+use Rattle.std.proofs.Common.{Option, Some, None, refl, ap, sym, ◌∙◌, subst}
 use Rattle.hoare_law.specs.declared.event.Event.TheVariants as event
 use Rattle.hoare_law.specs.declared.turn.Turn.{Turn}
 use Rattle.hoare_law.specs.declared.turn.Turn.TheVariants.{Free, Held, Owed, Return}
@@ -18,7 +19,8 @@ use Rattle.wait_book.specs.declared.steps.Step.{Step}
 use Rattle.wait_book.specs.declared.steps.Step.TheVariants.{Enter, Wait, Signal, Pass, Leave, Notify, Broadcast}
 use Rattle.wait_book.specs.declared.steps.StepRefused.{StepRefused}
 use Rattle.wait_book.specs.declared.steps.StepRefused.TheVariants.{NoPlace, NotInside}
-use Rattle.wait_book.specs.Stepping.{is_held_by, kind_refusal, refusal_of, after_signal, after_pass, after_notify, after_broadcast, after_claim, settled, after_step}
+use Rattle.wait_book.specs.Stepping.{is_held_by, kind_refusal, refusal_of, after_signal, after_pass, after_notify}
+use Rattle.wait_book.specs.Stepping.{after_broadcast, after_claim, settled, after_step}
 use Rattle.wait_book.specs.Numbers.{number_called}
 use Rattle.wait_book.proofs.Histories.{IsOf-opened}
 use Rattle.hoare_script.specs.Answers.{turn_answer, step_answer, history_by, answer_to, history_after}
@@ -27,17 +29,21 @@ use Rattle.hoare_script.specs.declared.lines.Command.TheVariants.{Do, Queue, Fir
 use Rattle.script_picture.specs.declared.chart.Lane.{Lane}
 use Rattle.script_picture.specs.declared.chart.Lane.TheVariants as lanes
 use Rattle.script_picture.specs.declared.chart.Row.{Row}
-use Rattle.script_picture.specs.Lanes.{actor, left_as, lane_numbered, lane_beside, lane_left, lane_answered, lane_commanded, lane_after}
-use Rattle.script_picture.specs.Shown.{Does, DoesDuring, IsClaimed, Shows, HasBook, IsAnswered, Answered, IsShownAfter, after_rows, opening}
+use Rattle.script_picture.specs.Lanes.{actor, left_as, lane_numbered, lane_beside, lane_left, lane_answered}
+use Rattle.script_picture.specs.Lanes.{lane_commanded, lane_after}
+use Rattle.script_picture.specs.Shown.{Does, DoesDuring, IsClaimed, Shows, HasBook, IsAnswered, Answered, IsShownAfter}
+use Rattle.script_picture.specs.Shown.{after_rows, opening}
 use Rattle.script_picture.specs.declared.chart.Chart.{Chart}
 use Rattle.hoare_script.specs.declared.lines.Header.{Header}
 use Rattle.std.proofs.lemmas.Bool.{cases_lt}
 use Rattle.std.proofs.lemmas.List.Elements.{All-head, All-tail}
 use Rattle.script_picture.proofs.Does.{Log, Act, lane_by, lane_as, lane_of, lane_beside-last, lane_as-push}
-use Rattle.script_picture.proofs.Does.{is_among, is_among-own, is_among-less, number_none, uncalled-push, inside_last, Does-last, Does-by_last}
+use Rattle.script_picture.proofs.Does.{is_among, is_among-own, is_among-less, number_none, uncalled-push, inside_last}
+use Rattle.script_picture.proofs.Does.{Does-last, Does-by_last}
 
 -- the turn after one more event
-pub turn-with : (h : Log) (e : Act) → turn (with_event h e).events ≡ turn_by e (urgent (with_event h e).events) (called (with_event h e).events)
+pub turn-with : (h : Log) (e : Act)
+    → turn (with_event h e).events ≡ turn_by e (urgent (with_event h e).events) (called (with_event h e).events)
 unfolding with_event
 turn-with h e = turn-push h.events e
 
@@ -82,14 +88,18 @@ given_by (event.Signal k c w s) us ws is = tt
 given_by (event.Pass k c w s) us ws is = tt
 
 given_up : (h : Log) (e : Act) → is_inside e ≡ false → IsGivenUp (turn (with_event h e).events)
-given_up h e is = subst IsGivenUp (sym (turn-with h e)) (given_by e (urgent (with_event h e).events) (called (with_event h e).events) is)
+given_up h e is =
+    subst IsGivenUp (sym (turn-with h e))
+    (given_by e (urgent (with_event h e).events) (called (with_event h e).events) is)
 
--- what place k does after a step by which h happened, is what the step, its answer and the number of k among the called say
+-- what place k does after a step by which h happened, is what the step, its answer and the number of k among the
+-- called say
 abbrev IsLane : Log → Step → ℕ → Lane → Type 0
 IsLane h s k before = lane_of h k ≡ lane_answered s (number_called h.events k) k before (turn_answer (turn h.events))
 
 -- where a step left its place as it does, the one that then goes on is inside
-left_claim : (n : ℕ) (h : Log) (s : Step) (k : ℕ) (before : Lane) (t : Turn) → IsGivenUp t → lane_as n h k ≡ lane_left s n k before
+left_claim : (n : ℕ) (h : Log) (s : Step) (k : ℕ) (before : Lane) (t : Turn) → IsGivenUp t
+    → lane_as n h k ≡ lane_left s n k before
     → lane_as n (after_claim h t) k ≡ lane_answered s n k before (turn_answer (claimed_turn t))
 left_claim n h s k before Free g l = l
 left_claim n h s k before (Held j) g l = absurd g
@@ -106,7 +116,8 @@ left_by h s e k is same own_is =
     let g : Log = with_event h e in
     let n : ℕ = number_called (settled g).events k in
     left_claim n g s k (lane_of h k) (turn g.events) (given_up h e is)
-    (lane_as-push n h e k ∙ ap (λ (j : ℕ). cond (j == k) (lane_by n e) (lane_as n h k)) same ∙ by n (actor s == k) own_is)
+    (lane_as-push n h e k ∙ ap (λ (j : ℕ). cond (j == k) (lane_by n e) (lane_as n h k)) same
+    ∙ by n (actor s == k) own_is)
     ∙ ap (λ (t : Turn). lane_answered s n k (lane_of h k) (turn_answer t)) (sym (turn-claim g (turn g.events) refl))
   where
     by : (n : ℕ) (t : Bool) → (t ≡ true → lane_by n e ≡ left_as s)
@@ -141,7 +152,8 @@ stays_so h s k held =
 
 -- who acts has the turn
 
-pub held_test : (a b : Bool) (further : Option StepRefused) → cond a (cond b further (Some NotInside)) (Some NoPlace) ≡ None → b ≡ true
+pub held_test : (a b : Bool) (further : Option StepRefused)
+    → cond a (cond b further (Some NotInside)) (Some NoPlace) ≡ None → b ≡ true
 held_test true true further is = refl
 held_test true false further is = absurd (cc)
 held_test false b further is = absurd (cc)
@@ -153,7 +165,8 @@ held_is j (Owed i c) is = absurd (cc)
 held_is j (Return i) is = absurd (cc)
 
 -- a place that isn't called is not when the next one goes on
-uncalled_claim : (h : Log) (k : ℕ) (t : Turn) → is_among k (called h.events) ≡ false → is_among k (called (after_claim h t).events) ≡ false
+uncalled_claim : (h : Log) (k : ℕ) (t : Turn) → is_among k (called h.events) ≡ false
+    → is_among k (called (after_claim h t).events) ≡ false
 uncalled_claim h k Free off = off
 uncalled_claim h k (Held j) off = off
 uncalled_claim h k (Owed j c) off =
@@ -162,7 +175,8 @@ uncalled_claim h k (Return j) off = uncalled-push h (event.Back j tt) k refl (is
 
 -- nor is one that begins to wait
 waits_as : (h : Log) (j c p k : ℕ) → (j == k) ≡ true
-    → lane_by (number_called (settled (with_event h (event.Wait j c p tt))).events k) (event.Wait j c p tt) ≡ lanes.Waiting c p
+    → lane_by (number_called (settled (with_event h (event.Wait j c p tt))).events k) (event.Wait j c p tt)
+    ≡ lanes.Waiting c p
 waits_as h j c p k is =
     let g : Log = with_event h (event.Wait j c p tt) in
     ap (λ (n : ℕ). lane_numbered n c p) (number_none 0 k (called (settled g).events) (uncalled_claim g k (turn g.events)
@@ -179,7 +193,9 @@ stepped h (Signal j c) k r = by (chosen c h.events)
     held = held_is j (turn h.events) (held_test _ _ (kind_refusal h false c) r)
 
     by : (o : Option Act) → IsLane (settled (after_signal h j c o)) (Signal j c) k (lane_of h k)
-    by None = subst (λ (t : Turn). IsLane (after_claim h t) (Signal j c) k (lane_of h k)) (sym held) (stays_so h (Signal j c) k held)
+    by None =
+        subst (λ (t : Turn). IsLane (after_claim h t) (Signal j c) k (lane_of h k)) (sym held)
+        (stays_so h (Signal j c) k held)
     by (Some e) = left_by h (Signal j c) (event.Signal j c (place_of e) tt) k refl refl (λ is. refl)
 stepped h (Pass j c) k r = by (chosen c h.events)
   where
@@ -199,12 +215,14 @@ stepped h (Broadcast j c) k r = by (waiting c h.events)
 
 -- what a command makes of a place, by its answer and by the place's number among those that are called then
 pub lane_of-after : (h : Log) (c : Command) (k : ℕ)
-    → lane_of (history_after h c) k ≡ lane_commanded c (number_called (history_after h c).events k) k (lane_of h k) (answer_to h c)
+    → lane_of (history_after h c) k
+    ≡ lane_commanded c (number_called (history_after h c).events k) k (lane_of h k) (answer_to h c)
 unfolding history_after answer_to
 lane_of-after h (Do s) k = by (refusal_of h s) refl
   where
     by : (o : Option StepRefused) → refusal_of h s ≡ o
-        → lane_of (history_by h s o) k ≡ lane_answered s (number_called (history_by h s o).events k) k (lane_of h k) (step_answer h s o)
+        → lane_of (history_by h s o) k
+        ≡ lane_answered s (number_called (history_by h s o).events k) k (lane_of h k) (step_answer h s o)
     by None is = stepped h s k is
     by (Some r) is = refl
 lane_of-after h (Queue c) k = refl
@@ -249,18 +267,23 @@ places-claim h (Return j) = refl
 places-step : (h : Log) (s : Step) → (after_step h s).places ≡ h.places
 unfolding with_event
 places-step h (Enter j) = refl
-places-step h (Wait j c p) = places-claim (with_event h (event.Wait j c p tt)) (turn (with_event h (event.Wait j c p tt)).events)
+places-step h (Wait j c p) =
+    places-claim (with_event h (event.Wait j c p tt)) (turn (with_event h (event.Wait j c p tt)).events)
 places-step h (Leave j) = places-claim (with_event h (event.Leave j tt)) (turn (with_event h (event.Leave j tt)).events)
 places-step h (Signal j c) = by (chosen c h.events)
   where
     by : (o : Option Act) → (settled (after_signal h j c o)).places ≡ h.places
     by None = places-claim h (turn h.events)
-    by (Some e) = places-claim (with_event h (event.Signal j c (place_of e) tt)) (turn (with_event h (event.Signal j c (place_of e) tt)).events)
+    by (Some e) =
+        places-claim (with_event h (event.Signal j c (place_of e) tt))
+        (turn (with_event h (event.Signal j c (place_of e) tt)).events)
 places-step h (Pass j c) = by (chosen c h.events)
   where
     by : (o : Option Act) → (settled (after_pass h j c o)).places ≡ h.places
     by None = places-claim (with_event h (event.Leave j tt)) (turn (with_event h (event.Leave j tt)).events)
-    by (Some e) = places-claim (with_event h (event.Pass j c (place_of e) tt)) (turn (with_event h (event.Pass j c (place_of e) tt)).events)
+    by (Some e) =
+        places-claim (with_event h (event.Pass j c (place_of e) tt))
+        (turn (with_event h (event.Pass j c (place_of e) tt)).events)
 places-step h (Notify j c) = by (chosen c h.events)
   where
     by : (o : Option Act) → (after_notify h j c o).places ≡ h.places
@@ -283,7 +306,8 @@ places-after h (Queue c) = refl
 places-after h (First c) = refl
 
 -- what a row that is answered as the history says makes of a place
-pub answered_lane : (h : Log) (row : Row) (k : ℕ) → IsAnswered h row → lane_after row k (lane_of h k) ≡ lane_of (history_after h row.command) k
+pub answered_lane : (h : Log) (row : Row) (k : ℕ) → IsAnswered h row
+    → lane_after row k (lane_of h k) ≡ lane_of (history_after h row.command) k
 answered_lane h row k answered =
     ap (λ (n : ℕ). lane_commanded row.command n k (lane_of h k) row.answer) (answered.1 k)
     ∙ ap (lane_commanded row.command (number_called (history_after h row.command).events k) k (lane_of h k)) answered.0
@@ -291,7 +315,8 @@ answered_lane h row k answered =
 
 -- lanes that are taken past a row show the history after it
 pub Shows-after : (h : Log) (row : Row) (old new : List Lane) → length new ≡ length old
-    → ((k : ℕ) → k < length old → slice_index_or new k lanes.Outside ≡ lane_after row k (slice_index_or old k lanes.Outside))
+    → ((k : ℕ) → k < length old
+    → slice_index_or new k lanes.Outside ≡ lane_after row k (slice_index_or old k lanes.Outside))
     → HasBook (history_after h row.command) → IsAnswered h row → Shows h old → Shows (history_after h row.command) new
 Shows-after h row old new long each book answered shows = record {
   legal = book.1.legal;
@@ -300,22 +325,26 @@ Shows-after h row old new long each book answered shows = record {
   each = λ k below lane.
       let inside : k < h.places = subst (λ (n : ℕ). k < n) (places-after h row.command) below in
       let was : slice_index_or old k lanes.Outside ≡ lane_of h k =
-      Does-last h k (slice_index_or old k lanes.Outside) shows.legal ((shows.each k inside (slice_index_or old k lanes.Outside)).1 refl) in
+      Does-last h k (slice_index_or old k lanes.Outside) shows.legal
+      ((shows.each k inside (slice_index_or old k lanes.Outside)).1 refl) in
       let is : slice_index_or new k lanes.Outside ≡ lane_of (history_after h row.command) k =
-      each k (subst (λ (n : ℕ). k < n) (sym shows.places) inside) ∙ ap (lane_after row k) was ∙ answered_lane h row k answered in
+      each k (subst (λ (n : ℕ). k < n) (sym shows.places) inside) ∙ ap (lane_after row k) was
+      ∙ answered_lane h row k answered in
       let one : Does (history_after h row.command) k lane ↔ (lane ≡ lane_of (history_after h row.command) k) =
       Does-by_last book.0 (history_after h row.command) k lane book.1 (claimed-after h row.command shows.claimed) in
       (λ d. one.0 d ∙ sym is, λ e. one.1 (e ∙ is));
 }
 
 -- all lanes are outside where nothing happened
-pub Shows-opened : (n m q : ℕ) (drawn : List Lane) → length drawn ≡ n → ((k : ℕ) → slice_index_or drawn k lanes.Outside ≡ lanes.Outside) → Shows (opened n m q tt) drawn
+pub Shows-opened : (n m q : ℕ) (drawn : List Lane) → length drawn ≡ n
+    → ((k : ℕ) → slice_index_or drawn k lanes.Outside ≡ lanes.Outside) → Shows (opened n m q tt) drawn
 Shows-opened n m q drawn long out = record {
   legal = (IsOf-opened n m q 0 0).legal;
   claimed = nobody;
   places = long;
   each = λ k below lane.
-      let one : Does (opened n m q tt) k lane ↔ (lane ≡ lane_of (opened n m q tt) k) = Does-by_last _ (opened n m q tt) k lane (IsOf-opened n m q 0 0) nobody in
+      let one : Does (opened n m q tt) k lane ↔ (lane ≡ lane_of (opened n m q tt) k) =
+      Does-by_last _ (opened n m q tt) k lane (IsOf-opened n m q 0 0) nobody in
       (λ d. one.0 d ∙ sym (out k ∙ outside_first k), λ e. one.1 (e ∙ (out k ∙ outside_first k)));
 }
   where
@@ -331,7 +360,8 @@ pub Answered-push : (h : Log) (rows : List Row) (row : Row) → Answered h rows 
 Answered-push h [] row a is book = (a, is, book)
 Answered-push h (r ∷ rows) row a is book = (a.0, a.1, Answered-push (history_after h r.command) rows row a.2 is book)
 
-pub after_rows-push : (h : Log) (rows : List Row) (row : Row) → after_rows h (rows ++ row ∷ []) ≡ history_after (after_rows h rows) row.command
+pub after_rows-push : (h : Log) (rows : List Row) (row : Row)
+    → after_rows h (rows ++ row ∷ []) ≡ history_after (after_rows h rows) row.command
 after_rows-push h [] row = refl
 after_rows-push h (r ∷ rows) row = after_rows-push (history_after h r.command) rows row
 
@@ -342,46 +372,57 @@ pub Answered-at : (h : Log) (rows : List Row) (i : ℕ) (d : Row) → i < length
 Answered-at h [] i d below a = absurd (omega (arith, below))
 Answered-at h (row ∷ []) zero d below a = (a.1, a.2)
 Answered-at h (row ∷ next ∷ rows) zero d below a = (a.1, a.2.0)
-Answered-at h (row ∷ rows) (suc i) d below a = Answered-at (history_after h row.command) rows i d (omega (arith, below)) a.2
+Answered-at h (row ∷ rows) (suc i) d below a =
+    Answered-at (history_after h row.command) rows i d (omega (arith, below)) a.2
 
 -- and a book is of what happened before it
-pub Answered-before : (h : Log) (rows : List Row) (i : ℕ) → i < length rows → Answered h rows → HasBook (after_rows h (take i rows))
+pub Answered-before : (h : Log) (rows : List Row) (i : ℕ) → i < length rows → Answered h rows
+    → HasBook (after_rows h (take i rows))
 Answered-before h [] i below a = absurd (omega (arith, below))
 Answered-before h (row ∷ rows) zero below a = a.0
-Answered-before h (row ∷ rows) (suc i) below a = Answered-before (history_after h row.command) rows i (omega (arith, below)) a.2
+Answered-before h (row ∷ rows) (suc i) below a =
+    Answered-before (history_after h row.command) rows i (omega (arith, below)) a.2
 
 -- and the next row happens after those before it
 after_rows_suc : (h : Log) (rows : List Row) (i : ℕ) (d : Row) → i < length rows
     → after_rows h (take (suc i) rows) ≡ history_after (after_rows h (take i rows)) (slice_index_or rows i d).command
 after_rows_suc h [] i d below = absurd (omega (arith, below))
 after_rows_suc h (row ∷ rows) zero d below = refl
-after_rows_suc h (row ∷ rows) (suc i) d below = after_rows_suc (history_after h row.command) rows i d (omega (arith, below))
+after_rows_suc h (row ∷ rows) (suc i) d below =
+    after_rows_suc (history_after h row.command) rows i d (omega (arith, below))
 
 pub after_rows-next : (h : Log) (rows : List Row) (i : ℕ) (d : Row) → i < length rows
     → after_rows h (take (i + 1) rows) ≡ history_after (after_rows h (take i rows)) (slice_index_or rows i d).command
-after_rows-next h rows i d below = ap (λ (n : ℕ). after_rows h (take n rows)) (add-one i) ∙ after_rows_suc h rows i d below
+after_rows-next h rows i d below =
+    ap (λ (n : ℕ). after_rows h (take n rows)) (add-one i) ∙ after_rows_suc h rows i d below
 
 take_front : {X : Type 0} (xs ys : List X) → take (length xs) (xs ++ ys) ≡ xs
 take_front [] ys = refl
 take_front (x ∷ xs) ys = ap (λ (l : List _). x ∷ l) (take_front xs ys)
 
 refill_whole : {X : Type 0} (old new : List X) → length new ≡ length old → refill (length old) old new ≡ new
-refill_whole old new e = ap (λ (n : ℕ). take n (new ++ drop (length new) old)) (sym e) ∙ take_front new (drop (length new) old)
+refill_whole old new e =
+    ap (λ (n : ℕ). take n (new ++ drop (length new) old)) (sym e) ∙ take_front new (drop (length new) old)
 
 -- the next row, where the lanes are lent as a slice to be taken past it: they show what happened after it
-pub shown_next : (h : Log) (rows seen : List Row) (i : ℕ) (d : Row) (old lent new : List Lane) → seen ≡ rows → lent ≡ old → i < length seen → Answered h rows
+pub shown_next : (h : Log) (rows seen : List Row) (i : ℕ) (d : Row) (old lent new : List Lane) → seen ≡ rows
+    → lent ≡ old → i < length seen → Answered h rows
     → Shows (after_rows h (take i rows)) old → length new ≡ length lent
     → ((g : Log) → HasBook (history_after g (slice_index_or seen i d).command) → IsAnswered g (slice_index_or seen i d)
     → Shows g lent → Shows (history_after g (slice_index_or seen i d).command) new)
-    → IsShownAfter (refill (length old) old new) (slice_index_or seen i d) × Shows (after_rows h (take (i + 1) rows)) (refill (length old) old new)
+    → IsShownAfter (refill (length old) old new) (slice_index_or seen i d)
+    × Shows (after_rows h (take (i + 1) rows)) (refill (length old) old new)
 shown_next h rows seen i d old lent new seen_is lent_is below told shows long step =
     let row : Row = slice_index_or seen i d in
     let g : Log = after_rows h (take i seen) in
     let at : IsAnswered g row × HasBook (history_after g row.command) =
     Answered-at h seen i d below (subst (λ (l : List Row). Answered h l) (sym seen_is) told) in
-    let before : Shows g lent = subst (λ (l : List Lane). Shows g l) (sym lent_is) (subst (λ (l : List Row). Shows (after_rows h (take i l)) old) (sym seen_is) shows) in
+    let before : Shows g lent =
+    subst (λ (l : List Lane). Shows g l) (sym lent_is)
+    (subst (λ (l : List Row). Shows (after_rows h (take i l)) old) (sym seen_is) shows) in
     let drawn : Shows (history_after g row.command) (refill (length old) old new) =
-    subst (λ (l : List Lane). Shows (history_after g row.command) l) (sym (refill_whole old new (long ∙ ap length lent_is))) (step g at.1 at.0 before) in (
+    subst (λ (l : List Lane). Shows (history_after g row.command) l)
+    (sym (refill_whole old new (long ∙ ap length lent_is))) (step g at.1 at.0 before) in (
       (g, at.0, drawn),
       subst (λ (l : List Row). Shows (after_rows h (take (i + 1) l)) (refill (length old) old new)) seen_is
           (subst (λ (x : Log). Shows x (refill (length old) old new)) (sym (after_rows-next h seen i d below)) drawn),
@@ -399,7 +440,8 @@ pub record Follows (h : Log) (rows : List Row) (i k : ℕ) (lane : Lane) : Type 
 pub Follows-opening : (header : Header) (rows : List Row) (k : ℕ) → Follows (opening header) rows 0 k lanes.Outside
 Follows-opening header rows k = record { claimed = opening_claimed header; does = refl }
 
-pub Follows-next : (h : Log) (rows seen : List Row) (i k : ℕ) (d : Row) (old new : Lane) → seen ≡ rows → i < length seen → Answered h rows
+pub Follows-next : (h : Log) (rows seen : List Row) (i k : ℕ) (d : Row) (old new : Lane) → seen ≡ rows
+    → i < length seen → Answered h rows
     → new ≡ lane_after (slice_index_or seen i d) k old → Follows h rows i k old
     → Follows h rows (i + 1) k new × Does (after_rows h (take (i + 1) rows)) k new
 Follows-next h rows seen i k d old new seen_is below told new_is before =
@@ -411,12 +453,14 @@ Follows-next h rows seen i k d old new seen_is below told new_is before =
     let next : after_rows h (take (i + 1) rows) ≡ history_after g row.command = after_rows-next h rows i d inside in
     let claimed : IsClaimed (turn (history_after g row.command).events) = claimed-after g row.command before.claimed in
     let does : new ≡ lane_of (history_after g row.command) k =
-    new_is ∙ ap (λ (r : Row). lane_after r k old) is ∙ ap (lane_after row k) before.does ∙ answered_lane g row k at.0 in (
+    new_is ∙ ap (λ (r : Row). lane_after r k old) is ∙ ap (lane_after row k) before.does
+    ∙ answered_lane g row k at.0 in (
       record {
         claimed = subst (λ (x : Log). IsClaimed (turn x.events)) (sym next) claimed;
         does = does ∙ ap (λ (x : Log). lane_of x k) (sym next);
       },
-      subst (λ (x : Log). Does x k new) (sym next) ((Does-by_last at.1.0 (history_after g row.command) k new at.1.1 claimed).1 does),
+      subst (λ (x : Log). Does x k new) (sym next)
+          ((Does-by_last at.1.0 (history_after g row.command) k new at.1.1 claimed).1 does),
     )
 
 -- one row more, of a place that goes on as it did
@@ -429,7 +473,8 @@ during_next c k lane since i before now j from below = ⊎_elim
     (cases_lt j i)
 
 -- the first row, of a place that begins to do this there
-pub during_one : (c : Chart) (k : ℕ) (lane : Lane) (i : ℕ) → Does (after_rows (opening c.header) (take (i + 1) c.rows.items)) k lane
+pub during_one : (c : Chart) (k : ℕ) (lane : Lane) (i : ℕ)
+    → Does (after_rows (opening c.header) (take (i + 1) c.rows.items)) k lane
     → DoesDuring c k lane i (i + 1)
 during_one c k lane i now j from below =
     let same : j ≡ i = omega (arith, from, below) in

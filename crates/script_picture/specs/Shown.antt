@@ -1,5 +1,6 @@
 -- What a place does where a history happened, and which lanes and rows show that.
-use Rattle.std.specs.Prelude.{ℕ, ◌≡◌, ◌<◌, ◌≤◌, ◌+◌, ◌↔◌, Bool, true, IsTrue, List, [], ◌∷◌, ◌++◌, length, slice_index_or, take, Option, Some, None, ⊤}
+use Rattle.std.specs.Prelude.{ℕ, ◌≡◌, ◌<◌, ◌≤◌, ◌+◌, ◌↔◌, Bool, true, IsTrue, List, [], ◌∷◌, ◌++◌, length}
+use Rattle.std.specs.Prelude.{slice_index_or, take, Option, Some, None, ⊤}
 use Rattle.std.specs.List.{Contains}
 use Rattle.hoare_law.specs.declared.event.History.{History}
 use Rattle.hoare_law.specs.declared.event.Event.TheVariants.{Wait}
@@ -25,7 +26,8 @@ use Rattle.script_picture.specs.declared.read.Script.{Script}
 use Rattle.script_picture.specs.Lanes.{hand_over}
 
 -- place k does this where h happened: it is outside, it has the turn, it waits on a condition with a priority, it is a
--- waiting signaller, or it was called from such a wait and is this one of those that are called, in the order in which they go
+-- waiting signaller, or it was called from such a wait and is this one of those that are called, in the order in which
+-- they go
 -- on. All five are the words of hoare_law
 abbrev pub Does : History (Unit {0}) → ℕ → Lane → Type 0
 Does h k lanes.Outside = outside k h.events ≡ true

@@ -6,7 +6,6 @@ use Rattle.hoare_law.specs.declared.event.Event.{Event}
 use Rattle.hoare_law.specs.declared.event.History.{History}
 use Rattle.hoare_law.specs.declared.turn.Turn.{Turn}
 use Rattle.hoare_law.specs.declared.turn.Turn.TheVariants as turns
-use Rattle.hoare_law.specs.Events.{place_of}
 use Rattle.hoare_law.specs.Waiting.{waiting, chosen, priority_of}
 use Rattle.wait_book.specs.declared.steps.Step.{Step}
 use Rattle.wait_book.specs.declared.steps.Next.{Next}

@@ -9,7 +9,6 @@ use Rattle.hoare_law.specs.Waiting.{waiting, chosen, priority_of}
 use Rattle.wait_book.specs.declared.steps.Next.{Next}
 use Rattle.wait_book.specs.declared.steps.Next.TheVariants as next
 use Rattle.wait_book.specs.declared.steps.Step.{Step}
-use Rattle.wait_book.specs.declared.steps.Step.TheVariants.{Enter, Wait, Signal, Pass, Leave, Notify, Broadcast}
 use Rattle.wait_book.specs.declared.steps.StepRefused.{StepRefused}
 use Rattle.wait_book.specs.declared.steps.StepRefused.TheVariants.{NoPlace, NotFree, NotOutside, NotInside, NoCondition, WrongKind}
 use Rattle.wait_book.specs.Stepping.{refusal_of, condition_refusal, after_step}

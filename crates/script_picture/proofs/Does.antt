@@ -46,8 +46,7 @@ Log = History (Unit {0})
 abbrev pub Act : Type 0
 Act = Event (Unit {0})
 
--- what the place of an event does then, by its number among those that were called since: one that waits may be one of
--- them
+-- what the place of an event does then, by its number among those that were called since: one that waits may be called
 abbrev pub lane_by : ℕ → Act → Lane
 lane_by n (Admit k s) = lanes.Inside
 lane_by n (Resume k c s) = lanes.Inside

@@ -1,8 +1,6 @@
 -- What one more command makes of the lanes, and that they go on to show the history.
-use Rattle.std.proofs.Common.{◌≡◌, ◌==◌, ◌||◌, ◌<◌, ◌↔◌, ⊎_elim, ℕ, Bool, true, false, cond, leb, eqb-true}
-use Rattle.std.specs.Prelude.{All}
-use Rattle.std.specs.List.{refill, Contains}
-use Rattle.std.specs.Option.{option_map}
+use Rattle.std.proofs.Common.{◌≡◌, ◌==◌, ◌<◌, ◌↔◌, ⊎_elim, ℕ, Bool, true, false, cond, eqb-true}
+use Rattle.std.specs.List.{refill}
 use Rattle.std.proofs.Common.{suc, zero, ◌+◌, add-one, arith, take, drop, List, [], ◌∷◌, ◌++◌, length, slice_index_or}
 use Rattle.std.proofs.Common.{Option, Some, None, refl, ap, sym, ◌∙◌, subst}
 use Rattle.hoare_law.specs.declared.event.Event.TheVariants as event
@@ -36,7 +34,6 @@ use Rattle.script_picture.specs.Shown.{after_rows, opening}
 use Rattle.script_picture.specs.declared.chart.Chart.{Chart}
 use Rattle.hoare_script.specs.declared.lines.Header.{Header}
 use Rattle.std.proofs.lemmas.Bool.{cases_lt}
-use Rattle.std.proofs.lemmas.List.Elements.{All-head, All-tail}
 use Rattle.script_picture.proofs.Does.{Log, Act, lane_by, lane_as, lane_of, lane_beside-last, lane_as-push}
 use Rattle.script_picture.proofs.Does.{is_among, is_among-own, is_among-less, number_none, uncalled-push, inside_last}
 use Rattle.script_picture.proofs.Does.{Does-last, Does-by_last}

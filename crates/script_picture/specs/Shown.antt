@@ -26,9 +26,8 @@ use Rattle.script_picture.specs.declared.read.Script.{Script}
 use Rattle.script_picture.specs.Lanes.{hand_over}
 
 -- place k does this where h happened: it is outside, it has the turn, it waits on a condition with a priority, it is a
--- waiting signaller, or it was called from such a wait and is this one of those that are called, in the order in which
--- they go
--- on. All five are the words of hoare_law
+-- waiting signaller, or it was called from such a wait and has this number among the called, in the order in which they
+-- go on. All are the words of hoare_law, and the number is that of wait_book
 abbrev pub Does : History (Unit {0}) → ℕ → Lane → Type 0
 Does h k lanes.Outside = outside k h.events ≡ true
 Does h k lanes.Inside = turn h.events ≡ turns.Held k

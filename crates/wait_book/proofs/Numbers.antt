@@ -2,7 +2,6 @@
 use Rattle.std.proofs.Common.{◌≡◌, ◌≤◌, ◌∷◌, List, [], ℕ, length, map, refl, ap, sym, ◌∙◌, arith}
 use Rattle.std.proofs.lemmas.List.{length-map}
 use Rattle.hoare_law.specs.declared.event.History.{History}
-use Rattle.hoare_law.specs.Called.{called}
 use Rattle.hoare_law.specs.Events.{place_of}
 use Rattle.wait_book.specs.declared.chains.Link.{Link}
 use Rattle.wait_book.specs.declared.waiter.Waiter.{Waiter}

@@ -1,4 +1,4 @@
-use Rattle.std.proofs.Common.{arith, length, refl, sym, ◌∙◌}
+use Rattle.std.proofs.Common.{arith, refl, sym, ◌∙◌}
 use Rattle.std.proofs.lemmas.List.{length-map}
 use Rattle.wait_book.specs.Insides.{view_of, waiter_of}
 use Rattle.wait_book.specs.Lists.{list_at}

@@ -7,7 +7,6 @@ use Rattle.hoare_law.specs.declared.event.History.{History}
 use Rattle.hoare_law.specs.declared.event.Sizes.{Sizes}
 use Rattle.hoare_law.specs.declared.turn.Turn.{Turn}
 use Rattle.hoare_law.specs.declared.turn.Turn.TheVariants as turns
-use Rattle.hoare_law.specs.Events.{place_of}
 use Rattle.hoare_law.specs.Waiting.{waiting, chosen, priority_of}
 use Rattle.wait_book.specs.declared.steps.Step.{Step}
 use Rattle.wait_book.specs.declared.steps.Next.{Next}
@@ -19,7 +18,7 @@ use Rattle.hoare_script.specs.declared.lines.Command.{Command}
 use Rattle.hoare_script.specs.declared.lines.Command.TheVariants.{Do, Queue, First}
 use Rattle.hoare_script.specs.declared.answers.Answer.{Answer}
 use Rattle.hoare_script.specs.declared.answers.Answer.TheVariants.{Waiting, Nobody, Priority, Refused}
-use Rattle.hoare_script.specs.Answers.{outcome_answer, answer_to, history_after, history_by, step_answer, queue_answer, first_answer, turn_answer, priority_answer, is_nonempty, place_chosen}
+use Rattle.hoare_script.specs.Answers.{outcome_answer, answer_to, history_after, history_by, step_answer, queue_answer, first_answer, turn_answer, priority_answer, is_nonempty}
 use Rattle.std.proofs.lemmas.Bool.{lt-ltb, le-ltb}
 
 -- who goes on is who is inside
@@ -84,14 +83,6 @@ pub answer_to-First : (b : Contents) (h : History (Unit {0})) (c : ℕ) (p q : O
 unfolding answer_to
 answer_to-First b h c p q o l e f =
     ap priority_or_none (sym f ∙ e) ∙ priority_or_none-option_map (chosen c h.events) ∙ sym (ap (first_answer h c) (condition_refusal-none b h c o l))
-
--- whom a notify would call
-pub chosen-refused : (b : Contents) (h : History (Unit {0})) (c : ℕ) → IsOf b h → b.sizes.conditions ≤ c → None ≡ place_chosen h c (condition_refusal h c)
-chosen-refused b h c o l = sym (ap (place_chosen h c) (condition_refusal-some b h c o l))
-
-pub chosen-answered : (b : Contents) (h : History (Unit {0})) (c : ℕ) (p : Option ℕ) → IsOf b h → c < b.sizes.conditions
-    → p ≡ option_map place_of (chosen c h.events) → p ≡ place_chosen h c (condition_refusal h c)
-chosen-answered b h c p o l e = e ∙ sym (ap (place_chosen h c) (condition_refusal-none b h c o l))
 
 pub history_after-Queue : (h : History (Unit {0})) (c : ℕ) → history_after h (Queue c) ≡ h
 unfolding history_after

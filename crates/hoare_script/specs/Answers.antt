@@ -1,17 +1,14 @@
 -- What a command is answered where a history happened, and how an answer is spelled.
 use Rattle.std.specs.Prelude.{ℕ, List, [], ◌∷◌, ◌++◌, Bool, true, false, Option, Some, None, Result, Ok, Err, codes, decimal}
-use Rattle.std.specs.Option.{option_map}
 use Rattle.hoare_law.specs.declared.event.Event.{Event}
 use Rattle.hoare_law.specs.declared.event.History.{History}
 use Rattle.hoare_law.specs.declared.turn.Turn.{Turn}
 use Rattle.hoare_law.specs.declared.turn.Turn.TheVariants as turns
-use Rattle.hoare_law.specs.Events.{place_of}
 use Rattle.hoare_law.specs.Turns.{turn}
 use Rattle.hoare_law.specs.Waiting.{waiting, chosen, priority_of}
 use Rattle.wait_book.specs.declared.steps.Next.{Next}
 use Rattle.wait_book.specs.declared.steps.Next.TheVariants as next
 use Rattle.wait_book.specs.declared.steps.Step.{Step}
-use Rattle.wait_book.specs.declared.steps.Step.TheVariants.{Enter, Wait, Signal, Pass, Leave, Notify, Broadcast}
 use Rattle.wait_book.specs.declared.steps.StepRefused.{StepRefused}
 use Rattle.wait_book.specs.declared.steps.StepRefused.TheVariants.{NoPlace, NotFree, NotOutside, NotInside, NoCondition, WrongKind}
 use Rattle.wait_book.specs.Stepping.{refusal_of, condition_refusal, after_step}
@@ -53,26 +50,6 @@ priority_answer (Some e) = Priority (priority_of e)
 abbrev pub first_answer : History (Unit {0}) → ℕ → Option StepRefused → Answer
 first_answer h c None = priority_answer (chosen c h.events)
 first_answer h c (Some r) = Refused r
-
--- the place of whom a signal on c would resume, and a notify call
-abbrev pub place_chosen : History (Unit {0}) → ℕ → Option StepRefused → Option ℕ
-place_chosen h c None = option_map place_of (chosen c h.events)
-place_chosen h c (Some r) = None
-
-abbrev pub notified_by : History (Unit {0}) → Step → Option ℕ
-notified_by h (Notify k c) = place_chosen h c (condition_refusal h c)
-notified_by h (Enter k) = None
-notified_by h (Wait k c p) = None
-notified_by h (Signal k c) = None
-notified_by h (Pass k c) = None
-notified_by h (Leave k) = None
-notified_by h (Broadcast k c) = None
-
--- the one place that a command would call: a notify has one, where somebody waits (a broadcast calls all that wait)
-unfoldable pub notified : History (Unit {0}) → Command → Option ℕ
-notified h (Do s) = notified_by h s
-notified h (Queue c) = None
-notified h (First c) = None
 
 -- what a command is answered where h happened, and what then happened
 unfoldable pub answer_to : History (Unit {0}) → Command → Answer

@@ -1,12 +1,12 @@
 //! The book that a header opened, as commands ask it.
-ghost use Rattle.std.specs.Prelude.{◌≡◌, MatchResult, None, Some, ◌⊎◌};
+ghost use Rattle.std.specs.Prelude.{◌≡◌, ◌≤◌, MatchResult, None, Some, ◌⊎◌};
 ghost use Rattle.hoare_law.specs.declared.event.History.{History};
 ghost use Rattle.hoare_law.specs.Events.{opened};
 ghost use Rattle.wait_book.specs.Contents.{IsOf, make_refusal};
-ghost use Rattle.wait_book.specs.Stepping.{condition_refusal};
+ghost use Rattle.wait_book.specs.Numbers.{number_called};
 ghost use Rattle.hoare_script.specs.declared.lines.Command.TheVariants as commands;
 ghost use Rattle.hoare_script.specs.Lines.{sizes_in};
-ghost use Rattle.hoare_script.specs.Answers.{answer_to, history_after, notified, place_chosen};
+ghost use Rattle.hoare_script.specs.Answers.{answer_to, history_after};
 
 use crate::answers::{Answer, outcome_answer};
 use crate::lines::{Command, Header};
@@ -65,34 +65,13 @@ impl Opened {
         }
     }
 
-    /// The one place that a command would call: that of the process that a notify's condition would have resumed. None
-    /// of another command, and where nobody waits.
-    #[tactic(auto, unfolding(crate::specs::Answers::notified))]
-    pub fn notified(&self, command: Command) -> Option<usize>
-        ensures { (h : History (Unit {0})) → IsOf self.now h → result ≡ notified h command }
+    /// The number of a place among those that were called and haven't gone on yet, as `Book::number_called` counts them.
+    pub fn number_called(&self, place: usize) -> usize
+        ensures of { (h : History (Unit {0})) → IsOf self.now h
+            → result ≡ number_called h.events place }
+        ensures few { result ≤ 64 }
     {
-        match command {
-            Command::Do(Step::Notify(_, condition)) => self.chosen(condition),
-            Command::Do(Step::Enter(_)) => None,
-            Command::Do(Step::Wait(_, _, _)) => None,
-            Command::Do(Step::Signal(_, _)) => None,
-            Command::Do(Step::Pass(_, _)) => None,
-            Command::Do(Step::Leave(_)) => None,
-            Command::Do(Step::Broadcast(_, _)) => None,
-            Command::Queue(_) => None,
-            Command::First(_) => None,
-        }
-    }
-
-    // Whom a signal would resume.
-    fn chosen(&self, condition: u64) -> Option<usize>
-        ensures { (h : History (Unit {0})) → IsOf self.now h →
-            result ≡ place_chosen h condition (condition_refusal h condition) }
-    {
-        if condition >= self.conditions {
-            return None;
-        }
-        self.book.chosen(condition as usize)
+        self.book.number_called(place)
     }
 
     // Does a step.

@@ -1,5 +1,6 @@
 -- Who hands the monitor over has it before the row, and who goes on has it after the row.
-use Rattle.std.proofs.Common.{◌≡◌, ◌==◌, ◌<◌, ◌+◌, ◌↔◌, ℕ, Bool, true, false, cond, take, List, length, slice_index_or, Option, Some, None, refl, ap, sym, ◌∙◌, subst}
+use Rattle.std.proofs.Common.{◌≡◌, ◌==◌, ◌<◌, ◌+◌, ◌↔◌, ℕ, Bool, true, false, cond, take, List, length, slice_index_or}
+use Rattle.std.proofs.Common.{Option, Some, None, refl, ap, sym, ◌∙◌, subst}
 use Rattle.std.specs.Prelude.{IsTrue}
 use Rattle.std.proofs.lemmas.List.{get_or_default}
 use Rattle.hoare_law.specs.declared.event.Event.TheVariants as event
@@ -23,13 +24,16 @@ use Rattle.script_picture.specs.declared.chart.Row.{Row}
 use Rattle.script_picture.specs.Lanes.{actor, between, hand_over_answered, hand_over_commanded, hand_over}
 use Rattle.script_picture.specs.Shown.{Does, IsClaimed, Shows, IsTold, HandsOver, KeepsTurn, after_rows, opening}
 use Rattle.script_picture.proofs.Does.{Log}
-use Rattle.script_picture.proofs.Shown.{turn-with, held_test, held_is, claimed-step, places-after, Answered-at, Answered-before, after_rows-next}
+use Rattle.script_picture.proofs.Shown.{turn-with, held_test, held_is, claimed-step, places-after, Answered-at}
+use Rattle.script_picture.proofs.Shown.{Answered-before, after_rows-next}
 
 -- from one place to another
-between_is : (k l : ℕ) (over : HandOver) → between k l ≡ Some over → ((k == l) ≡ false) × (k ≡ over.from) × (l ≡ over.to)
+between_is : (k l : ℕ) (over : HandOver) → between k l ≡ Some over
+    → ((k == l) ≡ false) × (k ≡ over.from) × (l ≡ over.to)
 between_is k l over is = by (k == l) refl is
   where
-    by : (t : Bool) → (k == l) ≡ t → cond t None (Some (record { from = k; to = l })) ≡ Some over → ((k == l) ≡ false) × (k ≡ over.from) × (l ≡ over.to)
+    by : (t : Bool) → (k == l) ≡ t → cond t None (Some (record { from = k; to = l })) ≡ Some over
+        → ((k == l) ≡ false) × (k ≡ over.from) × (l ≡ over.to)
     by true e o = absurd (cc)
     by false e o = (e, cc, cc)
 
@@ -44,7 +48,8 @@ goes_on s (Owed j c) over claimed is = absurd claimed
 goes_on s (Return j) over claimed is = absurd claimed
 
 -- and the one that acts had it, unless it comes in, and goes on itself
-had : (h : Log) (s : Step) (to : ℕ) → refusal_of h s ≡ None → (actor s == to) ≡ false → turn (after_step h s).events ≡ Held to → turn h.events ≡ Held (actor s)
+had : (h : Log) (s : Step) (to : ℕ) → refusal_of h s ≡ None → (actor s == to) ≡ false
+    → turn (after_step h s).events ≡ Held to → turn h.events ≡ Held (actor s)
 had h (Enter j) to r other is =
     let comes_in : Held j ≡ Held to = sym (turn-with h (event.Admit j tt)) ∙ is in
     let same : j ≡ to = cc in
@@ -56,7 +61,8 @@ had h (Notify j c) to r other is = held_is j (turn h.events) (held_test _ _ (kin
 had h (Broadcast j c) to r other is = held_is j (turn h.events) (held_test _ _ (kind_refusal h true c) r)
 had h (Leave j) to r other is = held_is j (turn h.events) (held_test _ _ None r)
 
-handed_by : (h : Log) (s : Step) (o : Option StepRefused) (over : HandOver) → refusal_of h s ≡ o → hand_over_answered s (step_answer h s o) ≡ Some over
+handed_by : (h : Log) (s : Step) (o : Option StepRefused) (over : HandOver) → refusal_of h s ≡ o
+    → hand_over_answered s (step_answer h s o) ≡ Some over
     → (turn h.events ≡ Held over.from) × (turn (history_by h s o).events ≡ Held over.to)
 handed_by h s (Some r) over refused is = absurd (cc)
 handed_by h s None over refused is =
@@ -72,7 +78,8 @@ handed h (Queue c) over is = absurd (cc)
 handed h (First c) over is = absurd (cc)
 
 -- the lane of a place that the monitor has says what the place does
-lane_says : (h : Log) (drawn : List Lane) (k : ℕ) (lane : Lane) → k < h.places → Shows h drawn → Does h k lane ↔ (slice_index_or drawn k lanes.Outside ≡ lane)
+lane_says : (h : Log) (drawn : List Lane) (k : ℕ) (lane : Lane) → k < h.places → Shows h drawn
+    → Does h k lane ↔ (slice_index_or drawn k lanes.Outside ≡ lane)
 lane_says h drawn k lane below shows =
     let one : Does h k lane ↔ (lane ≡ slice_index_or drawn k lanes.Outside) = shows.each k below lane in
     (λ d. sym (one.0 d), λ e. one.1 (sym e))
@@ -81,8 +88,10 @@ told : (told is : Type 0) (does : Type 0) → told ↔ is → does ↔ is → to
 told t i d a b = (λ x. b.1 (a.0 x), λ y. a.1 (b.0 y))
 
 -- a row that hands over, between lanes that show what happened before it and after it
-pub HandsOver-between : (c : Chart) (seen : List Row) (i : ℕ) (d : Row) (old new : List Lane) (over : HandOver) (returns gone : Bool) → seen ≡ c.rows.items → i < length seen
-    → IsTold c → Shows (after_rows (opening c.header) (take i c.rows.items)) old → Shows (after_rows (opening c.header) (take (i + 1) c.rows.items)) new
+pub HandsOver-between : (c : Chart) (seen : List Row) (i : ℕ) (d : Row) (old new : List Lane) (over : HandOver)
+    (returns gone : Bool) → seen ≡ c.rows.items → i < length seen
+    → IsTold c → Shows (after_rows (opening c.header) (take i c.rows.items)) old
+    → Shows (after_rows (opening c.header) (take (i + 1) c.rows.items)) new
     → hand_over (slice_index_or seen i d) ≡ Some over
     → IsTrue returns ↔ (slice_index_or old over.to lanes.Outside ≡ lanes.Signalling)
     → IsTrue gone ↔ (slice_index_or new over.from lanes.Outside ≡ lanes.Outside) → HandsOver c i over returns gone
@@ -91,26 +100,38 @@ HandsOver-between c seen i d old new over returns gone seen_is below is_told bef
     let row : Row = slice_index_or rows i d in
     let inside : i < length rows = subst (λ (l : List Row). i < length l) seen_is below in
     let h : Log = after_rows (opening c.header) (take i rows) in
-    let next : after_rows (opening c.header) (take (i + 1) rows) ≡ history_after h row.command = after_rows-next (opening c.header) rows i d inside in
-    let answered : row.answer ≡ answer_to h row.command = (Answered-at (opening c.header) rows i d inside is_told.1).0.0 in
+    let next : after_rows (opening c.header) (take (i + 1) rows) ≡ history_after h row.command =
+    after_rows-next (opening c.header) rows i d inside in
+    let answered : row.answer ≡ answer_to h row.command =
+    (Answered-at (opening c.header) rows i d inside is_told.1).0.0 in
     let over_is : hand_over_commanded row.command (answer_to h row.command) ≡ Some over =
-    ap (hand_over_commanded row.command) (sym answered) ∙ sym (ap (λ (l : List Row). hand_over (slice_index_or l i d)) seen_is) ∙ hands in
-    let both : (turn h.events ≡ Held over.from) × (turn (history_after h row.command).events ≡ Held over.to) = handed h row.command over over_is in
-    let goes : turn (after_rows (opening c.header) (take (i + 1) rows)).events ≡ Held over.to = ap (λ (x : Log). turn x.events) next ∙ both.1 in
-    let from_below : over.from < h.places = held-in_range h over.from (Answered-before (opening c.header) rows i inside is_told.1).1.legal both.0 in
+    ap (hand_over_commanded row.command) (sym answered)
+    ∙ sym (ap (λ (l : List Row). hand_over (slice_index_or l i d)) seen_is) ∙ hands in
+    let both : (turn h.events ≡ Held over.from) × (turn (history_after h row.command).events ≡ Held over.to) =
+    handed h row.command over over_is in
+    let goes : turn (after_rows (opening c.header) (take (i + 1) rows)).events ≡ Held over.to =
+    ap (λ (x : Log). turn x.events) next ∙ both.1 in
+    let from_below : over.from < h.places =
+    held-in_range h over.from (Answered-before (opening c.header) rows i inside is_told.1).1.legal both.0 in
     let to_below : over.to < (history_after h row.command).places =
-    held-in_range (history_after h row.command) over.to (Answered-at (opening c.header) rows i d inside is_told.1).1.1.legal both.1 in
-    let same : (after_rows (opening c.header) (take (i + 1) rows)).places ≡ h.places = ap (λ (x : Log). x.places) next ∙ places-after h row.command in
+    held-in_range (history_after h row.command) over.to
+    (Answered-at (opening c.header) rows i d inside is_told.1).1.1.legal both.1 in
+    let same : (after_rows (opening c.header) (take (i + 1) rows)).places ≡ h.places =
+    ap (λ (x : Log). x.places) next ∙ places-after h row.command in
     record {
       gives = both.0;
       goes_on = goes;
-      returns = told _ _ _ is_return (lane_says h old over.to lanes.Signalling (subst (λ (n : ℕ). over.to < n) (places-after h row.command) to_below) before);
-      gone = told _ _ _ is_gone (lane_says _ new over.from lanes.Outside (subst (λ (n : ℕ). over.from < n) (sym same) from_below) after);
+      returns = told _ _ _ is_return
+          (lane_says h old over.to lanes.Signalling
+          (subst (λ (n : ℕ). over.to < n) (places-after h row.command) to_below) before);
+      gone = told _ _ _ is_gone
+          (lane_says _ new over.from lanes.Outside (subst (λ (n : ℕ). over.from < n) (sym same) from_below) after);
     }
 
 -- a row that hands nothing over
 pub KeepsTurn-at : (c : Chart) (seen : List Row) (i j : ℕ) (d : Row) → seen ≡ c.rows.items → j ≡ i → i < length seen
     → hand_over (slice_index_or seen i d) ≡ None → KeepsTurn c j
 KeepsTurn-at c seen i j d seen_is at below none e =
-    ap (λ (l : List Row). hand_over (slice_index_or l j e)) (sym seen_is) ∙ ap (λ (n : ℕ). hand_over (slice_index_or seen n e)) at
+    ap (λ (l : List Row). hand_over (slice_index_or l j e)) (sym seen_is)
+    ∙ ap (λ (n : ℕ). hand_over (slice_index_or seen n e)) at
     ∙ ap hand_over (get_or_default seen i e d below) ∙ none

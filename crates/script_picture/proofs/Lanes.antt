@@ -1,5 +1,6 @@
 -- Lanes that are taken past a row one by one.
-use Rattle.std.proofs.Common.{◌≡◌, ◌∙◌, ◌<◌, ◌≤◌, ◌+◌, ℕ, List, length, slice_index_or, slice_set, sym, subst, arith, ⊎_elim}
+use Rattle.std.proofs.Common.{◌≡◌, ◌∙◌, ◌<◌, ◌≤◌, ◌+◌, ℕ, List, length, slice_index_or, slice_set, sym, subst, arith}
+use Rattle.std.proofs.Common.{⊎_elim}
 use Rattle.std.proofs.lemmas.Bool.{cases_lt}
 use Rattle.std.proofs.lemmas.List.{get_or-set_other}
 use Rattle.std.proofs.lemmas.Grind.{get_or-set_at}
@@ -12,7 +13,8 @@ use Rattle.script_picture.specs.declared.chart.Row.{Row}
 pub past-set : (row : Row) (old now : List Lane) (n : ℕ) (y : Lane) → n < length now
     → y ≡ lane_after row n (slice_index_or old n states.Outside)
     → ((k : ℕ) → k < n → slice_index_or now k states.Outside ≡ lane_after row k (slice_index_or old k states.Outside))
-    → (k : ℕ) → k < n + 1 → slice_index_or (slice_set now n y) k states.Outside ≡ lane_after row k (slice_index_or old k states.Outside)
+    → (k : ℕ) → k < n + 1
+    → slice_index_or (slice_set now n y) k states.Outside ≡ lane_after row k (slice_index_or old k states.Outside)
 past-set row old now n y within value done k below = ⊎_elim
     (λ less. get_or-set_other now n k y states.Outside (λ e. absurd (omega (arith, less, e))) ∙ done k less)
     (λ least. let same : k ≡ n = omega (arith, least, below) in

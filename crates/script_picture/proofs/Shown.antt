@@ -1,46 +1,46 @@
 -- What one more command makes of the lanes, and that they go on to show the history.
-use Rattle.std.proofs.Common.{◌≡◌, ◌==◌, ◌||◌, ◌<◌, ◌↔◌, ⊎_elim, ℕ, Bool, true, false, cond, leb, eqb-true}
-use Rattle.std.specs.Prelude.{All}
-use Rattle.std.specs.List.{refill, Contains}
-use Rattle.std.specs.Option.{option_map}
-use Rattle.std.proofs.Common.{suc, zero, ◌+◌, add-one, arith, take, drop, List, [], ◌∷◌, ◌++◌, length, slice_index_or, Option, Some, None, refl, ap, sym, ◌∙◌, subst}
+use Rattle.std.proofs.Common.{◌≡◌, ◌==◌, ◌<◌, ◌↔◌, ⊎_elim, ℕ, Bool, true, false, cond, eqb-true}
+use Rattle.std.specs.List.{refill}
+use Rattle.std.proofs.Common.{suc, zero, ◌+◌, add-one, arith, take, drop, List, [], ◌∷◌, ◌++◌, length, slice_index_or}
+use Rattle.std.proofs.Common.{Option, Some, None, refl, ap, sym, ◌∙◌, subst}
 use Rattle.hoare_law.specs.declared.event.Event.TheVariants as event
 use Rattle.hoare_law.specs.declared.turn.Turn.{Turn}
 use Rattle.hoare_law.specs.declared.turn.Turn.TheVariants.{Free, Held, Owed, Return}
 use Rattle.hoare_law.specs.Events.{place_of, own, newest, opened, with_event}
-use Rattle.hoare_law.specs.Called.{called, called_by}
-use Rattle.hoare_law.specs.Waiting.{chosen, priority_of, waiting, waits_on}
-use Rattle.hoare_law.specs.Priorities.{in_order, put_all, put_in}
+use Rattle.hoare_law.specs.Called.{called}
+use Rattle.hoare_law.specs.Waiting.{chosen, waiting}
 use Rattle.hoare_law.specs.Turns.{urgent, turn, turn_by, turn_given_up, IsGivenUp}
-use Rattle.hoare_law.proofs.Calling.{called_by-notify}
-use Rattle.hoare_law.proofs.Filters.{All-find}
 use Rattle.hoare_law.proofs.Held.{is_inside}
-use Rattle.hoare_law.proofs.Sorted.{All-in_order}
-use Rattle.hoare_law.proofs.Waiters.{Waits, All-waiting}
 use Rattle.hoare_law.proofs.Opening.{turn-opened}
 use Rattle.hoare_law.proofs.Turns.{turn-push}
 use Rattle.wait_book.specs.declared.steps.Step.{Step}
 use Rattle.wait_book.specs.declared.steps.Step.TheVariants.{Enter, Wait, Signal, Pass, Leave, Notify, Broadcast}
 use Rattle.wait_book.specs.declared.steps.StepRefused.{StepRefused}
-use Rattle.wait_book.specs.declared.steps.StepRefused.TheVariants.{NoPlace, NotInside, NoCondition, WrongKind}
-use Rattle.wait_book.specs.Stepping.{is_held_by, kind_refusal, refusal_of, after_signal, after_pass, after_notify, after_broadcast, after_claim, settled, after_step}
+use Rattle.wait_book.specs.declared.steps.StepRefused.TheVariants.{NoPlace, NotInside}
+use Rattle.wait_book.specs.Stepping.{is_held_by, kind_refusal, refusal_of, after_signal, after_pass, after_notify}
+use Rattle.wait_book.specs.Stepping.{after_broadcast, after_claim, settled, after_step}
+use Rattle.wait_book.specs.Numbers.{number_called}
 use Rattle.wait_book.proofs.Histories.{IsOf-opened}
-use Rattle.hoare_script.specs.Answers.{turn_answer, step_answer, history_by, answer_to, history_after, notified, notified_by, place_chosen}
+use Rattle.hoare_script.specs.Answers.{turn_answer, step_answer, history_by, answer_to, history_after}
 use Rattle.hoare_script.specs.declared.lines.Command.{Command}
 use Rattle.hoare_script.specs.declared.lines.Command.TheVariants.{Do, Queue, First}
 use Rattle.script_picture.specs.declared.chart.Lane.{Lane}
 use Rattle.script_picture.specs.declared.chart.Lane.TheVariants as lanes
 use Rattle.script_picture.specs.declared.chart.Row.{Row}
-use Rattle.script_picture.specs.Lanes.{lane_called, lane_left, lane_answered, lane_commanded, lane_after}
-use Rattle.script_picture.specs.Shown.{Does, DoesDuring, IsClaimed, Shows, HasBook, IsAnswered, Answered, IsShownAfter, after_rows, opening}
+use Rattle.script_picture.specs.Lanes.{actor, left_as, lane_numbered, lane_beside, lane_left, lane_answered}
+use Rattle.script_picture.specs.Lanes.{lane_commanded, lane_after}
+use Rattle.script_picture.specs.Shown.{Does, DoesDuring, IsClaimed, Shows, HasBook, IsAnswered, Answered, IsShownAfter}
+use Rattle.script_picture.specs.Shown.{after_rows, opening}
 use Rattle.script_picture.specs.declared.chart.Chart.{Chart}
 use Rattle.hoare_script.specs.declared.lines.Header.{Header}
 use Rattle.std.proofs.lemmas.Bool.{cases_lt}
-use Rattle.std.proofs.lemmas.List.Elements.{All-head, All-tail}
-use Rattle.script_picture.proofs.Does.{Log, Act, lane_by, lane_last, lane_met, lane_of, lane_of-push, is_among, among_these, inside_last, Does-last, Does-by_last}
+use Rattle.script_picture.proofs.Does.{Log, Act, lane_by, lane_as, lane_of, lane_beside-last, lane_as-push}
+use Rattle.script_picture.proofs.Does.{is_among, is_among-own, is_among-less, number_none, uncalled-push, inside_last}
+use Rattle.script_picture.proofs.Does.{Does-last, Does-by_last}
 
 -- the turn after one more event
-pub turn-with : (h : Log) (e : Act) → turn (with_event h e).events ≡ turn_by e (urgent (with_event h e).events) (called (with_event h e).events)
+pub turn-with : (h : Log) (e : Act)
+    → turn (with_event h e).events ≡ turn_by e (urgent (with_event h e).events) (called (with_event h e).events)
 unfolding with_event
 turn-with h e = turn-push h.events e
 
@@ -85,42 +85,75 @@ given_by (event.Signal k c w s) us ws is = tt
 given_by (event.Pass k c w s) us ws is = tt
 
 given_up : (h : Log) (e : Act) → is_inside e ≡ false → IsGivenUp (turn (with_event h e).events)
-given_up h e is = subst IsGivenUp (sym (turn-with h e)) (given_by e (urgent (with_event h e).events) (called (with_event h e).events) is)
+given_up h e is =
+    subst IsGivenUp (sym (turn-with h e))
+    (given_by e (urgent (with_event h e).events) (called (with_event h e).events) is)
+
+-- what place k does after a step by which h happened, is what the step, its answer and the number of k among the
+-- called say
+abbrev IsLane : Log → Step → ℕ → Lane → Type 0
+IsLane h s k before = lane_of h k ≡ lane_answered s (number_called h.events k) k before (turn_answer (turn h.events))
 
 -- where a step left its place as it does, the one that then goes on is inside
-left_claim : (h : Log) (s : Step) (n : Option ℕ) (k : ℕ) (before : Lane) (t : Turn) → IsGivenUp t → lane_of h k ≡ lane_left s n k before
-    → lane_of (after_claim h t) k ≡ lane_answered s n k before (turn_answer (claimed_turn t))
-left_claim h s n k before Free g l = l
-left_claim h s n k before (Held j) g l = absurd g
-left_claim h s n k before (Owed j c) g l = lane_of-push h (event.Resume j c tt) k ∙ ap (λ (x : Lane). cond (j == k) lanes.Inside x) l
-left_claim h s n k before (Return j) g l = lane_of-push h (event.Back j tt) k ∙ ap (λ (x : Lane). cond (j == k) lanes.Inside x) l
-
-left_settled : (h : Log) (s : Step) (n : Option ℕ) (k : ℕ) (before : Lane) → IsGivenUp (turn h.events) → lane_of h k ≡ lane_left s n k before
-    → lane_of (settled h) k ≡ lane_answered s n k before (turn_answer (turn (settled h).events))
-left_settled h s n k before g l =
-    left_claim h s n k before (turn h.events) g l
-    ∙ ap (λ (t : Turn). lane_answered s n k before (turn_answer t)) (sym (turn-claim h (turn h.events) refl))
+left_claim : (n : ℕ) (h : Log) (s : Step) (k : ℕ) (before : Lane) (t : Turn) → IsGivenUp t
+    → lane_as n h k ≡ lane_left s n k before
+    → lane_as n (after_claim h t) k ≡ lane_answered s n k before (turn_answer (claimed_turn t))
+left_claim n h s k before Free g l = l
+left_claim n h s k before (Held j) g l = absurd g
+left_claim n h s k before (Owed j c) g l =
+    lane_as-push n h (event.Resume j c tt) k ∙ ap (λ (x : Lane). cond (j == k) lanes.Inside x) l
+left_claim n h s k before (Return j) g l =
+    lane_as-push n h (event.Back j tt) k ∙ ap (λ (x : Lane). cond (j == k) lanes.Inside x) l
 
 -- an event that gives the monitor up, and whoever then goes on
-left_by : (h : Log) (s : Step) (n : Option ℕ) (e : Act) (k : ℕ) → is_inside e ≡ false → lane_of (with_event h e) k ≡ lane_left s n k (lane_of h k)
-    → lane_of (settled (with_event h e)) k ≡ lane_answered s n k (lane_of h k) (turn_answer (turn (settled (with_event h e)).events))
-left_by h s n e k is l = left_settled (with_event h e) s n k (lane_of h k) (given_up h e is) l
+left_by : (h : Log) (s : Step) (e : Act) (k : ℕ) → is_inside e ≡ false → place_of e ≡ actor s
+    → ((actor s == k) ≡ true → lane_by (number_called (settled (with_event h e)).events k) e ≡ left_as s)
+    → IsLane (settled (with_event h e)) s k (lane_of h k)
+left_by h s e k is same own_is =
+    let g : Log = with_event h e in
+    let n : ℕ = number_called (settled g).events k in
+    left_claim n g s k (lane_of h k) (turn g.events) (given_up h e is)
+    (lane_as-push n h e k ∙ ap (λ (j : ℕ). cond (j == k) (lane_by n e) (lane_as n h k)) same
+    ∙ by n (actor s == k) own_is)
+    ∙ ap (λ (t : Turn). lane_answered s n k (lane_of h k) (turn_answer t)) (sym (turn-claim g (turn g.events) refl))
+  where
+    by : (n : ℕ) (t : Bool) → (t ≡ true → lane_by n e ≡ left_as s)
+        → cond t (lane_by n e) (lane_as n h k) ≡ cond t (left_as s) (lane_beside n (lane_of h k))
+    by n true own_as = own_as refl
+    by n false own_as = lane_beside-last n (number_called h.events k) (newest (own k h.events))
+
+-- an event that leaves its place inside
+stays_by : (h : Log) (s : Step) (e : Act) (k : ℕ) → place_of e ≡ actor s → ((n : ℕ) → lane_by n e ≡ lanes.Inside)
+    → ((us : List ℕ) (ws : List Act) → turn_by e us ws ≡ Held (actor s)) → IsLane (with_event h e) s k (lane_of h k)
+stays_by h s e k same inside held =
+    let n : ℕ = number_called (with_event h e).events k in
+    lane_as-push n h e k ∙ ap (λ (j : ℕ). cond (j == k) (lane_by n e) (lane_as n h k)) same
+    ∙ ap (λ (l : Lane). cond (actor s == k) l (lane_as n h k)) (inside n) ∙ by n (actor s == k)
+    ∙ ap (λ (t : Turn). lane_answered s n k (lane_of h k) (turn_answer t)) (sym (turn-with h e ∙ held _ _))
+  where
+    by : (n : ℕ) (t : Bool) → cond t lanes.Inside (lane_as n h k)
+        ≡ cond t lanes.Inside (cond t (left_as s) (lane_beside n (lane_of h k)))
+    by n true = refl
+    by n false = lane_beside-last n (number_called h.events k) (newest (own k h.events))
+
+-- where nothing happens, the place that acts stays inside
+stays_so : (h : Log) (s : Step) (k : ℕ) → turn h.events ≡ Held (actor s) → IsLane h s k (lane_of h k)
+stays_so h s k held =
+    by (actor s == k) refl
+    ∙ ap (λ (t : Turn). lane_answered s (number_called h.events k) k (lane_of h k) (turn_answer t)) (sym held)
+  where
+    by : (t : Bool) → (actor s == k) ≡ t
+        → lane_of h k ≡ cond t lanes.Inside (cond t (left_as s) (lane_beside (number_called h.events k) (lane_of h k)))
+    by true is = sym (inside_last h k (held ∙ ap Held (eqb-true (actor s) k is)))
+    by false is = lane_beside-last (number_called h.events k) (number_called h.events k) (newest (own k h.events))
 
 -- who acts has the turn
 
-pub held_test : (a b : Bool) (further : Option StepRefused) → cond a (cond b further (Some NotInside)) (Some NoPlace) ≡ None → b ≡ true
+pub held_test : (a b : Bool) (further : Option StepRefused)
+    → cond a (cond b further (Some NotInside)) (Some NoPlace) ≡ None → b ≡ true
 held_test true true further is = refl
 held_test true false further is = absurd (cc)
 held_test false b further is = absurd (cc)
-
-further_test : (a b : Bool) (further : Option StepRefused) → cond a (cond b further (Some NotInside)) (Some NoPlace) ≡ None → further ≡ None
-further_test true true further is = is
-further_test true false further is = absurd (cc)
-further_test false b further is = absurd (cc)
-
-kind_test : (a b : Bool) → cond a (cond b (Some WrongKind) None) (Some NoCondition) ≡ None → cond a None (Some NoCondition) ≡ None
-kind_test true b is = refl
-kind_test false b is = absurd (cc)
 
 pub held_is : (j : ℕ) (t : Turn) → is_held_by j t ≡ true → t ≡ Held j
 held_is j Free is = absurd (cc)
@@ -128,214 +161,69 @@ held_is j (Held i) is = ap Held (eqb-true i j is)
 held_is j (Owed i c) is = absurd (cc)
 held_is j (Return i) is = absurd (cc)
 
--- a signal where nobody waits leaves its place inside
-signal_none : (h : Log) (j c k : ℕ) → turn h.events ≡ Held j
-    → lane_of (settled h) k ≡ lane_answered (Signal j c) None k (lane_of h k) (turn_answer (turn (settled h).events))
-signal_none h j c k held =
-    subst (λ (t : Turn). lane_of (after_claim h t) k ≡ lane_answered (Signal j c) None k (lane_of h k) (turn_answer (turn (after_claim h t).events))) (sym held)
-    (stays (j == k) refl ∙ ap (λ (t : Turn). lane_answered (Signal j c) None k (lane_of h k) (turn_answer t)) (sym held))
-  where
-    stays : (t : Bool) → (j == k) ≡ t → lane_of h k ≡ cond t lanes.Inside (cond t lanes.Signalling (lane_of h k))
-    stays true is = sym (inside_last h k (held ∙ ap Held (eqb-true j k is)))
-    stays false is = refl
+-- a place that isn't called is not when the next one goes on
+uncalled_claim : (h : Log) (k : ℕ) (t : Turn) → is_among k (called h.events) ≡ false
+    → is_among k (called (after_claim h t).events) ≡ false
+uncalled_claim h k Free off = off
+uncalled_claim h k (Held j) off = off
+uncalled_claim h k (Owed j c) off =
+    uncalled-push h (event.Resume j c tt) k refl (is_among-less j k (called h.events) off)
+uncalled_claim h k (Return j) off = uncalled-push h (event.Back j tt) k refl (is_among-less j k (called h.events) off)
 
--- who is called
-
--- one that waits on c is called there, if it wasn't already
-met_called : (t : Bool) (c : ℕ) (x : Act) → waits_on c x ≡ true → lane_met (lane_by t x) ≡ lane_called c (lane_by t x)
-met_called true c (event.Wait k d p s) on = refl
-met_called false c (event.Wait k d p s) on = rw on refl
-met_called t c (event.Admit k s) on = absurd (cc)
-met_called t c (event.Resume k d s) on = absurd (cc)
-met_called t c (event.Back k s) on = absurd (cc)
-met_called t c (event.Signal k d w s) on = absurd (cc)
-met_called t c (event.Pass k d w s) on = absurd (cc)
-met_called t c (event.Leave k s) on = absurd (cc)
-met_called t c (event.Notify k d w s) on = absurd (cc)
-met_called t c (event.Broadcast k d s) on = absurd (cc)
-
-met_waiter : (h : Log) (c k : ℕ) (x : Act) → place_of x ≡ k → Waits c h.events x → lane_met (lane_of h k) ≡ lane_called c (lane_of h k)
-met_waiter h c k x mine w =
-    let t : Bool = is_among k (called h.events) in
-    let is : lane_of h k ≡ lane_by t x = subst (λ (j : ℕ). lane_last t (newest (own j h.events)) ≡ lane_by t x) mine (ap (lane_last t) w.last) in
-    ap lane_met is ∙ met_called t c x w.on ∙ sym (ap (lane_called c) is)
-
--- in which order they stand makes no difference
-or_swap : (a b d : Bool) → (a || (b || d)) ≡ (b || (a || d))
-or_swap true true d = refl
-or_swap true false d = refl
-or_swap false true d = refl
-or_swap false false d = refl
-
-is_among-put_in : (k : ℕ) (x : Act) (ys : List Act) → is_among k (put_in priority_of x ys) ≡ (place_of x == k || is_among k ys)
-is_among-put_in k x [] = refl
-is_among-put_in k x (y ∷ ys) = by (leb (priority_of y) (priority_of x)) (is_among-put_in k x ys)
-  where
-    by : (t : Bool) → is_among k (put_in priority_of x ys) ≡ (place_of x == k || is_among k ys)
-        → is_among k (cond t (y ∷ put_in priority_of x ys) (x ∷ y ∷ ys)) ≡ (place_of x == k || (place_of y == k || is_among k ys))
-    by true rest = ap (λ (b : Bool). place_of y == k || b) rest ∙ or_swap (place_of y == k) (place_of x == k) (is_among k ys)
-    by false rest = refl
-
-is_among-put_all : (k : ℕ) (placed xs : List Act) → is_among k (put_all priority_of placed xs) ≡ (is_among k xs || is_among k placed)
-is_among-put_all k placed [] = refl
-is_among-put_all k placed (x ∷ xs) =
-    is_among-put_all k (put_in priority_of x placed) xs ∙ ap (λ (b : Bool). is_among k xs || b) (is_among-put_in k x placed)
-    ∙ or_first (is_among k xs) (place_of x == k) (is_among k placed)
-  where
-    or_first : (a b d : Bool) → (a || (b || d)) ≡ ((b || a) || d)
-    or_first true true d = refl
-    or_first true false d = refl
-    or_first false true d = refl
-    or_first false false d = refl
-
-is_among-in_order : (k : ℕ) (xs : List Act) → is_among k xs ≡ true → is_among k (in_order priority_of xs) ≡ true
-is_among-in_order k xs is = is_among-put_all k [] xs ∙ ap (λ (b : Bool). b || false) is
-
-one_among : (P : Act → Type 0) (k : ℕ) (es : List Act) → All P es → is_among k es ≡ true → (x : Act) × (place_of x ≡ k) × P x
-one_among P k [] all is = absurd (cc)
-one_among P k (x ∷ es) all is = by (place_of x == k) refl is (one_among P k es (All-tail P x es all))
-  where
-    by : (t : Bool) → (place_of x == k) ≡ t → (t || is_among k es) ≡ true → (is_among k es ≡ true → (y : Act) × (place_of y ≡ k) × P y)
-        → (y : Act) × (place_of y ≡ k) × P y
-    by true mine at rest = (x, eqb-true (place_of x) k mine, All-head P x es all)
-    by false other at rest = rest at
-
--- what a place does by its own last event is all that it does
-abbrev pub Tells : Log → ℕ → Type 0
-Tells h k = (lane : Lane) → Does h k lane ↔ (lane ≡ lane_of h k)
-
--- all that wait on c are called
-called_all : (h : Log) (c k : ℕ) → Tells h k
-    → cond (is_among k (in_order priority_of (waiting c h.events))) (lane_met (lane_of h k)) (lane_of h k) ≡ lane_called c (lane_of h k)
-called_all h c k tells = by (is_among k (in_order priority_of (waiting c h.events))) refl
-  where
-    elsewhere : is_among k (in_order priority_of (waiting c h.events)) ≡ false → (l : Lane) → l ≡ lane_of h k → l ≡ lane_called c l
-    elsewhere none lanes.Outside is = refl
-    elsewhere none lanes.Inside is = refl
-    elsewhere none lanes.Signalling is = refl
-    elsewhere none (lanes.Called d p) is = refl
-    elsewhere none (lanes.Waiting d p) is = on (d == c) refl
-      where
-        on : (t : Bool) → (d == c) ≡ t → lanes.Waiting d p ≡ cond t (lanes.Called d p) (lanes.Waiting d p)
-        on false other = refl
-        on true same =
-            let waits : Contains (waiting d h.events) (event.Wait k d p tt) = (tells (lanes.Waiting d p)).1 is in
-            let there : is_among k (waiting c h.events) ≡ true =
-            subst (λ (e : ℕ). is_among k (waiting e h.events) ≡ true) (eqb-true d c same) (among_these k (event.Wait k d p tt) (waiting d h.events) refl waits) in
-            let clash : true ≡ false = sym (is_among-in_order k (waiting c h.events) there) ∙ none in absurd (cc)
-
-    by : (t : Bool) → is_among k (in_order priority_of (waiting c h.events)) ≡ t → cond t (lane_met (lane_of h k)) (lane_of h k) ≡ lane_called c (lane_of h k)
-    by true some =
-        let x : (y : Act) × (place_of y ≡ k) × Waits c h.events y =
-        one_among (Waits c h.events) k (in_order priority_of (waiting c h.events))
-        (All-in_order priority_of (Waits c h.events) (waiting c h.events) (All-waiting c h.events)) some in
-        met_waiter h c k x.0 x.1 x.2
-    by false none = elsewhere none (lane_of h k) refl
-
-chosen_waits : (h : Log) (c : ℕ) (x : Act) → chosen c h.events ≡ Some x → Waits c h.events x
-unfolding chosen
-chosen_waits h c x is = All-find (Waits c h.events) _ (waiting c h.events) x is (All-waiting c h.events)
-
--- the chosen one is called
-called_one : (h : Log) (j c k : ℕ) (x : Act) → chosen c h.events ≡ Some x
-    → cond (is_among k (called_by h.events (event.Notify j c (place_of x) tt))) (lane_met (lane_of h k)) (lane_of h k)
-    ≡ cond (place_of x == k) (lane_called c (lane_of h k)) (lane_of h k)
-called_one h j c k x is =
-    ap (λ (es : List Act). cond (is_among k es) (lane_met (lane_of h k)) (lane_of h k)) (called_by-notify h.events j c x tt is) ∙ by (place_of x == k) refl
-  where
-    by : (t : Bool) → (place_of x == k) ≡ t → cond (t || false) (lane_met (lane_of h k)) (lane_of h k) ≡ cond t (lane_called c (lane_of h k)) (lane_of h k)
-    by true mine = met_waiter h c k x (eqb-true (place_of x) k mine) (chosen_waits h c x is)
-    by false other = refl
-
--- whoever calls stays inside
-calls_lane : (j k : ℕ) (l m : Lane) → l ≡ m → cond (j == k) lanes.Inside l ≡ cond (j == k) lanes.Inside (cond (j == k) lanes.Inside m)
-calls_lane j k l m e = by (j == k)
-  where
-    by : (t : Bool) → cond t lanes.Inside l ≡ cond t lanes.Inside (cond t lanes.Inside m)
-    by true = refl
-    by false = e
-
--- where it calls nobody, nothing happens
-calls_none : (h : Log) (j k : ℕ) (m : Lane) → turn h.events ≡ Held j → lane_of h k ≡ m
-    → lane_of h k ≡ cond (j == k) lanes.Inside (cond (j == k) lanes.Inside m)
-calls_none h j k m held e = by (j == k) refl
-  where
-    by : (t : Bool) → (j == k) ≡ t → lane_of h k ≡ cond t lanes.Inside (cond t lanes.Inside m)
-    by true is = sym (inside_last h k (held ∙ ap Held (eqb-true j k is)))
-    by false is = e
+-- nor is one that begins to wait
+waits_as : (h : Log) (j c p k : ℕ) → (j == k) ≡ true
+    → lane_by (number_called (settled (with_event h (event.Wait j c p tt))).events k) (event.Wait j c p tt)
+    ≡ lanes.Waiting c p
+waits_as h j c p k is =
+    let g : Log = with_event h (event.Wait j c p tt) in
+    ap (λ (n : ℕ). lane_numbered n c p) (number_none 0 k (called (settled g).events) (uncalled_claim g k (turn g.events)
+    (uncalled-push h (event.Wait j c p tt) k refl (is_among-own j k (called h.events) is))))
 
 -- what a step that isn't refused makes of a place
-stepped : (h : Log) (s : Step) (k : ℕ) → Tells h k → refusal_of h s ≡ None
-    → lane_of (after_step h s) k ≡ lane_answered s (notified_by h s) k (lane_of h k) (turn_answer (turn (after_step h s).events))
-stepped h (Enter j) k tells r =
-    lane_of-push h (event.Admit j tt) k ∙ twice (j == k)
-    ∙ ap (λ (t : Turn). lane_answered (Enter j) None k (lane_of h k) (turn_answer t)) (sym (turn-with h (event.Admit j tt)))
-  where
-    twice : (t : Bool) → cond t lanes.Inside (lane_of h k) ≡ cond t lanes.Inside (cond t lanes.Inside (lane_of h k))
-    twice true = refl
-    twice false = refl
-stepped h (Wait j c p) k tells r = left_by h (Wait j c p) None (event.Wait j c p tt) k refl (lane_of-push h (event.Wait j c p tt) k)
-stepped h (Leave j) k tells r = left_by h (Leave j) None (event.Leave j tt) k refl (lane_of-push h (event.Leave j tt) k)
-stepped h (Signal j c) k tells r = by (chosen c h.events)
+stepped : (h : Log) (s : Step) (k : ℕ) → refusal_of h s ≡ None → IsLane (after_step h s) s k (lane_of h k)
+stepped h (Enter j) k r = stays_by h (Enter j) (event.Admit j tt) k refl (λ n. refl) (λ us ws. refl)
+stepped h (Wait j c p) k r = left_by h (Wait j c p) (event.Wait j c p tt) k refl refl (waits_as h j c p k)
+stepped h (Leave j) k r = left_by h (Leave j) (event.Leave j tt) k refl refl (λ is. refl)
+stepped h (Signal j c) k r = by (chosen c h.events)
   where
     held : turn h.events ≡ Held j
     held = held_is j (turn h.events) (held_test _ _ (kind_refusal h false c) r)
 
-    by : (o : Option Act) → lane_of (settled (after_signal h j c o)) k ≡ lane_answered (Signal j c) None k (lane_of h k) (turn_answer (turn (settled (after_signal h j c o)).events))
-    by None = signal_none h j c k held
-    by (Some e) = left_by h (Signal j c) None (event.Signal j c (place_of e) tt) k refl (lane_of-push h (event.Signal j c (place_of e) tt) k)
-stepped h (Pass j c) k tells r = by (chosen c h.events)
+    by : (o : Option Act) → IsLane (settled (after_signal h j c o)) (Signal j c) k (lane_of h k)
+    by None =
+        subst (λ (t : Turn). IsLane (after_claim h t) (Signal j c) k (lane_of h k)) (sym held)
+        (stays_so h (Signal j c) k held)
+    by (Some e) = left_by h (Signal j c) (event.Signal j c (place_of e) tt) k refl refl (λ is. refl)
+stepped h (Pass j c) k r = by (chosen c h.events)
   where
-    by : (o : Option Act) → lane_of (settled (after_pass h j c o)) k ≡ lane_answered (Pass j c) None k (lane_of h k) (turn_answer (turn (settled (after_pass h j c o)).events))
-    by None = left_by h (Pass j c) None (event.Leave j tt) k refl (lane_of-push h (event.Leave j tt) k)
-    by (Some e) = left_by h (Pass j c) None (event.Pass j c (place_of e) tt) k refl (lane_of-push h (event.Pass j c (place_of e) tt) k)
-stepped h (Notify j c) k tells r =
-    by (chosen c h.events) refl
-    ∙ ap (λ (n : Option ℕ). lane_answered (Notify j c) n k (lane_of h k) (turn_answer (turn (after_notify h j c (chosen c h.events)).events))) (sym there)
+    by : (o : Option Act) → IsLane (settled (after_pass h j c o)) (Pass j c) k (lane_of h k)
+    by None = left_by h (Pass j c) (event.Leave j tt) k refl refl (λ is. refl)
+    by (Some e) = left_by h (Pass j c) (event.Pass j c (place_of e) tt) k refl refl (λ is. refl)
+stepped h (Notify j c) k r = by (chosen c h.events)
   where
-    held : turn h.events ≡ Held j
-    held = held_is j (turn h.events) (held_test _ _ (kind_refusal h true c) r)
-
-    there : notified_by h (Notify j c) ≡ option_map place_of (chosen c h.events)
-    there = ap (place_chosen h c) (kind_test _ _ (further_test _ _ (kind_refusal h true c) r))
-
-    by : (o : Option Act) → chosen c h.events ≡ o → lane_of (after_notify h j c o) k
-        ≡ lane_answered (Notify j c) (option_map place_of o) k (lane_of h k) (turn_answer (turn (after_notify h j c o).events))
-    by None is =
-        calls_none h j k (lane_of h k) held refl
-        ∙ ap (λ (t : Turn). lane_answered (Notify j c) None k (lane_of h k) (turn_answer t)) (sym held)
-    by (Some x) is =
-        lane_of-push h (event.Notify j c (place_of x) tt) k
-        ∙ calls_lane j k _ _ (called_one h j c k x is)
-        ∙ ap (λ (t : Turn). lane_answered (Notify j c) (Some (place_of x)) k (lane_of h k) (turn_answer t))
-        (sym (turn-with h (event.Notify j c (place_of x) tt)))
-stepped h (Broadcast j c) k tells r = by (waiting c h.events) refl
+    by : (o : Option Act) → IsLane (after_notify h j c o) (Notify j c) k (lane_of h k)
+    by None = stays_so h (Notify j c) k (held_is j (turn h.events) (held_test _ _ (kind_refusal h true c) r))
+    by (Some x) = stays_by h (Notify j c) (event.Notify j c (place_of x) tt) k refl (λ n. refl) (λ us ws. refl)
+stepped h (Broadcast j c) k r = by (waiting c h.events)
   where
-    held : turn h.events ≡ Held j
-    held = held_is j (turn h.events) (held_test _ _ (kind_refusal h true c) r)
+    by : (ws : List Act) → IsLane (after_broadcast h j c ws) (Broadcast j c) k (lane_of h k)
+    by [] = stays_so h (Broadcast j c) k (held_is j (turn h.events) (held_test _ _ (kind_refusal h true c) r))
+    by (w ∷ ws) = stays_by h (Broadcast j c) (event.Broadcast j c tt) k refl (λ n. refl) (λ us vs. refl)
 
-    by : (ws : List Act) → waiting c h.events ≡ ws
-        → lane_of (after_broadcast h j c ws) k ≡ lane_answered (Broadcast j c) None k (lane_of h k) (turn_answer (turn (after_broadcast h j c ws).events))
-    by [] none =
-        calls_none h j k (lane_called c (lane_of h k)) held
-        (ap (λ (es : List Act). cond (is_among k (in_order priority_of es)) (lane_met (lane_of h k)) (lane_of h k)) (sym none) ∙ called_all h c k tells)
-        ∙ ap (λ (t : Turn). lane_answered (Broadcast j c) None k (lane_of h k) (turn_answer t)) (sym held)
-    by (w ∷ ws) some =
-        lane_of-push h (event.Broadcast j c tt) k
-        ∙ calls_lane j k _ _ (called_all h c k tells)
-        ∙ ap (λ (t : Turn). lane_answered (Broadcast j c) None k (lane_of h k) (turn_answer t)) (sym (turn-with h (event.Broadcast j c tt)))
-
--- what a command makes of a place, by its answer
-pub lane_of-after : (h : Log) (c : Command) (k : ℕ) → Tells h k
-    → lane_of (history_after h c) k ≡ lane_commanded c (notified h c) k (lane_of h k) (answer_to h c)
-unfolding history_after answer_to notified
-lane_of-after h (Do s) k tells = by (refusal_of h s) refl
+-- what a command makes of a place, by its answer and by the place's number among those that are called then
+pub lane_of-after : (h : Log) (c : Command) (k : ℕ)
+    → lane_of (history_after h c) k
+    ≡ lane_commanded c (number_called (history_after h c).events k) k (lane_of h k) (answer_to h c)
+unfolding history_after answer_to
+lane_of-after h (Do s) k = by (refusal_of h s) refl
   where
-    by : (o : Option StepRefused) → refusal_of h s ≡ o → lane_of (history_by h s o) k ≡ lane_answered s (notified_by h s) k (lane_of h k) (step_answer h s o)
-    by None is = stepped h s k tells is
+    by : (o : Option StepRefused) → refusal_of h s ≡ o
+        → lane_of (history_by h s o) k
+        ≡ lane_answered s (number_called (history_by h s o).events k) k (lane_of h k) (step_answer h s o)
+    by None is = stepped h s k is
     by (Some r) is = refl
-lane_of-after h (Queue c) k tells = refl
-lane_of-after h (First c) k tells = refl
+lane_of-after h (Queue c) k = refl
+lane_of-after h (First c) k = refl
 
 -- after it nobody is owed the monitor
 pub claimed-step : (h : Log) (s : Step) → refusal_of h s ≡ None → IsClaimed (turn (after_step h s).events)
@@ -376,18 +264,23 @@ places-claim h (Return j) = refl
 places-step : (h : Log) (s : Step) → (after_step h s).places ≡ h.places
 unfolding with_event
 places-step h (Enter j) = refl
-places-step h (Wait j c p) = places-claim (with_event h (event.Wait j c p tt)) (turn (with_event h (event.Wait j c p tt)).events)
+places-step h (Wait j c p) =
+    places-claim (with_event h (event.Wait j c p tt)) (turn (with_event h (event.Wait j c p tt)).events)
 places-step h (Leave j) = places-claim (with_event h (event.Leave j tt)) (turn (with_event h (event.Leave j tt)).events)
 places-step h (Signal j c) = by (chosen c h.events)
   where
     by : (o : Option Act) → (settled (after_signal h j c o)).places ≡ h.places
     by None = places-claim h (turn h.events)
-    by (Some e) = places-claim (with_event h (event.Signal j c (place_of e) tt)) (turn (with_event h (event.Signal j c (place_of e) tt)).events)
+    by (Some e) =
+        places-claim (with_event h (event.Signal j c (place_of e) tt))
+        (turn (with_event h (event.Signal j c (place_of e) tt)).events)
 places-step h (Pass j c) = by (chosen c h.events)
   where
     by : (o : Option Act) → (settled (after_pass h j c o)).places ≡ h.places
     by None = places-claim (with_event h (event.Leave j tt)) (turn (with_event h (event.Leave j tt)).events)
-    by (Some e) = places-claim (with_event h (event.Pass j c (place_of e) tt)) (turn (with_event h (event.Pass j c (place_of e) tt)).events)
+    by (Some e) =
+        places-claim (with_event h (event.Pass j c (place_of e) tt))
+        (turn (with_event h (event.Pass j c (place_of e) tt)).events)
 places-step h (Notify j c) = by (chosen c h.events)
   where
     by : (o : Option Act) → (after_notify h j c o).places ≡ h.places
@@ -411,14 +304,16 @@ places-after h (First c) = refl
 
 -- what a row that is answered as the history says makes of a place
 pub answered_lane : (h : Log) (row : Row) (k : ℕ) → IsAnswered h row
-    → lane_after row k (lane_of h k) ≡ lane_commanded row.command (notified h row.command) k (lane_of h k) (answer_to h row.command)
+    → lane_after row k (lane_of h k) ≡ lane_of (history_after h row.command) k
 answered_lane h row k answered =
-    ap (λ (n : Option ℕ). lane_commanded row.command n k (lane_of h k) row.answer) answered.1
-    ∙ ap (lane_commanded row.command (notified h row.command) k (lane_of h k)) answered.0
+    ap (λ (n : ℕ). lane_commanded row.command n k (lane_of h k) row.answer) (answered.1 k)
+    ∙ ap (lane_commanded row.command (number_called (history_after h row.command).events k) k (lane_of h k)) answered.0
+    ∙ sym (lane_of-after h row.command k)
 
 -- lanes that are taken past a row show the history after it
 pub Shows-after : (h : Log) (row : Row) (old new : List Lane) → length new ≡ length old
-    → ((k : ℕ) → k < length old → slice_index_or new k lanes.Outside ≡ lane_after row k (slice_index_or old k lanes.Outside))
+    → ((k : ℕ) → k < length old
+    → slice_index_or new k lanes.Outside ≡ lane_after row k (slice_index_or old k lanes.Outside))
     → HasBook (history_after h row.command) → IsAnswered h row → Shows h old → Shows (history_after h row.command) new
 Shows-after h row old new long each book answered shows = record {
   legal = book.1.legal;
@@ -427,26 +322,26 @@ Shows-after h row old new long each book answered shows = record {
   each = λ k below lane.
       let inside : k < h.places = subst (λ (n : ℕ). k < n) (places-after h row.command) below in
       let was : slice_index_or old k lanes.Outside ≡ lane_of h k =
-      Does-last h k (slice_index_or old k lanes.Outside) shows.legal ((shows.each k inside (slice_index_or old k lanes.Outside)).1 refl) in
-      let tells : Tells h k = λ l. (λ d. (shows.each k inside l).0 d ∙ was, λ e. (shows.each k inside l).1 (e ∙ sym was)) in
+      Does-last h k (slice_index_or old k lanes.Outside) shows.legal
+      ((shows.each k inside (slice_index_or old k lanes.Outside)).1 refl) in
       let is : slice_index_or new k lanes.Outside ≡ lane_of (history_after h row.command) k =
-      each k (subst (λ (n : ℕ). k < n) (sym shows.places) inside)
-      ∙ ap (lane_after row k) was
-      ∙ answered_lane h row k answered
-      ∙ sym (lane_of-after h row.command k tells) in
+      each k (subst (λ (n : ℕ). k < n) (sym shows.places) inside) ∙ ap (lane_after row k) was
+      ∙ answered_lane h row k answered in
       let one : Does (history_after h row.command) k lane ↔ (lane ≡ lane_of (history_after h row.command) k) =
       Does-by_last book.0 (history_after h row.command) k lane book.1 (claimed-after h row.command shows.claimed) in
       (λ d. one.0 d ∙ sym is, λ e. one.1 (e ∙ is));
 }
 
 -- all lanes are outside where nothing happened
-pub Shows-opened : (n m q : ℕ) (drawn : List Lane) → length drawn ≡ n → ((k : ℕ) → slice_index_or drawn k lanes.Outside ≡ lanes.Outside) → Shows (opened n m q tt) drawn
+pub Shows-opened : (n m q : ℕ) (drawn : List Lane) → length drawn ≡ n
+    → ((k : ℕ) → slice_index_or drawn k lanes.Outside ≡ lanes.Outside) → Shows (opened n m q tt) drawn
 Shows-opened n m q drawn long out = record {
   legal = (IsOf-opened n m q 0 0).legal;
   claimed = nobody;
   places = long;
   each = λ k below lane.
-      let one : Does (opened n m q tt) k lane ↔ (lane ≡ lane_of (opened n m q tt) k) = Does-by_last _ (opened n m q tt) k lane (IsOf-opened n m q 0 0) nobody in
+      let one : Does (opened n m q tt) k lane ↔ (lane ≡ lane_of (opened n m q tt) k) =
+      Does-by_last _ (opened n m q tt) k lane (IsOf-opened n m q 0 0) nobody in
       (λ d. one.0 d ∙ sym (out k ∙ outside_first k), λ e. one.1 (e ∙ (out k ∙ outside_first k)));
 }
   where
@@ -462,7 +357,8 @@ pub Answered-push : (h : Log) (rows : List Row) (row : Row) → Answered h rows 
 Answered-push h [] row a is book = (a, is, book)
 Answered-push h (r ∷ rows) row a is book = (a.0, a.1, Answered-push (history_after h r.command) rows row a.2 is book)
 
-pub after_rows-push : (h : Log) (rows : List Row) (row : Row) → after_rows h (rows ++ row ∷ []) ≡ history_after (after_rows h rows) row.command
+pub after_rows-push : (h : Log) (rows : List Row) (row : Row)
+    → after_rows h (rows ++ row ∷ []) ≡ history_after (after_rows h rows) row.command
 after_rows-push h [] row = refl
 after_rows-push h (r ∷ rows) row = after_rows-push (history_after h r.command) rows row
 
@@ -473,46 +369,57 @@ pub Answered-at : (h : Log) (rows : List Row) (i : ℕ) (d : Row) → i < length
 Answered-at h [] i d below a = absurd (omega (arith, below))
 Answered-at h (row ∷ []) zero d below a = (a.1, a.2)
 Answered-at h (row ∷ next ∷ rows) zero d below a = (a.1, a.2.0)
-Answered-at h (row ∷ rows) (suc i) d below a = Answered-at (history_after h row.command) rows i d (omega (arith, below)) a.2
+Answered-at h (row ∷ rows) (suc i) d below a =
+    Answered-at (history_after h row.command) rows i d (omega (arith, below)) a.2
 
 -- and a book is of what happened before it
-pub Answered-before : (h : Log) (rows : List Row) (i : ℕ) → i < length rows → Answered h rows → HasBook (after_rows h (take i rows))
+pub Answered-before : (h : Log) (rows : List Row) (i : ℕ) → i < length rows → Answered h rows
+    → HasBook (after_rows h (take i rows))
 Answered-before h [] i below a = absurd (omega (arith, below))
 Answered-before h (row ∷ rows) zero below a = a.0
-Answered-before h (row ∷ rows) (suc i) below a = Answered-before (history_after h row.command) rows i (omega (arith, below)) a.2
+Answered-before h (row ∷ rows) (suc i) below a =
+    Answered-before (history_after h row.command) rows i (omega (arith, below)) a.2
 
 -- and the next row happens after those before it
 after_rows_suc : (h : Log) (rows : List Row) (i : ℕ) (d : Row) → i < length rows
     → after_rows h (take (suc i) rows) ≡ history_after (after_rows h (take i rows)) (slice_index_or rows i d).command
 after_rows_suc h [] i d below = absurd (omega (arith, below))
 after_rows_suc h (row ∷ rows) zero d below = refl
-after_rows_suc h (row ∷ rows) (suc i) d below = after_rows_suc (history_after h row.command) rows i d (omega (arith, below))
+after_rows_suc h (row ∷ rows) (suc i) d below =
+    after_rows_suc (history_after h row.command) rows i d (omega (arith, below))
 
 pub after_rows-next : (h : Log) (rows : List Row) (i : ℕ) (d : Row) → i < length rows
     → after_rows h (take (i + 1) rows) ≡ history_after (after_rows h (take i rows)) (slice_index_or rows i d).command
-after_rows-next h rows i d below = ap (λ (n : ℕ). after_rows h (take n rows)) (add-one i) ∙ after_rows_suc h rows i d below
+after_rows-next h rows i d below =
+    ap (λ (n : ℕ). after_rows h (take n rows)) (add-one i) ∙ after_rows_suc h rows i d below
 
 take_front : {X : Type 0} (xs ys : List X) → take (length xs) (xs ++ ys) ≡ xs
 take_front [] ys = refl
 take_front (x ∷ xs) ys = ap (λ (l : List _). x ∷ l) (take_front xs ys)
 
 refill_whole : {X : Type 0} (old new : List X) → length new ≡ length old → refill (length old) old new ≡ new
-refill_whole old new e = ap (λ (n : ℕ). take n (new ++ drop (length new) old)) (sym e) ∙ take_front new (drop (length new) old)
+refill_whole old new e =
+    ap (λ (n : ℕ). take n (new ++ drop (length new) old)) (sym e) ∙ take_front new (drop (length new) old)
 
 -- the next row, where the lanes are lent as a slice to be taken past it: they show what happened after it
-pub shown_next : (h : Log) (rows seen : List Row) (i : ℕ) (d : Row) (old lent new : List Lane) → seen ≡ rows → lent ≡ old → i < length seen → Answered h rows
+pub shown_next : (h : Log) (rows seen : List Row) (i : ℕ) (d : Row) (old lent new : List Lane) → seen ≡ rows
+    → lent ≡ old → i < length seen → Answered h rows
     → Shows (after_rows h (take i rows)) old → length new ≡ length lent
     → ((g : Log) → HasBook (history_after g (slice_index_or seen i d).command) → IsAnswered g (slice_index_or seen i d)
     → Shows g lent → Shows (history_after g (slice_index_or seen i d).command) new)
-    → IsShownAfter (refill (length old) old new) (slice_index_or seen i d) × Shows (after_rows h (take (i + 1) rows)) (refill (length old) old new)
+    → IsShownAfter (refill (length old) old new) (slice_index_or seen i d)
+    × Shows (after_rows h (take (i + 1) rows)) (refill (length old) old new)
 shown_next h rows seen i d old lent new seen_is lent_is below told shows long step =
     let row : Row = slice_index_or seen i d in
     let g : Log = after_rows h (take i seen) in
     let at : IsAnswered g row × HasBook (history_after g row.command) =
     Answered-at h seen i d below (subst (λ (l : List Row). Answered h l) (sym seen_is) told) in
-    let before : Shows g lent = subst (λ (l : List Lane). Shows g l) (sym lent_is) (subst (λ (l : List Row). Shows (after_rows h (take i l)) old) (sym seen_is) shows) in
+    let before : Shows g lent =
+    subst (λ (l : List Lane). Shows g l) (sym lent_is)
+    (subst (λ (l : List Row). Shows (after_rows h (take i l)) old) (sym seen_is) shows) in
     let drawn : Shows (history_after g row.command) (refill (length old) old new) =
-    subst (λ (l : List Lane). Shows (history_after g row.command) l) (sym (refill_whole old new (long ∙ ap length lent_is))) (step g at.1 at.0 before) in (
+    subst (λ (l : List Lane). Shows (history_after g row.command) l)
+    (sym (refill_whole old new (long ∙ ap length lent_is))) (step g at.1 at.0 before) in (
       (g, at.0, drawn),
       subst (λ (l : List Row). Shows (after_rows h (take (i + 1) l)) (refill (length old) old new)) seen_is
           (subst (λ (x : Log). Shows x (refill (length old) old new)) (sym (after_rows-next h seen i d below)) drawn),
@@ -530,7 +437,8 @@ pub record Follows (h : Log) (rows : List Row) (i k : ℕ) (lane : Lane) : Type 
 pub Follows-opening : (header : Header) (rows : List Row) (k : ℕ) → Follows (opening header) rows 0 k lanes.Outside
 Follows-opening header rows k = record { claimed = opening_claimed header; does = refl }
 
-pub Follows-next : (h : Log) (rows seen : List Row) (i k : ℕ) (d : Row) (old new : Lane) → seen ≡ rows → i < length seen → Answered h rows
+pub Follows-next : (h : Log) (rows seen : List Row) (i k : ℕ) (d : Row) (old new : Lane) → seen ≡ rows
+    → i < length seen → Answered h rows
     → new ≡ lane_after (slice_index_or seen i d) k old → Follows h rows i k old
     → Follows h rows (i + 1) k new × Does (after_rows h (take (i + 1) rows)) k new
 Follows-next h rows seen i k d old new seen_is below told new_is before =
@@ -541,15 +449,15 @@ Follows-next h rows seen i k d old new seen_is below told new_is before =
     let at : IsAnswered g row × HasBook (history_after g row.command) = Answered-at h rows i d inside told in
     let next : after_rows h (take (i + 1) rows) ≡ history_after g row.command = after_rows-next h rows i d inside in
     let claimed : IsClaimed (turn (history_after g row.command).events) = claimed-after g row.command before.claimed in
-    let book : HasBook g = Answered-before h rows i inside told in
     let does : new ≡ lane_of (history_after g row.command) k =
     new_is ∙ ap (λ (r : Row). lane_after r k old) is ∙ ap (lane_after row k) before.does
-    ∙ answered_lane g row k at.0 ∙ sym (lane_of-after g row.command k (λ l. Does-by_last book.0 g k l book.1 before.claimed)) in (
+    ∙ answered_lane g row k at.0 in (
       record {
         claimed = subst (λ (x : Log). IsClaimed (turn x.events)) (sym next) claimed;
         does = does ∙ ap (λ (x : Log). lane_of x k) (sym next);
       },
-      subst (λ (x : Log). Does x k new) (sym next) ((Does-by_last at.1.0 (history_after g row.command) k new at.1.1 claimed).1 does),
+      subst (λ (x : Log). Does x k new) (sym next)
+          ((Does-by_last at.1.0 (history_after g row.command) k new at.1.1 claimed).1 does),
     )
 
 -- one row more, of a place that goes on as it did
@@ -562,7 +470,8 @@ during_next c k lane since i before now j from below = ⊎_elim
     (cases_lt j i)
 
 -- the first row, of a place that begins to do this there
-pub during_one : (c : Chart) (k : ℕ) (lane : Lane) (i : ℕ) → Does (after_rows (opening c.header) (take (i + 1) c.rows.items)) k lane
+pub during_one : (c : Chart) (k : ℕ) (lane : Lane) (i : ℕ)
+    → Does (after_rows (opening c.header) (take (i + 1) c.rows.items)) k lane
     → DoesDuring c k lane i (i + 1)
 during_one c k lane i now j from below =
     let same : j ≡ i = omega (arith, from, below) in

@@ -1,5 +1,5 @@
 -- What a place does after a row, and who hands the monitor to whom.
-use Rattle.std.specs.Prelude.{ℕ, ◌==◌, Bool, true, false, if◌then◌else◌, Option, Some, None}
+use Rattle.std.specs.Prelude.{ℕ, ◌==◌, Bool, true, false, if◌then◌else◌, Option, Some, None, slice_index_or}
 use Rattle.wait_book.specs.declared.steps.Step.{Step}
 use Rattle.wait_book.specs.declared.steps.Step.TheVariants.{Enter, Wait, Signal, Pass, Leave, Notify, Broadcast}
 use Rattle.hoare_script.specs.declared.answers.Answer.{Answer}
@@ -31,55 +31,44 @@ left_as (Leave k) = lanes.Outside
 left_as (Notify k c) = lanes.Inside
 left_as (Broadcast k c) = lanes.Inside
 
--- a place is the one that is notified
-abbrev pub is_place : Option ℕ → ℕ → Bool
-is_place None place = false
-is_place (Some k) place = k == place
+-- a place that began to wait, by its number among the called: it waits where it isn't among them
+abbrev pub lane_numbered : ℕ → ℕ → ℕ → Lane
+lane_numbered number c p = if number == 0 then lanes.Waiting c p else lanes.Called c p number
 
--- a place once those that wait on c are called: one that waits there is called
-abbrev pub lane_called : ℕ → Lane → Lane
-lane_called c (lanes.Waiting d p) = if d == c then lanes.Called d p else lanes.Waiting d p
-lane_called c lanes.Outside = lanes.Outside
-lane_called c lanes.Inside = lanes.Inside
-lane_called c lanes.Signalling = lanes.Signalling
-lane_called c (lanes.Called d p) = lanes.Called d p
-
--- a place beside a step of another: a notify calls one, and a broadcast all that wait
-abbrev pub lane_beside : Step → Option ℕ → ℕ → Lane → Lane
-lane_beside (Notify k c) notified place before = if is_place notified place then lane_called c before else before
-lane_beside (Broadcast k c) notified place before = lane_called c before
-lane_beside (Enter k) notified place before = before
-lane_beside (Wait k c p) notified place before = before
-lane_beside (Signal k c) notified place before = before
-lane_beside (Pass k c) notified place before = before
-lane_beside (Leave k) notified place before = before
+-- a place beside a step of another: one that waits, or was called, has its number
+abbrev pub lane_beside : ℕ → Lane → Lane
+lane_beside number (lanes.Waiting c p) = lane_numbered number c p
+lane_beside number (lanes.Called c p n) = lane_numbered number c p
+lane_beside number lanes.Outside = lanes.Outside
+lane_beside number lanes.Inside = lanes.Inside
+lane_beside number lanes.Signalling = lanes.Signalling
 
 -- a place where another is inside, or nobody
-abbrev pub lane_left : Step → Option ℕ → ℕ → Lane → Lane
-lane_left s notified place before = if actor s == place then left_as s else lane_beside s notified place before
+abbrev pub lane_left : Step → ℕ → ℕ → Lane → Lane
+lane_left s number place before = if actor s == place then left_as s else lane_beside number before
 
--- a place after a step, by the step's answer
-abbrev pub lane_answered : Step → Option ℕ → ℕ → Lane → Answer → Lane
-lane_answered s notified place before (answers.Refused r) = before
-lane_answered s notified place before (answers.Inside k) =
-    if k == place then lanes.Inside else lane_left s notified place before
-lane_answered s notified place before answers.Free = lane_left s notified place before
-lane_answered s notified place before (answers.Waiting b) = lane_left s notified place before
-lane_answered s notified place before answers.Nobody = lane_left s notified place before
-lane_answered s notified place before (answers.Priority p) = lane_left s notified place before
+-- a place after a step, by the step's answer and the place's number among those that are called then
+abbrev pub lane_answered : Step → ℕ → ℕ → Lane → Answer → Lane
+lane_answered s number place before (answers.Refused r) = before
+lane_answered s number place before (answers.Inside k) =
+    if k == place then lanes.Inside else lane_left s number place before
+lane_answered s number place before answers.Free = lane_left s number place before
+lane_answered s number place before (answers.Waiting b) = lane_left s number place before
+lane_answered s number place before answers.Nobody = lane_left s number place before
+lane_answered s number place before (answers.Priority p) = lane_left s number place before
 
 -- a place after a command: a question changes nothing
-abbrev pub lane_commanded : Command → Option ℕ → ℕ → Lane → Answer → Lane
-lane_commanded (Do s) notified place before answer = lane_answered s notified place before answer
-lane_commanded (Queue c) notified place before answer = before
-lane_commanded (First c) notified place before answer = before
+abbrev pub lane_commanded : Command → ℕ → ℕ → Lane → Answer → Lane
+lane_commanded (Do s) number place before answer = lane_answered s number place before answer
+lane_commanded (Queue c) number place before answer = before
+lane_commanded (First c) number place before answer = before
 
 abbrev pub lane_after : Row → ℕ → Lane → Lane
-lane_after row place before = lane_commanded row.command row.notified place before row.answer
+lane_after row place before = lane_commanded row.command (slice_index_or row.numbers place 0) place before row.answer
 
 -- one that waited is called
 abbrev pub is_call : Lane → Lane → Bool
-is_call (lanes.Waiting c p) (lanes.Called d q) = true
+is_call (lanes.Waiting c p) (lanes.Called d q n) = true
 is_call _ _ = false
 
 -- who calls: the place of the step by which a place is called

@@ -1,5 +1,6 @@
 -- What a place does where a history happened, and which lanes and rows show that.
-use Rattle.std.specs.Prelude.{ℕ, ◌≡◌, ◌<◌, ◌≤◌, ◌+◌, ◌↔◌, Bool, true, IsTrue, List, [], ◌∷◌, ◌++◌, length, slice_index_or, take, Option, Some, None, ⊤}
+use Rattle.std.specs.Prelude.{ℕ, ◌≡◌, ◌<◌, ◌≤◌, ◌+◌, ◌↔◌, Bool, true, IsTrue, List, [], ◌∷◌, ◌++◌, length}
+use Rattle.std.specs.Prelude.{slice_index_or, take, Option, Some, None, ⊤}
 use Rattle.std.specs.List.{Contains}
 use Rattle.hoare_law.specs.declared.event.History.{History}
 use Rattle.hoare_law.specs.declared.event.Event.TheVariants.{Wait}
@@ -11,7 +12,8 @@ use Rattle.hoare_law.specs.Legal.{IsLegal}
 use Rattle.hoare_law.specs.Turns.{turn, urgent, outside}
 use Rattle.hoare_law.specs.Waiting.{waiting}
 use Rattle.wait_book.specs.Contents.{Contents, IsOf}
-use Rattle.hoare_script.specs.Answers.{answer_to, history_after, notified}
+use Rattle.wait_book.specs.Numbers.{number_called}
+use Rattle.hoare_script.specs.Answers.{answer_to, history_after}
 use Rattle.hoare_script.specs.declared.answers.Answer.{Answer}
 use Rattle.hoare_script.specs.declared.lines.Command.{Command}
 use Rattle.hoare_script.specs.declared.lines.Header.{Header}
@@ -24,13 +26,14 @@ use Rattle.script_picture.specs.declared.read.Script.{Script}
 use Rattle.script_picture.specs.Lanes.{hand_over}
 
 -- place k does this where h happened: it is outside, it has the turn, it waits on a condition with a priority, it is a
--- waiting signaller, or it was called from such a wait. All five are the words of hoare_law
+-- waiting signaller, or it was called from such a wait and has this number among the called, in the order in which they
+-- go on. All are the words of hoare_law, and the number is that of wait_book
 abbrev pub Does : History (Unit {0}) → ℕ → Lane → Type 0
 Does h k lanes.Outside = outside k h.events ≡ true
 Does h k lanes.Inside = turn h.events ≡ turns.Held k
 Does h k (lanes.Waiting c p) = Contains (waiting c h.events) (Wait k c p tt)
 Does h k lanes.Signalling = Contains (urgent h.events) k
-Does h k (lanes.Called c p) = Contains (called h.events) (Wait k c p tt)
+Does h k (lanes.Called c p n) = Contains (called h.events) (Wait k c p tt) × (n ≡ number_called h.events k)
 
 -- nobody is owed the monitor
 abbrev pub IsClaimed : Turn → Type 0
@@ -51,9 +54,11 @@ pub record Shows (h : History (Unit {0})) (drawn : List Lane) : Type 0 where
 abbrev pub HasBook : History (Unit {0}) → Type 0
 HasBook h = (b : Contents) × IsOf b h
 
--- a row has the answer that a history says, and the place that a notify calls there
+-- a row has the answer that a history says, and for each place its number among those that are called after the row
 abbrev pub IsAnswered : History (Unit {0}) → Row → Type 0
-IsAnswered h row = (row.answer ≡ answer_to h row.command) × (row.notified ≡ notified h row.command)
+IsAnswered h row =
+    (row.answer ≡ answer_to h row.command)
+    × ((k : ℕ) → slice_index_or row.numbers k 0 ≡ number_called (history_after h row.command).events k)
 
 -- each row is answered as the history before it says
 abbrev pub Answered : History (Unit {0}) → List Row → Type 0
@@ -99,7 +104,7 @@ abbrev pub IsWaiting : History (Unit {0}) → ℕ → Type 0
 IsWaiting h k = (c p : ℕ) × Does h k (lanes.Waiting c p)
 
 abbrev pub IsCalled : History (Unit {0}) → ℕ → Type 0
-IsCalled h k = (c p : ℕ) × Does h k (lanes.Called c p)
+IsCalled h k = (c p n : ℕ) × Does h k (lanes.Called c p n)
 
 -- one place is inside before row i, and another waits before it and is called after it
 pub record Calls (c : Chart) (i from to : ℕ) : Type 0 where
@@ -117,8 +122,8 @@ LeavesAlone c i k =
 abbrev pub IsRowMore : Option Command → List Row → List Row → Type 0
 IsRowMore None old new = ⊥
 IsRowMore (Some command) old new =
-    (answer : Answer) × (notified : Option ℕ)
-    × (new ≡ old ++ record { command = command; answer = answer; notified = notified } ∷ [])
+    (answer : Answer) × (numbers : List ℕ)
+    × (new ≡ old ++ record { command = command; answer = answer; numbers = numbers } ∷ [])
 
 -- the rows that were there stay, in front
 abbrev pub IsInFront : List Row → List Row → Type 0

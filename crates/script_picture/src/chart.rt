@@ -3,7 +3,7 @@ ghost use Rattle.std.specs.Prelude.{◌≡◌, ◌<◌, ◌≤◌, ◌↔◌, �
 ghost use Rattle.hoare_law.specs.declared.event.History.{History};
 ghost use Rattle.hoare_script.specs.Answers.{history_after};
 ghost use Rattle.script_picture.specs.declared.chart.Lane.TheVariants as states;
-ghost use Rattle.script_picture.specs.Lanes.{actor, caller, hand_over, is_call, is_place, lane_after, lane_beside, lane_called, left_as};
+ghost use Rattle.script_picture.specs.Lanes.{actor, caller, hand_over, is_call, lane_after, lane_beside, lane_numbered, left_as};
 ghost use Rattle.script_picture.specs.Shown.{HasBook, IsAnswered, Shows, opening};
 
 use arrayvec::ArrayVec;
@@ -23,19 +23,24 @@ pub enum Lane {
     Waiting(u64, u64),
     /// It signalled, and waits for its return.
     Signalling,
-    /// It waited on this condition, with this priority, was called, and hasn't gone on yet.
-    Called(u64, u64),
+    /// It waited on this condition, with this priority, was called, and hasn't gone on yet. Of those it is this one: 1 goes
+    /// on first.
+    Called(u64, u64, u8),
 }
 
 /// What each of at most 64 places does.
 pub type Lanes = ArrayVec<Lane, 64>;
 
-/// A command with its answer, and the place that it would call where it is a notify.
+/// For each place its number among those that were called and haven't gone on yet: 1 of the one that goes on first, and 0
+/// of a place that isn't among them.
+pub type Numbers = [u8; 64];
+
+/// A command with its answer, and who is called after it.
 #[derive(Clone, Copy, Debug, PartialEq, Eq)]
 pub struct Row {
     pub command: Command,
     pub answer: Answer,
-    pub notified: Option<usize>,
+    pub numbers: Numbers,
 }
 
 /// A script that was read: its header, and its rows in order.
@@ -82,53 +87,42 @@ fn left_as(step: Step) -> Lane
     }
 }
 
-/// Whether a place is the one that is notified.
-fn is_place(notified: Option<usize>, place: u64) -> bool
-    ensures { result ≡ is_place notified place }
+/// The number of a place among the called after a row, and 0 where it isn't called.
+fn number_in(row: Row, place: u64) -> u8
+    ensures { result ≡ slice_index_or row.numbers place 0 }
 {
-    match notified {
-        Some(called) => called as u64 == place,
-        None => false,
+    match row.numbers.get(place as usize) {
+        Some(number) => *number,
+        None => 0,
     }
 }
 
-/// What a place does once those that wait on a condition are called: one that waits there is called, and any other goes
-/// on as before.
-fn lane_called(condition: u64, before: Lane) -> Lane
-    ensures { result ≡ lane_called condition before }
+/// What a place does that began to wait, by its number among the called.
+fn lane_numbered(number: u8, condition: u64, priority: u64) -> Lane
+    ensures { result ≡ lane_numbered number condition priority }
+{
+    if number == 0 {
+        return Lane::Waiting(condition, priority);
+    }
+    Lane::Called(condition, priority, number)
+}
+
+/// What a place does beside a step of another that doesn't let it go on: one that waits, or was called, has its number, and
+/// any other goes on as before.
+fn lane_beside(number: u8, before: Lane) -> Lane
+    ensures { result ≡ lane_beside number before }
 {
     match before {
-        Lane::Waiting(on, priority) => {
-            if on == condition {
-                Lane::Called(on, priority)
-            } else {
-                before
-            }
-        }
-        _ => before,
-    }
-}
-
-/// What a place does beside a step of another that doesn't let it go on: the one that is notified is called, and all
-/// that wait where a broadcast is.
-fn lane_beside(step: Step, notified: Option<usize>, place: u64, before: Lane) -> Lane
-    ensures { result ≡ lane_beside step notified place before }
-{
-    match step {
-        Step::Notify(_, condition) => {
-            if is_place(notified, place) {
-                lane_called(condition, before)
-            } else {
-                before
-            }
-        }
-        Step::Broadcast(_, condition) => lane_called(condition, before),
-        _ => before,
+        Lane::Waiting(condition, priority) => lane_numbered(number, condition, priority),
+        Lane::Called(condition, priority, _) => lane_numbered(number, condition, priority),
+        Lane::Outside => before,
+        Lane::Inside => before,
+        Lane::Signalling => before,
     }
 }
 
 /// What a place does after a row, by what it did before: the place of the answer is inside, the place of the step as
-/// the step leaves it, who is called by it is called, and each other does as before. A refused step changes nothing,
+/// the step leaves it, who is called by then is called, and each other does as before. A refused step changes nothing,
 /// nor does a question.
 pub fn lane_after(row: Row, place: u64, before: Lane) -> Lane
     ensures { result ≡ lane_after row place before }
@@ -147,7 +141,7 @@ pub fn lane_after(row: Row, place: u64, before: Lane) -> Lane
     if actor(step) == place {
         return left_as(step);
     }
-    lane_beside(step, row.notified, place, before)
+    lane_beside(number_in(row, place), before)
 }
 
 /// Whether a place that waited is called.
@@ -155,7 +149,7 @@ fn is_call(before: Lane, after: Lane) -> bool
     ensures { result ≡ is_call before after }
 {
     match (before, after) {
-        (Lane::Waiting(_, _), Lane::Called(_, _)) => true,
+        (Lane::Waiting(_, _), Lane::Called(_, _, _)) => true,
         _ => false,
     }
 }
@@ -220,8 +214,8 @@ pub fn does(lanes: &Lanes, place: u64, lane: Lane) -> bool
 }
 
 /// Takes all lanes past a row. Where the row is answered as a history says, lanes that show this history go on to show
-/// the history after the row: who waits there, who is a waiting signaller, who is called, whose turn it is, and who is
-/// outside.
+/// the history after the row: who waits there, who is a waiting signaller, who is called and as which, whose turn it is,
+/// and who is outside.
 pub fn advance(lanes: &mut [Lane], row: Row)
     ensures length { length lanes.new ≡ length lanes.old }
     ensures each { (k : ℕ) → k < length lanes.old → slice_index_or lanes.new k states.Outside

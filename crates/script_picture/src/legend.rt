@@ -64,8 +64,8 @@ fn write_call<W: Write>(writer: &mut W, top: u64) -> io::Result<()> {
         height: 22,
     };
     write_call_arrow(writer, 350, 404, top.saturating_add(11))?;
-    write_box(writer, Lane::Called(0, 0), area)?;
-    write_note(writer, 482, top, "is called, and goes on later")
+    write_box(writer, Lane::Called(0, 0, 1), area)?;
+    write_note(writer, 482, top, "is called; 1 goes on first")
 }
 
 fn write_note<W: Write>(writer: &mut W, x: u64, top: u64, note: &str) -> io::Result<()> {

@@ -1,14 +1,16 @@
 //! Reads a script row by row, as `hoare_script` answers it.
-ghost use Rattle.std.specs.Prelude.{◌≡◌, ◌≤◌, ◌||◌, false, None, IfOk, OnOk};
+ghost use Rattle.std.specs.Prelude.{◌≡◌, ◌≤◌, ◌||◌, ℕ, false, None, IfOk, OnOk, slice_index_or};
 ghost use Rattle.std.specs.Result.{MatchResult};
+ghost use Rattle.hoare_law.specs.declared.event.History.{History};
 ghost use Rattle.wait_book.specs.Contents.{IsOf, make_refusal};
+ghost use Rattle.wait_book.specs.Numbers.{number_called};
 ghost use Rattle.hoare_script.specs.Lines.{command_of};
 ghost use Rattle.hoare_script.specs.Runs.{is_read_fault};
 ghost use Rattle.line_text.specs.Streams.{has_read_failed};
 ghost use Rattle.script_picture.specs.Faults.{header_fault, is_header_fault, line_fault};
 ghost use Rattle.script_picture.specs.Shown.{IsInFront, IsRead, IsRowMore, IsTold, opening};
 
-use crate::chart::{Chart, Row};
+use crate::chart::{Chart, Numbers, Row};
 use arrayvec::ArrayVec;
 use hoare_script::ScriptFault;
 use hoare_script::lines::{Header, parse_command, parse_header};
@@ -93,6 +95,18 @@ fn read_numbered<R: Read>(
     }
 }
 
+// The numbers of all places among the called.
+fn numbers_of(opened: &Opened) -> Numbers
+    ensures { (h : History (Unit {0})) → IsOf opened.now h → h.places ≤ 64
+        → (k : ℕ) → slice_index_or result k 0 ≡ number_called h.events k }
+{
+    let mut numbers = [0; 64];
+    'places: for place in 0..64 {
+        numbers[place] = opened.number_called(place) as u8;
+    }
+    numbers
+}
+
 impl Script {
     /// Reads the rows, up to the end or the first fault: `BadLine`, `LineTooLong`, `TooMuch`, `ReadFault`, or `Memory`
     /// where no row can be added. What was read stays in the chart, each row answered as the history since the opening says.
@@ -135,12 +149,12 @@ impl Script {
         let Some(command) = parse_command(line) else {
             return Err(ScriptFault::BadLine(number));
         };
-        let notified = self.opened.notified(command);
         let answer = self.opened.answer(command);
+        let numbers = numbers_of(&self.opened);
         let row = Row {
             command,
             answer,
-            notified,
+            numbers,
         };
         match self.chart.rows.push(row) {
             Ok(()) => Ok(()),

@@ -31,7 +31,7 @@ pub fn write_box<W: Write>(writer: &mut W, lane: Lane, area: Area) -> io::Result
         Lane::Inside => write_inside(writer, area),
         Lane::Waiting(condition, priority) => write_waiting(writer, condition, priority, area),
         Lane::Signalling => write_signalling(writer, area),
-        Lane::Called(_, _) => write_called(writer, area),
+        Lane::Called(_, _, number) => write_called(writer, number, area),
     }
 }
 
@@ -54,11 +54,11 @@ fn write_waiting<W: Write>(
     write!(writer, "c{condition} p{priority}</text>\n")
 }
 
-// The box of who was called and goes on later.
-fn write_called<W: Write>(writer: &mut W, area: Area) -> io::Result<()> {
+// The box of who was called and goes on later, with its number among the called.
+fn write_called<W: Write>(writer: &mut W, number: u8, area: Area) -> io::Result<()> {
     write_rectangle(writer, "called", area)?;
     write_label(writer, area, "dark")?;
-    writer.write_all(b"called</text>\n")
+    write!(writer, "called {number}</text>\n")
 }
 
 // The box of who signalled and waits to return.

@@ -43,8 +43,7 @@ pub fn draw<W: Write>(writer: &mut W, chart: &Chart) -> io::Result<()>
     let frame = frame_of(chart);
     write_ground(writer, &frame, chart)?;
     write_calls(writer, &frame, chart)?;
-    write_boxes(writer, &frame, chart)?;
-    let _crossed = write_arrows(writer, &frame, chart)?;
+    write_shapes(writer, &frame, chart)?;
     write_legend(writer, row_top(frame.rows), chart.header.mesa)?;
     writer.write_all(b"</svg>\n")
 }
@@ -200,6 +199,21 @@ fn write_lane_calls<W: Write>(
         lane = lane_after(*row, track.place, lane);
     }
     Ok(noted)
+}
+
+// The boxes, and the arrows of hand-overs. Where there are Mesa conditions these go through behind the boxes: the number of
+// each that is called changes with a hand-over, so that its next box begins beside the arrow.
+fn write_shapes<W: Write>(writer: &mut W, frame: &Frame, chart: &Chart) -> io::Result<()>
+    requires { IsTold chart.now }
+{
+    if chart.header.mesa == 0 {
+        write_boxes(writer, frame, chart)?;
+    }
+    let _crossed = write_arrows(writer, frame, chart)?;
+    if chart.header.mesa > 0 {
+        write_boxes(writer, frame, chart)?;
+    }
+    Ok(())
 }
 
 // The boxes, lane by lane.

@@ -53,7 +53,8 @@ pub fn command_text(command: Command) -> Text {
     }
 }
 
-/// What a lane shows: `.`, `[in]`, `sig`, `call`, or `cC:P` for a wait on condition C with priority P.
+/// What a lane shows: `.`, `[in]`, `sig`, `called N` for the N-th of the called, or `cC:P` for a wait on condition C with
+/// priority P.
 pub fn lane_text(lane: Lane) -> Text {
     let mut text = ArrayVec::new();
     match lane {
@@ -66,8 +67,9 @@ pub fn lane_text(lane: Lane) -> Text {
         Lane::Signalling => {
             let _ = text.try_extend_from_slice(b"sig");
         }
-        Lane::Called(_, _) => {
-            let _ = text.try_extend_from_slice(b"call");
+        Lane::Called(_, _, number) => {
+            let _ = text.try_extend_from_slice(b"called ");
+            append_number(&mut text, number as u64);
         }
         Lane::Waiting(condition, priority) => {
             let _ = text.try_extend_from_slice(b"c");

@@ -12,3 +12,4 @@ pub mod Priorities
 pub mod WithData
 pub mod Signalled
 pub mod Claimed
+pub mod Numbers

@@ -5,3 +5,4 @@ pub mod Lists
 pub mod Chains
 pub mod Linked
 pub mod Insides
+pub mod Numbers

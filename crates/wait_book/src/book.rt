@@ -3,7 +3,9 @@ mod stepping;
 mod waits;
 
 use crate::chains::{CALLED, Chains, SIGNALLERS};
-use crate::queues::{chain_of, first_place, first_priority, is_in_hand, turn_given_up};
+use crate::queues::{
+    chain_of, first_place, first_priority, is_in_hand, number_called, turn_given_up,
+};
 use crate::steps::{MakeRefused, Next};
 use hoare_law::event::Sizes;
 use hoare_law::turn::Turn;
@@ -62,6 +64,7 @@ impl Book {
     ghost use Rattle.hoare_law.specs.Sizes.{IsHoare, IsMesa, sizes_of};
     ghost use Rattle.hoare_law.specs.Priorities.{joined, taken, emptied};
     ghost use Rattle.wait_book.specs.Contents.{IsOf, IsPlaceBelow, SameSizes, make_refusal, next_of, priorities_on, times, times_in};
+    ghost use Rattle.wait_book.specs.Numbers.{number_called};
     ghost use Rattle.wait_book.specs.Stepping.{IsSettled, after_broadcast, after_notify, after_pass, after_signal, after_step, refusal_of, settled};
 
     /// A book of 1 to 64 places and 1 to 8 conditions, of which the last `mesa` are Mesa conditions, where nothing happened yet.
@@ -160,6 +163,16 @@ impl Book {
             → result ≡ option_map place_of (chosen condition h.events) }
     {
         first_place(&self.chains, condition)
+    }
+
+    /// The number of a place among those that were called and haven't gone on yet: 1 of the one that goes on first, and 0 of a
+    /// place that isn't among them.
+    pub fn number_called(&self, place: usize) -> usize
+        ensures of { (h : History (Unit {0})) → IsOf self.now h
+            → result ≡ number_called h.events place }
+        ensures few { result ≤ 64 }
+    {
+        number_called(&self.chains, place)
     }
 
     /// A newcomer comes in, where the monitor is free and its place is outside.

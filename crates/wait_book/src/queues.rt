@@ -1,5 +1,5 @@
 //! What a book asks of its turn, and of the chains of signallers and of those called.
-ghost use Rattle.std.specs.Prelude.{◌≡◌, ◌<◌, ◌==◌, not, map};
+ghost use Rattle.std.specs.Prelude.{◌≡◌, ◌<◌, ◌≤◌, ◌==◌, length, not, map};
 ghost use Rattle.std.specs.List.{slice_get};
 ghost use Rattle.std.specs.Option.{option_map};
 ghost use Rattle.hoare_law.specs.Turns.{turn_given_up};
@@ -7,6 +7,7 @@ ghost use Rattle.wait_book.specs.Contents.{times_in_hand, wait_of};
 ghost use Rattle.wait_book.specs.Insides.{called_in, chain_of};
 ghost use Rattle.wait_book.specs.Lists.{places_in};
 ghost use Rattle.wait_book.specs.Lists.{first_link, list_at};
+ghost use Rattle.wait_book.specs.Numbers.{number_from};
 ghost use Rattle.wait_book.specs.declared.chains.Link.{Link};
 
 use crate::chains::{CALLED, CHAINS, Chains, SIGNALLERS};
@@ -52,6 +53,22 @@ pub(crate) fn nth_priority(chains: &Chains, condition: usize, i: usize) -> Optio
 {
     let link = chains.on(condition).nth(i)?;
     Some(link.priority)
+}
+
+/// The number of a place among those that were called, counted from 1; 0 where it isn't among them.
+pub(crate) fn number_called(chains: &Chains, place: usize) -> usize
+    requires { length (list_at chains.now CALLED) ≤ 64 }
+    ensures number { result ≡ number_from 0 place (places_in (list_at chains.now CALLED)) }
+    ensures few { result ≤ 64 }
+{
+    let mut number = 0;
+    for link in chains.on(CALLED) {
+        number += 1;
+        if link.place == place {
+            return number;
+        }
+    }
+    0
 }
 
 /// Whether a place is the one inside, or was resumed from one of the first conditions, which are Hoare's.

@@ -9,9 +9,11 @@ pub places-preserved : goal.places-preserved
 places-preserved c = record {
   long = length-set c.places.lanes c.places.place c.lane_after.result ∙ c.places.invariant.long;
   done = past-set c.args.row c.args.lanes.now c.places.lanes c.places.place c.lane_after.result (search rules)
-      (c.lane_after.ensures ∙ ap (lane_after c.args.row c.places.place) (c.places.invariant.rest c.places.place (omega arith)))
+      (c.lane_after.ensures
+      ∙ ap (lane_after c.args.row c.places.place) (c.places.invariant.rest c.places.place (omega arith)))
       c.places.invariant.done;
-  rest = λ k above. above-set c.places.lanes c.places.place k c.lane_after.result above ∙ c.places.invariant.rest k (omega (arith, above));
+  rest = λ k above. above-set c.places.lanes c.places.place k c.lane_after.result above
+      ∙ c.places.invariant.rest k (omega (arith, above));
 }
 
 pub returns-clause-shows : goal.returns-clause-shows

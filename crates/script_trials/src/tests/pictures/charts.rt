@@ -72,29 +72,66 @@ enter 1        .       c1:5    .       .
     is_drawn(&rt, script, Ok(()), lines);
 }
 
+// Of three that are called at once the two of least priority go on first, and of these the one that waits longer. Whenever
+// one goes on, the others move up.
 #[test]
 fn broadcast_as_text(rt: HostRuntime) {
-    let lines = b"monitor 5 1 1    0       1       2       3       4
-enter 0          [in]    .       .       .       .
-wait 0 0 2       c0:2    .       .       .       .       -> free
-enter 1          c0:2    [in]    .       .       .
-wait 1 0 1       c0:2    c0:1    .       .       .       -> free
-enter 2          c0:2    c0:1    [in]    .       .
-wait 2 0 1       c0:2    c0:1    c0:1    .       .       -> free
-enter 3          c0:2    c0:1    c0:1    [in]    .
-broadcast 3 0    call <~ call <~ call <~ [in]    .
-enter 4          call    call    call    [in]    .
+    let lines = b"monitor 5 1 1    0           1           2           3       4
+enter 0          [in]        .           .           .       .
+wait 0 0 2       c0:2        .           .           .       .       -> free
+enter 1          c0:2        [in]        .           .       .
+wait 1 0 1       c0:2        c0:1        .           .       .       -> free
+enter 2          c0:2        c0:1        [in]        .       .
+wait 2 0 1       c0:2        c0:1        c0:1        .       .       -> free
+enter 3          c0:2        c0:1        c0:1        [in]    .
+broadcast 3 0    called 3 <~ called 1 <~ called 2 <~ [in]    .
+enter 4          called 3    called 1    called 2    [in]    .
     -> refused 2 (the monitor isn't free)
-leave 3          call    [in] <- call -- .       .
-enter 4          call    [in]    call    .       .
+leave 3          called 2    [in] <----- called 1 -- .       .
+enter 4          called 2    [in]        called 1    .       .
     -> refused 2 (the monitor isn't free)
-leave 1          call    . ----> [in]    .       .
-leave 2          [in] <- . ----- .       .       .
-leave 0          .       .       .       .       .       -> free
-enter 4          .       .       .       .       [in]
-leave 4          .       .       .       .       .       -> free
+leave 1          called 1    . --------> [in]        .       .
+leave 2          [in] <----- . --------- .           .       .
+leave 0          .           .           .           .       .       -> free
+enter 4          .           .           .           .       [in]
+leave 4          .           .           .           .       .       -> free
 ";
     is_drawn(&rt, BROADCAST, Ok(()), lines);
+}
+
+// The called go on in the order of the calls: first 1, which a notify called; then 2, 3 and 0, which a broadcast called, by
+// rising priority (3, 3, 5), and 2 waited longer than 3; then 4, which a notify called last, though its priority is the
+// least.
+#[test]
+fn calls_in_order_as_text(rt: HostRuntime) {
+    let script =
+        b"monitor 5 2 2\nenter 0\nwait 0 0 5\nenter 1\nwait 1 1 9\nenter 2\nwait 2 0 3\nenter 3\nwait 3 0 3\nenter 4\nnotify 4 1\nbroadcast 4 0\nwait 4 0 0\nnotify 1 0\nleave 1\nleave 2\nleave 3\nleave 0\nleave 4\n";
+    let lines = b"monitor 5 2 2    0           1           2           3           4
+enter 0          [in]        .           .           .           .
+wait 0 0 5       c0:5        .           .           .           .
+    -> free
+enter 1          c0:5        [in]        .           .           .
+wait 1 1 9       c0:5        c1:9        .           .           .
+    -> free
+enter 2          c0:5        c1:9        [in]        .           .
+wait 2 0 3       c0:5        c1:9        c0:3        .           .
+    -> free
+enter 3          c0:5        c1:9        c0:3        [in]        .
+wait 3 0 3       c0:5        c1:9        c0:3        c0:3        .
+    -> free
+enter 4          c0:5        c1:9        c0:3        c0:3        [in]
+notify 4 1       c0:5        called 1 <~ c0:3 ~~~~~~ c0:3 ~~~~~~ [in]
+broadcast 4 0    called 4 <~ called 1 ~~ called 2 <~ called 3 <~ [in]
+wait 4 0 0       called 3    [in] <----- called 1 -- called 2 -- c0:0
+notify 1 0       called 3    [in] ~~~~~~ called 1 ~~ called 2 ~> called 4
+leave 1          called 2    . --------> [in]        called 1    called 3
+leave 2          called 1    .           . --------> [in]        called 2
+leave 3          [in] <----- . --------- . --------- .           called 1
+leave 0          . --------- . --------- . --------- . --------> [in]
+leave 4          .           .           .           .           .
+    -> free
+";
+    is_drawn(&rt, script, Ok(()), lines);
 }
 
 // A notify is an arrow that hands nothing over, and a signaller goes on before the one that is called.
@@ -102,19 +139,19 @@ leave 4          .       .       .       .       .       -> free
 fn notify_as_text(rt: HostRuntime) {
     let script =
         b"monitor 4 2 1\nenter 0\nwait 0 0 0\nenter 1\nwait 1 1 0\nenter 2\nsignal 2 0\nnotify 0 0\nnotify 0 1\nleave 0\nleave 2\nleave 1\n";
-    let lines = b"monitor 4 2 1    0       1       2       (1 idle)
-enter 0          [in]    .       .
-wait 0 0 0       c0:0    .       .       -> free
-enter 1          c0:0    [in]    .
-wait 1 1 0       c0:0    c1:0    .       -> free
-enter 2          c0:0    c1:0    [in]
-signal 2 0       [in] <- c1:0 -- sig
-notify 0 0       [in]    c1:0    sig
+    let lines = b"monitor 4 2 1    0       1           2       (1 idle)
+enter 0          [in]    .           .
+wait 0 0 0       c0:0    .           .       -> free
+enter 1          c0:0    [in]        .
+wait 1 1 0       c0:0    c1:0        .       -> free
+enter 2          c0:0    c1:0        [in]
+signal 2 0       [in] <- c1:0 ------ sig
+notify 0 0       [in]    c1:0        sig
     -> refused 6 (the condition is of the other kind)
-notify 0 1       [in] ~> call    sig
-leave 0          . ----- call -> [in]
-leave 2          .       [in] <- .
-leave 1          .       .       .       -> free
+notify 0 1       [in] ~> called 1    sig
+leave 0          . ----- called 1 -> [in]
+leave 2          .       [in] <----- .
+leave 1          .       .           .       -> free
 ";
     is_drawn(&rt, script, Ok(()), lines);
 }
@@ -125,17 +162,17 @@ leave 1          .       .       .       -> free
 fn notified_in_order_as_text(rt: HostRuntime) {
     let script =
         b"monitor 4 2 2\nenter 3\nwait 3 0 1\nenter 0\nwait 0 0 1\nenter 1\nwait 1 1 0\nenter 2\nnotify 2 0\nnotify 2 0\nnotify 2 0\n";
-    let lines = b"monitor 4 2 2    0       1       2       3
-enter 3          .       .       .       [in]
-wait 3 0 1       .       .       .       c0:1    -> free
-enter 0          [in]    .       .       c0:1
-wait 0 0 1       c0:1    .       .       c0:1    -> free
-enter 1          c0:1    [in]    .       c0:1
-wait 1 1 0       c0:1    c1:0    .       c0:1    -> free
-enter 2          c0:1    c1:0    [in]    c0:1
-notify 2 0       c0:1    c1:0    [in] ~> call
-notify 2 0       call <~ c1:0 ~~ [in]    call
-notify 2 0       call    c1:0    [in]    call
+    let lines = b"monitor 4 2 2    0           1       2       3
+enter 3          .           .       .       [in]
+wait 3 0 1       .           .       .       c0:1        -> free
+enter 0          [in]        .       .       c0:1
+wait 0 0 1       c0:1        .       .       c0:1        -> free
+enter 1          c0:1        [in]    .       c0:1
+wait 1 1 0       c0:1        c1:0    .       c0:1        -> free
+enter 2          c0:1        c1:0    [in]    c0:1
+notify 2 0       c0:1        c1:0    [in] ~> called 1
+notify 2 0       called 2 <~ c1:0 ~~ [in]    called 1
+notify 2 0       called 2    c1:0    [in]    called 1
 ";
     is_drawn(&rt, script, Ok(()), lines);
 }

@@ -124,32 +124,40 @@ fn wide_and_idle_lanes_as_svg(rt: HostRuntime) {
     assert_eq!(rt; times(text.as_slice(), b"class=\"head\""), 2);
 }
 
-// The longest step has 13 letters, so that the lanes stand at 20 + 104 + 24 + 34 = 182 and 112 further each, and
-// remarks begin at 630 + 34 + 16 = 680; the longest has 37 letters. The broadcast is the eighth row, from 260 on: its
-// arrows run at 274, from the side of place 3's box, at 518 - 34 = 484. Place 0 is called in five rows, place 1 in two
-// and place 2 in four. Sixteen rows end at 512.
+// The longest step has 13 letters, and `called 3` 8, so that a box of the first three lanes is 9 * 8 + 12 = 84 wide and one
+// of the others 68: the lanes stand at 20 + 104 + 24 + 42 = 190, 128 further at 318 and at 446, at 446 + 42 + 44 + 34 =
+// 566 and at 678, and remarks begin at 678 + 34 + 16 = 728; the longest has 37 letters. The broadcast is the eighth row,
+// from 260 on: its arrows run at 274, from the side of place 3's box, at 566 - 34 = 532. Of the three that wait, 1 and 2
+// have priority 1, and 1 waits longer; 0 has priority 2. So 1 is called first, 2 second and 0 third. Two rows later 1 goes
+// on and the others move up, and so do 2 and 0 again two rows and a row later. Sixteen rows end at 512. The last hand-over
+// runs at 414 to the side of place 0's box, behind the boxes: the first of these comes after its head.
 #[test]
 fn broadcast_as_svg(rt: HostRuntime) {
     let text = drawn_whole(&rt, BROADCAST, Form::Svg);
     for part in [
-        "<svg xmlns=\"http://www.w3.org/2000/svg\" width=\"996\" height=\"616\" viewBox=\"0 0 996 616\" role=\"img\"",
+        "<svg xmlns=\"http://www.w3.org/2000/svg\" width=\"1044\" height=\"616\" viewBox=\"0 0 1044 616\" role=\"img\"",
         ">A monitor with 5 places and 1 condition (1 Mesa), in a script of 16 steps</title>",
         " and 5 lanes, one for each place that comes in, with 3 hand-overs, 3 calls and 2 refusals.</desc>",
         "<text class=\"title\" x=\"20\" y=\"42\">monitor 5 1 1</text>",
-        "<path class=\"arrow call\" d=\"M484 274H224\"/><path class=\"tip\" d=\"M216 274l9-5v10z\"/>",
-        "<path class=\"arrow call\" d=\"M484 274H336\"/><path class=\"tip\" d=\"M328 274l9-5v10z\"/>",
-        "<path class=\"arrow call\" d=\"M484 274H448\"/><path class=\"tip\" d=\"M440 274l9-5v10z\"/>",
-        "<rect class=\"called\" x=\"148\" y=\"263\" width=\"68\" height=\"134\" rx=\"4\"/>",
-        "<rect class=\"called\" x=\"260\" y=\"263\" width=\"68\" height=\"50\" rx=\"4\"/>",
-        "<rect class=\"called\" x=\"372\" y=\"263\" width=\"68\" height=\"106\" rx=\"4\"/>",
+        "<path class=\"arrow call\" d=\"M532 274H240\"/><path class=\"tip\" d=\"M232 274l9-5v10z\"/>",
+        "<path class=\"arrow call\" d=\"M532 274H368\"/><path class=\"tip\" d=\"M360 274l9-5v10z\"/>",
+        "<path class=\"arrow call\" d=\"M532 274H496\"/><path class=\"tip\" d=\"M488 274l9-5v10z\"/>",
+        "<rect class=\"called\" x=\"148\" y=\"263\" width=\"84\" height=\"50\" rx=\"4\"/>\n<text class=\"dark\" x=\"190\" y=\"278\">called 3</text>",
+        "<rect class=\"called\" x=\"148\" y=\"319\" width=\"84\" height=\"50\" rx=\"4\"/>\n<text class=\"dark\" x=\"190\" y=\"334\">called 2</text>",
+        "<rect class=\"called\" x=\"148\" y=\"375\" width=\"84\" height=\"22\" rx=\"4\"/>\n<text class=\"dark\" x=\"190\" y=\"390\">called 1</text>",
+        "<rect class=\"called\" x=\"276\" y=\"263\" width=\"84\" height=\"50\" rx=\"4\"/>\n<text class=\"dark\" x=\"318\" y=\"278\">called 1</text>",
+        "<rect class=\"called\" x=\"404\" y=\"263\" width=\"84\" height=\"50\" rx=\"4\"/>\n<text class=\"dark\" x=\"446\" y=\"278\">called 2</text>",
+        "<rect class=\"called\" x=\"404\" y=\"319\" width=\"84\" height=\"50\" rx=\"4\"/>\n<text class=\"dark\" x=\"446\" y=\"334\">called 1</text>",
+        "<path d=\"M232 414l9-5v10z\"/>\n<rect class=\"inside\" x=\"148\" y=\"67\" width=\"84\" height=\"22\" rx=\"4\"/>",
         // the legend
         "<path class=\"arrow call\" d=\"M350 593H396\"/><path class=\"tip\" d=\"M404 593l-9-5v10z\"/>",
-        "<rect class=\"called\" x=\"404\" y=\"582\" width=\"68\" height=\"22\" rx=\"4\"/>",
-        "<text class=\"note\" x=\"482\" y=\"597\">is called, and goes on later</text>",
+        "<rect class=\"called\" x=\"404\" y=\"582\" width=\"68\" height=\"22\" rx=\"4\"/>\n<text class=\"dark\" x=\"438\" y=\"597\">called 1</text>",
+        "<text class=\"note\" x=\"482\" y=\"597\">is called; 1 goes on first</text>",
     ] {
         assert_eq!(rt; times(text.as_slice(), part.as_bytes()), 1, "at {part}");
     }
     assert_eq!(rt; times(text.as_slice(), b"class=\"arrow call\""), 4);
+    assert_eq!(rt; times(text.as_slice(), b"class=\"called\""), 7);
 }
 
 // One wide lane leaves the others as they are: 20 + 29 * 8 + 24 = 276, then a lane of 204, 9 of 68 and 54 of 76 (their

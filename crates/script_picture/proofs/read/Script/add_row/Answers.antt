@@ -9,14 +9,19 @@ pub returns-in-Ok-clause-told : goal.returns-in-Ok-clause-told
 returns-in-Ok-clause-told c = λ read. (
   read.0.0,
   subst (λ (rows : List Row). Answered (opening c.args.self.now.chart.header) rows) (sym c.in-Ok.ensures.items)
-      (answered_row (opening c.args.self.now.chart.header) c.args.self.now.chart.rows.items c.args.self.now.opened c.answer-answer.new.self
-      c.in-Some.command c.answer-answer.result c.notified-notified.result c.notified-notified.ensures c.answer-answer.ensures read.0.1 read.1).0,
+      (answered_row (opening c.args.self.now.chart.header) c.args.self.now.chart.rows.items c.args.self.now.opened
+      c.answer-answer.new.self
+      c.in-Some.command c.answer-answer.result c.numbers_of-numbers.result read.0.0 c.answer-answer.ensures
+      c.numbers_of-numbers.ensures read.0.1 read.1).0,
 )
 
 pub returns-in-Ok-clause-book : goal.returns-in-Ok-clause-book
 returns-in-Ok-clause-book c = λ read. (
   returns-in-Ok-clause-told c read,
-  subst (λ (rows : List Row). IsOf c.answer-answer.new.self (after_rows (opening c.args.self.now.chart.header) rows)) (sym c.in-Ok.ensures.items)
-      (answered_row (opening c.args.self.now.chart.header) c.args.self.now.chart.rows.items c.args.self.now.opened c.answer-answer.new.self
-      c.in-Some.command c.answer-answer.result c.notified-notified.result c.notified-notified.ensures c.answer-answer.ensures read.0.1 read.1).1,
+  subst (λ (rows : List Row). IsOf c.answer-answer.new.self (after_rows (opening c.args.self.now.chart.header) rows))
+      (sym c.in-Ok.ensures.items)
+      (answered_row (opening c.args.self.now.chart.header) c.args.self.now.chart.rows.items c.args.self.now.opened
+      c.answer-answer.new.self
+      c.in-Some.command c.answer-answer.result c.numbers_of-numbers.result read.0.0 c.answer-answer.ensures
+      c.numbers_of-numbers.ensures read.0.1 read.1).1,
 )

@@ -1,0 +1,32 @@
+-- The number of a place among the called, and how many they are.
+use Rattle.std.proofs.Common.{◌≡◌, ◌≤◌, ◌∷◌, List, [], ℕ, length, map, refl, ap, sym, ◌∙◌, arith}
+use Rattle.std.proofs.lemmas.List.{length-map}
+use Rattle.hoare_law.specs.declared.event.History.{History}
+use Rattle.hoare_law.specs.Events.{place_of}
+use Rattle.wait_book.specs.declared.chains.Link.{Link}
+use Rattle.wait_book.specs.declared.waiter.Waiter.{Waiter}
+use Rattle.wait_book.specs.Contents.{Contents, IsOf, wait_of}
+use Rattle.wait_book.specs.Insides.{IsSound, called_in}
+use Rattle.wait_book.specs.Lists.{places_in}
+use Rattle.wait_book.specs.Numbers.{number_called, number_from}
+use Rattle.wait_book.proofs.Times.{few_once}
+use Rattle.wait_book.proofs.Waiters.{places}
+
+-- no more are called than there are places
+pub few_called : (b : Contents) → IsSound b → length b.called ≤ 64
+few_called b s =
+    let few : length (places b.called) ≤ b.places =
+    few_once (places b.called) b.places (λ j. omega (arith, s.once j)) (λ j p. s.in_range j (omega arith)) in
+    omega (arith, s.few_places, length-map b.called (λ (w : Waiter). w.place))
+
+-- the called of a chain, as the places of their waits
+places_called : (xs : List Link) → map place_of (map wait_of (called_in xs)) ≡ places_in xs
+places_called [] = refl
+places_called (x ∷ xs) = ap (λ (js : List ℕ). x.place ∷ js) (places_called xs)
+
+-- the number in the chain is the number among those that the history says are called
+pub number-chain : (b : Contents) (h : History (Unit {0})) (k : ℕ) (xs : List Link) → IsOf b h → b.called ≡ called_in xs
+    → number_from 0 k (places_in xs) ≡ number_called h.events k
+number-chain b h k xs o is =
+    ap (number_from 0 k) (sym (places_called xs) ∙ ap (λ (ws : List Waiter). map place_of (map wait_of ws)) (sym is)
+    ∙ ap (map place_of) (sym o.called_are))

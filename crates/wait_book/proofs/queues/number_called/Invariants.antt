@@ -1,0 +1,12 @@
+use Rattle.std.proofs.Common.{◌≡◌, ◌≤◌, ◌+◌, length}
+use Rattle.wait_book.specs.Lists.{list_at, places_in}
+use Rattle.wait_book.specs.Numbers.{number_from}
+use Rattle.wait_book.proofs.queues.number_called.Given as goal
+
+-- those that are left are counted on
+abbrev pub invariant-loop-link : goal.invariant-loop-link
+invariant-loop-link l =
+    (goal.iterator-loop-link).can_next l.link-iterator ×
+    (goal.iterator-loop-link).is_finite l.link-iterator ×
+    (l.number + length l.link-iterator ≤ 64) ×
+    (number_from l.number l.place (places_in l.link-iterator) ≡ number_from 0 l.place (places_in (list_at l.chains 9)))

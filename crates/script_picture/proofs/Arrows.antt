@@ -78,7 +78,7 @@ handed h (Queue c) over is = absurd (cc)
 handed h (First c) over is = absurd (cc)
 
 -- the lane of a place that the monitor has says what the place does
-lane_says : (h : Log) (drawn : List Lane) (k : ℕ) (lane : Lane) → k < h.places → Shows h drawn
+lane_says : (h : Log) (drawn : List Lane) (k : ℕ) (lane : Lane) → k < h.sizes.places → Shows h drawn
     → Does h k lane ↔ (slice_index_or drawn k lanes.Outside ≡ lane)
 lane_says h drawn k lane below shows =
     let one : Does h k lane ↔ (lane ≡ slice_index_or drawn k lanes.Outside) = shows.each k below lane in
@@ -111,13 +111,13 @@ HandsOver-between c seen i d old new over returns gone seen_is below is_told bef
     handed h row.command over over_is in
     let goes : turn (after_rows (opening c.header) (take (i + 1) rows)).events ≡ Held over.to =
     ap (λ (x : Log). turn x.events) next ∙ both.1 in
-    let from_below : over.from < h.places =
+    let from_below : over.from < h.sizes.places =
     held-in_range h over.from (Answered-before (opening c.header) rows i inside is_told.1).1.legal both.0 in
-    let to_below : over.to < (history_after h row.command).places =
+    let to_below : over.to < (history_after h row.command).sizes.places =
     held-in_range (history_after h row.command) over.to
     (Answered-at (opening c.header) rows i d inside is_told.1).1.1.legal both.1 in
-    let same : (after_rows (opening c.header) (take (i + 1) rows)).places ≡ h.places =
-    ap (λ (x : Log). x.places) next ∙ places-after h row.command in
+    let same : (after_rows (opening c.header) (take (i + 1) rows)).sizes.places ≡ h.sizes.places =
+    ap (λ (x : Log). x.sizes.places) next ∙ places-after h row.command in
     record {
       gives = both.0;
       goes_on = goes;

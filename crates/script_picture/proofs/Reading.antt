@@ -7,6 +7,8 @@ use Rattle.std.proofs.lemmas.List.Elements.{All-weaker}
 use Rattle.hoare_law.specs.Called.{called}
 use Rattle.hoare_law.specs.Events.{place_of}
 use Rattle.hoare_law.proofs.Owed.{IsCalled, All-called}
+use Rattle.hoare_law.specs.declared.event.Sizes.{Sizes}
+use Rattle.wait_book.specs.declared.steps.MakeRefused.{MakeRefused}
 use Rattle.wait_book.specs.declared.steps.MakeRefused.TheVariants.{BadPlaces, BadConditions}
 use Rattle.wait_book.specs.Contents.{Contents, IsOf, make_refusal}
 use Rattle.wait_book.specs.Numbers.{number_called}
@@ -19,21 +21,22 @@ use Rattle.script_picture.proofs.Does.{Log, Act, among_none, number_none}
 use Rattle.script_picture.proofs.Shown.{Answered-push, after_rows-push, places-after}
 
 -- a book that was made has at most 64 places
-pub few_places : (n m q : ℕ) → make_refusal n m q ≡ None → n ≤ 64
-few_places n m q is = by (leb 1 n) (leb n 64) refl is
+pub few_places : (n : Sizes) → make_refusal n ≡ None → n.places ≤ 64
+few_places n is = by (leb 1 n.places) (leb n.places 64) refl is
   where
-    by : (a b : Bool) → leb n 64 ≡ b
-        → cond (a && b) (cond (leb 1 m && (leb m 8 && leb q m)) None (Some BadConditions)) (Some BadPlaces) ≡ None
-        → n ≤ 64
+    conditions : Option MakeRefused
+    conditions = cond (leb 1 n.conditions && (leb n.conditions 8 && leb n.mesa n.conditions)) None (Some BadConditions)
+
+    by : (a b : Bool) → leb n.places 64 ≡ b → cond (a && b) conditions (Some BadPlaces) ≡ None → n.places ≤ 64
     by true true e x = grind (arith, nat_tests)
     by true false e x = absurd (cc)
     by false b e x = absurd (cc)
 
 -- what a book answers, as one more row
 pub answered_row : (h : Log) (rows : List Row) (old new : Contents) (command : Command) (answer : Answer)
-    (numbers : List ℕ) → h.places ≤ 64
+    (numbers : List ℕ) → h.sizes.places ≤ 64
     → ((g : Log) → IsOf old g → (answer ≡ answer_to g command) × IsOf new (history_after g command))
-    → ((g : Log) → IsOf new g → g.places ≤ 64 → (k : ℕ) → slice_index_or numbers k 0 ≡ number_called g.events k)
+    → ((g : Log) → IsOf new g → g.sizes.places ≤ 64 → (k : ℕ) → slice_index_or numbers k 0 ≡ number_called g.events k)
     → Answered h rows → IsOf old (after_rows h rows)
     → Answered h (rows ++ record { command = command; answer = answer; numbers = numbers } ∷ [])
     × IsOf new (after_rows h (rows ++ record { command = command; answer = answer; numbers = numbers } ∷ []))
@@ -41,18 +44,18 @@ answered_row h rows old new command answer numbers few told numbered answered of
     let row : Row = record { command = command; answer = answer; numbers = numbers } in
     let g : Log = after_rows h rows in
     let one : (answer ≡ answer_to g command) × IsOf new (history_after g command) = told g of in
-    let size : (history_after g command).places ≤ 64 =
+    let size : (history_after g command).sizes.places ≤ 64 =
     subst (λ (n : ℕ). n ≤ 64) (sym (places-after g command ∙ places-rows h rows)) few in (
       Answered-push h rows row answered (one.0, numbered (history_after g command) one.1 size) (new, one.1),
       subst (λ (x : Log). IsOf new x) (sym (after_rows-push h rows row)) one.1,
     )
   where
-    places-rows : (f : Log) (rs : List Row) → (after_rows f rs).places ≡ f.places
+    places-rows : (f : Log) (rs : List Row) → (after_rows f rs).sizes.places ≡ f.sizes.places
     places-rows f [] = refl
     places-rows f (r ∷ rs) = places-rows (history_after f r.command) rs ∙ places-after f r.command
 
 -- a place beyond the last has no number, and so stands in no list of them
-pub number-beyond : (b : Contents) (h : Log) (numbers : List ℕ) (k : ℕ) → IsOf b h → h.places ≤ 64
+pub number-beyond : (b : Contents) (h : Log) (numbers : List ℕ) (k : ℕ) → IsOf b h → h.sizes.places ≤ 64
     → length numbers ≡ 64 → 64 ≤ k
     → slice_index_or numbers k 0 ≡ number_called h.events k
 number-beyond b h numbers k o few long beyond =
@@ -61,7 +64,7 @@ number-beyond b h numbers k o few long beyond =
     (All-weaker (IsCalled h) (λ x. (place_of x == k) ≡ false) other (called h.events) (All-called h o.legal))))
   where
     other : (x : Act) → IsCalled h x → (place_of x == k) ≡ false
-    other x was = let below : place_of x < h.places = was.place in grind (arith, nat_tests)
+    other x was = let below : place_of x < h.sizes.places = was.place in grind (arith, nat_tests)
 
 -- rows that stay in front, as more are added
 pub front_self : (xs : List Row) → IsInFront xs xs

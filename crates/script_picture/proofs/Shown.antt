@@ -4,6 +4,7 @@ use Rattle.std.specs.List.{refill}
 use Rattle.std.proofs.Common.{suc, zero, ◌+◌, add-one, arith, take, drop, List, [], ◌∷◌, ◌++◌, length, slice_index_or}
 use Rattle.std.proofs.Common.{Option, Some, None, refl, ap, sym, ◌∙◌, subst}
 use Rattle.hoare_law.specs.declared.event.Event.TheVariants as event
+use Rattle.hoare_law.specs.declared.event.Sizes.{Sizes}
 use Rattle.hoare_law.specs.declared.turn.Turn.{Turn}
 use Rattle.hoare_law.specs.declared.turn.Turn.TheVariants.{Free, Held, Owed, Return}
 use Rattle.hoare_law.specs.Events.{place_of, own, newest, opened, with_event}
@@ -33,6 +34,7 @@ use Rattle.script_picture.specs.Shown.{Does, DoesDuring, IsClaimed, Shows, HasBo
 use Rattle.script_picture.specs.Shown.{after_rows, opening}
 use Rattle.script_picture.specs.declared.chart.Chart.{Chart}
 use Rattle.hoare_script.specs.declared.lines.Header.{Header}
+use Rattle.hoare_script.specs.Lines.{sizes_in}
 use Rattle.std.proofs.lemmas.Bool.{cases_lt}
 use Rattle.script_picture.proofs.Does.{Log, Act, lane_by, lane_as, lane_of, lane_beside-last, lane_as-push}
 use Rattle.script_picture.proofs.Does.{is_among, is_among-own, is_among-less, number_none, uncalled-push, inside_last}
@@ -254,14 +256,14 @@ claimed-after h (Queue c) claimed = claimed
 claimed-after h (First c) claimed = claimed
 
 -- and there are as many places
-places-claim : (h : Log) (t : Turn) → (after_claim h t).places ≡ h.places
+places-claim : (h : Log) (t : Turn) → (after_claim h t).sizes.places ≡ h.sizes.places
 unfolding with_event
 places-claim h Free = refl
 places-claim h (Held j) = refl
 places-claim h (Owed j c) = refl
 places-claim h (Return j) = refl
 
-places-step : (h : Log) (s : Step) → (after_step h s).places ≡ h.places
+places-step : (h : Log) (s : Step) → (after_step h s).sizes.places ≡ h.sizes.places
 unfolding with_event
 places-step h (Enter j) = refl
 places-step h (Wait j c p) =
@@ -269,34 +271,34 @@ places-step h (Wait j c p) =
 places-step h (Leave j) = places-claim (with_event h (event.Leave j tt)) (turn (with_event h (event.Leave j tt)).events)
 places-step h (Signal j c) = by (chosen c h.events)
   where
-    by : (o : Option Act) → (settled (after_signal h j c o)).places ≡ h.places
+    by : (o : Option Act) → (settled (after_signal h j c o)).sizes.places ≡ h.sizes.places
     by None = places-claim h (turn h.events)
     by (Some e) =
         places-claim (with_event h (event.Signal j c (place_of e) tt))
         (turn (with_event h (event.Signal j c (place_of e) tt)).events)
 places-step h (Pass j c) = by (chosen c h.events)
   where
-    by : (o : Option Act) → (settled (after_pass h j c o)).places ≡ h.places
+    by : (o : Option Act) → (settled (after_pass h j c o)).sizes.places ≡ h.sizes.places
     by None = places-claim (with_event h (event.Leave j tt)) (turn (with_event h (event.Leave j tt)).events)
     by (Some e) =
         places-claim (with_event h (event.Pass j c (place_of e) tt))
         (turn (with_event h (event.Pass j c (place_of e) tt)).events)
 places-step h (Notify j c) = by (chosen c h.events)
   where
-    by : (o : Option Act) → (after_notify h j c o).places ≡ h.places
+    by : (o : Option Act) → (after_notify h j c o).sizes.places ≡ h.sizes.places
     by None = refl
     by (Some e) = refl
 places-step h (Broadcast j c) = by (waiting c h.events)
   where
-    by : (ws : List Act) → (after_broadcast h j c ws).places ≡ h.places
+    by : (ws : List Act) → (after_broadcast h j c ws).sizes.places ≡ h.sizes.places
     by [] = refl
     by (w ∷ ws) = refl
 
-pub places-after : (h : Log) (c : Command) → (history_after h c).places ≡ h.places
+pub places-after : (h : Log) (c : Command) → (history_after h c).sizes.places ≡ h.sizes.places
 unfolding history_after
 places-after h (Do s) = by (refusal_of h s)
   where
-    by : (o : Option StepRefused) → (history_by h s o).places ≡ h.places
+    by : (o : Option StepRefused) → (history_by h s o).sizes.places ≡ h.sizes.places
     by None = places-step h s
     by (Some r) = refl
 places-after h (Queue c) = refl
@@ -320,7 +322,7 @@ Shows-after h row old new long each book answered shows = record {
   claimed = claimed-after h row.command shows.claimed;
   places = long ∙ (shows.places ∙ sym (places-after h row.command));
   each = λ k below lane.
-      let inside : k < h.places = subst (λ (n : ℕ). k < n) (places-after h row.command) below in
+      let inside : k < h.sizes.places = subst (λ (n : ℕ). k < n) (places-after h row.command) below in
       let was : slice_index_or old k lanes.Outside ≡ lane_of h k =
       Does-last h k (slice_index_or old k lanes.Outside) shows.legal
       ((shows.each k inside (slice_index_or old k lanes.Outside)).1 refl) in
@@ -333,22 +335,22 @@ Shows-after h row old new long each book answered shows = record {
 }
 
 -- all lanes are outside where nothing happened
-pub Shows-opened : (n m q : ℕ) (drawn : List Lane) → length drawn ≡ n
-    → ((k : ℕ) → slice_index_or drawn k lanes.Outside ≡ lanes.Outside) → Shows (opened n m q tt) drawn
-Shows-opened n m q drawn long out = record {
-  legal = (IsOf-opened n m q 0 0).legal;
+pub Shows-opened : (n : Sizes) (drawn : List Lane) → length drawn ≡ n.places
+    → ((k : ℕ) → slice_index_or drawn k lanes.Outside ≡ lanes.Outside) → Shows (opened n tt) drawn
+Shows-opened n drawn long out = record {
+  legal = (IsOf-opened n 0 0).legal;
   claimed = nobody;
   places = long;
   each = λ k below lane.
-      let one : Does (opened n m q tt) k lane ↔ (lane ≡ lane_of (opened n m q tt) k) =
-      Does-by_last _ (opened n m q tt) k lane (IsOf-opened n m q 0 0) nobody in
+      let one : Does (opened n tt) k lane ↔ (lane ≡ lane_of (opened n tt) k) =
+      Does-by_last _ (opened n tt) k lane (IsOf-opened n 0 0) nobody in
       (λ d. one.0 d ∙ sym (out k ∙ outside_first k), λ e. one.1 (e ∙ (out k ∙ outside_first k)));
 }
   where
-    nobody : IsClaimed (turn (opened {S = Unit {0}} n m q tt).events)
-    nobody = subst IsClaimed (sym (turn-opened n m q tt)) tt
+    nobody : IsClaimed (turn (opened {S = Unit {0}} n tt).events)
+    nobody = subst IsClaimed (sym (turn-opened n tt)) tt
 
-    outside_first : (k : ℕ) → lanes.Outside ≡ lane_of (opened n m q tt) k
+    outside_first : (k : ℕ) → lanes.Outside ≡ lane_of (opened n tt) k
     outside_first k = refl
 
 -- one more row that is answered as the history says
@@ -428,7 +430,7 @@ shown_next h rows seen i d old lent new seen_is lent_is below told shows long st
 -- what a place does after each row, by what it did before
 
 opening_claimed : (h : Header) → IsClaimed (turn (opening h).events)
-opening_claimed h = subst IsClaimed (sym (turn-opened h.places h.conditions h.mesa tt)) tt
+opening_claimed h = subst IsClaimed (sym (turn-opened (sizes_in h) tt)) tt
 
 pub record Follows (h : Log) (rows : List Row) (i k : ℕ) (lane : Lane) : Type 0 where
   pub claimed : IsClaimed (turn (after_rows h (take i rows)).events)

@@ -17,6 +17,7 @@ use Rattle.hoare_script.specs.Answers.{answer_to, history_after}
 use Rattle.hoare_script.specs.declared.answers.Answer.{Answer}
 use Rattle.hoare_script.specs.declared.lines.Command.{Command}
 use Rattle.hoare_script.specs.declared.lines.Header.{Header}
+use Rattle.hoare_script.specs.Lines.{sizes_in}
 use Rattle.script_picture.specs.declared.chart.HandOver.{HandOver}
 use Rattle.script_picture.specs.declared.chart.Lane.{Lane}
 use Rattle.script_picture.specs.declared.chart.Lane.TheVariants as lanes
@@ -47,8 +48,8 @@ IsClaimed (turns.Return k) = ⊥
 pub record Shows (h : History (Unit {0})) (drawn : List Lane) : Type 0 where
   pub legal : IsLegal h
   pub claimed : IsClaimed (turn h.events)
-  pub places : length drawn ≡ h.places
-  pub each : (k : ℕ) → k < h.places → (lane : Lane) → Does h k lane ↔ (lane ≡ slice_index_or drawn k lanes.Outside)
+  pub places : length drawn ≡ h.sizes.places
+  pub each : (k : ℕ) → k < h.sizes.places → (lane : Lane) → Does h k lane ↔ (lane ≡ slice_index_or drawn k lanes.Outside)
 
 -- a book is of the history, which is therefore legal
 abbrev pub HasBook : History (Unit {0}) → Type 0
@@ -72,7 +73,7 @@ after_rows h (row ∷ rows) = after_rows (history_after h row.command) rows
 
 -- where nothing happened yet
 abbrev pub opening : Header → History (Unit {0})
-opening header = opened header.places header.conditions header.mesa tt
+opening header = opened (sizes_in header) tt
 
 -- the row is answered as a history says, and the lanes show that history with what the row adds
 abbrev pub IsShownAfter : List Lane → Row → Type 0

@@ -4,7 +4,7 @@ ghost use Rattle.std.specs.Result.{MatchResult};
 ghost use Rattle.hoare_law.specs.declared.event.History.{History};
 ghost use Rattle.wait_book.specs.Contents.{IsOf, make_refusal};
 ghost use Rattle.wait_book.specs.Numbers.{number_called};
-ghost use Rattle.hoare_script.specs.Lines.{command_of};
+ghost use Rattle.hoare_script.specs.Lines.{command_of, sizes_in};
 ghost use Rattle.hoare_script.specs.Runs.{is_read_fault};
 ghost use Rattle.line_text.specs.Streams.{has_read_failed};
 ghost use Rattle.script_picture.specs.Faults.{header_fault, is_header_fault, line_fault};
@@ -67,7 +67,7 @@ pub fn open_script<R: Read>(
 fn open_book(alloc: Global, header: Header) -> Result<Opened, ScriptFault>
     ensures book { IfOk result (λ b. (header.places ≤ 64) × IsOf b (opening header)) }
     ensures fault { is_read_fault result ≡ false }
-    ensures refused { let refusal = make_refusal header.places header.conditions header.mesa in
+    ensures refused { let refusal = make_refusal (sizes_in header) in
         MatchResult result (λ b. refusal ≡ None) (λ f. f ≡ header_fault refusal) }
 {
     match Opened::make(alloc, header) {
@@ -97,7 +97,7 @@ fn read_numbered<R: Read>(
 
 // The numbers of all places among the called.
 fn numbers_of(opened: &Opened) -> Numbers
-    ensures { (h : History (Unit {0})) → IsOf opened.now h → h.places ≤ 64
+    ensures { (h : History (Unit {0})) → IsOf opened.now h → h.sizes.places ≤ 64
         → (k : ℕ) → slice_index_or result k 0 ≡ number_called h.events k }
 {
     let mut numbers = [0; 64];

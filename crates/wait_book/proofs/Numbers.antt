@@ -7,16 +7,17 @@ use Rattle.wait_book.specs.declared.chains.Link.{Link}
 use Rattle.wait_book.specs.declared.waiter.Waiter.{Waiter}
 use Rattle.wait_book.specs.Contents.{Contents, IsOf, wait_of}
 use Rattle.wait_book.specs.Insides.{IsSound, called_in}
+use Rattle.wait_book.specs.declared.book.TheConstants.{MOST_PLACES}
 use Rattle.wait_book.specs.Lists.{places_in}
 use Rattle.wait_book.specs.Numbers.{number_called, number_from}
 use Rattle.wait_book.proofs.Times.{few_once}
 use Rattle.wait_book.proofs.Waiters.{places}
 
 -- no more are called than there are places
-pub few_called : (b : Contents) → IsSound b → length b.called ≤ 64
+pub few_called : (b : Contents) → IsSound b → length b.called ≤ MOST_PLACES
 few_called b s =
-    let few : length (places b.called) ≤ b.places =
-    few_once (places b.called) b.places (λ j. omega (arith, s.once j)) (λ j p. s.in_range j (omega arith)) in
+    let few : length (places b.called) ≤ b.sizes.places =
+    few_once (places b.called) b.sizes.places (λ j. omega (arith, s.once j)) (λ j p. s.in_range j (omega arith)) in
     omega (arith, s.few_places, length-map b.called (λ (w : Waiter). w.place))
 
 -- the called of a chain, as the places of their waits

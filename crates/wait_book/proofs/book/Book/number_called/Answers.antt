@@ -1,5 +1,6 @@
 use Rattle.std.proofs.Common.{arith, refl, sym, ◌∙◌}
 use Rattle.std.proofs.lemmas.List.{length-map}
+use Rattle.wait_book.specs.declared.chains.TheConstants.{CALLED}
 use Rattle.wait_book.specs.Insides.{view_of, waiter_of}
 use Rattle.wait_book.specs.Lists.{list_at}
 use Rattle.wait_book.proofs.Histories as histories
@@ -8,10 +9,10 @@ use Rattle.wait_book.proofs.book.Book.number_called.Goals as goal
 
 pub number_called-requires : goal.number_called-requires
 number_called-requires c =
-    omega (arith, few_called (view_of c.self.inside) c.self.invariant, length-map (list_at c.self.inside.chains 9) waiter_of)
+    omega (arith, few_called (view_of c.self.inside) c.self.invariant, length-map (list_at c.self.inside.chains CALLED) waiter_of)
 
 pub returns-clause-of : goal.returns-clause-of
 returns-clause-of c = λ h o.
     c.number_called.ensures.number
-    ∙ number-chain (view_of c.self.inside) h c.args.place (list_at c.self.inside.chains 9)
+    ∙ number-chain (view_of c.self.inside) h c.args.place (list_at c.self.inside.chains CALLED)
     (histories.IsOf-same _ (view_of c.self.inside) h (sym c.self.view_is) o) refl

@@ -20,7 +20,7 @@ const NAMES: [&str; 12] = [
     "with --orders, on one condition:",
     "book_enter_wait_ORDER_N, book_signal_leave_ORDER_N: 1, 8 or 63 wait, with priorities that are equal, rising or falling",
     "book_notify, book_broadcast_N: one of 63 is called, or all N, where 1, 8 or 63 wait on a Mesa condition; the calls alone are measured",
-    "book_count_N: N that wait are counted, as a broadcast does that tells how many it called",
+    "book_count_N: N that wait are counted along the chain, as a broadcast does that is told how many it called",
     "clock: two looks at the clock, of which a share is in each figure: once for N waits, and once for N signals",
     "size: the bytes of a book, without those on the heap",
     "usage: book_bench [--orders] TURNS",

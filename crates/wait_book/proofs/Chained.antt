@@ -29,7 +29,8 @@ held_same : (s t : Slab Node) (k : ℕ) → get t k ≡ get s k → held t k ≡
 held_same s t k e = ap (λ o. cond (is_some o) 1 0) e
 
 -- where there are no more chains there is no list
-pub beyond : {s : Slab Node} {chains : List Chain} {at : ℕ → List Link} → AreChains s chains at → (c : ℕ) → CHAINS ≤ c → at c ≡ []
+pub beyond : {s : Slab Node} {chains : List Chain} {at : ℕ → List Link} → AreChains s chains at → (c : ℕ) → CHAINS ≤ c
+    → at c ≡ []
 beyond {s = s} {chains = chains} {at = at} i c l =
     linked_none s (chain_at chains c).first (at c) (ap (λ (v : Chain). v.first) (get_or_past chains c empty (omega (arith, i.many)))) (i.linked c).linked
 
@@ -90,7 +91,8 @@ AreChains-none s e = record {
 -- where keys stand
 
 -- in two chains no more often than in all
-pub apart : {s : Slab Node} {chains : List Chain} {at : ℕ → List Link} → AreChains s chains at → (k c d : ℕ) → c < CHAINS → d ≢ c
+pub apart : {s : Slab Node} {chains : List Chain} {at : ℕ → List Link} → AreChains s chains at → (k c d : ℕ)
+    → c < CHAINS → d ≢ c
     → times k (keys (at c)) + times k (keys (at d)) ≤ held s k
 apart {s = s} {at = at} i k c d l n =
     elim (cases_lt d CHAINS) [
@@ -99,16 +101,19 @@ apart {s = s} {at = at} i k c d l n =
     ]
 
 -- in one chain once at most
-pub once_in : {s : Slab Node} {chains : List Chain} {at : ℕ → List Link} → AreChains s chains at → (k c : ℕ) → c < CHAINS → times k (keys (at c)) ≤ held s k
+pub once_in : {s : Slab Node} {chains : List Chain} {at : ℕ → List Link} → AreChains s chains at → (k c : ℕ)
+    → c < CHAINS → times k (keys (at c)) ≤ held s k
 once_in {at = at} i k c l = omega (arith, times_one (λ e (x : Link). x.key) k CHAINS c at l, i.once k)
 
 -- one chain changes
 
 -- the chain that was set
-chain_same : (chains : List Chain) (c : ℕ) (v : Chain) → length chains ≡ CHAINS → c < CHAINS → chain_at (set chains c v) c ≡ v
+chain_same : (chains : List Chain) (c : ℕ) (v : Chain) → length chains ≡ CHAINS → c < CHAINS
+    → chain_at (set chains c v) c ≡ v
 chain_same chains c v m l = get_or-set_same chains c v empty (omega arith)
 
-chains_put : (s : Slab Node) (chains : List Chain) (at : ℕ → List Link) (c : ℕ) (v : Chain) (xs : List Link) → length chains ≡ CHAINS → c < CHAINS → IsChain s v xs
+chains_put : (s : Slab Node) (chains : List Chain) (at : ℕ → List Link) (c : ℕ) (v : Chain) (xs : List Link)
+    → length chains ≡ CHAINS → c < CHAINS → IsChain s v xs
     → ((d : ℕ) → d ≢ c → IsChain s (chain_at chains d) (at d)) → (d : ℕ) → IsChain s (chain_at (set chains c v) d) (list_put c xs at d)
 chains_put s chains at c v xs m l here there d =
     elim (cases_eq d c) [
@@ -199,7 +204,8 @@ last_put s last next before x (y ∷ ys) e l =
 
 -- the chains with a new node, wherever the list was cut
 pub AreChains-linked : {s mid t : Slab Node} {chains : List Chain} {at : ℕ → List Link} {behind next first2 last2 : Option ℕ} {x : Link} (c : ℕ) (before after : List Link)
-    → AreChains s chains at → c < CHAINS → Linking s mid t (chain_at chains c).first behind next first2 x → last2 ≡ cond (is_some next) (chain_at chains c).last (Some x.key)
+    → AreChains s chains at → c < CHAINS → Linking s mid t (chain_at chains c).first behind next first2 x
+    → last2 ≡ cond (is_some next) (chain_at chains c).last (Some x.key)
     → ((front : List Link) (to : Option ℕ) → IsLinked s (chain_at chains c).first front to → behind ≡ last_key front → next ≡ to)
     → at c ≡ before ++ after → behind ≡ last_key before
     → AreChains t (set chains c (record { first = first2; last = last2 })) (list_put c (before ++ x ∷ after) at)
@@ -299,7 +305,8 @@ pub record Joining (s t : Slab Node) (called : Chain) (key : ℕ) (first2 : Opti
   pub as_long : slab_len t ≡ slab_len s
 
 pub AreChains-joined : {s t : Slab Node} {chains : List Chain} {at : ℕ → List Link} {first2 : Option ℕ} (c key : ℕ)
-    → AreChains s chains at → c < CALLED → (chain_at chains c).first ≡ Some key → Joining s t (chain_at chains CALLED) key first2
+    → AreChains s chains at → c < CALLED → (chain_at chains c).first ≡ Some key
+    → Joining s t (chain_at chains CALLED) key first2
     → AreChains t (set (set chains CALLED (record { first = first2; last = (chain_at chains c).last })) c empty) (list_put c [] (list_put CALLED (at CALLED ++ at c) at))
 AreChains-joined {s = s} {t = t} {chains = chains} {at = at} {first2 = first2} c key i l starts g =
     let xs : List Link = at CALLED in

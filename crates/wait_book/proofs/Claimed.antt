@@ -27,7 +27,8 @@ chain_of-fits (Return k) m n e = inl (cc)
 abbrev Took : ℕ → Option ℕ → Lists → Lists → Type 0
 Took n r old new = MatchOption r ((list_at old n ≡ []) × (new ≡ old)) (λ place. IsTaken n place old new)
 
-pub claimed-chain : (n k : ℕ) (a : Inside) (new : Lists) (r : Option ℕ) → (n ≡ SIGNALLERS) ⊎ (n ≡ CALLED) → Took n r a.chains new
+pub claimed-chain : (n k : ℕ) (a : Inside) (new : Lists) (r : Option ℕ) → (n ≡ SIGNALLERS) ⊎ (n ≡ CALLED)
+    → Took n r a.chains new
     → claimed (Some n) k (view_of a) ≡ admitted k (view_of (record a { chains = new }))
 claimed-chain n k a new r (inl e) m =
     let took : Took SIGNALLERS r a.chains new = subst (λ (j : ℕ). Took j r a.chains new) e m in

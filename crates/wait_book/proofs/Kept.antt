@@ -23,7 +23,8 @@ pub AreKept-none : (at : ℕ → List Link) → ((c : ℕ) → at c ≡ []) → 
 AreKept-none at none = λ c l. subst (All (Waited c)) (sym (none c)) (All-nil (Waited c))
 
 -- another list in chain c
-pub AreKept-list : (at bt : ℕ → List Link) (c : ℕ) (xs : List Link) → AreKept at → (c < MOST_CONDITIONS → All (Waited c) xs) → ((d : ℕ) → bt d ≡ list_put c xs at d) → AreKept bt
+pub AreKept-list : (at bt : ℕ → List Link) (c : ℕ) (xs : List Link) → AreKept at
+    → (c < MOST_CONDITIONS → All (Waited c) xs) → ((d : ℕ) → bt d ≡ list_put c xs at d) → AreKept bt
 AreKept-list at bt c xs m here lists = λ d l.
     elim (cases_eq d c) [
       | inl e ↦
@@ -37,7 +38,8 @@ with_one c [] after x e a = All-cons (Waited c) x after e a
 with_one c (y ∷ before) after x e a =
     All-cons (Waited c) y (before ++ x ∷ after) (All-head (Waited c) y (before ++ after) a) (with_one c before after x e (All-tail (Waited c) y (before ++ after) a))
 
-pub AreKept-put : (at bt : ℕ → List Link) (c : ℕ) (before after : List Link) (x : Link) → AreKept at → at c ≡ before ++ after → (c < MOST_CONDITIONS → x.condition ≡ c)
+pub AreKept-put : (at bt : ℕ → List Link) (c : ℕ) (before after : List Link) (x : Link) → AreKept at
+    → at c ≡ before ++ after → (c < MOST_CONDITIONS → x.condition ≡ c)
     → ((d : ℕ) → bt d ≡ list_put c (before ++ x ∷ after) at d) → AreKept bt
 AreKept-put at bt c before after x m is on lists = AreKept-list at bt c (before ++ x ∷ after) m (λ l. with_one c before after x (on l) (subst (All (Waited c)) is (m c l))) lists
 
@@ -45,7 +47,8 @@ pub AreKept-taken : (at bt : ℕ → List Link) (c : ℕ) (x : Link) (after : Li
 AreKept-taken at bt c x after m is lists = AreKept-list at bt c after m (λ l. All-tail (Waited c) x after (subst (All (Waited c)) is (m c l))) lists
 
 -- all of chain c put behind those called
-pub AreKept-joined : (at bt : ℕ → List Link) (c : ℕ) (xs : List Link) → AreKept at → ((d : ℕ) → bt d ≡ list_put c [] (list_put CALLED xs at) d) → AreKept bt
+pub AreKept-joined : (at bt : ℕ → List Link) (c : ℕ) (xs : List Link) → AreKept at
+    → ((d : ℕ) → bt d ≡ list_put c [] (list_put CALLED xs at) d) → AreKept bt
 AreKept-joined at bt c xs m lists =
     AreKept-list (list_put CALLED xs at) bt c [] (AreKept-list at (list_put CALLED xs at) CALLED xs m (λ l. absurd (omega arith)) (λ d. refl)) (λ l. All-nil (Waited c)) lists
 

@@ -55,8 +55,10 @@ pub AreMarked-equal : {s : List Bool} {v w : Lists} → v ≡ w → AreMarked s 
 AreMarked-equal {s = s} e m = subst (λ (u : Lists). AreMarked s (list_at u)) e m
 
 -- a place that stood in no list, put into one
-pub AreMarked-put : {s : List Bool} {at bt : ℕ → List Link} (c : ℕ) (before after : List Link) (x : Link) → AreMarked s at → c < CHAINS → x.place < MOST_PLACES
-    → at c ≡ before ++ after → times x.place (places_below CHAINS at) ≡ 0 → ((d : ℕ) → bt d ≡ list_put c (before ++ x ∷ after) at d)
+pub AreMarked-put : {s : List Bool} {at bt : ℕ → List Link} (c : ℕ) (before after : List Link) (x : Link)
+    → AreMarked s at → c < CHAINS → x.place < MOST_PLACES
+    → at c ≡ before ++ after → times x.place (places_below CHAINS at) ≡ 0
+    → ((d : ℕ) → bt d ≡ list_put c (before ++ x ∷ after) at d)
     → AreMarked (set s x.place true) bt
 AreMarked-put {s = s} {at = at} {bt = bt} c before after x m l within is apart lists =
     let same : bt ≡ list_put c (before ++ x ∷ after) at = λ i d. lists d i in
@@ -81,7 +83,8 @@ AreMarked-put {s = s} {at = at} {bt = bt} c before after x m l within is apart l
     }
 
 module _ {s : List Bool} {at : ℕ → List Link} (c : ℕ) (x : Link) (after : List Link) (m : AreMarked s at) (l : c < CHAINS) (is : at c ≡ x ∷ after) where
-  taken_times : (k : ℕ) → times k (places_below CHAINS (list_put c after at)) + one k x.place ≡ times k (places_below CHAINS at)
+  taken_times : (k : ℕ)
+      → times k (places_below CHAINS (list_put c after at)) + one k x.place ≡ times k (places_below CHAINS at)
   taken_times k = omega (arith, times_put (λ d (y : Link). y.place) k CHAINS c after at l, ap (λ v. times k (places_in v)) is)
 
   -- the first of a list has a mark
@@ -105,7 +108,8 @@ module _ {s : List Bool} {at : ℕ → List Link} (c : ℕ) (x : Link) (after : 
       subst (λ (j : ℕ). AreMarked (set s j false) bt) e (record { many = length-set s x.place false ∙ m.many; once = once })
 
 -- a whole list put behind another
-pub AreMarked-joined : {s : List Bool} {at bt : ℕ → List Link} (c : ℕ) → AreMarked s at → c < CALLED → ((d : ℕ) → bt d ≡ list_put c [] (list_put CALLED (at CALLED ++ at c) at) d) → AreMarked s bt
+pub AreMarked-joined : {s : List Bool} {at bt : ℕ → List Link} (c : ℕ) → AreMarked s at → c < CALLED
+    → ((d : ℕ) → bt d ≡ list_put c [] (list_put CALLED (at CALLED ++ at c) at) d) → AreMarked s bt
 AreMarked-joined {s = s} {at = at} {bt = bt} c m l lists =
     let same : bt ≡ list_put c [] (list_put CALLED (at CALLED ++ at c) at) = λ i d. lists d i in
     let off : list_put CALLED (at CALLED ++ at c) at c ≡ at c = put_other CALLED c (at CALLED ++ at c) at (omega arith) in

@@ -105,7 +105,8 @@ on_put c d x at l =
     ]
 
 -- what an insertion into the chain of a condition does to those who wait
-pub PutsIn-put : (c place priority : ℕ) (old new : Lists) → c < MOST_CONDITIONS → IsPut c (lower priority (list_at old c)) (higher priority (list_at old c)) place c priority old new
+pub PutsIn-put : (c place priority : ℕ) (old new : Lists) → c < MOST_CONDITIONS
+    → IsPut c (lower priority (list_at old c)) (higher priority (list_at old c)) place c priority old new
     → PutsIn (record { place = place; condition = c; priority = priority }) (waiting_below MOST_CONDITIONS (list_at old)) (waiting_below MOST_CONDITIONS (list_at new))
 PutsIn-put c place priority old new l p =
     let at : ℕ → List Link = list_at old in
@@ -165,7 +166,8 @@ taken_below (suc n) c x after at l e =
     ]
 
 -- what is taken out of the chain of a condition is taken out of those who wait
-pub TakesFirst-taken : (c place : ℕ) (old new : Lists) → c < MOST_CONDITIONS → IsTaken c place old new → TakesFirst c (waiting_below MOST_CONDITIONS (list_at old)) (waiting_below MOST_CONDITIONS (list_at new)) place
+pub TakesFirst-taken : (c place : ℕ) (old new : Lists) → c < MOST_CONDITIONS → IsTaken c place old new
+    → TakesFirst c (waiting_below MOST_CONDITIONS (list_at old)) (waiting_below MOST_CONDITIONS (list_at new)) place
 TakesFirst-taken c place old new l t =
     let lists : list_at new ≡ list_put c t.after (list_at old) = λ i d. t.lists d i in
     subst (λ (at : ℕ → List Link). TakesFirst c (waiting_below MOST_CONDITIONS (list_at old)) (waiting_below MOST_CONDITIONS at) place) (sym lists)
@@ -178,7 +180,8 @@ first_none [] e = refl
 first_none (x ∷ xs) e = absurd (cc)
 
 -- nobody waits where the chain is empty
-pub waits-nobody : (c : ℕ) (v : Lists) → c < MOST_CONDITIONS → list_at v c ≡ [] → filter (on c) (waiting_below MOST_CONDITIONS (list_at v)) ≡ []
+pub waits-nobody : (c : ℕ) (v : Lists) → c < MOST_CONDITIONS → list_at v c ≡ []
+    → filter (on c) (waiting_below MOST_CONDITIONS (list_at v)) ≡ []
 waits-nobody c v l e = on_chain MOST_CONDITIONS c (list_at v) l ∙ ap (map (waiter_on c)) e
 
 -- another chain than the one that changes
@@ -273,7 +276,8 @@ pub record AllCalled (c : ℕ) (old new : Lists) : Type 0 where
   pub took : TakesAll c (waiting_below MOST_CONDITIONS (list_at old)) (waiting_below MOST_CONDITIONS (list_at new))
   pub room : new.room ≡ old.room
   pub signallers : places_in (list_at new SIGNALLERS) ≡ places_in (list_at old SIGNALLERS)
-  pub called : called_in (list_at new CALLED) ≡ called_in (list_at old CALLED) ++ filter (on c) (waiting_below MOST_CONDITIONS (list_at old))
+  pub called : called_in (list_at new CALLED)
+      ≡ called_in (list_at old CALLED) ++ filter (on c) (waiting_below MOST_CONDITIONS (list_at old))
 
 pub all_called : (c : ℕ) (old new : Lists) → c < MOST_CONDITIONS → IsJoined c old new → AllCalled c old new
 all_called c old new l j =
@@ -299,7 +303,9 @@ waits-none (suc n) at h = ap (λ xs. waiting_below n at ++ map (waiter_on n) xs)
 
 -- how many stand in all
 
-pub total_is : (v : Lists) → total v ≡ length (waiting_below MOST_CONDITIONS (list_at v)) + length (places_in (list_at v SIGNALLERS)) + length (called_in (list_at v CALLED))
+pub total_is : (v : Lists)
+    → total v
+    ≡ length (waiting_below MOST_CONDITIONS (list_at v)) + length (places_in (list_at v SIGNALLERS)) + length (called_in (list_at v CALLED))
 total_is v = omega (
   arith,
   length_next (λ c (x : Link). x.key) CALLED (list_at v),
@@ -321,15 +327,19 @@ times_all k v = omega (
 )
 
 -- as many in the chain of a condition as wait on it
-pub chain-length : (c : ℕ) (v : Lists) → c < MOST_CONDITIONS → length (list_at v c) ≡ length (filter (on c) (waiting_below MOST_CONDITIONS (list_at v)))
+pub chain-length : (c : ℕ) (v : Lists) → c < MOST_CONDITIONS
+    → length (list_at v c) ≡ length (filter (on c) (waiting_below MOST_CONDITIONS (list_at v)))
 chain-length c v l = sym (ap length (on_chain MOST_CONDITIONS c (list_at v) l) ∙ length-map (list_at v c) (waiter_on c))
 
 -- no more in the chain of a condition than wait
-pub chain-few : (c : ℕ) (v : Lists) → c < MOST_CONDITIONS → length (list_at v c) ≤ length (waiting_below MOST_CONDITIONS (list_at v))
+pub chain-few : (c : ℕ) (v : Lists) → c < MOST_CONDITIONS
+    → length (list_at v c) ≤ length (waiting_below MOST_CONDITIONS (list_at v))
 chain-few c v l = length_one waiter_on MOST_CONDITIONS c (list_at v) l
 
 -- the first of a condition
-pub first-chain : (c : ℕ) (v : Lists) → c < MOST_CONDITIONS → option_map (λ (x : Link). x.priority) (first_link (list_at v c)) ≡ option_map key (find (on c) (waiting_below MOST_CONDITIONS (list_at v)))
+pub first-chain : (c : ℕ) (v : Lists) → c < MOST_CONDITIONS
+    → option_map (λ (x : Link). x.priority) (first_link (list_at v c))
+    ≡ option_map key (find (on c) (waiting_below MOST_CONDITIONS (list_at v)))
 first-chain c v l =
     by (list_at v c) ∙ ap (λ ws. option_map key (first_of ws)) (sym (on_chain MOST_CONDITIONS c (list_at v) l))
     ∙ sym (ap (option_map key) (find-filter (on c) (waiting_below MOST_CONDITIONS (list_at v))))
@@ -340,7 +350,8 @@ first-chain c v l =
 
 -- and its place
 pub first_place-chain : (c : ℕ) (v : Lists) → c < MOST_CONDITIONS
-    → option_map (λ (x : Link). x.place) (first_link (list_at v c)) ≡ option_map (λ (w : Waiter). w.place) (find (on c) (waiting_below MOST_CONDITIONS (list_at v)))
+    → option_map (λ (x : Link). x.place) (first_link (list_at v c))
+    ≡ option_map (λ (w : Waiter). w.place) (find (on c) (waiting_below MOST_CONDITIONS (list_at v)))
 first_place-chain c v l =
     by (list_at v c) ∙ ap (λ ws. option_map (λ (w : Waiter). w.place) (first_of ws)) (sym (on_chain MOST_CONDITIONS c (list_at v) l))
     ∙ sym (ap (option_map (λ (w : Waiter). w.place)) (find-filter (on c) (waiting_below MOST_CONDITIONS (list_at v))))
@@ -350,7 +361,9 @@ first_place-chain c v l =
     by (x ∷ xs) = refl
 
 -- the i-th of a condition
-pub nth-chain : (c i : ℕ) (v : Lists) → c < MOST_CONDITIONS → option_map (λ (x : Link). x.priority) (slice_get (list_at v c) i) ≡ option_map key (slice_get (filter (on c) (waiting_below MOST_CONDITIONS (list_at v))) i)
+pub nth-chain : (c i : ℕ) (v : Lists) → c < MOST_CONDITIONS
+    → option_map (λ (x : Link). x.priority) (slice_get (list_at v c) i)
+    ≡ option_map key (slice_get (filter (on c) (waiting_below MOST_CONDITIONS (list_at v))) i)
 nth-chain c i v l = by i (list_at v c) ∙ ap (λ ws. option_map key (slice_get ws i)) (sym (on_chain MOST_CONDITIONS c (list_at v) l))
   where
     by : (i : ℕ) (xs : List Link) → option_map (λ (x : Link). x.priority) (slice_get xs i) ≡ option_map key (slice_get (map (waiter_on c) xs) i)
@@ -360,11 +373,14 @@ nth-chain c i v l = by i (list_at v c) ∙ ap (λ ws. option_map key (slice_get 
 
 -- the priorities in the chain of a condition
 
-pub priorities-chain : (c : ℕ) (v : Lists) → c < MOST_CONDITIONS → map key (filter (on c) (waiting_below MOST_CONDITIONS (list_at v))) ≡ priorities (list_at v c)
+pub priorities-chain : (c : ℕ) (v : Lists) → c < MOST_CONDITIONS
+    → map key (filter (on c) (waiting_below MOST_CONDITIONS (list_at v))) ≡ priorities (list_at v c)
 priorities-chain c v l = ap (map key) (on_chain MOST_CONDITIONS c (list_at v) l) ∙ map-map key (waiter_on c) (list_at v c)
 
 -- they don't fall where those who wait stand in order
-pub priorities-rise : (c : ℕ) (v : Lists) → c < MOST_CONDITIONS → in_order key (filter (on c) (waiting_below MOST_CONDITIONS (list_at v))) ≡ filter (on c) (waiting_below MOST_CONDITIONS (list_at v))
+pub priorities-rise : (c : ℕ) (v : Lists) → c < MOST_CONDITIONS
+    → in_order key (filter (on c) (waiting_below MOST_CONDITIONS (list_at v)))
+    ≡ filter (on c) (waiting_below MOST_CONDITIONS (list_at v))
     → IsNonDecreasing (priorities (list_at v c))
 priorities-rise c v l o =
     let ws : List Waiter = filter (on c) (waiting_below MOST_CONDITIONS (list_at v)) in

@@ -20,7 +20,8 @@ pub record Signalled (c place resumed : ℕ) (old between new : Lists) : Type 0 
   pub signallers : places_in (list_at new SIGNALLERS) ≡ places_in (list_at old SIGNALLERS) ++ place ∷ []
   pub called : called_in (list_at new CALLED) ≡ called_in (list_at old CALLED)
 
-pub signalled : (c place resumed : ℕ) (old between new : Lists) → c < MOST_CONDITIONS → IsTaken c resumed old between → IsPut SIGNALLERS (list_at between SIGNALLERS) [] place c 0 between new
+pub signalled : (c place resumed : ℕ) (old between new : Lists) → c < MOST_CONDITIONS → IsTaken c resumed old between
+    → IsPut SIGNALLERS (list_at between SIGNALLERS) [] place c 0 between new
     → Signalled c place resumed old between new
 signalled c place resumed old between new l t p =
     record {
@@ -51,7 +52,8 @@ taken_is c x (Some p) old new is t =
     subst (λ (j : ℕ). IsTaken c j old new) (sym t.first_place ∙ ap (λ (y : Link). y.place) (sym one)) t
 
 -- the waiter that is taken out of those who wait is that of the chain's first
-first_waiter : (c : ℕ) (x : Link) (old between : Lists) → c < MOST_CONDITIONS → Some x ≡ first_link (list_at old c) → (t : TakesFirst c (waiting_below MOST_CONDITIONS (list_at old)) (waiting_below MOST_CONDITIONS (list_at between)) x.place)
+first_waiter : (c : ℕ) (x : Link) (old between : Lists) → c < MOST_CONDITIONS → Some x ≡ first_link (list_at old c)
+    → (t : TakesFirst c (waiting_below MOST_CONDITIONS (list_at old)) (waiting_below MOST_CONDITIONS (list_at between)) x.place)
     → waiter_on c x ≡ t.first
 first_waiter c x old between l is t =
     let left : filter (on c) (waiting_below MOST_CONDITIONS (list_at old)) ≡ t.first ∷ filter (on c) (waiting_below MOST_CONDITIONS (list_at between)) = filter-taken_on c _ _ x.place t in
@@ -62,7 +64,8 @@ first_waiter c x old between l is t =
     by [] q e = absurd (cc)
     by (y ∷ ys) q e = let same : x ≡ y = cc in ap (waiter_on c) same ∙ (cc)
 
-pub notified : (c : ℕ) (x : Link) (r : Option ℕ) (old between new : Lists) → c < MOST_CONDITIONS → Some x ≡ first_link (list_at old c)
+pub notified : (c : ℕ) (x : Link) (r : Option ℕ) (old between new : Lists) → c < MOST_CONDITIONS
+    → Some x ≡ first_link (list_at old c)
     → MatchOption r ((list_at old c ≡ []) × (between ≡ old)) (λ place. IsTaken c place old between)
     → IsPut CALLED (list_at between CALLED) [] x.place c x.priority between new → Notified c x.place old between new
 notified c x r old between new l is m p =

@@ -86,6 +86,7 @@ pub record IsTaken (c place : ℕ) (old new : Lists) : Type 0 where
 
 -- all in the chain of condition c now stand behind those that were called
 pub record IsJoined (c : ℕ) (old new : Lists) : Type 0 where
-  pub lists : (d : ℕ) → list_at new d ≡ list_put c [] (list_put CALLED (list_at old CALLED ++ list_at old c) (list_at old)) d
+  pub lists : (d : ℕ)
+      → list_at new d ≡ list_put c [] (list_put CALLED (list_at old CALLED ++ list_at old c) (list_at old)) d
   pub waited : All (λ (x : Link). x.condition ≡ c) (list_at old c)
   pub room : new.room ≡ old.room

@@ -20,7 +20,7 @@ use Rattle.hoare_law.proofs.Entering.{outside-same}
 use Rattle.hoare_law.proofs.Growth.{Begins-refl}
 use Rattle.hoare_law.proofs.Entering as entering
 use Rattle.hoare_law.proofs.Held.{is_inside, handing, place_of-handing, data_of-handing}
-use Rattle.hoare_law.proofs.Leaving.{turn-left, turn-handing, outside-left, chosen-some, Chooses-place, Allowed-leave}
+use Rattle.hoare_law.proofs.Leaving.{given_up-left, turn-handing, outside-left, chosen-some, Chooses-place, Allowed-leave}
 use Rattle.hoare_law.proofs.Leaving.{Allowed-wait, Allowed-handing}
 use Rattle.hoare_law.proofs.Leaving.{Owes-leave, Owes-wait, Owes-handing}
 use Rattle.hoare_law.proofs.Legal.{Stands-push}
@@ -44,17 +44,7 @@ held_next (Held k) j e = let same : k ≡ j = cc in ap (λ i. Held i) same
 held_next (Owed k c) j e = absurd (cc)
 held_next (Return k) j e = absurd (cc)
 
-given_up_by : (t : Turn) → ((j : ℕ) → t ≢ Held j) → IsGivenUp t
-given_up_by Free gone = tt
-given_up_by (Held k) gone = absurd (gone k refl)
-given_up_by (Owed k c) gone = tt
-given_up_by (Return k) gone = tt
-
 module _ {D : Type 0} where
-  -- nobody is inside after an event that isn't one of a process inside
-  given_up_after : (f : History D) (e : Event D) → is_inside e ≡ false → IsGivenUp (turn (with_event f e).events)
-  given_up_after f e goes = given_up_by (turn (with_event f e).events) (λ j. turn-left f e j goes)
-
   out-handing : (out : Bool) (k c w : ℕ) (s : D) → is_inside (handing out k c w s) ≡ false
   out-handing true k c w s = refl
   out-handing false k c w s = refl
@@ -136,7 +126,7 @@ module _ {D : Type 0} where
         mine = mine;
         allowed = allowed;
         owes = owes;
-        given_up = given_up_after f (event x.state) goes;
+        given_up = given_up-left f (event x.state) goes;
         same_data = same;
         book = book;
         next_is = next-history b (with_event f (event x.state)) who book is;

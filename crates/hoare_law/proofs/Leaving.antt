@@ -10,29 +10,31 @@ use Rattle.hoare_law.specs.Events.{place_of, with_event}
 use Rattle.hoare_law.specs.Lawful.{Rest, Ready, Owes}
 use Rattle.hoare_law.specs.Legal.{Allowed, IsLegal}
 use Rattle.hoare_law.specs.Priorities.{priorities, joined, taken}
-use Rattle.hoare_law.specs.Turns.{After, stays, frees, hands, after, turn, turn_of, urgent, outside, is_out}
+use Rattle.hoare_law.specs.Turns.{After, stays, frees, hands, after, turn, turn_of, urgent, IsGivenUp, outside, is_out}
 use Rattle.hoare_law.specs.Sizes.{IsHoare}
 use Rattle.hoare_law.specs.Waiting.{priority_of, chosen, Chooses}
 use Rattle.hoare_law.specs.Called.{called}
-use Rattle.hoare_law.proofs.Held.{handing, is_stay, is_inside, not_held}
+use Rattle.hoare_law.proofs.Held.{handing, is_stay, is_inside}
 use Rattle.hoare_law.proofs.Priorities.{priorities-leave, priorities-wait, priorities-handing, priorities-nobody}
 use Rattle.hoare_law.proofs.Priorities.{slice_index-chosen, waiting-unchosen}
 use Rattle.hoare_law.proofs.Turns.{outside-push, turn-push}
 use Rattle.hoare_law.proofs.Waiters.{held-in_range, chosen-in_range}
 
 module _ {S : Type 0} where
-  -- nobody is inside after an event that isn't one of a process inside
-  pub turn-left : (f : History S) (e : Event S) (j : ℕ) → is_inside e ≡ false → turn (with_event f e).events ≢ Held j
-  unfolding with_event
-  turn-left f e j out is = by (after e) out (sym (turn-push f.events e) ∙ is)
-    where
-      h : List (Event S)
-      h = f.events ++ e ∷ []
+  given_up_of : (a : After) (k : ℕ) (us : List ℕ) (ws : List (Event S)) → is_stay a ≡ false
+      → IsGivenUp (turn_of a k us ws)
+  given_up_of stays k us ws left = absurd (cc)
+  given_up_of (hands w c) k us ws left = tt
+  given_up_of frees k [] [] left = tt
+  given_up_of frees k [] (w ∷ ws) left = tt
+  given_up_of frees k (u ∷ us) ws left = tt
 
-      by : (a : After) → is_stay a ≡ false → turn_of a (place_of e) (urgent h) (called h) ≢ Held j
-      by stays no_stay t = absurd (cc)
-      by frees no_stay t = not_held (urgent h) (called h) j t
-      by (hands w c) no_stay t = cc
+  -- nobody is inside after an event that isn't one of a process inside
+  pub given_up-left : (f : History S) (e : Event S) → is_inside e ≡ false → IsGivenUp (turn (with_event f e).events)
+  unfolding with_event
+  given_up-left f e left =
+      let h : List (Event S) = f.events ++ e ∷ [] in
+      subst IsGivenUp (sym (turn-push f.events e)) (given_up_of (after e) (place_of e) (urgent h) (called h) left)
 
   -- the turn is that of whom a signal or a pass resumes
   pub turn-handing : (out : Bool) (h : History S) (k c w : ℕ) (s : S)

@@ -12,6 +12,7 @@ use Rattle.hoare_law.specs.Called.{called}
 use Rattle.hoare_law.specs.Waiting.{chosen, waiting}
 use Rattle.hoare_law.specs.Turns.{urgent, turn, turn_by, turn_given_up, IsGivenUp}
 use Rattle.hoare_law.proofs.Held.{is_inside}
+use Rattle.hoare_law.proofs.Leaving.{given_up-left}
 use Rattle.hoare_law.proofs.Opening.{turn-opened}
 use Rattle.hoare_law.proofs.Turns.{turn-push}
 use Rattle.wait_book.specs.declared.steps.Step.{Step}
@@ -69,28 +70,6 @@ is_claimed (Return j) = tt
 claimed-settled : (h : Log) → IsClaimed (turn (settled h).events)
 claimed-settled h = subst IsClaimed (sym (turn-claim h (turn h.events) refl)) (is_claimed (turn h.events))
 
--- nobody is inside after an event that brings nobody in
-given_to : (us : List ℕ) (ws : List Act) → IsGivenUp (turn_given_up us ws)
-given_to [] [] = tt
-given_to [] (w ∷ ws) = tt
-given_to (u ∷ us) ws = tt
-
-given_by : (e : Act) (us : List ℕ) (ws : List Act) → is_inside e ≡ false → IsGivenUp (turn_by e us ws)
-given_by (event.Admit k s) us ws is = absurd (cc)
-given_by (event.Resume k c s) us ws is = absurd (cc)
-given_by (event.Back k s) us ws is = absurd (cc)
-given_by (event.Notify k c w s) us ws is = absurd (cc)
-given_by (event.Broadcast k c s) us ws is = absurd (cc)
-given_by (event.Wait k c p s) us ws is = given_to us ws
-given_by (event.Leave k s) us ws is = given_to us ws
-given_by (event.Signal k c w s) us ws is = tt
-given_by (event.Pass k c w s) us ws is = tt
-
-given_up : (h : Log) (e : Act) → is_inside e ≡ false → IsGivenUp (turn (with_event h e).events)
-given_up h e is =
-    subst IsGivenUp (sym (turn-with h e))
-    (given_by e (urgent (with_event h e).events) (called (with_event h e).events) is)
-
 -- what place k does after a step by which h happened, is what the step, its answer and the number of k among the
 -- called say
 abbrev IsLane : Log → Step → ℕ → Lane → Type 0
@@ -114,7 +93,7 @@ left_by : (h : Log) (s : Step) (e : Act) (k : ℕ) → is_inside e ≡ false →
 left_by h s e k is same own_is =
     let g : Log = with_event h e in
     let n : ℕ = number_called (settled g).events k in
-    left_claim n g s k (lane_of h k) (turn g.events) (given_up h e is)
+    left_claim n g s k (lane_of h k) (turn g.events) (given_up-left h e is)
     (lane_as-push n h e k ∙ ap (λ (j : ℕ). cond (j == k) (lane_by n e) (lane_as n h k)) same
     ∙ by n (actor s == k) own_is)
     ∙ ap (λ (t : Turn). lane_answered s n k (lane_of h k) (turn_answer t)) (sym (turn-claim g (turn g.events) refl))

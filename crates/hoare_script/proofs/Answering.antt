@@ -40,8 +40,11 @@ pub one_line-no_header : (i : ℕ) (line : List ℕ) (k : Option (List ℕ)) (f 
     → (((f ≡ faults.Memory) × IsGoodHeader line) ⊎ ((header_line i (header_of line) ≡ Err f) × (f ≡ faults.BadHeader i)))
     → (s : State) → IsAt None s → OnFault (one_line s i line) k k f
 unfolding one_line
-one_line-no_header i line k f (inl m) s st = subst (λ (v : ScriptFault). OnFault (one_line s i line) k k v) (sym m.0) (Appends-nil k)
-one_line-no_header i line k f (inr w) Start st = subst (λ (v : ScriptFault). OnFault (header_line i (header_of line)) k k v) (sym w.1) (w.0 ∙ ap Err w.1, Appends-nil k)
+one_line-no_header i line k f (inl m) s st =
+    subst (λ (v : ScriptFault). OnFault (one_line s i line) k k v) (sym m.0) (Appends-nil k)
+one_line-no_header i line k f (inr w) Start st =
+    subst (λ (v : ScriptFault). OnFault (header_line i (header_of line)) k k v) (sym w.1)
+    (w.0 ∙ ap Err w.1, Appends-nil k)
 one_line-no_header i line k f (inr w) (Running h) st = absurd st
 
 -- the line at which a fault stands, if it is one of a line
@@ -56,7 +59,8 @@ command_line-number : (h : History (Unit {0})) (i : ℕ) (line : List ℕ) (c : 
 command_line-number h i line None f e = let is : f ≡ faults.BadLine i = cc in ap fault_line is
 command_line-number h i line (Some c) f e = absurd (cc)
 
-opened_by-number : (i : ℕ) (h : Header) (r : Option MakeRefused) (f : ScriptFault) → opened_by i h r ≡ Err f → fault_line f ≡ i
+opened_by-number : (i : ℕ) (h : Header) (r : Option MakeRefused) (f : ScriptFault) → opened_by i h r ≡ Err f
+    → fault_line f ≡ i
 opened_by-number i h None f e = absurd (cc)
 opened_by-number i h (Some r) f e = let is : f ≡ faults.BadHeader i = cc in ap fault_line is
 
@@ -65,7 +69,8 @@ header_line-number i None f e = let is : f ≡ faults.BadHeader i = cc in ap fau
 header_line-number i (Some h) f e = opened_by-number i h (make_refusal (sizes_in h)) f e
 
 -- a line's fault stands at that line
-pub one_line-number : (s : State) (i : ℕ) (line : List ℕ) (f : ScriptFault) → one_line s i line ≡ Err f → fault_line f ≡ i
+pub one_line-number : (s : State) (i : ℕ) (line : List ℕ) (f : ScriptFault) → one_line s i line ≡ Err f
+    → fault_line f ≡ i
 unfolding one_line
 one_line-number Start i line f e = header_line-number i (header_of line) f e
 one_line-number (Running h) i line f e = command_line-number h i line (command_of line) f e

@@ -1,13 +1,16 @@
 -- How a run goes on, line by line.
-use Rattle.std.proofs.Common.{◌≡◌, ◌≢◌, ℕ, suc, ◌+◌, ◌-◌, ◌<◌, ◌≤◌, List, [], ◌∷◌, ◌++◌, length, take, drop, Option, Some, None, Result, Ok, Err}
-use Rattle.std.proofs.Common.{refl, ap, sym, ◌∙◌, append_assoc, subst, eqb, cond, Bool, true, false, arith, length-append}
+use Rattle.std.proofs.Common.{◌≡◌, ◌≢◌, ℕ, suc, ◌+◌, ◌-◌, ◌<◌, ◌≤◌, List, [], ◌∷◌, ◌++◌, length, take, drop, Option}
+use Rattle.std.proofs.Common.{Some, None, Result, Ok, Err}
+use Rattle.std.proofs.Common.{refl, ap, sym, ◌∙◌, append_assoc, subst, eqb, cond, Bool, true, false, arith}
+use Rattle.std.proofs.Common.{length-append}
 use Rattle.std.proofs.KnownBytes.{Appends-nil, Appends-trans}
 use Rattle.std.proofs.lemmas.List.{append-nil}
 use Rattle.std.proofs.lemmas.List.Splits.{slice_split_at, slice_split_none}
 use Rattle.std.specs.List.{slice_split}
 use Rattle.std.specs.Result.{IsOkAnd}
 use Rattle.std.specs.Io.KnownBytes.{Appends}
-use Rattle.line_text.proofs.AfterLines.{AtLine, AtLine-first, AtLine-next, after_lines-last, after_lines-line, after_lines-long_line, append-line}
+use Rattle.line_text.proofs.AfterLines.{AtLine, AtLine-first, AtLine-next, after_lines-last, after_lines-line}
+use Rattle.line_text.proofs.AfterLines.{after_lines-long_line, append-line}
 use Rattle.line_text.proofs.Streams.{Reads-line, append-take_prefix, drop-read}
 use Rattle.line_text.specs.declared.line.Ended.{Ended}
 use Rattle.line_text.specs.declared.line.Ended.TheVariants as how
@@ -20,7 +23,8 @@ use Rattle.wait_book.specs.Contents.{Contents}
 use Rattle.hoare_script.specs.declared.fault.ScriptFault.{ScriptFault}
 use Rattle.hoare_script.specs.declared.fault.ScriptFault.TheVariants as faults
 use Rattle.hoare_script.specs.declared.runs.TheConstants.{MOST_BYTES}
-use Rattle.hoare_script.specs.Scripts.{State, Start, Running, Told, Ending, Outcome, told, told_from, prepend, stop, done, then_on, one_line, at_end, at_cut}
+use Rattle.hoare_script.specs.Scripts.{State, Start, Running, Told, Ending, Outcome, told, told_from, prepend, stop}
+use Rattle.hoare_script.specs.Scripts.{done, then_on, one_line, at_end, at_cut}
 use Rattle.hoare_script.specs.Runs.{IsAt, Follows, IsGoodHeader, OnFault, Tells, Verdict, Whole}
 use Rattle.hoare_script.proofs.Answering.{one_line-number}
 use Rattle.hoare_script.proofs.Scripts.{told_from-line, told_from-long_line, told_from-past_limit, told_from-end}
@@ -58,7 +62,8 @@ Whole-fault old now new w t f p q e =
     (subst (λ (v : Told). Appends old new v.written) (sym e) (Appends-trans old now new w [] p q), ap (λ (v : Told). v.fault) e)
 
 -- what a line wrote, and where the script then stands
-IsOkAnd-parts : (out : Outcome) (P : List ℕ × State → Type 0) → IsOkAnd out P → (p : List ℕ × State) × (out ≡ Ok p) × P p
+IsOkAnd-parts : (out : Outcome) (P : List ℕ × State → Type 0) → IsOkAnd out P
+    → (p : List ℕ × State) × (out ≡ Ok p) × P p
 IsOkAnd-parts (Ok p) P h = (p, refl, h)
 IsOkAnd-parts (Err f) P h = absurd h
 
@@ -77,7 +82,8 @@ at_end-some : (s : State) (i : ℕ) (l : List ℕ) → (l ≡ [] → ⊥) → at
 at_end-some s i [] n = absurd (n refl)
 at_end-some s i (b ∷ bs) n = refl
 
-module _ (number room : ℕ) (opened : Option Contents) (old now : Option (List ℕ)) (t0 t : List ℕ) (g : Going number room opened old now t0 t) where
+module _ (number room : ℕ) (opened : Option Contents) (old now : Option (List ℕ)) (t0 t : List ℕ)
+    (g : Going number room opened old now t0 t) where
   -- the rest of what is told, from where the run is
   told-rest : (e : Ending) → told e t0 ≡ prepend g.written (told_from e g.state number room t)
   told-rest e = ap (told e) g.text.whole ∙ g.goes e t
@@ -98,7 +104,8 @@ module _ (number room : ℕ) (opened : Option Contents) (old now : Option (List 
       ap (λ (v : Told). v.written) all ∙ append-nil g.written
 
   -- the line was too long
-  Tells-long_line : (l x : List ℕ) (b : ℕ) → NoNewline l → b ≢ 10 → length l ≡ LONGEST_LINE → LONGEST_LINE < room → t ≡ l ++ b ∷ x
+  Tells-long_line : (l x : List ℕ) (b : ℕ) → NoNewline l → b ≢ 10 → length l ≡ LONGEST_LINE → LONGEST_LINE < room
+      → t ≡ l ++ b ∷ x
       → Tells t0 x old now (Err (faults.LineTooLong number))
   Tells-long_line l x b n d h r e = (
     Whole-stop now (faults.LineTooLong number) (Appends-nil now)
@@ -135,7 +142,8 @@ module _ (number room : ℕ) (opened : Option Contents) (old now : Option (List 
       → told_from at_end g.state number room t ≡ then_on out go → x ≡ after_lines number t0
       → IsOkAnd out (λ p. AppendsPrefix now new p.0) → Tells t0 x old new (Err faults.WriteFault)
   Tells-break new x out go e b o =
-      let q : (p : List ℕ × State) × (out ≡ Ok p) × AppendsPrefix now new p.0 = IsOkAnd-parts out (λ p. AppendsPrefix now new p.0) o in
+      let q : (p : List ℕ × State) × (out ≡ Ok p) × AppendsPrefix now new p.0 =
+      IsOkAnd-parts out (λ p. AppendsPrefix now new p.0) o in
       let w : List ℕ = g.written in
       let p : List ℕ = q.0.0 in
       let r : List ℕ = (go q.0.1).written in
@@ -154,7 +162,8 @@ module _ (number room : ℕ) (opened : Option Contents) (old now : Option (List 
             b ∙ ap (λ i. after_lines i t0) next,
             omega (arith, ap length told-before),
             omega (arith, ap length all, length-append w (p ++ r), length-append p r, q.2.1),
-            subst (λ (v : List ℕ). Appends old new v) (sym some) (Appends-trans old now new w (take n p) g.appends q.2.2),
+            subst (λ (v : List ℕ). Appends old new v) (sym some)
+                (Appends-trans old now new w (take n p) g.appends q.2.2),
           ),
         ),
         (number, b),
@@ -190,10 +199,12 @@ module _ (number room : ℕ) (opened : Option Contents) (old now : Option (List 
 
   -- the last line is answered
   Tells-end : (new : Option (List ℕ)) (x : List ℕ) (out : Outcome) (P : State → Type 0)
-      → told_from at_end g.state number room t ≡ then_on out (λ _. done) → x ≡ [] → IsOkAnd out (λ p. Appends now new p.0 × P p.1)
+      → told_from at_end g.state number room t ≡ then_on out (λ _. done) → x ≡ []
+      → IsOkAnd out (λ p. Appends now new p.0 × P p.1)
       → Tells t0 x old new (Ok tt)
   Tells-end new x out P e z o =
-      let q : (p : List ℕ × State) × (out ≡ Ok p) × (Appends now new p.0 × P p.1) = IsOkAnd-parts out (λ p. Appends now new p.0 × P p.1) o in
+      let q : (p : List ℕ × State) × (out ≡ Ok p) × (Appends now new p.0 × P p.1) =
+      IsOkAnd-parts out (λ p. Appends now new p.0 × P p.1) o in
       let all : told at_end t0 ≡ prepend g.written (prepend q.0.0 done) =
       told-rest at_end ∙ ap (prepend g.written) (e ∙ ap (λ (v : Outcome). then_on v (λ _. done)) q.1) in
       let text : g.written ++ q.0.0 ≡ (told at_end t0).written =
@@ -209,16 +220,19 @@ module _ (number room : ℕ) (opened : Option Contents) (old now : Option (List 
       ∙ told_from-end at_end g.state number room [] (λ k d h. absurd (omega arith)) (omega arith) (omega arith)
 
   -- the input is empty, or ends after a whole line
-  Tells-nothing : (x : List ℕ) (empty : Bool) → told_from at_end g.state number room t ≡ cond empty (stop faults.NoHeader) done → x ≡ []
+  Tells-nothing : (x : List ℕ) (empty : Bool)
+      → told_from at_end g.state number room t ≡ cond empty (stop faults.NoHeader) done → x ≡ []
       → Tells t0 x old now (cond empty (Err faults.NoHeader) (Ok tt))
   Tells-nothing x true e z = (Whole-stop now faults.NoHeader (Appends-nil now) e, z)
   Tells-nothing x false e z =
       let all : told at_end t0 ≡ prepend g.written done = told-rest at_end ∙ ap (prepend g.written) e in
-      let text : g.written ≡ (told at_end t0).written = sym (append-nil g.written) ∙ sym (ap (λ (v : Told). v.written) all) in
+      let text : g.written ≡ (told at_end t0).written =
+      sym (append-nil g.written) ∙ sym (ap (λ (v : Told). v.written) all) in
       ((subst (λ (v : List ℕ). Appends old now v) text g.appends, ap (λ (v : Told). v.fault) all), z)
 
   -- a whole line is answered
-  Going-line : (d : Contents) (new : Option (List ℕ)) (l x : List ℕ) → NoNewline l → length l ≤ LONGEST_LINE → length l < room → t ≡ l ++ 10 ∷ x
+  Going-line : (d : Contents) (new : Option (List ℕ)) (l x : List ℕ) → NoNewline l → length l ≤ LONGEST_LINE
+      → length l < room → t ≡ l ++ 10 ∷ x
       → IsOkAnd (one_line g.state number l) (λ p. Appends now new p.0 × IsAt (Some d) p.1)
       → Going (number + 1) (room - (length l + 1)) (Some d) old new t0 x
   Going-line d new l x n h r e o =
@@ -254,23 +268,28 @@ pub Known-start : (k old : Option (List ℕ)) → Known k k old old 1 MOST_BYTES
 Known-start k old = record { goes = Reads-start k old }
 
 -- The ways out of the loop, and its turn: a line l was read, and m is left.
-module _ {k0 k old now : Option (List ℕ)} {number room : ℕ} {opened : Option Contents} (h : Known k0 k old now number room opened)
+module _ {k0 k old now : Option (List ℕ)} {number room : ℕ} {opened : Option Contents}
+    (h : Known k0 k old now number room opened)
     (m : Option (List ℕ)) (l : List ℕ) (one : NoNewline l) (short : length l ≤ LONGEST_LINE) (within : length l ≤ room) where
   -- the line at hand ends in this way
   ended : (S : List ℕ → List ℕ → Type 0) (e f : Result Ended LineFault) → e ≡ f
-      → ((t0 t x : List ℕ) → Going number room opened old now t0 t → ReadsLine l f t x → S t0 x) → Reads k m (ReadsLine l e) → Reads k0 m S
+      → ((t0 t x : List ℕ) → Going number room opened old now t0 t → ReadsLine l f t x → S t0 x)
+      → Reads k m (ReadsLine l e) → Reads k0 m S
   ended S e f is go r = Reads-line k0 k m (Going number room opened old now) S l e f is go h.goes r
 
   pub exit_failed : (f : LineFault) → f ≡ why.Failed → Reads k m (ReadsLine l (Err f))
       → Reads k0 m (λ text left. Tells text left old now (Err faults.ReadFault))
-  exit_failed f e r = ended (λ text left. Tells text left old now (Err faults.ReadFault)) (Err f) (Err why.Failed) (ap Err e)
+  exit_failed f e r =
+      ended (λ text left. Tells text left old now (Err faults.ReadFault)) (Err f) (Err why.Failed) (ap Err e)
       (λ t0 t x g b. Tells-cut number room opened old now t0 t g l x one short within b) r
 
   pub exit_long : (f : LineFault) → f ≡ why.TooLong → Reads k m (ReadsLine l (Err f)) → IsLineFor room l (Err f)
       → Reads k0 m (λ text left. Tells text left old now (Err (faults.LineTooLong number)))
   exit_long f e r s =
-      let fits : (length l ≡ LONGEST_LINE) × (LONGEST_LINE < room) = subst (λ (v : LineFault). IsLineFor room l (Err v)) e s in
-      ended (λ text left. Tells text left old now (Err (faults.LineTooLong number))) (Err f) (Err why.TooLong) (ap Err e)
+      let fits : (length l ≡ LONGEST_LINE) × (LONGEST_LINE < room) =
+      subst (λ (v : LineFault). IsLineFor room l (Err v)) e s in
+      ended (λ text left. Tells text left old now (Err (faults.LineTooLong number))) (Err f) (Err why.TooLong)
+      (ap Err e)
       (λ t0 t x g b. Tells-long_line number room opened old now t0 t g l x b.0 one b.1 fits.0 fits.1 b.2) r
 
   pub exit_much : (f : LineFault) → f ≡ why.TooMuch → Reads k m (ReadsLine l (Err f)) → IsLineFor room l (Err f)
@@ -288,15 +307,19 @@ module _ {k0 k old now : Option (List ℕ)} {number room : ℕ} {opened : Option
       (Tells-nothing number room opened old now t0 t g x (eqb number 1) (told_from-nothing number room opened old now t0 t g (b.0 ∙ z)) b.1)) r
 
   -- what the last line is told
-  told_from-last : (s : State) (t : List ℕ) → t ≡ l → (l ≡ [] → ⊥) → told_from at_end s number room t ≡ then_on (one_line s number l) (λ _. done)
+  told_from-last : (s : State) (t : List ℕ) → t ≡ l → (l ≡ [] → ⊥)
+      → told_from at_end s number room t ≡ then_on (one_line s number l) (λ _. done)
   told_from-last s t e z =
-      ap (told_from at_end s number room) e ∙ told_from-end at_end s number room l one short within ∙ at_end-some s number l z
+      ap (told_from at_end s number room) e ∙ told_from-end at_end s number room l one short within
+      ∙ at_end-some s number l z
 
   last_line : (n : Option (List ℕ)) (d : Option Contents) (res : Result (Unit {0}) ScriptFault) (t0 t x : List ℕ)
-      → (g : Going number room opened old now t0 t) → t ≡ l → x ≡ [] → (l ≡ [] → ⊥) → Follows (one_line g.state number l) now n d res
+      → (g : Going number room opened old now t0 t) → t ≡ l → x ≡ [] → (l ≡ [] → ⊥)
+      → Follows (one_line g.state number l) now n d res
       → (res ≡ Err faults.Memory → (g.state ≡ Start) × IsGoodHeader l) → Tells t0 x old n res
   last_line n d (Ok tt) t0 t x g e y z o c =
-      Tells-end number room opened old now t0 t g n x (one_line g.state number l) (IsAt d) (told_from-last g.state t e z) y o
+      Tells-end number room opened old now t0 t g n x (one_line g.state number l) (IsAt d)
+      (told_from-last g.state t e z) y o
   last_line n d (Err f) t0 t x g e y z o c =
       Tells-fault number room opened old now t0 t g n l x (λ _. done) f (told_from-last g.state t e z)
       (after_lines-last g.text l x one e y) o (λ q. c (ap Err q))
@@ -309,7 +332,8 @@ module _ {k0 k old now : Option (List ℕ)} {number room : ℕ} {opened : Option
       → Reads k0 m (λ text left. Tells text left old n res)
   exit_last n d res f line e i r z o c = ended (λ text left. Tells text left old n res) (Ok f) (Ok how.Last) (ap Ok e)
       (λ t0 t x g b.
-      last_line n d res t0 t x g b.0 b.1 z (subst (λ (v : List ℕ). Follows (one_line g.state number v) now n d res) i (o g.state g.at))
+      last_line n d res t0 t x g b.0 b.1 z
+      (subst (λ (v : List ℕ). Follows (one_line g.state number v) now n d res) i (o g.state g.at))
       (λ q. subst (λ (v : List ℕ). (g.state ≡ Start) × IsGoodHeader v) i (c g.state g.at q))) r
 
   pub exit_fault : (n : Option (List ℕ)) (bad : ScriptFault) (f : Ended) (line : List ℕ)
@@ -317,16 +341,19 @@ module _ {k0 k old now : Option (List ℕ)} {number room : ℕ} {opened : Option
       → ((s : State) → IsAt opened s → OnFault (one_line s number line) now n bad)
       → ((s : State) → IsAt opened s → bad ≡ faults.Memory → (s ≡ Start) × IsGoodHeader line)
       → Reads k0 m (λ text left. Tells text left old n (Err bad))
-  exit_fault n bad f line e i r fits o c = ended (λ text left. Tells text left old n (Err bad)) (Ok f) (Ok how.Line) (ap Ok e)
+  exit_fault n bad f line e i r fits o c =
+      ended (λ text left. Tells text left old n (Err bad)) (Ok f) (Ok how.Line) (ap Ok e)
       (λ t0 t x g b.
-      Tells-fault number room opened old now t0 t g n l x (λ v. told_from at_end v (number + 1) (room - (length l + 1)) x) bad
+      Tells-fault number room opened old now t0 t g n l x
+      (λ v. told_from at_end v (number + 1) (room - (length l + 1)) x) bad
       (ap (told_from at_end g.state number room) b ∙ told_from-line at_end g.state number room l x one short fits)
       (after_lines-line g.text l x one b)
       (subst (λ (v : List ℕ). OnFault (one_line g.state number v) now n bad) i (o g.state g.at))
       (λ q. subst (λ (v : List ℕ). (g.state ≡ Start) × IsGoodHeader v) i (c g.state g.at q))
       (slice_split is_newline x, ap (slice_split is_newline) b ∙ slice_split_at is_newline l 10 x one refl)) r
 
-  Going-next : (n : Option (List ℕ)) (d : Option Contents) (t0 t x : List ℕ) → (d ≡ None → ⊥) → (g : Going number room opened old now t0 t)
+  Going-next : (n : Option (List ℕ)) (d : Option Contents) (t0 t x : List ℕ) → (d ≡ None → ⊥)
+      → (g : Going number room opened old now t0 t)
       → length l < room → t ≡ l ++ 10 ∷ x → IsOkAnd (one_line g.state number l) (λ p. Appends now n p.0 × IsAt d p.1)
       → Going (number + 1) (room - (length l + 1)) d old n t0 x
   Going-next n None t0 t x i g r e o = absurd (i refl)

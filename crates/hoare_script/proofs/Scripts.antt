@@ -1,5 +1,6 @@
 -- What a script is told, by how its next line ends.
-use Rattle.std.proofs.Common.{◌≡◌, ◌≢◌, ℕ, suc, ◌+◌, ◌-◌, ◌<◌, ◌≤◌, Bool, true, false, cond, ltb, List, [], ◌∷◌, ◌++◌, length, take}
+use Rattle.std.proofs.Common.{◌≡◌, ◌≢◌, ℕ, suc, ◌+◌, ◌-◌, ◌<◌, ◌≤◌, Bool, true, false, cond, ltb, List, [], ◌∷◌, ◌++◌}
+use Rattle.std.proofs.Common.{length, take}
 use Rattle.std.proofs.Common.{refl, ap, sym, ◌∙◌, length-append, arith}
 use Rattle.std.specs.List.{slice_split}
 use Rattle.std.proofs.Math.Seq.{take-append-add, take-append_seam}
@@ -17,7 +18,8 @@ ltb-same : (a b c d : ℕ) → (a < b → c < d) → (c < d → a < b) → ltb a
 ltb-same a b c d f g = grind (arith, nat_tests)
 
 -- a line that others follow
-told_lines-line : (e : Ending) (over : Bool) (s : State) (i : ℕ) (l : List ℕ) (parts : List (List ℕ)) → (parts ≡ [] → ⊥) → length l ≤ 256
+told_lines-line : (e : Ending) (over : Bool) (s : State) (i : ℕ) (l : List ℕ) (parts : List (List ℕ)) → (parts ≡ [] → ⊥)
+    → length l ≤ 256
     → told_lines e over s i (l ∷ parts) ≡ then_on (one_line s i l) (λ t. told_lines e over t (i + 1) parts)
 told_lines-line e over s i l [] n h = absurd (n refl)
 told_lines-line e over s i l (p ∷ ps) n h = rw (le-ltb 256 (length l) h) refl
@@ -36,7 +38,8 @@ take-line room l b x h =
     ap (λ n. take n (l ++ b ∷ x)) e ∙ take-append-add l (b ∷ x) (suc (room - (length l + 1)))
 
 -- a line that its end of line ends
-pub told_from-line : (e : Ending) (s : State) (i room : ℕ) (l x : List ℕ) → NoNewline l → length l ≤ 256 → length l < room
+pub told_from-line : (e : Ending) (s : State) (i room : ℕ) (l x : List ℕ) → NoNewline l → length l ≤ 256
+    → length l < room
     → told_from e s i room (l ++ 10 ∷ x) ≡ then_on (one_line s i l) (λ t. told_from e t (i + 1) (room - (length l + 1)) x)
 unfolding told_from
 told_from-line e s i room l x n h r =
@@ -49,7 +52,8 @@ told_from-line e s i room l x n h r =
     (slice_split-some is_newline (take m x)) h)
 
 -- a line that is too long
-pub told_from-long_line : (e : Ending) (s : State) (i room : ℕ) (l : List ℕ) (b : ℕ) (x : List ℕ) → NoNewline l → b ≢ 10 → length l ≡ 256 → 256 < room
+pub told_from-long_line : (e : Ending) (s : State) (i room : ℕ) (l : List ℕ) (b : ℕ) (x : List ℕ) → NoNewline l → b ≢ 10
+    → length l ≡ 256 → 256 < room
     → told_from e s i room (l ++ b ∷ x) ≡ stop (faults.LineTooLong i)
 unfolding told_from
 told_from-long_line e s i room l b x n d h r =
@@ -64,7 +68,8 @@ told_lines-last : (e : Ending) (over : Bool) (s : State) (i : ℕ) (l : List ℕ
 told_lines-last e over s i l h = rw (le-ltb 256 (length l) h) refl
 
 -- a byte past the limit
-pub told_from-past_limit : (e : Ending) (s : State) (i room : ℕ) (l : List ℕ) (b : ℕ) (x : List ℕ) → NoNewline l → length l ≤ 256 → length l ≡ room
+pub told_from-past_limit : (e : Ending) (s : State) (i room : ℕ) (l : List ℕ) (b : ℕ) (x : List ℕ) → NoNewline l
+    → length l ≤ 256 → length l ≡ room
     → told_from e s i room (l ++ b ∷ x) ≡ stop faults.TooMuch
 unfolding told_from
 told_from-past_limit e s i room l b x n h r =

@@ -10,7 +10,7 @@ use Rattle.hoare_law.specs.declared.turn.Turn.TheVariants.{Free, Held, Owed, Ret
 use Rattle.hoare_law.specs.Events.{place_of, own, newest, opened, with_event}
 use Rattle.hoare_law.specs.Called.{called}
 use Rattle.hoare_law.specs.Waiting.{chosen, waiting}
-use Rattle.hoare_law.specs.Turns.{urgent, turn, turn_by, turn_given_up, IsGivenUp}
+use Rattle.hoare_law.specs.Turns.{urgent, turn, turn_by, IsGivenUp}
 use Rattle.hoare_law.proofs.Held.{is_inside}
 use Rattle.hoare_law.proofs.Leaving.{given_up-left}
 use Rattle.hoare_law.proofs.Opening.{turn-opened}

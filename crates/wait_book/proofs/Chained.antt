@@ -1,7 +1,10 @@
 -- What keeps the chains chains: a new node, and one taken out.
-use Rattle.std.proofs.Common.{◌≡◌, ◌≢◌, ℕ, zero, suc, ◌+◌, ◌<◌, ◌≤◌, true, false, cond, is_some, inl, inr, List, [], ◌∷◌, ◌++◌, length, map, get_or, set, replicate, count_by, Option, Some, None, refl, ap, sym, ◌∙◌, subst, arith}
+use Rattle.std.proofs.Common.{◌≡◌, ◌≢◌, ℕ, zero, suc, ◌+◌, ◌<◌, ◌≤◌, true, false, cond, is_some, inl, inr, List, []}
+use Rattle.std.proofs.Common.{◌∷◌, ◌++◌, length, map, get_or, set, replicate, count_by, Option, Some, None, refl, ap}
+use Rattle.std.proofs.Common.{sym, ◌∙◌, subst, arith}
 use Rattle.std.proofs.lemmas.Bool.{cases_eq, cases_lt}
-use Rattle.std.proofs.lemmas.List.{append-nil, get_or-set_same, get_or-set_other, get_or_past, length-append, length-set}
+use Rattle.std.proofs.lemmas.List.{append-nil, get_or-set_same, get_or-set_other, get_or_past, length-append}
+use Rattle.std.proofs.lemmas.List.{length-set}
 use Rattle.slab.specs.Slab.{Slab, get, slab_len, Updates}
 use Rattle.wait_book.specs.declared.chains.TheConstants.{CALLED, CHAINS}
 use Rattle.wait_book.specs.declared.chains.Node.{Node}
@@ -11,8 +14,10 @@ use Rattle.wait_book.specs.Contents.{one, times}
 use Rattle.wait_book.specs.Lists.{Lists, all_below, keys, keys_below, last_key, list_at, list_put}
 use Rattle.wait_book.specs.Chains.{node_of, IsLinked, IsChain, AreChains, Ends, empty, chain_at, held, walked, lists_of}
 use Rattle.wait_book.proofs.Times.{one_same, one_apart}
-use Rattle.wait_book.proofs.Nodes.{Opens, opens, IsLinked-same, IsLinked-append, IsLinked-split, linked_none, last_within, last_append, walk_linked, walked_none}
-use Rattle.wait_book.proofs.Lists.{eq_apart, keys_middle, keys_append, length_middle, length_put, length_one, put_same, put_other, times_put, times_one, times_two}
+use Rattle.wait_book.proofs.Nodes.{Opens, opens, IsLinked-same, IsLinked-append, IsLinked-split, linked_none}
+use Rattle.wait_book.proofs.Nodes.{last_within, last_append, walk_linked, walked_none}
+use Rattle.wait_book.proofs.Lists.{eq_apart, keys_middle, keys_append, length_middle, length_put, length_one, put_same}
+use Rattle.wait_book.proofs.Lists.{put_other, times_put, times_one, times_two}
 
 -- a node or none under a key
 
@@ -32,10 +37,12 @@ held_same s t k e = ap (λ o. cond (is_some o) 1 0) e
 pub beyond : {s : Slab Node} {chains : List Chain} {at : ℕ → List Link} → AreChains s chains at → (c : ℕ) → CHAINS ≤ c
     → at c ≡ []
 beyond {s = s} {chains = chains} {at = at} i c l =
-    linked_none s (chain_at chains c).first (at c) (ap (λ (v : Chain). v.first) (get_or_past chains c empty (omega (arith, i.many)))) (i.linked c).linked
+    linked_none s (chain_at chains c).first (at c)
+    (ap (λ (v : Chain). v.first) (get_or_past chains c empty (omega (arith, i.many)))) (i.linked c).linked
 
 -- no list is longer than the slab
-pub chain_few : {s : Slab Node} {chains : List Chain} {at : ℕ → List Link} → AreChains s chains at → (c : ℕ) → length (at c) ≤ slab_len s
+pub chain_few : {s : Slab Node} {chains : List Chain} {at : ℕ → List Link} → AreChains s chains at → (c : ℕ)
+    → length (at c) ≤ slab_len s
 chain_few {at = at} i c =
     elim (cases_lt c CHAINS) [
       | inl l ↦ omega (arith, length_one (λ d (x : Link). x.key) CHAINS c at l, i.counted)
@@ -43,30 +50,37 @@ chain_few {at = at} i c =
     ]
 
 -- so a walk along a chain comes to its end
-pub chain_ends : {s : Slab Node} {chains : List Chain} {at : ℕ → List Link} → AreChains s chains at → (c : ℕ) → Ends s (chain_at chains c).first
+pub chain_ends : {s : Slab Node} {chains : List Chain} {at : ℕ → List Link} → AreChains s chains at → (c : ℕ)
+    → Ends s (chain_at chains c).first
 chain_ends {at = at} i c = record { list = at c; linked = (i.linked c).linked; few = chain_few i c }
 
-map_at : (f : Chain → List Link) (chains : List Chain) (c : ℕ) → f empty ≡ [] → get_or (map f chains) c [] ≡ f (get_or chains c empty)
+map_at : (f : Chain → List Link) (chains : List Chain) (c : ℕ) → f empty ≡ []
+    → get_or (map f chains) c [] ≡ f (get_or chains c empty)
 map_at f [] c e = sym e
 map_at f (x ∷ xs) zero e = refl
 map_at f (x ∷ xs) (suc c) e = map_at f xs c e
 
 -- the list of a chain is what a walk along it gives
-pub lists_walked : (s : Slab Node) (chains : List Chain) (c : ℕ) → get_or (lists_of s chains) c [] ≡ walked s (chain_at chains c).first
+pub lists_walked : (s : Slab Node) (chains : List Chain) (c : ℕ)
+    → get_or (lists_of s chains) c [] ≡ walked s (chain_at chains c).first
 lists_walked s chains c = map_at (λ (v : Chain). walked s v.first) chains c (walked_none s)
 
-pub lists_are : {s : Slab Node} {chains : List Chain} {at : ℕ → List Link} → AreChains s chains at → (c : ℕ) → get_or (lists_of s chains) c [] ≡ at c
+pub lists_are : {s : Slab Node} {chains : List Chain} {at : ℕ → List Link} → AreChains s chains at → (c : ℕ)
+    → get_or (lists_of s chains) c [] ≡ at c
 lists_are {s = s} {chains = chains} {at = at} i c =
-    lists_walked s chains c ∙ walk_linked (slab_len s) s (chain_at chains c).first (at c) (i.linked c).linked (chain_few i c)
+    lists_walked s chains c
+    ∙ walk_linked (slab_len s) s (chain_at chains c).first (at c) (i.linked c).linked (chain_few i c)
 
 -- the lists that are seen are those of the chains
-pub AreChains-seen : {s : Slab Node} {chains : List Chain} {at : ℕ → List Link} → AreChains s chains at → AreChains s chains (λ c. get_or (lists_of s chains) c [])
+pub AreChains-seen : {s : Slab Node} {chains : List Chain} {at : ℕ → List Link} → AreChains s chains at
+    → AreChains s chains (λ c. get_or (lists_of s chains) c [])
 AreChains-seen {s = s} {chains = chains} {at = at} i =
     let same : at ≡ (λ c. get_or (lists_of s chains) c []) = λ j c. sym (lists_are i c) j in
     subst (AreChains s chains) same i
 
 -- and those of an equal value
-pub AreChains-equal : {s : Slab Node} {chains : List Chain} {v w : Lists} → v ≡ w → AreChains s chains (list_at v) → AreChains s chains (list_at w)
+pub AreChains-equal : {s : Slab Node} {chains : List Chain} {v w : Lists} → v ≡ w → AreChains s chains (list_at v)
+    → AreChains s chains (list_at w)
 AreChains-equal {s = s} {chains = chains} e i = subst (λ (u : Lists). AreChains s chains (list_at u)) e i
 
 -- chains without a node
@@ -114,17 +128,20 @@ chain_same chains c v m l = get_or-set_same chains c v empty (omega arith)
 
 chains_put : (s : Slab Node) (chains : List Chain) (at : ℕ → List Link) (c : ℕ) (v : Chain) (xs : List Link)
     → length chains ≡ CHAINS → c < CHAINS → IsChain s v xs
-    → ((d : ℕ) → d ≢ c → IsChain s (chain_at chains d) (at d)) → (d : ℕ) → IsChain s (chain_at (set chains c v) d) (list_put c xs at d)
+    → ((d : ℕ) → d ≢ c → IsChain s (chain_at chains d) (at d)) → (d : ℕ)
+    → IsChain s (chain_at (set chains c v) d) (list_put c xs at d)
 chains_put s chains at c v xs m l here there d =
     elim (cases_eq d c) [
       | inl e ↦
-          let h : IsChain s (chain_at (set chains c v) c) (list_put c xs at c) = rw (chain_same chains c v m l, put_same c xs at) here in
+          let h : IsChain s (chain_at (set chains c v) c) (list_put c xs at c) =
+          rw (chain_same chains c v m l, put_same c xs at) here in
           subst (λ (j : ℕ). IsChain s (chain_at (set chains c v) j) (list_put c xs at j)) (sym e) h
       | inr n ↦ rw (get_or-set_other chains c d v empty n, put_other c d xs at n) (there d n)
     ]
 
 -- a chain whose nodes stayed as they were
-chain_kept : (s t : Slab Node) (v : Chain) (xs : List Link) → ((k : ℕ) → 0 < times k (keys xs) → get t k ≡ get s k) → IsChain s v xs → IsChain t v xs
+chain_kept : (s t : Slab Node) (v : Chain) (xs : List Link) → ((k : ℕ) → 0 < times k (keys xs) → get t k ≡ get s k)
+    → IsChain s v xs → IsChain t v xs
 chain_kept s t v xs h i = record { linked = IsLinked-same s t v.first xs None h i.linked; last = i.last }
 
 -- a new node
@@ -135,38 +152,47 @@ pub record Cut (s : Slab Node) (first : Option ℕ) (before after : List Link) :
   pub front : IsLinked s first before next
   pub back : IsLinked s next after None
 
-pub cut : {s : Slab Node} {chains : List Chain} {at : ℕ → List Link} (c : ℕ) (before after : List Link) → AreChains s chains at → at c ≡ before ++ after
+pub cut : {s : Slab Node} {chains : List Chain} {at : ℕ → List Link} (c : ℕ) (before after : List Link)
+    → AreChains s chains at → at c ≡ before ++ after
     → Cut s (chain_at chains c).first before after
 cut {s = s} {chains = chains} c before after i is =
     let first = (chain_at chains c).first in
-    let r = IsLinked-split s first before after None (subst (λ (xs : List Link). IsLinked s first xs None) is (i.linked c).linked) in
+    let r =
+    IsLinked-split s first before after None
+    (subst (λ (xs : List Link). IsLinked s first xs None) is (i.linked c).linked) in
     record { next = r.0; front = r.1; back = r.2 }
 
 -- they are as they were where a node is stored under a vacant key
-pub cut-stored : {s mid : Slab Node} {chains : List Chain} {at : ℕ → List Link} {n : Node} (c k : ℕ) (before after : List Link) (next : Option ℕ) → AreChains s chains at → c < CHAINS
-    → at c ≡ before ++ after → get s k ≡ None → Updates s mid k (Some n) → IsLinked s (chain_at chains c).first before next → IsLinked mid (chain_at chains c).first before next
+pub cut-stored : {s mid : Slab Node} {chains : List Chain} {at : ℕ → List Link} {n : Node} (c k : ℕ) (before after : List Link) (next : Option ℕ)
+    → AreChains s chains at → c < CHAINS
+    → at c ≡ before ++ after → get s k ≡ None → Updates s mid k (Some n)
+    → IsLinked s (chain_at chains c).first before next → IsLinked mid (chain_at chains c).first before next
 cut-stored {s = s} {mid = mid} {chains = chains} c k before after next i l is vacant u front =
     IsLinked-same s mid (chain_at chains c).first before next
     (λ j p. u.others j (λ q. omega (arith, once_in i j c l, ap (λ v. times j (keys v)) is, keys_append j before after, ap (held s) q, held_none s k vacant))) front
 
--- what linking a new node does, in two steps: it is stored with the key behind it, and its own key is put behind the one before
+-- what linking a new node does, in two steps: it is stored with the key behind it, and its own key is put behind the
+-- one before
 pub record Linking (s mid t : Slab Node) (first behind next first2 : Option ℕ) (x : Link) : Type 0 where
   pub vacant : get s x.key ≡ None
   pub stored : Updates s mid x.key (Some (node_of x next))
-  pub linked : (before : List Link) (to : Option ℕ) → IsLinked mid first before to → behind ≡ last_key before → ((k : ℕ) → times k (keys before) ≤ 1)
+  pub linked : (before : List Link) (to : Option ℕ) → IsLinked mid first before to → behind ≡ last_key before
+      → ((k : ℕ) → times k (keys before) ≤ 1)
       → IsLinked t first2 before (Some x.key)
   pub others : (k : ℕ) → behind ≢ Some k → get t k ≡ get mid k
   pub held_on : (k : ℕ) → held t k ≡ held mid k
   pub longer : slab_len t ≡ slab_len s + 1
 
-module _ {s mid t : Slab Node} {first behind next first2 : Option ℕ} {x : Link} (g : Linking s mid t first behind next first2 x) where
+module _ {s mid t : Slab Node} {first behind next first2 : Option ℕ} {x : Link}
+    (g : Linking s mid t first behind next first2 x) where
   -- one node more
   linking_held : (k : ℕ) → held t k ≡ held s k + one k x.key
   linking_held k =
       elim (cases_eq k x.key) [
         | inl e ↦
             let h : held t x.key ≡ held s x.key + one x.key x.key =
-            omega (arith, g.held_on x.key, held_some mid x.key _ g.stored.changed, held_none s x.key g.vacant, one_same x.key) in
+            omega
+            (arith, g.held_on x.key, held_some mid x.key _ g.stored.changed, held_none s x.key g.vacant, one_same x.key) in
             subst (λ (j : ℕ). held t j ≡ held s j + one j x.key) (sym e) h
         | inr n ↦ omega (arith, g.held_on k, held_same s mid k (g.stored.others k n), one_apart k x.key (eq_apart k x.key n))
       ]
@@ -178,24 +204,29 @@ module _ {s mid t : Slab Node} {first behind next first2 : Option ℕ} {x : Link
       g.others k n ∙ g.stored.others k off
 
   -- the list with the new one in its place
-  linking_list : (before after : List Link) → behind ≡ last_key before → ((k : ℕ) → times k (keys (before ++ after)) ≤ held s k)
+  linking_list : (before after : List Link) → behind ≡ last_key before
+      → ((k : ℕ) → times k (keys (before ++ after)) ≤ held s k)
       → IsLinked s first before next → IsLinked s next after None → IsLinked t first2 (before ++ x ∷ after) None
   linking_list before after e once l m =
       let stays : (k : ℕ) → 0 < times k (keys (before ++ after)) → k ≢ x.key =
       λ k p q. omega (arith, once k, ap (held s) q, held_none s x.key g.vacant) in
       let front : IsLinked mid first before next =
-      IsLinked-same s mid first before next (λ k p. g.stored.others k (stays k (omega (arith, keys_append k before after)))) l in
+      IsLinked-same s mid first before next
+      (λ k p. g.stored.others k (stays k (omega (arith, keys_append k before after)))) l in
       let linked : IsLinked t first2 before (Some x.key) =
       g.linked before next front e (λ k. omega (arith, once k, held_few s k, keys_append k before after)) in
       let back : IsLinked t next after None = IsLinked-same s t next after None
       (λ k p. linking_same k (omega (arith, once k, keys_append k before after))
       (λ b. omega (arith, once k, held_few s k, keys_append k before after, last_within k before (sym e ∙ b)))) m in
       let own : get t x.key ≡ Some (node_of x next) =
-      g.others x.key (λ b. omega (arith, once x.key, held_none s x.key g.vacant, keys_append x.key before after, last_within x.key before (sym e ∙ b))) ∙ g.stored.changed in
+      g.others x.key
+      (λ b. omega (arith, once x.key, held_none s x.key g.vacant, keys_append x.key before after, last_within x.key before (sym e ∙ b)))
+      ∙ g.stored.changed in
       IsLinked-append t first2 before (Some x.key) (x ∷ after) None linked (refl, next, own, back)
 
 -- its last key
-pub last_put : (s : Slab Node) (last next : Option ℕ) (before : List Link) (x : Link) (after : List Link) → last ≡ last_key (before ++ after) → IsLinked s next after None
+pub last_put : (s : Slab Node) (last next : Option ℕ) (before : List Link) (x : Link) (after : List Link)
+    → last ≡ last_key (before ++ after) → IsLinked s next after None
     → cond (is_some next) last (Some x.key) ≡ last_key (before ++ x ∷ after)
 last_put s last next before x [] e l = let n : next ≡ None = l in rw n (sym (last_append None before x []))
 last_put s last next before x (y ∷ ys) e l =
@@ -215,7 +246,8 @@ AreChains-linked {s = s} {t = t} {chains = chains} {at = at} {behind = behind} {
     let same : there.next ≡ next = sym (named before there.next there.front e) in
     let front : IsLinked s first before next = subst (λ (k : Option ℕ). IsLinked s first before k) same there.front in
     let back : IsLinked s next after None = subst (λ (k : Option ℕ). IsLinked s k after None) same there.back in
-    let once : (k : ℕ) → times k (keys (before ++ after)) ≤ held s k = λ k. omega (arith, once_in i k c l, ap (λ v. times k (keys v)) is) in
+    let once : (k : ℕ) → times k (keys (before ++ after)) ≤ held s k =
+    λ k. omega (arith, once_in i k c l, ap (λ v. times k (keys v)) is) in
     let new : Chain = record { first = first2; last = last2 } in
     let here : IsChain t new (before ++ x ∷ after) = record {
       linked = linking_list g before after e once front back;
@@ -243,7 +275,8 @@ pub record Takes (s t : Slab Node) (k : ℕ) (xs : List Link) (n : Node) : Type 
   pub linked : IsLinked s n.next after None
   pub updates : Updates s t first.key None
 
-pub takes : {s t : Slab Node} {chains : List Chain} {at : ℕ → List Link} (c k : ℕ) (n : Node) → AreChains s chains at → (chain_at chains c).first ≡ Some k → get s k ≡ Some n
+pub takes : {s t : Slab Node} {chains : List Chain} {at : ℕ → List Link} (c k : ℕ) (n : Node) → AreChains s chains at
+    → (chain_at chains c).first ≡ Some k → get s k ≡ Some n
     → Updates s t k None → Takes s t k (at c) n
 takes {s = s} {t = t} {chains = chains} {at = at} c k n i e g u =
     let o : Opens s k (at c) = opens s (chain_at chains c).first k (at c) e (i.linked c).linked in
@@ -264,16 +297,19 @@ pub AreChains-taken : {s t : Slab Node} {chains : List Chain} {at : ℕ → List
     → AreChains s chains at → c < CHAINS → (g : Takes s t k (at c) n) → slab_len t + 1 ≡ slab_len s
     → AreChains t (set chains c new) (list_put c g.after at)
 AreChains-taken {s = s} {t = t} {chains = chains} {at = at} {new = new} c k n f e i l g len =
-    let once : (j : ℕ) → one j g.first.key + times j (keys g.after) ≤ held s j = λ j. omega (arith, once_in i j c l, ap (λ v. times j (keys v)) g.is) in
+    let once : (j : ℕ) → one j g.first.key + times j (keys g.after) ≤ held s j =
+    λ j. omega (arith, once_in i j c l, ap (λ v. times j (keys v)) g.is) in
     let gone : (j : ℕ) → held t j + one j g.first.key ≡ held s j = λ j.
     elim (cases_eq j g.first.key) [
       | inl q ↦
           let h : held t g.first.key + one g.first.key g.first.key ≡ held s g.first.key =
-          omega (arith, held_none t g.first.key g.updates.changed, once g.first.key, held_few s g.first.key, one_same g.first.key) in
+          omega
+          (arith, held_none t g.first.key g.updates.changed, once g.first.key, held_few s g.first.key, one_same g.first.key) in
           subst (λ (v : ℕ). held t v + one v g.first.key ≡ held s v) (sym q) h
       | inr off ↦ omega (arith, held_same s t j (g.updates.others j off), one_apart j g.first.key (eq_apart j g.first.key off))
     ] in
-    let same : (j : ℕ) → j ≡ g.first.key → one j g.first.key ≡ 1 = λ j q. subst (λ (v : ℕ). one v g.first.key ≡ 1) (sym q) (one_same g.first.key) in
+    let same : (j : ℕ) → j ≡ g.first.key → one j g.first.key ≡ 1 =
+    λ j q. subst (λ (v : ℕ). one v g.first.key ≡ 1) (sym q) (one_same g.first.key) in
     let here : IsChain t new g.after = record {
       linked = subst (λ (v : Option ℕ). IsLinked t v g.after None) (sym f)
           (IsLinked-same s t n.next g.after None (λ j p. g.updates.others j (λ q. omega (arith, once j, held_few s j, same j q))) g.linked);
@@ -281,7 +317,8 @@ AreChains-taken {s = s} {t = t} {chains = chains} {at = at} {new = new} c k n f 
     } in
     let there : (d : ℕ) → d ≢ c → IsChain t (chain_at chains d) (at d) =
     λ d off. chain_kept s t (chain_at chains d) (at d)
-    (λ j p. g.updates.others j (λ q. omega (arith, apart i j c d l off, held_few s j, ap (λ v. times j (keys v)) g.is, same j q))) (i.linked d) in
+    (λ j p. g.updates.others j (λ q. omega (arith, apart i j c d l off, held_few s j, ap (λ v. times j (keys v)) g.is, same j q)))
+    (i.linked d) in
     record {
       many = length-set chains c new ∙ i.many;
       linked = chains_put t chains at c new g.after i.many l here there;
@@ -289,7 +326,8 @@ AreChains-taken {s = s} {t = t} {chains = chains} {at = at} {new = new} c k n f 
       counted = omega (arith, length_put (λ d (y : Link). y.key) CHAINS c g.after at l, ap length g.is, i.counted, len);
     }
   where
-    last_taken : (s : Slab Node) (last next : Option ℕ) (x : Link) (after : List Link) → last ≡ last_key (x ∷ after) → IsLinked s next after None
+    last_taken : (s : Slab Node) (last next : Option ℕ) (x : Link) (after : List Link) → last ≡ last_key (x ∷ after)
+        → IsLinked s next after None
         → cond (is_some next) last None ≡ last_key after
     last_taken s last next x [] e l = let n : next ≡ None = l in rw n refl
     last_taken s last next x (y ∷ ys) e l = let n : next ≡ Some y.key = l.0 in rw n e
@@ -298,7 +336,8 @@ AreChains-taken {s = s} {t = t} {chains = chains} {at = at} {new = new} c k n f 
 
 -- what linking two chains does: the first key of the one is put behind the last of the other
 pub record Joining (s t : Slab Node) (called : Chain) (key : ℕ) (first2 : Option ℕ) : Type 0 where
-  pub linked : (before : List Link) (to : Option ℕ) → IsLinked s called.first before to → called.last ≡ last_key before → ((k : ℕ) → times k (keys before) ≤ 1)
+  pub linked : (before : List Link) (to : Option ℕ) → IsLinked s called.first before to → called.last ≡ last_key before
+      → ((k : ℕ) → times k (keys before) ≤ 1)
       → IsLinked t first2 before (Some key)
   pub others : (k : ℕ) → called.last ≢ Some k → get t k ≡ get s k
   pub held_on : (k : ℕ) → held t k ≡ held s k
@@ -314,16 +353,20 @@ AreChains-joined {s = s} {t = t} {chains = chains} {at = at} {first2 = first2} c
     let o : Opens s key ys = opens s (chain_at chains c).first key ys starts (i.linked c).linked in
     let stays : (d : ℕ) → d ≢ CALLED → IsChain t (chain_at chains d) (at d) = λ d off.
     chain_kept s t (chain_at chains d) (at d)
-    (λ k p. g.others k (λ b. omega (arith, apart i k CALLED d (omega arith) off, held_few s k, last_within k xs (sym (i.linked CALLED).last ∙ b)))) (i.linked d) in
+    (λ k p. g.others k (λ b. omega (arith, apart i k CALLED d (omega arith) off, held_few s k, last_within k xs (sym (i.linked CALLED).last ∙ b))))
+    (i.linked d) in
     let front : IsLinked t first2 xs (Some key) =
-    g.linked xs None (i.linked CALLED).linked (i.linked CALLED).last (λ k. omega (arith, once_in i k CALLED (omega arith), held_few s k)) in
-    let back : IsLinked t (Some key) ys None = subst (λ (k : Option ℕ). IsLinked t k ys None) starts (stays c (omega arith)).linked in
+    g.linked xs None (i.linked CALLED).linked (i.linked CALLED).last
+    (λ k. omega (arith, once_in i k CALLED (omega arith), held_few s k)) in
+    let back : IsLinked t (Some key) ys None =
+    subst (λ (k : Option ℕ). IsLinked t k ys None) starts (stays c (omega arith)).linked in
     let new : Chain = record { first = first2; last = (chain_at chains c).last } in
     let here : IsChain t new (xs ++ ys) = record {
       linked = IsLinked-append t first2 xs (Some key) ys None front back;
       last = (i.linked c).last ∙ ap last_key o.is ∙ sym (last_append None xs o.first o.after) ∙ ap (λ zs. last_key (xs ++ zs)) (sym o.is);
     } in
-    let joined : (d : ℕ) → IsChain t (chain_at (set chains CALLED new) d) (list_put CALLED (xs ++ ys) at d) = chains_put t chains at CALLED new (xs ++ ys) i.many (omega arith) here stays in
+    let joined : (d : ℕ) → IsChain t (chain_at (set chains CALLED new) d) (list_put CALLED (xs ++ ys) at d) =
+    chains_put t chains at CALLED new (xs ++ ys) i.many (omega arith) here stays in
     let many : length (set chains CALLED new) ≡ CHAINS = length-set chains CALLED new ∙ i.many in
     let off : list_put CALLED (xs ++ ys) at c ≡ ys = put_other CALLED c (xs ++ ys) at (omega arith) in
     record {

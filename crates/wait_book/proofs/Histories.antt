@@ -1,5 +1,6 @@
 -- What each call does to the histories that a book is of.
-use Rattle.std.proofs.Common.{◌≡◌, ◌≢◌, ◌==◌, ℕ, ◌+◌, ◌<◌, ◌≤◌, Bool, true, false, eq-eqb, eqb-true, cond, not, ◌||◌, inl, inr, arith}
+use Rattle.std.proofs.Common.{◌≡◌, ◌≢◌, ◌==◌, ℕ, ◌+◌, ◌<◌, ◌≤◌, Bool, true, false, eq-eqb, eqb-true, cond, not, ◌||◌}
+use Rattle.std.proofs.Common.{inl, inr, arith}
 use Rattle.std.proofs.Common.{List, [], ◌∷◌, ◌++◌, map, Option, Some, None, refl, ap, sym, ◌∙◌, subst}
 use Rattle.std.specs.List.{filter}
 use Rattle.std.specs.Prelude.{IsSomeAnd, nat_lt}
@@ -10,7 +11,8 @@ use Rattle.std.proofs.lemmas.List.Elements.{filter_agree}
 use Rattle.hoare_law.specs.declared.event.Event.{Event}
 use Rattle.hoare_law.specs.declared.event.History.{History}
 use Rattle.hoare_law.specs.declared.event.Sizes.{Sizes}
-use Rattle.hoare_law.specs.declared.event.Event.TheVariants.{Admit, Signal, Pass, Leave, Resume, Back, Notify, Broadcast}
+use Rattle.hoare_law.specs.declared.event.Event.TheVariants.{Admit, Signal, Pass, Leave, Resume, Back, Notify}
+use Rattle.hoare_law.specs.declared.event.Event.TheVariants.{Broadcast}
 use Rattle.hoare_law.specs.declared.turn.Turn.{Turn}
 use Rattle.hoare_law.specs.declared.turn.Turn.TheVariants.{Free, Held, Owed, Return}
 use Rattle.hoare_law.specs.Events.{opened, place_of, with_event}
@@ -40,9 +42,12 @@ use Rattle.wait_book.specs.Insides.{IsCalledFirst, IsSound, chain_of}
 use Rattle.wait_book.specs.Queues.{PutsIn, TakesAll, TakesFirst}
 use Rattle.wait_book.proofs.Times.{eq_self, one_at, one_same, one_apart, filter-apart, filter-others, list_all-apart}
 use Rattle.wait_book.proofs.Waiters.{on, places, key, times-taken, filter-taken, filter-taken_on}
-use Rattle.wait_book.proofs.Sound.{admitted, claimed, told, waited, left, resumed, returned, went_on, Enters, Holds, Resumes, holder_apart, hand_apart, held_hand, owed_hand, owed_called, owed_condition, called_times}
+use Rattle.wait_book.proofs.Sound.{admitted, claimed, told, waited, left, resumed, returned, went_on, Enters, Holds}
+use Rattle.wait_book.proofs.Sound.{Resumes, holder_apart, hand_apart, held_hand, owed_hand, owed_called, owed_condition}
+use Rattle.wait_book.proofs.Sound.{called_times}
 use Rattle.wait_book.proofs.Sound.{held_in_range, owed_in_range, return_in_range, return_in, return_front}
-use Rattle.wait_book.proofs.Sound.{waited_times, left_times, admitted_times, owed_times, went_on_times, returned_times, signalled_times, passed_times, notified_times, broadcast_times}
+use Rattle.wait_book.proofs.Sound.{waited_times, left_times, admitted_times, owed_times, went_on_times, returned_times}
+use Rattle.wait_book.proofs.Sound.{signalled_times, passed_times, notified_times, broadcast_times}
 
 -- a history and an event without data
 abbrev Log : Type 0
@@ -56,7 +61,8 @@ pub IsOf-same : (b d : Contents) (h : Log) → b ≡ d → IsOf b h → IsOf d h
 IsOf-same b d h e o = subst (λ (v : Contents). IsOf v h) e o
 
 -- a book where nothing happened
-pub IsOf-opened : (n : Sizes) (x y : ℕ) → IsOf (record { sizes = n; room_to_wait = x; room_to_signal = y; waiters = []; signallers = []; called = []; turn = Free }) (opened n tt)
+pub IsOf-opened : (n : Sizes) (x y : ℕ)
+    → IsOf (record { sizes = n; room_to_wait = x; room_to_signal = y; waiters = []; signallers = []; called = []; turn = Free }) (opened n tt)
 unfolding waiting urgent called turn outside
 IsOf-opened n x y = record {
   legal = IsLegal-none (opened n tt) refl;
@@ -79,37 +85,46 @@ abbrev AreWaiting : List Waiter → List Act → Type 0
 AreWaiting ws h = (c : ℕ) → map wait_of (filter (on c) ws) ≡ in_order priority_of (waiting c h)
 
 -- two tests that agree on those that a filter keeps
-filter-agree_on : {X : Type 0} (r p q : X → Bool) (xs : List X) → ((x : X) → r x ≡ true → p x ≡ q x) → filter p (filter r xs) ≡ filter q (filter r xs)
+filter-agree_on : {X : Type 0} (r p q : X → Bool) (xs : List X) → ((x : X) → r x ≡ true → p x ≡ q x)
+    → filter p (filter r xs) ≡ filter q (filter r xs)
 filter-agree_on r p q [] f = refl
 filter-agree_on {X = X} r p q (x ∷ xs) f = by (r x) refl (filter-agree_on r p q xs f)
   where
-    by : (t : Bool) → r x ≡ t → filter p (filter r xs) ≡ filter q (filter r xs) → filter p (cond t (x ∷ filter r xs) (filter r xs)) ≡ filter q (cond t (x ∷ filter r xs) (filter r xs))
-    by true is rest = ap (λ b. cond b (x ∷ filter p (filter r xs)) (filter p (filter r xs))) (f x is) ∙ ap (λ l. cond (q x) (x ∷ l) l) rest
+    by : (t : Bool) → r x ≡ t → filter p (filter r xs) ≡ filter q (filter r xs)
+        → filter p (cond t (x ∷ filter r xs) (filter r xs)) ≡ filter q (cond t (x ∷ filter r xs) (filter r xs))
+    by true is rest =
+        ap (λ b. cond b (x ∷ filter p (filter r xs)) (filter p (filter r xs))) (f x is)
+        ∙ ap (λ l. cond (q x) (x ∷ l) l) rest
     by false is rest = rest
 
 -- those who waited and stay
 waiters_stay : (b : Contents) (h : Log) (e : Act) (ws : List Waiter) → spared e b.waiters ≡ ws → IsOf b h
-    → (c : ℕ) → map wait_of (filter (on c) ws) ≡ in_order priority_of (filter (λ x. not (concerns c (place_of x) e)) (waiting c h.events))
+    → (c : ℕ)
+    → map wait_of (filter (on c) ws) ≡ in_order priority_of (filter (λ x. not (concerns c (place_of x) e)) (waiting c h.events))
 waiters_stay b h e ws f o c =
     let p : Waiter → Bool = λ w. not (concerns w.condition w.place e) in
     let q : Waiter → Bool = λ w. not (concerns c w.place e) in
     ap (λ l. map wait_of (filter (on c) l)) (sym f)
     ∙ ap (map wait_of) (filter-filter (on c) p b.waiters)
-    ∙ ap (map wait_of) (filter-agree_on (on c) p q b.waiters (λ w is. ap (λ d. not (concerns d w.place e)) (eqb-true w.condition c is)))
+    ∙ ap (map wait_of)
+    (filter-agree_on (on c) p q b.waiters (λ w is. ap (λ d. not (concerns d w.place e)) (eqb-true w.condition c is)))
     ∙ sym (filter-map wait_of (λ x. not (concerns c (place_of x) e)) (waiters_on c b))
     ∙ ap (filter (λ x. not (concerns c (place_of x) e))) (o.waiters c)
     ∙ sym (in_order-filter priority_of (λ x. not (concerns c (place_of x) e)) (waiting c h.events))
 
 -- no event but a wait adds one who waits
-waiters_kept : (b : Contents) (h : Log) (e : Act) (ws : List Waiter) → ((c : ℕ) → waits_on c e ≡ false) → spared e b.waiters ≡ ws → IsOf b h
+waiters_kept : (b : Contents) (h : Log) (e : Act) (ws : List Waiter) → ((c : ℕ) → waits_on c e ≡ false)
+    → spared e b.waiters ≡ ws → IsOf b h
     → AreWaiting ws (h.events ++ e ∷ [])
 waiters_kept b h e ws n f o c =
     let kept : List Act = filter (λ x. not (concerns c (place_of x) e)) (waiting c h.events) in
     waiters_stay b h e ws f o c
-    ∙ ap (in_order priority_of) (sym (waiting-push c h.events e ∙ ap (λ t. kept ++ cond t (e ∷ []) []) (n c) ∙ append-nil _))
+    ∙ ap (in_order priority_of)
+    (sym (waiting-push c h.events e ∙ ap (λ t. kept ++ cond t (e ∷ []) []) (n c) ∙ append-nil _))
 
 -- a wait adds its own to those who wait
-waiters_joined : (b : Contents) (h : Log) (w : Waiter) (ws : List Waiter) → PutsIn w b.waiters ws → spared (wait_of w) b.waiters ≡ b.waiters → IsOf b h
+waiters_joined : (b : Contents) (h : Log) (w : Waiter) (ws : List Waiter) → PutsIn w b.waiters ws
+    → spared (wait_of w) b.waiters ≡ b.waiters → IsOf b h
     → AreWaiting ws (h.events ++ wait_of w ∷ [])
 waiters_joined b h w ws p f o c =
     let kept : List Act = filter (λ x. not (concerns c (place_of x) (wait_of w))) (waiting c h.events) in
@@ -118,20 +133,24 @@ waiters_joined b h w ws p f o c =
     ∙ sym (in_order-push priority_of (on c w) (wait_of w) kept)
     ∙ ap (in_order priority_of) (sym (waiting-push c h.events (wait_of w)))
   where
-    by : (t : Bool) (vs : List Waiter) → map wait_of (cond t (put_in key w vs) vs) ≡ cond t (put_in priority_of (wait_of w) (map wait_of vs)) (map wait_of vs)
+    by : (t : Bool) (vs : List Waiter)
+        → map wait_of (cond t (put_in key w vs) vs) ≡ cond t (put_in priority_of (wait_of w) (map wait_of vs)) (map wait_of vs)
     by true vs = sym (put_in-map wait_of priority_of w vs)
     by false vs = refl
 
 -- who is outside
 
-outside_by : (t : Bool) (k : ℕ) (e : Act) (o : Bool) (n m : ℕ) → (place_of e == k) ≡ t → o ≡ (n == 0) → (place_of e ≡ k → is_out (Some e) ≡ (m == 0))
+outside_by : (t : Bool) (k : ℕ) (e : Act) (o : Bool) (n m : ℕ) → (place_of e == k) ≡ t → o ≡ (n == 0)
+    → (place_of e ≡ k → is_out (Some e) ≡ (m == 0))
     → ((place_of e == k) ≡ false → n ≡ m) → cond t (is_out (Some e)) o ≡ (m == 0)
 outside_by true k e o n m h p here off = here (eqb-true (place_of e) k h)
 outside_by false k e o n m h p here off = p ∙ ap (λ v. v == 0) (off h)
 
 -- who is outside, after one more event
-outside_kept : (b d : Contents) (h : Log) (e : Act) → ((k : ℕ) → outside k h.events ≡ (times_in k b == 0)) → is_out (Some e) ≡ (times_in (place_of e) d == 0)
-    → ((k : ℕ) → (place_of e == k) ≡ false → times_in k b ≡ times_in k d) → (k : ℕ) → outside k (h.events ++ e ∷ []) ≡ (times_in k d == 0)
+outside_kept : (b d : Contents) (h : Log) (e : Act) → ((k : ℕ) → outside k h.events ≡ (times_in k b == 0))
+    → is_out (Some e) ≡ (times_in (place_of e) d == 0)
+    → ((k : ℕ) → (place_of e == k) ≡ false → times_in k b ≡ times_in k d) → (k : ℕ)
+    → outside k (h.events ++ e ∷ []) ≡ (times_in k d == 0)
 outside_kept b d h e o here off k =
     outside-push k h.events e
     ∙ outside_by (place_of e == k) k e (outside k h.events) (times_in k b) (times_in k d) refl (o k)
@@ -149,9 +168,11 @@ pub IsOf-push : (b d : Contents) (h : Log) (e : Act) → IsOf b h → d.sizes �
 unfolding with_event
 IsOf-push b d h e o p allowed ws us cs t here off =
     let signallers : urgent (h.events ++ e ∷ []) ≡ d.signallers =
-    urgent-push h.events e ∙ ap (λ l. filter (λ u. not (place_of e == u)) l ++ cond (is_signal e) (place_of e ∷ []) []) o.signallers ∙ us in
+    urgent-push h.events e
+    ∙ ap (λ l. filter (λ u. not (place_of e == u)) l ++ cond (is_signal e) (place_of e ∷ []) []) o.signallers ∙ us in
     let called_are : called (h.events ++ e ∷ []) ≡ map wait_of d.called =
-    called-push h.events e ∙ ap (λ l. filter (λ x. not (place_of e == place_of x)) l ++ called_by h.events e) o.called_are ∙ cs in
+    called-push h.events e
+    ∙ ap (λ l. filter (λ x. not (place_of e == place_of x)) l ++ called_by h.events e) o.called_are ∙ cs in
     record {
       legal = IsLegal-push e o.legal allowed;
       sizes = o.sizes ∙ sym p;
@@ -180,18 +201,23 @@ condition_fits b h c o l = subst (λ (n : Sizes). c < n.conditions) (sym o.sizes
 -- nobody who waits goes by an event of a place that doesn't wait, which takes nobody
 waiters_apart : (b : Contents) (e : Act) → ((d j : ℕ) → takes d j e ≡ false) → times (place_of e) (places b.waiters) ≡ 0
     → spared e b.waiters ≡ b.waiters
-waiters_apart b e none z = filter-apart (λ (w : Waiter). w.place) (place_of e) (λ (w : Waiter). not (concerns w.condition w.place e)) b.waiters
+waiters_apart b e none z =
+    filter-apart (λ (w : Waiter). w.place) (place_of e) (λ (w : Waiter). not (concerns w.condition w.place e)) b.waiters
     (λ v apart. ap not (concerns-own e v.condition v.place (none v.condition v.place) ∙ apart)) z
 
-signallers_apart : (b : Contents) (k : ℕ) → times k b.signallers ≡ 0 → filter (λ u. not (k == u)) b.signallers ++ [] ≡ b.signallers
+signallers_apart : (b : Contents) (k : ℕ) → times k b.signallers ≡ 0
+    → filter (λ u. not (k == u)) b.signallers ++ [] ≡ b.signallers
 signallers_apart b k z = append-nil _ ∙ filter-others k b.signallers z
 
-called_apart : (b : Contents) (k : ℕ) → times k (places b.called) ≡ 0 → filter (λ x. not (k == place_of x)) (map wait_of b.called) ++ [] ≡ map wait_of b.called
+called_apart : (b : Contents) (k : ℕ) → times k (places b.called) ≡ 0
+    → filter (λ x. not (k == place_of x)) (map wait_of b.called) ++ [] ≡ map wait_of b.called
 called_apart b k z = append-nil _ ∙ filter-map wait_of (λ x. not (k == place_of x)) b.called
-    ∙ ap (map wait_of) (filter-apart (λ (w : Waiter). w.place) k (λ (w : Waiter). not (k == w.place)) b.called (λ v t. ap not t) z)
+    ∙ ap (map wait_of)
+    (filter-apart (λ (w : Waiter). w.place) k (λ (w : Waiter). not (k == w.place)) b.called (λ v t. ap not t) z)
 
 -- a newcomer
-pub admitted_of : (b : Contents) (k : ℕ) (h : Log) → Enters b k → IsOf b h → IsOf (admitted k b) (with_event h (Admit k tt))
+pub admitted_of : (b : Contents) (k : ℕ) (h : Log) → Enters b k → IsOf b h
+    → IsOf (admitted k b) (with_event h (Admit k tt))
 admitted_of b k h i o =
     let act : Act = Admit k tt in
     let e : b.turn ≡ Free = i.free in
@@ -204,7 +230,8 @@ admitted_of b k h i o =
     (λ j t. omega (arith, admitted_times b k j e, one_apart j k (eq_swap j k ∙ t)))
 
 -- a wait
-pub waited_of : (b : Contents) (w : Waiter) (ws : List Waiter) (h : Log) → PutsIn w b.waiters ws → Holds b w.place → w.condition < b.sizes.conditions → IsOf b h
+pub waited_of : (b : Contents) (w : Waiter) (ws : List Waiter) (h : Log) → PutsIn w b.waiters ws → Holds b w.place
+    → w.condition < b.sizes.conditions → IsOf b h
     → IsOf (waited ws b) (with_event h (wait_of w))
 waited_of b w ws h p i l o =
     let s : IsSound b = i.sound in
@@ -232,7 +259,8 @@ left_of b k h i o =
     (λ j t. omega (arith, left_times b k j s e, one_apart j k (eq_swap j k ∙ t)))
 
 -- the one resumed goes on
-pub owed_of : (b : Contents) (k c : ℕ) (h : Log) → IsSound b → b.turn ≡ Owed k c → c < hoare_of b → IsOf b h → IsOf (admitted k b) (with_event h (Resume k c tt))
+pub owed_of : (b : Contents) (k c : ℕ) (h : Log) → IsSound b → b.turn ≡ Owed k c → c < hoare_of b → IsOf b h
+    → IsOf (admitted k b) (with_event h (Resume k c tt))
 owed_of b k c h s e l o =
     let act : Act = Resume k c tt in
     let apart = hand_apart b k s (owed_hand b k c e l) in
@@ -244,15 +272,18 @@ owed_of b k c h s e l o =
     (λ j t. sym (owed_times b k c j e l))
 
 -- the first called goes
-first_goes : (k c : ℕ) (vs : List Waiter) → IsCalledFirst k c vs → times k (places vs) ≤ 1 → filter (λ x. not (k == place_of x)) (map wait_of vs) ≡ map wait_of (behind_first vs)
+first_goes : (k c : ℕ) (vs : List Waiter) → IsCalledFirst k c vs → times k (places vs) ≤ 1
+    → filter (λ x. not (k == place_of x)) (map wait_of vs) ≡ map wait_of (behind_first vs)
 first_goes k c [] f l = absurd f
 first_goes k c (w ∷ vs) f l =
     let e : (k == w.place) ≡ true = eq-eqb k w.place (sym f.0) in
     rw e (filter-map wait_of (λ x. not (k == place_of x)) vs
-    ∙ ap (map wait_of) (filter-apart (λ (v : Waiter). v.place) k (λ (v : Waiter). not (k == v.place)) vs (λ v t. ap not t) (omega (arith, l, one_at k w.place e))))
+    ∙ ap (map wait_of)
+    (filter-apart (λ (v : Waiter). v.place) k (λ (v : Waiter). not (k == v.place)) vs (λ v t. ap not t) (omega (arith, l, one_at k w.place e))))
 
 -- the first that was called goes on
-pub went_on_of : (b : Contents) (k c : ℕ) (h : Log) → IsSound b → b.turn ≡ Owed k c → hoare_of b ≤ c → IsOf b h → IsOf (went_on k b) (with_event h (Resume k c tt))
+pub went_on_of : (b : Contents) (k c : ℕ) (h : Log) → IsSound b → b.turn ≡ Owed k c → hoare_of b ≤ c → IsOf b h
+    → IsOf (went_on k b) (with_event h (Resume k c tt))
 went_on_of b k c h s e l o =
     let act : Act = Resume k c tt in
     let first : IsCalledFirst k c b.called = owed_called b k c s e l in
@@ -271,7 +302,8 @@ front_goes : (k : ℕ) (us : List ℕ) → times k us ≡ 0 → filter (λ u. no
 front_goes k us z = rw (eq_self k) (filter-others k us z)
 
 -- the first signaller goes on
-pub returned_of : (b : Contents) (k : ℕ) (h : Log) → IsSound b → b.turn ≡ Return k → IsOf b h → IsOf (returned k b) (with_event h (Back k tt))
+pub returned_of : (b : Contents) (k : ℕ) (h : Log) → IsSound b → b.turn ≡ Return k → IsOf b h
+    → IsOf (returned k b) (with_event h (Back k tt))
 returned_of b k h s e o =
     let act : Act = Back k tt in
     let rest : List ℕ = behind_first b.signallers in
@@ -286,13 +318,16 @@ returned_of b k h s e o =
     (λ j t. sym (returned_times b k j s e))
 
 -- the first on c is chosen
-pub chosen-first_on : (b : Contents) (h : Log) (c : ℕ) → IsOf b h → chosen c h.events ≡ sorted.first_of (map wait_of (waiters_on c b))
+pub chosen-first_on : (b : Contents) (h : Log) (c : ℕ) → IsOf b h
+    → chosen c h.events ≡ sorted.first_of (map wait_of (waiters_on c b))
 unfolding chosen
 chosen-first_on b h c o = law.chosen-first priority_of (waiting c h.events) ∙ ap sorted.first_of (sym (o.waiters c))
 
 -- who is taken was chosen
-pub chosen-taken : (b : Contents) (h : Log) (c w : ℕ) (ws : List Waiter) → IsOf b h → (t : TakesFirst c b.waiters ws w) → chosen c h.events ≡ Some (wait_of t.first)
-chosen-taken b h c w ws o t = chosen-first_on b h c o ∙ ap (λ l. sorted.first_of (map wait_of l)) (filter-taken_on c b.waiters ws w t)
+pub chosen-taken : (b : Contents) (h : Log) (c w : ℕ) (ws : List Waiter) → IsOf b h → (t : TakesFirst c b.waiters ws w)
+    → chosen c h.events ≡ Some (wait_of t.first)
+chosen-taken b h c w ws o t =
+    chosen-first_on b h c o ∙ ap (λ l. sorted.first_of (map wait_of l)) (filter-taken_on c b.waiters ws w t)
 
 -- where nobody waits, nobody is chosen
 pub chosen-nobody : (b : Contents) (h : Log) (c : ℕ) → IsOf b h → waiters_on c b ≡ [] → chosen c h.events ≡ None
@@ -309,30 +344,36 @@ pub after_handing-some : {D : Type 0} (out : Bool) (h : Log) (k c w : ℕ) (e : 
 after_handing-some true h k c w e s is = ap (λ j. with_event h (Pass k c j tt)) is
 after_handing-some false h k c w e s is = ap (λ j. with_event h (Signal k c j tt)) is
 
-chooses : (b : Contents) (h : Log) (c w : ℕ) (ws : List Waiter) → IsOf b h → TakesFirst c b.waiters ws w → Chooses c h.events w
+chooses : (b : Contents) (h : Log) (c w : ℕ) (ws : List Waiter) → IsOf b h → TakesFirst c b.waiters ws w
+    → Chooses c h.events w
 unfolding Chooses
-chooses b h c w ws o t = subst (λ (x : Option Act). IsSomeAnd x (λ e. place_of e ≡ w)) (sym (chosen-taken b h c w ws o t)) t.place
+chooses b h c w ws o t =
+    subst (λ (x : Option Act). IsSomeAnd x (λ e. place_of e ≡ w)) (sym (chosen-taken b h c w ws o t)) t.place
 
-taken_in_range : (b : Contents) (c w : ℕ) (ws : List Waiter) → IsSound b → TakesFirst c b.waiters ws w → w < b.sizes.places
+taken_in_range : (b : Contents) (c w : ℕ) (ws : List Waiter) → IsSound b → TakesFirst c b.waiters ws w
+    → w < b.sizes.places
 taken_in_range b c w ws s t = s.in_range w (omega (arith, times-taken w c b.waiters ws w t, one_same w))
 
 hoare_fits : (b : Contents) (h : Log) (c : ℕ) → IsOf b h → c < hoare_of b → IsHoare h.sizes.conditions h.sizes.mesa c
 hoare_fits b h c o l = subst (λ (n : Sizes). IsHoare n.conditions n.mesa c) (sym o.sizes) (omega (arith, l))
 
-mesa_fits : (b : Contents) (h : Log) (c : ℕ) → IsOf b h → IsMesa b.sizes.conditions b.sizes.mesa c → IsMesa h.sizes.conditions h.sizes.mesa c
+mesa_fits : (b : Contents) (h : Log) (c : ℕ) → IsOf b h → IsMesa b.sizes.conditions b.sizes.mesa c
+    → IsMesa h.sizes.conditions h.sizes.mesa c
 mesa_fits b h c o m = subst (λ (n : Sizes). IsMesa n.conditions n.mesa c) (sym o.sizes) m
 
 module _ (b : Contents) (k c w : ℕ) (ws : List Waiter) (r : Resumes b k c w ws) (h : Log) (o : IsOf b h) where
   -- whoever signals is in range, and so are the condition and the one resumed
   ranges : (k < h.sizes.places) × ((c < h.sizes.conditions) × (w < h.sizes.places))
-  ranges = (place_fits b h k o (held_in_range b k r.by.sound r.by.inside), (condition_fits b h c o r.fits, place_fits b h w o (taken_in_range b c w ws r.by.sound r.took)))
+  ranges =
+      (place_fits b h k o (held_in_range b k r.by.sound r.by.inside), (condition_fits b h c o r.fits, place_fits b h w o (taken_in_range b c w ws r.by.sound r.took)))
 
   -- who waits once the two places acted
   waiters_left : filter (λ (v : Waiter). not (k == v.place || w == v.place)) b.waiters ≡ ws
   waiters_left = filter-taken k c b.waiters ws w r.took (holder_apart b k r.by).0 (omega (arith, r.by.sound.once w))
 
   -- k hands the monitor to the one resumed, and waits among the signallers unless it goes out
-  handed_of : c < hoare_of b → (out : Bool) → IsOf (resumed ws (cond out b.signallers (b.signallers ++ k ∷ [])) w c b) (with_event h (without_data (handing {S = Unit {0}} out k c w tt)))
+  handed_of : c < hoare_of b → (out : Bool)
+      → IsOf (resumed ws (cond out b.signallers (b.signallers ++ k ∷ [])) w c b) (with_event h (without_data (handing {S = Unit {0}} out k c w tt)))
   handed_of l true =
       IsOf-push b (resumed ws b.signallers w c b) h (Pass k c w tt) o refl
       (record { in_range = ranges; fits = (o.turn_is ∙ r.by.inside, chooses b h c w ws o r.took, hoare_fits b h c o l) })
@@ -344,21 +385,26 @@ module _ (b : Contents) (k c w : ℕ) (ws : List Waiter) (r : Resumes b k c w ws
       IsOf-push b (resumed ws (b.signallers ++ k ∷ []) w c b) h (Signal k c w tt) o refl
       (record { in_range = ranges; fits = (o.turn_is ∙ r.by.inside, chooses b h c w ws o r.took, hoare_fits b h c o l) })
       (waiters_kept b h (Signal k c w tt) ws (λ d. refl) waiters_left o)
-      (ap (λ l. l ++ k ∷ []) (filter-others k b.signallers (holder_apart b k r.by).1)) (called_apart b k (holder_apart b k r.by).2) refl
+      (ap (λ l. l ++ k ∷ []) (filter-others k b.signallers (holder_apart b k r.by).1))
+      (called_apart b k (holder_apart b k r.by).2) refl
       (positive _ (omega (arith, signalled_times b k c w k ws r l, held_hand b k r.by.inside)))
       (λ j q. sym (signalled_times b k c w j ws r l))
 
   -- what a signal or a pass adds, where one is taken
-  pub after_handing-taken : c < hoare_of b → (out : Bool) → IsOf (resumed ws (cond out b.signallers (b.signallers ++ k ∷ [])) w c b) (after_handing out h k c (chosen c h.events))
+  pub after_handing-taken : c < hoare_of b → (out : Bool)
+      → IsOf (resumed ws (cond out b.signallers (b.signallers ++ k ∷ [])) w c b) (after_handing out h k c (chosen c h.events))
   after_handing-taken l out = subst (IsOf _)
-      (sym (ap (after_handing out h k c) (chosen-taken b h c w ws o r.took) ∙ after_handing-some out h k c w (wait_of r.took.first) tt r.took.place)) (handed_of l out)
+      (sym (ap (after_handing out h k c) (chosen-taken b h c w ws o r.took) ∙ after_handing-some out h k c w (wait_of r.took.first) tt r.took.place))
+      (handed_of l out)
 
   -- k calls the one that it takes
-  notified_of : IsMesa b.sizes.conditions b.sizes.mesa c → IsOf (told ws (b.called ++ r.took.first ∷ []) b) (with_event h (Notify k c w tt))
+  notified_of : IsMesa b.sizes.conditions b.sizes.mesa c
+      → IsOf (told ws (b.called ++ r.took.first ∷ []) b) (with_event h (Notify k c w tt))
   notified_of m =
       let x : Act = wait_of r.took.first in
       let one : called_by h.events (Notify k c w tt) ≡ x ∷ [] =
-      ap (λ j. called_by h.events (Notify k c j tt)) (sym r.took.place) ∙ called_by-notify h.events k c x tt (chosen-taken b h c w ws o r.took) in
+      ap (λ j. called_by h.events (Notify k c j tt)) (sym r.took.place)
+      ∙ called_by-notify h.events k c x tt (chosen-taken b h c w ws o r.took) in
       IsOf-push b (told ws (b.called ++ r.took.first ∷ []) b) h (Notify k c w tt) o refl
       (record { in_range = ranges; fits = (o.turn_is ∙ r.by.inside, chooses b h c w ws o r.took, mesa_fits b h c o m) })
       (waiters_kept b h (Notify k c w tt) ws (λ d. refl) waiters_left o)
@@ -371,17 +417,22 @@ module _ (b : Contents) (k c w : ℕ) (ws : List Waiter) (r : Resumes b k c w ws
       stay : filter (λ x. not (k == place_of x)) (map wait_of b.called) ≡ map wait_of b.called
       stay = sym (append-nil _) ∙ called_apart b k (holder_apart b k r.by).2
 
-  pub after_notify-taken : IsMesa b.sizes.conditions b.sizes.mesa c → IsOf (told ws (b.called ++ r.took.first ∷ []) b) (after_notify h k c (chosen c h.events))
+  pub after_notify-taken : IsMesa b.sizes.conditions b.sizes.mesa c
+      → IsOf (told ws (b.called ++ r.took.first ∷ []) b) (after_notify h k c (chosen c h.events))
   after_notify-taken m = subst (IsOf _)
-      (sym (ap (after_notify h k c) (chosen-taken b h c w ws o r.took) ∙ ap (λ j. with_event h (Notify k c j tt)) r.took.place)) (notified_of m)
+      (sym (ap (after_notify h k c) (chosen-taken b h c w ws o r.took) ∙ ap (λ j. with_event h (Notify k c j tt)) r.took.place))
+      (notified_of m)
 
 -- and where nobody waits, nobody is called
-pub after_notify-nobody : (b : Contents) (k c : ℕ) (h : Log) → waiters_on c b ≡ [] → IsOf b h → IsOf b (after_notify h k c (chosen c h.events))
-after_notify-nobody b k c h n o = subst (λ (y : Option Act). IsOf b (after_notify h k c y)) (sym (chosen-nobody b h c o n)) o
+pub after_notify-nobody : (b : Contents) (k c : ℕ) (h : Log) → waiters_on c b ≡ [] → IsOf b h
+    → IsOf b (after_notify h k c (chosen c h.events))
+after_notify-nobody b k c h n o =
+    subst (λ (y : Option Act). IsOf b (after_notify h k c y)) (sym (chosen-nobody b h c o n)) o
 
 -- k calls all that wait on c
 
-module _ (b : Contents) (k c : ℕ) (ws : List Waiter) (i : Holds b k) (m : IsMesa b.sizes.conditions b.sizes.mesa c) (t : TakesAll c b.waiters ws) (h : Log) (o : IsOf b h) where
+module _ (b : Contents) (k c : ℕ) (ws : List Waiter) (i : Holds b k) (m : IsMesa b.sizes.conditions b.sizes.mesa c)
+    (t : TakesAll c b.waiters ws) (h : Log) (o : IsOf b h) where
   stay_called : filter (λ x. not (k == place_of x)) (map wait_of b.called) ≡ map wait_of b.called
   stay_called = sym (append-nil _) ∙ called_apart b k (holder_apart b k i).2
 
@@ -390,10 +441,12 @@ module _ (b : Contents) (k c : ℕ) (ws : List Waiter) (i : Holds b k) (m : IsMe
   others_left =
       filter-or (λ (w : Waiter). k == w.place) (λ (w : Waiter). c == w.condition) b.waiters
       (list_all-apart (λ (v : Waiter). v.place) k (λ (v : Waiter). not (k == v.place)) b.waiters (λ v t. ap not t) (holder_apart b k i).0)
-      ∙ filter_agree (λ (w : Waiter). not (c == w.condition)) (λ (w : Waiter). not (w.condition == c)) (λ w. ap not (eq_swap c w.condition)) b.waiters
+      ∙ filter_agree (λ (w : Waiter). not (c == w.condition)) (λ (w : Waiter). not (w.condition == c))
+      (λ w. ap not (eq_swap c w.condition)) b.waiters
       ∙ sym t.is
 
-  broadcast_of : waiting c h.events ≢ [] → IsOf (told ws (b.called ++ waiters_on c b) b) (with_event h (Broadcast k c tt))
+  broadcast_of : waiting c h.events ≢ []
+      → IsOf (told ws (b.called ++ waiters_on c b) b) (with_event h (Broadcast k c tt))
   broadcast_of some =
       let s : IsSound b = i.sound in
       IsOf-push b (told ws (b.called ++ waiters_on c b) b) h (Broadcast k c tt) o refl
@@ -408,18 +461,23 @@ module _ (b : Contents) (k c : ℕ) (ws : List Waiter) (i : Holds b k) (m : IsMe
   pub after_broadcast-taken : IsOf (told ws (b.called ++ waiters_on c b) b) (after_broadcast h k c (waiting c h.events))
   after_broadcast-taken = by (waiting c h.events) refl
     where
-      by : (xs : List Act) → waiting c h.events ≡ xs → IsOf (told ws (b.called ++ waiters_on c b) b) (after_broadcast h k c xs)
+      by : (xs : List Act) → waiting c h.events ≡ xs
+          → IsOf (told ws (b.called ++ waiters_on c b) b) (after_broadcast h k c xs)
       by (x ∷ xs) is = broadcast_of (λ none. let no : x ∷ xs ≡ [] = sym is ∙ none in cc)
       by [] is =
-          let none : waiters_on c b ≡ [] = map-none wait_of (waiters_on c b) (o.waiters c ∙ ap (in_order priority_of) is) in
-          let same : ws ≡ b.waiters = t.is ∙ filter-all (λ w. not (on c w)) b.waiters (list_all-filter_none (on c) b.waiters none) in
+          let none : waiters_on c b ≡ [] =
+          map-none wait_of (waiters_on c b) (o.waiters c ∙ ap (in_order priority_of) is) in
+          let same : ws ≡ b.waiters =
+          t.is ∙ filter-all (λ w. not (on c w)) b.waiters (list_all-filter_none (on c) b.waiters none) in
           let is_called : b.called ++ waiters_on c b ≡ b.called = ap (λ l. b.called ++ l) none ∙ append-nil _ in
           IsOf-same b _ h (λ j. told (sym same j) (sym is_called j) b) o
 
 -- and where nobody waits
-pub after_handing-nobody : (out : Bool) (b d : Contents) (k c : ℕ) (h : Log) → waiters_on c b ≡ [] → IsOf b h → IsOf d (after_handing out h k c None)
+pub after_handing-nobody : (out : Bool) (b d : Contents) (k c : ℕ) (h : Log) → waiters_on c b ≡ [] → IsOf b h
+    → IsOf d (after_handing out h k c None)
     → IsOf d (after_handing out h k c (chosen c h.events))
-after_handing-nobody out b d k c h n o x = subst (λ (y : Option Act). IsOf d (after_handing out h k c y)) (sym (chosen-nobody b h c o n)) x
+after_handing-nobody out b d k c h n o x =
+    subst (λ (y : Option Act). IsOf d (after_handing out h k c y)) (sym (chosen-nobody b h c o n)) x
 
 -- whoever is owed the monitor goes on
 
@@ -427,15 +485,20 @@ settles : (b d : Contents) (h : Log) (t : Turn) → b.turn ≡ t → IsOf b h �
 settles b d h t e o x = subst (λ (u : Turn). IsOf d (after_claim h u)) (sym (o.turn_is ∙ e)) x
 
 -- the claim of the one who is owed, who returns, or who was called
-pub claimed_of : (t : Turn) (b : Contents) (k : ℕ) (h : Log) → b.turn ≡ t → next_of t ≡ next.For k → IsSound b → IsOf b h → IsOf (claimed (chain_of t (hoare_of b)) k b) (settled h)
+pub claimed_of : (t : Turn) (b : Contents) (k : ℕ) (h : Log) → b.turn ≡ t → next_of t ≡ next.For k → IsSound b
+    → IsOf b h → IsOf (claimed (chain_of t (hoare_of b)) k b) (settled h)
 claimed_of Free b k h e n s o = absurd (cc)
 claimed_of (Held j) b k h e n s o = absurd (cc)
-claimed_of (Owed j c) b k h e n s o = let q : j ≡ k = cc in subst (λ (i : ℕ). IsOf (claimed (chain_of (Owed j c) (hoare_of b)) i b) (settled h)) q
+claimed_of (Owed j c) b k h e n s o =
+    let q : j ≡ k = cc in subst (λ (i : ℕ). IsOf (claimed (chain_of (Owed j c) (hoare_of b)) i b) (settled h)) q
     (elim (cases_lt c (hoare_of b)) [
       | inl l ↦ let f : nat_lt c (hoare_of b) ≡ true = grind (arith, nat_tests) in rw f (settles b (admitted j b) h (Owed j c) e o (owed_of b j c h s e l o))
       | inr l ↦ let f : nat_lt c (hoare_of b) ≡ false = grind (arith, nat_tests) in rw f (settles b (went_on j b) h (Owed j c) e o (went_on_of b j c h s e l o))
     ])
-claimed_of (Return j) b k h e n s o = let q : j ≡ k = cc in subst (λ (i : ℕ). IsOf (returned i b) (settled h)) q (settles b (returned j b) h (Return j) e o (returned_of b j h s e o))
+claimed_of (Return j) b k h e n s o =
+    let q : j ≡ k = cc in
+    subst (λ (i : ℕ). IsOf (returned i b) (settled h)) q
+    (settles b (returned j b) h (Return j) e o (returned_of b j h s e o))
 
 -- what the counts of a place say
 pub record SaysOutside (b : Contents) (k : ℕ) (r : Bool) : Type 0 where

@@ -28,29 +28,38 @@ pub AreKept-list : (at bt : ℕ → List Link) (c : ℕ) (xs : List Link) → Ar
 AreKept-list at bt c xs m here lists = λ d l.
     elim (cases_eq d c) [
       | inl e ↦
-          let h : All (Waited c) (bt c) = subst (All (Waited c)) (sym (lists c ∙ put_same c xs at)) (here (omega arith)) in
+          let h : All (Waited c) (bt c) =
+          subst (All (Waited c)) (sym (lists c ∙ put_same c xs at)) (here (omega arith)) in
           subst (λ (j : ℕ). All (Waited j) (bt j)) (sym e) h
       | inr n ↦ subst (All (Waited d)) (sym (lists d ∙ put_other c d xs at n)) (m d l)
     ]
 
-with_one : (c : ℕ) (before after : List Link) (x : Link) → x.condition ≡ c → All (Waited c) (before ++ after) → All (Waited c) (before ++ x ∷ after)
+with_one : (c : ℕ) (before after : List Link) (x : Link) → x.condition ≡ c → All (Waited c) (before ++ after)
+    → All (Waited c) (before ++ x ∷ after)
 with_one c [] after x e a = All-cons (Waited c) x after e a
 with_one c (y ∷ before) after x e a =
-    All-cons (Waited c) y (before ++ x ∷ after) (All-head (Waited c) y (before ++ after) a) (with_one c before after x e (All-tail (Waited c) y (before ++ after) a))
+    All-cons (Waited c) y (before ++ x ∷ after) (All-head (Waited c) y (before ++ after) a)
+    (with_one c before after x e (All-tail (Waited c) y (before ++ after) a))
 
 pub AreKept-put : (at bt : ℕ → List Link) (c : ℕ) (before after : List Link) (x : Link) → AreKept at
     → at c ≡ before ++ after → (c < MOST_CONDITIONS → x.condition ≡ c)
     → ((d : ℕ) → bt d ≡ list_put c (before ++ x ∷ after) at d) → AreKept bt
-AreKept-put at bt c before after x m is on lists = AreKept-list at bt c (before ++ x ∷ after) m (λ l. with_one c before after x (on l) (subst (All (Waited c)) is (m c l))) lists
+AreKept-put at bt c before after x m is on lists =
+    AreKept-list at bt c (before ++ x ∷ after) m
+    (λ l. with_one c before after x (on l) (subst (All (Waited c)) is (m c l))) lists
 
-pub AreKept-taken : (at bt : ℕ → List Link) (c : ℕ) (x : Link) (after : List Link) → AreKept at → at c ≡ x ∷ after → ((d : ℕ) → bt d ≡ list_put c after at d) → AreKept bt
-AreKept-taken at bt c x after m is lists = AreKept-list at bt c after m (λ l. All-tail (Waited c) x after (subst (All (Waited c)) is (m c l))) lists
+pub AreKept-taken : (at bt : ℕ → List Link) (c : ℕ) (x : Link) (after : List Link) → AreKept at → at c ≡ x ∷ after
+    → ((d : ℕ) → bt d ≡ list_put c after at d) → AreKept bt
+AreKept-taken at bt c x after m is lists =
+    AreKept-list at bt c after m (λ l. All-tail (Waited c) x after (subst (All (Waited c)) is (m c l))) lists
 
 -- all of chain c put behind those called
 pub AreKept-joined : (at bt : ℕ → List Link) (c : ℕ) (xs : List Link) → AreKept at
     → ((d : ℕ) → bt d ≡ list_put c [] (list_put CALLED xs at) d) → AreKept bt
 AreKept-joined at bt c xs m lists =
-    AreKept-list (list_put CALLED xs at) bt c [] (AreKept-list at (list_put CALLED xs at) CALLED xs m (λ l. absurd (omega arith)) (λ d. refl)) (λ l. All-nil (Waited c)) lists
+    AreKept-list (list_put CALLED xs at) bt c []
+    (AreKept-list at (list_put CALLED xs at) CALLED xs m (λ l. absurd (omega arith)) (λ d. refl))
+    (λ l. All-nil (Waited c)) lists
 
 -- where a chain has nobody, nothing changes
 pub joined-none : (c : ℕ) (v : Lists) → c < MOST_CONDITIONS → list_at v c ≡ [] → IsJoined c v v

@@ -1,5 +1,6 @@
 -- The lists of the chains: what another list in one of them does to all.
-use Rattle.std.proofs.Common.{◌≡◌, ◌≢◌, ℕ, zero, suc, ◌+◌, ◌<◌, ◌≤◌, Bool, true, false, cond, eqb, eqb-true, List, [], ◌∷◌, ◌++◌, length, map, refl, ap, ◌∙◌, arith}
+use Rattle.std.proofs.Common.{◌≡◌, ◌≢◌, ℕ, zero, suc, ◌+◌, ◌<◌, ◌≤◌, Bool, true, false, cond, eqb, eqb-true, List, []}
+use Rattle.std.proofs.Common.{◌∷◌, ◌++◌, length, map, refl, ap, ◌∙◌, arith}
 use Rattle.std.proofs.lemmas.Bool.Decides.{nat_tests}
 use Rattle.std.proofs.lemmas.List.{length-append, length-map, map-append}
 use Rattle.wait_book.specs.declared.chains.Link.{Link}
@@ -20,7 +21,8 @@ put_other c d xs at n = rw (eq_apart d c n) refl
 
 module _ {X : Type 0} (f : ℕ → Link → X) where
   -- a list beyond those that are looked at
-  pub below_past : (n c : ℕ) (xs : List Link) (at : ℕ → List Link) → n ≤ c → all_below f n (list_put c xs at) ≡ all_below f n at
+  pub below_past : (n c : ℕ) (xs : List Link) (at : ℕ → List Link) → n ≤ c
+      → all_below f n (list_put c xs at) ≡ all_below f n at
   unfolding all_below
   below_past zero c xs at l = refl
   below_past (suc n) c xs at l =
@@ -62,7 +64,8 @@ pub times_put : (f : ℕ → Link → ℕ) (k n c : ℕ) (xs : List Link) (at : 
 times_put f k = measure_put f (times k) (times-append k)
 
 -- no more often in one than in all
-pub times_one : (f : ℕ → Link → ℕ) (k n c : ℕ) (at : ℕ → List Link) → c < n → times k (map (f c) (at c)) ≤ times k (all_below f n at)
+pub times_one : (f : ℕ → Link → ℕ) (k n c : ℕ) (at : ℕ → List Link) → c < n
+    → times k (map (f c) (at c)) ≤ times k (all_below f n at)
 times_one f k = measure_one f (times k) (times-append k)
 
 -- nor in two
@@ -71,7 +74,8 @@ pub times_two : (f : ℕ → Link → ℕ) (k n c d : ℕ) (at : ℕ → List Li
 times_two f k n c d at l m apart =
     let out = times_put f k n c [] at l in
     let there = times_one f k n d (list_put c [] at) m in
-    let same : times k (map (f d) (list_put c [] at d)) ≡ times k (map (f d) (at d)) = ap (λ l. times k (map (f d) l)) (put_other c d [] at apart) in
+    let same : times k (map (f d) (list_put c [] at d)) ≡ times k (map (f d) (at d)) =
+    ap (λ l. times k (map (f d) l)) (put_other c d [] at apart) in
     omega arith
 
 -- how many
@@ -80,35 +84,43 @@ pub length_put : {X : Type 0} (f : ℕ → Link → X) (n c : ℕ) (xs : List Li
 length_put f n c xs at l =
     omega (arith, measure_put f length length-append n c xs at l, length-map (at c) (f c), length-map xs (f c))
 
-pub length_one : {X : Type 0} (f : ℕ → Link → X) (n c : ℕ) (at : ℕ → List Link) → c < n → length (at c) ≤ length (all_below f n at)
+pub length_one : {X : Type 0} (f : ℕ → Link → X) (n c : ℕ) (at : ℕ → List Link) → c < n
+    → length (at c) ≤ length (all_below f n at)
 length_one f n c at l = omega (arith, measure_one f length length-append n c at l, length-map (at c) (f c))
 
 -- the first n lists, and one more
-pub times_next : (f : ℕ → Link → ℕ) (k n : ℕ) (at : ℕ → List Link) → times k (all_below f (suc n) at) ≡ times k (all_below f n at) + times k (map (f n) (at n))
+pub times_next : (f : ℕ → Link → ℕ) (k n : ℕ) (at : ℕ → List Link)
+    → times k (all_below f (suc n) at) ≡ times k (all_below f n at) + times k (map (f n) (at n))
 unfolding all_below
 times_next f k n at = times-append k (all_below f n at) (map (f n) (at n))
 
-pub length_next : {X : Type 0} (f : ℕ → Link → X) (n : ℕ) (at : ℕ → List Link) → length (all_below f (suc n) at) ≡ length (all_below f n at) + length (at n)
+pub length_next : {X : Type 0} (f : ℕ → Link → X) (n : ℕ) (at : ℕ → List Link)
+    → length (all_below f (suc n) at) ≡ length (all_below f n at) + length (at n)
 unfolding all_below
 length_next f n at = omega (arith, length-append (all_below f n at) (map (f n) (at n)), length-map (at n) (f n))
 
 -- as many, whatever is made of them
-pub length_same : {X Y : Type 0} (f : ℕ → Link → X) (g : ℕ → Link → Y) (n : ℕ) (at : ℕ → List Link) → length (all_below f n at) ≡ length (all_below g n at)
+pub length_same : {X Y : Type 0} (f : ℕ → Link → X) (g : ℕ → Link → Y) (n : ℕ) (at : ℕ → List Link)
+    → length (all_below f n at) ≡ length (all_below g n at)
 unfolding all_below
 length_same f g zero at = refl
 length_same f g (suc n) at = omega (arith, length_next f n at, length_next g n at, length_same f g n at)
 
 -- in the middle of a list
-pub places_middle : (k : ℕ) (xs : List Link) (x : Link) (ys : List Link) → times k (places_in (xs ++ x ∷ ys)) ≡ times k (places_in (xs ++ ys)) + one k x.place
+pub places_middle : (k : ℕ) (xs : List Link) (x : Link) (ys : List Link)
+    → times k (places_in (xs ++ x ∷ ys)) ≡ times k (places_in (xs ++ ys)) + one k x.place
 places_middle k [] x ys = omega arith
 places_middle k (y ∷ xs) x ys = omega (arith, places_middle k xs x ys)
 
-pub keys_middle : (k : ℕ) (xs : List Link) (x : Link) (ys : List Link) → times k (keys (xs ++ x ∷ ys)) ≡ times k (keys (xs ++ ys)) + one k x.key
+pub keys_middle : (k : ℕ) (xs : List Link) (x : Link) (ys : List Link)
+    → times k (keys (xs ++ x ∷ ys)) ≡ times k (keys (xs ++ ys)) + one k x.key
 keys_middle k [] x ys = omega arith
 keys_middle k (y ∷ xs) x ys = omega (arith, keys_middle k xs x ys)
 
-pub places_append : (k : ℕ) (xs ys : List Link) → times k (places_in (xs ++ ys)) ≡ times k (places_in xs) + times k (places_in ys)
-places_append k xs ys = ap (times k) (map-append (λ (x : Link). x.place) xs ys) ∙ times-append k (places_in xs) (places_in ys)
+pub places_append : (k : ℕ) (xs ys : List Link)
+    → times k (places_in (xs ++ ys)) ≡ times k (places_in xs) + times k (places_in ys)
+places_append k xs ys =
+    ap (times k) (map-append (λ (x : Link). x.place) xs ys) ∙ times-append k (places_in xs) (places_in ys)
 
 pub keys_append : (k : ℕ) (xs ys : List Link) → times k (keys (xs ++ ys)) ≡ times k (keys xs) + times k (keys ys)
 keys_append k xs ys = ap (times k) (map-append (λ (x : Link). x.key) xs ys) ∙ times-append k (keys xs) (keys ys)

@@ -1,5 +1,6 @@
 -- The marks of the places that stand in the chains: one put in, and one taken out.
-use Rattle.std.proofs.Common.{◌≡◌, ◌≢◌, ℕ, zero, suc, ◌+◌, ◌<◌, ◌≤◌, Bool, true, false, cond, inl, inr, List, [], ◌∷◌, ◌++◌, length, get_or, set, replicate, refl, ap, sym, ◌∙◌, subst, arith}
+use Rattle.std.proofs.Common.{◌≡◌, ◌≢◌, ℕ, zero, suc, ◌+◌, ◌<◌, ◌≤◌, Bool, true, false, cond, inl, inr, List, [], ◌∷◌}
+use Rattle.std.proofs.Common.{◌++◌, length, get_or, set, replicate, refl, ap, sym, ◌∙◌, subst, arith}
 use Rattle.std.proofs.lemmas.Bool.{cases_eq, cases_lt}
 use Rattle.std.proofs.lemmas.List.{append-nil, get_or-set_same, get_or-set_other, get_or_past, length-set}
 use Rattle.wait_book.specs.declared.book.TheConstants.{MOST_PLACES}
@@ -82,17 +83,22 @@ AreMarked-put {s = s} {at = at} {bt = bt} c before after x m l within is apart l
           ];
     }
 
-module _ {s : List Bool} {at : ℕ → List Link} (c : ℕ) (x : Link) (after : List Link) (m : AreMarked s at) (l : c < CHAINS) (is : at c ≡ x ∷ after) where
+module _ {s : List Bool} {at : ℕ → List Link} (c : ℕ) (x : Link) (after : List Link) (m : AreMarked s at)
+    (l : c < CHAINS) (is : at c ≡ x ∷ after) where
   taken_times : (k : ℕ)
       → times k (places_below CHAINS (list_put c after at)) + one k x.place ≡ times k (places_below CHAINS at)
-  taken_times k = omega (arith, times_put (λ d (y : Link). y.place) k CHAINS c after at l, ap (λ v. times k (places_in v)) is)
+  taken_times k =
+      omega (arith, times_put (λ d (y : Link). y.place) k CHAINS c after at l, ap (λ v. times k (places_in v)) is)
 
   -- the first of a list has a mark
   pub first_within : x.place < MOST_PLACES
-  first_within = omega (arith, m.many, marked_within s x.place (omega (arith, taken_times x.place, one_same x.place, m.once x.place)))
+  first_within =
+      omega
+      (arith, m.many, marked_within s x.place (omega (arith, taken_times x.place, one_same x.place, m.once x.place)))
 
   -- the first of a list, taken out
-  pub AreMarked-taken : {bt : ℕ → List Link} (p : ℕ) → x.place ≡ p → ((d : ℕ) → bt d ≡ list_put c after at d) → AreMarked (set s p false) bt
+  pub AreMarked-taken : {bt : ℕ → List Link} (p : ℕ) → x.place ≡ p → ((d : ℕ) → bt d ≡ list_put c after at d)
+      → AreMarked (set s p false) bt
   AreMarked-taken {bt = bt} p e lists =
       let same : bt ≡ list_put c after at = λ i d. lists d i in
       let less : (k : ℕ) → times k (places_below CHAINS bt) + one k x.place ≡ times k (places_below CHAINS at) = λ k.
@@ -101,18 +107,21 @@ module _ {s : List Bool} {at : ℕ → List Link} (c : ℕ) (x : Link) (after : 
       elim (cases_eq k x.place) [
         | inl q ↦
             let h : times x.place (places_below CHAINS bt) ≡ marked (set s x.place false) x.place =
-            omega (arith, less x.place, one_same x.place, m.once x.place, marked_few s x.place, marked-set s x.place false (omega (arith, first_within, m.many))) in
+            omega
+            (arith, less x.place, one_same x.place, m.once x.place, marked_few s x.place, marked-set s x.place false (omega (arith, first_within, m.many))) in
             subst (λ (j : ℕ). times j (places_below CHAINS bt) ≡ marked (set s x.place false) j) (sym q) h
         | inr n ↦ omega (arith, less k, one_apart k x.place (eq_apart k x.place n), m.once k, marked-other s x.place k false n)
       ] in
-      subst (λ (j : ℕ). AreMarked (set s j false) bt) e (record { many = length-set s x.place false ∙ m.many; once = once })
+      subst (λ (j : ℕ). AreMarked (set s j false) bt) e
+      (record { many = length-set s x.place false ∙ m.many; once = once })
 
 -- a whole list put behind another
 pub AreMarked-joined : {s : List Bool} {at bt : ℕ → List Link} (c : ℕ) → AreMarked s at → c < CALLED
     → ((d : ℕ) → bt d ≡ list_put c [] (list_put CALLED (at CALLED ++ at c) at) d) → AreMarked s bt
 AreMarked-joined {s = s} {at = at} {bt = bt} c m l lists =
     let same : bt ≡ list_put c [] (list_put CALLED (at CALLED ++ at c) at) = λ i d. lists d i in
-    let off : list_put CALLED (at CALLED ++ at c) at c ≡ at c = put_other CALLED c (at CALLED ++ at c) at (omega arith) in
+    let off : list_put CALLED (at CALLED ++ at c) at c ≡ at c =
+    put_other CALLED c (at CALLED ++ at c) at (omega arith) in
     record {
       many = m.many;
       once = λ k. omega (

@@ -1,5 +1,6 @@
 -- Nodes linked as a list: what a change of one node does to them, and where a walk along them ends.
-use Rattle.std.proofs.Common.{◌≡◌, ◌≢◌, ℕ, zero, suc, ◌+◌, ◌<◌, ◌≤◌, Bool, true, false, cond, leb, List, [], ◌∷◌, ◌++◌, length, Option, Some, None, refl, ap, sym, ◌∙◌, subst, arith}
+use Rattle.std.proofs.Common.{◌≡◌, ◌≢◌, ℕ, zero, suc, ◌+◌, ◌<◌, ◌≤◌, Bool, true, false, cond, leb, List, [], ◌∷◌, ◌++◌}
+use Rattle.std.proofs.Common.{length, Option, Some, None, refl, ap, sym, ◌∙◌, subst, arith}
 use Rattle.std.proofs.lemmas.Bool.Decides.{nat_tests}
 use Rattle.std.specs.List.Sorted.{IsNonDecreasing}
 use Rattle.std.specs.Prelude.{IfSome}
@@ -33,14 +34,16 @@ last_within b [] h = absurd (cc)
 last_within b (x ∷ xs) h = last_in x.key b xs h
 
 -- behind a list with one more at its end
-pub last_append : (k : Option ℕ) (xs : List Link) (x : Link) (ys : List Link) → last_from k (xs ++ x ∷ ys) ≡ last_from (Some x.key) ys
+pub last_append : (k : Option ℕ) (xs : List Link) (x : Link) (ys : List Link)
+    → last_from k (xs ++ x ∷ ys) ≡ last_from (Some x.key) ys
 last_append k [] x ys = refl
 last_append k (y ∷ xs) x ys = last_append (Some y.key) xs x ys
 
 -- linked nodes
 
 -- where the nodes of a list stay as they were
-pub IsLinked-same : (s t : Slab Node) (from : Option ℕ) (xs : List Link) (to : Option ℕ) → ((k : ℕ) → 0 < times k (keys xs) → get t k ≡ get s k)
+pub IsLinked-same : (s t : Slab Node) (from : Option ℕ) (xs : List Link) (to : Option ℕ)
+    → ((k : ℕ) → 0 < times k (keys xs) → get t k ≡ get s k)
     → IsLinked s from xs to → IsLinked t from xs to
 IsLinked-same s t from [] to h l = l
 IsLinked-same s t from (x ∷ xs) to h l =
@@ -53,7 +56,8 @@ IsLinked-append s from [] mid ys to l m = subst (λ (k : Option ℕ). IsLinked s
 IsLinked-append s from (x ∷ xs) mid ys to l m = (l.0, l.1, l.2, IsLinked-append s l.1 xs mid ys to l.3 m)
 
 -- a list cut in two
-pub IsLinked-split : (s : Slab Node) (from : Option ℕ) (xs ys : List Link) (to : Option ℕ) → IsLinked s from (xs ++ ys) to
+pub IsLinked-split : (s : Slab Node) (from : Option ℕ) (xs ys : List Link) (to : Option ℕ)
+    → IsLinked s from (xs ++ ys) to
     → (mid : Option ℕ) × IsLinked s from xs mid × IsLinked s mid ys to
 IsLinked-split s from [] ys to l = (from, refl, l)
 IsLinked-split s from (x ∷ xs) ys to l =
@@ -65,7 +69,8 @@ linked_none s from [] e l = refl
 linked_none s from (x ∷ xs) e l = let f : from ≡ Some x.key = l.0 in absurd (cc)
 
 -- where there is no last one, nothing comes between
-pub linked_nothing : (s : Slab Node) (from : Option ℕ) (xs : List Link) (to : Option ℕ) → last_key xs ≡ None → IsLinked s from xs to → from ≡ to
+pub linked_nothing : (s : Slab Node) (from : Option ℕ) (xs : List Link) (to : Option ℕ) → last_key xs ≡ None
+    → IsLinked s from xs to → from ≡ to
 linked_nothing s from [] to e l = l
 linked_nothing s from (x ∷ xs) to e l = absurd (last_some x.key xs e)
 
@@ -83,7 +88,8 @@ pub record Opens (s : Slab Node) (k : ℕ) (xs : List Link) : Type 0 where
   pub node : get s k ≡ Some (node_of first next)
   pub linked : IsLinked s next after None
 
-pub opens : (s : Slab Node) (from : Option ℕ) (k : ℕ) (xs : List Link) → from ≡ Some k → IsLinked s from xs None → Opens s k xs
+pub opens : (s : Slab Node) (from : Option ℕ) (k : ℕ) (xs : List Link) → from ≡ Some k → IsLinked s from xs None
+    → Opens s k xs
 opens s from k [] e l = let f : from ≡ None = l in absurd (cc)
 opens s from k (x ∷ xs) e l =
     let f : from ≡ Some x.key = l.0 in
@@ -99,7 +105,8 @@ pub record Closes (s : Slab Node) (b : ℕ) (to : Option ℕ) : Type 0 where
   pub key : last.key ≡ b
   pub node : get s b ≡ Some (node_of last to)
 
-pub closes : (s : Slab Node) (from : Option ℕ) (xs : List Link) (to : Option ℕ) (b : ℕ) → last_key xs ≡ Some b → IsLinked s from xs to → Closes s b to
+pub closes : (s : Slab Node) (from : Option ℕ) (xs : List Link) (to : Option ℕ) (b : ℕ) → last_key xs ≡ Some b
+    → IsLinked s from xs to → Closes s b to
 closes s from [] to b e l = absurd (cc)
 closes s from (x ∷ []) to b e l =
     let q : x.key ≡ b = cc in
@@ -117,24 +124,28 @@ closes-next s b to n c g =
     sym (ap (λ (m : Node). m.next) is)
 
 -- the node behind which one comes is there
-pub behind-contains : (s : Slab Node) (from : Option ℕ) (xs : List Link) (to behind : Option ℕ) → behind ≡ last_key xs → IsLinked s from xs to → IfSome behind (ContainsKey s)
+pub behind-contains : (s : Slab Node) (from : Option ℕ) (xs : List Link) (to behind : Option ℕ) → behind ≡ last_key xs
+    → IsLinked s from xs to → IfSome behind (ContainsKey s)
 behind-contains s from xs to None e l = tt
 behind-contains s from xs to (Some b) e l = closes-contains s b to (closes s from xs to b (sym e) l)
 
 -- the node under b now names another key, and the others are as they were
 pub record Relinks (s t : Slab Node) (b : ℕ) (to : Option ℕ) : Type 0 where
-  pub changed : (n : Node) → get s b ≡ Some n → get t b ≡ Some (record { place = n.place; condition = n.condition; priority = n.priority; next = to })
+  pub changed : (n : Node) → get s b ≡ Some n
+      → get t b ≡ Some (record { place = n.place; condition = n.condition; priority = n.priority; next = to })
   pub others : (k : ℕ) → k ≢ b → get t k ≡ get s k
 
 -- a list whose last node was changed so
-pub IsLinked-relinked : (s t : Slab Node) (from : Option ℕ) (xs : List Link) (mid to : Option ℕ) (b : ℕ) → Relinks s t b to → last_key xs ≡ Some b
+pub IsLinked-relinked : (s t : Slab Node) (from : Option ℕ) (xs : List Link) (mid to : Option ℕ) (b : ℕ)
+    → Relinks s t b to → last_key xs ≡ Some b
     → ((k : ℕ) → times k (keys xs) ≤ 1) → IsLinked s from xs mid → IsLinked t from xs to
 IsLinked-relinked s t from [] mid to b r e once l = absurd (cc)
 IsLinked-relinked s t from (x ∷ []) mid to b r e once l =
     let q : x.key ≡ b = cc in
     (l.0, to, ap (get t) q ∙ r.changed (node_of x l.1) (ap (get s) (sym q) ∙ l.2), refl)
 IsLinked-relinked s t from (x ∷ y ∷ xs) mid to b r e once l =
-    let apart : x.key ≢ b = λ q. omega (arith, once b, last_within b (y ∷ xs) e, subst (λ (j : ℕ). one b j ≡ 1) (sym q) (one_same b)) in
+    let apart : x.key ≢ b =
+    λ q. omega (arith, once b, last_within b (y ∷ xs) e, subst (λ (j : ℕ). one b j ≡ 1) (sym q) (one_same b)) in
     (l.0, l.1, r.others x.key apart ∙ l.2, IsLinked-relinked s t l.1 (y ∷ xs) mid to b r e (λ k. omega (arith, once k)) l.3)
 
 -- a walk
@@ -145,13 +156,15 @@ walk_none zero s = refl
 walk_none (suc n) s = refl
 
 -- a walk gives the nodes as they are linked
-pub walk_linked : (n : ℕ) (s : Slab Node) (from : Option ℕ) (xs : List Link) → IsLinked s from xs None → length xs ≤ n → walk n s from ≡ xs
+pub walk_linked : (n : ℕ) (s : Slab Node) (from : Option ℕ) (xs : List Link) → IsLinked s from xs None → length xs ≤ n
+    → walk n s from ≡ xs
 unfolding walk
 walk_linked zero s from [] l h = refl
 walk_linked zero s from (x ∷ xs) l h = absurd (omega arith)
 walk_linked (suc n) s from [] l h = ap (walk (suc n) s) l
 walk_linked (suc n) s from (x ∷ xs) l h =
-    ap (walk (suc n) s) l.0 ∙ ap (found (walk n s) x.key) l.2 ∙ ap (λ ys. x ∷ ys) (walk_linked n s l.1 xs l.3 (omega arith))
+    ap (walk (suc n) s) l.0 ∙ ap (found (walk n s) x.key) l.2
+    ∙ ap (λ ys. x ∷ ys) (walk_linked n s l.1 xs l.3 (omega arith))
 
 -- from no key there is nothing to walk
 pub walked_none : (s : Slab Node) → walked s None ≡ []
@@ -170,13 +183,16 @@ walked_first s from k n e f g =
     let short : length e.list ≡ suc (length o.after) = ap length o.is in
     let rest : Ends s o.next = record { list = o.after; linked = o.linked; few = omega (arith, e.few) } in (
       walked_ends s from e ∙ o.is ∙ by o.first o.key n o.next o.after is
-          ∙ ap (λ ys. record { key = k; place = n.place; condition = n.condition; priority = n.priority } ∷ ys) (sym (walked_ends s o.next rest) ∙ ap (λ (m : Node). walked s m.next) (sym is)),
+          ∙ ap (λ ys. record { key = k; place = n.place; condition = n.condition; priority = n.priority } ∷ ys)
+          (sym (walked_ends s o.next rest) ∙ ap (λ (m : Node). walked s m.next) (sym is)),
       subst (λ (m : Node). Ends s m.next) (sym is) rest,
     )
   where
-    by : (x : Link) → x.key ≡ k → (m : Node) (next : Option ℕ) (ys : List Link) → m ≡ node_of x next → x ∷ ys ≡ record { key = k; place = m.place; condition = m.condition; priority = m.priority } ∷ ys
+    by : (x : Link) → x.key ≡ k → (m : Node) (next : Option ℕ) (ys : List Link) → m ≡ node_of x next
+        → x ∷ ys ≡ record { key = k; place = m.place; condition = m.condition; priority = m.priority } ∷ ys
     by x q m next ys e =
-        let at : ℕ → Node → List Link = λ (j : ℕ) (v : Node). record { key = j; place = v.place; condition = v.condition; priority = v.priority } ∷ ys in
+        let at : ℕ → Node → List Link =
+        λ (j : ℕ) (v : Node). record { key = j; place = v.place; condition = v.condition; priority = v.priority } ∷ ys in
         ap (at x.key) (sym e) ∙ ap (λ (j : ℕ). at j m) q
 
 -- those before the first of a higher priority number
@@ -193,7 +209,8 @@ pub record AllLower (p : ℕ) (x : Link) (xs : List Link) : Type 0 where
 one_lower : (p : ℕ) (x : Link) (xs : List Link) → x.priority ≤ p → lower p xs ≡ xs → lower p (x ∷ xs) ≡ x ∷ xs
 one_lower p x xs h e = let t : leb x.priority p ≡ true = grind (arith, nat_tests) in rw t (ap (λ l. x ∷ l) e)
 
-pub all_lower : (s : Slab Node) (from : Option ℕ) (x : Link) (xs : List Link) (to : Option ℕ) (b p : ℕ) (n : Node) → IsLinked s from (x ∷ xs) to → last_key (x ∷ xs) ≡ Some b
+pub all_lower : (s : Slab Node) (from : Option ℕ) (x : Link) (xs : List Link) (to : Option ℕ) (b p : ℕ) (n : Node)
+    → IsLinked s from (x ∷ xs) to → last_key (x ∷ xs) ≡ Some b
     → get s b ≡ Some n → n.priority ≤ p → IsNonDecreasing (priorities (x ∷ xs)) → AllLower p x xs
 all_lower s from x [] to b p n l e g h r =
     let q : x.key ≡ b = cc in
@@ -202,12 +219,14 @@ all_lower s from x [] to b p n l e g h r =
     let f : x.priority ≤ p = omega (arith, ap (λ (m : Node). m.priority) is) in
     record { all = one_lower p x [] f refl; first = f }
 all_lower s from x (y ∷ xs) to b p n l e g h r =
-    let a : AllLower p y xs = all_lower s l.1 y xs to b p n l.3 e g h (rising_after x.priority (priorities (y ∷ xs)) r) in
+    let a : AllLower p y xs =
+    all_lower s l.1 y xs to b p n l.3 e g h (rising_after x.priority (priorities (y ∷ xs)) r) in
     let below : x.priority ≤ y.priority = r 0 1 0 (omega arith) (omega arith) in
     let f : x.priority ≤ p = omega (arith, a.first) in
     record { all = one_lower p x (y ∷ xs) f a.all; first = f }
 
-pub lower_all : (s : Slab Node) (from : Option ℕ) (xs : List Link) (to : Option ℕ) (b p : ℕ) (n : Node) → IsLinked s from xs to → last_key xs ≡ Some b → get s b ≡ Some n
+pub lower_all : (s : Slab Node) (from : Option ℕ) (xs : List Link) (to : Option ℕ) (b p : ℕ) (n : Node)
+    → IsLinked s from xs to → last_key xs ≡ Some b → get s b ≡ Some n
     → n.priority ≤ p → IsNonDecreasing (priorities xs) → lower p xs ≡ xs
 lower_all s from [] to b p n l e g h r = refl
 lower_all s from (x ∷ xs) to b p n l e g h r = (all_lower s from x xs to b p n l e g h r).all
@@ -217,6 +236,7 @@ pub lower-higher : (p : ℕ) (xs : List Link) → lower p xs ++ higher p xs ≡ 
 lower-higher p [] = refl
 lower-higher p (x ∷ xs) = by (leb x.priority p) (lower-higher p xs)
   where
-    by : (t : Bool) → lower p xs ++ higher p xs ≡ xs → cond t (x ∷ lower p xs) [] ++ cond t (higher p xs) (x ∷ xs) ≡ x ∷ xs
+    by : (t : Bool) → lower p xs ++ higher p xs ≡ xs
+        → cond t (x ∷ lower p xs) [] ++ cond t (higher p xs) (x ∷ xs) ≡ x ∷ xs
     by true h = ap (λ l. x ∷ l) h
     by false h = refl

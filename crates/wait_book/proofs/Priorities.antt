@@ -1,5 +1,6 @@
 -- The waiting priorities of a book, and what each call does to them.
-use Rattle.std.proofs.Common.{◌≡◌, ◌≢◌, ◌==◌, ℕ, ◌<◌, Bool, true, false, eqb-true, cond, inl, inr, is_some, length, arith}
+use Rattle.std.proofs.Common.{◌≡◌, ◌≢◌, ◌==◌, ℕ, ◌<◌, Bool, true, false, eqb-true, cond, inl, inr, is_some, length}
+use Rattle.std.proofs.Common.{arith}
 use Rattle.std.proofs.Common.{List, [], ◌∷◌, map, Option, Some, None, refl, ap, sym, ◌∙◌, subst}
 use Rattle.std.specs.Prelude.{slice_index}
 use Rattle.std.specs.List.{filter, find, slice_get}
@@ -25,7 +26,8 @@ use Rattle.wait_book.proofs.Sound.{told, waited, resumed, Resumes, taken_ordered
 use Rattle.wait_book.proofs.Histories.{chosen-first_on, chosen-nobody}
 
 -- they are those of the waiters as they stand
-pub priorities_on-are : (b : Contents) (c : ℕ) → in_order key (waiters_on c b) ≡ waiters_on c b → priorities_on b c ≡ map key (waiters_on c b)
+pub priorities_on-are : (b : Contents) (c : ℕ) → in_order key (waiters_on c b) ≡ waiters_on c b
+    → priorities_on b c ≡ map key (waiters_on c b)
 priorities_on-are b c r = sym (map-in_order key (waiters_on c b)) ∙ ap (map key) r
 
 -- none, where nobody waits
@@ -33,7 +35,8 @@ pub priorities_on-nobody : (b : Contents) (c : ℕ) → waiters_on c b ≡ [] �
 priorities_on-nobody b c n = ap (λ l. in_order (λ p. p) (map key l)) n
 
 -- where they are none, nobody waits
-pub priorities_on-none : (b : Contents) (c : ℕ) → in_order key (waiters_on c b) ≡ waiters_on c b → priorities_on b c ≡ [] → waiters_on c b ≡ []
+pub priorities_on-none : (b : Contents) (c : ℕ) → in_order key (waiters_on c b) ≡ waiters_on c b
+    → priorities_on b c ≡ [] → waiters_on c b ≡ []
 priorities_on-none b c r e = map-none key (waiters_on c b) (sym (priorities_on-are b c r) ∙ e)
 
 -- of an equal book
@@ -41,33 +44,43 @@ pub no_priority_on : {b d : Contents} (c : ℕ) → b ≡ d → waiters_on c b �
 no_priority_on {b = b} c e n = subst (λ (v : Contents). priorities_on v c ≡ []) e (priorities_on-nobody b c n)
 
 -- some, where one is taken
-pub priorities_on-taken : {b d : Contents} {k c w : ℕ} {ws : List Waiter} → Resumes b k c w ws → b ≡ d → priorities_on d c ≢ []
+pub priorities_on-taken : {b d : Contents} {k c w : ℕ} {ws : List Waiter} → Resumes b k c w ws → b ≡ d
+    → priorities_on d c ≢ []
 priorities_on-taken {b = b} {c = c} {w = w} {ws = ws} r e = λ none.
     let a = filter-taken_on c b.waiters ws w r.took in
-    let n : waiters_on c b ≡ [] = priorities_on-none b c (r.by.sound.ordered c) (ap (λ (v : Contents). priorities_on v c) e ∙ none) in
+    let n : waiters_on c b ≡ [] =
+    priorities_on-none b c (r.by.sound.ordered c) (ap (λ (v : Contents). priorities_on v c) e ∙ none) in
     absurd (cc)
 
 -- they are those of the history
-pub priorities_on-history : {b d : Contents} (h : History (Unit {0})) (c : ℕ) → b ≡ d → IsSound b → IsOf d h → priorities_on d c ≡ priorities h.events c
+pub priorities_on-history : {b d : Contents} (h : History (Unit {0})) (c : ℕ) → b ≡ d → IsSound b → IsOf d h
+    → priorities_on d c ≡ priorities h.events c
 unfolding priorities
 priorities_on-history {b = b} {d = d} h c e s o =
-    ap (λ (v : Contents). priorities_on v c) (sym e) ∙ priorities_on-are b c (s.ordered c) ∙ ap (λ (v : Contents). map key (waiters_on c v)) e
+    ap (λ (v : Contents). priorities_on v c) (sym e) ∙ priorities_on-are b c (s.ordered c)
+    ∙ ap (λ (v : Contents). map key (waiters_on c v)) e
     ∙ sym (map-map priority_of wait_of (waiters_on c d)) ∙ ap (map priority_of) (o.waiters c)
 
 -- nobody waits on c in the book where nobody does in the history
-pub waiting-none : (b : Contents) (h : History (Unit {0})) (c : ℕ) → IsOf b h → waiters_on c b ≡ [] → waiting c h.events ≡ []
+pub waiting-none : (b : Contents) (h : History (Unit {0})) (c : ℕ) → IsOf b h → waiters_on c b ≡ []
+    → waiting c h.events ≡ []
 waiting-none b h c o n = in_order-none priority_of (waiting c h.events) (sym (o.waiters c) ∙ ap (map wait_of) n)
 
 -- and in the history where nobody does in the book
-pub waiters_on-none : (b : Contents) (h : History (Unit {0})) (c : ℕ) → IsOf b h → waiting c h.events ≡ [] → waiters_on c b ≡ []
+pub waiters_on-none : (b : Contents) (h : History (Unit {0})) (c : ℕ) → IsOf b h → waiting c h.events ≡ []
+    → waiters_on c b ≡ []
 waiters_on-none b h c o n = map-none wait_of (waiters_on c b) (o.waiters c ∙ ap (in_order priority_of) n)
 
 -- the first
 
 -- its priority is the chosen one's
-pub first-chosen : (b : Contents) (h : History (Unit {0})) (c : ℕ) → IsOf b h → option_map key (find (on c) b.waiters) ≡ option_map priority_of (chosen c h.events)
-first-chosen b h c o = ap (option_map key) (find-filter (on c) b.waiters) ∙ sym (first_of-map key (waiters_on c b)) ∙ ap sorted.first_of (sym (map-map priority_of wait_of (waiters_on c b)))
-    ∙ first_of-map priority_of (map wait_of (waiters_on c b)) ∙ ap (option_map priority_of) (sym (chosen-first_on b h c o))
+pub first-chosen : (b : Contents) (h : History (Unit {0})) (c : ℕ) → IsOf b h
+    → option_map key (find (on c) b.waiters) ≡ option_map priority_of (chosen c h.events)
+first-chosen b h c o =
+    ap (option_map key) (find-filter (on c) b.waiters) ∙ sym (first_of-map key (waiters_on c b))
+    ∙ ap sorted.first_of (sym (map-map priority_of wait_of (waiters_on c b)))
+    ∙ first_of-map priority_of (map wait_of (waiters_on c b))
+    ∙ ap (option_map priority_of) (sym (chosen-first_on b h c o))
 
 -- and its place is that of the chosen one
 pub first-chosen_place : (b : Contents) (h : History (Unit {0})) (c : ℕ) → IsOf b h
@@ -79,15 +92,18 @@ first-chosen_place b h c o =
     ∙ first_of-map place_of (map wait_of (waiters_on c b)) ∙ ap (option_map place_of) (sym (chosen-first_on b h c o))
 
 -- and the first of the priorities
-pub first-priority : (b d : Contents) (c : ℕ) → b ≡ d → IsSound b → option_map key (find (on c) b.waiters) ≡ sorted.first_of (priorities_on d c)
+pub first-priority : (b d : Contents) (c : ℕ) → b ≡ d → IsSound b
+    → option_map key (find (on c) b.waiters) ≡ sorted.first_of (priorities_on d c)
 first-priority b d c e s =
-    ap (option_map key) (find-filter (on c) b.waiters) ∙ sym (first_of-map key (waiters_on c b)) ∙ ap sorted.first_of (sym (priorities_on-are b c (s.ordered c)))
+    ap (option_map key) (find-filter (on c) b.waiters) ∙ sym (first_of-map key (waiters_on c b))
+    ∙ ap sorted.first_of (sym (priorities_on-are b c (s.ordered c)))
     ∙ ap (λ (v : Contents). sorted.first_of (priorities_on v c)) e
 
 -- what a wait and a signal do
 
 -- a wait puts its priority in
-pub priorities_on-joined : {b d : Contents} (w : Waiter) (ws : List Waiter) (c : ℕ) → PutsIn w b.waiters ws → b ≡ d → IsSound b → IsSound (waited ws b)
+pub priorities_on-joined : {b d : Contents} (w : Waiter) (ws : List Waiter) (c : ℕ) → PutsIn w b.waiters ws → b ≡ d
+    → IsSound b → IsSound (waited ws b)
     → priorities_on (waited ws b) c ≡ joined (priorities_on d) w.condition w.priority c
 priorities_on-joined {b = b} w ws c p e s t =
     priorities_on-are (waited ws b) c (t.ordered c) ∙ ap (map key) (p.on c) ∙ by (on c w) (waiters_on c b)
@@ -95,7 +111,8 @@ priorities_on-joined {b = b} w ws c p e s t =
     ∙ ap (λ t. cond t (put_in (λ n. n) w.priority (priorities_on b c)) (priorities_on b c)) (eq_swap w.condition c)
     ∙ ap (λ (v : Contents). joined (priorities_on v) w.condition w.priority c) e
   where
-    by : (t : Bool) (vs : List Waiter) → map key (cond t (put_in key w vs) vs) ≡ cond t (put_in (λ n. n) w.priority (map key vs)) (map key vs)
+    by : (t : Bool) (vs : List Waiter)
+        → map key (cond t (put_in key w vs) vs) ≡ cond t (put_in (λ n. n) w.priority (map key vs)) (map key vs)
     by true vs = map-put_in key w vs
     by false vs = refl
 
@@ -115,40 +132,51 @@ priorities_after b us k c w d ws r =
     ∙ ap (λ l. cond (d == c) (behind_first l) l) (sym (priorities_on-are b d (r.by.sound.ordered d)))
 
 -- (of an equal book)
-pub priorities_on-after : {b e : Contents} {k c w : ℕ} {ws : List Waiter} (us : List ℕ) → b ≡ e → Resumes b k c w ws → (d : ℕ)
+pub priorities_on-after : {b e : Contents} {k c w : ℕ} {ws : List Waiter} (us : List ℕ) → b ≡ e → Resumes b k c w ws
+    → (d : ℕ)
     → priorities_on (resumed ws us w c b) d ≡ taken (priorities_on e) c d
 priorities_on-after {b = b} {k = k} {c = c} {w = w} {ws = ws} us q r d =
     priorities_after b us k c w d ws r ∙ ap (λ (v : Contents). taken (priorities_on v) c d) q
 
 -- where nobody waits, they take nothing away
-pub priorities_on-untaken : {b d : Contents} (c e : ℕ) (ps : List ℕ) → b ≡ d → waiters_on c b ≡ [] → ps ≡ priorities_on b e → ps ≡ taken (priorities_on d) c e
+pub priorities_on-untaken : {b d : Contents} (c e : ℕ) (ps : List ℕ) → b ≡ d → waiters_on c b ≡ []
+    → ps ≡ priorities_on b e → ps ≡ taken (priorities_on d) c e
 priorities_on-untaken {b = b} {d = d} c e ps is none same =
     same ∙ ap (λ (v : Contents). priorities_on v e) is ∙ by (e == c) refl
   where
     by : (t : Bool) → (e == c) ≡ t → priorities_on d e ≡ cond t (behind_first (priorities_on d e)) (priorities_on d e)
-    by true q = let empty : priorities_on d e ≡ [] = subst (λ (j : ℕ). priorities_on d j ≡ []) (sym (eqb-true e c q)) (no_priority_on c is none) in
+    by true q =
+        let empty : priorities_on d e ≡ [] =
+        subst (λ (j : ℕ). priorities_on d j ≡ []) (sym (eqb-true e c q)) (no_priority_on c is none) in
         empty ∙ sym (ap behind_first empty)
     by false q = refl
 
 -- how many wait, and the priority of the i-th
 
 -- as many as priorities
-pub length-priorities_on : (b d : Contents) (c : ℕ) → b ≡ d → IsSound b → length (waiters_on c b) ≡ length (priorities_on d c)
-length-priorities_on b d c e s = sym (length-map (waiters_on c b) key) ∙ ap length (sym (priorities_on-are b c (s.ordered c))) ∙ ap (λ (v : Contents). length (priorities_on v c)) e
+pub length-priorities_on : (b d : Contents) (c : ℕ) → b ≡ d → IsSound b
+    → length (waiters_on c b) ≡ length (priorities_on d c)
+length-priorities_on b d c e s =
+    sym (length-map (waiters_on c b) key) ∙ ap length (sym (priorities_on-are b c (s.ordered c)))
+    ∙ ap (λ (v : Contents). length (priorities_on v c)) e
 
 -- so each has its waiter
-pub length-waiters_on : (b d : Contents) (c i : ℕ) → b ≡ d → IsSound b → i < length (priorities_on d c) → i < length (waiters_on c b)
+pub length-waiters_on : (b d : Contents) (c i : ℕ) → b ≡ d → IsSound b → i < length (priorities_on d c)
+    → i < length (waiters_on c b)
 length-waiters_on b d c i e s l = omega (arith, length-priorities_on b d c e s)
 
 -- the i-th, as the code found it
-pub nth-priority : {b d : Contents} (c i : ℕ) {o : Option ℕ} → b ≡ d → IsSound b → o ≡ option_map key (slice_get (waiters_on c b) i)
+pub nth-priority : {b d : Contents} (c i : ℕ) {o : Option ℕ} → b ≡ d → IsSound b
+    → o ≡ option_map key (slice_get (waiters_on c b) i)
     → i < length (priorities_on d c) → o ≡ Some (slice_index (priorities_on d c) i)
 nth-priority {b = b} {d = d} c i {o = o} e s r l =
     slice_index-map key (waiters_on c b) i o r (length-waiters_on b d c i e s l)
-    ∙ ap (λ x. Some (slice_index x i)) (sym (priorities_on-are b c (s.ordered c))) ∙ ap (λ (v : Contents). Some (slice_index (priorities_on v c) i)) e
+    ∙ ap (λ x. Some (slice_index x i)) (sym (priorities_on-are b c (s.ordered c)))
+    ∙ ap (λ (v : Contents). Some (slice_index (priorities_on v c) i)) e
 
 -- so the condition is the book's
-pub fits-condition : (b d : Contents) (c i : ℕ) → b ≡ d → IsSound b → i < length (priorities_on d c) → c < b.sizes.conditions
+pub fits-condition : (b d : Contents) (c i : ℕ) → b ≡ d → IsSound b → i < length (priorities_on d c)
+    → c < b.sizes.conditions
 fits-condition b d c i e s l =
     elim (cases_lt c b.sizes.conditions) [
       | inl h ↦ h
@@ -161,7 +189,8 @@ fits-condition b d c i e s l =
 abbrev SaysWaiting : ℕ → History (Unit {0}) → Bool → Type 0
 SaysWaiting c h r = (r ≡ true → waiting c h.events ≡ [] → ⊥) × ((waiting c h.events ≢ []) → r ≡ true)
 
-queue_by : (ws : List Waiter) (b : Contents) (h : History (Unit {0})) (c : ℕ) (f : Option ℕ) (r : Bool) → waiters_on c b ≡ ws → IsOf b h
+queue_by : (ws : List Waiter) (b : Contents) (h : History (Unit {0})) (c : ℕ) (f : Option ℕ) (r : Bool)
+    → waiters_on c b ≡ ws → IsOf b h
     → f ≡ option_map priority_of (chosen c h.events) → r ≡ is_some f → SaysWaiting c h r
 queue_by [] b h c f r e o q i =
     let n : option_map priority_of (chosen c h.events) ≡ None = ap (option_map priority_of) (chosen-nobody b h c o e) in
@@ -174,14 +203,17 @@ queue_by (w ∷ ws) b h c f r e o q i =
     ((λ t z. absurd (let a = waiters_on-none b h c o z in cc)), (λ z. m))
 
 -- somebody is chosen where somebody waits
-pub queue-waiting : (b : Contents) (h : History (Unit {0})) (c : ℕ) (f : Option ℕ) (r : Bool) → IsOf b h → f ≡ option_map priority_of (chosen c h.events) → r ≡ is_some f
+pub queue-waiting : (b : Contents) (h : History (Unit {0})) (c : ℕ) (f : Option ℕ) (r : Bool) → IsOf b h
+    → f ≡ option_map priority_of (chosen c h.events) → r ≡ is_some f
     → SaysWaiting c h r
 queue-waiting b h c f r o q i = queue_by (waiters_on c b) b h c f r refl o q i
 
 -- a broadcast leaves none on its condition
-pub priorities_on-emptied : {b e : Contents} (c d : ℕ) (ws vs : List Waiter) → b ≡ e → TakesAll c b.waiters ws → priorities_on (told ws vs b) d ≡ emptied (priorities_on e) c d
+pub priorities_on-emptied : {b e : Contents} (c d : ℕ) (ws vs : List Waiter) → b ≡ e → TakesAll c b.waiters ws
+    → priorities_on (told ws vs b) d ≡ emptied (priorities_on e) c d
 priorities_on-emptied {b = b} c d ws vs q t =
-    ap (λ l. in_order (λ p. p) (map key l)) (t.on d) ∙ by (d == c) ∙ ap (λ (v : Contents). emptied (priorities_on v) c d) q
+    ap (λ l. in_order (λ p. p) (map key l)) (t.on d) ∙ by (d == c)
+    ∙ ap (λ (v : Contents). emptied (priorities_on v) c d) q
   where
     by : (r : Bool) → in_order (λ p. p) (map key (cond r [] (waiters_on d b))) ≡ cond r [] (priorities_on b d)
     by true = refl

@@ -1,5 +1,7 @@
 -- What a change in one chain does to those who wait, to the signallers and to the called.
-use Rattle.std.proofs.Common.{◌≡◌, ◌≢◌, ℕ, zero, suc, ◌+◌, ◌<◌, ◌≤◌, Bool, true, false, not, cond, eqb, eq-eqb, eqb-true, leb, inl, inr, List, [], ◌∷◌, ◌++◌, length, map, Option, Some, None, refl, ap, sym, ◌∙◌, subst, arith}
+use Rattle.std.proofs.Common.{◌≡◌, ◌≢◌, ℕ, zero, suc, ◌+◌, ◌<◌, ◌≤◌, Bool, true, false, not, cond, eqb, eq-eqb}
+use Rattle.std.proofs.Common.{eqb-true, leb, inl, inr, List, [], ◌∷◌, ◌++◌, length, map, Option, Some, None, refl, ap}
+use Rattle.std.proofs.Common.{sym, ◌∙◌, subst, arith}
 use Rattle.std.proofs.lemmas.Bool.{cases_eq, cases_lt}
 use Rattle.std.proofs.lemmas.List.{append_assoc, append-nil, length-map, map-append}
 use Rattle.std.proofs.lemmas.List.Elements.{filter-append}
@@ -17,12 +19,14 @@ use Rattle.wait_book.specs.declared.chains.Link.{Link}
 use Rattle.wait_book.specs.declared.waiter.Waiter.{Waiter}
 use Rattle.wait_book.specs.Contents.{times}
 use Rattle.wait_book.specs.Insides.{called_in, waiter_of, waiter_on, waiting_below}
-use Rattle.wait_book.specs.Lists.{Lists, IsJoined, IsPut, IsTaken, all_below, first_link, higher, list_at, list_put, lower, places_below, priorities, total, places_in}
+use Rattle.wait_book.specs.Lists.{Lists, IsJoined, IsPut, IsTaken, all_below, first_link, higher, list_at, list_put}
+use Rattle.wait_book.specs.Lists.{lower, places_below, priorities, total, places_in}
 use Rattle.wait_book.specs.Queues.{PutsIn, TakesAll, TakesFirst}
 use Rattle.wait_book.proofs.Times.{eq_self}
 use Rattle.wait_book.proofs.Waiters.{on, places, key}
 use Rattle.wait_book.proofs.Nodes.{lower-higher}
-use Rattle.wait_book.proofs.Lists.{below_past, eq_apart, length_next, length_one, length_same, places_middle, put_same, put_other, times_next, times_put}
+use Rattle.wait_book.proofs.Lists.{below_past, eq_apart, length_next, length_one, length_same, places_middle, put_same}
+use Rattle.wait_book.proofs.Lists.{put_other, times_next, times_put}
 
 -- those on a condition
 
@@ -52,7 +56,8 @@ on_chain (suc n) c at l =
     ∙ elim (cases_eq n c) [
       | inl e ↦
           ap (λ ws. ws ++ filter (on c) (map (waiter_on n) (at n))) (on_before n c at (omega arith))
-          ∙ subst (λ (m : ℕ). filter (on c) (map (waiter_on m) (at m)) ≡ map (waiter_on c) (at c)) (sym e) (on_own c (at c))
+          ∙ subst (λ (m : ℕ). filter (on c) (map (waiter_on m) (at m)) ≡ map (waiter_on c) (at c)) (sym e)
+          (on_own c (at c))
       | inr off ↦
           ap (λ ws. filter (on c) (waiting_below n at) ++ ws) (on_other c n (at n) (eq_apart n c off))
           ∙ append-nil _ ∙ on_chain n c at (omega arith)
@@ -60,7 +65,8 @@ on_chain (suc n) c at l =
 
 -- their places
 
-map_below : {X Y : Type 0} (g : X → Y) (f : ℕ → Link → X) (n : ℕ) (at : ℕ → List Link) → map g (all_below f n at) ≡ all_below (λ c (x : Link). g (f c x)) n at
+map_below : {X Y : Type 0} (g : X → Y) (f : ℕ → Link → X) (n : ℕ) (at : ℕ → List Link)
+    → map g (all_below f n at) ≡ all_below (λ c (x : Link). g (f c x)) n at
 unfolding all_below
 map_below g f zero at = refl
 map_below g f (suc n) at =
@@ -75,7 +81,8 @@ places_waiting n at = map_below (λ (w : Waiter). w.place) waiter_on n at
 -- one that is put in
 
 -- into a list, as the law puts it in
-put_lower : (x : Link) (xs : List Link) → put_in (λ (v : Link). v.priority) x xs ≡ lower x.priority xs ++ x ∷ higher x.priority xs
+put_lower : (x : Link) (xs : List Link)
+    → put_in (λ (v : Link). v.priority) x xs ≡ lower x.priority xs ++ x ∷ higher x.priority xs
 put_lower x [] = refl
 put_lower x (y ∷ ys) = by (leb y.priority x.priority) (put_lower x ys)
   where
@@ -85,7 +92,8 @@ put_lower x (y ∷ ys) = by (leb y.priority x.priority) (put_lower x ys)
     by false h = refl
 
 -- into the chain of a condition
-put_waiters : (c : ℕ) (x : Link) (xs : List Link) → map (waiter_on c) (lower x.priority xs ++ x ∷ higher x.priority xs) ≡ put_in key (waiter_on c x) (map (waiter_on c) xs)
+put_waiters : (c : ℕ) (x : Link) (xs : List Link)
+    → map (waiter_on c) (lower x.priority xs ++ x ∷ higher x.priority xs) ≡ put_in key (waiter_on c x) (map (waiter_on c) xs)
 put_waiters c x xs = sym (put_in-map (waiter_on c) key x xs ∙ ap (map (waiter_on c)) (put_lower x xs))
 
 on_put : (c d : ℕ) (x : Link) (at : ℕ → List Link) → d < MOST_CONDITIONS
@@ -97,11 +105,15 @@ on_put c d x at l =
       | inl e ↦
           let same : map (waiter_on c) (list_put c xs at c) ≡ cond (eqb c c) (put_in key (waiter_on c x) (map (waiter_on c) (at c))) (map (waiter_on c) (at c)) =
           ap (map (waiter_on c)) (put_same c xs at) ∙ put_waiters c x (at c)
-          ∙ ap (λ t. cond t (put_in key (waiter_on c x) (map (waiter_on c) (at c))) (map (waiter_on c) (at c))) (sym (eq_self c)) in
-          subst (λ (j : ℕ). map (waiter_on j) (list_put c xs at j) ≡ cond (eqb c j) (put_in key (waiter_on c x) (map (waiter_on j) (at j))) (map (waiter_on j) (at j))) (sym e) same
+          ∙ ap (λ t. cond t (put_in key (waiter_on c x) (map (waiter_on c) (at c))) (map (waiter_on c) (at c)))
+          (sym (eq_self c)) in
+          subst
+          (λ (j : ℕ). map (waiter_on j) (list_put c xs at j) ≡ cond (eqb c j) (put_in key (waiter_on c x) (map (waiter_on j) (at j))) (map (waiter_on j) (at j)))
+          (sym e) same
       | inr off ↦
           ap (map (waiter_on d)) (put_other c d xs at off)
-          ∙ ap (λ t. cond t (put_in key (waiter_on c x) (map (waiter_on d) (at d))) (map (waiter_on d) (at d))) (sym (eq_apart c d (λ e. off (sym e))))
+          ∙ ap (λ t. cond t (put_in key (waiter_on c x) (map (waiter_on d) (at d))) (map (waiter_on d) (at d)))
+          (sym (eq_apart c d (λ e. off (sym e))))
     ]
 
 -- what an insertion into the chain of a condition does to those who wait
@@ -113,7 +125,8 @@ PutsIn-put c place priority old new l p =
     let x : Link = record { key = p.key; place = place; condition = c; priority = priority } in
     let xs : List Link = lower priority (at c) ++ x ∷ higher priority (at c) in
     let lists : list_at new ≡ list_put c xs at = λ i d. p.lists d i in
-    let is : waiting_below MOST_CONDITIONS (list_at new) ≡ waiting_below MOST_CONDITIONS (list_put c xs at) = ap (waiting_below MOST_CONDITIONS) lists in
+    let is : waiting_below MOST_CONDITIONS (list_at new) ≡ waiting_below MOST_CONDITIONS (list_put c xs at) =
+    ap (waiting_below MOST_CONDITIONS) lists in
     record {
       on = λ d. ap (filter (on d)) is ∙ elim (cases_lt d MOST_CONDITIONS) [
         | inl m ↦
@@ -121,13 +134,16 @@ PutsIn-put c place priority old new l p =
             ∙ ap (λ ws. cond (eqb c d) (put_in key (waiter_on c x) ws) ws) (sym (on_chain MOST_CONDITIONS d at m))
         | inr m ↦
             on_before MOST_CONDITIONS d (list_put c xs at) m ∙ sym (on_before MOST_CONDITIONS d at m)
-            ∙ ap (λ t. cond t (put_in key (waiter_on c x) (filter (on d) (waiting_below MOST_CONDITIONS at))) (filter (on d) (waiting_below MOST_CONDITIONS at))) (sym (eq_apart c d (omega arith)))
+            ∙ ap
+            (λ t. cond t (put_in key (waiter_on c x) (filter (on d) (waiting_below MOST_CONDITIONS at))) (filter (on d) (waiting_below MOST_CONDITIONS at)))
+            (sym (eq_apart c d (omega arith)))
       ];
       more = λ k.
           let counted = times_put (λ e (y : Link). y.place) k MOST_CONDITIONS c xs at l in
           let middle = places_middle k (lower priority (at c)) x (higher priority (at c)) in
           let whole = ap (λ ys. times k (places_in ys)) (lower-higher priority (at c)) in
-          omega (arith, ap (λ ws. times k (places ws)) is, ap (times k) (places_waiting MOST_CONDITIONS (list_put c xs at)), ap (times k) (places_waiting MOST_CONDITIONS at));
+          omega
+          (arith, ap (λ ws. times k (places ws)) is, ap (times k) (places_waiting MOST_CONDITIONS (list_put c xs at)), ap (times k) (places_waiting MOST_CONDITIONS at));
     }
 
 -- the first taken out
@@ -143,7 +159,8 @@ taken_below (suc n) c x after at l e =
         first = waiter_on c x;
         after = map (waiter_on c) after;
         was = ap (λ ws. waiting_below n at ++ ws) (subst (λ (m : ℕ). map (waiter_on m) (at m) ≡ waiter_on c x ∷ map (waiter_on c) after) (sym q) (ap (map (waiter_on c)) e));
-        is = ap (λ ws. ws ++ map (waiter_on n) (list_put c after at n)) (below_past waiter_on n c after at (omega arith))
+        is =
+            ap (λ ws. ws ++ map (waiter_on n) (list_put c after at n)) (below_past waiter_on n c after at (omega arith))
             ∙ ap (λ ws. waiting_below n at ++ ws)
             (subst (λ (m : ℕ). map (waiter_on m) (list_put c after at m) ≡ map (waiter_on c) after) (sym q) (ap (map (waiter_on c)) (put_same c after at)));
         none_before = on_before n c at (omega arith);
@@ -151,7 +168,8 @@ taken_below (suc n) c x after at l e =
         place = refl;
       }
       | inr off ↦
-          let t : TakesFirst c (waiting_below n at) (waiting_below n (list_put c after at)) x.place = taken_below n c x after at (omega arith) e in
+          let t : TakesFirst c (waiting_below n at) (waiting_below n (list_put c after at)) x.place =
+          taken_below n c x after at (omega arith) e in
           let more : List Waiter = map (waiter_on n) (at n) in
           record {
             before = t.before;
@@ -170,7 +188,9 @@ pub TakesFirst-taken : (c place : ℕ) (old new : Lists) → c < MOST_CONDITIONS
     → TakesFirst c (waiting_below MOST_CONDITIONS (list_at old)) (waiting_below MOST_CONDITIONS (list_at new)) place
 TakesFirst-taken c place old new l t =
     let lists : list_at new ≡ list_put c t.after (list_at old) = λ i d. t.lists d i in
-    subst (λ (at : ℕ → List Link). TakesFirst c (waiting_below MOST_CONDITIONS (list_at old)) (waiting_below MOST_CONDITIONS at) place) (sym lists)
+    subst
+    (λ (at : ℕ → List Link). TakesFirst c (waiting_below MOST_CONDITIONS (list_at old)) (waiting_below MOST_CONDITIONS at) place)
+    (sym lists)
     (subst (λ (j : ℕ). TakesFirst c (waiting_below MOST_CONDITIONS (list_at old)) (waiting_below MOST_CONDITIONS (list_put c t.after (list_at old))) j) t.first_place
     (taken_below MOST_CONDITIONS c t.first t.after (list_at old) l t.was))
 
@@ -200,7 +220,8 @@ waiters-same c xs old new l h =
 -- one more behind all in a chain
 pub chain-more : {X : Type 0} (f : Link → X) (c place condition priority : ℕ) (old new : Lists)
     → (p : IsPut c (list_at old c) [] place condition priority old new) → map f (list_at new c)
-    ≡ map f (list_at old c) ++ f (record { key = p.key; place = place; condition = condition; priority = priority }) ∷ []
+    ≡ map f (list_at old c) ++ f
+    (record { key = p.key; place = place; condition = condition; priority = priority }) ∷ []
 chain-more f c place condition priority old new p =
     ap (map f) (p.lists c ∙ put_same c _ (list_at old)) ∙ map-append f (list_at old c) _
 
@@ -235,13 +256,15 @@ behind_first-map f (x ∷ xs) = refl
 -- all on a condition called
 
 -- those in another chain's are on another condition
-not_on : (t : Bool) (n c : ℕ) (xs : List Link) → eqb n c ≡ t → filter (λ w. not (on c w)) (map (waiter_on n) xs) ≡ map (waiter_on n) (cond t [] xs)
+not_on : (t : Bool) (n c : ℕ) (xs : List Link) → eqb n c ≡ t
+    → filter (λ w. not (on c w)) (map (waiter_on n) xs) ≡ map (waiter_on n) (cond t [] xs)
 not_on true n c [] e = refl
 not_on false n c [] e = refl
 not_on true n c (x ∷ xs) e = rw e (not_on true n c xs e)
 not_on false n c (x ∷ xs) e = rw e (ap (λ ws. waiter_on n x ∷ ws) (not_on false n c xs e))
 
-without : (n c : ℕ) (at : ℕ → List Link) → waiting_below n (list_put c [] at) ≡ filter (λ w. not (on c w)) (waiting_below n at)
+without : (n c : ℕ) (at : ℕ → List Link)
+    → waiting_below n (list_put c [] at) ≡ filter (λ w. not (on c w)) (waiting_below n at)
 unfolding all_below
 without zero c at = refl
 without (suc n) c at =
@@ -249,15 +272,18 @@ without (suc n) c at =
     ∙ ap (λ ws. filter (λ w. not (on c w)) (waiting_below n at) ++ ws) (sym (not_on (eqb n c) n c (at n) refl))
     ∙ sym (filter-append (λ w. not (on c w)) (waiting_below n at) (map (waiter_on n) (at n)))
 
-kept_on : (t : Bool) (c d : ℕ) (ws : List Waiter) → eqb d c ≡ t → filter (on d) (filter (λ w. not (on c w)) ws) ≡ cond t [] (filter (on d) ws)
+kept_on : (t : Bool) (c d : ℕ) (ws : List Waiter) → eqb d c ≡ t
+    → filter (on d) (filter (λ w. not (on c w)) ws) ≡ cond t [] (filter (on d) ws)
 kept_on true c d [] e = refl
 kept_on false c d [] e = refl
 kept_on t c d (w ∷ ws) e = by t (eqb w.condition c) (eqb w.condition d) e refl refl (kept_on t c d ws e)
   where
-    by : (t r s : Bool) → eqb d c ≡ t → eqb w.condition c ≡ r → eqb w.condition d ≡ s → filter (on d) (filter (λ v. not (on c v)) ws) ≡ cond t [] (filter (on d) ws)
+    by : (t r s : Bool) → eqb d c ≡ t → eqb w.condition c ≡ r → eqb w.condition d ≡ s
+        → filter (on d) (filter (λ v. not (on c v)) ws) ≡ cond t [] (filter (on d) ws)
         → filter (on d) (cond (not r) (w ∷ filter (λ v. not (on c v)) ws) (filter (λ v. not (on c v)) ws)) ≡ cond t [] (cond s (w ∷ filter (on d) ws) (filter (on d) ws))
     by true true s e p q h = h
-    by true false true e p q h = let no : true ≡ false = sym (ap (λ x. eqb x c) (eqb-true w.condition d q) ∙ e) ∙ p in absurd (cc)
+    by true false true e p q h =
+        let no : true ≡ false = sym (ap (λ x. eqb x c) (eqb-true w.condition d q) ∙ e) ∙ p in absurd (cc)
     by true false false e p q h = rw q h
     by false true true e p q h =
         let same : d ≡ c = sym (eqb-true w.condition d q) ∙ eqb-true w.condition c p in
@@ -285,14 +311,18 @@ all_called c old new l j =
     let zs : List Link = at CALLED ++ at c in
     let lists : list_at new ≡ list_put c [] (list_put CALLED zs at) = λ i d. j.lists d i in
     let is : waiting_below MOST_CONDITIONS (list_at new) ≡ filter (λ w. not (on c w)) (waiting_below MOST_CONDITIONS at) =
-    ap (waiting_below MOST_CONDITIONS) lists ∙ without MOST_CONDITIONS c (list_put CALLED zs at) ∙ ap (filter (λ w. not (on c w))) (below_past waiter_on MOST_CONDITIONS CALLED zs at (omega arith)) in
+    ap (waiting_below MOST_CONDITIONS) lists ∙ without MOST_CONDITIONS c (list_put CALLED zs at)
+    ∙ ap (filter (λ w. not (on c w))) (below_past waiter_on MOST_CONDITIONS CALLED zs at (omega arith)) in
     record {
       took = record { on = λ d. ap (filter (on d)) is ∙ kept_on (eqb d c) c d (waiting_below MOST_CONDITIONS at) refl; is = is };
       room = j.room;
       signallers = ap places_in (j.lists SIGNALLERS ∙ put_other c SIGNALLERS [] (list_put CALLED zs at) (omega arith) ∙ put_other CALLED SIGNALLERS zs at (omega arith));
-      called = ap called_in (j.lists CALLED ∙ put_other c CALLED [] (list_put CALLED zs at) (omega arith) ∙ put_same CALLED zs at)
+      called =
+          ap called_in
+          (j.lists CALLED ∙ put_other c CALLED [] (list_put CALLED zs at) (omega arith) ∙ put_same CALLED zs at)
           ∙ map-append waiter_of (at CALLED) (at c)
-          ∙ ap (λ ws. called_in (at CALLED) ++ ws) (waited_all c (at c) j.waited ∙ sym (on_chain MOST_CONDITIONS c at l));
+          ∙ ap (λ ws. called_in (at CALLED) ++ ws)
+          (waited_all c (at c) j.waited ∙ sym (on_chain MOST_CONDITIONS c at l));
     }
 
 -- chains with nobody in them
@@ -305,7 +335,8 @@ waits-none (suc n) at h = ap (λ xs. waiting_below n at ++ map (waiter_on n) xs)
 
 pub total_is : (v : Lists)
     → total v
-    ≡ length (waiting_below MOST_CONDITIONS (list_at v)) + length (places_in (list_at v SIGNALLERS)) + length (called_in (list_at v CALLED))
+    ≡ length (waiting_below MOST_CONDITIONS (list_at v)) + length (places_in (list_at v SIGNALLERS)) + length
+    (called_in (list_at v CALLED))
 total_is v = omega (
   arith,
   length_next (λ c (x : Link). x.key) CALLED (list_at v),
@@ -317,7 +348,8 @@ total_is v = omega (
 
 -- how often a place stands in all
 pub times_all : (k : ℕ) (v : Lists) → times k (places_below CHAINS (list_at v))
-    ≡ times k (places (waiting_below MOST_CONDITIONS (list_at v))) + times k (places_in (list_at v SIGNALLERS)) + times k (places (called_in (list_at v CALLED)))
+    ≡ times k (places (waiting_below MOST_CONDITIONS (list_at v))) + times k
+    (places_in (list_at v SIGNALLERS)) + times k (places (called_in (list_at v CALLED)))
 times_all k v = omega (
   arith,
   times_next (λ c (x : Link). x.place) k CALLED (list_at v),
@@ -344,19 +376,8 @@ first-chain c v l =
     by (list_at v c) ∙ ap (λ ws. option_map key (first_of ws)) (sym (on_chain MOST_CONDITIONS c (list_at v) l))
     ∙ sym (ap (option_map key) (find-filter (on c) (waiting_below MOST_CONDITIONS (list_at v))))
   where
-    by : (xs : List Link) → option_map (λ (x : Link). x.priority) (first_link xs) ≡ option_map key (first_of (map (waiter_on c) xs))
-    by [] = refl
-    by (x ∷ xs) = refl
-
--- and its place
-pub first_place-chain : (c : ℕ) (v : Lists) → c < MOST_CONDITIONS
-    → option_map (λ (x : Link). x.place) (first_link (list_at v c))
-    ≡ option_map (λ (w : Waiter). w.place) (find (on c) (waiting_below MOST_CONDITIONS (list_at v)))
-first_place-chain c v l =
-    by (list_at v c) ∙ ap (λ ws. option_map (λ (w : Waiter). w.place) (first_of ws)) (sym (on_chain MOST_CONDITIONS c (list_at v) l))
-    ∙ sym (ap (option_map (λ (w : Waiter). w.place)) (find-filter (on c) (waiting_below MOST_CONDITIONS (list_at v))))
-  where
-    by : (xs : List Link) → option_map (λ (x : Link). x.place) (first_link xs) ≡ option_map (λ (w : Waiter). w.place) (first_of (map (waiter_on c) xs))
+    by : (xs : List Link)
+        → option_map (λ (x : Link). x.priority) (first_link xs) ≡ option_map key (first_of (map (waiter_on c) xs))
     by [] = refl
     by (x ∷ xs) = refl
 
@@ -364,9 +385,11 @@ first_place-chain c v l =
 pub nth-chain : (c i : ℕ) (v : Lists) → c < MOST_CONDITIONS
     → option_map (λ (x : Link). x.priority) (slice_get (list_at v c) i)
     ≡ option_map key (slice_get (filter (on c) (waiting_below MOST_CONDITIONS (list_at v))) i)
-nth-chain c i v l = by i (list_at v c) ∙ ap (λ ws. option_map key (slice_get ws i)) (sym (on_chain MOST_CONDITIONS c (list_at v) l))
+nth-chain c i v l =
+    by i (list_at v c) ∙ ap (λ ws. option_map key (slice_get ws i)) (sym (on_chain MOST_CONDITIONS c (list_at v) l))
   where
-    by : (i : ℕ) (xs : List Link) → option_map (λ (x : Link). x.priority) (slice_get xs i) ≡ option_map key (slice_get (map (waiter_on c) xs) i)
+    by : (i : ℕ) (xs : List Link)
+        → option_map (λ (x : Link). x.priority) (slice_get xs i) ≡ option_map key (slice_get (map (waiter_on c) xs) i)
     by i [] = refl
     by zero (x ∷ xs) = refl
     by (suc i) (x ∷ xs) = by i xs
@@ -375,7 +398,8 @@ nth-chain c i v l = by i (list_at v c) ∙ ap (λ ws. option_map key (slice_get 
 
 pub priorities-chain : (c : ℕ) (v : Lists) → c < MOST_CONDITIONS
     → map key (filter (on c) (waiting_below MOST_CONDITIONS (list_at v))) ≡ priorities (list_at v c)
-priorities-chain c v l = ap (map key) (on_chain MOST_CONDITIONS c (list_at v) l) ∙ map-map key (waiter_on c) (list_at v c)
+priorities-chain c v l =
+    ap (map key) (on_chain MOST_CONDITIONS c (list_at v) l) ∙ map-map key (waiter_on c) (list_at v c)
 
 -- they don't fall where those who wait stand in order
 pub priorities-rise : (c : ℕ) (v : Lists) → c < MOST_CONDITIONS
@@ -384,5 +408,6 @@ pub priorities-rise : (c : ℕ) (v : Lists) → c < MOST_CONDITIONS
     → IsNonDecreasing (priorities (list_at v c))
 priorities-rise c v l o =
     let ws : List Waiter = filter (on c) (waiting_below MOST_CONDITIONS (list_at v)) in
-    let same : in_order (λ n. n) (map key ws) ≡ priorities (list_at v c) = sym (map-in_order key ws) ∙ ap (map key) o ∙ priorities-chain c v l in
+    let same : in_order (λ n. n) (map key ws) ≡ priorities (list_at v c) =
+    sym (map-in_order key ws) ∙ ap (map key) o ∙ priorities-chain c v l in
     subst IsNonDecreasing same (IsNonDecreasing-in_order (map key ws))

@@ -56,11 +56,14 @@ first_waiter : (c : ℕ) (x : Link) (old between : Lists) → c < MOST_CONDITION
     → (t : TakesFirst c (waiting_below MOST_CONDITIONS (list_at old)) (waiting_below MOST_CONDITIONS (list_at between)) x.place)
     → waiter_on c x ≡ t.first
 first_waiter c x old between l is t =
-    let left : filter (on c) (waiting_below MOST_CONDITIONS (list_at old)) ≡ t.first ∷ filter (on c) (waiting_below MOST_CONDITIONS (list_at between)) = filter-taken_on c _ _ x.place t in
-    let right : filter (on c) (waiting_below MOST_CONDITIONS (list_at old)) ≡ map (waiter_on c) (list_at old c) = on_chain MOST_CONDITIONS c (list_at old) l in
+    let left : filter (on c) (waiting_below MOST_CONDITIONS (list_at old)) ≡ t.first ∷ filter (on c) (waiting_below MOST_CONDITIONS (list_at between)) =
+    filter-taken_on c _ _ x.place t in
+    let right : filter (on c) (waiting_below MOST_CONDITIONS (list_at old)) ≡ map (waiter_on c) (list_at old c) =
+    on_chain MOST_CONDITIONS c (list_at old) l in
     by (list_at old c) is (sym right ∙ left)
   where
-    by : (xs : List Link) → Some x ≡ first_link xs → {w : Waiter} {ws : List Waiter} → map (waiter_on c) xs ≡ w ∷ ws → waiter_on c x ≡ w
+    by : (xs : List Link) → Some x ≡ first_link xs → {w : Waiter} {ws : List Waiter} → map (waiter_on c) xs ≡ w ∷ ws
+        → waiter_on c x ≡ w
     by [] q e = absurd (cc)
     by (y ∷ ys) q e = let same : x ≡ y = cc in ap (waiter_on c) same ∙ (cc)
 

@@ -1,5 +1,6 @@
 -- How often a place stands in a list.
-use Rattle.std.proofs.Common.{◌≡◌, ℕ, ◌+◌, ◌<◌, ◌≤◌, Bool, true, false, eqb, eq-eqb, ◌==◌, not, ◌||◌, List, [], ◌∷◌, ◌++◌, length, map, refl, ap, ◌∙◌, arith}
+use Rattle.std.proofs.Common.{◌≡◌, ℕ, ◌+◌, ◌<◌, ◌≤◌, Bool, true, false, eqb, eq-eqb, ◌==◌, not, ◌||◌, List, [], ◌∷◌}
+use Rattle.std.proofs.Common.{◌++◌, length, map, refl, ap, ◌∙◌, arith}
 use Rattle.std.specs.List.{list_all, list_any, filter, AllByRecursion, IsDistinct}
 use Rattle.std.proofs.lemmas.Map.Steps.{length-le_from_distinct_below}
 use Rattle.std.proofs.lemmas.Bool.Decides.{nat_tests}
@@ -52,7 +53,8 @@ unfolding IsDistinct
 distinct_once [] h = tt
 distinct_once (x ∷ xs) h = (apart_all x xs (omega (arith, h x, one_same x)), distinct_once xs (λ j. omega (arith, h j)))
 
-some_any : (b : Bool) (k x : ℕ) (xs : List ℕ) → eqb k x ≡ b → ((list_any (eqb k) xs ≡ true) → 0 < times k xs) → (b || list_any (eqb k) xs) ≡ true
+some_any : (b : Bool) (k x : ℕ) (xs : List ℕ) → eqb k x ≡ b → ((list_any (eqb k) xs ≡ true) → 0 < times k xs)
+    → (b || list_any (eqb k) xs) ≡ true
     → 0 < one k x + times k xs
 some_any true k x xs e h a = omega (arith, one_at k x e)
 some_any false k x xs e h a = omega (arith, h a)
@@ -66,7 +68,8 @@ pub few_once : (xs : List ℕ) (n : ℕ) → ((j : ℕ) → times j xs ≤ 1) �
 few_once xs n h r = length-le_from_distinct_below xs n (distinct_once xs h) (λ q a. r q (any_some q xs a))
 
 -- a test that only place k fails holds of all in a list without k
-pub list_all-apart : {X : Type 0} (place : X → ℕ) (k : ℕ) (p : X → Bool) (xs : List X) → ((x : X) → eqb k (place x) ≡ false → p x ≡ true)
+pub list_all-apart : {X : Type 0} (place : X → ℕ) (k : ℕ) (p : X → Bool) (xs : List X)
+    → ((x : X) → eqb k (place x) ≡ false → p x ≡ true)
     → times k (map place xs) ≡ 0 → list_all p xs ≡ true
 list_all-apart place k p [] h z = refl
 list_all-apart place k p (x ∷ xs) h z =
@@ -75,7 +78,8 @@ list_all-apart place k p (x ∷ xs) h z =
     rw e t
 
 -- a filter that only place k fails leaves a list without k
-pub filter-apart : {X : Type 0} (place : X → ℕ) (k : ℕ) (p : X → Bool) (xs : List X) → ((x : X) → eqb k (place x) ≡ false → p x ≡ true)
+pub filter-apart : {X : Type 0} (place : X → ℕ) (k : ℕ) (p : X → Bool) (xs : List X)
+    → ((x : X) → eqb k (place x) ≡ false → p x ≡ true)
     → times k (map place xs) ≡ 0 → filter p xs ≡ xs
 filter-apart place k p xs h z = filter-all p xs (list_all-apart place k p xs h z)
 

@@ -26,44 +26,56 @@ key = λ (w : Waiter). w.priority
 -- what was taken, by condition
 
 -- those on c are the one taken and those who stay
-pub filter-taken_on : (c : ℕ) (old new : List Waiter) (k : ℕ) (t : TakesFirst c old new k) → filter (on c) old ≡ t.first ∷ filter (on c) new
+pub filter-taken_on : (c : ℕ) (old new : List Waiter) (k : ℕ) (t : TakesFirst c old new k)
+    → filter (on c) old ≡ t.first ∷ filter (on c) new
 filter-taken_on c old new k t =
     let here : on c t.first ≡ true = ap (λ d. d == c) t.on ∙ eq_self c in
     let cut : filter (on c) (t.first ∷ t.after) ≡ t.first ∷ filter (on c) t.after = (rw here refl) in
     let left : filter (on c) old ≡ t.first ∷ filter (on c) t.after =
-    ap (filter (on c)) t.was ∙ filter-append (on c) t.before (t.first ∷ t.after) ∙ ap (λ l. l ++ filter (on c) (t.first ∷ t.after)) t.none_before ∙ cut in
-    let right : filter (on c) new ≡ filter (on c) t.after = ap (filter (on c)) t.is ∙ filter-append (on c) t.before t.after ∙ ap (λ l. l ++ filter (on c) t.after) t.none_before in
+    ap (filter (on c)) t.was ∙ filter-append (on c) t.before (t.first ∷ t.after)
+    ∙ ap (λ l. l ++ filter (on c) (t.first ∷ t.after)) t.none_before ∙ cut in
+    let right : filter (on c) new ≡ filter (on c) t.after =
+    ap (filter (on c)) t.is ∙ filter-append (on c) t.before t.after
+    ∙ ap (λ l. l ++ filter (on c) t.after) t.none_before in
     left ∙ ap (λ l. t.first ∷ l) (sym right)
 
 -- those on another condition stay
-pub filter-taken_off : (c d : ℕ) (old new : List Waiter) (k : ℕ) → TakesFirst c old new k → (c == d) ≡ false → filter (on d) old ≡ filter (on d) new
+pub filter-taken_off : (c d : ℕ) (old new : List Waiter) (k : ℕ) → TakesFirst c old new k → (c == d) ≡ false
+    → filter (on d) old ≡ filter (on d) new
 filter-taken_off c d old new k t apart =
     let there : on d t.first ≡ false = ap (λ e. e == d) t.on ∙ apart in
     let cut : filter (on d) (t.first ∷ t.after) ≡ filter (on d) t.after = (rw there refl) in
-    ap (filter (on d)) t.was ∙ filter-append (on d) t.before (t.first ∷ t.after) ∙ ap (λ l. filter (on d) t.before ++ l) cut
+    ap (filter (on d)) t.was ∙ filter-append (on d) t.before (t.first ∷ t.after)
+    ∙ ap (λ l. filter (on d) t.before ++ l) cut
     ∙ sym (ap (filter (on d)) t.is ∙ filter-append (on d) t.before t.after)
 
 -- one less stays
 pub length-taken : (c : ℕ) (old new : List Waiter) (k : ℕ) → TakesFirst c old new k → length old ≡ suc (length new)
 length-taken c old new k t =
-    omega (arith, ap length t.was, ap length t.is, length-append t.before (t.first ∷ t.after), length-append t.before t.after)
+    omega
+    (arith, ap length t.was, ap length t.is, length-append t.before (t.first ∷ t.after), length-append t.before t.after)
 
 -- what was taken, by place
 
 -- of two lists
-pub times-places : (j : ℕ) (xs ys : List Waiter) → times j (places (xs ++ ys)) ≡ times j (places xs) + times j (places ys)
-times-places j xs ys = ap (times j) (map-append (λ (w : Waiter). w.place) xs ys) ∙ times-append j (places xs) (places ys)
+pub times-places : (j : ℕ) (xs ys : List Waiter)
+    → times j (places (xs ++ ys)) ≡ times j (places xs) + times j (places ys)
+times-places j xs ys =
+    ap (times j) (map-append (λ (w : Waiter). w.place) xs ys) ∙ times-append j (places xs) (places ys)
 
 -- the one taken out stands once less
-pub times-taken : (j c : ℕ) (old new : List Waiter) (k : ℕ) → TakesFirst c old new k → times j (places old) ≡ times j (places new) + one j k
+pub times-taken : (j c : ℕ) (old new : List Waiter) (k : ℕ) → TakesFirst c old new k
+    → times j (places old) ≡ times j (places new) + one j k
 times-taken j c old new k t =
-    let a : times j (places old) ≡ times j (places (t.before ++ t.first ∷ t.after)) = ap (λ l. times j (places l)) t.was in
+    let a : times j (places old) ≡ times j (places (t.before ++ t.first ∷ t.after)) =
+    ap (λ l. times j (places l)) t.was in
     let b : times j (places new) ≡ times j (places (t.before ++ t.after)) = ap (λ l. times j (places l)) t.is in
     let e : one j t.first.place ≡ one j k = ap (one j) t.place in
     omega (arith, times-places j t.before (t.first ∷ t.after), times-places j t.before t.after)
 
 -- a filter by place that two places alone fail
-pub filter-two_apart : (k w : ℕ) (ws : List Waiter) → times k (places ws) ≡ 0 → times w (places ws) ≡ 0 → filter (λ (v : Waiter). not (eqb k v.place || eqb w v.place)) ws ≡ ws
+pub filter-two_apart : (k w : ℕ) (ws : List Waiter) → times k (places ws) ≡ 0 → times w (places ws) ≡ 0
+    → filter (λ (v : Waiter). not (eqb k v.place || eqb w v.place)) ws ≡ ws
 filter-two_apart k w ws y z =
     filter-or (λ (v : Waiter). eqb k v.place) (λ (v : Waiter). eqb w v.place) ws
     (list_all-apart (λ (v : Waiter). v.place) k (λ (v : Waiter). not (eqb k v.place)) ws (λ v t. ap not t) y)
@@ -74,13 +86,15 @@ or_true true b h = refl
 or_true false b h = rw h refl
 
 -- where k doesn't wait and who is taken waits once, only who is taken goes
-pub filter-taken : (k c : ℕ) (old new : List Waiter) (w : ℕ) → TakesFirst c old new w → times k (places old) ≡ 0 → times w (places old) ≤ 1
+pub filter-taken : (k c : ℕ) (old new : List Waiter) (w : ℕ) → TakesFirst c old new w → times k (places old) ≡ 0
+    → times w (places old) ≤ 1
     → filter (λ (v : Waiter). not (eqb k v.place || eqb w v.place)) old ≡ new
 filter-taken k c old new w t y z =
     let p : Waiter → Bool = λ v. not (eqb k v.place || eqb w v.place) in
     let a : times k (places old) ≡ times k (places new) + one k w = times-taken k c old new w t in
     let b : times w (places old) ≡ times w (places new) + one w w = times-taken w c old new w t in
-    let away : p t.first ≡ false = or_true (eqb k t.first.place) (eqb w t.first.place) (ap (λ x. eqb w x) t.place ∙ eq_self w) in
+    let away : p t.first ≡ false =
+    or_true (eqb k t.first.place) (eqb w t.first.place) (ap (λ x. eqb w x) t.place ∙ eq_self w) in
     let cut : filter p (t.first ∷ t.after) ≡ filter p t.after = (rw away refl) in
     let stay : filter p new ≡ new = filter-two_apart k w new (omega arith) (omega (arith, one_same w)) in
     ap (filter p) t.was ∙ filter-append p t.before (t.first ∷ t.after) ∙ ap (λ l. filter p t.before ++ l) cut

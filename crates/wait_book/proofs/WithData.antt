@@ -1,5 +1,6 @@
 -- The book, and a history with data that it is of.
-use Rattle.std.proofs.Common.{◌≡◌, ◌≢◌, ℕ, Bool, true, false, IsTrue, true≢false, List, [], ◌∷◌, map, Option, Some, None, refl, ap, sym, ◌∙◌, subst, eqb-true}
+use Rattle.std.proofs.Common.{◌≡◌, ◌≢◌, ℕ, Bool, true, false, IsTrue, true≢false, List, [], ◌∷◌, map, Option, Some}
+use Rattle.std.proofs.Common.{None, refl, ap, sym, ◌∙◌, subst, eqb-true}
 use Rattle.std.specs.Option.{option_map}
 use Rattle.hoare_law.specs.declared.event.Event.{Event}
 use Rattle.hoare_law.specs.declared.event.History.{History}
@@ -10,7 +11,8 @@ use Rattle.hoare_law.specs.Events.{place_of, with_event}
 use Rattle.hoare_law.specs.Priorities.{in_order, priorities}
 use Rattle.hoare_law.specs.Turns.{turn, outside}
 use Rattle.hoare_law.specs.Waiting.{priority_of, waiting, chosen}
-use Rattle.hoare_law.proofs.Erasure.{turn-erased, outside-erased, priorities-erased, erased-push, chosen-erased, place_of-erased, priority_of-erased, waiting-erased}
+use Rattle.hoare_law.proofs.Erasure.{turn-erased, outside-erased, priorities-erased, erased-push, chosen-erased}
+use Rattle.hoare_law.proofs.Erasure.{place_of-erased, priority_of-erased, waiting-erased}
 use Rattle.hoare_law.proofs.Held.{handing}
 use Rattle.hoare_law.proofs.Priorities.{waiting-no_priority, priorities-nobody}
 use Rattle.hoare_law.proofs.Sorted.{in_order-in_order, map-in_order}
@@ -25,9 +27,12 @@ priorities_of [] = refl
 priorities_of (w ∷ ws) = ap (λ l. w.priority ∷ l) (priorities_of ws)
 
 module _ {D : Type 0} where
-  listed : (b : Contents) (h : History D) (c : ℕ) → IsOf b (erased h) → map (λ (w : Waiter). w.priority) (waiters_on c b) ≡ priorities h.events c
+  listed : (b : Contents) (h : History D) (c : ℕ) → IsOf b (erased h)
+      → map (λ (w : Waiter). w.priority) (waiters_on c b) ≡ priorities h.events c
   unfolding priorities
-  listed b h c o = sym (priorities_of (waiters_on c b)) ∙ ap (map priority_of) (o.waiters c) ∙ ap (λ q. q c) (priorities-erased h.events)
+  listed b h c o =
+      sym (priorities_of (waiters_on c b)) ∙ ap (map priority_of) (o.waiters c)
+      ∙ ap (λ q. q c) (priorities-erased h.events)
 
   -- the waiting priorities are in order
   in_order-priorities : (h : List (Event D)) (c : ℕ) → in_order (λ n. n) (priorities h c) ≡ priorities h c
@@ -44,39 +49,48 @@ module _ {D : Type 0} where
   turn-history b h o = sym o.turn_is ∙ turn-erased h.events
 
   -- the book's answer is who goes on
-  pub next-history : (b : Contents) (h : History D) (next : Next) → IsOf b (erased h) → next ≡ next_of b.turn → next ≡ next_of (turn h.events)
+  pub next-history : (b : Contents) (h : History D) (next : Next) → IsOf b (erased h) → next ≡ next_of b.turn
+      → next ≡ next_of (turn h.events)
   next-history b h next o is = is ∙ ap next_of (turn-history b h o)
 
   -- who is outside stands nowhere in the book
-  pub times_in-outside : (b : Contents) (h : History D) (k : ℕ) → IsOf b (erased h) → outside k h.events ≡ true → times_in k b ≡ 0
+  pub times_in-outside : (b : Contents) (h : History D) (k : ℕ) → IsOf b (erased h) → outside k h.events ≡ true
+      → times_in k b ≡ 0
   times_in-outside b h k o out = eqb-true (times_in k b) 0 (sym (o.outside_are k) ∙ outside-erased k h.events ∙ out)
 
   -- a book of the history without data, and one event more
-  pub IsOf-event : (b : Contents) (h : History D) (e : Event D) → IsOf b (with_event (erased h) (without_data e)) → IsOf b (erased (with_event h e))
+  pub IsOf-event : (b : Contents) (h : History D) (e : Event D) → IsOf b (with_event (erased h) (without_data e))
+      → IsOf b (erased (with_event h e))
   IsOf-event b h e o = subst (IsOf b) (sym (erased-push h e)) o
 
   -- so after the claim of the one who is owed the monitor, or who returns
-  pub IsOf-claim : (b : Contents) (h : History D) (t : Turn) (e : Event D) → turn h.events ≡ t → after_claim (erased h) t ≡ with_event (erased h) (without_data e)
+  pub IsOf-claim : (b : Contents) (h : History D) (t : Turn) (e : Event D) → turn h.events ≡ t
+      → after_claim (erased h) t ≡ with_event (erased h) (without_data e)
       → IsOf b (settled (erased h)) → IsOf b (erased (with_event h e))
-  IsOf-claim b h t e is adds o = IsOf-event b h e (subst (IsOf b) (ap (after_claim (erased h)) (turn-erased h.events ∙ is) ∙ adds) o)
+  IsOf-claim b h t e is adds o =
+      IsOf-event b h e (subst (IsOf b) (ap (after_claim (erased h)) (turn-erased h.events ∙ is) ∙ adds) o)
 
   -- and after a signal and a pass
-  pub IsOf-handing : (out : Bool) (b : Contents) (h : History D) (k c : ℕ) (x : Event D) (s : D) → chosen c h.events ≡ Some x
-      → IsOf b (after_handing out (erased h) k c (chosen c (erased h).events)) → IsOf b (erased (with_event h (handing out k c (place_of x) s)))
+  pub IsOf-handing : (out : Bool) (b : Contents) (h : History D) (k c : ℕ) (x : Event D) (s : D)
+      → chosen c h.events ≡ Some x
+      → IsOf b (after_handing out (erased h) k c (chosen c (erased h).events))
+      → IsOf b (erased (with_event h (handing out k c (place_of x) s)))
   IsOf-handing out b h k c x s is o = IsOf-event b h (handing out k c (place_of x) s) (subst (IsOf b)
       (ap (after_handing out (erased h) k c) (chosen-erased c h.events ∙ ap (option_map without_data) is)
       ∙ after_handing-some out (erased h) k c (place_of x) (without_data x) s (place_of-erased x)) o)
 
   -- and after a notify
   pub IsOf-notify : (b : Contents) (h : History D) (k c : ℕ) (x : Event D) (s : D) → chosen c h.events ≡ Some x
-      → IsOf b (after_notify (erased h) k c (chosen c (erased h).events)) → IsOf b (erased (with_event h (Notify k c (place_of x) s)))
+      → IsOf b (after_notify (erased h) k c (chosen c (erased h).events))
+      → IsOf b (erased (with_event h (Notify k c (place_of x) s)))
   IsOf-notify b h k c x s is o = IsOf-event b h (Notify k c (place_of x) s) (subst (IsOf b)
       (ap (after_notify (erased h) k c) (chosen-erased c h.events ∙ ap (option_map without_data) is)
       ∙ ap (λ j. with_event (erased h) (Notify k c j tt)) (place_of-erased x)) o)
 
   -- and after a broadcast
   pub IsOf-broadcast : (b : Contents) (h : History D) (k c : ℕ) (s : D) → waiting c h.events ≢ []
-      → IsOf b (after_broadcast (erased h) k c (waiting c (erased h).events)) → IsOf b (erased (with_event h (Broadcast k c s)))
+      → IsOf b (after_broadcast (erased h) k c (waiting c (erased h).events))
+      → IsOf b (erased (with_event h (Broadcast k c s)))
   IsOf-broadcast b h k c s some o = by (waiting c h.events) refl
     where
       by : (xs : List (Event D)) → waiting c h.events ≡ xs → IsOf b (erased (with_event h (Broadcast k c s)))
@@ -85,7 +99,8 @@ module _ {D : Type 0} where
           (ap (after_broadcast (erased h) k c) (waiting-erased c h.events ∙ ap (map without_data) is)) o)
 
   -- somebody waits where a priority stands
-  pub waits-listed : (b : Bool) (h : List (Event D)) (c : ℕ) → (IsTrue b → priorities h c ≢ []) × (priorities h c ≢ [] → IsTrue b)
+  pub waits-listed : (b : Bool) (h : List (Event D)) (c : ℕ)
+      → (IsTrue b → priorities h c ≢ []) × (priorities h c ≢ [] → IsTrue b)
       → (IsTrue b → waiting c h ≢ []) × (waiting c h ≢ [] → IsTrue b)
   waits-listed b h c told = (
     (λ is none. told.0 is (priorities-nobody c h none)),
@@ -99,7 +114,8 @@ module _ {D : Type 0} where
   -- the first priority is that of the chosen one
   pub first-history : (r : Option ℕ) (h : History D) (c : ℕ) → r ≡ option_map priority_of (chosen c (erased h).events)
       → r ≡ option_map priority_of (chosen c h.events)
-  first-history r h c is = is ∙ ap (option_map priority_of) (chosen-erased c h.events) ∙ kept_priority (chosen c h.events)
+  first-history r h c is =
+      is ∙ ap (option_map priority_of) (chosen-erased c h.events) ∙ kept_priority (chosen c h.events)
 
 -- no priority stands where none was told
 pub none-listed : (b : Bool) (q : List ℕ) → b ≡ false → (IsTrue b → q ≢ []) × (q ≢ [] → IsTrue b) → q ≡ []

@@ -1,5 +1,6 @@
 -- How nodes in a slab stand for lists.
-use Rattle.std.specs.Prelude.{ℕ, zero, suc, ◌≡◌, ◌≤◌, if◌then◌else◌, List, [], ◌∷◌, map, length, Option, Some, None, is_some, slice_index_or}
+use Rattle.std.specs.Prelude.{ℕ, zero, suc, ◌≡◌, ◌≤◌, if◌then◌else◌, List, [], ◌∷◌, map, length, Option, Some, None}
+use Rattle.std.specs.Prelude.{is_some, slice_index_or}
 use Rattle.slab.specs.Slab.{Slab, get, slab_len}
 use Rattle.wait_book.specs.declared.chains.TheConstants.{CHAINS}
 use Rattle.wait_book.specs.declared.chains.Node.{Node}
@@ -45,7 +46,8 @@ pub record AreChains (s : Slab Node) (chains : List Chain) (at : ℕ → List Li
 -- the node under a key and those behind it
 abbrev pub found : (Option ℕ → List Link) → ℕ → Option Node → List Link
 found behind k None = []
-found behind k (Some x) = record { key = k; place = x.place; condition = x.condition; priority = x.priority } ∷ behind x.next
+found behind k (Some x) =
+    record { key = k; place = x.place; condition = x.condition; priority = x.priority } ∷ behind x.next
 
 -- the nodes from a key on, n at most
 unfoldable pub walk : ℕ → Slab Node → Option ℕ → List Link

@@ -1,5 +1,6 @@
 -- What a book holds, and of which histories it is.
-use Rattle.std.specs.Prelude.{ℕ, ◌≡◌, ◌<◌, ◌+◌, ◌-◌, ◌==◌, nat_le, nat_lt, ◌&&◌, if◌then◌else◌, List, [], ◌∷◌, map, Option, Some, None, ⊤}
+use Rattle.std.specs.Prelude.{ℕ, ◌≡◌, ◌<◌, ◌+◌, ◌-◌, ◌==◌, nat_le, nat_lt, ◌&&◌, if◌then◌else◌, List, [], ◌∷◌, map}
+use Rattle.std.specs.Prelude.{Option, Some, None, ⊤}
 use Rattle.std.specs.List.{filter}
 use Rattle.hoare_law.specs.declared.event.Event.{Event}
 use Rattle.hoare_law.specs.declared.event.History.{History}
@@ -20,7 +21,8 @@ use Rattle.wait_book.specs.declared.steps.MakeRefused.{MakeRefused}
 use Rattle.wait_book.specs.declared.steps.MakeRefused.TheVariants.{BadPlaces, BadConditions}
 
 -- what a book holds: the sizes of its monitor, how many it has memory for to wait and
--- as waiting signallers (it may be one memory for both), who waits (on each condition by rising priority, equal ones by time), the
+-- as waiting signallers (it may be one memory for both), who waits (on each condition by rising priority, equal ones by
+-- time), the
 -- signallers (the longest waiting first), who was called (the first called first), and whose turn it is
 pub record Contents : Type 0 where
   pub sizes : Sizes
@@ -53,7 +55,8 @@ abbrev pub times : ℕ → List ℕ → ℕ
 times k [] = 0
 times k (j ∷ js) = one k j + times k js
 
--- how often place k has the turn by hand, where the first m conditions are Hoare's: it is inside, or was resumed (one that was
+-- how often place k has the turn by hand, where the first m conditions are Hoare's: it is inside, or was resumed (one
+-- that was
 -- called stands among the called until it goes on, as one that returns does among the signallers)
 abbrev pub times_in_hand : ℕ → ℕ → Turn → ℕ
 times_in_hand k m Free = 0
@@ -68,7 +71,8 @@ hoare_of b = b.sizes.conditions - b.sizes.mesa
 -- how often place k stands anywhere in the book
 abbrev pub times_in : ℕ → Contents → ℕ
 times_in k b =
-    times k (map (λ (w : Waiter). w.place) b.waiters) + (times k b.signallers + (times k (map (λ (w : Waiter). w.place) b.called) + times_in_hand k (hoare_of b) b.turn))
+    times k (map (λ (w : Waiter). w.place) b.waiters) +
+    (times k b.signallers + (times k (map (λ (w : Waiter). w.place) b.called) + times_in_hand k (hoare_of b) b.turn))
 
 -- the waiter as the event by which it began to wait
 abbrev pub wait_of : Waiter → Event (Unit {0})

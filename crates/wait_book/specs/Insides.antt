@@ -1,5 +1,6 @@
 -- How a book's fields stand for what it holds.
-use Rattle.std.specs.Prelude.{ℕ, ◌≡◌, ◌<◌, ◌≤◌, nat_lt, if◌then◌else◌, List, [], ◌∷◌, map, All, Option, Some, None, ⊤, ◌⊎◌}
+use Rattle.std.specs.Prelude.{ℕ, ◌≡◌, ◌<◌, ◌≤◌, nat_lt, if◌then◌else◌, List, [], ◌∷◌, map, All, Option, Some, None, ⊤}
+use Rattle.std.specs.Prelude.{◌⊎◌}
 use Rattle.hoare_law.specs.declared.turn.Turn.{Turn}
 use Rattle.hoare_law.specs.declared.turn.Turn.TheVariants.{Free, Held, Owed, Return}
 use Rattle.hoare_law.specs.Sizes.{IsMesa}
@@ -27,7 +28,8 @@ called_in xs = map waiter_of xs
 abbrev pub waiting_below : ℕ → (ℕ → List Link) → List Waiter
 waiting_below n at = all_below waiter_on n at
 
--- what the fields hold: the first chains are those of the conditions, then come that of the signallers and that of the called
+-- what the fields hold: the first chains are those of the conditions, then come that of the signallers and that of the
+-- called
 abbrev pub view_of : Inside → Contents
 view_of a = record {
   sizes = a.sizes;
@@ -59,7 +61,8 @@ IsTurnBeside us ws m (Owed k c) = (c < m) ⊎ IsCalledFirst k c ws
 IsTurnBeside [] ws m (Return k) = ⊥
 IsTurnBeside (u ∷ us) ws m (Return k) = u ≡ k
 
--- the sizes are in range, there is room for each place, each place stands once at most, those who wait on a condition stand
+-- the sizes are in range, there is room for each place, each place stands once at most, those who wait on a condition
+-- stand
 -- in order, and nobody waits on a condition that isn't the book's (`on_conditions`: no call asks for it; it says that a
 -- signal can reach everybody who waits), and whoever was called waited on a Mesa condition
 pub record IsSound (b : Contents) : Type 0 where

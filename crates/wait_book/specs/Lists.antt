@@ -1,5 +1,6 @@
 -- What a contract sees of the chains: the list of those in each.
-use Rattle.std.specs.Prelude.{ℕ, zero, suc, ◌≡◌, ◌==◌, All, nat_le, if◌then◌else◌, List, [], ◌∷◌, ◌++◌, map, length, Option, Some, None, slice_index_or}
+use Rattle.std.specs.Prelude.{ℕ, zero, suc, ◌≡◌, ◌==◌, All, nat_le, if◌then◌else◌, List, [], ◌∷◌, ◌++◌, map, length}
+use Rattle.std.specs.Prelude.{Option, Some, None, slice_index_or}
 use Rattle.wait_book.specs.declared.chains.TheConstants.{CALLED, CHAINS}
 use Rattle.wait_book.specs.declared.chains.Link.{Link}
 
@@ -72,7 +73,8 @@ list_put c xs at d = if d == c then xs else at d
 pub record IsPut (c : ℕ) (before after : List Link) (place condition priority : ℕ) (old new : Lists) : Type 0 where
   pub key : ℕ
   pub lists : (d : ℕ) → list_at new d
-      ≡ list_put c (before ++ record { key = key; place = place; condition = condition; priority = priority } ∷ after) (list_at old) d
+      ≡ list_put c (before ++ record { key = key; place = place; condition = condition; priority = priority } ∷ after)
+      (list_at old) d
   pub room : new.room ≡ old.room
 
 -- the first of chain c, a place, is taken out

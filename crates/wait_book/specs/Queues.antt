@@ -10,7 +10,8 @@ pub record PutsIn (w : Waiter) (old new : List Waiter) : Type 0 where
   pub on : (c : ℕ) → filter (λ (v : Waiter). v.condition == c) new
       ≡ (if w.condition == c then put_in (λ (v : Waiter). v.priority) w (filter (λ (v : Waiter). v.condition == c) old)
       else filter (λ (v : Waiter). v.condition == c) old)
-  pub more : (k : ℕ) → times k (map (λ (v : Waiter). v.place) new) ≡ times k (map (λ (v : Waiter). v.place) old) + one k w.place
+  pub more : (k : ℕ)
+      → times k (map (λ (v : Waiter). v.place) new) ≡ times k (map (λ (v : Waiter). v.place) old) + one k w.place
 
 -- the first on c is taken out of a list, and its place is k
 pub record TakesFirst (c : ℕ) (old new : List Waiter) (k : ℕ) : Type 0 where
@@ -25,5 +26,6 @@ pub record TakesFirst (c : ℕ) (old new : List Waiter) (k : ℕ) : Type 0 where
 
 -- all on c are taken out of a list, and the others stay as they were
 pub record TakesAll (c : ℕ) (old new : List Waiter) : Type 0 where
-  pub on : (d : ℕ) → filter (λ (w : Waiter). w.condition == d) new ≡ (if d == c then [] else filter (λ (w : Waiter). w.condition == d) old)
+  pub on : (d : ℕ)
+      → filter (λ (w : Waiter). w.condition == d) new ≡ (if d == c then [] else filter (λ (w : Waiter). w.condition == d) old)
   pub is : new ≡ filter (λ (w : Waiter). not (w.condition == c)) old

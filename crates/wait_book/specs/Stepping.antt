@@ -1,5 +1,6 @@
 -- What one step does to a history, and when it is refused.
-use Rattle.std.specs.Prelude.{ℕ, ◌==◌, ◌-◌, nat_lt, List, [], ◌∷◌, Bool, true, false, if◌then◌else◌, Option, Some, None, ⊤}
+use Rattle.std.specs.Prelude.{ℕ, ◌==◌, ◌-◌, nat_lt, List, [], ◌∷◌, Bool, true, false, if◌then◌else◌, Option, Some, None}
+use Rattle.std.specs.Prelude.{⊤}
 use Rattle.hoare_law.specs.declared.event.Event.{Event}
 use Rattle.hoare_law.specs.declared.event.History.{History}
 use Rattle.hoare_law.specs.declared.event.Event.TheVariants as event
@@ -12,7 +13,8 @@ use Rattle.hoare_law.specs.Turns.{turn, outside}
 use Rattle.wait_book.specs.declared.steps.Step.{Step}
 use Rattle.wait_book.specs.declared.steps.Step.TheVariants.{Enter, Wait, Signal, Pass, Leave, Notify, Broadcast}
 use Rattle.wait_book.specs.declared.steps.StepRefused.{StepRefused}
-use Rattle.wait_book.specs.declared.steps.StepRefused.TheVariants.{NoPlace, NotFree, NotOutside, NotInside, NoCondition, WrongKind}
+use Rattle.wait_book.specs.declared.steps.StepRefused.TheVariants.{NoPlace, NotFree, NotOutside, NotInside, NoCondition}
+use Rattle.wait_book.specs.declared.steps.StepRefused.TheVariants.{WrongKind}
 use Rattle.wait_book.specs.declared.steps.Next.{Next}
 use Rattle.wait_book.specs.declared.steps.Next.TheVariants as next
 
@@ -94,7 +96,8 @@ after_claim h (Return k) = with_event h (event.Back k tt)
 abbrev pub settled : History (Unit {0}) → History (Unit {0})
 settled h = after_claim h (turn h.events)
 
--- the step, and whoever is then owed the monitor goes on (behind a notify and a broadcast nobody is: the caller stays inside)
+-- the step, and whoever is then owed the monitor goes on (behind a notify and a broadcast nobody is: the caller stays
+-- inside)
 abbrev pub after_step : History (Unit {0}) → Step → History (Unit {0})
 after_step h (Enter k) = with_event h (event.Admit k tt)
 after_step h (Wait k c p) = settled (with_event h (event.Wait k c p tt))

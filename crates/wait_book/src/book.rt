@@ -3,9 +3,7 @@ mod stepping;
 mod waits;
 
 use crate::chains::{CALLED, Chains, SIGNALLERS};
-use crate::queues::{
-    chain_of, first_place, first_priority, is_in_hand, number_called, turn_given_up,
-};
+use crate::queues::{chain_of, first_priority, is_in_hand, number_called, turn_given_up};
 use crate::steps::{MakeRefused, Next};
 use hoare_law::event::Sizes;
 use hoare_law::turn::Turn;
@@ -58,7 +56,7 @@ impl Book {
     ghost use Rattle.hoare_law.specs.declared.event.History.{History};
     ghost use Rattle.hoare_law.specs.declared.event.Event.TheVariants as event;
     ghost use Rattle.hoare_law.specs.declared.turn.Turn.TheVariants as turns;
-    ghost use Rattle.hoare_law.specs.Events.{opened, place_of, with_event};
+    ghost use Rattle.hoare_law.specs.Events.{opened, with_event};
     ghost use Rattle.hoare_law.specs.Waiting.{waiting, chosen, priority_of};
     ghost use Rattle.hoare_law.specs.Turns.{turn, outside};
     ghost use Rattle.hoare_law.specs.Sizes.{IsHoare, IsMesa, sizes_of};
@@ -154,15 +152,6 @@ impl Book {
             → result ≡ option_map priority_of (chosen condition h.events) }
     {
         first_priority(&self.chains, condition)
-    }
-
-    /// The place of the process that a signal on a condition would resume, or a notify call, if somebody waits there.
-    pub fn chosen(&self, condition: usize) -> Option<usize>
-        requires { condition < self.now.sizes.conditions }
-        ensures of { (h : History (Unit {0})) → IsOf self.now h
-            → result ≡ option_map place_of (chosen condition h.events) }
-    {
-        first_place(&self.chains, condition)
     }
 
     /// The number of a place among those that were called and haven't gone on yet: 1 of the one that goes on first, and 0 of a

@@ -36,15 +36,6 @@ pub(crate) fn first_priority(chains: &Chains, condition: usize) -> Option<u64>
     chains.first(condition).map(|link| link.priority)
 }
 
-/// The place of the first that waits on a condition.
-pub(crate) fn first_place(chains: &Chains, condition: usize) -> Option<usize>
-    requires { condition < CHAINS }
-    ensures { result ≡ option_map (λ (x : Link). x.place)
-        (first_link (list_at chains.now condition)) }
-{
-    chains.first(condition).map(|link| link.place)
-}
-
 /// The priority of the `i`-th that waits on a condition, counted from 0.
 pub(crate) fn nth_priority(chains: &Chains, condition: usize, i: usize) -> Option<u64>
     requires { condition < CHAINS }

@@ -17,4 +17,5 @@ returns-in-Some-rest-2 c =
     (words_of-next c.args.line.now w1 c.first_word.result.1 r1 c.first_word.ensures c.in_ok-rest.was
     ∙ ap (λ x. w1.now ∷ x) (words_of-next r1.now w2 c.first_word-2.result.1 r2 c.first_word-2.ensures c.in-Some.is
     ∙ ap (λ x. w2.now ∷ x) (words_of-next r2.now w3 c.first_word-3.result.1 r3 c.first_word-3.ensures c.in-Some-rest.is
-    ∙ ap (λ x. w3.now ∷ x) (words_of-next r3.now w4 c.first_word-4.result.1 r4 c.first_word-4.ensures c.in-Some-rest-2.is))))
+    ∙ ap (λ x. w3.now ∷ x)
+    (words_of-next r3.now w4 c.first_word-4.result.1 r4 c.first_word-4.ensures c.in-Some-rest-2.is))))

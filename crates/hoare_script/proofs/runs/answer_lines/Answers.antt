@@ -33,33 +33,39 @@ lines-init g c =
 pub returns-in-Err-Failed-clause-told : goal.returns-in-Err-Failed-clause-told
 returns-in-Err-Failed-clause-told g c =
     let e = c.in-Err-Failed.ensures in
-    running.exit_failed c.lines.invariant.goes (g.R.Read.remaining (reader_inside c.read_line.new.reader)) c.read_line.new.line.items
+    running.exit_failed c.lines.invariant.goes
+    (g.R.Read.remaining (reader_inside c.read_line.new.reader)) c.read_line.new.line.items
     e.one e.short e.within c.in-Err-Failed.field-0 c.in-Err-Failed.field-0-is e.known
 
 pub returns-in-Err-TooLong-clause-told : goal.returns-in-Err-TooLong-clause-told
 returns-in-Err-TooLong-clause-told g c =
     let e = c.in-Err-TooLong.ensures in
-    running.exit_long c.lines.invariant.goes (g.R.Read.remaining (reader_inside c.read_line.new.reader)) c.read_line.new.line.items
+    running.exit_long c.lines.invariant.goes
+    (g.R.Read.remaining (reader_inside c.read_line.new.reader)) c.read_line.new.line.items
     e.one e.short e.within c.in-Err-TooLong.field-0 c.in-Err-TooLong.field-0-is e.known e.fits
 
 pub returns-in-Err-TooMuch-clause-told : goal.returns-in-Err-TooMuch-clause-told
 returns-in-Err-TooMuch-clause-told g c =
     let e = c.in-Err-TooMuch.ensures in
-    running.exit_much c.lines.invariant.goes (g.R.Read.remaining (reader_inside c.read_line.new.reader)) c.read_line.new.line.items
+    running.exit_much c.lines.invariant.goes
+    (g.R.Read.remaining (reader_inside c.read_line.new.reader)) c.read_line.new.line.items
     e.one e.short e.within c.in-Err-TooMuch.field-0 c.in-Err-TooMuch.field-0-is e.known e.fits
 
 pub returns-in-Ok-Last-clause-told : goal.returns-in-Ok-Last-clause-told
 returns-in-Ok-Last-clause-told g c =
     let e = c.in-Ok-Last.ensures in
-    running.exit_end c.lines.invariant.goes (g.R.Read.remaining (reader_inside c.read_line.new.reader)) c.read_line.new.line.items
+    running.exit_end c.lines.invariant.goes
+    (g.R.Read.remaining (reader_inside c.read_line.new.reader)) c.read_line.new.line.items
     e.one e.short e.within c.end_before.result c.in-Ok-Last.field-0 c.in-Ok-Last.field-0-is e.known
     (nil_from_length c.read_line.new.line.items (grind (arith, nat_tests, c.is_empty.ensures, c.if-is_empty.true))) c.end_before.ensures.value
 
 pub returns-in-Ok-Last-2-clause-told : goal.returns-in-Ok-Last-2-clause-told
 returns-in-Ok-Last-2-clause-told g c =
     let e = c.in-Ok-Last.ensures in
-    running.exit_last c.lines.invariant.goes (g.R.Read.remaining (reader_inside c.read_line.new.reader)) c.read_line.new.line.items
-    e.one e.short e.within (g.W.Write.contents (writer_inside c.one_line.new.writer)) c.one_line.new.opened c.one_line.result
+    running.exit_last c.lines.invariant.goes
+    (g.R.Read.remaining (reader_inside c.read_line.new.reader)) c.read_line.new.line.items
+    e.one e.short e.within
+    (g.W.Write.contents (writer_inside c.one_line.new.writer)) c.one_line.new.opened c.one_line.result
     c.in-Ok-Last.field-0 _ c.in-Ok-Last.field-0-is c.as_slice.ensures.value e.known
     (λ z. absurd (grind (arith, nat_tests, c.is_empty.ensures, c.if-is_empty.false, ap length z)))
     c.one_line.ensures.of c.one_line.ensures.memory
@@ -67,7 +73,8 @@ returns-in-Ok-Last-2-clause-told g c =
 pub returns-in-Err-clause-told : goal.returns-in-Err-clause-told
 returns-in-Err-clause-told g c =
     let e = c.in-Ok-Line.ensures in
-    running.exit_fault c.lines.invariant.goes (g.R.Read.remaining (reader_inside c.read_line.new.reader)) c.read_line.new.line.items
+    running.exit_fault c.lines.invariant.goes
+    (g.R.Read.remaining (reader_inside c.read_line.new.reader)) c.read_line.new.line.items
     e.one e.short e.within (g.W.Write.contents (writer_inside c.one_line-in-Ok-Line.new.writer)) c.in-Err.fault
     c.in-Ok-Line.field-0 _ c.in-Ok-Line.field-0-is c.as_slice-in-Ok-Line.ensures.value e.known
     (line_room c.lines.room c.read_line.new.line.items c.in-Ok-Line.field-0 c.in-Ok-Line.field-0-is e.fits)
@@ -80,8 +87,11 @@ lines-preserved g c =
     line_room c.lines.room c.read_line.new.line.items c.in-Ok-Line.field-0 c.in-Ok-Line.field-0-is e.fits in
     record {
       numbered = omega (arith, c.len.ensures.value, room);
-      goes = running.next_line c.lines.invariant.goes (g.R.Read.remaining (reader_inside c.read_line.new.reader)) c.read_line.new.line.items
-          e.one e.short e.within (g.W.Write.contents (writer_inside c.one_line-in-Ok-Line.new.writer)) c.one_line-in-Ok-Line.new.opened
+      goes =
+          running.next_line c.lines.invariant.goes
+          (g.R.Read.remaining (reader_inside c.read_line.new.reader)) c.read_line.new.line.items
+          e.one e.short e.within
+          (g.W.Write.contents (writer_inside c.one_line-in-Ok-Line.new.writer)) c.one_line-in-Ok-Line.new.opened
           c.in-Ok-Line.field-0 _ c.len.result c.in-Ok-Line.field-0-is c.as_slice-in-Ok-Line.ensures.value c.len.ensures.value
           c.in_default.ensures.opened e.known room c.in_default.ensures.of;
       calls = omega (arith, c.len.ensures.value, room, e.counts.0, c.lines.invariant.calls);

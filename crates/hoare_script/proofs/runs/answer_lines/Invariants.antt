@@ -1,5 +1,6 @@
 use Rattle.std.proofs.Common.{◌≡◌, ◌+◌, ◌≤◌}
-use Rattle.line_text.specs.Streams.{bytes_given, has_read_failed, has_write_failed, read_calls, reader_inside, reader_name, writer_inside, writer_name}
+use Rattle.line_text.specs.Streams.{bytes_given, has_read_failed, has_write_failed, read_calls, reader_inside}
+use Rattle.line_text.specs.Streams.{reader_name, writer_inside, writer_name}
 use Rattle.hoare_script.specs.declared.runs.TheConstants.{MOST_BYTES}
 use Rattle.hoare_script.proofs.Running.{Known}
 use Rattle.hoare_script.proofs.runs.answer_lines.Given as goal
@@ -8,7 +9,8 @@ abbrev pub invariant-lines : goal.invariant-lines
 invariant-lines g l = record {
   numbered : l.number + l.room ≤ MOST_BYTES + 1;
   goes : Known (g.R.Read.remaining (reader_inside l.initial.reader)) (g.R.Read.remaining (reader_inside l.reader))
-      (g.W.Write.contents (writer_inside l.initial.writer)) (g.W.Write.contents (writer_inside l.writer)) l.number l.room l.opened;
+      (g.W.Write.contents (writer_inside l.initial.writer))
+      (g.W.Write.contents (writer_inside l.writer)) l.number l.room l.opened;
   calls : read_calls l.reader + l.room ≤ read_calls l.initial.reader + MOST_BYTES;
   bytes : bytes_given l.reader + l.room ≤ bytes_given l.initial.reader + MOST_BYTES;
   same_reader : reader_name l.reader ≡ reader_name l.initial.reader;

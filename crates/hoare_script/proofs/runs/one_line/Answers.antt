@@ -12,10 +12,12 @@ returns-in-Some-clause-of g c = λ s st.
 
 pub returns-in-Ok-clause-of : goal.returns-in-Ok-clause-of
 returns-in-Ok-clause-of g c = λ s st.
-    one_line-header c.in-Ok.monitor c.args.number c.args.line.now (g.W.Write.contents (writer_inside c.args.writer.now)) c.in-Ok.ensures s
+    one_line-header c.in-Ok.monitor c.args.number c.args.line.now
+    (g.W.Write.contents (writer_inside c.args.writer.now)) c.in-Ok.ensures s
     (subst (λ (b : Option Contents). IsAt b s) c.in-None.is st)
 
 pub returns-in-Err-clause-of : goal.returns-in-Err-clause-of
 returns-in-Err-clause-of g c = λ s st.
-    one_line-no_header c.args.number c.args.line.now (g.W.Write.contents (writer_inside c.args.writer.now)) c.in-Err.fault c.in-Err.ensures s
+    one_line-no_header c.args.number c.args.line.now
+    (g.W.Write.contents (writer_inside c.args.writer.now)) c.in-Err.fault c.in-Err.ensures s
     (subst (λ (b : Option Contents). IsAt b s) c.in-None.is st)

@@ -1,24 +1,21 @@
-//! A book with its numbers, by which its calls are made where they may be.
+//! A book with its sizes, by which its calls are made where they may be.
 ghost use Rattle.std.specs.Prelude.{◌≡◌, IfSome};
 ghost use Rattle.hoare_law.specs.declared.turn.Turn.TheVariants as turns;
-ghost use Rattle.hoare_law.specs.Kinds.{IsMesa};
+ghost use Rattle.hoare_law.specs.Sizes.{IsMesa};
 
 use crate::tests::past::event::Event;
+use hoare_law::event::Sizes;
 use hoare_law::waits::Waits;
 use std::alloc::Global;
 use wait_book::book::Book;
 use wait_book::steps::{MakeRefused, Next, Step, StepRefused};
 
-/// A book with its numbers of places, conditions and Mesa conditions.
+/// A book with the sizes of its monitor.
 #[derive(Drop)]
 pub struct SizedBook {
     book: Book,
-    places: usize,
-    conditions: usize,
-    mesa: usize,
-    ghost places_are: { places ≡ book.places },
-    ghost conditions_are: { conditions ≡ book.conditions },
-    ghost mesa_are: { mesa ≡ book.mesa },
+    sizes: Sizes,
+    ghost sizes_are: { sizes ≡ book.sizes },
 }
 
 impl SizedBook {
@@ -32,9 +29,11 @@ impl SizedBook {
         match Book::make(alloc, places, conditions, mesa) {
             Ok(book) => Ok(SizedBook {
                 book,
-                places,
-                conditions,
-                mesa,
+                sizes: Sizes {
+                    places,
+                    conditions,
+                    mesa,
+                },
             }),
             Err(refused) => Err(refused),
         }
@@ -47,16 +46,18 @@ impl SizedBook {
 
     /// Whether a place is outside.
     pub fn outside(&self, place: usize) -> bool {
-        place < self.places && self.book.outside(place)
+        place < self.sizes.places && self.book.outside(place)
     }
 
     // The place inside and the Mesa condition, if these are their numbers.
     fn caller(&self, place: u64, condition: u64) -> Option<(usize, usize)>
         ensures { IfSome result (λ r. (self.now.book.turn ≡ turns.Held r.0)
-            × IsMesa self.now.book.conditions self.now.book.mesa r.1) }
+            × IsMesa self.now.book.sizes.conditions self.now.book.sizes.mesa r.1) }
     {
         let (place, condition) = (place as usize, condition as usize);
-        if condition >= self.conditions || self.conditions - condition > self.mesa {
+        if condition >= self.sizes.conditions
+            || self.sizes.conditions - condition > self.sizes.mesa
+        {
             return None;
         }
         match self.book.now() {
@@ -93,13 +94,12 @@ impl SizedBook {
 
     /// Whether these wait on a condition, in the order in which signals would resume them.
     pub fn has_waiting(&self, condition: usize, waits: &[Event]) -> bool {
-        if condition >= self.conditions || self.book.count(condition) != waits.len() {
+        if condition >= self.sizes.conditions || self.book.count(condition) != waits.len() {
             return false;
         }
         let first = waits.first().copied();
         self.book.queue(condition) == first.is_some()
             && self.book.first(condition) == first.map(Event::priority)
-            && self.book.chosen(condition) == first.map(Event::place)
             && self.has_priorities(condition, waits)
     }
 

@@ -8,4 +8,5 @@ returns-in-Some c = λ before to linked last.
     closes-next c.args.nodes.now c.in-Some.key to c.index.result.now there c.index.ensures
 
 pub returns-in-None : goal.returns-in-None
-returns-in-None c = λ before to linked last. linked_nothing c.args.nodes.now c.args.first before to (sym last ∙ c.in-None.is) linked
+returns-in-None c =
+    λ before to linked last. linked_nothing c.args.nodes.now c.args.first before to (sym last ∙ c.in-None.is) linked

@@ -7,11 +7,13 @@ use Rattle.wait_book.proofs.Sound.{hand_hoare, hand_mesa}
 use Rattle.wait_book.proofs.queues.is_in_hand.Goals as goal
 
 pub returns-in-Held : goal.returns-in-Held
-returns-in-Held c = times.other c.args.place c.in-Held.k ∙ sym (ap (λ t. times_in_hand c.args.place c.args.hoare t == 0) c.in-Held.is)
+returns-in-Held c =
+    times.other c.args.place c.in-Held.k ∙ sym (ap (λ t. times_in_hand c.args.place c.args.hoare t == 0) c.in-Held.is)
 
 pub returns-then-c-hoare : goal.returns-then-c-hoare
 returns-then-c-hoare c =
-    times.other c.args.place c.in-Owed.k ∙ sym (ap (λ n. n == 0) (hand_hoare c.args.place c.in-Owed.k c.in-Owed.c c.args.hoare (omega arith)))
+    times.other c.args.place c.in-Owed.k
+    ∙ sym (ap (λ n. n == 0) (hand_hoare c.args.place c.in-Owed.k c.in-Owed.c c.args.hoare (omega arith)))
     ∙ sym (ap (λ t. times_in_hand c.args.place c.args.hoare t == 0) c.in-Owed.is)
 
 pub returns-else-c-hoare : goal.returns-else-c-hoare

@@ -5,7 +5,8 @@ use Rattle.hoare_script.proofs.opened.Opened.queue.Goals as goal
 
 pub returns-then-condition-self : goal.returns-then-condition-self
 returns-then-condition-self c = λ h o.
-    answer_to-Queue_refused c.self.inside.book h c.args.condition (subst (λ (b : Contents). IsOf b h) (sym c.self.view_is) o)
+    answer_to-Queue_refused c.self.inside.book h c.args.condition
+    (subst (λ (b : Contents). IsOf b h) (sym c.self.view_is) o)
     (subst (λ (n : ℕ). n ≤ c.args.condition) c.self.invariant c.if-condition-self.true)
 
 pub returns : goal.returns

@@ -18,7 +18,8 @@ invariant_of-self c =
     let b : Contents = view_of c.self.inside in
     let k : ℕ = c.args.place in
     let owed = ap (λ (v : Contents). next_of v.turn) c.self.view_is ∙ c.requires in
-    let all : IsSound (sound.claimed (chain_of b.turn (hoare_of b)) k b) = sound.claimed_sound b.turn b k refl owed c.self.invariant in
+    let all : IsSound (sound.claimed (chain_of b.turn (hoare_of b)) k b) =
+    sound.claimed_sound b.turn b k refl owed c.self.invariant in
     elim c.match-chain_of.branch [
       | in-Some w ↦
           let is : chain_of b.turn (hoare_of b) ≡ Some w.in-Some.chain = sym c.chain_of.ensures ∙ w.in-Some.is in
@@ -37,7 +38,8 @@ returns-clause-of c = λ h o.
     let k : ℕ = c.args.place in
     let owed = ap (λ (v : Contents). next_of v.turn) c.self.view_is ∙ c.requires in
     let was : IsOf b h = histories.IsOf-same _ b h (sym c.self.view_is) o in
-    let all : IsOf (sound.claimed (chain_of b.turn (hoare_of b)) k b) (settled h) = histories.claimed_of b.turn b k h refl owed c.self.invariant was in
+    let all : IsOf (sound.claimed (chain_of b.turn (hoare_of b)) k b) (settled h) =
+    histories.claimed_of b.turn b k h refl owed c.self.invariant was in
     elim c.match-chain_of.branch [
       | in-Some w ↦
           let is : chain_of b.turn (hoare_of b) ≡ Some w.in-Some.chain = sym c.chain_of.ensures ∙ w.in-Some.is in
@@ -59,7 +61,8 @@ returns-clause-priorities c = λ d.
     elim c.match-chain_of.branch [
       | in-Some w ↦
           let is : chain_of b.turn (hoare_of b) ≡ Some w.in-Some.chain = sym c.chain_of.ensures ∙ w.in-Some.is in
-          subst (λ (i : Inside). priorities_on (sound.admitted k (view_of i)) d ≡ priorities_on c.args.self.now d) (sym w.self-inside-is)
+          subst (λ (i : Inside). priorities_on (sound.admitted k (view_of i)) d ≡ priorities_on c.args.self.now d)
+          (sym w.self-inside-is)
           (ap (λ (v : Contents). priorities_on v d)
           (sym (claimed-chain w.in-Some.chain k c.self.inside w.take_first.new.self w.take_first.result (chain_of-fits b.turn (hoare_of b) w.in-Some.chain is) w.take_first.ensures))
           ∙ claimed-priorities (Some w.in-Some.chain) k d b ∙ before)

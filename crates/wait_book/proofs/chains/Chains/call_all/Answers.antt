@@ -17,7 +17,8 @@ returns-in_default c =
 pub set_next-first-requires : goal.set_next-first-requires
 set_next-first-requires c =
     let i = AreChains-equal c.self.view_is c.self.invariant.are in
-    behind-contains c.self.inside.nodes _ (list_at c.args.self.now CALLED) _ _ (i.linked CALLED).last (i.linked CALLED).linked
+    behind-contains c.self.inside.nodes _ (list_at c.args.self.now CALLED) _ _ (i.linked CALLED).last
+    (i.linked CALLED).linked
 
 pub invariant_of-self : goal.invariant_of-self
 invariant_of-self c =

@@ -11,4 +11,5 @@ link-requires-clause-behind c =
 pub returns : goal.returns
 returns c =
     let list = list_at c.args.self.now c.args.chain in
-    c.link.ensures (lower c.args.priority list) (higher c.args.priority list) (sym (lower-higher c.args.priority list)) c.behind-behind.ensures
+    c.link.ensures (lower c.args.priority list) (higher c.args.priority list)
+    (sym (lower-higher c.args.priority list)) c.behind-behind.ensures

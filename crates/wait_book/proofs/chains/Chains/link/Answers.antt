@@ -3,7 +3,8 @@ use Rattle.wait_book.specs.declared.chains.Link.{Link}
 use Rattle.wait_book.specs.Lists.{Lists}
 use Rattle.wait_book.specs.Chains.{chain_at}
 use Rattle.wait_book.proofs.Nodes.{behind-contains}
-use Rattle.wait_book.proofs.Chained.{AreChains-equal, AreChains-seen, AreChains-linked, Linking, cut, cut-stored, lists_are}
+use Rattle.wait_book.proofs.Chained.{AreChains-equal, AreChains-seen, AreChains-linked, Linking, cut, cut-stored}
+use Rattle.wait_book.proofs.Chained.{lists_are}
 use Rattle.wait_book.proofs.Marks.{AreMarked-equal, AreMarked-put}
 use Rattle.wait_book.proofs.Kept.{AreKept-equal, AreKept-put}
 use Rattle.wait_book.proofs.chains.Chains.link.Goals as goal
@@ -31,7 +32,8 @@ invariant_of-self c =
     let stored = c.insert_reserved-key.ensures in
     let put = c.set_next-first.ensures in
     let first = (chain_at c.self.inside.chains c.args.chain).first in
-    let x : Link = record { key = c.insert_reserved-key.result; place = c.args.place; condition = c.args.condition; priority = c.args.priority } in
+    let x : Link =
+    record { key = c.insert_reserved-key.result; place = c.args.place; condition = c.args.condition; priority = c.args.priority } in
     let linking : Linking c.self.inside.nodes c.insert_reserved-key.new.self c.set_next-first.new.nodes first c.args.behind c.next_of-next.result c.set_next-first.result x = record {
       vacant = stored.was_vacant;
       stored = stored.updates;
@@ -40,7 +42,8 @@ invariant_of-self c =
       held_on = put.held;
       longer = put.len ∙ stored.len;
     } in
-    let are = AreChains-linked c.args.chain b.0 b.1 i c.requires.chain linking c.last_after-last.ensures c.next_of-next.ensures b.2 b.3 in
+    let are =
+    AreChains-linked c.args.chain b.0 b.1 i c.requires.chain linking c.last_after-last.ensures c.next_of-next.ensures b.2 b.3 in
     let marks = AreMarked-equal c.self.view_is c.self.invariant.places in
     record {
       are = AreChains-seen are;
@@ -54,7 +57,8 @@ returns c = λ before after is e.
     let stored = c.insert_reserved-key.ensures in
     let put = c.set_next-first.ensures in
     let first = (chain_at c.self.inside.chains c.args.chain).first in
-    let x : Link = record { key = c.insert_reserved-key.result; place = c.args.place; condition = c.args.condition; priority = c.args.priority } in
+    let x : Link =
+    record { key = c.insert_reserved-key.result; place = c.args.place; condition = c.args.condition; priority = c.args.priority } in
     let linking : Linking c.self.inside.nodes c.insert_reserved-key.new.self c.set_next-first.new.nodes first c.args.behind c.next_of-next.result c.set_next-first.result x = record {
       vacant = stored.was_vacant;
       stored = stored.updates;

@@ -9,4 +9,5 @@ invariant_of-result c =
     record { are = AreChains-seen are; places = AreMarked-none (lists_are are); kept = AreKept-none _ (lists_are are) }
 
 pub returns-clause-empty : goal.returns-clause-empty
-returns-clause-empty c = λ d. lists_are (AreChains-none c.in_ok-with_capacity.field-0 c.in_ok-with_capacity.ensures.empty) d
+returns-clause-empty c =
+    λ d. lists_are (AreChains-none c.in_ok-with_capacity.field-0 c.in_ok-with_capacity.ensures.empty) d

@@ -9,7 +9,9 @@ use Rattle.wait_book.proofs.chains.Chains.take_first.Goals as goal
 pub returns-in_err-first : goal.returns-in_err-first
 returns-in_err-first c =
     let i = AreChains-equal c.self.view_is c.self.invariant.are in
-    let none = linked_none c.self.inside.nodes _ (list_at c.args.self.now c.args.chain) c.in_err-first.was (i.linked c.args.chain).linked in
+    let none =
+    linked_none c.self.inside.nodes _ (list_at c.args.self.now c.args.chain) c.in_err-first.was
+    (i.linked c.args.chain).linked in
     rw c.from_residual.ensures (none, c.self.view_is)
 
 pub remove-node-requires : goal.remove-node-requires
@@ -17,21 +19,24 @@ remove-node-requires c =
     let i = AreChains-equal c.self.view_is c.self.invariant.are in
     let s = c.self.inside.nodes in
     let list = list_at c.args.self.now c.args.chain in
-    opens-contains s c.in_ok-first.field-0 list (opens s _ c.in_ok-first.field-0 list c.in_ok-first.was (i.linked c.args.chain).linked)
+    opens-contains s c.in_ok-first.field-0 list
+    (opens s _ c.in_ok-first.field-0 list c.in_ok-first.was (i.linked c.args.chain).linked)
 
 pub bounds-self-inside-node : goal.bounds-self-inside-node
 bounds-self-inside-node c =
     let i = AreChains-equal c.self.view_is c.self.invariant.are in
     let node = c.remove-node.ensures in
     let t = takes c.args.chain c.in_ok-first.field-0 c.remove-node.result i c.in_ok-first.was node.value node.updates in
-    omega (arith, t.place, first_within c.args.chain t.first t.after (AreMarked-equal c.self.view_is c.self.invariant.places) c.requires t.is)
+    omega
+    (arith, t.place, first_within c.args.chain t.first t.after (AreMarked-equal c.self.view_is c.self.invariant.places) c.requires t.is)
 
 pub invariant_of-self-2 : goal.invariant_of-self-2
 invariant_of-self-2 c =
     let i = AreChains-equal c.self.view_is c.self.invariant.are in
     let node = c.remove-node.ensures in
     let t = takes c.args.chain c.in_ok-first.field-0 c.remove-node.result i c.in_ok-first.was node.value node.updates in
-    let are = AreChains-taken c.args.chain c.in_ok-first.field-0 c.remove-node.result c.move_on.ensures.first c.move_on.ensures.last i c.requires t node.len in
+    let are =
+    AreChains-taken c.args.chain c.in_ok-first.field-0 c.remove-node.result c.move_on.ensures.first c.move_on.ensures.last i c.requires t node.len in
     let marks = AreMarked-equal c.self.view_is c.self.invariant.places in
     record {
       are = AreChains-seen are;

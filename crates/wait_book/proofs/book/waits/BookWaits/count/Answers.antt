@@ -12,7 +12,8 @@ pub on-requires : goal.on-requires
 on-requires c = omega (arith, c.self.invariant.few_conditions)
 
 pub returns-then-condition-self-clause-of : goal.returns-then-condition-self-clause-of
-returns-then-condition-self-clause-of c = λ h o. priorities.priorities_on-history h c.args.condition c.self.view_is c.self.invariant o
+returns-then-condition-self-clause-of c =
+    λ h o. priorities.priorities_on-history h c.args.condition c.self.view_is c.self.invariant o
 
 pub count-requires-clause-fits : goal.count-requires-clause-fits
 count-requires-clause-fits c =

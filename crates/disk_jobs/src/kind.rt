@@ -1,7 +1,7 @@
 //! Which monitors the service stands on.
 ghost use Rattle.std.specs.Prelude.{◌≡◌, map};
 ghost use Rattle.std.specs.String.{string_bytes};
-ghost use Rattle.disk_jobs.specs.Sizes.{kind_named, kind_of_words};
+ghost use Rattle.disk_jobs.specs.Kinds.{kind_named, kind_of_words};
 
 /// The monitors of the service.
 #[derive(Clone, Copy, Debug, PartialEq, Eq)]

@@ -8,7 +8,7 @@ mod tests;
 ghost use Rattle.std.specs.Prelude.{◌≡◌, map, ok_or};
 ghost use Rattle.std.specs.Process.{exit_status};
 ghost use Rattle.std.specs.String.{string_bytes};
-ghost use Rattle.disk_jobs.specs.Sizes.{kind_of_words};
+ghost use Rattle.disk_jobs.specs.Kinds.{kind_of_words};
 ghost use Rattle.disk_program.specs.declared.no_report.NoReport.TheVariants.{Usage};
 ghost use Rattle.disk_program.specs.Statuses.{status_after};
 

@@ -4,15 +4,16 @@ use Rattle.std.specs.Prelude.{All}
 use Rattle.std.proofs.lemmas.List.{map-append}
 use Rattle.std.proofs.lemmas.List.Elements.{All-nil, All-cons, All-append}
 use Rattle.hoare_law.specs.declared.unasked.Unasked.{Unasked}
+use Rattle.hoare_law.specs.Sizes.{kinds_of}
 use Rattle.door_frame.specs.Places.{DoorId, PlaceOut, IsOut, HasPlace}
 use Rattle.ticket_door.specs.Asked.{TicketDoorId, PlaceAsked, IsAsked, as_out}
 
 -- a place of a door of which nothing is asked, outside or asking
 abbrev pub IsUnaskedOut : DoorId → PlaceOut (Unasked ℕ 1) → Type 0
-IsUnaskedOut = IsOut (λ s q. Unit {0}) (λ c p s q. Unit {0}) 1 0
+IsUnaskedOut = IsOut (λ s q. Unit {0}) (λ c p s q. Unit {0}) (kinds_of 1 0)
 
 abbrev pub IsUnaskedAsking : TicketDoorId → PlaceAsked (Unasked ℕ 1) → Type 0
-IsUnaskedAsking = IsAsked (λ s q. Unit {0}) (λ c p s q. Unit {0}) 1 0
+IsUnaskedAsking = IsAsked (λ s q. Unit {0}) (λ c p s q. Unit {0}) (kinds_of 1 0)
 
 -- what holds of them holds with one more
 pub all-and-one : {X : Type 0} (P : X → Type 0) (xs : List X) (x : X) → All P xs → P x → All P (xs ++ x ∷ [])

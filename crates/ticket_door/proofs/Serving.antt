@@ -114,19 +114,19 @@ module _ {D : Type 0} (first n : ℕ) where
       → turn (with_event f e).events ≡ Held k
       → admissions (with_event f e).events ≡ admissions f.events → Tells first n f tickets ws
       → Tells first n (with_event f e) tickets ws
-  stayed f e tickets ws k held stays same t = let turns : turn f.events ≡ turn (with_event f e).events = held
-  ∙ sym stays in record {
-    words_are = t.words_are;
-    queue = t.queue;
-    once = t.once;
-    below = t.below;
-    tickets_are = λ j. t.tickets_are j ∙ ap (λ (m : ℕ). ticket_in m t.queue j) (sym same);
-    next = t.next ∙ ap (λ (m : ℕ). (first + (m + length t.queue)) % 2 ^ 64) (sym same);
-    served = t.served;
-    due = ap (λ (u : Turn). t.served + taken u) (sym turns) ∙ t.due ∙ sym same;
-    serving = t.serving;
-    bells = λ j b. t.bells j b ∙ ap (λ (u : Turn). rung u j) turns;
-  }
+  stayed f e tickets ws k held stays same t =
+      let turns : turn f.events ≡ turn (with_event f e).events = held ∙ sym stays in record {
+        words_are = t.words_are;
+        queue = t.queue;
+        once = t.once;
+        below = t.below;
+        tickets_are = λ j. t.tickets_are j ∙ ap (λ (m : ℕ). ticket_in m t.queue j) (sym same);
+        next = t.next ∙ ap (λ (m : ℕ). (first + (m + length t.queue)) % 2 ^ 64) (sym same);
+        served = t.served;
+        due = ap (λ (u : Turn). t.served + taken u) (sym turns) ∙ t.due ∙ sym same;
+        serving = t.serving;
+        bells = λ j b. t.bells j b ∙ ap (λ (u : Turn). rung u j) turns;
+      }
 
   module _ (rest : Rest D) (ready : Ready D) (kinds : Kinds) where
     abbrev K : Cells D → Type 0

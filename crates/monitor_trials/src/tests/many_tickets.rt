@@ -2,6 +2,7 @@
 ghost use Rattle.std.specs.Prelude.{◌≡◌, ◌≤◌, ℕ, [], All, map, vec_len, vec_capacity};
 ghost use Rattle.std.specs.VecDeque.{deque_len, deque_capacity};
 ghost use Rattle.door_frame.specs.Places.{HasPlace};
+ghost use Rattle.hoare_law.specs.Sizes.{kinds_of};
 ghost use Rattle.ticket_door.specs.Asked.{IsAsked, as_out};
 
 use crate::tally::Tally;
@@ -20,8 +21,8 @@ fn all_ask(door: &TicketDoor<Tally>, outs: Vec<TicketOut<Tally>>, asks: &mut Vec
     requires of { All (⟦<TicketDoor<Tally> as Monitor<Tally>>⟧.is_of door.now) outs.items }
     requires none { asks.old.items ≡ [] }
     requires room { vec_len outs ≤ deque_capacity asks.old }
-    ensures of { All (IsAsked ⟦<Tally as MonitorData>⟧.rest ⟦<Tally as MonitorData>⟧.ready 1
-        door.now) asks.new.items }
+    ensures of { All (IsAsked ⟦<Tally as MonitorData>⟧.rest ⟦<Tally as MonitorData>⟧.ready
+        (kinds_of 1 0) door.now) asks.new.items }
     ensures count { deque_len asks.new ≡ vec_len outs }
     ensures places { (k : ℕ) → HasPlace k outs.items → HasPlace k (map as_out asks.new.items) }
 {
@@ -40,8 +41,8 @@ fn all_come_in<R: Wait>(
     outs: &mut Vec<TicketOut<Tally>>,
     came: &mut Vec<(u64, u64)>,
 )
-    requires of { All (IsAsked ⟦<Tally as MonitorData>⟧.rest ⟦<Tally as MonitorData>⟧.ready 1
-        door.now) asks.items }
+    requires of { All (IsAsked ⟦<Tally as MonitorData>⟧.rest ⟦<Tally as MonitorData>⟧.ready
+        (kinds_of 1 0) door.now) asks.items }
     requires none { outs.old.items ≡ [] }
     requires room { deque_len asks ≤ vec_capacity outs.old }
     requires space { (came.old.items ≡ []) × (deque_len asks ≤ vec_capacity came.old) }

@@ -8,6 +8,7 @@ use disk_jobs::kind::Kind;
 use hoare_script::{ScriptFault, run};
 use monitor_trials::fake::Fake;
 use monitor_trials::tally::Tally;
+use plain_schedulers::buffer::mesa::MesaBuffer;
 use plain_schedulers::buffer::{Buffer, BufferRefused};
 use std::alloc::Global;
 use std::collections::VecDeque;
@@ -56,7 +57,8 @@ fn makes_door(alloc: Global, name: &[u8]) -> Option<Answer> {
 // What is made of data.
 fn makes_data(alloc: Global, name: &[u8]) -> Option<Answer> {
     match name {
-        b"Buffer::make" => Some(makes_buffer(alloc)),
+        b"Buffer::make" => Some(buffer_answer(Buffer::<u64>::make(alloc, 16))),
+        b"MesaBuffer::make" => Some(buffer_answer(MesaBuffer::<u64>::make(alloc, 16))),
         b"Pool::make" => Some(makes_pool(alloc)),
         b"Fake::of" => Some(makes_fake(alloc)),
         _ => None,
@@ -108,8 +110,8 @@ fn door_answer<T: Drop>(made: Result<T, (Tally, MakeRefused)>) -> Answer {
     }
 }
 
-fn makes_buffer(alloc: Global) -> Answer {
-    match Buffer::<u64>::make(alloc, 16) {
+fn buffer_answer<T: Drop>(made: Result<T, BufferRefused>) -> Answer {
+    match made {
         Ok(_buffer) => Answer::Made,
         Err(refused) => Answer::memory_if(refused == BufferRefused::Memory),
     }

@@ -1,3 +1,5 @@
 pub mod Lists
+pub mod Due
 pub mod Sweeps
+pub mod Stays
 pub mod Readers

@@ -1,22 +1,24 @@
 -- What a disk head keeps of its waiting requests: as one joins, as one is granted, and as the head is handed on.
-use Rattle.std.proofs.Common.{◌≡◌, ◌≢◌, ℕ, ◌-◌, ◌<◌, ◌≤◌, List, [], ◌∷◌, Bool, true, false, cond, leb, None, refl}
-use Rattle.std.proofs.Common.{arith}
-use Rattle.std.specs.Prelude.{slice_index}
+use Rattle.std.proofs.Common.{◌≡◌, ◌≢◌, ℕ, zero, suc, ◌+◌, ◌-◌, ◌<◌, ◌≤◌, List, [], ◌∷◌, Bool, true, false, cond, leb}
+use Rattle.std.proofs.Common.{Option, Some, None, refl, sym, ◌∙◌, arith}
+use Rattle.std.specs.Prelude.{IsSome, slice_index}
 use Rattle.std.specs.List.Sorted.{IsNonDecreasing}
 use Rattle.std.proofs.lemmas.Bool.Decides.{nat_tests}
 use Rattle.std.proofs.lemmas.List.Elements.{All-weaker}
 use Rattle.hoare_law.specs.declared.event.History.{History}
 use Rattle.hoare_law.specs.declared.event.Event.TheVariants.{Wait, Resume}
-use Rattle.hoare_law.specs.Growth.{AddsTwo}
+use Rattle.hoare_law.specs.Growth.{AddsTwo, Finishes}
+use Rattle.hoare_law.specs.Waiting.{waiting}
 use Rattle.hoare_law.specs.Sizes.{IsHoare}
-use Rattle.hoare_law.specs.Priorities.{joined, taken}
+use Rattle.hoare_law.specs.Priorities.{joined, taken, priorities}
 use Rattle.hoare_law.proofs.Sorted.{All-put_in, All-behind_first}
 use Rattle.sweep_schedulers.specs.declared.direction.Direction.{Direction}
 use Rattle.sweep_schedulers.specs.declared.direction.Direction.TheVariants.{Up, Down}
-use Rattle.sweep_schedulers.specs.Heads.{Disk, sweep, opposite, turned, sent, toward, priority_at, HeadRests, HeadReady}
-use Rattle.sweep_schedulers.specs.Heads.{HeadFree}
-use Rattle.sweep_schedulers.specs.HeadTraces.{Reaches, waited, HandsOn}
+use Rattle.sweep_schedulers.specs.Heads.{Disk, OnSweeps, HeadRests, HeadReady, HeadFree, sweep, opposite, turned, sent}
+use Rattle.sweep_schedulers.specs.Heads.{toward, priority_at, waiting_here, counted, due}
+use Rattle.sweep_schedulers.specs.HeadTraces.{Reaches, waited, HandsOn, keeps, turns}
 use Rattle.sweep_schedulers.proofs.Lists.{All-others, All-first}
+use Rattle.sweep_schedulers.proofs.Due.{at_here, joined_here, up_first, down_first, up_one, down_one}
 
 -- dest lies before the head in this direction
 abbrev IsAhead : {T : Type 0} → Disk T → Direction → ℕ → Type 0
@@ -24,7 +26,7 @@ IsAhead d Up dest = d.headpos ≤ dest
 IsAhead d Down dest = dest ≤ d.headpos
 
 ahead_by : {T : Type 0} (d : Disk T) (dest : ℕ) (low high : Bool) (dir : Direction)
-    → leb d.headpos dest ≡ low → leb dest d.headpos ≡ high → IsAhead d (cond low (cond high dir Up) Down) dest
+    → leb d.headpos dest ≡ low → leb dest d.headpos ≡ high → IsAhead d (cond low (cond high (opposite dir) Up) Down) dest
 ahead_by d dest true true Up e f = grind (arith, nat_tests)
 ahead_by d dest true true Down e f = grind (arith, nat_tests)
 ahead_by d dest true false dir e f = grind (arith, nat_tests)
@@ -34,12 +36,29 @@ ahead_by d dest false high dir e f = grind (arith, nat_tests)
 toward_ahead : {T : Type 0} (d : Disk T) (dest : ℕ) → IsAhead d (toward dest d) dest
 toward_ahead d dest = ahead_by d dest (leb d.headpos dest) (leb dest d.headpos) d.direction refl refl
 
+-- the sweep that reaches a cylinder isn't the present one where the head stands there
+other_by : {T : Type 0} (d : Disk T) (dest : ℕ) (low high : Bool) (dir : Direction)
+    → leb d.headpos dest ≡ low → leb dest d.headpos ≡ high → dir ≡ cond low (cond high (opposite dir) Up) Down
+    → d.headpos ≡ dest → ⊥
+other_by d dest true true Up e f same here = cc
+other_by d dest true true Down e f same here = cc
+other_by d dest true false dir e f same here = grind (arith, nat_tests)
+other_by d dest false high dir e f same here = grind (arith, nat_tests)
+
+toward_other : {T : Type 0} (d : Disk T) (dest : ℕ) → d.direction ≡ toward dest d → d.headpos ≡ dest → ⊥
+toward_other d dest = other_by d dest (leb d.headpos dest) (leb dest d.headpos) d.direction refl refl
+
+-- a drive is out or in
+not_both : {X : Type 0} (o : Option X) → o ≡ None → IsSome o → ⊥
+not_both None out some = cc
+not_both (Some x) out some = cc
+
 module _ {T : Type 0} {d : Disk T} (lists : ℕ → List ℕ) where
   -- one more waits, for a cylinder before the head
-  rests_by : (dir : Direction) (dest : ℕ) → IsAhead d dir dest → dest ≤ d.cylmax → d.drive ≡ None
-      → HeadRests d (lists 0) (lists 1)
+  rests_by : (dir : Direction) (dest : ℕ) → IsAhead d dir dest → (d.direction ≡ dir → d.headpos ≡ dest → ⊥)
+      → dest ≤ d.cylmax → d.drive ≡ None → HeadRests d (lists 0) (lists 1)
       → HeadRests d (joined lists (sweep dir) (priority_at d.cylmax dir dest) 0) (joined lists (sweep dir) (priority_at d.cylmax dir dest) 1)
-  rests_by Up dest ahead on busy r = record {
+  rests_by Up dest ahead other on busy r = record {
     inv = r.inv;
     up_busy = λ some. busy;
     down_busy = λ some. busy;
@@ -49,8 +68,9 @@ module _ {T : Type 0} {d : Disk T} (lists : ℕ → List ℕ) where
       above = All-put_in (λ p. d.headpos ≤ p) dest (lists 0) ahead r.sweeps.above;
       below = r.sweeps.below;
     };
+    stay = λ out. r.stay out ∙ sym (joined_here lists d.direction Up d.cylmax d.headpos dest other on);
   }
-  rests_by Down dest ahead on busy r = record {
+  rests_by Down dest ahead other on busy r = record {
     inv = r.inv;
     up_busy = λ some. busy;
     down_busy = λ some. busy;
@@ -60,6 +80,7 @@ module _ {T : Type 0} {d : Disk T} (lists : ℕ → List ℕ) where
       above = r.sweeps.above;
       below = All-put_in (λ p. d.cylmax - p ≤ d.headpos) (d.cylmax - dest) (lists 1) (omega arith) r.sweeps.below;
     };
+    stay = λ out. r.stay out ∙ sym (joined_here lists d.direction Down d.cylmax d.headpos dest other on);
   }
 
   -- a request joins the sweep that reaches its cylinder
@@ -69,13 +90,13 @@ module _ {T : Type 0} {d : Disk T} (lists : ℕ → List ℕ) where
   HeadRests-joined {c = c} {p = p} {dest = dest} r busy on same to with =
       let sweeps : c ≡ sweep (toward dest d) = rw same at to in
       let urgent : p ≡ priority_at d.cylmax (toward dest d) dest = rw same at with in
-      rw (sweeps, urgent) (rests_by (toward dest d) dest (toward_ahead d dest) on busy r)
+      rw (sweeps, urgent) (rests_by (toward dest d) dest (toward_ahead d dest) (toward_other d dest) on busy r)
 
   -- with the drive in, the first of the present sweep may go on
   first_by : (dir : Direction) → d.direction ≡ dir → ((i : ℕ) → IsNonDecreasing (lists i)) → lists (sweep dir) ≢ []
-      → HeadFree d (lists 0) (lists 1)
+      → HeadFree d (lists 0) (lists 1) → d.stay ≡ waiting_here d (lists 0) (lists 1)
       → HeadReady (sweep dir) (slice_index (lists (sweep dir)) 0) d (taken lists (sweep dir) 0) (taken lists (sweep dir) 1)
-  first_by Up is rise some f = record {
+  first_by Up is rise some f stay = record {
     free = record {
       inv = f.inv;
       is_in = f.is_in;
@@ -90,8 +111,9 @@ module _ {T : Type 0} {d : Disk T} (lists : ℕ → List ℕ) where
     first = All-behind_first (lists 0) (rise 0) some;
     direction = is;
     above = All-first (λ p. d.headpos ≤ p) (lists 0) some f.sweeps.above;
+    stay = stay ∙ sym (up_first d.direction d.cylmax d.headpos (lists 0) (lists 1) is some);
   }
-  first_by Down is rise some f = record {
+  first_by Down is rise some f stay = record {
     free = record {
       inv = f.inv;
       is_in = f.is_in;
@@ -106,24 +128,55 @@ module _ {T : Type 0} {d : Disk T} (lists : ℕ → List ℕ) where
     first = All-behind_first (lists 1) (rise 1) some;
     direction = is;
     below = All-first (λ p. d.cylmax - p ≤ d.headpos) (lists 1) some f.sweeps.below;
+    stay = stay ∙ sym (down_first d.direction d.cylmax d.headpos (lists 0) (lists 1) is some);
   }
 
-  pub HeadReady-first : {d1 : Disk T} {c : ℕ} → HeadFree d (lists 0) (lists 1) → ((i : ℕ) → IsNonDecreasing (lists i))
-      → d1 ≡ d
+  pub HeadReady-first : {d1 : Disk T} {c : ℕ} → HeadFree d (lists 0) (lists 1)
+      → d.stay ≡ waiting_here d (lists 0) (lists 1) → ((i : ℕ) → IsNonDecreasing (lists i)) → d1 ≡ d
       → c ≡ sweep d1.direction → lists c ≢ []
       → HeadReady c (slice_index (lists c) 0) d (taken lists c 0) (taken lists c 1)
-  HeadReady-first {c = c} f rise same is some =
+  HeadReady-first {c = c} f stay rise same is some =
       let on : c ≡ sweep d.direction = rw same at is in
-      rw on (first_by d.direction refl rise (rw on at some) f)
+      rw on (first_by d.direction refl rise (rw on at some) f stay)
 
   -- with the drive in, rest holds where nobody waits for either sweep
   pub HeadRests-nobody : (dir : Direction) → lists (sweep dir) ≡ [] → lists (sweep (opposite dir)) ≡ []
       → HeadFree d (lists 0) (lists 1)
       → HeadRests d (lists 0) (lists 1)
-  HeadRests-nobody Up none other f =
-      record { inv = f.inv; up_busy = λ some. absurd (some none); down_busy = λ some. absurd (some other); sweeps = f.sweeps }
-  HeadRests-nobody Down none other f =
-      record { inv = f.inv; up_busy = λ some. absurd (some other); down_busy = λ some. absurd (some none); sweeps = f.sweeps }
+  HeadRests-nobody Up none other f = record {
+    inv = f.inv;
+    up_busy = λ some. absurd (some none);
+    down_busy = λ some. absurd (some other);
+    sweeps = f.sweeps;
+    stay = λ out. absurd (not_both _ out f.is_in);
+  }
+  HeadRests-nobody Down none other f = record {
+    inv = f.inv;
+    up_busy = λ some. absurd (some other);
+    down_busy = λ some. absurd (some none);
+    sweeps = f.sweeps;
+    stay = λ out. absurd (not_both _ out f.is_in);
+  }
+
+-- however many are counted as due, who waits does so before the head
+pub OnSweeps-due : {T : Type 0} (d : Disk T) (n : ℕ) {ups downs : List ℕ} → OnSweeps d ups downs
+    → OnSweeps (due d n) ups downs
+OnSweeps-due d n s = record {
+  ups_on_disk = s.ups_on_disk;
+  downs_on_disk = s.downs_on_disk;
+  above = s.above;
+  below = s.below;
+}
+
+pub HeadFree-due : {T : Type 0} (d : Disk T) (n : ℕ) {ups downs : List ℕ} → HeadFree d ups downs
+    → HeadFree (due d n) ups downs
+HeadFree-due d n f = record { inv = f.inv; is_in = f.is_in; sweeps = OnSweeps-due d n f.sweeps }
+
+-- who waited finds the drive in
+pub HeadReady-free : {T : Type 0} (d : Disk T) (c p : ℕ) (ups downs : List ℕ) → HeadReady c p d ups downs
+    → HeadFree d ups downs
+HeadReady-free d zero p ups downs r = r.free
+HeadReady-free d (suc c) p ups downs r = r.free
 
 -- a drive that is in stays so as the head turns
 pub HeadFree-turned : {T : Type 0} {d : Disk T} {ups downs : List ℕ} → HeadFree d ups downs
@@ -144,10 +197,11 @@ pub sweep_hoare : (dir : Direction) → IsHoare 2 0 (sweep dir)
 sweep_hoare Up = omega arith
 sweep_hoare Down = omega arith
 
-module _ {T : Type 0} (found : Disk T) {ups downs : List ℕ} where
+module _ {T : Type 0} (found : Disk T) (ups downs : List ℕ) where
   -- the head at the cylinder of the one that is granted, which is the first before the head
   granted_by : (dir : Direction) (dest cylmax : ℕ) → dest ≤ cylmax → found.cylmax ≡ cylmax
-      → HeadReady (sweep dir) (priority_at cylmax dir dest) found ups downs → HeadRests (sent found dest) ups downs
+      → HeadReady (sweep dir) (priority_at cylmax dir dest) found ups downs
+      → HeadRests (counted (sent found dest) ups downs) ups downs
   granted_by Up dest cylmax on same r = record {
     inv = omega arith;
     up_busy = λ some. refl;
@@ -159,6 +213,7 @@ module _ {T : Type 0} (found : Disk T) {ups downs : List ℕ} where
       below = All-weaker (λ p. found.cylmax - p ≤ found.headpos) (λ p. found.cylmax - p ≤ dest)
           (λ p l. omega (arith, r.above)) downs r.free.sweeps.below;
     };
+    stay = λ out. refl;
   }
   granted_by Down dest cylmax on same r = record {
     inv = omega arith;
@@ -170,20 +225,38 @@ module _ {T : Type 0} (found : Disk T) {ups downs : List ℕ} where
       above = All-weaker (λ p. found.headpos ≤ p) (λ p. dest ≤ p) (λ p l. omega (arith, r.below)) ups r.free.sweeps.above;
       below = All-weaker (λ p. cylmax - dest ≤ p) (λ p. found.cylmax - p ≤ dest) (λ p l. omega arith) downs r.first;
     };
+    stay = λ out. refl;
   }
 
+  -- the one that is granted at the cylinder under the head was counted
+  less_by : (dir : Direction) (dest cylmax : ℕ) → dest ≤ cylmax → found.cylmax ≡ cylmax → found.headpos ≡ dest
+      → HeadReady (sweep dir) (priority_at cylmax dir dest) found ups downs
+      → (counted (sent found dest) ups downs).stay + 1 ≡ found.stay
+  less_by Up dest cylmax on same here r =
+      sym ((rw here at r.stay) ∙ up_one found.direction found.cylmax dest ups downs r.direction)
+  less_by Down dest cylmax on same here r =
+      let for : found.cylmax - (cylmax - dest) ≡ dest = omega arith in
+      sym ((rw here at r.stay) ∙ down_one found.direction found.cylmax dest (cylmax - dest) ups downs r.direction for)
+
   -- a request that waited is granted
-  pub HeadRests-granted : {a a1 s1 : Disk T} {c p dest : ℕ} {us ds : List ℕ} → HeadReady c p found ups downs → a1 ≡ a
+  pub HeadRests-granted : {a a1 : Disk T} {c p dest : ℕ} → HeadReady c p found ups downs → a1 ≡ a
       → c ≡ sweep (toward dest a1) → p ≡ priority_at a1.cylmax (toward dest a1) dest → dest ≤ a.cylmax
-      → found.cylmax ≡ a.cylmax
-      → s1 ≡ sent found dest → us ≡ ups → ds ≡ downs → HeadRests s1 us ds
-  HeadRests-granted {a = a} {dest = dest} r same to with on disk state up down =
-      rw (state, up, down) (granted_by (toward dest a) dest a.cylmax on disk (rw (to, with, same) at r))
+      → found.cylmax ≡ a.cylmax → HeadRests (counted (sent found dest) ups downs) ups downs
+  HeadRests-granted {a = a} {dest = dest} r same to with on disk =
+      granted_by (toward dest a) dest a.cylmax on disk (rw (to, with, same) at r)
+
+  -- and where the head stands at its cylinder, one grant less is due there
+  pub stay-granted : {a a1 : Disk T} {c p dest : ℕ} → HeadReady c p found ups downs → a1 ≡ a
+      → c ≡ sweep (toward dest a1) → p ≡ priority_at a1.cylmax (toward dest a1) dest → dest ≤ a.cylmax
+      → found.cylmax ≡ a.cylmax → found.headpos ≡ dest → (counted (sent found dest) ups downs).stay + 1 ≡ found.stay
+  stay-granted {a = a} {dest = dest} r same to with on disk here =
+      less_by (toward dest a) dest a.cylmax on disk here (rw (to, with, same) at r)
 
 module _ {T : Type 0} (found : Disk T) where
-  nobody_by : (us ds : List ℕ) (dest : ℕ) → (found.drive ≡ None → ⊥) → dest ≤ found.cylmax → HeadRests found us ds
-      → HeadRests (sent found dest) us ds
-  nobody_by [] [] dest is_in on r = record {
+  -- a request that found the drive in is granted: nobody waited
+  pub HeadRests-at_once : (us ds : List ℕ) (dest : ℕ) → (found.drive ≡ None → ⊥) → dest ≤ found.cylmax
+      → HeadRests found us ds → HeadRests (counted (sent found dest) us ds) us ds
+  HeadRests-at_once [] [] dest is_in on r = record {
     inv = on;
     up_busy = λ some. refl;
     down_busy = λ some. refl;
@@ -193,16 +266,20 @@ module _ {T : Type 0} (found : Disk T) where
       above = λ k d below. absurd (omega arith);
       below = λ k d below. absurd (omega arith);
     };
+    stay = λ out. refl;
   }
-  nobody_by (x ∷ us) ds dest is_in on r = absurd (is_in (r.up_busy (λ e. cc)))
-  nobody_by [] (x ∷ ds) dest is_in on r = absurd (is_in (r.down_busy (λ e. cc)))
+  HeadRests-at_once (x ∷ us) ds dest is_in on r = absurd (is_in (r.up_busy (λ e. cc)))
+  HeadRests-at_once [] (x ∷ ds) dest is_in on r = absurd (is_in (r.down_busy (λ e. cc)))
 
-  -- a request that found the drive in is granted: nobody waited
-  pub HeadRests-at_once : {s1 : Disk T} {dest : ℕ} {us ds ups downs : List ℕ} → HeadRests found ups downs
-      → (found.drive ≡ None → ⊥) → dest ≤ found.cylmax
-      → s1 ≡ sent found dest → us ≡ ups → ds ≡ downs → HeadRests s1 us ds
-  HeadRests-at_once {dest = dest} {ups = ups} {downs = downs} r is_in on state up down =
-      rw (state, up, down) (nobody_by ups downs dest is_in on r)
+  -- and nobody was due
+  pub none_due : (us ds : List ℕ) → (found.drive ≡ None → ⊥) → HeadRests found us ds → 0 ≡ waiting_here found us ds
+  none_due [] [] is_in r = none_here found.direction
+    where
+      none_here : (dir : Direction) → 0 ≡ at_here dir found.cylmax found.headpos [] []
+      none_here Up = refl
+      none_here Down = refl
+  none_due (x ∷ us) ds is_in r = absurd (is_in (r.up_busy (λ e. cc)))
+  none_due [] (x ∷ ds) is_in r = absurd (is_in (r.down_busy (λ e. cc)))
 
 -- from the clause of a wait to the trace of a request
 pub Reaches-waited : {T : Type 0} {k k1 c p dest : ℕ} {a a1 s1 found : Disk T} {e g1 h : History (Disk T)}
@@ -216,3 +293,20 @@ Reaches-waited busy waits place state front same to with =
 pub HandsOn-as : {T : Type 0} {k k1 : ℕ} {d d1 : Disk T} {g g1 h : History (Disk T)} → HandsOn k1 d1 g1 h → k1 ≡ k
     → d1 ≡ d → g1 ≡ g → HandsOn k d g h
 HandsOn-as hands place state front = rw (place, state, front) at hands
+
+-- where those are counted already that are due
+counted_as : {T : Type 0} {k c : ℕ} (d : Disk T) (n : ℕ) {g h : History (Disk T)} → d.stay ≡ n → Finishes k c d g h
+    → Finishes k c (due d n) g h
+counted_as d n is finishes = rw (sym is) finishes
+
+pub HandsOn-keeps : {T : Type 0} {k : ℕ} (d : Disk T) (ups downs : List ℕ) {g h : History (Disk T)}
+    → ups ≡ priorities g.events 0 → downs ≡ priorities g.events 1 → d.stay ≡ waiting_here d ups downs
+    → waiting (sweep d.direction) g.events ≢ [] → Finishes k (sweep d.direction) d g h → HandsOn k d g h
+HandsOn-keeps d ups downs up down stay some finishes =
+    keeps some (counted_as d _ (rw (up, down) at stay) finishes)
+
+-- those that are due are counted as it is handed on, however many were counted before
+pub HandsOn-due : {T : Type 0} {k : ℕ} (d : Disk T) (n : ℕ) {g h : History (Disk T)} → HandsOn k (due d n) g h
+    → HandsOn k d g h
+HandsOn-due d n (keeps some finishes) = keeps some finishes
+HandsOn-due d n (turns none finishes) = turns none finishes

@@ -1,17 +1,21 @@
 -- What the procedures of a disk head add to the history.
-use Rattle.std.specs.Prelude.{ℕ, ◌<◌, ◌≤◌, [], ◌≡◌, ◌≢◌, Some, None, IsSome, Result, Ok, Err}
+use Rattle.std.specs.Prelude.{ℕ, ◌+◌, ◌<◌, ◌≤◌, [], ◌≡◌, ◌≢◌, Some, None, IsSome, Result, Ok, Err}
 use Rattle.hoare_law.specs.declared.event.History.{History}
 use Rattle.hoare_law.specs.declared.event.Event.TheVariants.{Admit, Wait, Leave, Resume}
 use Rattle.hoare_law.specs.Events.{with_event}
 use Rattle.hoare_law.specs.Waiting.{waiting}
+use Rattle.hoare_law.specs.Priorities.{priorities}
 use Rattle.hoare_law.specs.Growth.{AddsLast, AddsTwo, Finishes}
 use Rattle.sweep_schedulers.specs.declared.head.OffDisk.{OffDisk}
 use Rattle.sweep_schedulers.specs.declared.not_out.NotOut.{NotOut}
-use Rattle.sweep_schedulers.specs.Heads.{Disk, sweep, opposite, turned, put, sent, toward, priority_at}
+use Rattle.sweep_schedulers.specs.Heads.{Disk, sweep, opposite, turned, put, sent, counted, toward, priority_at}
+
+-- the same disk, with those counted as due that wait after g for the present sweep and the cylinder under the head
+abbrev pub counted_after : {T : Type 0} → History (Disk T) → Disk T → Disk T
+counted_after g d = counted d (priorities g.events 0) (priorities g.events 1)
 
 -- k asked for dest, found a, and went on with what it then found: a itself where the drive was in; else it waited once,
--- for the
--- sweep that reaches dest
+-- for the sweep that reaches dest
 pub data Reaches {T : Type 0} (k dest : ℕ) (a : Disk T) (e : History (Disk T)) : History
     (Disk T) → Disk T → Type 0 where
   at_once : IsSome a.drive → Reaches k dest a e e a
@@ -20,20 +24,22 @@ pub data Reaches {T : Type 0} (k dest : ℕ) (a : Disk T) (e : History (Disk T))
       → Reaches k dest a e g found
 
 -- k's last act, with d: a signal on the present sweep where somebody waits there, and else on the other one, to which
--- the head turns
+-- the head turns; before it those are counted that are due where the head stands
 pub data HandsOn {T : Type 0} (k : ℕ) (d : Disk T) (g h : History (Disk T)) : Type 0 where
-  keeps : waiting (sweep d.direction) g.events ≢ [] → Finishes k (sweep d.direction) d g h → HandsOn k d g h
-  turns : waiting (sweep d.direction) g.events ≡ [] → Finishes k (sweep (opposite d.direction)) (turned d) g h
+  keeps : waiting (sweep d.direction) g.events ≢ [] → Finishes k (sweep d.direction) (counted_after g d) g h
       → HandsOn k d g h
+  turns : waiting (sweep d.direction) g.events ≡ []
+      → Finishes k (sweep (opposite d.direction)) (counted_after g (turned d)) g h → HandsOn k d g h
 
--- k has the drive, with the head at dest; or dest is off the disk; or k waited, found another disk, and handed on what
--- it found
+-- k has the drive, with the head at dest and those counted that are due there: one less than it found, where it waited
+-- and found the head at dest; or dest is off the disk; or k waited, found another disk, and handed on what it found
 pub data Requests {T : Type 0} (k dest : ℕ) (f h : History (Disk T)) : Result T OffDisk → Type 0 where
   off_disk : (a : Disk T) (g : History (Disk T)) (o : OffDisk) → AddsLast f (Admit k a) g → a.cylmax < dest
       → h ≡ with_event g (Leave k a) → Requests k dest f h (Err o)
   granted : (a found : Disk T) (e g : History (Disk T)) (drive : T) → AddsLast f (Admit k a) e → dest ≤ a.cylmax
       → Reaches k dest a e g found → found.cylmax ≡ a.cylmax → found.drive ≡ Some drive
-      → h ≡ with_event g (Leave k (sent found dest)) → Requests k dest f h (Ok drive)
+      → (a.drive ≡ None → found.headpos ≡ dest → (counted_after g (sent found dest)).stay + 1 ≡ found.stay)
+      → h ≡ with_event g (Leave k (counted_after g (sent found dest))) → Requests k dest f h (Ok drive)
   other_disk : (a found : Disk T) (e g : History (Disk T)) (o : OffDisk) → AddsLast f (Admit k a) e → dest ≤ a.cylmax
       → Reaches k dest a e g found → found.cylmax ≢ a.cylmax → HandsOn k found g h → Requests k dest f h (Err o)
 

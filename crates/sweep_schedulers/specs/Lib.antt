@@ -2,3 +2,4 @@ pub mod Heads
 pub mod HeadTraces
 pub mod ReadersWriters
 pub mod ReadersWritersTraces
+pub mod Stays

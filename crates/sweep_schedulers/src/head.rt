@@ -1,13 +1,14 @@
 //! The head of a disk, which sweeps to and fro.
-ghost use Rattle.std.specs.Prelude.{◌≡◌, ◌↔◌, ◌≤◌, IsTrue, None};
-ghost use Rattle.hoare_law.specs.Priorities.{nobody};
-ghost use Rattle.sweep_schedulers.specs.Heads.{HeadFree, HeadRests, OnSweeps};
-ghost use Rattle.sweep_schedulers.specs.Heads.{idle, priority_at, put, sent, sweep, toward, turned};
+ghost use Rattle.std.specs.Prelude.{◌≡◌, ◌↔◌, ◌≤◌, IsTrue, None, All};
+ghost use Rattle.hoare_law.specs.Priorities.{nobody, put_in};
+ghost use Rattle.sweep_schedulers.specs.Heads.{HeadFree, HeadHolds, HeadRests, OnSweeps};
+ghost use Rattle.sweep_schedulers.specs.Heads.{counted, due, given_out, idle, moved, one_granted, priority_at, put};
+ghost use Rattle.sweep_schedulers.specs.Heads.{sweep, toward, turned, waiting_here};
 ghost use Rattle.sweep_schedulers.specs.HeadTraces.{HandsOn, Releases, Requests};
 
 use crate::direction::{DOWNSWEEP, Direction, UPSWEEP};
 use crate::not_out::NotOut;
-use crate::waiting::{none_above, none_below};
+use crate::waiting::{count_equal, none_above, none_below};
 use hoare_law::data::MonitorData;
 use hoare_law::monitor::Monitor;
 use hoare_law::waits::Waits;
@@ -15,8 +16,10 @@ use std::marker::Model;
 use std::sync::Wait;
 
 /// A disk drive whose head sweeps over the cylinders 0 to `cylmax` ("Monitors", Disk Head Scheduler). Condition 0 is
-/// *upsweep* (`UPSWEEP`), where a request waits with its cylinder as its priority; condition 1 is *downsweep* (`DOWNSWEEP`), where
-/// it waits with the distance of its cylinder from the last one. Busy means that the drive is out.
+/// *upsweep* (`UPSWEEP`), where a request waits with its cylinder as its priority; condition 1 is *downsweep*
+/// (`DOWNSWEEP`), where it waits with the distance of its cylinder from the last one. A request for the cylinder under
+/// the head waits for the other sweep, so that a stream of them can't hold the head there. (In the paper it waits for
+/// the present one.) Busy means that the drive is out.
 ///
 /// With a monitor `m` of `Head::with('d', 400)`, and `out`, a place of it:
 ///
@@ -32,6 +35,7 @@ pub struct Head<T> {
     headpos: u16,
     direction: Direction,
     cylmax: u16,
+    stay: usize,
 }
 
 impl<T> Model for Head<T> {
@@ -45,6 +49,7 @@ impl<T> Model for Head<T> {
       headpos = h.headpos;
       direction = h.direction;
       cylmax = h.cylmax;
+      stay = h.stay;
     } };
 
     ghost invariant = { λ h. h.headpos ≤ h.cylmax };
@@ -74,21 +79,19 @@ impl<T: Drop> MonitorData for Head<T> {
 
     fn rest_holds<W: Waits>(&self, lists: &W) -> bool {
         let nobody = lists.count(UPSWEEP) == 0 && lists.count(DOWNSWEEP) == 0;
-        (self.drive.is_none() || nobody) && self.sweeps_hold(lists)
+        (self.drive.is_none() || nobody)
+            && self.sweeps_hold(lists)
+            && (self.drive.is_some() || self.stay == self.waiting_here(lists))
     }
 
     fn ready_holds<W: Waits>(&self, condition: usize, priority: u64, lists: &W) -> bool {
-        let least = if condition == UPSWEEP {
-            self.headpos
-        } else {
-            self.cylmax - self.headpos
-        };
         !self.is_busy()
             && self.sweep() == condition
-            && u64::from(least) <= priority
+            && self.priority_here() <= priority
             && priority <= u64::from(self.cylmax)
             && none_below(lists, condition, priority)
             && self.sweeps_hold(lists)
+            && self.counts_with(priority, lists)
     }
 
     ghost rest_inv = { λ d q h. h.inv };
@@ -107,7 +110,16 @@ impl<T: Drop> Head<T> {
             headpos: 0,
             direction: Direction::Up,
             cylmax,
+            stay: 0,
         }
+    }
+
+    /// How many grants are still due at the cylinder under the head, while the drive is out: so many requests wait for
+    /// it and the present sweep, and no other joins them. While the drive is in the number says nothing.
+    pub fn stay(&self) -> usize
+        ensures { result ≡ self.now.stay }
+    {
+        self.stay
     }
 
     // The last cylinder.
@@ -115,6 +127,13 @@ impl<T: Drop> Head<T> {
         ensures { result ≡ self.now.cylmax }
     {
         self.cylmax
+    }
+
+    // Whether the head is at a cylinder.
+    fn is_at(&self, dest: u16) -> bool
+        ensures { IsTrue result ↔ (self.now.headpos ≡ dest) }
+    {
+        self.headpos == dest
     }
 
     // Whether the drive is out.
@@ -137,22 +156,78 @@ impl<T: Drop> Head<T> {
         ensures sweep { result.0 ≡ sweep (toward dest self.now) }
         ensures priority { result.1 ≡ priority_at self.now.cylmax (toward dest self.now) dest }
     {
-        let going_up = self.direction == Direction::Up;
-        if self.headpos < dest || (self.headpos == dest && going_up) {
+        let going_down = self.direction == Direction::Down;
+        if self.headpos < dest || (self.headpos == dest && going_down) {
             (Direction::Up.sweep(), u64::from(dest))
         } else {
             (Direction::Down.sweep(), u64::from(self.cylmax - dest))
         }
     }
 
-    // Takes the drive out, with the head at a cylinder.
-    fn send(&mut self, dest: u16) -> Option<T>
-        requires { dest ≤ self.old.cylmax }
+    // Takes the drive out.
+    fn take(&mut self) -> Option<T>
         ensures drive { result ≡ self.old.drive }
-        ensures after { self.new ≡ sent self.old dest }
+        ensures after { self.new ≡ given_out self.old }
+    {
+        self.drive.take()
+    }
+
+    // Puts the head at a cylinder.
+    fn go(&mut self, dest: u16)
+        requires { dest ≤ self.old.cylmax }
+        ensures { self.new ≡ moved self.old dest }
     {
         self.headpos = dest;
-        self.drive.take()
+    }
+
+    // The priority with which a request for the cylinder under the head would wait for the present sweep.
+    fn priority_here(&self) -> u64
+        ensures { result ≡ priority_at self.now.cylmax self.now.direction self.now.headpos }
+    {
+        match self.direction {
+            Direction::Up => u64::from(self.headpos),
+            Direction::Down => u64::from(self.cylmax - self.headpos),
+        }
+    }
+
+    // How many wait for the present sweep and the cylinder under the head.
+    fn waiting_here<W: Waits>(&self, lists: &W) -> usize
+        requires { All (λ p. p ≤ self.now.cylmax) (W.waiting_priorities lists.now 1) }
+        ensures { let q = W.waiting_priorities lists.now in result ≡ waiting_here self.now (q 0) (q 1) }
+    {
+        count_equal(lists, self.direction.sweep(), self.priority_here())
+    }
+
+    // Whether those that wait there, and one of the present sweep with this priority beside them, are counted as due.
+    fn counts_with<W: Waits>(&self, priority: u64, lists: &W) -> bool
+        requires on_disk { All (λ p. p ≤ self.now.cylmax) (W.waiting_priorities lists.now 1) }
+        requires one { priority ≤ self.now.cylmax }
+        ensures { let q = W.waiting_priorities lists.now in IsTrue result
+            ↔ (self.now.stay ≡ waiting_here self.now (put_in (λ n. n) priority (q 0))
+            (put_in (λ n. n) priority (q 1))) }
+    {
+        let others = self.waiting_here(lists);
+        if priority == self.priority_here() {
+            self.stay.checked_sub(1) == Some(others)
+        } else {
+            self.stay == others
+        }
+    }
+
+    // So many grants are due there.
+    fn count(&mut self, stay: usize)
+        ensures { self.new ≡ due self.old stay }
+    {
+        self.stay = stay;
+    }
+
+    // One that waited for the present sweep with this priority goes on, and is due no more.
+    fn grant(&mut self, priority: u64)
+        ensures { self.new ≡ one_granted self.old priority }
+    {
+        if priority == self.priority_here() {
+            self.stay = self.stay.saturating_sub(1);
+        }
     }
 
     // Puts a drive in.
@@ -204,11 +279,16 @@ impl<T: Drop> Head<T> {
         if m.state(&inside).is_busy() {
             let (sweep, priority) = m.state(&inside).stop_at(dest);
             inside = m.wait(rt, inside, sweep, priority);
+            M::state_mut(&mut inside, m).grant(priority);
             if m.state(&inside).cylmax() != cylmax {
                 return (Head::hand_on(m, rt, inside), Err(OffDisk));
             }
+        } else {
+            M::state_mut(&mut inside, m).count(0);
         }
-        match M::state_mut(&mut inside, m).send(dest) {
+        let drive = M::state_mut(&mut inside, m).take();
+        let inside = Head::move_to(m, inside, dest);
+        match drive {
             Some(drive) => (m.leave(rt, inside), Ok(drive)),
             None => unreachable!(),
         }
@@ -236,10 +316,60 @@ impl<T: Drop> Head<T> {
         (Head::hand_on(m, rt, inside), Ok(()))
     }
 
-    // Hands the drive that is in to the next request of the present sweep; where there is none the head turns.
+    // Puts the head at a cylinder, and counts those that are due there: they are counted where it is there already.
+    fn move_to<M: Monitor<Head<T>>>(m: &M, inside: M::In, dest: u16) -> M::In
+        requires of { M.is_of_in m.now inside }
+        requires on_disk { dest ≤ (M.data_in inside).cylmax }
+        requires sweeps { OnSweeps (moved (M.data_in inside) dest) (M.lists_in inside 0)
+            (M.lists_in inside 1) }
+        requires stay { (M.data_in inside).stay
+            ≡ waiting_here (M.data_in inside) (M.lists_in inside 0) (M.lists_in inside 1) }
+        ensures of { M.is_of_in m.now result }
+        ensures place { M.place_in result ≡ M.place_in inside }
+        ensures data { M.data_in result
+            ≡ counted (moved (M.data_in inside) dest) (M.lists_in inside 0) (M.lists_in inside 1) }
+        ensures lists { M.lists_in result ≡ M.lists_in inside }
+        ensures front { M.front_in result ≡ M.front_in inside }
+    {
+        let mut inside = inside;
+        if m.state(&inside).is_at(dest) {
+            return inside;
+        }
+        M::state_mut(&mut inside, m).go(dest);
+        Head::recount(m, inside)
+    }
+
+    // Counts as due those that wait for the present sweep and the cylinder under the head. Where the first of the sweep
+    // waits for another cylinder nobody does.
+    fn recount<M: Monitor<Head<T>>>(m: &M, inside: M::In) -> M::In
+        requires of { M.is_of_in m.now inside }
+        requires inv { HeadHolds (M.data_in inside) }
+        requires sweeps { OnSweeps (M.data_in inside) (M.lists_in inside 0) (M.lists_in inside 1) }
+        ensures of { M.is_of_in m.now result }
+        ensures place { M.place_in result ≡ M.place_in inside }
+        ensures data { M.data_in result
+            ≡ counted (M.data_in inside) (M.lists_in inside 0) (M.lists_in inside 1) }
+        ensures lists { M.lists_in result ≡ M.lists_in inside }
+        ensures front { M.front_in result ≡ M.front_in inside }
+    {
+        let mut inside = inside;
+        let here = m.state(&inside).priority_here();
+        let stay = if m.first(&inside, m.state(&inside).sweep()) == Some(here) {
+            m.state(&inside).waiting_here(m.lists(&inside))
+        } else {
+            0
+        };
+        M::state_mut(&mut inside, m).count(stay);
+        inside
+    }
+
+    // Hands the drive that is in to the next request of the present sweep; where there is none the head turns. Only
+    // then those have to be counted that are due where the head is.
     fn hand_on<R: Wait, M: Monitor<Head<T>>>(m: &M, rt: &R, inside: M::In) -> M::Out
         requires of { M.is_of_in m.now inside }
         requires free { HeadFree (M.data_in inside) (M.lists_in inside 0) (M.lists_in inside 1) }
+        requires stay { (M.data_in inside).stay
+            ≡ waiting_here (M.data_in inside) (M.lists_in inside 0) (M.lists_in inside 1) }
         ensures of { M.is_of m.now result }
         ensures place { M.place result ≡ M.place_in inside }
         ensures trace { HandsOn (M.place_in inside) (M.data_in inside) (M.front_in inside)
@@ -248,6 +378,7 @@ impl<T: Drop> Head<T> {
         let mut inside = inside;
         if !m.queue(&inside, m.state(&inside).sweep()) {
             M::state_mut(&mut inside, m).turn();
+            inside = Head::recount(m, inside);
         }
         let sweep = m.state(&inside).sweep();
         let (out, _resumed) = m.signal_leave(rt, inside, sweep);

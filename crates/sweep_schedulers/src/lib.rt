@@ -3,6 +3,7 @@
 
 pub mod direction;
 pub mod head;
+pub mod laws;
 pub mod not_out;
 pub mod readers_writers;
 mod waiting;

@@ -1,5 +1,6 @@
-//! What all priorities that wait on a condition keep. They rise, so that the first and the last say it.
-ghost use Rattle.std.specs.Prelude.{◌≤◌, ◌↔◌, IsTrue, All};
+//! What all priorities that wait on a condition keep, and how many are equal to one. They rise: the first and the last
+//! say what all keep, and the equal ones stand side by side.
+ghost use Rattle.std.specs.Prelude.{◌≡◌, ◌==◌, ◌≤◌, ◌↔◌, IsTrue, All, count_by};
 
 use hoare_law::waits::Waits;
 
@@ -16,4 +17,21 @@ pub(crate) fn none_above<W: Waits>(lists: &W, condition: usize, most: u64) -> bo
 {
     let count = lists.count(condition);
     count == 0 || lists.priority(condition, count - 1) <= most
+}
+
+// How many of them are this one.
+pub(crate) fn count_equal<W: Waits>(lists: &W, condition: usize, priority: u64) -> usize
+    ensures { result ≡ count_by (λ q. q == priority) (W.waiting_priorities lists.now condition) }
+{
+    let mut equal = 0;
+    for i in 0..lists.count(condition) {
+        let next = lists.priority(condition, i);
+        if next > priority {
+            return equal;
+        }
+        if next == priority {
+            equal += 1;
+        }
+    }
+    equal
 }

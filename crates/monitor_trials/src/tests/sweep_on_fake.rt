@@ -1,11 +1,14 @@
 //! The disk head, and the readers and writers, on the fake monitor: what is found after a wait is given beforehand.
 ghost use Rattle.std.specs.Prelude.{◌≡◌};
+ghost use Rattle.hoare_law.specs.Priorities.{nobody};
+ghost use Rattle.sweep_schedulers.specs.Heads.{HeadRests};
 
 use crate::fake::{Fake, FakeOut};
 use crate::tests::compared::expect_same;
 use crate::tests::fake::{take_data, with_answers};
 use crate::tests::limit::within;
 use crate::tests::rows::head::{Trip, goes, hands_on, is_off_disk, is_refused};
+use crate::tests::rows::head_stay::counts;
 use crate::tests::rows::readers::{
     Shared, ends_no_read, ends_no_write, ends_read, is_one_too_many, reads_to_the_limit,
     starts_read, starts_write, writes,
@@ -25,7 +28,9 @@ fn trip_to<R: Abort, const N: usize>(rt: &R, alloc: Global, cylinders: [u16; N])
 }
 
 // A disk whose drive has been at this cylinder.
-fn disk<R: Abort>(rt: &R, alloc: Global, cylinder: u16, cylmax: u16) -> Head<Trip> {
+fn disk<R: Abort>(rt: &R, alloc: Global, cylinder: u16, cylmax: u16) -> Head<Trip>
+    ensures { HeadRests result (nobody 0) (nobody 1) }
+{
     Head::with(trip_to(rt, alloc, [cylinder]), cylmax)
 }
 
@@ -45,6 +50,23 @@ fn finds_another_disk<R: Wait + Abort>(rt: &R, alloc: Global) {
     let found = disk(rt, alloc, 2, 20);
     let (fake, out) = with_answers(rt, alloc, disk(rt, alloc, 1, 10), [found]);
     is_refused_late(rt, &fake, out);
+}
+
+// Goes to 5, and waits for a request of 8, which finds the drive in: nobody is due where it then is.
+fn waits_and_counts<R: Wait + Abort, M: Monitor<Head<Trip>>>(rt: &R, m: &M, out: M::Out)
+    requires { M.is_of m.now out }
+{
+    let (out, drive) = counts(rt, m, out, 5);
+    expect_same(rt, drive.as_slice(), [1, 5, 0].as_slice());
+    let (_out, other) = counts(rt, m, out, 8);
+    expect_same(rt, other.as_slice(), [2, 8, 0].as_slice());
+}
+
+// A request waits for the drive, and finds it.
+fn finds_the_drive<R: Wait + Abort>(rt: &R, alloc: Global) {
+    let found = disk(rt, alloc, 2, 10);
+    let (fake, out) = with_answers(rt, alloc, disk(rt, alloc, 1, 10), [found]);
+    waits_and_counts(rt, &fake, out);
 }
 
 // Goes to the last cylinder of a disk, and is refused the one past it, with this trip to hand in where one is.
@@ -150,6 +172,7 @@ fn meets_late_readers<R: Wait + Abort>(rt: &R, alloc: Global) {
 #[derive(Clone, Copy)]
 enum SweepRow {
     FindsAnotherDisk,
+    FindsTheDrive,
     /// The last cylinder.
     GoesToTheLast(u16),
     ReadsAndWrites,
@@ -160,6 +183,7 @@ enum SweepRow {
 fn acts<R: Wait + Abort>(rt: &R, alloc: Global, row: SweepRow) {
     match row {
         SweepRow::FindsAnotherDisk => finds_another_disk(rt, alloc),
+        SweepRow::FindsTheDrive => finds_the_drive(rt, alloc),
         SweepRow::GoesToTheLast(cylmax) => goes_to_the_last(rt, alloc, cylmax),
         SweepRow::ReadsAndWrites => reads_and_writes(rt, alloc),
         SweepRow::MeetsLateReaders => meets_late_readers(rt, alloc),
@@ -174,6 +198,11 @@ fn runs<R: Threads + Wait + Abort + Clock + Sync>(rt: &R, alloc: Global, row: Sw
 #[test]
 fn late_off_disk(rt: HostRuntime) {
     runs(&rt, rt.alloc(), SweepRow::FindsAnotherDisk);
+}
+
+#[test]
+fn nobody_is_due_where_nobody_waits(rt: HostRuntime) {
+    runs(&rt, rt.alloc(), SweepRow::FindsTheDrive);
 }
 
 #[test]

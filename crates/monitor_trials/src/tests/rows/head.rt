@@ -4,6 +4,7 @@ ghost use Rattle.hoare_law.specs.Priorities.{nobody};
 ghost use Rattle.sweep_schedulers.specs.Heads.{HeadRests};
 
 use crate::tests::compared::expect_same;
+use crate::tests::rows::head_stay::{ASKING, asks_or_counts};
 use crate::tests::rows::head_stress::{CYLMAX, Line, PLACES, is_a_sweep, travels};
 use crate::tests::rows::shared_log::Log;
 use crate::tests::rows::turns::{Turns, line_up};
@@ -186,6 +187,8 @@ pub fn disk(alloc: Global, cylmax: u16) -> Head<Trip>
 enum HeadRow<'a> {
     /// In the turns and as planned.
     ByPlan(Global, &'a Turns, &'a Plan<'a>),
+    /// In the turns: one asks for the cylinder where the drive is, and the grants that are due there are counted.
+    StayCountsGrants(&'a Turns),
     /// Its places write down what they do.
     TheDriveGoesBySweeps(&'a Log<Line>),
 }
@@ -206,16 +209,17 @@ fn acts<R: Wait + Abort + Clock, M: Monitor<Head<Trip>>>(
         HeadRow::ByPlan(alloc, turns, plan) => {
             leads_or_follows(rt, m, out, place, alloc, turns, plan)
         }
+        HeadRow::StayCountsGrants(turns) => (asks_or_counts(rt, m, out, place, turns), 0),
         HeadRow::TheDriveGoesBySweeps(log) => travels(rt, m, out, place, log),
     }
 }
 
-/// Each cylinder in the order of a sweep.
+/// Each cylinder in the order of a sweep. Who asks for the cylinder under the head waits for the way back.
 const SWEEP_ORDER: Plan<'static> = Plan {
     is_idle_once: false,
     dests: &[70, 60, 20, 50, 40],
     last: 0,
-    trip: &[50, 50, 60, 70, 40, 20, 0],
+    trip: &[50, 60, 70, 50, 40, 20, 0],
 };
 
 /// A release to nobody turns the head.
@@ -230,6 +234,7 @@ const IDLE_RELEASE_TURNS: Plan<'static> = Plan {
 fn setting(row: HeadRow<'_>) -> (u16, usize) {
     match row {
         HeadRow::ByPlan(_, _, plan) => (100, plan.dests.len() + 1),
+        HeadRow::StayCountsGrants(_) => (100, ASKING),
         HeadRow::TheDriveGoesBySweeps(_) => (CYLMAX, PLACES),
     }
 }
@@ -243,6 +248,7 @@ fn a_disk_head_on_both_doors(host: HostRuntime) {
         for row in [
             HeadRow::ByPlan(alloc, &turns, &SWEEP_ORDER),
             HeadRow::ByPlan(alloc, &turns, &IDLE_RELEASE_TURNS),
+            HeadRow::StayCountsGrants(&turns),
             HeadRow::TheDriveGoesBySweeps(&log),
         ] {
             let (cylmax, places) = setting(row);

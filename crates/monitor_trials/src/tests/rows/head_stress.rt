@@ -47,9 +47,9 @@ struct Elevator {
 }
 
 impl Elevator {
-    // The way on which the drive comes to the cylinder: it is before it, or under it and the drive goes this way.
+    // The way on which the drive comes to the cylinder: it is before it, or under it and the drive goes the other way.
     fn is_above(&self, dest: u16) -> bool {
-        self.at < dest || (self.at == dest && self.goes_up)
+        self.at < dest || (self.at == dest && !self.goes_up)
     }
 
     // The nearest cylinder that is wished for on this way.

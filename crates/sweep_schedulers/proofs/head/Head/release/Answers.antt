@@ -1,4 +1,4 @@
-use Rattle.std.proofs.Common.{◌∙◌, refl, rules}
+use Rattle.std.proofs.Common.{◌≡◌, ◌∙◌, None, refl, rules}
 use Rattle.hoare_law.proofs.Growth.{leaves-as}
 use Rattle.sweep_schedulers.specs.HeadTraces.{put_in, refused}
 use Rattle.sweep_schedulers.proofs.Sweeps.{HandsOn-as}
@@ -8,6 +8,15 @@ pub returns-then-not-is_busy-clause-trace : goal.returns-then-not-is_busy-clause
 returns-then-not-is_busy-clause-trace g c =
     refused _ _ c.enter-inside.ensures.front (search rules)
     (leaves-as c.leave.ensures.front c.enter-inside.ensures.place refl refl)
+
+pub hand_on-requires-clause-stay : goal.hand_on-requires-clause-stay
+hand_on-requires-clause-stay g c =
+    let met = g.met.M.Monitor in
+    let found = g.M.Monitor.data_in c.enter-inside.result in
+    let state = met.takes_data c.enter-inside.result c.put.new.self ∙ (rw c.state_mut.ensures.value at c.put.ensures) in
+    let lists = met.keeps_lists c.enter-inside.result c.put.new.self in
+    let busy : found.drive ≡ None = search rules in
+    λ κs within. rw (state, lists) (c.enter-inside.ensures.rest.stay busy)
 
 pub returns-clause-trace : goal.returns-clause-trace
 returns-clause-trace g c =

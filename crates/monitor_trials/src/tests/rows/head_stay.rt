@@ -1,0 +1,114 @@
+//! Who asks for the cylinder under the head waits for the other sweep, and the head counts the grants that are still
+//! due there.
+ghost use Rattle.std.specs.Prelude.{◌≡◌};
+
+use crate::tests::compared::expect_same;
+use crate::tests::rows::head::{Trip, goes, hands_on};
+use crate::tests::rows::turns::{Turns, line_up, watch};
+use hoare_law::monitor::Monitor;
+use std::process::Abort;
+use std::rt::Clock;
+use std::sync::Wait;
+use sweep_schedulers::head::Head;
+
+/// How many places ask.
+pub const ASKING: usize = 5;
+
+/// Takes the drive to the cylinder, and writes behind it how many grants are then due there: `stay`.
+pub fn counts<R: Wait + Abort, M: Monitor<Head<Trip>>>(
+    rt: &R,
+    m: &M,
+    out: M::Out,
+    dest: u16,
+) -> (M::Out, Trip)
+    requires { M.is_of m.now out }
+    ensures of { M.is_of m.now result.0 }
+    ensures place { M.place result.0 ≡ M.place out }
+{
+    let (out, drive) = goes(rt, m, out, dest);
+    let inside = m.enter(rt, out);
+    let stay = m.state(&inside).stay();
+    let out = m.leave(rt, inside);
+    let mut drive = drive;
+    let few = u16::try_from(stay).expect(rt, "at most 64 wait");
+    drive.push(few).expect(rt, "memory");
+    (out, drive)
+}
+
+/// Takes the drive to cylinder 10, and hands it on once three others wait.
+fn leads<R: Wait + Abort, M: Monitor<Head<Trip>>>(
+    rt: &R,
+    m: &M,
+    out: M::Out,
+    turns: &Turns,
+) -> M::Out
+    requires { M.is_of m.now out }
+    ensures of { M.is_of m.now result }
+    ensures place { M.place result ≡ M.place out }
+{
+    let (out, drive) = counts(rt, m, out, 10);
+    let out = line_up(rt, m, out, turns, 3);
+    hands_on(rt, m, out, drive)
+}
+
+/// Takes the drive to cylinder 20, and hands it on once the last place waits too, which asks for this cylinder.
+fn lets_one_ask<R: Wait + Abort, M: Monitor<Head<Trip>>>(
+    rt: &R,
+    m: &M,
+    out: M::Out,
+    turns: &Turns,
+) -> M::Out
+    requires { M.is_of m.now out }
+    ensures of { M.is_of m.now result }
+    ensures place { M.place result ≡ M.place out }
+{
+    let (out, drive) = counts(rt, m, out, 20);
+    turns.give(4);
+    let out = watch(rt, m, out, 3);
+    hands_on(rt, m, out, drive)
+}
+
+/// Takes the drive to cylinder 20, when all others had it. The drive has to have been where the order says, with so
+/// many due.
+fn ends<R: Wait + Abort, M: Monitor<Head<Trip>>>(
+    rt: &R,
+    m: &M,
+    out: M::Out,
+    turns: &Turns,
+) -> M::Out
+    requires { M.is_of m.now out }
+    ensures of { M.is_of m.now result }
+    ensures place { M.place result ≡ M.place out }
+{
+    let (out, drive) = counts(rt, m, out, 20);
+    let order = [10, 0, 20, 1, 20, 0, 30, 0, 20, 0];
+    expect_same(rt, drive.as_slice(), order.as_slice());
+    turns.start_again();
+    hands_on(rt, m, out, drive)
+}
+
+/// What each place does: the places 1 and 2 ask for cylinder 20, place 3 for 30, and place 4 for 20 when place 1 has
+/// the drive there.
+pub fn asks_or_counts<R: Wait + Abort + Clock, M: Monitor<Head<Trip>>>(
+    rt: &R,
+    m: &M,
+    out: M::Out,
+    place: usize,
+    turns: &Turns,
+) -> M::Out
+    requires { M.is_of m.now out }
+    ensures of { M.is_of m.now result }
+    ensures place { M.place result ≡ M.place out }
+{
+    turns.await_turn(rt, place);
+    match place {
+        0 => leads(rt, m, out, turns),
+        1 => lets_one_ask(rt, m, out, turns),
+        4 => ends(rt, m, out, turns),
+        _ => {
+            let dest = if place == 2 { 20 } else { 30 };
+            let (out, drive) = counts(rt, m, out, dest);
+            hands_on(rt, m, out, drive)
+        }
+    }
+}

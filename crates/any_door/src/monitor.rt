@@ -33,6 +33,14 @@ impl<D: MonitorData> Turnstile<D> for AnyDoor<D> {
         }
     }
 
+    #[inline]
+    fn try_admit(&self, seat: &mut DoorSeat<D>, place: usize) -> Option<Parcel<D>> {
+        match self {
+            AnyDoor::Baton(door) => door.try_admit(seat, place),
+            AnyDoor::Ticket(door) => door.try_admit(seat, place),
+        }
+    }
+
     fn claim<R: Wait>(
         &self,
         rt: &R,
@@ -119,6 +127,11 @@ impl<D: MonitorData + Send> Monitor<D> for AnyDoor<D> {
     #[inline]
     fn enter<R: Wait>(&self, rt: &R, out: Outside<D>) -> Inside<D> {
         calls::enter(self, rt, out)
+    }
+
+    #[inline]
+    fn try_enter(&self, out: Outside<D>) -> Result<Inside<D>, Outside<D>> {
+        calls::try_enter(self, out)
     }
 
     #[inline]

@@ -20,7 +20,7 @@ use Rattle.wait_book.specs.declared.steps.Next.{Next}
 use Rattle.wait_book.specs.Contents.{IsOf}
 use Rattle.door_frame.specs.declared.parcel.Lodged.{Lodged}
 use Rattle.door_frame.specs.declared.view.View.TheVariants.{Unopened, Opening}
-use Rattle.door_frame.specs.Rule.{Cells, Tickets, Kept}
+use Rattle.door_frame.specs.Rule.{Cells, Tokens, Kept}
 use Rattle.door_frame.specs.Steps.{Sat, Gives, Notes, begins, opens, gives_as, notes_as, due}
 use Rattle.door_frame.specs.Views.{alone}
 use Rattle.door_frame.proofs.Steps as frame
@@ -57,17 +57,17 @@ module _ {D : Type 0} where
   opened_tells kinds n s ws b = record {
     words_are = length-set ws 0 0 ∙ b.words_are;
     word = written ws 0 b.words_are;
-    no_tickets = λ k. refl;
+    no_tokens = λ k. refl;
   }
 
   -- the word is set to what the turn after is
-  rewritten : (f h : History D) (tickets : Tickets) (ws : List ℕ) (w : ℕ) → word_of (turn h.events) ≡ w
-      → Tells f tickets ws
-      → Tells h tickets (set ws 0 w)
-  rewritten f h tickets ws w is t = record {
+  rewritten : (f h : History D) (tokens : Tokens) (ws : List ℕ) (w : ℕ) → word_of (turn h.events) ≡ w
+      → Tells f tokens ws
+      → Tells h tokens (set ws 0 w)
+  rewritten f h tokens ws w is t = record {
     words_are = length-set ws 0 w ∙ t.words_are;
     word = written ws w t.words_are ∙ sym is;
-    no_tickets = t.no_tickets;
+    no_tokens = t.no_tokens;
   }
 
   module _ (rest : Rest D) (ready : Ready D) (kinds : Kinds) (n : ℕ) where
@@ -101,18 +101,18 @@ module _ {D : Type 0} where
         (λ r m' c j g is.
         let q = frame.alone_is k j f g [] [] is in
         subst (λ (p : ℕ × History D). ComesAt expected rest ready event p.0 p.1 me r m') (λ i. (q.0 i, q.1 i)) c)
-        (frame.comes_ok Starts Tells rest ready kinds n slots id k 0 f None (event k f) (taken_at expected) (λ r. r ≡ expected) (λ log. Unit {0})
+        (frame.comes_ok Starts Tells rest ready kinds n slots id k 0 f None None (event k f) (taken_at expected) (λ r. r ≡ expected) (λ log. Unit {0})
         (λ r. ℕ_discrete r expected)
-        (λ log tickets ws small t miss. taken_at-miss expected (get_or ws 0 0) miss) brings))
+        (λ log tokens ws small t miss. taken_at-miss expected (get_or ws 0 0) miss) brings))
       where
         me : Sat D
         me = (alone k f, [])
 
-        brings : (log : History D) (tickets : Tickets) (ws : List ℕ) → Stands rest ready log → log.sizes.places ≡ n
+        brings : (log : History D) (tokens : Tokens) (ws : List ℕ) → Stands rest ready log → log.sizes.places ≡ n
             → k < n
-            → own k log.events ≡ own k f.events → tickets k ≡ None → Tells log tickets ws → get_or ws 0 0 ≡ expected
-            → frame.BringsIn Starts Tells rest ready kinds k 0 (taken_at expected) (λ log. Unit {0}) log tickets ws (event k f (latest_data log))
-        brings log tickets ws stands places small same no_ticket t hit =
+            → own k log.events ≡ own k f.events → tokens k ≡ None → Tells log tokens ws → get_or ws 0 0 ≡ expected
+            → frame.BringsIn Starts Tells rest ready kinds k 0 None (taken_at expected) (λ log. Unit {0}) log tokens ws (event k f (latest_data log))
+        brings log tokens ws stands places small same no_token t hit =
             let e = enters log stands (subst (λ (m : ℕ). k < m) (sym places) small) same (sym t.word ∙ hit) in
             let h : History D = with_event log (event k f (latest_data log)) in record {
               given_up = e.0;
@@ -121,11 +121,11 @@ module _ {D : Type 0} where
               mine = e.1.mine;
               inside = e.1.inside;
               also = tt;
-              tickets' = tickets;
-              no_ticket = no_ticket;
+              tokens' = tokens;
+              token_now = no_token;
               others = λ j ne. refl;
-              tells = subst (λ (w : ℕ). Tells h tickets (set ws 0 w)) (sym (taken_at-hit expected (get_or ws 0 0) hit))
-                  (rewritten log h tickets ws 1 (ap word_of e.1.inside) t);
+              tells = subst (λ (w : ℕ). Tells h tokens (set ws 0 w)) (sym (taken_at-hit expected (get_or ws 0 0) hit))
+                  (rewritten log h tokens ws 1 (ap word_of e.1.inside) t);
             }
 
     -- a newcomer where it is nobody's turn
@@ -151,9 +151,9 @@ module _ {D : Type 0} where
     gives_at slots id k f x who event m w is p word =
         subst (λ (q : Sat D). Allows K slots id q 0 (λ _. w) (λ _. gives_as event (step slots 0 w 0 none) q w)) (sym is)
         (frame.gives_ok Starts Tells rest ready kinds n slots id k 0 (λ _. w) f x who event (step slots 0 w 0 none) p
-        (λ tickets ws places small t.
+        (λ tokens ws places small t.
         let h : History D = with_event f (event x.state) in
-        rewritten f h tickets ws w (sym (word_of-next (turn h.events)) ∙ ap word_of_next (sym p.next_is) ∙ sym word) t))
+        rewritten f h tokens ws w (sym (word_of-next (turn h.events)) ∙ ap word_of_next (sym p.next_is) ∙ sym word) t))
 
     -- who is inside calls others: the word stays
     pub notes_at : (slots id k : ℕ) (f : History D) (event : History D → Event D) (m : Sat D)
@@ -161,8 +161,8 @@ module _ {D : Type 0} where
         → Notes rest ready (event f) k f → Allows K slots id m 0 (λ r. r) (notes_as event (step slots 0 0 0 none) m)
     notes_at slots id k f event m is p =
         frame.notes_at Starts Tells rest ready kinds n slots id k 0 f event (step slots 0 0 0 none) m is p
-        (λ tickets ws t. record {
+        (λ tokens ws t. record {
           words_are = t.words_are;
           word = t.word ∙ ap word_of (p.inside ∙ sym p.stays);
-          no_tickets = t.no_tickets;
+          no_tokens = t.no_tokens;
         })

@@ -4,7 +4,7 @@ use Rattle.hoare_law.specs.declared.event.History.{History}
 use Rattle.hoare_law.specs.declared.turn.Turn.{Turn}
 use Rattle.hoare_law.specs.declared.turn.Turn.TheVariants.{Free, Held, Owed, Return}
 use Rattle.hoare_law.specs.Turns.{turn}
-use Rattle.door_frame.specs.Rule.{Tickets}
+use Rattle.door_frame.specs.Rule.{Tokens}
 
 -- the door's word, by whose turn it is: 0 free, 1 held, 2 + k owed to place k
 abbrev pub word_of : Turn → ℕ
@@ -21,10 +21,10 @@ pub record Starts (begun : Bool) (words : List ℕ) : Type 0 where
   pub word : slice_index words 0 ≡ (if begun then 1 else 0)
 
 -- the word says whose turn it is
-pub record Tells {D : Type 0} (log : History D) (tickets : Tickets) (words : List ℕ) : Type 0 where
+pub record Tells {D : Type 0} (log : History D) (tokens : Tokens) (words : List ℕ) : Type 0 where
   pub words_are : length words ≡ 8
   pub word : slice_index words 0 ≡ word_of (turn log.events)
-  pub no_tickets : (k : ℕ) → tickets k ≡ None
+  pub no_tokens : (k : ℕ) → tokens k ≡ None
 
 -- the door's sizes: how many words and slots its table has, how many places there are, and how many wakers
 pub record Sized (words slots places wakers : ℕ) : Type 0 where

@@ -38,6 +38,15 @@ impl<D: MonitorData> Turnstile<D> for Door<D> {
         take_parcel(&self.table, seat)
     }
 
+    /// One try: "no" where its exchange doesn't find `FREE`.
+    #[inline]
+    fn try_admit(&self, seat: &mut DoorSeat<D>, place: usize) -> Option<Parcel<D>> {
+        if !self.try_in(seat) {
+            return None;
+        }
+        Some(take_parcel(&self.table, seat))
+    }
+
     /// It looks a while, then tests the word and parks, until the test finds that the monitor is owed to the place.
     fn claim<R: Wait>(
         &self,
@@ -129,6 +138,11 @@ impl<D: MonitorData + Send> Monitor<D> for Door<D> {
     #[inline]
     fn enter<R: Wait>(&self, rt: &R, out: DoorOut<D>) -> DoorIn<D> {
         calls::enter(self, rt, out)
+    }
+
+    #[inline]
+    fn try_enter(&self, out: DoorOut<D>) -> Result<DoorIn<D>, DoorOut<D>> {
+        calls::try_enter(self, out)
     }
 
     #[inline]

@@ -19,7 +19,7 @@ use Rattle.door_frame.specs.declared.view.Knowledge.{Knowledge}
 use Rattle.door_frame.specs.declared.view.View.{View}
 use Rattle.door_frame.specs.declared.view.View.TheVariants.{Places}
 use Rattle.door_frame.specs.Places.{DoorId, PlaceOut, HasPlace, IsTold, IsOut, Closes}
-use Rattle.door_frame.specs.Rule.{Tickets, Agrees, Kept}
+use Rattle.door_frame.specs.Rule.{Tokens, Agrees, Kept}
 use Rattle.door_frame.specs.Views.{knows, alone, Each, both_places, no_places}
 use Rattle.door_frame.proofs.Steps.{running, joins_ok, given_up_free}
 
@@ -34,12 +34,12 @@ module _ {D : Type 0} where
   known_to [] = []
   known_to (o ∷ os) = knows o.place o.front None ∷ known_to os
 
-  told_all : (n : ℕ) (log : History D) (owner : ℕ → ℕ) (tickets : Tickets) (id : ℕ) (os : List (PlaceOut D))
-      → Each (Agrees n log owner tickets id) (known_to os) → All (IsTold log) os
-  told_all n log owner tickets id [] agree = All-nil (IsTold log)
-  told_all n log owner tickets id (o ∷ os) agree =
+  told_all : (n : ℕ) (log : History D) (owner : ℕ → ℕ) (tokens : Tokens) (id : ℕ) (os : List (PlaceOut D))
+      → Each (Agrees n log owner tokens id) (known_to os) → All (IsTold log) os
+  told_all n log owner tokens id [] agree = All-nil (IsTold log)
+  told_all n log owner tokens id (o ∷ os) agree =
       All-cons (IsTold log) o os (record { begins = agree.0.begins; own_are = agree.0.own_are })
-      (told_all n log owner tickets id os agree.1)
+      (told_all n log owner tokens id os agree.1)
 
   -- what is found in the slot at the end
   pub record Ends (rest : Rest D) (ready : Ready D) (kinds : Kinds) (d : DoorId) (os : List (PlaceOut D))
@@ -47,21 +47,21 @@ module _ {D : Type 0} where
     pub closes : Closes rest ready kinds d os x.state
     pub rests : rest x.state nobody
 
-  module _ (Starts : Bool → List ℕ → Type 0) (Tells : History D → Tickets → List ℕ → Type 0) (rest : Rest D)
+  module _ (Starts : Bool → List ℕ → Type 0) (Tells : History D → Tokens → List ℕ → Type 0) (rest : Rest D)
       (ready : Ready D)
       (kinds : Kinds) (d : DoorId) where
     abbrev Of : PlaceOut D → Type 0
     Of = IsOut rest ready kinds d
 
-    outside_at : (k : ℕ) (log : History D) (owner : ℕ → ℕ) (tickets : Tickets) (id : ℕ) (os : List (PlaceOut D))
+    outside_at : (k : ℕ) (log : History D) (owner : ℕ → ℕ) (tokens : Tokens) (id : ℕ) (os : List (PlaceOut D))
         → All Of os
-        → Each (Agrees d.places log owner tickets id) (known_to os) → HasPlace k os → outside k log.events ≡ true
-    outside_at k log owner tickets id [] outs agree at = absurd at
-    outside_at k log owner tickets id (o ∷ os) outs agree (inl e) =
+        → Each (Agrees d.places log owner tokens id) (known_to os) → HasPlace k os → outside k log.events ≡ true
+    outside_at k log owner tokens id [] outs agree at = absurd at
+    outside_at k log owner tokens id (o ∷ os) outs agree (inl e) =
         subst (λ (j : ℕ). outside j log.events ≡ true) e
         (outside-same o.place o.front log agree.0.own_are (All-head Of o os outs).is_outside)
-    outside_at k log owner tickets id (o ∷ os) outs agree (inr at) =
-        outside_at k log owner tickets id os (All-tail Of o os outs) agree.1 at
+    outside_at k log owner tokens id (o ∷ os) outs agree (inr at) =
+        outside_at k log owner tokens id os (All-tail Of o os outs) agree.1 at
 
     -- the slot is at home, with what one legal and lawful history left
     ends : (id : ℕ) (v : View D) (os : List (PlaceOut D)) (ws : List ℕ) (xs : List (Option (Lodged D)))
@@ -74,7 +74,7 @@ module _ {D : Type 0} where
         let r = running Starts Tells rest ready kinds d.places fin.0 fin.1.0 id (known_to os) at in
         let agree = r.fronts id (Places (known_to os)) at in
         let out : AllOutside r.log =
-        λ k small. outside_at k r.log r.owner r.tickets id os outs agree (all k (subst (λ (m : Sizes). k < m.places) r.sized small)) in
+        λ k small. outside_at k r.log r.owner r.tokens id os outs agree (all k (subst (λ (m : Sizes). k < m.places) r.sized small)) in
         let home = r.home (given_up_free (turn r.log.events) (turn-ended r.log r.stands.legal out)) in (
           home.0,
           fin.4 0 (Some home.0) home.1,
@@ -83,7 +83,7 @@ module _ {D : Type 0} where
               history = r.log;
               sized = r.sized;
               stands = r.stands;
-              told = told_all d.places r.log r.owner r.tickets id os agree;
+              told = told_all d.places r.log r.owner r.tokens id os agree;
               latest = home.2.latest;
             };
             rests = subst (λ (s : D). rest s nobody) (sym home.2.latest) (rest-ended rest ready r.log r.stands out);

@@ -30,7 +30,7 @@ use Rattle.wait_book.proofs.WithData.{IsOf-notify, IsOf-broadcast}
 use Rattle.door_frame.specs.declared.notice.Notice.{Notice}
 use Rattle.door_frame.specs.declared.notice.Notice.TheVariants.{Notify, Broadcast}
 use Rattle.door_frame.specs.declared.parcel.Lodged.{Lodged}
-use Rattle.door_frame.specs.Notices.{chosen_place, event_of_notice}
+use Rattle.door_frame.specs.Notices.{chosen_place, event_of_notice, called_on, after_notice, Noted}
 use Rattle.door_frame.specs.Places.{DoorId, IsIn, PlaceIn, place_in}
 use Rattle.door_frame.specs.Steps.{Sat, Notes}
 use Rattle.door_frame.proofs.Departures.{sized_here}
@@ -71,14 +71,6 @@ module _ {D : Type 0} where
   unfolding with_event
   listed-broadcast f k c s held = priorities-broadcast f.events k c s held
 
-  -- what a notice says of the place inside: it is j, and was i
-  pub record Noted (rest : Rest D) (ready : Ready D) (kinds : Kinds) (d : DoorId) (i : PlaceIn D)
-      (notice : Notice) (j : PlaceIn D) : Type 0 where
-    pub of : IsIn rest ready kinds d j
-    pub place : j.place ≡ i.place
-    pub data_are : j.state ≡ i.state
-    pub front : j.front ≡ with_event i.front (event_of_notice i.place notice i.state i.front)
-
   module _ {rest : Rest D} {ready : Ready D} {kinds : Kinds} {d : DoorId} {i : PlaceIn D} where
     -- so after a notify where somebody waits
     pub notified : (c : ℕ) {j : PlaceIn D} → IsIn rest ready kinds d i → priorities i.front.events c ≢ []
@@ -112,8 +104,7 @@ module _ {D : Type 0} where
           → waiting c f.events ≢ []
       somebody_waits c h some = λ none. some_listed c h some (priorities-nobody c f.events none)
 
-      -- it may call
-      pub notes_notify : (c : ℕ) → Holds rest ready kinds d i t k f me x → IsMesa kinds.conditions kinds.mesa c
+      notes_notify : (c : ℕ) → Holds rest ready kinds d i t k f me x → IsMesa kinds.conditions kinds.mesa c
           → priorities i.front.events c ≢ [] → Notes rest ready (event_of_notice k (Notify c) x.state f) k f
       notes_notify c h mesa_c some =
           let legal = h.within.stands.legal in
@@ -129,7 +120,7 @@ module _ {D : Type 0} where
             stays = turn-notify f k c (place_of e.0) x.state;
           })
 
-      pub notes_broadcast : (c : ℕ) → Holds rest ready kinds d i t k f me x → IsMesa kinds.conditions kinds.mesa c
+      notes_broadcast : (c : ℕ) → Holds rest ready kinds d i t k f me x → IsMesa kinds.conditions kinds.mesa c
           → priorities i.front.events c ≢ [] → Notes rest ready (event_of_notice k (Broadcast c) x.state f) k f
       notes_broadcast c h mesa_c some =
           let legal = h.within.stands.legal in
@@ -143,8 +134,14 @@ module _ {D : Type 0} where
             stays = turn-broadcast f k c x.state;
           }
 
-      -- the book in hand is then of the front
-      pub book_notified : (c : ℕ) (b : Contents) → Holds rest ready kinds d i t k f me x
+      -- it may call
+      pub notes_notice : (notice : Notice) → Holds rest ready kinds d i t k f me x
+          → IsMesa kinds.conditions kinds.mesa (called_on notice) → priorities i.front.events (called_on notice) ≢ []
+          → Notes rest ready (event_of_notice k notice x.state f) k f
+      notes_notice (Notify c) h mesa_c some = notes_notify c h mesa_c some
+      notes_notice (Broadcast c) h mesa_c some = notes_broadcast c h mesa_c some
+
+      book_notified : (c : ℕ) (b : Contents) → Holds rest ready kinds d i t k f me x
           → priorities i.front.events c ≢ [] → IsOf b (after_notify (erased f) k c (chosen c (erased f).events))
           → IsOf b (erased (with_event f (event_of_notice k (Notify c) x.state f)))
       book_notified c b h some o =
@@ -153,10 +150,17 @@ module _ {D : Type 0} where
           (sym (chosen_place-is c f.events e.0 e.1))
           (IsOf-notify b f k c e.0 x.state e.1 o)
 
-      pub book_all_called : (c : ℕ) (b : Contents) → Holds rest ready kinds d i t k f me x
+      book_all_called : (c : ℕ) (b : Contents) → Holds rest ready kinds d i t k f me x
           → priorities i.front.events c ≢ [] → IsOf b (after_broadcast (erased f) k c (waiting c (erased f).events))
           → IsOf b (erased (with_event f (event_of_notice k (Broadcast c) x.state f)))
       book_all_called c b h some o = IsOf-broadcast b f k c x.state (somebody_waits c h some) o
+
+      -- the book in hand is then of the front
+      pub book_noticed : (notice : Notice) (b : Contents) → Holds rest ready kinds d i t k f me x
+          → priorities i.front.events (called_on notice) ≢ [] → IsOf b (after_notice (erased f) k notice)
+          → IsOf b (erased (with_event f (event_of_notice k notice x.state f)))
+      book_noticed (Notify c) b h some o = book_notified c b h some o
+      book_noticed (Broadcast c) b h some o = book_all_called c b h some o
 
       -- and the place inside is what the call says
       pub noted : (notice : Notice) {z : TableId} {s : D} {me' : Sat D} (is : is_alone me'.0 ≡ true)

@@ -34,10 +34,11 @@ use Rattle.wait_book.specs.Contents.{IsOf}
 use Rattle.wait_book.specs.declared.steps.Next.{Next}
 use Rattle.door_frame.specs.declared.parcel.Lodged.{Lodged}
 use Rattle.door_frame.specs.declared.view.Knowledge.{Knowledge}
+use Rattle.door_frame.specs.declared.view.Token.{Token}
 use Rattle.door_frame.specs.declared.view.View.{View}
 use Rattle.door_frame.specs.declared.view.View.TheVariants.{Unopened, Opening, Places}
-use Rattle.door_frame.specs.Rule.{Tickets, Cells, Agrees, Lies, Running, Kept, raw, lent, runs}
-use Rattle.door_frame.specs.Steps.{Sat, due, due_by, begins, opens, gives_as, Gives, notes_as, Notes, Comes, Known}
+use Rattle.door_frame.specs.Rule.{Tokens, Cells, Agrees, Lies, Running, Kept, raw, lent, runs}
+use Rattle.door_frame.specs.Steps.{Sat, due, due_by, begins, opens, gives_as, Gives, notes_as, Notes, ComesWith, Known}
 use Rattle.door_frame.specs.Steps.{Learns, learns}
 use Rattle.door_frame.specs.Views.{knows, sole, alone, all_know, Each, EachOf, Without, Apart, ApartOf, knowing}
 use Rattle.door_frame.specs.Views.{places_behind, first_place, no_places}
@@ -74,30 +75,30 @@ module _ {D : Type 0} where
   lodged_or d _ = d
 
   -- a place that did nothing still fits where the log grows
-  grows : (n : ℕ) (log : History D) (owner : ℕ → ℕ) (tickets tickets' : Tickets) (j : ℕ) (e : Event D) (t : Knowledge D)
-      → place_of e ≢ t.place → tickets' t.place ≡ tickets t.place
-      → Agrees n log owner tickets j t → Agrees n (with_event log e) owner tickets' j t
+  grows : (n : ℕ) (log : History D) (owner : ℕ → ℕ) (tokens tokens' : Tokens) (j : ℕ) (e : Event D) (t : Knowledge D)
+      → place_of e ≢ t.place → tokens' t.place ≡ tokens t.place
+      → Agrees n log owner tokens j t → Agrees n (with_event log e) owner tokens' j t
   unfolding with_event
-  grows n log owner tickets tickets' j e t other same h = record {
+  grows n log owner tokens tokens' j e t other same h = record {
     below = h.below;
     owned = h.owned;
     begins = Begins-trans h.begins (Begins-push log e);
     own_are = own-push t.place log.events e ∙ ap (λ b. own t.place log.events ++ cond b (e ∷ []) []) (ne_eqb (place_of e) t.place other) ∙ append-nil (own t.place log.events) ∙ h.own_are;
-    ticket_is = same ∙ h.ticket_is;
+    token_is = same ∙ h.token_is;
   }
 
-  reowned : (n : ℕ) (log : History D) (owner owner' : ℕ → ℕ) (tickets : Tickets) (j j' : ℕ) (t : Knowledge D)
-      → owner' t.place ≡ j' → Agrees n log owner tickets j t → Agrees n log owner' tickets j' t
-  reowned n log owner owner' tickets j j' t o h =
-      record { below = h.below; owned = o; begins = h.begins; own_are = h.own_are; ticket_is = h.ticket_is }
+  reowned : (n : ℕ) (log : History D) (owner owner' : ℕ → ℕ) (tokens : Tokens) (j j' : ℕ) (t : Knowledge D)
+      → owner' t.place ≡ j' → Agrees n log owner tokens j t → Agrees n log owner' tokens j' t
+  reowned n log owner owner' tokens j j' t o h =
+      record { below = h.below; owned = o; begins = h.begins; own_are = h.own_are; token_is = h.token_is }
 
-  reticketed : (n : ℕ) (log : History D) (owner : ℕ → ℕ) (tickets tickets' : Tickets) (j : ℕ) (t : Knowledge D)
-      → tickets' t.place ≡ tickets t.place → Agrees n log owner tickets j t
-      → Agrees n log owner tickets' j t
-  reticketed n log owner tickets tickets' j t same h =
-      record { below = h.below; owned = h.owned; begins = h.begins; own_are = h.own_are; ticket_is = same ∙ h.ticket_is }
+  retokened : (n : ℕ) (log : History D) (owner : ℕ → ℕ) (tokens tokens' : Tokens) (j : ℕ) (t : Knowledge D)
+      → tokens' t.place ≡ tokens t.place → Agrees n log owner tokens j t
+      → Agrees n log owner tokens' j t
+  retokened n log owner tokens tokens' j t same h =
+      record { below = h.below; owned = h.owned; begins = h.begins; own_are = h.own_are; token_is = same ∙ h.token_is }
 
-  -- the place of a seat of one place, what it knows and its ticket
+  -- the place of a seat of one place, what it knows and its token
   abbrev pub acting : View D → ℕ
   acting (Places (t ∷ ts)) = t.place
   acting _ = 0
@@ -106,14 +107,14 @@ module _ {D : Type 0} where
   front_or d (Places (t ∷ ts)) = t.front
   front_or d _ = d
 
-  abbrev pub ticket_or : Option ℕ → View D → Option ℕ
-  ticket_or d (Places (t ∷ ts)) = t.ticket
-  ticket_or d _ = d
+  abbrev pub token_or : Option Token → View D → Option Token
+  token_or d (Places (t ∷ ts)) = t.token
+  token_or d _ = d
 
-  pub sole_is : (k j : ℕ) (f g : History D) (o p : Option ℕ) (c d : List (ℕ × Option (Lodged D)))
+  pub sole_is : (k j : ℕ) (f g : History D) (o p : Option Token) (c d : List (ℕ × Option (Lodged D)))
       → ◌≡◌ {A = Sat D} (sole k f o, c) (sole j g p, d) → (k ≡ j) × (f ≡ g) × (o ≡ p) × (c ≡ d)
   sole_is k j f g o p c d e =
-      (ap (λ (m : Sat D). acting m.0) e, ap (λ (m : Sat D). front_or f m.0) e, ap (λ (m : Sat D). ticket_or o m.0) e, ap (λ (m : Sat D). m.1) e)
+      (ap (λ (m : Sat D). acting m.0) e, ap (λ (m : Sat D). front_or f m.0) e, ap (λ (m : Sat D). token_or o m.0) e, ap (λ (m : Sat D). m.1) e)
 
   pub alone_is : (k j : ℕ) (f g : History D) (c d : List (ℕ × Option (Lodged D)))
       → ◌≡◌ {A = Sat D} (alone k f, c) (alone j g, d) → (k ≡ j) × (f ≡ g) × (c ≡ d)
@@ -163,7 +164,7 @@ module _ {D : Type 0} (rest : Rest D) (ready : Ready D) where
             inside = turn-push h.events (Back k s);
           })
 
-module _ {D : Type 0} (Starts : Bool → List ℕ → Type 0) (Tells : History D → Tickets → List ℕ → Type 0) (rest : Rest D)
+module _ {D : Type 0} (Starts : Bool → List ℕ → Type 0) (Tells : History D → Tokens → List ℕ → Type 0) (rest : Rest D)
     (ready : Ready D) (kinds : Kinds) where
   abbrev R : ℕ → Cells D → Type 0
   R = Running Starts Tells rest ready kinds
@@ -184,27 +185,27 @@ module _ {D : Type 0} (Starts : Bool → List ℕ → Type 0) (Tells : History D
       only (Opening n) (Places ts) id (ap (λ (x : List (View D)). get_elem? x id) (sym e) ∙ at) in
       absurd (cc)
 
-  -- the views where the seat id of the place k has another front and another ticket, and all else fits as before
-  agree_all : (n : ℕ) (s : Cells D) (r : R n s) (id k : ℕ) (f g h : History D) (o o' : Option ℕ) (tickets' : Tickets)
+  -- the views where the seat id of the place k has another front and another token, and all else fits as before
+  agree_all : (n : ℕ) (s : Cells D) (r : R n s) (id k : ℕ) (f g h : History D) (o o' : Option Token) (tokens' : Tokens)
       → get_elem? s.views id ≡ some (sole k f o)
-      → Agrees n h r.owner tickets' id (knows k g o')
-      → ((j : ℕ) (t : Knowledge D) → t.place ≢ k → Agrees n r.log r.owner r.tickets j t → Agrees n h r.owner tickets' j t)
+      → Agrees n h r.owner tokens' id (knows k g o')
+      → ((j : ℕ) (t : Knowledge D) → t.place ≢ k → Agrees n r.log r.owner r.tokens j t → Agrees n h r.owner tokens' j t)
       → (j : ℕ) (v : View D) → get_elem? (set s.views id (sole k g o')) j ≡ some v
-      → EachOf (Agrees n h r.owner tickets' j) v
-  agree_all n s r id k f g h o o' tickets' at here else_ j v got = let w : View D = sole k g o' in ⊎_elim
-      (λ (t : (j ≡ id) × (w ≡ v)). subst (λ (z : ℕ × View D). EachOf (Agrees n h r.owner tickets' z.0) z.1) (λ i. (sym t.0 i, t.1 i)) (here, tt))
+      → EachOf (Agrees n h r.owner tokens' j) v
+  agree_all n s r id k f g h o o' tokens' at here else_ j v got = let w : View D = sole k g o' in ⊎_elim
+      (λ (t : (j ≡ id) × (w ≡ v)). subst (λ (z : ℕ × View D). EachOf (Agrees n h r.owner tokens' z.0) z.1) (λ i. (sym t.0 i, t.1 i)) (here, tt))
       (λ (t : (j ≢ id) × (get_elem? s.views j ≡ some v)). kept_all v t.0 (r.fronts j v t.1))
       (at_set s.views id j w v got)
     where
-      kept_all : (u : View D) → j ≢ id → EachOf (Agrees n r.log r.owner r.tickets j) u
-          → EachOf (Agrees n h r.owner tickets' j) u
-      kept_all (Places ts) ne q0 = each_map (Agrees n r.log r.owner r.tickets j) (Agrees n h r.owner tickets' j)
+      kept_all : (u : View D) → j ≢ id → EachOf (Agrees n r.log r.owner r.tokens j) u
+          → EachOf (Agrees n h r.owner tokens' j) u
+      kept_all (Places ts) ne q0 = each_map (Agrees n r.log r.owner r.tokens j) (Agrees n h r.owner tokens' j)
           (λ u q. else_ j u (λ (same : u.place ≡ k). ne (sym q.owned ∙ (ap r.owner same ∙ (r.fronts id (sole k f o) at).0.owned))) q) ts q0
       kept_all (Unopened m) ne q0 = q0
       kept_all (Opening m) ne q0 = q0
 
   -- a seat of one place has it once
-  apart_sole : (n : ℕ) (s : Cells D) (r : R n s) (id k : ℕ) (g : History D) (o : Option ℕ) (j : ℕ) (v : View D)
+  apart_sole : (n : ℕ) (s : Cells D) (r : R n s) (id k : ℕ) (g : History D) (o : Option Token) (j : ℕ) (v : View D)
       → get_elem? (set s.views id (sole k g o)) j ≡ some v → ApartOf v
   apart_sole n s r id k g o j v got = ⊎_elim
       (λ (t : (j ≡ id) × (sole k g o ≡ v)). subst ApartOf t.1 (tt, tt))
@@ -212,24 +213,24 @@ module _ {D : Type 0} (Starts : Bool → List ℕ → Type 0) (Tells : History D
       (at_set s.views id j (sole k g o) v got)
 
   -- one event more, of the place k
-  adds : (n : ℕ) (s : Cells D) (r : R n s) (id k : ℕ) (f : History D) (o o' : Option ℕ) (tickets' : Tickets) (e : Event D) (words' : List ℕ) (homes' : Homes D)
+  adds : (n : ℕ) (s : Cells D) (r : R n s) (id k : ℕ) (f : History D) (o o' : Option Token) (tokens' : Tokens) (e : Event D) (words' : List ℕ) (homes' : Homes D)
       → get_elem? s.views id ≡ some (sole k f o) → place_of e ≡ k → Allowed r.log e → Owes rest ready r.log.events e
-      → length homes' ≡ 1 → tickets' k ≡ o' → ((j : ℕ) → j ≢ k → tickets' j ≡ r.tickets j)
-      → Tells (with_event r.log e) tickets' words'
+      → length homes' ≡ 1 → tokens' k ≡ o' → ((j : ℕ) → j ≢ k → tokens' j ≡ r.tokens j)
+      → Tells (with_event r.log e) tokens' words'
       → (IsGivenUp (turn (with_event r.log e).events) → (x : Lodged D) × (get_elem? homes' 0 ≡ some (some (Some x))) × Lies (with_event r.log e) x)
       → ((j : ℕ) → turn (with_event r.log e).events ≡ Held j → get_elem? homes' 0 ≡ some none)
       → R n record { words = words'; homes = homes'; views = set s.views id (sole k (with_event r.log e) o') }
-  adds n s r id k f o o' tickets' e words' homes' at mine may owes deep now others tells home out =
+  adds n s r id k f o o' tokens' e words' homes' at mine may owes deep now others tells home out =
       let fit = (r.fronts id (sole k f o) at).0 in let h : History D = with_event r.log e in
       let kept = sizes_kept (sizes_at kinds n) r.log e r.sized in record {
         log = h;
         owner = r.owner;
-        tickets = tickets';
+        tokens = tokens';
         one_slot = deep;
         sized = kept;
-        fronts = agree_all n s r id k f h h o o' tickets' at
-            (record { below = fit.below; owned = fit.owned; begins = Begins-refl h; own_are = refl; ticket_is = now })
-            (λ j t ne q. grows n r.log r.owner r.tickets tickets' j e t (λ same. ne (sym same ∙ mine)) (others t.place ne) q);
+        fronts = agree_all n s r id k f h h o o' tokens' at
+            (record { below = fit.below; owned = fit.owned; begins = Begins-refl h; own_are = refl; token_is = now })
+            (λ j t ne q. grows n r.log r.owner r.tokens tokens' j e t (λ same. ne (sym same ∙ mine)) (others t.place ne) q);
         apart = apart_sole n s r id k h o';
         stands = Stands-push e r.stands may owes;
         tells = tells;
@@ -237,27 +238,28 @@ module _ {D : Type 0} (Starts : Bool → List ℕ → Type 0) (Tells : History D
         out = out;
       }
 
-  -- the place k has another ticket, and the log stays
-  pub draws_ok : (n slots id k i : ℕ) (f : History D) (o : Option ℕ) (g : ℕ → ℕ) (Then : Option ℕ → ℕ → Type 0)
-      → ((log : History D) (tickets : Tickets) (ws : List ℕ) → k < n → tickets k ≡ o → Tells log tickets ws → (o' : Option ℕ) × (tickets' : Tickets) × (tickets' k ≡ o')
-      × ((j : ℕ) → j ≢ k → tickets' j ≡ tickets j) × Tells log tickets' (set ws i (g (get_or ws i 0))) × Then o'
+  -- the place k has another token, and the log and the slots in hand stay
+  pub draws_ok : (n slots id k i : ℕ) (f : History D) (o : Option Token) (c : List (ℕ × Option (Lodged D))) (g : ℕ → ℕ)
+      (Then : Option Token → ℕ → Type 0)
+      → ((log : History D) (tokens : Tokens) (ws : List ℕ) → k < n → tokens k ≡ o → Tells log tokens ws → (o' : Option Token) × (tokens' : Tokens) × (tokens' k ≡ o')
+      × ((j : ℕ) → j ≢ k → tokens' j ≡ tokens j) × Tells log tokens' (set ws i (g (get_or ws i 0))) × Then o'
       (get_or ws i 0))
-      → Allows (K n) slots id (sole k f o, []) i g (λ r m'. (o' : Option ℕ) × (m' ≡ (sole k f o', [])) × Then o' r)
-  draws_ok n slots id k i f o g Then step_ s kept wide at small =
+      → Allows (K n) slots id (sole k f o, c) i g (λ r m'. (o' : Option Token) × (m' ≡ (sole k f o', c)) × Then o' r)
+  draws_ok n slots id k i f o c g Then step_ s kept wide at small =
       let r = running n s kept id (knows k f o ∷ []) at in let fit = (r.fronts id (sole k f o) at).0 in
-      let d = step_ r.log r.tickets s.words fit.below fit.ticket_is r.tells in (
+      let d = step_ r.log r.tokens s.words fit.below fit.token_is r.tells in (
         sole k f d.0,
         keeps,
         tt,
         runs (record {
           log = r.log;
           owner = r.owner;
-          tickets = d.1;
+          tokens = d.1;
           one_slot = r.one_slot;
           sized = r.sized;
           fronts = agree_all n s r id k f f r.log o d.0 d.1 at
-              (record { below = fit.below; owned = fit.owned; begins = fit.begins; own_are = fit.own_are; ticket_is = d.2 })
-              (λ j t ne q. reticketed n r.log r.owner r.tickets d.1 j t (d.3 t.place ne) q);
+              (record { below = fit.below; owned = fit.owned; begins = fit.begins; own_are = fit.own_are; token_is = d.2 })
+              (λ j t ne q. retokened n r.log r.owner r.tokens d.1 j t (d.3 t.place ne) q);
           apart = apart_sole n s r id k f d.0;
           stands = r.stands;
           tells = d.4;
@@ -274,8 +276,8 @@ module _ {D : Type 0} (Starts : Bool → List ℕ → Type 0) (Tells : History D
       subst (λ (z : List ℕ × List (View D)). K n record { words = z.0; homes = s.homes; views = z.1 })
       (λ j. (sym (set-get_or s.words i 0) j, sym (set_again s.views id v at) j)) kept
 
-  -- the event, of the data d, brings k in, who then has no ticket; the word i becomes g of what it was
-  pub record BringsIn (k i : ℕ) (g : ℕ → ℕ) (Also : History D → Type 0) (log : History D) (tickets : Tickets)
+  -- the event, of the data d, brings k in, who then has the token p; the word i becomes g of what it was
+  pub record BringsIn (k i : ℕ) (p : Option Token) (g : ℕ → ℕ) (Also : History D → Type 0) (log : History D) (tokens : Tokens)
       (ws : List ℕ) (e : Event D) : Type 0 where
     pub given_up : IsGivenUp (turn log.events)
     pub allowed : Allowed log e
@@ -283,32 +285,32 @@ module _ {D : Type 0} (Starts : Bool → List ℕ → Type 0) (Tells : History D
     pub mine : place_of e ≡ k
     pub inside : turn (with_event log e).events ≡ Held k
     pub also : Also log
-    pub tickets' : Tickets
-    pub no_ticket : tickets' k ≡ None
-    pub others : (j : ℕ) → j ≢ k → tickets' j ≡ tickets j
-    pub tells : Tells (with_event log e) tickets' (set ws i (g (get_or ws i 0)))
+    pub tokens' : Tokens
+    pub token_now : tokens' k ≡ p
+    pub others : (j : ℕ) → j ≢ k → tokens' j ≡ tokens j
+    pub tells : Tells (with_event log e) tokens' (set ws i (g (get_or ws i 0)))
 
   -- k, which knew f, comes in where the word is a hit, and takes the slot
-  pub comes_ok : (n slots id k i : ℕ) (f : History D) (o : Option ℕ) (event : D → Event D) (g : ℕ → ℕ) (Hit : ℕ → Type 0) (Also : History D → Type 0)
+  pub comes_ok : (n slots id k i : ℕ) (f : History D) (o p : Option Token) (event : D → Event D) (g : ℕ → ℕ) (Hit : ℕ → Type 0) (Also : History D → Type 0)
       → ((x : ℕ) → Dec (Hit x))
-      → ((log : History D) (tickets : Tickets) (ws : List ℕ) → k < n → Tells log tickets ws → (Hit (get_or ws i 0) → ⊥) → g (get_or ws i 0) ≡ get_or ws i 0)
-      → ((log : History D) (tickets : Tickets) (ws : List ℕ) → Stands rest ready log → log.sizes.places ≡ n → k < n → own k log.events ≡ own k f.events → tickets k ≡ o → Tells log tickets ws
-      → Hit (get_or ws i 0) → BringsIn k i g Also log tickets ws (event (latest_data log)))
-      → Allows (K n) slots id (sole k f o, []) i g (λ r m'. Comes rest ready Hit Also k f event (sole k f o, []) r m')
-  comes_ok n slots id k i f o event g Hit Also test missed brings s kept wide at small =
+      → ((log : History D) (tokens : Tokens) (ws : List ℕ) → k < n → Tells log tokens ws → (Hit (get_or ws i 0) → ⊥) → g (get_or ws i 0) ≡ get_or ws i 0)
+      → ((log : History D) (tokens : Tokens) (ws : List ℕ) → Stands rest ready log → log.sizes.places ≡ n → k < n → own k log.events ≡ own k f.events → tokens k ≡ o → Tells log tokens ws
+      → Hit (get_or ws i 0) → BringsIn k i p g Also log tokens ws (event (latest_data log)))
+      → Allows (K n) slots id (sole k f o, []) i g (λ r m'. ComesWith rest ready p Hit Also k f event (sole k f o, []) r m')
+  comes_ok n slots id k i f o p event g Hit Also test missed brings s kept wide at small =
       let r = running n s kept id (knows k f o ∷ []) at in let x : ℕ = get_or s.words i 0 in
       let v : View D = sole k f o in
       let deep = r.one_slot in let fit = (r.fronts id v at).0 in dite (test x)
-      (λ hit. let b0 = brings r.log r.tickets s.words r.stands (ap (λ (m : Sizes). m.places) r.sized) fit.below fit.own_are fit.ticket_is r.tells hit in let home = r.home b0.given_up in let l : Lodged D = home.0 in
-      let e : Event D = event l.state in let h : History D = with_event r.log e in let w : View D = alone k h in
-      let b : BringsIn k i g Also r.log r.tickets s.words e =
-      subst (λ (d : D). BringsIn k i g Also r.log r.tickets s.words (event d)) (sym home.2.latest) b0 in (
+      (λ hit. let b0 = brings r.log r.tokens s.words r.stands (ap (λ (m : Sizes). m.places) r.sized) fit.below fit.own_are fit.token_is r.tells hit in let home = r.home b0.given_up in let l : Lodged D = home.0 in
+      let e : Event D = event l.state in let h : History D = with_event r.log e in let w : View D = sole k h p in
+      let b : BringsIn k i p g Also r.log r.tokens s.words e =
+      subst (λ (d : D). BringsIn k i p g Also r.log r.tokens s.words (event d)) (sym home.2.latest) b0 in (
         w,
         takes 0 (Some l),
         home.1,
         runs
-            (adds n s r id k f o None b.tickets' e (set s.words i (g x)) (set s.homes 0 none) at b.mine b.allowed b.owes (length-set s.homes 0 none
-            ∙ deep) b.no_ticket b.others b.tells (not_given_up l h b.inside) (λ j held. set_here s.homes 0 none
+            (adds n s r id k f o p b.tokens' e (set s.words i (g x)) (set s.homes 0 none) at b.mine b.allowed b.owes (length-set s.homes 0 none
+            ∙ deep) b.token_now b.others b.tells (not_given_up l h b.inside) (λ j held. set_here s.homes 0 none
             (omega (arith, deep)))),
         (
           (λ ne. absurd (ne hit)),
@@ -331,7 +333,7 @@ module _ {D : Type 0} (Starts : Bool → List ℕ → Type 0) (Tells : History D
         keeps,
         tt,
         subst (λ (y : ℕ). K n (stepped s i y id [] v keeps))
-            (sym (missed r.log r.tickets s.words fit.below r.tells miss)) (unmoved n s i id v [] at kept),
+            (sym (missed r.log r.tokens s.words fit.below r.tells miss)) (unmoved n s i id v [] at kept),
         ((λ _. refl), λ hit. absurd (miss hit)),
       ))
     where
@@ -345,7 +347,7 @@ module _ {D : Type 0} (Starts : Bool → List ℕ → Type 0) (Tells : History D
 
   pub gives_ok : (n slots id k i : ℕ) (g : ℕ → ℕ) (f : History D) (x : Lodged D) (next : Next) (event : D → Event D) (st : Step (Option (Lodged D)))
       → Gives rest ready event k f x next
-      → ((tickets : Tickets) (ws : List ℕ) → f.sizes.places ≡ n → k < n → Tells f tickets ws → Tells (with_event f (event x.state)) tickets (set ws i (g (get_or ws i 0))))
+      → ((tokens : Tokens) (ws : List ℕ) → f.sizes.places ≡ n → k < n → Tells f tokens ws → Tells (with_event f (event x.state)) tokens (set ws i (g (get_or ws i 0))))
       → Allows (K n) slots id (alone k f, (0, Some x) ∷ []) i g (λ r m'. gives_as event st (alone k f, (0, Some x) ∷ []) r m')
   gives_ok n slots id k i g f x next event st p tells s kept wide at small =
       let r = running n s kept id (knows k f None ∷ []) at in
@@ -353,8 +355,8 @@ module _ {D : Type 0} (Starts : Bool → List ℕ → Type 0) (Tells : History D
       let same : r.log ≡ f = still_held k f r.log r.stands.legal p.inside fit.begins fit.own_are in
       let w : View D = alone k (with_event r.log e) in
       let ws' : List ℕ = set s.words i (g (get_or s.words i 0)) in
-      let told : Tells (with_event r.log e) r.tickets ws' = subst (λ (h : History D). Tells (with_event h e) r.tickets ws') (sym same)
-      (tells r.tickets s.words (ap (λ (h : History D). h.sizes.places) (sym same) ∙ ap (λ (m : Sizes). m.places) r.sized) fit.below (subst (λ (h : History D). Tells h r.tickets s.words) same r.tells)) in
+      let told : Tells (with_event r.log e) r.tokens ws' = subst (λ (h : History D). Tells (with_event h e) r.tokens ws') (sym same)
+      (tells r.tokens s.words (ap (λ (h : History D). h.sizes.places) (sym same) ∙ ap (λ (m : Sizes). m.places) r.sized) fit.below (subst (λ (h : History D). Tells h r.tokens s.words) same r.tells)) in
       let lies : Lies (with_event r.log e) x =
       subst (λ (h : History D). Lies (with_event h e) x) (sym same) (lies_of f e x p.same_data p.book) in
       let gone : IsGivenUp (turn (with_event r.log e).events) =
@@ -363,10 +365,10 @@ module _ {D : Type 0} (Starts : Bool → List ℕ → Type 0) (Tells : History D
         gives,
         tt,
         runs
-            (adds n s r id k f None None r.tickets e ws' (set s.homes 0 (some (Some x))) at p.mine (subst (λ (h : History D). Allowed h e) (sym same) p.allowed)
+            (adds n s r id k f None None r.tokens e ws' (set s.homes 0 (some (Some x))) at p.mine (subst (λ (h : History D). Allowed h e) (sym same) p.allowed)
             (subst (λ (h : History D). Owes rest ready h.events e) (sym same) p.owes)
             (length-set s.homes 0 (some (Some x)) ∙ deep)
-            fit.ticket_is (λ j ne. refl) told (λ _. (x, set_here s.homes 0 (some (Some x)) (omega (arith, deep)), lies))
+            fit.token_is (λ j ne. refl) told (λ _. (x, set_here s.homes 0 (some (Some x)) (omega (arith, deep)), lies))
             (λ j held. absurd (subst IsGivenUp held gone))),
         λ j g y is. let q = alone_is k j f g ((0, Some x) ∷ []) ((0, Some y) ∷ []) is in let is' : x ≡ y = ap (lodged_or x) q.2 in
             λ i. (alone (q.0 i) (with_event ((same ∙ q.1) i) (event (is' i).state)), []),
@@ -375,7 +377,7 @@ module _ {D : Type 0} (Starts : Bool → List ℕ → Type 0) (Tells : History D
   -- who is inside goes on by the event and keeps the slot, and no word changes
   notes_ok : (n slots id k i : ℕ) (f : History D) (event : History D → Event D) (st : Step (Option (Lodged D)))
       → Notes rest ready (event f) k f
-      → ((tickets : Tickets) (ws : List ℕ) → Tells f tickets ws → Tells (with_event f (event f)) tickets ws)
+      → ((tokens : Tokens) (ws : List ℕ) → Tells f tokens ws → Tells (with_event f (event f)) tokens ws)
       → Allows (K n) slots id (alone k f, (0, None) ∷ []) i (λ r. r) (notes_as event st (alone k f, (0, None) ∷ []))
   notes_ok n slots id k i f event st p tells s kept wide at small =
       let r = running n s kept id (knows k f None ∷ []) at in
@@ -386,14 +388,14 @@ module _ {D : Type 0} (Starts : Bool → List ℕ → Type 0) (Tells : History D
       let out : get_elem? s.homes 0 ≡ some none = r.out k (ap (λ (h : History D). turn h.events) same ∙ p.inside) in
       let stays : turn (with_event r.log e).events ≡ Held k =
       subst (λ (h : History D). turn (with_event h e).events ≡ Held k) (sym same) p.stays in
-      let told : Tells (with_event r.log e) r.tickets s.words =
-      subst (λ (h : History D). Tells (with_event h e) r.tickets s.words) (sym same)
-      (tells r.tickets s.words (subst (λ (h : History D). Tells h r.tickets s.words) same r.tells)) in
+      let told : Tells (with_event r.log e) r.tokens s.words =
+      subst (λ (h : History D). Tells (with_event h e) r.tokens s.words) (sym same)
+      (tells r.tokens s.words (subst (λ (h : History D). Tells h r.tokens s.words) same r.tells)) in
       let now : R n record { words = s.words; homes = s.homes; views = set s.views id w } =
-      adds n s r id k f None None r.tickets e s.words s.homes at p.mine
+      adds n s r id k f None None r.tokens e s.words s.homes at p.mine
       (subst (λ (h : History D). Allowed h e) (sym same) p.allowed)
       (subst (λ (h : History D). Owes rest ready h.events e) (sym same) p.owes)
-      r.one_slot fit.ticket_is (λ j ne. refl) told (λ up. absurd (subst IsGivenUp stays up)) (λ j held. out) in (
+      r.one_slot fit.token_is (λ j ne. refl) told (λ up. absurd (subst IsGivenUp stays up)) (λ j held. out) in (
         w,
         keeps,
         tt,
@@ -405,7 +407,7 @@ module _ {D : Type 0} (Starts : Bool → List ℕ → Type 0) (Tells : History D
 
   pub notes_at : (n slots id k i : ℕ) (f : History D) (event : History D → Event D) (st : Step (Option (Lodged D))) (m : Sat D)
       → m ≡ (alone k f, (0, None) ∷ []) → Notes rest ready (event f) k f
-      → ((tickets : Tickets) (ws : List ℕ) → Tells f tickets ws → Tells (with_event f (event f)) tickets ws)
+      → ((tokens : Tokens) (ws : List ℕ) → Tells f tokens ws → Tells (with_event f (event f)) tokens ws)
       → Allows (K n) slots id m i (λ r. r) (notes_as event st m)
   notes_at n slots id k i f event st m is p tells =
       subst (λ (q : Sat D). Allows (K n) slots id q i (λ r. r) (notes_as event st q)) (sym is)
@@ -437,7 +439,7 @@ module _ {D : Type 0} (Starts : Bool → List ℕ → Type 0) (Tells : History D
       → Each (Agrees n h (λ _. 0) (λ _. None) 0) (all_know k count h)
   all_agree n h zero k b = tt
   all_agree n h (suc count) k b =
-      (record { below = omega arith; owned = refl; begins = Begins-refl h; own_are = refl; ticket_is = refl }, all_agree n h count (suc k) (omega arith))
+      (record { below = omega arith; owned = refl; begins = Begins-refl h; own_are = refl; token_is = refl }, all_agree n h count (suc k) (omega arith))
 
   -- the door as it opens
   opens_running : (n : ℕ) (x : Lodged D) (ws : List ℕ) → Stands rest ready (opened (sizes_at kinds n) x.state)
@@ -448,7 +450,7 @@ module _ {D : Type 0} (Starts : Bool → List ℕ → Type 0) (Tells : History D
   opens_running n x ws stands book tells = record {
     log = opened (sizes_at kinds n) x.state;
     owner = λ _. 0;
-    tickets = λ _. None;
+    tokens = λ _. None;
     one_slot = refl;
     sized = refl;
     fronts =
@@ -517,17 +519,17 @@ module _ {D : Type 0} (Starts : Bool → List ℕ → Type 0) (Tells : History D
       (opens_ok n slots id i g x st (Stands-opened rest ready (sizes_at kinds n) x.state at_rest) book tells)
 
   -- what a seat knows agrees with the log, and no place stands there twice
-  abbrev Fits : ℕ → History D → (ℕ → ℕ) → Tickets → ℕ → View D → Type 0
-  Fits n log owner tickets j v = EachOf (Agrees n log owner tickets j) v × ApartOf v
+  abbrev Fits : ℕ → History D → (ℕ → ℕ) → Tokens → ℕ → View D → Type 0
+  Fits n log owner tokens j v = EachOf (Agrees n log owner tokens j) v × ApartOf v
 
   -- the rule, with other views of the same log
   views_to : (n : ℕ) (s : Cells D) (r : R n s) (owner' : ℕ → ℕ) (views' : List (View D))
-      → ((j : ℕ) (v : View D) → get_elem? views' j ≡ some v → Fits n r.log owner' r.tickets j v)
+      → ((j : ℕ) (v : View D) → get_elem? views' j ≡ some v → Fits n r.log owner' r.tokens j v)
       → R n record { words = s.words; homes = s.homes; views = views' }
   views_to n s r owner' views' fit = record {
     log = r.log;
     owner = owner';
-    tickets = r.tickets;
+    tokens = r.tokens;
     one_slot = r.one_slot;
     sized = r.sized;
     fronts = λ j v got. (fit j v got).0;
@@ -538,14 +540,14 @@ module _ {D : Type 0} (Starts : Bool → List ℕ → Type 0) (Tells : History D
     out = r.out;
   }
 
-  map_all : (n : ℕ) (log : History D) (owner owner' : ℕ → ℕ) (tickets : Tickets) (j : ℕ) (v : View D)
-      → ((t : Knowledge D) → Agrees n log owner tickets j t → owner' t.place ≡ j)
-      → EachOf (Agrees n log owner tickets j) v → EachOf (Agrees n log owner' tickets j) v
-  map_all n log owner owner' tickets j (Places ts) f h =
-      each_map (Agrees n log owner tickets j) (Agrees n log owner' tickets j)
-      (λ t g. reowned n log owner owner' tickets j j t (f t g) g) ts h
-  map_all n log owner owner' tickets j (Unopened m) f h = h
-  map_all n log owner owner' tickets j (Opening m) f h = h
+  map_all : (n : ℕ) (log : History D) (owner owner' : ℕ → ℕ) (tokens : Tokens) (j : ℕ) (v : View D)
+      → ((t : Knowledge D) → Agrees n log owner tokens j t → owner' t.place ≡ j)
+      → EachOf (Agrees n log owner tokens j) v → EachOf (Agrees n log owner' tokens j) v
+  map_all n log owner owner' tokens j (Places ts) f h =
+      each_map (Agrees n log owner tokens j) (Agrees n log owner' tokens j)
+      (λ t g. reowned n log owner owner' tokens j j t (f t g) g) ts h
+  map_all n log owner owner' tokens j (Unopened m) f h = h
+  map_all n log owner owner' tokens j (Opening m) f h = h
 
   pub splits_ok : (n id k : ℕ) (f : History D) (ts : List (Knowledge D)) → Without k ts
       → Splits (K n) id (Places (knows k f None ∷ ts)) (Places ts) (alone k f)
@@ -555,20 +557,20 @@ module _ {D : Type 0} (Starts : Bool → List ℕ → Type 0) (Tells : History D
       let new : ℕ = length (set s.views id (Places ts)) in let owner' : ℕ → ℕ = given_to r.owner k new in
       runs (views_to n s r owner' (set s.views id (Places ts) ++ alone k f ∷ []) (λ j u got. ⊎_elim
       (λ (here : get_elem? (set s.views id (Places ts)) j ≡ some u). ⊎_elim
-      (λ (t : (j ≡ id) × (Places ts ≡ u)). subst (λ (z : ℕ × View D). Fits n r.log owner' r.tickets z.0 z.1) (λ i. (sym t.0 i, t.1 i)) (
-        each_with (λ x. x.place ≢ k) (Agrees n r.log r.owner r.tickets id) (Agrees n r.log owner' r.tickets id)
-            (λ x ne h. reowned n r.log r.owner owner' r.tickets id id x (given_else r.owner k new x.place ne ∙ h.owned) h) ts apart fit.1,
+      (λ (t : (j ≡ id) × (Places ts ≡ u)). subst (λ (z : ℕ × View D). Fits n r.log owner' r.tokens z.0 z.1) (λ i. (sym t.0 i, t.1 i)) (
+        each_with (λ x. x.place ≢ k) (Agrees n r.log r.owner r.tokens id) (Agrees n r.log owner' r.tokens id)
+            (λ x ne h. reowned n r.log r.owner owner' r.tokens id id x (given_else r.owner k new x.place ne ∙ h.owned) h) ts apart fit.1,
         (r.apart id v at).1,
       ))
       (λ (t : (j ≢ id) × (get_elem? s.views j ≡ some u)). (
-        map_all n r.log r.owner owner' r.tickets j u
+        map_all n r.log r.owner owner' r.tokens j u
             (λ x h. given_else r.owner k new x.place (λ (same : x.place ≡ k). t.0 (sym h.owned ∙ (ap r.owner same ∙ fit.0.owned))) ∙ h.owned)
             (r.fronts j u t.1),
         r.apart j u t.1,
       ))
       (at_set s.views id j (Places ts) u here))
-      (λ (t : (j ≡ new) × (alone k f ≡ u)). subst (λ (z : ℕ × View D). Fits n r.log owner' r.tickets z.0 z.1) (λ i. (sym t.0 i, t.1 i))
-      ((reowned n r.log r.owner owner' r.tickets id new (knows k f None) (given_here r.owner k new) fit.0, tt), (tt, tt)))
+      (λ (t : (j ≡ new) × (alone k f ≡ u)). subst (λ (z : ℕ × View D). Fits n r.log owner' r.tokens z.0 z.1) (λ i. (sym t.0 i, t.1 i))
+      ((reowned n r.log r.owner owner' r.tokens id new (knows k f None) (given_here r.owner k new) fit.0, tt), (tt, tt)))
       (at_end (set s.views id (Places ts)) (alone k f) u j got)))
 
   -- the first place is cut off
@@ -585,21 +587,21 @@ module _ {D : Type 0} (Starts : Bool → List ℕ → Type 0) (Tells : History D
       let fit = r.fronts id v at in let owner' : ℕ → ℕ = handed r.owner other id in
       let was : get_elem? s.views other ≡ some w = sym (set_else s.views id other both apart) ∙ there in
       runs (views_to n s r owner' (set (set s.views id both) other no_places) (λ j u got. ⊎_elim
-      (λ (t : (j ≡ other) × (no_places ≡ u)). subst (Fits n r.log owner' r.tickets j) t.1 (tt, tt))
+      (λ (t : (j ≡ other) × (no_places ≡ u)). subst (Fits n r.log owner' r.tokens j) t.1 (tt, tt))
       (λ (t : (j ≢ other) × (get_elem? (set s.views id both) j ≡ some u)). ⊎_elim
-      (λ (q : (j ≡ id) × (both ≡ u)). subst (λ (z : ℕ × View D). Fits n r.log owner' r.tickets z.0 z.1) (λ i. (sym q.0 i, q.1 i)) (
-        each-append (Agrees n r.log owner' r.tickets id) us ts
-            (each_map (Agrees n r.log r.owner r.tickets other) (Agrees n r.log owner' r.tickets id)
-            (λ x h. reowned n r.log r.owner owner' r.tickets other id x (handed_here r.owner other id x.place h.owned) h) us
+      (λ (q : (j ≡ id) × (both ≡ u)). subst (λ (z : ℕ × View D). Fits n r.log owner' r.tokens z.0 z.1) (λ i. (sym q.0 i, q.1 i)) (
+        each-append (Agrees n r.log owner' r.tokens id) us ts
+            (each_map (Agrees n r.log r.owner r.tokens other) (Agrees n r.log owner' r.tokens id)
+            (λ x h. reowned n r.log r.owner owner' r.tokens other id x (handed_here r.owner other id x.place h.owned) h) us
             (r.fronts other w was))
-            (each_map (Agrees n r.log r.owner r.tickets id) (Agrees n r.log owner' r.tickets id)
-            (λ x h. reowned n r.log r.owner owner' r.tickets id id x (handed_else r.owner other id x.place (λ (e : r.owner x.place ≡ other). apart (sym e ∙ h.owned)) ∙ h.owned) h) ts fit),
+            (each_map (Agrees n r.log r.owner r.tokens id) (Agrees n r.log owner' r.tokens id)
+            (λ x h. reowned n r.log r.owner owner' r.tokens id id x (handed_else r.owner other id x.place (λ (e : r.owner x.place ≡ other). apart (sym e ∙ h.owned)) ∙ h.owned) h) ts fit),
         apart-append us ts (r.apart other w was) (r.apart id v at)
-            (each_map (Agrees n r.log r.owner r.tickets other) (λ x. Without x.place ts) (λ x h. each_map (Agrees n r.log r.owner r.tickets id) (λ y. y.place ≢ x.place)
+            (each_map (Agrees n r.log r.owner r.tokens other) (λ x. Without x.place ts) (λ x h. each_map (Agrees n r.log r.owner r.tokens id) (λ y. y.place ≢ x.place)
             (λ y g same. apart (sym h.owned ∙ (ap r.owner (sym same) ∙ g.owned))) ts fit) us (r.fronts other w was)),
       ))
       (λ (q : (j ≢ id) × (get_elem? s.views j ≡ some u)). (
-        map_all n r.log r.owner owner' r.tickets j u
+        map_all n r.log r.owner owner' r.tokens j u
             (λ x h. handed_else r.owner other id x.place (λ (e : r.owner x.place ≡ other). t.0 (sym h.owned ∙ e)) ∙ h.owned)
             (r.fronts j u q.1),
         r.apart j u q.1,
@@ -607,13 +609,13 @@ module _ {D : Type 0} (Starts : Bool → List ℕ → Type 0) (Tells : History D
       (at_set s.views id j both u t.1))
       (at_set (set s.views id both) other j no_places u got)))
 
-  knowing_agree : (n : ℕ) (log : History D) (owner : ℕ → ℕ) (tickets : Tickets) (j : ℕ) (ts : List (Knowledge D))
-      → Each (Agrees n log owner tickets j) ts
-      → Each (Agrees n log owner tickets j) (knowing log ts)
-  knowing_agree n log owner tickets j [] h = tt
-  knowing_agree n log owner tickets j (t ∷ ts) h = (
-    record { below = h.0.below; owned = h.0.owned; begins = Begins-refl log; own_are = refl; ticket_is = h.0.ticket_is },
-    knowing_agree n log owner tickets j ts h.1,
+  knowing_agree : (n : ℕ) (log : History D) (owner : ℕ → ℕ) (tokens : Tokens) (j : ℕ) (ts : List (Knowledge D))
+      → Each (Agrees n log owner tokens j) ts
+      → Each (Agrees n log owner tokens j) (knowing log ts)
+  knowing_agree n log owner tokens j [] h = tt
+  knowing_agree n log owner tokens j (t ∷ ts) h = (
+    record { below = h.0.below; owned = h.0.owned; begins = Begins-refl log; own_are = refl; token_is = h.0.token_is },
+    knowing_agree n log owner tokens j ts h.1,
   )
 
   knowing_without : (k : ℕ) (log : History D) (ts : List (Knowledge D)) → Without k ts → Without k (knowing log ts)
@@ -642,8 +644,8 @@ module _ {D : Type 0} (Starts : Bool → List ℕ → Type 0) (Tells : History D
         subst (λ (ws : List ℕ). K n record { words = ws; homes = s.homes; views = set s.views id w })
             (sym (set-get_or s.words 0 0)) (runs (views_to n s r r.owner (set s.views id w)
             (λ j u got. ⊎_elim
-            (λ (t : (j ≡ id) × (w ≡ u)). subst (λ (z : ℕ × View D). Fits n r.log r.owner r.tickets z.0 z.1) (λ i. (sym t.0 i, t.1 i))
-            (knowing_agree n r.log r.owner r.tickets id ts (r.fronts id (Places ts) at), knowing_apart r.log ts (r.apart id (Places ts) at)))
+            (λ (t : (j ≡ id) × (w ≡ u)). subst (λ (z : ℕ × View D). Fits n r.log r.owner r.tokens z.0 z.1) (λ i. (sym t.0 i, t.1 i))
+            (knowing_agree n r.log r.owner r.tokens id ts (r.fronts id (Places ts) at), knowing_apart r.log ts (r.apart id (Places ts) at)))
             (λ (t : (j ≢ id) × (get_elem? s.views j ≡ some u)). (r.fronts j u t.1, r.apart j u t.1))
             (at_set s.views id j w u got)))),
         λ us same. (
@@ -653,7 +655,7 @@ module _ {D : Type 0} (Starts : Bool → List ℕ → Type 0) (Tells : History D
               (record {
                 me_is = refl;
                 stands = r.stands;
-                fits = each_map (Agrees n r.log r.owner r.tickets id) (Known r.log) (λ t h. (h.begins, h.own_are)) ts (r.fronts id (Places ts) at);
+                fits = each_map (Agrees n r.log r.owner r.tokens id) (Known r.log) (λ t h. (h.begins, h.own_are)) ts (r.fronts id (Places ts) at);
                 apart = r.apart id (Places ts) at;
               }),
         ),

@@ -34,7 +34,7 @@ at_end (x ∷ xs) a b (suc j) e =
     ⊎_elim (λ (t : get_elem? xs j ≡ some b). inl t) (λ (t : (j ≡ length xs) × (a ≡ b)). inr (omega (arith, t.0), t.1))
     (at_end xs a b j e)
 
--- the owners (or the tickets), with the place k now at the seat to
+-- the owners (or the tokens), with the place k now at the seat to
 abbrev pub given_to : {A : Type 0} → (ℕ → A) → ℕ → A → ℕ → A
 given_to owner k to i = cond (eqb i k) to (owner i)
 

@@ -1,13 +1,17 @@
--- By which event a place inside calls those that wait on a Mesa condition.
-use Rattle.std.specs.Prelude.{ℕ, List, unwrap_or}
+-- By which event a place inside calls those that wait on a Mesa condition, and what that makes of it.
+use Rattle.std.specs.Prelude.{◌≡◌, ℕ, List, length, unwrap_or}
 use Rattle.std.specs.Option.{option_map}
 use Rattle.hoare_law.specs.declared.event.Event.{Event}
 use Rattle.hoare_law.specs.declared.event.History.{History}
 use Rattle.hoare_law.specs.declared.event.Event.TheVariants as event
-use Rattle.hoare_law.specs.Events.{place_of}
-use Rattle.hoare_law.specs.Waiting.{chosen}
+use Rattle.hoare_law.specs.Events.{place_of, with_event}
+use Rattle.hoare_law.specs.Lawful.{Rest, Ready}
+use Rattle.hoare_law.specs.Sizes.{Kinds}
+use Rattle.hoare_law.specs.Waiting.{waiting, chosen}
+use Rattle.wait_book.specs.Stepping.{after_notify, after_broadcast}
 use Rattle.door_frame.specs.declared.notice.Notice.{Notice}
 use Rattle.door_frame.specs.declared.notice.Notice.TheVariants.{Notify, Broadcast}
+use Rattle.door_frame.specs.Places.{DoorId, PlaceIn, IsIn}
 
 -- the place of the one that is chosen on c, if somebody waits there
 abbrev pub chosen_place : {D : Type 0} → ℕ → List (Event D) → ℕ
@@ -17,3 +21,26 @@ chosen_place c h = unwrap_or (option_map place_of (chosen c h)) 0
 abbrev pub event_of_notice : {D : Type 0} → ℕ → Notice → D → History D → Event D
 event_of_notice k (Notify c) s f = event.Notify k c (chosen_place c f.events) s
 event_of_notice k (Broadcast c) s f = event.Broadcast k c s
+
+-- the condition on which those wait that it calls
+abbrev pub called_on : Notice → ℕ
+called_on (Notify c) = c
+called_on (Broadcast c) = c
+
+-- the history of a book whose place k did so
+abbrev pub after_notice : History (Unit {0}) → ℕ → Notice → History (Unit {0})
+after_notice h k (Notify c) = after_notify h k c (chosen c h.events)
+after_notice h k (Broadcast c) = after_broadcast h k c (waiting c h.events)
+
+-- a broadcast is told how many waited, with these priorities
+abbrev pub IsCounted : Notice → List ℕ → ℕ → Type 0
+IsCounted (Notify c) q n = Unit {0}
+IsCounted (Broadcast c) q n = n ≡ length q
+
+-- the place inside is j, and was i: it did so, with the data as they were
+pub record Noted {D : Type 0} (rest : Rest D) (ready : Ready D) (kinds : Kinds) (d : DoorId) (i : PlaceIn D)
+    (notice : Notice) (j : PlaceIn D) : Type 0 where
+  pub of : IsIn rest ready kinds d j
+  pub place : j.place ≡ i.place
+  pub data_are : j.state ≡ i.state
+  pub front : j.front ≡ with_event i.front (event_of_notice i.place notice i.state i.front)

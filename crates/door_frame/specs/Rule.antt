@@ -15,6 +15,7 @@ use Rattle.hoare_law.specs.Turns.{turn, IsGivenUp}
 use Rattle.wait_book.specs.Contents.{IsOf}
 use Rattle.door_frame.specs.declared.parcel.Lodged.{Lodged}
 use Rattle.door_frame.specs.declared.view.Knowledge.{Knowledge}
+use Rattle.door_frame.specs.declared.view.Token.{Token}
 use Rattle.door_frame.specs.declared.view.View.{View}
 use Rattle.door_frame.specs.declared.view.View.TheVariants.{Unopened, Opening}
 use Rattle.door_frame.specs.Views.{EachOf, ApartOf}
@@ -23,19 +24,19 @@ use Rattle.door_frame.specs.Views.{EachOf, ApartOf}
 abbrev pub Cells : Type 0 → Type 0
 Cells D = State (Option (Lodged D)) (View D)
 
--- which ticket each place has
-abbrev pub Tickets : Type 0
-Tickets = ℕ → Option ℕ
+-- which token each place has
+abbrev pub Tokens : Type 0
+Tokens = ℕ → Option Token
 
 module _ {D : Type 0} where
   -- a place of the seat: the log begins with its front, and has no other events of it
-  pub record Agrees (n : ℕ) (log : History D) (owner : ℕ → ℕ) (tickets : Tickets) (seat : ℕ)
+  pub record Agrees (n : ℕ) (log : History D) (owner : ℕ → ℕ) (tokens : Tokens) (seat : ℕ)
       (t : Knowledge D) : Type 0 where
     pub below : t.place < n
     pub owned : owner t.place ≡ seat
     pub begins : Begins t.front log
     pub own_are : own t.place log.events ≡ own t.place t.front.events
-    pub ticket_is : tickets t.place ≡ t.ticket
+    pub token_is : tokens t.place ≡ t.token
 
   -- what lies in the slot is what the history left
   pub record Lies (h : History D) (x : Lodged D) : Type 0 where
@@ -44,24 +45,24 @@ module _ {D : Type 0} where
 
   -- Of the words: Starts is what they are before the door opens (and by then whether the first seat has the slot),
   -- Tells what
-  -- they say of the log and the tickets of an open door
-  module _ (Starts : Bool → List ℕ → Type 0) (Tells : History D → Tickets → List ℕ → Type 0) (rest : Rest D)
+  -- they say of the log and the tokens of an open door
+  module _ (Starts : Bool → List ℕ → Type 0) (Tells : History D → Tokens → List ℕ → Type 0) (rest : Rest D)
       (ready : Ready D) (kinds : Kinds) where
     -- the door is open
     pub record Running (n : ℕ) (s : Cells D) : Type 0 where
       pub log : History D
       pub owner : ℕ → ℕ
-      pub tickets : Tickets
+      pub tokens : Tokens
       pub one_slot : length s.homes ≡ 1
       pub sized : log.sizes ≡ sizes_at kinds n
       -- 1. what each place knows is a beginning of the log, which has no other events of it
-      pub fronts : (j : ℕ) (v : View D) → get_elem? s.views j ≡ some v → EachOf (Agrees n log owner tickets j) v
+      pub fronts : (j : ℕ) (v : View D) → get_elem? s.views j ≡ some v → EachOf (Agrees n log owner tokens j) v
       -- and no seat has a place twice
       pub apart : (j : ℕ) (v : View D) → get_elem? s.views j ≡ some v → ApartOf v
       -- 2. the log is legal and lawful
       pub stands : Stands rest ready log
-      -- 3. what the words say of the log and of the tickets
-      pub tells : Tells log tickets s.words
+      -- 3. what the words say of the log and of the tokens
+      pub tells : Tells log tokens s.words
       -- 4. where nobody is inside, the slot is at home, with what the log left
       pub home : IsGivenUp (turn log.events)
           → (x : Lodged D) × (get_elem? s.homes 0 ≡ some (some (Some x))) × Lies log x

@@ -14,10 +14,11 @@ use Rattle.hoare_law.specs.Legal.{Allowed}
 use Rattle.hoare_law.specs.Turns.{turn, IsGivenUp}
 use Rattle.wait_book.specs.Contents.{IsOf, next_of}
 use Rattle.door_frame.specs.declared.parcel.Lodged.{Lodged}
+use Rattle.door_frame.specs.declared.view.Token.{Token}
 use Rattle.door_frame.specs.declared.view.View.{View}
 use Rattle.door_frame.specs.declared.view.View.TheVariants.{Unopened, Opening, Places}
 use Rattle.wait_book.specs.declared.steps.Next.{Next}
-use Rattle.door_frame.specs.Views.{alone, all_know, knowing, Each, Apart}
+use Rattle.door_frame.specs.Views.{alone, sole, all_know, knowing, Each, Apart}
 use Rattle.door_frame.specs.declared.view.Knowledge.{Knowledge}
 
 -- a seat: its view, and the slot if it has it
@@ -92,23 +93,32 @@ module _ {D : Type 0} where
   abbrev pub MayNote : Rest D → Ready D → (History D → Event D) → ℕ → Sat D → Type 0
   MayNote rest ready event k me = (f : History D) × (me ≡ (alone k f, (0, None) ∷ [])) × Notes rest ready (event f) k f
 
-  -- the place k, which knew f, came in by the event and found x; the slot that it holds has o
-  pub record Came (rest : Rest D) (ready : Ready D) (k : ℕ) (f : History D) (event : D → Event D) (x : Lodged D)
-      (o : Option (Lodged D)) (me : Sat D) : Type 0 where
+  -- the place k, which knew f, came in by the event and found x; it has the token t, and the slot that it holds has o
+  pub record CameWith (rest : Rest D) (ready : Ready D) (t : Option Token) (k : ℕ) (f : History D)
+      (event : D → Event D) (x : Lodged D) (o : Option (Lodged D)) (me : Sat D) : Type 0 where
     pub log : History D
-    pub me_is : me ≡ (alone k (with_event log (event x.state)), (0, o) ∷ [])
+    pub me_is : me ≡ (sole k (with_event log (event x.state)) t, (0, o) ∷ [])
     pub begins : Begins f log
     pub own_are : own k log.events ≡ own k f.events
     pub stands : Stands rest ready (with_event log (event x.state))
     pub book : IsOf x.book (erased log)
 
+  -- the same where it has no token
+  abbrev pub Came : Rest D → Ready D → ℕ → History D → (D → Event D) → Lodged D → Option (Lodged D) → Sat D → Type 0
+  Came rest ready = CameWith rest ready None
+
   -- what a step tells that may bring the place k in: where the number found is a hit, k comes in by the event and takes
-  -- the
-  -- slot, and of the log before holds what Also says; else nothing happened
+  -- the slot, with the token t, and of the log before holds what Also says; else nothing happened
+  abbrev pub ComesWith : Rest D → Ready D → Option Token → (ℕ → Type 0) → (History D → Type 0) → ℕ → History D
+      → (D → Event D) → Sat D → ℕ → Sat D → Type 0
+  ComesWith rest ready t Hit Also k f event m r m' =
+      ((Hit r → ⊥) → m' ≡ m)
+      × (Hit r → (x : Lodged D) × (c : CameWith rest ready t k f event x (Some x) m') × Also c.log)
+
+  -- the same where it then has none
   abbrev pub Comes : Rest D → Ready D → (ℕ → Type 0) → (History D → Type 0) → ℕ → History D → (D → Event D) → Sat D → ℕ
       → Sat D → Type 0
-  Comes rest ready Hit Also k f event m r m' =
-      ((Hit r → ⊥) → m' ≡ m) × (Hit r → (x : Lodged D) × (c : Came rest ready k f event x (Some x) m') × Also c.log)
+  Comes rest ready = ComesWith rest ready None
 
   -- the history begins with what the place knew, and has no other events of it
   abbrev pub Known : History D → Knowledge D → Type 0

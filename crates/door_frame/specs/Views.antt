@@ -4,24 +4,30 @@ use Rattle.std.specs.Prelude.{None}
 use Rattle.std.proofs.Common.{true≢false, sym}
 use Rattle.hoare_law.specs.declared.event.History.{History}
 use Rattle.door_frame.specs.declared.view.Knowledge.{Knowledge}
+use Rattle.door_frame.specs.declared.view.Token.{Token}
+use Rattle.door_frame.specs.declared.view.Token.TheVariants.{Ticket, Gate}
 use Rattle.door_frame.specs.declared.view.View.{View}
 use Rattle.door_frame.specs.declared.view.View.TheVariants.{Unopened, Opening, Places}
 
 module _ {D : Type 0} where
-  abbrev pub knows : ℕ → History D → Option ℕ → Knowledge D
-  knows k f o = record { place = k; front = f; ticket = o }
+  abbrev pub knows : ℕ → History D → Option Token → Knowledge D
+  knows k f o = record { place = k; front = f; token = o }
 
-  -- the view of the seat of one place, with what ticket it has
-  abbrev pub sole : ℕ → History D → Option ℕ → View D
+  -- the view of the seat of one place, with what token it has
+  abbrev pub sole : ℕ → History D → Option Token → View D
   sole k f o = Places (knows k f o ∷ [])
 
-  -- of one place that didn't ask
+  -- of one place that has none
   abbrev pub alone : ℕ → History D → View D
   alone k f = sole k f None
 
   -- of one place that asked
   abbrev pub asking : ℕ → History D → ℕ → View D
-  asking k f x = sole k f (Some x)
+  asking k f x = sole k f (Some (Ticket x))
+
+  -- of one place that tries, and shut the gate where its word was v
+  abbrev pub trying : ℕ → History D → ℕ → View D
+  trying k f v = sole k f (Some (Gate v))
 
   abbrev pub is_alone : View D → Bool
   is_alone (Places (t ∷ [])) = true
@@ -82,7 +88,7 @@ module _ {D : Type 0} where
   -- the places, each of which knows h
   abbrev pub knowing : History D → List (Knowledge D) → List (Knowledge D)
   knowing h [] = []
-  knowing h (t ∷ ts) = knows t.place h t.ticket ∷ knowing h ts
+  knowing h (t ∷ ts) = knows t.place h t.token ∷ knowing h ts
 
   -- the seat stands for places, and each of them is as P says
   abbrev pub EachOf : (Knowledge D → Type 0) → View D → Type 0

@@ -1,11 +1,14 @@
 //! The calls of a monitor, on any door.
-ghost use Rattle.std.specs.Prelude.{◌≡◌, ◌≢◌, ◌<◌, ◌↔◌, ℕ, [], length, true, false, IsTrue, None};
+ghost use Rattle.std.specs.Prelude.{◌≡◌, ◌≢◌, ◌<◌, ◌↔◌, ℕ, [], length, true, false, IsTrue, None, IfOk, IfErr};
 ghost use Rattle.hoare_law.specs.declared.event.History.{History};
 ghost use Rattle.hoare_law.specs.declared.event.Event.TheVariants as event;
 ghost use Rattle.hoare_law.specs.Events.{with_event};
 ghost use Rattle.hoare_law.specs.Growth.{AddsLast, AddsTwo, Broadcasts, Exits, Notifies, Signals};
 ghost use Rattle.hoare_law.specs.Sizes.{IsHoare, IsMesa, kinds_of};
 ghost use Rattle.hoare_law.specs.Priorities.{emptied, joined, priorities, taken};
+ghost use Rattle.hoare_law.specs.declared.turn.Turn.TheVariants as turn;
+ghost use Rattle.wait_book.specs.Contents.{IsOf, priorities_on};
+ghost use Rattle.door_frame.specs.Notices.{IsCounted, Noted, after_notice, called_on};
 ghost use Rattle.door_frame.specs.Places.{IsOut, IsIn, Handed, place_in};
 ghost use Rattle.door_frame.specs.Steps.{Came, due};
 
@@ -18,6 +21,7 @@ use crate::turnstile::Turnstile;
 use crossbeam_utils::sync::Parker;
 use hoare_law::data::MonitorData;
 use std::sync::Wait;
+use wait_book::book::Book;
 
 /// Who was let in is inside, with the parcel.
 #[inline]
@@ -82,6 +86,28 @@ pub fn enter<D: MonitorData, T: Turnstile<D>, R: Wait>(
     let (mut seat, place, parker) = out.into_parts();
     let parcel = door.admit(rt, &mut seat, place);
     brought_in(seat, place, parker, parcel)
+}
+
+/// `Monitor::try_enter`.
+#[inline]
+pub fn try_enter<D: MonitorData, T: Turnstile<D>>(
+    door: &T,
+    out: Outside<D>,
+) -> Result<Inside<D>, Outside<D>>
+    requires { IsOut D.rest D.ready (kinds_of D.CONDITIONS D.MESA) (T.id door.now) out }
+    ensures of { IfOk result
+        (λ i. IsIn D.rest D.ready (kinds_of D.CONDITIONS D.MESA) (T.id door.now) i) }
+    ensures place { IfOk result (λ i. i.place ≡ out.place) }
+    ensures rest { IfOk result (λ i. D.rest i.state (priorities i.front.events)) }
+    ensures front { IfOk result
+        (λ i. AddsLast out.front (event.Admit out.place i.state) i.front) }
+    ensures same { IfErr result (λ o. o ≡ out) }
+{
+    let (mut seat, place, parker) = out.into_parts();
+    match door.try_admit(&mut seat, place) {
+        Some(parcel) => Ok(brought_in(seat, place, parker, parcel)),
+        None => Err(Outside::of_parts(seat, place, parker)),
+    }
 }
 
 /// `Monitor::leave`.
@@ -208,6 +234,38 @@ pub fn signal_leave<D: MonitorData, T: Turnstile<D>>(
     (Outside::of_parts(seat, place, parker), true)
 }
 
+/// The book calls those that the notice calls. How many they are is told of a broadcast.
+#[inline]
+fn book_calls(book: &mut Book, place: usize, notice: Notice) -> usize
+    requires inside { book.old.turn ≡ turn.Held place }
+    requires mesa { IsMesa book.old.sizes.conditions book.old.sizes.mesa (called_on notice) }
+    ensures of { (h : History (Unit {0})) → IsOf book.old h
+        → IsOf book.new (after_notice h place notice) }
+    ensures told { IsCounted notice (priorities_on book.old (called_on notice)) result }
+{
+    match notice {
+        Notice::Notify(condition) => usize::from(book.notify(place, condition)),
+        Notice::Broadcast(condition) => book.broadcast(place, condition),
+    }
+}
+
+/// Who is inside calls those that the notice calls, where somebody waits there. How many they are is told of a
+/// broadcast.
+#[inline]
+fn call<D: MonitorData, T: Turnstile<D>>(door: &T, inside: &mut Inside<D>, notice: Notice) -> usize
+    requires of { IsIn D.rest D.ready (kinds_of D.CONDITIONS D.MESA) (T.id door.now) inside.old }
+    requires mesa { IsMesa D.CONDITIONS D.MESA (called_on notice) }
+    requires some { priorities inside.old.front.events (called_on notice) ≢ [] }
+    ensures noted { Noted D.rest D.ready (kinds_of D.CONDITIONS D.MESA) (T.id door.now)
+        inside.old notice inside.new }
+    ensures told { IsCounted notice (priorities inside.old.front.events (called_on notice)) result }
+{
+    let place = inside.place;
+    door.note(&mut inside.seat, &inside.parcel, place, notice);
+    let parcel = &mut inside.parcel;
+    book_calls(&mut parcel.held.book, place, notice)
+}
+
 /// `Monitor::notify`.
 pub fn notify<D: MonitorData, T: Turnstile<D>>(
     door: &T,
@@ -228,15 +286,7 @@ pub fn notify<D: MonitorData, T: Turnstile<D>>(
     if !inside.queue(condition) {
         return false;
     }
-    let place = inside.place;
-    door.note(
-        &mut inside.seat,
-        &inside.parcel,
-        place,
-        Notice::Notify(condition),
-    );
-    let parcel = &mut inside.parcel;
-    parcel.held.book.notify(place, condition);
+    call(door, inside, Notice::Notify(condition));
     true
 }
 
@@ -260,13 +310,5 @@ pub fn broadcast<D: MonitorData, T: Turnstile<D>>(
     if !inside.queue(condition) {
         return 0;
     }
-    let place = inside.place;
-    door.note(
-        &mut inside.seat,
-        &inside.parcel,
-        place,
-        Notice::Broadcast(condition),
-    );
-    let parcel = &mut inside.parcel;
-    parcel.held.book.broadcast(place, condition)
+    call(door, inside, Notice::Broadcast(condition))
 }

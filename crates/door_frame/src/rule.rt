@@ -14,7 +14,7 @@ use std::marker::PhantomData;
 pub trait Words<D, K> {
     ghost use Rattle.std.specs.Prelude.{ℕ, Bool, List};
     ghost use Rattle.hoare_law.specs.declared.event.History.{History};
-    ghost use Rattle.door_frame.specs.Rule.{Tickets};
+    ghost use Rattle.door_frame.specs.Rule.{Tokens};
 
     /// How many places the door has.
     ghost places: { K → ℕ };
@@ -22,8 +22,8 @@ pub trait Words<D, K> {
     /// The words before the door opens, and by then whether the first seat has the slot.
     ghost starts: { K → Bool → List ℕ → Type 0 };
 
-    /// What they say of the log, and of which place has which ticket.
-    ghost tells: { K → History D → Tickets → List ℕ → Type 0 };
+    /// What they say of the log, and of which place has which token.
+    ghost tells: { K → History D → Tokens → List ℕ → Type 0 };
 }
 
 /// The rule over the words, the slot and what all places know.

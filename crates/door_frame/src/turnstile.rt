@@ -1,6 +1,6 @@
-//! What a door has to do with its words: let a newcomer in, let a place come back, give the monitor up, and tell of
-//! a notice.
-ghost use Rattle.std.specs.Prelude.{◌≡◌, ◌<◌};
+//! What a door has to do with its words: let a newcomer in, also by a mere try, let a place come back, give the monitor
+//! up, and tell of a notice.
+ghost use Rattle.std.specs.Prelude.{◌≡◌, ◌<◌, IfSome, IfNone};
 ghost use Rattle.hoare_law.specs.declared.event.History.{History};
 ghost use Rattle.hoare_law.specs.declared.event.Event.TheVariants as event;
 ghost use Rattle.wait_book.specs.Contents.{IsPlaceBelow};
@@ -31,6 +31,16 @@ pub trait Turnstile<D: MonitorData> {
         ensures table { seat.new.table_id ≡ seat.old.table_id }
         ensures came { ComesIn D.rest D.ready place (λ f. event.Admit place) seat.old.me
             result seat.new.me };
+
+    /// Lets a newcomer in where it is its turn at this moment, and takes the parcel; else the seat is as it was. It
+    /// waits for nobody.
+    fn try_admit(&self, seat: &mut DoorSeat<D>, place: usize) -> Option<Parcel<D>>
+        requires table { seat.old.table_id ≡ (id self.now).table }
+        requires outside { IsNewcomer place seat.old.me }
+        ensures table { seat.new.table_id ≡ seat.old.table_id }
+        ensures came { IfSome result (λ parcel. ComesIn D.rest D.ready place (λ f. event.Admit place)
+            seat.old.me parcel seat.new.me) }
+        ensures same { IfNone result (seat.new.me ≡ seat.old.me) };
 
     /// Waits until the monitor is owed to the place, comes in and takes the parcel.
     fn claim<R: Wait>(

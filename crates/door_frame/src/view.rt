@@ -2,12 +2,19 @@
 use hoare_law::event::History;
 use std::collections::LinkedList;
 
-/// A place, with its front (the history that it knows), and the ticket that it drew, if it asked and isn't in yet. Tickets
-/// are counted from 0 here and never wrap.
+/// What a place has of the door before it is in.
+pub enum Token {
+    /// The ticket that it drew: it asked, and isn't in yet. Tickets are counted from 0 here and never wrap.
+    Ticket(u64),
+    /// The gate, which it shut where the word had this number: it tries to come in.
+    Gate(u64),
+}
+
+/// A place, with its front (the history that it knows) and its token, if it has one.
 pub struct Knowledge<D> {
     pub place: usize,
     pub front: History<D>,
-    pub ticket: Option<u64>,
+    pub token: Option<Token>,
 }
 
 /// What a seat knows.

@@ -1,5 +1,6 @@
 //! What each monitor promises: its calls, as a trait.
-ghost use Rattle.std.specs.Prelude.{◌≡◌, ◌<◌, ◌↔◌, ◌≢◌, ℕ, List, [], length, slice_index, IsTrue, true, false, MatchOption};
+ghost use Rattle.std.specs.Prelude.{◌≡◌, ◌<◌, ◌↔◌, ◌≢◌, ℕ, List, [], length, slice_index, IsTrue, IfOk, IfErr};
+ghost use Rattle.std.specs.Prelude.{true, false, MatchOption};
 ghost use Rattle.std.specs.Borrow.{sem, Lends};
 ghost use Rattle.std.specs.List.Sorted.{IsNonDecreasing};
 ghost use Rattle.std.specs.Option.{option_map};
@@ -69,6 +70,19 @@ pub trait Monitor<D: MonitorData> {
         ensures rest { D.rest (data_in result) (lists_in result) }
         ensures front { AddsLast (front out) (event.Admit (place out) (data_in result))
             (front_in result) };
+
+    /// `enter` where it can be at this moment; else `Err` gives the place back as it was. It waits for nobody. The
+    /// answer may be `Err` though nobody is inside and nobody is owed the monitor: where a word of the monitor
+    /// changed while the call looked at it, and on a door by tickets also where another place asked, or tries at the
+    /// same moment.
+    fn try_enter(&self, out: Self::Out) -> Result<Self::In, Self::Out>
+        requires { is_of self.now out }
+        ensures of { IfOk result (λ i. is_of_in self.now i) }
+        ensures place { IfOk result (λ i. place_in i ≡ place out) }
+        ensures rest { IfOk result (λ i. D.rest (data_in i) (lists_in i)) }
+        ensures front { IfOk result (λ i. AddsLast (front out)
+            (event.Admit (place out) (data_in i)) (front_in i)) }
+        ensures same { IfErr result (λ o. o ≡ out) };
 
     /// Goes out. The caller owes `rest`.
     fn leave<R: Wait>(&self, rt: &R, inside: Self::In) -> Self::Out

@@ -1,7 +1,9 @@
 pub mod Queue
+pub mod Gate
 pub mod Turns
 pub mod Opening
 pub mod Serving
+pub mod Trying
 pub mod Ringing
 pub mod Asking
 pub mod Meetings

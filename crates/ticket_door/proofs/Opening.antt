@@ -19,7 +19,7 @@ use Rattle.door_frame.specs.declared.view.View.TheVariants.{Unopened, Opening}
 use Rattle.door_frame.specs.Rule.{Kept}
 use Rattle.door_frame.specs.Steps.{Sat, begins, opens}
 use Rattle.door_frame.proofs.Steps as frame
-use Rattle.ticket_door.specs.Rule.{Starts, Tells, next_at, serving_at, bell_at}
+use Rattle.ticket_door.specs.Rule.{Starts, Tells, ajar, next_at, serving_at, bell_at}
 
 module _ {D : Type 0} (first n : ℕ) where
   -- nobody asked and nobody is served
@@ -31,11 +31,13 @@ module _ {D : Type 0} (first n : ℕ) where
     queue = [];
     once = λ k. omega arith;
     below = λ k some. absurd (omega (arith, some));
-    tickets_are = λ k. refl;
+    gate = ajar;
+    tokens_are = λ k. refl;
     next = st.next ∙ ap (λ (m : ℕ). m % 2 ^ 64) (let same : first ≡ first + 0 = omega arith in same);
     served = 0;
     due = refl;
-    serving = st.serving ∙ ap (λ (m : ℕ). m % 2 ^ 64) (let same : first ≡ first + 0 = omega arith in same);
+    serving = st.serving ∙ ap (λ (m : ℕ). m % 2 ^ 64) (let same : 2 * first ≡ 2 * (first + 0) + 0 = omega arith in same);
+    kept = tt;
     bells = st.bells;
   }
 
@@ -60,13 +62,13 @@ module _ {D : Type 0} (first n : ℕ) where
 
 -- the words before the door opens
 pub started : (first n : ℕ) (ws : List ℕ) → first < 2 ^ 64
-    → ws ≡ set (set (replicate (8 * n + 16) 0) next_at first) serving_at first → Starts first n false ws
+    → ws ≡ set (set (replicate (8 * n + 16) 0) next_at first) serving_at ((2 * first) % 2 ^ 64) → Starts first n false ws
 started first n ws small is = subst (Starts first n false) (sym is) (record {
   words_are = long;
-  next = get_or-set_other (set zeros next_at first) serving_at next_at first 0 (λ e. omega (arith, e))
+  next = get_or-set_other (set zeros next_at first) serving_at next_at served 0 (λ e. omega (arith, e))
       ∙ get_or-set_same zeros next_at first 0 (omega (arith, wide)) ∙ same;
-  serving = get_or-set_same (set zeros next_at first) serving_at first 0 (omega (arith, length-set zeros next_at first, wide)) ∙ same;
-  bells = λ k b. get_or-set_other (set zeros next_at first) serving_at (bell_at k) first 0 (λ e. omega (arith, e))
+  serving = get_or-set_same (set zeros next_at first) serving_at served 0 (omega (arith, length-set zeros next_at first, wide));
+  bells = λ k b. get_or-set_other (set zeros next_at first) serving_at (bell_at k) served 0 (λ e. omega (arith, e))
       ∙ get_or-set_other zeros next_at (bell_at k) first 0 (λ e. omega (arith, e))
       ∙ get_or-replicate (8 * n + 16) (bell_at k) 0 0 (omega (arith, b));
 })
@@ -77,8 +79,11 @@ started first n ws small is = subst (Starts first n false) (sym is) (record {
     wide : length zeros ≡ 8 * n + 16
     wide = length-replicate (8 * n + 16) 0
 
-    long : length (set (set zeros next_at first) serving_at first) ≡ 8 * n + 16
-    long = length-set (set zeros next_at first) serving_at first ∙ length-set zeros next_at first ∙ wide
+    served : ℕ
+    served = (2 * first) % 2 ^ 64
+
+    long : length (set (set zeros next_at first) serving_at served) ≡ 8 * n + 16
+    long = length-set (set zeros next_at first) serving_at served ∙ length-set zeros next_at first ∙ wide
 
     same : first ≡ first % 2 ^ 64
     same = omega (arith, small)

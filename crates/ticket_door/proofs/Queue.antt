@@ -1,35 +1,44 @@
 -- Tickets of the places that asked.
 use Rattle.std.proofs.Common.{◌≡◌, ◌≢◌, ℕ, suc, ◌+◌, ◌<◌, ◌≤◌, eqb, cond, List, [], ◌∷◌, ◌++◌, length, Option, Some}
 use Rattle.std.proofs.Common.{None, refl, sym, ap, ◌∙◌, subst, arith}
-use Rattle.std.proofs.Common.{eq-eqb, ne_eqb, unwrap_or}
+use Rattle.std.proofs.Common.{eq-eqb, ne_eqb}
 use mathlib.Core.Logic.{dite}
 use native.Mathlib.Decide.{ℕ_discrete}
 use Rattle.wait_book.specs.Contents.{one, times}
 use Rattle.wait_book.proofs.Times.{one_same, one_apart, times-append}
-use Rattle.ticket_door.specs.Queue.{ticket_in}
+use Rattle.door_frame.specs.declared.view.Token.{Token}
+use Rattle.door_frame.specs.declared.view.Token.TheVariants.{Ticket, Gate}
+use Rattle.ticket_door.specs.Queue.{ticket_in, ticket_number}
 
-pub None≢Some : (x : ℕ) → ◌≢◌ {A = Option ℕ} None (Some x)
-None≢Some x e = cc
+pub None≢Some : (t : Token) → ◌≢◌ {A = Option Token} None (Some t)
+None≢Some t e = cc
 
-pub Some-injective : (x y : ℕ) → ◌≡◌ {A = Option ℕ} (Some x) (Some y) → x ≡ y
-Some-injective x y e = ap (λ o. unwrap_or o x) e
+pub Ticket-injective : (x y : ℕ) → ◌≡◌ {A = Option Token} (Some (Ticket x)) (Some (Ticket y)) → x ≡ y
+Ticket-injective x y e = ap (λ o. ticket_number o) e
 
-pub ticket_here : (a k j : ℕ) (q : List ℕ) → k ≡ j → ticket_in a (j ∷ q) k ≡ Some a
-ticket_here a k j q e = ap (λ b. cond b (Some a) (ticket_in (suc a) q k)) (eq-eqb k j e)
+pub ticket_here : (a k j : ℕ) (q : List ℕ) → k ≡ j → ticket_in a (j ∷ q) k ≡ Some (Ticket a)
+ticket_here a k j q e = ap (λ b. cond b (Some (Ticket a)) (ticket_in (suc a) q k)) (eq-eqb k j e)
 
 pub ticket_else : (a k j : ℕ) (q : List ℕ) → k ≢ j → ticket_in a (j ∷ q) k ≡ ticket_in (suc a) q k
-ticket_else a k j q n = ap (λ b. cond b (Some a) (ticket_in (suc a) q k)) (ne_eqb k j n)
+ticket_else a k j q n = ap (λ b. cond b (Some (Ticket a)) (ticket_in (suc a) q k)) (ne_eqb k j n)
 
 -- tickets count up from a
-pub ticket_range : (a : ℕ) (q : List ℕ) (k x : ℕ) → ticket_in a q k ≡ Some x → (a ≤ x) × (x < a + length q)
-ticket_range a [] k x e = absurd (None≢Some x e)
+pub ticket_range : (a : ℕ) (q : List ℕ) (k x : ℕ) → ticket_in a q k ≡ Some (Ticket x) → (a ≤ x) × (x < a + length q)
+ticket_range a [] k x e = absurd (None≢Some (Ticket x) e)
 ticket_range a (j ∷ q) k x e = dite (ℕ_discrete k j)
-    (λ same. let is : a ≡ x = Some-injective a x (sym (ticket_here a k j q same) ∙ e) in (omega arith, omega arith))
+    (λ same. let is : a ≡ x = Ticket-injective a x (sym (ticket_here a k j q same) ∙ e) in (omega arith, omega arith))
     (λ ne. let r = ticket_range (suc a) q k x (sym (ticket_else a k j q ne) ∙ e) in (omega (arith, r.0), omega (arith, r.1)))
 
+-- nobody in the queue has the gate
+pub ticket_only : (a : ℕ) (q : List ℕ) (k v : ℕ) → ticket_in a q k ≢ Some (Gate v)
+ticket_only a [] k v e = None≢Some (Gate v) e
+ticket_only a (j ∷ q) k v e = dite (ℕ_discrete k j)
+    (λ same. let no : ◌≡◌ {A = Option Token} (Some (Ticket a)) (Some (Gate v)) = sym (ticket_here a k j q same) ∙ e in cc)
+    (λ ne. ticket_only (suc a) q k v (sym (ticket_else a k j q ne) ∙ e))
+
 -- who has the first ticket stands first
-pub ticket_first : (a : ℕ) (q : List ℕ) (k : ℕ) → ticket_in a q k ≡ Some a → (rest : List ℕ) × (q ≡ k ∷ rest)
-ticket_first a [] k e = absurd (None≢Some a e)
+pub ticket_first : (a : ℕ) (q : List ℕ) (k : ℕ) → ticket_in a q k ≡ Some (Ticket a) → (rest : List ℕ) × (q ≡ k ∷ rest)
+ticket_first a [] k e = absurd (None≢Some (Ticket a) e)
 ticket_first a (j ∷ q) k e = dite (ℕ_discrete k j)
     (λ same. (q, λ i. sym same i ∷ q))
     (λ ne. let r = ticket_range (suc a) q k a (sym (ticket_else a k j q ne) ∙ e) in absurd (omega (arith, r.0)))
@@ -38,7 +47,7 @@ ticket_first a (j ∷ q) k e = dite (ℕ_discrete k j)
 pub ticket_none : (a : ℕ) (q : List ℕ) (k : ℕ) → ticket_in a q k ≡ None → times k q ≡ 0
 ticket_none a [] k e = refl
 ticket_none a (j ∷ q) k e = dite (ℕ_discrete k j)
-    (λ same. absurd (None≢Some a (sym e ∙ ticket_here a k j q same)))
+    (λ same. absurd (None≢Some (Ticket a) (sym e ∙ ticket_here a k j q same)))
     (λ ne. let r = ticket_none (suc a) q k (sym (ticket_else a k j q ne) ∙ e) in omega (arith, r, one_apart k j (ne_eqb k j ne)))
 
 pub none_ticket : (a : ℕ) (q : List ℕ) (k : ℕ) → times k q ≡ 0 → ticket_in a q k ≡ None
@@ -48,16 +57,16 @@ none_ticket a (j ∷ q) k z = dite (ℕ_discrete k j)
     (λ ne. ticket_else a k j q ne ∙ none_ticket (suc a) q k (omega (arith, z)))
 
 -- who asks stands last
-pub ticket_last : (a : ℕ) (q : List ℕ) (k : ℕ) → times k q ≡ 0 → ticket_in a (q ++ k ∷ []) k ≡ Some (a + length q)
-ticket_last a [] k z = ticket_here a k k [] refl ∙ ap (λ (n : ℕ). Some n) (omega arith)
+pub ticket_last : (a : ℕ) (q : List ℕ) (k : ℕ) → times k q ≡ 0 → ticket_in a (q ++ k ∷ []) k ≡ Some (Ticket (a + length q))
+ticket_last a [] k z = ticket_here a k k [] refl ∙ ap (λ (n : ℕ). Some (Ticket n)) (omega arith)
 ticket_last a (j ∷ q) k z = dite (ℕ_discrete k j)
     (λ same. absurd (omega (arith, z, subst (λ (i : ℕ). one k i ≡ 1) same (one_same k))))
-    (λ ne. ticket_else a k j (q ++ k ∷ []) ne ∙ ticket_last (suc a) q k (omega (arith, z)) ∙ ap (λ (n : ℕ). Some n) (omega arith))
+    (λ ne. ticket_else a k j (q ++ k ∷ []) ne ∙ ticket_last (suc a) q k (omega (arith, z)) ∙ ap (λ (n : ℕ). Some (Ticket n)) (omega arith))
 
 -- and the others keep theirs
 pub ticket_kept : (a : ℕ) (q : List ℕ) (k j : ℕ) → j ≢ k → ticket_in a (q ++ k ∷ []) j ≡ ticket_in a q j
 ticket_kept a [] k j ne = ticket_else a j k [] ne
-ticket_kept a (i ∷ q) k j ne = ap (λ (o : Option ℕ). cond (eqb j i) (Some a) o) (ticket_kept (suc a) q k j ne)
+ticket_kept a (i ∷ q) k j ne = ap (λ (o : Option Token). cond (eqb j i) (Some (Ticket a)) o) (ticket_kept (suc a) q k j ne)
 
 pub once_more : (q : List ℕ) (k : ℕ) → ((j : ℕ) → times j q ≤ 1) → times k q ≡ 0 → (j : ℕ) → times j (q ++ k ∷ []) ≤ 1
 once_more q k once z j = dite (ℕ_discrete j k)

@@ -15,33 +15,34 @@ use Rattle.hoare_law.specs.Lawful.{Rest, Ready}
 use Rattle.hoare_law.specs.Turns.{turn}
 use Rattle.wait_book.specs.declared.steps.Next.TheVariants as next
 use Rattle.door_frame.specs.declared.parcel.Lodged.{Lodged}
-use Rattle.door_frame.specs.Rule.{Cells, Tickets, Kept}
+use Rattle.door_frame.specs.Rule.{Cells, Tokens, Kept}
 use Rattle.door_frame.specs.Steps.{Sat, Gives, gives_as, due}
 use Rattle.door_frame.specs.Views.{alone}
 use Rattle.door_frame.proofs.Steps as frame
 use Rattle.hoare_law.specs.Admissions.{admissions}
-use Rattle.ticket_door.specs.Queue.{ticket_in}
-use Rattle.ticket_door.specs.Rule.{Starts, Tells, next_at, serving_at, bell_at, taken, rung}
+use Rattle.ticket_door.specs.Rule.{Starts, Tells, token_in, IsKept, next_at, serving_at, bell_at, taken, rung}
 use Rattle.ticket_door.specs.Steps.{hears, HearsAt}
 use Rattle.hoare_law.proofs.Admissions.{admissions-other}
 use Rattle.ticket_door.proofs.Turns.{for_next, rings_due, rung_else, rung_due, no_admit, held_busy, due_busy}
 
 module _ {D : Type 0} (first n : ℕ) where
   -- a bell has another number, where the turn is somebody's before and after
-  rewritten : (f h : History D) (tickets : Tickets) (ws : List ℕ) (k y : ℕ) → k < n → taken (turn f.events) ≡ 1
+  rewritten : (f h : History D) (tokens : Tokens) (ws : List ℕ) (k y : ℕ) → k < n → taken (turn f.events) ≡ 1
       → taken (turn h.events) ≡ 1 → admissions h.events ≡ admissions f.events
       → rung (turn h.events) k ≡ y → ((j : ℕ) → j ≢ k → rung (turn h.events) j ≡ rung (turn f.events) j)
-      → Tells first n f tickets ws → Tells first n h tickets (set ws (bell_at k) y)
-  rewritten f h tickets ws k y small before after same here else_ t = let wide = t.words_are in record {
+      → Tells first n f tokens ws → Tells first n h tokens (set ws (bell_at k) y)
+  rewritten f h tokens ws k y small before after same here else_ t = let wide = t.words_are in record {
     words_are = length-set ws (bell_at k) y ∙ wide;
     queue = t.queue;
     once = t.once;
     below = t.below;
-    tickets_are = λ j. t.tickets_are j ∙ ap (λ (m : ℕ). ticket_in m t.queue j) (sym same);
+    gate = t.gate;
+    tokens_are = λ j. t.tokens_are j ∙ ap (λ (m : ℕ). token_in t.gate m t.queue j) (sym same);
     next = get_or-set_other ws (bell_at k) next_at y 0 (λ eq. omega (arith, eq)) ∙ t.next ∙ ap (λ (m : ℕ). (first + (m + length t.queue)) % 2 ^ 64) (sym same);
     served = t.served;
     due = let d = t.due in omega (arith, d, before, after, same);
     serving = get_or-set_other ws (bell_at k) serving_at y 0 (λ eq. omega (arith, eq)) ∙ t.serving;
+    kept = subst (λ (m : ℕ). IsKept first t.served m t.queue t.gate) (sym same) t.kept;
     bells = λ j b. dite (ℕ_discrete j k)
         (λ is. subst (λ (i : ℕ). get_or (set ws (bell_at k) y) (bell_at i) 0 ≡ rung (turn h.events) i) (sym is) (get_or-set_same ws (bell_at k) y 0 (omega (arith, wide, small)) ∙ sym here))
         (λ ne. get_or-set_other ws (bell_at k) (bell_at j) y 0 (λ eq. ne (omega (arith, eq))) ∙ t.bells j b ∙ sym (else_ j ne));
@@ -58,8 +59,8 @@ module _ {D : Type 0} (first n : ℕ) where
     gives_ring slots id k j f x event st small p =
         frame.gives_ok (Starts first n) (Tells first n) rest ready kinds n slots id k (bell_at j) (λ _. 1) f x
         (next.For j) event st p
-        (λ tickets ws places below t. let h : History D = with_event f (event x.state) in let r = rings_due j (turn h.events) (for_next (turn h.events) j (sym p.next_is)) in
-        rewritten f h tickets ws j 1 small (ap taken p.inside) r.busy
+        (λ tokens ws places below t. let h : History D = with_event f (event x.state) in let r = rings_due j (turn h.events) (for_next (turn h.events) j (sym p.next_is)) in
+        rewritten f h tokens ws j 1 small (ap taken p.inside) r.busy
         (admissions-other f (event x.state) (no_admit f (event x.state) p.allowed (held_busy k _ p.inside))) r.here
         (λ i ne. r.else_ i ne ∙ sym (ap (λ (u : Turn). rung u i) p.inside)) t)
 
@@ -69,10 +70,10 @@ module _ {D : Type 0} (first n : ℕ) where
         frame.told_as K slots id (alone k f, []) (bell_at k) (λ _. 0) _ (hears rest ready st (alone k f, []))
         (λ r m c j g is. let q = frame.alone_is k j f g [] [] is in
         subst (λ (p : ℕ × History D). HearsAt rest ready p.0 p.1 (alone k f, []) r m) (λ i. (q.0 i, q.1 i)) c)
-        (frame.comes_ok (Starts first n) (Tells first n) rest ready kinds n slots id k (bell_at k) f None (due k f) (λ _. 0) (λ r. r ≡ 1) (λ log. Unit {0})
+        (frame.comes_ok (Starts first n) (Tells first n) rest ready kinds n slots id k (bell_at k) f None None (due k f) (λ _. 0) (λ r. r ≡ 1) (λ log. Unit {0})
         (λ r. ℕ_discrete r 1)
-        (λ log tickets ws small t miss. let b = t.bells k small in sym (b ∙ rung_else (turn log.events) k (λ one. miss (b ∙ one))))
-        (λ log tickets ws stands places small same has t hit. let is = rung_due (turn log.events) k (sym (t.bells k small) ∙ hit) in let r = rings_due k (turn log.events) is in
+        (λ log tokens ws small t miss. let b = t.bells k small in sym (b ∙ rung_else (turn log.events) k (λ one. miss (b ∙ one))))
+        (λ log tokens ws stands places small same has t hit. let is = rung_due (turn log.events) k (sym (t.bells k small) ∙ hit) in let r = rings_due k (turn log.events) is in
         let e = frame.enters_due rest ready k log f stands same is in
         let h : History D = with_event log (due k f (latest_data log)) in record {
           given_up = frame.given_up_due k (turn log.events) is;
@@ -81,11 +82,11 @@ module _ {D : Type 0} (first n : ℕ) where
           mine = e.mine;
           inside = e.inside;
           also = tt;
-          tickets' = tickets;
-          no_ticket = has;
+          tokens' = tokens;
+          token_now = has;
           others = λ j ne. refl;
           tells =
-              rewritten log h tickets ws k 0 small r.busy (ap taken e.inside)
+              rewritten log h tokens ws k 0 small r.busy (ap taken e.inside)
               (admissions-other log (due k f (latest_data log))
               (no_admit log (due k f (latest_data log)) e.allowed (due_busy k _ is))) (ap
               (λ (u : Turn). rung u k) e.inside)

@@ -1,5 +1,5 @@
 -- The pass "tickets": who asks draws the next ticket, who is served comes in, and who opens serves the next.
-use Rattle.std.proofs.Common.{◌≡◌, ℕ, suc, ◌+◌, ◌<◌, ◌≤◌, ◌%◌, ◌^◌, true, List, [], ◌∷◌, ◌++◌, get_or, set, length}
+use Rattle.std.proofs.Common.{◌≡◌, ℕ, suc, ◌+◌, ◌*◌, ◌<◌, ◌≤◌, ◌%◌, ◌^◌, true, List, [], ◌∷◌, ◌++◌, get_or, set, length}
 use Rattle.std.proofs.Common.{length-set, length-append}
 use Rattle.std.proofs.Common.{get_or-set_same, Option, Some, None, refl, sym, ap, ◌∙◌, subst, arith}
 use Rattle.std.proofs.lemmas.List.{get_or-set_other}
@@ -20,7 +20,7 @@ use Rattle.wait_book.specs.Contents.{times}
 use Rattle.wait_book.specs.declared.steps.Next.TheVariants as next
 use Rattle.wait_book.proofs.Times.{few_once, one_same}
 use Rattle.door_frame.specs.declared.parcel.Lodged.{Lodged}
-use Rattle.door_frame.specs.Rule.{Cells, Tickets, Kept}
+use Rattle.door_frame.specs.Rule.{Cells, Tokens, Kept}
 use Rattle.door_frame.specs.Steps.{Sat, Gives, Notes, gives_as, notes_as}
 use Rattle.door_frame.specs.Views.{alone, asking, sole}
 use Rattle.hoare_law.proofs.Entering.{outside-same}
@@ -28,29 +28,33 @@ use Rattle.door_frame.proofs.Steps as frame
 use Rattle.door_frame.proofs.Views.{given_to, given_here, given_else}
 use Rattle.hoare_law.specs.Admissions.{admissions}
 use Rattle.ticket_door.specs.Queue.{ticket_in}
-use Rattle.ticket_door.specs.Rule.{Starts, Tells, next_at, serving_at, bell_at, taken, rung}
+use Rattle.door_frame.specs.declared.view.Token.{Token}
+use Rattle.door_frame.specs.declared.view.Token.TheVariants as token
+use Rattle.ticket_door.specs.Rule.{Starts, Tells, Gate, ajar, shut, token_in, IsKept, next_at, serving_at, bell_at}
+use Rattle.ticket_door.specs.Rule.{taken, rung}
 use Rattle.ticket_door.specs.Steps.{asks, looks, LooksAt}
 use Rattle.hoare_law.proofs.Admissions.{admissions-admit, admissions-other}
-use Rattle.ticket_door.proofs.Queue.{Some-injective, ticket_range, ticket_first, ticket_none, none_ticket, ticket_last}
-use Rattle.ticket_door.proofs.Queue.{ticket_kept, ticket_else, once_more, below_more}
-use Rattle.ticket_door.proofs.Turns.{taken_le, taken_free, free_next, no_admit, held_busy, next_word, served_only}
+use Rattle.ticket_door.proofs.Gate.{has_ticket, has_none, asks_tokens, asks_kept, serves_kept}
+use Rattle.ticket_door.proofs.Queue.{Ticket-injective, ticket_range, ticket_first, none_ticket, ticket_else}
+use Rattle.ticket_door.proofs.Queue.{once_more, below_more}
+use Rattle.ticket_door.proofs.Turns.{taken_le, taken_free, free_next, no_admit, held_busy, next_word, next_turn}
+use Rattle.ticket_door.proofs.Turns.{served_only, even_ajar, open_bit}
 
 module _ {D : Type 0} (first n : ℕ) where
   -- one more place in the queue
-  asked : (log : History D) (tickets : Tickets) (ws : List ℕ) (k : ℕ) → k < n → tickets k ≡ None
-      → (t : Tells first n log tickets ws)
-      → Tells first n log (given_to tickets k (Some (admissions log.events + length t.queue))) (set ws next_at ((get_or ws next_at 0 + 1) % 2 ^ 64))
-  asked log tickets ws k small none t =
+  asked : (log : History D) (tokens : Tokens) (ws : List ℕ) (k : ℕ) → k < n → tokens k ≡ None
+      → (t : Tells first n log tokens ws)
+      → Tells first n log (given_to tokens k (Some (token.Ticket (admissions log.events + length t.queue)))) (set ws next_at ((get_or ws next_at 0 + 1) % 2 ^ 64))
+  asked log tokens ws k small none t =
       let a : ℕ = admissions log.events in let q : List ℕ = t.queue in let x : ℕ = a + length q in
-      let ws' : List ℕ = set ws next_at ((get_or ws next_at 0 + 1) % 2 ^ 64) in
-      let z : times k q ≡ 0 = ticket_none a q k (sym (t.tickets_are k) ∙ none) in let wide = t.words_are in record {
+      let has : token_in t.gate a q k ≡ None = sym (t.tokens_are k) ∙ none in
+      let z : times k q ≡ 0 = has_none t.gate a q k has in let wide = t.words_are in record {
         words_are = length-set ws next_at _ ∙ wide;
         queue = q ++ k ∷ [];
         once = once_more q k t.once z;
         below = below_more q k n small t.below;
-        tickets_are = λ j. dite (ℕ_discrete j k)
-            (λ same. subst (λ (i : ℕ). given_to tickets k (Some x) i ≡ ticket_in a (q ++ k ∷ []) i) (sym same) (given_here tickets k (Some x) ∙ sym (ticket_last a q k z)))
-            (λ ne. given_else tickets k (Some x) j ne ∙ t.tickets_are j ∙ sym (ticket_kept a q k j ne));
+        gate = t.gate;
+        tokens_are = asks_tokens t.gate a q k tokens t.tokens_are none;
         next =
             get_or-set_same ws next_at _ 0 (omega (arith, wide)) ∙ ap (λ (m : ℕ). (m + 1) % 2 ^ 64) t.next
             ∙ next_word first x ∙ ap (λ (m : ℕ). (first + m) % 2 ^ 64)
@@ -58,73 +62,82 @@ module _ {D : Type 0} (first n : ℕ) where
         served = t.served;
         due = t.due;
         serving = get_or-set_other ws next_at serving_at _ 0 (λ e. omega (arith, e)) ∙ t.serving;
+        kept = asks_kept t.gate first t.served a q k has t.kept;
         bells = λ j b. get_or-set_other ws next_at (bell_at j) _ 0 (λ e. omega (arith, e)) ∙ t.bells j b;
       }
 
   -- the first of the queue is let in
-  looked : (log : History D) (tickets : Tickets) (ws : List ℕ) (k : ℕ) (rest : List ℕ) (s : D)
-      → (t : Tells first n log tickets ws) → t.queue ≡ k ∷ rest → turn log.events ≡ Free
+  looked : (log : History D) (tokens : Tokens) (ws : List ℕ) (k : ℕ) (rest : List ℕ) (s : D)
+      → (t : Tells first n log tokens ws) → t.gate ≡ ajar → t.queue ≡ k ∷ rest → turn log.events ≡ Free
       → turn (with_event log (Admit k s)).events ≡ Held k
-      → Tells first n (with_event log (Admit k s)) (given_to tickets k None) (set ws serving_at (get_or ws serving_at 0))
-  looked log tickets ws k rest s t is free held =
+      → Tells first n (with_event log (Admit k s)) (given_to tokens k None) (set ws serving_at (get_or ws serving_at 0))
+  looked log tokens ws k rest s t is_ajar is free held =
       let a : ℕ = admissions log.events in
       let h : History D = with_event log (Admit k s) in let more = admissions-admit log k s in
       let out : times k rest ≡ 0 = let once = subst (λ (q : List ℕ). times k q ≤ 1) is (t.once k) in
       omega (arith, once, one_same k) in
       let before : taken (turn log.events) ≡ 0 = ap taken free in
       let after : taken (turn h.events) ≡ 1 = ap taken held in
-      subst (Tells first n h (given_to tickets k None)) (sym (set-get_or ws serving_at 0)) (record {
+      subst (Tells first n h (given_to tokens k None)) (sym (set-get_or ws serving_at 0)) (record {
         words_are = t.words_are;
         queue = rest;
         once = λ j. let once = subst (λ (q : List ℕ). times j q ≤ 1) is (t.once j) in omega (arith, once);
         below = λ j some. t.below j (subst (λ (q : List ℕ). 0 < times j q) (sym is) (omega (arith, some)));
-        tickets_are = λ j. dite (ℕ_discrete j k)
-            (λ same. subst (λ (i : ℕ). given_to tickets k None i ≡ ticket_in (admissions h.events) rest i) (sym same) (given_here tickets k None ∙ sym (none_ticket (admissions h.events) rest k out)))
-            (λ ne. given_else tickets k None j ne ∙ t.tickets_are j ∙ ap (λ (q : List ℕ). ticket_in a q j) is ∙ ticket_else a j k rest ne ∙ ap (λ (m : ℕ). ticket_in m rest j)
+        gate = ajar;
+        tokens_are = λ j. dite (ℕ_discrete j k)
+            (λ same. subst (λ (i : ℕ). given_to tokens k None i ≡ ticket_in (admissions h.events) rest i) (sym same) (given_here tokens k None ∙ sym (none_ticket (admissions h.events) rest k out)))
+            (λ ne. given_else tokens k None j ne ∙ t.tokens_are j ∙ (λ i. token_in (is_ajar i) a (is i) j) ∙ ticket_else a j k rest ne ∙ ap (λ (m : ℕ). ticket_in m rest j)
             (let same : suc a ≡ admissions h.events = omega (arith, more) in same));
         next = t.next ∙ ap (λ (m : ℕ). (first + m) % 2 ^ 64) (let l = ap length is in let same : a + length t.queue ≡ admissions h.events + length rest = omega (arith, l, more) in same);
         served = t.served;
         due = let d = t.due in omega (arith, d, before, after, more);
-        serving = t.serving;
+        serving = t.serving ∙ ap (λ (g : Gate). (2 * (first + t.served) + shut g) % 2 ^ 64) is_ajar;
+        kept = tt;
         bells = λ j b. t.bells j b ∙ (ap (λ (u : Turn). rung u j) free ∙ sym (ap (λ (u : Turn). rung u j) held));
       })
 
   -- the next is served
-  opened_gate : (f : History D) (e : Event D) (tickets : Tickets) (ws : List ℕ) (k : ℕ) → turn f.events ≡ Held k
+  next_served : (f : History D) (e : Event D) (tokens : Tokens) (ws : List ℕ) (k : ℕ) → turn f.events ≡ Held k
       → turn (with_event f e).events ≡ Free
-      → admissions (with_event f e).events ≡ admissions f.events → Tells first n f tickets ws
-      → Tells first n (with_event f e) tickets (set ws serving_at ((get_or ws serving_at 0 + 1) % 2 ^ 64))
-  opened_gate f e tickets ws k held free same t =
+      → admissions (with_event f e).events ≡ admissions f.events → Tells first n f tokens ws
+      → Tells first n (with_event f e) tokens (set ws serving_at ((get_or ws serving_at 0 + 2) % 2 ^ 64))
+  next_served f e tokens ws k held free same t =
       let wide = t.words_are in let before : taken (turn f.events) ≡ 1 = ap taken held in
       let after : taken (turn (with_event f e).events) ≡ 0 = ap taken free in record {
         words_are = length-set ws serving_at _ ∙ wide;
         queue = t.queue;
         once = t.once;
         below = t.below;
-        tickets_are = λ j. t.tickets_are j ∙ ap (λ (m : ℕ). ticket_in m t.queue j) (sym same);
+        gate = t.gate;
+        tokens_are = λ j. t.tokens_are j ∙ ap (λ (m : ℕ). token_in t.gate m t.queue j) (sym same);
         next = get_or-set_other ws serving_at next_at _ 0 (λ eq. omega (arith, eq)) ∙ t.next ∙ ap (λ (m : ℕ). (first + (m + length t.queue)) % 2 ^ 64) (sym same);
         served = t.served + 1;
         due = let d = t.due in omega (arith, d, before, after, same);
-        serving = get_or-set_same ws serving_at _ 0 (omega (arith, wide)) ∙ ap (λ (m : ℕ). (m + 1) % 2 ^ 64) t.serving ∙ next_word first t.served;
+        serving = get_or-set_same ws serving_at _ 0 (omega (arith, wide)) ∙ ap (λ (m : ℕ). (m + 2) % 2 ^ 64) t.serving ∙ next_turn first t.served (shut t.gate);
+        kept =
+            subst (λ (m : ℕ). IsKept first (t.served + 1) m t.queue t.gate) (sym same)
+            (serves_kept t.gate first t.served (admissions f.events) t.queue t.kept);
         bells = λ j b. get_or-set_other ws serving_at (bell_at j) _ 0 (λ eq. omega (arith, eq)) ∙ t.bells j b ∙ (ap (λ (u : Turn). rung u j) held ∙ sym (ap (λ (u : Turn). rung u j) free));
       }
 
   -- an event by which a place stays inside changes neither the tickets nor the words
-  stayed : (f : History D) (e : Event D) (tickets : Tickets) (ws : List ℕ) (k : ℕ) → turn f.events ≡ Held k
+  stayed : (f : History D) (e : Event D) (tokens : Tokens) (ws : List ℕ) (k : ℕ) → turn f.events ≡ Held k
       → turn (with_event f e).events ≡ Held k
-      → admissions (with_event f e).events ≡ admissions f.events → Tells first n f tickets ws
-      → Tells first n (with_event f e) tickets ws
-  stayed f e tickets ws k held stays same t =
+      → admissions (with_event f e).events ≡ admissions f.events → Tells first n f tokens ws
+      → Tells first n (with_event f e) tokens ws
+  stayed f e tokens ws k held stays same t =
       let turns : turn f.events ≡ turn (with_event f e).events = held ∙ sym stays in record {
         words_are = t.words_are;
         queue = t.queue;
         once = t.once;
         below = t.below;
-        tickets_are = λ j. t.tickets_are j ∙ ap (λ (m : ℕ). ticket_in m t.queue j) (sym same);
+        gate = t.gate;
+        tokens_are = λ j. t.tokens_are j ∙ ap (λ (m : ℕ). token_in t.gate m t.queue j) (sym same);
         next = t.next ∙ ap (λ (m : ℕ). (first + (m + length t.queue)) % 2 ^ 64) (sym same);
         served = t.served;
         due = ap (λ (u : Turn). t.served + taken u) (sym turns) ∙ t.due ∙ sym same;
         serving = t.serving;
+        kept = subst (λ (m : ℕ). IsKept first t.served m t.queue t.gate) (sym same) t.kept;
         bells = λ j b. t.bells j b ∙ ap (λ (u : Turn). rung u j) turns;
       }
 
@@ -133,43 +146,47 @@ module _ {D : Type 0} (first n : ℕ) where
     K = Kept (Starts first n) (Tells first n) rest ready kinds n
 
     abbrev Drawn : ℕ → History D → ℕ → Sat D → Type 0
-    Drawn k f r m = (o : Option ℕ) × (m ≡ (sole k f o, [])) × ((x : ℕ) × (o ≡ Some x) × (r ≡ (first + x) % 2 ^ 64))
+    Drawn k f r m = (o : Option Token) × (m ≡ (sole k f o, [])) × ((x : ℕ) × (o ≡ Some (token.Ticket x)) × (r ≡ (first + x) % 2 ^ 64))
 
     pub asks_ok : (slots id k : ℕ) (f : History D) (st : Step (Option (Lodged D)))
         → Allows K slots id (alone k f, []) next_at (λ r. (r + 1) % 2 ^ 64) (asks first st (alone k f, []))
     asks_ok slots id k f st =
         frame.told_as K slots id (alone k f, []) next_at (λ r. (r + 1) % 2 ^ 64) _ (asks first st (alone k f, []))
         (λ r m (d : Drawn k f r m) j g is. let q = frame.alone_is k j f g [] [] is in (d.2.0, d.1 ∙ (λ i. (sole (q.0 i) (q.1 i) (d.2.1 i), [])), d.2.2))
-        (frame.draws_ok (Starts first n) (Tells first n) rest ready kinds n slots id k next_at f None (λ r. (r + 1) % 2 ^ 64) (λ o r. (x : ℕ) × (o ≡ Some x) × (r ≡ (first + x) % 2 ^ 64))
-        (λ log tickets ws small none t. let x : ℕ = admissions log.events + length t.queue in (
-          Some x,
-          given_to tickets k (Some x),
-          given_here tickets k (Some x),
-          (λ j ne. given_else tickets k (Some x) j ne),
-          asked log tickets ws k small none t,
+        (frame.draws_ok (Starts first n) (Tells first n) rest ready kinds n slots id k next_at f None [] (λ r. (r + 1) % 2 ^ 64) (λ o r. (x : ℕ) × (o ≡ Some (token.Ticket x)) × (r ≡ (first + x) % 2 ^ 64))
+        (λ log tokens ws small none t. let x : ℕ = admissions log.events + length t.queue in (
+          Some (token.Ticket x),
+          given_to tokens k (Some (token.Ticket x)),
+          given_here tokens k (Some (token.Ticket x)),
+          (λ j ne. given_else tokens k (Some (token.Ticket x)) j ne),
+          asked log tokens ws k small none t,
           (x, refl, t.next),
         )))
 
-    abbrev pub Admits : ℕ → ℕ → History D → Tickets → List ℕ → Type 0
-    Admits k x log tickets ws =
-        frame.BringsIn (Starts first n) (Tells first n) rest ready kinds k serving_at (λ r. r)
-        (λ h. admissions h.events ≡ x) log tickets ws (Admit k (latest_data log))
+    abbrev pub Admits : ℕ → ℕ → History D → Tokens → List ℕ → Type 0
+    Admits k x log tokens ws =
+        frame.BringsIn (Starts first n) (Tells first n) rest ready kinds k serving_at None (λ r. r)
+        (λ h. admissions h.events ≡ x) log tokens ws (Admit k (latest_data log))
 
-    brings : (k x : ℕ) (f log : History D) (tickets : Tickets) (ws : List ℕ) → n ≤ 64 → outside k f.events ≡ true
+    brings : (k x : ℕ) (f log : History D) (tokens : Tokens) (ws : List ℕ) → n ≤ 64 → outside k f.events ≡ true
         → Stands rest ready log → log.sizes.places ≡ n → k < n
-        → own k log.events ≡ own k f.events → tickets k ≡ Some x → Tells first n log tickets ws
-        → get_or ws serving_at 0 ≡ (first + x) % 2 ^ 64 → Admits k x log tickets ws
-    brings k x f log tickets ws few out stands places small same has t hit =
+        → own k log.events ≡ own k f.events → tokens k ≡ Some (token.Ticket x) → Tells first n log tokens ws
+        → get_or ws serving_at 0 ≡ (2 * (first + x)) % 2 ^ 64 → Admits k x log tokens ws
+    brings k x f log tokens ws few out stands places small same has t hit =
         let a : ℕ = admissions log.events in
-        let r = ticket_range a t.queue k x (sym (t.tickets_are k) ∙ has) in let d = t.due in
+        let is_ajar : t.gate ≡ ajar = even_ajar (first + t.served) (first + x) t.gate (sym t.serving ∙ hit) in
+        let drew = has_ticket t.gate a t.queue k x (sym (t.tokens_are k) ∙ has) in
+        let r = ticket_range a t.queue k x drew in let d = t.due in
         let most = few_once t.queue n t.once t.below in let le1 = taken_le (turn log.events) in
+        let word : (2 * (first + t.served)) % 2 ^ 64 ≡ (2 * (first + x)) % 2 ^ 64 =
+        open_bit (first + t.served) ∙ ap (λ (g : Gate). (2 * (first + t.served) + shut g) % 2 ^ 64) (sym is_ajar)
+        ∙ sym t.serving ∙ hit in
         let now : t.served ≡ x =
-        served_only first t.served x (omega (arith, r.0, d)) (omega (arith, r.1, d, le1, most, few))
-        (sym t.serving ∙ hit) in
+        served_only first t.served x (omega (arith, r.0, d)) (omega (arith, r.1, d, le1, most, few)) word in
         let free : turn log.events ≡ Free = taken_free (turn log.events) (omega (arith, now, d, r.0)) in
         let none : taken (turn log.events) ≡ 0 = ap taken free in
         let here : a ≡ x = omega (arith, now, d, none) in
-        let firsts = ticket_first a t.queue k (sym (t.tickets_are k) ∙ has ∙ ap (λ (m : ℕ). Some m) (sym here)) in
+        let firsts = ticket_first a t.queue k (drew ∙ ap (λ (m : ℕ). Some (token.Ticket m)) (sym here)) in
         let e =
         frame.enters_admit rest ready k log (subst (λ (m : ℕ). k < m) (sym places) small) free
         (outside-same k f log same out) in
@@ -180,10 +197,10 @@ module _ {D : Type 0} (first n : ℕ) where
           mine = refl;
           inside = e.inside;
           also = here;
-          tickets' = given_to tickets k None;
-          no_ticket = given_here tickets k None;
-          others = λ j ne. given_else tickets k None j ne;
-          tells = looked log tickets ws k firsts.0 (latest_data log) t firsts.1 free e.inside;
+          tokens' = given_to tokens k None;
+          token_now = given_here tokens k None;
+          others = λ j ne. given_else tokens k None j ne;
+          tells = looked log tokens ws k firsts.0 (latest_data log) t is_ajar firsts.1 free e.inside;
         }
 
     pub looks_ok : (slots id k x : ℕ) (f : History D) (st : Step (Option (Lodged D))) → n ≤ 64
@@ -191,13 +208,13 @@ module _ {D : Type 0} (first n : ℕ) where
         (looks first rest ready st (asking k f x, []))
     looks_ok slots id k x f st few out =
         frame.told_as K slots id (asking k f x, []) serving_at (λ r. r) _ (looks first rest ready st (asking k f x, []))
-        (λ r m c j g y is. let q = frame.sole_is k j f g (Some x) (Some y) [] [] is in let same : x ≡ y = Some-injective x y q.2 in
+        (λ r m c j g y is. let q = frame.sole_is k j f g (Some (token.Ticket x)) (Some (token.Ticket y)) [] [] is in let same : x ≡ y = Ticket-injective x y q.2 in
         subst (λ (p : ℕ × (History D × ℕ)). LooksAt first rest ready p.0 p.1.0 p.1.1 (asking k f x, []) r m)
         (λ i. (q.0 i, (q.1 i, same i))) c)
-        (frame.comes_ok (Starts first n) (Tells first n) rest ready kinds n slots id k serving_at f (Some x) (Admit k) (λ r. r) (λ r. r ≡ (first + x) % 2 ^ 64) (λ log. admissions log.events ≡ x)
-        (λ r. ℕ_discrete r ((first + x) % 2 ^ 64))
-        (λ log tickets ws small t miss. refl)
-        (λ log tickets ws stands places small same has t hit. brings k x f log tickets ws few out stands places small same has t hit))
+        (frame.comes_ok (Starts first n) (Tells first n) rest ready kinds n slots id k serving_at f (Some (token.Ticket x)) None (Admit k) (λ r. r) (λ r. r ≡ (2 * (first + x)) % 2 ^ 64) (λ log. admissions log.events ≡ x)
+        (λ r. ℕ_discrete r ((2 * (first + x)) % 2 ^ 64))
+        (λ log tokens ws small t miss. refl)
+        (λ log tokens ws stands places small same has t hit. brings k x f log tokens ws few out stands places small same has t hit))
 
     -- the same of a seat with that view
     pub asks_at : (slots id k : ℕ) (f : History D) (st : Step (Option (Lodged D))) (m : Sat D) (start : ℕ)
@@ -218,19 +235,19 @@ module _ {D : Type 0} (first n : ℕ) where
     -- who gives the monitor up where nobody is owed it opens to the next
     pub gives_open : (slots id k : ℕ) (f : History D) (x : Lodged D) (event : D → Event D) (st : Step (Option (Lodged D)))
         → Gives rest ready event k f x next.Free
-        → Allows K slots id (alone k f, (0, Some x) ∷ []) serving_at (λ r. (r + 1) % 2 ^ 64) (gives_as event st (alone k f, (0, Some x) ∷ []))
+        → Allows K slots id (alone k f, (0, Some x) ∷ []) serving_at (λ r. (r + 2) % 2 ^ 64) (gives_as event st (alone k f, (0, Some x) ∷ []))
     gives_open slots id k f x event st p =
         frame.gives_ok (Starts first n) (Tells first n) rest ready kinds n slots id k serving_at
-        (λ r. (r + 1) % 2 ^ 64) f x next.Free event st p
-        (λ tickets ws places small t. opened_gate f (event x.state) tickets ws k p.inside (free_next _ (sym p.next_is))
+        (λ r. (r + 2) % 2 ^ 64) f x next.Free event st p
+        (λ tokens ws places small t. next_served f (event x.state) tokens ws k p.inside (free_next _ (sym p.next_is))
         (admissions-other f (event x.state) (no_admit f (event x.state) p.allowed (held_busy k _ p.inside))) t)
 
     -- the same of a seat with that view
     pub gives_open_at : (slots id k : ℕ) (f : History D) (x : Lodged D) (event : D → Event D) (st : Step (Option (Lodged D))) (m : Sat D)
         → m ≡ (alone k f, (0, Some x) ∷ []) → Gives rest ready event k f x next.Free
-        → Allows K slots id m serving_at (λ r. (r + 1) % 2 ^ 64) (gives_as event st m)
+        → Allows K slots id m serving_at (λ r. (r + 2) % 2 ^ 64) (gives_as event st m)
     gives_open_at slots id k f x event st m is p =
-        subst (λ (q : Sat D). Allows K slots id q serving_at (λ r. (r + 1) % 2 ^ 64) (gives_as event st q)) (sym is)
+        subst (λ (q : Sat D). Allows K slots id q serving_at (λ r. (r + 2) % 2 ^ 64) (gives_as event st q)) (sym is)
         (gives_open slots id k f x event st p)
 
     -- who is inside calls others: a look at SERVING
@@ -239,5 +256,5 @@ module _ {D : Type 0} (first n : ℕ) where
         → Allows K slots id m serving_at (λ r. r) (notes_as event st m)
     notes_at slots id k f event st m is p =
         frame.notes_at (Starts first n) (Tells first n) rest ready kinds n slots id k serving_at f event st m is p
-        (λ tickets ws t. stayed f (event f) tickets ws k p.inside p.stays
+        (λ tokens ws t. stayed f (event f) tokens ws k p.inside p.stays
         (admissions-other f (event f) (no_admit f (event f) p.allowed (held_busy k _ p.inside))) t)

@@ -1,5 +1,5 @@
 -- Whose turn it is, and what SERVING and the bells have of it.
-use Rattle.std.proofs.Common.{◌≡◌, ◌≢◌, ℕ, ◌+◌, ◌<◌, ◌≤◌, ◌%◌, ◌^◌, false, refl, sym, ap, ◌∙◌, subst, arith, ne_eqb}
+use Rattle.std.proofs.Common.{◌≡◌, ◌≢◌, ℕ, ◌+◌, ◌-◌, ◌*◌, ◌<◌, ◌≤◌, ◌%◌, ◌^◌, false, refl, sym, ap, ◌∙◌, subst, arith, ne_eqb}
 use mathlib.Core.Logic.{dite}
 use native.Mathlib.Decide.{ℕ_discrete}
 use Rattle.std.proofs.Math.Nat.{mod-add-mod}
@@ -17,7 +17,7 @@ use Rattle.wait_book.specs.declared.steps.Next.TheVariants as next
 use Rattle.wait_book.proofs.Times.{one_same, one_apart}
 use Rattle.door_frame.proofs.Steps.{IsDue, owed, returning}
 use Rattle.hoare_law.specs.Admissions.{is_admit}
-use Rattle.ticket_door.specs.Rule.{taken, rung}
+use Rattle.ticket_door.specs.Rule.{Gate, ajar, shut_by, shut, taken, rung}
 
 pub taken_le : (t : Turn) → taken t ≤ 1
 taken_le Free = omega arith
@@ -103,9 +103,41 @@ next_word first x =
     mod-add-mod (first + x) (2 ^ 64) 1
     ∙ ap (λ n. n % 2 ^ 64) (let same : first + x + 1 ≡ first + (x + 1) = omega arith in same)
 
+-- SERVING, once the next ticket is served
+pub next_turn : (first x b : ℕ) → ((2 * (first + x) + b) % 2 ^ 64 + 2) % 2 ^ 64 ≡ (2 * (first + (x + 1)) + b) % 2 ^ 64
+next_turn first x b =
+    mod-add-mod (2 * (first + x) + b) (2 ^ 64) 2
+    ∙ ap (λ n. n % 2 ^ 64) (let same : 2 * (first + x) + b + 2 ≡ 2 * (first + (x + 1)) + b = omega arith in same)
+
 -- a ticket not far ahead of who is served has the word of who is served only if it is it
-pub served_only : (first served x : ℕ) → served ≤ x → x < served + 66 → (first + served) % 2 ^ 64 ≡ (first + x) % 2 ^ 64
+pub served_only : (first served x : ℕ) → served ≤ x → x < served + 66
+    → (2 * (first + served)) % 2 ^ 64 ≡ (2 * (first + x)) % 2 ^ 64
     → served ≡ x
 served_only first served x le lt e =
-    let same = one_turn (first + served) (first + x) (2 ^ 64) (omega (arith, le)) (omega (arith, lt)) e in
+    let same =
+    one_turn (2 * (first + served)) (2 * (first + x)) (2 ^ 64) (omega (arith, le)) (omega (arith, lt)) e in
     omega (arith, same)
+
+-- while the gate is shut SERVING is odd
+pub even_ajar : (a b : ℕ) (g : Gate) → (2 * a + shut g) % 2 ^ 64 ≡ (2 * b) % 2 ^ 64 → g ≡ ajar
+even_ajar a b ajar e = refl
+even_ajar a b (shut_by k v) e = absurd (omega (arith, e))
+
+-- the gate's bit is set, and taken off again
+pub shut_word : (a : ℕ) → (2 * a) % 2 ^ 64 + 1 ≡ (2 * a + 1) % 2 ^ 64
+shut_word a = omega arith
+
+pub open_bit : (a : ℕ) → (2 * a) % 2 ^ 64 ≡ (2 * a + 0) % 2 ^ 64
+open_bit a = omega arith
+
+pub open_word : (a : ℕ) → ((2 * a + 1) % 2 ^ 64 + (2 ^ 64 - 1)) % 2 ^ 64 ≡ (2 * a + 0) % 2 ^ 64
+open_word a = omega arith
+
+-- SERVING while the ticket of this number is served
+pub turn_word : (first start x ticket : ℕ) → first ≡ start → ticket ≡ (first + x) % 2 ^ 64
+    → (2 * ticket) % 2 ^ 64 ≡ (2 * (start + x)) % 2 ^ 64
+turn_word first start x ticket same is =
+    ap (λ n. (2 * n) % 2 ^ 64) is ∙ twice (first + x) ∙ ap (λ n. (2 * (n + x)) % 2 ^ 64) same
+  where
+    twice : (n : ℕ) → (2 * (n % 2 ^ 64)) % 2 ^ 64 ≡ (2 * n) % 2 ^ 64
+    twice n = omega arith

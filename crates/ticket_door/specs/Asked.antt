@@ -1,5 +1,5 @@
 -- A place that asked, as a contract sees it, and when it comes in.
-use Rattle.std.specs.Prelude.{◌≡◌, ℕ, ◌+◌, ◌%◌, ◌^◌, true, unwrap_or, [], ◌∷◌}
+use Rattle.std.specs.Prelude.{◌≡◌, ℕ, ◌+◌, ◌%◌, ◌^◌, true, [], ◌∷◌}
 use Rattle.atomic_table.specs.Seated.{TableId}
 use Rattle.hoare_law.specs.declared.event.Event.{Event}
 use Rattle.hoare_law.specs.Sizes.{Kinds}
@@ -13,6 +13,7 @@ use Rattle.door_frame.specs.Steps.{Sat}
 use Rattle.door_frame.specs.Views.{asking}
 use Rattle.hoare_law.specs.Admissions.{is_admit, admissions}
 use Rattle.ticket_door.specs.declared.rule.Sizes.{Sizes}
+use Rattle.ticket_door.specs.Queue.{ticket_number}
 
 -- a ticket door: its identity and number of places, and its first ticket
 pub record TicketDoorId : Type 0 where
@@ -33,7 +34,7 @@ pub record PlaceAsked (D : Type 0) : Type 0 where
 
 module _ {D : Type 0} where
   abbrev pub number_of : View D → ℕ
-  number_of (Places (t ∷ ts)) = unwrap_or t.ticket 0
+  number_of (Places (t ∷ ts)) = ticket_number t.token
   number_of _ = 0
 
   abbrev pub IsAsking : ℕ → History D → ℕ → Sat D → Type 0

@@ -2,4 +2,5 @@ pub mod Queue
 pub mod Rule
 pub mod Steps
 pub mod Asked
+pub mod Tries
 pub mod Meeting

@@ -1,11 +1,14 @@
 -- What the words NEXT and SERVING and the bells say.
-use Rattle.std.specs.Prelude.{◌≡◌, ℕ, ◌+◌, ◌*◌, ◌%◌, ◌^◌, ◌<◌, ◌≤◌, Bool, List, slice_index, length}
+use Rattle.std.specs.Prelude.{◌≡◌, ℕ, ◌+◌, ◌*◌, ◌%◌, ◌^◌, ◌<◌, ◌≤◌, ◌==◌, if◌then◌else◌, Bool, List, Option, Some}
+use Rattle.std.specs.Prelude.{slice_index, length}
 use Rattle.hoare_law.specs.declared.event.History.{History}
 use Rattle.hoare_law.specs.declared.turn.Turn.{Turn}
 use Rattle.hoare_law.specs.declared.turn.Turn.TheVariants.{Free, Held, Owed, Return}
 use Rattle.hoare_law.specs.Turns.{turn}
 use Rattle.wait_book.specs.Contents.{one, times}
-use Rattle.door_frame.specs.Rule.{Tickets}
+use Rattle.door_frame.specs.declared.view.Token.{Token}
+use Rattle.door_frame.specs.declared.view.Token.TheVariants as token
+use Rattle.door_frame.specs.Rule.{Tokens}
 use Rattle.hoare_law.specs.Admissions.{admissions}
 use Rattle.ticket_door.specs.Queue.{ticket_in}
 
@@ -31,27 +34,57 @@ rung (Held j) k = 0
 rung (Owed j c) k = one j k
 rung (Return j) k = one j k
 
+-- who has the gate: nobody, so that newcomers come in, or the place k, which tries, and shut it where SERVING was v
+pub data Gate : Type 0 where
+  ajar : Gate
+  shut_by : ℕ → ℕ → Gate
+
+-- what SERVING has more while it is shut
+abbrev pub shut : Gate → ℕ
+shut ajar = 0
+shut (shut_by k v) = 1
+
+-- the token of place j: who shut the gate has it, and the others have their tickets
+abbrev pub token_in : Gate → ℕ → List ℕ → ℕ → Option Token
+token_in ajar a queue j = ticket_in a queue j
+token_in (shut_by k v) a queue j = if j == k then Some (token.Gate v) else ticket_in a queue j
+
+-- since the place k shut the gate nobody else was let in: so at most one turn ended, and k didn't ask
+pub record Shut (first k v served admitted : ℕ) (queue : List ℕ) : Type 0 where
+  pub since : ℕ
+  pub word : v ≡ (2 * (first + since)) % 2 ^ 64
+  pub begins : since ≤ served
+  pub few : admitted ≤ since + 1
+  pub apart : times k queue ≡ 0
+
+abbrev pub IsKept : ℕ → ℕ → ℕ → List ℕ → Gate → Type 0
+IsKept first served admitted queue ajar = Unit {0}
+IsKept first served admitted queue (shut_by k v) = Shut first k v served admitted queue
+
 -- before the door opens
 pub record Starts (first n : ℕ) (begun : Bool) (words : List ℕ) : Type 0 where
   pub words_are : length words ≡ 8 * n + 16
   pub next : slice_index words next_at ≡ first % 2 ^ 64
-  pub serving : slice_index words serving_at ≡ first % 2 ^ 64
+  pub serving : slice_index words serving_at ≡ (2 * first) % 2 ^ 64
   pub bells : (k : ℕ) → k < n → slice_index words (bell_at k) ≡ 0
 
--- of a door with n places whose first ticket is `first`. Tickets are counted from 0; the words have them with `first`
--- added, modulo 2^64
-pub record Tells {D : Type 0} (first n : ℕ) (log : History D) (tickets : Tickets) (words : List ℕ) : Type 0 where
+-- of a door with n places whose first ticket is `first`. Tickets are counted from 0; NEXT has them with `first` added,
+-- modulo 2^64, and SERVING twice that, modulo 2^64, so that it has a bit for the gate
+pub record Tells {D : Type 0} (first n : ℕ) (log : History D) (tokens : Tokens) (words : List ℕ) : Type 0 where
   pub words_are : length words ≡ 8 * n + 16
   -- who asked, in the order of tickets: from the number of those let in on, each once
   pub queue : List ℕ
   pub once : (k : ℕ) → times k queue ≤ 1
   pub below : (k : ℕ) → 0 < times k queue → k < n
-  pub tickets_are : (k : ℕ) → tickets k ≡ ticket_in (admissions log.events) queue k
+  -- who has the gate
+  pub gate : Gate
+  pub tokens_are : (k : ℕ) → tokens k ≡ token_in gate (admissions log.events) queue k
   pub next : slice_index words next_at ≡ (first + (admissions log.events + length queue)) % 2 ^ 64
   -- how often the monitor was opened to newcomers: as often as one was let in, but for the turn that lasts
   pub served : ℕ
   pub due : served + taken (turn log.events) ≡ admissions log.events
-  pub serving : slice_index words serving_at ≡ (first + served) % 2 ^ 64
+  pub serving : slice_index words serving_at ≡ (2 * (first + served) + shut gate) % 2 ^ 64
+  pub kept : IsKept first served (admissions log.events) queue gate
   pub bells : (k : ℕ) → k < n → slice_index words (bell_at k) ≡ rung (turn log.events) k
 
 -- the door's sizes: how many words and slots its table has, how many places there are, and how many wakers

@@ -1,11 +1,13 @@
 -- What each step tells that another door doesn't have: of the step, the seat before, the number found and the seat
 -- after.
-use Rattle.std.specs.Prelude.{◌≡◌, ℕ, ◌+◌, ◌%◌, ◌^◌, []}
+use Rattle.std.specs.Prelude.{◌≡◌, ℕ, ◌+◌, ◌*◌, ◌%◌, ◌^◌, [], Some}
 use Rattle.hoare_law.specs.declared.event.History.{History}
 use Rattle.hoare_law.specs.declared.event.Event.TheVariants.{Admit}
 use Rattle.hoare_law.specs.Lawful.{Rest, Ready}
-use Rattle.door_frame.specs.Steps.{Sat, Told, Comes, due}
-use Rattle.door_frame.specs.Views.{alone, asking}
+use Rattle.door_frame.specs.Steps.{Sat, Told, Comes, ComesWith, due}
+use Rattle.door_frame.specs.Views.{alone, asking, trying}
+use Rattle.door_frame.specs.declared.view.Token.TheVariants.{Gate}
+use Rattle.ticket_door.specs.Tries.{Reopened}
 use Rattle.hoare_law.specs.Admissions.{admissions}
 
 module _ {D : Type 0} where
@@ -17,11 +19,30 @@ module _ {D : Type 0} where
   -- a look of the place k with the ticket x: where it is served, k is let in, as number x of all that are
   abbrev pub LooksAt : ℕ → Rest D → Ready D → ℕ → History D → ℕ → Sat D → ℕ → Sat D → Type 0
   LooksAt first rest ready k f x =
-      Comes rest ready (λ r. r ≡ (first + x) % 2 ^ 64) (λ log. admissions log.events ≡ x) k f (Admit k)
+      Comes rest ready (λ r. r ≡ (2 * (first + x)) % 2 ^ 64) (λ log. admissions log.events ≡ x) k f (Admit k)
 
   abbrev pub looks : ℕ → Rest D → Ready D → Told D
   looks first rest ready st m r m' =
       (k : ℕ) (f : History D) (x : ℕ) → m ≡ (asking k f x, []) → LooksAt first rest ready k f x m r m'
+
+  -- a place shuts the gate, where SERVING is v
+  abbrev pub ShutsAt : ℕ → ℕ → History D → Sat D → ℕ → Sat D → Type 0
+  ShutsAt v k f m r m' = ((r ≡ v → ⊥) → m' ≡ m) × (r ≡ v → m' ≡ (trying k f v, []))
+
+  abbrev pub shuts : Told D
+  shuts st m r m' = (k : ℕ) (f : History D) → m ≡ (alone k f, []) → ShutsAt st.first k f m r m'
+
+  -- the place k, which shut it there, is let in, where NEXT is w
+  abbrev pub TriesAt : ℕ → Rest D → Ready D → ℕ → History D → ℕ → Sat D → ℕ → Sat D → Type 0
+  TriesAt w rest ready k f v = ComesWith rest ready (Some (Gate v)) (λ r. r ≡ w) (λ log. Unit {0}) k f (Admit k)
+
+  abbrev pub tries : Rest D → Ready D → Told D
+  tries rest ready st m r m' =
+      (k : ℕ) (f : History D) (v : ℕ) → m ≡ (trying k f v, []) → TriesAt st.first rest ready k f v m r m'
+
+  -- it opens the gate again
+  abbrev pub reopens : Told D
+  reopens st m r m' = Reopened m m'
 
   -- a place hears its bell
   abbrev pub HearsAt : Rest D → Ready D → ℕ → History D → Sat D → ℕ → Sat D → Type 0

@@ -10,7 +10,7 @@ ghost use Rattle.door_frame.specs.Steps.{MayGive, MayNote};
 ghost use Rattle.door_frame.specs.Seats.{GoesOut, StaysIn};
 
 use crate::door::TicketDoor;
-use crate::words::{RUNG, SERVING, bell_of};
+use crate::words::{RUNG, SERVING, TURN, bell_of};
 use door_frame::departure::Departure;
 use door_frame::looks::LOOKS;
 use door_frame::notice::Notice;
@@ -55,7 +55,7 @@ impl<D: MonitorData> TicketDoor<D> {
         lay_parcel(&self.table, seat, parcel);
         match next {
             Next::Free => {
-                self.table.shared.fetch_add::<Give<J>>(seat, SERVING, 1);
+                self.table.shared.fetch_add::<Give<J>>(seat, SERVING, TURN);
             }
             Next::For(resumed) => {
                 self.table

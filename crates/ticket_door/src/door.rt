@@ -38,8 +38,8 @@ pub struct TicketDoor<D: MonitorData> {
     ///
     /// | Word | says | and is changed by |
     /// |---|---|---|
-    /// | `NEXT` | the next ticket to be drawn, modulo 2^64 | each newcomer, by one |
-    /// | `SERVING` | the ticket that comes in next or is inside | who gives the monitor up to newcomers, by one |
+    /// | `NEXT` | the next ticket to be drawn, modulo 2^64 | each newcomer, by one; one that tries, where that is served |
+    /// | `SERVING` | twice the ticket that comes in next or is inside, modulo 2^64, and one more while the gate is shut | who gives the monitor up to newcomers, by two; a place that tries, by one, and back |
     /// | `bell_of(k)` | `RUNG` where the monitor is owed to place k, or returns to it, else `SILENT` | who hands over, to `RUNG`; place k, to `SILENT` |
     pub(crate) table: TicketTable<D>,
     /// What wakes each place, in order.

@@ -12,7 +12,7 @@ ghost use Rattle.ticket_door.specs.Rule.{Starts};
 use crate::door::TicketDoor;
 use crate::place::TicketOut;
 use crate::rule::{Sizes, TicketTable, TicketWords};
-use crate::words::{NEXT, SERVING, words_for};
+use crate::words::{NEXT, SERVING, served_as, words_for};
 use door_frame::making::{deal, parkers, vacant};
 use door_frame::parcel::Parcel;
 use door_frame::plays::{Begin, DoorSeat, Open};
@@ -23,14 +23,14 @@ use std::alloc::{AllocError, Global};
 use wait_book::book::Book;
 use wait_book::steps::MakeRefused;
 
-/// NEXT and SERVING are the first ticket, and no bell was rung.
+/// NEXT is the first ticket, SERVING twice that, with the gate open, and no bell was rung.
 fn first_words(alloc: Global, places: usize, first: u64) -> Result<Vec<u64>, AllocError>
     requires { places ≤ 64 }
     ensures { IfOk result (λ w. Starts first places false w.items) }
 {
     let mut words = vec![in alloc; 0; words_for(places)]?;
     words[NEXT] = first;
-    words[SERVING] = first;
+    words[SERVING] = served_as(first);
     Ok(words)
 }
 

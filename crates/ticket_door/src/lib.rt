@@ -9,4 +9,5 @@ mod monitor;
 pub mod place;
 mod rule;
 mod tickets;
+mod tries;
 mod words;

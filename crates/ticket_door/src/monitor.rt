@@ -9,7 +9,7 @@ ghost use Rattle.door_frame.specs.Notices.{event_of_notice};
 use crate::door::TicketDoor;
 use crate::place::{TicketIn, TicketOut};
 use crate::rule::Hear;
-use crate::words::{RUNG, SILENT, bell_of};
+use crate::words::{NEXT, RUNG, SERVING, SILENT, bell_of, served_as};
 use crossbeam_utils::sync::Parker;
 use door_frame::calls;
 use door_frame::departure::Departure;
@@ -32,6 +32,22 @@ impl<D: MonitorData> Turnstile<D> for TicketDoor<D> {
     fn admit<R: Wait>(&self, rt: &R, seat: &mut DoorSeat<D>, place: usize) -> Parcel<D> {
         let ticket = self.draw::<Brand>(seat, place);
         self.served::<Brand, R>(rt, seat, place, ticket)
+    }
+
+    /// It shuts the gate where both words have one ticket, tries that ticket, and opens the gate again. "No" where
+    /// somebody has the monitor or asked, and also where another place tries, or a word changes between the looks.
+    fn try_admit(&self, seat: &mut DoorSeat<D>, place: usize) -> Option<Parcel<D>> {
+        let table = &self.table;
+        let ticket = table.shared.peek(NEXT);
+        if table.shared.peek(SERVING) != served_as(ticket) || !self.shut(seat, place, ticket) {
+            return None;
+        }
+        let let_in = self.try_in(seat, place, ticket);
+        self.reopen(seat);
+        if !let_in {
+            return None;
+        }
+        Some(take_parcel(table, seat))
     }
 
     /// It listens a while, then tests its bell and parks, until the test finds that it was rung.
@@ -121,6 +137,11 @@ impl<D: MonitorData + Send> Monitor<D> for TicketDoor<D> {
     #[inline]
     fn enter<R: Wait>(&self, rt: &R, out: TicketOut<D>) -> TicketIn<D> {
         calls::enter(self, rt, out)
+    }
+
+    #[inline]
+    fn try_enter(&self, out: TicketOut<D>) -> Result<TicketIn<D>, TicketOut<D>> {
+        calls::try_enter(self, out)
     }
 
     #[inline]

@@ -16,7 +16,7 @@ ghost use Rattle.hoare_law.specs.Admissions.{admissions};
 use crate::door::TicketDoor;
 use crate::place::{Asked, TicketIn, TicketOut};
 use crate::rule::{Ask, Counting, Look};
-use crate::words::{NEXT, SERVING};
+use crate::words::{NEXT, SERVING, SHUT, TURN, served_as};
 use door_frame::calls::brought_in;
 use door_frame::parcel::Parcel;
 use door_frame::plays::DoorSeat;
@@ -59,22 +59,24 @@ impl<D: MonitorData> TicketDoor<D> {
             × (admissions c.log.events ≡ x) }
     {
         let table = &self.table;
+        let turn = served_as(ticket);
         for _ in rt.forever() {
             let serving = table.shared.load::<Look<J>>(seat, SERVING);
-            if serving == ticket {
+            if serving == turn {
                 return take_parcel(table, seat);
             }
-            self.stand_back(ticket, serving);
+            self.stand_back(turn, serving);
         }
         unreachable!()
     }
 
-    /// A newcomer that is near looks on for a while, longer the nearer it is; then it yields. One that is far off yields at once.
-    fn stand_back(&self, ticket: u64, serving: u64) {
-        let ahead = ticket.wrapping_sub(serving);
+    /// A newcomer that is near looks on for a while, longer the nearer it is; then it yields. One that is far off
+    /// yields at once, and so does one whose turn it is while the gate is shut.
+    fn stand_back(&self, turn: u64, serving: u64) {
+        let ahead = turn.wrapping_add(SHUT).wrapping_sub(serving) / TURN;
         if 0 < ahead && ahead <= looks::NEAR {
             for _ in 0..looks::NEXT_IN_TURN / ahead {
-                if self.table.shared.peek(SERVING) == ticket {
+                if self.table.shared.peek(SERVING) == turn {
                     return;
                 }
                 hint::spin_loop();

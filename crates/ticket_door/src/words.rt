@@ -1,5 +1,5 @@
 //! Where the door's words stand in the table: one to a line of the cache.
-ghost use Rattle.std.specs.Prelude.{◌≡◌, ◌<◌, ◌≤◌};
+ghost use Rattle.std.specs.Prelude.{◌≡◌, ◌<◌, ◌≤◌, ◌*◌, ◌%◌, ◌^◌};
 ghost use Rattle.ticket_door.specs.Rule.{bell_at};
 
 // How many words a line of the cache has.
@@ -8,7 +8,7 @@ const LINE: usize = 8;
 // Where the bells begin.
 const BELLS: usize = 2 * LINE;
 
-/// Which ticket is served.
+/// Which ticket is served, and whether the gate is shut.
 pub(crate) const SERVING: usize = 0;
 
 /// The next ticket to be drawn.
@@ -19,6 +19,20 @@ pub(crate) const RUNG: u64 = 1;
 
 /// A bell that wasn't, or was heard.
 pub(crate) const SILENT: u64 = 0;
+
+/// What is added to SERVING where the next ticket is served.
+pub(crate) const TURN: u64 = 2;
+
+/// What SERVING has more while the gate is shut.
+pub(crate) const SHUT: u64 = 1;
+
+/// SERVING while this ticket is served and the gate is open.
+#[inline]
+pub(crate) fn served_as(ticket: u64) -> u64
+    ensures { result ≡ (2 * ticket) % 2 ^ 64 }
+{
+    ticket.wrapping_mul(TURN)
+}
 
 /// The bell of a place.
 #[inline]

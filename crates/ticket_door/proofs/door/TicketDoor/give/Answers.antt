@@ -22,7 +22,7 @@ fetch_add-requires g c =
       omega (arith, wide),
       gives_open_at t.key.first t.key.places D.rest D.ready
           (kinds_of D.CONDITIONS D.MESA) _ _ c.args.place e.0 c.args.parcel g.J.PickedEvent.event
-          (step t.table_id.slots 0 1 0 none) _ laid gives,
+          (step t.table_id.slots 0 2 0 none) _ laid gives,
     )
 
 pub bell_of-requires : goal.bell_of-requires

@@ -1,12 +1,15 @@
-use Rattle.std.proofs.Common.{◌≡◌, ℕ, ◌+◌, ◌%◌, ◌^◌, ap, sym, ◌∙◌, [], Option, Some, unwrap_or, arith}
+use Rattle.std.proofs.Common.{◌≡◌, ℕ, ◌+◌, ◌*◌, ◌%◌, ◌^◌, ap, sym, ◌∙◌, [], Some, arith}
 use mathlib.Core.Option.{none}
 use Rattle.atomic_table.specs.Table.{step}
 use Rattle.hoare_law.specs.Admissions.{admissions}
 use Rattle.hoare_law.specs.Sizes.{kinds_of}
+use Rattle.door_frame.specs.declared.view.Token.TheVariants.{Ticket}
 use Rattle.door_frame.proofs.Steps.{sole_is}
 use Rattle.door_frame.proofs.Seats.{took_also}
 use Rattle.ticket_door.specs.Asked.{TicketDoorId}
+use Rattle.ticket_door.proofs.Queue.{Ticket-injective}
 use Rattle.ticket_door.proofs.Serving.{looks_at}
+use Rattle.ticket_door.proofs.Turns.{turn_word}
 use Rattle.ticket_door.proofs.door.TicketDoor.served.Goals as goal
 
 pub load-serving-requires : goal.load-serving-requires
@@ -26,18 +29,20 @@ load-serving-requires g c =
 pub take_parcel-requires-clause-full : goal.take_parcel-requires-clause-full
 take_parcel-requires-clause-full g c =
     let a = c.requires.asked in
-    let same : c.load-serving.result ≡ (g.J.Counting.first + a.1) % 2 ^ 64 =
-    c.if-serving-ticket.true ∙ a.3 ∙ ap (λ n. (n + a.1) % 2 ^ 64) c.requires.first in
+    let same = c.if-serving-turn.true ∙ c.served_as-turn.ensures
+    ∙ turn_word c.args.self.now.first g.J.Counting.first a.1 c.args.ticket c.requires.first a.3 in
     let t = (c.load-serving.ensures.2 c.args.place a.0 a.1 (c.loop.invariant.2 ∙ a.2)).1 same in (_, t.0, t.1.me_is)
 
-pub returns-then-serving-ticket-clause-came : goal.returns-then-serving-ticket-clause-came
-returns-then-serving-ticket-clause-came g c = λ f x is.
+pub returns-then-serving-turn-clause-came : goal.returns-then-serving-turn-clause-came
+returns-then-serving-turn-clause-came g c = λ f x is.
     let a = c.requires.asked in
     let D = g.D.MonitorData in
-    let q = sole_is c.args.place c.args.place a.0 f (Some a.1) (Some x) [] [] (sym a.2 ∙ is) in
-    let n : a.1 ≡ x = ap (λ (o : Option ℕ). unwrap_or o x) q.2 in
-    let same : c.load-serving.result ≡ (g.J.Counting.first + x) % 2 ^ 64 =
-    c.if-serving-ticket.true ∙ a.3 ∙ (λ i. (c.requires.first i + n i) % 2 ^ 64) in
+    let q = sole_is c.args.place c.args.place a.0 f (Some (Ticket a.1)) (Some (Ticket x)) [] [] (sym a.2 ∙ is) in
+    let n : a.1 ≡ x = Ticket-injective a.1 x q.2 in
+    let same : c.load-serving.result ≡ (2 * (g.J.Counting.first + x)) % 2 ^ 64 =
+    c.if-serving-turn.true ∙ c.served_as-turn.ensures
+    ∙ turn_word c.args.self.now.first g.J.Counting.first a.1 c.args.ticket c.requires.first a.3
+    ∙ ap (λ m. (2 * (g.J.Counting.first + m)) % 2 ^ 64) n in
     let t = (c.load-serving.ensures.2 c.args.place f x (c.loop.invariant.2 ∙ is)).1 same in
     took_also D.rest D.ready
     (λ log. admissions log.events ≡ x) t.1 t.2 c.take_parcel.ensures.taken c.take_parcel.ensures.empty
@@ -46,6 +51,8 @@ pub loop-preserved : goal.loop-preserved
 loop-preserved g c =
     let a = c.requires.asked in
     let inv = c.loop.invariant in
+    let turn = c.served_as-turn.ensures
+    ∙ turn_word c.args.self.now.first g.J.Counting.first a.1 c.args.ticket c.requires.first a.3 in
     let missed = (c.load-serving.ensures.2 c.args.place a.0 a.1 (inv.2 ∙ a.2)).0
-    (λ hit. c.if-serving-ticket.false (hit ∙ ap (λ n. (n + a.1) % 2 ^ 64) (sym c.requires.first) ∙ sym a.3)) in
+    (λ hit. c.if-serving-turn.false (hit ∙ sym turn)) in
     ((tt, tt), c.load-serving.ensures.0 ∙ inv.1, missed ∙ inv.2)

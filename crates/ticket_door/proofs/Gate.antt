@@ -1,0 +1,124 @@
+-- Who has the gate, and what the tokens are then.
+use Rattle.std.proofs.Common.{◌≡◌, ◌≢◌, ℕ, ◌+◌, eqb, cond, List, [], ◌∷◌, ◌++◌, length, Option, Some, None, refl, sym}
+use Rattle.std.proofs.Common.{ap, ◌∙◌, subst, arith, eq-eqb, ne_eqb}
+use mathlib.Core.Logic.{dite}
+use native.Mathlib.Decide.{ℕ_discrete}
+use Rattle.wait_book.specs.Contents.{times}
+use Rattle.wait_book.proofs.Times.{one_apart, times-append}
+use Rattle.door_frame.specs.declared.view.Token.{Token}
+use Rattle.door_frame.specs.declared.view.Token.TheVariants as token
+use Rattle.door_frame.specs.Rule.{Tokens}
+use Rattle.door_frame.proofs.Views.{given_to, given_here, given_else}
+use Rattle.ticket_door.specs.Queue.{ticket_in}
+use Rattle.ticket_door.specs.Rule.{Gate, ajar, shut_by, token_in, Shut, IsKept}
+use Rattle.ticket_door.proofs.Queue.{None≢Some, ticket_only, ticket_none, none_ticket, ticket_last, ticket_kept}
+
+-- who shut the gate has it
+pub gate_here : (i v a : ℕ) (q : List ℕ) (k : ℕ) → k ≡ i → token_in (shut_by i v) a q k ≡ Some (token.Gate v)
+gate_here i v a q k e = ap (λ b. cond b (Some (token.Gate v)) (ticket_in a q k)) (eq-eqb k i e)
+
+pub gate_else : (i v a : ℕ) (q : List ℕ) (k : ℕ) → k ≢ i → token_in (shut_by i v) a q k ≡ ticket_in a q k
+gate_else i v a q k n = ap (λ b. cond b (Some (token.Gate v)) (ticket_in a q k)) (ne_eqb k i n)
+
+-- who has a ticket has it by the queue
+pub has_ticket : (g : Gate) (a : ℕ) (q : List ℕ) (k x : ℕ) → token_in g a q k ≡ Some (token.Ticket x)
+    → ticket_in a q k ≡ Some (token.Ticket x)
+has_ticket ajar a q k x e = e
+has_ticket (shut_by i v) a q k x e = dite (ℕ_discrete k i)
+    (λ same.
+    let no : ◌≡◌ {A = Option Token} (Some (token.Gate v)) (Some (token.Ticket x)) =
+    sym (gate_here i v a q k same) ∙ e in
+    absurd (cc))
+    (λ ne. sym (gate_else i v a q k ne) ∙ e)
+
+-- who has nothing didn't shut the gate
+pub not_shut : (i v a : ℕ) (q : List ℕ) (k : ℕ) → token_in (shut_by i v) a q k ≡ None → k ≢ i
+not_shut i v a q k e same = None≢Some (token.Gate v) (sym e ∙ gate_here i v a q k same)
+
+-- and didn't ask
+pub has_none : (g : Gate) (a : ℕ) (q : List ℕ) (k : ℕ) → token_in g a q k ≡ None → times k q ≡ 0
+has_none ajar a q k e = ticket_none a q k e
+has_none (shut_by i v) a q k e =
+    ticket_none a q k (sym (gate_else i v a q k (not_shut i v a q k e)) ∙ e)
+
+-- who has the gate shut it
+pub has_gate : (g : Gate) (a : ℕ) (q : List ℕ) (k v : ℕ) → token_in g a q k ≡ Some (token.Gate v) → g ≡ shut_by k v
+has_gate ajar a q k v e = absurd (ticket_only a q k v e)
+has_gate (shut_by i w) a q k v e = dite (ℕ_discrete k i)
+    (λ same.
+    let is : ◌≡◌ {A = Option Token} (Some (token.Gate w)) (Some (token.Gate v)) = sym (gate_here i w a q k same) ∙ e in
+    let one : w ≡ v = gate_number is in
+    λ j. shut_by (sym same j) (one j))
+    (λ ne. absurd (ticket_only a q k v (sym (gate_else i w a q k ne) ∙ e)))
+  where
+    number : Option Token → ℕ
+    number (Some (token.Gate u)) = u
+    number _ = w
+
+    gate_number : ◌≡◌ {A = Option Token} (Some (token.Gate w)) (Some (token.Gate v)) → w ≡ v
+    gate_number is = ap number is
+
+-- who asks draws the next ticket, whoever has the gate
+asks_here : (g : Gate) (a : ℕ) (q : List ℕ) (k : ℕ) → token_in g a q k ≡ None
+    → token_in g a (q ++ k ∷ []) k ≡ Some (token.Ticket (a + length q))
+asks_here ajar a q k e = ticket_last a q k (ticket_none a q k e)
+asks_here (shut_by i v) a q k e =
+    gate_else i v a (q ++ k ∷ []) k (not_shut i v a q k e) ∙ ticket_last a q k (has_none (shut_by i v) a q k e)
+
+-- and the others keep what they have
+asks_else : (g : Gate) (a : ℕ) (q : List ℕ) (k j : ℕ) → j ≢ k → token_in g a (q ++ k ∷ []) j ≡ token_in g a q j
+asks_else ajar a q k j ne = ticket_kept a q k j ne
+asks_else (shut_by i v) a q k j ne =
+    ap (λ (o : Option Token). cond (eqb j i) (Some (token.Gate v)) o) (ticket_kept a q k j ne)
+
+pub asks_tokens : (g : Gate) (a : ℕ) (q : List ℕ) (k : ℕ) (tokens : Tokens) → ((j : ℕ) → tokens j ≡ token_in g a q j)
+    → tokens k ≡ None → (j : ℕ)
+    → given_to tokens k (Some (token.Ticket (a + length q))) j ≡ token_in g a (q ++ k ∷ []) j
+asks_tokens g a q k tokens are none j =
+    let t : Option Token = Some (token.Ticket (a + length q)) in
+    dite (ℕ_discrete j k)
+    (λ same. subst (λ (i : ℕ). given_to tokens k t i ≡ token_in g a (q ++ k ∷ []) i) (sym same)
+    (given_here tokens k t ∙ sym (asks_here g a q k (sym (are k) ∙ none))))
+    (λ ne. given_else tokens k t j ne ∙ are j ∙ sym (asks_else g a q k j ne))
+
+pub asks_kept : (g : Gate) (first served a : ℕ) (q : List ℕ) (k : ℕ) → token_in g a q k ≡ None
+    → IsKept first served a q g
+    → IsKept first served a (q ++ k ∷ []) g
+asks_kept ajar first served a q k e h = tt
+asks_kept (shut_by i v) first served a q k e h = record {
+  since = h.since;
+  word = h.word;
+  begins = h.begins;
+  few = h.few;
+  apart =
+      let no = not_shut i v a q k e in
+      let away = one_apart i k (ne_eqb i k (λ same. no (sym same))) in
+      let apart = h.apart in omega (arith, times-append i q (k ∷ []), apart, away);
+}
+
+-- one turn more ended
+pub serves_kept : (g : Gate) (first served a : ℕ) (q : List ℕ) → IsKept first served a q g
+    → IsKept first (served + 1) a q g
+serves_kept ajar first served a q h = tt
+serves_kept (shut_by i v) first served a q h = record {
+  since = h.since;
+  word = h.word;
+  begins = let b = h.begins in omega (arith, b);
+  few = h.few;
+  apart = h.apart;
+}
+
+-- who shuts the gate has it
+pub shuts_tokens : (a : ℕ) (q : List ℕ) (k v : ℕ) (tokens : Tokens) → ((j : ℕ) → tokens j ≡ ticket_in a q j)
+    → (j : ℕ)
+    → given_to tokens k (Some (token.Gate v)) j ≡ token_in (shut_by k v) a q j
+shuts_tokens a q k v tokens are j = ap (λ (o : Option Token). cond (eqb j k) (Some (token.Gate v)) o) (are j)
+
+-- and who opens it again has nothing
+pub reopens_tokens : (a : ℕ) (q : List ℕ) (k v : ℕ) (tokens : Tokens)
+    → ((j : ℕ) → tokens j ≡ token_in (shut_by k v) a q j)
+    → times k q ≡ 0 → (j : ℕ) → given_to tokens k None j ≡ ticket_in a q j
+reopens_tokens a q k v tokens are out j = dite (ℕ_discrete j k)
+    (λ same. subst (λ (i : ℕ). given_to tokens k None i ≡ ticket_in a q i) (sym same)
+    (given_here tokens k None ∙ sym (none_ticket a q k out)))
+    (λ ne. given_else tokens k None j ne ∙ are j ∙ gate_else k v a q j ne)

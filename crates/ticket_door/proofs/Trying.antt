@@ -1,0 +1,379 @@
+-- A place tries: it shuts the gate, is let in where nobody asked, and opens the gate again.
+use Rattle.std.proofs.Common.{◌≡◌, ◌≢◌, ℕ, suc, ◌+◌, ◌-◌, ◌*◌, ◌<◌, ◌≤◌, ◌%◌, ◌^◌, eqb, true, List, [], ◌∷◌, set}
+use Rattle.std.proofs.Common.{get_or, length, length-set, get_or-set_same, Option, Some, None, refl, sym, ap, ◌∙◌}
+use Rattle.std.proofs.Common.{subst, arith, eq-eqb, ne_eqb, Bool, false}
+use Rattle.std.proofs.lemmas.List.{get_or-set_other}
+use mathlib.Core.Logic.{dite}
+use mathlib.Core.Option.{none}
+use native.Mathlib.Decide.{ℕ_discrete}
+use lib.Seq.{set-get_or}
+use prog.Atomic.{either}
+use Rattle.atomic_table.specs.Table.{Step, step, Allows}
+use Rattle.atomic_table.proofs.Lists.{one_turn}
+use Rattle.hoare_law.specs.Sizes.{Kinds}
+use Rattle.hoare_law.specs.declared.event.History.{History}
+use Rattle.hoare_law.specs.declared.event.Event.TheVariants.{Admit}
+use Rattle.hoare_law.specs.declared.turn.Turn.{Turn}
+use Rattle.hoare_law.specs.declared.turn.Turn.TheVariants.{Free, Held}
+use Rattle.hoare_law.specs.Events.{own, latest_data, with_event}
+use Rattle.hoare_law.specs.Lawful.{Rest, Ready, Stands}
+use Rattle.hoare_law.specs.Turns.{turn, outside}
+use Rattle.hoare_law.specs.Admissions.{admissions}
+use Rattle.hoare_law.proofs.Admissions.{admissions-admit}
+use Rattle.hoare_law.proofs.Entering.{outside-same}
+use Rattle.wait_book.specs.Contents.{times}
+use Rattle.wait_book.proofs.Times.{few_once}
+use Rattle.door_frame.specs.declared.parcel.Lodged.{Lodged}
+use Rattle.door_frame.specs.declared.view.Token.{Token}
+use Rattle.door_frame.specs.declared.view.Token.TheVariants as token
+use Rattle.door_frame.specs.Rule.{Cells, Tokens, Kept}
+use Rattle.door_frame.specs.Steps.{Sat, Came, CameWith}
+use Rattle.door_frame.specs.Views.{alone, trying, sole}
+use Rattle.door_frame.proofs.Steps as frame
+use Rattle.door_frame.proofs.Views.{given_to, given_here, given_else}
+use Rattle.ticket_door.specs.Queue.{ticket_in}
+use Rattle.ticket_door.specs.Rule.{Starts, Tells, Gate, ajar, shut_by, shut, token_in, Shut, IsKept, next_at}
+use Rattle.ticket_door.specs.Rule.{serving_at, bell_at, taken, rung}
+use Rattle.ticket_door.specs.Tries.{IsTrying, HasGate, IsLetIn, Reopened}
+use Rattle.ticket_door.specs.Steps.{shuts, ShutsAt, tries, TriesAt, reopens}
+use Rattle.ticket_door.proofs.Gate.{has_none, has_gate, shuts_tokens, reopens_tokens}
+use Rattle.ticket_door.proofs.Turns.{taken_le, taken_free, next_word, even_ajar, open_bit, shut_word, open_word}
+
+-- a word after an exchange that expects v
+abbrev pub changed : ℕ → ℕ → ℕ → ℕ
+changed v new x = either (eqb x v) new x
+
+changed-hit : (v new x : ℕ) → x ≡ v → changed v new x ≡ new
+changed-hit v new x hit = ap (λ b. either b new x) (eq-eqb x v hit)
+
+changed-miss : (v new x : ℕ) → x ≢ v → changed v new x ≡ x
+changed-miss v new x miss = ap (λ b. either b new x) (ne_eqb x v miss)
+
+-- who has the number of a gate
+abbrev gate_number : ℕ → Option Token → ℕ
+gate_number d (Some (token.Gate v)) = v
+gate_number d _ = d
+
+gate_is : (v w : ℕ) → ◌≡◌ {A = Option Token} (Some (token.Gate v)) (Some (token.Gate w)) → v ≡ w
+gate_is v w e = ap (gate_number v) e
+
+-- where NEXT has the ticket that was served when the gate was shut, nobody asked and no turn began since
+record IsStill (since served admitted waiting : ℕ) : Type 0 where
+  pub here : admitted ≡ since
+  pub now : served ≡ since
+  pub none : waiting ≡ 0
+
+still : (first since served admitted waiting busy t : ℕ) → since ≤ served → served + busy ≡ admitted
+    → admitted ≤ since + 1
+    → waiting ≤ 64 → (2 * t) % 2 ^ 64 ≡ (2 * (first + since)) % 2 ^ 64
+    → (first + (admitted + waiting)) % 2 ^ 64 ≡ t
+    → IsStill since served admitted waiting
+still first since served admitted waiting busy t begins due few most word next =
+    let total : ℕ = admitted + waiting in
+    let twice : (2 * (first + since)) % 2 ^ 64 ≡ (2 * (first + total)) % 2 ^ 64 =
+    sym word ∙ ap (λ (m : ℕ). (2 * m) % 2 ^ 64) (sym next) ∙ double (first + total) in
+    let same : 2 * (first + since) ≡ 2 * (first + total) =
+    one_turn (2 * (first + since)) (2 * (first + total)) (2 ^ 64) (omega (arith, begins, due))
+    (omega (arith, few, most)) twice in
+    record {
+      here = omega (arith, same, begins, due);
+      now = omega (arith, same, begins, due);
+      none = omega (arith, same, begins, due);
+    }
+  where
+    double : (n : ℕ) → (2 * (n % 2 ^ 64)) % 2 ^ 64 ≡ (2 * n) % 2 ^ 64
+    double n = omega arith
+
+module _ {D : Type 0} (first n : ℕ) where
+  -- k has the gate
+  gate_shut : (log : History D) (tokens : Tokens) (ws : List ℕ) (k v : ℕ) → tokens k ≡ None
+      → (t : Tells first n log tokens ws)
+      → t.gate ≡ ajar → get_or ws serving_at 0 ≡ v
+      → Tells first n log (given_to tokens k (Some (token.Gate v))) (set ws serving_at (v + 1))
+  gate_shut log tokens ws k v free t is_ajar found =
+      let a : ℕ = admissions log.events in
+      let wide = t.words_are in
+      let word : v ≡ (2 * (first + t.served)) % 2 ^ 64 =
+      sym found ∙ t.serving ∙ ap (λ (g : Gate). (2 * (first + t.served) + shut g) % 2 ^ 64) is_ajar
+      ∙ sym (open_bit (first + t.served)) in
+      let le1 = taken_le (turn log.events) in
+      let d = t.due in record {
+        words_are = length-set ws serving_at _ ∙ wide;
+        queue = t.queue;
+        once = t.once;
+        below = t.below;
+        gate = shut_by k v;
+        tokens_are =
+            shuts_tokens a t.queue k v tokens (λ j. t.tokens_are j ∙ ap (λ (g : Gate). token_in g a t.queue j) is_ajar);
+        next = get_or-set_other ws serving_at next_at _ 0 (λ e. omega (arith, e)) ∙ t.next;
+        served = t.served;
+        due = t.due;
+        serving =
+            get_or-set_same ws serving_at _ 0 (omega (arith, wide)) ∙ ap (λ (m : ℕ). m + 1) word
+            ∙ shut_word (first + t.served);
+        kept = record {
+          since = t.served;
+          word = word;
+          begins = omega arith;
+          few = omega (arith, d, le1);
+          apart = has_none t.gate a t.queue k (sym (t.tokens_are k) ∙ free);
+        };
+        bells = λ j b. get_or-set_other ws serving_at (bell_at j) _ 0 (λ e. omega (arith, e)) ∙ t.bells j b;
+      }
+
+  -- k has it no longer
+  gate_open : (log : History D) (tokens : Tokens) (ws : List ℕ) (k v : ℕ) → tokens k ≡ Some (token.Gate v)
+      → Tells first n log tokens ws
+      → Tells first n log (given_to tokens k None)
+      (set ws serving_at ((get_or ws serving_at 0 + (2 ^ 64 - 1)) % 2 ^ 64))
+  gate_open log tokens ws k v has t =
+      let a : ℕ = admissions log.events in
+      let wide = t.words_are in
+      let by : t.gate ≡ shut_by k v = has_gate t.gate a t.queue k v (sym (t.tokens_are k) ∙ has) in
+      let kept : Shut first k v t.served a t.queue = subst (IsKept first t.served a t.queue) by t.kept in record {
+        words_are = length-set ws serving_at _ ∙ wide;
+        queue = t.queue;
+        once = t.once;
+        below = t.below;
+        gate = ajar;
+        tokens_are =
+            reopens_tokens a t.queue k v tokens (λ j. t.tokens_are j ∙ ap (λ (g : Gate). token_in g a t.queue j) by)
+            kept.apart;
+        next = get_or-set_other ws serving_at next_at _ 0 (λ e. omega (arith, e)) ∙ t.next;
+        served = t.served;
+        due = t.due;
+        serving =
+            get_or-set_same ws serving_at _ 0 (omega (arith, wide))
+            ∙ ap (λ (m : ℕ). (m + (2 ^ 64 - 1)) % 2 ^ 64)
+            (t.serving ∙ ap (λ (g : Gate). (2 * (first + t.served) + shut g) % 2 ^ 64) by)
+            ∙ open_word (first + t.served);
+        kept = tt;
+        bells = λ j b. get_or-set_other ws serving_at (bell_at j) _ 0 (λ e. omega (arith, e)) ∙ t.bells j b;
+      }
+
+  -- who has the gate is let in: it draws the ticket that is served
+  tried : (log : History D) (tokens : Tokens) (ws : List ℕ) (k v w : ℕ) (s : D)
+      → (t : Tells first n log tokens ws) → (by : t.gate ≡ shut_by k v)
+      → (kept : Shut first k v t.served (admissions log.events) t.queue)
+      → IsStill kept.since t.served (admissions log.events) (length t.queue) → get_or ws next_at 0 ≡ w
+      → turn log.events ≡ Free → turn (with_event log (Admit k s)).events ≡ Held k
+      → Tells first n (with_event log (Admit k s)) tokens (set ws next_at ((w + 1) % 2 ^ 64))
+  tried log tokens ws k v w s t by kept is found free held =
+      let a : ℕ = admissions log.events in
+      let h : History D = with_event log (Admit k s) in let more = admissions-admit log k s in
+      let wide = t.words_are in
+      let before : taken (turn log.events) ≡ 0 = ap taken free in
+      let after : taken (turn h.events) ≡ 1 = ap taken held in
+      let empty : t.queue ≡ [] = no_length t.queue is.none in
+      let here = is.here in
+      let nobody = is.none in record {
+        words_are = length-set ws next_at _ ∙ wide;
+        queue = [];
+        once = λ j. omega arith;
+        below = λ j some. absurd (omega (arith, some));
+        gate = shut_by k v;
+        tokens_are = λ j. t.tokens_are j ∙ (λ i. token_in (by i) a (empty i) j);
+        next =
+            get_or-set_same ws next_at _ 0 (omega (arith, wide))
+            ∙ ap (λ (m : ℕ). (m + 1) % 2 ^ 64) (sym found ∙ t.next)
+            ∙ next_word first (a + length t.queue) ∙ ap (λ (m : ℕ). (first + m) % 2 ^ 64)
+            (let same : a + length t.queue + 1 ≡ admissions h.events + 0 = omega (arith, more, nobody) in same);
+        served = t.served;
+        due = let d = t.due in omega (arith, d, before, after, more);
+        serving =
+            get_or-set_other ws next_at serving_at _ 0 (λ e. omega (arith, e)) ∙ t.serving
+            ∙ ap (λ (g : Gate). (2 * (first + t.served) + shut g) % 2 ^ 64) by;
+        kept = record {
+          since = kept.since;
+          word = kept.word;
+          begins = kept.begins;
+          few = omega (arith, here, more);
+          apart = refl;
+        };
+        bells = λ j b.
+            get_or-set_other ws next_at (bell_at j) _ 0 (λ e. omega (arith, e)) ∙ t.bells j b
+            ∙ (ap (λ (u : Turn). rung u j) free ∙ sym (ap (λ (u : Turn). rung u j) held));
+      }
+    where
+      no_length : (q : List ℕ) → length q ≡ 0 → q ≡ []
+      no_length [] e = refl
+      no_length (j ∷ q) e = absurd (omega (arith, e))
+
+  module _ (rest : Rest D) (ready : Ready D) (kinds : Kinds) where
+    abbrev K : Cells D → Type 0
+    K = Kept (Starts first n) (Tells first n) rest ready kinds n
+
+    -- what the word that is found says of the token then
+    abbrev IsShutAt : ℕ → Option Token → ℕ → Type 0
+    IsShutAt v o r = ((r ≡ v → ⊥) → o ≡ None) × (r ≡ v → o ≡ Some (token.Gate v))
+
+    abbrev ShutAt : ℕ → ℕ → History D → ℕ → Sat D → Type 0
+    ShutAt v k f r m = (o : Option Token) × (m ≡ (sole k f o, [])) × IsShutAt v o r
+
+    shuts_ok : (slots id k v b : ℕ) (f : History D) → v ≡ (2 * b) % 2 ^ 64
+        → Allows K slots id (alone k f, []) serving_at (changed v (v + 1))
+        (shuts (step slots serving_at v (v + 1) none) (alone k f, []))
+    shuts_ok slots id k v b f even =
+        frame.told_as K slots id (alone k f, []) serving_at (changed v (v + 1)) _
+        (shuts (step slots serving_at v (v + 1) none) (alone k f, []))
+        (λ r m (d : ShutAt v k f r m) j g is. let q = frame.alone_is k j f g [] [] is in (
+          (λ miss. d.1 ∙ (λ i. (sole k f (d.2.0 miss i), []))),
+          λ hit. d.1 ∙ (λ i. (sole (q.0 i) (q.1 i) (d.2.1 hit i), [])),
+        ))
+        (frame.draws_ok (Starts first n) (Tells first n) rest ready kinds n slots id k serving_at f None []
+        (changed v (v + 1)) (IsShutAt v)
+        (λ log tokens ws small free t. dite (ℕ_discrete (get_or ws serving_at 0) v)
+        (λ hit. let o : Option Token = Some (token.Gate v) in
+        let is_ajar : t.gate ≡ ajar = even_ajar (first + t.served) b t.gate (sym t.serving ∙ hit ∙ even) in (
+          o,
+          given_to tokens k o,
+          given_here tokens k o,
+          (λ j ne. given_else tokens k o j ne),
+          subst (λ (w : ℕ). Tells first n log (given_to tokens k o) (set ws serving_at w))
+              (sym (changed-hit v (v + 1) (get_or ws serving_at 0) hit))
+              (gate_shut log tokens ws k v free t is_ajar hit),
+          ((λ miss. absurd (miss hit)), λ _. refl),
+        ))
+        (λ miss. (
+          None,
+          tokens,
+          free,
+          (λ j ne. refl),
+          subst (λ (w : ℕ). Tells first n log tokens (set ws serving_at w))
+              (sym (changed-miss v (v + 1) (get_or ws serving_at 0) miss))
+              (subst (Tells first n log tokens) (sym (set-get_or ws serving_at 0)) t),
+          ((λ _. refl), λ hit. absurd (miss hit)),
+        ))))
+
+    -- a seat with that view, and the words that the call has
+    pub shuts_at : (slots id k v u b : ℕ) (f : History D) (m : Sat D) → m ≡ (alone k f, []) → v ≡ (2 * b) % 2 ^ 64
+        → u ≡ v + 1
+        → Allows K slots id m serving_at (changed v u) (shuts (step slots serving_at v u none) m)
+    shuts_at slots id k v u b f m is even more =
+        subst
+        (λ (p : Sat D × ℕ). Allows K slots id p.0 serving_at (changed v p.1)
+        (shuts (step slots serving_at v p.1 none) p.0))
+        (λ i. (sym is i, sym more i)) (shuts_ok slots id k v b f even)
+
+    abbrev TriesIn : ℕ → ℕ → History D → Tokens → List ℕ → Type 0
+    TriesIn k w log tokens ws =
+        frame.BringsIn (Starts first n) (Tells first n) rest ready kinds k next_at (tokens k)
+        (changed w ((w + 1) % 2 ^ 64)) (λ h. Unit {0}) log tokens ws (Admit k (latest_data log))
+
+    brings : (k v w : ℕ) (f log : History D) (tokens : Tokens) (ws : List ℕ) → n ≤ 64 → outside k f.events ≡ true
+        → v ≡ (2 * w) % 2 ^ 64
+        → Stands rest ready log → log.sizes.places ≡ n → k < n
+        → own k log.events ≡ own k f.events → tokens k ≡ Some (token.Gate v) → Tells first n log tokens ws
+        → get_or ws next_at 0 ≡ w → TriesIn k w log tokens ws
+    brings k v w f log tokens ws few out word stands places small same has t hit =
+        let a : ℕ = admissions log.events in
+        let by : t.gate ≡ shut_by k v = has_gate t.gate a t.queue k v (sym (t.tokens_are k) ∙ has) in
+        let kept : Shut first k v t.served a t.queue = subst (IsKept first t.served a t.queue) by t.kept in
+        let most = few_once t.queue n t.once t.below in
+        let is : IsStill kept.since t.served a (length t.queue) =
+        still first kept.since t.served a (length t.queue) (taken (turn log.events)) w kept.begins t.due kept.few
+        (omega (arith, most, few)) (sym word ∙ kept.word) (sym t.next ∙ hit) in
+        let here = is.here in
+        let now = is.now in
+        let d = t.due in
+        let free : turn log.events ≡ Free = taken_free (turn log.events) (omega (arith, here, now, d)) in
+        let e =
+        frame.enters_admit rest ready k log (subst (λ (m : ℕ). k < m) (sym places) small) free
+        (outside-same k f log same out) in
+        record {
+          given_up = frame.given_up_free (turn log.events) free;
+          allowed = e.allowed;
+          owes = e.owes;
+          mine = refl;
+          inside = e.inside;
+          also = tt;
+          tokens' = tokens;
+          token_now = refl;
+          others = λ j ne. refl;
+          tells =
+              subst (λ (u : ℕ). Tells first n (with_event log (Admit k (latest_data log))) tokens (set ws next_at u))
+              (sym (changed-hit w ((w + 1) % 2 ^ 64) (get_or ws next_at 0) hit))
+              (tried log tokens ws k v w (latest_data log) t by kept is hit free e.inside);
+        }
+
+    tries_ok : (slots id k v w : ℕ) (f : History D) → n ≤ 64 → outside k f.events ≡ true → v ≡ (2 * w) % 2 ^ 64
+        → Allows K slots id (trying k f v, []) next_at (changed w ((w + 1) % 2 ^ 64))
+        (tries rest ready (step slots next_at w ((w + 1) % 2 ^ 64) none) (trying k f v, []))
+    tries_ok slots id k v w f few out word =
+        let o : Option Token = Some (token.Gate v) in
+        frame.told_as K slots id (trying k f v, []) next_at (changed w ((w + 1) % 2 ^ 64)) _
+        (tries rest ready (step slots next_at w ((w + 1) % 2 ^ 64) none) (trying k f v, []))
+        (λ r m c j g y is. let q = frame.sole_is k j f g o (Some (token.Gate y)) [] [] is in
+        let same : v ≡ y = gate_is v y q.2 in
+        subst (λ (p : ℕ × (History D × ℕ)). TriesAt w rest ready p.0 p.1.0 p.1.1 (trying k f v, []) r m)
+        (λ i. (q.0 i, (q.1 i, same i))) c)
+        (frame.comes_ok (Starts first n) (Tells first n) rest ready kinds n slots id k next_at f o o (Admit k)
+        (changed w ((w + 1) % 2 ^ 64)) (λ r. r ≡ w) (λ log. Unit {0}) (λ r. ℕ_discrete r w)
+        (λ log tokens ws small t miss. changed-miss w ((w + 1) % 2 ^ 64) (get_or ws next_at 0) miss)
+        (λ log tokens ws stands places small same has t hit.
+        subst
+        (λ (p : Option Token). frame.BringsIn (Starts first n) (Tells first n) rest ready kinds k next_at p
+        (changed w ((w + 1) % 2 ^ 64)) (λ h. Unit {0}) log tokens ws (Admit k (latest_data log))) has
+        (brings k v w f log tokens ws few out word stands places small same has t hit)))
+
+    pub tries_at : (slots id k v w u : ℕ) (f : History D) (m : Sat D) → m ≡ (trying k f v, []) → n ≤ 64
+        → outside k f.events ≡ true
+        → v ≡ (2 * w) % 2 ^ 64 → u ≡ (w + 1) % 2 ^ 64
+        → Allows K slots id m next_at (changed w u) (tries rest ready (step slots next_at w u none) m)
+    tries_at slots id k v w u f m is few out word more =
+        subst
+        (λ (p : Sat D × ℕ). Allows K slots id p.0 next_at (changed w p.1)
+        (tries rest ready (step slots next_at w p.1 none) p.0))
+        (λ i. (sym is i, sym more i)) (tries_ok slots id k v w f few out word)
+
+    abbrev Opened : ℕ → History D → List (ℕ × Option (Lodged D)) → ℕ → Sat D → Type 0
+    Opened k f c r m = (o : Option Token) × (m ≡ (sole k f o, c)) × (o ≡ None)
+
+    reopens_ok : (slots id k v : ℕ) (f : History D) (c : List (ℕ × Option (Lodged D))) (st : Step (Option (Lodged D)))
+        → Allows K slots id (trying k f v, c) serving_at (λ r. (r + (2 ^ 64 - 1)) % 2 ^ 64)
+        (reopens st (trying k f v, c))
+    reopens_ok slots id k v f c st =
+        let o : Option Token = Some (token.Gate v) in
+        frame.told_as K slots id (trying k f v, c) serving_at (λ r. (r + (2 ^ 64 - 1)) % 2 ^ 64) _
+        (reopens st (trying k f v, c))
+        (λ r m (d : Opened k f c r m) j g y e is. let q = frame.sole_is k j f g o (Some (token.Gate y)) c e is in
+        d.1 ∙ (λ i. (sole (q.0 i) (q.1 i) (d.2 i), q.3 i)))
+        (frame.draws_ok (Starts first n) (Tells first n) rest ready kinds n slots id k serving_at f o c
+        (λ r. (r + (2 ^ 64 - 1)) % 2 ^ 64) (λ p r. p ≡ None)
+        (λ log tokens ws small has t. (
+          None,
+          given_to tokens k None,
+          given_here tokens k None,
+          (λ j ne. given_else tokens k None j ne),
+          gate_open log tokens ws k v has t,
+          refl,
+        )))
+
+    pub reopens_at : (slots id k v : ℕ) (f : History D) (c : List (ℕ × Option (Lodged D)))
+        (st : Step (Option (Lodged D))) (m : Sat D)
+        → m ≡ (trying k f v, c)
+        → Allows K slots id m serving_at (λ r. (r + (2 ^ 64 - 1)) % 2 ^ 64) (reopens st m)
+    reopens_at slots id k v f c st m is =
+        subst (λ (p : Sat D). Allows K slots id p serving_at (λ r. (r + (2 ^ 64 - 1)) % 2 ^ 64) (reopens st p)) (sym is)
+        (reopens_ok slots id k v f c st)
+
+module _ {D : Type 0} {rest : Rest D} {ready : Ready D} {k v : ℕ} {m m' : Sat D} where
+  -- who tried still has the gate, let in or not
+  pub still_has : (let_in : Bool) (f : History D) → IsTrying k f v m → (let_in ≡ false → m' ≡ m)
+      → (let_in ≡ true → IsLetIn rest ready k v m m')
+      → HasGate m'
+  still_has false f is missed hit = (k, f, v, [], missed refl ∙ is)
+  still_has true f is missed hit = let t = hit refl f is in (k, _, v, _, t.1.me_is)
+
+  -- who was let in has no token, once the gate is open
+  pub came_by : {f : History D} {x : Lodged D} → CameWith rest ready (Some (token.Gate v)) k f (Admit k) x (Some x) m
+      → Reopened m m'
+      → Came rest ready k f (Admit k) x (Some x) m'
+  came_by {x = x} c reopened = record {
+    log = c.log;
+    me_is = reopened k (with_event c.log (Admit k x.state)) v ((0, Some x) ∷ []) c.me_is;
+    begins = c.begins;
+    own_are = c.own_are;
+    stands = c.stands;
+    book = c.book;
+  }

@@ -1,0 +1,66 @@
+//! A newcomer that only tries: it shuts the gate, is in where nobody asked and nobody has the monitor, and opens the
+//! gate again.
+//!
+//! NEXT and SERVING are two words, and between a look at the one and a step on the other any number of turns may
+//! pass. So the place shuts the gate first: while SERVING is odd no look lets a newcomer in, and nobody else can shut
+//! it. From then on at most one turn ends, and at most as many tickets are drawn as there are places. So where NEXT
+//! still has the ticket that was served when the gate was shut, nobody asked, and no turn had begun. No ticket is
+//! passed over: the place that comes in has drawn that one.
+ghost use Rattle.std.specs.Prelude.{◌≡◌, ◌*◌, ◌%◌, ◌^◌, true, false};
+ghost use Rattle.hoare_law.specs.declared.event.History.{History};
+ghost use Rattle.hoare_law.specs.Turns.{outside};
+ghost use Rattle.door_frame.specs.Seats.{IsAway};
+ghost use Rattle.ticket_door.specs.Tries.{IsTrying, HasGate, IsLetIn, Reopened};
+
+use crate::door::TicketDoor;
+use crate::rule::{Reopen, Shut, Try};
+use crate::words::{NEXT, SERVING, SHUT, served_as};
+use door_frame::plays::DoorSeat;
+use hoare_law::data::MonitorData;
+
+impl<D: MonitorData> TicketDoor<D> {
+    /// Shuts the gate, where this ticket is served and it is open: whether it did.
+    #[inline]
+    pub(crate) fn shut(&self, seat: &mut DoorSeat<D>, place: usize, ticket: u64) -> bool
+        requires table { seat.old.table_id ≡ self.now.door.table }
+        requires away { (f : History D) × IsAway place f seat.old.me }
+        ensures table { seat.new.table_id ≡ seat.old.table_id }
+        ensures missed { result ≡ false → seat.new.me ≡ seat.old.me }
+        ensures shut { result ≡ true → (f : History D) → IsAway place f seat.old.me
+            → IsTrying place f ((2 * ticket) % 2 ^ 64) seat.new.me }
+    {
+        let turn = served_as(ticket);
+        self.table
+            .shared
+            .compare_exchange::<Shut>(seat, SERVING, turn, turn + SHUT)
+            == turn
+    }
+
+    /// Who shut the gate is in, where this ticket, which was served then, is the next to be drawn: whether it is.
+    #[inline]
+    pub(crate) fn try_in(&self, seat: &mut DoorSeat<D>, place: usize, ticket: u64) -> bool
+        requires table { seat.old.table_id ≡ self.now.door.table }
+        requires trying { (f : History D) × IsTrying place f ((2 * ticket) % 2 ^ 64) seat.old.me
+            × (outside place f.events ≡ true) }
+        ensures table { seat.new.table_id ≡ seat.old.table_id }
+        ensures missed { result ≡ false → seat.new.me ≡ seat.old.me }
+        ensures let_in { result ≡ true
+            → IsLetIn D.rest D.ready place ((2 * ticket) % 2 ^ 64) seat.old.me seat.new.me }
+    {
+        self.table
+            .shared
+            .compare_exchange::<Try>(seat, NEXT, ticket, ticket.wrapping_add(1))
+            == ticket
+    }
+
+    /// Opens the gate again.
+    #[inline]
+    pub(crate) fn reopen(&self, seat: &mut DoorSeat<D>)
+        requires table { seat.old.table_id ≡ self.now.door.table }
+        requires shut { HasGate seat.old.me }
+        ensures table { seat.new.table_id ≡ seat.old.table_id }
+        ensures opened { Reopened seat.old.me seat.new.me }
+    {
+        self.table.shared.fetch_sub::<Reopen>(seat, SERVING, SHUT);
+    }
+}

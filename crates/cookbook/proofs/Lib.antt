@@ -3,3 +3,4 @@ pub mod Barriers
 pub mod Mailboxes
 pub mod Meetings
 pub mod Tables
+pub mod WorkQueues

@@ -8,3 +8,5 @@ pub mod Meetings
 pub mod MeetingTraces
 pub mod Tables
 pub mod TableTraces
+pub mod WorkQueues
+pub mod WorkTraces

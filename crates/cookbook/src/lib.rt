@@ -1,5 +1,5 @@
-//! A cookbook of monitors, each over any `Monitor`: a cyclic barrier, a latch, a mailbox by priority, a rendezvous of pairs, and the
-//! dining philosophers' table.
+//! A cookbook of monitors, each over any `Monitor`: a cyclic barrier, a latch, a mailbox by priority, a rendezvous of
+//! pairs, the dining philosophers' table, and a work queue.
 #![tactic(auto)]
 
 pub mod barrier;
@@ -7,3 +7,4 @@ pub mod latch;
 pub mod mailbox;
 pub mod rendezvous;
 pub mod table;
+pub mod work_queue;

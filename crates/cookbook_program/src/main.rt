@@ -6,6 +6,7 @@ mod latch;
 mod mailbox;
 mod rendezvous;
 mod table;
+mod work_queue;
 
 use any_door::DoorKind;
 use std::alloc::AllocError;
@@ -28,5 +29,6 @@ fn main(rt: HostRuntime) -> io::Result<()> {
     latch::show_on_both(&rt, rt.alloc())?;
     mailbox::show_on_both(&rt, rt.alloc())?;
     rendezvous::show_on_both(&rt, rt.alloc())?;
-    table::show_on_both(&rt, rt.alloc())
+    table::show_on_both(&rt, rt.alloc())?;
+    work_queue::show_on_both(&rt, rt.alloc())
 }

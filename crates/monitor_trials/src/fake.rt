@@ -153,6 +153,22 @@ impl<D: MonitorData + Drop + Send> Monitor<D> for Fake<D> {
         }
     }
 
+    /// Its monitor is free whenever place 0 is outside.
+    fn try_enter(&self, out: FakeOut<D>) -> Result<FakeIn<D>, FakeOut<D>> {
+        let FakeOut {
+            state: found,
+            answers,
+            mut seat,
+        } = out;
+        self.tell(&mut seat, 0, Deed::Enters, &found);
+        Ok(FakeIn {
+            state: found,
+            answers,
+            seat,
+            lists: Nobody,
+        })
+    }
+
     fn leave<R: Wait>(&self, _rt: &R, inside: FakeIn<D>) -> FakeOut<D> {
         let FakeIn {
             state,

@@ -8,6 +8,7 @@ use cookbook::latch::Latch;
 use cookbook::mailbox::Mailbox;
 use cookbook::rendezvous::Rendezvous;
 use cookbook::table::Table;
+use cookbook::work_queue::WorkQueue;
 use hoare_law::data::MonitorData;
 use hoare_law::waits::{Joined, Nobody};
 use plain_schedulers::buffer::Buffer;
@@ -72,6 +73,16 @@ fn data_at_rest_and_ready(rt: HostRuntime) -> Result<(), Fail> {
     Ok(())
 }
 
+// Nobody is due at a new head, which stands at cylinder 0: it is ready for one that waited for another cylinder, and not
+// for one that waited for its own and wasn't counted.
+#[test]
+fn nobody_is_due_at_a_new_head(rt: HostRuntime) {
+    let head = Head::with('d', 9);
+    expect_same(&rt, head.stay(), 0);
+    expect_same(&rt, head.ready_holds(0, 1, &Nobody), true);
+    expect_same(&rt, head.ready_holds(0, 0, &Nobody), false);
+}
+
 // A party may wait only where it was counted. Nobody waits at an open latch, nor for room in an empty mailbox, nor alone for an
 // answer, nor beside free seats; an open latch, an empty mailbox and an empty table are for who waits.
 #[test]
@@ -84,5 +95,6 @@ fn recipes_at_rest_and_ready(rt: HostRuntime) -> Result<(), Fail> {
     let alone = Rendezvous::<u8>::new();
     means(&rt, &alone, nothing_waits, (false, false));
     means(&rt, &Table::new(), (true, false, false), (true, true));
+    means(&rt, &WorkQueue::new(2), (true, false, true), (false, false));
     Ok(())
 }

@@ -1,6 +1,7 @@
-//! How the schedulers' refusals read. (That of a read which nobody began stands in `rows::readers`, for its pass can't be made up.)
+//! How the refusals of the schedulers and of the work queue read. (That of a read which nobody began stands in `rows::readers`, for its pass can't be made up.)
 
 use crate::tests::compared::reads_as;
+use cookbook::work_queue::PutRefused;
 use plain_schedulers::buffer::BufferRefused;
 use plain_schedulers::single;
 use sweep_schedulers::head::OffDisk;
@@ -50,4 +51,16 @@ fn refusals_of_the_sweep_schedulers_read_plainly(rt: HostRuntime) {
     reads_as(&rt, alloc, &TooManyReaders, "1024 readers are in");
     let refused = not_out::NotOut { item: 7u8 };
     reads_as(&rt, alloc, &refused, "no item is out");
+}
+
+#[test]
+fn refusals_of_the_work_queue_read_plainly(rt: HostRuntime) {
+    let alloc = rt.alloc();
+    reads_as(
+        &rt,
+        alloc,
+        &PutRefused::Closed(7),
+        "the queue was shut down",
+    );
+    reads_as(&rt, alloc, &PutRefused::Full(7), "the queue is full");
 }

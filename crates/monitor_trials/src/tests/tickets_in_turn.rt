@@ -3,6 +3,7 @@ ghost use Rattle.std.specs.Prelude.{◌≡◌};
 
 use crate::tally::Tally;
 use crate::tests::compared::expect_same;
+use crate::tests::rows::tally::tries_once;
 use hoare_law::monitor::Monitor;
 use std::alloc::Global;
 use std::process::Abort;
@@ -81,6 +82,40 @@ fn tickets_past_the_last_number(rt: HostRuntime) {
     ] {
         let asked = three_ask(&rt, rt.alloc(), first);
         expect_same(&rt, asked, (tickets, false, 7));
+    }
+}
+
+/// On a door with this first ticket place a asks, b tries, a comes in and out, b tries again, and a asks once more. The
+/// tickets of a, and whether the tries came in.
+fn tries_between<R: Wait + Abort>(rt: &R, alloc: Global, first: u64) -> ((u64, u64), (bool, bool)) {
+    let Ok((door, mut outs)) = make_at(alloc, Tally { value: 0 }, 2, first) else {
+        panic!(rt; "no memory")
+    };
+    let (b, a) = (outs.pop().unwrap(), outs.pop().unwrap());
+    let a = door.ask(a);
+    let early = a.ticket();
+    let (b, before) = tries_once(rt, &door, b);
+    let a = door.give_up(door.come_in(rt, a));
+    let (b, between) = tries_once(rt, &door, b);
+    let a = door.ask(a);
+    let late = a.ticket();
+    outs.push_reserved(door.give_up(door.come_in(rt, a)));
+    outs.push_reserved(b);
+    door.close(outs);
+    ((early, late), (before, between))
+}
+
+// Who tries isn't before who asked, and draws the ticket that is served.
+#[test]
+fn a_try_takes_the_ticket_between(rt: HostRuntime) {
+    for (first, late) in [
+        (0, 2),
+        (9223372036854775807, 9223372036854775809),
+        (18446744073709551614, 0),
+        (18446744073709551615, 1),
+    ] {
+        let tried = tries_between(&rt, rt.alloc(), first);
+        expect_same(&rt, tried, ((first, late), (false, true)));
     }
 }
 

@@ -1,5 +1,8 @@
 //! Data in which each process writes down what it does while it is inside.
 
+use hoare_law::data::MonitorData;
+use hoare_law::waits::Waits;
+
 /// What a process did.
 #[derive(Clone, Copy, Debug, PartialEq, Eq)]
 pub enum Act {
@@ -11,6 +14,10 @@ pub enum Act {
     IsBack,
     /// Nobody waited: its signal did nothing.
     HearsNobody,
+    /// It goes on after a notify, which answered this.
+    HasNotified(bool),
+    /// It goes on after a broadcast, which answered this.
+    HasBroadcast(usize),
     /// It is about to wait on this condition, with this priority.
     Waits(usize, u64),
     /// It is about to signal this condition.
@@ -19,6 +26,10 @@ pub enum Act {
     Passes(usize),
     /// It is about to go out.
     Leaves,
+    /// It is about to call who waits first on this condition.
+    Notifies(usize),
+    /// It is about to call all that wait on this condition.
+    Broadcasts(usize),
 }
 
 /// A line of a diary: who did what, and the stamp that it found or left.
@@ -30,22 +41,54 @@ pub struct Line {
 }
 
 impl Line {
-    /// Whether its process is about to give the monitor up, or to signal.
-    pub fn gives_up(self) -> bool {
-        matches!(
-            self.act,
-            Act::Waits(_, _) | Act::Signals(_) | Act::Passes(_) | Act::Leaves
-        )
+    /// Whether its process is about to do something: to give the monitor up, to signal, or to call.
+    pub fn begins(self) -> bool {
+        match self.act {
+            Act::Waits(_, _) | Act::Signals(_) | Act::Passes(_) | Act::Leaves => true,
+            Act::Notifies(_) | Act::Broadcasts(_) => true,
+            _ => false,
+        }
     }
 }
 
-/// A diary, the last stamp, and how many processes have finished.
+/// A diary, the last stamp, and how many processes have finished. Nothing is asked of it. It has four conditions: two
+/// of Hoare's, and behind them two Mesa conditions.
 #[derive(Drop)]
 pub struct Diary {
     lines: Vec<Line>,
     stamp: u64,
     pub finished: usize,
     pub is_torn: bool,
+}
+
+impl MonitorData for Diary {
+    ghost use Rattle.std.specs.Prelude.{⊤};
+
+    const CONDITIONS: usize = 4;
+
+    ghost CONDITIONS = { 4 };
+
+    const MESA: usize = 2;
+
+    ghost MESA = { 2 };
+
+    ghost inv = { λ s. ⊤ };
+
+    ghost rest = { λ s q. ⊤ };
+
+    ghost ready = { λ c p s q. ⊤ };
+
+    fn rest_holds<W: Waits>(&self, _lists: &W) -> bool {
+        true
+    }
+
+    fn ready_holds<W: Waits>(&self, _condition: usize, _priority: u64, _lists: &W) -> bool {
+        true
+    }
+
+    ghost rest_inv = { λ s q h. tt };
+
+    ghost ready_inv = { λ c p s q h. tt };
 }
 
 impl Diary {
@@ -76,7 +119,7 @@ impl Diary {
         self.write(place, act);
     }
 
-    /// A process is about to give the monitor up, and leaves this stamp.
+    /// A process is about to do something, and leaves this stamp.
     pub fn leaves(&mut self, place: usize, act: Act, stamp: u64) {
         self.stamp = stamp;
         self.write(place, act);

@@ -24,8 +24,8 @@ pub fn write_digit<M: Monitor<Tally>>(m: &M, inside: M::In, digit: u64) -> M::In
     inside
 }
 
-// Adds one to the tally.
-fn add_one<M: Monitor<Tally>>(m: &M, inside: M::In) -> M::In
+/// Adds one to the tally.
+pub fn add_one<M: Monitor<Tally>>(m: &M, inside: M::In) -> M::In
     requires { M.is_of_in m.now inside }
     ensures of { M.is_of_in m.now result }
     ensures place { M.place_in result ≡ M.place_in inside }
@@ -108,6 +108,18 @@ fn finds_nobody<M: Monitor<Tally>>(m: &M, inside: &M::In) -> bool
     found && !m.queue(inside, 0) && m.first(inside, 0).is_none()
 }
 
+/// One try: who comes in goes out again. Whether it came in.
+pub fn tries_once<R: Wait, M: Monitor<Tally>>(rt: &R, m: &M, out: M::Out) -> (M::Out, bool)
+    requires { M.is_of m.now out }
+    ensures of { M.is_of m.now result.0 }
+    ensures place { M.place result.0 ≡ M.place out }
+{
+    match m.try_enter(out) {
+        Ok(inside) => (m.leave(rt, inside), true),
+        Err(out) => (out, false),
+    }
+}
+
 /// One place makes each call. Nobody waits, so nothing is resumed: it answers 1 where all calls say so, and leaves 42.
 pub fn calls_all<R: Wait, M: Monitor<Tally>>(rt: &R, m: &M, out: M::Out) -> (M::Out, u64)
     requires { M.is_of m.now out }
@@ -121,7 +133,8 @@ pub fn calls_all<R: Wait, M: Monitor<Tally>>(rt: &R, m: &M, out: M::Out) -> (M::
     let (inside, told) = m.signal(rt, inside, 0);
     let (out, told_leaving) = m.signal_leave(rt, inside, 0);
     let out = m.leave(rt, m.enter(rt, out));
-    (out, u64::from(nobody && !told && !told_leaving))
+    let (out, came) = tries_once(rt, m, out);
+    (out, u64::from(nobody && !told && !told_leaving && came))
 }
 
 // Waits, writes 2, waits again and writes 4: it answers what it found after each wait, 1 and 123 if nothing was lost.

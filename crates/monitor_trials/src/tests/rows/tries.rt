@@ -1,0 +1,169 @@
+//! Who only tries: it comes in where the monitor is free, and else is where it was. In rows on both doors.
+ghost use Rattle.std.specs.Prelude.{◌≡◌};
+
+use crate::tally::Tally;
+use crate::tests::compared::expect_same;
+use crate::tests::rows::tally::{add_one, write_digit};
+use crate::tests::running::{DoorKind, all_answered, answered, await_sign, watch};
+use any_door::AnyDoor;
+use hoare_law::monitor::Monitor;
+use std::alloc::Global;
+use std::process::Abort;
+use std::rt::Clock;
+use std::sync::Wait;
+use std::sync::atomic::{AtomicBool, Ordering};
+
+/// How many places come and go, each in a thread of its own.
+const PLACES: usize = 4;
+
+/// How often each comes.
+const ROUNDS: u64 = 500;
+
+/// How often it tries before it enters.
+const TRIES: u64 = 20;
+
+// One try: where the place comes in, it writes the digit and goes out. Whether it came in.
+fn tries_to_write<R: Wait, M: Monitor<Tally>>(
+    rt: &R,
+    m: &M,
+    out: M::Out,
+    digit: u64,
+) -> (M::Out, bool)
+    requires { M.is_of m.now out }
+    ensures of { M.is_of m.now result.0 }
+    ensures place { M.place result.0 ≡ M.place out }
+{
+    match m.try_enter(out) {
+        Ok(inside) => (m.leave(rt, write_digit(m, inside, digit)), true),
+        Err(out) => (out, false),
+    }
+}
+
+// Place a tries, and then is inside while place b tries, which tries again when a is out: whether each try came in.
+fn tries_while_held<R: Wait, M: Monitor<Tally>>(
+    rt: &R,
+    m: &M,
+    a: M::Out,
+    b: M::Out,
+) -> ((M::Out, M::Out), (bool, bool, bool))
+    requires a { M.is_of m.now a }
+    requires b { M.is_of m.now b }
+    ensures a { M.is_of m.now result.0.0 }
+    ensures b { M.is_of m.now result.0.1 }
+    ensures places { (M.place result.0.0 ≡ M.place a) × (M.place result.0.1 ≡ M.place b) }
+{
+    let (a, free) = tries_to_write(rt, m, a, 1);
+    let inside = m.enter(rt, a);
+    let (b, held) = tries_to_write(rt, m, b, 9);
+    let a = m.leave(rt, write_digit(m, inside, 2));
+    let (b, again) = tries_to_write(rt, m, b, 3);
+    ((a, b), (free, held, again))
+}
+
+// The same on a door of this kind, and the number that it is closed with.
+fn try_on<R: Wait + Abort>(rt: &R, alloc: Global, kind: DoorKind) -> ((bool, bool, bool), u64) {
+    let Ok((door, mut outs)) = AnyDoor::make(alloc, kind, Tally { value: 0 }, 2) else {
+        panic!(rt; "no memory")
+    };
+    let (b, a) = (outs.pop().unwrap(), outs.pop().unwrap());
+    let ((a, b), came) = tries_while_held(rt, &door, a, b);
+    outs.push_reserved(a);
+    outs.push_reserved(b);
+    (came, door.close(outs).value)
+}
+
+#[test]
+fn who_tries_comes_in_where_it_is_free(rt: HostRuntime) {
+    for kind in DoorKind::BOTH {
+        let tried = try_on(&rt, rt.alloc(), kind);
+        expect_same(&rt, (kind, tried), (kind, ((true, false, true), 123)));
+    }
+}
+
+// Place 0 waits, and once it is resumed it stays inside until the sign. Place 1 passes to it, and tries while the
+// monitor is owed to it or it is inside: whether it came in.
+fn waits_or_tries<R: Wait + Abort + Clock, M: Monitor<Tally>>(
+    rt: &R,
+    m: &M,
+    out: M::Out,
+    place: usize,
+    tried: &AtomicBool,
+) -> (M::Out, u64)
+    requires { M.is_of m.now out }
+    ensures of { M.is_of m.now result.0 }
+    ensures place { M.place result.0 ≡ M.place out }
+{
+    if place == 0 {
+        let inside = m.wait(rt, m.enter(rt, out), 0, 0);
+        await_sign(rt, tried);
+        return (m.leave(rt, write_digit(m, inside, 2)), 0);
+    }
+    let inside = write_digit(m, watch(rt, m, out, 0, 1), 1);
+    let (out, _resumed) = m.signal_leave(rt, inside, 0);
+    let (out, came) = tries_to_write(rt, m, out, 9);
+    tried.store(true, Ordering::SeqCst);
+    (out, u64::from(came))
+}
+
+#[test]
+fn who_tries_is_not_before_who_is_resumed(host: HostRuntime) {
+    let (rt, alloc) = (&host, host.alloc());
+    let tried = AtomicBool::new(false);
+    for kind in DoorKind::BOTH {
+        let (tally, came) = run_row_on!(
+            kind,
+            rt,
+            alloc,
+            waits_or_tries(&tried),
+            Tally { value: 0 },
+            2
+        );
+        answered(rt, kind, &came, &[0, 0]);
+        expect_same(rt, (kind, tally.value), (kind, 12));
+    }
+}
+
+// Comes in by one of some tries, and else as others do.
+fn comes_in<R: Wait, M: Monitor<Tally>>(rt: &R, m: &M, out: M::Out) -> M::In
+    requires { M.is_of m.now out }
+    ensures of { M.is_of_in m.now result }
+    ensures place { M.place_in result ≡ M.place out }
+{
+    let mut out = out;
+    for _ in 0..TRIES {
+        match m.try_enter(out) {
+            Ok(inside) => return inside,
+            Err(back) => out = back,
+        }
+    }
+    m.enter(rt, out)
+}
+
+// Comes in, adds one and goes out, so many times: each other time it tries first.
+fn adds_on<R: Wait, M: Monitor<Tally>>(rt: &R, m: &M, out: M::Out, _place: usize) -> (M::Out, u64)
+    requires { M.is_of m.now out }
+    ensures of { M.is_of m.now result.0 }
+    ensures place { M.place result.0 ≡ M.place out }
+{
+    let mut out = out;
+    for round in 0..ROUNDS {
+        let inside = if round % 2 == 0 {
+            comes_in(rt, m, out)
+        } else {
+            m.enter(rt, out)
+        };
+        out = m.leave(rt, add_one(m, inside));
+    }
+    (out, 0)
+}
+
+#[test]
+fn who_tries_and_who_enters_lose_no_addition(host: HostRuntime) {
+    let (rt, alloc) = (&host, host.alloc());
+    for kind in DoorKind::BOTH {
+        let data = Tally { value: 0 };
+        let (tally, answers) = run_row_on!(kind, rt, alloc, adds_on(), data, PLACES);
+        all_answered(rt, kind, &answers, PLACES);
+        expect_same(rt, (kind, tally.value), (kind, PLACES as u64 * ROUNDS));
+    }
+}

@@ -6,19 +6,24 @@
 ghost use Rattle.std.specs.Prelude.{IfOk};
 ghost use Rattle.hoare_law.specs.Priorities.{nobody};
 
+mod disks;
 mod doors;
 mod fairness;
+mod mesa;
 mod mixed;
 mod opening;
 mod procedures;
 mod schedulers;
 mod sleepers;
+mod tries;
 mod turns;
 
 use crate::doors::{CounterLoad, WideLoad, buffered, count_widely, count_with, met, mixed};
 use crate::fairness::{Others, all_met, uncounted};
+use crate::mesa::measure_mesa;
 use crate::mixed::{WORKERS, unvisited};
 use crate::opening::{DoorKind, baton, no_memory, ticket};
+use crate::tries::measure_tries;
 use hoare_law::data::MonitorData;
 use hoare_law::unasked::Unasked;
 use plain_schedulers::buffer::Buffer;
@@ -39,6 +44,9 @@ waiting_16: a wait and a signal, with 16 processes that wait with priorities
 chain_8: one link of a chain of signallers eight deep
 mixed_9: a visit of eight threads that wait with priorities, signal, pass and leave, and a ninth that resumes who waits
 wide_enter_leave: as enter_leave, on a monitor of 64 places and 8 conditions
+mesa_buffer_1_1, mesa_buffer_4_4: as buffer_1_1 and buffer_4_4, with Mesa conditions: who waited tests again, and who
+       puts an item in or takes one out calls one process and goes on
+try_enter: as enter_leave, by a try. try_enter_no: a try while another place is inside
 others_largest, _mean, _none: how many others were let in between two visits of a place, with eight threads that
        come in and go out, each as soon as it is out: the most, the mean, and how often nobody was, of a hundred
        (the mean is about 7 at most, in whatever order they come in)
@@ -53,6 +61,8 @@ request_release: a disk head, sent to the next of 1024 cylinders. start_end_read
 tick, wakeme_0: an alarm clock is set; a sleep of no tick returns at once (one visit each)
 wakeme_tick_1, _60: one sleep of one tick, where 1 or 60 threads sleep again and again, a hundredth and a thousandth of
        TURNS each, and one more ticks whenever all of them sleep
+release_1, _60: a release of the disk head alone, as the first of a sweep on which 1 or 60 others wait for other cylinders,
+       a thousandth of TURNS
 usage: monitor_bench [[--ticket] [--schedulers] TURNS]
 bench/run compares these with other monitors; bench/schedulers takes those of the schedulers";
 
@@ -60,16 +70,17 @@ fn show(rt: &impl Print) -> io::Result<()> {
     println!(rt; "{NAMES}")
 }
 
-// Nanoseconds for each of `count`, to the nearest.
+// Hundredths of a nanosecond for each of `count`, to the nearest.
 fn each(spent: Duration, count: u64) -> u128 {
     let count = u128::from(count.max(1));
-    spent.as_nanos().saturating_add(count / 2) / count
+    let hundredths = spent.as_nanos().saturating_mul(100);
+    hundredths.saturating_add(count / 2) / count
 }
 
 fn tell<R: Print + Eprint>(rt: &R, name: &str, spent: Duration, count: u64) -> io::Result<()> {
     let one = each(spent, count);
     eprintln!(rt; "monitor_bench: {name} taken")?;
-    println!(rt; "{name} {one} ns")
+    println!(rt; "{name} {}.{:02} ns", one / 100, one % 100)
 }
 
 // How long the threads of a door of this kind took, made with these data and this number of places.
@@ -229,11 +240,14 @@ fn measure<R: Print + Eprint + Clock + Threads + Wait + Sync>(
     alloc: Global,
     kind: DoorKind,
     turns: u64,
-) -> io::Result<()> {
+) -> anyhow::Result<()> {
     measure_visits(rt, alloc, kind, turns)?;
     measure_exchanges(rt, alloc, kind, turns)?;
     measure_crowds(rt, alloc, kind, turns)?;
-    measure_others(rt, alloc, kind, turns)
+    measure_mesa(rt, alloc, kind, turns)?;
+    measure_tries(rt, alloc, kind, turns)?;
+    measure_others(rt, alloc, kind, turns)?;
+    Ok(())
 }
 
 fn main(rt: HostRuntime) -> anyhow::Result<ExitCode> {

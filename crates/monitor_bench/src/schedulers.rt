@@ -3,6 +3,7 @@
 ghost use Rattle.std.specs.Prelude.{IfOk};
 ghost use Rattle.hoare_law.specs.Priorities.{nobody};
 
+use crate::disks::release_row;
 use crate::opening::{DoorKind, baton, one_baton, one_ticket, ticket};
 use crate::procedures::{
     CYLINDERS, Visit, acquire_release, append_remove, enter_leave, read_or_write, request_release,
@@ -240,6 +241,19 @@ fn measure_sweeps<R: Print + Eprint + Clock + Wait>(
     tell_row(rt, "start_end_write", spent, turns)
 }
 
+// The rows of a release while others wait.
+fn measure_releases<R: Print + Eprint + Clock + Threads + Wait + Sync>(
+    rt: &R,
+    alloc: Global,
+    kind: DoorKind,
+    turns: u64,
+) -> anyhow::Result<()> {
+    let spent = release_row(rt, alloc, kind, 1, turns);
+    tell_row(rt, "release_1", spent, turns)?;
+    let spent = release_row(rt, alloc, kind, 60, turns);
+    tell_row(rt, "release_60", spent, turns)
+}
+
 /// All rows of the schedulers: prints a line for each.
 pub fn measure<R: Print + Eprint + Clock + Threads + Wait + Sync>(
     rt: &R,
@@ -250,5 +264,6 @@ pub fn measure<R: Print + Eprint + Clock + Threads + Wait + Sync>(
     measure_plain(rt, alloc, kind, turns)?;
     measure_pool(rt, alloc, kind, turns)?;
     measure_alarm(rt, alloc, kind, turns)?;
-    measure_sweeps(rt, alloc, kind, turns)
+    measure_sweeps(rt, alloc, kind, turns)?;
+    measure_releases(rt, alloc, kind, turns / 1000)
 }

@@ -1,0 +1,201 @@
+//! What a release of the disk head takes while others wait elsewhere on the sweep, over any monitor.
+ghost use Rattle.std.specs.Prelude.{All, IfOk};
+
+use crate::opening::{DoorKind, baton, ticket};
+use crate::procedures::CYLINDERS;
+use baton_door::door::Door;
+use hoare_law::monitor::Monitor;
+use hoare_law::waits::Waits;
+use std::alloc::Global;
+use std::rt::Clock;
+use std::sync::Wait;
+use std::sync::atomic::{AtomicBool, AtomicU64, Ordering};
+use std::thread;
+use std::thread::Threads;
+use std::time::{Duration, Instant};
+use sweep_schedulers::direction::UPSWEEP;
+use sweep_schedulers::head::Head;
+use ticket_door::door::TicketDoor;
+
+/// A monitor of a disk head that threads share.
+pub trait SharedDisk: Monitor<Head<u64>> + Sync {}
+
+impl SharedDisk for Door<Head<u64>> {}
+
+impl SharedDisk for TicketDoor<Head<u64>> {}
+
+// What the threads of a disk know of each other.
+#[derive(Drop)]
+struct Rounds {
+    // How many of them know their cylinder.
+    cylinders: AtomicU64,
+    // Whether the next release at cylinder 1 is the first of an upsweep.
+    is_first: AtomicBool,
+    // Whether the last round is over.
+    done: AtomicBool,
+}
+
+// Takes the drive to the cylinder and hands it on: how long the release took.
+fn visit<R: Wait + Clock, M: Monitor<Head<u64>>>(
+    rt: &R,
+    m: &M,
+    out: M::Out,
+    dest: u16,
+) -> anyhow::Result<(M::Out, Duration)>
+    requires { M.is_of m.now out }
+    ensures { IfOk result (λ r. M.is_of m.now r.0) }
+{
+    let (out, drive) = Head::request(m, rt, out, dest);
+    let drive = drive?;
+    let start = Instant::now(rt)?;
+    let (out, released) = Head::release(m, rt, out, drive);
+    let spent = start.elapsed(rt)?;
+    released?;
+    Ok((out, spent))
+}
+
+// Takes the drive to the cylinder and hands it on, until the rounds are over.
+fn visit_many<R: Wait + Clock, M: Monitor<Head<u64>>>(
+    rt: &R,
+    m: &M,
+    out: M::Out,
+    dest: u16,
+    rounds: &Rounds,
+) -> anyhow::Result<Duration>
+    requires { M.is_of m.now out }
+{
+    let mut out = out;
+    for _ in rt.forever() {
+        if rounds.done.load(Ordering::SeqCst) {
+            return Ok(Duration::ZERO);
+        }
+        let (again, _spent) = visit(rt, m, out, dest)?;
+        out = again;
+    }
+    unreachable!()
+}
+
+// The same at cylinder 1: how long the releases took that were the first of an upsweep.
+fn visit_first<R: Wait + Clock, M: Monitor<Head<u64>>>(
+    rt: &R,
+    m: &M,
+    out: M::Out,
+    rounds: &Rounds,
+) -> anyhow::Result<Duration>
+    requires { M.is_of m.now out }
+{
+    let (mut out, mut all) = (out, Duration::ZERO);
+    for _ in rt.forever() {
+        if rounds.done.load(Ordering::SeqCst) {
+            return Ok(all);
+        }
+        let (again, spent) = visit(rt, m, out, 1)?;
+        if rounds.is_first.swap(false, Ordering::SeqCst) {
+            all = all.saturating_add(spent);
+        }
+        out = again;
+    }
+    unreachable!()
+}
+
+// Looks until this many wait for the upsweep.
+fn line_up<R: Wait, M: Monitor<Head<u64>>>(rt: &R, m: &M, out: M::Out, others: usize) -> M::Out
+    requires { M.is_of m.now out }
+    ensures { M.is_of m.now result }
+{
+    let mut out = out;
+    for _ in rt.forever() {
+        let inside = m.enter(rt, out);
+        let waiting = m.lists(&inside).count(UPSWEEP);
+        out = m.leave(rt, inside);
+        if waiting >= others {
+            return out;
+        }
+        thread::yield_now();
+    }
+    unreachable!()
+}
+
+// At cylinder 0: starts each upsweep once all others wait for it, `turns` times.
+fn start_upsweeps<R: Wait, M: Monitor<Head<u64>>>(
+    rt: &R,
+    m: &M,
+    out: M::Out,
+    others: usize,
+    turns: u64,
+    rounds: &Rounds,
+) -> anyhow::Result<Duration>
+    requires { M.is_of m.now out }
+{
+    let mut out = out;
+    for _ in 0..turns {
+        let (again, drive) = Head::request(m, rt, out, 0);
+        let again = line_up(rt, m, again, others);
+        rounds.is_first.store(true, Ordering::SeqCst);
+        let (again, released) = Head::release(m, rt, again, drive?);
+        released?;
+        out = again;
+    }
+    rounds.done.store(true, Ordering::SeqCst);
+    Ok(Duration::ZERO)
+}
+
+// The first place to come starts the upsweeps, the second one's releases are measured, and the others wait meanwhile.
+fn sweep_many<R: Threads + Wait + Clock + Sync, M: SharedDisk>(
+    rt: &R,
+    m: &M,
+    places: Vec<M::Out>,
+    turns: u64,
+) -> anyhow::Result<Duration>
+where
+    M::Lists: Send,
+    requires { All (M.is_of m.now) places.items }
+{
+    let others = places.len().saturating_sub(1);
+    let rounds = Rounds {
+        cylinders: AtomicU64::new(0),
+        is_first: AtomicBool::new(false),
+        done: AtomicBool::new(false),
+    };
+    let ended = thread::map_vec(
+        rt,
+        places,
+        &|out| -> anyhow::Result<Duration>
+            requires { M.is_of m.now out }
+        {
+            let cylinder = rounds.cylinders.fetch_add(1, Ordering::SeqCst);
+            match cylinder {
+                0 => start_upsweeps(rt, m, out, others, turns, &rounds),
+                1 => visit_first(rt, m, out, &rounds),
+                _ => visit_many(rt, m, out, (cylinder % 64) as u16, &rounds),
+            }
+        },
+    )?;
+    let mut all = Duration::ZERO;
+    for one in ended {
+        all = all.saturating_add(one?);
+    }
+    Ok(all)
+}
+
+/// How long `turns` releases of the drive took at cylinder 1, as the first of an upsweep on which this many others wait.
+pub fn release_row<R: Clock + Threads + Wait + Sync>(
+    rt: &R,
+    alloc: Global,
+    kind: DoorKind,
+    waiting: u8,
+    turns: u64,
+) -> anyhow::Result<Duration> {
+    let count = waiting as usize + 2;
+    let data = Head::with(0, CYLINDERS - 1);
+    match kind {
+        DoorKind::Baton => {
+            let (door, places) = baton(alloc, data, count)?;
+            sweep_many(rt, &door, places, turns)
+        }
+        DoorKind::Ticket => {
+            let (door, places) = ticket(alloc, data, count)?;
+            sweep_many(rt, &door, places, turns)
+        }
+    }
+}

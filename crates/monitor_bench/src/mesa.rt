@@ -1,0 +1,120 @@
+//! A bounded buffer with Mesa conditions, over any monitor: what its threads do, how long that took, and its rows.
+ghost use Rattle.std.specs.Prelude.{All, IfOk};
+ghost use Rattle.hoare_law.specs.Priorities.{nobody};
+
+use crate::opening::{DoorKind, baton, no_memory, ticket};
+use crate::{RING, tell};
+use baton_door::door::Door;
+use hoare_law::data::MonitorData;
+use hoare_law::monitor::Monitor;
+use plain_schedulers::buffer::mesa::MesaBuffer;
+use std::alloc::Global;
+use std::rt::Clock;
+use std::sync::Wait;
+use std::sync::atomic::{AtomicU64, Ordering};
+use std::thread::Threads;
+use std::time::{Duration, Instant};
+use std::{io, thread};
+use ticket_door::door::TicketDoor;
+
+/// A monitor of a buffer with Mesa conditions that threads share.
+pub trait SharedMesaBuffer: Monitor<MesaBuffer<u64>> + Sync {}
+
+impl SharedMesaBuffer for Door<MesaBuffer<u64>> {}
+
+impl SharedMesaBuffer for TicketDoor<MesaBuffer<u64>> {}
+
+// Appends the numbers below `turns`.
+fn append_many<R: Wait, M: Monitor<MesaBuffer<u64>>>(rt: &R, m: &M, out: M::Out, turns: u64)
+    requires { M.is_of m.now out }
+{
+    let mut out = out;
+    for item in 0..turns {
+        out = MesaBuffer::append(m, rt, out, item);
+    }
+}
+
+// Removes `turns` items, and adds them up.
+fn remove_many<R: Wait, M: Monitor<MesaBuffer<u64>>>(rt: &R, m: &M, out: M::Out, turns: u64) -> u64
+    requires { M.is_of m.now out }
+{
+    let mut out = out;
+    let mut sum = 0u64;
+    for _ in 0..turns {
+        let (again, item) = MesaBuffer::remove(m, rt, out);
+        out = again;
+        sum = sum.wrapping_add(item);
+    }
+    sum
+}
+
+// Half of the threads append, the others remove, each `turns` times: how long that took.
+fn mesa_buffered<R: Threads + Wait + Clock + Sync, M: SharedMesaBuffer>(
+    rt: &R,
+    m: &M,
+    places: Vec<M::Out>,
+    turns: u64,
+) -> io::Result<Duration>
+where
+    M::Lists: Send,
+    requires { All (M.is_of m.now) places.items }
+{
+    let start = Instant::now(rt)?;
+    let roles = AtomicU64::new(0);
+    thread::map_vec(
+        rt,
+        places,
+        &|out| -> u64
+            requires { M.is_of m.now out }
+        {
+            if roles.fetch_add(1, Ordering::SeqCst) % 2 == 0 {
+                append_many(rt, m, out, turns);
+                0
+            } else {
+                remove_many(rt, m, out, turns)
+            }
+        },
+    )?;
+    start.elapsed(rt)
+}
+
+fn mesa_ring(alloc: Global) -> io::Result<MesaBuffer<u64>>
+    ensures { IfOk result (λ b. ⟦<MesaBuffer<u64> as MonitorData>⟧.rest b nobody) }
+{
+    MesaBuffer::make(alloc, RING).map_err(|_refusal| no_memory())
+}
+
+// A buffer with Mesa conditions, at a door of this kind and with this number of places.
+fn mesa_row<R: Clock + Threads + Wait + Sync>(
+    rt: &R,
+    alloc: Global,
+    kind: DoorKind,
+    count: usize,
+    turns: u64,
+) -> io::Result<Duration> {
+    let data = mesa_ring(alloc)?;
+    match kind {
+        DoorKind::Baton => {
+            let (door, places) = baton(alloc, data, count)?;
+            mesa_buffered(rt, &door, places, turns)
+        }
+        DoorKind::Ticket => {
+            let (door, places) = ticket(alloc, data, count)?;
+            mesa_buffered(rt, &door, places, turns)
+        }
+    }
+}
+
+/// The rows of the buffer with Mesa conditions: prints a line for each.
+pub fn measure_mesa<R: Print + Eprint + Clock + Threads + Wait + Sync>(
+    rt: &R,
+    alloc: Global,
+    kind: DoorKind,
+    turns: u64,
+) -> io::Result<()> {
+    let hundredth = turns / 100;
+    let spent = mesa_row(rt, alloc, kind, 2, hundredth)?;
+    tell(rt, "mesa_buffer_1_1", spent, hundredth)?;
+    let spent = mesa_row(rt, alloc, kind, 8, hundredth)?;
+    tell(rt, "mesa_buffer_4_4", spent, hundredth.saturating_mul(4))
+}

@@ -8,9 +8,11 @@ ghost use Rattle.door_frame.specs.declared.view.View.TheVariants.{Unopened, Plac
 ghost use Rattle.door_frame.specs.Views.{all_know};
 ghost use Rattle.door_frame.specs.Places.{places_from, HasPlace, Closes};
 
+use crate::naps::Naps;
 use crate::place::DoorOut;
 use crate::rule::{BatonWords, DoorTable};
 use crate::word::{DOOR, FREE, HELD};
+use crossbeam_utils::CachePadded;
 use crossbeam_utils::sync::Unparker;
 use door_frame::making::{closed, deal, parkers, vacant};
 use door_frame::parcel::Parcel;
@@ -48,6 +50,8 @@ pub struct Door<D: MonitorData> {
     pub(crate) table: DoorTable<D>,
     /// What wakes each place, in order.
     pub(crate) wakers: Vec<Unparker>,
+    /// Who among the newcomers naps.
+    pub(crate) naps: CachePadded<Naps>,
 }
 
 impl<D: MonitorData> Model for Door<D> {
@@ -122,7 +126,13 @@ impl<D: MonitorData + Send> Door<D> {
         };
         open(&table, &mut seat, parcel);
         let outs = deal(&table, seat, parkers, outs, places);
-        Ok((Door { table, wakers }, outs))
+        let naps = Naps::new();
+        let door = Door {
+            table,
+            wakers,
+            naps,
+        };
+        Ok((door, outs))
     }
 
     /// Takes the door apart: all of its places are handed in, in any order. The data are at rest with nobody waiting, and
@@ -134,7 +144,11 @@ impl<D: MonitorData + Send> Door<D> {
         ensures closes { Closes D.rest D.ready (kinds_of D.CONDITIONS D.MESA) self outs.items result }
         ensures rest { D.rest result nobody }
     {
-        let Door { table, wakers: _ } = self;
+        let Door {
+            table,
+            wakers: _,
+            naps: _,
+        } = self;
         closed(table, outs)
     }
 }

@@ -3,6 +3,7 @@
 
 pub mod door;
 mod monitor;
+mod naps;
 mod newcomers;
 mod parking;
 pub mod place;

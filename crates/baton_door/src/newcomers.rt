@@ -6,6 +6,7 @@ use crate::door::Door;
 use crate::rule::Admit;
 use crate::word::{DOOR, FREE, HELD};
 use crossbeam_utils::Backoff;
+use door_frame::looks::TRIES;
 use door_frame::plays::DoorSeat;
 use hoare_law::data::MonitorData;
 use std::sync::Wait;
@@ -26,7 +27,26 @@ impl<D: MonitorData> Door<D> {
             == FREE
     }
 
-    /// Tries until the place is in: whenever the word is seen to be `FREE`. Between the tries it spins, and later yields.
+    /// Tries a while, whenever the word is seen to be `FREE`, and spins longer and longer between the tries: whether the
+    /// place is in.
+    fn try_a_while(&self, seat: &mut DoorSeat<D>) -> bool
+        requires table { seat.old.table_id ≡ self.now.table }
+        requires outside { IsOutside seat.old.me }
+        ensures table { seat.new.table_id ≡ seat.old.table_id }
+        ensures turned_away { result ≡ false → seat.new.me ≡ seat.old.me }
+        ensures let_in { result ≡ true → IsLetIn D.rest D.ready seat.old.me seat.new.me }
+    {
+        let backoff = Backoff::new();
+        for _ in 0..TRIES {
+            if self.look_for(FREE) && self.try_in(seat) {
+                return true;
+            }
+            backoff.spin();
+        }
+        false
+    }
+
+    /// Tries until the place is in, and naps where it tried a while for nothing.
     #[inline(never)]
     pub(crate) fn keep_trying<R: Wait>(&self, rt: &R, seat: &mut DoorSeat<D>)
         requires table { seat.old.table_id ≡ self.now.table }
@@ -34,13 +54,21 @@ impl<D: MonitorData> Door<D> {
         ensures table { seat.new.table_id ≡ seat.old.table_id }
         ensures let_in { IsLetIn D.rest D.ready seat.old.me seat.new.me }
     {
-        let backoff = Backoff::new();
         for _ in rt.forever() {
-            if self.look_for(FREE) && self.try_in(seat) {
+            if self.try_a_while(seat) {
                 return;
             }
-            backoff.snooze();
+            self.nap(rt);
         }
         unreachable!()
+    }
+
+    /// A nap, unless the monitor is free by now.
+    fn nap<R: Wait>(&self, rt: &R) {
+        let before = self.naps.lie_down();
+        if self.table.shared.peek(DOOR) != FREE {
+            self.naps.sleep(rt, before);
+        }
+        self.naps.get_up();
     }
 }

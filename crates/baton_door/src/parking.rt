@@ -33,7 +33,7 @@ impl<D: MonitorData> Door<D> {
         false
     }
 
-    /// Gives the parcel back by an event that the call picks. `departure` is there for the pick alone.
+    /// Gives the parcel back by an event that the call picks.
     #[inline]
     pub(crate) fn give<J: PickedEvent<D>>(
         &self,
@@ -50,9 +50,11 @@ impl<D: MonitorData> Door<D> {
         ensures away { GoesOut place J.event seat.old.me parcel.state seat.new.me }
     {
         lay_parcel(&self.table, seat, parcel);
+        let is_to_call = self.naps.is_to_call(departure, next);
         self.table
             .shared
             .store::<Give<J>>(seat, DOOR, word_of_next(next));
+        self.naps.call_one(is_to_call);
         if let Next::For(resumed) = next {
             self.wake(resumed);
         }

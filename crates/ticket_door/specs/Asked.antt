@@ -1,7 +1,8 @@
 -- A place that asked, as a contract sees it, and when it comes in.
-use Rattle.std.specs.Prelude.{◌≡◌, ℕ, ◌+◌, ◌%◌, ◌^◌, true, [], ◌∷◌}
+use Rattle.std.specs.Prelude.{◌≡◌, ℕ, ◌+◌, ◌%◌, ◌^◌, true, [], ◌∷◌, Some}
 use Rattle.atomic_table.specs.Seated.{TableId}
 use Rattle.hoare_law.specs.declared.event.Event.{Event}
+use Rattle.hoare_law.specs.declared.event.Event.TheVariants.{Admit}
 use Rattle.hoare_law.specs.Sizes.{Kinds}
 use Rattle.hoare_law.specs.declared.event.History.{History}
 use Rattle.hoare_law.specs.Events.{with_event}
@@ -9,7 +10,8 @@ use Rattle.hoare_law.specs.Lawful.{Rest, Ready}
 use Rattle.door_frame.specs.declared.view.View.{View}
 use Rattle.door_frame.specs.declared.view.View.TheVariants.{Places}
 use Rattle.door_frame.specs.Places.{DoorId, PlaceOut, IsOut, place_out}
-use Rattle.door_frame.specs.Steps.{Sat}
+use Rattle.door_frame.specs.declared.parcel.Lodged.{Lodged}
+use Rattle.door_frame.specs.Steps.{Sat, Came}
 use Rattle.door_frame.specs.Views.{asking}
 use Rattle.hoare_law.specs.Admissions.{is_admit, admissions}
 use Rattle.ticket_door.specs.declared.rule.Sizes.{Sizes}
@@ -42,6 +44,12 @@ module _ {D : Type 0} where
 
   abbrev pub as_out : PlaceAsked D → PlaceOut D
   as_out a = place_out a.table a.place a.front
+
+  -- it was let in by its ticket, as number x of all that are, and the slot with what lies in it is its own
+  abbrev pub IsServed : Rest D → Ready D → ℕ → Sat D → Sat D → Type 0
+  IsServed rest ready k me me' =
+      (f : History D) (x : ℕ) → IsAsking k f x me
+      → (y : Lodged D) × (c : Came rest ready k f (Admit k) y (Some y) me') × (admissions c.log.events ≡ x)
 
   module _ (rest : Rest D) (ready : Ready D) (kinds : Kinds) where
     -- it is of the door and outside, and its ticket is of its number

@@ -56,6 +56,7 @@ impl<D: MonitorData> TicketDoor<D> {
         match next {
             Next::Free => {
                 self.table.shared.fetch_add::<Give<J>>(seat, SERVING, TURN);
+                self.call_next();
             }
             Next::For(resumed) => {
                 self.table

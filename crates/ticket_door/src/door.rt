@@ -9,12 +9,14 @@ ghost use Rattle.door_frame.specs.Places.{places_from, HasPlace, Closes};
 use crate::laws;
 use crate::place::TicketOut;
 use crate::rule::TicketTable;
+use crossbeam_utils::CachePadded;
 use crossbeam_utils::sync::Unparker;
 use door_frame::making::closed;
 use hoare_law::data::MonitorData;
 use hoare_law::monitor::Monitor;
 use std::alloc::Global;
 use std::marker::Model;
+use std::sync::atomic::AtomicU64;
 use wait_book::steps::MakeRefused;
 
 /// A monitor for running threads, in which newcomers come in by the order of their tickets: it implements `Monitor`. Threads
@@ -34,7 +36,7 @@ use wait_book::steps::MakeRefused;
 /// ```
 #[derive(Drop)]
 pub struct TicketDoor<D: MonitorData> {
-    /// Each word has a line of the cache of its own.
+    /// Each word has a line of the cache of its own. A newcomer that naps sleeps on the word behind a bell, which stays 0.
     ///
     /// | Word | says | and is changed by |
     /// |---|---|---|
@@ -44,6 +46,8 @@ pub struct TicketDoor<D: MonitorData> {
     pub(crate) table: TicketTable<D>,
     /// What wakes each place, in order.
     pub(crate) wakers: Vec<Unparker>,
+    /// The marks of the turns whose newcomers nap.
+    pub(crate) napping: CachePadded<AtomicU64>,
 }
 
 impl<D: MonitorData> Model for TicketDoor<D> {
@@ -91,7 +95,11 @@ impl<D: MonitorData + Send> TicketDoor<D> {
         ensures closes { Closes D.rest D.ready (kinds_of D.CONDITIONS D.MESA) self.door outs.items result }
         ensures rest { D.rest result nobody }
     {
-        let TicketDoor { table, wakers: _ } = self;
+        let TicketDoor {
+            table,
+            wakers: _,
+            napping: _,
+        } = self;
         closed(table, outs)
     }
 }

@@ -13,6 +13,7 @@ use crate::door::TicketDoor;
 use crate::place::TicketOut;
 use crate::rule::{Sizes, TicketTable, TicketWords};
 use crate::words::{NEXT, SERVING, served_as, words_for};
+use crossbeam_utils::CachePadded;
 use door_frame::making::{deal, parkers, vacant};
 use door_frame::parcel::Parcel;
 use door_frame::plays::{Begin, DoorSeat, Open};
@@ -20,6 +21,7 @@ use door_frame::slot::lay_parcel;
 use hoare_law::data::MonitorData;
 use hoare_law::monitor::Monitor;
 use std::alloc::{AllocError, Global};
+use std::sync::atomic::AtomicU64;
 use wait_book::book::Book;
 use wait_book::steps::MakeRefused;
 
@@ -92,5 +94,11 @@ pub fn make_at<D: MonitorData + Send>(
     };
     open(&table, &mut seat, parcel);
     let outs = deal(&table, seat, parkers, outs, places);
-    Ok((TicketDoor { table, wakers }, outs))
+    let napping = CachePadded::new(AtomicU64::new(0));
+    let door = TicketDoor {
+        table,
+        wakers,
+        napping,
+    };
+    Ok((door, outs))
 }

@@ -6,6 +6,7 @@ pub mod door;
 pub mod laws;
 mod meeting;
 mod monitor;
+mod naps;
 pub mod place;
 mod rule;
 mod tickets;

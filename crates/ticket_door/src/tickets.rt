@@ -10,22 +10,21 @@ ghost use Rattle.hoare_law.specs.Turns.{outside};
 ghost use Rattle.door_frame.specs.Places.{IsOut, IsIn, Handed};
 ghost use Rattle.door_frame.specs.Seats.{IsAway};
 ghost use Rattle.door_frame.specs.Steps.{Came};
-ghost use Rattle.ticket_door.specs.Asked.{IsAsking, IsAsked, EntersBy};
+ghost use Rattle.ticket_door.specs.Asked.{IsAsking, IsServed, IsAsked, EntersBy};
 ghost use Rattle.hoare_law.specs.Admissions.{admissions};
 
 use crate::door::TicketDoor;
 use crate::place::{Asked, TicketIn, TicketOut};
 use crate::rule::{Ask, Counting, Look};
-use crate::words::{NEXT, SERVING, SHUT, TURN, served_as};
-use door_frame::calls::brought_in;
+use crate::words::{NEXT, SERVING, served_as};
+use crossbeam_utils::Backoff;
+use door_frame::calls::{self, brought_in};
 use door_frame::parcel::Parcel;
 use door_frame::plays::DoorSeat;
 use door_frame::slot::take_parcel;
-use door_frame::{calls, looks};
 use hoare_law::data::MonitorData;
 use std::marker::Brand;
 use std::sync::Wait;
-use std::{hint, thread};
 
 impl<D: MonitorData> TicketDoor<D> {
     /// Draws the next ticket.
@@ -41,7 +40,50 @@ impl<D: MonitorData> TicketDoor<D> {
         self.table.shared.fetch_add::<Ask<J>>(seat, NEXT, 1)
     }
 
-    /// Looks until the ticket is served, and takes the parcel.
+    /// Whether the ticket is served: then the place is let in.
+    #[inline]
+    fn is_served<J: Counting>(&self, seat: &mut DoorSeat<D>, place: usize, ticket: u64) -> bool
+        requires table { seat.old.table_id ≡ self.now.door.table }
+        requires first { self.now.first ≡ J.first }
+        requires asked { (f : History D) × (x : ℕ) × IsAsking place f x seat.old.me × (ticket
+            ≡ (self.now.first + x) % 2 ^ 64) × (outside place f.events ≡ true) }
+        ensures table { seat.new.table_id ≡ seat.old.table_id }
+        ensures missed { result ≡ false → seat.new.me ≡ seat.old.me }
+        ensures let_in { result ≡ true → IsServed D.rest D.ready place seat.old.me seat.new.me }
+    {
+        self.table.shared.load::<Look<J>>(seat, SERVING) == served_as(ticket)
+    }
+
+    /// Looks until the ticket is served. Between the looks it spins or yields, and later naps.
+    #[inline(never)]
+    fn keep_looking<J: Counting, R: Wait>(
+        &self,
+        rt: &R,
+        seat: &mut DoorSeat<D>,
+        place: usize,
+        ticket: u64,
+    )
+        requires table { seat.old.table_id ≡ self.now.door.table }
+        requires first { self.now.first ≡ J.first }
+        requires asked { (f : History D) × (x : ℕ) × IsAsking place f x seat.old.me × (ticket
+            ≡ (self.now.first + x) % 2 ^ 64) × (outside place f.events ≡ true) }
+        ensures table { seat.new.table_id ≡ seat.old.table_id }
+        ensures let_in { IsServed D.rest D.ready place seat.old.me seat.new.me }
+    {
+        let turn = served_as(ticket);
+        let backoff = Backoff::new();
+        for _ in rt.forever() {
+            if self.is_served::<J>(seat, place, ticket) {
+                return;
+            }
+            self.stand_back(rt, turn, &backoff);
+        }
+        unreachable!()
+    }
+
+    /// Looks until the ticket is served, and takes the parcel. The first look stands alone: it is short enough to be
+    /// inlined.
+    #[inline]
     pub(crate) fn served<J: Counting, R: Wait>(
         &self,
         rt: &R,
@@ -58,31 +100,11 @@ impl<D: MonitorData> TicketDoor<D> {
             → (c : Came D.rest D.ready place f (event.Admit place) result None seat.new.me)
             × (admissions c.log.events ≡ x) }
     {
-        let table = &self.table;
-        let turn = served_as(ticket);
-        for _ in rt.forever() {
-            let serving = table.shared.load::<Look<J>>(seat, SERVING);
-            if serving == turn {
-                return take_parcel(table, seat);
-            }
-            self.stand_back(turn, serving);
+        if self.is_served::<J>(seat, place, ticket) {
+            return take_parcel(&self.table, seat);
         }
-        unreachable!()
-    }
-
-    /// A newcomer that is near looks on for a while, longer the nearer it is; then it yields. One that is far off
-    /// yields at once, and so does one whose turn it is while the gate is shut.
-    fn stand_back(&self, turn: u64, serving: u64) {
-        let ahead = turn.wrapping_add(SHUT).wrapping_sub(serving) / TURN;
-        if 0 < ahead && ahead <= looks::NEAR {
-            for _ in 0..looks::NEXT_IN_TURN / ahead {
-                if self.table.shared.peek(SERVING) == turn {
-                    return;
-                }
-                hint::spin_loop();
-            }
-        }
-        thread::yield_now();
+        self.keep_looking::<J, R>(rt, seat, place, ticket);
+        take_parcel(&self.table, seat)
     }
 
     /// Draws a ticket. The place is let in by it with `come_in`.

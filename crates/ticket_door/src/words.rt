@@ -50,3 +50,20 @@ pub(crate) fn words_for(places: usize) -> usize
 {
     BELLS + LINE * places
 }
+
+/// The mark of a turn among those whose newcomers nap. No two that wait have the same: a door has 64 places at most.
+#[inline]
+pub(crate) fn mark_of(turn: u64) -> u64 {
+    1 << (turn / TURN % 64)
+}
+
+/// The word that a turn's newcomer naps on: one that stays 0, behind a bell. No two that wait have the same, but where
+/// the numbers wrap; then a call may reach the other one.
+#[inline]
+pub(crate) fn nap_of(turn: u64, places: usize) -> usize
+    requires some { 0 < places }
+    requires most { places ≤ 64 }
+    ensures { result < bell_at places }
+{
+    BELLS + LINE * (turn / TURN % places as u64) as usize + 1
+}

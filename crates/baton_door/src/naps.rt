@@ -1,0 +1,92 @@
+//! How newcomers nap, and who wakes them.
+//!
+//! A nap is a yield of bounded length: a newcomer that has tried for a while sleeps until it is called, and for `NAP`
+//! at most; then it tries again. No promise rests on a call. One that goes lost, since it came before the sleep, or
+//! that nobody gives, costs the rest of one nap and nothing else: who naps is outside, holds nothing, and looks at the
+//! word itself when it wakes.
+//!
+//! A call is a call of the system, which takes longer than a visit. So who leaves the monitor free calls one newcomer
+//! only where its visit is dear anyway: where the monitor was handed to it, or where it goes to wait.
+use crossbeam_utils::CachePadded;
+use door_frame::departure::Departure;
+use door_frame::looks::NAP;
+use std::sync::Wait;
+use std::sync::atomic::{AtomicU64, Ordering};
+use std::time::Duration;
+use wait_book::steps::Next;
+
+/// What the places of a door tell each other of naps. No clause speaks of it.
+#[derive(Drop)]
+pub(crate) struct Naps {
+    /// How many newcomers nap.
+    nappers: AtomicU64,
+    /// How often one of them was called, modulo 2^64.
+    calls: AtomicU64,
+    /// 1 where the monitor was handed to who is inside, or is being handed on, else 0.
+    handed: AtomicU64,
+}
+
+impl Naps {
+    /// Nobody naps, on a line of the cache of its own.
+    pub(crate) fn new() -> CachePadded<Naps> {
+        CachePadded::new(Naps {
+            nappers: AtomicU64::new(0),
+            calls: AtomicU64::new(0),
+            handed: AtomicU64::new(0),
+        })
+    }
+
+    /// One more naps. It is told how often one was called before.
+    pub(crate) fn lie_down(&self) -> u64 {
+        self.nappers.fetch_add(1, Ordering::SeqCst);
+        self.calls.load(Ordering::SeqCst)
+    }
+
+    /// It sleeps, unless one was called since.
+    pub(crate) fn sleep<R: Wait>(&self, rt: &R, before: u64) {
+        let low = (before % (1 << 32)) as u32;
+        self.calls
+            .park_timeout(rt, low, Duration::from_micros(NAP));
+    }
+
+    /// One fewer naps.
+    pub(crate) fn get_up(&self) {
+        self.nappers.fetch_sub(1, Ordering::SeqCst);
+    }
+
+    /// Who is inside tells how it is about to give the monitor up, and asks whether it is to call one that naps then.
+    #[inline]
+    pub(crate) fn is_to_call(&self, departure: Departure, next: Next) -> bool {
+        let handed = self.handed.load(Ordering::Relaxed) == 1;
+        match next {
+            Next::Free => {
+                if handed {
+                    self.handed.store(0, Ordering::Relaxed);
+                }
+                handed || is_wait(departure)
+            }
+            Next::For(_) | Next::Held(_) => {
+                if !handed {
+                    self.handed.store(1, Ordering::Relaxed);
+                }
+                false
+            }
+        }
+    }
+
+    /// Calls one that naps, if one does and it is to be called.
+    #[inline]
+    pub(crate) fn call_one(&self, is_to_call: bool) {
+        if is_to_call && self.nappers.load(Ordering::SeqCst) != 0 {
+            self.calls.fetch_add(1, Ordering::SeqCst);
+            self.calls.wake_one();
+        }
+    }
+}
+
+fn is_wait(departure: Departure) -> bool {
+    match departure {
+        Departure::Wait(_, _) => true,
+        Departure::Signal(_) | Departure::Pass(_) | Departure::Leave => false,
+    }
+}

@@ -1,5 +1,5 @@
 //! Newcomers: they draw a ticket, and come in when it is served.
-ghost use Rattle.std.specs.Prelude.{◌≡◌, ◌≢◌, ◌<◌, ◌↔◌, ℕ, ◌+◌, ◌%◌, ◌^◌, [], true, IsTrue, None};
+ghost use Rattle.std.specs.Prelude.{◌≡◌, ◌≢◌, ◌<◌, ◌↔◌, ℕ, ◌+◌, ◌%◌, ◌^◌, [], true, false, IsTrue, None};
 ghost use Rattle.hoare_law.specs.Events.{with_event};
 ghost use Rattle.hoare_law.specs.declared.event.History.{History};
 ghost use Rattle.hoare_law.specs.declared.event.Event.TheVariants as event;

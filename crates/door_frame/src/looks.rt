@@ -14,9 +14,16 @@ pub const TRIES: u32 = 7;
 /// the program asks for nothing else.
 pub const NAP: u64 = 100;
 
-/// How often a newcomer whose ticket is the next looks before it yields. One that has n tickets to go looks an n-th as often.
-/// Exactly one thread can come in, and if it isn't running when its ticket is served, it holds up all others.
+/// How often a newcomer whose ticket is the next looks before it yields or naps. One that has n tickets to go looks an n-th
+/// as often. Exactly one thread can come in, and if it isn't running when its ticket is served, it holds up all others.
 pub const NEXT_IN_TURN: u64 = 4000;
 
-/// A newcomer that has more tickets to go than this yields at once.
+/// A newcomer that has more tickets to go than this yields or naps at once.
 pub const NEAR: u64 = 3;
+
+/// How often a newcomer with a ticket yields before it naps. A rotation of some threads that share a core takes less.
+pub const YIELDS: u64 = 30;
+
+/// For how many turns newcomers with tickets nap at once, after the next in turn looked for nothing. A stall costs up to a
+/// slice, some milliseconds; shared by so many turns it is some microseconds each.
+pub const BUSY_TURNS: u64 = 1000;

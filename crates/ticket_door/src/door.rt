@@ -7,6 +7,7 @@ ghost use Rattle.wait_book.specs.Contents.{make_refusal};
 ghost use Rattle.door_frame.specs.Places.{places_from, HasPlace, Closes};
 
 use crate::laws;
+use crate::naps::Naps;
 use crate::place::TicketOut;
 use crate::rule::TicketTable;
 use crossbeam_utils::CachePadded;
@@ -16,7 +17,6 @@ use hoare_law::data::MonitorData;
 use hoare_law::monitor::Monitor;
 use std::alloc::Global;
 use std::marker::Model;
-use std::sync::atomic::AtomicU64;
 use wait_book::steps::MakeRefused;
 
 /// A monitor for running threads, in which newcomers come in by the order of their tickets: it implements `Monitor`. Threads
@@ -46,8 +46,8 @@ pub struct TicketDoor<D: MonitorData> {
     pub(crate) table: TicketTable<D>,
     /// What wakes each place, in order.
     pub(crate) wakers: Vec<Unparker>,
-    /// The marks of the turns whose newcomers nap.
-    pub(crate) napping: CachePadded<AtomicU64>,
+    /// Who among the newcomers naps.
+    pub(crate) naps: CachePadded<Naps>,
 }
 
 impl<D: MonitorData> Model for TicketDoor<D> {
@@ -98,7 +98,7 @@ impl<D: MonitorData + Send> TicketDoor<D> {
         let TicketDoor {
             table,
             wakers: _,
-            napping: _,
+            naps: _,
         } = self;
         closed(table, outs)
     }

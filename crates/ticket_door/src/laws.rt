@@ -10,10 +10,10 @@ ghost use Rattle.door_frame.specs.Places.{places_from};
 ghost use Rattle.ticket_door.specs.Rule.{Starts};
 
 use crate::door::TicketDoor;
+use crate::naps::Naps;
 use crate::place::TicketOut;
 use crate::rule::{Sizes, TicketTable, TicketWords};
 use crate::words::{NEXT, SERVING, served_as, words_for};
-use crossbeam_utils::CachePadded;
 use door_frame::making::{deal, parkers, vacant};
 use door_frame::parcel::Parcel;
 use door_frame::plays::{Begin, DoorSeat, Open};
@@ -21,7 +21,6 @@ use door_frame::slot::lay_parcel;
 use hoare_law::data::MonitorData;
 use hoare_law::monitor::Monitor;
 use std::alloc::{AllocError, Global};
-use std::sync::atomic::AtomicU64;
 use wait_book::book::Book;
 use wait_book::steps::MakeRefused;
 
@@ -94,11 +93,11 @@ pub fn make_at<D: MonitorData + Send>(
     };
     open(&table, &mut seat, parcel);
     let outs = deal(&table, seat, parkers, outs, places);
-    let napping = CachePadded::new(AtomicU64::new(0));
+    let naps = Naps::new();
     let door = TicketDoor {
         table,
         wakers,
-        napping,
+        naps,
     };
     Ok((door, outs))
 }

@@ -17,12 +17,12 @@ use crate::door::TicketDoor;
 use crate::place::{Asked, TicketIn, TicketOut};
 use crate::rule::{Ask, Counting, Look};
 use crate::words::{NEXT, SERVING, served_as};
-use crossbeam_utils::Backoff;
 use door_frame::calls::{self, brought_in};
 use door_frame::parcel::Parcel;
 use door_frame::plays::DoorSeat;
 use door_frame::slot::take_parcel;
 use hoare_law::data::MonitorData;
+use std::cell::Cell;
 use std::marker::Brand;
 use std::sync::Wait;
 
@@ -54,7 +54,7 @@ impl<D: MonitorData> TicketDoor<D> {
         self.table.shared.load::<Look<J>>(seat, SERVING) == served_as(ticket)
     }
 
-    /// Looks until the ticket is served. Between the looks it spins or yields, and later naps.
+    /// Looks until the ticket is served. Between the looks it yields, and later naps.
     #[inline(never)]
     fn keep_looking<J: Counting, R: Wait>(
         &self,
@@ -71,12 +71,12 @@ impl<D: MonitorData> TicketDoor<D> {
         ensures let_in { IsServed D.rest D.ready place seat.old.me seat.new.me }
     {
         let turn = served_as(ticket);
-        let backoff = Backoff::new();
+        let yields = Cell::new(0);
         for _ in rt.forever() {
             if self.is_served::<J>(seat, place, ticket) {
                 return;
             }
-            self.stand_back(rt, turn, &backoff);
+            self.stand_back(rt, turn, &yields);
         }
         unreachable!()
     }

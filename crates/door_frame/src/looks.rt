@@ -25,5 +25,6 @@ pub const NEAR: u64 = 3;
 pub const YIELDS: u64 = 30;
 
 /// For how many turns newcomers with tickets nap at once, after the next in turn looked for nothing. A stall costs up to a
-/// slice, some milliseconds; shared by so many turns it is some microseconds each.
-pub const BUSY_TURNS: u64 = 1000;
+/// slice, some milliseconds; shared by so many turns it is some ten microseconds each. More turns cost more where the
+/// stall was by chance.
+pub const BUSY_TURNS: u64 = 200;

@@ -7,7 +7,7 @@
 //!
 //! While cores are idle a yield is short, and a nap with its call is long; where all are busy a yield may cost a slice.
 //! The next in turn tells the two apart: where it has looked for long and SERVING stays, whose turn it is isn't running.
-//! Then all newcomers nap in place of yields, for `BUSY_TURNS` turns.
+//! Then newcomers nap in place of yields, for `BUSY_TURNS` turns.
 use crate::door::TicketDoor;
 use crate::words::{SERVING, SHUT, TURN, mark_of, nap_of};
 use crossbeam_utils::CachePadded;
@@ -58,16 +58,16 @@ impl<D: MonitorData> TicketDoor<D> {
         if 0 < ahead && ahead <= NEAR && self.look_for(turn, NEXT_IN_TURN / ahead) {
             return;
         }
+        let yielded = yields.get();
+        if yielded == YIELDS || self.naps.is_busy(turn) {
+            self.nap(rt, turn);
+            return;
+        }
         if ahead == 1 {
             self.naps.stalled_before(turn);
         }
-        let yielded = yields.get();
-        if yielded < YIELDS && !self.naps.is_busy(turn) {
-            yields.set(yielded + 1);
-            thread::yield_now();
-        } else {
-            self.nap(rt, turn);
-        }
+        yields.set(yielded + 1);
+        thread::yield_now();
     }
 
     /// How many turns come before this one; 0 where it is served, also while the gate is shut.

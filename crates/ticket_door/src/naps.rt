@@ -59,7 +59,7 @@ impl<D: MonitorData> TicketDoor<D> {
             return;
         }
         let yielded = yields.get();
-        if yielded == YIELDS || self.naps.is_busy(turn) {
+        if yielded >= YIELDS || self.naps.is_busy(turn) {
             self.nap(rt, turn);
             return;
         }

@@ -61,6 +61,14 @@ module _ {M : Type 1} {𝓤 : Ura M} {𝓛 : Logic 𝓤} {K : Type 0} {Γ : List
       (subst (λ (p : Ptr). vs ≡ vstruct (of_list (ptr_val p ∷ h ∷ [])) ∷ []) e
       (subst (λ (ws : List Val). vs ≡ vstruct (of_list (ptr_val d.at ∷ (ws ++ []))) ∷ []) ea (subst (λ (ps : List Val). vs ≡ vstruct (of_list (ps ++ (vss.1.0 ++ []))) ∷ []) ep ev))) fits)))))
 
+  pub handle_empty : K → (d : H.Denot) (vs : List Val) → d.live ≡ 0
+      → ((h : Val) → vs ≡ both (ptr_val d.at) h ∷ [] → Good (layout Z) h → Seq K 𝓛 (‵ (Z.own_val d.alloc (h ∷ [])) ∷ Γ) G)
+      → Seq K 𝓛 (‵ (H.own_val d vs) ∷ Γ) G
+  handle_empty t d vs none k =
+      fsplit t $ fpick t (λ vss. fsplit t $ feq_l t (λ ev. fsplit t $ feq_l t (λ ep. fsplit t $ handle_tells al t d.alloc vss.1.0 (λ h ea fits. move t (1 ∷ []) $ drop t $ move t (1 ∷ []) $
+      drop t $ k h
+      (subst (λ (ws : List Val). vs ≡ vstruct (of_list (ptr_val d.at ∷ (ws ++ []))) ∷ []) ea (subst (λ (ps : List Val). vs ≡ vstruct (of_list (ps ++ (vss.1.0 ++ []))) ∷ []) ep ev)) fits))))
+
   pub handle_in : K → (p : Ptr) (h : Val) (a : Z.Denot) (n : ℕ) (x : R.Denot)
       → Step K 𝓛 (‵ (H.own_val (record { at = p; alloc = a; live = n; value = x }) (both (ptr_val p) h ∷ [])) ∷ Γ) G (‵ (held n (box_owns (heap.ghosts.dealloc_token a) R p x)) ∷ ‵ (Z.own_val a (h ∷ [])) ∷ Γ) G
   handle_in t p h a n x = step (λ s. let v : Val = both (ptr_val p) h in

@@ -10,9 +10,8 @@ use std::alloc::{Allocator, Global};
 use std::marker::Model;
 use wait_book::book::Book;
 
-/// Where a book lies, if `live` is 1.
+/// Where a book lies, if `live` is 1. It isn't `Drop`: a book has to be taken out.
 #[repr(C)]
-#[derive(Drop)]
 pub struct Handle {
     at: *mut u8,
     alloc: Global,
@@ -26,12 +25,14 @@ impl Model for Handle {
 }
 
 impl Handle {
+    // The handle of no book.
     pub(crate) fn none(alloc: Global, at: *mut u8) -> Handle
         ensures { result.live ≡ 0 }
     {
         Handle { at, alloc }
     }
 
+    // The handle of a book.
     pub(crate) fn of(book: Loose<Book, Global>) -> Handle
         ensures { (result.live ≡ 1) × (result.value ≡ book.value) }
     {
@@ -42,6 +43,16 @@ impl Handle {
         }
     }
 
+    // Lets go of a handle of no book; it answers what stands there for a pointer.
+    pub(crate) fn let_go(self) -> *mut u8
+        requires empty { self.live ≡ 0 }
+        ensures { ◌≡◌ {A = ℕ} 0 0 }
+    {
+        let Handle { at, alloc: _ } = self;
+        at
+    }
+
+    // The book of the handle.
     pub(crate) fn into_loose(self) -> Loose<Book, Global>
         requires { self.live ≡ 1 }
         ensures { result.value ≡ self.value }

@@ -30,7 +30,7 @@ use Rattle.book_handle.proofs.handle.Handle.none.Statement.{statement}
 use Rattle.book_handle.proofs.handle.Handle.none.Code as code
 
 abbrev any_book : Contents
-any_book = record { places = 0; conditions = 0; room_to_wait = 0; room_to_signal = 0; waiters = []; signallers = []; turn = Free }
+any_book = record { sizes = record { places = 0; conditions = 0; mesa = 0 }; room_to_wait = 0; room_to_signal = 0; waiters = []; signallers = []; called = []; turn = Free }
 
 pub none_spec : {M : Type 1} → statement M
 none_spec 𝓤 𝓛 𝓜 𝓡 wired =

@@ -45,7 +45,11 @@ impl Held {
             handle: Handle::none(alloc, self.spare),
         };
         let full = mem::replace(self, empty);
-        let Held { handle, live: _, spare: _ } = full;
+        let Held {
+            handle,
+            live: _,
+            spare: _,
+        } = full;
         Some(handle.into_loose().into_box())
     }
 
@@ -60,7 +64,11 @@ impl Held {
             handle: Handle::of(Loose::of(book)),
         };
         let empty = mem::replace(self, full);
-        let Held { handle, live: _, spare: _ } = empty;
+        let Held {
+            handle,
+            live: _,
+            spare: _,
+        } = empty;
         handle.let_go();
     }
 

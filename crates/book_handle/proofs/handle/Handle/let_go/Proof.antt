@@ -1,13 +1,12 @@
 -- `let_go` owns nothing to give back.
-use Rattle.std.proofs.Common.{◌≡◌, ℕ, List, [], ◌∷◌, ◌++◌, refl, sym, ap, subst}
+use Rattle.std.proofs.Common.{◌≡◌, ℕ, List, [], ◌∷◌, ◌++◌, refl, sym, subst}
 use mir.Val.{Val}
 use base.Logic.{SProp, emp, id⊢}
-use base.Fml.{ftrue}
 use prog.Wp.{WpFn}
-use types.Kit.{‵, raw, ◌⊛◌, later, some, ◌$◌, ◌∵◌, !, qed, by, move, keep, drop, split, join, fsplit, fjoin, feq_i, suffices, use0}
-use types.Run.{stop, fld, of_opd, no_more, and_then, returns, enter}
+use types.Kit.{‵, raw, ◌⊛◌, ◌$◌, ◌∵◌, !, qed, by, move, keep, split, fsplit, fjoin, feq_i, suffices, use0}
+use types.Run.{stop, fld, of_opd, returns, enter}
 use types.ByLocal.{alloc_all, pass_all, free_all, look_at, get, get_in, sets}
-use types.Part.{agg, sub, whole}
+use types.Part.{sub, whole}
 use contract.Monad.{fact, fact_i}
 use contract.Running.{tables}
 use denote.Exit.{yes}
@@ -19,10 +18,8 @@ use denote.Triple.Entry.{alive}
 use denote.Triple.Walked.{Stays, stay_dropped, walk_of}
 use Rattle.core.proofs.alloc.Calls.{Goes-blank}
 use Rattle.std.proofs.raw_atomic.Walks.{proved_at, leaves}
-use Rattle.std.specs.contracts.impls.GlobalAllocator.TheImpl as heap
-use Rattle.std.proofs.alloc.Global.TheLaws as global_laws
 use Rattle.book_handle.proofs.Values.{both}
-use Rattle.book_handle.proofs.Handles.{Z, H, handle_good, handle_empty, ptr_good}
+use Rattle.book_handle.proofs.Handles.{H, handle_good, handle_empty, ptr_good}
 use Rattle.book_handle.specs.contracts.handle.Handle.let_go.{ended, clauses}
 use Rattle.book_handle.specs.contracts.handle.Handle.let_go.Key.{name as #self}
 use Rattle.book_handle.proofs.handle.Handle.let_go.Statement.{statement}

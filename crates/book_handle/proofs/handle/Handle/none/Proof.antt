@@ -1,5 +1,5 @@
 -- `none` owns nothing.
-use Rattle.std.proofs.Common.{◌≡◌, ℕ, List, [], ◌∷◌, ◌++◌, refl, sym, ap, ◌∙◌, subst}
+use Rattle.std.proofs.Common.{◌≡◌, ℕ, List, [], ◌∷◌, ◌++◌, refl, sym, subst}
 use mir.Val.{Val}
 use base.Logic.{SProp, emp, id⊢}
 use base.Fml.{ftrue}
@@ -12,7 +12,7 @@ use contract.Monad.{fact, fact_i}
 use contract.Running.{tables}
 use denote.Builtin.{RawPtr}
 use denote.Exit.{yes}
-use denote.RattleType.{RattleType, owns}
+use denote.RattleType.{owns}
 use denote.RawPtr.{ptr_val}
 use denote.Signature.{types_at, plain}
 use denote.Steps.{nothing}

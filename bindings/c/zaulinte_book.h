@@ -1,11 +1,12 @@
-/* zaulinte_book.h: the queues of one Hoare monitor (C. A. R. Hoare, CACM 17(10), 1974) and of Mesa conditions, for C99,
- * C11 and C++17.
+/* zaulinte_book.h: the queues of one Hoare monitor (C. A. R. Hoare, CACM 17(10), 1974) and of Mesa conditions, for
+ * C99, C11 and C++17.
  *
- * PROVED: each function meets its contract in crates/book_c/src/lib.rt. For every history that the book was of, it is
- * afterwards of that history with the step's events, and a refusal changes nothing. Any number may be passed, to a book
- * that is all zero, alive or freed. No call waits, and none but `make` takes memory. What the caller owes, and nothing
- * checks:
- *  - `book` points to a zaulinte_book that was all zero at first and that these functions alone wrote: never copy it;
+ * PROVED: each function meets its contract in crates/book_c/src/lib.rt. For every history that the book was of, it
+ * is afterwards of that history with the step's events, and a refusal changes nothing. Any number may be passed, to
+ * a book that is all zero, alive or freed. No call waits, and none but `make` takes memory. What the caller owes,
+ * and nothing checks:
+ *  - `book` points to a zaulinte_book that was all zero at first and that these functions alone wrote: never copy
+ *    it;
  *  - one call at a time on one book, in an order that all threads see (by a lock, or by who is inside);
  *  - no call from a signal handler. */
 #ifndef ZAULINTE_BOOK_H
@@ -43,10 +44,10 @@ uint64_t zaulinte_book_make(zaulinte_book *book, uint64_t places, uint64_t condi
 /* 0, or 107. Afterwards there is no book. */
 uint64_t zaulinte_book_free(zaulinte_book *book);
 
-/* A step. The answer is the place that is inside after it (below 64), or 64 where nobody is, or a refusal (101 to 107).
- * Whoever is handed the monitor goes on at once: a place whose `wait` or `signal` answered another one is inside again
- * exactly when a later step answers its number. Who waits with the least priority goes first, of equal ones the longest
- * waiting. Signallers come back before those that were called, and these before any newcomer. */
+/* A step. The answer is the place that is inside after it (below 64), or 64 where nobody is, or a refusal (101 to
+ * 107). Whoever is handed the monitor goes on at once: a place whose `wait` or `signal` answered another one is
+ * inside again exactly when a later step answers its number. Who waits with the least priority goes first, of equal
+ * ones the longest waiting. Signallers come back before those that were called, and these before any newcomer. */
 uint64_t zaulinte_book_enter(zaulinte_book *book, uint64_t place);
 uint64_t zaulinte_book_leave(zaulinte_book *book, uint64_t place);
 uint64_t zaulinte_book_wait(zaulinte_book *book, uint64_t place, uint64_t condition, uint64_t priority);

@@ -1,6 +1,6 @@
-/* The two names that the book takes memory by, for programs without malloc: out of one array of ZAULINTE_ROOM bytes. What
- * was taken is free again once all of it is. NOT PROVED. A book of 64 places takes some 3 KB; make and free books one at a
- * time, in one thread. */
+/* The two names that the book takes memory by, for programs without malloc: out of one array of ZAULINTE_ROOM bytes.
+ * What was taken is free again once all of it is. NOT PROVED. A book of 64 places takes some 3 KB; make and free
+ * books one at a time, in one thread. */
 #include <stdbool.h>
 #include <stddef.h>
 

@@ -1,14 +1,14 @@
 /* A running monitor over the proved book. This file is not proved.
  *
- * The door's word is a mutex of three states, for newcomers. It stays taken while the monitor is handed from place to place,
- * so that no newcomer comes between: who goes on is rung. An enter and a leave with no act between isn't told to the book,
- * since it leaves the book as it was. */
+ * The door's word is a mutex of three states, for newcomers. It stays taken while the monitor is handed from place
+ * to place, so that no newcomer comes between: who goes on is rung. An enter and a leave with no act between isn't
+ * told to the book, since it leaves the book as it was. */
 #define _GNU_SOURCE
 #include "zaulinte_monitor.h"
 #include <stddef.h>
 
 #ifndef ZAULINTE_LOOKS
-#define ZAULINTE_LOOKS 300 /* looks at a word before a thread sleeps */
+#define ZAULINTE_LOOKS 100 /* looks at a word before a thread sleeps */
 #endif
 enum { FREE, HELD, SLEPT_AT };
 enum { NOTHING, GO_ON, ASLEEP };
@@ -71,7 +71,9 @@ static void open_door(zaulinte_monitor *m) {
     if (atomic_exchange(&m->door.word, FREE) == SLEPT_AT) wake_one(&m->door);
 }
 
-static void set_inside(zaulinte_monitor *m, uint32_t is) { atomic_store_explicit(&m->inside, is, memory_order_relaxed); }
+static void set_inside(zaulinte_monitor *m, uint32_t is) {
+    atomic_store_explicit(&m->inside, is, memory_order_relaxed);
+}
 static bool is_inside(zaulinte_monitor *m, uint32_t place) {
     return place < 64 && atomic_load_explicit(&m->inside, memory_order_relaxed) == 1 + place;
 }

@@ -1,11 +1,11 @@
 /* zaulinte_monitor.h: a running monitor for threads, over the proved book. C11 or C++17.
  *
- * NOT PROVED: zaulinte_monitor.c is plain C (one word, and a bell for each place). Who goes on is asked of the proved book
- * at every step that hands the monitor on. What isn't proved: that threads follow the word, sleep and wake, and that your
- * data are touched inside only.
+ * NOT PROVED: zaulinte_monitor.c is plain C (one word, and a bell for each place). Who goes on is asked of the
+ * proved book at every step that hands the monitor on. What isn't proved: that threads follow the word, sleep and
+ * wake, and that your data are touched inside only.
  *
- * Linux has futexes; elsewhere, or with -DZAULINTE_CONDVAR, POSIX condition variables serve. Compile all that includes
- * this header with the same choice. */
+ * Linux has futexes; elsewhere, or with -DZAULINTE_CONDVAR, POSIX condition variables serve. Compile all that
+ * includes this header with the same choice. */
 #ifndef ZAULINTE_MONITOR_H
 #define ZAULINTE_MONITOR_H
 #include "zaulinte_book.h"
@@ -52,8 +52,8 @@ uint64_t zaulinte_make(zaulinte_monitor *m, uint64_t places, uint64_t conditions
 /* 0; 107 there is none; 112 a place is inside or waits. Nobody may be on its way in. */
 uint64_t zaulinte_free(zaulinte_monitor *m);
 
-/* Each answers 0, or a refusal, and then nothing happened: 101, 103 (enter: the place is inside or waits), 104 (the place
- * isn't inside), 105, 106, 107. A place's number belongs to one thread at a time. */
+/* Each answers 0, or a refusal, and then nothing happened: 101, 103 (enter: the place is inside or waits), 104 (the
+ * place isn't inside), 105, 106, 107. A place's number belongs to one thread at a time. */
 uint64_t zaulinte_enter(zaulinte_monitor *m, uint32_t place);
 /* The same, without waiting: 102 where the monitor isn't free. */
 uint64_t zaulinte_try_enter(zaulinte_monitor *m, uint32_t place);

@@ -1,7 +1,7 @@
 // zaulinte.hpp: the monitor of zaulinte_monitor.h for C++17, header only. NOT PROVED, as that one isn't.
 //
 //     enum class room { is_there };
-//     zaulinte::monitor<permits, room, 1> m{8};   // 8 places, 1 condition; zaulinte::monitor<T, C, 2, 1>: the last is a Mesa condition
+//     zaulinte::monitor<permits, room, 1> m{8};    // 8 places, 1 condition. <T, C, 2, 1>: of 2 the last is a Mesa condition
 //     zaulinte::place<decltype(m)> mine{m, 3};     // a thread's place
 //     {
 //         auto in = mine.enter();                  // inside for this scope
@@ -9,8 +9,8 @@
 //         in->free--;
 //     }                                            // it leaves
 //
-// A refused call throws `refused` with its code, and nothing happened. No destructor throws: an exception that leaves the
-// scope goes on its way, and the place leaves the monitor with the data as they are.
+// A refused call throws `refused` with its code, and nothing happened. No destructor throws: an exception that leaves
+// the scope goes on its way, and the place leaves the monitor with the data as they are.
 #pragma once
 #include "zaulinte_monitor.h"
 #include <memory>

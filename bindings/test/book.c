@@ -1,4 +1,5 @@
-/* Every answer of the book's calls: by the README's script, by refusals, and on a book that is all zero, alive or freed. */
+/* Every answer of the book's calls: by the README's script, by refusals, and on a book that is all zero, alive or
+ * freed. */
 #include "zaulinte_book.h"
 #include <inttypes.h>
 #include <stdio.h>

@@ -1,5 +1,5 @@
-/* The book's calls once more, by hand and not proved, in the place of libbook_c.a: to see that the judge finds a wrong one
- * (with -DLAST_FIRST the last of equal priority goes first), and what the proved one costs. */
+/* The book's calls once more, by hand and not proved, in the place of libbook_c.a: to see that the judge finds a
+ * wrong one (with -DLAST_FIRST the last of equal priority goes first), and what the proved one costs. */
 #include "zaulinte_book.h"
 #include <stdbool.h>
 #include <stdlib.h>

@@ -1,7 +1,8 @@
-/* Reads the log of a stress, which whoever was inside wrote line by line, and tells whether it is a legal history. It uses
- * nothing of the bindings: what is legal stands here once more, over plain lists.
+/* Reads the log of a stress, which whoever was inside wrote line by line, and tells whether it is a legal history.
+ * It uses nothing of the bindings: what is legal stands here once more, over plain lists.
  *
- * The first line is `sizes PLACES CONDITIONS MESA`, the last one `end`. Between them, with the data D of the monitor:
+ * The first line is `sizes PLACES CONDITIONS MESA`, the last one `end`. Between them, with the data D of the
+ * monitor:
  *   admit K D          wait K C P D      signal K C D (somebody waited)   pass K C D (likewise)   leave K D
  *   notify K C D       broadcast K C N D (N waited)     empty K C D (an act that found nobody)
  *   resume K C D (back from a wait)      back K D (back from a signal)
@@ -110,9 +111,11 @@ static bool reads(const char *text) {
     else if (!strcmp(kind, "leave") && many == 2) acts(k, n[1]), given_up();
     else if (!strcmp(kind, "back") && many == 2) comes(k, 'b', n[1]);
     else if (many > 2 && c >= conditions) wrong("no such condition");
-    else if (!strcmp(kind, "resume") && many == 3) comes(k, 'r', n[2]), must(due.who.condition == c, "another condition");
+    else if (!strcmp(kind, "resume") && many == 3)
+        comes(k, 'r', n[2]), must(due.who.condition == c, "another condition");
     else if (!strcmp(kind, "wait") && many == 4) acts(k, n[3]), put_last(&waiting[c], (waiter){k, c, n[2]}), given_up();
-    else if (!strcmp(kind, "signal") && many == 3) acts(k, n[2]), put_last(&signallers, (waiter){k, c, 0}), hands_over(c);
+    else if (!strcmp(kind, "signal") && many == 3)
+        acts(k, n[2]), put_last(&signallers, (waiter){k, c, 0}), hands_over(c);
     else if (!strcmp(kind, "pass") && many == 3) acts(k, n[2]), hands_over(c);
     else if (!strcmp(kind, "notify") && many == 3) acts(k, n[2]), calls_one(c);
     else if (!strcmp(kind, "broadcast") && many == 4) {

@@ -1,6 +1,6 @@
 /* Eight threads and a sweeper at one monitor of three of Hoare's conditions and a Mesa condition, with drawn waits,
- * priorities, signals, passes, notifies and broadcasts, and with misuse, which has to be refused. Who is inside writes the
- * log, and judge.c reads it: stress CALLS [SEED] | judge. */
+ * priorities, signals, passes, notifies and broadcasts, and with misuse, which has to be refused. Who is inside
+ * writes the log, and judge.c reads it: stress CALLS [SEED] | judge. */
 #define _GNU_SOURCE
 #include "zaulinte_monitor.h"
 #include <inttypes.h>

@@ -25,7 +25,8 @@ static std::uint64_t draw(std::uint64_t &seed) {
     return seed >> 33;
 }
 template <class... N> static void put(monitor::inside &in, const char *kind, unsigned place, N... n) {
-    in->events.push_back({kind, 2 + static_cast<int>(sizeof...(n)), {place, static_cast<std::uint64_t>(n)..., in->data}});
+    constexpr int many = 2 + static_cast<int>(sizeof...(n));
+    in->events.push_back({kind, many, {place, static_cast<std::uint64_t>(n)..., in->data}});
 }
 static void is(bool held) {
     if (!held) std::fputs("stress: wrong\n", stderr), std::exit(1);

@@ -1,5 +1,5 @@
-/* An alarm clock, after Hoare: wake_me waits with the time of waking for its priority; a tick wakes one whose time has come,
- * and each that wakes wakes the next. */
+/* An alarm clock, after Hoare: wake_me waits with the time of waking for its priority; a tick wakes one whose time
+ * has come, and each that wakes wakes the next. */
 #include "zaulinte_monitor.h"
 #include <pthread.h>
 #include <sched.h>

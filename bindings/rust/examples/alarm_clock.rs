@@ -1,5 +1,5 @@
-//! An alarm clock, after Hoare: who wants to be woken waits with the time of waking for its priority. A tick wakes one whose
-//! time has come, and each that wakes wakes the next.
+//! An alarm clock, after Hoare: who wants to be woken waits with the time of waking for its priority. A tick wakes
+//! one whose time has come, and each that wakes wakes the next.
 use std::thread;
 use zaulinte::{conditions, Checks, Inside, Monitor, Place};
 

@@ -1,5 +1,5 @@
-//! Readers and writers, after Hoare: readers are in together, a writer alone. Who wants to write goes before new readers, and
-//! behind a writer all readers that wait go before the next writer.
+//! Readers and writers, after Hoare: readers are in together, a writer alone. Who wants to write goes before new
+//! readers, and behind a writer all readers that wait go before the next writer.
 use std::sync::atomic::{AtomicU64, Ordering::Relaxed};
 use std::thread;
 use zaulinte::{conditions, Checks, Monitor, Place};

@@ -3,7 +3,7 @@ use std::sync::atomic::{AtomicU32, Ordering::Acquire, Ordering::SeqCst};
 use std::sync::{Condvar, Mutex, MutexGuard, PoisonError};
 
 // Looks at a word before a thread sleeps.
-const LOOKS: u32 = 300;
+const LOOKS: u32 = 100;
 
 #[repr(align(64))]
 #[derive(Default)]

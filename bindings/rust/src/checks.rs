@@ -26,12 +26,12 @@ impl<C: Condition, M: Condition> Waiting<C, M> {
     }
 }
 
-/// What holds of a monitor's data. In a debug build each is tested where Hoare's rules ask for it, and a panic names the
-/// condition or the act behind which it doesn't hold, and poisons the monitor. In a release build nothing is tested.
+/// What holds of a monitor's data. In a debug build each is tested where Hoare's rules ask for it, and a panic names
+/// the condition or the act behind which it doesn't hold, and poisons the monitor. In a release build nothing is
+/// tested.
 ///
 /// - `inv`: always, where the monitor is given up.
-/// - `rest`: where it is given up to nobody that is owed more: at a leave and at a wait, with who waits (who begins to wait
-///   included). Nobody waits without a cause.
+/// - `rest`: at a leave and at a wait, with who waits (who begins to wait included). Nobody waits without a cause.
 /// - `ready`: what who is resumed finds, with its condition and priority and who waits still.
 pub struct Checks<T, C, M> {
     /// Holds always.

@@ -8,7 +8,8 @@ use std::ops::{Deref, DerefMut};
 use std::sync::atomic::Ordering::Relaxed;
 use std::sync::LockResult;
 
-/// A place inside, with the data in hand. Where it is dropped the place leaves; in a panic it also poisons the monitor.
+/// A place inside, with the data in hand. Where it is dropped the place leaves; in a panic it also poisons the
+/// monitor.
 ///
 /// # Panics
 /// An act panics where a condition's index isn't below its enum's `COUNT`, and in a debug build where a check of
@@ -62,8 +63,9 @@ impl<'a, T, C: Condition, M: Condition> Inside<'a, T, C, M> {
         self.go_away(next);
     }
 
-    /// Gives the monitor up until a signal on the condition resumes this place: of those that wait the longest waiting of least
-    /// priority. The data are then as the signaller left them. An error where a thread panicked inside.
+    /// Gives the monitor up until a signal on the condition resumes this place: of those that wait the longest
+    /// waiting of least priority. The data are then as the signaller left them. An error where a thread panicked
+    /// inside.
     pub fn wait(&mut self, condition: C, priority: u64) -> LockResult<()> {
         self.check_wait(condition.index(), priority, &condition);
         self.wait_at(condition.index(), priority);
@@ -71,16 +73,16 @@ impl<'a, T, C: Condition, M: Condition> Inside<'a, T, C, M> {
         self.inner().told(())
     }
 
-    /// Gives the monitor up until a notify or a broadcast called this place and its turn has come. What it waited for has to be
-    /// tested again. An error where a thread panicked inside.
+    /// Gives the monitor up until a notify or a broadcast called this place and its turn has come. What it waited for
+    /// has to be tested again. An error where a thread panicked inside.
     pub fn wait_mesa(&mut self, condition: M, priority: u64) -> LockResult<()> {
         self.check_wait(C::COUNT + condition.index(), priority, &condition);
         self.wait_at(C::COUNT + condition.index(), priority);
         self.inner().told(())
     }
 
-    /// Hands the monitor to whom it resumes, if somebody waits there, and comes back before any newcomer: whether somebody did.
-    /// An error where a thread panicked inside.
+    /// Hands the monitor to whom it resumes, if somebody waits there, and comes back before any newcomer: whether
+    /// somebody did. An error where a thread panicked inside.
     pub fn signal(&mut self, condition: C) -> LockResult<bool> {
         let number = self.place.number;
         self.check_signal(condition);

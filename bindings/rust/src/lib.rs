@@ -1,8 +1,8 @@
-//! Hoare's monitor for threads ("Monitors: An Operating System Structuring Concept", CACM 17(10), 1974), over the proved
-//! queue book of Zaulinte.
+//! Hoare's monitor for threads ("Monitors: An Operating System Structuring Concept", CACM 17(10), 1974), over the
+//! proved queue book of Zaulinte.
 //!
-//! **Proved**: who goes on, at each step that hands the monitor on ([`book`], in Rattle). **Not proved**: this crate. Its
-//! word, its sleeping and its `unsafe` are Rust written by hand.
+//! **Proved**: who goes on, at each step that hands the monitor on ([`book`], in Rattle). **Not proved**: this crate.
+//! Its word, its sleeping and its `unsafe` are Rust written by hand.
 //!
 //! ```
 //! use zaulinte::{conditions, Monitor};
@@ -98,8 +98,9 @@ struct Own<T> {
     signaller: usize, // the last
 }
 
-// The door's word stays taken while the monitor is handed from place to place, so that no newcomer comes between: who goes
-// on is rung. An enter and a leave with no act between isn't told to the book, since it leaves the book as it was.
+// The door's word stays taken while the monitor is handed from place to place, so that no newcomer comes between: who
+// goes on is rung. An enter and a leave with no act between isn't told to the book, since it leaves the book as it
+// was.
 struct Inner<T, C, M> {
     door: Bell,
     bells: Box<[Bell]>,
@@ -166,8 +167,8 @@ impl<T, C, M> Inner<T, C, M> {
     }
 }
 
-/// A monitor of data `T`, with Hoare's conditions `C` and Mesa conditions `M`, 1 to 8 in all. Threads come to it by its
-/// [`Place`]s.
+/// A monitor of data `T`, with Hoare's conditions `C` and Mesa conditions `M`, 1 to 8 in all. Threads come to it by
+/// its [`Place`]s.
 pub struct Monitor<T, C, M = NoConditions>(Arc<Inner<T, C, M>>);
 
 /// A place: whoever has it may come in. It moves between threads, and can't be copied.
@@ -229,8 +230,8 @@ impl<T: Send, C: Condition, M: Condition> Place<T, C, M> {
         self.number
     }
 
-    /// Comes in, once nobody is inside, nobody was resumed or called, and no signaller waits. An error where a thread panicked
-    /// inside, with the guard in it, as of `Mutex::lock`.
+    /// Comes in, once nobody is inside, nobody was resumed or called, and no signaller waits. An error where a thread
+    /// panicked inside, with the guard in it, as of `Mutex::lock`.
     ///
     /// # Panics
     /// Where the place is inside, since an earlier guard was forgotten (`mem::forget`).

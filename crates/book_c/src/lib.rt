@@ -1,7 +1,7 @@
 //! The queue book for C: each function that C calls. `bindings/c/zaulinte_book.h` declares them.
 //!
-//! `book` is a word and two pointers of C's, all 0 at first; `alloc` is nothing to C. No function has a premise: each answers
-//! for every number, and where there is no book. A place that is answered is below 64.
+//! `book` is a word and two pointers of C's, all 0 at first; `alloc` is nothing to C. No function has a premise: each
+//! answers for every number, and where there is no book. A place that is answered is below 64.
 #![tactic(auto)]
 
 ghost use Rattle.std.specs.Prelude.{◌≡◌, ◌<◌, ◌≤◌, ◌⊎◌, Some, None};
@@ -12,14 +12,15 @@ ghost use Rattle.wait_book.specs.declared.steps.MakeRefused.{MakeRefused};
 ghost use Rattle.wait_book.specs.declared.steps.Step.TheVariants as steps;
 ghost use Rattle.wait_book.specs.Contents.{make_refusal};
 ghost use Rattle.book_handle.specs.Held.{Holds};
-ghost use Rattle.book_handle.specs.Codes.{Stepped, Tells, make_code, outside_code, queue_code, first_or, condition_code, count_or};
+ghost use Rattle.book_handle.specs.Codes.{Stepped, Tells, make_code, outside_code, queue_code};
+ghost use Rattle.book_handle.specs.Codes.{first_or, condition_code, count_or};
 
 use book_handle::place::Held;
 use std::alloc::Global;
 use wait_book::steps::Step;
 
-/// Makes a book of 1 to 64 places and 1 to 8 conditions, of which the last `mesa` are Mesa conditions; it answers 0. Refused, in
-/// this order: 108 there is one already, 109 bad places, 110 bad conditions, 111 no memory.
+/// Makes a book of 1 to 64 places and 1 to 8 conditions, of which the last `mesa` are Mesa conditions; it answers 0.
+/// Refused, in this order: 108 there is one already, 109 bad places, 110 bad conditions, 111 no memory.
 #[unsafe(no_mangle)]
 pub extern "C" fn zaulinte_book_make(
     alloc: Global,
@@ -51,7 +52,8 @@ pub extern "C" fn zaulinte_book_free(alloc: Global, book: &mut Held) -> u64
 }
 
 /// A place comes in. Who is inside then, 64 where nobody is.
-/// Refused, in this order: 107 no book, 101 no such place, 102 not free, 103 not outside. A refusal changes nothing.
+/// Refused, in this order: 107 no book, 101 no such place, 102 not free, 103 not outside.
+/// A refusal changes nothing.
 #[unsafe(no_mangle)]
 pub extern "C" fn zaulinte_book_enter(alloc: Global, book: &mut Held, place: u64) -> u64
     ensures of { (h : History (Unit {0})) → Holds book.old.live book.old.handle.value h
@@ -64,7 +66,8 @@ pub extern "C" fn zaulinte_book_enter(alloc: Global, book: &mut Held, place: u64
 }
 
 /// The place inside goes out. Who is inside then, 64 where nobody is.
-/// Refused, in this order: 107 no book, 101 no such place, 104 not inside. A refusal changes nothing.
+/// Refused, in this order: 107 no book, 101 no such place, 104 not inside.
+/// A refusal changes nothing.
 #[unsafe(no_mangle)]
 pub extern "C" fn zaulinte_book_leave(alloc: Global, book: &mut Held, place: u64) -> u64
     ensures of { (h : History (Unit {0})) → Holds book.old.live book.old.handle.value h
@@ -77,7 +80,8 @@ pub extern "C" fn zaulinte_book_leave(alloc: Global, book: &mut Held, place: u64
 }
 
 /// The place inside waits on a condition. Who is inside then, 64 where nobody is.
-/// Refused, in this order: 107 no book, 101 no such place, 104 not inside, 105 no such condition. A refusal changes nothing.
+/// Refused, in this order: 107 no book, 101 no such place, 104 not inside, 105 no such condition.
+/// A refusal changes nothing.
 #[unsafe(no_mangle)]
 pub extern "C" fn zaulinte_book_wait(
     alloc: Global,
@@ -95,8 +99,9 @@ pub extern "C" fn zaulinte_book_wait(
     book.step(alloc, Step::Wait(place, condition, priority))
 }
 
-/// The place inside signals one of Hoare's conditions. Who is inside then, 64 where nobody is.
-/// Refused, in this order: 107 no book, 101 no such place, 104 not inside, 105 no such condition, 106 a Mesa condition. A refusal changes nothing.
+/// The place inside signals one of Hoare's conditions. Who is inside then, 64 where nobody is. Refused, in this
+/// order: 107 no book, 101 no such place, 104 not inside, 105 no such condition, 106 a Mesa condition. A refusal
+/// changes nothing.
 #[unsafe(no_mangle)]
 pub extern "C" fn zaulinte_book_signal(
     alloc: Global,
@@ -114,7 +119,8 @@ pub extern "C" fn zaulinte_book_signal(
 }
 
 /// The place inside signals one of Hoare's conditions as its last act. Who is inside then, 64 where nobody is.
-/// Refused, in this order: 107 no book, 101 no such place, 104 not inside, 105 no such condition, 106 a Mesa condition. A refusal changes nothing.
+/// Refused, in this order: 107 no book, 101 no such place, 104 not inside, 105 no such condition, 106 a Mesa
+/// condition. A refusal changes nothing.
 #[unsafe(no_mangle)]
 pub extern "C" fn zaulinte_book_pass(
     alloc: Global,
@@ -132,7 +138,8 @@ pub extern "C" fn zaulinte_book_pass(
 }
 
 /// The place inside calls whom a signal on a Mesa condition would resume. Who is inside then, 64 where nobody is.
-/// Refused, in this order: 107 no book, 101 no such place, 104 not inside, 105 no such condition, 106 one of Hoare's conditions. A refusal changes nothing.
+/// Refused, in this order: 107 no book, 101 no such place, 104 not inside, 105 no such condition, 106 one of Hoare's
+/// conditions. A refusal changes nothing.
 #[unsafe(no_mangle)]
 pub extern "C" fn zaulinte_book_notify(
     alloc: Global,
@@ -149,8 +156,9 @@ pub extern "C" fn zaulinte_book_notify(
     book.step(alloc, Step::Notify(place, condition))
 }
 
-/// The place inside calls all that wait on a Mesa condition. Who is inside then, 64 where nobody is.
-/// Refused, in this order: 107 no book, 101 no such place, 104 not inside, 105 no such condition, 106 one of Hoare's conditions. A refusal changes nothing.
+/// The place inside calls all that wait on a Mesa condition. Who is inside then, 64 where nobody is. Refused, in this
+/// order: 107 no book, 101 no such place, 104 not inside, 105 no such condition, 106 one of Hoare's conditions. A
+/// refusal changes nothing.
 #[unsafe(no_mangle)]
 pub extern "C" fn zaulinte_book_broadcast(
     alloc: Global,

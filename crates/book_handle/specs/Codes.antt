@@ -35,7 +35,8 @@ make_code BadPlaces = 109
 make_code BadConditions = 110
 make_code Memory = 111
 
--- the answer tells whose turn it is after these events: the place that is inside, which is below 64, or 64 where nobody is
+-- the answer tells whose turn it is after these events: the place that is inside, which is below 64, or 64 where
+-- nobody is
 pub record Tells (h : History (Unit {0})) (code : ℕ) : Type 0 where
   pub is : code ≡ code_of (next_of (turn h.events))
   pub below : IsPlaceBelow 64 (next_of (turn h.events))
@@ -45,7 +46,8 @@ pub record Tells (h : History (Unit {0})) (code : ℕ) : Type 0 where
 pub data Stepped (h : History (Unit {0})) (step : Step) (new : Contents) (code : ℕ) : Type 0 where
   done : refusal_of h step ≡ None → IsOf new (after_step h step) → Tells (after_step h step) code
       → Stepped h step new code
-  refused : (r : StepRefused) → refusal_of h step ≡ Some r → IsOf new h → code ≡ refusal_code r → Stepped h step new code
+  refused : (r : StepRefused) → refusal_of h step ≡ Some r → IsOf new h → code ≡ refusal_code r
+      → Stepped h step new code
 
 -- whether a place is outside: 1 or 0, or 101 where there is no such place
 abbrev pub outside_code : History (Unit {0}) → ℕ → ℕ

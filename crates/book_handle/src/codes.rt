@@ -2,7 +2,8 @@
 ghost use Rattle.std.specs.Prelude.{◌≡◌, ◌<◌, ◌≤◌};
 ghost use Rattle.hoare_law.specs.declared.event.History.{History};
 ghost use Rattle.wait_book.specs.Contents.{IsOf};
-ghost use Rattle.book_handle.specs.Codes.{Stepped, Tells, make_code, outside_code, queue_code, first_or, condition_code, count_or, refusal_code};
+ghost use Rattle.book_handle.specs.Codes.{Stepped, Tells, make_code, outside_code, queue_code};
+ghost use Rattle.book_handle.specs.Codes.{first_or, condition_code, count_or, refusal_code};
 
 use hoare_law::waits::Waits;
 use wait_book::book::Book;

@@ -6,7 +6,8 @@ ghost use Rattle.hoare_law.specs.Sizes.{sizes_of};
 ghost use Rattle.wait_book.specs.declared.steps.MakeRefused.{MakeRefused};
 ghost use Rattle.wait_book.specs.Contents.{make_refusal};
 ghost use Rattle.book_handle.specs.Held.{Holds};
-ghost use Rattle.book_handle.specs.Codes.{Stepped, Tells, make_code, outside_code, queue_code, first_or, condition_code, count_or};
+ghost use Rattle.book_handle.specs.Codes.{Stepped, Tells, make_code, outside_code, queue_code};
+ghost use Rattle.book_handle.specs.Codes.{first_or, condition_code, count_or};
 
 use crate::codes;
 use crate::codes::{IS_MADE, NO_BOOK, NO_MEMORY};
@@ -17,8 +18,8 @@ use std::mem;
 use wait_book::book::Book;
 use wait_book::steps::Step;
 
-/// Where C keeps a book: all bytes 0 at first. `live` is 1 while there is one. It isn't `Drop`: a book that it holds has to
-/// be taken out.
+/// Where C keeps a book: all bytes 0 at first. `live` is 1 while there is one. It isn't `Drop`: a book that it holds
+/// has to be taken out.
 #[repr(C)]
 pub struct Held {
     live: u64,
@@ -196,7 +197,8 @@ impl Held {
         code
     }
 
-    /// Whether somebody waits on a condition: 1 or 0; and where one does, the priority of whom a signal would resume. Refused:
+    /// Whether somebody waits on a condition: 1 or 0; and where one does, the priority of whom a signal would resume.
+    /// Refused:
     /// `NO_BOOK`, `NO_CONDITION`.
     pub fn first(&mut self, alloc: Global, condition: u64, priority: &mut u64) -> u64
         ensures of { (h : History (Unit {0})) → Holds self.old.live self.old.handle.value h

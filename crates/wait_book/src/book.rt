@@ -103,6 +103,24 @@ impl Book {
         })
     }
 
+    /// How many places it has: 1 to 64.
+    pub fn places(&self) -> usize
+        ensures is { result ≡ self.now.sizes.places }
+        ensures some { 1 ≤ result }
+        ensures few { result ≤ 64 }
+    {
+        self.sizes.places
+    }
+
+    /// How many conditions it has, Mesa conditions included: 1 to 8.
+    pub fn conditions(&self) -> usize
+        ensures is { result ≡ self.now.sizes.conditions }
+        ensures some { 1 ≤ result }
+        ensures few { result ≤ 8 }
+    {
+        self.sizes.conditions
+    }
+
     /// Who goes on.
     pub fn now(&self) -> Next
         ensures turn { result ≡ next_of self.now.turn }

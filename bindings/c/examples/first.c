@@ -1,0 +1,12 @@
+/* The first answer: place 0 waits, place 1 signals, 0 is inside at once, and 1 is back when 0 leaves. */
+#include "zaulinte_book.h"
+#include <stdio.h>
+
+int main(void) {
+    zaulinte_book book = {0};
+    zaulinte_book_make(&book, 2, 1, 0);
+    zaulinte_book_enter(&book, 0), zaulinte_book_wait(&book, 0, 0, 7), zaulinte_book_enter(&book, 1);
+    printf("signal 1 0 -> %d\n", (int)zaulinte_book_signal(&book, 1, 0)); /* 0 */
+    printf("leave 0 -> %d\n", (int)zaulinte_book_leave(&book, 0));        /* 1 */
+    return (int)zaulinte_book_free(&book);
+}

@@ -1,0 +1,20 @@
+/* The two names that the book takes memory by, over malloc and free. NOT PROVED. */
+#include <stdbool.h>
+#include <stddef.h>
+#include <stdlib.h>
+
+struct tried {
+    bool is;
+    void *at;
+};
+struct tried rattle_alloc(size_t bytes, size_t align);
+void rattle_dealloc(void *at, size_t bytes, size_t align);
+
+struct tried rattle_alloc(size_t bytes, size_t align) {
+    void *at = align <= _Alignof(max_align_t) ? malloc(bytes) : NULL;
+    return (struct tried){at != NULL, at};
+}
+void rattle_dealloc(void *at, size_t bytes, size_t align) {
+    (void)bytes, (void)align;
+    free(at);
+}

@@ -1,0 +1,225 @@
+/* A running monitor over the proved book. This file is not proved.
+ *
+ * The door's word is a mutex of three states, for newcomers. It stays taken while the monitor is handed from place
+ * to place, so that no newcomer comes between: who goes on is rung. An enter and a leave with no act between isn't
+ * told to the book, since it leaves the book as it was. */
+#define _GNU_SOURCE
+#include "zaulinte_monitor.h"
+#include <stddef.h>
+
+#ifndef ZAULINTE_LOOKS
+#define ZAULINTE_LOOKS 100 /* looks at a word before a thread sleeps */
+#endif
+enum { FREE, HELD, SLEPT_AT };
+enum { NOTHING, GO_ON, ASLEEP };
+
+/* sleeping: while the word is as it was, in one step with the test */
+#ifdef ZAULINTE_CONDVAR
+static void make_bell(zaulinte_bell *b) {
+    pthread_mutex_init(&b->lock, NULL);
+    pthread_cond_init(&b->rung, NULL);
+}
+static void free_bell(zaulinte_bell *b) {
+    pthread_cond_destroy(&b->rung);
+    pthread_mutex_destroy(&b->lock);
+}
+static void sleep_while(zaulinte_bell *b, uint32_t is) {
+    pthread_mutex_lock(&b->lock);
+    while (atomic_load(&b->word) == is) pthread_cond_wait(&b->rung, &b->lock);
+    pthread_mutex_unlock(&b->lock);
+}
+static void wake_one(zaulinte_bell *b) {
+    pthread_mutex_lock(&b->lock);
+    pthread_cond_signal(&b->rung);
+    pthread_mutex_unlock(&b->lock);
+}
+#else
+#include <linux/futex.h>
+#include <sys/syscall.h>
+#include <unistd.h>
+static void make_bell(zaulinte_bell *b) { (void)b; }
+static void free_bell(zaulinte_bell *b) { (void)b; }
+static void sleep_while(zaulinte_bell *b, uint32_t is) {
+    syscall(SYS_futex, &b->word, FUTEX_WAIT_PRIVATE, is, NULL, NULL, 0);
+}
+static void wake_one(zaulinte_bell *b) { syscall(SYS_futex, &b->word, FUTEX_WAKE_PRIVATE, 1, NULL, NULL, 0); }
+#endif
+
+static void relax(void) {
+#if defined(__x86_64__) || defined(__i386__)
+    __builtin_ia32_pause();
+#endif
+}
+static bool sees(zaulinte_bell *b, uint32_t wanted) {
+    for (int i = 0; i < ZAULINTE_LOOKS; i++) {
+        if (atomic_load_explicit(&b->word, memory_order_acquire) == wanted) return true;
+        relax();
+    }
+    return false;
+}
+
+/* the door: who takes the word is the only one that runs inside */
+static bool takes(zaulinte_monitor *m) {
+    uint32_t is = FREE;
+    return atomic_compare_exchange_strong(&m->door.word, &is, HELD);
+}
+static void take(zaulinte_monitor *m) {
+    if (takes(m) || (sees(&m->door, FREE) && takes(m))) return;
+    while (atomic_exchange(&m->door.word, SLEPT_AT) != FREE) sleep_while(&m->door, SLEPT_AT);
+}
+static void open_door(zaulinte_monitor *m) {
+    if (atomic_exchange(&m->door.word, FREE) == SLEPT_AT) wake_one(&m->door);
+}
+
+static void set_inside(zaulinte_monitor *m, uint32_t is) {
+    atomic_store_explicit(&m->inside, is, memory_order_relaxed);
+}
+static bool is_inside(zaulinte_monitor *m, uint32_t place) {
+    return place < 64 && atomic_load_explicit(&m->inside, memory_order_relaxed) == 1 + place;
+}
+static uint64_t bit(uint32_t place) { return (uint64_t)1 << place; }
+
+/* whom the book names goes on; nobody: a newcomer may come in */
+static void hand_on(zaulinte_monitor *m, uint64_t next) {
+    if (next >= ZAULINTE_FREE) {
+        open_door(m);
+    } else if (atomic_exchange(&m->bell[next].word, GO_ON) == ASLEEP) {
+        wake_one(&m->bell[next]);
+    }
+}
+/* the word of the bell is changed by the sleeper from nothing to asleep, and by who rings to go on: no ring is lost */
+static void go_away(zaulinte_monitor *m, uint32_t place, uint64_t next) {
+    zaulinte_bell *mine = &m->bell[place];
+    m->away |= bit(place);
+    set_inside(m, 0);
+    hand_on(m, next);
+    if (!sees(mine, GO_ON)) {
+        uint32_t is = NOTHING;
+        if (atomic_compare_exchange_strong(&mine->word, &is, ASLEEP))
+            while (atomic_load(&mine->word) == ASLEEP) sleep_while(mine, ASLEEP);
+    }
+    atomic_store_explicit(&mine->word, NOTHING, memory_order_relaxed);
+    m->away &= ~bit(place);
+    m->told = true;
+    set_inside(m, 1 + place);
+}
+/* before an act: the place is inside, and the book knows it */
+static uint64_t may_act(zaulinte_monitor *m, uint32_t place) {
+    if (place >= 64) return ZAULINTE_NO_PLACE;
+    if (!is_inside(m, place)) return ZAULINTE_NOT_INSIDE;
+    if (m->told) return ZAULINTE_DONE;
+    uint64_t now = zaulinte_book_enter(&m->book, place);
+    if (now != place) return now;
+    m->told = true;
+    return ZAULINTE_DONE;
+}
+
+uint64_t zaulinte_make(zaulinte_monitor *m, uint64_t places, uint64_t conditions, uint64_t mesa) {
+    uint64_t refused = zaulinte_book_make(&m->book, places, conditions, mesa);
+    if (refused) return refused;
+    make_bell(&m->door);
+    for (uint64_t k = 0; k < places; k++) make_bell(&m->bell[k]);
+    m->away = places < 64 ? ~(bit((uint32_t)places) - 1) : 0; /* no such place */
+    return ZAULINTE_DONE;
+}
+uint64_t zaulinte_free(zaulinte_monitor *m) {
+    uint64_t places = zaulinte_book_places(&m->book);
+    if (places > 64) return places;
+    uint64_t none = places < 64 ? ~(bit((uint32_t)places) - 1) : 0;
+    if (atomic_load(&m->door.word) != FREE || m->away != none) return ZAULINTE_IN_USE;
+    for (uint64_t k = 0; k < places; k++) free_bell(&m->bell[k]);
+    free_bell(&m->door);
+    return zaulinte_book_free(&m->book);
+}
+
+static uint64_t not_outside(zaulinte_monitor *m, uint32_t place) {
+    uint64_t places = zaulinte_book_places(&m->book);
+    if (places > 64) return places;
+    return place < places ? ZAULINTE_NOT_OUTSIDE : ZAULINTE_NO_PLACE;
+}
+static uint64_t came_in(zaulinte_monitor *m, uint32_t place) {
+    if (m->away & bit(place) || !m->book.live) { /* it waits, there is no such place, or no book */
+        uint64_t why = not_outside(m, place);
+        open_door(m);
+        return why;
+    }
+    m->told = false;
+    set_inside(m, 1 + place);
+    return ZAULINTE_DONE;
+}
+uint64_t zaulinte_enter(zaulinte_monitor *m, uint32_t place) {
+    if (place >= 64) return ZAULINTE_NO_PLACE;
+    if (is_inside(m, place)) return ZAULINTE_NOT_OUTSIDE;
+    take(m);
+    return came_in(m, place);
+}
+uint64_t zaulinte_try_enter(zaulinte_monitor *m, uint32_t place) {
+    if (place >= 64) return ZAULINTE_NO_PLACE;
+    if (is_inside(m, place)) return ZAULINTE_NOT_OUTSIDE;
+    return takes(m) ? came_in(m, place) : ZAULINTE_NOT_FREE;
+}
+uint64_t zaulinte_leave(zaulinte_monitor *m, uint32_t place) {
+    if (place >= 64) return ZAULINTE_NO_PLACE;
+    if (!is_inside(m, place)) return ZAULINTE_NOT_INSIDE;
+    uint64_t now = m->told ? zaulinte_book_leave(&m->book, place) : ZAULINTE_FREE;
+    if (now > ZAULINTE_FREE) return now;
+    set_inside(m, 0);
+    hand_on(m, now);
+    return ZAULINTE_DONE;
+}
+uint64_t zaulinte_wait(zaulinte_monitor *m, uint32_t place, uint32_t condition, uint64_t priority) {
+    uint64_t refused = may_act(m, place);
+    if (refused) return refused;
+    uint64_t now = zaulinte_book_wait(&m->book, place, condition, priority);
+    if (now > ZAULINTE_FREE) return now;
+    go_away(m, place, now);
+    return ZAULINTE_DONE;
+}
+uint64_t zaulinte_signal(zaulinte_monitor *m, uint32_t place, uint32_t condition, bool *resumed) {
+    uint64_t refused = may_act(m, place);
+    if (refused) return refused;
+    uint64_t now = zaulinte_book_signal(&m->book, place, condition);
+    if (now > ZAULINTE_FREE) return now;
+    if (resumed) *resumed = now != place;
+    if (now != place) go_away(m, place, now);
+    return ZAULINTE_DONE;
+}
+uint64_t zaulinte_signal_leave(zaulinte_monitor *m, uint32_t place, uint32_t condition, bool *resumed) {
+    uint64_t refused = may_act(m, place);
+    if (refused) return refused;
+    bool some = zaulinte_book_queue(&m->book, condition) == 1;
+    uint64_t now = zaulinte_book_pass(&m->book, place, condition);
+    if (now > ZAULINTE_FREE) return now;
+    if (resumed) *resumed = some;
+    set_inside(m, 0);
+    hand_on(m, now);
+    return ZAULINTE_DONE;
+}
+uint64_t zaulinte_notify(zaulinte_monitor *m, uint32_t place, uint32_t condition, uint64_t *called) {
+    uint64_t refused = may_act(m, place);
+    if (refused) return refused;
+    uint64_t some = zaulinte_book_queue(&m->book, condition);
+    uint64_t now = zaulinte_book_notify(&m->book, place, condition);
+    if (now > ZAULINTE_FREE) return now;
+    if (called) *called = some;
+    return ZAULINTE_DONE;
+}
+uint64_t zaulinte_broadcast(zaulinte_monitor *m, uint32_t place, uint32_t condition, uint64_t *called) {
+    uint64_t refused = may_act(m, place), some = 0;
+    if (refused) return refused;
+    zaulinte_book_count(&m->book, condition, &some);
+    uint64_t now = zaulinte_book_broadcast(&m->book, place, condition);
+    if (now > ZAULINTE_FREE) return now;
+    if (called) *called = some;
+    return ZAULINTE_DONE;
+}
+
+uint64_t zaulinte_queue(zaulinte_monitor *m, uint32_t place, uint32_t condition) {
+    return is_inside(m, place) ? zaulinte_book_queue(&m->book, condition) : ZAULINTE_NOT_INSIDE;
+}
+uint64_t zaulinte_first(zaulinte_monitor *m, uint32_t place, uint32_t condition, uint64_t *priority) {
+    return is_inside(m, place) ? zaulinte_book_first(&m->book, condition, priority) : ZAULINTE_NOT_INSIDE;
+}
+uint64_t zaulinte_count(zaulinte_monitor *m, uint32_t place, uint32_t condition, uint64_t *count) {
+    return is_inside(m, place) ? zaulinte_book_count(&m->book, condition, count) : ZAULINTE_NOT_INSIDE;
+}

@@ -1,0 +1,176 @@
+//! The loads of bench/hoare.rs over this crate, in its form: bench/run compares them. `loads TURNS`.
+use std::sync::Mutex;
+use std::thread;
+use std::time::Instant;
+use zaulinte::{conditions, Inside, Monitor, Place};
+
+conditions! { enum On { A, B, C, D, E, F, G, H } }
+
+const ON: [On; 8] = [On::A, On::B, On::C, On::D, On::E, On::F, On::G, On::H];
+const RING: usize = 16;
+const WORKERS: usize = 8;
+
+#[derive(Default)]
+struct Data {
+    value: u64,
+    cells: [u64; RING],
+    last: usize,
+    count: usize,
+    finished: usize,
+}
+
+type User = Place<Data, On>;
+
+// Each body gets a place, and the time is shared by all turns.
+fn run(all: u64, bodies: Vec<Box<dyn FnOnce(User) + Send>>) -> (f64, Data) {
+    let (monitor, places) = Monitor::<Data, On>::new(Data::default(), bodies.len()).unwrap();
+    let start = Instant::now();
+    thread::scope(|s| {
+        for (body, place) in bodies.into_iter().zip(places) {
+            s.spawn(move || body(place));
+        }
+    });
+    (start.elapsed().as_nanos() as f64 / all as f64, monitor.into_inner().unwrap().unwrap())
+}
+
+fn contended(threads: u64, turns: u64) -> f64 {
+    let adds = move |mut user: User| (0..turns).for_each(|_| user.enter().unwrap().value += 1);
+    let (ns, data) = run(turns * threads, (0..threads).map(|_| Box::new(adds) as _).collect());
+    assert_eq!(data.value, turns * threads);
+    ns
+}
+
+fn waits(mut user: User, turns: u64) {
+    let priority = user.number() as u64;
+    let mut inside = user.enter().unwrap();
+    (0..turns).for_each(|_| inside.wait(On::A, priority).unwrap());
+}
+
+fn signals(mut user: User, turns: u64, may: fn(&mut Inside<'_, Data, On>) -> bool) {
+    let mut done = 0;
+    while done < turns {
+        let mut inside = user.enter().unwrap();
+        if may(&mut inside) {
+            inside.signal(On::A).unwrap();
+            done += 1;
+        }
+    }
+}
+
+fn waiting(threads: u64, turns: u64) -> f64 {
+    let mut bodies: Vec<Box<dyn FnOnce(User) + Send>> = vec![];
+    (0..threads).for_each(|_| bodies.push(Box::new(move |user| waits(user, turns))));
+    bodies.push(Box::new(move |user| signals(user, turns * threads, |inside| inside.queue(On::A))));
+    run(turns * threads, bodies).0
+}
+
+fn append(user: &mut User, item: u64) {
+    let mut ring = user.enter().unwrap();
+    if ring.count == RING {
+        ring.wait(On::B, 0).unwrap();
+    }
+    let last = ring.last;
+    ring.cells[last] = item;
+    ring.last = (last + 1) % RING;
+    ring.count += 1;
+    ring.signal_leave(On::A);
+}
+
+fn take(user: &mut User) -> u64 {
+    let mut ring = user.enter().unwrap();
+    if ring.count == 0 {
+        ring.wait(On::A, 0).unwrap();
+    }
+    let item = ring.cells[(ring.last + RING - ring.count) % RING];
+    ring.count -= 1;
+    ring.signal_leave(On::B);
+    item
+}
+
+fn buffer(pairs: u64, turns: u64) -> f64 {
+    static SUM: Mutex<u64> = Mutex::new(0);
+    *SUM.lock().unwrap() = 0;
+    let mut bodies: Vec<Box<dyn FnOnce(User) + Send>> = vec![];
+    for _ in 0..pairs {
+        bodies.push(Box::new(move |mut user| (0..turns).for_each(|i| append(&mut user, i))));
+        bodies.push(Box::new(move |mut user| {
+            let sum: u64 = (0..turns).map(|_| take(&mut user)).sum();
+            *SUM.lock().unwrap() += sum;
+        }));
+    }
+    let (ns, _) = run(turns * pairs, bodies);
+    assert_eq!(*SUM.lock().unwrap(), pairs * (turns * (turns - 1) / 2));
+    ns
+}
+
+fn chained(turns: u64) -> f64 {
+    let links = move |mut user: User| {
+        let me = user.number();
+        for _ in 0..turns {
+            let mut inside = user.enter().unwrap();
+            inside.wait(ON[me], 0).unwrap();
+            if me + 1 < ON.len() {
+                inside.signal(ON[me + 1]).unwrap();
+            }
+        }
+    };
+    let mut bodies: Vec<Box<dyn FnOnce(User) + Send>> = (0..ON.len()).map(|_| Box::new(links) as _).collect();
+    bodies.push(Box::new(move |user| signals(user, turns, |inside| ON.iter().all(|&on| inside.queue(on)))));
+    run(turns * ON.len() as u64, bodies).0
+}
+
+fn draw(seed: u64) -> u64 {
+    seed.wrapping_mul(6364136223846793005).wrapping_add(1442695040888963407)
+}
+
+fn visit(user: &mut User, lot: u64) {
+    let (on, mut inside) = (ON[lot as usize / 8 % 3], user.enter().unwrap());
+    inside.value += 1;
+    if lot % 8 < 3 && ON.iter().map(|&on| inside.count(on)).sum::<usize>() < WORKERS / 2 {
+        inside.wait(on, lot / 32 % 4).unwrap();
+    } else if lot % 8 < 6 && inside.queue(on) {
+        inside.signal(on).unwrap();
+    } else {
+        inside.signal_leave(on);
+        return;
+    }
+    inside.value += 1;
+}
+
+fn mixed(turns: u64) -> f64 {
+    let works = move |mut user: User| {
+        let mut lot = draw(user.number() as u64);
+        for _ in 0..turns {
+            lot = draw(lot);
+            visit(&mut user, lot / 65536);
+        }
+        user.enter().unwrap().finished += 1;
+    };
+    let mut bodies: Vec<Box<dyn FnOnce(User) + Send>> = (0..WORKERS).map(|_| Box::new(works) as _).collect();
+    bodies.push(Box::new(|mut user| {
+        for turn in 0.. {
+            let inside = user.enter().unwrap();
+            if inside.finished == WORKERS {
+                return;
+            }
+            inside.signal_leave(ON[turn % 3]);
+            thread::yield_now();
+        }
+    }));
+    run(turns * WORKERS as u64, bodies).0
+}
+
+fn main() {
+    let turns: u64 = std::env::args().nth(1).and_then(|a| a.parse().ok()).unwrap_or(1_000_000);
+    println!("enter_leave {:.0} ns", contended(1, turns));
+    for threads in [2, 4, 8] {
+        println!("enter_leave_{threads} {:.0} ns", contended(threads, turns / 10));
+    }
+    println!("hand_over {:.0} ns", waiting(1, turns / 100));
+    for pairs in [1, 4] {
+        println!("buffer_{pairs}_{pairs} {:.0} ns", buffer(pairs, turns / 100));
+    }
+    println!("waiting_16 {:.0} ns", waiting(16, turns / 1000));
+    println!("chain_8 {:.0} ns", chained(turns / 1000));
+    println!("mixed_9 {:.0} ns", mixed(turns / 1000));
+}

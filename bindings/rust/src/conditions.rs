@@ -1,0 +1,48 @@
+//! Conditions by name.
+use std::fmt::Debug;
+
+/// The conditions of a monitor: an enum of yours, whose values have the indices from 0 to below `COUNT`. The macro
+/// [`conditions!`](crate::conditions!) writes it.
+pub trait Condition: Copy + Debug {
+    /// How many there are.
+    const COUNT: usize;
+    /// The number of this one.
+    fn index(self) -> usize;
+}
+
+/// A monitor without Mesa conditions, or without Hoare's.
+#[derive(Clone, Copy, Debug)]
+pub enum None {}
+
+impl Condition for None {
+    const COUNT: usize = 0;
+    fn index(self) -> usize {
+        match self {}
+    }
+}
+
+/// An enum of conditions.
+///
+/// ```
+/// use zaulinte::{conditions, Condition};
+/// conditions! {
+///     /// Of a bounded buffer.
+///     pub enum Buffer { NotFull, NotEmpty }
+/// }
+/// assert_eq!((Buffer::COUNT, Buffer::NotEmpty.index()), (2, 1));
+/// ```
+#[macro_export]
+macro_rules! conditions {
+    ($(#[$of_enum:meta])* $sees:vis enum $name:ident { $($(#[$of_one:meta])* $one:ident),+ $(,)? }) => {
+        $(#[$of_enum])*
+        #[derive(Clone, Copy, Debug, PartialEq, Eq)]
+        $sees enum $name { $($(#[$of_one])* #[allow(missing_docs)] $one),+ }
+
+        impl $crate::Condition for $name {
+            const COUNT: usize = [$(stringify!($one)),+].len();
+            fn index(self) -> usize {
+                self as usize
+            }
+        }
+    };
+}

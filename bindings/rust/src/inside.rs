@@ -1,0 +1,243 @@
+//! A place inside.
+use crate::book::Book;
+use crate::checks::Waiting;
+use crate::conditions::Condition;
+use crate::{Inner, NoConditions, Own, Place};
+use std::marker::PhantomData;
+use std::ops::{Deref, DerefMut};
+use std::sync::atomic::Ordering::Relaxed;
+use std::sync::LockResult;
+
+/// A place inside, with the data in hand. Where it is dropped the place leaves; in a panic it also poisons the
+/// monitor.
+///
+/// # Panics
+/// An act panics where a condition's index isn't below its enum's `COUNT`, and in a debug build where a check of
+/// [`Checks`](crate::Checks) doesn't hold.
+pub struct Inside<'a, T, C: Condition, M: Condition = NoConditions> {
+    place: &'a mut Place<T, C, M>,
+    panicked: bool, // before it came in
+    stays: PhantomData<*const ()>,
+}
+
+// SAFETY: shared, it gives the data shared and nothing else
+unsafe impl<T: Send + Sync, C: Condition, M: Condition> Sync for Inside<'_, T, C, M> {}
+
+impl<'a, T, C: Condition, M: Condition> Inside<'a, T, C, M> {
+    pub(crate) fn new(place: &'a mut Place<T, C, M>) -> Self {
+        place.inside = true;
+        Inside { place, panicked: std::thread::panicking(), stays: PhantomData }
+    }
+
+    fn inner(&self) -> &Inner<T, C, M> {
+        &self.place.inner
+    }
+
+    fn own(&mut self) -> &mut Own<T> {
+        // SAFETY: it is inside, and nobody else is
+        unsafe { &mut *self.place.inner.own.get() }
+    }
+
+    // The book, which knows that the place is inside.
+    fn told_book(&mut self) -> &mut Book {
+        let number = self.place.number;
+        let own = self.own();
+        if !own.told {
+            let now = own.book.enter(number);
+            debug_assert_eq!(now, Ok(Some(number)));
+            own.told = true;
+        }
+        &mut own.book
+    }
+
+    fn go_away(&mut self, next: Option<usize>) {
+        let number = self.place.number;
+        self.inner().hand_on(next);
+        self.inner().come_back(number);
+        self.own().told = true;
+    }
+
+    fn wait_at(&mut self, condition: usize, priority: u64) {
+        let number = self.place.number;
+        let next = self.told_book().wait(number, condition, priority).unwrap_or_else(|why| panic!("{why}"));
+        self.go_away(next);
+    }
+
+    /// Gives the monitor up until a signal on the condition resumes this place: of those that wait the longest
+    /// waiting of least priority. The data are then as the signaller left them. An error where a thread panicked
+    /// inside.
+    pub fn wait(&mut self, condition: C, priority: u64) -> LockResult<()> {
+        self.check_wait(condition.index(), priority, &condition);
+        self.wait_at(condition.index(), priority);
+        self.check_ready(condition, priority);
+        self.inner().told(())
+    }
+
+    /// Gives the monitor up until a notify or a broadcast called this place and its turn has come. What it waited for
+    /// has to be tested again. An error where a thread panicked inside.
+    pub fn wait_mesa(&mut self, condition: M, priority: u64) -> LockResult<()> {
+        self.check_wait(C::COUNT + condition.index(), priority, &condition);
+        self.wait_at(C::COUNT + condition.index(), priority);
+        self.inner().told(())
+    }
+
+    /// Hands the monitor to whom it resumes, if somebody waits there, and comes back before any newcomer: whether
+    /// somebody did. An error where a thread panicked inside.
+    pub fn signal(&mut self, condition: C) -> LockResult<bool> {
+        let number = self.place.number;
+        self.check_signal(condition);
+        let next = self.told_book().signal(number, condition.index()).unwrap_or_else(|why| panic!("{why}"));
+        let somebody = next != Some(number);
+        if somebody {
+            self.own().signaller = number;
+            self.go_away(next);
+        }
+        self.inner().told(somebody)
+    }
+
+    /// A signal as the last act: whether somebody waited there.
+    pub fn signal_leave(mut self, condition: C) -> bool {
+        let number = self.place.number;
+        let somebody = self.count(condition) > 0;
+        if !somebody {
+            return false; // it leaves as it is dropped
+        }
+        self.check_signal(condition);
+        let next = self.told_book().pass(number, condition.index()).unwrap_or_else(|why| panic!("{why}"));
+        self.own().signaller = number;
+        self.place.inside = false;
+        self.inner().hand_on(next);
+        true
+    }
+
+    /// Calls whom a signal would resume, and stays inside: whether somebody waited there.
+    pub fn notify(&mut self, condition: M) -> bool {
+        let (number, index) = (self.place.number, C::COUNT + condition.index());
+        let book = self.told_book();
+        let somebody = book.count(index).is_ok_and(|count| count > 0);
+        book.notify(number, index).unwrap_or_else(|why| panic!("{why}"));
+        somebody
+    }
+
+    /// Calls all that wait there, and stays inside: how many did.
+    pub fn broadcast(&mut self, condition: M) -> usize {
+        let (number, index) = (self.place.number, C::COUNT + condition.index());
+        let book = self.told_book();
+        let count = book.count(index).unwrap_or(0);
+        book.broadcast(number, index).unwrap_or_else(|why| panic!("{why}"));
+        count
+    }
+
+    /// Whether somebody waits on one of Hoare's conditions (Hoare's `queue`).
+    pub fn queue(&mut self, condition: C) -> bool {
+        self.count(condition) > 0
+    }
+
+    /// How many wait on one of Hoare's conditions.
+    pub fn count(&mut self, condition: C) -> usize {
+        self.own().book.count(condition.index()).unwrap_or_else(|why| panic!("{why}"))
+    }
+
+    /// The priority of whom a signal would resume.
+    pub fn first(&mut self, condition: C) -> Option<u64> {
+        self.own().book.first(condition.index()).unwrap_or_else(|why| panic!("{why}"))
+    }
+
+    /// How many wait on a Mesa condition; who was called doesn't.
+    pub fn count_mesa(&mut self, condition: M) -> usize {
+        self.own().book.count(C::COUNT + condition.index()).unwrap_or_else(|why| panic!("{why}"))
+    }
+
+    /// The priority of whom a notify would call.
+    pub fn first_mesa(&mut self, condition: M) -> Option<u64> {
+        self.own().book.first(C::COUNT + condition.index()).unwrap_or_else(|why| panic!("{why}"))
+    }
+}
+
+// What a debug build tests.
+impl<T, C: Condition, M: Condition> Inside<'_, T, C, M> {
+    fn waiting(&mut self) -> Waiting<C, M> {
+        let book = &mut self.own().book;
+        let mut waiting = Waiting { counts: [0; 8], firsts: [None; 8], of: PhantomData };
+        for c in 0..book.conditions() {
+            waiting.counts[c] = book.count(c).unwrap_or(0);
+            waiting.firsts[c] = book.first(c).unwrap_or(None);
+        }
+        waiting
+    }
+
+    fn check_wait(&mut self, index: usize, priority: u64, name: &dyn std::fmt::Debug) {
+        if !cfg!(debug_assertions) || index >= 8 {
+            return;
+        }
+        let (checks, number, mut waiting) = (self.inner().checks, self.place.number, self.waiting());
+        waiting.counts[index] += 1;
+        waiting.firsts[index] = Some(waiting.firsts[index].map_or(priority, |first| first.min(priority)));
+        assert!((checks.inv)(self), "`inv` doesn't hold where place {number} waits on {name:?}");
+        assert!((checks.rest)(self, &waiting), "`rest` doesn't hold where place {number} waits on {name:?}");
+    }
+
+    fn check_signal(&mut self, condition: C) {
+        if cfg!(debug_assertions) && self.queue(condition) {
+            let (checks, number) = (self.inner().checks, self.place.number);
+            assert!((checks.inv)(self), "`inv` doesn't hold where place {number} signals {condition:?}");
+        }
+    }
+
+    // Who is resumed looks, since the queues stand then as `ready` speaks of them.
+    fn check_ready(&mut self, condition: C, priority: u64) {
+        if !cfg!(debug_assertions) || self.inner().poisoned.load(Relaxed) {
+            return;
+        }
+        let (checks, waiting, signaller) = (self.inner().checks, self.waiting(), self.own().signaller);
+        let ready = (checks.ready)(condition, priority, self, &waiting);
+        assert!(ready, "`ready` of {condition:?} doesn't hold at the signal of place {signaller}");
+    }
+
+    // The check that doesn't hold where the place leaves.
+    fn fault_at_leave(&mut self) -> Option<&'static str> {
+        if !cfg!(debug_assertions) || self.inner().poisoned.load(Relaxed) {
+            return None;
+        }
+        let (checks, waiting) = (self.inner().checks, self.waiting());
+        if !(checks.inv)(self) {
+            return Some("inv");
+        }
+        (!(checks.rest)(self, &waiting)).then_some("rest")
+    }
+}
+
+impl<T, C: Condition, M: Condition> Deref for Inside<'_, T, C, M> {
+    type Target = T;
+    fn deref(&self) -> &T {
+        // SAFETY: it is inside, and nobody else is
+        unsafe { &(*self.place.inner.own.get()).data }
+    }
+}
+
+impl<T, C: Condition, M: Condition> DerefMut for Inside<'_, T, C, M> {
+    fn deref_mut(&mut self) -> &mut T {
+        &mut self.own().data
+    }
+}
+
+impl<T, C: Condition, M: Condition> Drop for Inside<'_, T, C, M> {
+    fn drop(&mut self) {
+        if !self.place.inside {
+            return; // it passed the monitor on
+        }
+        let number = self.place.number;
+        let panics = std::thread::panicking();
+        let fault = if panics { None } else { self.fault_at_leave() };
+        if fault.is_some() || (panics && !self.panicked) {
+            self.inner().poisoned.store(true, Relaxed);
+        }
+        let own = self.own();
+        let next = if own.told { own.book.leave(number).unwrap_or(None) } else { None };
+        self.place.inside = false;
+        self.inner().hand_on(next);
+        if let Some(name) = fault {
+            panic!("`{name}` doesn't hold where place {number} leaves");
+        }
+    }
+}

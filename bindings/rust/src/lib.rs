@@ -1,0 +1,264 @@
+//! Hoare's monitor for threads ("Monitors: An Operating System Structuring Concept", CACM 17(10), 1974), over the
+//! proved queue book of Zaulinte.
+//!
+//! **Proved**: who goes on, at each step that hands the monitor on ([`book`], in Rattle). **Not proved**: this crate.
+//! Its word, its sleeping and its `unsafe` are Rust written by hand.
+//!
+//! ```
+//! use zaulinte::{conditions, Monitor};
+//! conditions! { enum When { NotEmpty } }
+//!
+//! let (monitor, places) = Monitor::<Vec<u32>, When>::new(vec![], 2)?;
+//! let [mut here, mut there] = <[_; 2]>::try_from(places).ok().unwrap();
+//! let taker = std::thread::spawn(move || {
+//!     let mut inside = there.enter().unwrap();
+//!     if inside.is_empty() {
+//!         inside.wait(When::NotEmpty, 0).unwrap(); // who signals hands the monitor over: no test again
+//!     }
+//!     inside.pop().unwrap()
+//! }); // it leaves where `inside` ends
+//! let mut inside = here.enter().unwrap();
+//! inside.push(7);
+//! inside.signal_leave(When::NotEmpty);
+//! assert_eq!(taker.join().unwrap(), 7);
+//! drop(here);
+//! assert_eq!(monitor.into_inner().unwrap().unwrap(), []);
+//! # Ok::<(), zaulinte::Refused>(())
+//! ```
+//!
+//! Two acts at once can't be written, since an act needs the guard alone:
+//!
+//! ```compile_fail,E0499
+//! # use zaulinte::{conditions, Monitor};
+//! # conditions! { enum When { Ever } }
+//! let (_monitor, mut places) = Monitor::<u32, When>::new(0, 1).unwrap();
+//! let first = places[0].enter().unwrap();
+//! let second = places[0].enter().unwrap();
+//! drop((first, second));
+//! ```
+//!
+//! Nor can a reference to the data be kept over a wait:
+//!
+//! ```compile_fail,E0499
+//! # use zaulinte::{conditions, Monitor};
+//! # conditions! { enum When { Ever } }
+//! let (_monitor, mut places) = Monitor::<u32, When>::new(0, 1).unwrap();
+//! let mut inside = places[0].enter().unwrap();
+//! let kept: &mut u32 = &mut inside;
+//! inside.wait(When::Ever, 0).unwrap();
+//! *kept = 1;
+//! ```
+//!
+//! A guard stays with its thread, and data that may not move to another thread are refused:
+//!
+//! ```compile_fail,E0277
+//! # use zaulinte::{conditions, Monitor};
+//! # conditions! { enum When { Ever } }
+//! let (_monitor, mut places) = Monitor::<u32, When>::new(0, 1).unwrap();
+//! let inside = places[0].enter().unwrap();
+//! std::thread::scope(|s| { s.spawn(move || drop(inside)); });
+//! ```
+//!
+//! ```compile_fail,E0277
+//! # use zaulinte::{conditions, Monitor};
+//! # conditions! { enum When { Ever } }
+//! let _ = Monitor::<std::rc::Rc<u32>, When>::new(std::rc::Rc::new(0), 1);
+//! ```
+mod bell;
+pub mod book;
+mod checks;
+mod conditions;
+mod heap;
+mod inside;
+
+pub use book::Refused;
+pub use checks::{Checks, Waiting};
+pub use conditions::{Condition, None as NoConditions};
+pub use inside::Inside;
+
+use bell::Bell;
+use book::Book;
+use std::cell::UnsafeCell;
+use std::sync::atomic::{AtomicBool, Ordering::Relaxed, Ordering::SeqCst};
+use std::sync::{Arc, LockResult, PoisonError};
+
+const FREE: u32 = 0;
+const HELD: u32 = 1;
+const SLEPT_AT: u32 = 2;
+
+const NOTHING: u32 = 0;
+const GO_ON: u32 = 1;
+const ASLEEP: u32 = 2;
+
+// What who is inside alone uses.
+struct Own<T> {
+    book: Book,
+    data: T,
+    told: bool,      // the book was told that the place came in
+    signaller: usize, // the last
+}
+
+// The door's word stays taken while the monitor is handed from place to place, so that no newcomer comes between: who
+// goes on is rung. An enter and a leave with no act between isn't told to the book, since it leaves the book as it
+// was.
+struct Inner<T, C, M> {
+    door: Bell,
+    bells: Box<[Bell]>,
+    poisoned: AtomicBool,
+    checks: Checks<T, C, M>,
+    own: UnsafeCell<Own<T>>,
+}
+
+// SAFETY: `own` is touched by who is inside alone, one thread at a time, so that it only moves between threads
+unsafe impl<T: Send, C, M> Sync for Inner<T, C, M> {}
+
+impl<T, C, M> Inner<T, C, M> {
+    fn takes(&self) -> bool {
+        self.door.word.compare_exchange(FREE, HELD, SeqCst, SeqCst).is_ok()
+    }
+
+    fn take(&self) {
+        if !self.takes() {
+            self.keep_trying();
+        }
+    }
+
+    #[cold]
+    fn keep_trying(&self) {
+        if self.door.sees(FREE) && self.takes() {
+            return;
+        }
+        while self.door.word.swap(SLEPT_AT, SeqCst) != FREE {
+            self.door.sleep_while(SLEPT_AT);
+        }
+    }
+
+    // Whom the book names goes on; nobody: a newcomer may come in.
+    fn hand_on(&self, next: Option<usize>) {
+        match next {
+            None => {
+                if self.door.word.swap(FREE, SeqCst) == SLEPT_AT {
+                    self.door.wake_one();
+                }
+            }
+            Some(place) => {
+                if self.bells[place].word.swap(GO_ON, SeqCst) == ASLEEP {
+                    self.bells[place].wake_one();
+                }
+            }
+        }
+    }
+
+    // Until this place is rung.
+    fn come_back(&self, place: usize) {
+        let bell = &self.bells[place];
+        if !bell.sees(GO_ON) && bell.word.compare_exchange(NOTHING, ASLEEP, SeqCst, SeqCst).is_ok() {
+            bell.sleep_while(ASLEEP);
+        }
+        bell.word.store(NOTHING, SeqCst);
+    }
+
+    fn told<R>(&self, answer: R) -> LockResult<R> {
+        if self.poisoned.load(Relaxed) {
+            Err(PoisonError::new(answer))
+        } else {
+            Ok(answer)
+        }
+    }
+}
+
+/// A monitor of data `T`, with Hoare's conditions `C` and Mesa conditions `M`, 1 to 8 in all. Threads come to it by
+/// its [`Place`]s.
+pub struct Monitor<T, C, M = NoConditions>(Arc<Inner<T, C, M>>);
+
+/// A place: whoever has it may come in. It moves between threads, and can't be copied.
+pub struct Place<T, C, M = NoConditions> {
+    inner: Arc<Inner<T, C, M>>,
+    number: usize,
+    inside: bool,
+}
+
+impl<T: Send, C: Condition, M: Condition> Monitor<T, C, M> {
+    /// A monitor with its 1 to 64 places. Refused: `BadPlaces`, `BadConditions`, `NoMemory`.
+    #[allow(clippy::type_complexity)]
+    pub fn new(data: T, places: usize) -> Result<(Self, Vec<Place<T, C, M>>), Refused> {
+        Monitor::checked(data, places, Checks::default())
+    }
+
+    /// The same, with what holds of the data, which a debug build tests.
+    #[allow(clippy::type_complexity)]
+    pub fn checked(
+        data: T,
+        places: usize,
+        checks: Checks<T, C, M>,
+    ) -> Result<(Self, Vec<Place<T, C, M>>), Refused> {
+        let book = Book::new(places, C::COUNT + M::COUNT, M::COUNT)?;
+        let inner = Arc::new(Inner {
+            door: Bell::default(),
+            bells: (0..places).map(|_| Bell::default()).collect(),
+            poisoned: AtomicBool::new(false),
+            checks,
+            own: UnsafeCell::new(Own { book, data, told: false, signaller: 0 }),
+        });
+        let all = (0..places).map(|number| Place { inner: Arc::clone(&inner), number, inside: false });
+        let all = all.collect();
+        Ok((Monitor(inner), all))
+    }
+
+    /// Whether a thread panicked inside.
+    pub fn is_poisoned(&self) -> bool {
+        self.0.poisoned.load(Relaxed)
+    }
+
+    /// Forgets that a thread panicked inside.
+    pub fn clear_poison(&self) {
+        self.0.poisoned.store(false, Relaxed);
+    }
+
+    /// The data, once each place is gone; else nothing, and the monitor stays with its places.
+    pub fn into_inner(self) -> Option<LockResult<T>> {
+        let inner = Arc::into_inner(self.0)?;
+        let poisoned = inner.poisoned.into_inner();
+        let data = inner.own.into_inner().data;
+        Some(if poisoned { Err(PoisonError::new(data)) } else { Ok(data) })
+    }
+}
+
+impl<T: Send, C: Condition, M: Condition> Place<T, C, M> {
+    /// Its number, from 0.
+    pub fn number(&self) -> usize {
+        self.number
+    }
+
+    /// Comes in, once nobody is inside, nobody was resumed or called, and no signaller waits. An error where a thread
+    /// panicked inside, with the guard in it, as of `Mutex::lock`.
+    ///
+    /// # Panics
+    /// Where the place is inside, since an earlier guard was forgotten (`mem::forget`).
+    pub fn enter(&mut self) -> LockResult<Inside<'_, T, C, M>> {
+        assert!(!self.inside, "place {} is inside: its guard was forgotten", self.number);
+        self.inner.take();
+        self.came_in()
+    }
+
+    /// The same where the monitor is free, else nothing.
+    ///
+    /// # Panics
+    /// As [`Place::enter`].
+    pub fn try_enter(&mut self) -> Option<LockResult<Inside<'_, T, C, M>>> {
+        assert!(!self.inside, "place {} is inside: its guard was forgotten", self.number);
+        self.inner.takes().then(|| self.came_in())
+    }
+
+    fn came_in(&mut self) -> LockResult<Inside<'_, T, C, M>> {
+        // SAFETY: it took the word, so it is inside
+        unsafe { (*self.inner.own.get()).told = false };
+        let poisoned = self.inner.poisoned.load(Relaxed);
+        let inside = Inside::new(self);
+        if poisoned {
+            Err(PoisonError::new(inside))
+        } else {
+            Ok(inside)
+        }
+    }
+}

@@ -1,0 +1,125 @@
+//! What is refused, what a panic leaves behind, and what a check says.
+use std::panic::{catch_unwind, AssertUnwindSafe};
+use std::thread;
+use zaulinte::{conditions, Inside, Monitor, NoConditions, Place, Refused};
+
+conditions! { enum When { Ever, Never } }
+conditions! { enum Five { A, B, C, D, E } }
+
+fn is_send<X: Send>() {}
+fn is_sync<X: Sync>() {}
+
+#[test]
+fn send_and_sync_are_as_they_must_be() {
+    is_send::<Monitor<u32, When>>();
+    is_sync::<Monitor<u32, When>>();
+    is_send::<Place<std::cell::Cell<u32>, When>>();
+    is_sync::<Place<std::cell::Cell<u32>, When>>();
+    is_sync::<Inside<'static, u32, When>>();
+}
+
+#[test]
+fn sizes_are_refused() {
+    assert_eq!(Monitor::<(), When>::new((), 0).err(), Some(Refused::BadPlaces));
+    assert_eq!(Monitor::<(), When>::new((), 65).err(), Some(Refused::BadPlaces));
+    assert_eq!(Monitor::<(), Five, Five>::new((), 1).err(), Some(Refused::BadConditions));
+    assert_eq!(Monitor::<(), NoConditions>::new((), 1).err(), Some(Refused::BadConditions));
+    assert!(Monitor::<(), When, Five>::new((), 64).is_ok());
+}
+
+#[test]
+fn a_panic_inside_poisons_and_leaves() {
+    let (monitor, mut places) = Monitor::<u32, When>::new(1, 2).unwrap();
+    let panicked = catch_unwind(AssertUnwindSafe(|| {
+        let mut inside = places[0].enter().unwrap();
+        *inside = 2;
+        panic!("inside");
+    }));
+    assert!(panicked.is_err() && monitor.is_poisoned());
+    assert_eq!(places[1].enter().map(|inside| *inside).unwrap_err().into_inner().to_owned(), 2);
+    monitor.clear_poison();
+    assert_eq!(*places[0].enter().unwrap(), 2);
+    drop(places);
+    assert_eq!(monitor.into_inner().unwrap().unwrap(), 2);
+}
+
+#[test]
+fn who_waits_hears_of_a_panic() {
+    let (_monitor, mut places) = Monitor::<bool, When>::new(false, 2).unwrap();
+    let (mut here, mut there) = (places.remove(0), places.remove(0));
+    let waiter = thread::spawn(move || {
+        let mut inside = there.enter().unwrap();
+        *inside = true;
+        inside.wait(When::Ever, 0).is_err()
+    });
+    while !*here.enter().unwrap() {
+        thread::yield_now();
+    }
+    let mut panics = || {
+        let _inside = here.enter().unwrap();
+        panic!("inside");
+    };
+    assert!(catch_unwind(AssertUnwindSafe(&mut panics)).is_err());
+    let inside = here.enter().unwrap_or_else(std::sync::PoisonError::into_inner);
+    assert!(inside.signal_leave(When::Ever));
+    assert!(waiter.join().unwrap());
+}
+
+#[test]
+fn a_forgotten_guard_is_refused() {
+    let (monitor, mut places) = Monitor::<u32, When>::new(0, 2).unwrap();
+    std::mem::forget(places[0].enter().unwrap());
+    assert!(catch_unwind(AssertUnwindSafe(|| drop(places[0].enter()))).is_err());
+    assert!(places[1].try_enter().is_none());
+    assert!(monitor.into_inner().is_none());
+}
+
+#[cfg(debug_assertions)]
+fn message(of: Box<dyn std::any::Any + Send>) -> String {
+    of.downcast_ref::<String>().cloned().unwrap_or_default()
+}
+
+#[cfg(debug_assertions)]
+#[test]
+fn checks_name_the_condition() {
+    let checks = zaulinte::Checks {
+        inv: |&s: &u32| s <= 9,
+        rest: |&s, waiting| s == 0 || waiting.count(When::Ever) == 0,
+        ready: |_, _, &s, _| s > 0,
+    };
+    let (monitor, mut places) = Monitor::<u32, When>::checked(0, 2, checks).unwrap();
+    let mut at = |act: fn(&mut Inside<'_, u32, When>)| {
+        let fault = catch_unwind(AssertUnwindSafe(|| act(&mut places[0].enter().unwrap()))).unwrap_err();
+        monitor.clear_poison();
+        message(fault)
+    };
+    assert_eq!(at(|inside| **inside = 10), "`inv` doesn't hold where place 0 leaves");
+    // the data stay as they were: 10
+    assert_eq!(at(|inside| drop(inside.wait(When::Ever, 0))), "`inv` doesn't hold where place 0 waits on Ever");
+    assert_eq!(at(|inside| **inside = 11), "`inv` doesn't hold where place 0 leaves");
+    drop(at(|inside| {
+        **inside = 1;
+        panic!("mended");
+    }));
+    assert_eq!(at(|inside| drop(inside.wait(When::Ever, 0))), "`rest` doesn't hold where place 0 waits on Ever");
+}
+
+#[cfg(debug_assertions)]
+#[test]
+fn who_is_resumed_finds_ready_or_a_panic_names_the_signaller() {
+    let ready = |_, _, &s: &u32, _: &zaulinte::Waiting<When, NoConditions>| s == 2;
+    let checks = zaulinte::Checks { ready, ..zaulinte::Checks::default() };
+    let (_monitor, mut places) = Monitor::<u32, When>::checked(0, 2, checks).unwrap();
+    let (mut there, mut here) = (places.pop().unwrap(), places.pop().unwrap());
+    let waiter = thread::spawn(move || {
+        let mut inside = there.enter().unwrap();
+        *inside = 1;
+        drop(inside.wait(When::Never, 0));
+    });
+    while *here.enter().unwrap() == 0 {
+        thread::yield_now();
+    }
+    assert!(here.enter().unwrap().signal_leave(When::Never));
+    let fault = message(waiter.join().unwrap_err());
+    assert_eq!(fault, "`ready` of Never doesn't hold at the signal of place 0");
+}

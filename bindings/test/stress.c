@@ -1,0 +1,164 @@
+/* Eight threads and a sweeper at one monitor of three of Hoare's conditions and a Mesa condition, with drawn waits,
+ * priorities, signals, passes, notifies and broadcasts, and with misuse, which has to be refused. Who is inside
+ * writes the log, and judge.c reads it: stress CALLS [SEED] | judge. */
+#define _GNU_SOURCE
+#include "zaulinte_monitor.h"
+#include <inttypes.h>
+#include <pthread.h>
+#include <sched.h>
+#include <stdio.h>
+#include <stdlib.h>
+
+enum { WORKERS = 8, PLACES = WORKERS + 1, HOARE = 3, MESA = 3, CONDITIONS = 4 };
+enum kind { ADMIT, LEAVE, BACK, RESUME, WAIT, SIGNAL, PASS, NOTIFY, BROADCAST, EMPTY, ASKED };
+static const char *const names[] = {"admit",  "leave",  "back",      "resume", "wait", "signal",
+                                    "pass",   "notify", "broadcast", "empty",  "asked"};
+typedef struct {
+    enum kind kind;
+    uint32_t place, condition;
+    uint64_t number, first, data;
+} event;
+static zaulinte_monitor m;
+static event *events;
+static size_t many, room;
+static uint64_t data, finished; /* plain: touched inside only */
+
+static void put(enum kind kind, uint32_t place, uint32_t condition, uint64_t number, uint64_t first) {
+    if (many == room) abort();
+    events[many++] = (event){kind, place, condition, number, first, data};
+}
+static void shows(void);
+static void is(uint64_t code, uint64_t wanted) {
+    if (code == wanted) return;
+    fprintf(stderr, "code %" PRIu64 " and not %" PRIu64 "\n", code, wanted);
+    shows(); /* for the judge, as far as it came */
+    exit(1);
+}
+static uint64_t draw(uint64_t *seed) {
+    *seed = *seed * 6364136223846793005u + 1442695040888963407u;
+    return *seed >> 33;
+}
+static void comes(uint32_t me) {
+    is(zaulinte_enter(&m, me), 0);
+    put(ADMIT, me, 0, 0, 0);
+    data++;
+}
+static void goes(uint32_t me) {
+    put(LEAVE, me, 0, 0, 0);
+    is(zaulinte_leave(&m, me), 0);
+}
+static bool somebody(uint32_t me, uint32_t c) { return zaulinte_queue(&m, me, c) == 1; }
+static uint64_t asks(uint32_t me, uint32_t c) {
+    uint64_t count = 0, first = 0;
+    is(zaulinte_count(&m, me, c, &count), 0);
+    is(zaulinte_first(&m, me, c, &first), count > 0);
+    put(ASKED, me, c, count, first);
+    return count;
+}
+static void waits(uint32_t me, uint32_t c, uint64_t priority) {
+    put(WAIT, me, c, priority, 0);
+    is(zaulinte_wait(&m, me, c, priority), 0);
+    put(RESUME, me, c, 0, 0);
+}
+static void signals(uint32_t me, uint32_t c) {
+    bool was = somebody(me, c), resumed = !was;
+    put(was ? SIGNAL : EMPTY, me, c, 0, 0);
+    is(zaulinte_signal(&m, me, c, &resumed), 0);
+    is(resumed, was);
+    if (was) put(BACK, me, 0, 0, 0);
+}
+static void calls(uint32_t me, bool all) {
+    uint64_t count = 0, called = 99;
+    is(zaulinte_count(&m, me, MESA, &count), 0);
+    put(!count ? EMPTY : all ? BROADCAST : NOTIFY, me, MESA, count, 0);
+    is((all ? zaulinte_broadcast : zaulinte_notify)(&m, me, MESA, &called), 0);
+    is(called, all ? count : count > 0);
+}
+static void misuses(uint32_t me, uint64_t lot) {
+    uint32_t other = (me + 1) % PLACES;
+    switch (lot % 8) {
+    case 0: is(zaulinte_wait(&m, me, CONDITIONS, 0), ZAULINTE_NO_CONDITION); break;
+    case 1: is(zaulinte_leave(&m, other), ZAULINTE_NOT_INSIDE); break;
+    case 2: is(zaulinte_enter(&m, me), ZAULINTE_NOT_OUTSIDE); break;
+    case 3: is(zaulinte_signal(&m, me, MESA, NULL), ZAULINTE_WRONG_KIND); break;
+    case 4: is(zaulinte_broadcast(&m, me, 0, NULL), ZAULINTE_WRONG_KIND); break;
+    case 5: is(zaulinte_wait(&m, UINT32_MAX, 0, 0), ZAULINTE_NO_PLACE); break;
+    case 6: is(zaulinte_try_enter(&m, other), ZAULINTE_NOT_FREE); break;
+    default: is(zaulinte_free(&m), ZAULINTE_IN_USE);
+    }
+}
+static void passes(uint32_t me, uint32_t c) {
+    bool was = somebody(me, c), resumed = !was;
+    put(was ? PASS : LEAVE, me, c, 0, 0);
+    is(zaulinte_signal_leave(&m, me, c, &resumed), 0);
+    is(resumed, was);
+}
+static void step(uint32_t me, uint64_t lot) {
+    uint64_t waiting = 0;
+    for (uint32_t c = 0; c < CONDITIONS; c++) waiting += asks(me, c);
+    uint32_t c = (uint32_t)(lot / 8 % CONDITIONS);
+    if (lot % 8 < 4 && waiting < WORKERS / 2) waits(me, c, lot / 64 % 4);
+    else if (c == MESA) calls(me, lot / 64 % 2);
+    else signals(me, c);
+    data++;
+    if (lot / 1024 % 4 == 0) misuses(me, lot / 4096);
+}
+typedef struct { uint32_t me; uint64_t visits, seed; } job;
+static void *works(void *p) {
+    job *j = p;
+    for (uint64_t i = 0; i < j->visits; i++) {
+        comes(j->me);
+        for (uint64_t steps = draw(&j->seed) % 3; steps; steps--) step(j->me, draw(&j->seed));
+        uint64_t lot = draw(&j->seed);
+        if (lot % 2) goes(j->me);
+        else passes(j->me, (uint32_t)(lot / 2 % HOARE));
+    }
+    comes(j->me);
+    finished++;
+    goes(j->me);
+    return NULL;
+}
+static void *sweeps(void *p) {
+    job *j = p;
+    for (uint32_t turn = 0;; turn++) {
+        comes(j->me);
+        if (finished == WORKERS) break;
+        if (turn % 2) calls(j->me, true);
+        passes(j->me, turn % HOARE);
+        sched_yield();
+    }
+    goes(j->me);
+    return NULL;
+}
+static void shows(void) {
+    printf("sizes %d %d 1\n", PLACES, CONDITIONS);
+    for (size_t i = 0; i < many; i++) {
+        event e = events[i];
+        printf("%s %" PRIu32, names[e.kind], e.place);
+        if (e.kind > BACK) printf(" %" PRIu32, e.condition);
+        if (e.kind == WAIT || e.kind == BROADCAST || e.kind == ASKED) printf(" %" PRIu64, e.number);
+        if (e.kind == ASKED) printf(" %" PRIu64, e.first);
+        printf(" %" PRIu64 "\n", e.data);
+    }
+    puts("end");
+}
+int main(int argc, char **argv) {
+    uint64_t wanted = argc > 1 ? strtoull(argv[1], NULL, 10) : 10000, seed = argc > 2 ? strtoull(argv[2], NULL, 10) : 1;
+    room = 64 * wanted + 1000000;
+    events = malloc(room * sizeof *events);
+    if (!events) return 2;
+    is(zaulinte_enter(&m, 0), ZAULINTE_NO_BOOK);
+    is(zaulinte_make(&m, PLACES, CONDITIONS, 1), 0);
+    pthread_t ids[PLACES];
+    job jobs[PLACES];
+    for (uint32_t k = 0; k < PLACES; k++) {
+        jobs[k] = (job){k, wanted / (WORKERS * 10), seed * 1000 + k};
+        pthread_create(&ids[k], NULL, k < WORKERS ? works : sweeps, &jobs[k]);
+    }
+    for (uint32_t k = 0; k < PLACES; k++) pthread_join(ids[k], NULL);
+    is(zaulinte_free(&m), 0);
+    is(zaulinte_enter(&m, 0), ZAULINTE_NO_BOOK);
+    shows();
+    free(events);
+    return 0;
+}

@@ -1,0 +1,141 @@
+// The stress of stress.c once more, by zaulinte.hpp. What it prints is for judge.c: stress_cpp CALLS [SEED] | judge.
+#include "zaulinte.hpp"
+#include <cstdio>
+#include <cstdlib>
+#include <string>
+#include <thread>
+#include <vector>
+
+enum class on { a, b, c, mesa };
+constexpr unsigned workers = 8, places = workers + 1, all_conditions = 4, hoare = 3;
+struct event {
+    const char *kind;
+    int many; // numbers behind the place
+    std::uint64_t number[5];
+};
+struct log {
+    std::vector<event> events;
+    std::uint64_t data = 0;
+    unsigned finished = 0;
+};
+using monitor = zaulinte::monitor<log, on, all_conditions, 1>;
+
+static std::uint64_t draw(std::uint64_t &seed) {
+    seed = seed * 6364136223846793005u + 1442695040888963407u;
+    return seed >> 33;
+}
+template <class... N> static void put(monitor::inside &in, const char *kind, unsigned place, N... n) {
+    constexpr int many = 2 + static_cast<int>(sizeof...(n));
+    in->events.push_back({kind, many, {place, static_cast<std::uint64_t>(n)..., in->data}});
+}
+static void is(bool held) {
+    if (!held) std::fputs("stress: wrong\n", stderr), std::exit(1);
+}
+template <class F> static void is_refused(std::uint64_t code, F f) {
+    std::uint64_t was = 0;
+    try {
+        f();
+    } catch (const zaulinte::refused &r) {
+        was = r.code();
+    }
+    is(was == code);
+}
+static unsigned at(on c) { return static_cast<unsigned>(c); }
+static std::uint64_t asks(monitor::inside &in, unsigned me, on c) {
+    std::uint64_t many = in.count(c);
+    auto first = in.first(c);
+    is(first.has_value() == (many > 0) && in.queue(c) == (many > 0));
+    put(in, "asked", me, at(c), many, first.value_or(0));
+    return many;
+}
+static void signals(monitor::inside &in, unsigned me, on c) {
+    bool was = in.queue(c);
+    put(in, was ? "signal" : "empty", me, at(c));
+    is(in.signal(c) == was);
+    if (was) put(in, "back", me);
+}
+static void calls(monitor::inside &in, unsigned me, bool all) {
+    std::uint64_t many = in.count(on::mesa);
+    if (all && many) put(in, "broadcast", me, at(on::mesa), many);
+    else put(in, many ? "notify" : "empty", me, at(on::mesa));
+    is(all ? in.broadcast(on::mesa) == many : in.notify(on::mesa) == (many > 0));
+}
+static void misuses(monitor &m, monitor::inside &in, unsigned me, std::uint64_t lot) {
+    switch (lot % 5) {
+    case 0: is_refused(ZAULINTE_NO_CONDITION, [&] { in.wait(static_cast<on>(9)); }); break;
+    case 1: is_refused(ZAULINTE_WRONG_KIND, [&] { in.signal(on::mesa); }); break;
+    case 2: is_refused(ZAULINTE_WRONG_KIND, [&] { in.broadcast(on::a); }); break;
+    case 3: is_refused(ZAULINTE_NOT_OUTSIDE, [&] { m.enter(me); }); break;
+    default: is(!m.try_enter((me + 1) % places));
+    }
+}
+static void step(monitor &m, monitor::inside &in, unsigned me, std::uint64_t lot) {
+    std::uint64_t waiting = 0;
+    for (unsigned c = 0; c < all_conditions; c++) waiting += asks(in, me, static_cast<on>(c));
+    on c = static_cast<on>(lot / 8 % all_conditions);
+    if (lot % 8 < 4 && waiting < workers / 2) {
+        put(in, "wait", me, at(c), lot / 64 % 4);
+        in.wait(c, lot / 64 % 4);
+        put(in, "resume", me, at(c));
+    } else if (c == on::mesa) calls(in, me, lot / 64 % 2);
+    else signals(in, me, c);
+    in->data++;
+    if (lot / 1024 % 4 == 0) misuses(m, in, me, lot / 4096);
+}
+static void passes(monitor::inside &in, unsigned me, on c) {
+    bool was = in.queue(c);
+    if (was) put(in, "pass", me, at(c));
+    else put(in, "leave", me);
+    is(in.signal_leave(c) == was);
+    is_refused(ZAULINTE_NOT_INSIDE, [&] { in.leave(); });
+}
+static void visit(monitor &m, unsigned me, std::uint64_t &seed) {
+    auto in = m.enter(me);
+    put(in, "admit", me);
+    in->data++;
+    for (std::uint64_t steps = draw(seed) % 3; steps; steps--) step(m, in, me, draw(seed));
+    std::uint64_t lot = draw(seed);
+    if (lot % 2) return passes(in, me, static_cast<on>(lot / 2 % hoare));
+    put(in, "leave", me);
+    if (lot % 4) throw lot; // it leaves all the same
+}
+static void works(monitor &m, unsigned me, std::uint64_t visits, std::uint64_t seed) {
+    for (std::uint64_t i = 0; i < visits; i++) {
+        try {
+            visit(m, me, seed);
+        } catch (std::uint64_t) {
+        }
+    }
+    auto in = m.enter(me);
+    put(in, "admit", me);
+    in->finished++;
+    put(in, "leave", me);
+}
+static void sweeps(monitor &m, unsigned me) {
+    for (unsigned turn = 0;; turn++) {
+        auto in = m.enter(me);
+        put(in, "admit", me);
+        if (in->finished == workers) return put(in, "leave", me);
+        if (turn % 2) calls(in, me, true);
+        passes(in, me, static_cast<on>(turn % hoare));
+        std::this_thread::yield();
+    }
+}
+int main(int argc, char **argv) {
+    std::uint64_t wanted = argc > 1 ? std::stoull(argv[1]) : 10000, seed = argc > 2 ? std::stoull(argv[2]) : 1;
+    is_refused(ZAULINTE_BAD_PLACES, [] { monitor none(65); });
+    monitor m(places);
+    std::vector<std::thread> threads;
+    for (unsigned k = 0; k < workers; k++)
+        threads.emplace_back([&, k] { works(m, k, wanted / (workers * 10), seed * 1000 + k); });
+    threads.emplace_back([&] { sweeps(m, workers); });
+    for (auto &t : threads) t.join();
+    auto in = m.enter(0);
+    std::printf("sizes %u %u 1\n", places, all_conditions);
+    for (const event &e : in->events) {
+        std::printf("%s", e.kind);
+        for (int i = 0; i < e.many; i++) std::printf(" %llu", static_cast<unsigned long long>(e.number[i]));
+        std::puts("");
+    }
+    std::puts("end");
+}

@@ -1,0 +1,273 @@
+//! The queue book for C: each function that C calls. `bindings/c/zaulinte_book.h` declares them.
+//!
+//! `book` is a word and two pointers of C's, all 0 at first; `alloc` is nothing to C. No function has a premise: each
+//! answers for every number, and where there is no book. A place that is answered is below 64.
+#![tactic(auto)]
+
+ghost use Rattle.std.specs.Prelude.{◌≡◌, ◌<◌, ◌≤◌, ◌⊎◌, Some, None};
+ghost use Rattle.hoare_law.specs.declared.event.History.{History};
+ghost use Rattle.hoare_law.specs.Events.{opened};
+ghost use Rattle.hoare_law.specs.Sizes.{sizes_of};
+ghost use Rattle.wait_book.specs.declared.steps.MakeRefused.{MakeRefused};
+ghost use Rattle.wait_book.specs.declared.steps.Step.TheVariants as steps;
+ghost use Rattle.wait_book.specs.Contents.{make_refusal};
+ghost use Rattle.book_handle.specs.Held.{Holds};
+ghost use Rattle.book_handle.specs.Codes.{Stepped, Tells, make_code, outside_code, queue_code};
+ghost use Rattle.book_handle.specs.Codes.{first_or, condition_code, count_or};
+
+use book_handle::place::Held;
+use std::alloc::Global;
+use wait_book::steps::Step;
+
+/// Makes a book of 1 to 64 places and 1 to 8 conditions, of which the last `mesa` are Mesa conditions; it answers 0.
+/// Refused, in this order: 108 there is one already, 109 bad places, 110 bad conditions, 111 no memory.
+#[unsafe(no_mangle)]
+pub extern "C" fn zaulinte_book_make(
+    alloc: Global,
+    book: &mut Held,
+    places: u64,
+    conditions: u64,
+    mesa: u64,
+) -> u64
+    ensures there { book.old.live ≡ 1 → (result ≡ 108) × (book.new ≡ book.old) }
+    ensures bad { book.old.live ≡ 0 → (e : MakeRefused)
+        → make_refusal (sizes_of conditions mesa places) ≡ Some e
+        → (result ≡ make_code e) × (book.new ≡ book.old) }
+    ensures made { book.old.live ≡ 0 → make_refusal (sizes_of conditions mesa places) ≡ None
+        → ((result ≡ 0)
+        × Holds book.new.live book.new.handle.value (opened (sizes_of conditions mesa places) tt))
+        ⊎ ((result ≡ 111) × (book.new ≡ book.old)) }
+{
+    book.make(alloc, places, conditions, mesa)
+}
+
+/// Frees the book; it answers 0. Refused: 107 there is none.
+#[unsafe(no_mangle)]
+pub extern "C" fn zaulinte_book_free(alloc: Global, book: &mut Held) -> u64
+    ensures freed { book.new.live ≡ 0 }
+    ensures told { book.old.live ≡ 1 → result ≡ 0 }
+    ensures none { book.old.live ≡ 0 → (result ≡ 107) × (book.new ≡ book.old) }
+{
+    book.free(alloc)
+}
+
+/// A place comes in. Who is inside then, 64 where nobody is.
+/// Refused, in this order: 107 no book, 101 no such place, 102 not free, 103 not outside.
+/// A refusal changes nothing.
+#[unsafe(no_mangle)]
+pub extern "C" fn zaulinte_book_enter(alloc: Global, book: &mut Held, place: u64) -> u64
+    ensures of { (h : History (Unit {0})) → Holds book.old.live book.old.handle.value h
+        → (book.new.live ≡ 1)
+        × Stepped h (steps.Enter place) book.new.handle.value result }
+    ensures refused { 64 < result → book.new.handle.value ≡ book.old.handle.value }
+    ensures none { book.old.live ≡ 0 → (result ≡ 107) × (book.new ≡ book.old) }
+{
+    book.step(alloc, Step::Enter(place))
+}
+
+/// The place inside goes out. Who is inside then, 64 where nobody is.
+/// Refused, in this order: 107 no book, 101 no such place, 104 not inside.
+/// A refusal changes nothing.
+#[unsafe(no_mangle)]
+pub extern "C" fn zaulinte_book_leave(alloc: Global, book: &mut Held, place: u64) -> u64
+    ensures of { (h : History (Unit {0})) → Holds book.old.live book.old.handle.value h
+        → (book.new.live ≡ 1)
+        × Stepped h (steps.Leave place) book.new.handle.value result }
+    ensures refused { 64 < result → book.new.handle.value ≡ book.old.handle.value }
+    ensures none { book.old.live ≡ 0 → (result ≡ 107) × (book.new ≡ book.old) }
+{
+    book.step(alloc, Step::Leave(place))
+}
+
+/// The place inside waits on a condition. Who is inside then, 64 where nobody is.
+/// Refused, in this order: 107 no book, 101 no such place, 104 not inside, 105 no such condition.
+/// A refusal changes nothing.
+#[unsafe(no_mangle)]
+pub extern "C" fn zaulinte_book_wait(
+    alloc: Global,
+    book: &mut Held,
+    place: u64,
+    condition: u64,
+    priority: u64,
+) -> u64
+    ensures of { (h : History (Unit {0})) → Holds book.old.live book.old.handle.value h
+        → (book.new.live ≡ 1)
+        × Stepped h (steps.Wait place condition priority) book.new.handle.value result }
+    ensures refused { 64 < result → book.new.handle.value ≡ book.old.handle.value }
+    ensures none { book.old.live ≡ 0 → (result ≡ 107) × (book.new ≡ book.old) }
+{
+    book.step(alloc, Step::Wait(place, condition, priority))
+}
+
+/// The place inside signals one of Hoare's conditions. Who is inside then, 64 where nobody is. Refused, in this
+/// order: 107 no book, 101 no such place, 104 not inside, 105 no such condition, 106 a Mesa condition. A refusal
+/// changes nothing.
+#[unsafe(no_mangle)]
+pub extern "C" fn zaulinte_book_signal(
+    alloc: Global,
+    book: &mut Held,
+    place: u64,
+    condition: u64,
+) -> u64
+    ensures of { (h : History (Unit {0})) → Holds book.old.live book.old.handle.value h
+        → (book.new.live ≡ 1)
+        × Stepped h (steps.Signal place condition) book.new.handle.value result }
+    ensures refused { 64 < result → book.new.handle.value ≡ book.old.handle.value }
+    ensures none { book.old.live ≡ 0 → (result ≡ 107) × (book.new ≡ book.old) }
+{
+    book.step(alloc, Step::Signal(place, condition))
+}
+
+/// The place inside signals one of Hoare's conditions as its last act. Who is inside then, 64 where nobody is.
+/// Refused, in this order: 107 no book, 101 no such place, 104 not inside, 105 no such condition, 106 a Mesa
+/// condition. A refusal changes nothing.
+#[unsafe(no_mangle)]
+pub extern "C" fn zaulinte_book_pass(
+    alloc: Global,
+    book: &mut Held,
+    place: u64,
+    condition: u64,
+) -> u64
+    ensures of { (h : History (Unit {0})) → Holds book.old.live book.old.handle.value h
+        → (book.new.live ≡ 1)
+        × Stepped h (steps.Pass place condition) book.new.handle.value result }
+    ensures refused { 64 < result → book.new.handle.value ≡ book.old.handle.value }
+    ensures none { book.old.live ≡ 0 → (result ≡ 107) × (book.new ≡ book.old) }
+{
+    book.step(alloc, Step::Pass(place, condition))
+}
+
+/// The place inside calls whom a signal on a Mesa condition would resume. Who is inside then, 64 where nobody is.
+/// Refused, in this order: 107 no book, 101 no such place, 104 not inside, 105 no such condition, 106 one of Hoare's
+/// conditions. A refusal changes nothing.
+#[unsafe(no_mangle)]
+pub extern "C" fn zaulinte_book_notify(
+    alloc: Global,
+    book: &mut Held,
+    place: u64,
+    condition: u64,
+) -> u64
+    ensures of { (h : History (Unit {0})) → Holds book.old.live book.old.handle.value h
+        → (book.new.live ≡ 1)
+        × Stepped h (steps.Notify place condition) book.new.handle.value result }
+    ensures refused { 64 < result → book.new.handle.value ≡ book.old.handle.value }
+    ensures none { book.old.live ≡ 0 → (result ≡ 107) × (book.new ≡ book.old) }
+{
+    book.step(alloc, Step::Notify(place, condition))
+}
+
+/// The place inside calls all that wait on a Mesa condition. Who is inside then, 64 where nobody is. Refused, in this
+/// order: 107 no book, 101 no such place, 104 not inside, 105 no such condition, 106 one of Hoare's conditions. A
+/// refusal changes nothing.
+#[unsafe(no_mangle)]
+pub extern "C" fn zaulinte_book_broadcast(
+    alloc: Global,
+    book: &mut Held,
+    place: u64,
+    condition: u64,
+) -> u64
+    ensures of { (h : History (Unit {0})) → Holds book.old.live book.old.handle.value h
+        → (book.new.live ≡ 1)
+        × Stepped h (steps.Broadcast place condition) book.new.handle.value result }
+    ensures refused { 64 < result → book.new.handle.value ≡ book.old.handle.value }
+    ensures none { book.old.live ≡ 0 → (result ≡ 107) × (book.new ≡ book.old) }
+{
+    book.step(alloc, Step::Broadcast(place, condition))
+}
+
+/// Who is inside, 64 where nobody is. Refused: 107 no book.
+#[unsafe(no_mangle)]
+pub extern "C" fn zaulinte_book_now(alloc: Global, book: &mut Held) -> u64
+    ensures of { (h : History (Unit {0})) → Holds book.old.live book.old.handle.value h
+        → Holds book.new.live book.new.handle.value h
+        × Tells h result }
+    ensures none { book.old.live ≡ 0
+        → (result ≡ 107) × (book.new ≡ book.old) }
+{
+    book.now(alloc)
+}
+
+/// How many places there are. Refused: 107 no book.
+#[unsafe(no_mangle)]
+pub extern "C" fn zaulinte_book_places(alloc: Global, book: &mut Held) -> u64
+    ensures of { (h : History (Unit {0})) → Holds book.old.live book.old.handle.value h
+        → Holds book.new.live book.new.handle.value h
+        × (result ≡ h.sizes.places) × (result ≤ 64) }
+    ensures none { book.old.live ≡ 0
+        → (result ≡ 107) × (book.new ≡ book.old) }
+{
+    book.places(alloc)
+}
+
+/// How many conditions there are, Mesa conditions included. Refused: 107 no book.
+#[unsafe(no_mangle)]
+pub extern "C" fn zaulinte_book_conditions(alloc: Global, book: &mut Held) -> u64
+    ensures of { (h : History (Unit {0})) → Holds book.old.live book.old.handle.value h
+        → Holds book.new.live book.new.handle.value h
+        × (result ≡ h.sizes.conditions) × (result ≤ 8) }
+    ensures none { book.old.live ≡ 0
+        → (result ≡ 107) × (book.new ≡ book.old) }
+{
+    book.conditions(alloc)
+}
+
+/// Whether a place is outside: 1 or 0. Refused: 107 no book, 101 no such place.
+#[unsafe(no_mangle)]
+pub extern "C" fn zaulinte_book_outside(alloc: Global, book: &mut Held, place: u64) -> u64
+    ensures of { (h : History (Unit {0})) → Holds book.old.live book.old.handle.value h
+        → Holds book.new.live book.new.handle.value h
+        × (result ≡ outside_code h place) }
+    ensures none { book.old.live ≡ 0
+        → (result ≡ 107) × (book.new ≡ book.old) }
+{
+    book.outside(alloc, place)
+}
+
+/// Whether somebody waits on a condition: 1 or 0. Refused: 107 no book, 105 no such condition.
+#[unsafe(no_mangle)]
+pub extern "C" fn zaulinte_book_queue(alloc: Global, book: &mut Held, condition: u64) -> u64
+    ensures of { (h : History (Unit {0})) → Holds book.old.live book.old.handle.value h
+        → Holds book.new.live book.new.handle.value h
+        × (result ≡ queue_code h condition) }
+    ensures none { book.old.live ≡ 0
+        → (result ≡ 107) × (book.new ≡ book.old) }
+{
+    book.queue(alloc, condition)
+}
+
+/// Whether somebody waits on a condition: 1 or 0; and where one does, the priority of whom a signal would resume.
+/// Refused: 107 no book, 105 no such condition.
+#[unsafe(no_mangle)]
+pub extern "C" fn zaulinte_book_first(
+    alloc: Global,
+    book: &mut Held,
+    condition: u64,
+    priority: &mut u64,
+) -> u64
+    ensures of { (h : History (Unit {0})) → Holds book.old.live book.old.handle.value h
+        → Holds book.new.live book.new.handle.value h
+        × (result ≡ queue_code h condition)
+        × (priority.new ≡ first_or h condition priority.old) }
+    ensures none { book.old.live ≡ 0
+        → (result ≡ 107) × (book.new ≡ book.old) × (priority.new ≡ priority.old) }
+{
+    book.first(alloc, condition, priority)
+}
+
+/// How many wait on a condition; the answer is 0. Refused: 107 no book, 105 no such condition.
+#[unsafe(no_mangle)]
+pub extern "C" fn zaulinte_book_count(
+    alloc: Global,
+    book: &mut Held,
+    condition: u64,
+    count: &mut u64,
+) -> u64
+    ensures of { (h : History (Unit {0})) → Holds book.old.live book.old.handle.value h
+        → Holds book.new.live book.new.handle.value h
+        × (result ≡ condition_code h condition)
+        × (count.new ≡ count_or h condition count.old) }
+    ensures none { book.old.live ≡ 0
+        → (result ≡ 107) × (book.new ≡ book.old) × (count.new ≡ count.old) }
+{
+    book.count(alloc, condition, count)
+}

@@ -45,8 +45,7 @@ impl Naps {
     /// It sleeps, unless one was called since.
     pub(crate) fn sleep<R: Wait>(&self, rt: &R, before: u64) {
         let low = (before % (1 << 32)) as u32;
-        self.calls
-            .park_timeout(rt, low, Duration::from_micros(NAP));
+        self.calls.park_timeout(rt, low, Duration::from_micros(NAP));
     }
 
     /// One fewer naps.

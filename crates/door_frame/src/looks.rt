@@ -24,7 +24,10 @@ pub const NEAR: u64 = 3;
 /// How often a newcomer with a ticket yields before it naps. A rotation of some threads that share a core takes less.
 pub const YIELDS: u64 = 30;
 
-/// For how many turns newcomers with tickets nap at once, after the next in turn looked for nothing. A stall costs up to a
+/// How often the next in turn looks so for nothing before cores count as busy.
+pub const STALL: u64 = 2;
+
+/// For how many turns newcomers with tickets nap at once, where cores count as busy. A stall costs up to a
 /// slice, some milliseconds; shared by so many turns it is some ten microseconds each. More turns cost more where the
 /// stall was by chance.
 pub const BUSY_TURNS: u64 = 200;

@@ -6,18 +6,53 @@
 //! wakes. Who serves a ticket calls the one that has it, since nobody else can come in.
 //!
 //! While cores are idle a yield is short, and a nap with its call is long; where all are busy a yield may cost a slice.
-//! The next in turn tells the two apart: where it has looked for long and SERVING stays, whose turn it is isn't running.
-//! Then newcomers nap in place of yields, for `BUSY_TURNS` turns.
+//! The next in turn tells the two apart: where it looked for long, yielded, looked again, and SERVING stays, whose turn
+//! it is isn't running. Then newcomers nap in place of yields, for `BUSY_TURNS` turns.
 use crate::door::TicketDoor;
 use crate::words::{SERVING, SHUT, TURN, mark_of, nap_of};
 use crossbeam_utils::CachePadded;
-use door_frame::looks::{BUSY_TURNS, NAP, NEAR, NEXT_IN_TURN, YIELDS};
+use door_frame::looks::{BUSY_TURNS, NAP, NEAR, NEXT_IN_TURN, STALL, YIELDS};
 use hoare_law::data::MonitorData;
 use std::cell::Cell;
 use std::sync::Wait;
 use std::sync::atomic::{AtomicU64, Ordering};
 use std::time::Duration;
 use std::{hint, thread};
+
+/// How a newcomer has waited since it asked.
+#[derive(Drop)]
+pub(crate) struct Patience {
+    /// How often it yielded.
+    yields: Cell<u64>,
+    /// How often it looked for nothing as the next in turn.
+    stalls: Cell<u64>,
+}
+
+impl Patience {
+    pub(crate) fn new() -> Patience {
+        Patience {
+            yields: Cell::new(0),
+            stalls: Cell::new(0),
+        }
+    }
+
+    /// One look for nothing more as the next in turn: whether that is a stall.
+    fn is_stalled(&self) -> bool {
+        let stalls = self.stalls.get().saturating_add(1);
+        self.stalls.set(stalls);
+        stalls == STALL
+    }
+
+    /// One yield more, unless it yielded often enough: whether it is to yield.
+    fn is_to_yield(&self) -> bool {
+        let yields = self.yields.get();
+        if yields >= YIELDS {
+            return false;
+        }
+        self.yields.set(yields + 1);
+        true
+    }
+}
 
 /// What the places of a door tell each other of naps. No clause speaks of it.
 #[derive(Drop)]
@@ -37,7 +72,7 @@ impl Naps {
         })
     }
 
-    /// The next in turn looked for nothing.
+    /// The next in turn looked for nothing, too often.
     fn stalled_before(&self, turn: u64) {
         let calm_from = turn.wrapping_add(TURN * BUSY_TURNS);
         self.calm_from.store(calm_from, Ordering::Relaxed);
@@ -53,21 +88,21 @@ impl Naps {
 impl<D: MonitorData> TicketDoor<D> {
     /// A newcomer that is near looks on for a while, longer the nearer it is. Then it yields, or naps where cores are busy
     /// or it has yielded often enough.
-    pub(crate) fn stand_back<R: Wait>(&self, rt: &R, turn: u64, yields: &Cell<u64>) {
+    pub(crate) fn stand_back<R: Wait>(&self, rt: &R, turn: u64, patience: &Patience) {
         let ahead = self.turns_ahead(turn);
         if 0 < ahead && ahead <= NEAR && self.look_for(turn, NEXT_IN_TURN / ahead) {
             return;
         }
-        let yielded = yields.get();
-        if yielded >= YIELDS || self.naps.is_busy(turn) {
-            self.nap(rt, turn);
-            return;
+        if !self.naps.is_busy(turn) {
+            if ahead == 1 && patience.is_stalled() {
+                self.naps.stalled_before(turn);
+            }
+            if patience.is_to_yield() {
+                thread::yield_now();
+                return;
+            }
         }
-        if ahead == 1 {
-            self.naps.stalled_before(turn);
-        }
-        yields.set(yielded + 1);
-        thread::yield_now();
+        self.nap(rt, turn);
     }
 
     /// How many turns come before this one; 0 where it is served, also while the gate is shut.

@@ -14,6 +14,7 @@ ghost use Rattle.ticket_door.specs.Asked.{IsAsking, IsServed, IsAsked, EntersBy}
 ghost use Rattle.hoare_law.specs.Admissions.{admissions};
 
 use crate::door::TicketDoor;
+use crate::naps::Patience;
 use crate::place::{Asked, TicketIn, TicketOut};
 use crate::rule::{Ask, Counting, Look};
 use crate::words::{NEXT, SERVING, served_as};
@@ -22,7 +23,6 @@ use door_frame::parcel::Parcel;
 use door_frame::plays::DoorSeat;
 use door_frame::slot::take_parcel;
 use hoare_law::data::MonitorData;
-use std::cell::Cell;
 use std::marker::Brand;
 use std::sync::Wait;
 
@@ -71,12 +71,12 @@ impl<D: MonitorData> TicketDoor<D> {
         ensures let_in { IsServed D.rest D.ready place seat.old.me seat.new.me }
     {
         let turn = served_as(ticket);
-        let yields = Cell::new(0);
+        let patience = Patience::new();
         for _ in rt.forever() {
             if self.is_served::<J>(seat, place, ticket) {
                 return;
             }
-            self.stand_back(rt, turn, &yields);
+            self.stand_back(rt, turn, &patience);
         }
         unreachable!()
     }

@@ -4,12 +4,13 @@ ghost use Rattle.disk_service.specs.Doors.{IsSeat};
 
 use crate::board::is_closed;
 use crate::doors::Doors;
+use crate::gate::Gate;
 use crate::seat::Seat;
 use std::sync::Wait;
 use timed_schedulers::alarm::Alarm;
 
-/// Ticks until the board is closed. The seat comes back.
-pub(crate) fn tick_on<R: Wait>(rt: &R, doors: &Doors, seat: Seat) -> Seat
+/// Ticks until the board is closed, with the gate's call before each tick. The seat comes back.
+pub(crate) fn tick_on<R: Wait, G: Gate>(rt: &R, gate: &G, doors: &Doors, seat: Seat) -> Seat
     requires { IsSeat doors.now seat }
     ensures of { IsSeat doors.now result }
     ensures number { result.number ≡ seat.number }
@@ -21,6 +22,7 @@ pub(crate) fn tick_on<R: Wait>(rt: &R, doors: &Doors, seat: Seat) -> Seat
         if closed {
             return seat;
         }
+        gate.tick();
         let (clock, _ticked) = Alarm::tick(&doors.clock, rt, seat.clock);
         seat.clock = clock;
     }

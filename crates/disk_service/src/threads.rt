@@ -140,7 +140,7 @@ fn with_clock<'s, 'e, R: Threads + Wait + Sync, G: Gate + Sync>(
         doors,
         number: workers,
     };
-    let Some(clock) = start_clock(scope, rt, promise, seat) else {
+    let Some(clock) = start_clock(scope, rt, gate, promise, seat) else {
         mine.let_go();
         return Err(ServiceFault::Spawn);
     };
@@ -152,9 +152,10 @@ fn with_clock<'s, 'e, R: Threads + Wait + Sync, G: Gate + Sync>(
 }
 
 // Starts the clock with this seat, on a thread of its own that promises it back.
-fn start_clock<'s, 'e, R: Threads + Wait + Sync>(
+fn start_clock<'s, 'e, R: Threads + Wait + Sync, G: Gate + Sync>(
     scope: &Scope<'s, &'e ()>,
     rt: &'e R,
+    gate: &'e G,
     promise: SeatBack<'e>,
     seat: Seat,
 ) -> Option<PromisedHandle<Seat, SeatBack<'e>>>
@@ -164,7 +165,7 @@ fn start_clock<'s, 'e, R: Threads + Wait + Sync>(
 {
     let doors = promise.doors;
     scope
-        .spawn_with(promise, move || tick_on(rt, doors, seat))
+        .spawn_with(promise, move || tick_on(rt, gate, doors, seat))
         .ok()
 }
 

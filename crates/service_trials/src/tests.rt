@@ -1,8 +1,10 @@
-//! Whole job files, two workers that meet, a job that is held up, and as many workers as there may be.
+//! Whole job files, two workers that meet, four at once, a job that is held up, a slow clock, and as many workers as there may be.
 
+mod at_once;
 mod jobs;
 mod last;
 mod limit;
 mod meeting;
 mod rows;
+mod slow_clock;
 mod workers;

@@ -55,6 +55,8 @@ impl Gate for FirstLast {
     fn end(&self, _job: usize) {
         self.ended.fetch_add(1, Ordering::SeqCst);
     }
+
+    fn tick(&self) {}
 }
 
 // As many jobs on one cylinder, for four workers.

@@ -58,6 +58,8 @@ impl Gate for Meeting {
     }
 
     fn end(&self, _job: usize) {}
+
+    fn tick(&self) {}
 }
 
 // A job for each of two workers.

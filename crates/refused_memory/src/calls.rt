@@ -2,6 +2,7 @@
 
 use crate::answer::Answer;
 use crate::noted::Noted;
+use crate::rounds::{calls_baton, calls_ticket, meets};
 use crate::services::{reads_jobs, runs, serves};
 use baton_door::door::Door;
 use disk_jobs::kind::Kind;
@@ -38,6 +39,9 @@ pub fn call<R: Threads + Wait + Sync>(rt: &R, alloc: Global, name: &[u8]) -> Ans
     if let Some(answer) = does_script(alloc, name) {
         return answer;
     }
+    if let Some(answer) = calls_door(rt, alloc, name) {
+        return answer;
+    }
     match does_service(rt, alloc, name) {
         Some(answer) => answer,
         None => Answer::Unknown,
@@ -50,6 +54,19 @@ fn makes_door(alloc: Global, name: &[u8]) -> Option<Answer> {
         b"Door::make" => Some(door_answer(Door::make(alloc, DATA, 3))),
         b"TicketDoor::make" => Some(door_answer(TicketDoor::make(alloc, DATA, 3))),
         b"laws::make_at" => Some(door_answer(make_at(alloc, DATA, 3, 5))),
+        _ => None,
+    }
+}
+
+// Each call of a door, again and again.
+fn calls_door<R: Wait>(rt: &R, alloc: Global, name: &[u8]) -> Option<Answer> {
+    match name {
+        b"calls of Door 1" => Some(calls_baton(rt, alloc, 1)),
+        b"calls of Door 1000" => Some(calls_baton(rt, alloc, 1000)),
+        b"calls of TicketDoor 1" => Some(calls_ticket(rt, alloc, 1)),
+        b"calls of TicketDoor 1000" => Some(calls_ticket(rt, alloc, 1000)),
+        b"TicketDoor::meet 1" => Some(meets(rt, alloc, 1)),
+        b"TicketDoor::meet 1000" => Some(meets(rt, alloc, 1000)),
         _ => None,
     }
 }

@@ -5,6 +5,7 @@
 mod answer;
 mod calls;
 mod noted;
+mod rounds;
 mod services;
 
 use crate::calls::call;

@@ -1,7 +1,9 @@
 //! What a place sleeps on, what wakes it, and what shows that it was woken.
 ghost use Rattle.std.specs.Prelude.{◌≡◌, true, IfOk};
 ghost use Rattle.crossbeam_utils.specs.Token.{parker_view};
+ghost use Rattle.door_frame.specs.Seats.{IsBehind};
 
+use crate::plays::DoorSeat;
 use crossbeam_utils::rule::{Outcome, Protocol};
 use crossbeam_utils::sync::parker::{Pass, RuledParker, RuledUnparker};
 use std::alloc::{AllocError, Global};
@@ -97,9 +99,11 @@ impl Sleeper {
 }
 
 impl Waker {
-    /// Wakes the place, or lets its next sleep return at once.
+    /// Wakes the place, or lets its next sleep return at once. It is for who has given the monitor up: a place that is woken
+    /// before finds nothing, and sleeps on.
     #[inline]
-    pub fn wake(&self) -> Woken
+    pub fn wake<D>(&self, seat: &DoorSeat<D>) -> Woken
+        requires given_up { IsBehind seat.now.me }
         ensures { result ≡ self.now }
     {
         let mut pass = self.unparker.pass();

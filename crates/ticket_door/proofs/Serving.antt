@@ -41,6 +41,15 @@ use Rattle.ticket_door.proofs.Turns.{taken_le, taken_free, free_next, no_admit, 
 use Rattle.ticket_door.proofs.Turns.{served_only, even_ajar, open_bit}
 
 module _ {D : Type 0} (first n : ℕ) where
+  -- NEXT is near who is served: at most one has the turn, and each place asked once
+  pub near : {log : History D} {tokens : Tokens} {ws : List ℕ} (t : Tells first n log tokens ws)
+      → admissions log.events + length t.queue ≤ t.served + n + 1
+  near {log = log} t =
+      let most = few_once t.queue n t.once t.below in
+      let d = t.due in
+      let one_turn = taken_le (turn log.events) in
+      omega (arith, most, d, one_turn)
+
   -- one more place in the queue
   asked : (log : History D) (tokens : Tokens) (ws : List ℕ) (k : ℕ) → k < n → tokens k ≡ None
       → (t : Tells first n log tokens ws)
@@ -177,12 +186,12 @@ module _ {D : Type 0} (first n : ℕ) where
         let is_ajar : t.gate ≡ ajar = even_ajar (first + t.served) (first + x) t.gate (sym t.serving ∙ hit) in
         let drew = has_ticket t.gate a t.queue k x (sym (t.tokens_are k) ∙ has) in
         let r = ticket_range a t.queue k x drew in let d = t.due in
-        let most = few_once t.queue n t.once t.below in let le1 = taken_le (turn log.events) in
+        let ahead = near t in
         let word : (2 * (first + t.served)) % 2 ^ 64 ≡ (2 * (first + x)) % 2 ^ 64 =
         open_bit (first + t.served) ∙ ap (λ (g : Gate). (2 * (first + t.served) + shut g) % 2 ^ 64) (sym is_ajar)
         ∙ sym t.serving ∙ hit in
         let now : t.served ≡ x =
-        served_only first t.served x (omega (arith, r.0, d)) (omega (arith, r.1, d, le1, most, few)) word in
+        served_only first t.served x (omega (arith, r.0, d)) (omega (arith, r.1, ahead, few)) word in
         let free : turn log.events ≡ Free = taken_free (turn log.events) (omega (arith, now, d, r.0)) in
         let none : taken (turn log.events) ≡ 0 = ap taken free in
         let here : a ≡ x = omega (arith, now, d, none) in

@@ -1,5 +1,5 @@
 -- A place that asked, as a contract sees it, and when it comes in.
-use Rattle.std.specs.Prelude.{◌≡◌, ℕ, ◌+◌, ◌%◌, ◌^◌, true, [], ◌∷◌}
+use Rattle.std.specs.Prelude.{◌≡◌, ℕ, ◌+◌, ◌%◌, ◌^◌, true, List, [], ◌∷◌}
 use Rattle.atomic_table.specs.Seated.{TableId}
 use Rattle.hoare_law.specs.declared.event.Event.{Event}
 use Rattle.hoare_law.specs.Sizes.{Kinds}
@@ -8,7 +8,7 @@ use Rattle.hoare_law.specs.Events.{with_event}
 use Rattle.hoare_law.specs.Lawful.{Rest, Ready}
 use Rattle.door_frame.specs.declared.view.View.{View}
 use Rattle.door_frame.specs.declared.view.View.TheVariants.{Places}
-use Rattle.door_frame.specs.Places.{DoorId, PlaceOut, IsOut, place_out}
+use Rattle.door_frame.specs.Places.{Berth, DoorId, PlaceOut, IsOut, door_of, place_out}
 use Rattle.door_frame.specs.Steps.{Sat}
 use Rattle.door_frame.specs.Views.{asking}
 use Rattle.hoare_law.specs.Admissions.{is_admit, admissions}
@@ -20,13 +20,13 @@ pub record TicketDoorId : Type 0 where
   pub door : DoorId
   pub first : ℕ
 
-abbrev pub ticket_door : TableId → Sizes → TicketDoorId
-ticket_door z key = record { door = record { table = z; places = key.places }; first = key.first }
+abbrev pub ticket_door : TableId → Sizes → List TableId → TicketDoorId
+ticket_door z key ws = record { door = door_of z key.places ws; first = key.first }
 
 -- a place that asked: number counts the tickets from 0, and ticket is that number with the first ticket added, modulo
 -- 2^64
 pub record PlaceAsked (D : Type 0) : Type 0 where
-  pub table : TableId
+  pub berth : Berth
   pub place : ℕ
   pub front : History D
   pub number : ℕ
@@ -41,7 +41,7 @@ module _ {D : Type 0} where
   IsAsking k f x me = me ≡ (asking k f x, [])
 
   abbrev pub as_out : PlaceAsked D → PlaceOut D
-  as_out a = place_out a.table a.place a.front
+  as_out a = place_out a.berth a.place a.front
 
   module _ (rest : Rest D) (ready : Ready D) (kinds : Kinds) where
     -- it is of the door and outside, and its ticket is of its number

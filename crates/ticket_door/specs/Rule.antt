@@ -72,7 +72,10 @@ pub record Starts (first n : ℕ) (begun : Bool) (words : List ℕ) : Type 0 whe
 -- modulo 2^64, and SERVING twice that, modulo 2^64, so that it has a bit for the gate
 pub record Tells {D : Type 0} (first n : ℕ) (log : History D) (tokens : Tokens) (words : List ℕ) : Type 0 where
   pub words_are : length words ≡ 8 * n + 16
-  -- who asked, in the order of tickets: from the number of those let in on, each once
+  -- who asked, in the order of tickets: from the number of those let in on, each once. So NEXT is at most n + 1 ahead of
+  -- who is served (`near` of proofs/Serving), whether by who asked or by who tries: n that ask, and one that has the turn.
+  -- That who asked is outside is no line, since no step asks it of the others: who comes in says it of itself, by what
+  -- it knows (`IsAsked`), and has no event that it doesn't know of
   pub queue : List ℕ
   pub once : (k : ℕ) → times k queue ≤ 1
   pub below : (k : ℕ) → 0 < times k queue → k < n

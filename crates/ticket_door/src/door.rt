@@ -9,8 +9,8 @@ ghost use Rattle.door_frame.specs.Places.{places_from, HasPlace, Closes};
 use crate::laws;
 use crate::place::TicketOut;
 use crate::rule::TicketTable;
-use crossbeam_utils::sync::Unparker;
 use door_frame::making::closed;
+use door_frame::waking::Waker;
 use hoare_law::data::MonitorData;
 use hoare_law::monitor::Monitor;
 use std::alloc::Global;
@@ -43,7 +43,7 @@ pub struct TicketDoor<D: MonitorData> {
     /// | `bell_of(k)` | `RUNG` where the monitor is owed to place k, or returns to it, else `SILENT` | who hands over, to `RUNG`; place k, to `SILENT` |
     pub(crate) table: TicketTable<D>,
     /// What wakes each place, in order.
-    pub(crate) wakers: Vec<Unparker>,
+    pub(crate) wakers: Vec<Waker>,
 }
 
 impl<D: MonitorData> Model for TicketDoor<D> {
@@ -53,7 +53,7 @@ impl<D: MonitorData> Model for TicketDoor<D> {
 
     ghost Value = { TicketDoorId };
 
-    ghost view = { λ d. ticket_door d.table.shared.table_id d.table.shared.key };
+    ghost view = { λ d. ticket_door d.table.shared.table_id d.table.shared.key d.wakers.items };
 
     ghost invariant = { λ d. Sized d.table.shared.table_id.words d.table.shared.table_id.slots
         d.table.shared.key.places (vec_len d.wakers) };
@@ -73,7 +73,7 @@ impl<D: MonitorData + Send> TicketDoor<D> {
         ensures made { IfOk result (λ r. (make_refusal (sizes_of D.CONDITIONS D.MESA places) ≡ None)
             × (r.0.door.places ≡ places) × (r.0.first ≡ 0)) }
         ensures of { IfOk result (λ r. All (⟦<TicketDoor<D> as Monitor<D>>⟧.is_of r.0) r.1.items) }
-        ensures places { IfOk result (λ r. r.1.items ≡ places_from r.0.door.table 0 places
+        ensures places { IfOk result (λ r. r.1.items ≡ places_from r.0.door 0 places
             (opened (sizes_of D.CONDITIONS D.MESA places) state)) }
         ensures returned { IfErr result (λ e. e.0 ≡ state) }
         ensures refused { IfErr result (λ e. (make_refusal (sizes_of D.CONDITIONS D.MESA places) ≡ Some e.1)
@@ -91,7 +91,7 @@ impl<D: MonitorData + Send> TicketDoor<D> {
         ensures closes { Closes D.rest D.ready (kinds_of D.CONDITIONS D.MESA) self.door outs.items result }
         ensures rest { D.rest result nobody }
     {
-        let TicketDoor { table, wakers: _ } = self;
-        closed(table, outs)
+        let TicketDoor { table, wakers } = self;
+        closed(table, wakers, outs)
     }
 }

@@ -92,12 +92,12 @@ impl<D: MonitorData> TicketDoor<D> {
         ensures place { result.place ≡ out.place }
         ensures front { result.front ≡ out.front }
     {
-        let (mut seat, place, parker) = out.into_parts();
+        let (mut seat, place, sleeper) = out.into_parts();
         let ticket = self.draw::<Brand>(&mut seat, place);
         Asked {
             seat,
             place,
-            parker,
+            sleeper,
             ticket,
         }
     }
@@ -114,11 +114,11 @@ impl<D: MonitorData> TicketDoor<D> {
         let Asked {
             mut seat,
             place,
-            parker,
+            sleeper,
             ticket,
         } = asked;
         let parcel = self.served::<Brand, R>(rt, &mut seat, place, ticket);
-        brought_in(seat, place, parker, parcel)
+        brought_in(seat, place, sleeper, parcel)
     }
 
     /// `leave`, which waits for nobody.

@@ -1,0 +1,170 @@
+//! A pool of worker permits that two classes of callers share: who is express goes before who is standard, and within a class
+//! the longest waiting goes first.
+ghost use Rattle.std.specs.Prelude.{◌≡◌, ◌<◌, ◌≤◌, ◌+◌, ◌-◌, ◌↔◌, IsTrue};
+ghost use Rattle.explorer_program.specs.Traces.{priority_of, Takes, Gives, Looks};
+
+use hoare_law::data::MonitorData;
+use hoare_law::monitor::Monitor;
+use hoare_law::waits::Waits;
+use std::sync::Wait;
+
+// The condition *a permit is free*: who takes waits there.
+const PERMIT_IS_FREE: usize = 0;
+
+/// How urgent a caller is. A class is the priority of its wait: the least goes first.
+#[derive(Clone, Copy, Debug, PartialEq, Eq)]
+pub enum Class {
+    /// It goes before all that are standard.
+    Express,
+    /// It goes after all that are express.
+    Standard,
+}
+
+impl Class {
+    fn priority(self) -> u64
+        ensures { result ≡ priority_of self }
+    {
+        match self {
+            Class::Express => 0,
+            Class::Standard => 1,
+        }
+    }
+}
+
+/// No permit is taken, so none can be given back.
+#[derive(Clone, Copy, Debug, PartialEq, Eq, thiserror::Error)]
+#[error("no permit is taken")]
+pub struct NoneTaken;
+
+/// The data of the monitor: how many permits there are, and how many of them are free.
+#[derive(Drop)]
+pub struct Permits {
+    total: u32,
+    free: u32,
+}
+
+// What holds of the data. `q` is, for each condition, the priorities of those that wait on it: `q 0` is that of `PERMIT_IS_FREE`,
+// the one condition.
+impl MonitorData for Permits {
+    ghost use Rattle.std.specs.Prelude.{◌≤◌};
+    ghost use Rattle.explorer_program.specs.Rests.{PermitsRest, PermitsReady};
+
+    const CONDITIONS: usize = 1;
+
+    ghost CONDITIONS = { 1 };
+
+    const MESA: usize = 0;
+
+    ghost MESA = { 0 };
+
+    // Always: no more permits are free than there are.
+    ghost inv = { λ s. s.free ≤ s.total };
+
+    // Whenever the monitor is given up: who waits has a cause, namely that no permit is free.
+    ghost rest = { λ s q. PermitsRest s.total s.free (q 0) };
+
+    // What a process finds that waited and is resumed: a permit is free. It may be the only one if others still wait, for it
+    // will take it, and then they have their cause again.
+    ghost ready = { λ c p s q. PermitsReady s.total s.free (q 0) };
+
+    fn rest_holds<W: Waits>(&self, lists: &W) -> bool {
+        self.free <= self.total && (lists.count(PERMIT_IS_FREE) == 0 || self.free == 0)
+    }
+
+    fn ready_holds<W: Waits>(&self, condition: usize, priority: u64, lists: &W) -> bool {
+        self.free <= self.total
+            && self.free > 0
+            && (lists.count(PERMIT_IS_FREE) == 0 || self.free == 1)
+    }
+
+    ghost rest_inv = { λ s q h. h.within };
+
+    ghost ready_inv = { λ c p s q h. h.within };
+}
+
+impl Permits {
+    /// This number of permits, all free.
+    pub fn new(total: u32) -> Permits
+        ensures { (result.total ≡ total) × (result.free ≡ total) }
+    {
+        Permits { total, free: total }
+    }
+
+    // The small changes of the data, so that a procedure reads like Hoare's.
+    fn is_none_free(&self) -> bool
+        ensures { IsTrue result ↔ (self.now.free ≡ 0) }
+    {
+        self.free == 0
+    }
+
+    pub fn is_all_free(&self) -> bool
+        ensures { IsTrue result ↔ (self.now.free ≡ self.now.total) }
+    {
+        self.free == self.total
+    }
+
+    fn take_one(&mut self)
+        requires { 0 < self.old.free }
+        ensures { self.new ≡ record self.old { free = self.old.free - 1 } }
+    {
+        self.free -= 1;
+    }
+
+    fn put_one(&mut self)
+        requires { self.old.free < self.old.total }
+        ensures { self.new ≡ record self.old { free = self.old.free + 1 } }
+    {
+        let _total = self.total; // a number of 32 bits, so that one more free permit fits
+        self.free += 1;
+    }
+
+    /// Takes a permit, once one is free for this class.
+    pub fn take<R: Wait, M: Monitor<Permits>>(m: &M, rt: &R, out: M::Out, class: Class) -> M::Out
+        requires { M.is_of m.now out }
+        ensures of { M.is_of m.now result }
+        ensures place { M.place result ≡ M.place out }
+        ensures trace { Takes (M.place out) class (M.front out) (M.front result) }
+    {
+        let mut inside = m.enter(rt, out);
+        if m.state(&inside).is_none_free() {
+            // Owed here: rest, with this process among the waiting. It has its cause: no permit is free.
+            inside = m.wait(rt, inside, PERMIT_IS_FREE, class.priority());
+            // Found here: ready, so a permit is free, without a second test.
+        }
+        M::state_mut(&mut inside, m).take_one();
+        m.leave(rt, inside)
+    }
+
+    /// Gives a permit back, and hands the monitor to whoever waits for it. Refused where no permit is taken.
+    pub fn give<R: Wait, M: Monitor<Permits>>(
+        m: &M,
+        rt: &R,
+        out: M::Out,
+    ) -> (M::Out, Result<(), NoneTaken>)
+        requires { M.is_of m.now out }
+        ensures of { M.is_of m.now result.0 }
+        ensures place { M.place result.0 ≡ M.place out }
+        ensures trace { Gives (M.place out) (M.front out) (M.front result.0) result.1 }
+    {
+        let mut inside = m.enter(rt, out);
+        if m.state(&inside).is_all_free() {
+            return (m.leave(rt, inside), Err(NoneTaken));
+        }
+        M::state_mut(&mut inside, m).put_one();
+        // Owed here: ready if somebody waits (then no permit was free before, so exactly one is now), else rest.
+        let (out, _resumed) = m.signal_leave(rt, inside, PERMIT_IS_FREE);
+        (out, Ok(()))
+    }
+
+    /// How many permits are free.
+    pub fn free<R: Wait, M: Monitor<Permits>>(m: &M, rt: &R, out: M::Out) -> (M::Out, u32)
+        requires { M.is_of m.now out }
+        ensures of { M.is_of m.now result.0 }
+        ensures place { M.place result.0 ≡ M.place out }
+        ensures trace { Looks (M.place out) (M.front out) (M.front result.0) result.1 }
+    {
+        let inside = m.enter(rt, out);
+        let free = m.state(&inside).free;
+        (m.leave(rt, inside), free)
+    }
+}

@@ -27,7 +27,7 @@ class Monitor:
 
     def give_up(self):
         if self.signallers:
-            self.inside = self.signallers.pop()
+            self.inside = self.signallers.pop(0)
         elif self.called:
             self.inside = self.called.pop(0)
         else:

@@ -27,8 +27,8 @@ impl<D: MonitorData> Door<D> {
             == FREE
     }
 
-    /// Tries a while, whenever the word is seen to be `FREE`, and spins longer and longer between the tries: whether the
-    /// place is in.
+    /// Tries a while, whenever the word is seen to be `FREE`, and spins longer and longer between the tries: whether
+    /// the place is in.
     fn try_a_while(&self, seat: &mut DoorSeat<D>) -> bool
         requires table { seat.old.table_id ≡ self.now.table }
         requires outside { IsOutside seat.old.me }

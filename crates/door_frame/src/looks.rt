@@ -1,10 +1,10 @@
-//! How long places look at a word before they sleep, and newcomers before they nap: the numbers of both doors, and their
-//! reasons. What was measured stands in docs/MEASURES.md, "How places wait".
+//! How long places look at a word before they sleep, and newcomers before they nap: the numbers of both doors, and
+//! their reasons. What was measured stands in docs/MEASURES.md, "How places wait".
 
-/// How often a place looks, with the spin hint between: a waiter or a signaller before it sleeps on its parker, and a newcomer
-/// that races for the word before it spins. A look costs some nanoseconds, and a sleep with its waking several thousand: most
-/// hand-overs come while the place still looks. Where there are fewer cores than threads, more looks take the processor from the
-/// place that is waited for.
+/// How often a place looks, with the spin hint between: a waiter or a signaller before it sleeps on its parker, and a
+/// newcomer that races for the word before it spins. A look costs some nanoseconds, and a sleep with its waking
+/// several thousand: most hand-overs come while the place still looks. Where there are fewer cores than threads, more
+/// looks take the processor from the place that is waited for.
 pub const LOOKS: u32 = 500;
 
 /// How often a newcomer that races for the word looks so, with longer and longer spins between, before it naps.
@@ -14,8 +14,9 @@ pub const TRIES: u32 = 7;
 /// the program asks for nothing else.
 pub const NAP: u64 = 100;
 
-/// How often a newcomer whose ticket is the next looks before it yields or naps. One that has n tickets to go looks an n-th
-/// as often. Exactly one thread can come in, and if it isn't running when its ticket is served, it holds up all others.
+/// How often a newcomer whose ticket is the next looks before it yields or naps. One that has n tickets to go looks
+/// an n-th as often. Exactly one thread can come in, and if it isn't running when its ticket is served, it holds up
+/// all others.
 pub const NEXT_IN_TURN: u64 = 4000;
 
 /// A newcomer that has more tickets to go than this yields or naps at once.

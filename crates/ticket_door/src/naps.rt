@@ -1,9 +1,9 @@
 //! How newcomers stand back, nap, and are called.
 //!
-//! A nap is a yield of bounded length: a newcomer whose ticket isn't served yet sleeps until it is called, and for `NAP`
-//! at most; then it looks again. No promise rests on a call. One that goes lost, since it came before the sleep, or that
-//! nobody gives, costs the rest of one nap and nothing else: who naps is outside, and looks at SERVING itself when it
-//! wakes. Who serves a ticket calls the one that has it, since nobody else can come in.
+//! A nap is a yield of bounded length: a newcomer whose ticket isn't served yet sleeps until it is called, and for
+//! `NAP` at most; then it looks again. No promise rests on a call. One that goes lost, since it came before the
+//! sleep, or that nobody gives, costs the rest of one nap and nothing else: who naps is outside, and looks at SERVING
+//! itself when it wakes. Who serves a ticket calls the one that has it, since nobody else can come in.
 //!
 //! While cores are idle a yield is short, and a nap with its call is long; where all are busy a yield may cost a slice.
 //! The next in turn tells the two apart: where it looked for long, yielded, looked again, and SERVING stays, whose turn
@@ -86,8 +86,8 @@ impl Naps {
 }
 
 impl<D: MonitorData> TicketDoor<D> {
-    /// A newcomer that is near looks on for a while, longer the nearer it is. Then it yields, or naps where cores are busy
-    /// or it has yielded often enough.
+    /// A newcomer that is near looks on for a while, longer the nearer it is. Then it yields, or naps where cores are
+    /// busy or it has yielded often enough.
     pub(crate) fn stand_back<R: Wait>(&self, rt: &R, turn: u64, patience: &Patience) {
         let ahead = self.turns_ahead(turn);
         if 0 < ahead && ahead <= NEAR && self.look_for(turn, NEXT_IN_TURN / ahead) {

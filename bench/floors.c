@@ -1,7 +1,9 @@
-/* The floors beside the columns: what the machine takes for a locked operation, for a line of the cache from one core to
-   another, for a wake by the system and for a yield. Then a plain ticket lock, for the order by tickets alone.
+/* The floors beside the columns: what the machine takes for a locked operation, for a mutex that is locked and unlocked,
+   for a line of the cache from one core to another, for a wake by the system and for a yield. Then a plain ticket lock,
+   for the order by tickets alone.
 
-     gcc -O2 -pthread -o build/floors floors.c && build/floors [TURNS] */
+     gcc -O2 -pthread -o build/floors floors.c && build/floors [TURNS]
+     build/floors --mutex [TURNS]     the mutex alone, as a row of bench/run */
 #define _GNU_SOURCE
 #include <linux/futex.h>
 #include <pthread.h>
@@ -9,6 +11,7 @@
 #include <stdint.h>
 #include <stdio.h>
 #include <stdlib.h>
+#include <string.h>
 #include <sys/syscall.h>
 #include <time.h>
 #include <unistd.h>
@@ -54,6 +57,30 @@ static void locked_operations(void) {
     EACH("a compare and exchange", uint64_t none = 0; __atomic_compare_exchange_n(&word, &none, 0, 0, __ATOMIC_SEQ_CST, __ATOMIC_SEQ_CST));
     EACH("both: an enter and a leave", uint64_t none = 0;
          __atomic_compare_exchange_n(&word, &none, 1, 0, __ATOMIC_SEQ_CST, __ATOMIC_SEQ_CST); __atomic_exchange_n(&word, 0, __ATOMIC_SEQ_CST));
+}
+
+/* a mutex, locked and unlocked by a thread that isn't the only one: in the only one the C library locks nothing */
+static pthread_mutex_t mutex = PTHREAD_MUTEX_INITIALIZER;
+static uint64_t counted;
+static void *locks(void *turns) {
+    for (uint64_t i = 0; i < (uint64_t)(uintptr_t)turns; i++) {
+        pthread_mutex_lock(&mutex);
+        counted++;
+        pthread_mutex_unlock(&mutex);
+    }
+    return NULL;
+}
+static double mutex_pair(uint64_t turns) {
+    pthread_t id;
+    double start = now();
+    pthread_create(&id, NULL, locks, (void *)(uintptr_t)turns);
+    pthread_join(id, NULL);
+    return (now() - start) / turns;
+}
+static void mutexes(void) {
+    static double all[101];
+    for (int round = 0; round < 101; round++) all[round] = mutex_pair(100000);
+    show("a mutex: a lock and an unlock", all, 101);
 }
 
 /* two threads on two cores write the line in turn */
@@ -153,8 +180,14 @@ static void tickets(int threads, uint64_t turns) {
 }
 
 int main(int argc, char **argv) {
-    uint64_t turns = argc > 1 ? strtoull(argv[1], NULL, 10) : 1000000;
+    int alone = argc > 1 && !strcmp(argv[1], "--mutex");
+    uint64_t turns = argc > 1 + alone ? strtoull(argv[1 + alone], NULL, 10) : 1000000;
+    if (alone) {
+        printf("enter_leave %.0f ns\n", mutex_pair(turns));
+        return 0;
+    }
     locked_operations();
+    mutexes();
     cpu_set_t any;
     sched_getaffinity(0, sizeof any, &any);
     for (int core = 1; core < 4 && CPU_ISSET(core, &any); core++) transfers(core);

@@ -12,7 +12,7 @@ struct tried {
     void *at;
 };
 struct tried rattle_alloc(size_t bytes, size_t align);
-void rattle_dealloc(void *at, size_t bytes, size_t align);
+void rattle_dealloc(void *at);
 size_t zaulinte_room_used(void);
 
 static _Alignas(64) unsigned char room[ZAULINTE_ROOM];
@@ -26,8 +26,8 @@ struct tried rattle_alloc(size_t bytes, size_t align) {
     pieces++;
     return (struct tried){true, room + from};
 }
-void rattle_dealloc(void *at, size_t bytes, size_t align) {
-    (void)at, (void)bytes, (void)align;
+void rattle_dealloc(void *at) {
+    (void)at;
     if (--pieces == 0) used = 0;
 }
 size_t zaulinte_room_used(void) { return used; }

@@ -8,13 +8,10 @@ struct tried {
     void *at;
 };
 struct tried rattle_alloc(size_t bytes, size_t align);
-void rattle_dealloc(void *at, size_t bytes, size_t align);
+void rattle_dealloc(void *at);
 
 struct tried rattle_alloc(size_t bytes, size_t align) {
     void *at = align <= _Alignof(max_align_t) ? malloc(bytes) : NULL;
     return (struct tried){at != NULL, at};
 }
-void rattle_dealloc(void *at, size_t bytes, size_t align) {
-    (void)bytes, (void)align;
-    free(at);
-}
+void rattle_dealloc(void *at) { free(at); }

@@ -1,15 +1,16 @@
 /* A running monitor over the proved book. This file is not proved.
  *
  * The door's word is a mutex of three states, for newcomers. It stays taken while the monitor is handed from place
- * to place, so that no newcomer comes between: who goes on is rung. An enter and a leave with no act between isn't
- * told to the book, since it leaves the book as it was. */
+ * to place, so that no newcomer comes between: who goes on is rung. The book isn't told of a visit in which nobody
+ * began to wait, was resumed or was called: its queues would stay as they are. */
 #define _GNU_SOURCE
 #include "zaulinte_monitor.h"
 #include <stddef.h>
 
 #ifndef ZAULINTE_LOOKS
-#define ZAULINTE_LOOKS 100 /* looks at a word before a thread sleeps */
+#define ZAULINTE_LOOKS 500 /* looks at a word before a thread sleeps, at the most */
 #endif
+enum { FEWEST_LOOKS = 20, LONG_EACH = 8 };
 enum { FREE, HELD, SLEPT_AT };
 enum { NOTHING, GO_ON, ASLEEP };
 
@@ -50,11 +51,19 @@ static void relax(void) {
     __builtin_ia32_pause();
 #endif
 }
+/* To look pays where the other has a core at once, and is lost where the cores are busy. So what was looked for in vain
+ * halves the thread's next looks; what was seen makes them many again, and so does each eighth time. */
+static _Thread_local uint32_t looks = ZAULINTE_LOOKS, times;
 static bool sees(zaulinte_bell *b, uint32_t wanted) {
-    for (int i = 0; i < ZAULINTE_LOOKS; i++) {
-        if (atomic_load_explicit(&b->word, memory_order_acquire) == wanted) return true;
+    uint32_t most = ++times % LONG_EACH == 0 ? ZAULINTE_LOOKS : looks;
+    for (uint32_t i = 0; i < most; i++) {
+        if (atomic_load_explicit(&b->word, memory_order_acquire) == wanted) {
+            looks = ZAULINTE_LOOKS;
+            return true;
+        }
         relax();
     }
+    looks = looks / 2 > FEWEST_LOOKS ? looks / 2 : FEWEST_LOOKS;
     return false;
 }
 
@@ -103,6 +112,10 @@ static void go_away(zaulinte_monitor *m, uint32_t place, uint64_t next) {
     m->told = true;
     set_inside(m, 1 + place);
 }
+/* whether an act on this condition, of this kind, finds nobody */
+static bool finds_nobody(zaulinte_monitor *m, uint32_t place, uint32_t condition, bool mesa) {
+    return is_inside(m, place) && (condition >= m->hoare) == mesa && zaulinte_book_queue(&m->book, condition) == 0;
+}
 /* before an act: the place is inside, and the book knows it */
 static uint64_t may_act(zaulinte_monitor *m, uint32_t place) {
     if (place >= 64) return ZAULINTE_NO_PLACE;
@@ -120,6 +133,7 @@ uint64_t zaulinte_make(zaulinte_monitor *m, uint64_t places, uint64_t conditions
     make_bell(&m->door);
     for (uint64_t k = 0; k < places; k++) make_bell(&m->bell[k]);
     m->away = places < 64 ? ~(bit((uint32_t)places) - 1) : 0; /* no such place */
+    m->hoare = (uint32_t)(conditions - mesa);
     return ZAULINTE_DONE;
 }
 uint64_t zaulinte_free(zaulinte_monitor *m) {
@@ -175,43 +189,47 @@ uint64_t zaulinte_wait(zaulinte_monitor *m, uint32_t place, uint32_t condition, 
     go_away(m, place, now);
     return ZAULINTE_DONE;
 }
+static uint64_t told(bool *resumed, bool is) {
+    if (resumed) *resumed = is;
+    return ZAULINTE_DONE;
+}
 uint64_t zaulinte_signal(zaulinte_monitor *m, uint32_t place, uint32_t condition, bool *resumed) {
+    if (finds_nobody(m, place, condition, false)) return told(resumed, false);
     uint64_t refused = may_act(m, place);
     if (refused) return refused;
     uint64_t now = zaulinte_book_signal(&m->book, place, condition);
     if (now > ZAULINTE_FREE) return now;
-    if (resumed) *resumed = now != place;
-    if (now != place) go_away(m, place, now);
-    return ZAULINTE_DONE;
+    go_away(m, place, now);
+    return told(resumed, true);
 }
 uint64_t zaulinte_signal_leave(zaulinte_monitor *m, uint32_t place, uint32_t condition, bool *resumed) {
+    if (finds_nobody(m, place, condition, false)) return zaulinte_leave(m, place), told(resumed, false);
     uint64_t refused = may_act(m, place);
     if (refused) return refused;
-    bool some = zaulinte_book_queue(&m->book, condition) == 1;
     uint64_t now = zaulinte_book_pass(&m->book, place, condition);
     if (now > ZAULINTE_FREE) return now;
-    if (resumed) *resumed = some;
     set_inside(m, 0);
     hand_on(m, now);
+    return told(resumed, true);
+}
+/* a notify of one, or a broadcast to all */
+static uint64_t calls(zaulinte_monitor *m, uint32_t place, uint32_t condition, bool all, uint64_t *called) {
+    uint64_t many = 0;
+    if (!finds_nobody(m, place, condition, true)) {
+        uint64_t refused = may_act(m, place);
+        if (refused) return refused;
+        zaulinte_book_count(&m->book, condition, &many);
+        uint64_t now = (all ? zaulinte_book_broadcast : zaulinte_book_notify)(&m->book, place, condition);
+        if (now > ZAULINTE_FREE) return now;
+    }
+    if (called) *called = all || !many ? many : 1;
     return ZAULINTE_DONE;
 }
 uint64_t zaulinte_notify(zaulinte_monitor *m, uint32_t place, uint32_t condition, uint64_t *called) {
-    uint64_t refused = may_act(m, place);
-    if (refused) return refused;
-    uint64_t some = zaulinte_book_queue(&m->book, condition);
-    uint64_t now = zaulinte_book_notify(&m->book, place, condition);
-    if (now > ZAULINTE_FREE) return now;
-    if (called) *called = some;
-    return ZAULINTE_DONE;
+    return calls(m, place, condition, false, called);
 }
 uint64_t zaulinte_broadcast(zaulinte_monitor *m, uint32_t place, uint32_t condition, uint64_t *called) {
-    uint64_t refused = may_act(m, place), some = 0;
-    if (refused) return refused;
-    zaulinte_book_count(&m->book, condition, &some);
-    uint64_t now = zaulinte_book_broadcast(&m->book, place, condition);
-    if (now > ZAULINTE_FREE) return now;
-    if (called) *called = some;
-    return ZAULINTE_DONE;
+    return calls(m, place, condition, true, called);
 }
 
 uint64_t zaulinte_queue(zaulinte_monitor *m, uint32_t place, uint32_t condition) {

@@ -43,6 +43,7 @@ typedef struct zaulinte_monitor {
     zaulinte_book book;     /* who is inside alone uses what follows, but `inside` */
     ZAULINTE_WORD inside;   /* 1 + the place that is inside, else 0 */
     bool told;              /* the book was told that the place came in */
+    uint32_t hoare;         /* how many of the conditions are Hoare's */
     uint64_t away;          /* a bit for each place that waits, as a signaller or on a condition, or was called */
     zaulinte_bell bell[64]; /* 0 nothing, 1 go on, 2 asleep */
 } zaulinte_monitor;

@@ -99,20 +99,15 @@ uint64_t zaulinte_book_pass(zaulinte_book *book, uint64_t place, uint64_t c) {
     if (why) return why;
     return h->waiting[c].many ? goes_on(h, take(&h->waiting[c])) : given_up(h);
 }
-uint64_t zaulinte_book_notify(zaulinte_book *book, uint64_t place, uint64_t c) {
+static uint64_t calls(zaulinte_book *book, uint64_t place, uint64_t c, unsigned most) {
     hand *h = of(book);
     uint64_t why = refused_on(h, place, c, true);
     if (why) return why;
-    if (h->waiting[c].many) append(&h->called, take(&h->waiting[c]));
+    for (; most && h->waiting[c].many; most--) append(&h->called, take(&h->waiting[c]));
     return place;
 }
-uint64_t zaulinte_book_broadcast(zaulinte_book *book, uint64_t place, uint64_t c) {
-    hand *h = of(book);
-    uint64_t why = refused_on(h, place, c, true);
-    if (why) return why;
-    while (h->waiting[c].many) append(&h->called, take(&h->waiting[c]));
-    return place;
-}
+uint64_t zaulinte_book_notify(zaulinte_book *book, uint64_t place, uint64_t c) { return calls(book, place, c, 1); }
+uint64_t zaulinte_book_broadcast(zaulinte_book *book, uint64_t place, uint64_t c) { return calls(book, place, c, 64); }
 uint64_t zaulinte_book_now(zaulinte_book *book) { return of(book) ? of(book)->inside : ZAULINTE_NO_BOOK; }
 uint64_t zaulinte_book_places(zaulinte_book *book) { return of(book) ? of(book)->places : ZAULINTE_NO_BOOK; }
 uint64_t zaulinte_book_conditions(zaulinte_book *book) { return of(book) ? of(book)->conditions : ZAULINTE_NO_BOOK; }

@@ -4,9 +4,9 @@
 
 int main(void) {
     zaulinte_book book = {0};
-    zaulinte_book_make(&book, 2, 1, 0);
+    zaulinte_book_make(&book, 2, 1, 0); /* 2 places, 1 condition, which isn't a Mesa condition */
     zaulinte_book_enter(&book, 0), zaulinte_book_wait(&book, 0, 0, 7), zaulinte_book_enter(&book, 1);
-    printf("signal 1 0 -> %d\n", (int)zaulinte_book_signal(&book, 1, 0)); /* 0 */
-    printf("leave 0 -> %d\n", (int)zaulinte_book_leave(&book, 0));        /* 1 */
+    printf("%d\n", (int)zaulinte_book_signal(&book, 1, 0)); /* 0: who waited goes on at once */
+    printf("%d\n", (int)zaulinte_book_leave(&book, 0));     /* 1: the signaller is back */
     return (int)zaulinte_book_free(&book);
 }

@@ -44,7 +44,7 @@ fn tick(user: &mut User) -> usize {
 fn main() {
     let checks = Checks {
         inv: |_: &Clock| true,
-        rest: |clock, waiting| waiting.first(When::WakeUp).map_or(true, |at| clock.now < at),
+        rest: |clock, waiting| waiting.first(When::WakeUp).is_none_or(|at| clock.now < at),
         ready: |_, at, clock, _| at <= clock.now,
     };
     let (monitor, mut users) = Monitor::checked(Clock::default(), 6, checks).unwrap();

@@ -1,9 +1,17 @@
 //! A word that threads sleep on.
+use std::cell::Cell;
 use std::sync::atomic::{AtomicU32, Ordering::Acquire, Ordering::SeqCst};
 use std::sync::{Condvar, Mutex, MutexGuard, PoisonError};
 
-// Looks at a word before a thread sleeps.
-const LOOKS: u32 = 100;
+// Looks at a word before a thread sleeps, at the most and at the least, and how seldom at the most.
+const MOST: u32 = 500;
+const FEWEST: u32 = 20;
+const LONG_EACH: u32 = 8;
+
+thread_local! {
+    // the looks of this thread's next time, and how often it looked
+    static LOOKS: Cell<(u32, u32)> = const { Cell::new((MOST, 1)) };
+}
 
 #[repr(align(64))]
 #[derive(Default)]
@@ -18,12 +26,18 @@ impl Bell {
         self.lock.lock().unwrap_or_else(PoisonError::into_inner)
     }
 
-    // Whether the word is soon as it is wanted.
+    // Whether the word is soon as it is wanted. To look pays where the other has a core at once, and is lost where the
+    // cores are busy. So what was looked for in vain halves the thread's next looks; what was seen makes them many
+    // again, and so does each eighth time.
     pub(crate) fn sees(&self, wanted: u32) -> bool {
-        (0..LOOKS).any(|_| {
+        let (looks, times) = LOOKS.get();
+        let most = if times % LONG_EACH == 0 { MOST } else { looks };
+        let seen = (0..most).any(|_| {
             std::hint::spin_loop();
             self.word.load(Acquire) == wanted
-        })
+        });
+        LOOKS.set((if seen { MOST } else { FEWEST.max(looks / 2) }, times.wrapping_add(1)));
+        seen
     }
 
     // Sleeps while the word is as it is.

@@ -23,6 +23,18 @@ pub struct Inside<'a, T, C: Condition, M: Condition = NoConditions> {
 // SAFETY: shared, it gives the data shared and nothing else
 unsafe impl<T: Send + Sync, C: Condition, M: Condition> Sync for Inside<'_, T, C, M> {}
 
+// The number of a condition, below its enum's `COUNT`.
+fn number_of<X: Condition>(condition: X) -> usize {
+    let index = condition.index();
+    assert!(index < X::COUNT, "there is no condition {condition:?}");
+    index
+}
+
+// The same among all conditions: those of Mesa stand behind Hoare's.
+fn mesa<C: Condition, M: Condition>(condition: M) -> usize {
+    C::COUNT + number_of(condition)
+}
+
 impl<'a, T, C: Condition, M: Condition> Inside<'a, T, C, M> {
     pub(crate) fn new(place: &'a mut Place<T, C, M>) -> Self {
         place.inside = true;
@@ -67,8 +79,8 @@ impl<'a, T, C: Condition, M: Condition> Inside<'a, T, C, M> {
     /// waiting of least priority. The data are then as the signaller left them. An error where a thread panicked
     /// inside.
     pub fn wait(&mut self, condition: C, priority: u64) -> LockResult<()> {
-        self.check_wait(condition.index(), priority, &condition);
-        self.wait_at(condition.index(), priority);
+        self.check_wait(number_of(condition), priority, &condition);
+        self.wait_at(number_of(condition), priority);
         self.check_ready(condition, priority);
         self.inner().told(())
     }
@@ -76,34 +88,33 @@ impl<'a, T, C: Condition, M: Condition> Inside<'a, T, C, M> {
     /// Gives the monitor up until a notify or a broadcast called this place and its turn has come. What it waited for
     /// has to be tested again. An error where a thread panicked inside.
     pub fn wait_mesa(&mut self, condition: M, priority: u64) -> LockResult<()> {
-        self.check_wait(C::COUNT + condition.index(), priority, &condition);
-        self.wait_at(C::COUNT + condition.index(), priority);
+        self.check_wait(mesa::<C, M>(condition), priority, &condition);
+        self.wait_at(mesa::<C, M>(condition), priority);
         self.inner().told(())
     }
 
     /// Hands the monitor to whom it resumes, if somebody waits there, and comes back before any newcomer: whether
     /// somebody did. An error where a thread panicked inside.
     pub fn signal(&mut self, condition: C) -> LockResult<bool> {
+        if !self.queue(condition) {
+            return self.inner().told(false);
+        }
         let number = self.place.number;
         self.check_signal(condition);
-        let next = self.told_book().signal(number, condition.index()).unwrap_or_else(|why| panic!("{why}"));
-        let somebody = next != Some(number);
-        if somebody {
-            self.own().signaller = number;
-            self.go_away(next);
-        }
-        self.inner().told(somebody)
+        let next = self.told_book().signal(number, number_of(condition)).unwrap_or_else(|why| panic!("{why}"));
+        self.own().signaller = number;
+        self.go_away(next);
+        self.inner().told(true)
     }
 
     /// A signal as the last act: whether somebody waited there.
     pub fn signal_leave(mut self, condition: C) -> bool {
-        let number = self.place.number;
-        let somebody = self.count(condition) > 0;
-        if !somebody {
+        if !self.queue(condition) {
             return false; // it leaves as it is dropped
         }
+        let number = self.place.number;
         self.check_signal(condition);
-        let next = self.told_book().pass(number, condition.index()).unwrap_or_else(|why| panic!("{why}"));
+        let next = self.told_book().pass(number, number_of(condition)).unwrap_or_else(|why| panic!("{why}"));
         self.own().signaller = number;
         self.place.inside = false;
         self.inner().hand_on(next);
@@ -112,19 +123,21 @@ impl<'a, T, C: Condition, M: Condition> Inside<'a, T, C, M> {
 
     /// Calls whom a signal would resume, and stays inside: whether somebody waited there.
     pub fn notify(&mut self, condition: M) -> bool {
-        let (number, index) = (self.place.number, C::COUNT + condition.index());
-        let book = self.told_book();
-        let somebody = book.count(index).is_ok_and(|count| count > 0);
-        book.notify(number, index).unwrap_or_else(|why| panic!("{why}"));
+        let somebody = self.count_mesa(condition) > 0;
+        if somebody {
+            let (number, index) = (self.place.number, mesa::<C, M>(condition));
+            self.told_book().notify(number, index).unwrap_or_else(|why| panic!("{why}"));
+        }
         somebody
     }
 
     /// Calls all that wait there, and stays inside: how many did.
     pub fn broadcast(&mut self, condition: M) -> usize {
-        let (number, index) = (self.place.number, C::COUNT + condition.index());
-        let book = self.told_book();
-        let count = book.count(index).unwrap_or(0);
-        book.broadcast(number, index).unwrap_or_else(|why| panic!("{why}"));
+        let count = self.count_mesa(condition);
+        if count > 0 {
+            let (number, index) = (self.place.number, mesa::<C, M>(condition));
+            self.told_book().broadcast(number, index).unwrap_or_else(|why| panic!("{why}"));
+        }
         count
     }
 
@@ -135,22 +148,22 @@ impl<'a, T, C: Condition, M: Condition> Inside<'a, T, C, M> {
 
     /// How many wait on one of Hoare's conditions.
     pub fn count(&mut self, condition: C) -> usize {
-        self.own().book.count(condition.index()).unwrap_or_else(|why| panic!("{why}"))
+        self.own().book.count(number_of(condition)).unwrap_or_else(|why| panic!("{why}"))
     }
 
     /// The priority of whom a signal would resume.
     pub fn first(&mut self, condition: C) -> Option<u64> {
-        self.own().book.first(condition.index()).unwrap_or_else(|why| panic!("{why}"))
+        self.own().book.first(number_of(condition)).unwrap_or_else(|why| panic!("{why}"))
     }
 
     /// How many wait on a Mesa condition; who was called doesn't.
     pub fn count_mesa(&mut self, condition: M) -> usize {
-        self.own().book.count(C::COUNT + condition.index()).unwrap_or_else(|why| panic!("{why}"))
+        self.own().book.count(mesa::<C, M>(condition)).unwrap_or_else(|why| panic!("{why}"))
     }
 
     /// The priority of whom a notify would call.
     pub fn first_mesa(&mut self, condition: M) -> Option<u64> {
-        self.own().book.first(C::COUNT + condition.index()).unwrap_or_else(|why| panic!("{why}"))
+        self.own().book.first(mesa::<C, M>(condition)).unwrap_or_else(|why| panic!("{why}"))
     }
 }
 
@@ -167,7 +180,7 @@ impl<T, C: Condition, M: Condition> Inside<'_, T, C, M> {
     }
 
     fn check_wait(&mut self, index: usize, priority: u64, name: &dyn std::fmt::Debug) {
-        if !cfg!(debug_assertions) || index >= 8 {
+        if !cfg!(debug_assertions) {
             return;
         }
         let (checks, number, mut waiting) = (self.inner().checks, self.place.number, self.waiting());
@@ -178,7 +191,7 @@ impl<T, C: Condition, M: Condition> Inside<'_, T, C, M> {
     }
 
     fn check_signal(&mut self, condition: C) {
-        if cfg!(debug_assertions) && self.queue(condition) {
+        if cfg!(debug_assertions) {
             let (checks, number) = (self.inner().checks, self.place.number);
             assert!((checks.inv)(self), "`inv` doesn't hold where place {number} signals {condition:?}");
         }

@@ -99,8 +99,8 @@ struct Own<T> {
 }
 
 // The door's word stays taken while the monitor is handed from place to place, so that no newcomer comes between: who
-// goes on is rung. An enter and a leave with no act between isn't told to the book, since it leaves the book as it
-// was.
+// goes on is rung. The book isn't told of a visit in which nobody began to wait, was resumed or was called: its queues
+// would stay as they are.
 struct Inner<T, C, M> {
     door: Bell,
     bells: Box<[Bell]>,

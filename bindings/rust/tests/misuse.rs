@@ -27,6 +27,32 @@ fn sizes_are_refused() {
     assert!(Monitor::<(), When, Five>::new((), 64).is_ok());
 }
 
+#[derive(Clone, Copy, Debug)]
+struct Bad;
+
+impl zaulinte::Condition for Bad {
+    const COUNT: usize = 1;
+    fn index(self) -> usize {
+        1
+    }
+}
+
+#[test]
+fn a_condition_past_its_count_is_refused() {
+    fn panics<C: zaulinte::Condition, M: zaulinte::Condition>(act: fn(Inside<'_, (), C, M>)) -> bool {
+        let (_monitor, mut places) = Monitor::<(), C, M>::new((), 1).unwrap();
+        catch_unwind(AssertUnwindSafe(|| act(places[0].enter().unwrap()))).is_err()
+    }
+    assert!(panics::<Bad, When>(|mut inside| drop(inside.wait(Bad, 0))));
+    assert!(panics::<Bad, When>(|mut inside| drop(inside.signal(Bad))));
+    assert!(panics::<Bad, When>(|inside| assert!(!inside.signal_leave(Bad))));
+    assert!(panics::<Bad, When>(|mut inside| assert!(!inside.queue(Bad))));
+    assert!(panics::<When, Bad>(|mut inside| drop(inside.wait_mesa(Bad, 0))));
+    assert!(panics::<When, Bad>(|mut inside| assert!(!inside.notify(Bad))));
+    assert!(panics::<When, Bad>(|mut inside| assert_eq!(inside.broadcast(Bad), 0)));
+    assert!(!panics::<When, When>(|mut inside| assert!(!inside.notify(When::Never) && !inside.queue(When::Ever))));
+}
+
 #[test]
 fn a_panic_inside_poisons_and_leaves() {
     let (monitor, mut places) = Monitor::<u32, When>::new(1, 2).unwrap();

@@ -147,8 +147,7 @@ fn sweeps(mut place: Place) {
     }
 }
 
-#[test]
-fn the_log_is_for_the_judge() {
+fn main() {
     let calls = std::env::var("ZAULINTE_CALLS").map_or(10_000, |calls| calls.parse().unwrap());
     let (monitor, mut places) = Monitor::<Log, Hoare, Mesa>::new(Log::default(), WORKERS + 1).unwrap();
     let sweeper = places.pop().unwrap();

@@ -51,7 +51,7 @@ impl<D: MonitorData + Send> AnyDoor<D> {
             × ((id_of r.0).places ≡ places)) }
         ensures kind { IfOk result (λ r. kind_behind r.0 ≡ kind) }
         ensures of { IfOk result (λ r. All (⟦<AnyDoor<D> as Monitor<D>>⟧.is_of r.0) r.1.items) }
-        ensures places { IfOk result (λ r. r.1.items ≡ places_from (id_of r.0).table 0 places
+        ensures places { IfOk result (λ r. r.1.items ≡ places_from (id_of r.0) 0 places
             (opened (sizes_of D.CONDITIONS D.MESA places) state)) }
         ensures returned { IfErr result (λ e. e.0 ≡ state) }
         ensures refused { IfErr result (λ e. (make_refusal (sizes_of D.CONDITIONS D.MESA places) ≡ Some e.1)

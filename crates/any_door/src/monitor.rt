@@ -2,13 +2,13 @@
 ghost use Rattle.std.specs.Prelude.{◌≡◌};
 ghost use Rattle.wait_book.specs.Contents.{IsPlaceBelow};
 ghost use Rattle.door_frame.specs.Steps.{MayGive, MayNote};
+ghost use Rattle.door_frame.specs.Places.{IsWoken};
 ghost use Rattle.door_frame.specs.Seats.{GoesOut, StaysIn};
 ghost use Rattle.door_frame.specs.Departures.{event_of};
 ghost use Rattle.door_frame.specs.Notices.{event_of_notice};
 ghost use Rattle.any_door.specs.Doors.{id_of};
 
 use crate::door::AnyDoor;
-use crossbeam_utils::sync::Parker;
 use door_frame::calls;
 use door_frame::departure::Departure;
 use door_frame::notice::Notice;
@@ -16,6 +16,7 @@ use door_frame::parcel::Parcel;
 use door_frame::place::{Inside, Outside};
 use door_frame::plays::DoorSeat;
 use door_frame::turnstile::Turnstile;
+use door_frame::waking::{Sleeper, Woken};
 use hoare_law::data::MonitorData;
 use hoare_law::monitor::Monitor;
 use std::sync::Wait;
@@ -46,11 +47,11 @@ impl<D: MonitorData> Turnstile<D> for AnyDoor<D> {
         rt: &R,
         seat: &mut DoorSeat<D>,
         place: usize,
-        parker: &Parker,
+        sleeper: &Sleeper,
     ) -> Parcel<D> {
         match self {
-            AnyDoor::Baton(door) => door.claim(rt, seat, place, parker),
-            AnyDoor::Ticket(door) => door.claim(rt, seat, place, parker),
+            AnyDoor::Baton(door) => door.claim(rt, seat, place, sleeper),
+            AnyDoor::Ticket(door) => door.claim(rt, seat, place, sleeper),
         }
     }
 
@@ -62,7 +63,7 @@ impl<D: MonitorData> Turnstile<D> for AnyDoor<D> {
         place: usize,
         departure: Departure,
         next: Next,
-    )
+    ) -> Option<Woken>
         requires table { seat.old.table_id ≡ (id_of self.now).table }
         requires next { IsPlaceBelow (id_of self.now).places next }
         requires event { MayGive D.rest D.ready (event_of place departure next) place
@@ -70,6 +71,7 @@ impl<D: MonitorData> Turnstile<D> for AnyDoor<D> {
         ensures table { seat.new.table_id ≡ seat.old.table_id }
         ensures away { GoesOut place (event_of place departure next)
             seat.old.me parcel.state seat.new.me }
+        ensures woken { IsWoken (id_of self.now) next result }
     {
         match self {
             AnyDoor::Baton(door) => door.hand_on(seat, parcel, place, departure, next),

@@ -13,11 +13,11 @@ use crate::place::DoorOut;
 use crate::rule::{BatonWords, DoorTable};
 use crate::word::{DOOR, FREE, HELD};
 use crossbeam_utils::CachePadded;
-use crossbeam_utils::sync::Unparker;
-use door_frame::making::{closed, deal, parkers, vacant};
+use door_frame::making::{closed, deal, sleepers, vacant};
 use door_frame::parcel::Parcel;
 use door_frame::plays::{Begin, DoorSeat, Open};
 use door_frame::slot::lay_parcel;
+use door_frame::waking::Waker;
 use hoare_law::data::MonitorData;
 use hoare_law::monitor::Monitor;
 use std::alloc::Global;
@@ -49,19 +49,19 @@ pub struct Door<D: MonitorData> {
     /// | `owed(k)` (2 + k) | place k was resumed, or its signal is over | place k alone, to `HELD` |
     pub(crate) table: DoorTable<D>,
     /// What wakes each place, in order.
-    pub(crate) wakers: Vec<Unparker>,
+    pub(crate) wakers: Vec<Waker>,
     /// Who among the newcomers naps.
     pub(crate) naps: CachePadded<Naps>,
 }
 
 impl<D: MonitorData> Model for Door<D> {
-    ghost use Rattle.door_frame.specs.Places.{DoorId};
+    ghost use Rattle.door_frame.specs.Places.{DoorId, door_of};
     ghost use Rattle.std.specs.Prelude.{vec_len};
     ghost use Rattle.baton_door.specs.Rule.{Sized};
 
     ghost Value = { DoorId };
 
-    ghost view = { λ d. record { table = d.table.shared.table_id; places = d.table.shared.key } };
+    ghost view = { λ d. door_of d.table.shared.table_id d.table.shared.key d.wakers.items };
 
     ghost invariant = { λ d. Sized d.table.shared.table_id.words d.table.shared.table_id.slots
         d.table.shared.key (vec_len d.wakers) };
@@ -102,7 +102,7 @@ impl<D: MonitorData + Send> Door<D> {
         ensures made { IfOk result (λ r. (make_refusal (sizes_of D.CONDITIONS D.MESA places) ≡ None)
             × (r.0.places ≡ places)) }
         ensures of { IfOk result (λ r. All (⟦<Door<D> as Monitor<D>>⟧.is_of r.0) r.1.items) }
-        ensures places { IfOk result (λ r. r.1.items ≡ places_from r.0.table 0 places
+        ensures places { IfOk result (λ r. r.1.items ≡ places_from r.0 0 places
             (opened (sizes_of D.CONDITIONS D.MESA places) state)) }
         ensures returned { IfErr result (λ e. e.0 ≡ state) }
         ensures refused { IfErr result (λ e. (make_refusal (sizes_of D.CONDITIONS D.MESA places) ≡ Some e.1)
@@ -112,7 +112,7 @@ impl<D: MonitorData + Send> Door<D> {
             Ok(book) => book,
             Err(refused) => return Err((state, refused)),
         };
-        let Ok((parkers, wakers)) = parkers(alloc, places) else {
+        let Ok((sleepers, wakers)) = sleepers(alloc, places) else {
             return Err((state, MakeRefused::Memory));
         };
         let Ok(outs) = Vec::with_capacity(alloc, places) else {
@@ -125,7 +125,7 @@ impl<D: MonitorData + Send> Door<D> {
             Err(state) => return Err((state, MakeRefused::Memory)),
         };
         open(&table, &mut seat, parcel);
-        let outs = deal(&table, seat, parkers, outs, places);
+        let outs = deal(&table, seat, sleepers, outs, places);
         let naps = Naps::new();
         let door = Door {
             table,
@@ -146,9 +146,9 @@ impl<D: MonitorData + Send> Door<D> {
     {
         let Door {
             table,
-            wakers: _,
+            wakers,
             naps: _,
         } = self;
-        closed(table, outs)
+        closed(table, wakers, outs)
     }
 }

@@ -1,13 +1,14 @@
 //! How places look at the word, sleep, and wake each other.
 //!
-//! No wake is lost. Who waits tests the word before it parks and after each waking (`Turnstile::claim`). Who gives the
+//! No wake is lost. Who waits tests the word before it sleeps and after each waking (`Turnstile::claim`). Who gives the
 //! monitor up writes the word first and wakes the place then. So where the test came before the write, the waking comes
-//! after the test; and a parker keeps one permit, so the park that follows returns at once. A place that is
-//! woken by the permit of an earlier wait finds the word unchanged, and parks again.
+//! after the test; and a sleeper keeps one permit, so the sleep that follows returns at once. A place that is
+//! woken by the permit of an earlier wait finds the word unchanged, and sleeps again.
 ghost use Rattle.std.specs.Prelude.{◌≡◌, ◌<◌};
 ghost use Rattle.wait_book.specs.Contents.{IsPlaceBelow};
 ghost use Rattle.door_frame.specs.Steps.{MayGive, MayNote};
-ghost use Rattle.door_frame.specs.Seats.{GoesOut, StaysIn};
+ghost use Rattle.door_frame.specs.Places.{IsWoken, sleeper_at};
+ghost use Rattle.door_frame.specs.Seats.{GoesOut, IsBehind, StaysIn};
 
 use crate::door::Door;
 use crate::word::{DOOR, word_of_next};
@@ -17,6 +18,7 @@ use door_frame::notice::Notice;
 use door_frame::parcel::Parcel;
 use door_frame::plays::{DoorSeat, Give, Note, PickedEvent, PickedNotice};
 use door_frame::slot::lay_parcel;
+use door_frame::waking::Woken;
 use hoare_law::data::MonitorData;
 use std::hint;
 use wait_book::steps::Next;
@@ -42,12 +44,13 @@ impl<D: MonitorData> Door<D> {
         place: usize,
         departure: Departure,
         next: Next,
-    )
+    ) -> Option<Woken>
         requires table { seat.old.table_id ≡ self.now.table }
         requires next { IsPlaceBelow self.now.places next }
         requires event { MayGive D.rest D.ready J.event place seat.old.me parcel next }
         ensures table { seat.new.table_id ≡ seat.old.table_id }
         ensures away { GoesOut place J.event seat.old.me parcel.state seat.new.me }
+        ensures woken { IsWoken self.now next result }
     {
         lay_parcel(&self.table, seat, parcel);
         let is_to_call = self.naps.is_to_call(departure, next);
@@ -55,8 +58,10 @@ impl<D: MonitorData> Door<D> {
             .shared
             .store::<Give<J>>(seat, DOOR, word_of_next(next));
         self.naps.call_one(is_to_call);
-        if let Next::For(resumed) = next {
-            self.wake(resumed);
+        match next {
+            Next::For(resumed) => Some(self.wake(seat, resumed)),
+            Next::Free => None,
+            Next::Held(_) => None,
         }
     }
 
@@ -78,10 +83,12 @@ impl<D: MonitorData> Door<D> {
         self.table.shared.load::<Note<J>>(seat, DOOR);
     }
 
-    /// Wakes a place, or lets its next park return at once.
-    fn wake(&self, place: usize)
-        requires { place < self.now.places }
+    /// Wakes a place, or lets its next sleep return at once.
+    fn wake(&self, seat: &DoorSeat<D>, place: usize) -> Woken
+        requires below { place < self.now.places }
+        requires given_up { IsBehind seat.now.me }
+        ensures { result ≡ sleeper_at self.now place }
     {
-        self.wakers[place].unpark();
+        self.wakers[place].wake(seat)
     }
 }

@@ -13,14 +13,14 @@ use Rattle.disk_service.specs.Desks.{IsStaffed}
 module _ {D : Type 0} where
   -- all places of a door that was made
   pub all-first : (t : Terms D) (door : DoorId) (n : ℕ) (f : History D) (os : List (PlaceOut D))
-      → All (IsOut t.rest t.ready t.kinds door) os → os ≡ places_from door.table 0 n f → AreFirst t door n os
+      → All (IsOut t.rest t.ready t.kinds door) os → os ≡ places_from door 0 n f → AreFirst t door n os
   all-first t door n f os of is =
-      let count : length os ≡ n = ap length is ∙ length-places door.table 0 n f in
+      let count : length os ≡ n = ap length is ∙ length-places door 0 n f in
       record {
         count = count;
         each = λ k d l. record {
           out = of k d (omega arith);
-          number = ap (λ (xs : List (PlaceOut D)). (slice_index_or xs k d).place) is ∙ nth-places door.table 0 n f k d l ∙ omega arith;
+          number = ap (λ (xs : List (PlaceOut D)). (slice_index_or xs k d).place) is ∙ nth-places door 0 n f k d l ∙ omega arith;
         };
       }
 

@@ -1,6 +1,5 @@
 -- A place comes in: from outside, from a wait or from a signal.
 use Rattle.std.proofs.Common.{◌≡◌, ◌≢◌, ℕ, true, false, [], Option, Some, None, refl, ap, sym, ◌∙◌, subst}
-use Rattle.atomic_table.specs.Seated.{TableId}
 use Rattle.hoare_law.specs.declared.event.Sizes.{Sizes}
 use Rattle.hoare_law.specs.declared.event.Event.{Event}
 use Rattle.hoare_law.specs.declared.event.History.{History}
@@ -26,7 +25,7 @@ use Rattle.wait_book.specs.Stepping.{settled, after_signal}
 use Rattle.wait_book.proofs.WithData.{IsOf-claim}
 use Rattle.door_frame.specs.declared.parcel.Lodged.{Lodged}
 use Rattle.door_frame.specs.Departures.{place_for}
-use Rattle.door_frame.specs.Places.{DoorId, IsIn, IsOut, PlaceIn, PlaceOut, place_in}
+use Rattle.door_frame.specs.Places.{Berth, DoorId, IsIn, IsOut, berth_at, PlaceIn, PlaceOut, place_in}
 use Rattle.door_frame.specs.Steps.{Sat, Came, awaited, due, due_by, due_from}
 use Rattle.door_frame.proofs.Departures.{Resumes, resumes_handing, chooses}
 use Rattle.door_frame.proofs.Inside.{Holds}
@@ -100,7 +99,7 @@ module _ {D : Type 0} where
 
     module _ {kinds : Kinds} {d : DoorId} where
       -- who came in is inside, by its front
-      is_in : (t : TableId) (k : ℕ) (f log : History D) (e : Event D) (s : D) → t ≡ d.table
+      is_in : (t : Berth) (k : ℕ) (f log : History D) (e : Event D) (s : D) → t ≡ berth_at d k
           → f.sizes ≡ sizes_at kinds d.places
           → Begins f log → Stands rest ready (with_event log e) → is_inside e ≡ true → place_of e ≡ k
           → IsIn rest ready kinds d (place_in t k (with_event log e) s)
@@ -112,9 +111,9 @@ module _ {D : Type 0} where
             is_inside = turn-in log k e brings mine;
           }
 
-      pub entered : {k : ℕ} {x : Lodged D} {m : Sat D} (o : PlaceOut D) (t : TableId) (i : PlaceIn D)
+      pub entered : {k : ℕ} {x : Lodged D} {m : Sat D} (o : PlaceOut D) (t : Berth) (i : PlaceIn D)
           → IsOut rest ready kinds d o
-          → t ≡ o.table → k ≡ o.place → (c : Came rest ready k o.front (Admit k) x None m)
+          → t ≡ o.berth → k ≡ o.place → (c : Came rest ready k o.front (Admit k) x None m)
           → i ≡ place_in t k (with_event c.log (Admit k x.state)) x.state → Entered rest ready kinds d o i
       entered {k = k} {x = x} {m = m} o t i out table place =
           subst
@@ -133,13 +132,13 @@ module _ {D : Type 0} where
                 front = AddsLast-one o.place o.front c.log e refl c.begins c.own_are;
               })
 
-      module _ {i : PlaceIn D} {t : TableId} {k : ℕ} {f : History D} {me : Sat D} {x : Lodged D} where
+      module _ {i : PlaceIn D} {t : Berth} {k : ℕ} {f : History D} {me : Sat D} {x : Lodged D} where
         after_own : (e : Event D) → Holds rest ready kinds d i t k f me x
             → (with_event f e).sizes ≡ sizes_at kinds d.places
         unfolding with_event
         after_own e h = h.within.sized
 
-        pub resumed : {y : Lodged D} {m : Sat D} (c p : ℕ) (z : TableId) (j : PlaceIn D)
+        pub resumed : {y : Lodged D} {m : Sat D} (c p : ℕ) (z : Berth) (j : PlaceIn D)
             → Holds rest ready kinds d i t k f me x → z ≡ t
             → (b : Came rest ready k (with_event f (Wait k c p x.state)) (due k (with_event f (Wait k c p x.state))) y None m)
             → j ≡ place_in z k (with_event b.log (due k (with_event f (Wait k c p x.state)) y.state)) y.state
@@ -166,7 +165,7 @@ module _ {D : Type 0} where
                   (AddsTwo-one k f w b.log e refl refl b.begins b.own_are);
             })
 
-        pub returned : {y : Lodged D} {m : Sat D} (c : ℕ) (b : Contents) (who : Next) (z : TableId) (j : PlaceIn D)
+        pub returned : {y : Lodged D} {m : Sat D} (c : ℕ) (b : Contents) (who : Next) (z : Berth) (j : PlaceIn D)
             → Holds rest ready kinds d i t k f me x
             → priorities i.front.events c ≢ [] → IsOf b (after_signal (erased f) k c (chosen c (erased f).events))
             → who ≡ next_of b.turn → z ≡ t

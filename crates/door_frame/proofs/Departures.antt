@@ -1,6 +1,5 @@
 -- Who is inside gives the monitor up: a wait, a leave, a signal or a pass.
 use Rattle.std.proofs.Common.{◌≡◌, ◌≢◌, ℕ, ◌<◌, Bool, true, false, [], Some, refl, ap, sym, ◌∙◌, subst}
-use Rattle.atomic_table.specs.Seated.{TableId}
 use Rattle.hoare_law.specs.declared.event.Sizes.{Sizes}
 use Rattle.hoare_law.specs.declared.event.Event.{Event}
 use Rattle.hoare_law.specs.declared.event.History.{History}
@@ -34,7 +33,7 @@ use Rattle.wait_book.proofs.WithData.{next-history, turn-history, IsOf-event, Is
 use Rattle.door_frame.specs.declared.parcel.Lodged.{Lodged}
 use Rattle.door_frame.specs.declared.departure.Departure.TheVariants as departure
 use Rattle.door_frame.specs.Departures.{place_for, event_of}
-use Rattle.door_frame.specs.Places.{DoorId, IsOut, PlaceOut, PlaceIn, Handed, place_in, place_out}
+use Rattle.door_frame.specs.Places.{Berth, DoorId, IsOut, PlaceOut, PlaceIn, Handed, berth_at, place_in, place_out}
 use Rattle.door_frame.specs.Steps.{Sat, Gives, MayGive}
 use Rattle.door_frame.proofs.Inside.{Holds}
 
@@ -85,8 +84,8 @@ module _ {D : Type 0} where
     pub front : Exits i.place c i.state i.front o.front true
 
   -- who learns the history stays outside
-  pub told_out : (rest : Rest D) (ready : Ready D) (kinds : Kinds) (d : DoorId) (t : TableId) (o : PlaceOut D) (h : History D)
-      → t ≡ d.table
+  pub told_out : (rest : Rest D) (ready : Ready D) (kinds : Kinds) (d : DoorId) (t : Berth) (o : PlaceOut D) (h : History D)
+      → t ≡ berth_at d o.place
       → IsOut rest ready kinds d o → Stands rest ready h → Begins o.front h
       → own o.place h.events ≡ own o.place o.front.events
       → IsOut rest ready kinds d (place_out t o.place h)
@@ -98,7 +97,7 @@ module _ {D : Type 0} where
     is_outside = outside-same o.place o.front h same out.is_outside;
   }
 
-  module _ {rest : Rest D} {ready : Ready D} {kinds : Kinds} {d : DoorId} {i : PlaceIn D} {t : TableId} {k : ℕ}
+  module _ {rest : Rest D} {ready : Ready D} {kinds : Kinds} {d : DoorId} {i : PlaceIn D} {t : Berth} {k : ℕ}
       {f : History D} {me : Sat D} {x : Lodged D} where
     -- what is asked of the place of the contract is asked of its parts
     asked_here : (P : PlaceIn D → Type 0) → Holds rest ready kinds d i t k f me x → P i → P (place_in t k f x.state)
@@ -206,7 +205,7 @@ module _ {D : Type 0} where
         (IsOf-handing out b f k c r.chosen_one x.state r.is book) is)
 
     -- the place outside after an event by which it goes out
-    went_out : (e : Event D) (z : TableId) (o : PlaceOut D) → Holds rest ready kinds d i t k f me x → place_of e ≡ k
+    went_out : (e : Event D) (z : Berth) (o : PlaceOut D) → Holds rest ready kinds d i t k f me x → place_of e ≡ k
         → is_out (Some e) ≡ true
         → Allowed f e → Owes rest ready f.events e → z ≡ t → o ≡ place_out z k (with_event f e)
         → Left rest ready kinds d k (with_event f e) o
@@ -224,7 +223,7 @@ module _ {D : Type 0} where
           front = refl;
         })
 
-    pub left : (z : TableId) (o : PlaceOut D) → Holds rest ready kinds d i t k f me x
+    pub left : (z : Berth) (o : PlaceOut D) → Holds rest ready kinds d i t k f me x
         → rest i.state (priorities i.front.events) → z ≡ t
         → o ≡ place_out z k (with_event f (Leave k x.state))
         → Left rest ready kinds d i.place (with_event i.front (Leave i.place i.state)) o
@@ -232,7 +231,7 @@ module _ {D : Type 0} where
         asked_back (λ j. Left rest ready kinds d j.place (with_event j.front (Leave j.place j.state)) o) h
         (went_out (Leave k x.state) z o h refl refl (Allowed-leave f k x.state h.within.stands.legal h.within.is_inside) (owes_leave h asked) same is)
 
-    pub passed : (c : ℕ) (b : Contents) (who : Next) (z : TableId) (o : PlaceOut D)
+    pub passed : (c : ℕ) (b : Contents) (who : Next) (z : Berth) (o : PlaceOut D)
         → Holds rest ready kinds d i t k f me x → IsHoare kinds.conditions kinds.mesa c
         → priorities i.front.events c ≢ [] → Handed ready c i
         → IsOf b (after_pass (erased f) k c (chosen c (erased f).events)) → who ≡ next_of b.turn

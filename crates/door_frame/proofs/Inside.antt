@@ -1,6 +1,5 @@
 -- What a call knows of the place inside that it is handed.
 use Rattle.std.proofs.Common.{◌≡◌, ◌<◌, ℕ, [], ◌∷◌, None, sym, ap, ◌∙◌, subst}
-use Rattle.atomic_table.specs.Seated.{TableId}
 use Rattle.hoare_law.specs.declared.event.Sizes.{Sizes}
 use Rattle.hoare_law.specs.declared.event.History.{History}
 use Rattle.hoare_law.specs.Sizes.{Kinds, sizes_at}
@@ -12,21 +11,21 @@ use Rattle.hoare_law.proofs.Waiters.{held-in_range}
 use Rattle.wait_book.specs.Contents.{Contents, IsOf, priorities_on}
 use Rattle.wait_book.proofs.WithData.{turn-history, priorities_on-history}
 use Rattle.door_frame.specs.declared.parcel.Lodged.{Lodged}
-use Rattle.door_frame.specs.Places.{DoorId, PlaceIn, IsIn, place_in}
+use Rattle.door_frame.specs.Places.{Berth, DoorId, PlaceIn, IsIn, place_in, sleeper_at}
 use Rattle.door_frame.specs.Seats.{IsInside}
 use Rattle.door_frame.specs.Steps.{Sat}
 use Rattle.door_frame.specs.Views.{alone}
 
 module _ {D : Type 0} where
   -- the place k, with the seat me, front f and the parcel x in hand, is the i of the contract
-  pub record Holds (rest : Rest D) (ready : Ready D) (kinds : Kinds) (d : DoorId) (i : PlaceIn D) (t : TableId) (k : ℕ)
+  pub record Holds (rest : Rest D) (ready : Ready D) (kinds : Kinds) (d : DoorId) (i : PlaceIn D) (t : Berth) (k : ℕ)
       (f : History D) (me : Sat D) (x : Lodged D) : Type 0 where
     pub seen : place_in t k f x.state ≡ i
     pub within : IsIn rest ready kinds d (place_in t k f x.state)
     pub book : IsOf x.book (erased f)
     pub me_is : me ≡ (alone k f, (0, None) ∷ [])
 
-  module _ {rest : Rest D} {ready : Ready D} {kinds : Kinds} {d : DoorId} {i : PlaceIn D} {t : TableId} {k : ℕ}
+  module _ {rest : Rest D} {ready : Ready D} {kinds : Kinds} {d : DoorId} {i : PlaceIn D} {t : Berth} {k : ℕ}
       {f : History D} {me : Sat D} {x : Lodged D} where
     pub holds : {y : Lodged D} → x ≡ y → place_in t k f y.state ≡ i → IsInside k f me y.book → IsIn rest ready kinds d i
         → Holds rest ready kinds d i t k f me x
@@ -51,13 +50,17 @@ module _ {D : Type 0} where
     small h =
         subst (λ (n : Sizes). k < n.places) h.within.sized (held-in_range f k h.within.stands.legal h.within.is_inside)
 
+    -- it sleeps where it is woken
+    pub sleeps : Holds rest ready kinds d i t k f me x → t.sleeper ≡ sleeper_at d k
+    sleeps h = ap (λ (b : Berth). b.sleeper) h.within.of
+
   -- the book that a call is lent is of the front
   pub book_in_hand : {k : ℕ} {f : History D} {me : Sat D} {b c : Contents} → b ≡ c → IsInside k f me c
       → IsOf b (erased f)
   book_in_hand {f = f} same inv = subst (λ (a : Contents). IsOf a (erased f)) (sym same) inv.1
 
   -- so its priorities are those of the contract
-  pub listed_in_hand : {t : TableId} {k : ℕ} {f : History D} {s : D} {i : PlaceIn D} {me : Sat D} {b c : Contents}
+  pub listed_in_hand : {t : Berth} {k : ℕ} {f : History D} {s : D} {i : PlaceIn D} {me : Sat D} {b c : Contents}
       → b ≡ c → IsInside k f me c
       → place_in t k f s ≡ i → priorities_on b ≡ priorities i.front.events
   listed_in_hand {f = f} {b = b} same inv view =

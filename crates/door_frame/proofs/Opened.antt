@@ -12,7 +12,7 @@ use Rattle.door_frame.specs.Places.{DoorId, PlaceOut, IsOut, places_from}
 module _ {D : Type 0} (rest : Rest D) (ready : Ready D) (kinds : Kinds) (d : DoorId) (s : D) where
   -- each of the first places is outside
   outside_from : (k m : ℕ) → k + m ≤ d.places → rest s nobody
-      → All (IsOut rest ready kinds d) (places_from d.table k m (opened (sizes_at kinds d.places) s))
+      → All (IsOut rest ready kinds d) (places_from d k m (opened (sizes_at kinds d.places) s))
   outside_from k zero fits at_rest = All-nil (IsOut rest ready kinds d)
   outside_from k (suc m) fits at_rest = All-cons (IsOut rest ready kinds d) _ _
       (record {
@@ -25,7 +25,7 @@ module _ {D : Type 0} (rest : Rest D) (ready : Ready D) (kinds : Kinds) (d : Doo
       (outside_from (suc k) m (omega arith) at_rest)
 
   -- so are all that a door is made with
-  pub made_outside : (os : List (PlaceOut D)) → os ≡ places_from d.table 0 d.places (opened (sizes_at kinds d.places) s)
+  pub made_outside : (os : List (PlaceOut D)) → os ≡ places_from d 0 d.places (opened (sizes_at kinds d.places) s)
       → rest s nobody
       → All (IsOut rest ready kinds d) os
   made_outside os are at_rest =

@@ -2,18 +2,17 @@
 use Rattle.std.proofs.Common.{ℕ, zero, suc, List, [], ◌∷◌, ◌≡◌, ◌<◌, ◌≤◌, ◌+◌, ◌-◌, length, refl, ap, ◌∙◌, arith, inl}
 use Rattle.std.proofs.Common.{inr}
 use Rattle.std.specs.Prelude.{slice_index_or}
-use Rattle.atomic_table.specs.Seated.{TableId}
 use Rattle.hoare_law.specs.declared.event.History.{History}
-use Rattle.door_frame.specs.Places.{PlaceOut, places_from, HasPlace}
+use Rattle.door_frame.specs.Places.{DoorId, PlaceOut, places_from, HasPlace}
 
 module _ {D : Type 0} where
   -- they are n
-  pub length-places : (z : TableId) (k n : ℕ) (f : History D) → length (places_from z k n f) ≡ n
+  pub length-places : (z : DoorId) (k n : ℕ) (f : History D) → length (places_from z k n f) ≡ n
   length-places z k zero f = refl
   length-places z k (suc n) f = ap suc (length-places z (suc k) n f)
 
   -- place j of those from k on is k + j
-  pub nth-places : (z : TableId) (k n : ℕ) (f : History D) (j : ℕ) (d : PlaceOut D) → j < n
+  pub nth-places : (z : DoorId) (k n : ℕ) (f : History D) (j : ℕ) (d : PlaceOut D) → j < n
       → (slice_index_or (places_from z k n f) j d).place ≡ k + j
   nth-places z k zero f j d l = absurd (omega arith)
   nth-places z k (suc n) f zero d l = omega arith
@@ -27,7 +26,7 @@ module _ {D : Type 0} where
   has_nth (o ∷ os) (suc j) k l is = inr (has_nth os j k (omega arith) is)
 
   -- the places from one on are all there
-  pub has-all : (k : ℕ) (z : TableId) (from n : ℕ) (f : History D) → from ≤ k → k < from + n
+  pub has-all : (k : ℕ) (z : DoorId) (from n : ℕ) (f : History D) → from ≤ k → k < from + n
       → HasPlace k (places_from z from n f)
   has-all k z from n f le lt =
       let count = length-places z from n f in

@@ -2,10 +2,12 @@
 use Rattle.std.proofs.Common.{◌≡◌, ◌<◌, ℕ, ◌+◌, ◌-◌, true, List, [], ◌∷◌, Option, Some, None, unwrap_or, sym, ap, ◌∙◌}
 use Rattle.std.proofs.Common.{subst}
 use Rattle.atomic_table.specs.Table.{rest}
+use Rattle.atomic_table.specs.Seated.{TableId}
 use Rattle.hoare_law.specs.declared.event.Event.{Event}
 use Rattle.hoare_law.specs.declared.event.History.{History}
 use Rattle.hoare_law.specs.Lawful.{Rest, Ready}
 use Rattle.door_frame.specs.declared.parcel.Lodged.{Lodged}
+use Rattle.door_frame.specs.Places.{berth}
 use Rattle.door_frame.specs.Seats.{IsAway}
 use Rattle.door_frame.specs.Steps.{Sat, Came}
 use Rattle.door_frame.specs.declared.view.Knowledge.{Knowledge}
@@ -16,6 +18,10 @@ use Rattle.door_frame.proofs.Views.{dealt, front_of-alone}
 
 pub one_slot : {S : Type 0} (l : List (ℕ × S)) (x : ℕ × S) → l ≡ x ∷ [] → l ≡ x ∷ rest l
 one_slot {S = S} l x e = e ∙ ap (λ (z : List (ℕ × S)). x ∷ rest z) (sym e)
+
+-- a berth at the same table
+pub berth_as : (w : TableId) {y z : TableId} → y ≡ z → berth y w ≡ berth z w
+berth_as w same = ap (λ (z : TableId). berth z w) same
 
 module _ {D : Type 0} where
   abbrev slot_or : Option (Lodged D) → List (ℕ × Option (Lodged D)) → Option (Lodged D)

@@ -241,13 +241,14 @@ module _ {D : Type 0} (Starts : Bool → List ℕ → Type 0) (Tells : History D
   -- the place k has another token, and the log and the slots in hand stay
   pub draws_ok : (n slots id k i : ℕ) (f : History D) (o : Option Token) (c : List (ℕ × Option (Lodged D))) (g : ℕ → ℕ)
       (Then : Option Token → ℕ → Type 0)
-      → ((log : History D) (tokens : Tokens) (ws : List ℕ) → k < n → tokens k ≡ o → Tells log tokens ws → (o' : Option Token) × (tokens' : Tokens) × (tokens' k ≡ o')
+      → ((log : History D) (tokens : Tokens) (ws : List ℕ) → k < n → own k log.events ≡ own k f.events → tokens k ≡ o
+      → Tells log tokens ws → (o' : Option Token) × (tokens' : Tokens) × (tokens' k ≡ o')
       × ((j : ℕ) → j ≢ k → tokens' j ≡ tokens j) × Tells log tokens' (set ws i (g (get_or ws i 0))) × Then o'
       (get_or ws i 0))
       → Allows (K n) slots id (sole k f o, c) i g (λ r m'. (o' : Option Token) × (m' ≡ (sole k f o', c)) × Then o' r)
   draws_ok n slots id k i f o c g Then step_ s kept wide at small =
       let r = running n s kept id (knows k f o ∷ []) at in let fit = (r.fronts id (sole k f o) at).0 in
-      let d = step_ r.log r.tokens s.words fit.below fit.token_is r.tells in (
+      let d = step_ r.log r.tokens s.words fit.below fit.own_are fit.token_is r.tells in (
         sole k f d.0,
         keeps,
         tt,

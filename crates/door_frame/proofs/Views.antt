@@ -2,13 +2,16 @@
 use Rattle.std.proofs.Common.{◌≡◌, ◌≢◌, ◌⊎◌, inl, inr, ⊎_elim, ℕ, zero, suc, ◌+◌, ◌-◌, ◌<◌, true, eqb, cond, List, []}
 use Rattle.std.proofs.Common.{◌∷◌, ◌++◌, length, set, take, drop, None, refl, sym, ap, ◌∙◌}
 use Rattle.std.proofs.Common.{subst, arith, eq-eqb, ne_eqb}
+use Rattle.std.proofs.Common.{reverse, length-append}
+use Rattle.std.specs.Prelude.{slice_index_or}
+use Rattle.std.proofs.Math.Seq.{get_or-append_seam}
+use Rattle.std.proofs.lemmas.List.{get_or-reverse}
 use mathlib.Core.Option.{some, some-injective, some-ne-none}
 use lib.ListN.{get_elem?}
-use Rattle.atomic_table.specs.Seated.{TableId}
 use Rattle.hoare_law.specs.declared.event.History.{History}
 use Rattle.door_frame.specs.declared.view.Knowledge.{Knowledge}
 use Rattle.door_frame.specs.declared.view.View.{View}
-use Rattle.door_frame.specs.Places.{PlaceOut, places_from}
+use Rattle.door_frame.specs.Places.{Berth, DoorId, PlaceOut, berth_at, place_out, places_from}
 use Rattle.door_frame.specs.Views.{knows, alone, is_alone, front_of, all_know, Each, Without, Apart}
 
 -- the only element
@@ -54,6 +57,17 @@ handed_here owner other to i e = ap (λ b. cond b to (owner i)) (eq-eqb (owner i
 pub handed_else : (owner : ℕ → ℕ) (other to i : ℕ) → owner i ≢ other → handed owner other to i ≡ owner i
 handed_else owner other to i n = ap (λ b. cond b to (owner i)) (ne_eqb (owner i) other n)
 
+-- the last of a list, with those that were taken before it, stands in the list turned round where it was counted
+pub nth_reversed : {A : Type 0} (xs new given : List A) (x d : A) (k : ℕ) → xs ≡ new ++ x ∷ given → length given ≡ k
+    → slice_index_or (reverse xs) k d ≡ x
+nth_reversed {A = A} xs new given x d k are many =
+    let long = ap length are ∙ length-append new (x ∷ given) in
+    let at : length xs - 1 - k ≡ length new = omega (arith, long, many) in
+    get_or-reverse xs k d (omega (arith, long, many))
+    ∙ ap (λ (j : ℕ). slice_index_or xs j d) at
+    ∙ ap (λ (l : List A). slice_index_or l (length new) d) are
+    ∙ get_or-append_seam new x given d
+
 module _ {D : Type 0} where
   pub each_map : (P Q : Knowledge D → Type 0) → ((t : Knowledge D) → P t → Q t) → (v : List (Knowledge D)) → Each P v
       → Each Q v
@@ -89,14 +103,24 @@ module _ {D : Type 0} where
   dealt k (suc m) f more =
       let a : suc k ≡ k + 1 = omega arith in let b : m ≡ suc m - 1 = omega arith in (refl, λ i. all_know (a i) (b i) f)
 
-  pub places_more : (z : TableId) (k n : ℕ) (f : History D)
-      → places_from z k (n + 1) f ≡ places_from z k n f ++ record { table = z; place = k + n; front = f } ∷ []
-  places_more z k zero f = let a : k ≡ k + 0 = omega arith in λ i. record { table = z; place = a i; front = f } ∷ []
-  places_more z k (suc n) f =
+  pub places_more : (d : DoorId) (k n : ℕ) (f : History D)
+      → places_from d k (n + 1) f ≡ places_from d k n f ++ place_out (berth_at d (k + n)) (k + n) f ∷ []
+  places_more d k zero f =
+      let a : k ≡ k + 0 = omega arith in ap (λ (m : ℕ). place_out (berth_at d m) m f ∷ []) a
+  places_more d k (suc n) f =
       let a : suc n + 1 ≡ suc (n + 1) = omega arith in let b : suc k + n ≡ k + suc n = omega arith in
-      ap (λ (m : ℕ). places_from z k m f) a
-      ∙ ap (λ (l : List (PlaceOut D)). record { table = z; place = k; front = f } ∷ l)
-      (places_more z (suc k) n f ∙ ap (λ (m : ℕ). places_from z (suc k) n f ++ record { table = z; place = m; front = f } ∷ []) b)
+      ap (λ (m : ℕ). places_from d k m f) a
+      ∙ ap (λ (l : List (PlaceOut D)). place_out (berth_at d k) k f ∷ l)
+      (places_more d (suc k) n f ∙ ap (λ (m : ℕ). places_from d (suc k) n f ++ place_out (berth_at d m) m f ∷ []) b)
+
+  -- one more place, which sleeps where it is woken
+  pub places_and : (d : DoorId) (k : ℕ) (b : Berth) (f : History D) → b ≡ berth_at d k
+      → places_from d 0 k f ++ place_out b k f ∷ [] ≡ places_from d 0 (k + 1) f
+  places_and d k b f is =
+      let same : k ≡ 0 + k = omega arith in
+      ap (λ (c : Berth). places_from d 0 k f ++ place_out c k f ∷ []) is
+      ∙ ap (λ (j : ℕ). places_from d 0 k f ++ place_out (berth_at d j) j f ∷ []) same
+      ∙ sym (places_more d 0 k f)
 
   -- what is known of one place's seat
   pub front_of-alone : (v : View D) (is : is_alone v ≡ true) (k : ℕ) (f : History D) → v ≡ alone k f → front_of v is ≡ f

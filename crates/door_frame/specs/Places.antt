@@ -1,5 +1,6 @@
 -- What a contract sees of a door, of a place, and of all places of a door.
-use Rattle.std.specs.Prelude.{◌≡◌, ◌⊎◌, ◌<◌, ℕ, zero, suc, true, List, [], ◌∷◌, All, slice_index}
+use Rattle.std.specs.Prelude.{◌≡◌, ◌⊎◌, ◌<◌, ℕ, zero, suc, true, List, [], ◌∷◌, All, slice_index, slice_index_or, Option}
+use Rattle.std.specs.Prelude.{Some, ⊤}
 use Rattle.atomic_table.specs.Seated.{TableId}
 use Rattle.hoare_law.specs.declared.event.History.{History}
 use Rattle.hoare_law.specs.Sizes.{Kinds, sizes_at}
@@ -9,46 +10,70 @@ use Rattle.hoare_law.specs.Turns.{turn, outside}
 use Rattle.hoare_law.specs.Growth.{Begins}
 use Rattle.hoare_law.specs.Lawful.{Rest, Ready, Stands}
 use Rattle.hoare_law.specs.Priorities.{priorities, taken}
+use Rattle.wait_book.specs.declared.steps.Next.{Next}
+use Rattle.wait_book.specs.declared.steps.Next.TheVariants.{For}
 
--- a door: its table, and how many places it has
+-- a door: its table, how many places it has, and what they sleep on, in their order
 pub record DoorId : Type 0 where
   pub table : TableId
   pub places : ℕ
+  pub sleepers : List TableId
 
-abbrev pub door_of : TableId → ℕ → DoorId
-door_of z n = record { table = z; places = n }
+abbrev pub door_of : TableId → ℕ → List TableId → DoorId
+door_of z n ws = record { table = z; places = n; sleepers = ws }
 
--- a place outside, of the door with this table, with its front
-pub record PlaceOut (D : Type 0) : Type 0 where
+-- what place k of the door sleeps on (if there is no such place, what nobody sleeps on: the table)
+abbrev pub sleeper_at : DoorId → ℕ → TableId
+sleeper_at d k = slice_index_or d.sleepers k d.table
+
+-- what a place has of its door: the table, and what it sleeps on
+pub record Berth : Type 0 where
   pub table : TableId
+  pub sleeper : TableId
+
+abbrev pub berth : TableId → TableId → Berth
+berth z w = record { table = z; sleeper = w }
+
+-- the berth of place k: what wakes place k wakes who sleeps there
+abbrev pub berth_at : DoorId → ℕ → Berth
+berth_at d k = berth d.table (sleeper_at d k)
+
+-- who goes on was woken
+abbrev pub IsWoken : DoorId → Next → Option TableId → Type 0
+IsWoken d (For k) woken = woken ≡ Some (sleeper_at d k)
+IsWoken d _ woken = ⊤
+
+-- a place outside, with its front
+pub record PlaceOut (D : Type 0) : Type 0 where
+  pub berth : Berth
   pub place : ℕ
   pub front : History D
 
 -- a place inside, with the data in hand
 pub record PlaceIn (D : Type 0) : Type 0 where
-  pub table : TableId
+  pub berth : Berth
   pub place : ℕ
   pub front : History D
   pub state : D
 
 module _ {D : Type 0} where
-  abbrev pub place_out : TableId → ℕ → History D → PlaceOut D
-  place_out z k f = record { table = z; place = k; front = f }
+  abbrev pub place_out : Berth → ℕ → History D → PlaceOut D
+  place_out b k f = record { berth = b; place = k; front = f }
 
-  abbrev pub place_in : TableId → ℕ → History D → D → PlaceIn D
-  place_in z k f s = record { table = z; place = k; front = f; state = s }
+  abbrev pub place_in : Berth → ℕ → History D → D → PlaceIn D
+  place_in b k f s = record { berth = b; place = k; front = f; state = s }
 
   abbrev pub with_state : PlaceIn D → D → PlaceIn D
-  with_state i s = place_in i.table i.place i.front s
+  with_state i s = place_in i.berth i.place i.front s
 
   -- who is inside has made ready what is owed to the first that waits on c
   abbrev pub Handed : Ready D → ℕ → PlaceIn D → Type 0
   Handed ready c i = ready c (slice_index (priorities i.front.events c) 0) i.state (taken (priorities i.front.events) c)
 
-  -- the places k, .., k + n - 1 of one door, with one front
-  abbrev pub places_from : TableId → ℕ → ℕ → History D → List (PlaceOut D)
-  places_from z k zero f = []
-  places_from z k (suc n) f = place_out z k f ∷ places_from z (suc k) n f
+  -- the places k, .., k + n - 1 of the door, with one front
+  abbrev pub places_from : DoorId → ℕ → ℕ → History D → List (PlaceOut D)
+  places_from d k zero f = []
+  places_from d k (suc n) f = place_out (berth_at d k) k f ∷ places_from d (suc k) n f
 
   -- place k is among them
   abbrev pub HasPlace : ℕ → List (PlaceOut D) → Type 0
@@ -61,9 +86,10 @@ module _ {D : Type 0} where
     pub own_are : own o.place h.events ≡ own o.place o.front.events
 
   module _ (rest : Rest D) (ready : Ready D) (kinds : Kinds) where
-    -- the place outside is of the door: what it knows is legal and lawful, and has it outside
+    -- the place outside is of the door: it sleeps where it is woken, and what it knows is legal and lawful, and has it
+    -- outside
     pub record IsOut (door : DoorId) (o : PlaceOut D) : Type 0 where
-      pub of : o.table ≡ door.table
+      pub of : o.berth ≡ berth_at door o.place
       pub sized : o.front.sizes ≡ sizes_at kinds door.places
       pub below : o.place < door.places
       pub stands : Stands rest ready o.front
@@ -71,7 +97,7 @@ module _ {D : Type 0} where
 
     -- the same of a place inside
     pub record IsIn (door : DoorId) (i : PlaceIn D) : Type 0 where
-      pub of : i.table ≡ door.table
+      pub of : i.berth ≡ berth_at door i.place
       pub sized : i.front.sizes ≡ sizes_at kinds door.places
       pub stands : Stands rest ready i.front
       pub is_inside : turn i.front.events ≡ Held i.place

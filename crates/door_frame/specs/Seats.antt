@@ -5,7 +5,7 @@ use Rattle.hoare_law.specs.declared.event.History.{History}
 use Rattle.hoare_law.specs.Events.{with_event}
 use Rattle.hoare_law.specs.Beside.Erasure.{erased}
 use Rattle.hoare_law.specs.Lawful.{Rest, Ready}
-use Rattle.hoare_law.specs.Turns.{outside}
+use Rattle.hoare_law.specs.Turns.{turn, IsGivenUp, outside}
 use Rattle.wait_book.specs.Contents.{Contents, IsOf}
 use Rattle.door_frame.specs.declared.parcel.Lodged.{Lodged}
 use Rattle.door_frame.specs.Steps.{Sat, Came}
@@ -19,6 +19,10 @@ module _ {D : Type 0} where
   -- the same with the slot, empty: the book in hand is of f
   abbrev pub IsInside : ℕ → History D → Sat D → Contents → Type 0
   IsInside k f me b = (me ≡ (alone k f, (0, None) ∷ [])) × IsOf b (erased f)
+
+  -- the seat of a place that has given the monitor up, as it knows
+  abbrev pub IsBehind : Sat D → Type 0
+  IsBehind me = (k : ℕ) × (f : History D) × IsAway k f me × IsGivenUp (turn f.events)
 
   -- the seat of the place k, which is outside
   abbrev pub IsNewcomer : ℕ → Sat D → Type 0

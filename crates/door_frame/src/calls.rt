@@ -9,7 +9,7 @@ ghost use Rattle.hoare_law.specs.Priorities.{emptied, joined, priorities, taken}
 ghost use Rattle.hoare_law.specs.declared.turn.Turn.TheVariants as turn;
 ghost use Rattle.wait_book.specs.Contents.{IsOf, priorities_on};
 ghost use Rattle.door_frame.specs.Notices.{IsCounted, Noted, after_notice, called_on};
-ghost use Rattle.door_frame.specs.Places.{IsOut, IsIn, Handed, place_in};
+ghost use Rattle.door_frame.specs.Places.{IsOut, IsIn, Handed, berth, place_in};
 ghost use Rattle.door_frame.specs.Steps.{Came, due};
 
 use crate::departure::Departure;
@@ -18,7 +18,7 @@ use crate::parcel::Parcel;
 use crate::place::{Inside, Outside};
 use crate::plays::DoorSeat;
 use crate::turnstile::Turnstile;
-use crossbeam_utils::sync::Parker;
+use crate::waking::Sleeper;
 use hoare_law::data::MonitorData;
 use std::sync::Wait;
 use wait_book::book::Book;
@@ -28,21 +28,21 @@ use wait_book::book::Book;
 pub fn brought_in<D: MonitorData>(
     seat: DoorSeat<D>,
     place: usize,
-    parker: Parker,
+    sleeper: Sleeper,
     mut parcel: Parcel<D>,
 ) -> Inside<D>
     requires came { (f : History D)
         × Came D.rest D.ready place f (event.Admit place) parcel None seat.me }
     ensures { (f : History D)
         (c : Came D.rest D.ready place f (event.Admit place) parcel None seat.me)
-        → result ≡ place_in seat.table_id place
+        → result ≡ place_in (berth seat.table_id sleeper) place
         (with_event c.log (event.Admit place parcel.state)) parcel.state }
 {
     parcel.held.book.admit(place);
     Inside {
         seat,
         place,
-        parker,
+        sleeper,
         parcel,
     }
 }
@@ -52,20 +52,20 @@ pub fn brought_in<D: MonitorData>(
 fn brought_back<D: MonitorData>(
     seat: DoorSeat<D>,
     place: usize,
-    parker: Parker,
+    sleeper: Sleeper,
     mut parcel: Parcel<D>,
 ) -> Inside<D>
     requires came { (f : History D)
         × Came D.rest D.ready place f (due place f) parcel None seat.me }
     ensures { (f : History D) (c : Came D.rest D.ready place f (due place f) parcel None seat.me)
-        → result ≡ place_in seat.table_id place
+        → result ≡ place_in (berth seat.table_id sleeper) place
         (with_event c.log (due place f parcel.state)) parcel.state }
 {
     parcel.held.book.claim(place);
     Inside {
         seat,
         place,
-        parker,
+        sleeper,
         parcel,
     }
 }
@@ -83,9 +83,9 @@ pub fn enter<D: MonitorData, T: Turnstile<D>, R: Wait>(
     ensures rest { D.rest result.state (priorities result.front.events) }
     ensures front { AddsLast out.front (event.Admit out.place result.state) result.front }
 {
-    let (mut seat, place, parker) = out.into_parts();
+    let (mut seat, place, sleeper) = out.into_parts();
     let parcel = door.admit(rt, &mut seat, place);
-    brought_in(seat, place, parker, parcel)
+    brought_in(seat, place, sleeper, parcel)
 }
 
 /// `Monitor::try_enter`.
@@ -103,10 +103,10 @@ pub fn try_enter<D: MonitorData, T: Turnstile<D>>(
         (λ i. AddsLast out.front (event.Admit out.place i.state) i.front) }
     ensures same { IfErr result (λ o. o ≡ out) }
 {
-    let (mut seat, place, parker) = out.into_parts();
+    let (mut seat, place, sleeper) = out.into_parts();
     match door.try_admit(&mut seat, place) {
-        Some(parcel) => Ok(brought_in(seat, place, parker, parcel)),
-        None => Err(Outside::of_parts(seat, place, parker)),
+        Some(parcel) => Ok(brought_in(seat, place, sleeper, parcel)),
+        None => Err(Outside::of_parts(seat, place, sleeper)),
     }
 }
 
@@ -122,12 +122,12 @@ pub fn leave<D: MonitorData, T: Turnstile<D>>(door: &T, inside: Inside<D>) -> Ou
     let Inside {
         mut seat,
         place,
-        parker,
+        sleeper,
         mut parcel,
     } = inside;
     let next = parcel.held.book.leave(place);
     door.hand_on(&mut seat, parcel, place, Departure::Leave, next);
-    Outside::of_parts(seat, place, parker)
+    Outside::of_parts(seat, place, sleeper)
 }
 
 /// `Monitor::wait`.
@@ -154,7 +154,7 @@ pub fn wait<D: MonitorData, T: Turnstile<D>, R: Wait>(
     let Inside {
         mut seat,
         place,
-        parker,
+        sleeper,
         mut parcel,
     } = inside;
     let next = parcel.held.book.wait(place, condition, priority);
@@ -165,8 +165,8 @@ pub fn wait<D: MonitorData, T: Turnstile<D>, R: Wait>(
         Departure::Wait(condition, priority),
         next,
     );
-    let parcel = door.claim(rt, &mut seat, place, &parker);
-    brought_back(seat, place, parker, parcel)
+    let parcel = door.claim(rt, &mut seat, place, &sleeper);
+    brought_back(seat, place, sleeper, parcel)
 }
 
 /// `Monitor::signal`.
@@ -194,13 +194,13 @@ pub fn signal<D: MonitorData, T: Turnstile<D>, R: Wait>(
     let Inside {
         mut seat,
         place,
-        parker,
+        sleeper,
         mut parcel,
     } = inside;
     let next = parcel.held.book.signal(place, condition);
     door.hand_on(&mut seat, parcel, place, Departure::Signal(condition), next);
-    let parcel = door.claim(rt, &mut seat, place, &parker);
-    (brought_back(seat, place, parker, parcel), true)
+    let parcel = door.claim(rt, &mut seat, place, &sleeper);
+    (brought_back(seat, place, sleeper, parcel), true)
 }
 
 /// `Monitor::signal_leave`.
@@ -226,12 +226,12 @@ pub fn signal_leave<D: MonitorData, T: Turnstile<D>>(
     let Inside {
         mut seat,
         place,
-        parker,
+        sleeper,
         mut parcel,
     } = inside;
     let next = parcel.held.book.pass(place, condition);
     door.hand_on(&mut seat, parcel, place, Departure::Pass(condition), next);
-    (Outside::of_parts(seat, place, parker), true)
+    (Outside::of_parts(seat, place, sleeper), true)
 }
 
 /// The book calls those that the notice calls. How many they are is told of a broadcast.

@@ -14,3 +14,4 @@ pub mod rule;
 pub mod slot;
 pub mod turnstile;
 pub mod view;
+pub mod waking;

@@ -1,5 +1,5 @@
 //! How a door is made, and taken apart.
-ghost use Rattle.std.specs.Prelude.{◌≡◌, ◌<◌, ◌≤◌, ℕ, List, [], false, length, vec_len, vec_capacity, IfOk, IfErr, All};
+ghost use Rattle.std.specs.Prelude.{◌≡◌, ◌<◌, ◌≤◌, ℕ, List, [], false, reverse, length, vec_len, vec_capacity, IfOk, IfErr, All};
 ghost use Rattle.hoare_law.specs.declared.event.History.{History};
 ghost use Rattle.hoare_law.specs.Sizes.{kinds_of};
 ghost use Rattle.hoare_law.specs.Priorities.{nobody};
@@ -11,25 +11,26 @@ use crate::parcel::Parcel;
 use crate::place::Outside;
 use crate::plays::{Deal, DoorSeat, Gather};
 use crate::rule::{DoorTable, Words};
+use crate::waking::{Sleeper, Waker};
 use atomic_table::Table;
-use crossbeam_utils::sync::{Parker, Unparker};
 use hoare_law::data::MonitorData;
 use std::alloc::{AllocError, Global};
 use wait_book::book::Book;
 
-/// A parker for each place, the last place's first, and what wakes them, the first place's first.
-pub fn parkers(alloc: Global, places: usize) -> Result<(Vec<Parker>, Vec<Unparker>), AllocError>
-    ensures { IfOk result (λ r. (vec_len r.0 ≡ places) × (vec_len r.1 ≡ places)) }
+/// What each place sleeps on, the last place's first, and what wakes each, the first place's first.
+pub fn sleepers(alloc: Global, places: usize) -> Result<(Vec<Sleeper>, Vec<Waker>), AllocError>
+    ensures sizes { IfOk result (λ r. (vec_len r.0 ≡ places) × (vec_len r.1 ≡ places)) }
+    ensures each_wakes { IfOk result (λ r. r.1.items ≡ reverse r.0.items) }
 {
-    let mut parkers = Vec::with_capacity(alloc, places)?;
+    let mut sleepers = Vec::with_capacity(alloc, places)?;
     let mut wakers = Vec::with_capacity(alloc, places)?;
     for made in 0..places {
-        let parker = Parker::new(alloc)?;
-        wakers.push(parker.unparker().clone()?)?;
-        parkers.push(parker)?;
+        let (sleeper, waker) = Sleeper::new(alloc)?;
+        wakers.push(waker)?;
+        sleepers.push(sleeper)?;
     }
-    parkers.reverse();
-    Ok((parkers, wakers))
+    sleepers.reverse();
+    Ok((sleepers, wakers))
 }
 
 /// A table whose slot is empty, its first seat, and what is to lie in the slot. Where memory is refused, the data come back:
@@ -56,42 +57,43 @@ pub fn vacant<D: MonitorData, K, W: Words<D, K>>(
     }
 }
 
-/// The places, each with its parker, of a seat that stands for all of them.
+/// The places, each with what it sleeps on, of a seat that stands for all of them.
 pub fn deal<D: MonitorData, K, W: Words<D, K>>(
     table: &DoorTable<D, K, W>,
     mut seat: DoorSeat<D>,
-    mut parkers: Vec<Parker>,
+    mut sleepers: Vec<Sleeper>,
     mut outs: Vec<Outside<D>>,
     places: usize,
 ) -> Vec<Outside<D>>
     requires table { (seat.table_id ≡ table.now.shared.table_id)
         × (0 < table.now.shared.table_id.words) }
-    requires room { (vec_len outs ≡ 0) × (places ≤ vec_capacity outs) × (vec_len parkers ≡ places) }
+    requires room { (vec_len outs ≡ 0) × (places ≤ vec_capacity outs) × (vec_len sleepers ≡ places) }
     requires seat { (f : History D) × (seat.me ≡ (Places (all_know 0 places f), [])) }
     ensures { (f : History D) → seat.me ≡ (Places (all_know 0 places f), [])
-        → result.items ≡ places_from table.now.shared.table_id 0 places f }
+        → result.items ≡ places_from (door_of table.now.shared.table_id places (reverse sleepers.items)) 0 places f }
 {
     for place in 0..places {
         let cut = table.shared.split_seat::<Deal>(&mut seat);
-        let parker = parkers.pop().unwrap();
-        outs.push_reserved(Outside::of_parts(cut, place, parker));
+        let sleeper = sleepers.pop().unwrap();
+        outs.push_reserved(Outside::of_parts(cut, place, sleeper));
     }
     outs
 }
 
-/// Takes the table apart: all places are handed in, in any order. The data are those that one legal and lawful history left,
+/// Takes the door's parts apart: all places are handed in, in any order. The data are those that one legal and lawful history left,
 /// and at rest with nobody waiting.
 pub fn closed<D: MonitorData, K, W: Words<D, K>>(
     table: DoorTable<D, K, W>,
+    wakers: Vec<Waker>,
     mut outs: Vec<Outside<D>>,
 ) -> D
     requires table { (0 < table.shared.table_id.words) × (table.shared.table_id.slots ≡ 1)
         × (0 < W.places table.shared.key) }
     requires of { All (IsOut D.rest D.ready (kinds_of D.CONDITIONS D.MESA)
-        (door_of table.shared.table_id (W.places table.shared.key))) outs.items }
+        (door_of table.shared.table_id (W.places table.shared.key) wakers.items)) outs.items }
     requires places { (k : ℕ) → k < W.places table.shared.key → HasPlace k outs.items }
     ensures closes { Closes D.rest D.ready (kinds_of D.CONDITIONS D.MESA)
-        (door_of table.shared.table_id (W.places table.shared.key)) outs.items result }
+        (door_of table.shared.table_id (W.places table.shared.key) wakers.items) outs.items result }
     ensures rest { D.rest result nobody }
 {
     let Some(first) = outs.pop() else {

@@ -4,28 +4,28 @@ ghost use Rattle.door_frame.specs.Views.{is_alone};
 
 use crate::parcel::Parcel;
 use crate::plays::DoorSeat;
-use crossbeam_utils::sync::Parker;
+use crate::waking::Sleeper;
 use std::marker::Model;
 use wait_book::book::Book;
 
 /// A place outside: it may enter. It moves between threads, can't be copied, and a place that is dropped is never heard of
-/// again (then its door can't be closed). A contract sees its door, its number and its front.
+/// again (then its door can't be closed). A contract sees its berth, its number and its front.
 #[derive(Drop)]
 pub struct Outside<D> {
     seat: DoorSeat<D>,
     place: usize,
-    parker: Parker,
+    sleeper: Sleeper,
     ghost alone: { is_alone seat.me.0 ≡ true },
 }
 
 impl<D> Model for Outside<D> {
-    ghost use Rattle.door_frame.specs.Places.{PlaceOut, place_out};
+    ghost use Rattle.door_frame.specs.Places.{PlaceOut, berth, place_out};
     ghost use Rattle.door_frame.specs.Views.{front_of};
     ghost use Rattle.door_frame.specs.Seats.{IsAway};
 
     ghost Value = { PlaceOut D };
 
-    ghost view = { λ o. place_out o.seat.table_id o.place (front_of o.seat.me.0 o.alone) };
+    ghost view = { λ o. place_out (berth o.seat.table_id o.sleeper) o.place (front_of o.seat.me.0 o.alone) };
 
     ghost invariant = { λ o. IsAway o.place (front_of o.seat.me.0 o.alone) o.seat.me };
 }
@@ -33,36 +33,36 @@ impl<D> Model for Outside<D> {
 impl<D> Outside<D> {
     ghost use Rattle.hoare_law.specs.declared.event.History.{History};
     ghost use Rattle.std.specs.Prelude.{◌≡◌, true};
-    ghost use Rattle.door_frame.specs.Places.{place_out};
+    ghost use Rattle.door_frame.specs.Places.{berth, place_out};
     ghost use Rattle.door_frame.specs.Seats.{IsAway};
     ghost use Rattle.door_frame.specs.Views.{is_alone, front_of};
 
     /// A place of its parts. It is there for doors on this frame: a seat can't be had otherwise.
     #[inline]
-    pub fn of_parts(seat: DoorSeat<D>, place: usize, parker: Parker) -> Outside<D>
+    pub fn of_parts(seat: DoorSeat<D>, place: usize, sleeper: Sleeper) -> Outside<D>
         requires { (f : History D) × IsAway place f seat.me }
         ensures { (f : History D) → IsAway place f seat.me
-            → result ≡ place_out seat.table_id place f }
+            → result ≡ place_out (berth seat.table_id sleeper) place f }
     {
         Outside {
             seat,
             place,
-            parker,
+            sleeper,
         }
     }
 
-    /// The seat, the number and the parker.
+    /// The seat, the number, and what the place sleeps on.
     #[inline]
-    pub fn into_parts(self) -> (DoorSeat<D>, usize, Parker)
-        ensures { (result.0.table_id ≡ self.table) × (result.1 ≡ self.place)
+    pub fn into_parts(self) -> (DoorSeat<D>, usize, Sleeper)
+        ensures { (berth result.0.table_id result.2 ≡ self.berth) × (result.1 ≡ self.place)
             × IsAway self.place self.front result.0.me }
     {
         let Outside {
             seat,
             place,
-            parker,
+            sleeper,
         } = self;
-        (seat, place, parker)
+        (seat, place, sleeper)
     }
 }
 
@@ -70,20 +70,20 @@ impl<D> Outside<D> {
 pub struct Inside<D> {
     pub(crate) seat: DoorSeat<D>,
     pub(crate) place: usize,
-    pub(crate) parker: Parker,
+    pub(crate) sleeper: Sleeper,
     /// Data and queues. A door on this frame lends them: who changes the queues by hand can't give the place back.
     pub parcel: Parcel<D>,
     ghost alone: { is_alone seat.me.0 ≡ true },
 }
 
 impl<D> Model for Inside<D> {
-    ghost use Rattle.door_frame.specs.Places.{PlaceIn, place_in};
+    ghost use Rattle.door_frame.specs.Places.{PlaceIn, berth, place_in};
     ghost use Rattle.door_frame.specs.Views.{front_of};
     ghost use Rattle.door_frame.specs.Seats.{IsInside};
 
     ghost Value = { PlaceIn D };
 
-    ghost view = { λ i. place_in i.seat.table_id i.place
+    ghost view = { λ i. place_in (berth i.seat.table_id i.sleeper) i.place
         (front_of i.seat.me.0 i.alone) i.parcel.state };
 
     ghost invariant = { λ i. IsInside i.place

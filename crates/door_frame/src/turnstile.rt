@@ -4,7 +4,7 @@ ghost use Rattle.std.specs.Prelude.{◌≡◌, ◌<◌, IfSome, IfNone};
 ghost use Rattle.hoare_law.specs.declared.event.History.{History};
 ghost use Rattle.hoare_law.specs.declared.event.Event.TheVariants as event;
 ghost use Rattle.wait_book.specs.Contents.{IsPlaceBelow};
-ghost use Rattle.door_frame.specs.Places.{DoorId};
+ghost use Rattle.door_frame.specs.Places.{DoorId, IsWoken, sleeper_at};
 ghost use Rattle.door_frame.specs.Steps.{MayGive, MayNote, due};
 ghost use Rattle.door_frame.specs.Seats.{IsAway, IsNewcomer, ComesIn, GoesOut, StaysIn};
 ghost use Rattle.door_frame.specs.Departures.{event_of};
@@ -14,7 +14,7 @@ use crate::departure::Departure;
 use crate::notice::Notice;
 use crate::parcel::Parcel;
 use crate::plays::DoorSeat;
-use crossbeam_utils::sync::Parker;
+use crate::waking::{Sleeper, Woken};
 use hoare_law::data::MonitorData;
 use std::sync::Wait;
 use wait_book::steps::Next;
@@ -42,21 +42,22 @@ pub trait Turnstile<D: MonitorData> {
             seat.old.me parcel seat.new.me) }
         ensures same { IfNone result (seat.new.me ≡ seat.old.me) };
 
-    /// Waits until the monitor is owed to the place, comes in and takes the parcel.
+    /// Waits until the monitor is owed to the place, comes in and takes the parcel. It sleeps where it is woken.
     fn claim<R: Wait>(
         &self,
         rt: &R,
         seat: &mut DoorSeat<D>,
         place: usize,
-        parker: &Parker,
+        sleeper: &Sleeper,
     ) -> Parcel<D>
         requires table { seat.old.table_id ≡ (id self.now).table }
         requires small { place < (id self.now).places }
+        requires sleeper { sleeper.now ≡ sleeper_at (id self.now) place }
         requires away { (f : History D) × IsAway place f seat.old.me }
         ensures table { seat.new.table_id ≡ seat.old.table_id }
         ensures came { ComesIn D.rest D.ready place (due place) seat.old.me result seat.new.me };
 
-    /// Gives the parcel back by the event of the departure, and wakes the place that goes on.
+    /// Gives the parcel back by the event of the departure, and wakes the place that goes on: then the answer shows it.
     fn hand_on(
         &self,
         seat: &mut DoorSeat<D>,
@@ -64,14 +65,15 @@ pub trait Turnstile<D: MonitorData> {
         place: usize,
         departure: Departure,
         next: Next,
-    )
+    ) -> Option<Woken>
         requires table { seat.old.table_id ≡ (id self.now).table }
         requires next { IsPlaceBelow (id self.now).places next }
         requires event { MayGive D.rest D.ready (event_of place departure next) place
             seat.old.me parcel next }
         ensures table { seat.new.table_id ≡ seat.old.table_id }
         ensures away { GoesOut place (event_of place departure next)
-            seat.old.me parcel.state seat.new.me };
+            seat.old.me parcel.state seat.new.me }
+        ensures woken { IsWoken (id self.now) next result };
 
     /// Tells of the notice's event: a look at a word, by which the place inside comes to know of it. What is found
     /// isn't looked at, and no word changes. `parcel` is there for the data that the event has.

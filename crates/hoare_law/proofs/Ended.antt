@@ -1,5 +1,7 @@
--- A history in which everybody is outside: it is nobody's turn, nobody waits, and the data are at rest.
-use Rattle.std.proofs.Common.{◌≡◌, ◌≢◌, ℕ, ◌<◌, true, false, List, [], Option, Some, None, refl, ap, sym, ◌∙◌, subst}
+-- Whose turn it is, isn't outside. So where everybody is outside it is nobody's turn, nobody waits, and the data are at
+-- rest.
+use Rattle.std.proofs.Common.{◌≡◌, ◌⊎◌, inl, inr, ℕ, ◌<◌, true, false, List, [], Option, Some, None, refl, ap, sym}
+use Rattle.std.proofs.Common.{◌∙◌, subst}
 use Rattle.std.proofs.Common.{true≢false}
 use Rattle.hoare_law.specs.declared.event.Event.{Event}
 use Rattle.hoare_law.specs.declared.event.History.{History}
@@ -25,21 +27,37 @@ module _ {S : Type 0} where
 
   -- a place whose last event isn't its going out is not outside
   not_outside : (h : List (Event S)) (k : ℕ) (e : Event S) → newest (own k h) ≡ Some e → is_out (Some e) ≡ false
-      → outside k h ≢ true
+      → outside k h ≡ false
   unfolding outside
-  not_outside h k e last stays out = true≢false (sym out ∙ ap is_out last ∙ stays)
+  not_outside h k e last stays = ap is_out last ∙ stays
+
+  pub outside-owed : (h : History S) (k c : ℕ) → IsLegal h → turn h.events ≡ Owed k c → outside k h.events ≡ false
+  outside-owed h k c legal is =
+      let last = own-owed h k c legal is in not_outside h.events k (Wait k c last.0 last.1) last.2 refl
+
+  pub outside-returning : (h : List (Event S)) (k : ℕ) → turn h ≡ Return k → outside k h ≡ false
+  outside-returning h k is =
+      let last = own-returning h k is in not_outside h k (Signal k last.0 last.1 last.2) last.3 refl
+
+  -- it is nobody's turn, or that of a place that isn't outside
+  pub turn-outside : (h : History S) → IsLegal h
+      → (turn h.events ≡ Free) ⊎ ((k : ℕ) × (k < h.sizes.places) × (outside k h.events ≡ false))
+  turn-outside h legal = by (turn h.events) refl
+    where
+      by : (t : Turn) → turn h.events ≡ t
+          → (turn h.events ≡ Free) ⊎ ((k : ℕ) × (k < h.sizes.places) × (outside k h.events ≡ false))
+      by Free is = inl is
+      by (Held k) is = inr (k, held-in_range h k legal is, outside-held h.events k is)
+      by (Owed k c) is = inr (k, (owed-in_range h k c legal is).0, outside-owed h k c legal is)
+      by (Return k) is = inr (k, return-in_range h k legal is, outside-returning h.events k is)
 
   pub turn-ended : (h : History S) → IsLegal h → AllOutside h → turn h.events ≡ Free
-  turn-ended h legal out = by (turn h.events) refl
+  turn-ended h legal out = by (turn-outside h legal)
     where
-      by : (t : Turn) → turn h.events ≡ t → t ≡ Free
-      by Free is = refl
-      by (Held k) is = absurd (true≢false (sym (out k (held-in_range h k legal is)) ∙ outside-held h.events k is))
-      by (Owed k c) is = let last = own-owed h k c legal is in
-          absurd (not_outside h.events k (Wait k c last.0 last.1) last.2 refl (out k (owed-in_range h k c legal is).0))
-      by (Return k) is = let last = own-returning h.events k is in
-          absurd
-          (not_outside h.events k (Signal k last.0 last.1 last.2) last.3 refl (out k (return-in_range h k legal is)))
+      by : (turn h.events ≡ Free) ⊎ ((k : ℕ) × (k < h.sizes.places) × (outside k h.events ≡ false))
+          → turn h.events ≡ Free
+      by (inl free) = free
+      by (inr b) = absurd (true≢false (sym (out b.0 b.1) ∙ b.2))
 
   pub waiting-ended : (h : History S) (c : ℕ) → IsLegal h → AllOutside h → waiting c h.events ≡ []
   waiting-ended h c legal out = waiting-unchosen c h.events (by (chosen c h.events) refl)
@@ -49,8 +67,9 @@ module _ {S : Type 0} where
       by (Some x) is =
           let w = chosen-waits c h.events x is in
           let here = (chosen-in_range c h x legal is).0 in
-          absurd
-          (not_outside h.events (place_of x) x w.last (ap (λ y. is_out (Some y)) (waits_on-is c x w.on)) (out (place_of x) here))
+          let stays : outside (place_of x) h.events ≡ false =
+          not_outside h.events (place_of x) x w.last (ap (λ y. is_out (Some y)) (waits_on-is c x w.on)) in
+          absurd (true≢false (sym (out (place_of x) here) ∙ stays))
 
   pub priorities-ended : (h : History S) → IsLegal h → AllOutside h → priorities h.events ≡ nobody
   priorities-ended h legal out = λ i c. priorities-nobody c h.events (waiting-ended h c legal out) i

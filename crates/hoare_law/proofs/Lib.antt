@@ -24,3 +24,4 @@ pub mod Calling
 pub mod Ended
 pub mod Admissions
 pub mod Came
+pub mod Inside

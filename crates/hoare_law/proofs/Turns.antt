@@ -1,6 +1,6 @@
 -- Whose turn it is and who is outside after one more event.
 use Rattle.std.proofs.Common.{◌≡◌, ◌==◌, ◌&&◌, not, ℕ, List, [], ◌∷◌, ◌++◌, Bool, true, false, cond, map, Some, refl}
-use Rattle.std.proofs.Common.{ap, sym, ◌∙◌}
+use Rattle.std.proofs.Common.{◌≢◌, ap, sym, ◌∙◌, ne_eqb}
 use Rattle.std.specs.List.{filter, list_all}
 use Rattle.std.proofs.lemmas.List.{map-append, append-nil}
 use Rattle.hoare_law.specs.declared.event.Event.{Event}
@@ -51,3 +51,9 @@ pub outside-push : {S : Type 0} (k : ℕ) (h : List (Event S)) (e : Event S)
     → outside k (h ++ e ∷ []) ≡ cond (place_of e == k) (is_out (Some e)) (outside k h)
 unfolding outside
 outside-push k h e = ap (λ l. is_out (newest l)) (own-push k h e) ∙ out_by (place_of e == k) (own k h) e
+
+-- so it is where another acts
+pub outside-other : {S : Type 0} (k : ℕ) (h : List (Event S)) (e : Event S) → place_of e ≢ k
+    → outside k (h ++ e ∷ []) ≡ outside k h
+outside-other k h e ne =
+    outside-push k h e ∙ ap (λ b. cond b (is_out (Some e)) (outside k h)) (ne_eqb (place_of e) k ne)

@@ -3,7 +3,8 @@
 -- behind them and before newcomers is this project's choice).
 use Rattle.std.specs.Prelude.{ℕ, List, [], ◌∷◌, ◌&&◌, Bool, true, false, Option, Some, None, map}
 use Rattle.hoare_law.specs.declared.event.Event.{Event}
-use Rattle.hoare_law.specs.declared.event.Event.TheVariants.{Wait, Signal, Pass, Leave}
+use Rattle.hoare_law.specs.declared.event.Event.TheVariants.{Admit, Wait, Signal, Pass, Leave, Resume, Back, Notify}
+use Rattle.hoare_law.specs.declared.event.Event.TheVariants.{Broadcast}
 use Rattle.hoare_law.specs.declared.turn.Turn.{Turn}
 use Rattle.hoare_law.specs.declared.turn.Turn.TheVariants.{Free, Held, Owed, Return}
 use Rattle.hoare_law.specs.Events.{place_of, own, newest}
@@ -75,3 +76,16 @@ is_out (Some _) = false
 -- place k is outside: it did nothing yet, or last left or passed
 unfoldable pub outside : {S : Type 0} → ℕ → List (Event S) → Bool
 outside k h = is_out (newest (own k h))
+
+-- a place with this last event is inside: it came in, went on, came back, or called others
+abbrev pub is_in : {S : Type 0} → Option (Event S) → Bool
+is_in (Some (Admit k s)) = true
+is_in (Some (Resume k c s)) = true
+is_in (Some (Back k s)) = true
+is_in (Some (Notify k c w s)) = true
+is_in (Some (Broadcast k c s)) = true
+is_in _ = false
+
+-- place k is inside, by its own events alone
+unfoldable pub inside : {S : Type 0} → ℕ → List (Event S) → Bool
+inside k h = is_in (newest (own k h))

@@ -9,14 +9,19 @@ ghost use Rattle.hoare_law.specs.Sizes.{IsMesa};
 ghost use Rattle.hoare_law.specs.Waiting.{priority_of, condition_of, waits_on, waiting, chosen};
 ghost use Rattle.hoare_law.specs.Priorities.{in_order};
 ghost use Rattle.hoare_law.specs.Called.{called};
-ghost use Rattle.hoare_law.specs.Turns.{turn, urgent, outside};
+ghost use Rattle.hoare_law.specs.Turns.{turn, urgent, inside, outside};
 ghost use Rattle.hoare_law.specs.Legal.{Allowed, IsLegal};
 ghost use Rattle.hoare_law.specs.Growth.{Begins};
 
-/// At most one process is inside, and it is not outside too ("Monitors", Introduction).
+/// After each beginning of a legal history at most one place is inside, where a place is inside by what it did last itself. Then
+/// it is that place's turn, and it isn't outside too ("Monitors", Introduction).
 pub fn one_is_inside<S>()
-    ensures one { (h : List (Event S)) (j k : ℕ) → turn h ≡ Held j → turn h ≡ Held k → j ≡ k }
-    ensures inside { (h : List (Event S)) (k : ℕ) → turn h ≡ Held k → outside k h ≡ false }
+    ensures one { (h : History S) (f later : List (Event S)) (j k : ℕ) → IsLegal h
+        → h.events ≡ f ++ later → inside j f ≡ true → inside k f ≡ true → j ≡ k }
+    ensures turn { (h : History S) (k : ℕ) → IsLegal h → inside k h.events ≡ true
+        → turn h.events ≡ Held k }
+    ensures its_turn { (h : List (Event S)) (k : ℕ) → turn h ≡ Held k → inside k h ≡ true }
+    ensures not_outside { (h : List (Event S)) (k : ℕ) → turn h ≡ Held k → outside k h ≡ false }
 {}
 
 /// Behind a signal the resumed process goes on at once: no third process comes between, and it finds the data as the signaller

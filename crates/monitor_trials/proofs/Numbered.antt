@@ -1,14 +1,13 @@
 -- The places of a test are numbered in order, as a door's are.
 use Rattle.std.proofs.Common.{ℕ, zero, suc, List, [], ◌∷◌, ◌≡◌, ◌<◌, length, sym, subst, ◌∙◌, arith}
-use Rattle.atomic_table.specs.Seated.{TableId}
 use Rattle.hoare_law.specs.declared.event.History.{History}
-use Rattle.door_frame.specs.Places.{PlaceOut, places_from, HasPlace}
+use Rattle.door_frame.specs.Places.{DoorId, PlaceOut, places_from, HasPlace}
 use Rattle.door_frame.proofs.PlacesInOrder.{length-places, nth-places, has_nth}
 use Rattle.monitor_trials.specs.Numbered.{IsNumbered}
 
 module _ {D : Type 0} where
   -- a door's places are numbered in order
-  pub IsNumbered-places : (z : TableId) (n : ℕ) (f : History D)
+  pub IsNumbered-places : (z : DoorId) (n : ℕ) (f : History D)
       → IsNumbered (λ (o : PlaceOut D). o.place) (places_from z 0 n f)
   IsNumbered-places z n f k d l =
       let count = length-places z 0 n f in nth-places z 0 n f k d (omega arith) ∙ omega arith

@@ -1,6 +1,5 @@
 -- The seat of a place that asked.
 use Rattle.std.proofs.Common.{◌≡◌, ℕ, ◌+◌, ◌%◌, ◌^◌, true, [], None, refl, sym, ap, ◌∙◌, subst}
-use Rattle.atomic_table.specs.Seated.{TableId}
 use Rattle.hoare_law.specs.declared.event.Event.TheVariants.{Admit}
 use Rattle.hoare_law.specs.Sizes.{Kinds}
 use Rattle.hoare_law.specs.Events.{with_event}
@@ -8,7 +7,7 @@ use Rattle.hoare_law.specs.Lawful.{Rest, Ready}
 use Rattle.door_frame.specs.declared.parcel.Lodged.{Lodged}
 use Rattle.hoare_law.specs.Growth.{AddsLast}
 use Rattle.hoare_law.specs.Priorities.{priorities}
-use Rattle.door_frame.specs.Places.{PlaceOut, PlaceIn, IsOut, IsIn, place_in}
+use Rattle.door_frame.specs.Places.{Berth, PlaceOut, PlaceIn, IsOut, IsIn, place_in}
 use Rattle.door_frame.proofs.Arrivals.{Entered, entered}
 use Rattle.hoare_law.specs.declared.event.History.{History}
 use Rattle.door_frame.specs.Steps.{Sat, Came}
@@ -36,11 +35,11 @@ module _ {D : Type 0} where
 
   module _ (rest : Rest D) (ready : Ready D) (kinds : Kinds) where
     pub asked_is : (d : TicketDoorId) (o : PlaceOut D) (a : PlaceAsked D) → IsOut rest ready kinds d.door o
-        → a.table ≡ d.door.table → a.place ≡ o.place → a.front ≡ o.front
+        → a.berth ≡ o.berth → a.place ≡ o.place → a.front ≡ o.front
         → a.ticket ≡ (d.first + a.number) % 2 ^ 64
         → IsAsked rest ready kinds d a
     asked_is d o a out of at front ticket = record {
-      out = subst (IsOut rest ready kinds d.door) (λ i. record { table = (out.of ∙ sym of) i; place = sym at i; front = sym front i }) out;
+      out = subst (IsOut rest ready kinds d.door) (λ i. record { berth = sym of i; place = sym at i; front = sym front i }) out;
       ticket_is = ticket;
     }
 
@@ -64,9 +63,9 @@ module _ {D : Type 0} where
       pub front : AddsLast a.front (Admit a.place i.state) i.front
       pub in_turn : EntersBy d.first a.ticket i.front
 
-    pub came_in : {d : TicketDoorId} {a b : PlaceAsked D} {i : PlaceIn D} {t : TableId} {x : Lodged D} {m : Sat D}
+    pub came_in : {d : TicketDoorId} {a b : PlaceAsked D} {i : PlaceIn D} {t : Berth} {x : Lodged D} {m : Sat D}
         → b ≡ a
-        → IsAsked rest ready kinds d b → t ≡ b.table → (c : Came rest ready b.place b.front (Admit b.place) x None m)
+        → IsAsked rest ready kinds d b → t ≡ b.berth → (c : Came rest ready b.place b.front (Admit b.place) x None m)
         → admissions c.log.events ≡ b.number → i ≡ place_in t b.place (with_event c.log (Admit b.place x.state)) x.state
         → CameIn d a i
     came_in {d = d} {b = b} {i = i} {t = t} {x = x} same asked table c counted is =

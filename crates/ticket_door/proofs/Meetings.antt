@@ -1,12 +1,11 @@
 -- Two places that met.
 use Rattle.std.proofs.Common.{◌≡◌, ℕ, List, [], ◌∷◌, None, refl, sym, ap, ◌∙◌, subst}
-use Rattle.atomic_table.specs.Seated.{TableId}
 use Rattle.hoare_law.specs.declared.event.History.{History}
 use Rattle.hoare_law.specs.Sizes.{Kinds}
 use Rattle.hoare_law.specs.Lawful.{Rest, Ready, Stands}
 use Rattle.door_frame.specs.declared.view.Knowledge.{Knowledge}
 use Rattle.door_frame.specs.declared.view.View.TheVariants.{Places}
-use Rattle.door_frame.specs.Places.{DoorId, PlaceOut, IsOut, IsTold, place_out}
+use Rattle.door_frame.specs.Places.{Berth, DoorId, PlaceOut, IsOut, IsTold, berth_at, place_out}
 use Rattle.door_frame.specs.Seats.{IsAway}
 use Rattle.door_frame.specs.Steps.{Sat, Known, Learns}
 use Rattle.door_frame.specs.Views.{alone, knows, both_places, places_behind, first_place}
@@ -46,9 +45,9 @@ module _ {D : Type 0} where
     pub front : r.front ≡ h
 
   module _ (rest : Rest D) (ready : Ready D) where
-    pub out_as : (kinds : Kinds) (d : DoorId) (o r : PlaceOut D) (t : TableId) (k : ℕ) (h : History D)
+    pub out_as : (kinds : Kinds) (d : DoorId) (o r : PlaceOut D) (t : Berth) (k : ℕ) (h : History D)
         → IsOut rest ready kinds d o
-        → Stands rest ready h → Known h (knows o.place o.front None) → t ≡ d.table → k ≡ o.place → r ≡ place_out t k h
+        → Stands rest ready h → Known h (knows o.place o.front None) → t ≡ berth_at d o.place → k ≡ o.place → r ≡ place_out t k h
         → Learnt rest ready kinds d o h r
     out_as kinds d o r t k h out stands known of place is =
         subst (Learnt rest ready kinds d o h) (sym (is ∙ (λ i. place_out t (place i) h)))

@@ -31,6 +31,7 @@ module _ {D : Type 0} (first n : ℕ) where
     queue = [];
     once = λ k. omega arith;
     below = λ k some. absurd (omega (arith, some));
+    are_outside = λ k some. absurd (omega (arith, some));
     gate = ajar;
     tokens_are = λ k. refl;
     next = st.next ∙ ap (λ (m : ℕ). m % 2 ^ 64) (let same : first ≡ first + 0 = omega arith in same);

@@ -74,8 +74,8 @@ once_more q k once z j = dite (ℕ_discrete j k)
     omega (arith, times-append j q (k ∷ []), t, o))
     (λ ne. omega (arith, times-append j q (k ∷ []), once j, one_apart j k (ne_eqb j k ne)))
 
-pub below_more : (q : List ℕ) (k n : ℕ) → k < n → ((j : ℕ) → 0 < times j q → j < n) → (j : ℕ)
-    → 0 < times j (q ++ k ∷ []) → j < n
-below_more q k n small below j some = dite (ℕ_discrete j k)
-    (λ same. omega (arith, small, same))
-    (λ ne. below j (omega (arith, some, times-append j q (k ∷ []), one_apart j k (ne_eqb j k ne))))
+pub all_more : (P : ℕ → Type 0) (q : List ℕ) (k : ℕ) → P k → ((j : ℕ) → 0 < times j q → P j) → (j : ℕ)
+    → 0 < times j (q ++ k ∷ []) → P j
+all_more P q k here all j some = dite (ℕ_discrete j k)
+    (λ same. subst P (sym same) here)
+    (λ ne. all j (omega (arith, some, times-append j q (k ∷ []), one_apart j k (ne_eqb j k ne))))

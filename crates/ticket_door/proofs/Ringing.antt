@@ -1,5 +1,5 @@
 -- The pass "bells": who hands over rings, and who is rung comes back.
-use Rattle.std.proofs.Common.{◌≡◌, ◌≢◌, ℕ, ◌+◌, ◌<◌, ◌%◌, ◌^◌, List, [], ◌∷◌, get_or, set, length, length-set}
+use Rattle.std.proofs.Common.{◌≡◌, ◌≢◌, ℕ, ◌+◌, ◌<◌, ◌%◌, ◌^◌, true, List, [], ◌∷◌, get_or, set, length, length-set}
 use Rattle.std.proofs.Common.{get_or-set_same, Option, Some, None, refl, sym, ap, ◌∙◌, subst, arith}
 use Rattle.std.proofs.lemmas.List.{get_or-set_other}
 use mathlib.Core.Logic.{dite}
@@ -12,7 +12,9 @@ use Rattle.hoare_law.specs.declared.event.History.{History}
 use Rattle.hoare_law.specs.declared.turn.Turn.{Turn}
 use Rattle.hoare_law.specs.Events.{latest_data, with_event}
 use Rattle.hoare_law.specs.Lawful.{Rest, Ready}
-use Rattle.hoare_law.specs.Turns.{turn}
+use Rattle.hoare_law.specs.Turns.{turn, outside}
+use Rattle.hoare_law.proofs.Held.{outside-held}
+use Rattle.wait_book.specs.Contents.{times}
 use Rattle.wait_book.specs.declared.steps.Next.TheVariants as next
 use Rattle.door_frame.specs.declared.parcel.Lodged.{Lodged}
 use Rattle.door_frame.specs.Rule.{Cells, Tokens, Kept}
@@ -24,18 +26,21 @@ use Rattle.ticket_door.specs.Rule.{Starts, Tells, token_in, IsKept, next_at, ser
 use Rattle.ticket_door.specs.Steps.{hears, HearsAt}
 use Rattle.hoare_law.proofs.Admissions.{admissions-other}
 use Rattle.ticket_door.proofs.Turns.{for_next, rings_due, rung_else, rung_due, no_admit, held_busy, due_busy}
+use Rattle.ticket_door.proofs.Turns.{due_inside, still_outside}
 
 module _ {D : Type 0} (first n : ℕ) where
   -- a bell has another number, where the turn is somebody's before and after
   rewritten : (f h : History D) (tokens : Tokens) (ws : List ℕ) (k y : ℕ) → k < n → taken (turn f.events) ≡ 1
       → taken (turn h.events) ≡ 1 → admissions h.events ≡ admissions f.events
       → rung (turn h.events) k ≡ y → ((j : ℕ) → j ≢ k → rung (turn h.events) j ≡ rung (turn f.events) j)
-      → Tells first n f tokens ws → Tells first n h tokens (set ws (bell_at k) y)
-  rewritten f h tokens ws k y small before after same here else_ t = let wide = t.words_are in record {
+      → (t : Tells first n f tokens ws) → ((j : ℕ) → 0 < times j t.queue → outside j h.events ≡ true)
+      → Tells first n h tokens (set ws (bell_at k) y)
+  rewritten f h tokens ws k y small before after same here else_ t out = let wide = t.words_are in record {
     words_are = length-set ws (bell_at k) y ∙ wide;
     queue = t.queue;
     once = t.once;
     below = t.below;
+    are_outside = out;
     gate = t.gate;
     tokens_are = λ j. t.tokens_are j ∙ ap (λ (m : ℕ). token_in t.gate m t.queue j) (sym same);
     next = get_or-set_other ws (bell_at k) next_at y 0 (λ eq. omega (arith, eq)) ∙ t.next ∙ ap (λ (m : ℕ). (first + (m + length t.queue)) % 2 ^ 64) (sym same);
@@ -62,7 +67,8 @@ module _ {D : Type 0} (first n : ℕ) where
         (λ tokens ws places below t. let h : History D = with_event f (event x.state) in let r = rings_due j (turn h.events) (for_next (turn h.events) j (sym p.next_is)) in
         rewritten f h tokens ws j 1 small (ap taken p.inside) r.busy
         (admissions-other f (event x.state) (no_admit f (event x.state) p.allowed (held_busy k _ p.inside))) r.here
-        (λ i ne. r.else_ i ne ∙ sym (ap (λ (u : Turn). rung u i) p.inside)) t)
+        (λ i ne. r.else_ i ne ∙ sym (ap (λ (u : Turn). rung u i) p.inside)) t
+        (still_outside f (event x.state) k t.queue p.mine (outside-held f.events k p.inside) t.are_outside))
 
     pub hears_ok : (slots id k : ℕ) (f : History D) (st : Step (Option (Lodged D)))
         → Allows K slots id (alone k f, []) (bell_at k) (λ _. 0) (hears rest ready st (alone k f, []))
@@ -90,7 +96,9 @@ module _ {D : Type 0} (first n : ℕ) where
               (admissions-other log (due k f (latest_data log))
               (no_admit log (due k f (latest_data log)) e.allowed (due_busy k _ is))) (ap
               (λ (u : Turn). rung u k) e.inside)
-              (λ j ne. ap (λ (u : Turn). rung u j) e.inside ∙ sym (r.else_ j ne)) t;
+              (λ j ne. ap (λ (u : Turn). rung u j) e.inside ∙ sym (r.else_ j ne)) t
+              (still_outside log (due k f (latest_data log)) k t.queue e.mine (due_inside log k stands.legal is)
+              t.are_outside);
         }))
 
     -- the same of a seat with that view, and a word that is the bell's

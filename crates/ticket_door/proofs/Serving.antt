@@ -1,6 +1,6 @@
 -- The pass "tickets": who asks draws the next ticket, who is served comes in, and who opens serves the next.
 use Rattle.std.proofs.Common.{◌≡◌, ℕ, suc, ◌+◌, ◌*◌, ◌<◌, ◌≤◌, ◌%◌, ◌^◌, true, List, [], ◌∷◌, ◌++◌, get_or, set, length}
-use Rattle.std.proofs.Common.{length-set, length-append}
+use Rattle.std.proofs.Common.{◌≢◌, ◌⊎◌, inl, inr, false, true≢false, length-set, length-append}
 use Rattle.std.proofs.Common.{get_or-set_same, Option, Some, None, refl, sym, ap, ◌∙◌, subst, arith}
 use Rattle.std.proofs.lemmas.List.{get_or-set_other}
 use mathlib.Core.Logic.{dite}
@@ -13,7 +13,8 @@ use Rattle.hoare_law.specs.declared.event.History.{History}
 use Rattle.hoare_law.specs.declared.event.Event.TheVariants.{Admit}
 use Rattle.hoare_law.specs.declared.turn.Turn.{Turn}
 use Rattle.hoare_law.specs.declared.turn.Turn.TheVariants.{Free, Held}
-use Rattle.hoare_law.specs.Events.{own, latest_data, with_event}
+use Rattle.hoare_law.specs.Events.{place_of, own, latest_data, with_event}
+use Rattle.hoare_law.specs.Legal.{IsLegal}
 use Rattle.hoare_law.specs.Lawful.{Rest, Ready, Stands}
 use Rattle.hoare_law.specs.Turns.{turn, outside}
 use Rattle.wait_book.specs.Contents.{times}
@@ -23,7 +24,10 @@ use Rattle.door_frame.specs.declared.parcel.Lodged.{Lodged}
 use Rattle.door_frame.specs.Rule.{Cells, Tokens, Kept}
 use Rattle.door_frame.specs.Steps.{Sat, Gives, Notes, gives_as, notes_as}
 use Rattle.door_frame.specs.Views.{alone, asking, sole}
+use Rattle.hoare_law.proofs.Ended.{turn-outside}
 use Rattle.hoare_law.proofs.Entering.{outside-same}
+use Rattle.hoare_law.proofs.Held.{outside-held}
+use Rattle.hoare_law.proofs.Turns.{outside-other}
 use Rattle.door_frame.proofs.Steps as frame
 use Rattle.door_frame.proofs.Views.{given_to, given_here, given_else}
 use Rattle.hoare_law.specs.Admissions.{admissions}
@@ -36,23 +40,50 @@ use Rattle.ticket_door.specs.Steps.{asks, looks, LooksAt}
 use Rattle.hoare_law.proofs.Admissions.{admissions-admit, admissions-other}
 use Rattle.ticket_door.proofs.Gate.{has_ticket, has_none, asks_tokens, asks_kept, serves_kept}
 use Rattle.ticket_door.proofs.Queue.{Ticket-injective, ticket_range, ticket_first, none_ticket, ticket_else}
-use Rattle.ticket_door.proofs.Queue.{once_more, below_more}
+use Rattle.ticket_door.proofs.Queue.{once_more, all_more}
 use Rattle.ticket_door.proofs.Turns.{taken_le, taken_free, free_next, no_admit, held_busy, next_word, next_turn}
+use Rattle.ticket_door.proofs.Turns.{still_outside}
 use Rattle.ticket_door.proofs.Turns.{served_only, even_ajar, open_bit}
 
 module _ {D : Type 0} (first n : ℕ) where
-  -- one more place in the queue
-  asked : (log : History D) (tokens : Tokens) (ws : List ℕ) (k : ℕ) → k < n → tokens k ≡ None
+  -- NEXT is near who is served: each place asked once, but for the one whose turn it is
+  pub near : {log : History D} {tokens : Tokens} {ws : List ℕ} → IsLegal log → log.sizes.places ≡ n
       → (t : Tells first n log tokens ws)
+      → admissions log.events + length t.queue ≤ t.served + n
+  near {log = log} legal places t = by (turn-outside log legal)
+    where
+      none_twice : (k : ℕ) → outside k log.events ≡ false → times k t.queue ≡ 0
+      none_twice k inside = dite (ℕ_discrete (times k t.queue) 0) (λ none. none)
+          (λ some. absurd (true≢false (sym (t.are_outside k (omega (arith, some))) ∙ inside)))
+
+      by : (turn log.events ≡ Free) ⊎ ((k : ℕ) × (k < log.sizes.places) × (outside k log.events ≡ false))
+          → admissions log.events + length t.queue ≤ t.served + n
+      by (inl free) =
+          let most = few_once t.queue n t.once t.below in
+          let d = t.due in
+          let nobody : taken (turn log.events) ≡ 0 = ap taken free in omega (arith, most, d, nobody)
+      by (inr b) =
+          let small : b.0 < n = subst (λ (m : ℕ). b.0 < m) places b.1 in
+          let most =
+          few_once (t.queue ++ b.0 ∷ []) n (once_more t.queue b.0 t.once (none_twice b.0 b.2))
+          (all_more (λ (j : ℕ). j < n) t.queue b.0 small t.below) in
+          let one_more = length-append t.queue (b.0 ∷ []) in
+          let d = t.due in
+          let one_turn = taken_le (turn log.events) in omega (arith, most, one_more, d, one_turn)
+
+  -- one more place in the queue
+  asked : (log : History D) (tokens : Tokens) (ws : List ℕ) (k : ℕ) → k < n → outside k log.events ≡ true
+      → tokens k ≡ None → (t : Tells first n log tokens ws)
       → Tells first n log (given_to tokens k (Some (token.Ticket (admissions log.events + length t.queue)))) (set ws next_at ((get_or ws next_at 0 + 1) % 2 ^ 64))
-  asked log tokens ws k small none t =
+  asked log tokens ws k small out none t =
       let a : ℕ = admissions log.events in let q : List ℕ = t.queue in let x : ℕ = a + length q in
       let has : token_in t.gate a q k ≡ None = sym (t.tokens_are k) ∙ none in
       let z : times k q ≡ 0 = has_none t.gate a q k has in let wide = t.words_are in record {
         words_are = length-set ws next_at _ ∙ wide;
         queue = q ++ k ∷ [];
         once = once_more q k t.once z;
-        below = below_more q k n small t.below;
+        below = all_more (λ (j : ℕ). j < n) q k small t.below;
+        are_outside = all_more (λ (j : ℕ). outside j log.events ≡ true) q k out t.are_outside;
         gate = t.gate;
         tokens_are = asks_tokens t.gate a q k tokens t.tokens_are none;
         next =
@@ -71,6 +102,7 @@ module _ {D : Type 0} (first n : ℕ) where
       → (t : Tells first n log tokens ws) → t.gate ≡ ajar → t.queue ≡ k ∷ rest → turn log.events ≡ Free
       → turn (with_event log (Admit k s)).events ≡ Held k
       → Tells first n (with_event log (Admit k s)) (given_to tokens k None) (set ws serving_at (get_or ws serving_at 0))
+  unfolding with_event
   looked log tokens ws k rest s t is_ajar is free held =
       let a : ℕ = admissions log.events in
       let h : History D = with_event log (Admit k s) in let more = admissions-admit log k s in
@@ -78,11 +110,16 @@ module _ {D : Type 0} (first n : ℕ) where
       omega (arith, once, one_same k) in
       let before : taken (turn log.events) ≡ 0 = ap taken free in
       let after : taken (turn h.events) ≡ 1 = ap taken held in
+      let asks_too : (j : ℕ) → 0 < times j rest → 0 < times j t.queue = λ j some.
+      subst (λ (q : List ℕ). 0 < times j q) (sym is) (omega (arith, some)) in
       subst (Tells first n h (given_to tokens k None)) (sym (set-get_or ws serving_at 0)) (record {
         words_are = t.words_are;
         queue = rest;
         once = λ j. let once = subst (λ (q : List ℕ). times j q ≤ 1) is (t.once j) in omega (arith, once);
-        below = λ j some. t.below j (subst (λ (q : List ℕ). 0 < times j q) (sym is) (omega (arith, some)));
+        below = λ j some. t.below j (asks_too j some);
+        are_outside = λ j some.
+            let apart : k ≢ j = λ same. let z = subst (λ (i : ℕ). times i rest ≡ 0) same out in omega (arith, z, some) in
+            outside-other j log.events (Admit k s) apart ∙ t.are_outside j (asks_too j some);
         gate = ajar;
         tokens_are = λ j. dite (ℕ_discrete j k)
             (λ same. subst (λ (i : ℕ). given_to tokens k None i ≡ ticket_in (admissions h.events) rest i) (sym same) (given_here tokens k None ∙ sym (none_ticket (admissions h.events) rest k out)))
@@ -97,17 +134,19 @@ module _ {D : Type 0} (first n : ℕ) where
       })
 
   -- the next is served
-  next_served : (f : History D) (e : Event D) (tokens : Tokens) (ws : List ℕ) (k : ℕ) → turn f.events ≡ Held k
+  next_served : (f : History D) (e : Event D) (tokens : Tokens) (ws : List ℕ) (k : ℕ) → place_of e ≡ k
+      → turn f.events ≡ Held k
       → turn (with_event f e).events ≡ Free
       → admissions (with_event f e).events ≡ admissions f.events → Tells first n f tokens ws
       → Tells first n (with_event f e) tokens (set ws serving_at ((get_or ws serving_at 0 + 2) % 2 ^ 64))
-  next_served f e tokens ws k held free same t =
+  next_served f e tokens ws k mine held free same t =
       let wide = t.words_are in let before : taken (turn f.events) ≡ 1 = ap taken held in
       let after : taken (turn (with_event f e).events) ≡ 0 = ap taken free in record {
         words_are = length-set ws serving_at _ ∙ wide;
         queue = t.queue;
         once = t.once;
         below = t.below;
+        are_outside = still_outside f e k t.queue mine (outside-held f.events k held) t.are_outside;
         gate = t.gate;
         tokens_are = λ j. t.tokens_are j ∙ ap (λ (m : ℕ). token_in t.gate m t.queue j) (sym same);
         next = get_or-set_other ws serving_at next_at _ 0 (λ eq. omega (arith, eq)) ∙ t.next ∙ ap (λ (m : ℕ). (first + (m + length t.queue)) % 2 ^ 64) (sym same);
@@ -121,16 +160,18 @@ module _ {D : Type 0} (first n : ℕ) where
       }
 
   -- an event by which a place stays inside changes neither the tickets nor the words
-  stayed : (f : History D) (e : Event D) (tokens : Tokens) (ws : List ℕ) (k : ℕ) → turn f.events ≡ Held k
+  stayed : (f : History D) (e : Event D) (tokens : Tokens) (ws : List ℕ) (k : ℕ) → place_of e ≡ k
+      → turn f.events ≡ Held k
       → turn (with_event f e).events ≡ Held k
       → admissions (with_event f e).events ≡ admissions f.events → Tells first n f tokens ws
       → Tells first n (with_event f e) tokens ws
-  stayed f e tokens ws k held stays same t =
+  stayed f e tokens ws k mine held stays same t =
       let turns : turn f.events ≡ turn (with_event f e).events = held ∙ sym stays in record {
         words_are = t.words_are;
         queue = t.queue;
         once = t.once;
         below = t.below;
+        are_outside = still_outside f e k t.queue mine (outside-held f.events k held) t.are_outside;
         gate = t.gate;
         tokens_are = λ j. t.tokens_are j ∙ ap (λ (m : ℕ). token_in t.gate m t.queue j) (sym same);
         next = t.next ∙ ap (λ (m : ℕ). (first + (m + length t.queue)) % 2 ^ 64) (sym same);
@@ -148,18 +189,18 @@ module _ {D : Type 0} (first n : ℕ) where
     abbrev Drawn : ℕ → History D → ℕ → Sat D → Type 0
     Drawn k f r m = (o : Option Token) × (m ≡ (sole k f o, [])) × ((x : ℕ) × (o ≡ Some (token.Ticket x)) × (r ≡ (first + x) % 2 ^ 64))
 
-    pub asks_ok : (slots id k : ℕ) (f : History D) (st : Step (Option (Lodged D)))
+    pub asks_ok : (slots id k : ℕ) (f : History D) (st : Step (Option (Lodged D))) → outside k f.events ≡ true
         → Allows K slots id (alone k f, []) next_at (λ r. (r + 1) % 2 ^ 64) (asks first st (alone k f, []))
-    asks_ok slots id k f st =
+    asks_ok slots id k f st out =
         frame.told_as K slots id (alone k f, []) next_at (λ r. (r + 1) % 2 ^ 64) _ (asks first st (alone k f, []))
         (λ r m (d : Drawn k f r m) j g is. let q = frame.alone_is k j f g [] [] is in (d.2.0, d.1 ∙ (λ i. (sole (q.0 i) (q.1 i) (d.2.1 i), [])), d.2.2))
         (frame.draws_ok (Starts first n) (Tells first n) rest ready kinds n slots id k next_at f None [] (λ r. (r + 1) % 2 ^ 64) (λ o r. (x : ℕ) × (o ≡ Some (token.Ticket x)) × (r ≡ (first + x) % 2 ^ 64))
-        (λ log tokens ws small none t. let x : ℕ = admissions log.events + length t.queue in (
+        (λ log tokens ws small same none t. let x : ℕ = admissions log.events + length t.queue in (
           Some (token.Ticket x),
           given_to tokens k (Some (token.Ticket x)),
           given_here tokens k (Some (token.Ticket x)),
           (λ j ne. given_else tokens k (Some (token.Ticket x)) j ne),
-          asked log tokens ws k small none t,
+          asked log tokens ws k small (outside-same k f log same out) none t,
           (x, refl, t.next),
         )))
 
@@ -177,12 +218,12 @@ module _ {D : Type 0} (first n : ℕ) where
         let is_ajar : t.gate ≡ ajar = even_ajar (first + t.served) (first + x) t.gate (sym t.serving ∙ hit) in
         let drew = has_ticket t.gate a t.queue k x (sym (t.tokens_are k) ∙ has) in
         let r = ticket_range a t.queue k x drew in let d = t.due in
-        let most = few_once t.queue n t.once t.below in let le1 = taken_le (turn log.events) in
+        let ahead = near stands.legal places t in
         let word : (2 * (first + t.served)) % 2 ^ 64 ≡ (2 * (first + x)) % 2 ^ 64 =
         open_bit (first + t.served) ∙ ap (λ (g : Gate). (2 * (first + t.served) + shut g) % 2 ^ 64) (sym is_ajar)
         ∙ sym t.serving ∙ hit in
         let now : t.served ≡ x =
-        served_only first t.served x (omega (arith, r.0, d)) (omega (arith, r.1, d, le1, most, few)) word in
+        served_only first t.served x (omega (arith, r.0, d)) (omega (arith, r.1, ahead, few)) word in
         let free : turn log.events ≡ Free = taken_free (turn log.events) (omega (arith, now, d, r.0)) in
         let none : taken (turn log.events) ≡ 0 = ap taken free in
         let here : a ≡ x = omega (arith, now, d, none) in
@@ -218,11 +259,11 @@ module _ {D : Type 0} (first n : ℕ) where
 
     -- the same of a seat with that view
     pub asks_at : (slots id k : ℕ) (f : History D) (st : Step (Option (Lodged D))) (m : Sat D) (start : ℕ)
-        → m ≡ (alone k f, []) → first ≡ start
+        → m ≡ (alone k f, []) → first ≡ start → outside k f.events ≡ true
         → Allows K slots id m next_at (λ r. (r + 1) % 2 ^ 64) (asks start st m)
-    asks_at slots id k f st m start is same =
+    asks_at slots id k f st m start is same out =
         subst (λ (p : Sat D × ℕ). Allows K slots id p.0 next_at (λ r. (r + 1) % 2 ^ 64) (asks p.1 st p.0))
-        (λ i. (sym is i, same i)) (asks_ok slots id k f st)
+        (λ i. (sym is i, same i)) (asks_ok slots id k f st out)
 
     pub looks_at : (slots id k x : ℕ) (f : History D) (st : Step (Option (Lodged D))) (m : Sat D) (start : ℕ)
         → m ≡ (asking k f x, []) → first ≡ start → n ≤ 64 → outside k f.events ≡ true
@@ -239,7 +280,7 @@ module _ {D : Type 0} (first n : ℕ) where
     gives_open slots id k f x event st p =
         frame.gives_ok (Starts first n) (Tells first n) rest ready kinds n slots id k serving_at
         (λ r. (r + 2) % 2 ^ 64) f x next.Free event st p
-        (λ tokens ws places small t. next_served f (event x.state) tokens ws k p.inside (free_next _ (sym p.next_is))
+        (λ tokens ws places small t. next_served f (event x.state) tokens ws k p.mine p.inside (free_next _ (sym p.next_is))
         (admissions-other f (event x.state) (no_admit f (event x.state) p.allowed (held_busy k _ p.inside))) t)
 
     -- the same of a seat with that view
@@ -256,5 +297,5 @@ module _ {D : Type 0} (first n : ℕ) where
         → Allows K slots id m serving_at (λ r. r) (notes_as event st m)
     notes_at slots id k f event st m is p =
         frame.notes_at (Starts first n) (Tells first n) rest ready kinds n slots id k serving_at f event st m is p
-        (λ tokens ws t. stayed f (event f) tokens ws k p.inside p.stays
+        (λ tokens ws t. stayed f (event f) tokens ws k p.mine p.inside p.stays
         (admissions-other f (event f) (no_admit f (event f) p.allowed (held_busy k _ p.inside))) t)

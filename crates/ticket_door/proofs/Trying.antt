@@ -102,6 +102,7 @@ module _ {D : Type 0} (first n : ℕ) where
         queue = t.queue;
         once = t.once;
         below = t.below;
+        are_outside = t.are_outside;
         gate = shut_by k v;
         tokens_are =
             shuts_tokens a t.queue k v tokens (λ j. t.tokens_are j ∙ ap (λ (g : Gate). token_in g a t.queue j) is_ajar);
@@ -135,6 +136,7 @@ module _ {D : Type 0} (first n : ℕ) where
         queue = t.queue;
         once = t.once;
         below = t.below;
+        are_outside = t.are_outside;
         gate = ajar;
         tokens_are =
             reopens_tokens a t.queue k v tokens (λ j. t.tokens_are j ∙ ap (λ (g : Gate). token_in g a t.queue j) by)
@@ -171,6 +173,7 @@ module _ {D : Type 0} (first n : ℕ) where
         queue = [];
         once = λ j. omega arith;
         below = λ j some. absurd (omega (arith, some));
+        are_outside = λ j some. absurd (omega (arith, some));
         gate = shut_by k v;
         tokens_are = λ j. t.tokens_are j ∙ (λ i. token_in (by i) a (empty i) j);
         next =
@@ -222,7 +225,7 @@ module _ {D : Type 0} (first n : ℕ) where
         ))
         (frame.draws_ok (Starts first n) (Tells first n) rest ready kinds n slots id k serving_at f None []
         (changed v (v + 1)) (IsShutAt v)
-        (λ log tokens ws small free t. dite (ℕ_discrete (get_or ws serving_at 0) v)
+        (λ log tokens ws small same free t. dite (ℕ_discrete (get_or ws serving_at 0) v)
         (λ hit. let o : Option Token = Some (token.Gate v) in
         let is_ajar : t.gate ≡ ajar = even_ajar (first + t.served) b t.gate (sym t.serving ∙ hit ∙ even) in (
           o,
@@ -340,7 +343,7 @@ module _ {D : Type 0} (first n : ℕ) where
         d.1 ∙ (λ i. (sole (q.0 i) (q.1 i) (d.2 i), q.3 i)))
         (frame.draws_ok (Starts first n) (Tells first n) rest ready kinds n slots id k serving_at f o c
         (λ r. (r + (2 ^ 64 - 1)) % 2 ^ 64) (λ p r. p ≡ None)
-        (λ log tokens ws small has t. (
+        (λ log tokens ws small same has t. (
           None,
           given_to tokens k None,
           given_here tokens k None,

@@ -1,5 +1,6 @@
 -- Whose turn it is, and what SERVING and the bells have of it.
-use Rattle.std.proofs.Common.{◌≡◌, ◌≢◌, ℕ, ◌+◌, ◌-◌, ◌*◌, ◌<◌, ◌≤◌, ◌%◌, ◌^◌, false, refl, sym, ap, ◌∙◌, subst, arith, ne_eqb}
+use Rattle.std.proofs.Common.{◌≡◌, ◌≢◌, ℕ, ◌+◌, ◌-◌, ◌*◌, ◌<◌, ◌≤◌, ◌%◌, ◌^◌, true, false, List, refl, sym, ap, ◌∙◌}
+use Rattle.std.proofs.Common.{subst, arith, ne_eqb, true≢false}
 use mathlib.Core.Logic.{dite}
 use native.Mathlib.Decide.{ℕ_discrete}
 use Rattle.std.proofs.Math.Nat.{mod-add-mod}
@@ -10,9 +11,12 @@ use Rattle.hoare_law.specs.declared.event.Event.TheVariants.{Admit, Wait, Signal
 use Rattle.hoare_law.specs.declared.event.Event.TheVariants.{Broadcast}
 use Rattle.hoare_law.specs.declared.turn.Turn.{Turn}
 use Rattle.hoare_law.specs.declared.turn.Turn.TheVariants.{Free, Held, Owed, Return}
-use Rattle.hoare_law.specs.Legal.{Allowed}
-use Rattle.hoare_law.specs.Turns.{turn}
-use Rattle.wait_book.specs.Contents.{one, next_of}
+use Rattle.hoare_law.specs.Events.{place_of, with_event}
+use Rattle.hoare_law.specs.Legal.{Allowed, IsLegal}
+use Rattle.hoare_law.specs.Turns.{turn, outside}
+use Rattle.hoare_law.proofs.Ended.{outside-owed, outside-returning}
+use Rattle.hoare_law.proofs.Turns.{outside-other}
+use Rattle.wait_book.specs.Contents.{one, times, next_of}
 use Rattle.wait_book.specs.declared.steps.Next.TheVariants as next
 use Rattle.wait_book.proofs.Times.{one_same, one_apart}
 use Rattle.door_frame.proofs.Steps.{IsDue, owed, returning}
@@ -81,6 +85,21 @@ rung_due (Return j) k e = returning (ap (λ i. Return i) (bell_due j k e))
 pub due_busy : (k : ℕ) (t : Turn) → IsDue k t → t ≢ Free
 due_busy k t (owed c is) e = let no : Owed k c ≡ Free = sym is ∙ e in cc
 due_busy k t (returning is) e = let no : Return k ≡ Free = sym is ∙ e in cc
+
+pub due_inside : {D : Type 0} (h : History D) (k : ℕ) → IsLegal h → IsDue k (turn h.events)
+    → outside k h.events ≡ false
+due_inside h k legal (owed c is) = outside-owed h k c legal is
+due_inside h k legal (returning is) = outside-returning h.events k is
+
+-- who asked is outside still where a place acts that isn't
+pub still_outside : {D : Type 0} (f : History D) (e : Event D) (k : ℕ) (q : List ℕ) → place_of e ≡ k
+    → outside k f.events ≡ false → ((j : ℕ) → 0 < times j q → outside j f.events ≡ true) → (j : ℕ) → 0 < times j q
+    → outside j (with_event f e).events ≡ true
+unfolding with_event
+still_outside f e k q mine inside out j some =
+    let apart : place_of e ≢ j = λ same.
+    true≢false (sym (out j some) ∙ ap (λ i. outside i f.events) (sym same ∙ mine) ∙ inside) in
+    outside-other j f.events e apart ∙ out j some
 
 -- nobody is admitted where the turn isn't free
 pub no_admit : {D : Type 0} (f : History D) (e : Event D) → Allowed f e → turn f.events ≢ Free → is_admit e ≡ false

@@ -1,5 +1,5 @@
 -- A place that asked, as a contract sees it, and when it comes in.
-use Rattle.std.specs.Prelude.{◌≡◌, ℕ, ◌+◌, ◌%◌, ◌^◌, true, [], ◌∷◌, Some}
+use Rattle.std.specs.Prelude.{◌≡◌, ℕ, ◌+◌, ◌%◌, ◌^◌, true, List, [], ◌∷◌, Some}
 use Rattle.atomic_table.specs.Seated.{TableId}
 use Rattle.hoare_law.specs.declared.event.Event.{Event}
 use Rattle.hoare_law.specs.declared.event.Event.TheVariants.{Admit}
@@ -9,7 +9,7 @@ use Rattle.hoare_law.specs.Events.{with_event}
 use Rattle.hoare_law.specs.Lawful.{Rest, Ready}
 use Rattle.door_frame.specs.declared.view.View.{View}
 use Rattle.door_frame.specs.declared.view.View.TheVariants.{Places}
-use Rattle.door_frame.specs.Places.{DoorId, PlaceOut, IsOut, place_out}
+use Rattle.door_frame.specs.Places.{Berth, DoorId, PlaceOut, IsOut, door_of, place_out}
 use Rattle.door_frame.specs.declared.parcel.Lodged.{Lodged}
 use Rattle.door_frame.specs.Steps.{Sat, Came}
 use Rattle.door_frame.specs.Views.{asking}
@@ -22,13 +22,13 @@ pub record TicketDoorId : Type 0 where
   pub door : DoorId
   pub first : ℕ
 
-abbrev pub ticket_door : TableId → Sizes → TicketDoorId
-ticket_door z key = record { door = record { table = z; places = key.places }; first = key.first }
+abbrev pub ticket_door : TableId → Sizes → List TableId → TicketDoorId
+ticket_door z key ws = record { door = door_of z key.places ws; first = key.first }
 
 -- a place that asked: number counts the tickets from 0, and ticket is that number with the first ticket added, modulo
 -- 2^64
 pub record PlaceAsked (D : Type 0) : Type 0 where
-  pub table : TableId
+  pub berth : Berth
   pub place : ℕ
   pub front : History D
   pub number : ℕ
@@ -43,7 +43,7 @@ module _ {D : Type 0} where
   IsAsking k f x me = me ≡ (asking k f x, [])
 
   abbrev pub as_out : PlaceAsked D → PlaceOut D
-  as_out a = place_out a.table a.place a.front
+  as_out a = place_out a.berth a.place a.front
 
   -- it was let in by its ticket, as number x of all that are, and the slot with what lies in it is its own
   abbrev pub IsServed : Rest D → Ready D → ℕ → Sat D → Sat D → Type 0

@@ -1,10 +1,10 @@
 -- What the words NEXT and SERVING and the bells say.
 use Rattle.std.specs.Prelude.{◌≡◌, ℕ, ◌+◌, ◌*◌, ◌%◌, ◌^◌, ◌<◌, ◌≤◌, ◌==◌, if◌then◌else◌, Bool, List, Option, Some}
-use Rattle.std.specs.Prelude.{slice_index, length}
+use Rattle.std.specs.Prelude.{true, slice_index, length}
 use Rattle.hoare_law.specs.declared.event.History.{History}
 use Rattle.hoare_law.specs.declared.turn.Turn.{Turn}
 use Rattle.hoare_law.specs.declared.turn.Turn.TheVariants.{Free, Held, Owed, Return}
-use Rattle.hoare_law.specs.Turns.{turn}
+use Rattle.hoare_law.specs.Turns.{turn, outside}
 use Rattle.wait_book.specs.Contents.{one, times}
 use Rattle.door_frame.specs.declared.view.Token.{Token}
 use Rattle.door_frame.specs.declared.view.Token.TheVariants as token
@@ -72,10 +72,12 @@ pub record Starts (first n : ℕ) (begun : Bool) (words : List ℕ) : Type 0 whe
 -- modulo 2^64, and SERVING twice that, modulo 2^64, so that it has a bit for the gate
 pub record Tells {D : Type 0} (first n : ℕ) (log : History D) (tokens : Tokens) (words : List ℕ) : Type 0 where
   pub words_are : length words ≡ 8 * n + 16
-  -- who asked, in the order of tickets: from the number of those let in on, each once
+  -- who asked, in the order of tickets: from the number of those let in on, each once, and all outside. So NEXT is at
+  -- most n ahead of who is served (`near` of proofs/Serving), whether by who asked or by who tries
   pub queue : List ℕ
   pub once : (k : ℕ) → times k queue ≤ 1
   pub below : (k : ℕ) → 0 < times k queue → k < n
+  pub are_outside : (k : ℕ) → 0 < times k queue → outside k log.events ≡ true
   -- who has the gate
   pub gate : Gate
   pub tokens_are : (k : ℕ) → tokens k ≡ token_in gate (admissions log.events) queue k

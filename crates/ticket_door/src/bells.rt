@@ -1,13 +1,14 @@
 //! Who gives the monitor up opens the door to newcomers or rings a bell, and who is rung comes back.
 //!
-//! No ring is lost. Who waits tests its bell before it parks and after each waking (`Turnstile::claim`). Who hands over rings
-//! first and wakes the place then. So where the test came before the ring, the waking comes after the test; and a parker
-//! keeps one permit, so the park that follows returns at once. A place that is woken by the permit of an earlier wait
-//! finds the bell silent, and parks again.
+//! No ring is lost. Who waits tests its bell before it sleeps and after each waking (`Turnstile::claim`). Who hands over rings
+//! first and wakes the place then. So where the test came before the ring, the waking comes after the test; and a sleeper
+//! keeps one permit, so the sleep that follows returns at once. A place that is woken by the permit of an earlier wait
+//! finds the bell silent, and sleeps again.
 ghost use Rattle.std.specs.Prelude.{◌≡◌, ◌<◌};
 ghost use Rattle.wait_book.specs.Contents.{IsPlaceBelow};
 ghost use Rattle.door_frame.specs.Steps.{MayGive, MayNote};
-ghost use Rattle.door_frame.specs.Seats.{GoesOut, StaysIn};
+ghost use Rattle.door_frame.specs.Places.{IsWoken, sleeper_at};
+ghost use Rattle.door_frame.specs.Seats.{GoesOut, IsBehind, StaysIn};
 
 use crate::door::TicketDoor;
 use crate::words::{RUNG, SERVING, TURN, bell_of};
@@ -17,6 +18,7 @@ use door_frame::notice::Notice;
 use door_frame::parcel::Parcel;
 use door_frame::plays::{DoorSeat, Give, Note, PickedEvent, PickedNotice};
 use door_frame::slot::lay_parcel;
+use door_frame::waking::Woken;
 use hoare_law::data::MonitorData;
 use std::hint;
 use wait_book::steps::Next;
@@ -45,24 +47,26 @@ impl<D: MonitorData> TicketDoor<D> {
         place: usize,
         departure: Departure,
         next: Next,
-    )
+    ) -> Option<Woken>
         requires table { seat.old.table_id ≡ self.now.door.table }
         requires next { IsPlaceBelow self.now.door.places next }
         requires event { MayGive D.rest D.ready J.event place seat.old.me parcel next }
         ensures table { seat.new.table_id ≡ seat.old.table_id }
         ensures away { GoesOut place J.event seat.old.me parcel.state seat.new.me }
+        ensures woken { IsWoken self.now.door next result }
     {
         lay_parcel(&self.table, seat, parcel);
         match next {
             Next::Free => {
                 self.table.shared.fetch_add::<Give<J>>(seat, SERVING, TURN);
                 self.call_next();
+                None
             }
             Next::For(resumed) => {
                 self.table
                     .shared
                     .store::<Give<J>>(seat, bell_of(resumed), RUNG);
-                self.wake(resumed);
+                Some(self.wake(seat, resumed))
             }
             Next::Held(_) => unreachable!(),
         }
@@ -86,10 +90,12 @@ impl<D: MonitorData> TicketDoor<D> {
         self.table.shared.load::<Note<J>>(seat, SERVING);
     }
 
-    /// Wakes a place, or lets its next park return at once.
-    fn wake(&self, place: usize)
-        requires { place < self.now.door.places }
+    /// Wakes a place, or lets its next sleep return at once.
+    fn wake(&self, seat: &DoorSeat<D>, place: usize) -> Woken
+        requires below { place < self.now.door.places }
+        requires given_up { IsBehind seat.now.me }
+        ensures { result ≡ sleeper_at self.now.door place }
     {
-        self.wakers[place].unpark();
+        self.wakers[place].wake(seat)
     }
 }

@@ -11,8 +11,8 @@ use crate::naps::Naps;
 use crate::place::TicketOut;
 use crate::rule::TicketTable;
 use crossbeam_utils::CachePadded;
-use crossbeam_utils::sync::Unparker;
 use door_frame::making::closed;
+use door_frame::waking::Waker;
 use hoare_law::data::MonitorData;
 use hoare_law::monitor::Monitor;
 use std::alloc::Global;
@@ -45,7 +45,7 @@ pub struct TicketDoor<D: MonitorData> {
     /// | `bell_of(k)` | `RUNG` where the monitor is owed to place k, or returns to it, else `SILENT` | who hands over, to `RUNG`; place k, to `SILENT` |
     pub(crate) table: TicketTable<D>,
     /// What wakes each place, in order.
-    pub(crate) wakers: Vec<Unparker>,
+    pub(crate) wakers: Vec<Waker>,
     /// Who among the newcomers naps.
     pub(crate) naps: CachePadded<Naps>,
 }
@@ -57,7 +57,7 @@ impl<D: MonitorData> Model for TicketDoor<D> {
 
     ghost Value = { TicketDoorId };
 
-    ghost view = { λ d. ticket_door d.table.shared.table_id d.table.shared.key };
+    ghost view = { λ d. ticket_door d.table.shared.table_id d.table.shared.key d.wakers.items };
 
     ghost invariant = { λ d. Sized d.table.shared.table_id.words d.table.shared.table_id.slots
         d.table.shared.key.places (vec_len d.wakers) };
@@ -77,7 +77,7 @@ impl<D: MonitorData + Send> TicketDoor<D> {
         ensures made { IfOk result (λ r. (make_refusal (sizes_of D.CONDITIONS D.MESA places) ≡ None)
             × (r.0.door.places ≡ places) × (r.0.first ≡ 0)) }
         ensures of { IfOk result (λ r. All (⟦<TicketDoor<D> as Monitor<D>>⟧.is_of r.0) r.1.items) }
-        ensures places { IfOk result (λ r. r.1.items ≡ places_from r.0.door.table 0 places
+        ensures places { IfOk result (λ r. r.1.items ≡ places_from r.0.door 0 places
             (opened (sizes_of D.CONDITIONS D.MESA places) state)) }
         ensures returned { IfErr result (λ e. e.0 ≡ state) }
         ensures refused { IfErr result (λ e. (make_refusal (sizes_of D.CONDITIONS D.MESA places) ≡ Some e.1)
@@ -97,9 +97,9 @@ impl<D: MonitorData + Send> TicketDoor<D> {
     {
         let TicketDoor {
             table,
-            wakers: _,
+            wakers,
             naps: _,
         } = self;
-        closed(table, outs)
+        closed(table, wakers, outs)
     }
 }

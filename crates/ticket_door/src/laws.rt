@@ -14,7 +14,7 @@ use crate::naps::Naps;
 use crate::place::TicketOut;
 use crate::rule::{Sizes, TicketTable, TicketWords};
 use crate::words::{NEXT, SERVING, served_as, words_for};
-use door_frame::making::{deal, parkers, vacant};
+use door_frame::making::{deal, sleepers, vacant};
 use door_frame::parcel::Parcel;
 use door_frame::plays::{Begin, DoorSeat, Open};
 use door_frame::slot::lay_parcel;
@@ -65,7 +65,7 @@ pub fn make_at<D: MonitorData + Send>(
     ensures made { IfOk result (λ r. (make_refusal (sizes_of D.CONDITIONS D.MESA places) ≡ None)
         × (r.0.door.places ≡ places) × (r.0.first ≡ first)) }
     ensures of { IfOk result (λ r. All (⟦<TicketDoor<D> as Monitor<D>>⟧.is_of r.0) r.1.items) }
-    ensures places { IfOk result (λ r. r.1.items ≡ places_from r.0.door.table 0 places
+    ensures places { IfOk result (λ r. r.1.items ≡ places_from r.0.door 0 places
         (opened (sizes_of D.CONDITIONS D.MESA places) state)) }
     ensures returned { IfErr result (λ e. e.0 ≡ state) }
     ensures refused { IfErr result (λ e. (make_refusal (sizes_of D.CONDITIONS D.MESA places) ≡ Some e.1)
@@ -75,7 +75,7 @@ pub fn make_at<D: MonitorData + Send>(
         Ok(book) => book,
         Err(refused) => return Err((state, refused)),
     };
-    let Ok((parkers, wakers)) = parkers(alloc, places) else {
+    let Ok((sleepers, wakers)) = sleepers(alloc, places) else {
         return Err((state, MakeRefused::Memory));
     };
     let Ok(outs) = Vec::with_capacity(alloc, places) else {
@@ -92,7 +92,7 @@ pub fn make_at<D: MonitorData + Send>(
         Err(state) => return Err((state, MakeRefused::Memory)),
     };
     open(&table, &mut seat, parcel);
-    let outs = deal(&table, seat, parkers, outs, places);
+    let outs = deal(&table, seat, sleepers, outs, places);
     let naps = Naps::new();
     let door = TicketDoor {
         table,

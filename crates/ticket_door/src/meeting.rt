@@ -23,14 +23,14 @@ impl<D: MonitorData> TicketDoor<D> {
         ensures met { Meets a b result.0 result.1 }
     {
         let table = &self.table;
-        let (mut seat, place, parker) = a.into_parts();
-        let (other, other_place, other_parker) = b.into_parts();
+        let (mut seat, place, sleeper) = a.into_parts();
+        let (other, other_place, other_sleeper) = b.into_parts();
         table.shared.join_seat::<Gather>(&mut seat, other);
         table.shared.load::<Learn>(&mut seat, SERVING);
         let cut = table.shared.split_seat::<Deal>(&mut seat);
         (
-            Outside::of_parts(seat, place, parker),
-            Outside::of_parts(cut, other_place, other_parker),
+            Outside::of_parts(seat, place, sleeper),
+            Outside::of_parts(cut, other_place, other_sleeper),
         )
     }
 }

@@ -2,6 +2,7 @@
 ghost use Rattle.std.specs.Prelude.{◌≡◌};
 ghost use Rattle.wait_book.specs.Contents.{IsPlaceBelow};
 ghost use Rattle.door_frame.specs.Steps.{MayGive, MayNote};
+ghost use Rattle.door_frame.specs.Places.{IsWoken};
 ghost use Rattle.door_frame.specs.Seats.{GoesOut, StaysIn};
 ghost use Rattle.door_frame.specs.Departures.{event_of};
 ghost use Rattle.door_frame.specs.Notices.{event_of_notice};
@@ -10,7 +11,6 @@ use crate::door::TicketDoor;
 use crate::place::{TicketIn, TicketOut};
 use crate::rule::Hear;
 use crate::words::{NEXT, RUNG, SERVING, SILENT, bell_of, served_as};
-use crossbeam_utils::sync::Parker;
 use door_frame::calls;
 use door_frame::departure::Departure;
 use door_frame::notice::Notice;
@@ -18,6 +18,7 @@ use door_frame::parcel::Parcel;
 use door_frame::plays::DoorSeat;
 use door_frame::slot::take_parcel;
 use door_frame::turnstile::Turnstile;
+use door_frame::waking::{Sleeper, Woken};
 use hoare_law::data::MonitorData;
 use hoare_law::monitor::Monitor;
 use std::marker::Brand;
@@ -50,13 +51,13 @@ impl<D: MonitorData> Turnstile<D> for TicketDoor<D> {
         Some(take_parcel(table, seat))
     }
 
-    /// It listens a while, then tests its bell and parks, until the test finds that it was rung.
+    /// It listens a while, then tests its bell and sleeps, until the test finds that it was rung.
     fn claim<R: Wait>(
         &self,
         rt: &R,
         seat: &mut DoorSeat<D>,
         place: usize,
-        parker: &Parker,
+        sleeper: &Sleeper,
     ) -> Parcel<D> {
         let table = &self.table;
         let bell = bell_of(place);
@@ -65,7 +66,7 @@ impl<D: MonitorData> Turnstile<D> for TicketDoor<D> {
             if table.shared.swap::<Hear>(seat, bell, SILENT) == RUNG {
                 return take_parcel(table, seat);
             }
-            parker.park(rt);
+            sleeper.sleep(rt);
         }
         unreachable!()
     }
@@ -78,7 +79,7 @@ impl<D: MonitorData> Turnstile<D> for TicketDoor<D> {
         place: usize,
         departure: Departure,
         next: Next,
-    )
+    ) -> Option<Woken>
         requires table { seat.old.table_id ≡ self.now.door.table }
         requires next { IsPlaceBelow self.now.door.places next }
         requires event { MayGive D.rest D.ready (event_of place departure next) place
@@ -86,8 +87,9 @@ impl<D: MonitorData> Turnstile<D> for TicketDoor<D> {
         ensures table { seat.new.table_id ≡ seat.old.table_id }
         ensures away { GoesOut place (event_of place departure next)
             seat.old.me parcel.state seat.new.me }
+        ensures woken { IsWoken self.now.door next result }
     {
-        self.give::<Brand>(seat, parcel, place, departure, next);
+        self.give::<Brand>(seat, parcel, place, departure, next)
     }
 
     #[inline]

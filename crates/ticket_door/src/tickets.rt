@@ -8,7 +8,7 @@ ghost use Rattle.hoare_law.specs.Sizes.{IsHoare, kinds_of};
 ghost use Rattle.hoare_law.specs.Priorities.{priorities};
 ghost use Rattle.hoare_law.specs.Turns.{outside};
 ghost use Rattle.door_frame.specs.Places.{IsOut, IsIn, Handed};
-ghost use Rattle.door_frame.specs.Seats.{IsAway};
+ghost use Rattle.door_frame.specs.Seats.{IsAway, IsNewcomer};
 ghost use Rattle.door_frame.specs.Steps.{Came};
 ghost use Rattle.ticket_door.specs.Asked.{IsAsking, IsServed, IsAsked, EntersBy};
 ghost use Rattle.hoare_law.specs.Admissions.{admissions};
@@ -32,7 +32,7 @@ impl<D: MonitorData> TicketDoor<D> {
     pub(crate) fn draw<J: Counting>(&self, seat: &mut DoorSeat<D>, place: usize) -> u64
         requires table { seat.old.table_id ≡ self.now.door.table }
         requires first { self.now.first ≡ J.first }
-        requires away { (f : History D) × IsAway place f seat.old.me }
+        requires newcomer { IsNewcomer place seat.old.me }
         ensures table { seat.new.table_id ≡ seat.old.table_id }
         ensures drawn { (f : History D) → IsAway place f seat.old.me → (x : ℕ)
             × IsAsking place f x seat.new.me × (result ≡ (self.now.first + x) % 2 ^ 64) }
@@ -114,12 +114,12 @@ impl<D: MonitorData> TicketDoor<D> {
         ensures place { result.place ≡ out.place }
         ensures front { result.front ≡ out.front }
     {
-        let (mut seat, place, parker) = out.into_parts();
+        let (mut seat, place, sleeper) = out.into_parts();
         let ticket = self.draw::<Brand>(&mut seat, place);
         Asked {
             seat,
             place,
-            parker,
+            sleeper,
             ticket,
         }
     }
@@ -136,11 +136,11 @@ impl<D: MonitorData> TicketDoor<D> {
         let Asked {
             mut seat,
             place,
-            parker,
+            sleeper,
             ticket,
         } = asked;
         let parcel = self.served::<Brand, R>(rt, &mut seat, place, ticket);
-        brought_in(seat, place, parker, parcel)
+        brought_in(seat, place, sleeper, parcel)
     }
 
     /// `leave`, which waits for nobody.

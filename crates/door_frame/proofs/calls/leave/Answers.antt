@@ -3,6 +3,7 @@ use Rattle.hoare_law.specs.Beside.Erasure.{erased}
 use Rattle.door_frame.specs.Views.{front_of}
 use Rattle.door_frame.proofs.Departures.{gives_leave, left}
 use Rattle.door_frame.proofs.Inside.{holds, turn_in_hand}
+use Rattle.door_frame.proofs.Seats.{berth_as}
 use Rattle.door_frame.proofs.calls.leave.Goals as goal
 
 pub leave-next-requires : goal.leave-next-requires
@@ -23,5 +24,5 @@ pub returns : goal.returns
 returns g c =
     let h = holds (c.deref_mut.ensures.value ∙ c.parcel.view_is) c.inside.view_is c.inside.invariant c.requires.of in
     let o =
-    left _ _ h c.requires.rest c.hand_on.ensures.table (c.of_parts.ensures _ (c.hand_on.ensures.away _ h.me_is)) in
+    left _ _ h c.requires.rest (berth_as _ c.hand_on.ensures.table) (c.of_parts.ensures _ (c.hand_on.ensures.away _ h.me_is)) in
     record { of = o.of; place = o.place; front = o.front }

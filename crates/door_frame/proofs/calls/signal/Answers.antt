@@ -7,7 +7,8 @@ use Rattle.wait_book.proofs.WithData.{none-listed}
 use Rattle.door_frame.specs.Views.{front_of}
 use Rattle.door_frame.proofs.Arrivals.{returned}
 use Rattle.door_frame.proofs.Departures.{gives_handing}
-use Rattle.door_frame.proofs.Inside.{holds, turn_in_hand, small}
+use Rattle.door_frame.proofs.Inside.{holds, turn_in_hand, small, sleeps}
+use Rattle.door_frame.proofs.Seats.{berth_as}
 use Rattle.door_frame.proofs.calls.signal.Goals as goal
 
 pub signal-next-requires-clause-inside : goal.signal-next-requires-clause-inside
@@ -28,6 +29,10 @@ pub claim-parcel-requires-clause-small : goal.claim-parcel-requires-clause-small
 claim-parcel-requires-clause-small g c =
     small (holds (c.deref_mut.ensures.value ∙ c.parcel.view_is) c.inside.view_is c.inside.invariant c.requires.of)
 
+pub claim-parcel-requires-clause-sleeper : goal.claim-parcel-requires-clause-sleeper
+claim-parcel-requires-clause-sleeper g c =
+    sleeps (holds (c.deref_mut.ensures.value ∙ c.parcel.view_is) c.inside.view_is c.inside.invariant c.requires.of)
+
 pub claim-parcel-requires-clause-away : goal.claim-parcel-requires-clause-away
 claim-parcel-requires-clause-away g c = (_, c.hand_on.ensures.away _ c.inside.invariant.0)
 
@@ -43,7 +48,7 @@ returns g c =
     (c.if-not-queue.ensures.lists).0 in
     let came = c.claim-parcel.ensures.came _ (c.hand_on.ensures.away _ h.me_is) in
     let r = returned c.args.condition _ _ _ _ h (told refl) (c.signal-next.ensures.of (erased f) h.book) c.signal-next.ensures.next
-    (c.claim-parcel.ensures.table ∙ c.hand_on.ensures.table) came (c.brought_back.ensures _ came) in
+    (berth_as _ (c.claim-parcel.ensures.table ∙ c.hand_on.ensures.table)) came (c.brought_back.ensures _ came) in
     record { of = r.of; place = r.place; told = ((λ _. told refl), λ _. refl); rest = λ _. r.rests; same = λ no. absurd (cc); front = r.front }
 
 pub returns-then-not-queue-clause-front : goal.returns-then-not-queue-clause-front

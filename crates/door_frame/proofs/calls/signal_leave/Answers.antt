@@ -7,6 +7,7 @@ use Rattle.wait_book.proofs.WithData.{none-listed}
 use Rattle.door_frame.specs.Views.{front_of}
 use Rattle.door_frame.proofs.Departures.{gives_handing, passed}
 use Rattle.door_frame.proofs.Inside.{holds, turn_in_hand}
+use Rattle.door_frame.proofs.Seats.{berth_as}
 use Rattle.door_frame.proofs.calls.signal_leave.Goals as goal
 
 pub leave-requires-clause-rest : goal.leave-requires-clause-rest
@@ -44,5 +45,5 @@ returns g c =
     (c.if-not-queue.ensures.lists).0 in
     let o = passed c.args.condition _ _ _ _ h c.requires.hoare (told refl) (c.requires.ready (told refl))
     (c.pass-next.ensures.of (erased f) h.book) c.pass-next.ensures.next
-    c.hand_on.ensures.table (c.of_parts.ensures _ (c.hand_on.ensures.away _ h.me_is)) in
+    (berth_as _ c.hand_on.ensures.table) (c.of_parts.ensures _ (c.hand_on.ensures.away _ h.me_is)) in
     record { of = o.of; place = o.place; told = ((λ _. told refl), λ _. refl); front = o.front }

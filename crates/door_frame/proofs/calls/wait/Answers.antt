@@ -3,7 +3,8 @@ use Rattle.hoare_law.specs.Beside.Erasure.{erased}
 use Rattle.door_frame.proofs.Arrivals.{resumed}
 use Rattle.door_frame.specs.Views.{front_of}
 use Rattle.door_frame.proofs.Departures.{gives_wait}
-use Rattle.door_frame.proofs.Inside.{holds, turn_in_hand, small}
+use Rattle.door_frame.proofs.Inside.{holds, turn_in_hand, small, sleeps}
+use Rattle.door_frame.proofs.Seats.{berth_as}
 use Rattle.door_frame.proofs.calls.wait.Goals as goal
 
 pub wait-next-requires-clause-inside : goal.wait-next-requires-clause-inside
@@ -22,6 +23,10 @@ pub claim-parcel-requires-clause-small : goal.claim-parcel-requires-clause-small
 claim-parcel-requires-clause-small g c =
     small (holds (c.deref_mut.ensures.value ∙ c.parcel.view_is) c.inside.view_is c.inside.invariant c.requires.of)
 
+pub claim-parcel-requires-clause-sleeper : goal.claim-parcel-requires-clause-sleeper
+claim-parcel-requires-clause-sleeper g c =
+    sleeps (holds (c.deref_mut.ensures.value ∙ c.parcel.view_is) c.inside.view_is c.inside.invariant c.requires.of)
+
 pub claim-parcel-requires-clause-away : goal.claim-parcel-requires-clause-away
 claim-parcel-requires-clause-away g c = (_, c.hand_on.ensures.away _ c.inside.invariant.0)
 
@@ -34,6 +39,6 @@ returns g c =
     let h = holds (c.deref_mut.ensures.value ∙ c.parcel.view_is) c.inside.view_is c.inside.invariant c.requires.of in
     let came = c.claim-parcel.ensures.came _ (c.hand_on.ensures.away _ h.me_is) in
     let r =
-    resumed c.args.condition c.args.priority _ _ h (c.claim-parcel.ensures.table ∙ c.hand_on.ensures.table) came
+    resumed c.args.condition c.args.priority _ _ h (berth_as _ (c.claim-parcel.ensures.table ∙ c.hand_on.ensures.table)) came
     (c.brought_back.ensures _ came) in
     record { of = r.of; place = r.place; ready = r.is_ready; rest = r.rests; front = r.front }

@@ -2,7 +2,7 @@ use Rattle.std.proofs.Common.{rules, ◌≡◌, ℕ, ◌-◌, List, ◌∷◌, �
 use Rattle.std.proofs.Common.{append-nil, append_assoc}
 use Rattle.std.specs.Prelude.{All}
 use Rattle.door_frame.specs.declared.view.View.TheVariants.{Places}
-use Rattle.door_frame.specs.Places.{DoorId, PlaceOut, IsOut}
+use Rattle.door_frame.specs.Places.{Berth, DoorId, PlaceOut, IsOut, door_of}
 use Rattle.door_frame.specs.Steps.{Sat}
 use Rattle.door_frame.specs.Views.{both_places}
 use Rattle.door_frame.proofs.Close.{All-mid, ends_all, ends_at, joins_one, known_to}
@@ -13,12 +13,12 @@ pub loop-out-init : goal.loop-out-init
 loop-out-init g c =
     let D = g.D.MonitorData in
     let t = c.args.table.shared in
-    let d : DoorId = record { table = t.table_id; places = g.W.Words.places t.key } in
+    let d : DoorId = door_of t.table_id (g.W.Words.places t.key) c.args.wakers.items in
     let o = c.in-Some.first in
     let P = IsOut D.rest D.ready (kinds_of D.CONDITIONS D.MESA) d in
     let mine =
     All-mid P c.pop.new.self.items o [] (subst (All P) (c.in-Some.ensures.items ∙ sym (append-nil _)) c.requires.of) in
-    (c.into_parts-seat.ensures.0 ∙ mine.of, (o ∷ [], c.in-Some.ensures.items, c.into_parts-seat.ensures.2))
+    (ap (λ (b : Berth). b.table) (c.into_parts-seat.ensures.0 ∙ mine.of), (o ∷ [], c.in-Some.ensures.items, c.into_parts-seat.ensures.2))
 
 pub join_seat-requires : goal.join_seat-requires
 join_seat-requires g c =
@@ -27,7 +27,7 @@ join_seat-requires g c =
     let t = c.args.table.shared in
     let W = g.W.Words in
     let q = t.key in
-    let d : DoorId = record { table = t.table_id; places = W.places q } in
+    let d : DoorId = door_of t.table_id (W.places q) c.args.wakers.items in
     let o = c.in-Some-pop.out in
     let P = IsOut D.rest D.ready (kinds_of D.CONDITIONS D.MESA) d in
     let left = c.pop-in-loop-out.new.self.items in
@@ -35,7 +35,7 @@ join_seat-requires g c =
     inv.1.1 ∙ ap (λ (l : List (PlaceOut g.row.D.Denot)). l ++ inv.1.0) c.in-Some-pop.ensures.items in
     let mine = All-mid P left o inv.1.0 (subst (All P) items c.requires.of) in (
       search rules,
-      c.into_parts-other.ensures.0 ∙ mine.of,
+      ap (λ (b : Berth). b.table) (c.into_parts-other.ensures.0 ∙ mine.of),
       ap (λ (m : Sat g.row.D.Denot). m.1) c.into_parts-other.ensures.2,
       search rules,
       joins_one (W.starts q) (W.tells q) D.rest D.ready (kinds_of D.CONDITIONS D.MESA) d _ _ _ _ inv.1.0 o.place o.front
@@ -65,7 +65,7 @@ unwrap-parcel-requires g c =
     let D = g.D.MonitorData in
     let t = c.args.table.shared in
     let W = g.W.Words in
-    let d : DoorId = record { table = t.table_id; places = W.places t.key } in
+    let d : DoorId = door_of t.table_id (W.places t.key) c.args.wakers.items in
     let fin = ends_all (W.starts t.key) (W.tells t.key) D.rest D.ready (kinds_of D.CONDITIONS D.MESA) d _ _ inv.1.0 inv.1.1 (none_left _ _ _ p.items p.cases.0 p.rest)
     (ap (λ (m : Sat g.row.D.Denot). m.0) inv.1.2) c.requires.of c.requires.places c.close_with-closed.ensures.values.2 c.take.ensures.value in
     subst IsSome (sym fin.1) refl
@@ -77,7 +77,7 @@ returns g c =
     let D = g.D.MonitorData in
     let t = c.args.table.shared in
     let W = g.W.Words in
-    let d : DoorId = record { table = t.table_id; places = W.places t.key } in
+    let d : DoorId = door_of t.table_id (W.places t.key) c.args.wakers.items in
     let fin = ends_all (W.starts t.key) (W.tells t.key) D.rest D.ready (kinds_of D.CONDITIONS D.MESA) d _ _ inv.1.0 inv.1.1 (none_left _ _ _ p.items p.cases.0 p.rest)
     (ap (λ (m : Sat g.row.D.Denot). m.0) inv.1.2) c.requires.of c.requires.places c.close_with-closed.ensures.values.2 c.take.ensures.value in
     let e =

@@ -1,15 +1,16 @@
-use Rattle.std.proofs.Common.{rules, length, option_to_list, ◌≡◌, ℕ, ◌+◌, ◌-◌, ◌∷◌, [], ◌++◌, sym, ap, ◌∙◌, subst}
+use Rattle.std.proofs.Common.{rules, length, option_to_list, ◌≡◌, ℕ, ◌+◌, ◌-◌, List, ◌∷◌, [], ◌++◌, reverse, sym, ap, ◌∙◌, subst, append_assoc}
 use Rattle.std.proofs.Common.{arith}
+use Rattle.atomic_table.specs.Seated.{TableId}
 use Rattle.atomic_table.specs.Table.{Splits}
 use Rattle.door_frame.specs.declared.view.View.{View}
 use Rattle.door_frame.specs.declared.view.View.TheVariants.{Places}
-use Rattle.door_frame.specs.Places.{place_out}
+use Rattle.door_frame.specs.Places.{berth, berth_at, door_of, place_out}
 use Rattle.door_frame.specs.Rule.{Kept}
 use Rattle.door_frame.specs.Steps.{Sat}
 use Rattle.door_frame.specs.Views.{all_know, places_behind, first_place}
 use Rattle.door_frame.proofs.Steps.{deals_ok}
 use Rattle.door_frame.proofs.Seats.{cut_off}
-use Rattle.door_frame.proofs.Views.{places_more}
+use Rattle.door_frame.proofs.Views.{nth_reversed, places_and}
 use Rattle.door_frame.proofs.making.deal.Goals as goal
 use Rattle.hoare_law.specs.Sizes.{kinds_of}
 
@@ -45,7 +46,15 @@ loop-place-preserved g c =
     let less : (c.args.places - k) - 1 ≡ c.args.places - (k + 1) = omega (arith, c.loop-place-test.true) in
     let z = c.args.table.now.shared.table_id in
     let table : c.split_seat-cut.result.table_id ≡ z = c.split_seat-cut.ensures.3 ∙ inv.0 in
-    let same : k ≡ 0 + k = omega arith in (
+    let given = inv.5.0 in
+    let left = c.pop.new.self.items in
+    let w = c.unwrap-sleeper.result in
+    let last : c.loop-place.sleepers.items ≡ left ++ w ∷ [] = search rules in
+    let are : c.args.sleepers.items ≡ left ++ w ∷ given =
+    inv.5.1 ∙ ap (λ (l : List TableId). l ++ given) last ∙ append_assoc left (w ∷ []) given in
+    let d = door_of z c.args.places (reverse c.args.sleepers.items) in
+    let woken : berth c.split_seat-cut.result.table_id w ≡ berth_at d k =
+    (λ i. berth (table i) (sym (nth_reversed c.args.sleepers.items left given w z k are inv.5.2) i)) in (
       c.split_seat-cut.ensures.0 ∙ inv.0,
       (λ f is.
           let m = inv.1 f is in
@@ -55,10 +64,12 @@ loop-place-preserved g c =
             cut.1 ∙ ap (λ (n : ℕ). (Places (all_know (k + 1) n f), [])) less,
             c.push_reserved.ensures.items
                 ∙ ap (λ o. c.loop-place.outs.items ++ o ∷ []) (c.of_parts.ensures f cut.0)
-                ∙ ((λ i. m.1 i ++ place_out (table i) (same i) f ∷ []) ∙ sym (places_more z 0 k f)),
+                ∙ ap (λ os. os ++ place_out (berth c.split_seat-cut.result.table_id w) k f ∷ []) m.1
+                ∙ places_and d k _ f woken,
           )),
       search rules,
       search rules,
       omega
-          (arith, c.pop.ensures.len, ap (λ o. length (option_to_list o)) c.unwrap-parker.ensures, inv.4, c.loop-place-test.true),
+          (arith, c.pop.ensures.len, ap (λ o. length (option_to_list o)) c.unwrap-sleeper.ensures, inv.4, c.loop-place-test.true),
+      (w ∷ given, are, omega (arith, inv.5.2)),
     )

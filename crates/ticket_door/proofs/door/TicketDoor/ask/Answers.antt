@@ -1,11 +1,14 @@
-use Rattle.std.proofs.Common.{◌+◌, ◌%◌, ◌^◌, sym, ap, ◌∙◌}
-use Rattle.door_frame.proofs.Seats.{away_as}
+use Rattle.std.proofs.Common.{◌≡◌, ◌+◌, ◌%◌, ◌^◌, true, sym, ap, ◌∙◌, subst}
+use Rattle.hoare_law.specs.Turns.{outside}
+use Rattle.door_frame.proofs.Seats.{away_as, berth_as}
 use Rattle.ticket_door.proofs.Asking.{asking_alone, asking_front, asking_number, asking_by, asked_is}
 use Rattle.ticket_door.proofs.door.TicketDoor.ask.Goals as goal
 use Rattle.hoare_law.specs.Sizes.{kinds_of}
 
-pub draw-ticket-requires-clause-away : goal.draw-ticket-requires-clause-away
-draw-ticket-requires-clause-away g c = let p = c.into_parts-seat.ensures in (c.args.out.front, away_as p.1 p.2)
+pub draw-ticket-requires-clause-newcomer : goal.draw-ticket-requires-clause-newcomer
+draw-ticket-requires-clause-newcomer g c =
+    let p = c.into_parts-seat.ensures in
+    (c.args.out.front, away_as p.1 p.2, subst (λ k. outside k c.args.out.front.events ≡ true) (sym p.1) c.requires.is_outside)
 
 pub invariant_of-result : goal.invariant_of-result
 invariant_of-result g c =
@@ -23,7 +26,7 @@ returns-clause-of g c =
     let p = c.into_parts-seat.ensures in
     let d = c.draw-ticket.ensures.drawn c.args.out.front (away_as p.1 p.2) in
     asked_is D.rest D.ready (kinds_of D.CONDITIONS D.MESA) c.args.self.now c.args.out _ c.requires
-    (c.draw-ticket.ensures.table ∙ p.0 ∙ c.requires.of) p.1
+    (berth_as _ c.draw-ticket.ensures.table ∙ p.0) p.1
     (asking_front _ _ _ _ d.0 d.1)
     (d.2 ∙ ap (λ n. (c.args.self.now.first + n) % 2 ^ 64) (sym (asking_number _ _ _ d.0 d.1)))
 

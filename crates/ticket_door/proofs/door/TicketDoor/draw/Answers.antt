@@ -10,13 +10,13 @@ pub fetch_add-requires : goal.fetch_add-requires
 fetch_add-requires g c =
     let t = c.self.inside.table.shared in
     let D = g.D.MonitorData in
-    let away = c.requires.away in
+    let newcomer = c.requires.newcomer in
     let wide = c.self.invariant.words_are in
     let first = ap (λ (d : TicketDoorId). d.first) c.self.view_is ∙ c.requires.first in (
       c.requires.table ∙ ap (λ (d : TicketDoorId). d.door.table) (sym c.self.view_is),
       omega (arith, wide),
-      asks_at t.key.first t.key.places D.rest D.ready (kinds_of D.CONDITIONS D.MESA) _ _ c.args.place away.0
-          (step t.table_id.slots 8 1 0 none) _ _ away.1 first,
+      asks_at t.key.first t.key.places D.rest D.ready (kinds_of D.CONDITIONS D.MESA) _ _ c.args.place newcomer.0
+          (step t.table_id.slots 8 1 0 none) _ _ newcomer.1 first newcomer.2,
     )
 
 pub returns-clause-drawn : goal.returns-clause-drawn

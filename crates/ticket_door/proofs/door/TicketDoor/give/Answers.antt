@@ -1,7 +1,9 @@
-use Rattle.std.proofs.Common.{◌<◌, sym, ap, ◌∙◌, subst, Some, [], ◌∷◌, arith}
+use Rattle.std.proofs.Common.{◌<◌, sym, ap, ◌∙◌, subst, Some, None, [], ◌∷◌, arith}
 use mathlib.Core.Option.{none}
 use Rattle.atomic_table.specs.Table.{step}
 use Rattle.wait_book.specs.Contents.{IsPlaceBelow}
+use Rattle.wait_book.specs.declared.steps.Next.{Next}
+use Rattle.door_frame.specs.Places.{IsWoken}
 use Rattle.door_frame.specs.Steps.{Sat, Gives}
 use Rattle.door_frame.proofs.Departures.{gives_gone}
 use Rattle.ticket_door.specs.Asked.{TicketDoorId}
@@ -53,8 +55,19 @@ store-requires g c =
           _ below laid gives c.bell_of.ensures,
     )
 
-pub wake-requires : goal.wake-requires
-wake-requires g c = subst (IsPlaceBelow c.args.self.now.door.places) c.in-For.is c.requires.next
+pub wake-requires-clause-below : goal.wake-requires-clause-below
+wake-requires-clause-below g c = subst (IsPlaceBelow c.args.self.now.door.places) c.in-For.is c.requires.next
+
+-- the bell is rung before
+
+pub wake-requires-clause-given_up : goal.wake-requires-clause-given_up
+wake-requires-clause-given_up g c = let e = c.requires.event in (
+  c.args.place,
+  _,
+  c.store.ensures.2 c.args.place e.0 c.args.parcel
+      (c.lay_parcel.ensures.laid ∙ ap (λ (m : Sat g.row.D.Denot). (m.0, (0, Some c.args.parcel) ∷ [])) e.1),
+  e.2.given_up,
+)
 
 pub unreachable-requires : goal.unreachable-requires
 unreachable-requires g c =
@@ -71,3 +84,12 @@ pub returns-in-For-clause-away : goal.returns-in-For-clause-away
 returns-in-For-clause-away g c = λ f is.
     c.store.ensures.2 c.args.place f c.args.parcel
     (c.lay_parcel.ensures.laid ∙ ap (λ (m : Sat g.row.D.Denot). (m.0, (0, Some c.args.parcel) ∷ [])) is)
+
+pub returns-in-Free-clause-woken : goal.returns-in-Free-clause-woken
+returns-in-Free-clause-woken g c =
+    subst (λ (n : Next). IsWoken c.args.self.now.door n None) (sym c.in-Free.is) tt
+
+pub returns-in-For-clause-woken : goal.returns-in-For-clause-woken
+returns-in-For-clause-woken g c =
+    subst (λ (n : Next). IsWoken c.args.self.now.door n (Some c.wake.result)) (sym c.in-For.is)
+    (ap (λ w. Some w) c.wake.ensures)

@@ -1,5 +1,0 @@
-use Rattle.std.proofs.Common.{◌≡◌, vec_len}
-use Rattle.door_frame.proofs.making.parkers.Given as goal
-
-abbrev pub invariant-loop-made : goal.invariant-loop-made
-invariant-loop-made l = (vec_len l.parkers ≡ l.made) × (vec_len l.wakers ≡ l.made)

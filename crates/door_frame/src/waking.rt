@@ -1,0 +1,113 @@
+//! What a place sleeps on, what wakes it, and what shows that it was woken.
+ghost use Rattle.std.specs.Prelude.{◌≡◌, true, IfOk};
+ghost use Rattle.crossbeam_utils.specs.Token.{parker_view};
+ghost use Rattle.door_frame.specs.Seats.{IsBehind};
+
+use crate::plays::DoorSeat;
+use crossbeam_utils::rule::{Outcome, Protocol};
+use crossbeam_utils::sync::parker::{Pass, RuledParker, RuledUnparker};
+use std::alloc::{AllocError, Global};
+use std::marker::Model;
+use std::sync::Wait;
+
+/// Nothing is asked of a parker's token. Who has a pass to it knows whether it gave one.
+pub struct Waking;
+
+impl Protocol<bool, bool> for Waking {
+    ghost use Rattle.std.specs.Prelude.{false};
+
+    ghost holds = { λ _ _. Unit {0} };
+
+    ghost first = { false };
+}
+
+struct Gives;
+
+impl Outcome<bool, bool> for Gives {
+    ghost use Rattle.std.specs.Prelude.{◌≡◌, true};
+
+    ghost then = { λ _ _ _ after. after ≡ true };
+}
+
+struct Takes;
+
+impl Outcome<bool, bool> for Takes {
+    ghost then = { λ _ _ _ _. Unit {0} };
+}
+
+/// What one place sleeps on. A contract sees which it is.
+#[derive(Drop)]
+pub struct Sleeper {
+    parker: RuledParker<bool, Waking>,
+}
+
+impl Model for Sleeper {
+    ghost use Rattle.std.specs.Arc.{arc_value};
+    ghost use Rattle.atomic_table.specs.Seated.{TableId};
+
+    ghost Value = { TableId };
+
+    ghost view = { λ s. (arc_value s.parker.unparker.state).shared.table_id };
+}
+
+/// What wakes the place that sleeps on one sleeper. A contract sees on which.
+#[derive(Drop)]
+pub struct Waker {
+    unparker: RuledUnparker<bool, Waking>,
+}
+
+impl Model for Waker {
+    ghost use Rattle.std.specs.Arc.{arc_value};
+    ghost use Rattle.atomic_table.specs.Seated.{TableId};
+
+    ghost Value = { TableId };
+
+    ghost view = { λ w. (arc_value w.unparker.state).shared.table_id };
+}
+
+/// Shows that who sleeps on one sleeper was woken. A contract sees on which.
+#[derive(Drop)]
+pub struct Woken {
+    pass: Pass<bool>,
+    ghost given: { parker_view pass ≡ true },
+}
+
+impl Model for Woken {
+    ghost use Rattle.atomic_table.specs.Seated.{TableId};
+
+    ghost Value = { TableId };
+
+    ghost view = { λ w. w.pass.table_id };
+}
+
+impl Sleeper {
+    /// A sleeper, and what wakes who sleeps on it.
+    pub fn new(alloc: Global) -> Result<(Sleeper, Waker), AllocError>
+        ensures { IfOk result (λ r. r.1 ≡ r.0) }
+    {
+        let (parker, _) = RuledParker::ruled(alloc)?;
+        let unparker = parker.unparker().clone()?;
+        Ok((Sleeper { parker }, Waker { unparker }))
+    }
+
+    /// Sleeps until it is woken, or returns at once where it was since it slept last.
+    #[inline]
+    pub fn sleep<R: Wait>(&self, rt: &R) {
+        let mut pass = self.parker.unparker().pass();
+        self.parker.park_as::<Takes, R>(rt, &mut pass);
+    }
+}
+
+impl Waker {
+    /// Wakes the place, or lets its next sleep return at once. It is for who has given the monitor up: a place that is woken
+    /// before finds nothing, and sleeps on.
+    #[inline]
+    pub fn wake<D>(&self, seat: &DoorSeat<D>) -> Woken
+        requires given_up { IsBehind seat.now.me }
+        ensures { result ≡ self.now }
+    {
+        let mut pass = self.unparker.pass();
+        self.unparker.unpark_as::<Gives>(&mut pass);
+        Woken { pass }
+    }
+}

@@ -8,8 +8,8 @@ use hoare_law::monitor::Monitor;
 use hoare_law::waits::Waits;
 use std::sync::Wait;
 
-// The condition *a permit is free*: who takes waits there.
-const PERMIT_IS_FREE: usize = 0;
+/// The condition *a permit is free*: who takes waits there.
+pub const PERMIT_IS_FREE: usize = 0;
 
 /// How urgent a caller is. A class is the priority of its wait: the least goes first.
 #[derive(Clone, Copy, Debug, PartialEq, Eq)]
@@ -60,7 +60,7 @@ impl MonitorData for Permits {
     // Always: no more permits are free than there are.
     ghost inv = { λ s. s.free ≤ s.total };
 
-    // Whenever the monitor is given up: who waits has a cause, namely that no permit is free.
+    // At each wait and leave: who waits has a cause, namely that no permit is free.
     ghost rest = { λ s q. PermitsRest s.total s.free (q 0) };
 
     // What a process finds that waited and is resumed: a permit is free. It may be the only one if others still wait, for it

@@ -1,12 +1,10 @@
-//! A first monitor, to be copied: a pool of permits, its workers, and a desk that looks on.
+//! The first monitor on threads: a pool of permits, its workers, and a desk that looks on.
 #![tactic(auto)]
-
-mod permits;
 
 ghost use Rattle.std.specs.Prelude.{All};
 
-use crate::permits::{Class, Permits};
 use baton_door::door::Door;
+use first_monitor::permits::{Class, Permits};
 use hoare_law::monitor::Monitor;
 use std::alloc::{AllocError, Global};
 use std::sync::Wait;

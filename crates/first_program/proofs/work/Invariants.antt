@@ -1,4 +1,4 @@
-use Rattle.first_monitor.proofs.work.Given as goal
+use Rattle.first_program.proofs.work.Given as goal
 
 -- the place stays one of the monitor's
 abbrev pub invariant-loop : goal.invariant-loop

@@ -2,6 +2,7 @@
 #![tactic(auto)]
 
 pub mod door;
+mod glance;
 pub mod kind;
 mod monitor;
 

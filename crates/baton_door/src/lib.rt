@@ -2,6 +2,7 @@
 #![tactic(auto)]
 
 pub mod door;
+mod glance;
 mod monitor;
 mod naps;
 mod newcomers;

@@ -53,6 +53,11 @@ impl Naps {
         self.nappers.fetch_sub(1, Ordering::SeqCst);
     }
 
+    /// How many nap.
+    pub(crate) fn count(&self) -> u64 {
+        self.nappers.load(Ordering::Relaxed)
+    }
+
     /// Who is inside tells how it is about to give the monitor up, and asks whether it is to call one that naps then.
     #[inline]
     pub(crate) fn is_to_call(&self, departure: Departure, next: Next) -> bool {

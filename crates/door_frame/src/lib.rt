@@ -4,6 +4,7 @@
 
 pub mod calls;
 pub mod departure;
+pub mod glance;
 pub mod looks;
 pub mod making;
 pub mod notice;

@@ -3,6 +3,7 @@
 
 mod bells;
 pub mod door;
+mod glance;
 pub mod laws;
 mod meeting;
 mod monitor;

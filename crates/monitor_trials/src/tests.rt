@@ -23,6 +23,7 @@ macro_rules! run_row_on {
 mod compared;
 mod doors_alone;
 mod fake;
+mod glances;
 mod limit;
 mod many_tickets;
 mod meanings;

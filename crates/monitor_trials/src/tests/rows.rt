@@ -10,6 +10,7 @@ mod head_stress;
 mod history;
 mod late_reader;
 mod mesa;
+mod naps;
 mod pool_stress;
 pub mod readers;
 mod readers_stress;

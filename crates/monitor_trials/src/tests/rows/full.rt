@@ -2,13 +2,14 @@
 ghost use Rattle.std.specs.Prelude.{◌≡◌};
 
 use crate::tests::compared::expect_same;
-use crate::tests::running::DoorKind;
 use hoare_law::monitor::Monitor;
 use hoare_law::unasked::Unasked;
 use hoare_law::waits::Waits;
 use std::alloc::Global;
 use std::process::Abort;
+use std::rt::Clock;
 use std::sync::Wait;
+use std::thread::Threads;
 
 const PLACES: usize = 64;
 
@@ -101,14 +102,44 @@ fn stands_in_order<R: Abort>(rt: &R, alloc: Global, row: &[usize]) {
     expect_same(rt, row, expected.as_slice());
 }
 
+// Nobody went on yet.
+fn nobody<R: Abort>(rt: &R, alloc: Global) -> Row {
+    Row {
+        value: no_places(rt, alloc),
+    }
+}
+
+// In which order they went on, on a baton door.
+fn on_baton<R: Threads + Wait + Abort + Clock + Sync>(rt: &R, alloc: Global) -> Vec<usize> {
+    run_row!(
+        rt,
+        alloc,
+        on_baton_door(),
+        waits_in_row(),
+        nobody(rt, alloc),
+        PLACES
+    )
+    .0
+    .value
+}
+
+// The same on a ticket door.
+fn on_ticket<R: Threads + Wait + Abort + Clock + Sync>(rt: &R, alloc: Global) -> Vec<usize> {
+    run_row!(
+        rt,
+        alloc,
+        on_ticket_door(0),
+        waits_in_row(),
+        nobody(rt, alloc),
+        PLACES
+    )
+    .0
+    .value
+}
+
 #[test]
 fn sixty_four_places_wait_on_eight_conditions(host: HostRuntime) {
     let (rt, alloc) = (&host, host.alloc());
-    for kind in DoorKind::BOTH {
-        let data = Row {
-            value: no_places(rt, alloc),
-        };
-        let (row, _) = run_row_on!(kind, rt, alloc, waits_in_row(), data, PLACES);
-        stands_in_order(rt, alloc, row.value.as_slice());
-    }
+    stands_in_order(rt, alloc, on_baton(rt, alloc).as_slice());
+    stands_in_order(rt, alloc, on_ticket(rt, alloc).as_slice());
 }

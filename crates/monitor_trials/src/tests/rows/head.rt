@@ -4,54 +4,20 @@ ghost use Rattle.hoare_law.specs.Priorities.{nobody};
 ghost use Rattle.sweep_schedulers.specs.Heads.{HeadRests};
 
 use crate::tests::compared::expect_same;
+use crate::tests::rows::drive::{Trip, goes, hands_on};
 use crate::tests::rows::head_stay::{ASKING, asks_or_counts};
 use crate::tests::rows::head_stress::{CYLMAX, Line, PLACES, is_a_sweep, travels};
 use crate::tests::rows::shared_log::Log;
 use crate::tests::rows::turns::{Turns, line_up};
-use crate::tests::running::{DoorKind, all_answered};
+use crate::tests::running::{BATON, TICKET, all_answered};
 use hoare_law::monitor::Monitor;
 use std::alloc::Global;
 use std::process::Abort;
 use std::rt::Clock;
 use std::sync::Wait;
+use std::thread::Threads;
 use sweep_schedulers::head::{Head, OffDisk};
 use sweep_schedulers::not_out::NotOut;
-
-/// The cylinders where a drive was, in order.
-pub type Trip = Vec<u16>;
-
-/// Takes the drive to the cylinder.
-pub fn goes<R: Wait + Abort, M: Monitor<Head<Trip>>>(
-    rt: &R,
-    m: &M,
-    out: M::Out,
-    dest: u16,
-) -> (M::Out, Trip)
-    requires { M.is_of m.now out }
-    ensures of { M.is_of m.now result.0 }
-    ensures place { M.place result.0 ≡ M.place out }
-{
-    let (out, drive) = Head::request(m, rt, out, dest);
-    let mut drive = drive.expect(rt, "the cylinder is on the disk");
-    drive.push(dest).expect(rt, "memory");
-    (out, drive)
-}
-
-/// Hands the drive on.
-pub fn hands_on<R: Wait + Abort, M: Monitor<Head<Trip>>>(
-    rt: &R,
-    m: &M,
-    out: M::Out,
-    drive: Trip,
-) -> M::Out
-    requires { M.is_of m.now out }
-    ensures of { M.is_of m.now result }
-    ensures place { M.place result ≡ M.place out }
-{
-    let (out, released) = Head::release(m, rt, out, drive);
-    assert!(rt; released.is_ok());
-    out
-}
 
 /// Takes the drive to cylinder 50, twice where the plan has an idle drive once, and keeps it the last time; hands
 /// it on once the others wait; and takes it to the cylinder `last` when all others had it. The drive has to have
@@ -239,29 +205,64 @@ fn setting(row: HeadRow<'_>) -> (u16, usize) {
     }
 }
 
+// What the places of the row answer on a baton door.
+fn on_baton<R: Threads + Wait + Abort + Clock + Sync>(
+    rt: &R,
+    alloc: Global,
+    row: HeadRow<'_>,
+) -> Vec<u64> {
+    let (cylmax, places) = setting(row);
+    run_row!(
+        rt,
+        alloc,
+        on_baton_door(),
+        acts(row),
+        disk(alloc, cylmax),
+        places
+    )
+    .1
+}
+
+// The same on a ticket door.
+fn on_ticket<R: Threads + Wait + Abort + Clock + Sync>(
+    rt: &R,
+    alloc: Global,
+    row: HeadRow<'_>,
+) -> Vec<u64> {
+    let (cylmax, places) = setting(row);
+    run_row!(
+        rt,
+        alloc,
+        on_ticket_door(0),
+        acts(row),
+        disk(alloc, cylmax),
+        places
+    )
+    .1
+}
+
 #[test]
 fn a_disk_head_on_both_doors(host: HostRuntime) {
     let (rt, alloc) = (&host, host.alloc());
     let turns = Turns::new();
-    for kind in DoorKind::BOTH {
-        let log = Log::new(rt, alloc, 10_000);
-        for row in [
-            HeadRow::ByPlan(alloc, &turns, &SWEEP_ORDER),
-            HeadRow::ByPlan(alloc, &turns, &IDLE_RELEASE_TURNS),
-            HeadRow::StayCountsGrants(&turns),
-            HeadRow::TheDriveGoesBySweeps(&log),
-        ] {
-            let (cylmax, places) = setting(row);
-            let (_head, answers) = run_row_on!(
-                kind,
-                rt,
-                alloc,
-                acts(row),
-                disk(alloc, cylmax),
-                places
-            );
-            all_answered(rt, kind, answers.as_slice(), places);
-        }
-        is_a_sweep(rt, log);
+    for row in [
+        HeadRow::ByPlan(alloc, &turns, &SWEEP_ORDER),
+        HeadRow::ByPlan(alloc, &turns, &IDLE_RELEASE_TURNS),
+        HeadRow::StayCountsGrants(&turns),
+    ] {
+        let (_, places) = setting(row);
+        all_answered(rt, BATON, on_baton(rt, alloc, row).as_slice(), places);
+        all_answered(rt, TICKET, on_ticket(rt, alloc, row).as_slice(), places);
     }
+}
+
+#[test]
+fn the_drive_goes_by_sweeps(host: HostRuntime) {
+    let (rt, alloc) = (&host, host.alloc());
+    let log = Log::new(rt, alloc, 10_000);
+    on_baton(rt, alloc, HeadRow::TheDriveGoesBySweeps(&log));
+    is_a_sweep(rt, log);
+    let log = Log::new(rt, alloc, 10_000);
+    on_ticket(rt, alloc, HeadRow::TheDriveGoesBySweeps(&log));
+    is_a_sweep(rt, log);
 }

@@ -4,7 +4,7 @@ ghost use Rattle.plain_schedulers.specs.Buffers.{BufferHolds};
 
 use crate::tests::compared::expect_same;
 use crate::tests::rows::turns::{Turns, count_waiting, line_up};
-use crate::tests::running::{DoorKind, answered};
+use crate::tests::running::{BATON, TICKET, answered};
 use hoare_law::monitor::Monitor;
 use plain_schedulers::buffer::mesa::MesaBuffer;
 use plain_schedulers::buffer::{BufferRefused, NONEMPTY, NONFULL};
@@ -12,6 +12,7 @@ use std::alloc::Global;
 use std::process::Abort;
 use std::rt::Clock;
 use std::sync::Wait;
+use std::thread::Threads;
 
 /// A buffer of this many cells, with Mesa conditions.
 fn with_cells<R: Abort>(rt: &R, alloc: Global, cells: usize) -> MesaBuffer<u64>
@@ -105,16 +106,70 @@ fn trades<R: Wait, M: Monitor<MesaBuffer<u64>>>(
     (out, sum)
 }
 
+/// The rows of a buffer with Mesa conditions.
+#[derive(Clone, Copy)]
+enum MesaRow<'a> {
+    /// In the turns.
+    WhoIsCalledTestsAgain(&'a Turns),
+    NoItemIsLostBetweenCalledPlaces,
+}
+
+// Each place does what the row says.
+fn acts<R: Wait + Abort + Clock, M: Monitor<MesaBuffer<u64>>>(
+    rt: &R,
+    m: &M,
+    out: M::Out,
+    place: usize,
+    row: MesaRow<'_>,
+) -> (M::Out, u64)
+    requires { M.is_of m.now out }
+    ensures of { M.is_of m.now result.0 }
+    ensures place { M.place result.0 ≡ M.place out }
+{
+    match row {
+        MesaRow::WhoIsCalledTestsAgain(turns) => calls_or_removes(rt, m, out, place, turns),
+        MesaRow::NoItemIsLostBetweenCalledPlaces => trades(rt, m, out, place, 300),
+    }
+}
+
+// How many cells and places there are in the row.
+fn setting(row: MesaRow<'_>) -> (usize, usize) {
+    match row {
+        MesaRow::WhoIsCalledTestsAgain(_) => (1, 3),
+        MesaRow::NoItemIsLostBetweenCalledPlaces => (2, 4),
+    }
+}
+
+// What the places of the row answer on a baton door.
+fn on_baton<R: Threads + Wait + Abort + Clock + Sync>(
+    rt: &R,
+    alloc: Global,
+    row: MesaRow<'_>,
+) -> Vec<u64> {
+    let (cells, places) = setting(row);
+    let buffer = with_cells(rt, alloc, cells);
+    run_row!(rt, alloc, on_baton_door(), acts(row), buffer, places).1
+}
+
+// The same on a ticket door.
+fn on_ticket<R: Threads + Wait + Abort + Clock + Sync>(
+    rt: &R,
+    alloc: Global,
+    row: MesaRow<'_>,
+) -> Vec<u64> {
+    let (cells, places) = setting(row);
+    let buffer = with_cells(rt, alloc, cells);
+    run_row!(rt, alloc, on_ticket_door(0), acts(row), buffer, places).1
+}
+
 #[test]
 fn who_is_called_tests_again(host: HostRuntime) {
     let (rt, alloc) = (&host, host.alloc());
     let turns = Turns::new();
-    for kind in DoorKind::BOTH {
-        turns.start_again();
-        let buffer = with_cells(rt, alloc, 1);
-        let (_, answers) = run_row_on!(kind, rt, alloc, calls_or_removes(&turns), buffer, 3);
-        answered(rt, kind, answers.as_slice(), &[2, 1, 2]);
-    }
+    let row = MesaRow::WhoIsCalledTestsAgain(&turns);
+    answered(rt, BATON, on_baton(rt, alloc, row).as_slice(), &[2, 1, 2]);
+    turns.start_again();
+    answered(rt, TICKET, on_ticket(rt, alloc, row).as_slice(), &[2, 1, 2]);
 }
 
 #[test]
@@ -128,15 +183,18 @@ fn a_buffer_with_mesa_conditions_has_its_limits(rt: HostRuntime) {
     }
 }
 
+// The items that were taken out are those that were put in.
+fn sums_up<R: Abort>(rt: &R, door: &str, answers: &[u64]) {
+    let sum = answers
+        .iter()
+        .fold(0u64, |sum, answer| sum.saturating_add(*answer));
+    expect_same(rt, (door, sum), (door, 300 * 301));
+}
+
 #[test]
 fn no_item_is_lost_between_called_places(host: HostRuntime) {
     let (rt, alloc) = (&host, host.alloc());
-    for kind in DoorKind::BOTH {
-        let buffer = with_cells(rt, alloc, 2);
-        let (_, answers) = run_row_on!(kind, rt, alloc, trades(300), buffer, 4);
-        let sum = answers
-            .iter()
-            .fold(0u64, |sum, answer| sum.saturating_add(*answer));
-        expect_same(rt, (kind, sum), (kind, 300 * 301));
-    }
+    let row = MesaRow::NoItemIsLostBetweenCalledPlaces;
+    sums_up(rt, BATON, on_baton(rt, alloc, row).as_slice());
+    sums_up(rt, TICKET, on_ticket(rt, alloc, row).as_slice());
 }

@@ -2,7 +2,6 @@
 ghost use Rattle.std.specs.Prelude.{◌≡◌};
 
 use crate::tally::Tally;
-use crate::tests::compared::expect_same;
 use crate::tests::rows::tally::add_one;
 use crate::tests::running::await_sign;
 use hoare_law::monitor::Monitor;
@@ -14,22 +13,32 @@ use std::time::Duration;
 use std::{hint, thread};
 
 /// How often a newcomer comes late. With a door's limit of 25 seconds it may take a tenth of a second each time.
-const ROUNDS: u64 = 200;
+pub const ROUNDS: u64 = 200;
 
 /// For how many milliseconds the other stays inside. A newcomer looks for a tenth of one, and naps for two tenths at a time.
 const STAY: u64 = 3;
 
 /// How many places visit, beside as many that keep a processor busy.
-const VISITORS: usize = 8;
+pub const VISITORS: usize = 8;
 
 /// How often each of them comes in.
-const VISITS: u64 = 2000;
+pub const VISITS: u64 = 2000;
 
 /// How two places tell each other that they are inside, and that they were.
 #[derive(Drop)]
-struct Signs {
+pub struct Signs {
     is_inside: AtomicBool,
     was_inside: AtomicBool,
+}
+
+impl Signs {
+    /// Nobody was inside yet.
+    pub fn new() -> Signs {
+        Signs {
+            is_inside: AtomicBool::new(false),
+            was_inside: AtomicBool::new(false),
+        }
+    }
 }
 
 // Comes in and gives a sign, stays inside for many naps, adds one and leaves, which calls nobody. It doesn't come again before the
@@ -70,8 +79,8 @@ fn comes_uncalled<R: Wait + Abort + Clock, M: Monitor<Tally>>(
     out
 }
 
-// Place 0 stays inside, and place 1 comes meanwhile, again and again.
-fn stays_or_comes<R: Wait + Abort + Clock, M: Monitor<Tally>>(
+/// Place 0 stays inside, and place 1 comes meanwhile, again and again.
+pub fn stays_or_comes<R: Wait + Abort + Clock, M: Monitor<Tally>>(
     rt: &R,
     m: &M,
     out: M::Out,
@@ -117,8 +126,8 @@ fn visit_on<R: Wait, M: Monitor<Tally>>(rt: &R, m: &M, out: M::Out) -> M::Out
     out
 }
 
-// The first places visit, and the others keep a processor busy meanwhile.
-fn visits_or_spins<R: Wait, M: Monitor<Tally>>(
+/// The first places visit, and the others keep a processor busy meanwhile.
+pub fn visits_or_spins<R: Wait, M: Monitor<Tally>>(
     rt: &R,
     m: &M,
     out: M::Out,
@@ -136,56 +145,4 @@ fn visits_or_spins<R: Wait, M: Monitor<Tally>>(
     let out = visit_on(rt, m, out);
     gone.fetch_add(1, Ordering::SeqCst);
     (out, 0)
-}
-
-#[test]
-fn a_newcomer_that_nobody_calls_comes_in(host: HostRuntime) {
-    let (rt, alloc) = (&host, host.alloc());
-    let signs = Signs {
-        is_inside: AtomicBool::new(false),
-        was_inside: AtomicBool::new(false),
-    };
-    let (tally, _) = run_row!(
-        rt,
-        alloc,
-        on_baton_door(),
-        stays_or_comes(&signs),
-        Tally { value: 0 },
-        2
-    );
-    expect_same(rt, tally.value, 2 * ROUNDS);
-    let (tally, _) = run_row!(
-        rt,
-        alloc,
-        on_ticket_door(0),
-        stays_or_comes(&signs),
-        Tally { value: 0 },
-        2
-    );
-    expect_same(rt, tally.value, 2 * ROUNDS);
-}
-
-#[test]
-fn eight_come_in_beside_eight_busy_threads(host: HostRuntime) {
-    let (rt, alloc) = (&host, host.alloc());
-    let gone = AtomicUsize::new(0);
-    let (tally, _) = run_row!(
-        rt,
-        alloc,
-        on_baton_door(),
-        visits_or_spins(&gone),
-        Tally { value: 0 },
-        2 * VISITORS
-    );
-    expect_same(rt, tally.value, VISITORS as u64 * VISITS);
-    gone.store(0, Ordering::SeqCst);
-    let (tally, _) = run_row!(
-        rt,
-        alloc,
-        on_ticket_door(0),
-        visits_or_spins(&gone),
-        Tally { value: 0 },
-        2 * VISITORS
-    );
-    expect_same(rt, tally.value, VISITORS as u64 * VISITS);
 }

@@ -3,14 +3,16 @@ ghost use Rattle.std.specs.Prelude.{◌≡◌};
 
 use crate::tests::compared::expect_same;
 use crate::tests::fake::with_cells;
-use crate::tests::running::{DoorKind, answered, await_sign, watch};
+use crate::tests::running::{BATON, TICKET, answered, await_sign, watch};
 use hoare_law::monitor::Monitor;
 use plain_schedulers::buffer::{Buffer, BufferRefused};
 use plain_schedulers::single::{NotOut, Single};
+use std::alloc::Global;
 use std::process::Abort;
 use std::rt::Clock;
 use std::sync::Wait;
 use std::sync::atomic::{AtomicBool, Ordering};
+use std::thread::Threads;
 
 // Takes the item, gives a sign, lets another place wait for it, and puts it back: what it took.
 fn lends<R: Wait + Abort, M: Monitor<Single<u64>>>(
@@ -100,32 +102,89 @@ fn appends_or_removes<R: Wait, M: Monitor<Buffer<u64>>>(
     (out, in_turn)
 }
 
+// What the places answer that lend and borrow the item of a baton door.
+fn lend_on_baton<R: Threads + Wait + Abort + Clock + Sync>(rt: &R, alloc: Global) -> Vec<u64> {
+    let sign = AtomicBool::new(false);
+    let single = Single::with(7u64);
+    run_row!(
+        rt,
+        alloc,
+        on_baton_door(),
+        lends_or_borrows(&sign),
+        single,
+        2
+    )
+    .1
+}
+
+// The same of a ticket door.
+fn lend_on_ticket<R: Threads + Wait + Abort + Clock + Sync>(rt: &R, alloc: Global) -> Vec<u64> {
+    let sign = AtomicBool::new(false);
+    let single = Single::with(7u64);
+    run_row!(
+        rt,
+        alloc,
+        on_ticket_door(0),
+        lends_or_borrows(&sign),
+        single,
+        2
+    )
+    .1
+}
+
 #[test]
 fn an_item_is_lent_and_comes_back(host: HostRuntime) {
     let (rt, alloc) = (&host, host.alloc());
-    let sign = AtomicBool::new(false);
-    for kind in DoorKind::BOTH {
-        let (_, answers) = run_row_on!(
-            kind,
-            rt,
-            alloc,
-            lends_or_borrows(&sign),
-            Single::with(7u64),
-            2
-        );
-        answered(rt, kind, answers.as_slice(), &[7, 7]);
-    }
+    answered(rt, BATON, lend_on_baton(rt, alloc).as_slice(), &[7, 7]);
+    answered(rt, TICKET, lend_on_ticket(rt, alloc).as_slice(), &[7, 7]);
+}
+
+// What the places answer that put so many items into a buffer of so many cells, on a baton door, and take them out.
+fn trade_on_baton<R: Threads + Wait + Abort + Clock + Sync>(
+    rt: &R,
+    alloc: Global,
+    cells: usize,
+    items: u64,
+) -> Vec<u64> {
+    let buffer = with_cells(rt, alloc, cells);
+    run_row!(
+        rt,
+        alloc,
+        on_baton_door(),
+        appends_or_removes(items),
+        buffer,
+        2
+    )
+    .1
+}
+
+// The same on a ticket door.
+fn trade_on_ticket<R: Threads + Wait + Abort + Clock + Sync>(
+    rt: &R,
+    alloc: Global,
+    cells: usize,
+    items: u64,
+) -> Vec<u64> {
+    let buffer = with_cells(rt, alloc, cells);
+    run_row!(
+        rt,
+        alloc,
+        on_ticket_door(0),
+        appends_or_removes(items),
+        buffer,
+        2
+    )
+    .1
 }
 
 #[test]
 fn items_come_out_in_order(host: HostRuntime) {
     let (rt, alloc) = (&host, host.alloc());
     for (cells, items) in [(1, 4), (4096, 5000)] {
-        for kind in DoorKind::BOTH {
-            let buffer = with_cells(rt, alloc, cells);
-            let (_, answers) = run_row_on!(kind, rt, alloc, appends_or_removes(items), buffer, 2);
-            answered(rt, kind, answers.as_slice(), &[0, items]);
-        }
+        let answers = trade_on_baton(rt, alloc, cells, items);
+        answered(rt, BATON, answers.as_slice(), &[0, items]);
+        let answers = trade_on_ticket(rt, alloc, cells, items);
+        answered(rt, TICKET, answers.as_slice(), &[0, items]);
     }
 }
 

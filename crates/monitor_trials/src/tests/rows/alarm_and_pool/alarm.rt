@@ -5,10 +5,13 @@ use crate::tests::compared::expect_same;
 use crate::tests::rows::alarm_stress::{Line, SLEEPERS, is_a_clock, sleeps_or_ticks_on};
 use crate::tests::rows::shared_log::Log;
 use crate::tests::rows::turns::watch;
-use crate::tests::running::{DoorKind, answered};
+use crate::tests::running::{BATON, TICKET, answered};
 use hoare_law::monitor::Monitor;
+use std::alloc::Global;
 use std::process::Abort;
+use std::rt::Clock;
 use std::sync::Wait;
+use std::thread::Threads;
 use timed_schedulers::alarm::{Alarm, ClockFull, TooFar};
 
 /// Sleeps for this many ticks: the time at which it woke.
@@ -145,27 +148,67 @@ fn wanted(row: AlarmRow<'_>) -> &'static [u64] {
     }
 }
 
+// What the places of the row answer on a baton door.
+fn on_baton<R: Threads + Wait + Abort + Clock + Sync>(
+    rt: &R,
+    alloc: Global,
+    row: AlarmRow<'_>,
+) -> Vec<u64> {
+    let (time, places) = setting(row);
+    run_row!(
+        rt,
+        alloc,
+        on_baton_door(),
+        acts(row),
+        Alarm::at(time),
+        places
+    )
+    .1
+}
+
+// The same on a ticket door.
+fn on_ticket<R: Threads + Wait + Abort + Clock + Sync>(
+    rt: &R,
+    alloc: Global,
+    row: AlarmRow<'_>,
+) -> Vec<u64> {
+    let (time, places) = setting(row);
+    run_row!(
+        rt,
+        alloc,
+        on_ticket_door(0),
+        acts(row),
+        Alarm::at(time),
+        places
+    )
+    .1
+}
+
+// The rows that write nothing down.
 #[test]
 fn an_alarm_clock_on_both_doors(host: HostRuntime) {
     let (rt, alloc) = (&host, host.alloc());
-    for kind in DoorKind::BOTH {
-        let log = Log::new(rt, alloc, 10_000);
-        for row in [
-            AlarmRow::SleepersWakeAtTheirSettings,
-            AlarmRow::AClockEndsAtItsLastTime,
-            AlarmRow::AllThatAreDueWakeAtTheirTime(&log),
-        ] {
-            let (time, places) = setting(row);
-            let (_clock, answers) = run_row_on!(
-                kind,
-                rt,
-                alloc,
-                acts(row),
-                Alarm::at(time),
-                places
-            );
-            answered(rt, kind, answers.as_slice(), wanted(row));
-        }
-        is_a_clock(rt, log);
+    for row in [
+        AlarmRow::SleepersWakeAtTheirSettings,
+        AlarmRow::AClockEndsAtItsLastTime,
+    ] {
+        answered(rt, BATON, on_baton(rt, alloc, row).as_slice(), wanted(row));
+        answered(
+            rt,
+            TICKET,
+            on_ticket(rt, alloc, row).as_slice(),
+            wanted(row),
+        );
     }
+}
+
+#[test]
+fn all_that_are_due_wake_at_their_time(host: HostRuntime) {
+    let (rt, alloc) = (&host, host.alloc());
+    let log = Log::new(rt, alloc, 10_000);
+    on_baton(rt, alloc, AlarmRow::AllThatAreDueWakeAtTheirTime(&log));
+    is_a_clock(rt, log);
+    let log = Log::new(rt, alloc, 10_000);
+    on_ticket(rt, alloc, AlarmRow::AllThatAreDueWakeAtTheirTime(&log));
+    is_a_clock(rt, log);
 }

@@ -7,12 +7,13 @@ use crate::tests::compared::expect_same;
 use crate::tests::rows::pool_stress::{BUFFERS, Line, STREAMS, is_a_pool, uses_or_takes_all};
 use crate::tests::rows::shared_log::Log;
 use crate::tests::rows::turns::{Turns, line_up};
-use crate::tests::running::{DoorKind, answered};
+use crate::tests::running::{BATON, TICKET, answered};
 use hoare_law::monitor::Monitor;
 use std::alloc::Global;
 use std::process::Abort;
 use std::rt::Clock;
 use std::sync::Wait;
+use std::thread::Threads;
 use timed_schedulers::pool::{GiveRefused, NoStream, Pool, PoolRefused};
 
 /// A pool of this many buffers, for this many streams.
@@ -195,23 +196,51 @@ fn wanted(row: PoolRow<'_>) -> &'static [u64] {
     }
 }
 
+// What the places of the row answer on a baton door.
+fn on_baton<R: Threads + Wait + Abort + Clock + Sync>(
+    rt: &R,
+    alloc: Global,
+    row: PoolRow<'_>,
+) -> Vec<u64> {
+    let (buffers, streams, places) = setting(row);
+    let pool = with_buffers(rt, alloc, buffers, streams);
+    run_row!(rt, alloc, on_baton_door(), acts(row), pool, places).1
+}
+
+// The same on a ticket door.
+fn on_ticket<R: Threads + Wait + Abort + Clock + Sync>(
+    rt: &R,
+    alloc: Global,
+    row: PoolRow<'_>,
+) -> Vec<u64> {
+    let (buffers, streams, places) = setting(row);
+    let pool = with_buffers(rt, alloc, buffers, streams);
+    run_row!(rt, alloc, on_ticket_door(0), acts(row), pool, places).1
+}
+
 #[test]
-fn a_pool_on_both_doors(host: HostRuntime) {
+fn who_holds_the_fewest_buffers_goes_on_first(host: HostRuntime) {
     let (rt, alloc) = (&host, host.alloc());
     let turns = Turns::new();
-    for kind in DoorKind::BOTH {
-        let log = Log::new(rt, alloc, 10_000);
-        for row in [
-            PoolRow::WhoHoldsTheFewestBuffersGoesOnFirst(&turns),
-            PoolRow::ABufferHasOneHolder(&log),
-        ] {
-            let (buffers, streams, places) = setting(row);
-            let pool = with_buffers(rt, alloc, buffers, streams);
-            let (_pool, answers) = run_row_on!(kind, rt, alloc, acts(row), pool, places);
-            answered(rt, kind, answers.as_slice(), wanted(row));
-        }
-        is_a_pool(rt, log);
-    }
+    let row = PoolRow::WhoHoldsTheFewestBuffersGoesOnFirst(&turns);
+    answered(rt, BATON, on_baton(rt, alloc, row).as_slice(), wanted(row));
+    answered(
+        rt,
+        TICKET,
+        on_ticket(rt, alloc, row).as_slice(),
+        wanted(row),
+    );
+}
+
+#[test]
+fn a_buffer_has_one_holder(host: HostRuntime) {
+    let (rt, alloc) = (&host, host.alloc());
+    let log = Log::new(rt, alloc, 10_000);
+    on_baton(rt, alloc, PoolRow::ABufferHasOneHolder(&log));
+    is_a_pool(rt, log);
+    let log = Log::new(rt, alloc, 10_000);
+    on_ticket(rt, alloc, PoolRow::ABufferHasOneHolder(&log));
+    is_a_pool(rt, log);
 }
 
 #[test]

@@ -7,9 +7,7 @@ use hoare_law::unasked::Unasked;
 use hoare_law::waits::Waits;
 use std::alloc::Global;
 use std::process::Abort;
-use std::rt::Clock;
 use std::sync::Wait;
-use std::thread::Threads;
 
 const PLACES: usize = 64;
 
@@ -110,7 +108,7 @@ fn nobody<R: Abort>(rt: &R, alloc: Global) -> Row {
 }
 
 // In which order they went on, on a baton door.
-fn on_baton<R: Threads + Wait + Abort + Clock + Sync>(rt: &R, alloc: Global) -> Vec<usize> {
+fn on_baton(rt: &HostRuntime, alloc: Global) -> Vec<usize> {
     run_row!(
         rt,
         alloc,
@@ -124,7 +122,7 @@ fn on_baton<R: Threads + Wait + Abort + Clock + Sync>(rt: &R, alloc: Global) -> 
 }
 
 // The same on a ticket door.
-fn on_ticket<R: Threads + Wait + Abort + Clock + Sync>(rt: &R, alloc: Global) -> Vec<usize> {
+fn on_ticket(rt: &HostRuntime, alloc: Global) -> Vec<usize> {
     run_row!(
         rt,
         alloc,

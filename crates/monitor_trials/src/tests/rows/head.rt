@@ -15,7 +15,6 @@ use std::alloc::Global;
 use std::process::Abort;
 use std::rt::Clock;
 use std::sync::Wait;
-use std::thread::Threads;
 use sweep_schedulers::head::{Head, OffDisk};
 use sweep_schedulers::not_out::NotOut;
 
@@ -206,11 +205,7 @@ fn setting(row: HeadRow<'_>) -> (u16, usize) {
 }
 
 // What the places of the row answer on a baton door.
-fn on_baton<R: Threads + Wait + Abort + Clock + Sync>(
-    rt: &R,
-    alloc: Global,
-    row: HeadRow<'_>,
-) -> Vec<u64> {
+fn on_baton(rt: &HostRuntime, alloc: Global, row: HeadRow<'_>) -> Vec<u64> {
     let (cylmax, places) = setting(row);
     run_row!(
         rt,
@@ -224,11 +219,7 @@ fn on_baton<R: Threads + Wait + Abort + Clock + Sync>(
 }
 
 // The same on a ticket door.
-fn on_ticket<R: Threads + Wait + Abort + Clock + Sync>(
-    rt: &R,
-    alloc: Global,
-    row: HeadRow<'_>,
-) -> Vec<u64> {
+fn on_ticket(rt: &HostRuntime, alloc: Global, row: HeadRow<'_>) -> Vec<u64> {
     let (cylmax, places) = setting(row);
     run_row!(
         rt,

@@ -12,7 +12,6 @@ use std::alloc::Global;
 use std::process::Abort;
 use std::rt::Clock;
 use std::sync::Wait;
-use std::thread::Threads;
 
 /// A buffer of this many cells, with Mesa conditions.
 fn with_cells<R: Abort>(rt: &R, alloc: Global, cells: usize) -> MesaBuffer<u64>
@@ -141,22 +140,14 @@ fn setting(row: MesaRow<'_>) -> (usize, usize) {
 }
 
 // What the places of the row answer on a baton door.
-fn on_baton<R: Threads + Wait + Abort + Clock + Sync>(
-    rt: &R,
-    alloc: Global,
-    row: MesaRow<'_>,
-) -> Vec<u64> {
+fn on_baton(rt: &HostRuntime, alloc: Global, row: MesaRow<'_>) -> Vec<u64> {
     let (cells, places) = setting(row);
     let buffer = with_cells(rt, alloc, cells);
     run_row!(rt, alloc, on_baton_door(), acts(row), buffer, places).1
 }
 
 // The same on a ticket door.
-fn on_ticket<R: Threads + Wait + Abort + Clock + Sync>(
-    rt: &R,
-    alloc: Global,
-    row: MesaRow<'_>,
-) -> Vec<u64> {
+fn on_ticket(rt: &HostRuntime, alloc: Global, row: MesaRow<'_>) -> Vec<u64> {
     let (cells, places) = setting(row);
     let buffer = with_cells(rt, alloc, cells);
     run_row!(rt, alloc, on_ticket_door(0), acts(row), buffer, places).1

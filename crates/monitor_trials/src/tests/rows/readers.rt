@@ -17,7 +17,6 @@ use std::process::Abort;
 use std::rt::Clock;
 use std::sync::Wait;
 use std::sync::atomic::AtomicU32;
-use std::thread::Threads;
 use sweep_schedulers::readers_writers::{NoReader, ReadersWriters};
 
 /// Writes a number where this one stands, and tries to write another, which comes back.
@@ -234,11 +233,7 @@ fn agrees(row: ReadersRow<'_>, value: u64) -> bool {
 }
 
 // The value that the row leaves on a baton door.
-fn on_baton<R: Threads + Wait + Abort + Clock + Sync>(
-    rt: &R,
-    alloc: Global,
-    row: ReadersRow<'_>,
-) -> u64 {
+fn on_baton(rt: &HostRuntime, alloc: Global, row: ReadersRow<'_>) -> u64 {
     let (value, places) = setting(row);
     let data = ReadersWriters::with(value);
     run_row!(rt, alloc, on_baton_door(), acts(row), data, places)
@@ -247,11 +242,7 @@ fn on_baton<R: Threads + Wait + Abort + Clock + Sync>(
 }
 
 // The same on a ticket door.
-fn on_ticket<R: Threads + Wait + Abort + Clock + Sync>(
-    rt: &R,
-    alloc: Global,
-    row: ReadersRow<'_>,
-) -> u64 {
+fn on_ticket(rt: &HostRuntime, alloc: Global, row: ReadersRow<'_>) -> u64 {
     let (value, places) = setting(row);
     let data = ReadersWriters::with(value);
     run_row!(rt, alloc, on_ticket_door(0), acts(row), data, places)

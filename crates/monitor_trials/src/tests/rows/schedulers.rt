@@ -12,7 +12,6 @@ use std::process::Abort;
 use std::rt::Clock;
 use std::sync::Wait;
 use std::sync::atomic::{AtomicBool, Ordering};
-use std::thread::Threads;
 
 // Takes the item, gives a sign, lets another place wait for it, and puts it back: what it took.
 fn lends<R: Wait + Abort, M: Monitor<Single<u64>>>(
@@ -103,7 +102,7 @@ fn appends_or_removes<R: Wait, M: Monitor<Buffer<u64>>>(
 }
 
 // What the places answer that lend and borrow the item of a baton door.
-fn lend_on_baton<R: Threads + Wait + Abort + Clock + Sync>(rt: &R, alloc: Global) -> Vec<u64> {
+fn lend_on_baton(rt: &HostRuntime, alloc: Global) -> Vec<u64> {
     let sign = AtomicBool::new(false);
     let single = Single::with(7u64);
     run_row!(
@@ -118,7 +117,7 @@ fn lend_on_baton<R: Threads + Wait + Abort + Clock + Sync>(rt: &R, alloc: Global
 }
 
 // The same of a ticket door.
-fn lend_on_ticket<R: Threads + Wait + Abort + Clock + Sync>(rt: &R, alloc: Global) -> Vec<u64> {
+fn lend_on_ticket(rt: &HostRuntime, alloc: Global) -> Vec<u64> {
     let sign = AtomicBool::new(false);
     let single = Single::with(7u64);
     run_row!(
@@ -140,12 +139,7 @@ fn an_item_is_lent_and_comes_back(host: HostRuntime) {
 }
 
 // What the places answer that put so many items into a buffer of so many cells, on a baton door, and take them out.
-fn trade_on_baton<R: Threads + Wait + Abort + Clock + Sync>(
-    rt: &R,
-    alloc: Global,
-    cells: usize,
-    items: u64,
-) -> Vec<u64> {
+fn trade_on_baton(rt: &HostRuntime, alloc: Global, cells: usize, items: u64) -> Vec<u64> {
     let buffer = with_cells(rt, alloc, cells);
     run_row!(
         rt,
@@ -159,12 +153,7 @@ fn trade_on_baton<R: Threads + Wait + Abort + Clock + Sync>(
 }
 
 // The same on a ticket door.
-fn trade_on_ticket<R: Threads + Wait + Abort + Clock + Sync>(
-    rt: &R,
-    alloc: Global,
-    cells: usize,
-    items: u64,
-) -> Vec<u64> {
+fn trade_on_ticket(rt: &HostRuntime, alloc: Global, cells: usize, items: u64) -> Vec<u64> {
     let buffer = with_cells(rt, alloc, cells);
     run_row!(
         rt,

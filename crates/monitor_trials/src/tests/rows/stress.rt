@@ -14,7 +14,6 @@ use std::process::Abort;
 use std::rt::Clock;
 use std::sync::Wait;
 use std::thread;
-use std::thread::Threads;
 use std::time::Duration;
 
 const WORKERS: usize = 8;
@@ -155,12 +154,7 @@ pub fn agrees<R: Abort>(rt: &R, diary: &Diary, rounds: u64) {
 }
 
 // What they wrote in so many rounds on a baton door.
-fn on_baton<R: Threads + Wait + Abort + Clock + Sync>(
-    rt: &R,
-    alloc: Global,
-    rounds: u64,
-    day: u64,
-) -> Diary {
+fn on_baton(rt: &HostRuntime, alloc: Global, rounds: u64, day: u64) -> Diary {
     let data = empty_diary(rt, alloc);
     run_row!(
         rt,
@@ -174,12 +168,7 @@ fn on_baton<R: Threads + Wait + Abort + Clock + Sync>(
 }
 
 // The same on a ticket door.
-fn on_ticket<R: Threads + Wait + Abort + Clock + Sync>(
-    rt: &R,
-    alloc: Global,
-    rounds: u64,
-    day: u64,
-) -> Diary {
+fn on_ticket(rt: &HostRuntime, alloc: Global, rounds: u64, day: u64) -> Diary {
     let data = empty_diary(rt, alloc);
     run_row!(
         rt,

@@ -16,7 +16,6 @@ use std::process::Abort;
 use std::rt::Clock;
 use std::sync::Wait;
 use std::sync::atomic::{AtomicBool, AtomicUsize};
-use std::thread::Threads;
 use std::time::CpuClock;
 
 /// The rows of a tally.
@@ -101,21 +100,13 @@ fn agrees(row: TallyRow<'_>, value: u64, answers: &[u64]) -> bool {
 }
 
 // What a row leaves on a baton door, and what its places answer.
-fn on_baton<R: Threads + Wait + Abort + Clock + CpuClock + Sync>(
-    rt: &R,
-    alloc: Global,
-    row: TallyRow<'_>,
-) -> (Tally, Vec<u64>) {
+fn on_baton(rt: &HostRuntime, alloc: Global, row: TallyRow<'_>) -> (Tally, Vec<u64>) {
     let data = Tally { value: 0 };
     run_row!(rt, alloc, on_baton_door(), acts(row), data, places(row))
 }
 
 // The same on a ticket door.
-fn on_ticket<R: Threads + Wait + Abort + Clock + CpuClock + Sync>(
-    rt: &R,
-    alloc: Global,
-    row: TallyRow<'_>,
-) -> (Tally, Vec<u64>) {
+fn on_ticket(rt: &HostRuntime, alloc: Global, row: TallyRow<'_>) -> (Tally, Vec<u64>) {
     let data = Tally { value: 0 };
     run_row!(rt, alloc, on_ticket_door(0), acts(row), data, places(row))
 }

@@ -9,9 +9,7 @@ use crate::tests::running::{BATON, TICKET, answered};
 use hoare_law::monitor::Monitor;
 use std::alloc::Global;
 use std::process::Abort;
-use std::rt::Clock;
 use std::sync::Wait;
-use std::thread::Threads;
 use timed_schedulers::alarm::{Alarm, ClockFull, TooFar};
 
 /// Sleeps for this many ticks: the time at which it woke.
@@ -149,11 +147,7 @@ fn wanted(row: AlarmRow<'_>) -> &'static [u64] {
 }
 
 // What the places of the row answer on a baton door.
-fn on_baton<R: Threads + Wait + Abort + Clock + Sync>(
-    rt: &R,
-    alloc: Global,
-    row: AlarmRow<'_>,
-) -> Vec<u64> {
+fn on_baton(rt: &HostRuntime, alloc: Global, row: AlarmRow<'_>) -> Vec<u64> {
     let (time, places) = setting(row);
     run_row!(
         rt,
@@ -167,11 +161,7 @@ fn on_baton<R: Threads + Wait + Abort + Clock + Sync>(
 }
 
 // The same on a ticket door.
-fn on_ticket<R: Threads + Wait + Abort + Clock + Sync>(
-    rt: &R,
-    alloc: Global,
-    row: AlarmRow<'_>,
-) -> Vec<u64> {
+fn on_ticket(rt: &HostRuntime, alloc: Global, row: AlarmRow<'_>) -> Vec<u64> {
     let (time, places) = setting(row);
     run_row!(
         rt,

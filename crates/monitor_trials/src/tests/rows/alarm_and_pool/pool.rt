@@ -13,7 +13,6 @@ use std::alloc::Global;
 use std::process::Abort;
 use std::rt::Clock;
 use std::sync::Wait;
-use std::thread::Threads;
 use timed_schedulers::pool::{GiveRefused, NoStream, Pool, PoolRefused};
 
 /// A pool of this many buffers, for this many streams.
@@ -197,22 +196,14 @@ fn wanted(row: PoolRow<'_>) -> &'static [u64] {
 }
 
 // What the places of the row answer on a baton door.
-fn on_baton<R: Threads + Wait + Abort + Clock + Sync>(
-    rt: &R,
-    alloc: Global,
-    row: PoolRow<'_>,
-) -> Vec<u64> {
+fn on_baton(rt: &HostRuntime, alloc: Global, row: PoolRow<'_>) -> Vec<u64> {
     let (buffers, streams, places) = setting(row);
     let pool = with_buffers(rt, alloc, buffers, streams);
     run_row!(rt, alloc, on_baton_door(), acts(row), pool, places).1
 }
 
 // The same on a ticket door.
-fn on_ticket<R: Threads + Wait + Abort + Clock + Sync>(
-    rt: &R,
-    alloc: Global,
-    row: PoolRow<'_>,
-) -> Vec<u64> {
+fn on_ticket(rt: &HostRuntime, alloc: Global, row: PoolRow<'_>) -> Vec<u64> {
     let (buffers, streams, places) = setting(row);
     let pool = with_buffers(rt, alloc, buffers, streams);
     run_row!(rt, alloc, on_ticket_door(0), acts(row), pool, places).1

@@ -204,56 +204,34 @@ fn setting(row: HeadRow<'_>) -> (u16, usize) {
     }
 }
 
-// What the places of the row answer on a baton door.
-fn on_baton(rt: &HostRuntime, alloc: Global, row: HeadRow<'_>) -> Vec<u64> {
-    let (cylmax, places) = setting(row);
-    run_row!(
-        rt,
-        alloc,
-        on_baton_door(),
-        acts(row),
-        disk(alloc, cylmax),
-        places
-    )
-    .1
-}
-
-// The same on a ticket door.
-fn on_ticket(rt: &HostRuntime, alloc: Global, row: HeadRow<'_>) -> Vec<u64> {
-    let (cylmax, places) = setting(row);
-    run_row!(
-        rt,
-        alloc,
-        on_ticket_door(0),
-        acts(row),
-        disk(alloc, cylmax),
-        places
-    )
-    .1
+// The rows on one door.
+macro_rules! rows_of_a_head {
+    ($rt:ident, $alloc:ident, $name:expr, $door:ident($($given:expr)?)) => {{
+        let turns = Turns::new();
+        let log = Log::new($rt, $alloc, 10_000);
+        for row in [
+            HeadRow::ByPlan($alloc, &turns, &SWEEP_ORDER),
+            HeadRow::ByPlan($alloc, &turns, &IDLE_RELEASE_TURNS),
+            HeadRow::StayCountsGrants(&turns),
+            HeadRow::TheDriveGoesBySweeps(&log),
+        ] {
+            let (cylmax, places) = setting(row);
+            let head = disk($alloc, cylmax);
+            let (_, answers) = run_row!($rt, $alloc, $door($($given)?), acts(row), head, places);
+            all_answered($rt, $name, answers.as_slice(), places);
+        }
+        is_a_sweep($rt, log);
+    }};
 }
 
 #[test]
-fn a_disk_head_on_both_doors(host: HostRuntime) {
+fn a_disk_head_on_a_baton_door(host: HostRuntime) {
     let (rt, alloc) = (&host, host.alloc());
-    let turns = Turns::new();
-    for row in [
-        HeadRow::ByPlan(alloc, &turns, &SWEEP_ORDER),
-        HeadRow::ByPlan(alloc, &turns, &IDLE_RELEASE_TURNS),
-        HeadRow::StayCountsGrants(&turns),
-    ] {
-        let (_, places) = setting(row);
-        all_answered(rt, BATON, on_baton(rt, alloc, row).as_slice(), places);
-        all_answered(rt, TICKET, on_ticket(rt, alloc, row).as_slice(), places);
-    }
+    rows_of_a_head!(rt, alloc, BATON, on_baton_door());
 }
 
 #[test]
-fn the_drive_goes_by_sweeps(host: HostRuntime) {
+fn a_disk_head_on_a_ticket_door(host: HostRuntime) {
     let (rt, alloc) = (&host, host.alloc());
-    let log = Log::new(rt, alloc, 10_000);
-    on_baton(rt, alloc, HeadRow::TheDriveGoesBySweeps(&log));
-    is_a_sweep(rt, log);
-    let log = Log::new(rt, alloc, 10_000);
-    on_ticket(rt, alloc, HeadRow::TheDriveGoesBySweeps(&log));
-    is_a_sweep(rt, log);
+    rows_of_a_head!(rt, alloc, TICKET, on_ticket_door(0));
 }

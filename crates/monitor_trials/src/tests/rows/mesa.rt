@@ -4,7 +4,7 @@ ghost use Rattle.plain_schedulers.specs.Buffers.{BufferHolds};
 
 use crate::tests::compared::expect_same;
 use crate::tests::rows::turns::{Turns, count_waiting, line_up};
-use crate::tests::running::{BATON, TICKET, answered};
+use crate::tests::running::{BATON, TICKET};
 use hoare_law::monitor::Monitor;
 use plain_schedulers::buffer::mesa::MesaBuffer;
 use plain_schedulers::buffer::{BufferRefused, NONEMPTY, NONFULL};
@@ -139,28 +139,42 @@ fn setting(row: MesaRow<'_>) -> (usize, usize) {
     }
 }
 
-// What the places of the row answer on a baton door.
-fn on_baton(rt: &HostRuntime, alloc: Global, row: MesaRow<'_>) -> Vec<u64> {
-    let (cells, places) = setting(row);
-    let buffer = with_cells(rt, alloc, cells);
-    run_row!(rt, alloc, on_baton_door(), acts(row), buffer, places).1
+// Whether the places answered what they have to: the sum of the items that were taken out is that of those put in.
+fn agrees(row: MesaRow<'_>, answers: &[u64]) -> bool {
+    match row {
+        MesaRow::WhoIsCalledTestsAgain(_) => answers == [2, 1, 2].as_slice(),
+        MesaRow::NoItemIsLostBetweenCalledPlaces => {
+            answers.iter().fold(0u64, |sum, n| sum.saturating_add(*n)) == 300 * 301
+        }
+    }
 }
 
-// The same on a ticket door.
-fn on_ticket(rt: &HostRuntime, alloc: Global, row: MesaRow<'_>) -> Vec<u64> {
-    let (cells, places) = setting(row);
-    let buffer = with_cells(rt, alloc, cells);
-    run_row!(rt, alloc, on_ticket_door(0), acts(row), buffer, places).1
+// The rows on one door.
+macro_rules! rows_of_a_buffer {
+    ($rt:ident, $alloc:ident, $name:expr, $door:ident($($given:expr)?)) => {{
+        let turns = Turns::new();
+        for row in [
+            MesaRow::WhoIsCalledTestsAgain(&turns),
+            MesaRow::NoItemIsLostBetweenCalledPlaces,
+        ] {
+            let (cells, places) = setting(row);
+            let buffer = with_cells($rt, $alloc, cells);
+            let (_, answers) = run_row!($rt, $alloc, $door($($given)?), acts(row), buffer, places);
+            assert!($rt; agrees(row, answers.as_slice()), "the {} answered {answers:?}", $name);
+        }
+    }};
 }
 
 #[test]
-fn who_is_called_tests_again(host: HostRuntime) {
+fn who_is_called_tests_again_on_a_baton_door(host: HostRuntime) {
     let (rt, alloc) = (&host, host.alloc());
-    let turns = Turns::new();
-    let row = MesaRow::WhoIsCalledTestsAgain(&turns);
-    answered(rt, BATON, on_baton(rt, alloc, row).as_slice(), &[2, 1, 2]);
-    turns.start_again();
-    answered(rt, TICKET, on_ticket(rt, alloc, row).as_slice(), &[2, 1, 2]);
+    rows_of_a_buffer!(rt, alloc, BATON, on_baton_door());
+}
+
+#[test]
+fn who_is_called_tests_again_on_a_ticket_door(host: HostRuntime) {
+    let (rt, alloc) = (&host, host.alloc());
+    rows_of_a_buffer!(rt, alloc, TICKET, on_ticket_door(0));
 }
 
 #[test]
@@ -172,20 +186,4 @@ fn a_buffer_with_mesa_conditions_has_its_limits(rt: HostRuntime) {
             "{cells} cells"
         );
     }
-}
-
-// The items that were taken out are those that were put in.
-fn sums_up<R: Abort>(rt: &R, door: &str, answers: &[u64]) {
-    let sum = answers
-        .iter()
-        .fold(0u64, |sum, answer| sum.saturating_add(*answer));
-    expect_same(rt, (door, sum), (door, 300 * 301));
-}
-
-#[test]
-fn no_item_is_lost_between_called_places(host: HostRuntime) {
-    let (rt, alloc) = (&host, host.alloc());
-    let row = MesaRow::NoItemIsLostBetweenCalledPlaces;
-    sums_up(rt, BATON, on_baton(rt, alloc, row).as_slice());
-    sums_up(rt, TICKET, on_ticket(rt, alloc, row).as_slice());
 }

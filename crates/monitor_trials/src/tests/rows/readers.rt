@@ -11,6 +11,7 @@ use crate::tests::rows::reading::{
 };
 use crate::tests::rows::shared_log::Log;
 use crate::tests::rows::turns::{Turns, line_up};
+use crate::tests::running::{BATON, TICKET, all_answered};
 use hoare_law::monitor::Monitor;
 use std::alloc::Global;
 use std::process::Abort;
@@ -232,49 +233,36 @@ fn agrees(row: ReadersRow<'_>, value: u64) -> bool {
     }
 }
 
-// The value that the row leaves on a baton door.
-fn on_baton(rt: &HostRuntime, alloc: Global, row: ReadersRow<'_>) -> u64 {
-    let (value, places) = setting(row);
-    let data = ReadersWriters::with(value);
-    run_row!(rt, alloc, on_baton_door(), acts(row), data, places)
-        .0
-        .into_value()
-}
-
-// The same on a ticket door.
-fn on_ticket(rt: &HostRuntime, alloc: Global, row: ReadersRow<'_>) -> u64 {
-    let (value, places) = setting(row);
-    let data = ReadersWriters::with(value);
-    run_row!(rt, alloc, on_ticket_door(0), acts(row), data, places)
-        .0
-        .into_value()
-}
-
-#[test]
-fn readers_and_writers_on_both_doors(host: HostRuntime) {
-    let (rt, alloc) = (&host, host.alloc());
-    let turns = Turns::new();
-    let ended = AtomicU32::new(0);
-    for row in [
-        ReadersRow::ReadersAndWriters(alloc, &turns),
-        ReadersRow::WriterBeforeLateReader(&turns, &ended),
-    ] {
-        let (baton, ticket) = (on_baton(rt, alloc, row), on_ticket(rt, alloc, row));
-        assert!(rt;
-            agrees(row, baton) && agrees(row, ticket),
-            "{baton} and {ticket}"
-        );
-    }
+// The rows on one door.
+macro_rules! rows_of_readers {
+    ($rt:ident, $alloc:ident, $name:expr, $door:ident($($given:expr)?)) => {{
+        let turns = Turns::new();
+        let ended = AtomicU32::new(0);
+        let log = Log::new($rt, $alloc, 10_000);
+        for row in [
+            ReadersRow::ReadersAndWriters($alloc, &turns),
+            ReadersRow::WriterBeforeLateReader(&turns, &ended),
+            ReadersRow::NoReaderIsInBesideAWriter(&log),
+        ] {
+            let (value, places) = setting(row);
+            let data = ReadersWriters::with(value);
+            let (shared, answers) = run_row!($rt, $alloc, $door($($given)?), acts(row), data, places);
+            all_answered($rt, $name, answers.as_slice(), places);
+            let value = shared.into_value();
+            assert!($rt; agrees(row, value), "the {} left {value}", $name);
+        }
+        is_read_and_written($rt, log);
+    }};
 }
 
 #[test]
-fn no_reader_is_in_beside_a_writer(host: HostRuntime) {
+fn readers_and_writers_on_a_baton_door(host: HostRuntime) {
     let (rt, alloc) = (&host, host.alloc());
-    let log = Log::new(rt, alloc, 10_000);
-    let baton = on_baton(rt, alloc, ReadersRow::NoReaderIsInBesideAWriter(&log));
-    is_read_and_written(rt, log);
-    let log = Log::new(rt, alloc, 10_000);
-    let ticket = on_ticket(rt, alloc, ReadersRow::NoReaderIsInBesideAWriter(&log));
-    is_read_and_written(rt, log);
-    expect_same(rt, (baton > 0, ticket > 0), (true, true));
+    rows_of_readers!(rt, alloc, BATON, on_baton_door());
+}
+
+#[test]
+fn readers_and_writers_on_a_ticket_door(host: HostRuntime) {
+    let (rt, alloc) = (&host, host.alloc());
+    rows_of_readers!(rt, alloc, TICKET, on_ticket_door(0));
 }

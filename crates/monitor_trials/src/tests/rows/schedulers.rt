@@ -7,7 +7,6 @@ use crate::tests::running::{BATON, TICKET, answered, await_sign, watch};
 use hoare_law::monitor::Monitor;
 use plain_schedulers::buffer::{Buffer, BufferRefused};
 use plain_schedulers::single::{NotOut, Single};
-use std::alloc::Global;
 use std::process::Abort;
 use std::rt::Clock;
 use std::sync::Wait;
@@ -101,80 +100,49 @@ fn appends_or_removes<R: Wait, M: Monitor<Buffer<u64>>>(
     (out, in_turn)
 }
 
-// What the places answer that lend and borrow the item of a baton door.
-fn lend_on_baton(rt: &HostRuntime, alloc: Global) -> Vec<u64> {
-    let sign = AtomicBool::new(false);
-    let single = Single::with(7u64);
-    run_row!(
-        rt,
-        alloc,
-        on_baton_door(),
-        lends_or_borrows(&sign),
-        single,
-        2
-    )
-    .1
-}
-
-// The same of a ticket door.
-fn lend_on_ticket(rt: &HostRuntime, alloc: Global) -> Vec<u64> {
-    let sign = AtomicBool::new(false);
-    let single = Single::with(7u64);
-    run_row!(
-        rt,
-        alloc,
-        on_ticket_door(0),
-        lends_or_borrows(&sign),
-        single,
-        2
-    )
-    .1
+// The item on one door.
+macro_rules! lend_an_item {
+    ($rt:ident, $alloc:ident, $name:expr, $door:ident($($given:expr)?)) => {{
+        let sign = AtomicBool::new(false);
+        let single = Single::with(7u64);
+        let (_, answers) = run_row!($rt, $alloc, $door($($given)?), lends_or_borrows(&sign), single, 2);
+        answered($rt, $name, answers.as_slice(), &[7, 7]);
+    }};
 }
 
 #[test]
-fn an_item_is_lent_and_comes_back(host: HostRuntime) {
+fn an_item_is_lent_on_a_baton_door(host: HostRuntime) {
     let (rt, alloc) = (&host, host.alloc());
-    answered(rt, BATON, lend_on_baton(rt, alloc).as_slice(), &[7, 7]);
-    answered(rt, TICKET, lend_on_ticket(rt, alloc).as_slice(), &[7, 7]);
-}
-
-// What the places answer that put so many items into a buffer of so many cells, on a baton door, and take them out.
-fn trade_on_baton(rt: &HostRuntime, alloc: Global, cells: usize, items: u64) -> Vec<u64> {
-    let buffer = with_cells(rt, alloc, cells);
-    run_row!(
-        rt,
-        alloc,
-        on_baton_door(),
-        appends_or_removes(items),
-        buffer,
-        2
-    )
-    .1
-}
-
-// The same on a ticket door.
-fn trade_on_ticket(rt: &HostRuntime, alloc: Global, cells: usize, items: u64) -> Vec<u64> {
-    let buffer = with_cells(rt, alloc, cells);
-    run_row!(
-        rt,
-        alloc,
-        on_ticket_door(0),
-        appends_or_removes(items),
-        buffer,
-        2
-    )
-    .1
+    lend_an_item!(rt, alloc, BATON, on_baton_door());
 }
 
 #[test]
-fn items_come_out_in_order(host: HostRuntime) {
+fn an_item_is_lent_on_a_ticket_door(host: HostRuntime) {
     let (rt, alloc) = (&host, host.alloc());
-    for (cells, items) in [(1, 4), (4096, 5000)] {
-        let answers = trade_on_baton(rt, alloc, cells, items);
-        answered(rt, BATON, answers.as_slice(), &[0, items]);
-        let answers = trade_on_ticket(rt, alloc, cells, items);
-        answered(rt, TICKET, answers.as_slice(), &[0, items]);
-    }
+    lend_an_item!(rt, alloc, TICKET, on_ticket_door(0));
+}
+
+// Buffers of one cell and of the most, on one door.
+macro_rules! fill_buffers {
+    ($rt:ident, $alloc:ident, $name:expr, $door:ident($($given:expr)?)) => {{
+        for (cells, items) in [(1, 4), (4096, 5000)] {
+            let buffer = with_cells($rt, $alloc, cells);
+            let (_, answers) = run_row!($rt, $alloc, $door($($given)?), appends_or_removes(items), buffer, 2);
+            answered($rt, $name, answers.as_slice(), &[0, items]);
+        }
+    }};
+}
+
+#[test]
+fn items_come_out_in_order_on_a_baton_door(host: HostRuntime) {
+    let (rt, alloc) = (&host, host.alloc());
+    fill_buffers!(rt, alloc, BATON, on_baton_door());
+}
+
+#[test]
+fn items_come_out_in_order_on_a_ticket_door(host: HostRuntime) {
+    let (rt, alloc) = (&host, host.alloc());
+    fill_buffers!(rt, alloc, TICKET, on_ticket_door(0));
 }
 
 #[test]

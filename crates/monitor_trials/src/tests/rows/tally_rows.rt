@@ -11,7 +11,6 @@ use crate::tests::rows::wakes::{comes_late, waits_long};
 use crate::tests::rows::{naps, tries};
 use crate::tests::running::{BATON, TICKET};
 use hoare_law::monitor::Monitor;
-use std::alloc::Global;
 use std::process::Abort;
 use std::rt::Clock;
 use std::sync::Wait;
@@ -99,18 +98,6 @@ fn agrees(row: TallyRow<'_>, value: u64, answers: &[u64]) -> bool {
     }
 }
 
-// What a row leaves on a baton door, and what its places answer.
-fn on_baton(rt: &HostRuntime, alloc: Global, row: TallyRow<'_>) -> (Tally, Vec<u64>) {
-    let data = Tally { value: 0 };
-    run_row!(rt, alloc, on_baton_door(), acts(row), data, places(row))
-}
-
-// The same on a ticket door.
-fn on_ticket(rt: &HostRuntime, alloc: Global, row: TallyRow<'_>) -> (Tally, Vec<u64>) {
-    let data = Tally { value: 0 };
-    run_row!(rt, alloc, on_ticket_door(0), acts(row), data, places(row))
-}
-
 // Where the row left or answered something else the test fails.
 fn holds<R: Abort>(rt: &R, door: &str, row: TallyRow<'_>, left: (Tally, Vec<u64>)) {
     let (tally, answers) = left;
@@ -121,41 +108,40 @@ fn holds<R: Abort>(rt: &R, door: &str, row: TallyRow<'_>, left: (Tally, Vec<u64>
     );
 }
 
-#[test]
-fn a_tally_on_both_doors(host: HostRuntime) {
-    let (rt, alloc) = (&host, host.alloc());
-    let sign = AtomicBool::new(false);
-    for row in [
-        TallyRow::OnePlaceCallsAll,
-        TallyRow::WhatIsWrittenIsFound,
-        TallyRow::TwoThousandAdditions,
-        TallyRow::SignallersReturnInOrder,
-        TallyRow::EachSignalResumes,
-        TallyRow::WhoWaitsSleepsUntilItIsWoken,
-        TallyRow::ANewcomerComesInOnceNobodyIsInside(&sign),
-        TallyRow::WhoTriesIsNotBeforeWhoIsResumed(&sign),
-        TallyRow::WhoTriesAndWhoEntersLoseNoAddition,
-    ] {
-        holds(rt, BATON, row, on_baton(rt, alloc, row));
-        holds(rt, TICKET, row, on_ticket(rt, alloc, row));
-    }
+// The rows on one door.
+macro_rules! rows_of_a_tally {
+    ($rt:ident, $alloc:ident, $name:expr, $door:ident($($given:expr)?)) => {{
+        let sign = AtomicBool::new(false);
+        let signs = Signs::new();
+        let gone = AtomicUsize::new(0);
+        for row in [
+            TallyRow::OnePlaceCallsAll,
+            TallyRow::WhatIsWrittenIsFound,
+            TallyRow::TwoThousandAdditions,
+            TallyRow::SignallersReturnInOrder,
+            TallyRow::EachSignalResumes,
+            TallyRow::WhoWaitsSleepsUntilItIsWoken,
+            TallyRow::ANewcomerComesInOnceNobodyIsInside(&sign),
+            TallyRow::WhoTriesIsNotBeforeWhoIsResumed(&sign),
+            TallyRow::WhoTriesAndWhoEntersLoseNoAddition,
+            TallyRow::ANewcomerThatNobodyCallsComesIn(&signs),
+            TallyRow::EightComeInBesideEightBusyThreads(&gone),
+        ] {
+            let data = Tally { value: 0 };
+            let left = run_row!($rt, $alloc, $door($($given)?), acts(row), data, places(row));
+            holds($rt, $name, row, left);
+        }
+    }};
 }
 
 #[test]
-fn a_newcomer_that_nobody_calls_comes_in(host: HostRuntime) {
+fn a_tally_on_a_baton_door(host: HostRuntime) {
     let (rt, alloc) = (&host, host.alloc());
-    let signs = Signs::new();
-    let row = TallyRow::ANewcomerThatNobodyCallsComesIn(&signs);
-    holds(rt, BATON, row, on_baton(rt, alloc, row));
-    holds(rt, TICKET, row, on_ticket(rt, alloc, row));
+    rows_of_a_tally!(rt, alloc, BATON, on_baton_door());
 }
 
 #[test]
-fn eight_come_in_beside_eight_busy_threads(host: HostRuntime) {
+fn a_tally_on_a_ticket_door(host: HostRuntime) {
     let (rt, alloc) = (&host, host.alloc());
-    let (on_one, on_other) = (AtomicUsize::new(0), AtomicUsize::new(0));
-    let row = TallyRow::EightComeInBesideEightBusyThreads(&on_one);
-    holds(rt, BATON, row, on_baton(rt, alloc, row));
-    let row = TallyRow::EightComeInBesideEightBusyThreads(&on_other);
-    holds(rt, TICKET, row, on_ticket(rt, alloc, row));
+    rows_of_a_tally!(rt, alloc, TICKET, on_ticket_door(0));
 }

@@ -7,7 +7,6 @@ use crate::tests::rows::shared_log::Log;
 use crate::tests::rows::turns::watch;
 use crate::tests::running::{BATON, TICKET, answered};
 use hoare_law::monitor::Monitor;
-use std::alloc::Global;
 use std::process::Abort;
 use std::sync::Wait;
 use timed_schedulers::alarm::{Alarm, ClockFull, TooFar};
@@ -146,59 +145,31 @@ fn wanted(row: AlarmRow<'_>) -> &'static [u64] {
     }
 }
 
-// What the places of the row answer on a baton door.
-fn on_baton(rt: &HostRuntime, alloc: Global, row: AlarmRow<'_>) -> Vec<u64> {
-    let (time, places) = setting(row);
-    run_row!(
-        rt,
-        alloc,
-        on_baton_door(),
-        acts(row),
-        Alarm::at(time),
-        places
-    )
-    .1
-}
-
-// The same on a ticket door.
-fn on_ticket(rt: &HostRuntime, alloc: Global, row: AlarmRow<'_>) -> Vec<u64> {
-    let (time, places) = setting(row);
-    run_row!(
-        rt,
-        alloc,
-        on_ticket_door(0),
-        acts(row),
-        Alarm::at(time),
-        places
-    )
-    .1
-}
-
-// The rows that write nothing down.
-#[test]
-fn an_alarm_clock_on_both_doors(host: HostRuntime) {
-    let (rt, alloc) = (&host, host.alloc());
-    for row in [
-        AlarmRow::SleepersWakeAtTheirSettings,
-        AlarmRow::AClockEndsAtItsLastTime,
-    ] {
-        answered(rt, BATON, on_baton(rt, alloc, row).as_slice(), wanted(row));
-        answered(
-            rt,
-            TICKET,
-            on_ticket(rt, alloc, row).as_slice(),
-            wanted(row),
-        );
-    }
+// The rows on one door.
+macro_rules! rows_of_an_alarm_clock {
+    ($rt:ident, $alloc:ident, $name:expr, $door:ident($($given:expr)?)) => {{
+        let log = Log::new($rt, $alloc, 10_000);
+        for row in [
+            AlarmRow::SleepersWakeAtTheirSettings,
+            AlarmRow::AClockEndsAtItsLastTime,
+            AlarmRow::AllThatAreDueWakeAtTheirTime(&log),
+        ] {
+            let (time, places) = setting(row);
+            let (_, answers) = run_row!($rt, $alloc, $door($($given)?), acts(row), Alarm::at(time), places);
+            answered($rt, $name, answers.as_slice(), wanted(row));
+        }
+        is_a_clock($rt, log);
+    }};
 }
 
 #[test]
-fn all_that_are_due_wake_at_their_time(host: HostRuntime) {
+fn an_alarm_clock_on_a_baton_door(host: HostRuntime) {
     let (rt, alloc) = (&host, host.alloc());
-    let log = Log::new(rt, alloc, 10_000);
-    on_baton(rt, alloc, AlarmRow::AllThatAreDueWakeAtTheirTime(&log));
-    is_a_clock(rt, log);
-    let log = Log::new(rt, alloc, 10_000);
-    on_ticket(rt, alloc, AlarmRow::AllThatAreDueWakeAtTheirTime(&log));
-    is_a_clock(rt, log);
+    rows_of_an_alarm_clock!(rt, alloc, BATON, on_baton_door());
+}
+
+#[test]
+fn an_alarm_clock_on_a_ticket_door(host: HostRuntime) {
+    let (rt, alloc) = (&host, host.alloc());
+    rows_of_an_alarm_clock!(rt, alloc, TICKET, on_ticket_door(0));
 }

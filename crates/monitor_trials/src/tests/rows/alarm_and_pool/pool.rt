@@ -195,43 +195,34 @@ fn wanted(row: PoolRow<'_>) -> &'static [u64] {
     }
 }
 
-// What the places of the row answer on a baton door.
-fn on_baton(rt: &HostRuntime, alloc: Global, row: PoolRow<'_>) -> Vec<u64> {
-    let (buffers, streams, places) = setting(row);
-    let pool = with_buffers(rt, alloc, buffers, streams);
-    run_row!(rt, alloc, on_baton_door(), acts(row), pool, places).1
-}
-
-// The same on a ticket door.
-fn on_ticket(rt: &HostRuntime, alloc: Global, row: PoolRow<'_>) -> Vec<u64> {
-    let (buffers, streams, places) = setting(row);
-    let pool = with_buffers(rt, alloc, buffers, streams);
-    run_row!(rt, alloc, on_ticket_door(0), acts(row), pool, places).1
-}
-
-#[test]
-fn who_holds_the_fewest_buffers_goes_on_first(host: HostRuntime) {
-    let (rt, alloc) = (&host, host.alloc());
-    let turns = Turns::new();
-    let row = PoolRow::WhoHoldsTheFewestBuffersGoesOnFirst(&turns);
-    answered(rt, BATON, on_baton(rt, alloc, row).as_slice(), wanted(row));
-    answered(
-        rt,
-        TICKET,
-        on_ticket(rt, alloc, row).as_slice(),
-        wanted(row),
-    );
+// The rows on one door.
+macro_rules! rows_of_a_pool {
+    ($rt:ident, $alloc:ident, $name:expr, $door:ident($($given:expr)?)) => {{
+        let turns = Turns::new();
+        let log = Log::new($rt, $alloc, 10_000);
+        for row in [
+            PoolRow::WhoHoldsTheFewestBuffersGoesOnFirst(&turns),
+            PoolRow::ABufferHasOneHolder(&log),
+        ] {
+            let (buffers, streams, places) = setting(row);
+            let pool = with_buffers($rt, $alloc, buffers, streams);
+            let (_, answers) = run_row!($rt, $alloc, $door($($given)?), acts(row), pool, places);
+            answered($rt, $name, answers.as_slice(), wanted(row));
+        }
+        is_a_pool($rt, log);
+    }};
 }
 
 #[test]
-fn a_buffer_has_one_holder(host: HostRuntime) {
+fn a_pool_on_a_baton_door(host: HostRuntime) {
     let (rt, alloc) = (&host, host.alloc());
-    let log = Log::new(rt, alloc, 10_000);
-    on_baton(rt, alloc, PoolRow::ABufferHasOneHolder(&log));
-    is_a_pool(rt, log);
-    let log = Log::new(rt, alloc, 10_000);
-    on_ticket(rt, alloc, PoolRow::ABufferHasOneHolder(&log));
-    is_a_pool(rt, log);
+    rows_of_a_pool!(rt, alloc, BATON, on_baton_door());
+}
+
+#[test]
+fn a_pool_on_a_ticket_door(host: HostRuntime) {
+    let (rt, alloc) = (&host, host.alloc());
+    rows_of_a_pool!(rt, alloc, TICKET, on_ticket_door(0));
 }
 
 #[test]

@@ -1,7 +1,7 @@
-//! Each door by its own type: what `make` refuses, each call once on one thread, and signals that resume who waits.
+//! Each door on one thread: what `make` refuses, and each call once.
 use crate::tally::Tally;
 use crate::tests::compared::expect_same;
-use crate::tests::rows::tally::{calls_all, resumes_by_each_signal};
+use crate::tests::rows::tally::calls_all;
 use baton_door::door::Door;
 use hoare_law::unasked::Unasked;
 use std::alloc::Global;
@@ -83,34 +83,4 @@ fn calls_ticket<R: Wait + Abort>(rt: &R, alloc: Global) -> (u64, u64) {
 fn one_place_calls_all(rt: HostRuntime) {
     expect_same(&rt, calls_baton(&rt, rt.alloc()), (1, 42));
     expect_same(&rt, calls_ticket(&rt, rt.alloc()), (1, 42));
-}
-
-#[test]
-fn a_baton_door_resumes_by_each_signal(host: HostRuntime) {
-    let (rt, alloc) = (&host, host.alloc());
-    let (tally, answers) = run_row!(
-        rt,
-        alloc,
-        on_baton_door(),
-        resumes_by_each_signal(),
-        Tally { value: 0 },
-        2
-    );
-    let wanted = [1123, 12].as_slice();
-    expect_same(rt, (tally.value, answers.as_slice()), (1234, wanted));
-}
-
-#[test]
-fn a_ticket_door_resumes_by_each_signal(host: HostRuntime) {
-    let (rt, alloc) = (&host, host.alloc());
-    let (tally, answers) = run_row!(
-        rt,
-        alloc,
-        on_ticket_door(0),
-        resumes_by_each_signal(),
-        Tally { value: 0 },
-        2
-    );
-    let wanted = [1123, 12].as_slice();
-    expect_same(rt, (tally.value, answers.as_slice()), (1234, wanted));
 }

@@ -1,8 +1,9 @@
-//! What the cookbook's program does not run, on the fake monitor: a philosopher gets up where nobody eats.
+//! What the cookbook's program does not run, on the fake monitor: a philosopher gets up where nobody eats, and a latch is opened twice.
 
 use crate::tests::compared::{expect_same, reads_as};
 use crate::tests::fake::with_answers;
 use crate::tests::limit::within;
+use cookbook::latch::Latch;
 use cookbook::table::{NotEating, Table};
 use hoare_law::monitor::Monitor;
 use std::alloc::Global;
@@ -39,4 +40,31 @@ fn nobody_gets_up_where_nobody_eats(rt: HostRuntime) {
     let alloc = rt.alloc();
     runs(&rt, alloc);
     reads_as(&rt, alloc, &NotEating, "nobody eats at the seat");
+}
+
+// Opens a latch, and counts it down once more: it stays open, so who passes waits for nobody.
+fn opens_twice<R: Wait, M: Monitor<Latch>>(rt: &R, m: &M, out: M::Out)
+    requires { M.is_of m.now out }
+{
+    let out = Latch::count_down(m, rt, out);
+    let out = Latch::count_down(m, rt, out);
+    let _out = Latch::pass(m, rt, out);
+}
+
+// A latch that one count opens, and one that is open.
+fn opens<R: Wait + Abort>(rt: &R, alloc: Global) {
+    for left in [1, 0] {
+        let (fake, out) = with_answers(rt, alloc, Latch::new(left), []);
+        opens_twice(rt, &fake, out);
+    }
+}
+
+// Does it within the limit.
+fn opens_within<R: Threads + Wait + Abort + Clock + Sync>(rt: &R, alloc: Global) {
+    within(rt, || opens(rt, alloc))
+}
+
+#[test]
+fn a_latch_that_is_opened_twice_stays_open(rt: HostRuntime) {
+    opens_within(&rt, rt.alloc());
 }

@@ -5,7 +5,6 @@ ghost use Rattle.monitor_trials.specs.Numbered.{IsNumbered};
 
 use crate::tests::compared::expect_same;
 use crate::tests::limit::{VISITS, within};
-pub use any_door::DoorKind;
 use hoare_law::data::MonitorData;
 use hoare_law::monitor::Monitor;
 use hoare_law::waits::Waits;
@@ -123,12 +122,18 @@ pub fn await_sign<R: Abort + Clock>(rt: &R, sign: &AtomicBool) {
     panic!(rt; "no sign came")
 }
 
-/// Fails the test where the places of a row answered something else on a door of this kind.
-pub fn answered<R: Abort>(rt: &R, kind: DoorKind, answers: &[u64], wanted: &[u64]) {
-    expect_same(rt, (kind, answers), (kind, wanted));
+/// What a failing row calls the baton door.
+pub const BATON: &str = "baton door";
+
+/// What it calls the ticket door.
+pub const TICKET: &str = "ticket door";
+
+/// Fails the test where the places of a row answered something else on the door of this name.
+pub fn answered<R: Abort>(rt: &R, door: &str, answers: &[u64], wanted: &[u64]) {
+    expect_same(rt, (door, answers), (door, wanted));
 }
 
-/// Fails the test where not all places of a row answered on a door of this kind.
-pub fn all_answered<R: Abort>(rt: &R, kind: DoorKind, answers: &[u64], places: usize) {
-    expect_same(rt, (kind, answers.len()), (kind, places));
+/// Fails the test where not all places of a row answered on the door of this name.
+pub fn all_answered<R: Abort>(rt: &R, door: &str, answers: &[u64], places: usize) {
+    expect_same(rt, (door, answers.len()), (door, places));
 }

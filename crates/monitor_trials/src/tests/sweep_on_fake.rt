@@ -7,11 +7,12 @@ use crate::fake::{Fake, FakeOut};
 use crate::tests::compared::expect_same;
 use crate::tests::fake::{take_data, with_answers};
 use crate::tests::limit::within;
-use crate::tests::rows::head::{Trip, goes, hands_on, is_off_disk, is_refused};
+use crate::tests::rows::drive::{Trip, goes, hands_on};
+use crate::tests::rows::head::{is_off_disk, is_refused};
 use crate::tests::rows::head_stay::counts;
-use crate::tests::rows::readers::{
-    Shared, ends_no_read, ends_no_write, ends_read, is_one_too_many, reads_to_the_limit,
-    starts_read, starts_write, writes,
+use crate::tests::rows::readers::{ends_no_read, reads_to_the_limit, writes};
+use crate::tests::rows::reading::{
+    Shared, ends_no_write, ends_read, is_one_too_many, starts_read, starts_write,
 };
 use hoare_law::monitor::Monitor;
 use std::alloc::Global;

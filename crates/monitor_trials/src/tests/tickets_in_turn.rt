@@ -66,6 +66,21 @@ fn tickets_in_turn(rt: HostRuntime) {
     expect_same(&rt, asked, ([0, 1, 2, 4], false, 7));
 }
 
+// A first ticket may be any number, odd ones too: `make_at` refuses none.
+#[test]
+fn a_first_ticket_may_be_any_number(rt: HostRuntime) {
+    for first in [1, 2, 3, 63, 64, 65, 4294967295, 9223372036854775807] {
+        let asked = three_ask(&rt, rt.alloc(), first);
+        let tickets = [
+            first,
+            first.wrapping_add(1),
+            first.wrapping_add(2),
+            first.wrapping_add(4),
+        ];
+        expect_same(&rt, asked, (tickets, false, 7));
+    }
+}
+
 #[test]
 fn tickets_past_the_last_number(rt: HostRuntime) {
     for (first, tickets) in [

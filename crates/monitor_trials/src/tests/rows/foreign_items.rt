@@ -4,8 +4,7 @@ ghost use Rattle.monitor_trials.specs.Numbered.{IsNumbered};
 
 use crate::tests::compared::expect_same;
 use crate::tests::limit::within;
-use crate::tests::on_any_door::{closed, made};
-use crate::tests::running::DoorKind;
+use crate::tests::{on_baton_door, on_ticket_door};
 use hoare_law::monitor::Monitor;
 use plain_schedulers::single::{NotOut, Single};
 use std::alloc::Global;
@@ -103,16 +102,29 @@ fn change_items<R: Wait + Abort, M: Monitor<Single<u64>>>(
     (alone(rt, alloc, out), alone(rt, alloc, other))
 }
 
+// Two monitors on baton doors: what they have at the end.
+fn change_on_baton<R: Wait + Abort>(rt: &R, alloc: Global) -> [Option<u64>; 2] {
+    let (first, outs) = on_baton_door::made(rt, alloc, Single::with(7u64), 1);
+    let (second, others) = on_baton_door::made(rt, alloc, Single::with(8u64), 1);
+    let (outs, others) = change_items(rt, alloc, &first, outs, &second, others);
+    let left = on_baton_door::closed(first, outs).into_item();
+    [left, on_baton_door::closed(second, others).into_item()]
+}
+
+// The same on ticket doors.
+fn change_on_ticket<R: Wait + Abort>(rt: &R, alloc: Global) -> [Option<u64>; 2] {
+    let (first, outs) = on_ticket_door::made(rt, alloc, 0, Single::with(7u64), 1);
+    let (second, others) = on_ticket_door::made(rt, alloc, 0, Single::with(8u64), 1);
+    let (outs, others) = change_items(rt, alloc, &first, outs, &second, others);
+    let left = on_ticket_door::closed(first, outs).into_item();
+    [left, on_ticket_door::closed(second, others).into_item()]
+}
+
 #[test]
-fn items_change_monitors(rt: HostRuntime) {
-    for kind in DoorKind::BOTH {
-        let left = within(&rt, || {
-            let (first, outs) = made(&rt, rt.alloc(), kind, Single::with(7u64), 1);
-            let (second, others) = made(&rt, rt.alloc(), kind, Single::with(8u64), 1);
-            let (outs, others) = change_items(&rt, rt.alloc(), &first, outs, &second, others);
-            let left = closed(first, outs).into_item();
-            (left, closed(second, others).into_item())
-        });
-        assert_eq!(rt; left, (None, Some(7)), "{kind:?}");
-    }
+fn items_change_monitors(host: HostRuntime) {
+    let (rt, alloc) = (&host, host.alloc());
+    let left = within(rt, || change_on_baton(rt, alloc));
+    expect_same(rt, left, [None, Some(7)]);
+    let left = within(rt, || change_on_ticket(rt, alloc));
+    expect_same(rt, left, [None, Some(7)]);
 }

@@ -2,7 +2,6 @@
 ghost use Rattle.std.specs.Prelude.{◌≡◌};
 
 use crate::tests::compared::expect_same;
-use crate::tests::running::DoorKind;
 use hoare_law::monitor::Monitor;
 use hoare_law::unasked::Unasked;
 use hoare_law::waits::Waits;
@@ -101,14 +100,25 @@ fn stands_in_order<R: Abort>(rt: &R, alloc: Global, row: &[usize]) {
     expect_same(rt, row, expected.as_slice());
 }
 
-#[test]
-fn sixty_four_places_wait_on_eight_conditions(host: HostRuntime) {
-    let (rt, alloc) = (&host, host.alloc());
-    for kind in DoorKind::BOTH {
+// The row on one door.
+macro_rules! fill {
+    ($rt:ident, $alloc:ident, $door:ident($($given:expr)?)) => {{
         let data = Row {
-            value: no_places(rt, alloc),
+            value: no_places($rt, $alloc),
         };
-        let (row, _) = run_row_on!(kind, rt, alloc, waits_in_row(), data, PLACES);
-        stands_in_order(rt, alloc, row.value.as_slice());
-    }
+        let (row, _) = run_row!($rt, $alloc, $door($($given)?), waits_in_row(), data, PLACES);
+        stands_in_order($rt, $alloc, row.value.as_slice());
+    }};
+}
+
+#[test]
+fn sixty_four_places_wait_on_a_baton_door(host: HostRuntime) {
+    let (rt, alloc) = (&host, host.alloc());
+    fill!(rt, alloc, on_baton_door());
+}
+
+#[test]
+fn sixty_four_places_wait_on_a_ticket_door(host: HostRuntime) {
+    let (rt, alloc) = (&host, host.alloc());
+    fill!(rt, alloc, on_ticket_door(0));
 }

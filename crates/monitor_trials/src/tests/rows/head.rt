@@ -4,11 +4,12 @@ ghost use Rattle.hoare_law.specs.Priorities.{nobody};
 ghost use Rattle.sweep_schedulers.specs.Heads.{HeadRests};
 
 use crate::tests::compared::expect_same;
+use crate::tests::rows::drive::{Trip, goes, hands_on};
 use crate::tests::rows::head_stay::{ASKING, asks_or_counts};
 use crate::tests::rows::head_stress::{CYLMAX, Line, PLACES, is_a_sweep, travels};
 use crate::tests::rows::shared_log::Log;
 use crate::tests::rows::turns::{Turns, line_up};
-use crate::tests::running::{DoorKind, all_answered};
+use crate::tests::running::{BATON, TICKET, all_answered};
 use hoare_law::monitor::Monitor;
 use std::alloc::Global;
 use std::process::Abort;
@@ -16,42 +17,6 @@ use std::rt::Clock;
 use std::sync::Wait;
 use sweep_schedulers::head::{Head, OffDisk};
 use sweep_schedulers::not_out::NotOut;
-
-/// The cylinders where a drive was, in order.
-pub type Trip = Vec<u16>;
-
-/// Takes the drive to the cylinder.
-pub fn goes<R: Wait + Abort, M: Monitor<Head<Trip>>>(
-    rt: &R,
-    m: &M,
-    out: M::Out,
-    dest: u16,
-) -> (M::Out, Trip)
-    requires { M.is_of m.now out }
-    ensures of { M.is_of m.now result.0 }
-    ensures place { M.place result.0 ≡ M.place out }
-{
-    let (out, drive) = Head::request(m, rt, out, dest);
-    let mut drive = drive.expect(rt, "the cylinder is on the disk");
-    drive.push(dest).expect(rt, "memory");
-    (out, drive)
-}
-
-/// Hands the drive on.
-pub fn hands_on<R: Wait + Abort, M: Monitor<Head<Trip>>>(
-    rt: &R,
-    m: &M,
-    out: M::Out,
-    drive: Trip,
-) -> M::Out
-    requires { M.is_of m.now out }
-    ensures of { M.is_of m.now result }
-    ensures place { M.place result ≡ M.place out }
-{
-    let (out, released) = Head::release(m, rt, out, drive);
-    assert!(rt; released.is_ok());
-    out
-}
 
 /// Takes the drive to cylinder 50, twice where the plan has an idle drive once, and keeps it the last time; hands
 /// it on once the others wait; and takes it to the cylinder `last` when all others had it. The drive has to have
@@ -239,29 +204,34 @@ fn setting(row: HeadRow<'_>) -> (u16, usize) {
     }
 }
 
-#[test]
-fn a_disk_head_on_both_doors(host: HostRuntime) {
-    let (rt, alloc) = (&host, host.alloc());
-    let turns = Turns::new();
-    for kind in DoorKind::BOTH {
-        let log = Log::new(rt, alloc, 10_000);
+// The rows on one door.
+macro_rules! rows_of_a_head {
+    ($rt:ident, $alloc:ident, $name:expr, $door:ident($($given:expr)?)) => {{
+        let turns = Turns::new();
+        let log = Log::new($rt, $alloc, 10_000);
         for row in [
-            HeadRow::ByPlan(alloc, &turns, &SWEEP_ORDER),
-            HeadRow::ByPlan(alloc, &turns, &IDLE_RELEASE_TURNS),
+            HeadRow::ByPlan($alloc, &turns, &SWEEP_ORDER),
+            HeadRow::ByPlan($alloc, &turns, &IDLE_RELEASE_TURNS),
             HeadRow::StayCountsGrants(&turns),
             HeadRow::TheDriveGoesBySweeps(&log),
         ] {
             let (cylmax, places) = setting(row);
-            let (_head, answers) = run_row_on!(
-                kind,
-                rt,
-                alloc,
-                acts(row),
-                disk(alloc, cylmax),
-                places
-            );
-            all_answered(rt, kind, answers.as_slice(), places);
+            let head = disk($alloc, cylmax);
+            let (_, answers) = run_row!($rt, $alloc, $door($($given)?), acts(row), head, places);
+            all_answered($rt, $name, answers.as_slice(), places);
         }
-        is_a_sweep(rt, log);
-    }
+        is_a_sweep($rt, log);
+    }};
+}
+
+#[test]
+fn a_disk_head_on_a_baton_door(host: HostRuntime) {
+    let (rt, alloc) = (&host, host.alloc());
+    rows_of_a_head!(rt, alloc, BATON, on_baton_door());
+}
+
+#[test]
+fn a_disk_head_on_a_ticket_door(host: HostRuntime) {
+    let (rt, alloc) = (&host, host.alloc());
+    rows_of_a_head!(rt, alloc, TICKET, on_ticket_door(0));
 }

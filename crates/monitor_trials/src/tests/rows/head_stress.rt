@@ -3,7 +3,7 @@
 ghost use Rattle.std.specs.Prelude.{◌≡◌};
 
 use crate::tests::compared::expect_same;
-use crate::tests::rows::head::{Trip, goes, hands_on};
+use crate::tests::rows::drive::{Trip, goes, hands_on};
 use crate::tests::rows::shared_log::{Log, await_others, draw};
 use hoare_law::monitor::Monitor;
 use std::process::Abort;

@@ -2,7 +2,7 @@
 ghost use Rattle.std.specs.Prelude.{◌≡◌};
 
 use crate::tests::compared::expect_same;
-use crate::tests::rows::readers::{
+use crate::tests::rows::reading::{
     Shared, ends_read, ends_write, starts_read, starts_write, waiting,
 };
 use crate::tests::rows::turns::{Turns, line_up};

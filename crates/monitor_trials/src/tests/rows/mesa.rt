@@ -4,7 +4,7 @@ ghost use Rattle.plain_schedulers.specs.Buffers.{BufferHolds};
 
 use crate::tests::compared::expect_same;
 use crate::tests::rows::turns::{Turns, count_waiting, line_up};
-use crate::tests::running::{DoorKind, answered};
+use crate::tests::running::{BATON, TICKET};
 use hoare_law::monitor::Monitor;
 use plain_schedulers::buffer::mesa::MesaBuffer;
 use plain_schedulers::buffer::{BufferRefused, NONEMPTY, NONFULL};
@@ -105,16 +105,76 @@ fn trades<R: Wait, M: Monitor<MesaBuffer<u64>>>(
     (out, sum)
 }
 
-#[test]
-fn who_is_called_tests_again(host: HostRuntime) {
-    let (rt, alloc) = (&host, host.alloc());
-    let turns = Turns::new();
-    for kind in DoorKind::BOTH {
-        turns.start_again();
-        let buffer = with_cells(rt, alloc, 1);
-        let (_, answers) = run_row_on!(kind, rt, alloc, calls_or_removes(&turns), buffer, 3);
-        answered(rt, kind, answers.as_slice(), &[2, 1, 2]);
+/// The rows of a buffer with Mesa conditions.
+#[derive(Clone, Copy)]
+enum MesaRow<'a> {
+    /// In the turns.
+    WhoIsCalledTestsAgain(&'a Turns),
+    NoItemIsLostBetweenCalledPlaces,
+}
+
+// Each place does what the row says.
+fn acts<R: Wait + Abort + Clock, M: Monitor<MesaBuffer<u64>>>(
+    rt: &R,
+    m: &M,
+    out: M::Out,
+    place: usize,
+    row: MesaRow<'_>,
+) -> (M::Out, u64)
+    requires { M.is_of m.now out }
+    ensures of { M.is_of m.now result.0 }
+    ensures place { M.place result.0 ≡ M.place out }
+{
+    match row {
+        MesaRow::WhoIsCalledTestsAgain(turns) => calls_or_removes(rt, m, out, place, turns),
+        MesaRow::NoItemIsLostBetweenCalledPlaces => trades(rt, m, out, place, 300),
     }
+}
+
+// How many cells and places there are in the row.
+fn setting(row: MesaRow<'_>) -> (usize, usize) {
+    match row {
+        MesaRow::WhoIsCalledTestsAgain(_) => (1, 3),
+        MesaRow::NoItemIsLostBetweenCalledPlaces => (2, 4),
+    }
+}
+
+// Whether the places answered what they have to: the sum of the items that were taken out is that of those put in.
+fn agrees(row: MesaRow<'_>, answers: &[u64]) -> bool {
+    match row {
+        MesaRow::WhoIsCalledTestsAgain(_) => answers == [2, 1, 2].as_slice(),
+        MesaRow::NoItemIsLostBetweenCalledPlaces => {
+            answers.iter().fold(0u64, |sum, n| sum.saturating_add(*n)) == 300 * 301
+        }
+    }
+}
+
+// The rows on one door.
+macro_rules! rows_of_a_buffer {
+    ($rt:ident, $alloc:ident, $name:expr, $door:ident($($given:expr)?)) => {{
+        let turns = Turns::new();
+        for row in [
+            MesaRow::WhoIsCalledTestsAgain(&turns),
+            MesaRow::NoItemIsLostBetweenCalledPlaces,
+        ] {
+            let (cells, places) = setting(row);
+            let buffer = with_cells($rt, $alloc, cells);
+            let (_, answers) = run_row!($rt, $alloc, $door($($given)?), acts(row), buffer, places);
+            assert!($rt; agrees(row, answers.as_slice()), "the {} answered {answers:?}", $name);
+        }
+    }};
+}
+
+#[test]
+fn who_is_called_tests_again_on_a_baton_door(host: HostRuntime) {
+    let (rt, alloc) = (&host, host.alloc());
+    rows_of_a_buffer!(rt, alloc, BATON, on_baton_door());
+}
+
+#[test]
+fn who_is_called_tests_again_on_a_ticket_door(host: HostRuntime) {
+    let (rt, alloc) = (&host, host.alloc());
+    rows_of_a_buffer!(rt, alloc, TICKET, on_ticket_door(0));
 }
 
 #[test]
@@ -125,18 +185,5 @@ fn a_buffer_with_mesa_conditions_has_its_limits(rt: HostRuntime) {
             matches!(made, Err(BufferRefused::BadSize)),
             "{cells} cells"
         );
-    }
-}
-
-#[test]
-fn no_item_is_lost_between_called_places(host: HostRuntime) {
-    let (rt, alloc) = (&host, host.alloc());
-    for kind in DoorKind::BOTH {
-        let buffer = with_cells(rt, alloc, 2);
-        let (_, answers) = run_row_on!(kind, rt, alloc, trades(300), buffer, 4);
-        let sum = answers
-            .iter()
-            .fold(0u64, |sum, answer| sum.saturating_add(*answer));
-        expect_same(rt, (kind, sum), (kind, 300 * 301));
     }
 }

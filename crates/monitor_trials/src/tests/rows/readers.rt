@@ -5,109 +5,20 @@ use crate::tests::compared::{expect_same, reads_as};
 use crate::tests::fake::with_answers;
 use crate::tests::rows::late_reader::reads_or_writes_late;
 use crate::tests::rows::readers_stress::{Line, PLACES, is_read_and_written, reads_or_writes_on};
+use crate::tests::rows::reading::{
+    Shared, ends_no_write, ends_read, ends_write, is_one_too_many, starts_read, starts_write,
+    waiting,
+};
 use crate::tests::rows::shared_log::Log;
 use crate::tests::rows::turns::{Turns, line_up};
-use crate::tests::running::{DoorKind, all_answered};
+use crate::tests::running::{BATON, TICKET, all_answered};
 use hoare_law::monitor::Monitor;
-use hoare_law::waits::Waits;
 use std::alloc::Global;
 use std::process::Abort;
 use std::rt::Clock;
 use std::sync::Wait;
 use std::sync::atomic::AtomicU32;
-use sweep_schedulers::not_out::NotOut;
-use sweep_schedulers::readers_writers::{NoReader, ReadPass, ReadersWriters, TooManyReaders};
-
-/// A number that is read and written.
-pub type Shared = ReadersWriters<u64>;
-
-/// Goes in as a reader, who has to find this.
-pub fn starts_read<R: Wait + Abort, M: Monitor<Shared>>(
-    rt: &R,
-    m: &M,
-    out: M::Out,
-    expected: u64,
-) -> (M::Out, ReadPass)
-    requires { M.is_of m.now out }
-    ensures of { M.is_of m.now result.0 }
-    ensures place { M.place result.0 ≡ M.place out }
-{
-    let (out, read) = ReadersWriters::start_read(m, rt, out);
-    let Ok((pass, value)) = read else {
-        panic!(rt; "too many readers")
-    };
-    expect_same(rt, value, expected);
-    (out, pass)
-}
-
-/// Goes out as a reader.
-pub fn ends_read<R: Wait + Abort, M: Monitor<Shared>>(
-    rt: &R,
-    m: &M,
-    out: M::Out,
-    pass: ReadPass,
-) -> M::Out
-    requires { M.is_of m.now out }
-    ensures of { M.is_of m.now result }
-    ensures place { M.place result ≡ M.place out }
-{
-    let (out, ended) = ReadersWriters::end_read(m, rt, out, pass);
-    match ended {
-        Ok(()) => out,
-        Err(NoReader { pass: _pass }) => panic!(rt; "no reader is in"),
-    }
-}
-
-/// Goes in as a writer, who has to find this.
-pub fn starts_write<R: Wait + Abort, M: Monitor<Shared>>(
-    rt: &R,
-    m: &M,
-    out: M::Out,
-    expected: u64,
-) -> M::Out
-    requires { M.is_of m.now out }
-    ensures of { M.is_of m.now result }
-    ensures place { M.place result ≡ M.place out }
-{
-    let (out, found) = ReadersWriters::start_write(m, rt, out);
-    expect_same(rt, found, expected);
-    out
-}
-
-/// Goes out as a writer, and leaves this.
-pub fn ends_write<R: Wait + Abort, M: Monitor<Shared>>(
-    rt: &R,
-    m: &M,
-    out: M::Out,
-    value: u64,
-) -> M::Out
-    requires { M.is_of m.now out }
-    ensures of { M.is_of m.now result }
-    ensures place { M.place result ≡ M.place out }
-{
-    let (out, written) = ReadersWriters::end_write(m, rt, out, value);
-    assert!(rt; written.is_ok());
-    out
-}
-
-/// Ends a write where no writer is in: the number comes back.
-pub fn ends_no_write<R: Wait + Abort, M: Monitor<Shared>>(
-    rt: &R,
-    m: &M,
-    out: M::Out,
-    value: u64,
-) -> M::Out
-    requires { M.is_of m.now out }
-    ensures of { M.is_of m.now result }
-    ensures place { M.place result ≡ M.place out }
-{
-    let (out, written) = ReadersWriters::end_write(m, rt, out, value);
-    let Err(NotOut { item }) = written else {
-        panic!(rt; "a writer was in")
-    };
-    expect_same(rt, item, value);
-    out
-}
+use sweep_schedulers::readers_writers::{NoReader, ReadersWriters};
 
 /// Writes a number where this one stands, and tries to write another, which comes back.
 pub fn writes<R: Wait + Abort, M: Monitor<Shared>>(
@@ -124,19 +35,6 @@ pub fn writes<R: Wait + Abort, M: Monitor<Shared>>(
     let out = starts_write(rt, m, out, expected);
     let out = ends_write(rt, m, out, value);
     ends_no_write(rt, m, out, value.wrapping_add(1))
-}
-
-/// Asks to read where the most readers are in.
-pub fn is_one_too_many<R: Wait + Abort, M: Monitor<Shared>>(rt: &R, m: &M, out: M::Out) -> M::Out
-    requires { M.is_of m.now out }
-    ensures of { M.is_of m.now result }
-    ensures place { M.place result ≡ M.place out }
-{
-    let (out, read) = ReadersWriters::start_read(m, rt, out);
-    match read {
-        Err(TooManyReaders) => out,
-        Ok((_pass, _value)) => panic!(rt; "one reader too many is in"),
-    }
 }
 
 /// Starts this many reads, the last of which is the last that there is room for: one more is refused, and goes in once one has
@@ -201,18 +99,6 @@ pub fn ends_no_read<R: Wait + Abort, M: Monitor<Shared>>(
 {
     let (fake, other) = with_answers(rt, alloc, ReadersWriters::with(8), []);
     ends_foreign_read(rt, alloc, m, out, &fake, other)
-}
-
-/// How many wait to read, and to write.
-pub fn waiting<R: Wait, M: Monitor<Shared>>(rt: &R, m: &M, out: M::Out) -> (M::Out, (usize, usize))
-    requires { M.is_of m.now out }
-    ensures of { M.is_of m.now result.0 }
-    ensures place { M.place result.0 ≡ M.place out }
-{
-    let inside = m.enter(rt, out);
-    let lists = m.lists(&inside);
-    let waiting = (lists.count(0), lists.count(1));
-    (m.leave(rt, inside), waiting)
 }
 
 /// Is in as the writer while the others come to wait, and writes 3: both readers are in at once, and the other writer waits on.
@@ -347,31 +233,36 @@ fn agrees(row: ReadersRow<'_>, value: u64) -> bool {
     }
 }
 
-#[test]
-fn readers_and_writers_on_both_doors(host: HostRuntime) {
-    let (rt, alloc) = (&host, host.alloc());
-    let turns = Turns::new();
-    let ended = AtomicU32::new(0);
-    for kind in DoorKind::BOTH {
-        let log = Log::new(rt, alloc, 10_000);
+// The rows on one door.
+macro_rules! rows_of_readers {
+    ($rt:ident, $alloc:ident, $name:expr, $door:ident($($given:expr)?)) => {{
+        let turns = Turns::new();
+        let ended = AtomicU32::new(0);
+        let log = Log::new($rt, $alloc, 10_000);
         for row in [
-            ReadersRow::ReadersAndWriters(alloc, &turns),
+            ReadersRow::ReadersAndWriters($alloc, &turns),
             ReadersRow::WriterBeforeLateReader(&turns, &ended),
             ReadersRow::NoReaderIsInBesideAWriter(&log),
         ] {
             let (value, places) = setting(row);
-            let (shared, answers) = run_row_on!(
-                kind,
-                rt,
-                alloc,
-                acts(row),
-                ReadersWriters::with(value),
-                places
-            );
-            all_answered(rt, kind, answers.as_slice(), places);
+            let data = ReadersWriters::with(value);
+            let (shared, answers) = run_row!($rt, $alloc, $door($($given)?), acts(row), data, places);
+            all_answered($rt, $name, answers.as_slice(), places);
             let value = shared.into_value();
-            assert!(rt; agrees(row, value), "{kind:?} left {value}");
+            assert!($rt; agrees(row, value), "the {} left {value}", $name);
         }
-        is_read_and_written(rt, log);
-    }
+        is_read_and_written($rt, log);
+    }};
+}
+
+#[test]
+fn readers_and_writers_on_a_baton_door(host: HostRuntime) {
+    let (rt, alloc) = (&host, host.alloc());
+    rows_of_readers!(rt, alloc, BATON, on_baton_door());
+}
+
+#[test]
+fn readers_and_writers_on_a_ticket_door(host: HostRuntime) {
+    let (rt, alloc) = (&host, host.alloc());
+    rows_of_readers!(rt, alloc, TICKET, on_ticket_door(0));
 }

@@ -2,7 +2,7 @@
 ghost use Rattle.std.specs.Prelude.{◌≡◌, ◌<◌};
 
 use crate::tests::compared::expect_same;
-use crate::tests::rows::readers::{Shared, ends_read, ends_write, waiting};
+use crate::tests::rows::reading::{Shared, ends_read, ends_write, waiting};
 use crate::tests::rows::shared_log::{Log, linger};
 use hoare_law::monitor::Monitor;
 use std::process::Abort;

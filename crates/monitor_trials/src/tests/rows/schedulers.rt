@@ -3,7 +3,7 @@ ghost use Rattle.std.specs.Prelude.{◌≡◌};
 
 use crate::tests::compared::expect_same;
 use crate::tests::fake::with_cells;
-use crate::tests::running::{DoorKind, answered, await_sign, watch};
+use crate::tests::running::{BATON, TICKET, answered, await_sign, watch};
 use hoare_law::monitor::Monitor;
 use plain_schedulers::buffer::{Buffer, BufferRefused};
 use plain_schedulers::single::{NotOut, Single};
@@ -100,33 +100,49 @@ fn appends_or_removes<R: Wait, M: Monitor<Buffer<u64>>>(
     (out, in_turn)
 }
 
-#[test]
-fn an_item_is_lent_and_comes_back(host: HostRuntime) {
-    let (rt, alloc) = (&host, host.alloc());
-    let sign = AtomicBool::new(false);
-    for kind in DoorKind::BOTH {
-        let (_, answers) = run_row_on!(
-            kind,
-            rt,
-            alloc,
-            lends_or_borrows(&sign),
-            Single::with(7u64),
-            2
-        );
-        answered(rt, kind, answers.as_slice(), &[7, 7]);
-    }
+// The item on one door.
+macro_rules! lend_an_item {
+    ($rt:ident, $alloc:ident, $name:expr, $door:ident($($given:expr)?)) => {{
+        let sign = AtomicBool::new(false);
+        let single = Single::with(7u64);
+        let (_, answers) = run_row!($rt, $alloc, $door($($given)?), lends_or_borrows(&sign), single, 2);
+        answered($rt, $name, answers.as_slice(), &[7, 7]);
+    }};
 }
 
 #[test]
-fn items_come_out_in_order(host: HostRuntime) {
+fn an_item_is_lent_on_a_baton_door(host: HostRuntime) {
     let (rt, alloc) = (&host, host.alloc());
-    for (cells, items) in [(1, 4), (4096, 5000)] {
-        for kind in DoorKind::BOTH {
-            let buffer = with_cells(rt, alloc, cells);
-            let (_, answers) = run_row_on!(kind, rt, alloc, appends_or_removes(items), buffer, 2);
-            answered(rt, kind, answers.as_slice(), &[0, items]);
+    lend_an_item!(rt, alloc, BATON, on_baton_door());
+}
+
+#[test]
+fn an_item_is_lent_on_a_ticket_door(host: HostRuntime) {
+    let (rt, alloc) = (&host, host.alloc());
+    lend_an_item!(rt, alloc, TICKET, on_ticket_door(0));
+}
+
+// Buffers of one cell and of the most, on one door.
+macro_rules! fill_buffers {
+    ($rt:ident, $alloc:ident, $name:expr, $door:ident($($given:expr)?)) => {{
+        for (cells, items) in [(1, 4), (4096, 5000)] {
+            let buffer = with_cells($rt, $alloc, cells);
+            let (_, answers) = run_row!($rt, $alloc, $door($($given)?), appends_or_removes(items), buffer, 2);
+            answered($rt, $name, answers.as_slice(), &[0, items]);
         }
-    }
+    }};
+}
+
+#[test]
+fn items_come_out_in_order_on_a_baton_door(host: HostRuntime) {
+    let (rt, alloc) = (&host, host.alloc());
+    fill_buffers!(rt, alloc, BATON, on_baton_door());
+}
+
+#[test]
+fn items_come_out_in_order_on_a_ticket_door(host: HostRuntime) {
+    let (rt, alloc) = (&host, host.alloc());
+    fill_buffers!(rt, alloc, TICKET, on_ticket_door(0));
 }
 
 #[test]

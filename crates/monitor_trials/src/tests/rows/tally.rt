@@ -2,15 +2,11 @@
 ghost use Rattle.std.specs.Prelude.{◌≡◌};
 
 use crate::tally::Tally;
-use crate::tests::rows::wakes::{comes_late, waits_long};
-use crate::tests::running::{DoorKind, watch};
+use crate::tests::running::watch;
 use hoare_law::monitor::Monitor;
 use hoare_law::waits::Waits;
 use std::process::Abort;
-use std::rt::Clock;
 use std::sync::Wait;
-use std::sync::atomic::AtomicBool;
-use std::time::CpuClock;
 
 /// Appends a digit to the tally.
 pub fn write_digit<M: Monitor<Tally>>(m: &M, inside: M::In, digit: u64) -> M::In
@@ -36,9 +32,9 @@ pub fn add_one<M: Monitor<Tally>>(m: &M, inside: M::In) -> M::In
     inside
 }
 
-// Place 0 writes 5, reads it at its next visit, waits and reads again: it answers both, as two digits. Place 1 adds one once 0
-// waits, and signals: it answers whether somebody was resumed.
-fn writes_or_adds<R: Wait + Abort, M: Monitor<Tally>>(
+/// Place 0 writes 5, reads it at its next visit, waits and reads again: it answers both, as two digits. Place 1 adds one once 0
+/// waits, and signals: it answers whether somebody was resumed.
+pub fn writes_or_adds<R: Wait + Abort, M: Monitor<Tally>>(
     rt: &R,
     m: &M,
     out: M::Out,
@@ -62,8 +58,8 @@ fn writes_or_adds<R: Wait + Abort, M: Monitor<Tally>>(
     (m.leave(rt, inside), read)
 }
 
-// Comes in, adds one and goes out, a thousand times.
-fn adds_thousand<R: Wait, M: Monitor<Tally>>(rt: &R, m: &M, out: M::Out) -> (M::Out, u64)
+/// Comes in, adds one and goes out, a thousand times.
+pub fn adds_thousand<R: Wait, M: Monitor<Tally>>(rt: &R, m: &M, out: M::Out) -> (M::Out, u64)
     requires { M.is_of m.now out }
     ensures of { M.is_of m.now result.0 }
     ensures place { M.place result.0 ≡ M.place out }
@@ -76,9 +72,9 @@ fn adds_thousand<R: Wait, M: Monitor<Tally>>(rt: &R, m: &M, out: M::Out) -> (M::
     (out, 0)
 }
 
-// Places 0 and 1 wait, and place 2 signals: 0 goes on, writes 1 and signals 1, which writes 2. Then 2 is back and writes 3,
-// and then 0, which writes 4.
-fn signals_on<R: Wait + Abort, M: Monitor<Tally>>(
+/// Places 0 and 1 wait, and place 2 signals: 0 goes on, writes 1 and signals 1, which writes 2. Then 2 is back and writes 3,
+/// and then 0, which writes 4.
+pub fn signals_on<R: Wait + Abort, M: Monitor<Tally>>(
     rt: &R,
     m: &M,
     out: M::Out,
@@ -181,92 +177,5 @@ pub fn resumes_by_each_signal<R: Wait + Abort, M: Monitor<Tally>>(
         is_resumed_twice(rt, m, out)
     } else {
         resumes_twice(rt, m, out)
-    }
-}
-
-/// The rows of a tally.
-#[derive(Clone, Copy)]
-enum TallyRow<'a> {
-    OnePlaceCallsAll,
-    WhatIsWrittenIsFound,
-    TwoThousandAdditions,
-    SignallersReturnInOrder,
-    WhoWaitsSleepsUntilItIsWoken,
-    /// Place 1 comes in after the sign.
-    ANewcomerComesInOnceNobodyIsInside(&'a AtomicBool),
-}
-
-// Each place does what the row says.
-fn acts<R: Wait + Abort + Clock + CpuClock, M: Monitor<Tally>>(
-    rt: &R,
-    m: &M,
-    out: M::Out,
-    place: usize,
-    row: TallyRow<'_>,
-) -> (M::Out, u64)
-    requires { M.is_of m.now out }
-    ensures of { M.is_of m.now result.0 }
-    ensures place { M.place result.0 ≡ M.place out }
-{
-    match row {
-        TallyRow::OnePlaceCallsAll => calls_all(rt, m, out),
-        TallyRow::WhatIsWrittenIsFound => writes_or_adds(rt, m, out, place),
-        TallyRow::TwoThousandAdditions => adds_thousand(rt, m, out),
-        TallyRow::SignallersReturnInOrder => signals_on(rt, m, out, place),
-        TallyRow::WhoWaitsSleepsUntilItIsWoken => waits_long(rt, m, out, place),
-        TallyRow::ANewcomerComesInOnceNobodyIsInside(sign) => comes_late(rt, m, out, place, sign),
-    }
-}
-
-// How many places act in the row.
-fn places(row: TallyRow<'_>) -> usize {
-    match row {
-        TallyRow::OnePlaceCallsAll => 1,
-        TallyRow::SignallersReturnInOrder => 3,
-        _ => 2,
-    }
-}
-
-// Whether the last value of the row and what the places answered are what they have to be.
-fn agrees(row: TallyRow<'_>, value: u64, answers: &[u64]) -> bool {
-    match row {
-        TallyRow::OnePlaceCallsAll => value == 42 && answers == [1].as_slice(),
-        TallyRow::WhatIsWrittenIsFound => value == 6 && answers == [56, 1].as_slice(),
-        TallyRow::TwoThousandAdditions => value == 2000,
-        TallyRow::SignallersReturnInOrder => value == 1234,
-        TallyRow::WhoWaitsSleepsUntilItIsWoken => {
-            value == 12 && answers.iter().all(|millis| *millis < 30)
-        }
-        TallyRow::ANewcomerComesInOnceNobodyIsInside(_) => value == 12,
-    }
-}
-
-#[test]
-fn a_tally_on_both_doors(host: HostRuntime) {
-    let (rt, alloc) = (&host, host.alloc());
-    let sign = AtomicBool::new(false);
-    for kind in DoorKind::BOTH {
-        for row in [
-            TallyRow::OnePlaceCallsAll,
-            TallyRow::WhatIsWrittenIsFound,
-            TallyRow::TwoThousandAdditions,
-            TallyRow::SignallersReturnInOrder,
-            TallyRow::WhoWaitsSleepsUntilItIsWoken,
-            TallyRow::ANewcomerComesInOnceNobodyIsInside(&sign),
-        ] {
-            let (tally, answers) = run_row_on!(
-                kind,
-                rt,
-                alloc,
-                acts(row),
-                Tally { value: 0 },
-                places(row)
-            );
-            assert!(rt;
-                agrees(row, tally.value, answers.as_slice()),
-                "{kind:?} left {}, answered {answers:?}",
-                tally.value
-            );
-        }
     }
 }

@@ -4,20 +4,21 @@ ghost use Rattle.std.specs.Prelude.{◌≡◌};
 use crate::tally::Tally;
 use crate::tests::compared::expect_same;
 use crate::tests::rows::tally::{add_one, write_digit};
-use crate::tests::running::{DoorKind, all_answered, answered, await_sign, watch};
-use any_door::AnyDoor;
+use crate::tests::running::{await_sign, watch};
+use baton_door::door::Door;
 use hoare_law::monitor::Monitor;
 use std::alloc::Global;
 use std::process::Abort;
 use std::rt::Clock;
 use std::sync::Wait;
 use std::sync::atomic::{AtomicBool, Ordering};
+use ticket_door::door::TicketDoor;
 
 /// How many places come and go, each in a thread of its own.
-const PLACES: usize = 4;
+pub const PLACES: usize = 4;
 
 /// How often each comes.
-const ROUNDS: u64 = 500;
+pub const ROUNDS: u64 = 500;
 
 /// How often it tries before it enters.
 const TRIES: u64 = 20;
@@ -60,29 +61,34 @@ fn tries_while_held<R: Wait, M: Monitor<Tally>>(
     ((a, b), (free, held, again))
 }
 
-// The same on a door of this kind, and the number that it is closed with.
-fn try_on<R: Wait + Abort>(rt: &R, alloc: Global, kind: DoorKind) -> ((bool, bool, bool), u64) {
-    let Ok((door, mut outs)) = AnyDoor::make(alloc, kind, Tally { value: 0 }, 2) else {
-        panic!(rt; "no memory")
-    };
-    let (b, a) = (outs.pop().unwrap(), outs.pop().unwrap());
-    let ((a, b), came) = tries_while_held(rt, &door, a, b);
-    outs.push_reserved(a);
-    outs.push_reserved(b);
-    (came, door.close(outs).value)
+// The same on a door, and the number that it is closed with.
+macro_rules! try_on {
+    ($door:ident, $rt:expr, $alloc:expr) => {{
+        let Ok((door, mut outs)) = $door::make($alloc, Tally { value: 0 }, 2) else {
+            panic!($rt; "no memory")
+        };
+        let (b, a) = (outs.pop().unwrap(), outs.pop().unwrap());
+        let ((a, b), came) = tries_while_held($rt, &door, a, b);
+        outs.push_reserved(a);
+        outs.push_reserved(b);
+        (came, door.close(outs).value)
+    }};
 }
 
 #[test]
-fn who_tries_comes_in_where_it_is_free(rt: HostRuntime) {
-    for kind in DoorKind::BOTH {
-        let tried = try_on(&rt, rt.alloc(), kind);
-        expect_same(&rt, (kind, tried), (kind, ((true, false, true), 123)));
-    }
+fn who_tries_comes_in_where_it_is_free(host: HostRuntime) {
+    let (rt, alloc) = (&host, host.alloc());
+    expect_same(rt, try_on!(Door, rt, alloc), ((true, false, true), 123));
+    expect_same(
+        rt,
+        try_on!(TicketDoor, rt, alloc),
+        ((true, false, true), 123),
+    );
 }
 
-// Place 0 waits, and once it is resumed it stays inside until the sign. Place 1 passes to it, and tries while the
-// monitor is owed to it or it is inside: whether it came in.
-fn waits_or_tries<R: Wait + Abort + Clock, M: Monitor<Tally>>(
+/// Place 0 waits, and once it is resumed it stays inside until the sign. Place 1 passes to it, and tries while the
+/// monitor is owed to it or it is inside: whether it came in.
+pub fn waits_or_tries<R: Wait + Abort + Clock, M: Monitor<Tally>>(
     rt: &R,
     m: &M,
     out: M::Out,
@@ -105,24 +111,6 @@ fn waits_or_tries<R: Wait + Abort + Clock, M: Monitor<Tally>>(
     (out, u64::from(came))
 }
 
-#[test]
-fn who_tries_is_not_before_who_is_resumed(host: HostRuntime) {
-    let (rt, alloc) = (&host, host.alloc());
-    let tried = AtomicBool::new(false);
-    for kind in DoorKind::BOTH {
-        let (tally, came) = run_row_on!(
-            kind,
-            rt,
-            alloc,
-            waits_or_tries(&tried),
-            Tally { value: 0 },
-            2
-        );
-        answered(rt, kind, &came, &[0, 0]);
-        expect_same(rt, (kind, tally.value), (kind, 12));
-    }
-}
-
 // Comes in by one of some tries, and else as others do.
 fn comes_in<R: Wait, M: Monitor<Tally>>(rt: &R, m: &M, out: M::Out) -> M::In
     requires { M.is_of m.now out }
@@ -139,8 +127,8 @@ fn comes_in<R: Wait, M: Monitor<Tally>>(rt: &R, m: &M, out: M::Out) -> M::In
     m.enter(rt, out)
 }
 
-// Comes in, adds one and goes out, so many times: each other time it tries first.
-fn adds_on<R: Wait, M: Monitor<Tally>>(rt: &R, m: &M, out: M::Out, _place: usize) -> (M::Out, u64)
+/// Comes in, adds one and goes out, so many times: each other time it tries first.
+pub fn adds_on<R: Wait, M: Monitor<Tally>>(rt: &R, m: &M, out: M::Out) -> (M::Out, u64)
     requires { M.is_of m.now out }
     ensures of { M.is_of m.now result.0 }
     ensures place { M.place result.0 ≡ M.place out }
@@ -155,15 +143,4 @@ fn adds_on<R: Wait, M: Monitor<Tally>>(rt: &R, m: &M, out: M::Out, _place: usize
         out = m.leave(rt, add_one(m, inside));
     }
     (out, 0)
-}
-
-#[test]
-fn who_tries_and_who_enters_lose_no_addition(host: HostRuntime) {
-    let (rt, alloc) = (&host, host.alloc());
-    for kind in DoorKind::BOTH {
-        let data = Tally { value: 0 };
-        let (tally, answers) = run_row_on!(kind, rt, alloc, adds_on(), data, PLACES);
-        all_answered(rt, kind, &answers, PLACES);
-        expect_same(rt, (kind, tally.value), (kind, PLACES as u64 * ROUNDS));
-    }
 }

@@ -5,7 +5,7 @@ use crate::tests::compared::expect_same;
 use crate::tests::rows::alarm_stress::{Line, SLEEPERS, is_a_clock, sleeps_or_ticks_on};
 use crate::tests::rows::shared_log::Log;
 use crate::tests::rows::turns::watch;
-use crate::tests::running::{DoorKind, answered};
+use crate::tests::running::{BATON, TICKET, answered};
 use hoare_law::monitor::Monitor;
 use std::process::Abort;
 use std::sync::Wait;
@@ -145,27 +145,31 @@ fn wanted(row: AlarmRow<'_>) -> &'static [u64] {
     }
 }
 
-#[test]
-fn an_alarm_clock_on_both_doors(host: HostRuntime) {
-    let (rt, alloc) = (&host, host.alloc());
-    for kind in DoorKind::BOTH {
-        let log = Log::new(rt, alloc, 10_000);
+// The rows on one door.
+macro_rules! rows_of_an_alarm_clock {
+    ($rt:ident, $alloc:ident, $name:expr, $door:ident($($given:expr)?)) => {{
+        let log = Log::new($rt, $alloc, 10_000);
         for row in [
             AlarmRow::SleepersWakeAtTheirSettings,
             AlarmRow::AClockEndsAtItsLastTime,
             AlarmRow::AllThatAreDueWakeAtTheirTime(&log),
         ] {
             let (time, places) = setting(row);
-            let (_clock, answers) = run_row_on!(
-                kind,
-                rt,
-                alloc,
-                acts(row),
-                Alarm::at(time),
-                places
-            );
-            answered(rt, kind, answers.as_slice(), wanted(row));
+            let (_, answers) = run_row!($rt, $alloc, $door($($given)?), acts(row), Alarm::at(time), places);
+            answered($rt, $name, answers.as_slice(), wanted(row));
         }
-        is_a_clock(rt, log);
-    }
+        is_a_clock($rt, log);
+    }};
+}
+
+#[test]
+fn an_alarm_clock_on_a_baton_door(host: HostRuntime) {
+    let (rt, alloc) = (&host, host.alloc());
+    rows_of_an_alarm_clock!(rt, alloc, BATON, on_baton_door());
+}
+
+#[test]
+fn an_alarm_clock_on_a_ticket_door(host: HostRuntime) {
+    let (rt, alloc) = (&host, host.alloc());
+    rows_of_an_alarm_clock!(rt, alloc, TICKET, on_ticket_door(0));
 }

@@ -7,7 +7,7 @@ use crate::tests::compared::expect_same;
 use crate::tests::rows::pool_stress::{BUFFERS, Line, STREAMS, is_a_pool, uses_or_takes_all};
 use crate::tests::rows::shared_log::Log;
 use crate::tests::rows::turns::{Turns, line_up};
-use crate::tests::running::{DoorKind, answered};
+use crate::tests::running::{BATON, TICKET, answered};
 use hoare_law::monitor::Monitor;
 use std::alloc::Global;
 use std::process::Abort;
@@ -195,23 +195,34 @@ fn wanted(row: PoolRow<'_>) -> &'static [u64] {
     }
 }
 
-#[test]
-fn a_pool_on_both_doors(host: HostRuntime) {
-    let (rt, alloc) = (&host, host.alloc());
-    let turns = Turns::new();
-    for kind in DoorKind::BOTH {
-        let log = Log::new(rt, alloc, 10_000);
+// The rows on one door.
+macro_rules! rows_of_a_pool {
+    ($rt:ident, $alloc:ident, $name:expr, $door:ident($($given:expr)?)) => {{
+        let turns = Turns::new();
+        let log = Log::new($rt, $alloc, 10_000);
         for row in [
             PoolRow::WhoHoldsTheFewestBuffersGoesOnFirst(&turns),
             PoolRow::ABufferHasOneHolder(&log),
         ] {
             let (buffers, streams, places) = setting(row);
-            let pool = with_buffers(rt, alloc, buffers, streams);
-            let (_pool, answers) = run_row_on!(kind, rt, alloc, acts(row), pool, places);
-            answered(rt, kind, answers.as_slice(), wanted(row));
+            let pool = with_buffers($rt, $alloc, buffers, streams);
+            let (_, answers) = run_row!($rt, $alloc, $door($($given)?), acts(row), pool, places);
+            answered($rt, $name, answers.as_slice(), wanted(row));
         }
-        is_a_pool(rt, log);
-    }
+        is_a_pool($rt, log);
+    }};
+}
+
+#[test]
+fn a_pool_on_a_baton_door(host: HostRuntime) {
+    let (rt, alloc) = (&host, host.alloc());
+    rows_of_a_pool!(rt, alloc, BATON, on_baton_door());
+}
+
+#[test]
+fn a_pool_on_a_ticket_door(host: HostRuntime) {
+    let (rt, alloc) = (&host, host.alloc());
+    rows_of_a_pool!(rt, alloc, TICKET, on_ticket_door(0));
 }
 
 #[test]

@@ -1,6 +1,7 @@
 //! What a worker does.
-ghost use Rattle.std.specs.Prelude.{◌≡◌};
+ghost use Rattle.std.specs.Prelude.{◌≡◌, ◌+◌, ◌≤◌, vec_len};
 ghost use Rattle.disk_service.specs.Doors.{IsSeat};
+ghost use Rattle.disk_service.specs.Sleeps.{SleepsForEach, jobs_in};
 
 use crate::board::write;
 use crate::data::{Drive, Item, Totals};
@@ -18,7 +19,7 @@ use timed_schedulers::alarm::Alarm;
 use timed_schedulers::pool::Pool;
 
 /// Does jobs until it is told to stop, and keeps what is done, for which there is room. The seat comes back. A refusal skips what
-/// depends on it: then that job isn't among those that are done.
+/// depends on it: then that job isn't among those that are done. For each that is, the worker has slept for a tick.
 pub(crate) fn work<R: Wait, G: Gate>(
     rt: &R,
     gate: &G,
@@ -30,6 +31,8 @@ pub(crate) fn work<R: Wait, G: Gate>(
     requires { IsSeat doors.now seat }
     ensures of { IsSeat doors.now result.0 }
     ensures number { result.0.number ≡ seat.number }
+    ensures sleeps { SleepsForEach seat.number seat.clock.front result.0.clock.front
+        (vec_len room) (vec_len result.1) }
 {
     let mut seat = seat;
     let mut kept = room;
@@ -70,6 +73,8 @@ fn do_job<R: Wait, G: Gate>(
     requires { IsSeat doors.now seat }
     ensures of { IsSeat doors.now result }
     ensures number { result.number ≡ seat.number }
+    ensures sleeps { SleepsForEach seat.number seat.clock.front result.clock.front
+        (vec_len kept.old) (vec_len kept.new) }
 {
     let mut seat = seat;
     gate.begin(job as usize);
@@ -83,7 +88,9 @@ fn do_job<R: Wait, G: Gate>(
 }
 
 // Keeps what is done, where there is room.
-fn keep(kept: &mut Vec<Done>, done: Option<Done>) {
+fn keep(kept: &mut Vec<Done>, done: Option<Done>)
+    ensures { vec_len kept.new ≤ vec_len kept.old + jobs_in done }
+{
     if let Some(done) = done {
         let _kept = kept.push(done);
     }
@@ -100,6 +107,8 @@ fn serve_job<R: Wait>(
     requires { IsSeat doors.now seat }
     ensures of { IsSeat doors.now result.0 }
     ensures number { result.0.number ≡ seat.number }
+    ensures sleeps { SleepsForEach seat.number seat.clock.front result.0.clock.front
+        0 (jobs_in result.1) }
 {
     let (seat, read) = read_into_buffer(rt, doors, seat, job, cylinder);
     let Some(done) = read else {
@@ -124,6 +133,8 @@ fn read_into_buffer<R: Wait>(
     requires { IsSeat doors.now seat }
     ensures of { IsSeat doors.now result.0 }
     ensures number { result.0.number ≡ seat.number }
+    ensures sleeps { SleepsForEach seat.number seat.clock.front result.0.clock.front
+        0 (jobs_in result.1) }
 {
     let mut seat = seat;
     let places = (seat.pool, seat.head, seat.clock);
@@ -153,6 +164,8 @@ fn use_buffer<R: Wait, P: Monitor<Pool>, H: Monitor<Head<Drive>>, C: Monitor<Ala
     ensures pool_place { P.place result.0.0 ≡ P.place places.0 }
     ensures head_place { H.place result.0.1 ≡ H.place places.1 }
     ensures clock_place { C.place result.0.2 ≡ C.place places.2 }
+    ensures sleeps { SleepsForEach (C.place places.2) (C.front places.2) (C.front result.0.2)
+        0 (jobs_in result.1) }
 {
     let (at_pool, at_head, at_clock) = places;
     let (at_pool, taken) = Pool::take(pool, rt, at_pool, stream);
@@ -179,6 +192,8 @@ fn use_drive<R: Wait, H: Monitor<Head<Drive>>, C: Monitor<Alarm>>(
     ensures clock { C.is_of clock.now result.0.1 }
     ensures head_place { H.place result.0.0 ≡ H.place places.0 }
     ensures clock_place { C.place result.0.1 ≡ C.place places.1 }
+    ensures sleeps { SleepsForEach (C.place places.1) (C.front places.1) (C.front result.0.1)
+        0 (jobs_in result.1) }
 {
     let (at_head, at_clock) = places;
     let (job, cylinder) = block;
@@ -198,6 +213,7 @@ fn add_to_totals<R: Wait>(rt: &R, doors: &Doors, seat: Seat, done: Done) -> (Sea
     requires { IsSeat doors.now seat }
     ensures of { IsSeat doors.now result.0 }
     ensures number { result.0.number ≡ seat.number }
+    ensures clock { result.0.clock ≡ seat.clock }
 {
     let mut seat = seat;
     let (place, added) = add_to(&doors.totals, rt, seat.totals, done);

@@ -31,3 +31,12 @@ SleepsForEach-joined k f g h a b c d s t m l = record {
   sleeps = joined k f g h s.times t.times (s.times + t.times) s.sleeps t.sleeps refl;
   enough = omega (arith, s.enough, t.enough);
 }
+
+-- what was enough is enough for fewer, from a place that is there still
+pub SleepsForEach-fewer : (k : ℕ) (f g h : History ℕ) (a b c m : ℕ) → SleepsForEach k f g a b → h ≡ g → m + a ≤ b + c
+    → SleepsForEach k f h c m
+SleepsForEach-fewer k f g h a b c m s same l = record {
+  times = s.times;
+  sleeps = rw same s.sleeps;
+  enough = omega (arith, s.enough, l);
+}

@@ -76,14 +76,32 @@ fn do_job<R: Wait, G: Gate>(
     ensures sleeps { SleepsForEach seat.number seat.clock.front result.clock.front
         (vec_len kept.old) (vec_len kept.new) }
 {
-    let mut seat = seat;
     gate.begin(job as usize);
-    if let Some(cylinder) = jobs.cylinders().get(job as usize) {
-        let (back, done) = serve_job(rt, doors, seat, job, *cylinder);
-        seat = back;
-        keep(kept, done);
-    }
+    let seat = do_listed_job(rt, jobs, doors, seat, job, kept);
     gate.end(job as usize);
+    seat
+}
+
+// Does a job, if there is one of this number, and keeps what is done.
+fn do_listed_job<R: Wait>(
+    rt: &R,
+    jobs: &Jobs,
+    doors: &Doors,
+    seat: Seat,
+    job: u32,
+    kept: &mut Vec<Done>,
+) -> Seat
+    requires { IsSeat doors.now seat }
+    ensures of { IsSeat doors.now result }
+    ensures number { result.number ≡ seat.number }
+    ensures sleeps { SleepsForEach seat.number seat.clock.front result.clock.front
+        (vec_len kept.old) (vec_len kept.new) }
+{
+    let Some(cylinder) = jobs.cylinders().get(job as usize) else {
+        return seat;
+    };
+    let (seat, done) = serve_job(rt, doors, seat, job, *cylinder);
+    keep(kept, done);
     seat
 }
 
@@ -119,7 +137,10 @@ fn serve_job<R: Wait>(
         return (seat, None);
     }
     let (seat, noted) = write(rt, doors, seat, 1, false);
-    (seat, noted.then_some(done))
+    if !noted {
+        return (seat, None);
+    }
+    (seat, Some(done))
 }
 
 // Reads the block of a job into a buffer of the pool, with the drive.
@@ -174,8 +195,10 @@ fn use_buffer<R: Wait, P: Monitor<Pool>, H: Monitor<Head<Drive>>, C: Monitor<Ala
     };
     let ((at_head, at_clock), read) = use_drive(head, clock, rt, (at_head, at_clock), block);
     let (at_pool, given) = Pool::give(pool, rt, at_pool, stream, buffer);
-    let kept = if given.is_ok() { read } else { None };
-    ((at_pool, at_head, at_clock), kept)
+    if given.is_err() {
+        return ((at_pool, at_head, at_clock), None);
+    }
+    ((at_pool, at_head, at_clock), read)
 }
 
 // Reads the block of a job with the drive of this monitor, which it has for a tick of the clock.
@@ -204,8 +227,13 @@ fn use_drive<R: Wait, H: Monitor<Head<Drive>>, C: Monitor<Alarm>>(
     let done = drive.read(job, cylinder);
     let (at_clock, woke) = Alarm::wakeme(clock, rt, at_clock, 1);
     let (at_head, released) = Head::release(head, rt, at_head, drive);
-    let served = woke.is_ok() && released.is_ok();
-    ((at_head, at_clock), served.then_some(done))
+    let Ok(_time) = woke else {
+        return ((at_head, at_clock), None);
+    };
+    if released.is_err() {
+        return ((at_head, at_clock), None);
+    }
+    ((at_head, at_clock), Some(done))
 }
 
 // Adds a job to the totals: whether they took it.

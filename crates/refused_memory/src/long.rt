@@ -57,7 +57,7 @@ fn drawn_step(now: Next, lot: u64) -> Step {
         Next::For(k) | Next::Held(k) => {
             let place = k as u64;
             match lot % 8 {
-                0..=3 if place != 0 => Step::Wait(place, lot / 16 % 8, lot / 128 % 4),
+                0..=1 if place != 0 => Step::Wait(place, lot / 16 % 8, lot / 128 % 4),
                 4 => Step::Signal(place, condition),
                 5 => Step::Notify(place, condition + 4),
                 6 => Step::Broadcast(place, condition + 4),
@@ -75,14 +75,14 @@ fn steps(alloc: Global, turns: u64) -> Answer {
     };
     let mut done = 0u64;
     let mut lot = 1u64;
-    for _ in 0..turns * 100 {
+    for _ in 0..turns.saturating_mul(100) {
         lot = lot
             .wrapping_mul(6364136223846793005)
             .wrapping_add(1442695040888963407);
         let step = drawn_step(book.now(), lot / 65536);
         done = done.wrapping_add(u64::from(book.try_step(step).is_ok()));
     }
-    Answer::made_if(done > turns * 50)
+    Answer::made_if(done > turns.saturating_mul(50))
 }
 
 // A script with its part so often.
@@ -138,7 +138,7 @@ fn turns_ticket<R: Wait>(rt: &R, alloc: Global, turns: u64) -> Answer {
 fn cylinders(alloc: Global, jobs: u64) -> Result<Vec<u16>, AllocError> {
     let mut cylinders = Vec::with_capacity(alloc, jobs as usize)?;
     for job in 0..jobs {
-        cylinders.push((job * 7 % 400) as u16)?;
+        cylinders.push((job % 400) as u16)?;
     }
     Ok(cylinders)
 }

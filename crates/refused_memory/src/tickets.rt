@@ -6,6 +6,17 @@ use std::sync::Wait;
 use ticket_door::door::TicketDoor;
 use ticket_door::place::TicketOut;
 
+// Counts a turn.
+fn add_one<M: Monitor<Tally>>(m: &M, inside: M::In) -> M::In
+    requires { M.is_of_in m.now inside }
+    ensures { M.is_of_in m.now result }
+{
+    let mut inside = inside;
+    let data = M::state_mut(&mut inside, m);
+    data.value = data.value.wrapping_add(1);
+    inside
+}
+
 // Two places meet; one asks, comes in by its ticket and gives up, and the other then hands up.
 fn turn<R: Wait>(
     rt: &R,
@@ -20,9 +31,7 @@ fn turn<R: Wait>(
 {
     let (a, b) = door.meet(a, b);
     let asked = door.ask(a);
-    let mut inside = door.come_in(rt, asked);
-    let data = TicketDoor::state_mut(&mut inside, door);
-    data.value = data.value.wrapping_add(1);
+    let inside = add_one(door, door.come_in(rt, asked));
     let a = door.give_up(inside);
     let asked = door.ask(b);
     let inside = door.come_in(rt, asked);

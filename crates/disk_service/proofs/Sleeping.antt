@@ -20,8 +20,8 @@ asleep-once k f h r m w l = record {
 
 joined : (k : ℕ) (f g h : History ℕ) (a b c : ℕ) → Sleeps k f a g → Sleeps k g b h → c ≡ a + b → Sleeps k f c h
 joined k f g h a b c s never e = let same : c ≡ a = omega arith in rw same s
-joined k f g h a b c s (again n m e h r t w is) sum =
-    again (a + n) c e h r (joined k f g e a n (a + n) s t refl) w (omega (arith, is, sum))
+joined k f g h a b c s (again n m e h1 r t w is) sum =
+    again (a + n) c e h1 r (joined k f g e a n (a + n) s t refl) w (omega (arith, is, sum))
 
 -- one after another
 pub SleepsForEach-joined : (k : ℕ) (f g h : History ℕ) (a b c d : ℕ) → SleepsForEach k f g a b → SleepsForEach k g h c d

@@ -1,9 +1,9 @@
 -- Sleeps for the jobs that are done: none, one, and one after another.
-use Rattle.std.proofs.Common.{ℕ, ◌≡◌, ◌+◌, ◌≤◌, ◌&&◌, Bool, true, false, Option, Some, None, Result, Ok, Err, is_ok, refl, arith}
+use Rattle.std.proofs.Common.{ℕ, ◌≡◌, ◌+◌, ◌≤◌, Result, refl, arith}
 use Rattle.hoare_law.specs.declared.event.History.{History}
 use Rattle.timed_schedulers.specs.declared.alarm.TooFar.{TooFar}
 use Rattle.timed_schedulers.specs.AlarmTraces.{Wakes}
-use Rattle.disk_service.specs.Sleeps.{woken, Sleeps, never, again, SleepsForEach, jobs_in}
+use Rattle.disk_service.specs.Sleeps.{woken, Sleeps, never, again, SleepsForEach}
 
 -- nothing was done, and nobody slept
 pub not-asleep : (k : ℕ) (f : History ℕ) (n m : ℕ) → m ≤ n → SleepsForEach k f f n m

@@ -1,6 +1,7 @@
 //! What a worker does.
-ghost use Rattle.std.specs.Prelude.{◌≡◌};
+ghost use Rattle.std.specs.Prelude.{◌≡◌, ◌+◌, ◌≤◌, vec_len};
 ghost use Rattle.disk_service.specs.Doors.{IsSeat};
+ghost use Rattle.disk_service.specs.Sleeps.{SleepsForEach, jobs_in};
 
 use crate::board::write;
 use crate::data::{Drive, Item, Totals};
@@ -18,7 +19,7 @@ use timed_schedulers::alarm::Alarm;
 use timed_schedulers::pool::Pool;
 
 /// Does jobs until it is told to stop, and keeps what is done, for which there is room. The seat comes back. A refusal skips what
-/// depends on it: then that job isn't among those that are done.
+/// depends on it: then that job isn't among those that are done. For each that is, the worker has slept for a tick.
 pub(crate) fn work<R: Wait, G: Gate>(
     rt: &R,
     gate: &G,
@@ -30,6 +31,8 @@ pub(crate) fn work<R: Wait, G: Gate>(
     requires { IsSeat doors.now seat }
     ensures of { IsSeat doors.now result.0 }
     ensures number { result.0.number ≡ seat.number }
+    ensures sleeps { SleepsForEach seat.number seat.clock.front result.0.clock.front
+        (vec_len room) (vec_len result.1) }
 {
     let mut seat = seat;
     let mut kept = room;
@@ -70,20 +73,42 @@ fn do_job<R: Wait, G: Gate>(
     requires { IsSeat doors.now seat }
     ensures of { IsSeat doors.now result }
     ensures number { result.number ≡ seat.number }
+    ensures sleeps { SleepsForEach seat.number seat.clock.front result.clock.front
+        (vec_len kept.old) (vec_len kept.new) }
 {
-    let mut seat = seat;
     gate.begin(job as usize);
-    if let Some(cylinder) = jobs.cylinders().get(job as usize) {
-        let (back, done) = serve_job(rt, doors, seat, job, *cylinder);
-        seat = back;
-        keep(kept, done);
-    }
+    let seat = do_listed_job(rt, jobs, doors, seat, job, kept);
     gate.end(job as usize);
     seat
 }
 
+// Does a job, if there is one of this number, and keeps what is done.
+fn do_listed_job<R: Wait>(
+    rt: &R,
+    jobs: &Jobs,
+    doors: &Doors,
+    seat: Seat,
+    job: u32,
+    kept: &mut Vec<Done>,
+) -> Seat
+    requires { IsSeat doors.now seat }
+    ensures of { IsSeat doors.now result }
+    ensures number { result.number ≡ seat.number }
+    ensures sleeps { SleepsForEach seat.number seat.clock.front result.clock.front
+        (vec_len kept.old) (vec_len kept.new) }
+{
+    let Some(cylinder) = jobs.cylinders().get(job as usize) else {
+        return seat;
+    };
+    let (seat, done) = serve_job(rt, doors, seat, job, *cylinder);
+    keep(kept, done);
+    seat
+}
+
 // Keeps what is done, where there is room.
-fn keep(kept: &mut Vec<Done>, done: Option<Done>) {
+fn keep(kept: &mut Vec<Done>, done: Option<Done>)
+    ensures { vec_len kept.new ≤ vec_len kept.old + jobs_in done }
+{
     if let Some(done) = done {
         let _kept = kept.push(done);
     }
@@ -100,6 +125,8 @@ fn serve_job<R: Wait>(
     requires { IsSeat doors.now seat }
     ensures of { IsSeat doors.now result.0 }
     ensures number { result.0.number ≡ seat.number }
+    ensures sleeps { SleepsForEach seat.number seat.clock.front result.0.clock.front
+        0 (jobs_in result.1) }
 {
     let (seat, read) = read_into_buffer(rt, doors, seat, job, cylinder);
     let Some(done) = read else {
@@ -110,7 +137,10 @@ fn serve_job<R: Wait>(
         return (seat, None);
     }
     let (seat, noted) = write(rt, doors, seat, 1, false);
-    (seat, noted.then_some(done))
+    if !noted {
+        return (seat, None);
+    }
+    (seat, Some(done))
 }
 
 // Reads the block of a job into a buffer of the pool, with the drive.
@@ -124,6 +154,8 @@ fn read_into_buffer<R: Wait>(
     requires { IsSeat doors.now seat }
     ensures of { IsSeat doors.now result.0 }
     ensures number { result.0.number ≡ seat.number }
+    ensures sleeps { SleepsForEach seat.number seat.clock.front result.0.clock.front
+        0 (jobs_in result.1) }
 {
     let mut seat = seat;
     let places = (seat.pool, seat.head, seat.clock);
@@ -153,6 +185,8 @@ fn use_buffer<R: Wait, P: Monitor<Pool>, H: Monitor<Head<Drive>>, C: Monitor<Ala
     ensures pool_place { P.place result.0.0 ≡ P.place places.0 }
     ensures head_place { H.place result.0.1 ≡ H.place places.1 }
     ensures clock_place { C.place result.0.2 ≡ C.place places.2 }
+    ensures sleeps { SleepsForEach (C.place places.2) (C.front places.2) (C.front result.0.2)
+        0 (jobs_in result.1) }
 {
     let (at_pool, at_head, at_clock) = places;
     let (at_pool, taken) = Pool::take(pool, rt, at_pool, stream);
@@ -161,8 +195,10 @@ fn use_buffer<R: Wait, P: Monitor<Pool>, H: Monitor<Head<Drive>>, C: Monitor<Ala
     };
     let ((at_head, at_clock), read) = use_drive(head, clock, rt, (at_head, at_clock), block);
     let (at_pool, given) = Pool::give(pool, rt, at_pool, stream, buffer);
-    let kept = if given.is_ok() { read } else { None };
-    ((at_pool, at_head, at_clock), kept)
+    if given.is_err() {
+        return ((at_pool, at_head, at_clock), None);
+    }
+    ((at_pool, at_head, at_clock), read)
 }
 
 // Reads the block of a job with the drive of this monitor, which it has for a tick of the clock.
@@ -179,6 +215,8 @@ fn use_drive<R: Wait, H: Monitor<Head<Drive>>, C: Monitor<Alarm>>(
     ensures clock { C.is_of clock.now result.0.1 }
     ensures head_place { H.place result.0.0 ≡ H.place places.0 }
     ensures clock_place { C.place result.0.1 ≡ C.place places.1 }
+    ensures sleeps { SleepsForEach (C.place places.1) (C.front places.1) (C.front result.0.1)
+        0 (jobs_in result.1) }
 {
     let (at_head, at_clock) = places;
     let (job, cylinder) = block;
@@ -189,8 +227,13 @@ fn use_drive<R: Wait, H: Monitor<Head<Drive>>, C: Monitor<Alarm>>(
     let done = drive.read(job, cylinder);
     let (at_clock, woke) = Alarm::wakeme(clock, rt, at_clock, 1);
     let (at_head, released) = Head::release(head, rt, at_head, drive);
-    let served = woke.is_ok() && released.is_ok();
-    ((at_head, at_clock), served.then_some(done))
+    let Ok(_time) = woke else {
+        return ((at_head, at_clock), None);
+    };
+    if released.is_err() {
+        return ((at_head, at_clock), None);
+    }
+    ((at_head, at_clock), Some(done))
 }
 
 // Adds a job to the totals: whether they took it.
@@ -198,6 +241,7 @@ fn add_to_totals<R: Wait>(rt: &R, doors: &Doors, seat: Seat, done: Done) -> (Sea
     requires { IsSeat doors.now seat }
     ensures of { IsSeat doors.now result.0 }
     ensures number { result.0.number ≡ seat.number }
+    ensures clock { result.0.clock ≡ seat.clock }
 {
     let mut seat = seat;
     let (place, added) = add_to(&doors.totals, rt, seat.totals, done);

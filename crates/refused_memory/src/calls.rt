@@ -1,6 +1,7 @@
-//! What can be made, by name. Each call takes no memory but its own.
+//! What can be made, by name, and long runs of it. Each call takes no memory but its own.
 
 use crate::answer::Answer;
+use crate::long::runs_long;
 use crate::noted::Noted;
 use crate::services::{reads_jobs, runs, serves};
 use baton_door::door::Door;
@@ -36,6 +37,9 @@ pub fn call<R: Threads + Wait + Sync>(rt: &R, alloc: Global, name: &[u8]) -> Ans
         return answer;
     }
     if let Some(answer) = does_script(alloc, name) {
+        return answer;
+    }
+    if let Some(answer) = runs_long(rt, alloc, name) {
         return answer;
     }
     match does_service(rt, alloc, name) {

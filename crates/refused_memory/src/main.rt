@@ -1,11 +1,15 @@
 //! Makes what standard input names, a line each, and says whether there was memory for it. `bench/refused-memory` runs it with each
-//! request for memory refused in turn.
+//! request for memory refused in turn, and `bench/counted-memory` counts the requests of long runs and of short ones.
 #![tactic(auto)]
 
 mod answer;
 mod calls;
+mod long;
 mod noted;
+mod repeated;
+mod rounds;
 mod services;
+mod tickets;
 
 use crate::calls::call;
 use arrayvec::ArrayVec;

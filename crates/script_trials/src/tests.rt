@@ -2,6 +2,7 @@
 
 mod books;
 mod law;
+mod limit;
 mod lines;
 mod numbers;
 mod past;

@@ -1,5 +1,6 @@
-//! Whole job files, two workers that meet, a job that is held up, and as many workers as there may be.
+//! Whole job files, workers that meet and are at work at once, a job that is held up, and as many workers as there may be.
 
+mod at_once;
 mod jobs;
 mod last;
 mod limit;

@@ -1,5 +1,6 @@
 //! The book, step by step.
 mod agreeing;
+mod bounds;
 mod filling;
 mod plain;
 mod sized;

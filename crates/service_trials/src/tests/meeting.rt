@@ -44,6 +44,13 @@ impl Meeting {
     fn has_given_up(&self) -> bool {
         self.gave_up.load(Ordering::SeqCst)
     }
+
+    // Both have begun, and neither gave up looking for the other.
+    fn have_met(&self) -> bool {
+        self.first.load(Ordering::SeqCst)
+            && self.second.load(Ordering::SeqCst)
+            && !self.has_given_up()
+    }
 }
 
 impl Gate for Meeting {
@@ -68,7 +75,7 @@ fn two_jobs(alloc: Global) -> Result<Jobs, Fail> {
     }
 }
 
-// The report is right, and nobody gave up looking.
+// The report is right, and the two have met.
 fn assert_met<R: Abort>(rt: &R, answer: Result<Report, ServiceFault>, meeting: &Meeting) {
     let Ok(report) = answer else {
         panic!(rt; "no report")
@@ -78,7 +85,7 @@ fn assert_met<R: Abort>(rt: &R, answer: Result<Report, ServiceFault>, meeting: &
         [Done::of(0, 300), Done::of(1, 3)].as_slice()
     );
     assert_eq!(rt; (report.jobs, report.sum), (2, 24_507));
-    assert!(rt; !meeting.has_given_up());
+    assert!(rt; meeting.have_met());
 }
 
 #[test]

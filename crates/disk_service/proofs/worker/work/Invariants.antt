@@ -1,7 +1,9 @@
-use Rattle.std.specs.Prelude.{◌≡◌}
+use Rattle.std.specs.Prelude.{◌≡◌, vec_len}
 use Rattle.disk_service.specs.Doors.{IsSeat}
+use Rattle.disk_service.specs.Sleeps.{SleepsForEach}
 use Rattle.disk_service.proofs.worker.work.Given as goal
 
--- the seat stays one of these doors
+-- the seat stays one of these doors, and the worker has slept for each job that it did
 abbrev pub invariant-loop : goal.invariant-loop
 invariant-loop g l = IsSeat l.doors l.seat × (l.seat.number ≡ l.fn.seat.number)
+    × SleepsForEach l.fn.seat.number l.fn.seat.clock.front l.seat.clock.front (vec_len l.fn.room) (vec_len l.kept)

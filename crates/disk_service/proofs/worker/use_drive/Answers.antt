@@ -1,0 +1,16 @@
+use Rattle.std.proofs.Common.{arith}
+use Rattle.disk_service.proofs.Sleeping.{not-asleep, asleep-once}
+use Rattle.disk_service.proofs.worker.use_drive.Goals as goal
+
+pub returns-in_default-clause-sleeps : goal.returns-in_default-clause-sleeps
+returns-in_default-clause-sleeps g c = not-asleep _ _ 0 0 (omega arith)
+
+pub returns-in_default-woke-clause-sleeps : goal.returns-in_default-woke-clause-sleeps
+returns-in_default-woke-clause-sleeps g c = asleep-once _ _ _ _ 0 c.wakeme-at_clock.ensures.trace (omega arith)
+
+pub returns-then-is_err-clause-sleeps : goal.returns-then-is_err-clause-sleeps
+returns-then-is_err-clause-sleeps g c = asleep-once _ _ _ _ 0 c.wakeme-at_clock.ensures.trace (omega arith)
+
+pub returns-clause-sleeps : goal.returns-clause-sleeps
+returns-clause-sleeps g c =
+    asleep-once _ _ _ _ 1 (rw c.in-Ok-woke.is at c.wakeme-at_clock.ensures.trace) (omega arith)

@@ -1,0 +1,27 @@
+-- How often a worker has asked the alarm clock to be woken, beside how many jobs it has done.
+use Rattle.std.specs.Prelude.{ℕ, ◌+◌, ◌≤◌, ◌≡◌, Option, Some, None, Result, Ok, Err}
+use Rattle.hoare_law.specs.declared.event.History.{History}
+use Rattle.timed_schedulers.specs.declared.alarm.TooFar.{TooFar}
+use Rattle.timed_schedulers.specs.AlarmTraces.{Wakes}
+
+-- once, where it was woken
+abbrev pub woken : Result ℕ TooFar → ℕ
+woken (Ok time) = 1
+woken (Err e) = 0
+
+-- place k has waited for one tick again and again, since its front was f, and was woken that often
+pub data Sleeps (k : ℕ) (f : History ℕ) : ℕ → History ℕ → Type 0 where
+  never : Sleeps k f 0 f
+  again : (n m : ℕ) (g h : History ℕ) (r : Result ℕ TooFar) → Sleeps k f n g → Wakes k 1 g h r → m ≡ n + woken r
+      → Sleeps k f m h
+
+-- place k, whose front was f and is h, has slept for a tick at least once for each job that came to those done before
+pub record SleepsForEach (k : ℕ) (f h : History ℕ) (before after : ℕ) : Type 0 where
+  pub times : ℕ
+  pub sleeps : Sleeps k f times h
+  pub enough : after ≤ before + times
+
+-- how many jobs are done by one that may have been done
+abbrev pub jobs_in : {T : Type 0} → Option T → ℕ
+jobs_in (Some done) = 1
+jobs_in None = 0

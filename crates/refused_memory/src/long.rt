@@ -1,0 +1,162 @@
+//! Long runs and short ones of all that takes no memory once it is made. `bench/counted-memory` holds that both make as many
+//! requests.
+use crate::answer::Answer;
+use crate::repeated::{Lines, Repeated};
+use crate::rounds::{VISITORS, Visits, all_visit};
+use crate::tickets::take_turns;
+use baton_door::door::Door;
+use disk_service::{Jobs, Kind, NoGate, ServiceFault, serve, serve_tickets};
+use hoare_script::{ScriptFault, run};
+use monitor_trials::tally::Tally;
+use std::alloc::{AllocError, Global};
+use std::sync::Wait;
+use std::thread::Threads;
+use ticket_door::door::TicketDoor;
+use wait_book::book::Book;
+use wait_book::steps::{Next, Step};
+
+const FEW: u64 = 10;
+
+const MANY: u64 = 1000;
+
+const HEADER: &[u8] = b"monitor 4 3 1\n";
+
+// Every command, with priorities, on all three conditions; afterwards everybody is outside again.
+const PART: &[u8] =
+    b"enter 0\nwait 0 0 2\nenter 1\nwait 1 1 3\nenter 2\nwait 2 2 1\nqueue 0\nfirst 1\nenter 3\nsignal 3 0\n\
+    notify 0 2\npass 0 1\nbroadcast 1 2\nleave 1\nleave 3\nleave 2\nenter 9\n";
+
+const PART_LINES: u64 = 17;
+
+/// Does the run of this name, a long one or a short one.
+pub fn runs_long<R: Threads + Wait + Sync>(rt: &R, alloc: Global, name: &[u8]) -> Option<Answer> {
+    match name {
+        b"few steps" => Some(steps(alloc, FEW)),
+        b"many steps" => Some(steps(alloc, MANY)),
+        b"few lines" => Some(script(alloc, FEW)),
+        b"many lines" => Some(script(alloc, MANY)),
+        b"few visits baton" => Some(visits_baton(rt, alloc, FEW)),
+        b"many visits baton" => Some(visits_baton(rt, alloc, MANY)),
+        b"few visits ticket" => Some(visits_ticket(rt, alloc, FEW)),
+        b"many visits ticket" => Some(visits_ticket(rt, alloc, MANY)),
+        b"few turns ticket" => Some(turns_ticket(rt, alloc, FEW)),
+        b"many turns ticket" => Some(turns_ticket(rt, alloc, MANY)),
+        b"few jobs baton" => Some(jobs(rt, alloc, Kind::Baton, FEW)),
+        b"many jobs baton" => Some(jobs(rt, alloc, Kind::Baton, MANY)),
+        b"few jobs ticket" => Some(jobs(rt, alloc, Kind::Ticket, FEW)),
+        b"many jobs ticket" => Some(jobs(rt, alloc, Kind::Ticket, MANY)),
+        _ => None,
+    }
+}
+
+// A newcomer's step, or one of the place inside. Place 0 never waits, so that there is always somebody who can come in.
+fn drawn_step(now: Next, lot: u64) -> Step {
+    let condition = lot / 16 % 4;
+    match now {
+        Next::Free => Step::Enter(lot / 16 % 64),
+        Next::For(k) | Next::Held(k) => {
+            let place = k as u64;
+            match lot % 8 {
+                0..=1 if place != 0 => Step::Wait(place, lot / 16 % 8, lot / 128 % 4),
+                4 => Step::Signal(place, condition),
+                5 => Step::Notify(place, condition + 4),
+                6 => Step::Broadcast(place, condition + 4),
+                7 => Step::Pass(place, condition),
+                _ => Step::Leave(place),
+            }
+        }
+    }
+}
+
+// A hundred times as many steps of a book, of which some are refused.
+fn steps(alloc: Global, turns: u64) -> Answer {
+    let Ok(mut book) = Book::make(alloc, 64, 8, 4) else {
+        return Answer::Memory;
+    };
+    let mut done = 0u64;
+    let mut lot = 1u64;
+    for _ in 0..turns.saturating_mul(100) {
+        lot = lot
+            .wrapping_mul(6364136223846793005)
+            .wrapping_add(1442695040888963407);
+        let step = drawn_step(book.now(), lot / 65536);
+        done = done.wrapping_add(u64::from(book.try_step(step).is_ok()));
+    }
+    Answer::made_if(done > turns.saturating_mul(50))
+}
+
+// A script with its part so often.
+fn script(alloc: Global, turns: u64) -> Answer {
+    let mut reader = Repeated {
+        rest: HEADER,
+        part: PART,
+        left: turns,
+    };
+    let mut writer = Lines { count: 0 };
+    match run(alloc, &mut reader, &mut writer) {
+        Ok(()) => Answer::made_if(writer.count == turns.wrapping_mul(PART_LINES)),
+        Err(fault) => Answer::memory_if(fault == ScriptFault::Memory && writer.count == 0),
+    }
+}
+
+// Whether all visits were seen.
+fn seen(visited: Result<bool, AllocError>) -> Answer {
+    match visited {
+        Ok(all) => Answer::made_if(all),
+        Err(_) => Answer::Memory,
+    }
+}
+
+// Every call of a baton door, by seven threads.
+fn visits_baton<R: Threads + Wait + Sync>(rt: &R, alloc: Global, turns: u64) -> Answer {
+    match Door::make(alloc, Visits::NONE, VISITORS as usize + 1) {
+        Ok((door, places)) => seen(all_visit(rt, &door, places, turns)),
+        Err(_) => Answer::Memory,
+    }
+}
+
+// Every call of a ticket door that both have, by seven threads.
+fn visits_ticket<R: Threads + Wait + Sync>(rt: &R, alloc: Global, turns: u64) -> Answer {
+    match TicketDoor::make(alloc, Visits::NONE, VISITORS as usize + 1) {
+        Ok((door, places)) => seen(all_visit(rt, &door, places, turns)),
+        Err(_) => Answer::Memory,
+    }
+}
+
+// The calls that a ticket door alone has.
+fn turns_ticket<R: Wait>(rt: &R, alloc: Global, turns: u64) -> Answer {
+    let Ok((door, mut places)) = TicketDoor::make(alloc, Tally { value: 0 }, 2) else {
+        return Answer::Memory;
+    };
+    match (places.pop(), places.pop()) {
+        (Some(b), Some(a)) => Answer::made_if(take_turns(rt, &door, a, b, turns) == turns),
+        _ => Answer::Wrong,
+    }
+}
+
+// As many cylinders.
+fn cylinders(alloc: Global, jobs: u64) -> Result<Vec<u16>, AllocError> {
+    let mut cylinders = Vec::with_capacity(alloc, jobs as usize)?;
+    for job in 0..jobs {
+        cylinders.push((job % 400) as u16)?;
+    }
+    Ok(cylinders)
+}
+
+// As many jobs, done by four workers with all six schedulers.
+fn jobs<R: Threads + Wait + Sync>(rt: &R, alloc: Global, kind: Kind, count: u64) -> Answer {
+    let Ok(cylinders) = cylinders(alloc, count) else {
+        return Answer::Unprepared;
+    };
+    let Ok(jobs) = Jobs::make(400, 4, cylinders) else {
+        return Answer::Wrong;
+    };
+    let answer = match kind {
+        Kind::Baton => serve(rt, alloc, &jobs, &NoGate),
+        Kind::Ticket => serve_tickets(rt, alloc, &jobs, &NoGate),
+    };
+    match answer {
+        Ok(report) => Answer::made_if(report.jobs == count),
+        Err(fault) => Answer::memory_if(fault == ServiceFault::Memory),
+    }
+}

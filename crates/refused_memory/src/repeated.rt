@@ -1,0 +1,39 @@
+//! A text that repeats a part, and a writer that counts lines. Neither takes memory.
+use std::io;
+use std::io::{Read, Write};
+
+/// Gives the rest, and then the part as often as is left.
+#[derive(Drop)]
+pub struct Repeated<'a> {
+    pub rest: &'a [u8],
+    pub part: &'a [u8],
+    pub left: u64,
+}
+
+impl Read for Repeated<'_> {
+    fn read(&mut self, buf: &mut [u8]) -> io::Result<usize> {
+        if self.rest.is_empty() && self.left > 0 {
+            self.left -= 1;
+            self.rest = self.part;
+        }
+        self.rest.read(buf)
+    }
+}
+
+/// How many lines were written.
+#[derive(Drop)]
+pub struct Lines {
+    pub count: u64,
+}
+
+impl Write for Lines {
+    fn write(&mut self, buf: &[u8]) -> io::Result<usize> {
+        let ends = buf.iter().filter(|byte| **byte == b'\n').count();
+        self.count = self.count.wrapping_add(ends as u64);
+        Ok(buf.len())
+    }
+
+    fn flush(&mut self) -> io::Result<()> {
+        Ok(())
+    }
+}

@@ -1,0 +1,202 @@
+//! Every call of a monitor, over and over, by threads that share it. No call takes memory: a long run makes as many requests as
+//! a short one, which `bench/counted-memory` counts.
+ghost use Rattle.std.specs.Prelude.{All};
+
+use baton_door::door::Door;
+use hoare_law::data::MonitorData;
+use hoare_law::monitor::Monitor;
+use hoare_law::waits::Waits;
+use std::alloc::AllocError;
+use std::sync::Wait;
+use std::sync::atomic::{AtomicU64, Ordering};
+use std::thread;
+use std::thread::Threads;
+use ticket_door::door::TicketDoor;
+
+/// How many threads visit the monitor. One more resumes those that wait.
+pub const VISITORS: u64 = 6;
+
+/// How many wait at most, that somebody is left who resumes them.
+const MOST_WAITING: usize = 3;
+
+/// The data: how often somebody came in, and how many visitors are done. Two conditions are Hoare's, and two Mesa conditions;
+/// nothing is asked of the data.
+#[derive(Drop)]
+pub struct Visits {
+    pub visits: u64,
+    pub done: u64,
+}
+
+impl Visits {
+    /// Nobody came in yet.
+    pub const NONE: Visits = Visits { visits: 0, done: 0 };
+}
+
+impl MonitorData for Visits {
+    ghost use Rattle.std.specs.Prelude.{⊤};
+
+    const CONDITIONS: usize = 4;
+
+    ghost CONDITIONS = { 4 };
+
+    const MESA: usize = 2;
+
+    ghost MESA = { 2 };
+
+    ghost inv = { λ s. ⊤ };
+
+    ghost rest = { λ s q. ⊤ };
+
+    ghost ready = { λ c p s q. ⊤ };
+
+    fn rest_holds<W: Waits>(&self, _lists: &W) -> bool {
+        true
+    }
+
+    fn ready_holds<W: Waits>(&self, _condition: usize, _priority: u64, _lists: &W) -> bool {
+        true
+    }
+
+    ghost rest_inv = { λ s q h. tt };
+
+    ghost ready_inv = { λ c p s q h. tt };
+}
+
+/// A monitor of visits that threads share.
+pub trait SharedVisits: Monitor<Visits> + Sync {}
+
+impl SharedVisits for Door<Visits> {}
+
+impl SharedVisits for TicketDoor<Visits> {}
+
+// The next of a row of numbers in which no pattern shows.
+fn draw(seed: u64) -> u64 {
+    seed.wrapping_mul(6364136223846793005)
+        .wrapping_add(1442695040888963407)
+}
+
+// Comes in, by a try where one is let in, and counts the visit.
+fn come_in<R: Wait, M: Monitor<Visits>>(rt: &R, m: &M, out: M::Out) -> M::In
+    requires { M.is_of m.now out }
+    ensures { M.is_of_in m.now result }
+{
+    let mut inside = match m.try_enter(out) {
+        Ok(inside) => inside,
+        Err(out) => m.enter(rt, out),
+    };
+    let visits = m.state(&inside).visits;
+    let data = M::state_mut(&mut inside, m);
+    data.visits = visits.wrapping_add(1);
+    inside
+}
+
+// Whether fewer wait than may, by each way to ask.
+fn may_wait<M: Monitor<Visits>>(m: &M, inside: &M::In) -> bool
+    requires { M.is_of_in m.now inside.now }
+{
+    let lists = m.lists(inside);
+    let hoare = lists.count(0).saturating_add(lists.count(1));
+    let mesa = lists.count(2).saturating_add(lists.count(3));
+    let agree = m.queue(inside, 0) == m.first(inside, 0).is_some();
+    agree && hoare.saturating_add(mesa) < MOST_WAITING
+}
+
+// One visit, as its number says: it waits with a priority, signals, notifies, calls all, passes or just leaves.
+fn visit<R: Wait, M: Monitor<Visits>>(rt: &R, m: &M, out: M::Out, lot: u64) -> M::Out
+    requires { M.is_of m.now out }
+    ensures { M.is_of m.now result }
+{
+    let mut inside = come_in(rt, m, out);
+    let condition = (lot / 16 % 2) as usize;
+    let act = lot % 8;
+    if act < 4 && may_wait(m, &inside) {
+        let inside = m.wait(rt, inside, (lot / 32 % 4) as usize, lot / 128 % 4);
+        return m.leave(rt, inside);
+    }
+    if act == 4 {
+        return m.signal_leave(rt, inside, condition).0;
+    }
+    if act == 5 {
+        let (inside, _resumed) = m.signal(rt, inside, condition);
+        return m.leave(rt, inside);
+    }
+    if act == 6 {
+        let _called = m.notify(&mut inside, condition + 2);
+    } else if act == 7 {
+        let _called = m.broadcast(&mut inside, condition + 2);
+    }
+    m.leave(rt, inside)
+}
+
+// This number of visits, and a note that they are over.
+fn visit_many<R: Wait, M: Monitor<Visits>>(rt: &R, m: &M, out: M::Out, me: u64, turns: u64)
+    requires { M.is_of m.now out }
+{
+    let mut out = out;
+    let mut lot = draw(me);
+    for _ in 0..turns {
+        lot = draw(lot);
+        out = visit(rt, m, out, lot / 65536);
+    }
+    let mut inside = m.enter(rt, out);
+    let done = m.state(&inside).done;
+    let data = M::state_mut(&mut inside, m);
+    data.done = done.wrapping_add(1);
+    m.leave(rt, inside);
+}
+
+// Resumes those that wait until all visitors are done: how many visits there were.
+fn sweep<R: Wait, M: Monitor<Visits>>(rt: &R, m: &M, out: M::Out) -> u64
+    requires { M.is_of m.now out }
+{
+    let mut out = out;
+    let mut turn = 0usize;
+    for _ in rt.forever() {
+        let mut inside = m.enter(rt, out);
+        if m.state(&inside).done >= VISITORS {
+            let visits = m.state(&inside).visits;
+            m.leave(rt, inside);
+            return visits;
+        }
+        let _called = m.broadcast(&mut inside, turn % 2 + 2);
+        let (again, _resumed) = m.signal_leave(rt, inside, turn % 2);
+        out = again;
+        turn = turn.wrapping_add(1);
+        thread::yield_now();
+    }
+    unreachable!()
+}
+
+// What one thread does, and how many visits it saw in the end: the last to come resumes those that wait, the others visit.
+fn go_round<R: Wait, M: Monitor<Visits>>(rt: &R, m: &M, out: M::Out, role: u64, turns: u64) -> u64
+    requires { M.is_of m.now out }
+{
+    if role < VISITORS {
+        visit_many(rt, m, out, role, turns);
+        return 0;
+    }
+    sweep(rt, m, out)
+}
+
+/// A thread for each place, of which all but one visit this often: whether each visit was seen.
+pub fn all_visit<R: Threads + Wait + Sync, M: SharedVisits>(
+    rt: &R,
+    m: &M,
+    places: Vec<M::Out>,
+    turns: u64,
+) -> Result<bool, AllocError>
+where
+    M::Lists: Send,
+    requires { All (M.is_of m.now) places.items }
+{
+    let roles = AtomicU64::new(0);
+    let seen = thread::map_vec(
+        rt,
+        places,
+        &|out| -> u64
+            requires { M.is_of m.now out }
+        { go_round(rt, m, out, roles.fetch_add(1, Ordering::SeqCst), turns) },
+    )?;
+    let wanted = turns.wrapping_mul(VISITORS);
+    Ok(seen.iter().any(|visits| *visits == wanted))
+}

@@ -1,0 +1,171 @@
+//! How many workers are at work at once, by what `begin` sees: four jobs at a time wait until all four have begun. A service
+//! with fewer workers at work, or with one thread for all jobs, can't do it.
+use crate::tests::limit::in_time;
+use disk_service::{Gate, Jobs, Report, ServiceFault, serve, serve_tickets};
+use std::alloc::{AllocError, Global};
+use std::process::Abort;
+use std::sync::atomic::{AtomicBool, AtomicUsize, Ordering};
+use std::test::Fail;
+use std::thread;
+
+const WORKERS: usize = 4;
+
+const JOBS: usize = 12;
+
+// How often one that has begun looks for the others of its four, with a yield each time.
+const TURNS: u32 = 10_000_000;
+
+// What is seen of the jobs.
+#[derive(Drop)]
+struct AtOnce {
+    turns: u32,
+    // How often each job has begun.
+    begins: Vec<AtomicUsize>,
+    // How many have begun, and how many of them before the first one ended.
+    begun: AtomicUsize,
+    before_an_end: AtomicUsize,
+    ended: AtomicUsize,
+    // How many have begun and not ended, and the most that there were.
+    at_work: AtomicUsize,
+    most_at_work: AtomicUsize,
+    gave_up: AtomicBool,
+}
+
+// What was seen of a whole service.
+#[derive(Clone, Copy, Debug, PartialEq, Eq)]
+struct Seen {
+    // How many jobs have begun once, and not more often.
+    begun_once: usize,
+    before_an_end: usize,
+    ended: usize,
+    most_at_work: usize,
+    gave_up: bool,
+}
+
+impl AtOnce {
+    fn of(alloc: Global, turns: u32) -> Result<AtOnce, AllocError> {
+        let mut begins = Vec::new(alloc);
+        for _ in 0..JOBS {
+            begins.push(AtomicUsize::new(0))?;
+        }
+        Ok(AtOnce {
+            turns,
+            begins,
+            begun: AtomicUsize::new(0),
+            before_an_end: AtomicUsize::new(0),
+            ended: AtomicUsize::new(0),
+            at_work: AtomicUsize::new(0),
+            most_at_work: AtomicUsize::new(0),
+            gave_up: AtomicBool::new(false),
+        })
+    }
+
+    fn begun_once(&self) -> usize {
+        let begins = self.begins.iter();
+        begins
+            .filter(|count| count.load(Ordering::SeqCst) == 1)
+            .count()
+    }
+
+    fn seen(&self) -> Seen {
+        Seen {
+            begun_once: self.begun_once(),
+            before_an_end: self.before_an_end.load(Ordering::SeqCst),
+            ended: self.ended.load(Ordering::SeqCst),
+            most_at_work: self.most_at_work.load(Ordering::SeqCst),
+            gave_up: self.gave_up.load(Ordering::SeqCst),
+        }
+    }
+
+    // Counts a job that has begun.
+    fn count(&self, job: usize) {
+        let others = self.at_work.fetch_add(1, Ordering::SeqCst);
+        self.most_at_work
+            .fetch_max(others.wrapping_add(1), Ordering::SeqCst);
+        if self.ended.load(Ordering::SeqCst) == 0 {
+            self.before_an_end.fetch_add(1, Ordering::SeqCst);
+        }
+        if let Some(begins) = self.begins.get(job) {
+            begins.fetch_add(1, Ordering::SeqCst);
+        }
+        self.begun.fetch_add(1, Ordering::SeqCst);
+    }
+}
+
+impl Gate for AtOnce {
+    fn begin(&self, job: usize) {
+        self.count(job);
+        for _ in 0..self.turns {
+            if self.begun.load(Ordering::SeqCst) / WORKERS > job / WORKERS {
+                return;
+            }
+            thread::yield_now();
+        }
+        self.gave_up.store(true, Ordering::SeqCst);
+    }
+
+    fn end(&self, _job: usize) {
+        self.at_work.fetch_sub(1, Ordering::SeqCst);
+        self.ended.fetch_add(1, Ordering::SeqCst);
+    }
+}
+
+// As many jobs for four workers.
+fn some_jobs(alloc: Global) -> Result<Jobs, Fail> {
+    match Jobs::make(100, WORKERS as u32, vec![in alloc; 3u16; JOBS]?) {
+        Ok(jobs) => Ok(jobs),
+        Err(_) => Err(Fail::from("no jobs")),
+    }
+}
+
+// Four different jobs had begun before the first ended, each job began once, and never were more than four at work.
+fn assert_at_once<R: Abort>(rt: &R, answer: Result<Report, ServiceFault>, gate: &AtOnce) {
+    let Ok(report) = answer else {
+        panic!(rt; "no report")
+    };
+    assert_eq!(rt; report.lines.len(), JOBS);
+    assert_eq!(rt;
+        gate.seen(),
+        Seen {
+            begun_once: JOBS,
+            before_an_end: WORKERS,
+            ended: JOBS,
+            most_at_work: WORKERS,
+            gave_up: false,
+        }
+    );
+}
+
+#[test]
+fn four_at_once(rt: HostRuntime) -> Result<(), Fail> {
+    let jobs = some_jobs(rt.alloc())?;
+    let gate = AtOnce::of(rt.alloc(), TURNS)?;
+    let answer = in_time(&rt, || serve(&rt, rt.alloc(), &jobs, &gate));
+    assert_at_once(&rt, answer, &gate);
+    Ok(())
+}
+
+#[test]
+fn four_at_once_by_ticket(rt: HostRuntime) -> Result<(), Fail> {
+    let jobs = some_jobs(rt.alloc())?;
+    let gate = AtOnce::of(rt.alloc(), TURNS)?;
+    let answer = in_time(&rt, || serve_tickets(&rt, rt.alloc(), &jobs, &gate));
+    assert_at_once(&rt, answer, &gate);
+    Ok(())
+}
+
+// One thread that does all jobs, one after another, is seen. (With fewer turns, since a yield may take milliseconds beside other
+// work.)
+#[test]
+fn one_at_a_time_is_seen(rt: HostRuntime) -> Result<(), Fail> {
+    let gate = AtOnce::of(rt.alloc(), 100)?;
+    for job in 0..JOBS {
+        gate.begin(job);
+        gate.end(job);
+    }
+    let seen = gate.seen();
+    assert_eq!(rt; (seen.begun_once, seen.ended), (JOBS, JOBS));
+    assert_eq!(rt; (seen.before_an_end, seen.most_at_work), (1, 1));
+    assert!(rt; seen.gave_up);
+    Ok(())
+}

@@ -1,5 +1,7 @@
 pub mod Barriers
 pub mod BarrierTraces
+pub mod Drains
+pub mod DrainTraces
 pub mod Latches
 pub mod LatchTraces
 pub mod Mailboxes

@@ -1,8 +1,9 @@
-//! A cookbook of monitors, each over any `Monitor`: a cyclic barrier, a latch, a mailbox by priority, a rendezvous of
-//! pairs, the dining philosophers' table, and a work queue.
+//! A cookbook of monitors, each over any `Monitor`: a cyclic barrier, a drain, a latch, a mailbox by priority, a
+//! rendezvous of pairs, the dining philosophers' table, and a work queue.
 #![tactic(auto)]
 
 pub mod barrier;
+pub mod drain;
 pub mod latch;
 pub mod mailbox;
 pub mod rendezvous;

@@ -2,6 +2,7 @@
 #![tactic(auto)]
 
 mod barrier;
+mod drain;
 mod latch;
 mod mailbox;
 mod rendezvous;
@@ -27,6 +28,7 @@ fn name_of(kind: DoorKind) -> &'static str {
 fn main(rt: HostRuntime) -> io::Result<()> {
     barrier::show_on_both(&rt, rt.alloc())?;
     latch::show_on_both(&rt, rt.alloc())?;
+    drain::show_on_both(&rt, rt.alloc())?;
     mailbox::show_on_both(&rt, rt.alloc())?;
     rendezvous::show_on_both(&rt, rt.alloc())?;
     table::show_on_both(&rt, rt.alloc())?;

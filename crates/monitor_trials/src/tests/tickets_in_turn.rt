@@ -36,7 +36,7 @@ fn hands_up_and_meets<R: Wait>(
 
 /// On a door with this first ticket three places ask, in the order c, a, b, and come in by their tickets; c leaves the number
 /// 7. Then a hands up to nobody, and meets b, which asks once more. The tickets of those that asked, whether a resumed somebody,
-/// and the number that the door is closed with.
+/// and the number that c finds when it comes back.
 fn three_ask<R: Wait + Abort>(rt: &R, alloc: Global, first: u64) -> ([u64; 4], bool, u64) {
     let Ok((door, mut outs)) = make_at(alloc, Tally { value: 0 }, 3, first) else {
         panic!(rt; "no memory")
@@ -50,14 +50,15 @@ fn three_ask<R: Wait + Abort>(rt: &R, alloc: Global, first: u64) -> ([u64; 4], b
     let tickets = (c.ticket(), a.ticket(), b.ticket());
     let mut inside = door.come_in(rt, c);
     TicketDoor::state_mut(&mut inside, &door).value = 7;
-    outs.push_reserved(door.give_up(inside));
+    let c = door.give_up(inside);
     let a = door.give_up(door.come_in(rt, a));
     let b = door.give_up(door.come_in(rt, b));
     let ((a, b), (told, last)) = hands_up_and_meets(rt, &door, a, b);
-    outs.push_reserved(a);
-    outs.push_reserved(b);
     let tickets = [tickets.0, tickets.1, tickets.2, last];
-    (tickets, told, door.close(outs).value)
+    let inside = door.come_in(rt, door.ask(c));
+    let found = door.state(&inside).value;
+    let c = door.give_up(inside);
+    (tickets, told, found)
 }
 
 #[test]

@@ -1,0 +1,39 @@
+//! The alarm clock: two sleep, and the third ticks.
+
+use crate::answers::all_one;
+use hoare_law::monitor::Monitor;
+use order_explorer::Program;
+use std::alloc::Global;
+use std::sync::Wait;
+use timed_schedulers::alarm::Alarm;
+
+/// Places 0 and 1 sleep for a tick, and place 2 ticks twice.
+#[derive(Clone, Copy)]
+pub struct Sleepers;
+
+impl<M: Monitor<Alarm>> Program<Alarm, M> for Sleepers {
+    fn threads(&self) -> usize {
+        3
+    }
+
+    fn open(&self, _alloc: Global) -> Option<Alarm> {
+        Some(Alarm::at(0))
+    }
+
+    fn act<R: Wait>(&self, rt: &R, m: &M, out: M::Out, number: usize) -> (M::Out, u64)
+        requires { M.is_of m.now out }
+        ensures { M.is_of m.now result.0 }
+    {
+        if number < 2 {
+            let (out, woken) = Alarm::wakeme(m, rt, out, 1);
+            return (out, u64::from(woken.is_ok()));
+        }
+        let (out, _first) = Alarm::tick(m, rt, out);
+        let (out, second) = Alarm::tick(m, rt, out);
+        (out, u64::from(second.is_ok()))
+    }
+
+    fn is_right(&self, _left: &Alarm, answers: &[u64]) -> bool {
+        all_one(answers)
+    }
+}

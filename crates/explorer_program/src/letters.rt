@@ -1,0 +1,39 @@
+//! The mailbox of the cookbook: two send, and two receive.
+
+use crate::answers::sum_of;
+use cookbook::mailbox::{Letter, Mailbox};
+use hoare_law::monitor::Monitor;
+use order_explorer::Program;
+use std::alloc::Global;
+use std::sync::Wait;
+
+/// Places 0 and 1 send a letter each, and places 2 and 3 receive one each.
+#[derive(Clone, Copy)]
+pub struct Letters;
+
+impl<M: Monitor<Mailbox>> Program<Mailbox, M> for Letters {
+    fn threads(&self) -> usize {
+        4
+    }
+
+    fn open(&self, _alloc: Global) -> Option<Mailbox> {
+        Some(Mailbox::new())
+    }
+
+    fn act<R: Wait>(&self, rt: &R, m: &M, out: M::Out, number: usize) -> (M::Out, u64)
+        requires { M.is_of m.now out }
+        ensures { M.is_of m.now result.0 }
+    {
+        if number < 2 {
+            let word = number as u64;
+            (Mailbox::send(m, rt, out, Letter { priority: 0, word }), 0)
+        } else {
+            let (out, letter) = Mailbox::receive(m, rt, out);
+            (out, letter.word)
+        }
+    }
+
+    fn is_right(&self, _left: &Mailbox, answers: &[u64]) -> bool {
+        sum_of(answers) == 1
+    }
+}

@@ -1,0 +1,37 @@
+//! The bounded buffer on Mesa conditions, of one cell: two producers and two consumers.
+
+use crate::answers::sum_of;
+use hoare_law::monitor::Monitor;
+use order_explorer::Program;
+use plain_schedulers::buffer::mesa::MesaBuffer;
+use std::alloc::Global;
+use std::sync::Wait;
+
+/// Places 0 and 1 put in an item each, and places 2 and 3 take one out each.
+#[derive(Clone, Copy)]
+pub struct MesaCell;
+
+impl<M: Monitor<MesaBuffer<u64>>> Program<MesaBuffer<u64>, M> for MesaCell {
+    fn threads(&self) -> usize {
+        4
+    }
+
+    fn open(&self, alloc: Global) -> Option<MesaBuffer<u64>> {
+        MesaBuffer::make(alloc, 1).ok()
+    }
+
+    fn act<R: Wait>(&self, rt: &R, m: &M, out: M::Out, number: usize) -> (M::Out, u64)
+        requires { M.is_of m.now out }
+        ensures { M.is_of m.now result.0 }
+    {
+        if number < 2 {
+            (MesaBuffer::append(m, rt, out, number as u64), 0)
+        } else {
+            MesaBuffer::remove(m, rt, out)
+        }
+    }
+
+    fn is_right(&self, _left: &MesaBuffer<u64>, answers: &[u64]) -> bool {
+        sum_of(answers) == 1
+    }
+}

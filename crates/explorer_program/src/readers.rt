@@ -1,0 +1,45 @@
+//! Readers and writers: a few readers and a writer.
+
+use crate::answers::all_one;
+use hoare_law::monitor::Monitor;
+use order_explorer::Program;
+use std::alloc::Global;
+use std::sync::Wait;
+use sweep_schedulers::readers_writers::ReadersWriters;
+
+/// Place 2 writes, and the others read.
+#[derive(Clone, Copy)]
+pub struct Readers {
+    pub threads: usize,
+}
+
+impl<M: Monitor<ReadersWriters<u64>>> Program<ReadersWriters<u64>, M> for Readers {
+    fn threads(&self) -> usize {
+        self.threads
+    }
+
+    fn open(&self, _alloc: Global) -> Option<ReadersWriters<u64>> {
+        Some(ReadersWriters::with(0))
+    }
+
+    fn act<R: Wait>(&self, rt: &R, m: &M, out: M::Out, number: usize) -> (M::Out, u64)
+        requires { M.is_of m.now out }
+        ensures { M.is_of m.now result.0 }
+    {
+        if number == 2 {
+            let (out, value) = ReadersWriters::start_write(m, rt, out);
+            let (out, ended) = ReadersWriters::end_write(m, rt, out, value.wrapping_add(1));
+            return (out, u64::from(ended.is_ok()));
+        }
+        let (out, read) = ReadersWriters::start_read(m, rt, out);
+        let Ok((pass, _value)) = read else {
+            return (out, 0);
+        };
+        let (out, ended) = ReadersWriters::end_read(m, rt, out, pass);
+        (out, u64::from(ended.is_ok()))
+    }
+
+    fn is_right(&self, _left: &ReadersWriters<u64>, answers: &[u64]) -> bool {
+        all_one(answers)
+    }
+}

@@ -9,12 +9,13 @@ owed it, each of those that want in is let in, in a run of its own: first the ne
 
 import sys
 
-PATIENCE = 40
+PATIENCE = 40  # the most steps that a place waits on a condition
 
 
 class Monitor:
-    def __init__(self, threads):
+    def __init__(self, threads, patience):
         self.threads = threads
+        self.patience = patience
         self.waiting = []  # (condition, priority, arrival, place)
         self.since = {}  # when the place went to wait
         self.called = []
@@ -64,7 +65,7 @@ class Monitor:
 
     def stepped(self):
         self.steps += 1
-        late = [place for place, since in sorted(self.since.items()) if self.steps - since > PATIENCE]
+        late = [place for place, since in sorted(self.since.items()) if self.steps - since > self.patience]
         if late and self.starved is None:
             self.starved = late[0]
 
@@ -100,10 +101,10 @@ class Monitor:
             self.outside(place)
 
 
-def run(make, order):
+def run(make, order, patience):
     """The run of this order: who wants in behind it, or how it ended."""
     threads, is_right = make()
-    monitor = Monitor(threads)
+    monitor = Monitor(threads, patience)
     for place in range(len(threads)):
         monitor.outside(place)
     chosen = 0
@@ -123,13 +124,13 @@ def run(make, order):
     return [], f"thread {monitor.starved} starves"
 
 
-def explore(make):
-    """In words: how many orders end, or which run is the first that doesn't. And how many of all are so (where all can be tried)."""
+def explore(make, patience=PATIENCE):
+    """In words: how many orders end, or which run is the first that doesn't."""
     runs = 0
     rows = [[]]
     while rows:
         order = rows.pop()
-        asking, ended = run(make, order)
+        asking, ended = run(make, order, patience)
         rows += [order + [place] for place in reversed(asking)]
         if asking:
             continue
@@ -324,7 +325,21 @@ def single(threads):
     return make
 
 
-def alarm():
+def tickers():
+    d = {"time": 0}
+
+    def tick():
+        yield ("enter",)
+        d["time"] += 1
+        yield ("pass", 0)
+        yield ("enter",)
+        time = d["time"]
+        yield ("pass", 0)
+        return time
+    return [tick() for _ in range(3)], lambda results: 3 in results.values()
+
+
+def late_alarm():
     d = {"time": 0}
 
     def sleep():
@@ -335,7 +350,7 @@ def alarm():
         yield ("pass", 0)
 
     def tick():
-        for _ in range(3):
+        for _ in range(2):
             yield ("enter",)
             d["time"] += 1
             yield ("pass", 0)
@@ -506,8 +521,7 @@ PROGRAMS = {
     "buffer": buffer(1, False),
     "buffer-twice": buffer(2, False),
     "mesa-buffer": buffer(1, True),
-    "mesa-buffer-twice": buffer(2, True),
-    "alarm": alarm,
+    "alarm": tickers,
     "pool-2": single(2),  # one buffer is a single item
     "pool-3": single(3),
     "head-2": head(2),
@@ -524,7 +538,8 @@ PROGRAMS = {
     "gate": gate,
     "lost-wake": lost_wake,
     "starving": starving,
-    "hungry": table([4, 1, 4]),
+    "hungry": table([3, 1, 3]),
+    "late-alarm": late_alarm,
     "lost": lost,
 }
 
@@ -538,7 +553,7 @@ def main():
                 written[name] = rest
     differs = 0
     for name, program in PROGRAMS.items():
-        found = explore(program)
+        found = explore(program, 16 if name == "hungry" else PATIENCE)
         said = written.get(name, found)
         differs += said != found
         print(f"{name}: {found}" + ("" if said == found else f" (and explorer_program: {said})"))

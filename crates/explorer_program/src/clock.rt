@@ -1,4 +1,4 @@
-//! The alarm clock: two sleep, and the third ticks.
+//! The alarm clock: who sets it after the last tick sleeps for ever.
 
 use crate::answers::all_one;
 use hoare_law::monitor::Monitor;
@@ -7,7 +7,7 @@ use std::alloc::Global;
 use std::sync::Wait;
 use timed_schedulers::alarm::Alarm;
 
-/// Places 0 and 1 sleep for a tick, and place 2 ticks twice.
+/// Places 0 and 1 sleep for a tick, and place 2 ticks twice: maybe before they come.
 #[derive(Clone, Copy)]
 pub struct Sleepers;
 
@@ -35,5 +35,32 @@ impl<M: Monitor<Alarm>> Program<Alarm, M> for Sleepers {
 
     fn is_right(&self, _left: &Alarm, answers: &[u64]) -> bool {
         all_one(answers)
+    }
+}
+
+/// Three threads that tick, and ask for the time.
+#[derive(Clone, Copy)]
+pub struct Tickers;
+
+impl<M: Monitor<Alarm>> Program<Alarm, M> for Tickers {
+    fn threads(&self) -> usize {
+        3
+    }
+
+    fn open(&self, _alloc: Global) -> Option<Alarm> {
+        Some(Alarm::at(0))
+    }
+
+    fn act<R: Wait>(&self, rt: &R, m: &M, out: M::Out, _number: usize) -> (M::Out, u64)
+        requires { M.is_of m.now out }
+        ensures { M.is_of m.now result.0 }
+    {
+        let (out, _ticked) = Alarm::tick(m, rt, out);
+        let (out, woken) = Alarm::wakeme(m, rt, out, 0);
+        (out, woken.unwrap_or(0))
+    }
+
+    fn is_right(&self, _left: &Alarm, answers: &[u64]) -> bool {
+        answers.contains(&3)
     }
 }

@@ -39,7 +39,7 @@ impl<M: Monitor<Table>> Program<Table, M> for Hungry {
         requires { M.is_of m.now out }
         ensures { M.is_of m.now result.0 }
     {
-        let meals = if number == 1 { 1 } else { 4 };
+        let meals = if number == 1 { 1 } else { 3 };
         (eat(rt, m, out, number % 5, meals), 0)
     }
 

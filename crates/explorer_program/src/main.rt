@@ -106,7 +106,7 @@ fn tell_schedulers<R: Threads + Wait + Clock + Print + Copy + Send + 'static>(
         buffer::OneCell { rounds: 2 },
     )?;
     tell(rt, alloc, asked, "mesa-buffer", mesa::MesaCell)?;
-    tell(rt, alloc, asked, "alarm", clock::Sleepers)?;
+    tell(rt, alloc, asked, "alarm", clock::Tickers)?;
     tell(rt, alloc, asked, "pool-2", pool::Streams { threads: 2 })?;
     tell(rt, alloc, asked, "pool-3", pool::Streams { threads: 3 })?;
     tell(rt, alloc, asked, "head-2", head::Requests { threads: 2 })?;
@@ -145,7 +145,7 @@ fn tell_bad<R: Threads + Wait + Clock + Print + Copy + Send + 'static>(
     tell(rt, alloc, asked, "gate", gate::Late)?;
     tell(rt, alloc, asked, "lost-wake", lost_wake::OneCalled)?;
     tell(rt, alloc, asked, "starving", starving::Dance)?;
-    tell(rt, alloc, asked, "hungry", hungry::Hungry)?;
+    tell(rt, alloc, asked, "late-alarm", clock::Sleepers)?;
     tell(rt, alloc, asked, "lost", lost::Lost)?;
     tell(
         rt,
@@ -164,5 +164,8 @@ fn main(rt: HostRuntime) -> io::Result<()> {
     tell_visits(rt, alloc, &asked)?;
     tell_schedulers(rt, alloc, &asked)?;
     tell_recipes(rt, alloc, &asked)?;
-    tell_bad(rt, alloc, &asked)
+    tell_bad(rt, alloc, &asked)?;
+    // a philosopher waits through 16 steps at the most
+    let asked = asked.with_patience(16);
+    tell(rt, alloc, &asked, "hungry", hungry::Hungry)
 }

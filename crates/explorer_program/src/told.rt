@@ -18,16 +18,6 @@ pub struct Asked {
     limits: Limits,
 }
 
-// The limits of all programs.
-const LIMITS: Limits = Limits {
-    runs: 100_000,
-    steps: 300,
-    depth: 300,
-    patience: 40,
-    orders: Orders::All,
-    door: DoorKind::Baton,
-};
-
 impl Asked {
     /// The first argument is a program's name (its script alone is printed), `all`, or `times`; the second a seed, and the third how
     /// many runs are made at the most.
@@ -35,7 +25,7 @@ impl Asked {
         let mut words = env::args(rt)?;
         let _program = words.next();
         let word = words.next();
-        let mut limits = LIMITS;
+        let mut limits = Limits::USUAL;
         if let Some(word) = words.next() {
             if let Ok(seed) = word.as_str().parse::<u64>() {
                 limits.orders = Orders::Drawn(seed);
@@ -47,6 +37,13 @@ impl Asked {
             }
         }
         Ok(Asked { word, limits })
+    }
+
+    /// The same, with so many steps that a process may wait.
+    pub fn with_patience(self, patience: usize) -> Asked {
+        let Asked { word, limits } = self;
+        let limits = Limits { patience, ..limits };
+        Asked { word, limits }
     }
 
     // Whether this word is asked for.

@@ -38,6 +38,18 @@ pub struct Limits {
     pub door: DoorKind,
 }
 
+impl Limits {
+    /// All orders on a door of one word: as many runs, steps and choices as small programs need, and a wait of 40 steps at most.
+    pub const USUAL: Limits = Limits {
+        runs: 100_000,
+        steps: 300,
+        depth: 300,
+        patience: 40,
+        orders: Orders::All,
+        door: DoorKind::Baton,
+    };
+}
+
 /// What came of it. Each but the first has the last run. Where that one was cut off, its threads sleep until the process ends.
 #[derive(Drop)]
 pub enum Found {

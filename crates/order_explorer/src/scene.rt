@@ -1,5 +1,9 @@
 //! What the controller knows of one run, and who goes on.
 
+ghost use Rattle.std.specs.Prelude.{◌≡◌, ◌↔◌, ◌<◌, ℕ, All, IsTrue, None, Some, length, slice_set};
+ghost use Rattle.wait_book.specs.Contents.{next_of};
+ghost use Rattle.order_explorer.specs.Scenes.{EndsAtRest, held_by};
+
 use crate::choices::Choices;
 use crate::notes::Note;
 use crate::schedule::{Ending, Limit, Schedule, Standing};
@@ -42,6 +46,26 @@ fn none_begun(alloc: Global, threads: usize) -> Result<Vec<Standing>, AllocError
         standings.push(Standing::Ended)?;
     }
     Ok(standings)
+}
+
+// Whether each thread has ended.
+fn all_ended(standings: &[Standing]) -> bool
+    ensures { IsTrue result ↔ All (λ s. s ≡ Standing.Ended) standings.now }
+{
+    standings
+        .iter()
+        .all(|standing| *standing == Standing::Ended)
+}
+
+// How a run ends where nobody wants in and nobody is inside.
+fn ending_at_rest(standings: &[Standing]) -> Ending
+    ensures { EndsAtRest standings.now result }
+{
+    if all_ended(standings) {
+        Ending::AllEnded
+    } else {
+        Ending::Stuck
+    }
 }
 
 // No answers yet.
@@ -137,7 +161,9 @@ impl Scene {
     }
 
     /// Who is inside.
-    pub fn inside(&self) -> Option<usize> {
+    pub fn inside(&self) -> Option<usize>
+        ensures { result ≡ held_by (next_of self.now.book.turn) }
+    {
         match self.book.now() {
             Next::Held(place) => Some(place),
             _ => None,
@@ -145,9 +171,13 @@ impl Scene {
     }
 
     // The place stands so.
-    fn set(&mut self, place: usize, standing: Standing) {
-        if let Some(held) = self.standings.get_mut(place) {
-            *held = standing;
+    fn set(&mut self, place: usize, standing: Standing)
+        ensures set { place < length self.old.standings.items
+            → self.new.standings.items ≡ slice_set self.old.standings.items place standing }
+        ensures book { self.new.book ≡ self.old.book }
+    {
+        if place < self.standings.len() {
+            self.standings[place] = standing;
         }
     }
 
@@ -177,16 +207,6 @@ impl Scene {
             }
         }
         asking
-    }
-
-    // How a run ends where nobody wants in and nobody is inside.
-    fn ending_at_rest(&self) -> Ending {
-        for standing in self.standings.as_slice() {
-            if *standing != Standing::Ended {
-                return Ending::Stuck;
-            }
-        }
-        Ending::AllEnded
     }
 
     // The first place that waited through more steps than the limit.
@@ -221,8 +241,11 @@ impl Scene {
         }
     }
 
-    // Chooses who goes on.
-    fn go_on(&mut self) {
+    // Chooses who goes on: who is inside, and else one that wants in.
+    fn go_on(&mut self)
+        ensures { self.old.ending ≡ None → (k : ℕ) → held_by (next_of self.old.book.turn) ≡ Some k
+            → self.new.turn ≡ Some k }
+    {
         if self.ending.is_some() {
             return;
         }
@@ -241,7 +264,7 @@ impl Scene {
         }
         let asking = self.asking();
         if asking == 0 {
-            let ending = self.ending_at_rest();
+            let ending = ending_at_rest(self.standings.as_slice());
             return self.end(ending);
         }
         match self.choices.choose(asking) {
@@ -261,11 +284,19 @@ impl Scene {
 
     /// A thread has ended, and answers this.
     pub fn finish(&mut self, place: usize, answer: u64) {
-        if let Some(held) = self.answers.get_mut(place) {
-            *held = answer;
+        self.note_end(place, answer);
+        self.go_on();
+    }
+
+    // A thread has ended, and answers this.
+    fn note_end(&mut self, place: usize, answer: u64)
+        ensures { place < length self.old.standings.items
+            → self.new.standings.items ≡ slice_set self.old.standings.items place Standing.Ended }
+    {
+        if place < self.answers.len() {
+            self.answers[place] = answer;
         }
         self.set(place, Standing::Ended);
-        self.go_on();
     }
 
     /// What was noted before: a place came in by a try, or the process inside called others. With no note there was no room for it.

@@ -28,7 +28,7 @@ pub enum Limit {
     Runs,
     /// Steps of a run.
     Steps,
-    /// Choices of a run: where more than one wants in.
+    /// Choices of a run: one for each time that somebody is let in who asked.
     Depth,
 }
 
@@ -57,8 +57,11 @@ pub struct Schedule {
     pub threads: usize,
     pub conditions: usize,
     pub mesa: usize,
+    /// Who is inside at its end.
     pub inside: Option<usize>,
+    /// The steps of the monitor.
     pub steps: Vec<Step>,
+    /// Where each thread stands at its end.
     pub standings: Vec<Standing>,
     pub ending: Ending,
 }

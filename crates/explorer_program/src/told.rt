@@ -131,7 +131,8 @@ fn tell_both<R: Print>(rt: &R, name: &str, baton: &str, ticket: &str) -> io::Res
     print!(rt; "{name}, by tickets: {ticket}")
 }
 
-/// Tries the orders of a program on both doors, and prints what came of it: or the script of its bad order alone.
+/// Tries the orders of a program on both doors, and prints what came of it. Where it alone is asked for, that goes to standard error,
+/// and the script of its bad order to standard output.
 pub fn tell<
     R: Threads + Wait + Clock + Print + Copy + Send + 'static,
     D: MonitorData + Send + Drop + 'static,
@@ -144,10 +145,11 @@ pub fn tell<
     let start = Instant::now(&rt)?;
     let found = found_on(rt, alloc, asked, DoorKind::Baton, program.clone()?)?;
     let spent = start.elapsed(&rt)?;
+    let baton = words_of(alloc, &found)?;
     if alone {
+        eprint!(&rt; "{name}: {baton}")?;
         return tell_script(&rt, alloc, &found);
     }
-    let baton = words_of(alloc, &found)?;
     let second = found_on(rt, alloc, asked, DoorKind::Ticket, program.clone()?)?;
     let ticket = words_of(alloc, &second)?;
     tell_both(&rt, name, baton.as_str(), ticket.as_str())?;

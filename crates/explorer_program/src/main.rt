@@ -38,87 +38,121 @@ use std::sync::Wait;
 use std::sync::atomic::AtomicU64;
 use std::thread::Threads;
 
-// Visits alone, and the first monitor.
+// So many threads of so many visits.
 fn tell_visits<R: Threads + Wait + Clock + Print + Copy + Send + 'static>(
     rt: R,
     alloc: Global,
     asked: &Asked,
+    threads: usize,
+    visits: u32,
 ) -> io::Result<()> {
+    let name = format!(in alloc; "visits-{threads}-{visits}")?;
     tell(
         rt,
         alloc,
         asked,
-        "visits-2-1",
-        counting::Visits {
-            threads: 2,
-            visits: 1,
-        },
-    )?;
-    tell(
-        rt,
-        alloc,
-        asked,
-        "visits-3-2",
-        counting::Visits {
-            threads: 3,
-            visits: 2,
-        },
-    )?;
-    tell(
-        rt,
-        alloc,
-        asked,
-        "visits-2-5",
-        counting::Visits {
-            threads: 2,
-            visits: 5,
-        },
-    )?;
-    tell(
-        rt,
-        alloc,
-        asked,
-        "visits-4-1",
-        counting::Visits {
-            threads: 4,
-            visits: 1,
-        },
-    )?;
-    tell(rt, alloc, asked, "permits", users::Workers)?;
-    tell(rt, alloc, asked, "signals", signals::Signals)
+        name.as_str(),
+        counting::Visits { threads, visits },
+    )
 }
 
-// The schedulers.
+// The single item, for so many threads.
+fn tell_single<R: Threads + Wait + Clock + Print + Copy + Send + 'static>(
+    rt: R,
+    alloc: Global,
+    asked: &Asked,
+    threads: usize,
+) -> io::Result<()> {
+    let name = format!(in alloc; "single-{threads}")?;
+    tell(rt, alloc, asked, name.as_str(), single::Items { threads })
+}
+
+// The bounded buffer, of so many rounds.
+fn tell_buffer<R: Threads + Wait + Clock + Print + Copy + Send + 'static>(
+    rt: R,
+    alloc: Global,
+    asked: &Asked,
+    rounds: u32,
+) -> io::Result<()> {
+    let name = format!(in alloc; "buffer-{rounds}")?;
+    tell(rt, alloc, asked, name.as_str(), buffer::OneCell { rounds })
+}
+
+// The pool, for so many streams.
+fn tell_pool<R: Threads + Wait + Clock + Print + Copy + Send + 'static>(
+    rt: R,
+    alloc: Global,
+    asked: &Asked,
+    threads: usize,
+) -> io::Result<()> {
+    let name = format!(in alloc; "pool-{threads}")?;
+    tell(rt, alloc, asked, name.as_str(), pool::Streams { threads })
+}
+
+// The disk head, for so many requests.
+fn tell_head<R: Threads + Wait + Clock + Print + Copy + Send + 'static>(
+    rt: R,
+    alloc: Global,
+    asked: &Asked,
+    threads: usize,
+) -> io::Result<()> {
+    let name = format!(in alloc; "head-{threads}")?;
+    tell(rt, alloc, asked, name.as_str(), head::Requests { threads })
+}
+
+// A writer, and readers beside it.
+fn tell_readers<R: Threads + Wait + Clock + Print + Copy + Send + 'static>(
+    rt: R,
+    alloc: Global,
+    asked: &Asked,
+    threads: usize,
+) -> io::Result<()> {
+    let name = format!(in alloc; "readers-{threads}")?;
+    tell(
+        rt,
+        alloc,
+        asked,
+        name.as_str(),
+        readers::Readers { threads },
+    )
+}
+
+// Visits alone, the first monitor, and the schedulers.
 fn tell_schedulers<R: Threads + Wait + Clock + Print + Copy + Send + 'static>(
     rt: R,
     alloc: Global,
     asked: &Asked,
 ) -> io::Result<()> {
-    tell(rt, alloc, asked, "single-2", single::Items { threads: 2 })?;
-    tell(rt, alloc, asked, "single-3", single::Items { threads: 3 })?;
-    tell(rt, alloc, asked, "single-4", single::Items { threads: 4 })?;
-    tell(rt, alloc, asked, "buffer", buffer::OneCell { rounds: 1 })?;
-    tell(
-        rt,
-        alloc,
-        asked,
-        "buffer-twice",
-        buffer::OneCell { rounds: 2 },
-    )?;
+    tell_visits(rt, alloc, asked, 2, 1)?;
+    tell_visits(rt, alloc, asked, 3, 2)?;
+    tell_visits(rt, alloc, asked, 2, 5)?;
+    tell_visits(rt, alloc, asked, 4, 1)?;
+    tell(rt, alloc, asked, "permits", users::Workers)?;
+    tell(rt, alloc, asked, "signals", signals::Signals)?;
+    tell_single(rt, alloc, asked, 2)?;
+    tell_single(rt, alloc, asked, 3)?;
+    tell_single(rt, alloc, asked, 4)?;
+    tell_buffer(rt, alloc, asked, 1)?;
+    tell_buffer(rt, alloc, asked, 2)?;
     tell(rt, alloc, asked, "mesa-buffer", mesa::MesaCell)?;
     tell(rt, alloc, asked, "alarm", clock::Tickers)?;
-    tell(rt, alloc, asked, "pool-2", pool::Streams { threads: 2 })?;
-    tell(rt, alloc, asked, "pool-3", pool::Streams { threads: 3 })?;
-    tell(rt, alloc, asked, "head-2", head::Requests { threads: 2 })?;
-    tell(rt, alloc, asked, "head-3", head::Requests { threads: 3 })?;
-    tell(rt, alloc, asked, "readers", readers::Readers { threads: 3 })?;
-    tell(
-        rt,
-        alloc,
-        asked,
-        "readers-4",
-        readers::Readers { threads: 4 },
-    )
+    tell_pool(rt, alloc, asked, 2)?;
+    tell_pool(rt, alloc, asked, 3)?;
+    tell_head(rt, alloc, asked, 2)?;
+    tell_head(rt, alloc, asked, 3)?;
+    tell_readers(rt, alloc, asked, 3)?;
+    tell_readers(rt, alloc, asked, 4)
+}
+
+// Programs of many orders.
+fn tell_long<R: Threads + Wait + Clock + Print + Copy + Send + 'static>(
+    rt: R,
+    alloc: Global,
+    asked: &Asked,
+) -> io::Result<()> {
+    tell_visits(rt, alloc, asked, 4, 2)?;
+    tell_visits(rt, alloc, asked, 8, 1)?;
+    tell_visits(rt, alloc, asked, 8, 2)
 }
 
 // The recipes of the cookbook.
@@ -161,10 +195,12 @@ fn tell_bad<R: Threads + Wait + Clock + Print + Copy + Send + 'static>(
 fn main(rt: HostRuntime) -> io::Result<()> {
     let alloc = rt.alloc();
     let asked = Asked::of(&rt)?;
-    tell_visits(rt, alloc, &asked)?;
     tell_schedulers(rt, alloc, &asked)?;
     tell_recipes(rt, alloc, &asked)?;
     tell_bad(rt, alloc, &asked)?;
+    if asked.wants_long() {
+        tell_long(rt, alloc, &asked)?;
+    }
     // a philosopher waits through 16 steps at the most
     let asked = asked.with_patience(16);
     tell(rt, alloc, &asked, "hungry", hungry::Hungry)

@@ -54,6 +54,11 @@ impl Asked {
         }
     }
 
+    /// Whether programs of many orders are wanted too: where times are asked for, or one program.
+    pub fn wants_long(&self) -> bool {
+        self.word.is_some() && !self.asks("all")
+    }
+
     // Whether all programs are to be tried.
     fn is_all(&self) -> bool {
         self.word.is_none() || self.asks("all") || self.asks("times")

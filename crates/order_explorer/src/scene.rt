@@ -166,7 +166,8 @@ impl Scene {
     {
         match self.book.now() {
             Next::Held(place) => Some(place),
-            _ => None,
+            Next::For(_) => None,
+            Next::Free => None,
         }
     }
 

@@ -39,7 +39,7 @@ use std::sync::atomic::AtomicU64;
 use std::thread::Threads;
 
 // So many threads of so many visits.
-fn tell_visits<R: Threads + Wait + Clock + Print + Copy + Send + 'static>(
+fn tell_visits<R: Threads + Wait + Clock + Print + Eprint + Copy + Send + 'static>(
     rt: R,
     alloc: Global,
     asked: &Asked,
@@ -57,7 +57,7 @@ fn tell_visits<R: Threads + Wait + Clock + Print + Copy + Send + 'static>(
 }
 
 // The single item, for so many threads.
-fn tell_single<R: Threads + Wait + Clock + Print + Copy + Send + 'static>(
+fn tell_single<R: Threads + Wait + Clock + Print + Eprint + Copy + Send + 'static>(
     rt: R,
     alloc: Global,
     asked: &Asked,
@@ -68,7 +68,7 @@ fn tell_single<R: Threads + Wait + Clock + Print + Copy + Send + 'static>(
 }
 
 // The bounded buffer, of so many rounds.
-fn tell_buffer<R: Threads + Wait + Clock + Print + Copy + Send + 'static>(
+fn tell_buffer<R: Threads + Wait + Clock + Print + Eprint + Copy + Send + 'static>(
     rt: R,
     alloc: Global,
     asked: &Asked,
@@ -79,7 +79,7 @@ fn tell_buffer<R: Threads + Wait + Clock + Print + Copy + Send + 'static>(
 }
 
 // The pool, for so many streams.
-fn tell_pool<R: Threads + Wait + Clock + Print + Copy + Send + 'static>(
+fn tell_pool<R: Threads + Wait + Clock + Print + Eprint + Copy + Send + 'static>(
     rt: R,
     alloc: Global,
     asked: &Asked,
@@ -90,7 +90,7 @@ fn tell_pool<R: Threads + Wait + Clock + Print + Copy + Send + 'static>(
 }
 
 // The disk head, for so many requests.
-fn tell_head<R: Threads + Wait + Clock + Print + Copy + Send + 'static>(
+fn tell_head<R: Threads + Wait + Clock + Print + Eprint + Copy + Send + 'static>(
     rt: R,
     alloc: Global,
     asked: &Asked,
@@ -101,7 +101,7 @@ fn tell_head<R: Threads + Wait + Clock + Print + Copy + Send + 'static>(
 }
 
 // A writer, and readers beside it.
-fn tell_readers<R: Threads + Wait + Clock + Print + Copy + Send + 'static>(
+fn tell_readers<R: Threads + Wait + Clock + Print + Eprint + Copy + Send + 'static>(
     rt: R,
     alloc: Global,
     asked: &Asked,
@@ -118,7 +118,7 @@ fn tell_readers<R: Threads + Wait + Clock + Print + Copy + Send + 'static>(
 }
 
 // Visits alone, the first monitor, and the schedulers.
-fn tell_schedulers<R: Threads + Wait + Clock + Print + Copy + Send + 'static>(
+fn tell_schedulers<R: Threads + Wait + Clock + Print + Eprint + Copy + Send + 'static>(
     rt: R,
     alloc: Global,
     asked: &Asked,
@@ -145,7 +145,7 @@ fn tell_schedulers<R: Threads + Wait + Clock + Print + Copy + Send + 'static>(
 }
 
 // Programs of many orders.
-fn tell_long<R: Threads + Wait + Clock + Print + Copy + Send + 'static>(
+fn tell_long<R: Threads + Wait + Clock + Print + Eprint + Copy + Send + 'static>(
     rt: R,
     alloc: Global,
     asked: &Asked,
@@ -156,7 +156,7 @@ fn tell_long<R: Threads + Wait + Clock + Print + Copy + Send + 'static>(
 }
 
 // The recipes of the cookbook.
-fn tell_recipes<R: Threads + Wait + Clock + Print + Copy + Send + 'static>(
+fn tell_recipes<R: Threads + Wait + Clock + Print + Eprint + Copy + Send + 'static>(
     rt: R,
     alloc: Global,
     asked: &Asked,
@@ -170,7 +170,7 @@ fn tell_recipes<R: Threads + Wait + Clock + Print + Copy + Send + 'static>(
 }
 
 // Programs of which some order is bad.
-fn tell_bad<R: Threads + Wait + Clock + Print + Copy + Send + 'static>(
+fn tell_bad<R: Threads + Wait + Clock + Print + Eprint + Copy + Send + 'static>(
     rt: R,
     alloc: Global,
     asked: &Asked,

@@ -139,7 +139,7 @@ fn tell_both<R: Print>(rt: &R, name: &str, baton: &str, ticket: &str) -> io::Res
 /// Tries the orders of a program on both doors, and prints what came of it. Where it alone is asked for, that goes to standard error,
 /// and the script of its bad order to standard output.
 pub fn tell<
-    R: Threads + Wait + Clock + Print + Copy + Send + 'static,
+    R: Threads + Wait + Clock + Print + Eprint + Copy + Send + 'static,
     D: MonitorData + Send + Drop + 'static,
     P: Program<D, Explored<D>> + Clone + 'static,
 >(rt: R, alloc: Global, asked: &Asked, name: &str, program: P) -> io::Result<()> {

@@ -5,12 +5,34 @@ use hoare_law::monitor::Monitor;
 use order_explorer::Program;
 use std::alloc::Global;
 use std::sync::Wait;
-use sweep_schedulers::readers_writers::ReadersWriters;
+use sweep_schedulers::readers_writers::{NoReader, ReadPass, ReadersWriters};
 
 /// Place 2 writes, and the others read.
 #[derive(Clone, Copy)]
 pub struct Readers {
     pub threads: usize,
+}
+
+// Ends a read: where the pass comes back it is tried again.
+fn end_read<R: Wait, M: Monitor<ReadersWriters<u64>>>(
+    rt: &R,
+    m: &M,
+    out: M::Out,
+    pass: ReadPass,
+) -> M::Out
+    requires { M.is_of m.now out }
+    ensures { M.is_of m.now result }
+{
+    let (mut out, mut pass) = (out, pass);
+    for _ in rt.forever() {
+        let (place, ended) = ReadersWriters::end_read(m, rt, out, pass);
+        out = place;
+        match ended {
+            Ok(()) => return out,
+            Err(NoReader { pass: back }) => pass = back,
+        }
+    }
+    unreachable!()
 }
 
 impl<M: Monitor<ReadersWriters<u64>>> Program<ReadersWriters<u64>, M> for Readers {
@@ -35,8 +57,7 @@ impl<M: Monitor<ReadersWriters<u64>>> Program<ReadersWriters<u64>, M> for Reader
         let Ok((pass, _value)) = read else {
             return (out, 0);
         };
-        let (out, ended) = ReadersWriters::end_read(m, rt, out, pass);
-        (out, u64::from(ended.is_ok()))
+        (end_read(rt, m, out, pass), 1)
     }
 
     fn is_right(&self, _left: &ReadersWriters<u64>, answers: &[u64]) -> bool {

@@ -3,7 +3,7 @@ use Rattle.order_explorer.specs.Scenes.{all_ended, is_stuck}
 use Rattle.order_explorer.proofs.scene.ending_at_rest.Goals as goal
 
 pub returns-then-all_ended : goal.returns-then-all_ended
-returns-then-all_ended g c = all_ended (search rules)
+returns-then-all_ended g = all_ended (search rules)
 
 pub returns-else-all_ended : goal.returns-else-all_ended
-returns-else-all_ended g c = is_stuck (search rules)
+returns-else-all_ended g = is_stuck (search rules)

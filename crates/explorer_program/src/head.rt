@@ -26,7 +26,7 @@ impl<M: Monitor<Head<u64>>> Program<Head<u64>, M> for Requests {
         requires { M.is_of m.now out }
         ensures { M.is_of m.now result.0 }
     {
-        let (out, drive) = Head::request(m, rt, out, (number as u16) % 10);
+        let (out, drive) = Head::request(m, rt, out, (number % 10) as u16);
         let Ok(drive) = drive else {
             return (out, 0);
         };

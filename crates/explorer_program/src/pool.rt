@@ -26,7 +26,7 @@ impl<M: Monitor<Pool>> Program<Pool, M> for Streams {
         requires { M.is_of m.now out }
         ensures { M.is_of m.now result.0 }
     {
-        let stream = number as u32;
+        let stream = (number % 4) as u32;
         let (out, taken) = Pool::take(m, rt, out, stream);
         let Ok(buffer) = taken else {
             return (out, 0);

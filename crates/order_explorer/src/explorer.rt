@@ -1,5 +1,5 @@
 //! The runs: one for each order, until all were tried or one ends otherwise than it should.
-ghost use Rattle.std.specs.Prelude.{◌≡◌, All};
+ghost use Rattle.std.specs.Prelude.{◌≡◌, All, IfSome};
 ghost use Rattle.std.specs.Arc.{arc_value};
 ghost use Rattle.hoare_law.specs.Sizes.{kinds_of};
 ghost use Rattle.door_frame.specs.Places.{IsOut};
@@ -236,6 +236,46 @@ fn controller_of<D: MonitorData>(
     Controller::make(alloc, threads, limits.steps, scene)
 }
 
+// The place of who looks, and those of the threads.
+fn with_desk<D: MonitorData + Send + Drop>(
+    explored: &Explored<D>,
+    outs: Vec<Outside<D>>,
+) -> Option<(Outside<D>, Vec<Outside<D>>)>
+    requires { All (IsOut D.rest D.ready (kinds_of D.CONDITIONS D.MESA) (id_of explored.now.door)) outs.items }
+    ensures desk { IfSome result
+        (λ r. IsOut D.rest D.ready (kinds_of D.CONDITIONS D.MESA) (id_of explored.now.door) r.0) }
+    ensures outs { IfSome result
+        (λ r. All (IsOut D.rest D.ready (kinds_of D.CONDITIONS D.MESA) (id_of explored.now.door)) r.1.items) }
+{
+    let mut outs = outs;
+    let desk = outs.pop()?;
+    Some((desk, outs))
+}
+
+// The runs of a program that its threads share.
+fn explore_shared<
+    R: Threads + Wait + Copy + Send + 'static,
+    D: MonitorData + Send + Drop + 'static,
+    P: Program<D, Explored<D>> + 'static,
+>(
+    rt: R,
+    alloc: Global,
+    program: Arc<P>,
+    explored: Arc<Explored<D>>,
+    places: (Outside<D>, Vec<Outside<D>>),
+    runs: u64,
+) -> Result<Found, AllocError>
+    requires desk { IsOut D.rest D.ready (kinds_of D.CONDITIONS D.MESA) (id_of (arc_value explored).door) places.0 }
+    requires outs { All (IsOut D.rest D.ready (kinds_of D.CONDITIONS D.MESA) (id_of (arc_value explored).door))
+        places.1.items }
+{
+    let (desk, outs) = places;
+    start_all(rt, &program, &explored, outs)?;
+    let found = run_all(&rt, alloc, &*program, &*explored, desk, runs)?;
+    explored.controller.stop(&rt);
+    Ok(found)
+}
+
 // The runs of a program under this controller.
 fn explore_with<
     R: Threads + Wait + Copy + Send + 'static,
@@ -248,24 +288,21 @@ fn explore_with<
     controller: Controller,
     limits: Limits,
 ) -> Result<Found, AllocError> {
-    let places = program.threads().saturating_add(1);
+    let count = program.threads().saturating_add(1);
     let Some(state) = program.open(alloc) else {
-        return Err(AllocError);
-    };
-    let (explored, mut outs) = Explored::make(alloc, limits.door, controller, state, places)?;
-    let Some(desk) = outs.pop() else {
-        return Err(AllocError);
-    };
-    let Ok(explored) = Arc::new(alloc, explored) else {
         return Err(AllocError);
     };
     let Ok(program) = Arc::new(alloc, program) else {
         return Err(AllocError);
     };
-    start_all(rt, &program, &explored, outs)?;
-    let found = run_all(&rt, alloc, &*program, &*explored, desk, limits.runs)?;
-    explored.controller.stop(&rt);
-    Ok(found)
+    let (explored, outs) = Explored::make(alloc, limits.door, controller, state, count)?;
+    let Some(places) = with_desk(&explored, outs) else {
+        return Err(AllocError);
+    };
+    let Ok(explored) = Arc::new(alloc, explored) else {
+        return Err(AllocError);
+    };
+    explore_shared(rt, alloc, program, explored, places, limits.runs)
 }
 
 /// Tries the orders in which the program's threads can be let in, within the limits: each in a run of its own. It stops at the first

@@ -31,6 +31,7 @@ mod users;
 mod weak_barrier;
 
 use crate::told::{Asked, tell};
+use order_explorer::{Limits, Orders};
 use std::alloc::Global;
 use std::io;
 use std::rt::Clock;
@@ -192,6 +193,50 @@ fn tell_bad<R: Threads + Wait + Clock + Print + Eprint + Copy + Send + 'static>(
     )
 }
 
+// Three threads of two visits, within limits that are too small.
+fn tell_small<R: Threads + Wait + Clock + Print + Eprint + Copy + Send + 'static>(
+    rt: R,
+    alloc: Global,
+    asked: &Asked,
+    name: &str,
+) -> io::Result<()> {
+    let program = counting::Visits {
+        threads: 3,
+        visits: 2,
+    };
+    tell(rt, alloc, asked, name, program)
+}
+
+// Programs with limits of their own: a philosopher waits through 16 steps at the most; a run has 6 choices and 12 steps; there are 90.
+fn tell_limits<R: Threads + Wait + Clock + Print + Eprint + Copy + Send + 'static>(
+    rt: R,
+    alloc: Global,
+    asked: Asked,
+) -> io::Result<()> {
+    let limits = asked.limits();
+    let asked = asked.within(Limits {
+        patience: 16,
+        ..limits
+    });
+    tell(rt, alloc, &asked, "hungry", hungry::Hungry)?;
+    let asked = asked.within(Limits { runs: 89, ..limits });
+    tell_small(rt, alloc, &asked, "few-runs")?;
+    let asked = asked.within(Limits {
+        steps: 11,
+        ..limits
+    });
+    tell_small(rt, alloc, &asked, "few-steps")?;
+    let asked = asked.within(Limits { depth: 5, ..limits });
+    tell_small(rt, alloc, &asked, "few-choices")?;
+    let orders = Orders::Drawn(1);
+    let asked = asked.within(Limits {
+        runs: 50,
+        orders,
+        ..limits
+    });
+    tell_small(rt, alloc, &asked, "drawn")
+}
+
 fn main(rt: HostRuntime) -> io::Result<()> {
     let alloc = rt.alloc();
     let asked = Asked::of(&rt)?;
@@ -201,7 +246,5 @@ fn main(rt: HostRuntime) -> io::Result<()> {
     if asked.wants_long() {
         tell_long(rt, alloc, &asked)?;
     }
-    // a philosopher waits through 16 steps at the most
-    let asked = asked.with_patience(16);
-    tell(rt, alloc, &asked, "hungry", hungry::Hungry)
+    tell_limits(rt, alloc, asked)
 }

@@ -39,10 +39,14 @@ impl Asked {
         Ok(Asked { word, limits })
     }
 
-    /// The same, with so many steps that a process may wait.
-    pub fn with_patience(self, patience: usize) -> Asked {
-        let Asked { word, limits } = self;
-        let limits = Limits { patience, ..limits };
+    /// The limits.
+    pub fn limits(&self) -> Limits {
+        self.limits
+    }
+
+    /// The same word, with these limits.
+    pub fn within(self, limits: Limits) -> Asked {
+        let Asked { word, .. } = self;
         Asked { word, limits }
     }
 
@@ -161,6 +165,9 @@ pub fn tell<
     if asked.asks("times") {
         let micros = spent.as_micros();
         println!(&rt; "    in {micros} microseconds")?;
+    }
+    if matches!(found, Found::Limit(..)) {
+        return Ok(());
     }
     let Some(bad) = found.schedule() else {
         return Ok(());

@@ -2,7 +2,7 @@
 
 use crate::answers::sum_of;
 use hoare_law::monitor::Monitor;
-use order_explorer::Program;
+use order_explorer::{Explored, Place, Program};
 use plain_schedulers::buffer::Buffer;
 use std::alloc::Global;
 use std::sync::Wait;
@@ -46,7 +46,7 @@ fn take<R: Wait, M: Monitor<Buffer<u64>>>(rt: &R, m: &M, out: M::Out, rounds: u3
     (out, sum)
 }
 
-impl<M: Monitor<Buffer<u64>>> Program<Buffer<u64>, M> for OneCell {
+impl Program<Buffer<u64>, Explored<Buffer<u64>>> for OneCell {
     fn threads(&self) -> usize {
         4
     }
@@ -55,9 +55,15 @@ impl<M: Monitor<Buffer<u64>>> Program<Buffer<u64>, M> for OneCell {
         Buffer::make(alloc, 1).ok()
     }
 
-    fn act<R: Wait>(&self, rt: &R, m: &M, out: M::Out, number: usize) -> (M::Out, u64)
-        requires { M.is_of m.now out }
-        ensures { M.is_of m.now result.0 }
+    fn act<R: Wait>(
+        &self,
+        rt: &R,
+        m: &Explored<Buffer<u64>>,
+        out: Place<Buffer<u64>>,
+        number: usize,
+    ) -> (Place<Buffer<u64>>, u64)
+        requires { ⟦<Explored<Buffer<u64>> as Monitor<Buffer<u64>>>⟧.is_of m.now out }
+        ensures { ⟦<Explored<Buffer<u64>> as Monitor<Buffer<u64>>>⟧.is_of m.now result.0 }
     {
         match number {
             0 => (put(rt, m, out, self.rounds, 1), 0),

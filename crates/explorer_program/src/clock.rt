@@ -2,7 +2,7 @@
 
 use crate::answers::all_one;
 use hoare_law::monitor::Monitor;
-use order_explorer::Program;
+use order_explorer::{Explored, Place, Program};
 use std::alloc::Global;
 use std::sync::Wait;
 use timed_schedulers::alarm::Alarm;
@@ -11,7 +11,7 @@ use timed_schedulers::alarm::Alarm;
 #[derive(Clone, Copy)]
 pub struct Sleepers;
 
-impl<M: Monitor<Alarm>> Program<Alarm, M> for Sleepers {
+impl Program<Alarm, Explored<Alarm>> for Sleepers {
     fn threads(&self) -> usize {
         3
     }
@@ -20,9 +20,15 @@ impl<M: Monitor<Alarm>> Program<Alarm, M> for Sleepers {
         Some(Alarm::at(0))
     }
 
-    fn act<R: Wait>(&self, rt: &R, m: &M, out: M::Out, number: usize) -> (M::Out, u64)
-        requires { M.is_of m.now out }
-        ensures { M.is_of m.now result.0 }
+    fn act<R: Wait>(
+        &self,
+        rt: &R,
+        m: &Explored<Alarm>,
+        out: Place<Alarm>,
+        number: usize,
+    ) -> (Place<Alarm>, u64)
+        requires { ⟦<Explored<Alarm> as Monitor<Alarm>>⟧.is_of m.now out }
+        ensures { ⟦<Explored<Alarm> as Monitor<Alarm>>⟧.is_of m.now result.0 }
     {
         if number < 2 {
             let (out, woken) = Alarm::wakeme(m, rt, out, 1);
@@ -42,7 +48,7 @@ impl<M: Monitor<Alarm>> Program<Alarm, M> for Sleepers {
 #[derive(Clone, Copy)]
 pub struct Tickers;
 
-impl<M: Monitor<Alarm>> Program<Alarm, M> for Tickers {
+impl Program<Alarm, Explored<Alarm>> for Tickers {
     fn threads(&self) -> usize {
         3
     }
@@ -51,9 +57,15 @@ impl<M: Monitor<Alarm>> Program<Alarm, M> for Tickers {
         Some(Alarm::at(0))
     }
 
-    fn act<R: Wait>(&self, rt: &R, m: &M, out: M::Out, _number: usize) -> (M::Out, u64)
-        requires { M.is_of m.now out }
-        ensures { M.is_of m.now result.0 }
+    fn act<R: Wait>(
+        &self,
+        rt: &R,
+        m: &Explored<Alarm>,
+        out: Place<Alarm>,
+        _number: usize,
+    ) -> (Place<Alarm>, u64)
+        requires { ⟦<Explored<Alarm> as Monitor<Alarm>>⟧.is_of m.now out }
+        ensures { ⟦<Explored<Alarm> as Monitor<Alarm>>⟧.is_of m.now result.0 }
     {
         let (out, _ticked) = Alarm::tick(m, rt, out);
         let (out, woken) = Alarm::wakeme(m, rt, out, 0);

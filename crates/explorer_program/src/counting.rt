@@ -3,7 +3,7 @@ ghost use Rattle.std.specs.Prelude.{◌≡◌};
 
 use crate::tally::Tally;
 use hoare_law::monitor::Monitor;
-use order_explorer::Program;
+use order_explorer::{Explored, Place, Program};
 use std::alloc::Global;
 use std::sync::Wait;
 
@@ -29,7 +29,7 @@ fn visit<R: Wait, M: Monitor<Tally>>(rt: &R, m: &M, out: M::Out, visits: u32) ->
     out
 }
 
-impl<M: Monitor<Tally>> Program<Tally, M> for Visits {
+impl Program<Tally, Explored<Tally>> for Visits {
     fn threads(&self) -> usize {
         self.threads
     }
@@ -38,9 +38,15 @@ impl<M: Monitor<Tally>> Program<Tally, M> for Visits {
         Some(Tally { value: 0 })
     }
 
-    fn act<R: Wait>(&self, rt: &R, m: &M, out: M::Out, _number: usize) -> (M::Out, u64)
-        requires { M.is_of m.now out }
-        ensures { M.is_of m.now result.0 }
+    fn act<R: Wait>(
+        &self,
+        rt: &R,
+        m: &Explored<Tally>,
+        out: Place<Tally>,
+        _number: usize,
+    ) -> (Place<Tally>, u64)
+        requires { ⟦<Explored<Tally> as Monitor<Tally>>⟧.is_of m.now out }
+        ensures { ⟦<Explored<Tally> as Monitor<Tally>>⟧.is_of m.now result.0 }
     {
         (visit(rt, m, out, self.visits), 0)
     }

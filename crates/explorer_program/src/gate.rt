@@ -2,7 +2,7 @@
 
 use crate::tally::Tally;
 use hoare_law::monitor::{Monitor, PLAIN};
-use order_explorer::Program;
+use order_explorer::{Explored, Place, Program};
 use std::alloc::Global;
 use std::sync::Wait;
 
@@ -10,7 +10,7 @@ use std::sync::Wait;
 #[derive(Clone, Copy)]
 pub struct Late;
 
-impl<M: Monitor<Tally>> Program<Tally, M> for Late {
+impl Program<Tally, Explored<Tally>> for Late {
     fn threads(&self) -> usize {
         3
     }
@@ -19,9 +19,15 @@ impl<M: Monitor<Tally>> Program<Tally, M> for Late {
         Some(Tally { value: 0 })
     }
 
-    fn act<R: Wait>(&self, rt: &R, m: &M, out: M::Out, number: usize) -> (M::Out, u64)
-        requires { M.is_of m.now out }
-        ensures { M.is_of m.now result.0 }
+    fn act<R: Wait>(
+        &self,
+        rt: &R,
+        m: &Explored<Tally>,
+        out: Place<Tally>,
+        number: usize,
+    ) -> (Place<Tally>, u64)
+        requires { ⟦<Explored<Tally> as Monitor<Tally>>⟧.is_of m.now out }
+        ensures { ⟦<Explored<Tally> as Monitor<Tally>>⟧.is_of m.now result.0 }
     {
         let mut inside = m.enter(rt, out);
         if number < 2 {

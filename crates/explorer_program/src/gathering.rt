@@ -3,7 +3,7 @@
 use crate::answers::all_one;
 use cookbook::barrier::{Arrival, Barrier};
 use hoare_law::monitor::Monitor;
-use order_explorer::Program;
+use order_explorer::{Explored, Place, Program};
 use std::alloc::Global;
 use std::sync::Wait;
 
@@ -11,7 +11,7 @@ use std::sync::Wait;
 #[derive(Clone, Copy)]
 pub struct Gathering;
 
-impl<M: Monitor<Barrier>> Program<Barrier, M> for Gathering {
+impl Program<Barrier, Explored<Barrier>> for Gathering {
     fn threads(&self) -> usize {
         3
     }
@@ -20,9 +20,15 @@ impl<M: Monitor<Barrier>> Program<Barrier, M> for Gathering {
         Some(Barrier::new(3))
     }
 
-    fn act<R: Wait>(&self, rt: &R, m: &M, out: M::Out, number: usize) -> (M::Out, u64)
-        requires { M.is_of m.now out }
-        ensures { M.is_of m.now result.0 }
+    fn act<R: Wait>(
+        &self,
+        rt: &R,
+        m: &Explored<Barrier>,
+        out: Place<Barrier>,
+        number: usize,
+    ) -> (Place<Barrier>, u64)
+        requires { ⟦<Explored<Barrier> as Monitor<Barrier>>⟧.is_of m.now out }
+        ensures { ⟦<Explored<Barrier> as Monitor<Barrier>>⟧.is_of m.now result.0 }
     {
         let _number = number;
         let (out, _arrival) = Barrier::arrive(m, rt, out);

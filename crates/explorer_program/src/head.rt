@@ -2,7 +2,7 @@
 
 use crate::answers::all_one;
 use hoare_law::monitor::Monitor;
-use order_explorer::Program;
+use order_explorer::{Explored, Place, Program};
 use std::alloc::Global;
 use std::sync::Wait;
 use sweep_schedulers::head::Head;
@@ -13,7 +13,7 @@ pub struct Requests {
     pub threads: usize,
 }
 
-impl<M: Monitor<Head<u64>>> Program<Head<u64>, M> for Requests {
+impl Program<Head<u64>, Explored<Head<u64>>> for Requests {
     fn threads(&self) -> usize {
         self.threads
     }
@@ -22,9 +22,15 @@ impl<M: Monitor<Head<u64>>> Program<Head<u64>, M> for Requests {
         Some(Head::with(0, 9))
     }
 
-    fn act<R: Wait>(&self, rt: &R, m: &M, out: M::Out, number: usize) -> (M::Out, u64)
-        requires { M.is_of m.now out }
-        ensures { M.is_of m.now result.0 }
+    fn act<R: Wait>(
+        &self,
+        rt: &R,
+        m: &Explored<Head<u64>>,
+        out: Place<Head<u64>>,
+        number: usize,
+    ) -> (Place<Head<u64>>, u64)
+        requires { ⟦<Explored<Head<u64>> as Monitor<Head<u64>>>⟧.is_of m.now out }
+        ensures { ⟦<Explored<Head<u64>> as Monitor<Head<u64>>>⟧.is_of m.now result.0 }
     {
         let (out, drive) = Head::request(m, rt, out, (number % 10) as u16);
         let Ok(drive) = drive else {

@@ -2,7 +2,7 @@
 
 use crate::tally::Tally;
 use hoare_law::monitor::Monitor;
-use order_explorer::Program;
+use order_explorer::{Explored, Place, Program};
 use std::alloc::{AllocError, Global};
 use std::sync::Wait;
 use std::sync::atomic::{AtomicU64, Ordering};
@@ -21,7 +21,7 @@ impl Clone for Hidden {
     }
 }
 
-impl<M: Monitor<Tally>> Program<Tally, M> for Hidden {
+impl Program<Tally, Explored<Tally>> for Hidden {
     fn threads(&self) -> usize {
         3
     }
@@ -30,9 +30,15 @@ impl<M: Monitor<Tally>> Program<Tally, M> for Hidden {
         Some(Tally { value: 0 })
     }
 
-    fn act<R: Wait>(&self, rt: &R, m: &M, out: M::Out, number: usize) -> (M::Out, u64)
-        requires { M.is_of m.now out }
-        ensures { M.is_of m.now result.0 }
+    fn act<R: Wait>(
+        &self,
+        rt: &R,
+        m: &Explored<Tally>,
+        out: Place<Tally>,
+        number: usize,
+    ) -> (Place<Tally>, u64)
+        requires { ⟦<Explored<Tally> as Monitor<Tally>>⟧.is_of m.now out }
+        ensures { ⟦<Explored<Tally> as Monitor<Tally>>⟧.is_of m.now result.0 }
     {
         let out = m.leave(rt, m.enter(rt, out));
         if number == 0 && self.runs.fetch_add(1, Ordering::SeqCst) % 2 == 1 {

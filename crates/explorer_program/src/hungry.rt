@@ -3,7 +3,7 @@ ghost use Rattle.std.specs.Prelude.{◌<◌};
 
 use cookbook::table::Table;
 use hoare_law::monitor::Monitor;
-use order_explorer::Program;
+use order_explorer::{Explored, Place, Program};
 use std::alloc::Global;
 use std::sync::Wait;
 
@@ -26,7 +26,7 @@ fn eat<R: Wait, M: Monitor<Table>>(rt: &R, m: &M, out: M::Out, seat: usize, meal
     out
 }
 
-impl<M: Monitor<Table>> Program<Table, M> for Hungry {
+impl Program<Table, Explored<Table>> for Hungry {
     fn threads(&self) -> usize {
         3
     }
@@ -35,9 +35,15 @@ impl<M: Monitor<Table>> Program<Table, M> for Hungry {
         Some(Table::new())
     }
 
-    fn act<R: Wait>(&self, rt: &R, m: &M, out: M::Out, number: usize) -> (M::Out, u64)
-        requires { M.is_of m.now out }
-        ensures { M.is_of m.now result.0 }
+    fn act<R: Wait>(
+        &self,
+        rt: &R,
+        m: &Explored<Table>,
+        out: Place<Table>,
+        number: usize,
+    ) -> (Place<Table>, u64)
+        requires { ⟦<Explored<Table> as Monitor<Table>>⟧.is_of m.now out }
+        ensures { ⟦<Explored<Table> as Monitor<Table>>⟧.is_of m.now result.0 }
     {
         let meals = if number == 1 { 1 } else { 3 };
         (eat(rt, m, out, number % 5, meals), 0)

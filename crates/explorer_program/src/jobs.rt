@@ -3,7 +3,7 @@
 use crate::answers::sum_of;
 use cookbook::work_queue::WorkQueue;
 use hoare_law::monitor::Monitor;
-use order_explorer::Program;
+use order_explorer::{Explored, Place, Program};
 use std::alloc::Global;
 use std::sync::Wait;
 
@@ -11,7 +11,7 @@ use std::sync::Wait;
 #[derive(Clone, Copy)]
 pub struct Jobs;
 
-impl<M: Monitor<WorkQueue>> Program<WorkQueue, M> for Jobs {
+impl Program<WorkQueue, Explored<WorkQueue>> for Jobs {
     fn threads(&self) -> usize {
         3
     }
@@ -20,9 +20,15 @@ impl<M: Monitor<WorkQueue>> Program<WorkQueue, M> for Jobs {
         Some(WorkQueue::new(2))
     }
 
-    fn act<R: Wait>(&self, rt: &R, m: &M, out: M::Out, number: usize) -> (M::Out, u64)
-        requires { M.is_of m.now out }
-        ensures { M.is_of m.now result.0 }
+    fn act<R: Wait>(
+        &self,
+        rt: &R,
+        m: &Explored<WorkQueue>,
+        out: Place<WorkQueue>,
+        number: usize,
+    ) -> (Place<WorkQueue>, u64)
+        requires { ⟦<Explored<WorkQueue> as Monitor<WorkQueue>>⟧.is_of m.now out }
+        ensures { ⟦<Explored<WorkQueue> as Monitor<WorkQueue>>⟧.is_of m.now result.0 }
     {
         if number == 0 {
             let (out, _put) = WorkQueue::put(m, rt, out, 7);

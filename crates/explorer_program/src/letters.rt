@@ -3,7 +3,7 @@
 use crate::answers::sum_of;
 use cookbook::mailbox::{Letter, Mailbox};
 use hoare_law::monitor::Monitor;
-use order_explorer::Program;
+use order_explorer::{Explored, Place, Program};
 use std::alloc::Global;
 use std::sync::Wait;
 
@@ -11,7 +11,7 @@ use std::sync::Wait;
 #[derive(Clone, Copy)]
 pub struct Letters;
 
-impl<M: Monitor<Mailbox>> Program<Mailbox, M> for Letters {
+impl Program<Mailbox, Explored<Mailbox>> for Letters {
     fn threads(&self) -> usize {
         4
     }
@@ -20,9 +20,15 @@ impl<M: Monitor<Mailbox>> Program<Mailbox, M> for Letters {
         Some(Mailbox::new())
     }
 
-    fn act<R: Wait>(&self, rt: &R, m: &M, out: M::Out, number: usize) -> (M::Out, u64)
-        requires { M.is_of m.now out }
-        ensures { M.is_of m.now result.0 }
+    fn act<R: Wait>(
+        &self,
+        rt: &R,
+        m: &Explored<Mailbox>,
+        out: Place<Mailbox>,
+        number: usize,
+    ) -> (Place<Mailbox>, u64)
+        requires { ⟦<Explored<Mailbox> as Monitor<Mailbox>>⟧.is_of m.now out }
+        ensures { ⟦<Explored<Mailbox> as Monitor<Mailbox>>⟧.is_of m.now result.0 }
     {
         if number < 2 {
             let word = number as u64;

@@ -2,7 +2,7 @@
 
 use crate::tally::Tally;
 use hoare_law::monitor::Monitor;
-use order_explorer::Program;
+use order_explorer::{Explored, Place, Program};
 use std::alloc::Global;
 use std::sync::Wait;
 
@@ -10,7 +10,7 @@ use std::sync::Wait;
 #[derive(Clone, Copy)]
 pub struct Lost;
 
-impl<M: Monitor<Tally>> Program<Tally, M> for Lost {
+impl Program<Tally, Explored<Tally>> for Lost {
     fn threads(&self) -> usize {
         2
     }
@@ -19,15 +19,21 @@ impl<M: Monitor<Tally>> Program<Tally, M> for Lost {
         Some(Tally { value: 0 })
     }
 
-    fn act<R: Wait>(&self, rt: &R, m: &M, out: M::Out, _number: usize) -> (M::Out, u64)
-        requires { M.is_of m.now out }
-        ensures { M.is_of m.now result.0 }
+    fn act<R: Wait>(
+        &self,
+        rt: &R,
+        m: &Explored<Tally>,
+        out: Place<Tally>,
+        _number: usize,
+    ) -> (Place<Tally>, u64)
+        requires { ⟦<Explored<Tally> as Monitor<Tally>>⟧.is_of m.now out }
+        ensures { ⟦<Explored<Tally> as Monitor<Tally>>⟧.is_of m.now result.0 }
     {
         let inside = m.enter(rt, out);
         let value = m.state(&inside).value;
         let out = m.leave(rt, inside);
         let mut inside = m.enter(rt, out);
-        M::state_mut(&mut inside, m).value = value.wrapping_add(1);
+        Explored::state_mut(&mut inside, m).value = value.wrapping_add(1);
         (m.leave(rt, inside), value)
     }
 

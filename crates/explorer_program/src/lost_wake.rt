@@ -2,7 +2,7 @@
 
 use crate::mesa_gate::MesaGate;
 use hoare_law::monitor::Monitor;
-use order_explorer::Program;
+use order_explorer::{Explored, Place, Program};
 use std::alloc::Global;
 use std::sync::Wait;
 
@@ -10,7 +10,7 @@ use std::sync::Wait;
 #[derive(Clone, Copy)]
 pub struct OneCalled;
 
-impl<M: Monitor<MesaGate>> Program<MesaGate, M> for OneCalled {
+impl Program<MesaGate, Explored<MesaGate>> for OneCalled {
     fn threads(&self) -> usize {
         3
     }
@@ -19,9 +19,15 @@ impl<M: Monitor<MesaGate>> Program<MesaGate, M> for OneCalled {
         Some(MesaGate { is_open: false })
     }
 
-    fn act<R: Wait>(&self, rt: &R, m: &M, out: M::Out, number: usize) -> (M::Out, u64)
-        requires { M.is_of m.now out }
-        ensures { M.is_of m.now result.0 }
+    fn act<R: Wait>(
+        &self,
+        rt: &R,
+        m: &Explored<MesaGate>,
+        out: Place<MesaGate>,
+        number: usize,
+    ) -> (Place<MesaGate>, u64)
+        requires { ⟦<Explored<MesaGate> as Monitor<MesaGate>>⟧.is_of m.now out }
+        ensures { ⟦<Explored<MesaGate> as Monitor<MesaGate>>⟧.is_of m.now result.0 }
     {
         if number < 2 {
             (MesaGate::pass(m, rt, out), 0)

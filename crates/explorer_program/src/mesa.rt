@@ -2,7 +2,7 @@
 
 use crate::answers::sum_of;
 use hoare_law::monitor::Monitor;
-use order_explorer::Program;
+use order_explorer::{Explored, Place, Program};
 use plain_schedulers::buffer::mesa::MesaBuffer;
 use std::alloc::Global;
 use std::sync::Wait;
@@ -11,7 +11,7 @@ use std::sync::Wait;
 #[derive(Clone, Copy)]
 pub struct MesaCell;
 
-impl<M: Monitor<MesaBuffer<u64>>> Program<MesaBuffer<u64>, M> for MesaCell {
+impl Program<MesaBuffer<u64>, Explored<MesaBuffer<u64>>> for MesaCell {
     fn threads(&self) -> usize {
         4
     }
@@ -20,9 +20,15 @@ impl<M: Monitor<MesaBuffer<u64>>> Program<MesaBuffer<u64>, M> for MesaCell {
         MesaBuffer::make(alloc, 1).ok()
     }
 
-    fn act<R: Wait>(&self, rt: &R, m: &M, out: M::Out, number: usize) -> (M::Out, u64)
-        requires { M.is_of m.now out }
-        ensures { M.is_of m.now result.0 }
+    fn act<R: Wait>(
+        &self,
+        rt: &R,
+        m: &Explored<MesaBuffer<u64>>,
+        out: Place<MesaBuffer<u64>>,
+        number: usize,
+    ) -> (Place<MesaBuffer<u64>>, u64)
+        requires { ⟦<Explored<MesaBuffer<u64>> as Monitor<MesaBuffer<u64>>>⟧.is_of m.now out }
+        ensures { ⟦<Explored<MesaBuffer<u64>> as Monitor<MesaBuffer<u64>>>⟧.is_of m.now result.0 }
     {
         if number < 2 {
             (MesaBuffer::append(m, rt, out, number as u64), 0)

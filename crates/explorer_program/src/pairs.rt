@@ -2,7 +2,7 @@
 
 use cookbook::rendezvous::Rendezvous;
 use hoare_law::monitor::Monitor;
-use order_explorer::Program;
+use order_explorer::{Explored, Place, Program};
 use std::alloc::Global;
 use std::sync::Wait;
 
@@ -10,7 +10,7 @@ use std::sync::Wait;
 #[derive(Clone, Copy)]
 pub struct Pairs;
 
-impl<M: Monitor<Rendezvous<u64>>> Program<Rendezvous<u64>, M> for Pairs {
+impl Program<Rendezvous<u64>, Explored<Rendezvous<u64>>> for Pairs {
     fn threads(&self) -> usize {
         4
     }
@@ -19,9 +19,15 @@ impl<M: Monitor<Rendezvous<u64>>> Program<Rendezvous<u64>, M> for Pairs {
         Some(Rendezvous::new())
     }
 
-    fn act<R: Wait>(&self, rt: &R, m: &M, out: M::Out, number: usize) -> (M::Out, u64)
-        requires { M.is_of m.now out }
-        ensures { M.is_of m.now result.0 }
+    fn act<R: Wait>(
+        &self,
+        rt: &R,
+        m: &Explored<Rendezvous<u64>>,
+        out: Place<Rendezvous<u64>>,
+        number: usize,
+    ) -> (Place<Rendezvous<u64>>, u64)
+        requires { ⟦<Explored<Rendezvous<u64>> as Monitor<Rendezvous<u64>>>⟧.is_of m.now out }
+        ensures { ⟦<Explored<Rendezvous<u64>> as Monitor<Rendezvous<u64>>>⟧.is_of m.now result.0 }
     {
         Rendezvous::meet(m, rt, out, number as u64)
     }

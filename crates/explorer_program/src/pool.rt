@@ -2,7 +2,7 @@
 
 use crate::answers::all_one;
 use hoare_law::monitor::Monitor;
-use order_explorer::Program;
+use order_explorer::{Explored, Place, Program};
 use std::alloc::Global;
 use std::sync::Wait;
 use timed_schedulers::pool::Pool;
@@ -13,7 +13,7 @@ pub struct Streams {
     pub threads: usize,
 }
 
-impl<M: Monitor<Pool>> Program<Pool, M> for Streams {
+impl Program<Pool, Explored<Pool>> for Streams {
     fn threads(&self) -> usize {
         self.threads
     }
@@ -22,9 +22,15 @@ impl<M: Monitor<Pool>> Program<Pool, M> for Streams {
         Pool::make(alloc, 1, 4).ok()
     }
 
-    fn act<R: Wait>(&self, rt: &R, m: &M, out: M::Out, number: usize) -> (M::Out, u64)
-        requires { M.is_of m.now out }
-        ensures { M.is_of m.now result.0 }
+    fn act<R: Wait>(
+        &self,
+        rt: &R,
+        m: &Explored<Pool>,
+        out: Place<Pool>,
+        number: usize,
+    ) -> (Place<Pool>, u64)
+        requires { ⟦<Explored<Pool> as Monitor<Pool>>⟧.is_of m.now out }
+        ensures { ⟦<Explored<Pool> as Monitor<Pool>>⟧.is_of m.now result.0 }
     {
         let stream = (number % 4) as u32;
         let (out, taken) = Pool::take(m, rt, out, stream);

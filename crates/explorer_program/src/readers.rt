@@ -2,7 +2,7 @@
 
 use crate::answers::all_one;
 use hoare_law::monitor::Monitor;
-use order_explorer::Program;
+use order_explorer::{Explored, Place, Program};
 use std::alloc::Global;
 use std::sync::Wait;
 use sweep_schedulers::readers_writers::{NoReader, ReadPass, ReadersWriters};
@@ -35,7 +35,7 @@ fn end_read<R: Wait, M: Monitor<ReadersWriters<u64>>>(
     unreachable!()
 }
 
-impl<M: Monitor<ReadersWriters<u64>>> Program<ReadersWriters<u64>, M> for Readers {
+impl Program<ReadersWriters<u64>, Explored<ReadersWriters<u64>>> for Readers {
     fn threads(&self) -> usize {
         self.threads
     }
@@ -44,9 +44,15 @@ impl<M: Monitor<ReadersWriters<u64>>> Program<ReadersWriters<u64>, M> for Reader
         Some(ReadersWriters::with(0))
     }
 
-    fn act<R: Wait>(&self, rt: &R, m: &M, out: M::Out, number: usize) -> (M::Out, u64)
-        requires { M.is_of m.now out }
-        ensures { M.is_of m.now result.0 }
+    fn act<R: Wait>(
+        &self,
+        rt: &R,
+        m: &Explored<ReadersWriters<u64>>,
+        out: Place<ReadersWriters<u64>>,
+        number: usize,
+    ) -> (Place<ReadersWriters<u64>>, u64)
+        requires { ⟦<Explored<ReadersWriters<u64>> as Monitor<ReadersWriters<u64>>>⟧.is_of m.now out }
+        ensures { ⟦<Explored<ReadersWriters<u64>> as Monitor<ReadersWriters<u64>>>⟧.is_of m.now result.0 }
     {
         if number == 2 {
             let (out, value) = ReadersWriters::start_write(m, rt, out);

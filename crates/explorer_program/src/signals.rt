@@ -2,7 +2,7 @@
 
 use crate::tally::Tally;
 use hoare_law::monitor::{Monitor, PLAIN};
-use order_explorer::Program;
+use order_explorer::{Explored, Place, Program};
 use std::alloc::Global;
 use std::sync::Wait;
 
@@ -29,7 +29,7 @@ fn pair_up<R: Wait, M: Monitor<Tally>>(rt: &R, m: &M, out: M::Out) -> M::Out
     m.leave(rt, inside)
 }
 
-impl<M: Monitor<Tally>> Program<Tally, M> for Signals {
+impl Program<Tally, Explored<Tally>> for Signals {
     fn threads(&self) -> usize {
         4
     }
@@ -38,9 +38,15 @@ impl<M: Monitor<Tally>> Program<Tally, M> for Signals {
         Some(Tally { value: 0 })
     }
 
-    fn act<R: Wait>(&self, rt: &R, m: &M, out: M::Out, _number: usize) -> (M::Out, u64)
-        requires { M.is_of m.now out }
-        ensures { M.is_of m.now result.0 }
+    fn act<R: Wait>(
+        &self,
+        rt: &R,
+        m: &Explored<Tally>,
+        out: Place<Tally>,
+        _number: usize,
+    ) -> (Place<Tally>, u64)
+        requires { ⟦<Explored<Tally> as Monitor<Tally>>⟧.is_of m.now out }
+        ensures { ⟦<Explored<Tally> as Monitor<Tally>>⟧.is_of m.now result.0 }
     {
         (pair_up(rt, m, out), 0)
     }

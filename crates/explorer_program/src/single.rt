@@ -2,7 +2,7 @@
 
 use crate::answers::sum_of;
 use hoare_law::monitor::Monitor;
-use order_explorer::Program;
+use order_explorer::{Explored, Place, Program};
 use plain_schedulers::single::Single;
 use std::alloc::Global;
 use std::sync::Wait;
@@ -13,7 +13,7 @@ pub struct Items {
     pub threads: usize,
 }
 
-impl<M: Monitor<Single<u64>>> Program<Single<u64>, M> for Items {
+impl Program<Single<u64>, Explored<Single<u64>>> for Items {
     fn threads(&self) -> usize {
         self.threads
     }
@@ -22,9 +22,15 @@ impl<M: Monitor<Single<u64>>> Program<Single<u64>, M> for Items {
         Some(Single::with(0))
     }
 
-    fn act<R: Wait>(&self, rt: &R, m: &M, out: M::Out, _number: usize) -> (M::Out, u64)
-        requires { M.is_of m.now out }
-        ensures { M.is_of m.now result.0 }
+    fn act<R: Wait>(
+        &self,
+        rt: &R,
+        m: &Explored<Single<u64>>,
+        out: Place<Single<u64>>,
+        _number: usize,
+    ) -> (Place<Single<u64>>, u64)
+        requires { ⟦<Explored<Single<u64>> as Monitor<Single<u64>>>⟧.is_of m.now out }
+        ensures { ⟦<Explored<Single<u64>> as Monitor<Single<u64>>>⟧.is_of m.now result.0 }
     {
         let (out, item) = Single::acquire(m, rt, out);
         let (out, _released) = Single::release(m, rt, out, item.wrapping_add(1));

@@ -3,7 +3,7 @@
 use crate::answers::all_one;
 use cookbook::latch::Latch;
 use hoare_law::monitor::Monitor;
-use order_explorer::Program;
+use order_explorer::{Explored, Place, Program};
 use std::alloc::Global;
 use std::sync::Wait;
 
@@ -11,7 +11,7 @@ use std::sync::Wait;
 #[derive(Clone, Copy)]
 pub struct Starting;
 
-impl<M: Monitor<Latch>> Program<Latch, M> for Starting {
+impl Program<Latch, Explored<Latch>> for Starting {
     fn threads(&self) -> usize {
         4
     }
@@ -20,9 +20,15 @@ impl<M: Monitor<Latch>> Program<Latch, M> for Starting {
         Some(Latch::new(2))
     }
 
-    fn act<R: Wait>(&self, rt: &R, m: &M, out: M::Out, number: usize) -> (M::Out, u64)
-        requires { M.is_of m.now out }
-        ensures { M.is_of m.now result.0 }
+    fn act<R: Wait>(
+        &self,
+        rt: &R,
+        m: &Explored<Latch>,
+        out: Place<Latch>,
+        number: usize,
+    ) -> (Place<Latch>, u64)
+        requires { ⟦<Explored<Latch> as Monitor<Latch>>⟧.is_of m.now out }
+        ensures { ⟦<Explored<Latch> as Monitor<Latch>>⟧.is_of m.now result.0 }
     {
         if number < 2 {
             (Latch::count_down(m, rt, out), 1)

@@ -2,7 +2,7 @@
 
 use crate::tally::Tally;
 use hoare_law::monitor::Monitor;
-use order_explorer::Program;
+use order_explorer::{Explored, Place, Program};
 use std::alloc::Global;
 use std::sync::Wait;
 
@@ -36,7 +36,7 @@ fn turn_on<R: Wait, M: Monitor<Tally>>(rt: &R, m: &M, out: M::Out, priority: u64
     out
 }
 
-impl<M: Monitor<Tally>> Program<Tally, M> for Dance {
+impl Program<Tally, Explored<Tally>> for Dance {
     fn threads(&self) -> usize {
         3
     }
@@ -45,9 +45,15 @@ impl<M: Monitor<Tally>> Program<Tally, M> for Dance {
         Some(Tally { value: 0 })
     }
 
-    fn act<R: Wait>(&self, rt: &R, m: &M, out: M::Out, number: usize) -> (M::Out, u64)
-        requires { M.is_of m.now out }
-        ensures { M.is_of m.now result.0 }
+    fn act<R: Wait>(
+        &self,
+        rt: &R,
+        m: &Explored<Tally>,
+        out: Place<Tally>,
+        number: usize,
+    ) -> (Place<Tally>, u64)
+        requires { ⟦<Explored<Tally> as Monitor<Tally>>⟧.is_of m.now out }
+        ensures { ⟦<Explored<Tally> as Monitor<Tally>>⟧.is_of m.now result.0 }
     {
         (turn_on(rt, m, out, u64::from(number == 2)), 0)
     }

@@ -3,7 +3,7 @@
 use crate::answers::all_one;
 use cookbook::table::Table;
 use hoare_law::monitor::Monitor;
-use order_explorer::Program;
+use order_explorer::{Explored, Place, Program};
 use std::alloc::Global;
 use std::sync::Wait;
 
@@ -11,7 +11,7 @@ use std::sync::Wait;
 #[derive(Clone, Copy)]
 pub struct Supper;
 
-impl<M: Monitor<Table>> Program<Table, M> for Supper {
+impl Program<Table, Explored<Table>> for Supper {
     fn threads(&self) -> usize {
         3
     }
@@ -20,9 +20,15 @@ impl<M: Monitor<Table>> Program<Table, M> for Supper {
         Some(Table::new())
     }
 
-    fn act<R: Wait>(&self, rt: &R, m: &M, out: M::Out, number: usize) -> (M::Out, u64)
-        requires { M.is_of m.now out }
-        ensures { M.is_of m.now result.0 }
+    fn act<R: Wait>(
+        &self,
+        rt: &R,
+        m: &Explored<Table>,
+        out: Place<Table>,
+        number: usize,
+    ) -> (Place<Table>, u64)
+        requires { ⟦<Explored<Table> as Monitor<Table>>⟧.is_of m.now out }
+        ensures { ⟦<Explored<Table> as Monitor<Table>>⟧.is_of m.now result.0 }
     {
         let seat = number % 5;
         let out = Table::sit_down(m, rt, out, seat);

@@ -3,7 +3,7 @@
 use crate::answers::all_one;
 use first_monitor::permits::{Class, Permits};
 use hoare_law::monitor::Monitor;
-use order_explorer::Program;
+use order_explorer::{Explored, Place, Program};
 use std::alloc::Global;
 use std::sync::Wait;
 
@@ -11,7 +11,7 @@ use std::sync::Wait;
 #[derive(Clone, Copy)]
 pub struct Workers;
 
-impl<M: Monitor<Permits>> Program<Permits, M> for Workers {
+impl Program<Permits, Explored<Permits>> for Workers {
     fn threads(&self) -> usize {
         3
     }
@@ -20,9 +20,15 @@ impl<M: Monitor<Permits>> Program<Permits, M> for Workers {
         Some(Permits::new(2))
     }
 
-    fn act<R: Wait>(&self, rt: &R, m: &M, out: M::Out, number: usize) -> (M::Out, u64)
-        requires { M.is_of m.now out }
-        ensures { M.is_of m.now result.0 }
+    fn act<R: Wait>(
+        &self,
+        rt: &R,
+        m: &Explored<Permits>,
+        out: Place<Permits>,
+        number: usize,
+    ) -> (Place<Permits>, u64)
+        requires { ⟦<Explored<Permits> as Monitor<Permits>>⟧.is_of m.now out }
+        ensures { ⟦<Explored<Permits> as Monitor<Permits>>⟧.is_of m.now result.0 }
     {
         let class = if number == 0 {
             Class::Express

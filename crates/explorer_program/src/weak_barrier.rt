@@ -4,7 +4,7 @@ ghost use Rattle.std.specs.Prelude.{◌≡◌, ◌<◌, ◌≤◌};
 use hoare_law::data::MonitorData;
 use hoare_law::monitor::{Monitor, PLAIN};
 use hoare_law::waits::Waits;
-use order_explorer::Program;
+use order_explorer::{Explored, Place, Program};
 use std::alloc::Global;
 use std::sync::Wait;
 
@@ -81,7 +81,7 @@ impl WeakBarrier {
 #[derive(Clone, Copy)]
 pub struct Weak;
 
-impl<M: Monitor<WeakBarrier>> Program<WeakBarrier, M> for Weak {
+impl Program<WeakBarrier, Explored<WeakBarrier>> for Weak {
     fn threads(&self) -> usize {
         3
     }
@@ -93,9 +93,15 @@ impl<M: Monitor<WeakBarrier>> Program<WeakBarrier, M> for Weak {
         })
     }
 
-    fn act<R: Wait>(&self, rt: &R, m: &M, out: M::Out, number: usize) -> (M::Out, u64)
-        requires { M.is_of m.now out }
-        ensures { M.is_of m.now result.0 }
+    fn act<R: Wait>(
+        &self,
+        rt: &R,
+        m: &Explored<WeakBarrier>,
+        out: Place<WeakBarrier>,
+        number: usize,
+    ) -> (Place<WeakBarrier>, u64)
+        requires { ⟦<Explored<WeakBarrier> as Monitor<WeakBarrier>>⟧.is_of m.now out }
+        ensures { ⟦<Explored<WeakBarrier> as Monitor<WeakBarrier>>⟧.is_of m.now result.0 }
     {
         let out = if number == 0 {
             WeakBarrier::withdraw(m, rt, out)

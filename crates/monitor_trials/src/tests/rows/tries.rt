@@ -75,13 +75,26 @@ macro_rules! try_on {
     }};
 }
 
+// That on a baton door.
+fn tries_baton<R: Wait + Abort>(rt: &R, alloc: Global) -> ((bool, bool, bool), u64) {
+    try_on!(Door, rt, alloc)
+}
+
+// That on a ticket door.
+fn tries_ticket<R: Wait + Abort>(rt: &R, alloc: Global) -> ((bool, bool, bool), u64) {
+    try_on!(TicketDoor, rt, alloc)
+}
+
 #[test]
-fn who_tries_comes_in_where_it_is_free(host: HostRuntime) {
-    let (rt, alloc) = (&host, host.alloc());
-    expect_same(rt, try_on!(Door, rt, alloc), ((true, false, true), 123));
+fn who_tries_comes_in_where_it_is_free(rt: HostRuntime) {
     expect_same(
-        rt,
-        try_on!(TicketDoor, rt, alloc),
+        &rt,
+        tries_baton(&rt, rt.alloc()),
+        ((true, false, true), 123),
+    );
+    expect_same(
+        &rt,
+        tries_ticket(&rt, rt.alloc()),
         ((true, false, true), 123),
     );
 }

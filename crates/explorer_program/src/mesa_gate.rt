@@ -1,0 +1,70 @@
+//! A gate on a Mesa condition: who finds it shut waits until it is open.
+
+use hoare_law::data::MonitorData;
+use hoare_law::monitor::{Monitor, PLAIN};
+use hoare_law::waits::Waits;
+use std::sync::Wait;
+
+const IS_OPEN: usize = 0;
+
+/// A gate, which is shut until it is opened.
+#[derive(Drop)]
+pub struct MesaGate {
+    pub is_open: bool,
+}
+
+// Nothing is said of who waits, so that nothing is owed to them.
+impl MonitorData for MesaGate {
+    ghost use Rattle.std.specs.Prelude.{⊤};
+
+    const CONDITIONS: usize = 1;
+
+    ghost CONDITIONS = { 1 };
+
+    const MESA: usize = 1;
+
+    ghost MESA = { 1 };
+
+    ghost inv = { λ b. ⊤ };
+
+    ghost rest = { λ b q. ⊤ };
+
+    ghost ready = { λ c p b q. ⊤ };
+
+    fn rest_holds<W: Waits>(&self, _lists: &W) -> bool {
+        true
+    }
+
+    fn ready_holds<W: Waits>(&self, _condition: usize, _priority: u64, _lists: &W) -> bool {
+        true
+    }
+
+    ghost rest_inv = { λ b q h. tt };
+
+    ghost ready_inv = { λ c p b q h. tt };
+}
+
+impl MesaGate {
+    /// Passes the gate, once it is open.
+    pub fn pass<R: Wait, M: Monitor<MesaGate>>(m: &M, rt: &R, out: M::Out) -> M::Out
+        requires { M.is_of m.now out }
+        ensures { M.is_of m.now result }
+    {
+        let mut inside = m.enter(rt, out);
+        if !m.state(&inside).is_open {
+            inside = m.wait(rt, inside, IS_OPEN, PLAIN);
+        }
+        m.leave(rt, inside)
+    }
+
+    /// Opens the gate, and calls one that waits. (All that wait are meant.)
+    pub fn open_to_one<R: Wait, M: Monitor<MesaGate>>(m: &M, rt: &R, out: M::Out) -> M::Out
+        requires { M.is_of m.now out }
+        ensures { M.is_of m.now result }
+    {
+        let mut inside = m.enter(rt, out);
+        M::state_mut(&mut inside, m).is_open = true;
+        m.notify(&mut inside, IS_OPEN);
+        m.leave(rt, inside)
+    }
+}

@@ -1,0 +1,46 @@
+//! The single item: each thread takes it out and puts it in.
+
+use crate::answers::sum_of;
+use hoare_law::monitor::Monitor;
+use order_explorer::{Explored, Place, Program};
+use plain_schedulers::single::Single;
+use std::alloc::Global;
+use std::sync::Wait;
+
+/// So many threads of two visits, each of which adds 1 to the item and answers what it was.
+#[derive(Clone, Copy)]
+pub struct Items {
+    pub threads: usize,
+}
+
+impl Program<Single<u64>, Explored<Single<u64>>> for Items {
+    fn threads(&self) -> usize {
+        self.threads
+    }
+
+    fn open(&self, _alloc: Global) -> Option<Single<u64>> {
+        Some(Single::with(0))
+    }
+
+    fn act<R: Wait>(
+        &self,
+        rt: &R,
+        m: &Explored<Single<u64>>,
+        out: Place<Single<u64>>,
+        _number: usize,
+    ) -> (Place<Single<u64>>, u64)
+        requires { ⟦<Explored<Single<u64>> as Monitor<Single<u64>>>⟧.is_of m.now out }
+        ensures { ⟦<Explored<Single<u64>> as Monitor<Single<u64>>>⟧.is_of m.now result.0 }
+    {
+        let (out, item) = Single::acquire(m, rt, out);
+        let (out, _released) = Single::release(m, rt, out, item.wrapping_add(1));
+        (out, item)
+    }
+
+    fn is_right(&self, _left: &Single<u64>, answers: &[u64]) -> bool {
+        {
+            let count = self.threads as u64;
+            sum_of(answers) == count.wrapping_mul(count.wrapping_sub(1)) / 2
+        }
+    }
+}

@@ -1,0 +1,14 @@
+use Rattle.std.proofs.Common.{◌≡◌, ◌≤◌, length}
+use Rattle.order_explorer.specs.Turns.{AreLast}
+use Rattle.order_explorer.proofs.choices.turn_last.Given as goal
+
+-- the choices behind those that are left have no place left
+abbrev pub invariant-loop-left : goal.invariant-loop-left
+invariant-loop-left l = record {
+  same : l.all.items ≡ l.initial.all.items;
+  within : l.left ≤ length l.all.items;
+  others_last : AreLast l.left l.all.items;
+}
+
+abbrev pub decreases-loop-left : goal.decreases-loop-left
+decreases-loop-left l = l.left

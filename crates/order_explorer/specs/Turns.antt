@@ -1,0 +1,22 @@
+-- How the choices of a run give those of the next: as an odometer turns.
+use Rattle.std.specs.Prelude.{ℕ, List, ◌≡◌, ◌<◌, ◌≤◌, ◌+◌, length, slice_index_or, slice_set, take}
+use Rattle.order_explorer.specs.declared.choices.Choice.{Choice}
+
+-- the choices from the i-th on have no place left to let in
+abbrev pub AreLast : ℕ → List Choice → Type 0
+AreLast i all = (k : ℕ) (d : Choice) → i ≤ k → k < length all
+    → (slice_index_or all k d).count ≤ (slice_index_or all k d).taken + 1
+
+-- the choice that lets in the next place
+abbrev pub turned : Choice → Choice
+turned c = record { asking = c.asking; behind = c.behind; count = c.count; taken = c.taken + 1 }
+
+-- the last of the old choices that has a place left is turned; those before it stay, and those behind it are gone
+pub record IsTurned (old new : List Choice) : Type 0 where
+  pub n : ℕ
+  pub last : Choice
+  pub within : n < length old
+  pub at : last ≡ slice_index_or old n last
+  pub has_left : last.taken + 1 < last.count
+  pub others_last : AreLast (n + 1) old
+  pub now : new ≡ take (n + 1) (slice_set old n (turned last))

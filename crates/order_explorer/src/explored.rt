@@ -1,0 +1,48 @@
+//! The monitor of a run: a door whose admissions the controller chooses.
+ghost use Rattle.std.specs.Prelude.{◌≡◌, All, IfOk};
+ghost use Rattle.hoare_law.specs.Priorities.{nobody};
+
+use crate::controller::Controller;
+use any_door::{AnyDoor, DoorKind};
+use door_frame::place::Outside;
+use hoare_law::data::MonitorData;
+use hoare_law::monitor::Monitor;
+use std::alloc::{AllocError, Global};
+
+/// A door whose admissions the controller of a run chooses: it implements `Monitor`.
+#[derive(Drop)]
+pub struct Explored<D: MonitorData> {
+    pub(crate) door: AnyDoor<D>,
+    pub(crate) controller: Controller,
+}
+
+impl<D: MonitorData + Send + Drop> Explored<D> {
+    /// A monitor with these data and this many places, in order. Where something is refused, the data are dropped.
+    pub(crate) fn make(
+        alloc: Global,
+        kind: DoorKind,
+        controller: Controller,
+        state: D,
+        places: usize,
+    ) -> Result<(Explored<D>, Vec<Outside<D>>), AllocError>
+        requires { D.rest state nobody }
+        ensures { IfOk result (λ r. All (⟦<Explored<D> as Monitor<D>>⟧.is_of r.0) r.1.items) }
+    {
+        let Ok((door, outs)) = AnyDoor::make(alloc, kind, state, places) else {
+            return Err(AllocError);
+        };
+        Ok((Explored { door, controller }, outs))
+    }
+}
+
+/// A place of such a monitor.
+pub type Place<D> = Outside<D>;
+
+/// The number of a place.
+pub(crate) fn number_of<D>(out: Outside<D>) -> (Outside<D>, usize)
+    ensures same { result.0 ≡ out }
+    ensures number { result.1 ≡ out.place }
+{
+    let (seat, place, parker) = out.into_parts();
+    (Outside::of_parts(seat, place, parker), place)
+}

@@ -1,0 +1,21 @@
+//! Tries the orders in which a monitor can let newcomers in: the threads of a small program run over a monitor whose
+//! admissions are chosen, again and again, until all orders were tried or one was found that hangs or ends wrong.
+#![tactic(auto)]
+
+mod choices;
+mod controller;
+mod explored;
+mod explorer;
+mod monitor;
+mod notes;
+mod parsed;
+mod program;
+mod scene;
+mod schedule;
+
+pub use any_door::DoorKind;
+pub use choices::{Choice, Orders};
+pub use explored::{Explored, Place};
+pub use explorer::{Found, Limits, explore, explore_again};
+pub use program::Program;
+pub use schedule::{Ending, Limit, Schedule, Standing};

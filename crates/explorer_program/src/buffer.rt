@@ -46,6 +46,24 @@ fn take<R: Wait, M: Monitor<Buffer<u64>>>(rt: &R, m: &M, out: M::Out, rounds: u3
     (out, sum)
 }
 
+// What a thread does, by its number.
+fn play<R: Wait, M: Monitor<Buffer<u64>>>(
+    rt: &R,
+    m: &M,
+    out: M::Out,
+    number: usize,
+    rounds: u32,
+) -> (M::Out, u64)
+    requires { M.is_of m.now out }
+    ensures { M.is_of m.now result.0 }
+{
+    match number {
+        0 => (put(rt, m, out, rounds, 1), 0),
+        1 => (put(rt, m, out, rounds, 2), 0),
+        _ => take(rt, m, out, rounds),
+    }
+}
+
 impl Program<Buffer<u64>, Explored<Buffer<u64>>> for OneCell {
     fn threads(&self) -> usize {
         4
@@ -65,11 +83,7 @@ impl Program<Buffer<u64>, Explored<Buffer<u64>>> for OneCell {
         requires { ⟦<Explored<Buffer<u64>> as Monitor<Buffer<u64>>>⟧.is_of m.now out }
         ensures { ⟦<Explored<Buffer<u64>> as Monitor<Buffer<u64>>>⟧.is_of m.now result.0 }
     {
-        match number {
-            0 => (put(rt, m, out, self.rounds, 1), 0),
-            1 => (put(rt, m, out, self.rounds, 2), 0),
-            _ => take(rt, m, out, self.rounds),
-        }
+        play(rt, m, out, number, self.rounds)
     }
 
     fn is_right(&self, _left: &Buffer<u64>, answers: &[u64]) -> bool {

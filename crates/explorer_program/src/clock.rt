@@ -11,6 +11,25 @@ use timed_schedulers::alarm::Alarm;
 #[derive(Clone, Copy)]
 pub struct Sleepers;
 
+// What a thread does, by its number.
+fn sleep_and_tick<R: Wait, M: Monitor<Alarm>>(
+    rt: &R,
+    m: &M,
+    out: M::Out,
+    number: usize,
+) -> (M::Out, u64)
+    requires { M.is_of m.now out }
+    ensures { M.is_of m.now result.0 }
+{
+    if number < 2 {
+        let (out, woken) = Alarm::wakeme(m, rt, out, 1);
+        return (out, u64::from(woken.is_ok()));
+    }
+    let (out, _first) = Alarm::tick(m, rt, out);
+    let (out, second) = Alarm::tick(m, rt, out);
+    (out, u64::from(second.is_ok()))
+}
+
 impl Program<Alarm, Explored<Alarm>> for Sleepers {
     fn threads(&self) -> usize {
         3
@@ -30,13 +49,7 @@ impl Program<Alarm, Explored<Alarm>> for Sleepers {
         requires { ⟦<Explored<Alarm> as Monitor<Alarm>>⟧.is_of m.now out }
         ensures { ⟦<Explored<Alarm> as Monitor<Alarm>>⟧.is_of m.now result.0 }
     {
-        if number < 2 {
-            let (out, woken) = Alarm::wakeme(m, rt, out, 1);
-            return (out, u64::from(woken.is_ok()));
-        }
-        let (out, _first) = Alarm::tick(m, rt, out);
-        let (out, second) = Alarm::tick(m, rt, out);
-        (out, u64::from(second.is_ok()))
+        sleep_and_tick(rt, m, out, number)
     }
 
     fn is_right(&self, _left: &Alarm, answers: &[u64]) -> bool {
@@ -47,6 +60,16 @@ impl Program<Alarm, Explored<Alarm>> for Sleepers {
 /// Three threads that tick, and ask for the time.
 #[derive(Clone, Copy)]
 pub struct Tickers;
+
+// What a thread does.
+fn tick_and_wake<R: Wait, M: Monitor<Alarm>>(rt: &R, m: &M, out: M::Out) -> (M::Out, u64)
+    requires { M.is_of m.now out }
+    ensures { M.is_of m.now result.0 }
+{
+    let (out, _ticked) = Alarm::tick(m, rt, out);
+    let (out, woken) = Alarm::wakeme(m, rt, out, 0);
+    (out, woken.unwrap_or(0))
+}
 
 impl Program<Alarm, Explored<Alarm>> for Tickers {
     fn threads(&self) -> usize {
@@ -67,9 +90,7 @@ impl Program<Alarm, Explored<Alarm>> for Tickers {
         requires { ⟦<Explored<Alarm> as Monitor<Alarm>>⟧.is_of m.now out }
         ensures { ⟦<Explored<Alarm> as Monitor<Alarm>>⟧.is_of m.now result.0 }
     {
-        let (out, _ticked) = Alarm::tick(m, rt, out);
-        let (out, woken) = Alarm::wakeme(m, rt, out, 0);
-        (out, woken.unwrap_or(0))
+        tick_and_wake(rt, m, out)
     }
 
     fn is_right(&self, _left: &Alarm, answers: &[u64]) -> bool {

@@ -11,6 +11,19 @@ use std::sync::Wait;
 #[derive(Clone, Copy)]
 pub struct Draining;
 
+// What a thread does, by its number.
+fn play<R: Wait, M: Monitor<Drain>>(rt: &R, m: &M, out: M::Out, number: usize) -> (M::Out, u64)
+    requires { M.is_of m.now out }
+    ensures { M.is_of m.now result.0 }
+{
+    if number > 1 {
+        return (Drain::drain(m, rt, out), 1);
+    }
+    let (out, begun) = Drain::begin(m, rt, out);
+    let out = Drain::end(m, rt, out);
+    (out, u64::from(begun.is_ok()))
+}
+
 impl Program<Drain, Explored<Drain>> for Draining {
     fn threads(&self) -> usize {
         4
@@ -30,12 +43,7 @@ impl Program<Drain, Explored<Drain>> for Draining {
         requires { ⟦<Explored<Drain> as Monitor<Drain>>⟧.is_of m.now out }
         ensures { ⟦<Explored<Drain> as Monitor<Drain>>⟧.is_of m.now result.0 }
     {
-        if number > 1 {
-            return (Drain::drain(m, rt, out), 1);
-        }
-        let (out, begun) = Drain::begin(m, rt, out);
-        let out = Drain::end(m, rt, out);
-        (out, u64::from(begun.is_ok()))
+        play(rt, m, out, number)
     }
 
     fn is_right(&self, _left: &Drain, answers: &[u64]) -> bool {

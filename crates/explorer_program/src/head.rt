@@ -13,6 +13,19 @@ pub struct Requests {
     pub threads: usize,
 }
 
+// What a thread does, by its number.
+fn play<R: Wait, M: Monitor<Head<u64>>>(rt: &R, m: &M, out: M::Out, number: usize) -> (M::Out, u64)
+    requires { M.is_of m.now out }
+    ensures { M.is_of m.now result.0 }
+{
+    let (out, drive) = Head::request(m, rt, out, (number % 10) as u16);
+    let Ok(drive) = drive else {
+        return (out, 0);
+    };
+    let (out, released) = Head::release(m, rt, out, drive);
+    (out, u64::from(released.is_ok()))
+}
+
 impl Program<Head<u64>, Explored<Head<u64>>> for Requests {
     fn threads(&self) -> usize {
         self.threads
@@ -32,12 +45,7 @@ impl Program<Head<u64>, Explored<Head<u64>>> for Requests {
         requires { ⟦<Explored<Head<u64>> as Monitor<Head<u64>>>⟧.is_of m.now out }
         ensures { ⟦<Explored<Head<u64>> as Monitor<Head<u64>>>⟧.is_of m.now result.0 }
     {
-        let (out, drive) = Head::request(m, rt, out, (number % 10) as u16);
-        let Ok(drive) = drive else {
-            return (out, 0);
-        };
-        let (out, released) = Head::release(m, rt, out, drive);
-        (out, u64::from(released.is_ok()))
+        play(rt, m, out, number)
     }
 
     fn is_right(&self, _left: &Head<u64>, answers: &[u64]) -> bool {

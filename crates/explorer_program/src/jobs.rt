@@ -11,6 +11,23 @@ use std::sync::Wait;
 #[derive(Clone, Copy)]
 pub struct Jobs;
 
+// What a thread does, by its number.
+fn play<R: Wait, M: Monitor<WorkQueue>>(rt: &R, m: &M, out: M::Out, number: usize) -> (M::Out, u64)
+    requires { M.is_of m.now out }
+    ensures { M.is_of m.now result.0 }
+{
+    if number == 0 {
+        let (out, _put) = WorkQueue::put(m, rt, out, 7);
+        return (WorkQueue::shut_down(m, rt, out), 0);
+    }
+    let (out, job) = WorkQueue::take(m, rt, out);
+    let Some(job) = job else {
+        return (out, 0);
+    };
+    let (out, _none) = WorkQueue::take(m, rt, out);
+    (out, job)
+}
+
 impl Program<WorkQueue, Explored<WorkQueue>> for Jobs {
     fn threads(&self) -> usize {
         3
@@ -30,16 +47,7 @@ impl Program<WorkQueue, Explored<WorkQueue>> for Jobs {
         requires { ⟦<Explored<WorkQueue> as Monitor<WorkQueue>>⟧.is_of m.now out }
         ensures { ⟦<Explored<WorkQueue> as Monitor<WorkQueue>>⟧.is_of m.now result.0 }
     {
-        if number == 0 {
-            let (out, _put) = WorkQueue::put(m, rt, out, 7);
-            return (WorkQueue::shut_down(m, rt, out), 0);
-        }
-        let (out, job) = WorkQueue::take(m, rt, out);
-        let Some(job) = job else {
-            return (out, 0);
-        };
-        let (out, _none) = WorkQueue::take(m, rt, out);
-        (out, job)
+        play(rt, m, out, number)
     }
 
     fn is_right(&self, _left: &WorkQueue, answers: &[u64]) -> bool {

@@ -11,6 +11,20 @@ use std::sync::Wait;
 #[derive(Clone, Copy)]
 pub struct Letters;
 
+// What a thread does, by its number.
+fn play<R: Wait, M: Monitor<Mailbox>>(rt: &R, m: &M, out: M::Out, number: usize) -> (M::Out, u64)
+    requires { M.is_of m.now out }
+    ensures { M.is_of m.now result.0 }
+{
+    if number < 2 {
+        let word = number as u64;
+        (Mailbox::send(m, rt, out, Letter { priority: 0, word }), 0)
+    } else {
+        let (out, letter) = Mailbox::receive(m, rt, out);
+        (out, letter.word)
+    }
+}
+
 impl Program<Mailbox, Explored<Mailbox>> for Letters {
     fn threads(&self) -> usize {
         4
@@ -30,13 +44,7 @@ impl Program<Mailbox, Explored<Mailbox>> for Letters {
         requires { ⟦<Explored<Mailbox> as Monitor<Mailbox>>⟧.is_of m.now out }
         ensures { ⟦<Explored<Mailbox> as Monitor<Mailbox>>⟧.is_of m.now result.0 }
     {
-        if number < 2 {
-            let word = number as u64;
-            (Mailbox::send(m, rt, out, Letter { priority: 0, word }), 0)
-        } else {
-            let (out, letter) = Mailbox::receive(m, rt, out);
-            (out, letter.word)
-        }
+        play(rt, m, out, number)
     }
 
     fn is_right(&self, _left: &Mailbox, answers: &[u64]) -> bool {

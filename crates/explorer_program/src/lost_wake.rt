@@ -10,6 +10,18 @@ use std::sync::Wait;
 #[derive(Clone, Copy)]
 pub struct OneCalled;
 
+// What a thread does, by its number.
+fn play<R: Wait, M: Monitor<MesaGate>>(rt: &R, m: &M, out: M::Out, number: usize) -> (M::Out, u64)
+    requires { M.is_of m.now out }
+    ensures { M.is_of m.now result.0 }
+{
+    if number < 2 {
+        (MesaGate::pass(m, rt, out), 0)
+    } else {
+        (MesaGate::open_to_one(m, rt, out), 0)
+    }
+}
+
 impl Program<MesaGate, Explored<MesaGate>> for OneCalled {
     fn threads(&self) -> usize {
         3
@@ -29,11 +41,7 @@ impl Program<MesaGate, Explored<MesaGate>> for OneCalled {
         requires { ⟦<Explored<MesaGate> as Monitor<MesaGate>>⟧.is_of m.now out }
         ensures { ⟦<Explored<MesaGate> as Monitor<MesaGate>>⟧.is_of m.now result.0 }
     {
-        if number < 2 {
-            (MesaGate::pass(m, rt, out), 0)
-        } else {
-            (MesaGate::open_to_one(m, rt, out), 0)
-        }
+        play(rt, m, out, number)
     }
 
     fn is_right(&self, _left: &MesaGate, _answers: &[u64]) -> bool {

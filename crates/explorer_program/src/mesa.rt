@@ -11,6 +11,23 @@ use std::sync::Wait;
 #[derive(Clone, Copy)]
 pub struct MesaCell;
 
+// What a thread does, by its number.
+fn play<R: Wait, M: Monitor<MesaBuffer<u64>>>(
+    rt: &R,
+    m: &M,
+    out: M::Out,
+    number: usize,
+) -> (M::Out, u64)
+    requires { M.is_of m.now out }
+    ensures { M.is_of m.now result.0 }
+{
+    if number < 2 {
+        (MesaBuffer::append(m, rt, out, number as u64), 0)
+    } else {
+        MesaBuffer::remove(m, rt, out)
+    }
+}
+
 impl Program<MesaBuffer<u64>, Explored<MesaBuffer<u64>>> for MesaCell {
     fn threads(&self) -> usize {
         4
@@ -30,11 +47,7 @@ impl Program<MesaBuffer<u64>, Explored<MesaBuffer<u64>>> for MesaCell {
         requires { ⟦<Explored<MesaBuffer<u64>> as Monitor<MesaBuffer<u64>>>⟧.is_of m.now out }
         ensures { ⟦<Explored<MesaBuffer<u64>> as Monitor<MesaBuffer<u64>>>⟧.is_of m.now result.0 }
     {
-        if number < 2 {
-            (MesaBuffer::append(m, rt, out, number as u64), 0)
-        } else {
-            MesaBuffer::remove(m, rt, out)
-        }
+        play(rt, m, out, number)
     }
 
     fn is_right(&self, _left: &MesaBuffer<u64>, answers: &[u64]) -> bool {

@@ -13,6 +13,20 @@ pub struct Streams {
     pub threads: usize,
 }
 
+// What a thread does, by its number.
+fn play<R: Wait, M: Monitor<Pool>>(rt: &R, m: &M, out: M::Out, number: usize) -> (M::Out, u64)
+    requires { M.is_of m.now out }
+    ensures { M.is_of m.now result.0 }
+{
+    let stream = (number % 4) as u32;
+    let (out, taken) = Pool::take(m, rt, out, stream);
+    let Ok(buffer) = taken else {
+        return (out, 0);
+    };
+    let (out, given) = Pool::give(m, rt, out, stream, buffer);
+    (out, u64::from(given.is_ok()))
+}
+
 impl Program<Pool, Explored<Pool>> for Streams {
     fn threads(&self) -> usize {
         self.threads
@@ -32,13 +46,7 @@ impl Program<Pool, Explored<Pool>> for Streams {
         requires { ⟦<Explored<Pool> as Monitor<Pool>>⟧.is_of m.now out }
         ensures { ⟦<Explored<Pool> as Monitor<Pool>>⟧.is_of m.now result.0 }
     {
-        let stream = (number % 4) as u32;
-        let (out, taken) = Pool::take(m, rt, out, stream);
-        let Ok(buffer) = taken else {
-            return (out, 0);
-        };
-        let (out, given) = Pool::give(m, rt, out, stream, buffer);
-        (out, u64::from(given.is_ok()))
+        play(rt, m, out, number)
     }
 
     fn is_right(&self, _left: &Pool, answers: &[u64]) -> bool {

@@ -35,6 +35,28 @@ fn end_read<R: Wait, M: Monitor<ReadersWriters<u64>>>(
     unreachable!()
 }
 
+// What a thread does, by its number.
+fn play<R: Wait, M: Monitor<ReadersWriters<u64>>>(
+    rt: &R,
+    m: &M,
+    out: M::Out,
+    number: usize,
+) -> (M::Out, u64)
+    requires { M.is_of m.now out }
+    ensures { M.is_of m.now result.0 }
+{
+    if number == 2 {
+        let (out, value) = ReadersWriters::start_write(m, rt, out);
+        let (out, ended) = ReadersWriters::end_write(m, rt, out, value.wrapping_add(1));
+        return (out, u64::from(ended.is_ok()));
+    }
+    let (out, read) = ReadersWriters::start_read(m, rt, out);
+    let Ok((pass, _value)) = read else {
+        return (out, 0);
+    };
+    (end_read(rt, m, out, pass), 1)
+}
+
 impl Program<ReadersWriters<u64>, Explored<ReadersWriters<u64>>> for Readers {
     fn threads(&self) -> usize {
         self.threads
@@ -54,16 +76,7 @@ impl Program<ReadersWriters<u64>, Explored<ReadersWriters<u64>>> for Readers {
         requires { ⟦<Explored<ReadersWriters<u64>> as Monitor<ReadersWriters<u64>>>⟧.is_of m.now out }
         ensures { ⟦<Explored<ReadersWriters<u64>> as Monitor<ReadersWriters<u64>>>⟧.is_of m.now result.0 }
     {
-        if number == 2 {
-            let (out, value) = ReadersWriters::start_write(m, rt, out);
-            let (out, ended) = ReadersWriters::end_write(m, rt, out, value.wrapping_add(1));
-            return (out, u64::from(ended.is_ok()));
-        }
-        let (out, read) = ReadersWriters::start_read(m, rt, out);
-        let Ok((pass, _value)) = read else {
-            return (out, 0);
-        };
-        (end_read(rt, m, out, pass), 1)
+        play(rt, m, out, number)
     }
 
     fn is_right(&self, _left: &ReadersWriters<u64>, answers: &[u64]) -> bool {

@@ -13,6 +13,16 @@ pub struct Items {
     pub threads: usize,
 }
 
+// What a thread does.
+fn play<R: Wait, M: Monitor<Single<u64>>>(rt: &R, m: &M, out: M::Out) -> (M::Out, u64)
+    requires { M.is_of m.now out }
+    ensures { M.is_of m.now result.0 }
+{
+    let (out, item) = Single::acquire(m, rt, out);
+    let (out, _released) = Single::release(m, rt, out, item.wrapping_add(1));
+    (out, item)
+}
+
 impl Program<Single<u64>, Explored<Single<u64>>> for Items {
     fn threads(&self) -> usize {
         self.threads
@@ -32,9 +42,7 @@ impl Program<Single<u64>, Explored<Single<u64>>> for Items {
         requires { ⟦<Explored<Single<u64>> as Monitor<Single<u64>>>⟧.is_of m.now out }
         ensures { ⟦<Explored<Single<u64>> as Monitor<Single<u64>>>⟧.is_of m.now result.0 }
     {
-        let (out, item) = Single::acquire(m, rt, out);
-        let (out, _released) = Single::release(m, rt, out, item.wrapping_add(1));
-        (out, item)
+        play(rt, m, out)
     }
 
     fn is_right(&self, _left: &Single<u64>, answers: &[u64]) -> bool {

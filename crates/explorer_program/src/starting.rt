@@ -11,6 +11,18 @@ use std::sync::Wait;
 #[derive(Clone, Copy)]
 pub struct Starting;
 
+// What a thread does, by its number.
+fn play<R: Wait, M: Monitor<Latch>>(rt: &R, m: &M, out: M::Out, number: usize) -> (M::Out, u64)
+    requires { M.is_of m.now out }
+    ensures { M.is_of m.now result.0 }
+{
+    if number < 2 {
+        (Latch::count_down(m, rt, out), 1)
+    } else {
+        (Latch::pass(m, rt, out), 1)
+    }
+}
+
 impl Program<Latch, Explored<Latch>> for Starting {
     fn threads(&self) -> usize {
         4
@@ -30,11 +42,7 @@ impl Program<Latch, Explored<Latch>> for Starting {
         requires { ⟦<Explored<Latch> as Monitor<Latch>>⟧.is_of m.now out }
         ensures { ⟦<Explored<Latch> as Monitor<Latch>>⟧.is_of m.now result.0 }
     {
-        if number < 2 {
-            (Latch::count_down(m, rt, out), 1)
-        } else {
-            (Latch::pass(m, rt, out), 1)
-        }
+        play(rt, m, out, number)
     }
 
     fn is_right(&self, _left: &Latch, answers: &[u64]) -> bool {

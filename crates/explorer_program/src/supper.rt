@@ -11,6 +11,17 @@ use std::sync::Wait;
 #[derive(Clone, Copy)]
 pub struct Supper;
 
+// What a thread does, by its number.
+fn play<R: Wait, M: Monitor<Table>>(rt: &R, m: &M, out: M::Out, number: usize) -> (M::Out, u64)
+    requires { M.is_of m.now out }
+    ensures { M.is_of m.now result.0 }
+{
+    let seat = number % 5;
+    let out = Table::sit_down(m, rt, out, seat);
+    let (out, got_up) = Table::get_up(m, rt, out, seat);
+    (out, u64::from(got_up.is_ok()))
+}
+
 impl Program<Table, Explored<Table>> for Supper {
     fn threads(&self) -> usize {
         3
@@ -30,10 +41,7 @@ impl Program<Table, Explored<Table>> for Supper {
         requires { ⟦<Explored<Table> as Monitor<Table>>⟧.is_of m.now out }
         ensures { ⟦<Explored<Table> as Monitor<Table>>⟧.is_of m.now result.0 }
     {
-        let seat = number % 5;
-        let out = Table::sit_down(m, rt, out, seat);
-        let (out, got_up) = Table::get_up(m, rt, out, seat);
-        (out, u64::from(got_up.is_ok()))
+        play(rt, m, out, number)
     }
 
     fn is_right(&self, _left: &Table, answers: &[u64]) -> bool {

@@ -8,7 +8,7 @@ use std::alloc::Global;
 use std::rt::Clock;
 use std::sync::Wait;
 use std::thread::Threads;
-use std::time::Instant;
+use std::time::{Duration, Instant};
 use std::{env, io};
 
 /// What the arguments ask for: a word, and the limits.
@@ -132,12 +132,78 @@ fn is_found_again<
 }
 
 // Prints what came of it on both doors, once where it is the same.
-fn tell_both<R: Print>(rt: &R, name: &str, baton: &str, ticket: &str) -> io::Result<()> {
-    if baton == ticket {
+fn tell_both<R: Print>(
+    rt: &R,
+    alloc: Global,
+    name: &str,
+    baton: &Found,
+    ticket: &Found,
+) -> io::Result<()> {
+    let baton = words_of(alloc, baton)?;
+    let ticket = words_of(alloc, ticket)?;
+    if baton.as_str() == ticket.as_str() {
         return print!(rt; "{name}: {baton}");
     }
     print!(rt; "{name}, by a baton: {baton}")?;
     print!(rt; "{name}, by tickets: {ticket}")
+}
+
+// What came of it on a door of one word, and how long it took.
+fn found_in_time<
+    R: Threads + Wait + Clock + Copy + Send + 'static,
+    D: MonitorData + Send + Drop + 'static,
+    P: Program<D, Explored<D>> + Clone + 'static,
+>(rt: R, alloc: Global, asked: &Asked, program: P) -> io::Result<(Found, Duration)> {
+    let start = Instant::now(&rt)?;
+    let found = found_on(rt, alloc, asked, DoorKind::Baton, program)?;
+    let spent = start.elapsed(&rt)?;
+    Ok((found, spent))
+}
+
+// Says so where the bad order, run again alone, ends otherwise.
+fn tell_again<
+    R: Threads + Wait + Print + Copy + Send + 'static,
+    D: MonitorData + Send + Drop + 'static,
+    P: Program<D, Explored<D>> + Clone + 'static,
+>(rt: R, alloc: Global, asked: &Asked, found: &Found, program: P) -> io::Result<()> {
+    if matches!(found, Found::Limit(..)) {
+        return Ok(());
+    }
+    let Some(bad) = found.schedule() else {
+        return Ok(());
+    };
+    if is_found_again(rt, alloc, asked, bad, program)? {
+        return Ok(());
+    }
+    println!(&rt; "    the order alone ends otherwise")
+}
+
+// Prints what came of it on both doors.
+fn tell_on_both<
+    R: Threads + Wait + Clock + Print + Copy + Send + 'static,
+    D: MonitorData + Send + Drop + 'static,
+    P: Program<D, Explored<D>> + Clone + 'static,
+>(rt: R, alloc: Global, asked: &Asked, name: &str, program: P) -> io::Result<()> {
+    let (found, spent) = found_in_time(rt, alloc, asked, program.clone()?)?;
+    let second = found_on(rt, alloc, asked, DoorKind::Ticket, program.clone()?)?;
+    tell_both(&rt, alloc, name, &found, &second)?;
+    if asked.asks("times") {
+        let micros = spent.as_micros();
+        println!(&rt; "    in {micros} microseconds")?;
+    }
+    tell_again(rt, alloc, asked, &found, program)
+}
+
+// Prints what came of it on standard error, and the script of the bad order.
+fn tell_alone<
+    R: Threads + Wait + Print + Eprint + Copy + Send + 'static,
+    D: MonitorData + Send + Drop + 'static,
+    P: Program<D, Explored<D>> + Clone + 'static,
+>(rt: R, alloc: Global, asked: &Asked, name: &str, program: P) -> io::Result<()> {
+    let found = found_on(rt, alloc, asked, DoorKind::Baton, program)?;
+    let words = words_of(alloc, &found)?;
+    eprint!(&rt; "{name}: {words}")?;
+    tell_script(&rt, alloc, &found)
 }
 
 /// Tries the orders of a program on both doors, and prints what came of it. Where it alone is asked for, that goes to
@@ -147,35 +213,13 @@ pub fn tell<
     D: MonitorData + Send + Drop + 'static,
     P: Program<D, Explored<D>> + Clone + 'static,
 >(rt: R, alloc: Global, asked: &Asked, name: &str, program: P) -> io::Result<()> {
-    let alone = asked.asks(name);
-    if !alone && !asked.is_all() {
+    if asked.asks(name) {
+        return tell_alone(rt, alloc, asked, name, program);
+    }
+    if !asked.is_all() {
         return Ok(());
     }
-    let start = Instant::now(&rt)?;
-    let found = found_on(rt, alloc, asked, DoorKind::Baton, program.clone()?)?;
-    let spent = start.elapsed(&rt)?;
-    let baton = words_of(alloc, &found)?;
-    if alone {
-        eprint!(&rt; "{name}: {baton}")?;
-        return tell_script(&rt, alloc, &found);
-    }
-    let second = found_on(rt, alloc, asked, DoorKind::Ticket, program.clone()?)?;
-    let ticket = words_of(alloc, &second)?;
-    tell_both(&rt, name, baton.as_str(), ticket.as_str())?;
-    if asked.asks("times") {
-        let micros = spent.as_micros();
-        println!(&rt; "    in {micros} microseconds")?;
-    }
-    if matches!(found, Found::Limit(..)) {
-        return Ok(());
-    }
-    let Some(bad) = found.schedule() else {
-        return Ok(());
-    };
-    if !is_found_again(rt, alloc, asked, bad, program)? {
-        println!(&rt; "    the order alone ends otherwise")?;
-    }
-    Ok(())
+    tell_on_both(rt, alloc, asked, name, program)
 }
 
 // The script of the bad order, or of the last one that was tried.

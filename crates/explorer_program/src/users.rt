@@ -11,6 +11,21 @@ use std::sync::Wait;
 #[derive(Clone, Copy)]
 pub struct Workers;
 
+// What a thread does, by its number.
+fn play<R: Wait, M: Monitor<Permits>>(rt: &R, m: &M, out: M::Out, number: usize) -> (M::Out, u64)
+    requires { M.is_of m.now out }
+    ensures { M.is_of m.now result.0 }
+{
+    let class = if number == 0 {
+        Class::Express
+    } else {
+        Class::Standard
+    };
+    let out = Permits::take(m, rt, out, class);
+    let (out, given) = Permits::give(m, rt, out);
+    (out, u64::from(given.is_ok()))
+}
+
 impl Program<Permits, Explored<Permits>> for Workers {
     fn threads(&self) -> usize {
         3
@@ -30,14 +45,7 @@ impl Program<Permits, Explored<Permits>> for Workers {
         requires { ⟦<Explored<Permits> as Monitor<Permits>>⟧.is_of m.now out }
         ensures { ⟦<Explored<Permits> as Monitor<Permits>>⟧.is_of m.now result.0 }
     {
-        let class = if number == 0 {
-            Class::Express
-        } else {
-            Class::Standard
-        };
-        let out = Permits::take(m, rt, out, class);
-        let (out, given) = Permits::give(m, rt, out);
-        (out, u64::from(given.is_ok()))
+        play(rt, m, out, number)
     }
 
     fn is_right(&self, _left: &Permits, answers: &[u64]) -> bool {

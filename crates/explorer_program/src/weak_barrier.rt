@@ -82,6 +82,24 @@ impl WeakBarrier {
 #[derive(Clone, Copy)]
 pub struct Weak;
 
+// What a thread does, by its number.
+fn play<R: Wait, M: Monitor<WeakBarrier>>(
+    rt: &R,
+    m: &M,
+    out: M::Out,
+    number: usize,
+) -> (M::Out, u64)
+    requires { M.is_of m.now out }
+    ensures { M.is_of m.now result.0 }
+{
+    let out = if number == 0 {
+        WeakBarrier::withdraw(m, rt, out)
+    } else {
+        WeakBarrier::arrive(m, rt, out)
+    };
+    (out, 0)
+}
+
 impl Program<WeakBarrier, Explored<WeakBarrier>> for Weak {
     fn threads(&self) -> usize {
         3
@@ -104,12 +122,7 @@ impl Program<WeakBarrier, Explored<WeakBarrier>> for Weak {
         requires { ⟦<Explored<WeakBarrier> as Monitor<WeakBarrier>>⟧.is_of m.now out }
         ensures { ⟦<Explored<WeakBarrier> as Monitor<WeakBarrier>>⟧.is_of m.now result.0 }
     {
-        let out = if number == 0 {
-            WeakBarrier::withdraw(m, rt, out)
-        } else {
-            WeakBarrier::arrive(m, rt, out)
-        };
-        (out, 0)
+        play(rt, m, out, number)
     }
 
     fn is_right(&self, _left: &WeakBarrier, _answers: &[u64]) -> bool {

@@ -65,18 +65,22 @@ fn steps_go_by_priority_then_time(rt: HostRuntime) -> Result<(), Fail> {
 #[test]
 fn a_book_in_use_answers(rt: HostRuntime) -> Result<(), Fail> {
     let mut book = Book::make(rt.alloc(), 4, 2, 0)?;
-    for (step, want) in [
-        (Step::Enter(0), Next::Held(0)),
-        (Step::Wait(0, 1, 9), Next::Free),
-        (Step::Enter(1), Next::Held(1)),
-        (Step::Wait(1, 1, 2), Next::Free),
-        (Step::Enter(2), Next::Held(2)),
-    ] {
-        answers(&rt, &mut book, step, Ok(want));
-    }
+    let first = (
+        book.try_step(Step::Enter(0)),
+        book.try_step(Step::Wait(0, 1, 9)),
+    );
+    let second = (
+        book.try_step(Step::Enter(1)),
+        book.try_step(Step::Wait(1, 1, 2)),
+    );
+    let third = book.try_step(Step::Enter(2));
+    assert_eq!(rt; first, (Ok(Next::Held(0)), Ok(Next::Free)));
+    assert_eq!(rt; second, (Ok(Next::Held(1)), Ok(Next::Free)));
+    assert_eq!(rt; third, Ok(Next::Held(2)));
     assert!(rt; book.now() == Next::Held(2) && book.outside(3) && !book.outside(1));
     assert!(rt; book.queue(1) && !book.queue(0) && book.first(1) == Some(2));
-    assert!(rt; book.count(0) == 0 && book.count(1) == 2 && book.priority(1, 1) == 9);
+    assert_eq!(rt; (book.count(0), book.count(1)), (0, 2));
+    assert_eq!(rt; book.priority(1, 1), 9);
     Ok(())
 }
 
@@ -131,28 +135,23 @@ fn kinds_are_refused_last(rt: HostRuntime) -> Result<(), Fail> {
     Ok(())
 }
 
-// Who goes on is this one.
-fn goes_on<R: Abort>(rt: &R, found: Next, want: Next) {
-    assert_eq!(rt; found, want);
-}
-
 // Each call of its own, with what it asks for proved of the history so far.
 #[test]
 fn calls_hand_the_monitor_on(rt: HostRuntime) -> Result<(), Fail> {
     let mut book = Book::make(rt.alloc(), 3, 2, 0)?;
     book.admit(0);
-    goes_on(&rt, book.wait(0, 1, 7), Next::Free);
+    assert_eq!(rt; book.wait(0, 1, 7), Next::Free);
     book.admit(1);
-    goes_on(&rt, book.signal(1, 1), Next::For(0));
-    assert!(rt; book.first(1).is_none());
+    assert_eq!(rt; book.signal(1, 1), Next::For(0));
+    assert_eq!(rt; book.first(1), None);
     book.claim(0);
-    goes_on(&rt, book.now(), Next::Held(0));
-    goes_on(&rt, book.wait(0, 0, 2), Next::For(1));
+    assert_eq!(rt; book.now(), Next::Held(0));
+    assert_eq!(rt; book.wait(0, 0, 2), Next::For(1));
     book.claim(1);
-    goes_on(&rt, book.pass(1, 0), Next::For(0));
+    assert_eq!(rt; book.pass(1, 0), Next::For(0));
     assert!(rt; book.outside(1));
     book.claim(0);
-    goes_on(&rt, book.leave(0), Next::Free);
+    assert_eq!(rt; book.leave(0), Next::Free);
     Ok(())
 }
 

@@ -153,6 +153,7 @@ fn tell_long<R: Threads + Wait + Clock + Print + Eprint + Copy + Send + 'static>
     asked: &Asked,
 ) -> io::Result<()> {
     tell_visits(rt, alloc, asked, 4, 2)?;
+    tell_visits(rt, alloc, asked, 4, 3)?;
     tell_visits(rt, alloc, asked, 8, 1)?;
     tell_visits(rt, alloc, asked, 8, 2)
 }

@@ -47,7 +47,7 @@ fn take<R: Wait, M: Monitor<Buffer<u64>>>(rt: &R, m: &M, out: M::Out, rounds: u3
 }
 
 // What a thread does, by its number.
-fn play<R: Wait, M: Monitor<Buffer<u64>>>(
+fn acts<R: Wait, M: Monitor<Buffer<u64>>>(
     rt: &R,
     m: &M,
     out: M::Out,
@@ -83,7 +83,7 @@ impl Program<Buffer<u64>, Explored<Buffer<u64>>> for OneCell {
         requires { ⟦<Explored<Buffer<u64>> as Monitor<Buffer<u64>>>⟧.is_of m.now out }
         ensures { ⟦<Explored<Buffer<u64>> as Monitor<Buffer<u64>>>⟧.is_of m.now result.0 }
     {
-        play(rt, m, out, number, self.rounds)
+        acts(rt, m, out, number, self.rounds)
     }
 
     fn is_right(&self, _left: &Buffer<u64>, answers: &[u64]) -> bool {

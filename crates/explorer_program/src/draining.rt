@@ -12,7 +12,7 @@ use std::sync::Wait;
 pub struct Draining;
 
 // What a thread does, by its number.
-fn play<R: Wait, M: Monitor<Drain>>(rt: &R, m: &M, out: M::Out, number: usize) -> (M::Out, u64)
+fn acts<R: Wait, M: Monitor<Drain>>(rt: &R, m: &M, out: M::Out, number: usize) -> (M::Out, u64)
     requires { M.is_of m.now out }
     ensures { M.is_of m.now result.0 }
 {
@@ -43,7 +43,7 @@ impl Program<Drain, Explored<Drain>> for Draining {
         requires { ⟦<Explored<Drain> as Monitor<Drain>>⟧.is_of m.now out }
         ensures { ⟦<Explored<Drain> as Monitor<Drain>>⟧.is_of m.now result.0 }
     {
-        play(rt, m, out, number)
+        acts(rt, m, out, number)
     }
 
     fn is_right(&self, _left: &Drain, answers: &[u64]) -> bool {

@@ -14,7 +14,7 @@ pub struct Requests {
 }
 
 // What a thread does, by its number.
-fn play<R: Wait, M: Monitor<Head<u64>>>(rt: &R, m: &M, out: M::Out, number: usize) -> (M::Out, u64)
+fn acts<R: Wait, M: Monitor<Head<u64>>>(rt: &R, m: &M, out: M::Out, number: usize) -> (M::Out, u64)
     requires { M.is_of m.now out }
     ensures { M.is_of m.now result.0 }
 {
@@ -45,7 +45,7 @@ impl Program<Head<u64>, Explored<Head<u64>>> for Requests {
         requires { ⟦<Explored<Head<u64>> as Monitor<Head<u64>>>⟧.is_of m.now out }
         ensures { ⟦<Explored<Head<u64>> as Monitor<Head<u64>>>⟧.is_of m.now result.0 }
     {
-        play(rt, m, out, number)
+        acts(rt, m, out, number)
     }
 
     fn is_right(&self, _left: &Head<u64>, answers: &[u64]) -> bool {

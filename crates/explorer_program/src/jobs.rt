@@ -12,7 +12,7 @@ use std::sync::Wait;
 pub struct Jobs;
 
 // What a thread does, by its number.
-fn play<R: Wait, M: Monitor<WorkQueue>>(rt: &R, m: &M, out: M::Out, number: usize) -> (M::Out, u64)
+fn acts<R: Wait, M: Monitor<WorkQueue>>(rt: &R, m: &M, out: M::Out, number: usize) -> (M::Out, u64)
     requires { M.is_of m.now out }
     ensures { M.is_of m.now result.0 }
 {
@@ -47,7 +47,7 @@ impl Program<WorkQueue, Explored<WorkQueue>> for Jobs {
         requires { ⟦<Explored<WorkQueue> as Monitor<WorkQueue>>⟧.is_of m.now out }
         ensures { ⟦<Explored<WorkQueue> as Monitor<WorkQueue>>⟧.is_of m.now result.0 }
     {
-        play(rt, m, out, number)
+        acts(rt, m, out, number)
     }
 
     fn is_right(&self, _left: &WorkQueue, answers: &[u64]) -> bool {

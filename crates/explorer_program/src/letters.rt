@@ -12,7 +12,7 @@ use std::sync::Wait;
 pub struct Letters;
 
 // What a thread does, by its number.
-fn play<R: Wait, M: Monitor<Mailbox>>(rt: &R, m: &M, out: M::Out, number: usize) -> (M::Out, u64)
+fn acts<R: Wait, M: Monitor<Mailbox>>(rt: &R, m: &M, out: M::Out, number: usize) -> (M::Out, u64)
     requires { M.is_of m.now out }
     ensures { M.is_of m.now result.0 }
 {
@@ -44,7 +44,7 @@ impl Program<Mailbox, Explored<Mailbox>> for Letters {
         requires { ⟦<Explored<Mailbox> as Monitor<Mailbox>>⟧.is_of m.now out }
         ensures { ⟦<Explored<Mailbox> as Monitor<Mailbox>>⟧.is_of m.now result.0 }
     {
-        play(rt, m, out, number)
+        acts(rt, m, out, number)
     }
 
     fn is_right(&self, _left: &Mailbox, answers: &[u64]) -> bool {

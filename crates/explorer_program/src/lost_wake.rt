@@ -11,7 +11,7 @@ use std::sync::Wait;
 pub struct OneCalled;
 
 // What a thread does, by its number.
-fn play<R: Wait, M: Monitor<MesaGate>>(rt: &R, m: &M, out: M::Out, number: usize) -> (M::Out, u64)
+fn acts<R: Wait, M: Monitor<MesaGate>>(rt: &R, m: &M, out: M::Out, number: usize) -> (M::Out, u64)
     requires { M.is_of m.now out }
     ensures { M.is_of m.now result.0 }
 {
@@ -41,7 +41,7 @@ impl Program<MesaGate, Explored<MesaGate>> for OneCalled {
         requires { ⟦<Explored<MesaGate> as Monitor<MesaGate>>⟧.is_of m.now out }
         ensures { ⟦<Explored<MesaGate> as Monitor<MesaGate>>⟧.is_of m.now result.0 }
     {
-        play(rt, m, out, number)
+        acts(rt, m, out, number)
     }
 
     fn is_right(&self, _left: &MesaGate, _answers: &[u64]) -> bool {

@@ -12,7 +12,7 @@ use std::sync::Wait;
 pub struct MesaCell;
 
 // What a thread does, by its number.
-fn play<R: Wait, M: Monitor<MesaBuffer<u64>>>(
+fn acts<R: Wait, M: Monitor<MesaBuffer<u64>>>(
     rt: &R,
     m: &M,
     out: M::Out,
@@ -47,7 +47,7 @@ impl Program<MesaBuffer<u64>, Explored<MesaBuffer<u64>>> for MesaCell {
         requires { ⟦<Explored<MesaBuffer<u64>> as Monitor<MesaBuffer<u64>>>⟧.is_of m.now out }
         ensures { ⟦<Explored<MesaBuffer<u64>> as Monitor<MesaBuffer<u64>>>⟧.is_of m.now result.0 }
     {
-        play(rt, m, out, number)
+        acts(rt, m, out, number)
     }
 
     fn is_right(&self, _left: &MesaBuffer<u64>, answers: &[u64]) -> bool {

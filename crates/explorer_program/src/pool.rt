@@ -14,7 +14,7 @@ pub struct Streams {
 }
 
 // What a thread does, by its number.
-fn play<R: Wait, M: Monitor<Pool>>(rt: &R, m: &M, out: M::Out, number: usize) -> (M::Out, u64)
+fn acts<R: Wait, M: Monitor<Pool>>(rt: &R, m: &M, out: M::Out, number: usize) -> (M::Out, u64)
     requires { M.is_of m.now out }
     ensures { M.is_of m.now result.0 }
 {
@@ -46,7 +46,7 @@ impl Program<Pool, Explored<Pool>> for Streams {
         requires { ⟦<Explored<Pool> as Monitor<Pool>>⟧.is_of m.now out }
         ensures { ⟦<Explored<Pool> as Monitor<Pool>>⟧.is_of m.now result.0 }
     {
-        play(rt, m, out, number)
+        acts(rt, m, out, number)
     }
 
     fn is_right(&self, _left: &Pool, answers: &[u64]) -> bool {

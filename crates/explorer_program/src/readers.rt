@@ -36,7 +36,7 @@ fn end_read<R: Wait, M: Monitor<ReadersWriters<u64>>>(
 }
 
 // What a thread does, by its number.
-fn play<R: Wait, M: Monitor<ReadersWriters<u64>>>(
+fn acts<R: Wait, M: Monitor<ReadersWriters<u64>>>(
     rt: &R,
     m: &M,
     out: M::Out,
@@ -76,7 +76,7 @@ impl Program<ReadersWriters<u64>, Explored<ReadersWriters<u64>>> for Readers {
         requires { ⟦<Explored<ReadersWriters<u64>> as Monitor<ReadersWriters<u64>>>⟧.is_of m.now out }
         ensures { ⟦<Explored<ReadersWriters<u64>> as Monitor<ReadersWriters<u64>>>⟧.is_of m.now result.0 }
     {
-        play(rt, m, out, number)
+        acts(rt, m, out, number)
     }
 
     fn is_right(&self, _left: &ReadersWriters<u64>, answers: &[u64]) -> bool {

@@ -14,7 +14,7 @@ pub struct Items {
 }
 
 // What a thread does.
-fn play<R: Wait, M: Monitor<Single<u64>>>(rt: &R, m: &M, out: M::Out) -> (M::Out, u64)
+fn acts<R: Wait, M: Monitor<Single<u64>>>(rt: &R, m: &M, out: M::Out) -> (M::Out, u64)
     requires { M.is_of m.now out }
     ensures { M.is_of m.now result.0 }
 {
@@ -42,7 +42,7 @@ impl Program<Single<u64>, Explored<Single<u64>>> for Items {
         requires { ⟦<Explored<Single<u64>> as Monitor<Single<u64>>>⟧.is_of m.now out }
         ensures { ⟦<Explored<Single<u64>> as Monitor<Single<u64>>>⟧.is_of m.now result.0 }
     {
-        play(rt, m, out)
+        acts(rt, m, out)
     }
 
     fn is_right(&self, _left: &Single<u64>, answers: &[u64]) -> bool {

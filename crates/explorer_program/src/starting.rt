@@ -12,7 +12,7 @@ use std::sync::Wait;
 pub struct Starting;
 
 // What a thread does, by its number.
-fn play<R: Wait, M: Monitor<Latch>>(rt: &R, m: &M, out: M::Out, number: usize) -> (M::Out, u64)
+fn acts<R: Wait, M: Monitor<Latch>>(rt: &R, m: &M, out: M::Out, number: usize) -> (M::Out, u64)
     requires { M.is_of m.now out }
     ensures { M.is_of m.now result.0 }
 {
@@ -42,7 +42,7 @@ impl Program<Latch, Explored<Latch>> for Starting {
         requires { ⟦<Explored<Latch> as Monitor<Latch>>⟧.is_of m.now out }
         ensures { ⟦<Explored<Latch> as Monitor<Latch>>⟧.is_of m.now result.0 }
     {
-        play(rt, m, out, number)
+        acts(rt, m, out, number)
     }
 
     fn is_right(&self, _left: &Latch, answers: &[u64]) -> bool {

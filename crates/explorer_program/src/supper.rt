@@ -12,7 +12,7 @@ use std::sync::Wait;
 pub struct Supper;
 
 // What a thread does, by its number.
-fn play<R: Wait, M: Monitor<Table>>(rt: &R, m: &M, out: M::Out, number: usize) -> (M::Out, u64)
+fn acts<R: Wait, M: Monitor<Table>>(rt: &R, m: &M, out: M::Out, number: usize) -> (M::Out, u64)
     requires { M.is_of m.now out }
     ensures { M.is_of m.now result.0 }
 {
@@ -41,7 +41,7 @@ impl Program<Table, Explored<Table>> for Supper {
         requires { ⟦<Explored<Table> as Monitor<Table>>⟧.is_of m.now out }
         ensures { ⟦<Explored<Table> as Monitor<Table>>⟧.is_of m.now result.0 }
     {
-        play(rt, m, out, number)
+        acts(rt, m, out, number)
     }
 
     fn is_right(&self, _left: &Table, answers: &[u64]) -> bool {

@@ -12,7 +12,7 @@ use std::sync::Wait;
 pub struct Workers;
 
 // What a thread does, by its number.
-fn play<R: Wait, M: Monitor<Permits>>(rt: &R, m: &M, out: M::Out, number: usize) -> (M::Out, u64)
+fn acts<R: Wait, M: Monitor<Permits>>(rt: &R, m: &M, out: M::Out, number: usize) -> (M::Out, u64)
     requires { M.is_of m.now out }
     ensures { M.is_of m.now result.0 }
 {
@@ -45,7 +45,7 @@ impl Program<Permits, Explored<Permits>> for Workers {
         requires { ⟦<Explored<Permits> as Monitor<Permits>>⟧.is_of m.now out }
         ensures { ⟦<Explored<Permits> as Monitor<Permits>>⟧.is_of m.now result.0 }
     {
-        play(rt, m, out, number)
+        acts(rt, m, out, number)
     }
 
     fn is_right(&self, _left: &Permits, answers: &[u64]) -> bool {

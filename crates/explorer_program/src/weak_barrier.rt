@@ -83,7 +83,7 @@ impl WeakBarrier {
 pub struct Weak;
 
 // What a thread does, by its number.
-fn play<R: Wait, M: Monitor<WeakBarrier>>(
+fn acts<R: Wait, M: Monitor<WeakBarrier>>(
     rt: &R,
     m: &M,
     out: M::Out,
@@ -122,7 +122,7 @@ impl Program<WeakBarrier, Explored<WeakBarrier>> for Weak {
         requires { ⟦<Explored<WeakBarrier> as Monitor<WeakBarrier>>⟧.is_of m.now out }
         ensures { ⟦<Explored<WeakBarrier> as Monitor<WeakBarrier>>⟧.is_of m.now result.0 }
     {
-        play(rt, m, out, number)
+        acts(rt, m, out, number)
     }
 
     fn is_right(&self, _left: &WeakBarrier, _answers: &[u64]) -> bool {

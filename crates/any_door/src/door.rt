@@ -36,10 +36,10 @@ pub enum AnyDoor<D: MonitorData> {
 }
 
 impl<D: MonitorData + Send> AnyDoor<D> {
-    /// A door of this kind, of 1 to 64 places and `D::CONDITIONS` conditions, 1 to 8, of which the last `D::MESA` are Mesa
-    /// conditions, opened with the data, and its places, in order. The caller owes `rest` with nobody waiting. Refused, in this
-    /// order: `BadPlaces`, `BadConditions`, and `Memory` where the room for all that the door will ever need can't be had. The
-    /// data come back with each refusal.
+    /// A door of this kind, of 1 to 64 places and `D::CONDITIONS` conditions, 1 to 8, of which the last `D::MESA` are
+    /// Mesa conditions, opened with the data, and its places, in order. The caller owes `rest` with nobody waiting.
+    /// Refused, in this order: `BadPlaces`, `BadConditions`, and `Memory` where the room for all that the door will
+    /// ever need can't be had. The data come back with each refusal.
     pub fn make(
         alloc: Global,
         kind: DoorKind,
@@ -69,9 +69,9 @@ impl<D: MonitorData + Send> AnyDoor<D> {
         }
     }
 
-    /// Takes the door apart: all of its places are handed in, in any order. The data are at rest with nobody waiting, and
-    /// those that one legal and lawful history left, which begins with what each place knows and in which no place did
-    /// anything else.
+    /// Takes the door apart: all of its places are handed in, in any order. The data are at rest with nobody waiting,
+    /// and those that one legal and lawful history left, which begins with what each place knows and in which no place
+    /// did anything else.
     pub fn close(self, outs: Vec<Outside<D>>) -> D
         requires of { All (⟦<AnyDoor<D> as Monitor<D>>⟧.is_of self) outs.items }
         requires places { (k : ℕ) → k < (id_of self).places → HasPlace k outs.items }

@@ -4,8 +4,8 @@ use door_frame::glance::Glance;
 use hoare_law::data::MonitorData;
 
 impl<D: MonitorData> AnyDoor<D> {
-    /// What the door's words say now: for who looks why a program hangs. It needs no place, waits for nobody, and changes
-    /// nothing. It may be over by the time that it is answered.
+    /// What the door's words say now: for who looks why a program hangs. It needs no place, waits for nobody, and
+    /// changes nothing. It may be over by the time that it is answered.
     pub fn glance(&self) -> Glance {
         match self {
             AnyDoor::Baton(door) => door.glance(),

@@ -90,18 +90,21 @@ module _ {D : Type 0} where
     -- k comes in by the event where the word is as expected
     comes_at : (slots id k expected : ℕ) (f : History D) (event : ℕ → History D → D → Event D) (m : Sat D)
         → m ≡ (alone k f, [])
-        → ((log : History D) → Stands rest ready log → k < log.sizes.places → own k log.events ≡ own k f.events → word_of (turn log.events) ≡ expected
+        → ((log : History D) → Stands rest ready log → k < log.sizes.places → own k log.events ≡ own k f.events
+        → word_of (turn log.events) ≡ expected
         → IsGivenUp (turn log.events) × frame.Enters rest ready k log (event k f (latest_data log)))
         → Allows K slots id m 0 (taken_at expected) (comes rest ready event (step slots 0 expected 1 none) m)
     comes_at slots id k expected f event m at enters =
         subst
-        (λ (p : Sat D). Allows K slots id p 0 (taken_at expected) (comes rest ready event (step slots 0 expected 1 none) p))
+        (λ (p : Sat D). Allows K slots id p 0 (taken_at expected)
+        (comes rest ready event (step slots 0 expected 1 none) p))
         (sym at)
         (frame.told_as K slots id me 0 (taken_at expected) _ (comes rest ready event (step slots 0 expected 1 none) me)
         (λ r m' c j g is.
         let q = frame.alone_is k j f g [] [] is in
         subst (λ (p : ℕ × History D). ComesAt expected rest ready event p.0 p.1 me r m') (λ i. (q.0 i, q.1 i)) c)
-        (frame.comes_ok Starts Tells rest ready kinds n slots id k 0 f None None (event k f) (taken_at expected) (λ r. r ≡ expected) (λ log. Unit {0})
+        (frame.comes_ok Starts Tells rest ready kinds n slots id k 0 f None None (event k f) (taken_at expected)
+        (λ r. r ≡ expected) (λ log. Unit {0})
         (λ r. ℕ_discrete r expected)
         (λ log tokens ws small t miss. taken_at-miss expected (get_or ws 0 0) miss) brings))
       where
@@ -111,7 +114,8 @@ module _ {D : Type 0} where
         brings : (log : History D) (tokens : Tokens) (ws : List ℕ) → Stands rest ready log → log.sizes.places ≡ n
             → k < n
             → own k log.events ≡ own k f.events → tokens k ≡ None → Tells log tokens ws → get_or ws 0 0 ≡ expected
-            → frame.BringsIn Starts Tells rest ready kinds k 0 None (taken_at expected) (λ log. Unit {0}) log tokens ws (event k f (latest_data log))
+            → frame.BringsIn Starts Tells rest ready kinds k 0 None (taken_at expected) (λ log. Unit {0}) log tokens ws
+            (event k f (latest_data log))
         brings log tokens ws stands places small same no_token t hit =
             let e = enters log stands (subst (λ (m : ℕ). k < m) (sym places) small) same (sym t.word ∙ hit) in
             let h : History D = with_event log (event k f (latest_data log)) in record {
@@ -133,8 +137,10 @@ module _ {D : Type 0} where
         → Allows K slots id m 0 (taken_at 0) (admits rest ready (step slots 0 0 1 none) m)
     admits_at slots id k f m is out = comes_at slots id k 0 f (λ j g. Admit j) m is
         (λ log stands below same w.
-        let free = word_of-free (turn log.events) w in
-        (frame.given_up_free (turn log.events) free, frame.enters_admit rest ready k log below free (outside-same k f log same out)))
+        let free = word_of-free (turn log.events) w in (
+          frame.given_up_free (turn log.events) free,
+          frame.enters_admit rest ready k log below free (outside-same k f log same out),
+        ))
 
     -- a place to which the monitor is owed
     pub claims_at : (slots id k : ℕ) (f : History D) (m : Sat D) (w : ℕ) → m ≡ (alone k f, []) → w ≡ k + 2
@@ -145,7 +151,8 @@ module _ {D : Type 0} where
         (frame.given_up_due k (turn log.events) due_to, frame.enters_due rest ready k log f stands same due_to))
 
     -- who is inside writes who goes on
-    pub gives_at : (slots id k : ℕ) (f : History D) (x : Lodged D) (who : Next) (event : D → Event D) (m : Sat D) (w : ℕ)
+    pub gives_at : (slots id k : ℕ) (f : History D) (x : Lodged D) (who : Next) (event : D → Event D)
+        (m : Sat D) (w : ℕ)
         → m ≡ (alone k f, (0, Some x) ∷ []) → Gives rest ready event k f x who → w ≡ word_of_next who
         → Allows K slots id m 0 (λ _. w) (λ _. gives_as event (step slots 0 w 0 none) m w)
     gives_at slots id k f x who event m w is p word =

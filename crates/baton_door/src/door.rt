@@ -27,8 +27,9 @@ use wait_book::steps::MakeRefused;
 
 /// A monitor for running threads: it implements `Monitor`. Threads share it by reference, each with its own place.
 ///
-/// After `make` no call takes memory. One word says whether the monitor is free, held, or owed to a place; one slot has the
-/// data and the queues. A door can be dropped where its data can, and then its data are dropped too; `close` gives them back.
+/// After `make` no call takes memory. One word says whether the monitor is free, held, or owed to a place; one slot has
+/// the data and the queues. A door can be dropped where its data can, and then its data are dropped too; `close` gives
+/// them back.
 ///
 /// ```rust
 /// let data = Unasked::<u64, 1> { value: 41 };
@@ -89,10 +90,10 @@ fn open<D: MonitorData>(table: &DoorTable<D>, seat: &mut DoorSeat<D>, parcel: Pa
 }
 
 impl<D: MonitorData + Send> Door<D> {
-    /// A door of 1 to 64 places and `D::CONDITIONS` conditions, 1 to 8, of which the last `D::MESA` are Mesa conditions, opened with
-    /// the data, and its places, in order. The caller owes `rest` with nobody waiting. Refused, in this order: `BadPlaces`,
-    /// `BadConditions`, and `Memory` where the room for all that the door will ever need can't be had. The data come back with
-    /// each refusal.
+    /// A door of 1 to 64 places and `D::CONDITIONS` conditions, 1 to 8, of which the last `D::MESA` are Mesa
+    /// conditions, opened with the data, and its places, in order. The caller owes `rest` with nobody waiting. Refused,
+    /// in this order: `BadPlaces`, `BadConditions`, and `Memory` where the room for all that the door will ever need
+    /// can't be had. The data come back with each refusal.
     pub fn make(
         alloc: Global,
         state: D,
@@ -135,9 +136,9 @@ impl<D: MonitorData + Send> Door<D> {
         Ok((door, outs))
     }
 
-    /// Takes the door apart: all of its places are handed in, in any order. The data are at rest with nobody waiting, and
-    /// those that one legal and lawful history left, which begins with what each place knows and in which no place did
-    /// anything else.
+    /// Takes the door apart: all of its places are handed in, in any order. The data are at rest with nobody waiting,
+    /// and those that one legal and lawful history left, which begins with what each place knows and in which no place
+    /// did anything else.
     pub fn close(self, outs: Vec<DoorOut<D>>) -> D
         requires of { All (⟦<Door<D> as Monitor<D>>⟧.is_of self) outs.items }
         requires places { (k : ℕ) → k < self.places → HasPlace k outs.items }

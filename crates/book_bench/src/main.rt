@@ -1,5 +1,6 @@
-//! Measures what the steps of a book of queues cost, on one thread. Without arguments it names its measurements; `book_bench TURNS`
-//! prints a line `NAME VALUE ns` for each of the first three; with `--orders` before TURNS, for each of the others.
+//! Measures what the steps of a book of queues cost, on one thread. Without arguments it names its measurements;
+//! `book_bench TURNS` prints a line `NAME VALUE ns` for each of the first three; with `--orders` before TURNS, for each
+//! of the others.
 #![tactic(auto)]
 
 mod loads;

@@ -40,4 +40,5 @@ pub BarrierReady-gone : {b d : Gathering} {p : ℕ} {q r : List ℕ} → Barrier
     → BarrierReady (slice_index r 0) d (behind_first r)
 BarrierReady-gone {b = b} {q = q} found state lists some =
     rw (state, lists)
-    (first_ready q (omega (arith, found.within)) (omega (arith, found.but_one)) found.begun found.of_last (rw lists at some))
+    (first_ready q (omega (arith, found.within)) (omega (arith, found.but_one)) found.begun found.of_last
+    (rw lists at some))

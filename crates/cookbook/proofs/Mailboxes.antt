@@ -24,7 +24,9 @@ TakesMostUrgent-best {letters = letters} {best = best} {x = x} is all taken left
     record {
       before = take best letters;
       after = drop (suc best) letters;
-      found = sym (take-append-drop best letters) ∙ ap (λ l. take best letters ++ l) (drop-cons letters best x is.within ∙ ap (λ y. y ∷ drop (suc best) letters) (sym taken));
+      found = sym (take-append-drop best letters)
+          ∙ ap (λ l. take best letters ++ l) (drop-cons letters best x is.within
+          ∙ ap (λ y. y ∷ drop (suc best) letters) (sym taken));
       left = left;
       less_before = λ k d below.
           let lt : k < best = omega (arith, below, length-take best letters, is.within) in
@@ -38,8 +40,13 @@ TakesMostUrgent-best {letters = letters} {best = best} {x = x} is all taken left
 one_less_of : {letters others : List Letter} {x : Letter} → TakesMostUrgent letters x others
     → length letters ≡ length others + 1
 one_less_of {x = x} takes =
-    omega
-    (arith, ap length takes.found, ap length takes.left, length-append takes.before (x ∷ takes.after), length-append takes.before takes.after)
+    omega (
+      arith,
+      ap length takes.found,
+      ap length takes.left,
+      length-append takes.before (x ∷ takes.after),
+      length-append takes.before takes.after,
+    )
 
 -- who needn't wait finds what one finds that waited
 pub RoomReady-at_once : {count : ℕ} {senders readers : List ℕ} → MailRests count senders readers → (count ≡ 8 → ⊥)

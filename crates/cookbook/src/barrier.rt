@@ -13,8 +13,9 @@ use std::sync::Wait;
 /// The condition *all have come* of a `Barrier`: parties that have come wait there for the last.
 pub const ALL_HAVE_COME: usize = 0;
 
-/// A barrier for a fixed number of parties. `arrived` of them have come and not gone on, and `generation` counts, modulo 2^64, how often the
-/// parties have met. The one condition is 0, *all have come* (`ALL_HAVE_COME`); a party waits there with the generation as its priority.
+/// A barrier for a fixed number of parties. `arrived` of them have come and not gone on, and `generation` counts,
+/// modulo 2^64, how often the parties have met. The one condition is 0, *all have come* (`ALL_HAVE_COME`); a party
+/// waits there with the generation as its priority.
 #[derive(Drop)]
 pub struct Barrier {
     parties: u32,
@@ -141,8 +142,8 @@ impl Barrier {
         self.arrived -= 1;
     }
 
-    /// Waits until all parties have come, and answers the generation that this one was of, and whether it came last. The last
-    /// resumes one of those that wait, and each of these the next: no newcomer comes between.
+    /// Waits until all parties have come, and answers the generation that this one was of, and whether it came last.
+    /// The last resumes one of those that wait, and each of these the next: no newcomer comes between.
     pub fn arrive<R: Wait, M: Monitor<Barrier>>(m: &M, rt: &R, out: M::Out) -> (M::Out, Arrival)
         requires { M.is_of m.now out }
         ensures of { M.is_of m.now result.0 }

@@ -138,8 +138,8 @@ impl Drain {
         out
     }
 
-    /// Waits until no work is under way. Each process that goes on resumes the next, so all that wait go on before any newcomer
-    /// begins again.
+    /// Waits until no work is under way. Each process that goes on resumes the next, so all that wait go on before any
+    /// newcomer begins again.
     pub fn drain<R: Wait, M: Monitor<Drain>>(m: &M, rt: &R, out: M::Out) -> M::Out
         requires { M.is_of m.now out }
         ensures of { M.is_of m.now result }

@@ -1,4 +1,5 @@
-//! A latch that opens once: it is counted down, and who waits goes on when nothing is left to count. It is never shut again.
+//! A latch that opens once: it is counted down, and who waits goes on when nothing is left to count. It is never shut
+//! again.
 ghost use Rattle.std.specs.Prelude.{◌≡◌, ◌-◌, ◌↔◌, IsTrue};
 ghost use Rattle.hoare_law.specs.Priorities.{nobody};
 ghost use Rattle.cookbook.specs.Latches.{LatchRests};
@@ -13,7 +14,8 @@ use std::sync::Wait;
 /// The condition *the latch is open* of a `Latch`: who waits there waits for the last count.
 pub const LATCH_IS_OPEN: usize = 0;
 
-/// How often a latch must be counted down still: it is open at 0. The one condition is 0, *the latch is open* (`LATCH_IS_OPEN`).
+/// How often a latch must be counted down still: it is open at 0. The one condition is 0, *the latch is open*
+/// (`LATCH_IS_OPEN`).
 #[derive(Drop)]
 pub struct Latch {
     left: u32,

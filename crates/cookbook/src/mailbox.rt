@@ -1,4 +1,5 @@
-//! A mailbox of fixed room: the most urgent letter is received first, and who has the more urgent letter is let in first.
+//! A mailbox of fixed room: the most urgent letter is received first, and who has the more urgent letter is let in
+//! first.
 ghost use Rattle.std.specs.Prelude.{◌≡◌, ◌<◌, ◌↔◌, ◌++◌, ◌∷◌, [], IsTrue, length};
 ghost use Rattle.hoare_law.specs.Priorities.{nobody};
 ghost use Rattle.cookbook.specs.Mailboxes.{MailRests, TakesMostUrgent};
@@ -28,7 +29,8 @@ pub struct Letter {
 }
 
 /// The letters that nobody has received yet, in the order in which they were sent. Condition 0 is *there is room*
-/// (`THERE_IS_ROOM`), and a sender waits there with its letter's priority; condition 1 is *there is mail* (`THERE_IS_MAIL`).
+/// (`THERE_IS_ROOM`), and a sender waits there with its letter's priority; condition 1 is *there is mail*
+/// (`THERE_IS_MAIL`).
 #[derive(Drop)]
 pub struct Mailbox {
     letters: ArrayVec<Letter, ROOM>,
@@ -132,8 +134,8 @@ impl Mailbox {
         self.letters.remove(best)
     }
 
-    /// Sends a letter, once there is room for it, and resumes a process that waits for mail. Of those that wait for room, who has the
-    /// most urgent letter goes first.
+    /// Sends a letter, once there is room for it, and resumes a process that waits for mail. Of those that wait for
+    /// room, who has the most urgent letter goes first.
     pub fn send<R: Wait, M: Monitor<Mailbox>>(m: &M, rt: &R, out: M::Out, letter: Letter) -> M::Out
         requires { M.is_of m.now out }
         ensures of { M.is_of m.now result }
@@ -149,8 +151,8 @@ impl Mailbox {
         out
     }
 
-    /// Receives the most urgent letter, of equals the one that was sent first, once there is one, and resumes a process that waits
-    /// for room.
+    /// Receives the most urgent letter, of equals the one that was sent first, once there is one, and resumes a process
+    /// that waits for room.
     pub fn receive<R: Wait, M: Monitor<Mailbox>>(m: &M, rt: &R, out: M::Out) -> (M::Out, Letter)
         requires { M.is_of m.now out }
         ensures of { M.is_of m.now result.0 }

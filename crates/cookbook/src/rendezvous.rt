@@ -111,8 +111,8 @@ impl<T: Drop> Rendezvous<T> {
         }
     }
 
-    /// Waits until a partner has come, leaves it this value, and answers the partner's. Who finds one waiting is its partner; no
-    /// third process comes between the two.
+    /// Waits until a partner has come, leaves it this value, and answers the partner's. Who finds one waiting is its
+    /// partner; no third process comes between the two.
     pub fn meet<R: Wait, M: Monitor<Rendezvous<T>>>(
         m: &M,
         rt: &R,

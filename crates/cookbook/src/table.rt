@@ -1,4 +1,5 @@
-//! The dining philosophers' table: five seats, a fork between each two of them, and who eats needs both forks beside its seat.
+//! The dining philosophers' table: five seats, a fork between each two of them, and who eats needs both forks beside
+//! its seat.
 ghost use Rattle.std.specs.Prelude.{◌≡◌, ◌≢◌, ◌<◌, ◌↔◌, ℕ, [], IsTrue, MatchOption};
 ghost use Rattle.hoare_law.specs.Priorities.{nobody};
 ghost use Rattle.hoare_law.specs.Waiting.{waiting};
@@ -182,8 +183,8 @@ impl Table {
         Table::hand_on(m, rt, inside)
     }
 
-    /// Puts the forks down, so that both neighbours of the seat may eat. Refused exactly where nobody eats at the seat: then nothing
-    /// changed.
+    /// Puts the forks down, so that both neighbours of the seat may eat. Refused exactly where nobody eats at the seat:
+    /// then nothing changed.
     pub fn get_up<R: Wait, M: Monitor<Table>>(
         m: &M,
         rt: &R,

@@ -20,8 +20,8 @@ pub trait SharedBarrier: Monitor<Barrier> + Sync + Drop {}
 
 impl SharedBarrier for AnyDoor<Barrier> {}
 
-// What the threads share beside the barrier: how many rounds the parties have ended, how often a party found that all had ended the
-// round when it went on, and how often one came last.
+// What the threads share beside the barrier: how many rounds the parties have ended, how often a party found that all
+// had ended the round when it went on, and how often one came last.
 #[derive(Drop)]
 struct Rounds {
     ended: AtomicU64,

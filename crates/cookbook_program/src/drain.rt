@@ -24,8 +24,8 @@ pub trait SharedDrain: Monitor<Drain> + Sync + Drop {}
 
 impl SharedDrain for AnyDoor<Drain> {}
 
-// What the threads share beside the drain: how many of them have come, how many parts are done, and how many readers went on when
-// all parts were done.
+// What the threads share beside the drain: how many of them have come, how many parts are done, and how many readers
+// went on when all parts were done.
 #[derive(Drop)]
 struct Work {
     come: AtomicU64,

@@ -24,8 +24,8 @@ pub trait SharedLatch: Monitor<Latch> + Sync + Drop {}
 
 impl SharedLatch for AnyDoor<Latch> {}
 
-// What the threads share beside the latch: how many of them have come, how many parts are done, and how many readers passed when all
-// parts were done.
+// What the threads share beside the latch: how many of them have come, how many parts are done, and how many readers
+// passed when all parts were done.
 #[derive(Drop)]
 struct Work {
     come: AtomicU64,

@@ -13,7 +13,8 @@ use std::thread::Threads;
 use std::time::Duration;
 use std::{io, thread};
 
-// The letters that fill the mailbox before the threads begin, in no order. A letter's number is its priority: 0 is the most urgent.
+// The letters that fill the mailbox before the threads begin, in no order. A letter's number is its priority: 0 is the
+// most urgent.
 const FIRST: [u64; 8] = [3, 0, 5, 2, 7, 4, 1, 6];
 
 // The letters of the sender, which are less urgent.
@@ -58,7 +59,8 @@ fn receive_all<R: Wait, M: Monitor<Mailbox>>(rt: &R, m: &M, out: M::Out, in_orde
     }
 }
 
-/// The last place fills the mailbox. Then there is a thread for each of the others: who comes first sends, and the other receives.
+/// The last place fills the mailbox. Then there is a thread for each of the others: who comes first sends, and the
+/// other receives.
 pub fn show<R: Threads + Wait + Clock + Print + Sync, M: SharedMailbox, E: Drop>(
     rt: &R,
     name: &str,

@@ -1,4 +1,5 @@
-//! Runs the recipes of the cookbook on threads, on both doors. It prints a line for each recipe and door: what the threads found.
+//! Runs the recipes of the cookbook on threads, on both doors. It prints a line for each recipe and door: what the
+//! threads found.
 #![tactic(auto)]
 
 mod barrier;

@@ -20,8 +20,8 @@ pub trait SharedTable: Monitor<Table> + Sync + Drop {}
 
 impl SharedTable for AnyDoor<Table> {}
 
-// What the philosophers share beside the table: how many have come, who eats (bit k is the philosopher at seat k), how many meals were
-// had, and how many of them beside a neighbour who ate.
+// What the philosophers share beside the table: how many have come, who eats (bit k is the philosopher at seat k), how
+// many meals were had, and how many of them beside a neighbour who ate.
 #[derive(Drop)]
 struct Dinner {
     come: AtomicU64,

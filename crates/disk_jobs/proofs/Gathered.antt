@@ -70,7 +70,8 @@ sorted-in_order cs results lines p up q =
     All-served_from (λ k. get_or cs k 0) 0 cs (λ k h. ap (λ v. get_or cs v 0) (omega arith)) in
     same_jobs (λ k. get_or cs k 0) lines (served_from 0 cs)
     (numbers-permutation (λ (d : Served). d.job) lines (served_from 0 cs) up (served_from-rises cs) r)
-    (All-permutation (HasCylinder (λ k. get_or cs k 0)) (served_from 0 cs) lines (IsPermutation-sym lines (served_from 0 cs) r) has) has
+    (All-permutation (HasCylinder (λ k. get_or cs k 0)) (served_from 0 cs) lines
+    (IsPermutation-sym lines (served_from 0 cs) r) has) has
 
 pub agrees-sorted : (cs : List ℕ) (results lines : List Served) (jobs sum done : ℕ) → IsPermutation results lines
     → IsNonDecreasingBy (λ (d : Served). d.job) lines → Agrees cs results jobs sum done
@@ -114,7 +115,8 @@ same_at_each cs lines n h = each 0 cs lines n (λ k d l. h k d l ∙ ap (λ v. s
     each i (c ∷ cs) (x ∷ xs) n h =
         ap (λ v. v ∷ xs) (h 0 x (omega arith) ∙ ap (λ v. served v c) (omega arith))
         ∙ ap (λ v. served i c ∷ v)
-        (each (suc i) cs xs (omega arith) (λ k d l. h (suc k) d (omega arith) ∙ ap (λ v. served v (get_or cs k 0)) (omega arith)))
+        (each (suc i) cs xs (omega arith) (λ k d l. h (suc k) d (omega arith)
+        ∙ ap (λ v. served v (get_or cs k 0)) (omega arith)))
 
 -- lines in order are as many as the jobs
 pub in_order_length : (cs : List ℕ) (lines : List Served) → lines ≡ served_from 0 cs → length lines ≡ length cs

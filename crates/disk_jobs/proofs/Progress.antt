@@ -226,5 +226,6 @@ module _ {k0 k : Option (List ℕ)} {number : ℕ} {s : Option JobList} (h : Kno
   next_line f line None e i r o = absurd o
   next_line f line (Some j) e i r o = record {
     goes = ended (Going (number + 1) (Some j)) (Ok f) (Ok how.Line) (ap Ok e)
-        (λ t0 t x g b. Going-line number s t0 t g j l x one short b (subst (λ (v : List ℕ). one_line s number v ≡ Ok j) i o)) r;
+        (λ t0 t x g b. Going-line number s t0 t g j l x one short b
+        (subst (λ (v : List ℕ). one_line s number v ≡ Ok j) i o)) r;
   }

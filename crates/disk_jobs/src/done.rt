@@ -4,8 +4,8 @@ ghost use Rattle.disk_jobs.specs.Services.{block_of, served};
 
 use std::marker::Model;
 
-/// A job that is done: its number, its cylinder, and the block that lies there, (C * C + 17) mod 65536. To a contract it is the
-/// number and the cylinder, since they make the block.
+/// A job that is done: its number, its cylinder, and the block that lies there, (C * C + 17) mod 65536. To a contract
+/// it is the number and the cylinder, since they make the block.
 #[derive(Clone, Copy, Debug, PartialEq, Eq)]
 pub struct Done {
     job: u32,

@@ -10,8 +10,8 @@ pub enum ServiceFault {
     /// There is no memory for the jobs, or for the service.
     #[error("fault 1 Memory")]
     Memory,
-    /// The first line isn't `disk M W` with M up to 65535 and 1 to 16 workers; or a later one isn't `read C` with C up to M, or is
-    /// one job too many; or a line has over 256 bytes.
+    /// The first line isn't `disk M W` with M up to 65535 and 1 to 16 workers; or a later one isn't `read C` with C up
+    /// to M, or is one job too many; or a line has over 256 bytes.
     #[error("fault 2 BadLine line {0}")]
     BadLine(u64),
     /// The input has no line.

@@ -9,8 +9,8 @@ use crate::fault::ServiceFault;
 use crate::jobs::{Jobs, MOST_JOBS};
 use crate::report::Report;
 
-/// The report of the results, in the order of the jobs. Refused, by `Torn`, unless the results are, in any order, each job once
-/// with its cylinder, `jobs` and `done` are how many they are, and `sum` is the sum of their blocks.
+/// The report of the results, in the order of the jobs. Refused, by `Torn`, unless the results are, in any order, each
+/// job once with its cylinder, `jobs` and `done` are how many they are, and `sum` is the sum of their blocks.
 pub fn gather(
     list: &Jobs,
     results: Vec<Done>,

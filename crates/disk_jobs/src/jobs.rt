@@ -78,9 +78,9 @@ fn refusal(cylmax: u16, workers: u32, cylinders: &[u16]) -> Option<BadJobs>
 }
 
 impl Jobs {
-    /// Jobs on these cylinders, each up to `cylmax`, for this number of workers. Refused, in this order: `BadWorkers` where it isn't 1
-    /// to 16, `TooMany` where there are over 4,096 jobs, `OffDisk` with the first job whose cylinder is past the last one. The
-    /// cylinders come back with each refusal.
+    /// Jobs on these cylinders, each up to `cylmax`, for this number of workers. Refused, in this order: `BadWorkers`
+    /// where it isn't 1 to 16, `TooMany` where there are over 4,096 jobs, `OffDisk` with the first job whose cylinder
+    /// is past the last one. The cylinders come back with each refusal.
     pub fn make(cylmax: u16, workers: u32, cylinders: Vec<u16>) -> Result<Jobs, (Vec<u16>, BadJobs)>
         ensures made { IfOk result (λ j. j ≡ job_list cylmax workers cylinders.items) }
         ensures returned { IfErr result (λ e. e.0 ≡ cylinders) }

@@ -25,7 +25,8 @@ fn kind_named(word: &[u8]) -> Option<Kind>
     None
 }
 
-/// The kind that a program's arguments name: none at all, or `baton` alone, is `Baton`; `ticket` alone is `Ticket`; all else is none.
+/// The kind that a program's arguments name: none at all, or `baton` alone, is `Baton`; `ticket` alone is `Ticket`; all
+/// else is none.
 pub fn kind_of(words: &[String]) -> Option<Kind>
     ensures { result ≡ kind_of_words (map string_bytes words.now) }
 {

@@ -21,10 +21,10 @@ pub const MOST_LINES: u64 = 4098;
 // Room that no line goes past.
 const ROOM: usize = LONGEST_LINE + 1;
 
-/// Reads a job file: `disk M W` with the last cylinder M, 0 to 65535, and 1 to 16 workers W; then up to 4,096 lines `read C`
-/// with C up to M. Refused by the earliest fault of the text: `NoHeader` where it has no line, else `BadLine`; or `ReadFault`
-/// where a read fails before it, and `Memory` where the room for a good line's job can't be had. It reads up to the end of
-/// the line at fault, or its byte 257.
+/// Reads a job file: `disk M W` with the last cylinder M, 0 to 65535, and 1 to 16 workers W; then up to 4,096 lines
+/// `read C` with C up to M. Refused by the earliest fault of the text: `NoHeader` where it has no line, else `BadLine`;
+/// or `ReadFault` where a read fails before it, and `Memory` where the room for a good line's job can't be had. It
+/// reads up to the end of the line at fault, or its byte 257.
 pub fn read_jobs<R: Read>(alloc: Global, reader: &mut R) -> Result<Jobs, ServiceFault>
     ensures { Reads (R.remaining reader.old) (R.remaining reader.new) (λ text left.
         Gives text left result) }
@@ -33,8 +33,8 @@ pub fn read_jobs<R: Read>(alloc: Global, reader: &mut R) -> Result<Jobs, Service
     read_jobs_watched(alloc, &mut watched)
 }
 
-/// `read_jobs`, with a reader that is watched: `ReadFault` is answered exactly where a read failed, and at most 4,098 lines of 257
-/// bytes are read, by as many reads, whatever the reader is.
+/// `read_jobs`, with a reader that is watched: `ReadFault` is answered exactly where a read failed, and at most 4,098
+/// lines of 257 bytes are read, by as many reads, whatever the reader is.
 pub fn read_jobs_watched<R: Read>(
     alloc: Global,
     reader: &mut WatchedReader<'_, R>,

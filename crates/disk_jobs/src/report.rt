@@ -20,8 +20,8 @@ pub struct Report {
     pub sum: u64,
 }
 
-/// Writes a report: a line `job I cylinder C block B` for each job in its order, then `total jobs N sum S`. Where a write fails
-/// or takes no bytes, a prefix is written, and not all: `WriteFault`. Nothing is flushed.
+/// Writes a report: a line `job I cylinder C block B` for each job in its order, then `total jobs N sum S`. Where a
+/// write fails or takes no bytes, a prefix is written, and not all: `WriteFault`. Nothing is flushed.
 pub fn write_report<W: Write>(report: &Report, writer: &mut W) -> Result<(), ServiceFault>
     ensures ok { OnOk result (Appends (W.contents writer.old) (W.contents writer.new)
         (report_text (account_of report.now))) }
@@ -33,7 +33,8 @@ pub fn write_report<W: Write>(report: &Report, writer: &mut W) -> Result<(), Ser
     write_report_watched(report, &mut watched)
 }
 
-/// `write_report`, with a writer that is watched: `WriteFault` is answered exactly where a write failed or took no bytes.
+/// `write_report`, with a writer that is watched: `WriteFault` is answered exactly where a write failed or took no
+/// bytes.
 pub fn write_report_watched<W: Write>(
     report: &Report,
     writer: &mut WatchedWriter<'_, W>,

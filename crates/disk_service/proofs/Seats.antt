@@ -20,7 +20,8 @@ module _ {D : Type 0} where
         count = count;
         each = λ k d l. record {
           out = of k d (omega arith);
-          number = ap (λ (xs : List (PlaceOut D)). (slice_index_or xs k d).place) is ∙ nth-places door 0 n f k d l ∙ omega arith;
+          number = ap (λ (xs : List (PlaceOut D)). (slice_index_or xs k d).place) is ∙ nth-places door 0 n f k d l
+              ∙ omega arith;
         };
       }
 

@@ -9,8 +9,8 @@ use hoare_law::monitor::Monitor;
 use std::sync::Wait;
 use sweep_schedulers::readers_writers::{NoReader, ReadPass, ReadersWriters};
 
-/// Writes that `more` jobs are done, and, if this is the `last` word, that no more will be: whether the board took it. The seat
-/// comes back.
+/// Writes that `more` jobs are done, and, if this is the `last` word, that no more will be: whether the board took it.
+/// The seat comes back.
 pub(crate) fn write<R: Wait>(
     rt: &R,
     doors: &Doors,

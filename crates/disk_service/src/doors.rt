@@ -1,7 +1,8 @@
 //! The six doors of the service.
 ghost use Rattle.std.specs.Prelude.{◌≡◌, ◌+◌, ◌≤◌, IfOk, IfErr};
 ghost use Rattle.disk_service.specs.Made.{AreOf, IsMade};
-ghost use Rattle.disk_service.specs.Doors.{AreSized, AreThere, board_terms, clock_terms, head_terms, items_terms, pool_terms, totals_terms};
+ghost use Rattle.disk_service.specs.Doors.{AreSized, AreThere, board_terms, clock_terms, head_terms, items_terms};
+ghost use Rattle.disk_service.specs.Doors.{pool_terms, totals_terms};
 
 use crate::data::{Board, Drive, Item, Totals};
 use crate::door::{Made, closed, opened};

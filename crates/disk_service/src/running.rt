@@ -1,6 +1,7 @@
 //! From a job file to the report of its service.
 ghost use Rattle.std.specs.Prelude.{◌≡◌, ◌*◌, ◌||◌};
-ghost use Rattle.line_text.specs.Streams.{HasRead, Reads, ReadsFrom, has_read_failed, has_write_failed, reader_name, writer_inside, writer_name};
+ghost use Rattle.line_text.specs.Streams.{HasRead, Reads, ReadsFrom, has_read_failed, has_write_failed, reader_name};
+ghost use Rattle.line_text.specs.Streams.{writer_inside, writer_name};
 ghost use Rattle.disk_jobs.specs.Faults.{is_read_fault, is_write_fault};
 ghost use Rattle.disk_service.specs.Runs.{Serves};
 
@@ -17,8 +18,8 @@ use std::io::{Read, Write};
 use std::sync::Wait;
 use std::thread::Threads;
 
-/// Reads a job file, does its jobs on doors of this kind, and writes the report. Where a write fails or takes no bytes a prefix
-/// of the report is written, and not all; after any other fault nothing is. Nothing is flushed.
+/// Reads a job file, does its jobs on doors of this kind, and writes the report. Where a write fails or takes no bytes
+/// a prefix of the report is written, and not all; after any other fault nothing is. Nothing is flushed.
 pub fn run<T: Threads + Wait + Sync, R: Read, W: Write>(
     rt: &T,
     alloc: Global,
@@ -34,8 +35,9 @@ pub fn run<T: Threads + Wait + Sync, R: Read, W: Write>(
     run_watched(rt, alloc, kind, &mut watched_reader, &mut watched_writer)
 }
 
-/// `run`, with a reader and a writer that are watched: `ReadFault` is answered exactly where a read failed, `WriteFault` exactly
-/// where a write failed or took no bytes, and at most 4,098 lines of 257 bytes are read, by as many reads, whatever the reader is.
+/// `run`, with a reader and a writer that are watched: `ReadFault` is answered exactly where a read failed,
+/// `WriteFault` exactly where a write failed or took no bytes, and at most 4,098 lines of 257 bytes are read, by as
+/// many reads, whatever the reader is.
 pub fn run_watched<T: Threads + Wait + Sync, R: Read, W: Write>(
     rt: &T,
     alloc: Global,

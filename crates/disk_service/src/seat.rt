@@ -15,7 +15,8 @@ use sweep_schedulers::readers_writers::ReadersWriters;
 use timed_schedulers::alarm::Alarm;
 use timed_schedulers::pool::Pool;
 
-/// A place at each door, all of one number. Each thread has a seat, and the stream that it takes buffers for has that number too.
+/// A place at each door, all of one number. Each thread has a seat, and the stream that it takes buffers for has that
+/// number too.
 #[derive(Drop)]
 pub(crate) struct Seat {
     pub number: u32,

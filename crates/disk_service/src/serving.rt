@@ -17,9 +17,9 @@ use std::alloc::{AllocError, Global};
 use std::sync::Wait;
 use std::thread::Threads;
 
-/// Does the jobs on baton doors, with as many workers as they say, and reports them. Refused: `Memory` where the room for the
-/// service can't be had, `Spawn` where a thread can't be started, and `Torn` where what the workers bring isn't the jobs, or the
-/// counts don't agree with it. All that grows grows before the first thread is started.
+/// Does the jobs on baton doors, with as many workers as they say, and reports them. Refused: `Memory` where the room
+/// for the service can't be had, `Spawn` where a thread can't be started, and `Torn` where what the workers bring isn't
+/// the jobs, or the counts don't agree with it. All that grows grows before the first thread is started.
 pub fn serve<R: Threads + Wait + Sync, G: Gate + Sync>(
     rt: &R,
     alloc: Global,

@@ -75,8 +75,8 @@ fn put_back(places: &mut Places, seat: Seat) -> Result<(), ServiceFault>
     }
 }
 
-/// Runs the service: a clock and the workers, each on a thread of its own with a seat of its own. The caller's thread hands the
-/// jobs on. All threads are joined and give their seats back.
+/// Runs the service: a clock and the workers, each on a thread of its own with a seat of its own. The caller's thread
+/// hands the jobs on. All threads are joined and give their seats back.
 pub(crate) fn run_threads<R: Threads + Wait + Sync, G: Gate + Sync>(
     rt: &R,
     gate: &G,

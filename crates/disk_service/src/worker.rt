@@ -18,8 +18,9 @@ use sweep_schedulers::head::Head;
 use timed_schedulers::alarm::Alarm;
 use timed_schedulers::pool::Pool;
 
-/// Does jobs until it is told to stop, and keeps what is done, for which there is room. The seat comes back. A refusal skips what
-/// depends on it: then that job isn't among those that are done. For each that is, the worker has slept for a tick.
+/// Does jobs until it is told to stop, and keeps what is done, for which there is room. The seat comes back. A refusal
+/// skips what depends on it: then that job isn't among those that are done. For each that is, the worker has slept for
+/// a tick.
 pub(crate) fn work<R: Wait, G: Gate>(
     rt: &R,
     gate: &G,

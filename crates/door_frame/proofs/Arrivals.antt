@@ -74,10 +74,16 @@ module _ {D : Type 0} where
       → Allowed h (event s) → IsDue k h event b s
   is_due k h event b s (from_wait c is) may =
       subst (λ (e : D → Event D). Allowed h (e s) → IsDue k h e b s) (sym is)
-      (λ a. record { turn_is = ap next_of a.fits.0; settles = λ o. IsOf-claim b h (Owed k c) (Resume k c s) a.fits.0 refl o }) may
+      (λ a. record {
+        turn_is = ap next_of a.fits.0;
+        settles = λ o. IsOf-claim b h (Owed k c) (Resume k c s) a.fits.0 refl o;
+      }) may
   is_due k h event b s (from_signal is) may =
       subst (λ (e : D → Event D). Allowed h (e s) → IsDue k h e b s) (sym is)
-      (λ a. record { turn_is = ap next_of a.fits.0; settles = λ o. IsOf-claim b h (Return k) (Back k s) a.fits.0 refl o }) may
+      (λ a. record {
+        turn_is = ap next_of a.fits.0;
+        settles = λ o. IsOf-claim b h (Return k) (Back k s) a.fits.0 refl o;
+      }) may
 
   pub is_due_by : (k : ℕ) (h f : History D) (b : Contents) (s : D) → Allowed h (due k f s) → IsDue k h (due k f) b s
   is_due_by k h f b s may = is_due k h (due k f) b s (comes_back k (awaited (newest (own k f.events)))) may
@@ -117,7 +123,8 @@ module _ {D : Type 0} where
           → i ≡ place_in t k (with_event c.log (Admit k x.state)) x.state → Entered rest ready kinds d o i
       entered {k = k} {x = x} {m = m} o t i out table place =
           subst
-          (λ (j : ℕ). (c : Came rest ready j o.front (Admit j) x None m) → i ≡ place_in t j (with_event c.log (Admit j x.state)) x.state
+          (λ (j : ℕ). (c : Came rest ready j o.front (Admit j) x None m)
+          → i ≡ place_in t j (with_event c.log (Admit j x.state)) x.state
           → Entered rest ready kinds d o i) (sym place) at
         where
           at : (c : Came rest ready o.place o.front (Admit o.place) x None m)
@@ -140,7 +147,8 @@ module _ {D : Type 0} where
 
         pub resumed : {y : Lodged D} {m : Sat D} (c p : ℕ) (z : Berth) (j : PlaceIn D)
             → Holds rest ready kinds d i t k f me x → z ≡ t
-            → (b : Came rest ready k (with_event f (Wait k c p x.state)) (due k (with_event f (Wait k c p x.state))) y None m)
+            → (b : Came rest ready k (with_event f (Wait k c p x.state))
+            (due k (with_event f (Wait k c p x.state))) y None m)
             → j ≡ place_in z k (with_event b.log (due k (with_event f (Wait k c p x.state)) y.state)) y.state
             → Resumed rest ready kinds d i c p j
         resumed {y = y} c p z j h same b is =
@@ -157,11 +165,14 @@ module _ {D : Type 0} where
             subst (Resumed rest ready kinds d i c p) (sym here) (record {
               of = is_in z k (with_event f w) b.log e y.state (same ∙ h.within.of) sizes b.begins stands refl refl;
               place = ap (λ (v : PlaceIn D). v.place) h.seen;
-              is_ready = λ hoare. finds-resume rest ready b.log f k c p x.state y.state b.own_are (sized (λ n. IsHoare n.conditions n.mesa c) hoare) stands;
-              rests = λ called. finds-called rest ready b.log k c y.state (sized (λ n. IsMesa n.conditions n.mesa c) called) stands;
+              is_ready = λ hoare. finds-resume rest ready b.log f k c p x.state y.state b.own_are
+                  (sized (λ n. IsHoare n.conditions n.mesa c) hoare) stands;
+              rests = λ called. finds-called rest ready b.log k c y.state
+                  (sized (λ n. IsMesa n.conditions n.mesa c) called) stands;
               front =
                   subst
-                  (λ (v : PlaceIn D). AddsTwo v.front (Wait v.place c p v.state) (Resume v.place c y.state) (with_event b.log e)) h.seen
+                  (λ (v : PlaceIn D). AddsTwo v.front (Wait v.place c p v.state) (Resume v.place c y.state)
+                  (with_event b.log e)) h.seen
                   (AddsTwo-one k f w b.log e refl refl b.begins b.own_are);
             })
 
@@ -169,8 +180,10 @@ module _ {D : Type 0} where
             → Holds rest ready kinds d i t k f me x
             → priorities i.front.events c ≢ [] → IsOf b (after_signal (erased f) k c (chosen c (erased f).events))
             → who ≡ next_of b.turn → z ≡ t
-            → (a : Came rest ready k (with_event f (Signal k c (place_for who) x.state)) (due k (with_event f (Signal k c (place_for who) x.state))) y None m)
-            → j ≡ place_in z k (with_event a.log (due k (with_event f (Signal k c (place_for who) x.state)) y.state)) y.state
+            → (a : Came rest ready k (with_event f (Signal k c (place_for who) x.state))
+            (due k (with_event f (Signal k c (place_for who) x.state))) y None m)
+            → j ≡ place_in z k (with_event a.log (due k (with_event f (Signal k c (place_for who) x.state)) y.state))
+            y.state
             → Returned rest ready kinds d i c j
         returned {y = y} c b who z j h some book answer same a is =
             let v : ℕ = place_for who in

@@ -74,7 +74,8 @@ module _ {D : Type 0} where
         let r = running Starts Tells rest ready kinds d.places fin.0 fin.1.0 id (known_to os) at in
         let agree = r.fronts id (Places (known_to os)) at in
         let out : AllOutside r.log =
-        λ k small. outside_at k r.log r.owner r.tokens id os outs agree (all k (subst (λ (m : Sizes). k < m.places) r.sized small)) in
+        λ k small. outside_at k r.log r.owner r.tokens id os outs agree
+        (all k (subst (λ (m : Sizes). k < m.places) r.sized small)) in
         let home = r.home (given_up_free (turn r.log.events) (turn-ended r.log r.stands.legal out)) in (
           home.0,
           fin.4 0 (Some home.0) home.1,
@@ -91,7 +92,8 @@ module _ {D : Type 0} where
         )
 
     -- the same of all that were handed in, once the last is joined
-    pub ends_all : {id : ℕ} {v : View D} (ws : List ℕ) (xs : List (Option (Lodged D))) {os front : List (PlaceOut D)} (back : List (PlaceOut D))
+    pub ends_all : {id : ℕ} {v : View D} (ws : List ℕ) (xs : List (Option (Lodged D))) {os front : List (PlaceOut D)}
+        (back : List (PlaceOut D))
         → os ≡ front ++ back → front ≡ [] → v ≡ Places (known_to back) → All Of os
         → ((k : ℕ) → k < d.places → HasPlace k os)
         → Final (Seen (Kept Starts Tells rest ready kinds d.places) id v) ws xs → {x : Option (Lodged D)}
@@ -109,12 +111,14 @@ module _ {D : Type 0} where
         → w ≡ alone k f → Joins (Kept Starts Tells rest ready kinds d.places) id v other w (both_places v w) no_places
     joins_one id v other w os k f is lone =
         subst
-        (λ (p : View D × View D). Joins (Kept Starts Tells rest ready kinds d.places) id p.0 other p.1 (both_places p.0 p.1) no_places)
+        (λ (p : View D × View D). Joins (Kept Starts Tells rest ready kinds d.places) id p.0 other p.1
+        (both_places p.0 p.1) no_places)
         (λ i. (sym is i, sym lone i))
         (joins_ok Starts Tells rest ready kinds d.places id (known_to os) other (knows k f None ∷ []))
 
   -- what was found in the slot is what the call gives back
-  pub ends_at : (rest : Rest D) (ready : Ready D) (kinds : Kinds) (d : DoorId) {os : List (PlaceOut D)} {l x : Lodged D} {s : D}
+  pub ends_at : (rest : Rest D) (ready : Ready D) (kinds : Kinds) (d : DoorId) {os : List (PlaceOut D)}
+      {l x : Lodged D} {s : D}
       → Ends rest ready kinds d os l → Some l ≡ Some x → x.state ≡ s → Closes rest ready kinds d os s × rest s nobody
   ends_at rest ready kinds d {os = os} {l = l} {x = x} {s = s} e found is =
       let same : l.state ≡ s = ap (λ (o : Option (Lodged D)). (unwrap_or o l).state) found ∙ is in

@@ -19,7 +19,8 @@ use Rattle.hoare_law.proofs.Entering.{outside-same}
 use Rattle.hoare_law.proofs.Growth.{Begins-refl}
 use Rattle.hoare_law.proofs.Entering as entering
 use Rattle.hoare_law.proofs.Held.{is_inside, handing, place_of-handing, data_of-handing}
-use Rattle.hoare_law.proofs.Leaving.{given_up-left, turn-handing, outside-left, chosen-some, Chooses-place, Allowed-leave}
+use Rattle.hoare_law.proofs.Leaving.{given_up-left, turn-handing, outside-left, chosen-some, Chooses-place}
+use Rattle.hoare_law.proofs.Leaving.{Allowed-leave}
 use Rattle.hoare_law.proofs.Leaving.{Allowed-wait, Allowed-handing}
 use Rattle.hoare_law.proofs.Leaving.{Owes-leave, Owes-wait, Owes-handing}
 use Rattle.hoare_law.proofs.Legal.{Stands-push}
@@ -49,7 +50,8 @@ module _ {D : Type 0} where
   out-handing false k c w s = refl
 
   -- nobody is inside after the place gave the monitor up
-  pub gives_gone : (rest : Rest D) (ready : Ready D) (event : D → Event D) (k : ℕ) (f : History D) (x : Lodged D) (who : Next) (j : ℕ)
+  pub gives_gone : (rest : Rest D) (ready : Ready D) (event : D → Event D) (k : ℕ) (f : History D) (x : Lodged D)
+      (who : Next) (j : ℕ)
       → Gives rest ready event k f x who → who ≡ next.Held j → ⊥
   gives_gone rest ready event k f x who j p is =
       subst IsGivenUp (held_next (turn (with_event f (event x.state)).events) j (sym p.next_is ∙ is)) p.given_up
@@ -84,7 +86,8 @@ module _ {D : Type 0} where
     pub front : Exits i.place c i.state i.front o.front true
 
   -- who learns the history stays outside
-  pub told_out : (rest : Rest D) (ready : Ready D) (kinds : Kinds) (d : DoorId) (t : Berth) (o : PlaceOut D) (h : History D)
+  pub told_out : (rest : Rest D) (ready : Ready D) (kinds : Kinds) (d : DoorId) (t : Berth) (o : PlaceOut D)
+      (h : History D)
       → t ≡ berth_at d o.place
       → IsOut rest ready kinds d o → Stands rest ready h → Begins o.front h
       → own o.place h.events ≡ own o.place o.front.events
@@ -154,8 +157,10 @@ module _ {D : Type 0} where
         → MayGive rest ready (event_of k (departure.Wait c p) who) k me (record { state = x.state; book = b }) who
     gives_wait c p b who h small asked book is =
         may_give (λ s. Wait k c p s) b who h refl refl refl
-        (Allowed-wait f k c p x.state h.within.stands.legal h.within.is_inside (sized_here (λ n. c < n.conditions) h small))
-        (Owes-wait rest ready f k c p x.state h.within.is_inside (asked_here (λ j. rest j.state (joined (priorities j.front.events) c p)) h asked))
+        (Allowed-wait f k c p x.state h.within.stands.legal h.within.is_inside
+        (sized_here (λ n. c < n.conditions) h small))
+        (Owes-wait rest ready f k c p x.state h.within.is_inside
+        (asked_here (λ j. rest j.state (joined (priorities j.front.events) c p)) h asked))
         (IsOf-event b f (Wait k c p x.state) book) is
 
     some_here : (c : ℕ) → Holds rest ready kinds d i t k f me x → priorities i.front.events c ≢ []
@@ -173,7 +178,8 @@ module _ {D : Type 0} where
         let after = IsOf-handing out b f k c e.0 x.state e.1 book in record {
           chosen_one = e.0;
           is = e.1;
-          goes_on = handed_to (with_event f (handing out k c w x.state)) w c b who after (turn-handing out f k c w x.state) is;
+          goes_on = handed_to (with_event f (handing out k c w x.state)) w c b who after
+              (turn-handing out f k c w x.state) is;
         }
 
     allowed_handing : (out : Bool) (c : ℕ) (e : Event D) → Holds rest ready kinds d i t k f me x
@@ -199,7 +205,8 @@ module _ {D : Type 0} where
         let w : ℕ = place_of r.chosen_one in
         subst (λ (j : ℕ). MayGive rest ready (λ s. handing out k c j s) k me (record { state = x.state; book = b }) who)
         (sym r.goes_on)
-        (may_give (λ s. handing out k c w s) b who h (place_of-handing out k c w x.state) (data_of-handing out k c w x.state)
+        (may_give (λ s. handing out k c w s) b who h (place_of-handing out k c w x.state)
+        (data_of-handing out k c w x.state)
         (out-handing out k c w x.state) (allowed_handing out c r.chosen_one h hoare r.is)
         (owes_handing out c r.chosen_one h r.is asked)
         (IsOf-handing out b f k c r.chosen_one x.state r.is book) is)
@@ -215,7 +222,8 @@ module _ {D : Type 0} where
           of = record {
             of = same ∙ h.within.of;
             sized = sizes;
-            below = subst (λ (m : Sizes). k < m.places) h.within.sized (held-in_range f k h.within.stands.legal h.within.is_inside);
+            below = subst (λ (m : Sizes). k < m.places) h.within.sized
+                (held-in_range f k h.within.stands.legal h.within.is_inside);
             stands = Stands-push e h.within.stands may owes;
             is_outside = outside-left f k e mine goes;
           };
@@ -229,7 +237,8 @@ module _ {D : Type 0} where
         → Left rest ready kinds d i.place (with_event i.front (Leave i.place i.state)) o
     left z o h asked same is =
         asked_back (λ j. Left rest ready kinds d j.place (with_event j.front (Leave j.place j.state)) o) h
-        (went_out (Leave k x.state) z o h refl refl (Allowed-leave f k x.state h.within.stands.legal h.within.is_inside) (owes_leave h asked) same is)
+        (went_out (Leave k x.state) z o h refl refl (Allowed-leave f k x.state h.within.stands.legal h.within.is_inside)
+        (owes_leave h asked) same is)
 
     pub passed : (c : ℕ) (b : Contents) (who : Next) (z : Berth) (o : PlaceOut D)
         → Holds rest ready kinds d i t k f me x → IsHoare kinds.conditions kinds.mesa c
@@ -241,11 +250,14 @@ module _ {D : Type 0} where
         let w : ℕ = place_for who in
         let out : Left rest ready kinds d k (with_event f (Pass k c w x.state)) o =
         subst
-        (λ (j : ℕ). o ≡ place_out z k (with_event f (Pass k c j x.state)) → Left rest ready kinds d k (with_event f (Pass k c j x.state)) o)
+        (λ (j : ℕ). o ≡ place_out z k (with_event f (Pass k c j x.state))
+        → Left rest ready kinds d k (with_event f (Pass k c j x.state)) o)
         (sym r.goes_on)
-        (went_out (Pass k c (place_of r.chosen_one) x.state) z o h refl refl (allowed_handing true c r.chosen_one h hoare r.is) (owes_handing true c r.chosen_one h r.is asked) same)
+        (went_out (Pass k c (place_of r.chosen_one) x.state) z o h refl refl
+        (allowed_handing true c r.chosen_one h hoare r.is) (owes_handing true c r.chosen_one h r.is asked) same)
         gone in record {
           of = out.of;
           place = asked_back (λ j. o.place ≡ j.place) h out.place;
-          front = asked_back (λ j. Exits j.place c j.state j.front o.front true) h (passed_on w (chooses c f who r) out.front);
+          front = asked_back (λ j. Exits j.place c j.state j.front o.front true) h
+              (passed_on w (chooses c f who r) out.front);
         }

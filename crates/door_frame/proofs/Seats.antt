@@ -44,7 +44,8 @@ module _ {D : Type 0} where
 
   module _ (calm : Rest D) (ready : Ready D) where
     -- who came in takes what lies in the slot
-    pub took_also : {k : ℕ} {f : History D} {event : D → Event D} {x y : Lodged D} {m n : Sat D} (Also : History D → Type 0)
+    pub took_also : {k : ℕ} {f : History D} {event : D → Event D} {x y : Lodged D} {m n : Sat D}
+        (Also : History D → Type 0)
         (c : Came calm ready k f event x (Some x) m) → Also c.log → m ≡ (m.0, (0, Some y) ∷ [])
         → n ≡ (m.0, (0, None) ∷ [])
         → (d : Came calm ready k f event y None n) × Also d.log
@@ -82,7 +83,8 @@ module _ {D : Type 0} where
   has_front m is k f c e = e ∙ ap (λ (h : History D). (alone k h, c)) (sym (front_is m is k f c e))
 
   -- what holds of the front that a seat has
-  pub at_front : (P : History D → Type 0) (m : Sat D) (is : is_alone m.0 ≡ true) (k : ℕ) (f : History D) (c : List (ℕ × Option (Lodged D)))
+  pub at_front : (P : History D → Type 0) (m : Sat D) (is : is_alone m.0 ≡ true) (k : ℕ) (f : History D)
+      (c : List (ℕ × Option (Lodged D)))
       → m ≡ (alone k f, c) → P f → P (front_of m.0 is)
   at_front P m is k f c e p = subst P (sym (front_is m is k f c e)) p
 

@@ -62,7 +62,8 @@ given_up_due k t (owed c is) = subst IsGivenUp (sym is) tt
 given_up_due k t (returning is) = subst IsGivenUp (sym is) tt
 
 -- what a step tells may be told in other words
-pub told_as : {S V : Type 0} (holds : State S V → Type 0) (slots id : ℕ) (me : Me S V) (i : ℕ) (f : ℕ → ℕ) (Then Other : ℕ → Me S V → Type 0)
+pub told_as : {S V : Type 0} (holds : State S V → Type 0) (slots id : ℕ) (me : Me S V) (i : ℕ) (f : ℕ → ℕ)
+    (Then Other : ℕ → Me S V → Type 0)
     → ((r : ℕ) (m : Me S V) → Then r m → Other r m) → Allows holds slots id me i f Then
     → Allows holds slots id me i f Other
 told_as holds slots id me i f Then Other as_ ok s kept wide at small =
@@ -83,7 +84,8 @@ module _ {D : Type 0} where
     below = h.below;
     owned = h.owned;
     begins = Begins-trans h.begins (Begins-push log e);
-    own_are = own-push t.place log.events e ∙ ap (λ b. own t.place log.events ++ cond b (e ∷ []) []) (ne_eqb (place_of e) t.place other) ∙ append-nil (own t.place log.events) ∙ h.own_are;
+    own_are = own-push t.place log.events e ∙ ap (λ b. own t.place log.events ++ cond b (e ∷ []) [])
+        (ne_eqb (place_of e) t.place other) ∙ append-nil (own t.place log.events) ∙ h.own_are;
     token_is = same ∙ h.token_is;
   }
 
@@ -113,8 +115,12 @@ module _ {D : Type 0} where
 
   pub sole_is : (k j : ℕ) (f g : History D) (o p : Option Token) (c d : List (ℕ × Option (Lodged D)))
       → ◌≡◌ {A = Sat D} (sole k f o, c) (sole j g p, d) → (k ≡ j) × (f ≡ g) × (o ≡ p) × (c ≡ d)
-  sole_is k j f g o p c d e =
-      (ap (λ (m : Sat D). acting m.0) e, ap (λ (m : Sat D). front_or f m.0) e, ap (λ (m : Sat D). token_or o m.0) e, ap (λ (m : Sat D). m.1) e)
+  sole_is k j f g o p c d e = (
+    ap (λ (m : Sat D). acting m.0) e,
+    ap (λ (m : Sat D). front_or f m.0) e,
+    ap (λ (m : Sat D). token_or o m.0) e,
+    ap (λ (m : Sat D). m.1) e,
+  )
 
   pub alone_is : (k j : ℕ) (f g : History D) (c d : List (ℕ × Option (Lodged D)))
       → ◌≡◌ {A = Sat D} (alone k f, c) (alone j g, d) → (k ≡ j) × (f ≡ g) × (c ≡ d)
@@ -193,14 +199,16 @@ module _ {D : Type 0} (Starts : Bool → List ℕ → Type 0) (Tells : History D
       → (j : ℕ) (v : View D) → get_elem? (set s.views id (sole k g o')) j ≡ some v
       → EachOf (Agrees n h r.owner tokens' j) v
   agree_all n s r id k f g h o o' tokens' at here else_ j v got = let w : View D = sole k g o' in ⊎_elim
-      (λ (t : (j ≡ id) × (w ≡ v)). subst (λ (z : ℕ × View D). EachOf (Agrees n h r.owner tokens' z.0) z.1) (λ i. (sym t.0 i, t.1 i)) (here, tt))
+      (λ (t : (j ≡ id) × (w ≡ v)). subst (λ (z : ℕ × View D). EachOf (Agrees n h r.owner tokens' z.0) z.1)
+      (λ i. (sym t.0 i, t.1 i)) (here, tt))
       (λ (t : (j ≢ id) × (get_elem? s.views j ≡ some v)). kept_all v t.0 (r.fronts j v t.1))
       (at_set s.views id j w v got)
     where
       kept_all : (u : View D) → j ≢ id → EachOf (Agrees n r.log r.owner r.tokens j) u
           → EachOf (Agrees n h r.owner tokens' j) u
       kept_all (Places ts) ne q0 = each_map (Agrees n r.log r.owner r.tokens j) (Agrees n h r.owner tokens' j)
-          (λ u q. else_ j u (λ (same : u.place ≡ k). ne (sym q.owned ∙ (ap r.owner same ∙ (r.fronts id (sole k f o) at).0.owned))) q) ts q0
+          (λ u q. else_ j u (λ (same : u.place ≡ k). ne (sym q.owned
+          ∙ (ap r.owner same ∙ (r.fronts id (sole k f o) at).0.owned))) q) ts q0
       kept_all (Unopened m) ne q0 = q0
       kept_all (Opening m) ne q0 = q0
 
@@ -213,11 +221,13 @@ module _ {D : Type 0} (Starts : Bool → List ℕ → Type 0) (Tells : History D
       (at_set s.views id j (sole k g o) v got)
 
   -- one event more, of the place k
-  adds : (n : ℕ) (s : Cells D) (r : R n s) (id k : ℕ) (f : History D) (o o' : Option Token) (tokens' : Tokens) (e : Event D) (words' : List ℕ) (homes' : Homes D)
+  adds : (n : ℕ) (s : Cells D) (r : R n s) (id k : ℕ) (f : History D) (o o' : Option Token) (tokens' : Tokens)
+      (e : Event D) (words' : List ℕ) (homes' : Homes D)
       → get_elem? s.views id ≡ some (sole k f o) → place_of e ≡ k → Allowed r.log e → Owes rest ready r.log.events e
       → length homes' ≡ 1 → tokens' k ≡ o' → ((j : ℕ) → j ≢ k → tokens' j ≡ r.tokens j)
       → Tells (with_event r.log e) tokens' words'
-      → (IsGivenUp (turn (with_event r.log e).events) → (x : Lodged D) × (get_elem? homes' 0 ≡ some (some (Some x))) × Lies (with_event r.log e) x)
+      → (IsGivenUp (turn (with_event r.log e).events) → (x : Lodged D) × (get_elem? homes' 0 ≡ some (some (Some x)))
+      × Lies (with_event r.log e) x)
       → ((j : ℕ) → turn (with_event r.log e).events ≡ Held j → get_elem? homes' 0 ≡ some none)
       → R n record { words = words'; homes = homes'; views = set s.views id (sole k (with_event r.log e) o') }
   adds n s r id k f o o' tokens' e words' homes' at mine may owes deep now others tells home out =
@@ -230,7 +240,8 @@ module _ {D : Type 0} (Starts : Bool → List ℕ → Type 0) (Tells : History D
         sized = kept;
         fronts = agree_all n s r id k f h h o o' tokens' at
             (record { below = fit.below; owned = fit.owned; begins = Begins-refl h; own_are = refl; token_is = now })
-            (λ j t ne q. grows n r.log r.owner r.tokens tokens' j e t (λ same. ne (sym same ∙ mine)) (others t.place ne) q);
+            (λ j t ne q. grows n r.log r.owner r.tokens tokens' j e t (λ same. ne (sym same ∙ mine))
+            (others t.place ne) q);
         apart = apart_sole n s r id k h o';
         stands = Stands-push e r.stands may owes;
         tells = tells;
@@ -259,7 +270,13 @@ module _ {D : Type 0} (Starts : Bool → List ℕ → Type 0) (Tells : History D
           one_slot = r.one_slot;
           sized = r.sized;
           fronts = agree_all n s r id k f f r.log o d.0 d.1 at
-              (record { below = fit.below; owned = fit.owned; begins = fit.begins; own_are = fit.own_are; token_is = d.2 })
+              (record {
+                below = fit.below;
+                owned = fit.owned;
+                begins = fit.begins;
+                own_are = fit.own_are;
+                token_is = d.2;
+              })
               (λ j t ne q. retokened n r.log r.owner r.tokens d.1 j t (d.3 t.place ne) q);
           apart = apart_sole n s r id k f d.0;
           stands = r.stands;
@@ -278,7 +295,8 @@ module _ {D : Type 0} (Starts : Bool → List ℕ → Type 0) (Tells : History D
       (λ j. (sym (set-get_or s.words i 0) j, sym (set_again s.views id v at) j)) kept
 
   -- the event, of the data d, brings k in, who then has the token p; the word i becomes g of what it was
-  pub record BringsIn (k i : ℕ) (p : Option Token) (g : ℕ → ℕ) (Also : History D → Type 0) (log : History D) (tokens : Tokens)
+  pub record BringsIn (k i : ℕ) (p : Option Token) (g : ℕ → ℕ) (Also : History D → Type 0) (log : History D)
+      (tokens : Tokens)
       (ws : List ℕ) (e : Event D) : Type 0 where
     pub given_up : IsGivenUp (turn log.events)
     pub allowed : Allowed log e
@@ -292,17 +310,22 @@ module _ {D : Type 0} (Starts : Bool → List ℕ → Type 0) (Tells : History D
     pub tells : Tells (with_event log e) tokens' (set ws i (g (get_or ws i 0)))
 
   -- k, which knew f, comes in where the word is a hit, and takes the slot
-  pub comes_ok : (n slots id k i : ℕ) (f : History D) (o p : Option Token) (event : D → Event D) (g : ℕ → ℕ) (Hit : ℕ → Type 0) (Also : History D → Type 0)
+  pub comes_ok : (n slots id k i : ℕ) (f : History D) (o p : Option Token) (event : D → Event D) (g : ℕ → ℕ)
+      (Hit : ℕ → Type 0) (Also : History D → Type 0)
       → ((x : ℕ) → Dec (Hit x))
-      → ((log : History D) (tokens : Tokens) (ws : List ℕ) → k < n → Tells log tokens ws → (Hit (get_or ws i 0) → ⊥) → g (get_or ws i 0) ≡ get_or ws i 0)
-      → ((log : History D) (tokens : Tokens) (ws : List ℕ) → Stands rest ready log → log.sizes.places ≡ n → k < n → own k log.events ≡ own k f.events → tokens k ≡ o → Tells log tokens ws
+      → ((log : History D) (tokens : Tokens) (ws : List ℕ) → k < n → Tells log tokens ws → (Hit (get_or ws i 0) → ⊥)
+      → g (get_or ws i 0) ≡ get_or ws i 0)
+      → ((log : History D) (tokens : Tokens) (ws : List ℕ) → Stands rest ready log → log.sizes.places ≡ n → k < n
+      → own k log.events ≡ own k f.events → tokens k ≡ o → Tells log tokens ws
       → Hit (get_or ws i 0) → BringsIn k i p g Also log tokens ws (event (latest_data log)))
-      → Allows (K n) slots id (sole k f o, []) i g (λ r m'. ComesWith rest ready p Hit Also k f event (sole k f o, []) r m')
+      → Allows (K n) slots id (sole k f o, []) i g
+      (λ r m'. ComesWith rest ready p Hit Also k f event (sole k f o, []) r m')
   comes_ok n slots id k i f o p event g Hit Also test missed brings s kept wide at small =
       let r = running n s kept id (knows k f o ∷ []) at in let x : ℕ = get_or s.words i 0 in
       let v : View D = sole k f o in
       let deep = r.one_slot in let fit = (r.fronts id v at).0 in dite (test x)
-      (λ hit. let b0 = brings r.log r.tokens s.words r.stands (ap (λ (m : Sizes). m.places) r.sized) fit.below fit.own_are fit.token_is r.tells hit in let home = r.home b0.given_up in let l : Lodged D = home.0 in
+      (λ hit. let b0 = brings r.log r.tokens s.words r.stands (ap (λ (m : Sizes). m.places) r.sized) fit.below
+      fit.own_are fit.token_is r.tells hit in let home = r.home b0.given_up in let l : Lodged D = home.0 in
       let e : Event D = event l.state in let h : History D = with_event r.log e in let w : View D = sole k h p in
       let b : BringsIn k i p g Also r.log r.tokens s.words e =
       subst (λ (d : D). BringsIn k i p g Also r.log r.tokens s.words (event d)) (sym home.2.latest) b0 in (
@@ -310,7 +333,8 @@ module _ {D : Type 0} (Starts : Bool → List ℕ → Type 0) (Tells : History D
         takes 0 (Some l),
         home.1,
         runs
-            (adds n s r id k f o p b.tokens' e (set s.words i (g x)) (set s.homes 0 none) at b.mine b.allowed b.owes (length-set s.homes 0 none
+            (adds n s r id k f o p b.tokens' e (set s.words i (g x)) (set s.homes 0 none) at b.mine b.allowed b.owes
+            (length-set s.homes 0 none
             ∙ deep) b.token_now b.others b.tells (not_given_up l h b.inside) (λ j held. set_here s.homes 0 none
             (omega (arith, deep)))),
         (
@@ -346,18 +370,24 @@ module _ {D : Type 0} (Starts : Bool → List ℕ → Type 0) (Tells : History D
       → Lies (with_event f e) x
   lies_of f e x same book = record { latest = sym (latest_data-push f e ∙ same); book = book }
 
-  pub gives_ok : (n slots id k i : ℕ) (g : ℕ → ℕ) (f : History D) (x : Lodged D) (next : Next) (event : D → Event D) (st : Step (Option (Lodged D)))
+  pub gives_ok : (n slots id k i : ℕ) (g : ℕ → ℕ) (f : History D) (x : Lodged D) (next : Next) (event : D → Event D)
+      (st : Step (Option (Lodged D)))
       → Gives rest ready event k f x next
-      → ((tokens : Tokens) (ws : List ℕ) → f.sizes.places ≡ n → k < n → Tells f tokens ws → Tells (with_event f (event x.state)) tokens (set ws i (g (get_or ws i 0))))
-      → Allows (K n) slots id (alone k f, (0, Some x) ∷ []) i g (λ r m'. gives_as event st (alone k f, (0, Some x) ∷ []) r m')
+      → ((tokens : Tokens) (ws : List ℕ) → f.sizes.places ≡ n → k < n → Tells f tokens ws
+      → Tells (with_event f (event x.state)) tokens (set ws i (g (get_or ws i 0))))
+      → Allows (K n) slots id (alone k f, (0, Some x) ∷ []) i g
+      (λ r m'. gives_as event st (alone k f, (0, Some x) ∷ []) r m')
   gives_ok n slots id k i g f x next event st p tells s kept wide at small =
       let r = running n s kept id (knows k f None ∷ []) at in
       let deep = r.one_slot in let fit = (r.fronts id (alone k f) at).0 in let e : Event D = event x.state in
       let same : r.log ≡ f = still_held k f r.log r.stands.legal p.inside fit.begins fit.own_are in
       let w : View D = alone k (with_event r.log e) in
       let ws' : List ℕ = set s.words i (g (get_or s.words i 0)) in
-      let told : Tells (with_event r.log e) r.tokens ws' = subst (λ (h : History D). Tells (with_event h e) r.tokens ws') (sym same)
-      (tells r.tokens s.words (ap (λ (h : History D). h.sizes.places) (sym same) ∙ ap (λ (m : Sizes). m.places) r.sized) fit.below (subst (λ (h : History D). Tells h r.tokens s.words) same r.tells)) in
+      let told : Tells (with_event r.log e) r.tokens ws' =
+      subst (λ (h : History D). Tells (with_event h e) r.tokens ws') (sym same)
+      (tells r.tokens s.words (ap (λ (h : History D). h.sizes.places) (sym same)
+      ∙ ap (λ (m : Sizes). m.places) r.sized) fit.below
+      (subst (λ (h : History D). Tells h r.tokens s.words) same r.tells)) in
       let lies : Lies (with_event r.log e) x =
       subst (λ (h : History D). Lies (with_event h e) x) (sym same) (lies_of f e x p.same_data p.book) in
       let gone : IsGivenUp (turn (with_event r.log e).events) =
@@ -366,12 +396,14 @@ module _ {D : Type 0} (Starts : Bool → List ℕ → Type 0) (Tells : History D
         gives,
         tt,
         runs
-            (adds n s r id k f None None r.tokens e ws' (set s.homes 0 (some (Some x))) at p.mine (subst (λ (h : History D). Allowed h e) (sym same) p.allowed)
+            (adds n s r id k f None None r.tokens e ws' (set s.homes 0 (some (Some x))) at p.mine
+            (subst (λ (h : History D). Allowed h e) (sym same) p.allowed)
             (subst (λ (h : History D). Owes rest ready h.events e) (sym same) p.owes)
             (length-set s.homes 0 (some (Some x)) ∙ deep)
             fit.token_is (λ j ne. refl) told (λ _. (x, set_here s.homes 0 (some (Some x)) (omega (arith, deep)), lies))
             (λ j held. absurd (subst IsGivenUp held gone))),
-        λ j g y is. let q = alone_is k j f g ((0, Some x) ∷ []) ((0, Some y) ∷ []) is in let is' : x ≡ y = ap (lodged_or x) q.2 in
+        λ j g y is. let q = alone_is k j f g ((0, Some x) ∷ []) ((0, Some y) ∷ []) is in
+            let is' : x ≡ y = ap (lodged_or x) q.2 in
             λ i. (alone (q.0 i) (with_event ((same ∙ q.1) i) (event (is' i).state)), []),
       )
 
@@ -406,7 +438,8 @@ module _ {D : Type 0} (Starts : Bool → List ℕ → Type 0) (Tells : History D
             λ i. (alone (q.0 i) (with_event ((same ∙ q.1) i) (event (q.1 i))), (0, None) ∷ []),
       )
 
-  pub notes_at : (n slots id k i : ℕ) (f : History D) (event : History D → Event D) (st : Step (Option (Lodged D))) (m : Sat D)
+  pub notes_at : (n slots id k i : ℕ) (f : History D) (event : History D → Event D)
+      (st : Step (Option (Lodged D))) (m : Sat D)
       → m ≡ (alone k f, (0, None) ∷ []) → Notes rest ready (event f) k f
       → ((tokens : Tokens) (ws : List ℕ) → Tells f tokens ws → Tells (with_event f (event f)) tokens ws)
       → Allows (K n) slots id m i (λ r. r) (notes_as event st m)
@@ -424,7 +457,8 @@ module _ {D : Type 0} (Starts : Bool → List ℕ → Type 0) (Tells : History D
         takes 0 None,
         ap (λ (x : Homes D). get_elem? x 0) h,
         lent (starts s.words b) (ap (λ (x : Homes D). set x 0 none) h)
-            (ap (λ (x : List (View D)). set x id (Opening n)) e ∙ set_only (Unopened n) (Opening n) (Unopened n) id at'),
+            (ap (λ (x : List (View D)). set x id (Opening n)) e
+            ∙ set_only (Unopened n) (Opening n) (Unopened n) id at'),
         λ m is. λ j. (Opening (count (is j)), (0, None) ∷ []),
       )
     where
@@ -439,14 +473,20 @@ module _ {D : Type 0} (Starts : Bool → List ℕ → Type 0) (Tells : History D
   all_agree : (n : ℕ) (h : History D) (count k : ℕ) → k + count ≤ n
       → Each (Agrees n h (λ _. 0) (λ _. None) 0) (all_know k count h)
   all_agree n h zero k b = tt
-  all_agree n h (suc count) k b =
-      (record { below = omega arith; owned = refl; begins = Begins-refl h; own_are = refl; token_is = refl }, all_agree n h count (suc k) (omega arith))
+  all_agree n h (suc count) k b = (
+    record { below = omega arith; owned = refl; begins = Begins-refl h; own_are = refl; token_is = refl },
+    all_agree n h count (suc k) (omega arith),
+  )
 
   -- the door as it opens
   opens_running : (n : ℕ) (x : Lodged D) (ws : List ℕ) → Stands rest ready (opened (sizes_at kinds n) x.state)
       → IsOf x.book (opened (sizes_at kinds n) tt) → Tells (opened (sizes_at kinds n) x.state)
       (λ _. None) ws → R n
-      (record { words = ws; homes = some (Some x) ∷ []; views = Places (all_know 0 n (opened (sizes_at kinds n) x.state)) ∷ [] })
+      (record {
+        words = ws;
+        homes = some (Some x) ∷ [];
+        views = Places (all_know 0 n (opened (sizes_at kinds n) x.state)) ∷ [];
+      })
   unfolding latest_data
   opens_running n x ws stands book tells = record {
     log = opened (sizes_at kinds n) x.state;
@@ -455,10 +495,15 @@ module _ {D : Type 0} (Starts : Bool → List ℕ → Type 0) (Tells : History D
     one_slot = refl;
     sized = refl;
     fronts =
-        λ j v got. subst (λ (z : ℕ × View D). EachOf (Agrees n (opened (sizes_at kinds n) x.state) (λ _. 0) (λ _. None) z.0) z.1)
-        (λ i. (sym (only_at (Places (all_know 0 n (opened (sizes_at kinds n) x.state))) v j got) i, only (Places (all_know 0 n (opened (sizes_at kinds n) x.state))) v j got i))
+        λ j v got. subst (λ (z : ℕ × View D). EachOf
+        (Agrees n (opened (sizes_at kinds n) x.state) (λ _. 0) (λ _. None) z.0) z.1)
+        (λ i. (
+          sym (only_at (Places (all_know 0 n (opened (sizes_at kinds n) x.state))) v j got) i,
+          only (Places (all_know 0 n (opened (sizes_at kinds n) x.state))) v j got i,
+        ))
         (all_agree n (opened (sizes_at kinds n) x.state) n 0 (omega arith));
-    apart = λ j v got. subst ApartOf (only (Places (all_know 0 n (opened (sizes_at kinds n) x.state))) v j got) (all_know_apart 0 n (opened (sizes_at kinds n) x.state));
+    apart = λ j v got. subst ApartOf (only (Places (all_know 0 n (opened (sizes_at kinds n) x.state))) v j got)
+        (all_know_apart 0 n (opened (sizes_at kinds n) x.state));
     stands = stands;
     tells = tells;
     home = λ _. (x, refl, record { latest = refl; book = book });
@@ -467,8 +512,10 @@ module _ {D : Type 0} (Starts : Bool → List ℕ → Type 0) (Tells : History D
 
   pub opens_ok : (n slots id i : ℕ) (g : ℕ → ℕ) (x : Lodged D) (st : Step (Option (Lodged D)))
       → Stands rest ready (opened (sizes_at kinds n) x.state) → IsOf x.book (opened (sizes_at kinds n) tt)
-      → ((ws : List ℕ) → Starts true ws → Tells (opened (sizes_at kinds n) x.state) (λ _. None) (set ws i (g (get_or ws i 0))))
-      → Allows (K n) slots id (Opening n, (0, Some x) ∷ []) i g (λ r m'. opens kinds st (Opening n, (0, Some x) ∷ []) r m')
+      → ((ws : List ℕ) → Starts true ws → Tells (opened (sizes_at kinds n) x.state) (λ _. None)
+      (set ws i (g (get_or ws i 0))))
+      → Allows (K n) slots id (Opening n, (0, Some x) ∷ []) i g
+      (λ r m'. opens kinds st (Opening n, (0, Some x) ∷ []) r m')
   opens_ok n slots id i g x st stands book tells s (raw b h e) wide at small =
       let other : Unopened n ≡ Opening n = only (Unopened n)
       (Opening n) id (ap (λ (y : List (View D)). get_elem? y id) (sym e) ∙ at) in absurd (cc)
@@ -513,7 +560,8 @@ module _ {D : Type 0} (Starts : Bool → List ℕ → Type 0) (Tells : History D
   pub opens_at : (n slots id i : ℕ) (g : ℕ → ℕ) (x : Lodged D) (st : Step (Option (Lodged D))) (m : Sat D)
       → m ≡ (Opening n, (0, Some x) ∷ [])
       → rest x.state nobody → IsOf x.book (opened (sizes_at kinds n) tt)
-      → ((ws : List ℕ) → Starts true ws → Tells (opened (sizes_at kinds n) x.state) (λ _. None) (set ws i (g (get_or ws i 0))))
+      → ((ws : List ℕ) → Starts true ws → Tells (opened (sizes_at kinds n) x.state) (λ _. None)
+      (set ws i (g (get_or ws i 0))))
       → Allows (K n) slots id m i g (opens kinds st m)
   opens_at n slots id i g x st m is at_rest book tells =
       subst (λ (p : Sat D). Allows (K n) slots id p i g (opens kinds st p)) (sym is)
@@ -558,25 +606,32 @@ module _ {D : Type 0} (Starts : Bool → List ℕ → Type 0) (Tells : History D
       let new : ℕ = length (set s.views id (Places ts)) in let owner' : ℕ → ℕ = given_to r.owner k new in
       runs (views_to n s r owner' (set s.views id (Places ts) ++ alone k f ∷ []) (λ j u got. ⊎_elim
       (λ (here : get_elem? (set s.views id (Places ts)) j ≡ some u). ⊎_elim
-      (λ (t : (j ≡ id) × (Places ts ≡ u)). subst (λ (z : ℕ × View D). Fits n r.log owner' r.tokens z.0 z.1) (λ i. (sym t.0 i, t.1 i)) (
+      (λ (t : (j ≡ id) × (Places ts ≡ u)). subst (λ (z : ℕ × View D). Fits n r.log owner' r.tokens z.0 z.1)
+      (λ i. (sym t.0 i, t.1 i)) (
         each_with (λ x. x.place ≢ k) (Agrees n r.log r.owner r.tokens id) (Agrees n r.log owner' r.tokens id)
-            (λ x ne h. reowned n r.log r.owner owner' r.tokens id id x (given_else r.owner k new x.place ne ∙ h.owned) h) ts apart fit.1,
+            (λ x ne h. reowned n r.log r.owner owner' r.tokens id id x
+            (given_else r.owner k new x.place ne ∙ h.owned) h) ts apart fit.1,
         (r.apart id v at).1,
       ))
       (λ (t : (j ≢ id) × (get_elem? s.views j ≡ some u)). (
         map_all n r.log r.owner owner' r.tokens j u
-            (λ x h. given_else r.owner k new x.place (λ (same : x.place ≡ k). t.0 (sym h.owned ∙ (ap r.owner same ∙ fit.0.owned))) ∙ h.owned)
+            (λ x h. given_else r.owner k new x.place
+            (λ (same : x.place ≡ k). t.0 (sym h.owned ∙ (ap r.owner same ∙ fit.0.owned))) ∙ h.owned)
             (r.fronts j u t.1),
         r.apart j u t.1,
       ))
       (at_set s.views id j (Places ts) u here))
-      (λ (t : (j ≡ new) × (alone k f ≡ u)). subst (λ (z : ℕ × View D). Fits n r.log owner' r.tokens z.0 z.1) (λ i. (sym t.0 i, t.1 i))
-      ((reowned n r.log r.owner owner' r.tokens id new (knows k f None) (given_here r.owner k new) fit.0, tt), (tt, tt)))
+      (λ (t : (j ≡ new) × (alone k f ≡ u)). subst (λ (z : ℕ × View D). Fits n r.log owner' r.tokens z.0 z.1)
+      (λ i. (sym t.0 i, t.1 i)) (
+        (reowned n r.log r.owner owner' r.tokens id new (knows k f None) (given_here r.owner k new) fit.0, tt),
+        (tt, tt),
+      ))
       (at_end (set s.views id (Places ts)) (alone k f) u j got)))
 
   -- the first place is cut off
   pub deals_ok : (n id k m : ℕ) (f : History D) → 0 < m
-      → Splits (K n) id (Places (all_know k m f)) (places_behind (Places (all_know k m f))) (first_place (Places (all_know k m f)))
+      → Splits (K n) id (Places (all_know k m f)) (places_behind (Places (all_know k m f)))
+      (first_place (Places (all_know k m f)))
   deals_ok n id k zero f more = absurd (omega arith)
   deals_ok n id k (suc m) f more = splits_ok n id k f (all_know (suc k) m f) (without k (suc k) m f (omega arith))
 
@@ -590,20 +645,26 @@ module _ {D : Type 0} (Starts : Bool → List ℕ → Type 0) (Tells : History D
       runs (views_to n s r owner' (set (set s.views id both) other no_places) (λ j u got. ⊎_elim
       (λ (t : (j ≡ other) × (no_places ≡ u)). subst (Fits n r.log owner' r.tokens j) t.1 (tt, tt))
       (λ (t : (j ≢ other) × (get_elem? (set s.views id both) j ≡ some u)). ⊎_elim
-      (λ (q : (j ≡ id) × (both ≡ u)). subst (λ (z : ℕ × View D). Fits n r.log owner' r.tokens z.0 z.1) (λ i. (sym q.0 i, q.1 i)) (
+      (λ (q : (j ≡ id) × (both ≡ u)). subst (λ (z : ℕ × View D). Fits n r.log owner' r.tokens z.0 z.1)
+      (λ i. (sym q.0 i, q.1 i)) (
         each-append (Agrees n r.log owner' r.tokens id) us ts
             (each_map (Agrees n r.log r.owner r.tokens other) (Agrees n r.log owner' r.tokens id)
-            (λ x h. reowned n r.log r.owner owner' r.tokens other id x (handed_here r.owner other id x.place h.owned) h) us
+            (λ x h. reowned n r.log r.owner owner' r.tokens other id x
+            (handed_here r.owner other id x.place h.owned) h) us
             (r.fronts other w was))
             (each_map (Agrees n r.log r.owner r.tokens id) (Agrees n r.log owner' r.tokens id)
-            (λ x h. reowned n r.log r.owner owner' r.tokens id id x (handed_else r.owner other id x.place (λ (e : r.owner x.place ≡ other). apart (sym e ∙ h.owned)) ∙ h.owned) h) ts fit),
+            (λ x h. reowned n r.log r.owner owner' r.tokens id id x
+            (handed_else r.owner other id x.place (λ (e : r.owner x.place ≡ other). apart (sym e ∙ h.owned))
+            ∙ h.owned) h) ts fit),
         apart-append us ts (r.apart other w was) (r.apart id v at)
-            (each_map (Agrees n r.log r.owner r.tokens other) (λ x. Without x.place ts) (λ x h. each_map (Agrees n r.log r.owner r.tokens id) (λ y. y.place ≢ x.place)
+            (each_map (Agrees n r.log r.owner r.tokens other) (λ x. Without x.place ts)
+            (λ x h. each_map (Agrees n r.log r.owner r.tokens id) (λ y. y.place ≢ x.place)
             (λ y g same. apart (sym h.owned ∙ (ap r.owner (sym same) ∙ g.owned))) ts fit) us (r.fronts other w was)),
       ))
       (λ (q : (j ≢ id) × (get_elem? s.views j ≡ some u)). (
         map_all n r.log r.owner owner' r.tokens j u
-            (λ x h. handed_else r.owner other id x.place (λ (e : r.owner x.place ≡ other). t.0 (sym h.owned ∙ e)) ∙ h.owned)
+            (λ x h. handed_else r.owner other id x.place (λ (e : r.owner x.place ≡ other). t.0 (sym h.owned ∙ e))
+            ∙ h.owned)
             (r.fronts j u q.1),
         r.apart j u q.1,
       ))
@@ -645,8 +706,11 @@ module _ {D : Type 0} (Starts : Bool → List ℕ → Type 0) (Tells : History D
         subst (λ (ws : List ℕ). K n record { words = ws; homes = s.homes; views = set s.views id w })
             (sym (set-get_or s.words 0 0)) (runs (views_to n s r r.owner (set s.views id w)
             (λ j u got. ⊎_elim
-            (λ (t : (j ≡ id) × (w ≡ u)). subst (λ (z : ℕ × View D). Fits n r.log r.owner r.tokens z.0 z.1) (λ i. (sym t.0 i, t.1 i))
-            (knowing_agree n r.log r.owner r.tokens id ts (r.fronts id (Places ts) at), knowing_apart r.log ts (r.apart id (Places ts) at)))
+            (λ (t : (j ≡ id) × (w ≡ u)). subst (λ (z : ℕ × View D). Fits n r.log r.owner r.tokens z.0 z.1)
+            (λ i. (sym t.0 i, t.1 i)) (
+              knowing_agree n r.log r.owner r.tokens id ts (r.fronts id (Places ts) at),
+              knowing_apart r.log ts (r.apart id (Places ts) at),
+            ))
             (λ (t : (j ≢ id) × (get_elem? s.views j ≡ some u)). (r.fronts j u t.1, r.apart j u t.1))
             (at_set s.views id j w u got)))),
         λ us same. (
@@ -656,7 +720,8 @@ module _ {D : Type 0} (Starts : Bool → List ℕ → Type 0) (Tells : History D
               (record {
                 me_is = refl;
                 stands = r.stands;
-                fits = each_map (Agrees n r.log r.owner r.tokens id) (Known r.log) (λ t h. (h.begins, h.own_are)) ts (r.fronts id (Places ts) at);
+                fits = each_map (Agrees n r.log r.owner r.tokens id) (Known r.log) (λ t h. (h.begins, h.own_are)) ts
+                    (r.fronts id (Places ts) at);
                 apart = r.apart id (Places ts) at;
               }),
         ),

@@ -12,14 +12,14 @@ pub enum Holder {
     Owed(usize),
 }
 
-/// What a door's words say at a glance. They are looked at one after the other, while others change them: it may be over by
-/// the time that it is answered, and no clause speaks of it.
+/// What a door's words say at a glance. They are looked at one after the other, while others change them: it may be
+/// over by the time that it is answered, and no clause speaks of it.
 #[derive(Clone, Copy, Debug, PartialEq, Eq)]
 pub struct Glance {
     /// Who has the monitor.
     pub holder: Holder,
-    /// How many newcomers are seen to want in: on a ticket door those that asked and aren't served, on a baton door those
-    /// that nap.
+    /// How many newcomers are seen to want in: on a ticket door those that asked and aren't served, on a baton door
+    /// those that nap.
     pub newcomers: u64,
 }
 

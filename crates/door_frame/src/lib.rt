@@ -1,5 +1,5 @@
-//! What both running monitors stand on: one history, the places' fronts, and the slot with data and queues. Nothing here
-//! speaks of a word.
+//! What both running monitors stand on: one history, the places' fronts, and the slot with data and queues. Nothing
+//! here speaks of a word.
 #![tactic(auto)]
 
 pub mod calls;

@@ -1,5 +1,6 @@
 //! How a door is made, and taken apart.
-ghost use Rattle.std.specs.Prelude.{◌≡◌, ◌<◌, ◌≤◌, ℕ, List, [], false, reverse, length, vec_len, vec_capacity, IfOk, IfErr, All};
+ghost use Rattle.std.specs.Prelude.{◌≡◌, ◌<◌, ◌≤◌, ℕ, List, [], false, reverse, length, vec_len, vec_capacity, IfOk};
+ghost use Rattle.std.specs.Prelude.{IfErr, All};
 ghost use Rattle.hoare_law.specs.declared.event.History.{History};
 ghost use Rattle.hoare_law.specs.Sizes.{kinds_of};
 ghost use Rattle.hoare_law.specs.Priorities.{nobody};
@@ -33,8 +34,8 @@ pub fn sleepers(alloc: Global, places: usize) -> Result<(Vec<Sleeper>, Vec<Waker
     Ok((sleepers, wakers))
 }
 
-/// A table whose slot is empty, its first seat, and what is to lie in the slot. Where memory is refused, the data come back:
-/// so the slot is empty at first, and the door's own two opening steps take it and give it back with the parcel.
+/// A table whose slot is empty, its first seat, and what is to lie in the slot. Where memory is refused, the data come
+/// back: so the slot is empty at first, and the door's own two opening steps take it and give it back with the parcel.
 pub fn vacant<D: MonitorData, K, W: Words<D, K>>(
     alloc: Global,
     state: D,
@@ -80,8 +81,8 @@ pub fn deal<D: MonitorData, K, W: Words<D, K>>(
     outs
 }
 
-/// Takes the door's parts apart: all places are handed in, in any order. The data are those that one legal and lawful history left,
-/// and at rest with nobody waiting.
+/// Takes the door's parts apart: all places are handed in, in any order. The data are those that one legal and lawful
+/// history left, and at rest with nobody waiting.
 pub fn closed<D: MonitorData, K, W: Words<D, K>>(
     table: DoorTable<D, K, W>,
     wakers: Vec<Waker>,

@@ -8,8 +8,8 @@ use crate::waking::Sleeper;
 use std::marker::Model;
 use wait_book::book::Book;
 
-/// A place outside: it may enter. It moves between threads, can't be copied, and a place that is dropped is never heard of
-/// again (then its door can't be closed). A contract sees its berth, its number and its front.
+/// A place outside: it may enter. It moves between threads, can't be copied, and a place that is dropped is never heard
+/// of again (then its door can't be closed). A contract sees its berth, its number and its front.
 #[derive(Drop)]
 pub struct Outside<D> {
     seat: DoorSeat<D>,

@@ -99,8 +99,8 @@ impl Sleeper {
 }
 
 impl Waker {
-    /// Wakes the place, or lets its next sleep return at once. It is for who has given the monitor up: a place that is woken
-    /// before finds nothing, and sleeps on.
+    /// Wakes the place, or lets its next sleep return at once. It is for who has given the monitor up: a place that is
+    /// woken before finds nothing, and sleeps on.
     #[inline]
     pub fn wake<D>(&self, seat: &DoorSeat<D>) -> Woken
         requires given_up { IsBehind seat.now.me }

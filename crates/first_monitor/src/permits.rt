@@ -1,5 +1,5 @@
-//! A pool of worker permits that two classes of callers share: who is express goes before who is standard, and within a class
-//! the longest waiting goes first.
+//! A pool of worker permits that two classes of callers share: who is express goes before who is standard, and within a
+//! class the longest waiting goes first.
 ghost use Rattle.std.specs.Prelude.{◌≡◌, ◌<◌, ◌≤◌, ◌+◌, ◌-◌, ◌↔◌, IsTrue};
 ghost use Rattle.first_monitor.specs.Traces.{priority_of, Takes, Gives, Looks};
 
@@ -43,8 +43,8 @@ pub struct Permits {
     free: u32,
 }
 
-// What holds of the data. `q` is, for each condition, the priorities of those that wait on it: `q 0` is that of `PERMIT_IS_FREE`,
-// the one condition.
+// What holds of the data. `q` is, for each condition, the priorities of those that wait on it: `q 0` is that of
+// `PERMIT_IS_FREE`, the one condition.
 impl MonitorData for Permits {
     ghost use Rattle.std.specs.Prelude.{◌≤◌};
     ghost use Rattle.first_monitor.specs.Rests.{PermitsRest, PermitsReady};
@@ -63,8 +63,8 @@ impl MonitorData for Permits {
     // At each wait and leave: who waits has a cause, namely that no permit is free.
     ghost rest = { λ s q. PermitsRest s.total s.free (q 0) };
 
-    // What a process finds that waited and is resumed: a permit is free. It may be the only one if others still wait, for it
-    // will take it, and then they have their cause again.
+    // What a process finds that waited and is resumed: a permit is free. It may be the only one if others still wait,
+    // for it will take it, and then they have their cause again.
     ghost ready = { λ c p s q. PermitsReady s.total s.free (q 0) };
 
     fn rest_holds<W: Waits>(&self, lists: &W) -> bool {

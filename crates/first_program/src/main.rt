@@ -18,8 +18,8 @@ const PERMITS: u32 = 2;
 
 const JOBS: u32 = 1000;
 
-// What one thread does, over its own place: a row of jobs, each with a permit. The place is handed in, since no two threads may
-// use one place; the monitor is shared.
+// What one thread does, over its own place: a row of jobs, each with a permit. The place is handed in, since no two
+// threads may use one place; the monitor is shared.
 fn work<R: Wait, M: Monitor<Permits>>(rt: &R, m: &M, out: M::Out, class: Class) -> u32
     requires { M.is_of m.now out }
 {
@@ -37,12 +37,14 @@ fn work<R: Wait, M: Monitor<Permits>>(rt: &R, m: &M, out: M::Out, class: Class) 
     done
 }
 
-// A monitor of permits that threads share. (A closure that goes to a thread needs a bound with no parameter of its own.)
+// A monitor of permits that threads share. (A closure that goes to a thread needs a bound with no parameter of its
+// own.)
 trait SharedPermits: Monitor<Permits> + Sync {}
 
 impl SharedPermits for Door<Permits> {}
 
-// One thread for each place. The closure says what it needs of the place that it is handed: that it is one of the monitor's.
+// One thread for each place. The closure says what it needs of the place that it is handed: that it is one of the
+// monitor's.
 fn work_all<R: Threads + Wait + Sync, M: SharedPermits>(
     rt: &R,
     m: &M,
@@ -74,7 +76,8 @@ where
 }
 
 fn run<R: Threads + Wait + Print + Sync>(rt: &R, alloc: Global) -> io::Result<()> {
-    // One place for each worker, and one for the desk. (Making a door can be refused: out of memory, or a number out of range.)
+    // One place for each worker, and one for the desk. (Making a door can be refused: out of memory, or a number out of
+    // range.)
     let Ok((door, mut places)) = Door::make(alloc, Permits::new(PERMITS), WORKERS as usize + 1)
     else {
         return Err(io::Error::from(AllocError));

@@ -14,21 +14,26 @@ kept_by adds q before x later = filter (λ y. list_all (q y) later) (adds before
 
 -- one more element keeps what q keeps beside it, and adds its own
 join_splits-push : {X Y : Type 0} (adds : List X → X → List Y) (q : Y → X → Bool) (before h : List X) (e : X)
-    → join_splits (kept_by adds q) before (h ++ e ∷ []) ≡ filter (λ y. q y e) (join_splits (kept_by adds q) before h) ++ adds (before ++ h) e
+    → join_splits (kept_by adds q) before (h ++ e ∷ [])
+    ≡ filter (λ y. q y e) (join_splits (kept_by adds q) before h) ++ adds (before ++ h) e
 join_splits-push adds q before [] e =
     append-nil _ ∙ filter-true (adds before e) ∙ ap (λ l. adds l e) (sym (append-nil before))
 join_splits-push adds q before (x ∷ h) e =
-    let here : filter (λ y. list_all (q y) (h ++ e ∷ [])) (adds before x) ≡ filter (λ y. q y e) (filter (λ y. list_all (q y) h) (adds before x)) =
+    let here : filter (λ y. list_all (q y) (h ++ e ∷ [])) (adds before x)
+    ≡ filter (λ y. q y e) (filter (λ y. list_all (q y) h) (adds before x)) =
     filter-and (λ y. list_all (q y) (h ++ e ∷ [])) (λ y. list_all (q y) h) (λ y. q y e) (λ y. list_all-push (q y) h e)
     (adds before x) in
     let more = join_splits-push adds q (before ++ x ∷ []) h e in
     ap (λ l. l ++ join_splits (kept_by adds q) (before ++ x ∷ []) (h ++ e ∷ [])) here
     ∙ ap (λ l. filter (λ y. q y e) (filter (λ y. list_all (q y) h) (adds before x)) ++ l)
-    (more ∙ ap (λ l. filter (λ y. q y e) (join_splits (kept_by adds q) (before ++ x ∷ []) h) ++ adds l e) (append_assoc before (x ∷ []) h))
+    (more ∙ ap (λ l. filter (λ y. q y e) (join_splits (kept_by adds q) (before ++ x ∷ []) h) ++ adds l e)
+    (append_assoc before (x ∷ []) h))
     ∙ sym
-    (append_assoc (filter (λ y. q y e) (filter (λ y. list_all (q y) h) (adds before x))) (filter (λ y. q y e) (join_splits (kept_by adds q) (before ++ x ∷ []) h)) (adds (before ++ x ∷ h) e))
+    (append_assoc (filter (λ y. q y e) (filter (λ y. list_all (q y) h) (adds before x)))
+    (filter (λ y. q y e) (join_splits (kept_by adds q) (before ++ x ∷ []) h)) (adds (before ++ x ∷ h) e))
     ∙ ap (λ l. l ++ adds (before ++ x ∷ h) e)
-    (sym (filter-append (λ y. q y e) (filter (λ y. list_all (q y) h) (adds before x)) (join_splits (kept_by adds q) (before ++ x ∷ []) h)))
+    (sym (filter-append (λ y. q y e) (filter (λ y. list_all (q y) h) (adds before x))
+    (join_splits (kept_by adds q) (before ++ x ∷ []) h)))
 
 -- those that were called but for the one that acts, and those that e calls
 pub called-push : {S : Type 0} (h : List (Event S)) (e : Event S)

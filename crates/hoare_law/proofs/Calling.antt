@@ -112,7 +112,8 @@ module _ {S : Type 0} where
       only (y ∷ xs) ys l = absurd (omega (arith, length-append xs (x ∷ ys)))
 
   pub called-notify : (h : History S) (k c w : ℕ) (s : S) → IsLegal h → Allowed h (Notify k c w s)
-      → (x : Event S) × (chosen c h.events ≡ Some x) × (place_of x ≡ w) × (called (with_event h (Notify k c w s)).events ≡ called h.events ++ x ∷ [])
+      → (x : Event S) × (chosen c h.events ≡ Some x) × (place_of x ≡ w)
+      × (called (with_event h (Notify k c w s)).events ≡ called h.events ++ x ∷ [])
   called-notify h k c w s legal may =
       let r : (x : Event S) × (chosen c h.events ≡ Some x) × (place_of x ≡ w) =
       Chooses-chosen c w h.events may.fits.1 in (

@@ -31,7 +31,8 @@ module _ {Self D Out In Lists : Type 0} (M : Ghosts Self D Out In Lists) where
         → AddsLast (M.front out) (Admit (M.place out) (M.data_in i)) (M.front_in i)
         → held_up (M.front_in i) (M.data_in i)
         → M.is_of_in m j → M.place_in j ≡ M.place_in i
-        → AddsTwo (M.front_in i) (Wait (M.place_in i) c p (M.data_in i)) (Resume (M.place_in i) c (M.data_in j)) (M.front_in j)
+        → AddsTwo (M.front_in i) (Wait (M.place_in i) c p (M.data_in i)) (Resume (M.place_in i) c (M.data_in j))
+        (M.front_in j)
         → c ≡ condition (M.data_in i) → p ≡ priority (M.data_in i) → Ready (M.data_in j) (M.lists_in j)
         → Came m out held_up condition priority Ready j
     Came-waited entered enters held of place waits on with ready = record {

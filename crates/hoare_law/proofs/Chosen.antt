@@ -24,7 +24,8 @@ module _ {X : Type 0} (key : X → ℕ) where
   first_put : (w : X) (vs : List X) → first_of (put_in key w vs) ≡ Some (better (first_of vs) w)
   first_put w [] = refl
   first_put w (v ∷ vs) =
-      elim (leb (key v) (key w)) as (λ b. first_of (cond b (v ∷ put_in key w vs) (w ∷ v ∷ vs)) ≡ Some (cond b v w)) [ true ↦ refl | false ↦ refl ]
+      elim (leb (key v) (key w)) as (λ b. first_of (cond b (v ∷ put_in key w vs) (w ∷ v ∷ vs)) ≡ Some (cond b v w))
+      [ true ↦ refl | false ↦ refl ]
 
   -- a test that holds of the first found, beside the one that finds it
   find_both_by : (t : Bool) (p q : X → Bool) (x : X) (rest : Option X) (more : Option X) (b : X)
@@ -79,14 +80,21 @@ module _ {X : Type 0} (key : X → ℕ) where
   step : (o : Option X) (ws : List X) (w : X) → IsChosen ws o → IsChosen (ws ++ w ∷ []) (Some (better o w))
   step None ws w c = record {
     found = chosen_none ws w (c.some refl);
-    first = ap first_of (put_all-push key [] ws w) ∙ first_put w (in_order key ws) ∙ ap (λ v. Some (better v w)) c.first;
-    least = λ b e. let q : w ≡ b = cc in subst (λ (v : X). is_least_of (ws ++ w ∷ []) v ≡ true) q (ap (λ v. is_least_of (v ++ w ∷ []) w) (c.some refl) ∙ (rw (self_least (key w)) refl));
+    first = ap first_of (put_all-push key [] ws w) ∙ first_put w (in_order key ws)
+        ∙ ap (λ v. Some (better v w)) c.first;
+    least = λ b e. let q : w ≡ b = cc in
+        subst (λ (v : X). is_least_of (ws ++ w ∷ []) v ≡ true) q
+        (ap (λ v. is_least_of (v ++ w ∷ []) w) (c.some refl) ∙ (rw (self_least (key w)) refl));
     some = λ e. absurd (cc);
   }
   step (Some b) ws w c = record {
-    found = find-same _ _ (ws ++ w ∷ []) (least_push ws w) ∙ chosen_by (leb (key b) (key w)) ws w b refl c.found (c.least b refl);
-    first = ap first_of (put_all-push key [] ws w) ∙ first_put w (in_order key ws) ∙ ap (λ v. Some (better v w)) c.first;
-    least = λ x e. let q : better (Some b) w ≡ x = cc in subst (λ (v : X). is_least_of (ws ++ w ∷ []) v ≡ true) q (least_by (leb (key b) (key w)) ws w b refl (c.least b refl));
+    found = find-same _ _ (ws ++ w ∷ []) (least_push ws w)
+        ∙ chosen_by (leb (key b) (key w)) ws w b refl c.found (c.least b refl);
+    first = ap first_of (put_all-push key [] ws w) ∙ first_put w (in_order key ws)
+        ∙ ap (λ v. Some (better v w)) c.first;
+    least = λ x e. let q : better (Some b) w ≡ x = cc in
+        subst (λ (v : X). is_least_of (ws ++ w ∷ []) v ≡ true) q
+        (least_by (leb (key b) (key w)) ws w b refl (c.least b refl));
     some = λ e. absurd (cc);
   }
 

@@ -85,7 +85,8 @@ module _ {S : Type 0} where
       let one : AddsLast (with_event f d) e (with_event h e) = AddsLast-one k (with_event f d) h e mine begins same in
       record {
         grows = Grows-trans
-            (subst (λ (j : ℕ). Grows j (d ∷ []) f (with_event f d)) (first ∙ sym mine) (Grows-one d f (with_event f d) refl))
+            (subst (λ (j : ℕ). Grows j (d ∷ []) f (with_event f d)) (first ∙ sym mine)
+            (Grows-one d f (with_event f d) refl))
             one.grows;
         begins = one.grows.begins;
         ends = one.ends;

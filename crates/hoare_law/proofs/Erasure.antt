@@ -49,19 +49,22 @@ filter_by_later-map f test kept (x ∷ xs) same =
     (filter_by_later-map f test kept xs same)
   where
     by : (t : Bool) → filter_by_later test (map f xs) ≡ map f (filter_by_later kept xs)
-        → cond t (f x ∷ filter_by_later test (map f xs)) (filter_by_later test (map f xs)) ≡ map f (cond t (x ∷ filter_by_later kept xs) (filter_by_later kept xs))
+        → cond t (f x ∷ filter_by_later test (map f xs)) (filter_by_later test (map f xs))
+        ≡ map f (cond t (x ∷ filter_by_later kept xs) (filter_by_later kept xs))
     by true rest = ap (λ l. f x ∷ l) rest
     by false rest = rest
 
 -- what is made of each split, through maps
-join_splits-map : {X Y Z W : Type 0} (f : X → Y) (g : Z → W) (made : List Y → Y → List Y → List W) (makes : List X → X → List X → List Z) (before xs : List X)
+join_splits-map : {X Y Z W : Type 0} (f : X → Y) (g : Z → W) (made : List Y → Y → List Y → List W)
+    (makes : List X → X → List X → List Z) (before xs : List X)
     → ((b : List X) (x : X) (later : List X) → made (map f b) (f x) (map f later) ≡ map g (makes b x later))
     → join_splits made (map f before) (map f xs) ≡ map g (join_splits makes before xs)
 join_splits-map f g made makes before [] same = refl
 join_splits-map f g made makes before (x ∷ xs) same =
     ap (λ l. l ++ join_splits made (map f before ++ f x ∷ []) (map f xs)) (same before x xs)
     ∙ ap (λ l. map g (makes before x xs) ++ l)
-    (ap (λ b. join_splits made b (map f xs)) (sym (map-append f before (x ∷ []))) ∙ join_splits-map f g made makes (before ++ x ∷ []) xs same)
+    (ap (λ b. join_splits made b (map f xs)) (sym (map-append f before (x ∷ [])))
+    ∙ join_splits-map f g made makes (before ++ x ∷ []) xs same)
     ∙ sym (map-append g (makes before x xs) (join_splits makes (before ++ x ∷ []) xs))
 
 map-map_same : {X Y Z : Type 0} (f : X → Y) (g : Y → Z) (k : X → Z) (xs : List X) → ((x : X) → g (f x) ≡ k x)
@@ -157,7 +160,8 @@ module _ {S : Type 0} where
   unfolding urgent
   urgent-erased h =
       ap (map place_of)
-      (filter_by_later-map without_data _ (λ e later. is_signal e && is_last_act e later) h (λ e later i. (same_parts e).5 i && last_act-erased e later i))
+      (filter_by_later-map without_data _ (λ e later. is_signal e && is_last_act e later) h
+      (λ e later i. (same_parts e).5 i && last_act-erased e later i))
       ∙ map-map_same without_data place_of place_of _ place_of-erased
 
   put_in-erased : (x : Event S) (xs : List (Event S))
@@ -170,7 +174,8 @@ module _ {S : Type 0} where
           (λ i. cond (leb (priority_of-erased y i) (priority_of-erased x i)) (y ∷ put_in-same ys i) (x ∷ y ∷ ys))
 
   put_all-erased : (placed xs : List (Event S))
-      → put_all priority_of (all_without_data placed) (all_without_data xs) ≡ all_without_data (put_all priority_of placed xs)
+      → put_all priority_of (all_without_data placed) (all_without_data xs)
+      ≡ all_without_data (put_all priority_of placed xs)
   put_all-erased placed [] = refl
   put_all-erased placed (x ∷ xs) =
       ap (λ l. put_all priority_of l (all_without_data xs)) (put_in-erased x placed)

@@ -70,7 +70,11 @@ module _ {S : Type 0} where
 
       by : (later : List (Event S)) → f.events ++ later ≡ log.events → log ≡ f
       by [] at =
-          λ i. record { sizes = sym begins.sizes i; opening = sym begins.opening i; events = (sym at ∙ append-nil f.events) i }
+          λ i. record {
+            sizes = sym begins.sizes i;
+            opening = sym begins.opening i;
+            events = (sym at ∙ append-nil f.events) i;
+          }
       by (e ∷ more) at =
           let placed : place_of e ≡ k =
           place_of-held (cut_to log f.events) k e is (legal.each f.events more e (sym at)) in
@@ -148,7 +152,8 @@ module _ {S : Type 0} where
         → gives_up e ≡ true → rest (latest_data h) (priorities h.events)
     given_up h g e lawful is gives =
         subst (λ (s : S). rest s (priorities h.events)) (sym (latest_data-ends h g e is))
-        (subst (λ (l : List (Event S)). rest (data_of e) (priorities l)) (sym is) (give_up_owes rest ready g e gives (lawful.each g [] e is)))
+        (subst (λ (l : List (Event S)). rest (data_of e) (priorities l)) (sym is)
+        (give_up_owes rest ready g e gives (lawful.each g [] e is)))
 
     -- whoever the monitor is owed, from one of Hoare's conditions, finds what was to be ready for its wait
     pub ready-owed : (h : History S) (k c p : ℕ) (s : S) → Stands rest ready h
@@ -217,7 +222,8 @@ module _ {S : Type 0} where
   place_of-own h k x is =
       let r : (ys : List (Event S)) × (own k h ≡ ys ++ x ∷ []) = newest-some (own k h) x is in
       eqb-true (place_of x) k
-      (list_all-at (λ y. place_of y == k) r.0 x [] (ap (list_all (λ y. place_of y == k)) (sym r.1) ∙ list_all-filter_own (λ y. place_of y == k) h))
+      (list_all-at (λ y. place_of y == k) r.0 x [] (ap (list_all (λ y. place_of y == k)) (sym r.1)
+      ∙ list_all-filter_own (λ y. place_of y == k) h))
 
   signal_is : (x : Event S) → is_signal x ≡ true → (c w : ℕ) × (s : S) × (x ≡ Signal (place_of x) c w s)
   signal_is (Signal k c w s) is = (c, w, s, refl)

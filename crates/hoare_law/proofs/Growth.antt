@@ -39,7 +39,8 @@ pub Grows-one : {S : Type 0} (e : Event S) (f h : History S) → h ≡ with_even
 unfolding with_event
 Grows-one e f h is = rw is (record {
   begins = record { sizes = refl; opening = refl; later = e ∷ []; is = refl };
-  adds = filter-append (λ x. place_of x == place_of e) f.events (e ∷ []) ∙ ap (λ x. own (place_of e) f.events ++ x) (own-one e);
+  adds = filter-append (λ x. place_of x == place_of e) f.events (e ∷ [])
+      ∙ ap (λ x. own (place_of e) f.events ++ x) (own-one e);
 })
 
 -- What a procedure adds, from the clauses of its calls. Each lemma takes a call's clause as it stands, and an equation

@@ -171,7 +171,17 @@ module _ {S : Type 0} where
   given_to_called h e w c ends gives t =
       let r = owed_first (urgent h) (called h) w c t in
       next_called
-      (record { by = e; ends = ends; gives = gives; nobody = r.0; first = r.1; others = r.2; are = r.3; place = r.4; on = r.5 })
+      (record {
+        by = e;
+        ends = ends;
+        gives = gives;
+        nobody = r.0;
+        first = r.1;
+        others = r.2;
+        are = r.3;
+        place = r.4;
+        on = r.5;
+      })
 
   owed_by : (h g : List (Event S)) (e : Event S) (w c : ℕ) → h ≡ g ++ e ∷ []
       → turn_by e (urgent h) (called h) ≡ Owed w c → IsOwed w c h
@@ -298,7 +308,8 @@ module _ {S : Type 0} where
       list_all-weaker (λ x. not (concerns c (place_of x) e)) (λ x. not (place_of e == place_of x))
       (waiting c (g ++ e ∷ []))
       (λ x n. ap not (own_is_concerned e c (place_of x) n))
-      (ap (list_all (λ x. not (concerns c (place_of x) e))) added ∙ list_all-filter_own (λ x. not (concerns c (place_of x) e)) (waiting c g))
+      (ap (list_all (λ x. not (concerns c (place_of x) e))) added
+      ∙ list_all-filter_own (λ x. not (concerns c (place_of x) e)) (waiting c g))
 
   -- the place whose turn it is waits nowhere
   pub waiting-held : (h : List (Event S)) (k c : ℕ) → turn h ≡ Held k

@@ -1,6 +1,7 @@
 -- Who is inside by its own events has the turn, in a legal history.
 use Rattle.std.proofs.Common.{◌≡◌, ◌==◌, ℕ, zero, suc, List, [], ◌∷◌, ◌++◌, length, Bool, true, false, cond, Some, None}
-use Rattle.std.proofs.Common.{Option, refl, ap, sym, ◌∙◌, subst, arith, eq-eqb, eqb-true, true≢false, length-append, append_assoc}
+use Rattle.std.proofs.Common.{Option, refl, ap, sym, ◌∙◌, subst, arith, eq-eqb, eqb-true, true≢false, length-append}
+use Rattle.std.proofs.Common.{append_assoc}
 use Rattle.std.proofs.lemmas.List.{append-nil}
 use Rattle.hoare_law.specs.declared.event.Event.{Event}
 use Rattle.hoare_law.specs.declared.event.Event.TheVariants.{Admit, Wait, Signal, Pass, Leave, Resume, Back, Notify}
@@ -92,4 +93,5 @@ module _ {S : Type 0} where
         (sym (inside-push k g e) ∙ ap (inside k) (sym ends) ∙ is)
 
   pub inside-held : (h : History S) (k : ℕ) → IsLegal h → inside k h.events ≡ true → turn h.events ≡ Held k
-  inside-held h k legal is = inside_upto h k (length h.events) h.events [] (has_last h.events) refl legal (sym (append-nil h.events)) is
+  inside-held h k legal is = inside_upto h k (length h.events) h.events [] (has_last h.events) refl legal
+      (sym (append-nil h.events)) is

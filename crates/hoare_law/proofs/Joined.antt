@@ -34,7 +34,8 @@ put_in_behind p (q ∷ qs) zero (suc j) h l above = absurd (omega arith)
 put_in_behind p (q ∷ qs) (suc i) (suc j) h l above =
     let r : get_or (put_in (λ n. n) p qs) (suc i) 0 ≡ get_or qs i 0 =
     put_in_behind p qs i j (omega arith) (omega arith) above in
-    elim (leb q p) as (λ b. get_or (cond b (q ∷ put_in (λ n. n) p qs) (p ∷ q ∷ qs)) (suc (suc i)) 0 ≡ get_or (q ∷ qs) (suc i) 0) [ true ↦ r | false ↦ refl ]
+    elim (leb q p) as (λ b. get_or (cond b (q ∷ put_in (λ n. n) p qs) (p ∷ q ∷ qs)) (suc (suc i)) 0
+    ≡ get_or (q ∷ qs) (suc i) 0) [ true ↦ r | false ↦ refl ]
 
 pub put_in_behind_one : (p : ℕ) (qs : List ℕ) (i j : ℕ) → j < i → i < length (put_in (λ n. n) p qs) → p < get_or qs j 0
     → get_or (put_in (λ n. n) p qs) i 0 ≡ get_or qs (i - 1) 0

@@ -114,4 +114,6 @@ module _ {S : Type 0} where
         let same = priorities-handing out f.events k c (place_of x) s held (Chooses-place c f.events x is) in
         handing_owes out f.events k c (place_of x) s
         (subst (λ (o : Option (Event S)). IsSomeAnd o (λ e. ready c (priority_of e) s after)) (sym is)
-        (subst (ready c (priority_of x) s) (sym same) (subst (λ (p : ℕ). ready c p s (taken (priorities f.events) c)) (slice_index-chosen c f.events x is) asked)))
+        (subst (ready c (priority_of x) s) (sym same)
+        (subst (λ (p : ℕ). ready c p s (taken (priorities f.events) c))
+        (slice_index-chosen c f.events x is) asked)))

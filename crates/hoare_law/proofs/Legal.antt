@@ -24,7 +24,8 @@ IsLegal-none h none = record { each = λ f g x is. absurd (none-split f g x (sym
 pub IsLegal-front : {S : Type 0} {f h : History S} → Begins f h → IsLegal h → IsLegal f
 IsLegal-front {f = f} begins legal = record {
   each = λ a b x is. rw (begins.sizes, begins.opening)
-      (legal.each a (b ++ begins.later) x (sym begins.is ∙ (ap (λ y. y ++ begins.later) is ∙ append_assoc a (x ∷ b) begins.later)));
+      (legal.each a (b ++ begins.later) x (sym begins.is
+      ∙ (ap (λ y. y ++ begins.later) is ∙ append_assoc a (x ∷ b) begins.later)));
 }
 
 -- the last event was allowed
@@ -38,7 +39,8 @@ unfolding with_event
 IsLawful-push {S = S} {rest = rest} {ready = ready} {h = h} e lawful here = record {
   opens = lawful.opens;
   each = λ f g x is. ⊎_elim
-      (λ p. let at_end : Owes rest ready f e = subst (λ (a : List (Event S)). Owes rest ready a e) p.0 here in subst (λ (a : Event S). Owes rest ready f a) p.1 at_end)
+      (λ p. let at_end : Owes rest ready f e = subst (λ (a : List (Event S)). Owes rest ready a e) p.0 here in
+      subst (λ (a : Event S). Owes rest ready f a) p.1 at_end)
       (λ p. lawful.each f p.0 x p.1)
       (push-split h.events e f g x is);
 }
@@ -47,7 +49,8 @@ pub IsLawful-front : {S : Type 0} {rest : Rest S} {ready : Ready S} {f h : Histo
     → IsLawful rest ready h → IsLawful rest ready f
 IsLawful-front {f = f} begins lawful = record {
   opens = rw begins.opening lawful.opens;
-  each = λ a b x is. lawful.each a (b ++ begins.later) x (sym begins.is ∙ (ap (λ y. y ++ begins.later) is ∙ append_assoc a (x ∷ b) begins.later));
+  each = λ a b x is. lawful.each a (b ++ begins.later) x
+      (sym begins.is ∙ (ap (λ y. y ++ begins.later) is ∙ append_assoc a (x ∷ b) begins.later));
 }
 
 pub Stands-push : {S : Type 0} {rest : Rest S} {ready : Ready S} {h : History S} (e : Event S) → Stands rest ready h

@@ -85,7 +85,8 @@ module _ {S : Type 0} where
       ∙ list_all-append (λ y. not (place_of x == place_of y))
       (filter (λ y. not (concerns d (place_of y) e)) (waiting d h)) (cond (waits_on d e) (e ∷ []) [])
       ∙
-      (rw (list_all-filter (λ y. not (place_of x == place_of y)) (λ y. not (concerns d (place_of y) e)) (waiting d h) (apart d)) (by (waits_on d e)))
+      (rw (list_all-filter (λ y. not (place_of x == place_of y)) (λ y. not (concerns d (place_of y) e)) (waiting d h)
+      (apart d)) (by (waits_on d e)))
     where
       by : (t : Bool) → list_all (λ y. not (place_of x == place_of y)) (cond t (e ∷ []) []) ≡ true
       by true = rw (ap not (eq_swap (place_of x) (place_of e)) ∙ other) refl
@@ -111,7 +112,8 @@ module _ {S : Type 0} where
       → All (OthersWait f k c) (waiting c f.events)
   others_wait f k c legal held =
       All-both (λ x. Waits c f.events x × IsInRange f.sizes x) (λ x. not (k == place_of x) ≡ true) (waiting c f.events)
-      (All-both (Waits c f.events) (IsInRange f.sizes) (waiting c f.events) (All-waiting c f.events) (waiting-in_range c f legal))
+      (All-both (Waits c f.events) (IsInRange f.sizes) (waiting c f.events) (All-waiting c f.events)
+      (waiting-in_range c f legal))
       (all_of (waiting c f.events) (waiting-held f.events k c held))
     where
       all_of : (xs : List (Event S)) → list_all (λ x. not (k == place_of x)) xs ≡ true
@@ -152,11 +154,13 @@ module _ {S : Type 0} where
       none_left : (xs : List (Event S)) → filter (λ y. not (k == place_of y || true)) xs ≡ []
       none_left [] = refl
       none_left (y ∷ ys) =
-          elim (k == place_of y) as (λ b. cond (not (b || true)) (y ∷ filter (λ z. not (k == place_of z || true)) ys) (filter (λ z. not (k == place_of z || true)) ys) ≡ [])
+          elim (k == place_of y) as (λ b. cond (not (b || true)) (y ∷ filter (λ z. not (k == place_of z || true)) ys)
+          (filter (λ z. not (k == place_of z || true)) ys) ≡ [])
           [ true ↦ none_left ys | false ↦ none_left ys ]
 
       by : (d : ℕ) (t : Bool) → (c == d) ≡ t
-          → list_all (λ y. not (place_of x == place_of y)) (filter (λ y. not (k == place_of y || t)) (waiting d h)) ≡ true
+          → list_all (λ y. not (place_of x == place_of y)) (filter (λ y. not (k == place_of y || t)) (waiting d h))
+          ≡ true
       by d true same = rw (none_left (waiting d h)) refl
       by d false other =
           list_all-filter (λ y. not (place_of x == place_of y)) (λ y. not (k == place_of y || false)) (waiting d h)
@@ -172,7 +176,8 @@ module _ {S : Type 0} where
   All-called_by f (Notify k c w s) legal may =
       All-filter (OthersWait f k c) (IsCalled (with_event f (Notify k c w s))) (λ x. place_of x == w)
       (waiting c f.events)
-      (λ x was named. called_now f (Notify k c w s) x k c refl may.fits.2 was (apart_notify f.events k c w s x (eqb-true (place_of x) w named)))
+      (λ x was named. called_now f (Notify k c w s) x k c refl may.fits.2 was
+      (apart_notify f.events k c w s x (eqb-true (place_of x) w named)))
       (others_wait f k c legal may.fits.0)
   All-called_by f (Broadcast k c s) legal may =
       All-in_order priority_of (IsCalled (with_event f (Broadcast k c s))) (waiting c f.events)
@@ -191,8 +196,10 @@ module _ {S : Type 0} where
       → All (IsCalled (with_event f e)) (called (f.events ++ e ∷ []))
   All-called_step f e legal may before =
       subst (All (IsCalled (with_event f e))) (sym (called-push f.events e))
-      (All-append (IsCalled (with_event f e)) (filter (λ x. not (place_of e == place_of x)) (called f.events)) (called_by f.events e)
-      (All-filter (IsCalled f) (IsCalled (with_event f e)) (λ x. not (place_of e == place_of x)) (called f.events) (called_stays f e) before)
+      (All-append (IsCalled (with_event f e)) (filter (λ x. not (place_of e == place_of x)) (called f.events))
+      (called_by f.events e)
+      (All-filter (IsCalled f) (IsCalled (with_event f e)) (λ x. not (place_of e == place_of x)) (called f.events)
+      (called_stays f e) before)
       (All-called_by f e legal may))
 
   All-called_steps : (h : History S) (ys xs : List (Event S)) → h.events ≡ ys ++ xs → IsLegal h
@@ -207,7 +214,10 @@ module _ {S : Type 0} where
     where
       cut_legal : (h : History S) (ys xs : List (Event S)) → h.events ≡ ys ++ xs → IsLegal h → IsLegal (cut_to h ys)
       cut_legal h ys xs is legal =
-          record { each = λ f later x at. legal.each f (later ++ xs) x (is ∙ ap (λ l. l ++ xs) at ∙ append_assoc f (x ∷ later) xs) }
+          record {
+            each = λ f later x at. legal.each f (later ++ xs) x
+                (is ∙ ap (λ l. l ++ xs) at ∙ append_assoc f (x ∷ later) xs);
+          }
 
   none_called : (h : History S) → All (IsCalled (cut_to h [])) (called [])
   unfolding called
@@ -267,8 +277,10 @@ module _ {S : Type 0} where
       by (handed r) =
           handing_in_range r.out h r.by c w r.left
           (in_range-at h r.before [] (handing r.out r.by c w r.left) legal r.ends)
-      by (next_called r) =
-          (subst (λ (j : ℕ). j < h.sizes.places) r.place (first-called h w c legal r).place, (called-mesa h w c legal r).0)
+      by (next_called r) = (
+        subst (λ (j : ℕ). j < h.sizes.places) r.place (first-called h w c legal r).place,
+        (called-mesa h w c legal r).0,
+      )
 
   -- and the place waits nowhere
   pub waiting-owed : (h : History S) (k c d : ℕ) → IsLegal h → turn h.events ≡ Owed k c
@@ -287,5 +299,7 @@ module _ {S : Type 0} where
           ∙ ap (λ b. filter (λ x. not (concerns d (place_of x) hand)) (waiting d g) ++ cond b (hand ∷ []) [])
           (waits_on-handing r.out d r.by c k r.left) ∙ append-nil _ in
           list_all-weaker (λ x. not (concerns d (place_of x) hand)) (λ x. not (k == place_of x)) (waiting d h.events)
-          (λ x n. second (r.by == place_of x) (k == place_of x) (ap not (sym (concerns-handing r.out d (place_of x) r.by c k r.left)) ∙ n))
-          (ap (list_all (λ x. not (concerns d (place_of x) hand))) left ∙ list_all-filter_own (λ x. not (concerns d (place_of x) hand)) (waiting d g))
+          (λ x n. second (r.by == place_of x) (k == place_of x)
+          (ap not (sym (concerns-handing r.out d (place_of x) r.by c k r.left)) ∙ n))
+          (ap (list_all (λ x. not (concerns d (place_of x) hand))) left
+          ∙ list_all-filter_own (λ x. not (concerns d (place_of x) hand)) (waiting d g))

@@ -56,7 +56,8 @@ module _ {S : Type 0} where
       → list_all (λ x. not (k == place_of x)) (waiting d h) ≡ true
   waiting-apart h k d apart = list_all-from_All (λ x. not (k == place_of x)) (waiting d h)
       (All-weaker (Waits d h) (λ x. not (k == place_of x) ≡ true)
-      (λ x w. ap not (ne_eqb k (place_of x) (λ same. true≢false (sym w.on ∙ apart x (ap (λ j. newest (own j h)) same ∙ w.last)))))
+      (λ x w. ap not (ne_eqb k (place_of x)
+      (λ same. true≢false (sym w.on ∙ apart x (ap (λ j. newest (own j h)) same ∙ w.last)))))
       (waiting d h) (All-waiting d h))
 
   -- whoever is outside waits nowhere
@@ -81,7 +82,8 @@ module _ {S : Type 0} where
       → waiting d (h ++ e ∷ []) ≡ waiting d h ++ cond (waits_on d e) (e ∷ []) []
   waiting-own h e d own_alone apart = waiting-push d h e
       ∙ ap (λ l. l ++ cond (waits_on d e) (e ∷ []) []) (filter-all (λ x. not (concerns d (place_of x) e)) (waiting d h)
-      (list_all-same (λ x. not (concerns d (place_of x) e)) (λ x. not (place_of e == place_of x)) (waiting d h) (λ x. ap not (own_alone (place_of x))) ∙ apart))
+      (list_all-same (λ x. not (concerns d (place_of x) e)) (λ x. not (place_of e == place_of x)) (waiting d h)
+      (λ x. ap not (own_alone (place_of x))) ∙ apart))
 
   -- a wait adds itself
   pub waiting-wait : (h : List (Event S)) (k c p d : ℕ) (s : S) → turn h ≡ Held k
@@ -96,7 +98,8 @@ module _ {S : Type 0} where
       → priorities (h ++ e ∷ []) ≡ priorities h
   unfolding priorities
   priorities-own h e own_alone no_wait apart = λ i d. map priority_of (in_order priority_of
-      ((waiting-own h e d (own_alone d) (apart d) ∙ ap (λ b. waiting d h ++ cond b (e ∷ []) []) (no_wait d) ∙ append-nil _) i))
+      ((waiting-own h e d (own_alone d) (apart d) ∙ ap (λ b. waiting d h ++ cond b (e ∷ []) []) (no_wait d)
+      ∙ append-nil _) i))
 
   -- as at a leave
   pub priorities-leave : (h : List (Event S)) (k : ℕ) (s : S) → turn h ≡ Held k
@@ -110,11 +113,13 @@ module _ {S : Type 0} where
 
   -- a wait is put in
   pub in_turn-wait : (h : List (Event S)) (k c p d : ℕ) (s : S) → turn h ≡ Held k
-      → in_turn (h ++ Wait k c p s ∷ []) d ≡ cond (d == c) (put_in priority_of (Wait k c p s) (in_turn h d)) (in_turn h d)
+      → in_turn (h ++ Wait k c p s ∷ []) d ≡ cond (d == c) (put_in priority_of (Wait k c p s) (in_turn h d))
+      (in_turn h d)
   in_turn-wait h k c p d s is = ap (in_order priority_of) (waiting-wait h k c p d s is) ∙ by (d == c) refl
     where
       by : (t : Bool) → (d == c) ≡ t
-          → in_order priority_of (waiting d h ++ cond (c == d) (Wait k c p s ∷ []) []) ≡ cond t (put_in priority_of (Wait k c p s) (in_turn h d)) (in_turn h d)
+          → in_order priority_of (waiting d h ++ cond (c == d) (Wait k c p s ∷ []) [])
+          ≡ cond t (put_in priority_of (Wait k c p s) (in_turn h d)) (in_turn h d)
       by true e =
           ap (λ t. in_order priority_of (waiting d h ++ cond t (Wait k c p s ∷ []) [])) (eq_swap c d ∙ e)
           ∙ put_all-push priority_of [] (waiting d h) (Wait k c p s)
@@ -189,14 +194,18 @@ module _ {S : Type 0} where
   apart_behind : (c : ℕ) (h : List (Event S)) (x : Event S) → chosen c h ≡ Some x
       → list_all (λ y. not (place_of x == place_of y)) (behind_first (in_turn h c)) ≡ true
   apart_behind c h x is =
-      let short : filter (λ y. place_of x == place_of y) (in_turn h c) ≡ filter (λ y. place_of x == place_of y) (waiting c h) =
+      let short : filter (λ y. place_of x == place_of y) (in_turn h c)
+      ≡ filter (λ y. place_of x == place_of y) (waiting c h) =
       sym (in_order-filter priority_of (λ y. place_of x == place_of y) (waiting c h))
       ∙ in_order-short priority_of _ (waiting-once c (place_of x) h) in
-      let split : filter (λ y. place_of x == place_of y) (in_turn h c) ≡ x ∷ filter (λ y. place_of x == place_of y) (behind_first (in_turn h c)) =
+      let split : filter (λ y. place_of x == place_of y) (in_turn h c)
+      ≡ x ∷ filter (λ y. place_of x == place_of y) (behind_first (in_turn h c)) =
       ap (filter (λ y. place_of x == place_of y)) (in_turn-chosen c h x is) ∙ ap
-      (λ b. cond b (x ∷ filter (λ y. place_of x == place_of y) (behind_first (in_turn h c))) (filter (λ y. place_of x == place_of y) (behind_first (in_turn h c))))
+      (λ b. cond b (x ∷ filter (λ y. place_of x == place_of y) (behind_first (in_turn h c)))
+      (filter (λ y. place_of x == place_of y) (behind_first (in_turn h c))))
       (eq-eqb (place_of x) (place_of x) refl) in
-      let one : suc (length (filter (λ y. place_of x == place_of y) (behind_first (in_turn h c)))) ≡ length (filter (λ y. place_of x == place_of y) (waiting c h)) = ap length (sym split ∙ short) in
+      let one : suc (length (filter (λ y. place_of x == place_of y) (behind_first (in_turn h c))))
+      ≡ length (filter (λ y. place_of x == place_of y) (waiting c h)) = ap length (sym split ∙ short) in
       list_all-filter_none (λ y. place_of x == place_of y) _
       (no_length _ (omega (arith, one, waiting-once c (place_of x) h)))
 
@@ -232,10 +241,12 @@ module _ {S : Type 0} where
       ap (in_order priority_of) left ∙ by r.0 r.1 (d == c) refl
     where
       by : (x : Event S) → chosen c h ≡ Some x → (t : Bool) → (d == c) ≡ t
-          → in_order priority_of (filter (λ y. not (place_of x == place_of y)) (waiting d h)) ≡ cond t (behind_first (in_turn h d)) (in_turn h d)
+          → in_order priority_of (filter (λ y. not (place_of x == place_of y)) (waiting d h))
+          ≡ cond t (behind_first (in_turn h d)) (in_turn h d)
       by x some true same = let e : d ≡ c = eqb-true d c same in
           subst
-          (λ (b : ℕ). in_order priority_of (filter (λ y. not (place_of x == place_of y)) (waiting b h)) ≡ behind_first (in_turn h b))
+          (λ (b : ℕ). in_order priority_of (filter (λ y. not (place_of x == place_of y)) (waiting b h))
+          ≡ behind_first (in_turn h b))
           (sym e) (in_turn-without c h x some)
       by x some false other = ap (λ (l : List (Event S)). in_order priority_of l)
           (filter-all (λ y. not (place_of x == place_of y)) (waiting d h)
@@ -247,7 +258,8 @@ module _ {S : Type 0} where
   map-taken h c d = by (d == c)
     where
       by : (t : Bool)
-          → map priority_of (cond t (behind_first (in_turn h d)) (in_turn h d)) ≡ cond t (behind_first (map priority_of (in_turn h d))) (map priority_of (in_turn h d))
+          → map priority_of (cond t (behind_first (in_turn h d)) (in_turn h d))
+          ≡ cond t (behind_first (map priority_of (in_turn h d))) (map priority_of (in_turn h d))
       by true = map-behind_first (in_turn h d)
       by false = refl
 
@@ -256,14 +268,16 @@ module _ {S : Type 0} where
       → priorities (h ++ handing out k c w s ∷ []) ≡ taken (priorities h) c
   unfolding priorities
   priorities-handing out h k c w s is chooses = λ i d.
-      (ap (map priority_of) (in_turn-takes h (handing out k c w s) k c w d (waits_on-handing out d k c w s) (λ j. concerns-handing out d j k c w s) is chooses) ∙ map-taken h c d) i
+      (ap (map priority_of) (in_turn-takes h (handing out k c w s) k c w d (waits_on-handing out d k c w s)
+      (λ j. concerns-handing out d j k c w s) is chooses) ∙ map-taken h c d) i
 
   -- so does a notify
   pub priorities-notify : (h : List (Event S)) (k c w : ℕ) (s : S) → turn h ≡ Held k → Chooses c h w
       → priorities (h ++ Notify k c w s ∷ []) ≡ taken (priorities h) c
   unfolding priorities
   priorities-notify h k c w s is chooses =
-      λ i d. (ap (map priority_of) (in_turn-takes h (Notify k c w s) k c w d refl (λ j. refl) is chooses) ∙ map-taken h c d) i
+      λ i d. (ap (map priority_of) (in_turn-takes h (Notify k c w s) k c w d refl (λ j. refl) is chooses)
+      ∙ map-taken h c d) i
 
   -- a broadcast leaves nobody waiting on its condition, and the others as they were
   pub waiting-broadcast : (h : List (Event S)) (k c d : ℕ) (s : S) → turn h ≡ Held k

@@ -64,12 +64,19 @@ module _ {S : Type 0} where
 
   -- and each that waits longer has a greater one
   pub chosen-longest : (c : ℕ) (h : List (Event S)) (x : Event S) → chosen c h ≡ Some x
-      → (longer shorter : List (Event S)) × (waiting c h ≡ longer ++ x ∷ shorter) × All (λ y. priority_of x < priority_of y) longer
+      → (longer shorter : List (Event S)) × (waiting c h ≡ longer ++ x ∷ shorter)
+      × All (λ y. priority_of x < priority_of y) longer
   unfolding chosen
   chosen-longest c h x is =
-      let r : (front behind : List (Event S)) × (waiting c h ≡ front ++ x ∷ behind) × All (λ y. is_least (waiting c h) y ≡ false) front =
-      find-split (is_least (waiting c h)) (waiting c h) x is in
-      (r.0, r.1, r.2, All-weaker (λ y. is_least (waiting c h) y ≡ false) (λ y. priority_of x < priority_of y) (λ y n. not_least (waiting c h) x y (chosen-least c h x is) n) r.0 r.3)
+      let r : (front behind : List (Event S)) × (waiting c h ≡ front ++ x ∷ behind)
+      × All (λ y. is_least (waiting c h) y ≡ false) front =
+      find-split (is_least (waiting c h)) (waiting c h) x is in (
+        r.0,
+        r.1,
+        r.2,
+        All-weaker (λ y. is_least (waiting c h) y ≡ false) (λ y. priority_of x < priority_of y)
+            (λ y n. not_least (waiting c h) x y (chosen-least c h x is) n) r.0 r.3,
+      )
 
   only_resume : (f : History S) (e : Event S) (w c : ℕ) → turn f.events ≡ Owed w c → Allowed f e
       → e ≡ Resume w c (latest_data f)

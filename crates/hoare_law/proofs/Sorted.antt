@@ -76,7 +76,8 @@ module _ {X : Type 0} (key : X → ℕ) where
   keep_put_by false true p w v vs k s t a r = rw (k, s, t) refl
   keep_put_by false false p w v vs k s t a r =
       rw (k, s)
-      (sym (put_front w (key v) (filter p vs) (above (key v) (key w) t) (list_all-filter (λ x. leb (key v) (key x)) p vs a)))
+      (sym (put_front w (key v) (filter p vs) (above (key v) (key w) t)
+      (list_all-filter (λ x. leb (key v) (key x)) p vs a)))
 
   put_in-filter_kept : (p : X → Bool) (w : X) (vs : List X) → p w ≡ true → Rising vs
       → filter p (put_in key w vs) ≡ put_in key w (filter p vs)
@@ -120,7 +121,8 @@ put_in-map f key x [] = refl
 put_in-map f key x (y ∷ ys) = by (leb (key (f y)) (key (f x))) (put_in-map f key x ys)
   where
     by : (t : Bool) → put_in key (f x) (map f ys) ≡ map f (put_in (λ v. key (f v)) x ys)
-        → cond t (f y ∷ put_in key (f x) (map f ys)) (f x ∷ f y ∷ map f ys) ≡ map f (cond t (y ∷ put_in (λ v. key (f v)) x ys) (x ∷ y ∷ ys))
+        → cond t (f y ∷ put_in key (f x) (map f ys)) (f x ∷ f y ∷ map f ys)
+        ≡ map f (cond t (y ∷ put_in (λ v. key (f v)) x ys) (x ∷ y ∷ ys))
     by true rest = ap (λ l. f y ∷ l) rest
     by false rest = refl
 

@@ -35,11 +35,15 @@ pub list_all-push : {X : Type 0} (p : X → Bool) (ws : List X) (w : X)
     → list_all p (ws ++ w ∷ []) ≡ (list_all p ws && p w)
 list_all-push p [] w = elim (p w) as (λ b. (b && true) ≡ b) [ true ↦ refl | false ↦ refl ]
 list_all-push p (x ∷ ws) w =
-    elim (p x) as (λ b. (b && list_all p (ws ++ w ∷ [])) ≡ ((b && list_all p ws) && p w)) [ true ↦ list_all-push p ws w | false ↦ refl ]
+    elim (p x) as (λ b. (b && list_all p (ws ++ w ∷ [])) ≡ ((b && list_all p ws) && p w)) [
+      | true ↦ list_all-push p ws w
+      | false ↦ refl
+    ]
 
 pub list_all-filter : {X : Type 0} (q p : X → Bool) (vs : List X) → list_all q vs ≡ true
     → list_all q (filter p vs) ≡ true
 list_all-filter q p [] a = refl
 list_all-filter q p (v ∷ vs) a =
     let b : (q v ≡ true) × (list_all q vs ≡ true) = both_true _ _ a in
-    elim (p v) as (λ t. list_all q (cond t (v ∷ filter p vs) (filter p vs)) ≡ true) [ true ↦ (rw b.0 (list_all-filter q p vs b.1)) | false ↦ list_all-filter q p vs b.1 ]
+    elim (p v) as (λ t. list_all q (cond t (v ∷ filter p vs) (filter p vs)) ≡ true)
+    [ true ↦ (rw b.0 (list_all-filter q p vs b.1)) | false ↦ list_all-filter q p vs b.1 ]

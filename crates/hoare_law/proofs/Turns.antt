@@ -16,7 +16,8 @@ pub filter-map : {X Y : Type 0} (f : X → Y) (p : Y → Bool) (xs : List X)
     → filter p (map f xs) ≡ map f (filter (λ x. p (f x)) xs)
 filter-map f p [] = refl
 filter-map f p (x ∷ xs) = rw (filter-map f p xs) (elim (p (f x)) as
-    (λ v. cond v (f x ∷ map f (filter (λ y. p (f y)) xs)) (map f (filter (λ y. p (f y)) xs)) ≡ map f (cond v (x ∷ filter (λ y. p (f y)) xs) (filter (λ y. p (f y)) xs)))
+    (λ v. cond v (f x ∷ map f (filter (λ y. p (f y)) xs)) (map f (filter (λ y. p (f y)) xs))
+    ≡ map f (cond v (x ∷ filter (λ y. p (f y)) xs) (filter (λ y. p (f y)) xs)))
     [ true ↦ refl | false ↦ refl ])
 
 map_one : {S : Type 0} (b : Bool) (e : Event S) → map place_of (cond b (e ∷ []) []) ≡ cond b (place_of e ∷ []) []

@@ -87,7 +87,8 @@ module _ {S : Type 0} where
   -- who has the turn is a place of the monitor
   pub held-in_range : (h : History S) (k : ℕ) → IsLegal h → turn h.events ≡ Held k → k < h.sizes.places
   held-in_range h k legal is =
-      let r : (e : Event S) × ((g : List (Event S)) × (h.events ≡ g ++ e ∷ [])) × (is_inside e ≡ true) × (place_of e ≡ k) =
+      let r : (e : Event S) × ((g : List (Event S)) × (h.events ≡ g ++ e ∷ [])) × (is_inside e ≡ true)
+      × (place_of e ≡ k) =
       turn-held h.events k is in
       subst (λ (i : ℕ). i < h.sizes.places) r.3 (in_range-at h r.1.0 [] r.0 legal r.1.1).0
 
@@ -162,13 +163,16 @@ module _ {S : Type 0} where
     where
       own_apart : is_untouched c x h ≡ true → list_all (λ y. not (place_of x == place_of y)) (waiting c h) ≡ true
       own_apart a = list_all-from_All (λ y. not (place_of x == place_of y)) (waiting c h)
-          (All-filter_by_later (λ y. not (place_of x == place_of y) ≡ true) (λ e later. waits_on c e && is_untouched c e later) h
+          (All-filter_by_later (λ y. not (place_of x == place_of y) ≡ true)
+          (λ e later. waits_on c e && is_untouched c e later) h
           (λ f y later is t. ap not (eq_swap (place_of x) (place_of y) ∙ own_is_concerned y c (place_of x)
-          (list_all-at (λ z. not (concerns c (place_of x) z)) f y later (ap (list_all (λ z. not (concerns c (place_of x) z))) (sym is) ∙ a)))))
+          (list_all-at (λ z. not (concerns c (place_of x) z)) f y later
+          (ap (list_all (λ z. not (concerns c (place_of x) z))) (sym is) ∙ a)))))
 
       first_of : (t : Bool) → (w == place_of x) ≡ t → is_untouched c x h ≡ true
           → length (filter (λ y. w == place_of y) (waiting c h)) ≤ 1
-          → length (cond t (x ∷ filter (λ y. w == place_of y) (waiting c h)) (filter (λ y. w == place_of y) (waiting c h))) ≤ 1
+          → length (cond t (x ∷ filter (λ y. w == place_of y) (waiting c h))
+          (filter (λ y. w == place_of y) (waiting c h))) ≤ 1
       first_of true is a rest =
           let none : filter (λ y. w == place_of y) (waiting c h) ≡ [] = filter-none (λ y. w == place_of y) (waiting c h)
           (ap (λ i. list_all (λ y. not (i == place_of y)) (waiting c h)) (eqb-true w (place_of x) is) ∙ own_apart a) in

@@ -19,7 +19,8 @@ kept_step true true false p x old new t e is = rw e is
 
 -- those that e leaves, and e
 pub filter_by_later-push : {X : Type 0} (is : X → Bool) (q : X → X → Bool) (h : List X) (e : X)
-    → filter_by_later (kept_by is q) (h ++ e ∷ []) ≡ filter (λ x. q x e) (filter_by_later (kept_by is q) h) ++ cond (is e) (e ∷ []) []
+    → filter_by_later (kept_by is q) (h ++ e ∷ [])
+    ≡ filter (λ x. q x e) (filter_by_later (kept_by is q) h) ++ cond (is e) (e ∷ []) []
 filter_by_later-push is q [] e =
     elim (is e) as (λ b. cond (b && true) (e ∷ []) [] ≡ cond b (e ∷ []) []) [ true ↦ refl | false ↦ refl ]
 filter_by_later-push is q (x ∷ h) e =
@@ -28,6 +29,7 @@ filter_by_later-push is q (x ∷ h) e =
 
 -- those that waited and aren't concerned by e, and e if it waits on c
 pub waiting-push : {S : Type 0} (c : ℕ) (h : List (Event S)) (e : Event S)
-    → waiting c (h ++ e ∷ []) ≡ filter (λ x. not (concerns c (place_of x) e)) (waiting c h) ++ cond (waits_on c e) (e ∷ []) []
+    → waiting c (h ++ e ∷ []) ≡ filter (λ x. not (concerns c (place_of x) e)) (waiting c h) ++ cond
+    (waits_on c e) (e ∷ []) []
 unfolding waiting
 waiting-push c h e = filter_by_later-push (waits_on c) (λ x y. not (concerns c (place_of x) y)) h e

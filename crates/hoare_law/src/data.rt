@@ -6,10 +6,10 @@ use crate::waits::Waits;
 /// The data of a monitor, with what its author says of them ("Monitors", Introduction: the invariant and
 /// the assertions).
 ///
-/// `rest` is what holds at each wait and each leave. `ready` is what a process finds that waited on one of Hoare's conditions
-/// with a priority and is resumed; the waiting priorities then no longer have that process. Who waited on a Mesa condition finds
-/// `rest`. Hoare's own rules are the case in which neither looks at the priorities, `rest` is the invariant, and `ready` is the
-/// invariant and the condition's assertion.
+/// `rest` is what holds at each wait and each leave. `ready` is what a process finds that waited on one of Hoare's
+/// conditions with a priority and is resumed; the waiting priorities then no longer have that process. Who waited on a
+/// Mesa condition finds `rest`. Hoare's own rules are the case in which neither looks at the priorities, `rest` is the
+/// invariant, and `ready` is the invariant and the condition's assertion.
 pub trait MonitorData {
     /// How many conditions the monitor has: they are numbered from 0. A monitor can be made of 1 to 8.
     const CONDITIONS: usize;

@@ -3,8 +3,8 @@ use std::collections::LinkedList;
 
 /// One step of one process at a monitor. Histories stand in contracts alone: no value of this type is ever made.
 ///
-/// `data` is the monitor's data as left (`Wait`, `Signal`, `Pass`, `Leave`), as found (`Admit`, `Resume`, `Back`), or as they
-/// are then in hand (`Notify`, `Broadcast`).
+/// `data` is the monitor's data as left (`Wait`, `Signal`, `Pass`, `Leave`), as found (`Admit`, `Resume`, `Back`), or
+/// as they are then in hand (`Notify`, `Broadcast`).
 pub enum Event<S> {
     /// A newcomer comes in from outside.
     Admit {
@@ -63,8 +63,8 @@ pub enum Event<S> {
     },
 }
 
-/// The numbers of a monitor: how many places and conditions it has, and how many of the conditions, the last ones, are Mesa
-/// conditions.
+/// The numbers of a monitor: how many places and conditions it has, and how many of the conditions, the last ones, are
+/// Mesa conditions.
 #[derive(Clone, Copy, Debug, PartialEq, Eq)]
 pub struct Sizes {
     pub places: usize,
@@ -72,7 +72,8 @@ pub struct Sizes {
     pub mesa: usize,
 }
 
-/// What happened at a monitor of these sizes, opened with this data: its events, the oldest first. No value of it is ever made.
+/// What happened at a monitor of these sizes, opened with this data: its events, the oldest first. No value of it is
+/// ever made.
 pub struct History<S> {
     pub sizes: Sizes,
     pub opening: S,

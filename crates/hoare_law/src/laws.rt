@@ -2,7 +2,8 @@
 ghost use Rattle.std.specs.Prelude.{◌≡◌, ◌≢◌, ◌≤◌, ◌<◌, ◌++◌, ◌∷◌, ℕ, List, [], All, IsTrue, Some, None, true, false};
 ghost use Rattle.hoare_law.specs.declared.event.Event.{Event};
 ghost use Rattle.hoare_law.specs.declared.event.History.{History};
-ghost use Rattle.hoare_law.specs.declared.event.Event.TheVariants.{Admit, Signal, Pass, Resume, Back, Notify, Broadcast};
+ghost use Rattle.hoare_law.specs.declared.event.Event.TheVariants.{Admit, Signal, Pass, Resume, Back, Notify};
+ghost use Rattle.hoare_law.specs.declared.event.Event.TheVariants.{Broadcast};
 ghost use Rattle.hoare_law.specs.declared.turn.Turn.TheVariants.{Free, Held};
 ghost use Rattle.hoare_law.specs.Events.{place_of, own, newest, latest_data, with_event};
 ghost use Rattle.hoare_law.specs.Sizes.{IsMesa};
@@ -13,8 +14,8 @@ ghost use Rattle.hoare_law.specs.Turns.{turn, urgent, inside, outside};
 ghost use Rattle.hoare_law.specs.Legal.{Allowed, IsLegal};
 ghost use Rattle.hoare_law.specs.Growth.{Begins};
 
-/// After each beginning of a legal history at most one place is inside, where a place is inside by what it did last itself. Then
-/// it is that place's turn, and it isn't outside too ("Monitors", Introduction).
+/// After each beginning of a legal history at most one place is inside, where a place is inside by what it did last
+/// itself. Then it is that place's turn, and it isn't outside too ("Monitors", Introduction).
 pub fn one_is_inside<S>()
     ensures one { (h : History S) (f later : List (Event S)) (j k : ℕ) → IsLegal h
         → h.events ≡ f ++ later → inside j f ≡ true → inside k f ≡ true → j ≡ k }
@@ -24,8 +25,8 @@ pub fn one_is_inside<S>()
     ensures not_outside { (h : List (Event S)) (k : ℕ) → turn h ≡ Held k → outside k h ≡ false }
 {}
 
-/// Behind a signal the resumed process goes on at once: no third process comes between, and it finds the data as the signaller
-/// left them ("Monitors", Introduction).
+/// Behind a signal the resumed process goes on at once: no third process comes between, and it finds the data as the
+/// signaller left them ("Monitors", Introduction).
 pub fn nothing_intervenes<S>()
     ensures signal { (h : History S) (k c w : ℕ) (s : S) (e : Event S)
         → Allowed (with_event h (Signal k c w s)) e → e ≡ Resume w c s }
@@ -59,7 +60,8 @@ pub fn caller_goes_on<S>()
         → Allowed (with_event h (Broadcast k c s)) e → place_of e ≡ k }
 {}
 
-/// Who is called waits nowhere: it is a wait on a Mesa condition, its place's last event, and no list of waiting ones has its place.
+/// Who is called waits nowhere: it is a wait on a Mesa condition, its place's last event, and no list of waiting ones
+/// has its place.
 pub fn called_wait_nowhere<S>()
     ensures { (h : History S) → IsLegal h → All (λ x.
         (newest (own (place_of x) h.events) ≡ Some x)
@@ -68,8 +70,8 @@ pub fn called_wait_nowhere<S>()
         × ((d : ℕ) → All (λ y. place_of x ≢ place_of y) (waiting d h.events))) (called h.events) }
 {}
 
-/// After a notify the one that a signal would have resumed is the last of those called, and after a broadcast all that waited on the
-/// condition are, in the order in which signals would have resumed them.
+/// After a notify the one that a signal would have resumed is the last of those called, and after a broadcast all that
+/// waited on the condition are, in the order in which signals would have resumed them.
 pub fn called_in_turn<S>()
     ensures notify { (h : History S) (k c w : ℕ) (s : S) → IsLegal h → Allowed h (Notify k c w s)
         → (x : Event S) × (chosen c h.events ≡ Some x) × (place_of x ≡ w)
@@ -86,8 +88,8 @@ pub fn admitted_from_outside<S>()
     ensures free { (h : History S) (k : ℕ) (s : S) → Allowed h (Admit k s) → turn h.events ≡ Free }
 {}
 
-/// A signal resumes a process of the least priority, and among equal ones that which waits longest ("Monitors", Scheduled
-/// waits); it finds nobody only where nobody waits.
+/// A signal resumes a process of the least priority, and among equal ones that which waits longest ("Monitors",
+/// Scheduled waits); it finds nobody only where nobody waits.
 pub fn least_is_chosen<S>()
     ensures least { (c : ℕ) (h : List (Event S)) (x : Event S) → chosen c h ≡ Some x
         → All (λ y. priority_of x ≤ priority_of y) (waiting c h) }

@@ -1,5 +1,5 @@
-//! The law of Hoare's monitors (C. A. R. Hoare, "Monitors: An Operating System Structuring Concept", CACM 17(10), 1974):
-//! what happens at a monitor, which histories are legal, and what each call of a monitor owes and gives.
+//! The law of Hoare's monitors (C. A. R. Hoare, "Monitors: An Operating System Structuring Concept", CACM 17(10),
+//! 1974): what happens at a monitor, which histories are legal, and what each call of a monitor owes and gives.
 #![tactic(auto)]
 
 pub mod data;

@@ -22,12 +22,13 @@ use std::sync::Wait;
 /// The priority of a wait without priorities: of those that wait with it, who has waited longest goes on first.
 pub const PLAIN: u64 = 0;
 
-/// Hoare's monitor ("Monitors", Introduction and Scheduled Waits): who may do what with the data, what each call owes and what it gives.
+/// Hoare's monitor ("Monitors", Introduction and Scheduled Waits): who may do what with the data, what each call owes
+/// and what it gives.
 ///
-/// A place outside is an `Out`, a place inside an `In`, which has the data in hand. Neither can be copied, so no place is
-/// inside twice, and an `In` can't be dropped: who is inside leaves. A place's front is the history that it knows: it stands
-/// in the contracts alone. A call that may wait for another thread takes `rt`, and keeps its promise if it returns. No call
-/// refuses, and none takes memory.
+/// A place outside is an `Out`, a place inside an `In`, which has the data in hand. Neither can be copied, so no place
+/// is inside twice, and an `In` can't be dropped: who is inside leaves. A place's front is the history that it knows:
+/// it stands in the contracts alone. A call that may wait for another thread takes `rt`, and keeps its promise if it
+/// returns. No call refuses, and none takes memory.
 pub trait Monitor<D: MonitorData> {
     /// A place outside. A place that is dropped is never heard of again.
     type Out: Drop + Send;
@@ -62,7 +63,8 @@ pub trait Monitor<D: MonitorData> {
     /// The place with other data in hand.
     ghost with_data: { Self.In → D → Self.In };
 
-    /// Comes in, once nobody is inside, nobody was resumed or called and no signaller waits. `rest` holds of what is found.
+    /// Comes in, once nobody is inside, nobody was resumed or called and no signaller waits. `rest` holds of what is
+    /// found.
     fn enter<R: Wait>(&self, rt: &R, out: Self::Out) -> Self::In
         requires { is_of self.now out }
         ensures of { is_of_in self.now result }
@@ -93,9 +95,10 @@ pub trait Monitor<D: MonitorData> {
         ensures front { front result
             ≡ with_event (front_in inside) (event.Leave (place_in inside) (data_in inside)) };
 
-    /// Gives the monitor up until this process is resumed by a signal on the condition, or called by a notify or a broadcast and the
-    /// monitor given up to it. The caller owes `rest` with itself among the waiting. From one of Hoare's conditions it comes back to
-    /// `ready`, and the data as the signaller left them; from a Mesa condition to `rest`, so that it tests again what it waited for.
+    /// Gives the monitor up until this process is resumed by a signal on the condition, or called by a notify or a
+    /// broadcast and the monitor given up to it. The caller owes `rest` with itself among the waiting. From one of
+    /// Hoare's conditions it comes back to `ready`, and the data as the signaller left them; from a Mesa condition to
+    /// `rest`, so that it tests again what it waited for.
     fn wait<R: Wait>(&self, rt: &R, inside: Self::In, condition: usize, priority: u64) -> Self::In
         requires of { is_of_in self.now inside }
         requires in_range { condition < D.CONDITIONS }
@@ -110,9 +113,9 @@ pub trait Monitor<D: MonitorData> {
             (event.Wait (place_in inside) condition priority (data_in inside))
             (event.Resume (place_in inside) condition (data_in result)) (front_in result) };
 
-    /// Hands the monitor to the process that waits on one of Hoare's conditions, if one does, and comes back before any newcomer:
-    /// then the answer is true, the caller owed `ready` for that process, and finds `rest`. Where nobody waits the answer is false
-    /// and nothing changed.
+    /// Hands the monitor to the process that waits on one of Hoare's conditions, if one does, and comes back before any
+    /// newcomer: then the answer is true, the caller owed `ready` for that process, and finds `rest`. Where nobody
+    /// waits the answer is false and nothing changed.
     fn signal<R: Wait>(&self, rt: &R, inside: Self::In, condition: usize) -> (Self::In, bool)
         requires of { is_of_in self.now inside }
         requires hoare { IsHoare D.CONDITIONS D.MESA condition }
@@ -127,8 +130,8 @@ pub trait Monitor<D: MonitorData> {
         ensures front { Signals (place_in inside) condition (data_in inside) (data_in result.0)
             (front_in inside) (front_in result.0) result.1 };
 
-    /// A signal as the last act: who waits is resumed, and the caller is outside at once. Where nobody waits it leaves, and
-    /// owed what a `leave` owes. True exactly where somebody was resumed.
+    /// A signal as the last act: who waits is resumed, and the caller is outside at once. Where nobody waits it leaves,
+    /// and owed what a `leave` owes. True exactly where somebody was resumed.
     fn signal_leave<R: Wait>(&self, rt: &R, inside: Self::In, condition: usize) -> (Self::Out, bool)
         requires of { is_of_in self.now inside }
         requires hoare { IsHoare D.CONDITIONS D.MESA condition }
@@ -142,9 +145,10 @@ pub trait Monitor<D: MonitorData> {
         ensures front { Exits (place_in inside) condition (data_in inside) (front_in inside)
             (front result.0) result.1 };
 
-    /// Calls the process that waits on a Mesa condition and that a signal would resume: the longest waiting of least priority. It
-    /// no longer waits there, and goes on once the monitor is given up and no signaller waits, behind those called before. The
-    /// caller stays inside, with the data as they are, and owes nothing. True exactly where somebody waited.
+    /// Calls the process that waits on a Mesa condition and that a signal would resume: the longest waiting of least
+    /// priority. It no longer waits there, and goes on once the monitor is given up and no signaller waits, behind
+    /// those called before. The caller stays inside, with the data as they are, and owes nothing. True exactly where
+    /// somebody waited.
     fn notify(&self, inside: &mut Self::In, condition: usize) -> bool
         requires of { is_of_in self.now inside.old }
         requires mesa { IsMesa D.CONDITIONS D.MESA condition }
@@ -156,7 +160,8 @@ pub trait Monitor<D: MonitorData> {
         ensures front { Notifies (place_in inside.old) condition (data_in inside.old)
             (front_in inside.old) (front_in inside.new) result };
 
-    /// Calls all that wait on a Mesa condition, in the order in which signals would resume them, and answers how many they are.
+    /// Calls all that wait on a Mesa condition, in the order in which signals would resume them, and answers how many
+    /// they are.
     fn broadcast(&self, inside: &mut Self::In, condition: usize) -> usize
         requires of { is_of_in self.now inside.old }
         requires mesa { IsMesa D.CONDITIONS D.MESA condition }
@@ -173,8 +178,8 @@ pub trait Monitor<D: MonitorData> {
         requires { is_of_in self.now inside.now }
         ensures { result.now ≡ data_in inside.now };
 
-    /// The data in hand, for writing: what is written is in hand afterwards, and all else stays. (The place goes first: only a
-    /// first parameter can lend.)
+    /// The data in hand, for writing: what is written is in hand afterwards, and all else stays. (The place goes first:
+    /// only a first parameter can lend.)
     fn state_mut<'a>(inside: &'a mut Self::In, monitor: &Self) -> &'a mut D
         requires { is_of_in monitor.now inside.old }
         ensures* writes { sem 𝓛

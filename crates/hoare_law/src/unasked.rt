@@ -2,8 +2,8 @@
 use crate::data::MonitorData;
 use crate::waits::Waits;
 
-/// Data of which nothing is asked, for tests and measures: a value, and `CONDITIONS` conditions. Every state is at rest,
-/// and ready for whoever waited.
+/// Data of which nothing is asked, for tests and measures: a value, and `CONDITIONS` conditions. Every state is at
+/// rest, and ready for whoever waited.
 #[derive(Clone, Copy, Debug, Drop, PartialEq, Eq)]
 pub struct Unasked<T, const CONDITIONS: usize> {
     pub value: T,

@@ -3,8 +3,8 @@ ghost use Rattle.std.specs.Prelude.{◌≡◌, ◌≢◌, ◌<◌, ◌≤◌, �
 ghost use Rattle.hoare_law.specs.Priorities.{joined, taken};
 ghost use Rattle.std.specs.List.Sorted.{IsNonDecreasing};
 
-/// The priorities of the processes that wait on each condition, in the order in which signals would resume them ("Monitors",
-/// Scheduled Waits): the least first, and equal ones by time of waiting.
+/// The priorities of the processes that wait on each condition, in the order in which signals would resume them
+/// ("Monitors", Scheduled Waits): the least first, and equal ones by time of waiting.
 pub trait Waits {
     /// The waiting priorities: for each number the list of its condition, empty where it is no condition.
     ghost waiting_priorities: { Self → ℕ → List ℕ };

@@ -15,7 +15,8 @@ use Rattle.hoare_script.specs.Scripts.{State, Start, Running, Outcome, one_line,
 use Rattle.hoare_script.specs.Runs.{IsAt, Follows, IsGoodHeader, OnFault}
 
 -- a command's line, where a book stands
-pub one_line-command : (b d : Contents) (i : ℕ) (line : List ℕ) (old new : Option (List ℕ)) (r : Result (Unit {0}) ScriptFault)
+pub one_line-command : (b d : Contents) (i : ℕ) (line : List ℕ) (old new : Option (List ℕ))
+    (r : Result (Unit {0}) ScriptFault)
     → ((h : History (Unit {0})) → IsOf b h → Follows (command_line h i line (command_of line)) old new (Some d) r)
     → (s : State) → IsAt (Some b) s → Follows (one_line s i line) old new (Some d) r
 unfolding one_line
@@ -37,7 +38,8 @@ one_line-header b i line k o (Running h) st = absurd st
 
 -- a header that opens no book
 pub one_line-no_header : (i : ℕ) (line : List ℕ) (k : Option (List ℕ)) (f : ScriptFault)
-    → (((f ≡ faults.Memory) × IsGoodHeader line) ⊎ ((header_line i (header_of line) ≡ Err f) × (f ≡ faults.BadHeader i)))
+    → (((f ≡ faults.Memory) × IsGoodHeader line)
+    ⊎ ((header_line i (header_of line) ≡ Err f) × (f ≡ faults.BadHeader i)))
     → (s : State) → IsAt None s → OnFault (one_line s i line) k k f
 unfolding one_line
 one_line-no_header i line k f (inl m) s st =

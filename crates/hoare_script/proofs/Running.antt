@@ -58,8 +58,10 @@ Going-start old t = record {
 -- nothing more is written, and a fault is told
 Whole-fault : (old now new : Option (List ℕ)) (w : List ℕ) (t : Told) (f : ScriptFault)
     → Appends old now w → Appends now new [] → t ≡ prepend w (stop f) → Whole t old new (Some f)
-Whole-fault old now new w t f p q e =
-    (subst (λ (v : Told). Appends old new v.written) (sym e) (Appends-trans old now new w [] p q), ap (λ (v : Told). v.fault) e)
+Whole-fault old now new w t f p q e = (
+  subst (λ (v : Told). Appends old new v.written) (sym e) (Appends-trans old now new w [] p q),
+  ap (λ (v : Told). v.fault) e,
+)
 
 -- what a line wrote, and where the script then stands
 IsOkAnd-parts : (out : Outcome) (P : List ℕ × State → Type 0) → IsOkAnd out P
@@ -133,7 +135,12 @@ module _ (number room : ℕ) (opened : Option Contents) (old now : Option (List 
       let bytes : t0 ≡ (g.read ++ l) ++ x = g.text.whole ∙ ap (λ v. g.read ++ v) e ∙ sym (append_assoc g.read l x) in
       let fault : told at_cut (g.read ++ l) ≡ prepend g.written (stop faults.ReadFault) =
       g.goes at_cut l ∙ ap (prepend g.written) (told_from-end at_cut g.state number room l n h r) in (
-        (g.read ++ l, bytes, Whole-fault old now now g.written (told at_cut (g.read ++ l)) faults.ReadFault g.appends (Appends-nil now) fault),
+        (
+          g.read ++ l,
+          bytes,
+          Whole-fault old now now g.written (told at_cut (g.read ++ l)) faults.ReadFault g.appends
+              (Appends-nil now) fault,
+        ),
         (g.read ++ l, bytes),
       )
 
@@ -209,7 +216,10 @@ module _ (number room : ℕ) (opened : Option Contents) (old now : Option (List 
       told-rest at_end ∙ ap (prepend g.written) (e ∙ ap (λ (v : Outcome). then_on v (λ _. done)) q.1) in
       let text : g.written ++ q.0.0 ≡ (told at_end t0).written =
       ap (λ v. g.written ++ v) (sym (append-nil q.0.0)) ∙ sym (ap (λ (v : Told). v.written) all) in (
-        (subst (λ (v : List ℕ). Appends old new v) text (Appends-trans old now new g.written q.0.0 g.appends q.2.0), ap (λ (v : Told). v.fault) all),
+        (
+          subst (λ (v : List ℕ). Appends old new v) text (Appends-trans old now new g.written q.0.0 g.appends q.2.0),
+          ap (λ (v : Told). v.fault) all,
+        ),
         z,
       )
 
@@ -270,7 +280,8 @@ Known-start k old = record { goes = Reads-start k old }
 -- The ways out of the loop, and its turn: a line l was read, and m is left.
 module _ {k0 k old now : Option (List ℕ)} {number room : ℕ} {opened : Option Contents}
     (h : Known k0 k old now number room opened)
-    (m : Option (List ℕ)) (l : List ℕ) (one : NoNewline l) (short : length l ≤ LONGEST_LINE) (within : length l ≤ room) where
+    (m : Option (List ℕ)) (l : List ℕ) (one : NoNewline l) (short : length l ≤ LONGEST_LINE)
+    (within : length l ≤ room) where
   -- the line at hand ends in this way
   ended : (S : List ℕ → List ℕ → Type 0) (e f : Result Ended LineFault) → e ≡ f
       → ((t0 t x : List ℕ) → Going number room opened old now t0 t → ReadsLine l f t x → S t0 x)
@@ -304,7 +315,8 @@ module _ {k0 k old now : Option (List ℕ)} {number room : ℕ} {opened : Option
   exit_end res f e r z is = ended (λ text left. Tells text left old now res) (Ok f) (Ok how.Last) (ap Ok e)
       (λ t0 t x g b.
       subst (λ (v : Verdict). Tells t0 x old now v) (sym is)
-      (Tells-nothing number room opened old now t0 t g x (eqb number 1) (told_from-nothing number room opened old now t0 t g (b.0 ∙ z)) b.1)) r
+      (Tells-nothing number room opened old now t0 t g x (eqb number 1)
+      (told_from-nothing number room opened old now t0 t g (b.0 ∙ z)) b.1)) r
 
   -- what the last line is told
   told_from-last : (s : State) (t : List ℕ) → t ≡ l → (l ≡ [] → ⊥)
@@ -325,7 +337,8 @@ module _ {k0 k old now : Option (List ℕ)} {number room : ℕ} {opened : Option
       (after_lines-last g.text l x one e y) o (λ q. c (ap Err q))
       ([], ap (slice_split is_newline) e ∙ slice_split_none is_newline l one)
 
-  pub exit_last : (n : Option (List ℕ)) (d : Option Contents) (res : Result (Unit {0}) ScriptFault) (f : Ended) (line : List ℕ)
+  pub exit_last : (n : Option (List ℕ)) (d : Option Contents) (res : Result (Unit {0}) ScriptFault) (f : Ended)
+      (line : List ℕ)
       → f ≡ how.Last → line ≡ l → Reads k m (ReadsLine l (Ok f)) → (l ≡ [] → ⊥)
       → ((s : State) → IsAt opened s → Follows (one_line s number line) now n d res)
       → ((s : State) → IsAt opened s → res ≡ Err faults.Memory → (s ≡ Start) × IsGoodHeader line)
@@ -368,5 +381,6 @@ module _ {k0 k old now : Option (List ℕ)} {number room : ℕ} {opened : Option
       ended (Going (number + 1) (room - (length l + 1)) d old n) (Ok f) (Ok how.Line) (ap Ok e)
       (λ t0 t x g b.
       Going-next n d t0 t x i g fits b
-      (subst (λ (v : List ℕ). IsOkAnd (one_line g.state number v) (λ p. Appends now n p.0 × IsAt d p.1)) j (o g.state g.at))) r in
+      (subst (λ (v : List ℕ). IsOkAnd (one_line g.state number v) (λ p. Appends now n p.0 × IsAt d p.1)) j
+      (o g.state g.at))) r in
       record { goes = subst (λ (u : ℕ). Reads k0 m (Going (number + 1) (room - (u + 1)) d old n)) (sym z) goes }

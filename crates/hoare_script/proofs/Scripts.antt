@@ -40,7 +40,8 @@ take-line room l b x h =
 -- a line that its end of line ends
 pub told_from-line : (e : Ending) (s : State) (i room : ℕ) (l x : List ℕ) → NoNewline l → length l ≤ 256
     → length l < room
-    → told_from e s i room (l ++ 10 ∷ x) ≡ then_on (one_line s i l) (λ t. told_from e t (i + 1) (room - (length l + 1)) x)
+    → told_from e s i room (l ++ 10 ∷ x) ≡ then_on (one_line s i l)
+    (λ t. told_from e t (i + 1) (room - (length l + 1)) x)
 unfolding told_from
 told_from-line e s i room l x n h r =
     let m : ℕ = room - (length l + 1) in

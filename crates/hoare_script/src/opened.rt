@@ -65,7 +65,8 @@ impl Opened {
         }
     }
 
-    /// The number of a place among those that were called and haven't gone on yet, as `Book::number_called` counts them.
+    /// The number of a place among those that were called and haven't gone on yet, as `Book::number_called` counts
+    /// them.
     pub fn number_called(&self, place: usize) -> usize
         ensures of { (h : History (Unit {0})) → IsOf self.now h
             → result ≡ number_called h.events place }

@@ -1,11 +1,14 @@
 //! A whole script.
-ghost use Rattle.std.specs.Prelude.{◌≡◌, ◌≢◌, ◌≤◌, ◌==◌, ◌+◌, ◌||◌, if◌then◌else◌, [], length, false, IsOkAnd, MatchResult, None, Some, Ok, Err, OnOk, ◌⊎◌};
+ghost use Rattle.std.specs.Prelude.{◌≡◌, ◌≢◌, ◌≤◌, ◌==◌, ◌+◌, ◌||◌, if◌then◌else◌, [], length, false, IsOkAnd};
+ghost use Rattle.std.specs.Prelude.{MatchResult, None, Some, Ok, Err, OnOk, ◌⊎◌};
 ghost use Rattle.hoare_law.specs.declared.event.History.{History};
 ghost use Rattle.line_text.specs.declared.line.TheConstants.{LONGEST_LINE};
-ghost use Rattle.line_text.specs.Streams.{HasRead, Reads, ReadsFrom, has_read_failed, has_write_failed, reader_name, writer_inside, writer_name};
+ghost use Rattle.line_text.specs.Streams.{HasRead, Reads, ReadsFrom, has_read_failed, has_write_failed, reader_name};
+ghost use Rattle.line_text.specs.Streams.{writer_inside, writer_name};
 ghost use Rattle.wait_book.specs.Contents.{IsOf};
 ghost use Rattle.hoare_script.specs.Lines.{command_of, header_of};
-ghost use Rattle.hoare_script.specs.Runs.{Follows, IsAt, IsGoodHeader, Leaves, Tells, Writes, is_read_fault, is_write_fault};
+ghost use Rattle.hoare_script.specs.Runs.{Follows, IsAt, IsGoodHeader, Leaves, Tells, Writes, is_read_fault};
+ghost use Rattle.hoare_script.specs.Runs.{is_write_fault};
 ghost use Rattle.hoare_script.specs.Scripts.{Start, State, command_line, header_line, one_line};
 
 use crate::answers::answer_line;
@@ -24,9 +27,9 @@ use wait_book::steps::MakeRefused;
 pub const MOST_BYTES: usize = 1_048_576;
 
 /// Reads a script and writes the answer to each line after the header, before it answers the next. A fault ends it: its
-/// answer is the earliest of the text, unless a read, a write or memory fails first. `Memory` is answered to a good header
-/// alone. No byte behind the one at which the verdict stands is read, so at most `MOST_BYTES` + 1 bytes are. An interrupted
-/// read or write counts as failed, and nothing is flushed.
+/// answer is the earliest of the text, unless a read, a write or memory fails first. `Memory` is answered to a good
+/// header alone. No byte behind the one at which the verdict stands is read, so at most `MOST_BYTES` + 1 bytes are. An
+/// interrupted read or write counts as failed, and nothing is flushed.
 pub fn run<R: Read, W: Write>(
     alloc: Global,
     reader: &mut R,
@@ -42,9 +45,9 @@ pub fn run<R: Read, W: Write>(
     run_watched(alloc, &mut watched_reader, &mut watched_writer)
 }
 
-/// `run`, with a reader and a writer that are watched: `ReadFault` is answered exactly where a read failed, `WriteFault` exactly
-/// where a write failed or took no bytes, and at most `MOST_BYTES` + 1 reads are made, which give at most this number of
-/// bytes, whatever the reader is.
+/// `run`, with a reader and a writer that are watched: `ReadFault` is answered exactly where a read failed,
+/// `WriteFault` exactly where a write failed or took no bytes, and at most `MOST_BYTES` + 1 reads are made, which give
+/// at most this number of bytes, whatever the reader is.
 pub fn run_watched<R: Read, W: Write>(
     alloc: Global,
     reader: &mut WatchedReader<'_, R>,

@@ -57,7 +57,8 @@ module _ {number : ℕ} {read t0 t : List ℕ} (g : AtLine number read t0 t) (l 
       let bytes : after_lines (number - 1) t0 ≡ (l ++ b ∷ []) ++ x =
       sym g.behind ∙ e ∙ sym (append_assoc l (b ∷ []) x) in
       sym
-      (ap (drop (LONGEST_LINE + 1)) bytes ∙ drop-read (LONGEST_LINE + 1) (l ++ b ∷ []) x (omega (arith, length-append l (b ∷ []), h)))
+      (ap (drop (LONGEST_LINE + 1)) bytes
+      ∙ drop-read (LONGEST_LINE + 1) (l ++ b ∷ []) x (omega (arith, length-append l (b ∷ []), h)))
 
   -- reading stands at the next line
   pub AtLine-next : NoNewline l → t ≡ l ++ 10 ∷ x → AtLine (number + 1) (read ++ (l ++ 10 ∷ [])) t0 x

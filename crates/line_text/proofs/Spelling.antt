@@ -111,7 +111,8 @@ digits_of-too_big w n i l v h =
     let e : value_after 0 w ≡ value_after (10 * n + (get_or w i 0 - 48)) (drop (suc i) w) =
     v ∙ value_after-drop n w i l in
     no_both (all_digits w) (ltb (value_after 0 w) (2 ^ 64)) (value_after 0 w)
-    (le-ltb (value_after 0 w) (2 ^ 64) (omega (arith, value_after-grows (10 * n + (get_or w i 0 - 48)) (drop (suc i) w))))
+    (le-ltb (value_after 0 w) (2 ^ 64)
+    (omega (arith, value_after-grows (10 * n + (get_or w i 0 - 48)) (drop (suc i) w))))
 
 -- digits all read
 pub digits_of-value : (w : List ℕ) (n i : ℕ) → length w ≤ i → all_digits w ≡ all_digits (drop i w)

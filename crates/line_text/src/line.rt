@@ -36,9 +36,9 @@ pub enum LineFault {
     TooMuch,
 }
 
-/// Reads a line of at most `LONGEST_LINE` bytes; the line and its end may take at most `room` bytes of the text. It reads byte
-/// by byte, and none behind the end of the line, or behind the byte that is too many. A byte past the room is looked at before
-/// anything else.
+/// Reads a line of at most `LONGEST_LINE` bytes; the line and its end may take at most `room` bytes of the text. It
+/// reads byte by byte, and none behind the end of the line, or behind the byte that is too many. A byte past the room
+/// is looked at before anything else.
 pub fn read_line<R: Read>(
     reader: &mut WatchedReader<'_, R>,
     line: &mut Line,

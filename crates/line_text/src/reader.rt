@@ -2,13 +2,14 @@
 ghost use Rattle.std.specs.Prelude.{◌≡◌, ◌||◌, false};
 ghost use Rattle.std.specs.Io.{ReadsAtMost};
 ghost use Rattle.std.specs.Io.KnownBytes.{ReadConsumes};
-ghost use Rattle.line_text.specs.Streams.{CountsRead, ReadsByte, ReadsFrom, byte_count, bytes_given, count_of, has_read_failed, is_error, read_calls, reader_inside, reader_name};
+ghost use Rattle.line_text.specs.Streams.{CountsRead, ReadsByte, ReadsFrom, byte_count, bytes_given, count_of};
+ghost use Rattle.line_text.specs.Streams.{has_read_failed, is_error, read_calls, reader_inside, reader_name};
 
 use std::io;
 use std::io::Read;
 
-/// Another reader, with whether a read of it failed, and how many reads were made and how many bytes they gave: both counts
-/// stay at the greatest number of 64 bits.
+/// Another reader, with whether a read of it failed, and how many reads were made and how many bytes they gave: both
+/// counts stay at the greatest number of 64 bits.
 #[derive(Drop)]
 pub struct WatchedReader<'a, R> {
     inner: &'a mut R,

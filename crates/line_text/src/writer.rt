@@ -2,7 +2,8 @@
 ghost use Rattle.std.specs.Prelude.{◌≡◌, ◌||◌, false, OnOk, OnErr};
 ghost use Rattle.std.specs.Io.{WritesAtMost};
 ghost use Rattle.std.specs.Io.KnownBytes.{Appends, WriteAppends};
-ghost use Rattle.line_text.specs.Streams.{AppendsPrefix, has_write_failed, is_error, is_shortfall, writer_inside, writer_name};
+ghost use Rattle.line_text.specs.Streams.{AppendsPrefix, has_write_failed, is_error, is_shortfall, writer_inside};
+ghost use Rattle.line_text.specs.Streams.{writer_name};
 
 use std::io;
 use std::io::Write;

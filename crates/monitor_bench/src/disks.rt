@@ -178,7 +178,8 @@ where
     Ok(all)
 }
 
-/// How long `turns` releases of the drive took at cylinder 1, as the first of an upsweep on which this many others wait.
+/// How long `turns` releases of the drive took at cylinder 1, as the first of an upsweep on which this many others
+/// wait.
 pub fn release_row<R: Clock + Threads + Wait + Sync>(
     rt: &R,
     alloc: Global,

@@ -1,5 +1,5 @@
-//! What is measured with threads, over any monitor. Every place has a thread of its own; the threads share out their roles in
-//! the order in which they come.
+//! What is measured with threads, over any monitor. Every place has a thread of its own; the threads share out their
+//! roles in the order in which they come.
 ghost use Rattle.std.specs.Prelude.{All};
 
 use crate::fairness::{Counted, Others, count_others};
@@ -20,8 +20,9 @@ use std::time::{Duration, Instant};
 use std::{io, thread};
 use ticket_door::door::TicketDoor;
 
-/// A monitor of a counter that threads share, with one condition. (A closure that goes to a thread needs a bound with no
-/// parameter, and one closure can't be handed on by a function that is generic over what it does: so each load has its own.)
+/// A monitor of a counter that threads share, with one condition. (A closure that goes to a thread needs a bound with
+/// no parameter, and one closure can't be handed on by a function that is generic over what it does: so each load has
+/// its own.)
 pub trait OneShared: Monitor<Unasked<u64, 1>> + Sync {}
 
 impl OneShared for Door<Unasked<u64, 1>> {}
@@ -241,7 +242,8 @@ where
     start.elapsed(rt)
 }
 
-/// Threads that mix all calls, each `turns` times, and the last to come, who resumes those that wait: how long that took.
+/// Threads that mix all calls, each `turns` times, and the last to come, who resumes those that wait: how long that
+/// took.
 pub fn mixed<R: Threads + Wait + Clock + Sync, M: SharedMixed>(
     rt: &R,
     m: &M,

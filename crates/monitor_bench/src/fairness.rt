@@ -1,4 +1,5 @@
-//! How many others are let in while a place asks to be: eight threads that come in and go out, each as soon as it is out again.
+//! How many others are let in while a place asks to be: eight threads that come in and go out, each as soon as it is
+//! out again.
 use hoare_law::monitor::Monitor;
 use hoare_law::unasked::Unasked;
 use std::io;

@@ -1,6 +1,6 @@
-//! Measures what the calls cost. Without arguments it names its measurements; `monitor_bench TURNS` takes them on the baton
-//! door and prints a line `NAME VALUE ns` for each, with its progress on standard error; with `--ticket` before, on the
-//! ticket door; with `--schedulers` before TURNS, those of the schedulers' procedures.
+//! Measures what the calls cost. Without arguments it names its measurements; `monitor_bench TURNS` takes them on the
+//! baton door and prints a line `NAME VALUE ns` for each, with its progress on standard error; with `--ticket` before,
+//! on the ticket door; with `--schedulers` before TURNS, those of the schedulers' procedures.
 #![tactic(auto)]
 
 ghost use Rattle.std.specs.Prelude.{IfOk};

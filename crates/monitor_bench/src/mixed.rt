@@ -1,5 +1,5 @@
-//! Nine threads that mix all calls: eight wait with priorities, signal, pass and leave on three conditions as a fixed row of
-//! numbers says, and one resumes those that wait until all are done.
+//! Nine threads that mix all calls: eight wait with priorities, signal, pass and leave on three conditions as a fixed
+//! row of numbers says, and one resumes those that wait until all are done.
 ghost use Rattle.std.specs.Prelude.{◌<◌};
 
 use hoare_law::monitor::Monitor;

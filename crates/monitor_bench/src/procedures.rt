@@ -1,5 +1,5 @@
-//! What one thread does with the procedures of the schedulers, over any monitor: a pair of them, again and again, and how long
-//! that took. A refusal ends it.
+//! What one thread does with the procedures of the schedulers, over any monitor: a pair of them, again and again, and
+//! how long that took. A refusal ends it.
 ghost use Rattle.std.specs.Prelude.{IfOk};
 
 use crate::turns::add_many;
@@ -132,7 +132,8 @@ pub fn request_release<R: Wait + Clock, M: Monitor<Head<u64>>>(
     Ok(start.elapsed(rt)?)
 }
 
-// Says that a read can't be ended, and never returns: a pass can't be let go, so who still has one can't return without it.
+// Says that a read can't be ended, and never returns: a pass can't be let go, so who still has one can't return without
+// it.
 fn stay<R: Wait + Eprint + Clock>(rt: &R, refused: NoReader) -> ! {
     let _told = eprintln!(rt; "monitor_bench: end_read: {refused}");
     for _ in rt.forever() {

@@ -1,5 +1,5 @@
-//! The rows of the schedulers: what their procedures take where nobody waits, and what a sleep of one tick takes. One figure stands
-//! for a pair of procedures that undo each other.
+//! The rows of the schedulers: what their procedures take where nobody waits, and what a sleep of one tick takes. One
+//! figure stands for a pair of procedures that undo each other.
 ghost use Rattle.std.specs.Prelude.{IfOk};
 ghost use Rattle.hoare_law.specs.Priorities.{nobody};
 

@@ -1,4 +1,5 @@
-//! What is measured of the alarm clock, over any monitor: its procedures alone, and threads that sleep until the next tick.
+//! What is measured of the alarm clock, over any monitor: its procedures alone, and threads that sleep until the next
+//! tick.
 ghost use Rattle.std.specs.Prelude.{All};
 
 use baton_door::door::Door;
@@ -84,8 +85,8 @@ pub fn call_alarm<R: Wait + Clock, M: Monitor<Alarm>>(
     Ok(start.elapsed(rt)?)
 }
 
-// Ticks whenever all that aren't done sleep, until all are done. (At the last time nobody sleeps: so nobody is left sleeping where
-// the tick is refused.)
+// Ticks whenever all that aren't done sleep, until all are done. (At the last time nobody sleeps: so nobody is left
+// sleeping where the tick is refused.)
 fn tick_all<R: Wait, M: Monitor<Alarm>>(
     rt: &R,
     m: &M,

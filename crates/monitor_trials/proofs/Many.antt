@@ -47,7 +47,8 @@ module _ {D : Type 0} where
   asked k os o qs a same (inl at) = inl at
   asked k os o qs a same (inr (inl is)) =
       inr
-      (subst (HasPlace k) (sym (map-append as_out qs (a ∷ []))) (has-behind k (map as_out qs) (map as_out (a ∷ [])) (inl (same ∙ is))))
+      (subst (HasPlace k) (sym (map-append as_out qs (a ∷ [])))
+      (has-behind k (map as_out qs) (map as_out (a ∷ [])) (inl (same ∙ is))))
   asked k os o qs a same (inr (inr none)) = absurd none
 
   pub asks-one : (k : ℕ) (os : List (PlaceOut D)) (o : PlaceOut D) (qs : List (PlaceAsked D)) (a : PlaceAsked D)

@@ -65,7 +65,10 @@ module _ {S : Type 0} {rest : Rest S} {ready : Ready S} {n m : ℕ} where
   unfolding turn urgent called waiting outside latest_data
   IsOutside-opened {s = s} rests = record {
     stage = record {
-      stands = record { legal = IsLegal-none (opened n m s) refl; lawful = record { opens = rests; each = λ f later e is. absurd (nothing f later e is) } };
+      stands = record {
+        legal = IsLegal-none (opened n m s) refl;
+        lawful = record { opens = rests; each = λ f later e is. absurd (nothing f later e is) };
+      };
       sized = refl;
       turn_is = refl;
       data_are = refl;
@@ -83,10 +86,12 @@ module _ {S : Type 0} {rest : Rest S} {ready : Ready S} {n m : ℕ} where
       nothing (x ∷ f) later e is = cc
 
   -- after an event that may come next and is no signal
-  pub Stage-push : {t : Turn} {s : S} {waits : ℕ → List (Event S)} {calls : List (Event S)} {a b : Bool} {h : History S} (e : Event S) (more : List (Event S))
+  pub Stage-push : {t : Turn} {s : S} {waits : ℕ → List (Event S)} {calls : List (Event S)} {a b : Bool} {h : History S}
+      (e : Event S) (more : List (Event S))
       → Stage rest ready n m t s waits calls a b h → Allowed h e → Owes rest ready h.events e → is_signal e ≡ false
       → called_by h.events e ≡ more
-      → Stage rest ready n m (turn_by e [] (still_called calls e more)) (data_of e) (still_wait waits e) (still_called calls e more)
+      → Stage rest ready n m (turn_by e [] (still_called calls e more)) (data_of e) (still_wait waits e)
+      (still_called calls e more)
       (cond (place_of e == 0) (is_out (Some e)) a) (cond (place_of e == 1) (is_out (Some e)) b) (with_event h e)
   unfolding with_event
   Stage-push {calls = calls} {h = h} e more stage allowed owes none calls_them =
@@ -99,7 +104,9 @@ module _ {S : Type 0} {rest : Rest S} {ready : Ready S} {n m : ℕ} where
         sized = stage.sized;
         turn_is = turn-push h.events e ∙ (λ i. turn_by e (quiet i) (calling i));
         data_are = latest_data-push h e;
-        waits_are = λ c. waiting-push c h.events e ∙ ap (λ l. filter (λ x. not (concerns c (place_of x) e)) l ++ cond (waits_on c e) (e ∷ []) []) (stage.waits_are c);
+        waits_are = λ c. waiting-push c h.events e
+            ∙ ap (λ l. filter (λ x. not (concerns c (place_of x) e)) l ++ cond (waits_on c e) (e ∷ []) [])
+            (stage.waits_are c);
         called_are = calling;
         no_signaller = quiet;
         first_is = outside-push 0 h.events e ∙ ap (cond (place_of e == 0) (is_out (Some e))) stage.first_is;
@@ -107,7 +114,8 @@ module _ {S : Type 0} {rest : Rest S} {ready : Ready S} {n m : ℕ} where
       }
 
   -- those that wait, said otherwise
-  pub Stage-waits : {t : Turn} {s : S} {waits same : ℕ → List (Event S)} {calls : List (Event S)} {a b : Bool} {h : History S}
+  pub Stage-waits : {t : Turn} {s : S} {waits same : ℕ → List (Event S)} {calls : List (Event S)} {a b : Bool}
+      {h : History S}
       → ((c : ℕ) → waits c ≡ same c)
       → Stage rest ready n m t s waits calls a b h → Stage rest ready n m t s same calls a b h
   Stage-waits {t = t} {s = s} {calls = calls} {a = a} {b = b} {h = h} is stage =
@@ -125,7 +133,10 @@ module _ {S : Type 0} {rest : Rest S} {ready : Ready S} {n m : ℕ} where
   IsInside-admit {s = s} {h = h} o = record {
     found = s;
     stage = Stage-push (Admit 0 s) [] o.stage
-        (record { in_range = (rw o.stage.sized (omega arith), tt); fits = (o.stage.turn_is, o.stage.first_is, sym o.stage.data_are) }) tt refl refl;
+        (record {
+          in_range = (rw o.stage.sized (omega arith), tt);
+          fits = (o.stage.turn_is, o.stage.first_is, sym o.stage.data_are);
+        }) tt refl refl;
   }
 
   -- place 0 goes out
@@ -136,7 +147,9 @@ module _ {S : Type 0} {rest : Rest S} {ready : Ready S} {n m : ℕ} where
       let none : priorities (h.events ++ Leave 0 s ∷ []) ≡ nobody =
       priorities-leave h.events 0 s i.stage.turn_is ∙ none_listed i.stage in
       record {
-        stage = Stage-push (Leave 0 s) [] i.stage (record { in_range = (rw i.stage.sized (omega arith), tt); fits = i.stage.turn_is }) (rw none rests) refl refl;
+        stage = Stage-push (Leave 0 s) [] i.stage
+            (record { in_range = (rw i.stage.sized (omega arith), tt); fits = i.stage.turn_is })
+            (rw none rests) refl refl;
         rests = rests;
       }
 
@@ -158,7 +171,10 @@ module _ {S : Type 0} {rest : Rest S} {ready : Ready S} {n m : ℕ} where
       → Stage rest ready n m (Held 1) s (still_wait waits (Admit 1 s)) [] a false (with_event h (Admit 1 s))
   unfolding Owes
   Stage-admit {s = s} stage = Stage-push (Admit 1 s) [] stage
-      (record { in_range = (rw stage.sized (omega arith), tt); fits = (stage.turn_is, stage.second_is, sym stage.data_are) }) tt refl refl
+      (record {
+        in_range = (rw stage.sized (omega arith), tt);
+        fits = (stage.turn_is, stage.second_is, sym stage.data_are);
+      }) tt refl refl
 
   -- place 1 passes to the only one that waits
   pub Stage-pass : {c p : ℕ} {s x s1 : S} {waits : ℕ → List (Event S)} {h : History S}
@@ -167,7 +183,8 @@ module _ {S : Type 0} {rest : Rest S} {ready : Ready S} {n m : ℕ} where
       → Stage rest ready n m (Owed 0 c) s none_wait [] false true (with_event h (Pass 1 c 0 s))
   unfolding Owes Chooses priorities
   Stage-pass {c = c} {p = p} {s = s} {x = x} {waits = waits} {h = h} stage hoare only none is_ready =
-      let waits_after : (d : ℕ) → waiting d (h.events ++ Pass 1 c 0 s ∷ []) ≡ [] = λ d. waiting-push d h.events (Pass 1 c 0 s) ∙ ap
+      let waits_after : (d : ℕ) → waiting d (h.events ++ Pass 1 c 0 s ∷ []) ≡ [] =
+      λ d. waiting-push d h.events (Pass 1 c 0 s) ∙ ap
       (λ l. filter (λ e. not (concerns d (place_of e) (Pass 1 c 0 s))) l ++ []) (stage.waits_are d) ∙ none d in
       let lists : priorities (h.events ++ Pass 1 c 0 s ∷ []) ≡ nobody =
       λ i d. priorities-nobody d (h.events ++ Pass 1 c 0 s ∷ []) (waits_after d) i in
@@ -214,9 +231,13 @@ module _ {S : Type 0} {rest : Rest S} {ready : Ready S} {n m : ℕ} where
     found = s;
     stage =
         subst
-        (λ (calls : List (Event S)). Stage rest ready n m (Held 0) s none_wait calls false true (with_event h (Resume 0 c s))) alone
+        (λ (calls : List (Event S)). Stage rest ready n m (Held 0) s none_wait calls false true
+        (with_event h (Resume 0 c s))) alone
         (Stage-push (Resume 0 c s) [] stage
-        (record { in_range = (rw stage.sized (omega arith), rw stage.sized in_range); fits = (stage.turn_is, sym stage.data_are) }) tt refl refl);
+        (record {
+          in_range = (rw stage.sized (omega arith), rw stage.sized in_range);
+          fits = (stage.turn_is, sym stage.data_are);
+        }) tt refl refl);
   }
 
   -- place 0 is inside again after a wait and its answer
@@ -227,7 +248,8 @@ module _ {S : Type 0} {rest : Rest S} {ready : Ready S} {n m : ℕ} where
       let in_range : c < n = omega (arith, hoare) in
       let none : (d : ℕ) → still_wait (before c p s) (Pass 1 c 0 s1) d ≡ [] = λ d. elim (c == d) as
       (λ b. filter (λ x. not (concerns d (place_of x) (Pass 1 c 0 s1)))
-      (filter (λ x. not (concerns d (place_of x) (Admit 1 s))) (cond b (Wait 0 c p s ∷ []) []) ++ []) ++ [] ≡ []) [ true ↦ refl | false ↦ refl ] in
+      (filter (λ x. not (concerns d (place_of x) (Admit 1 s))) (cond b (Wait 0 c p s ∷ []) []) ++ []) ++ [] ≡ [])
+      [ true ↦ refl | false ↦ refl ] in
       IsInside-resume
       (Stage-pass (Stage-admit (Stage-wait p i in_range rests)) hoare (only_one c p s) none is_ready) in_range refl
 
@@ -238,16 +260,22 @@ module _ {S : Type 0} {rest : Rest S} {ready : Ready S} {n m : ℕ} where
   IsInside-called_back {c = c} p {s = s} {s1 = s1} i mesa rests rests_too =
       let none : (d : ℕ) → still_wait (before c p s) (Notify 1 c 0 s1) d ≡ [] = λ d. elim (c == d) as
       (λ b. filter (λ x. not (concerns d (place_of x) (Notify 1 c 0 s1)))
-      (filter (λ x. not (concerns d (place_of x) (Admit 1 s))) (cond b (Wait 0 c p s ∷ []) []) ++ []) ++ [] ≡ []) [ true ↦ refl | false ↦ refl ] in
+      (filter (λ x. not (concerns d (place_of x) (Admit 1 s))) (cond b (Wait 0 c p s ∷ []) []) ++ []) ++ [] ≡ [])
+      [ true ↦ refl | false ↦ refl ] in
       IsInside-resume
-      (Stage-leave (Stage-call (Stage-admit (Stage-wait p i mesa.0 rests)) mesa (only_one c p s) none) rests_too) mesa.0 refl
+      (Stage-leave (Stage-call (Stage-admit (Stage-wait p i mesa.0 rests)) mesa (only_one c p s) none) rests_too) mesa.0
+      refl
 
 -- a front grows by an event of another place, without one of its own
 Grows-other : {S : Type 0} (k : ℕ) (e : Event S) (h : History S) → (place_of e == k) ≡ false
     → Grows k [] h (with_event h e)
 unfolding with_event
 Grows-other k e h other =
-    record { begins = Begins-push h e; adds = own-push k h.events e ∙ ap (λ b. own k h.events ++ cond b (e ∷ []) []) other }
+    record {
+      begins = Begins-push h e;
+      adds = own-push k h.events e
+          ∙ ap (λ b. own k h.events ++ cond b (e ∷ []) []) other;
+    }
 
 -- by a wait and its answer, of place 0's events the wait and the return from it are added
 pub AddsTwo-answered : {S : Type 0} (c p : ℕ) (s s1 : S) (h : History S)
@@ -260,9 +288,11 @@ AddsTwo-answered c p s s1 h =
     record {
       grows =
           Grows-trans
-          (Grows-trans (Grows-trans (Grows-one (Wait 0 c p s) h h1 refl) (Grows-other 0 (Admit 1 s) h1 refl)) (Grows-other 0 (Pass 1 c 0 s1) h2 refl))
+          (Grows-trans (Grows-trans (Grows-one (Wait 0 c p s) h h1 refl) (Grows-other 0 (Admit 1 s) h1 refl))
+          (Grows-other 0 (Pass 1 c 0 s1) h2 refl))
           (Grows-one (Resume 0 c s1) h3 (with_event h3 (Resume 0 c s1)) refl);
-      begins = Begins-trans (Begins-trans (Begins-push h1 (Admit 1 s)) (Begins-push h2 (Pass 1 c 0 s1))) (Begins-push h3 (Resume 0 c s1));
+      begins = Begins-trans (Begins-trans (Begins-push h1 (Admit 1 s)) (Begins-push h2 (Pass 1 c 0 s1)))
+          (Begins-push h3 (Resume 0 c s1));
       ends = newest-push h3.events (Resume 0 c s1);
     }
 
@@ -277,13 +307,15 @@ AddsTwo-called_back c p s s1 h =
     let h4 : History _ = with_event h3 (Leave 1 s1) in
     let grows : Grows 0 (Wait 0 c p s ∷ []) h h4 =
     Grows-trans
-    (Grows-trans (Grows-trans (Grows-one (Wait 0 c p s) h h1 refl) (Grows-other 0 (Admit 1 s) h1 refl)) (Grows-other 0 (Notify 1 c 0 s1) h2 refl))
+    (Grows-trans (Grows-trans (Grows-one (Wait 0 c p s) h h1 refl) (Grows-other 0 (Admit 1 s) h1 refl))
+    (Grows-other 0 (Notify 1 c 0 s1) h2 refl))
     (Grows-other 0 (Leave 1 s1) h3 refl) in
     record {
       grows = Grows-trans grows (Grows-one (Resume 0 c s1) h4 (with_event h4 (Resume 0 c s1)) refl);
       begins =
           Begins-trans
-          (Begins-trans (Begins-trans (Begins-push h1 (Admit 1 s)) (Begins-push h2 (Notify 1 c 0 s1))) (Begins-push h3 (Leave 1 s1)))
+          (Begins-trans (Begins-trans (Begins-push h1 (Admit 1 s)) (Begins-push h2 (Notify 1 c 0 s1)))
+          (Begins-push h3 (Leave 1 s1)))
           (Begins-push h4 (Resume 0 c s1));
       ends = newest-push h4.events (Resume 0 c s1);
     }

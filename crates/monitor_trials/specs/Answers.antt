@@ -27,8 +27,11 @@ pub data IsLeft {S : Type 0} (rest : Rest S) (ready : Ready S) (given : List S) 
   took : {h : List (Event S)} {answers left : List S} → (c p : ℕ) → (s a : S)
       → FirstReady (λ d. ready c p d nobody) answers a left
       → IsLeft rest ready given h answers
-      → IsLeft rest ready given ((((h ++ Wait 0 c p s ∷ []) ++ Admit 1 s ∷ []) ++ Pass 1 c 0 a ∷ []) ++ Resume 0 c a ∷ []) left
+      → IsLeft rest ready given
+      ((((h ++ Wait 0 c p s ∷ []) ++ Admit 1 s ∷ []) ++ Pass 1 c 0 a ∷ []) ++ Resume 0 c a ∷ []) left
   took_called : {h : List (Event S)} {answers left : List S} → (c p : ℕ) → (s a : S)
       → FirstReady (λ d. rest d nobody) answers a left
       → IsLeft rest ready given h answers
-      → IsLeft rest ready given (((((h ++ Wait 0 c p s ∷ []) ++ Admit 1 s ∷ []) ++ Notify 1 c 0 a ∷ []) ++ Leave 1 a ∷ []) ++ Resume 0 c a ∷ []) left
+      → IsLeft rest ready given
+      (((((h ++ Wait 0 c p s ∷ []) ++ Admit 1 s ∷ []) ++ Notify 1 c 0 a ∷ []) ++ Leave 1 a ∷ [])
+      ++ Resume 0 c a ∷ []) left

@@ -17,9 +17,10 @@ use std::sync::Wait;
 
 /// A monitor for tests, of two places: place 0 is one thread's, and nobody has place 1, in whose name the answers come.
 ///
-/// A wait on one of Hoare's conditions goes on with the first of the given answers that is ready for it, as if place 1 had come in,
-/// left the data so and passed. A wait on a Mesa condition goes on with the first that is at rest where nobody waits, as if place 1
-/// had come in, called it, left the data so and gone out. Where there is none, it waits for ever.
+/// A wait on one of Hoare's conditions goes on with the first of the given answers that is ready for it, as if place 1
+/// had come in, left the data so and passed. A wait on a Mesa condition goes on with the first that is at rest where
+/// nobody waits, as if place 1 had come in, called it, left the data so and gone out. Where there is none, it waits for
+/// ever.
 #[derive(Drop)]
 pub struct Fake<D: MonitorData> {
     pub(crate) table: Table<(), History<D>, D, Opening, Global>,
@@ -76,8 +77,8 @@ fn next_at_rest<D: MonitorData + Drop>(answers: &mut VecDeque<D>) -> Option<D>
 }
 
 impl<D: MonitorData + Drop + Send> Fake<D> {
-    /// A monitor with this data, and its place. Refused where there is no memory. The data has to be at rest where nobody
-    /// waits, and to have 1 to 8 conditions, of which at most all are Mesa conditions.
+    /// A monitor with this data, and its place. Refused where there is no memory. The data has to be at rest where
+    /// nobody waits, and to have 1 to 8 conditions, of which at most all are Mesa conditions.
     pub fn of(
         alloc: Global,
         state: D,

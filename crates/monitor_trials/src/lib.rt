@@ -1,4 +1,5 @@
-//! A monitor for tests, of one thread, that any monitor's procedures run on: what the other processes leave is given beforehand.
+//! A monitor for tests, of one thread, that any monitor's procedures run on: what the other processes leave is given
+//! beforehand.
 #![tactic(auto)]
 
 pub mod fake;

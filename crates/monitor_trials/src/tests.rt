@@ -1,8 +1,8 @@
 //! Tests across crates, by what they run on: the fake monitor, and rows of tests on both running doors.
 
-// A row on a door that is made as the module says: a ticket door with its first ticket, a door of either kind with its kind. It is made
-// with these data and this many places, each acts by its number, and it is closed. It gives the data that were left, and what the
-// places answered.
+// A row on a door that is made as the module says: a ticket door with its first ticket, a door of either kind with its
+// kind. It is made with these data and this many places, each acts by its number, and it is closed. It gives the data
+// that were left, and what the places answered.
 macro_rules! run_row {
     ($rt:ident, $alloc:ident, $door:ident($($given:expr)?), $acts:ident($($more:expr),*), $data:expr, $count:expr) => {{
         let (door, outs) = $crate::tests::$door::made($rt, $alloc, $($given,)? $data, $count);

@@ -1,8 +1,8 @@
 //! The controller that the threads of a run share: it notes what they do, and lets them go on by turns.
 
-use crate::notes::{Note, Notes};
-use crate::scene::{Act, Scene};
-use crate::schedule::{Ending, Schedule};
+use order_run::notes::{Note, Notes};
+use order_run::scene::{Act, Scene};
+use order_run::schedule::{Ending, Schedule};
 use std::alloc::{AllocError, Global};
 use std::sync::{Condvar, Mutex, MutexGuard, Wait};
 

@@ -56,7 +56,11 @@ module _ {T : Type 0} {b d : Buffered T} {q q1 : ℕ → List ℕ} where
       let one_less = ap length items in
       let full = ready.nonfull (rw same at waits) in
       rw (is, same) (record {
-        inv = record { least = rw size ready.inv.least; most = rw size ready.inv.most; fits = omega (arith, one_less, size, ready.inv.fits) };
+        inv = record {
+          least = rw size ready.inv.least;
+          most = rw size ready.inv.most;
+          fits = omega (arith, one_less, size, ready.inv.fits);
+        };
         room = omega (arith, one_less, size, ready.inv.fits);
         others = λ _. omega (arith, one_less, size, full);
         nonempty = λ others. omega (arith, one_less, ready.others others);
@@ -68,7 +72,11 @@ module _ {T : Type 0} {b d : Buffered T} {q q1 : ℕ → List ℕ} where
   BufferRests-removed ready items size is same nobody =
       let one_less = ap length items in
       rw is (record {
-        inv = record { least = rw size ready.inv.least; most = rw size ready.inv.most; fits = omega (arith, one_less, size, ready.inv.fits) };
+        inv = record {
+          least = rw size ready.inv.least;
+          most = rw size ready.inv.most;
+          fits = omega (arith, one_less, size, ready.inv.fits);
+        };
         nonempty = λ others. omega (arith, one_less, ready.others (rw same at others));
         nonfull = λ waits. absurd (waits nobody);
       })

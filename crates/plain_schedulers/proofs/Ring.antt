@@ -59,7 +59,12 @@ get_or-turned : {T : Type 0} (last : ℕ) (cells : List (Option T)) (i : ℕ) (d
     → i < length cells
     → get_or (turned last cells) i d ≡ get_or cells ((last + i) % length cells) d
 get_or-turned last cells i d within below = elim (mod_wraps (last + i) (length cells) (omega arith)) [
-  | inl low ↦ rw (low.1, get_or_append_left (drop last cells) (take last cells) d i (omega (arith, length-drop last cells)), get_or-drop last cells i d) refl
+  | inl low ↦ rw (
+    low.1,
+    get_or_append_left (drop last cells) (take last cells) d i
+        (omega (arith, length-drop last cells)),
+    get_or-drop last cells i d,
+  ) refl
   | inr past ↦
       let at : (last + i) % length cells ≡ i - (length cells - last) = omega arith in
       rw (
@@ -110,8 +115,12 @@ items_in-filled (suc n) xs = items_in-filled n xs
 pub length-items_in : {T : Type 0} {cells : List (Option T)} {last count : ℕ} → IsRing cells last count
     → length (items_in (turned last cells)) ≡ count
 length-items_in {cells = cells} {last = last} {count = count} ring =
-    omega
-    (arith, ap length ring.filled, length-turned last cells ring.last_within, length-filled (length cells - count) (items_in (turned last cells)))
+    omega (
+      arith,
+      ap length ring.filled,
+      length-turned last cells ring.last_within,
+      length-filled (length cells - count) (items_in (turned last cells)),
+    )
 
 -- cells in a ring are those of a buffer: 1 to 4096, and no more items than cells
 pub BufferHolds-ring : {T : Type 0} {cells : List (Option T)} {last count : ℕ} → IsRing cells last count
@@ -165,14 +174,18 @@ BufferRests-empty n least most = record {
 -- an item written in the last cell, from the next cell on
 filled-push : {T : Type 0} {cells : List (Option T)} {last count : ℕ} (x : T) → IsRing cells last count
     → count < length cells
-    → turned ((last + 1) % length cells) (set cells last (Some x)) ≡ replicate (length cells - count - 1) None ++ map Some (items_in (turned last cells) ++ x ∷ [])
+    → turned ((last + 1) % length cells) (set cells last (Some x))
+    ≡ replicate (length cells - count - 1) None ++ map Some (items_in (turned last cells) ++ x ∷ [])
 filled-push {T = T} {cells = cells} {last = last} {count = count} x ring room =
     let items = items_in (turned last cells) in
     let free : length cells - count ≡ suc (length cells - count - 1) = omega arith in
     let before : turned last cells ≡ None ∷ (replicate (length cells - count - 1) None ++ map Some items) =
     rw free at ring.filled in
-    turned-next last cells (Some x) ring.last_within ∙ ap (λ (l : List (Option T)). drop 1 l ++ Some x ∷ []) before ∙ rw
-    (map-append Some items (x ∷ []), append_assoc (replicate (length cells - count - 1) None) (map Some items) (Some x ∷ [])) refl
+    turned-next last cells (Some x) ring.last_within
+    ∙ ap (λ (l : List (Option T)). drop 1 l ++ Some x ∷ []) before ∙ rw (
+      map-append Some items (x ∷ []),
+      append_assoc (replicate (length cells - count - 1) None) (map Some items) (Some x ∷ []),
+    ) refl
 
 -- after an item is written in the last cell, the cells are in a ring with the next one as the last
 pub IsRing-push : {T : Type 0} {cells : List (Option T)} {last count n : ℕ} (x : T) → IsRing cells last count
@@ -185,7 +198,8 @@ IsRing-push {cells = cells} {last = last} {count = count} x ring room size =
     let more : length (items ++ x ∷ []) ≡ count + 1 =
     omega (arith, length-append items (x ∷ []), length-items_in ring) in
     rw size
-    (rw more at (IsRing-filled (set cells last (Some x)) ((last + 1) % length cells) (length cells - count - 1) (items ++ x ∷ []) (omega arith) (omega arith)
+    (rw more at (IsRing-filled (set cells last (Some x)) ((last + 1) % length cells) (length cells - count - 1)
+    (items ++ x ∷ []) (omega arith) (omega arith)
     (omega arith) (filled-push x ring (omega arith))))
 
 -- an item written in the last cell is the newest
@@ -194,7 +208,8 @@ pub added-ring : {T : Type 0} {cells : List (Option T)} {last count n : ℕ} (x 
     → n ≡ length cells → ring_view (set cells last (Some x)) ((last + 1) % n) ≡ added (ring_view cells last) x
 added-ring {cells = cells} {last = last} {count = count} x ring room size =
     let few = length-items_in ring in
-    let items : items_in (turned ((last + 1) % length cells) (set cells last (Some x))) ≡ items_in (turned last cells) ++ x ∷ [] = ap items_in
+    let items : items_in (turned ((last + 1) % length cells) (set cells last (Some x)))
+    ≡ items_in (turned last cells) ++ x ∷ [] = ap items_in
     (filled-push x ring (omega arith))
     ∙ items_in-filled (length cells - count - 1) (items_in (turned last cells) ++ x ∷ []) in
     rw (size, items, length-set cells last (Some x)) refl
@@ -214,15 +229,18 @@ Oldest-ring {T = T} {cells = cells} {last = last} {count = count} ring some =
     let n = length cells - count in
     let place : last + length cells - count ≡ last + n = omega arith in
     let below : n < length cells = omega arith in
-    elim (items_in (turned last cells)) as (λ items. items_in (turned last cells) ≡ items → Oldest cells last count ((last + length cells - count) % length cells)) [
-      | [] ↦ λ none. absurd (let few = length-items_in ring in let zero_items : length (items_in (turned last cells)) ≡ 0 = ap length none in omega arith)
+    elim (items_in (turned last cells)) as (λ items. items_in (turned last cells) ≡ items
+    → Oldest cells last count ((last + length cells - count) % length cells)) [
+      | [] ↦ λ none. absurd (let few = length-items_in ring in
+          let zero_items : length (items_in (turned last cells)) ≡ 0 = ap length none in omega arith)
       | x ∷ others ↦ λ items.
           let filled : turned last cells ≡ replicate n None ++ Some x ∷ map Some others = rw items at ring.filled in
           record {
             x = x;
             others = others;
             items = items;
-            is = λ d. rw (place, ← get_or-turned last cells n d ring.last_within below, filled) (get_or_at (replicate n None) (Some x) (map Some others) d n (length-replicate n None));
+            is = λ d. rw (place, ← get_or-turned last cells n d ring.last_within below, filled)
+                (get_or_at (replicate n None) (Some x) (map Some others) d n (length-replicate n None));
             after = let none : Option T = None in rw (
               place,
               turned-set last cells n None ring.last_within below,
@@ -271,4 +289,5 @@ IsRing-pop {cells = cells} {last = last} {count = count} ring some size =
     let same = length-set cells at None in
     let fewer : length o.others ≡ count - 1 = omega (arith, ap length o.items) in
     rw size
-    (rw fewer at (IsRing-filled (set cells at None) last (length cells - count + 1) o.others (omega arith) (omega arith) (omega arith) o.after))
+    (rw fewer at (IsRing-filled (set cells at None) last (length cells - count + 1) o.others (omega arith) (omega arith)
+    (omega arith) o.after))

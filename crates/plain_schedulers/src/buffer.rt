@@ -35,9 +35,9 @@ pub enum BufferRefused {
     Memory,
 }
 
-/// A bounded buffer ("Monitors", Example: Bounded Buffer): items come out in the order in which they went in. Condition 0 is *nonempty*
-/// (`NONEMPTY`), condition 1 is *nonfull* (`NONFULL`). `last` is the cell that the next item goes in, and the items lie in the
-/// `count` cells before it, around the end.
+/// A bounded buffer ("Monitors", Example: Bounded Buffer): items come out in the order in which they went in. Condition
+/// 0 is *nonempty* (`NONEMPTY`), condition 1 is *nonfull* (`NONFULL`). `last` is the cell that the next item goes in,
+/// and the items lie in the `count` cells before it, around the end.
 ///
 /// With a monitor `m` of `Buffer::make(alloc, 4)?`, and `out`, a place of it:
 ///
@@ -106,8 +106,8 @@ impl<T: Drop> MonitorData for Buffer<T> {
 }
 
 impl<T: Drop> Buffer<T> {
-    /// A buffer of 1 to 4096 cells with no item. Refused: `BadSize` exactly where `n` is out of range, and else `Memory` where
-    /// the cells can't be had. No procedure takes memory.
+    /// A buffer of 1 to 4096 cells with no item. Refused: `BadSize` exactly where `n` is out of range, and else
+    /// `Memory` where the cells can't be had. No procedure takes memory.
     pub fn make(alloc: Global, n: usize) -> Result<Buffer<T>, BufferRefused>
         ensures made { Makes n result }
         ensures rest { IfOk result (λ b. BufferRests b (nobody 0) (nobody 1)) }

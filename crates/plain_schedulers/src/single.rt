@@ -14,8 +14,8 @@ use std::{error, fmt};
 /// The condition *nonbusy* of a `Single`: who waits there waits for the item.
 pub const NONBUSY: usize = 0;
 
-/// A single item that one process at a time has out ("Monitors", Introduction: the single resource scheduler). Condition 0 is
-/// *nonbusy* (`NONBUSY`); busy means that the item is out.
+/// A single item that one process at a time has out ("Monitors", Introduction: the single resource scheduler).
+/// Condition 0 is *nonbusy* (`NONBUSY`); busy means that the item is out.
 ///
 /// With a monitor `m` of `Single::with(7u64)`, and `out`, a place of it:
 ///
@@ -138,8 +138,8 @@ impl<T: Drop> Single<T> {
         }
     }
 
-    /// Puts an item in and resumes a process that waits for it. Refused exactly where an item is in: then nothing changed and
-    /// the handed item comes back. (An item isn't bound to its monitor: any may be put in.)
+    /// Puts an item in and resumes a process that waits for it. Refused exactly where an item is in: then nothing
+    /// changed and the handed item comes back. (An item isn't bound to its monitor: any may be put in.)
     pub fn release<R: Wait, M: Monitor<Single<T>>>(
         m: &M,
         rt: &R,

@@ -1,5 +1,5 @@
-//! Long runs and short ones of all that takes no memory once it is made. `bench/counted-memory` holds that both make as many
-//! requests.
+//! Long runs and short ones of all that takes no memory once it is made. `bench/counted-memory` holds that both make as
+//! many requests.
 use crate::answer::Answer;
 use crate::repeated::{Lines, Repeated};
 use crate::rounds::{VISITORS, Visits, all_visit};

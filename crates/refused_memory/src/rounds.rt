@@ -1,5 +1,5 @@
-//! Every call of a monitor, over and over, by threads that share it. No call takes memory: a long run makes as many requests as
-//! a short one, which `bench/counted-memory` counts.
+//! Every call of a monitor, over and over, by threads that share it. No call takes memory: a long run makes as many
+//! requests as a short one, which `bench/counted-memory` counts.
 ghost use Rattle.std.specs.Prelude.{All};
 
 use baton_door::door::Door;
@@ -19,8 +19,8 @@ pub const VISITORS: u64 = 6;
 /// How many wait at most, that somebody is left who resumes them.
 const MOST_WAITING: usize = 3;
 
-/// The data: how often somebody came in, and how many visitors are done. Two conditions are Hoare's, and two Mesa conditions;
-/// nothing is asked of the data.
+/// The data: how often somebody came in, and how many visitors are done. Two conditions are Hoare's, and two Mesa
+/// conditions; nothing is asked of the data.
 #[derive(Drop)]
 pub struct Visits {
     pub visits: u64,
@@ -167,7 +167,8 @@ fn sweep<R: Wait, M: Monitor<Visits>>(rt: &R, m: &M, out: M::Out) -> u64
     unreachable!()
 }
 
-// What one thread does, and how many visits it saw in the end: the last to come resumes those that wait, the others visit.
+// What one thread does, and how many visits it saw in the end: the last to come resumes those that wait, the others
+// visit.
 fn go_round<R: Wait, M: Monitor<Visits>>(rt: &R, m: &M, out: M::Out, role: u64, turns: u64) -> u64
     requires { M.is_of m.now out }
 {

@@ -49,7 +49,8 @@ pub record Shows (h : History (Unit {0})) (drawn : List Lane) : Type 0 where
   pub legal : IsLegal h
   pub claimed : IsClaimed (turn h.events)
   pub places : length drawn ≡ h.sizes.places
-  pub each : (k : ℕ) → k < h.sizes.places → (lane : Lane) → Does h k lane ↔ (lane ≡ slice_index_or drawn k lanes.Outside)
+  pub each : (k : ℕ) → k < h.sizes.places → (lane : Lane)
+      → Does h k lane ↔ (lane ≡ slice_index_or drawn k lanes.Outside)
 
 -- a book is of the history, which is therefore legal
 abbrev pub HasBook : History (Unit {0}) → Type 0

@@ -3,7 +3,8 @@ ghost use Rattle.std.specs.Prelude.{◌≡◌, ◌<◌, ◌≤◌, ◌↔◌, �
 ghost use Rattle.hoare_law.specs.declared.event.History.{History};
 ghost use Rattle.hoare_script.specs.Answers.{history_after};
 ghost use Rattle.script_picture.specs.declared.chart.Lane.TheVariants as states;
-ghost use Rattle.script_picture.specs.Lanes.{actor, caller, hand_over, is_call, lane_after, lane_beside, lane_numbered, left_as};
+ghost use Rattle.script_picture.specs.Lanes.{actor, caller, hand_over, is_call, lane_after, lane_beside, lane_numbered};
+ghost use Rattle.script_picture.specs.Lanes.{left_as};
 ghost use Rattle.script_picture.specs.Shown.{HasBook, IsAnswered, Shows, opening};
 
 use arrayvec::ArrayVec;
@@ -23,16 +24,16 @@ pub enum Lane {
     Waiting(u64, u64),
     /// It signalled, and waits for its return.
     Signalling,
-    /// It waited on this condition, with this priority, was called, and hasn't gone on yet. Of those it is this one: 1 goes
-    /// on first.
+    /// It waited on this condition, with this priority, was called, and hasn't gone on yet. Of those it is this one: 1
+    /// goes on first.
     Called(u64, u64, u8),
 }
 
 /// What each of at most 64 places does.
 pub type Lanes = ArrayVec<Lane, 64>;
 
-/// For each place its number among those that were called and haven't gone on yet: 1 of the one that goes on first, and 0
-/// of a place that isn't among them.
+/// For each place its number among those that were called and haven't gone on yet: 1 of the one that goes on first, and
+/// 0 of a place that isn't among them.
 pub type Numbers = [u8; 64];
 
 /// A command with its answer, and who is called after it.
@@ -107,8 +108,8 @@ fn lane_numbered(number: u8, condition: u64, priority: u64) -> Lane
     Lane::Called(condition, priority, number)
 }
 
-/// What a place does beside a step of another that doesn't let it go on: one that waits, or was called, has its number, and
-/// any other goes on as before.
+/// What a place does beside a step of another that doesn't let it go on: one that waits, or was called, has its number,
+/// and any other goes on as before.
 fn lane_beside(number: u8, before: Lane) -> Lane
     ensures { result ≡ lane_beside number before }
 {
@@ -214,8 +215,8 @@ pub fn does(lanes: &Lanes, place: u64, lane: Lane) -> bool
 }
 
 /// Takes all lanes past a row. Where the row is answered as a history says, lanes that show this history go on to show
-/// the history after the row: who waits there, who is a waiting signaller, who is called and as which, whose turn it is,
-/// and who is outside.
+/// the history after the row: who waits there, who is a waiting signaller, who is called and as which, whose turn it
+/// is, and who is outside.
 pub fn advance(lanes: &mut [Lane], row: Row)
     ensures length { length lanes.new ≡ length lanes.old }
     ensures each { (k : ℕ) → k < length lanes.old → slice_index_or lanes.new k states.Outside

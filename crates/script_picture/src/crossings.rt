@@ -8,7 +8,8 @@ use crate::shapes::{Arrow, moved, write_arrow, write_dot};
 use std::io;
 use std::io::Write;
 
-/// How far the arrows are drawn: each row before this one that hands over has its own. Only `write_crossing` and `past` take it further.
+/// How far the arrows are drawn: each row before this one that hands over has its own. Only `write_crossing` and `past`
+/// take it further.
 #[derive(Clone, Copy)]
 pub struct Crossed {
     row: u64,
@@ -40,8 +41,8 @@ impl Crossed {
     }
 }
 
-/// Writes the arrow of a hand-over, between the sides of two boxes, or from a dot where the place is gone. The chart is there for the
-/// clause: the one is inside before the row, and the other after it.
+/// Writes the arrow of a hand-over, between the sides of two boxes, or from a dot where the place is gone. The chart is
+/// there for the clause: the one is inside before the row, and the other after it.
 pub fn write_crossing<W: Write>(
     writer: &mut W,
     frame: &Frame,

@@ -24,10 +24,10 @@ pub enum Form {
     Text,
 }
 
-/// Reads a script to its end or its first fault, and draws the rows before it. A fault at the header leaves nothing written.
-/// Refused as `hoare_script::run` refuses, but `Memory` also comes where a row can't be kept, and `WriteFault` only where
-/// the script has no fault: all is read before anything is written. `TooTall` comes where the script has no fault and has more
-/// rows than an SVG has room for; such an SVG isn't begun, be the script at fault or not.
+/// Reads a script to its end or its first fault, and draws the rows before it. A fault at the header leaves nothing
+/// written. Refused as `hoare_script::run` refuses, but `Memory` also comes where a row can't be kept, and `WriteFault`
+/// only where the script has no fault: all is read before anything is written. `TooTall` comes where the script has no
+/// fault and has more rows than an SVG has room for; such an SVG isn't begun, be the script at fault or not.
 pub fn draw_script<R: Read, W: Write>(
     alloc: Global,
     reader: &mut R,

@@ -25,7 +25,8 @@ use wait_book::steps::MakeRefused;
 // The most lines of a script: each but the last takes a byte at least, its end.
 const MOST_LINES: u64 = MOST_BYTES as u64 + 1;
 
-/// A script that was opened by its header: what was read of it, its book, the bytes that may follow, and whether any do.
+/// A script that was opened by its header: what was read of it, its book, the bytes that may follow, and whether any
+/// do.
 #[derive(Drop)]
 pub struct Script {
     pub chart: Chart,
@@ -34,7 +35,8 @@ pub struct Script {
     ended: Ended,
 }
 
-/// Reads the header. Refused: `NoHeader`, `BadHeader`, `LineTooLong`, `ReadFault`, and `Memory` where the book can't be had.
+/// Reads the header. Refused: `NoHeader`, `BadHeader`, `LineTooLong`, `ReadFault`, and `Memory` where the book can't be
+/// had.
 pub fn open_script<R: Read>(
     alloc: Global,
     reader: &mut WatchedReader<'_, R>,
@@ -109,7 +111,8 @@ fn numbers_of(opened: &Opened) -> Numbers
 
 impl Script {
     /// Reads the rows, up to the end or the first fault: `BadLine`, `LineTooLong`, `TooMuch`, `ReadFault`, or `Memory`
-    /// where no row can be added. What was read stays in the chart, each row answered as the history since the opening says.
+    /// where no row can be added. What was read stays in the chart, each row answered as the history since the opening
+    /// says.
     #[tactic(auto, using(crate::proofs::Reading::front_self, crate::proofs::Reading::front_more, crate::proofs::Reading::front_same))]
     pub fn read_rows<R: Read>(
         &mut self,

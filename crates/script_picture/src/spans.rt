@@ -30,8 +30,8 @@ impl Boxed {
     }
 }
 
-/// Writes the box of what a place does, below its others. The chart is there for the clause: the place does this after each row that the
-/// box is beside.
+/// Writes the box of what a place does, below its others. The chart is there for the clause: the place does this after
+/// each row that the box is beside.
 pub fn write_span<W: Write>(
     writer: &mut W,
     chart: &Chart,

@@ -35,8 +35,8 @@ const MESA_STYLE: &str = "<style>
 </style>
 ";
 
-/// Writes a chart: rows with their steps and remarks, a lane for each place with a box for each thing that it does, and an
-/// arrow for each call and each hand-over. It names nothing outside itself.
+/// Writes a chart: rows with their steps and remarks, a lane for each place with a box for each thing that it does, and
+/// an arrow for each call and each hand-over. It names nothing outside itself.
 pub fn draw<W: Write>(writer: &mut W, chart: &Chart) -> io::Result<()>
     requires { IsTold chart.now }
 {
@@ -201,8 +201,8 @@ fn write_lane_calls<W: Write>(
     Ok(noted)
 }
 
-// The boxes, and the arrows of hand-overs. Where there are Mesa conditions these go through behind the boxes: the number of
-// each that is called changes with a hand-over, so that its next box begins beside the arrow.
+// The boxes, and the arrows of hand-overs. Where there are Mesa conditions these go through behind the boxes: the
+// number of each that is called changes with a hand-over, so that its next box begins beside the arrow.
 fn write_shapes<W: Write>(writer: &mut W, frame: &Frame, chart: &Chart) -> io::Result<()>
     requires { IsTold chart.now }
 {

@@ -53,8 +53,8 @@ pub fn command_text(command: Command) -> Text {
     }
 }
 
-/// What a lane shows: `.`, `[in]`, `sig`, `called N` for the N-th of the called, or `cC:P` for a wait on condition C with
-/// priority P.
+/// What a lane shows: `.`, `[in]`, `sig`, `called N` for the N-th of the called, or `cC:P` for a wait on condition C
+/// with priority P.
 pub fn lane_text(lane: Lane) -> Text {
     let mut text = ArrayVec::new();
     match lane {
@@ -97,8 +97,8 @@ pub fn idle_text(idle: u64) -> Text {
     text
 }
 
-/// What a row shows beside its lanes: `-> ANSWER`, and why a step is refused. Nothing where a place is inside, since the
-/// lanes show that.
+/// What a row shows beside its lanes: `-> ANSWER`, and why a step is refused. Nothing where a place is inside, since
+/// the lanes show that.
 pub fn remark_text(answer: Answer) -> Text {
     let mut text = ArrayVec::new();
     if let Answer::Inside(_) = answer {

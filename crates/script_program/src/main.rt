@@ -19,8 +19,8 @@ fn main(rt: HostRuntime) -> ExitCode {
     tell(&rt, end)
 }
 
-// Reads ahead, so that a byte isn't a call of the system; each answer is one write, and so is there before the next line is
-// waited for.
+// Reads ahead, so that a byte isn't a call of the system; each answer is one write, and so is there before the next
+// line is waited for.
 fn answer_input(rt: &HostRuntime) -> Result<(), ScriptFault> {
     let Ok(mut reader) = BufReader::with_capacity(rt.alloc(), 65_536, rt.stdin()) else {
         return Err(ScriptFault::Memory);

@@ -1,4 +1,5 @@
-//! Whole job files, workers that meet and are at work at once, a job that is held up, and as many workers as there may be.
+//! Whole job files, workers that meet and are at work at once, a job that is held up, and as many workers as there may
+//! be.
 
 mod at_once;
 mod jobs;

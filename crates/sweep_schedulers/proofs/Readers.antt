@@ -62,7 +62,8 @@ pub ReadReady-admitted : {T : Type 0} {s d e : Shared T} {read : Result (ReadPas
 ReadReady-admitted ready admits is =
     rw is (let readers = admitted admits ready in record { inv = readers.inv; no_writer = readers.no_writer })
 
-pub ReadersRest-admitted : {T : Type 0} {s d e : Shared T} {read : Result (ReadPass × T) TooManyReaders} {to_read to_write : List ℕ}
+pub ReadersRest-admitted : {T : Type 0} {s d e : Shared T} {read : Result (ReadPass × T) TooManyReaders}
+    {to_read to_write : List ℕ}
     → ReadReady s → Admits s d read → e ≡ d
     → to_read ≡ [] → ReadersRest e to_read to_write
 ReadersRest-admitted ready admits is nobody = rw is (let readers = admitted admits ready in record {

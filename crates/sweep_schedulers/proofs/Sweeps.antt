@@ -26,7 +26,8 @@ IsAhead d Up dest = d.headpos ≤ dest
 IsAhead d Down dest = dest ≤ d.headpos
 
 ahead_by : {T : Type 0} (d : Disk T) (dest : ℕ) (low high : Bool) (dir : Direction)
-    → leb d.headpos dest ≡ low → leb dest d.headpos ≡ high → IsAhead d (cond low (cond high (opposite dir) Up) Down) dest
+    → leb d.headpos dest ≡ low → leb dest d.headpos ≡ high
+    → IsAhead d (cond low (cond high (opposite dir) Up) Down) dest
 ahead_by d dest true true Up e f = grind (arith, nat_tests)
 ahead_by d dest true true Down e f = grind (arith, nat_tests)
 ahead_by d dest true false dir e f = grind (arith, nat_tests)
@@ -57,7 +58,8 @@ module _ {T : Type 0} {d : Disk T} (lists : ℕ → List ℕ) where
   -- one more waits, for a cylinder before the head
   rests_by : (dir : Direction) (dest : ℕ) → IsAhead d dir dest → (d.direction ≡ dir → d.headpos ≡ dest → ⊥)
       → dest ≤ d.cylmax → d.drive ≡ None → HeadRests d (lists 0) (lists 1)
-      → HeadRests d (joined lists (sweep dir) (priority_at d.cylmax dir dest) 0) (joined lists (sweep dir) (priority_at d.cylmax dir dest) 1)
+      → HeadRests d (joined lists (sweep dir) (priority_at d.cylmax dir dest) 0)
+      (joined lists (sweep dir) (priority_at d.cylmax dir dest) 1)
   rests_by Up dest ahead other on busy r = record {
     inv = r.inv;
     up_busy = λ some. busy;
@@ -95,7 +97,8 @@ module _ {T : Type 0} {d : Disk T} (lists : ℕ → List ℕ) where
   -- with the drive in, the first of the present sweep may go on
   first_by : (dir : Direction) → d.direction ≡ dir → ((i : ℕ) → IsNonDecreasing (lists i)) → lists (sweep dir) ≢ []
       → HeadFree d (lists 0) (lists 1) → d.stay ≡ waiting_here d (lists 0) (lists 1)
-      → HeadReady (sweep dir) (slice_index (lists (sweep dir)) 0) d (taken lists (sweep dir) 0) (taken lists (sweep dir) 1)
+      → HeadReady (sweep dir) (slice_index (lists (sweep dir)) 0) d (taken lists (sweep dir) 0)
+      (taken lists (sweep dir) 1)
   first_by Up is rise some f stay = record {
     free = record {
       inv = f.inv;
@@ -222,7 +225,8 @@ module _ {T : Type 0} (found : Disk T) (ups downs : List ℕ) where
     sweeps = record {
       ups_on_disk = r.free.sweeps.ups_on_disk;
       downs_on_disk = r.free.sweeps.downs_on_disk;
-      above = All-weaker (λ p. found.headpos ≤ p) (λ p. dest ≤ p) (λ p l. omega (arith, r.below)) ups r.free.sweeps.above;
+      above = All-weaker (λ p. found.headpos ≤ p) (λ p. dest ≤ p)
+          (λ p l. omega (arith, r.below)) ups r.free.sweeps.above;
       below = All-weaker (λ p. cylmax - dest ≤ p) (λ p. found.cylmax - p ≤ dest) (λ p l. omega arith) downs r.first;
     };
     stay = λ out. refl;

@@ -20,7 +20,8 @@ pub data Reaches {T : Type 0} (k dest : ℕ) (a : Disk T) (e : History (Disk T))
     (Disk T) → Disk T → Type 0 where
   at_once : IsSome a.drive → Reaches k dest a e e a
   waited : (g : History (Disk T)) (found : Disk T) → a.drive ≡ None
-      → (let c = sweep (toward dest a) in AddsTwo e (Wait k c (priority_at a.cylmax (toward dest a) dest) a) (Resume k c found) g)
+      → (let c = sweep (toward dest a) in
+      AddsTwo e (Wait k c (priority_at a.cylmax (toward dest a) dest) a) (Resume k c found) g)
       → Reaches k dest a e g found
 
 -- k's last act, with d: a signal on the present sweep where somebody waits there, and else on the other one, to which

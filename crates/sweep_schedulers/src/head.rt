@@ -256,10 +256,11 @@ impl<T: Drop> Head<T> {
             && none_below(lists, DOWNSWEEP, u64::from(self.cylmax - self.headpos))
     }
 
-    /// Takes the drive out, with the head at `dest`: at once where the drive is in, else after one wait for the sweep that
-    /// reaches `dest` from where the head is. Refused where `dest` is past the last cylinder: then nothing changed. A caller
-    /// that has the place inside may put another disk in place of the first; a request that waited and finds another
-    /// last cylinder is refused too, even where `dest` would fit, and hands the drive on as a release does.
+    /// Takes the drive out, with the head at `dest`: at once where the drive is in, else after one wait for the sweep
+    /// that reaches `dest` from where the head is. Refused where `dest` is past the last cylinder: then nothing
+    /// changed. A caller that has the place inside may put another disk in place of the first; a request that waited
+    /// and finds another last cylinder is refused too, even where `dest` would fit, and hands the drive on as a release
+    /// does.
     pub fn request<R: Wait, M: Monitor<Head<T>>>(
         m: &M,
         rt: &R,
@@ -294,9 +295,9 @@ impl<T: Drop> Head<T> {
         }
     }
 
-    /// Puts a drive in and hands it on: to the next request of the present sweep, and where there is none the head turns, to
-    /// the next one of the other sweep. Refused exactly where the drive is in: then nothing changed and the handed drive
-    /// comes back. (A drive isn't bound to its monitor: any may be put in.)
+    /// Puts a drive in and hands it on: to the next request of the present sweep, and where there is none the head
+    /// turns, to the next one of the other sweep. Refused exactly where the drive is in: then nothing changed and the
+    /// handed drive comes back. (A drive isn't bound to its monitor: any may be put in.)
     pub fn release<R: Wait, M: Monitor<Head<T>>>(
         m: &M,
         rt: &R,

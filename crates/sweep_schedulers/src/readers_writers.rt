@@ -1,7 +1,8 @@
 //! A value that many read at once and one writes alone.
 ghost use Rattle.std.specs.Prelude.{◌≡◌, ◌↔◌, ◌<◌, ◌-◌, IsTrue, false};
 ghost use Rattle.hoare_law.specs.Priorities.{nobody};
-ghost use Rattle.sweep_schedulers.specs.ReadersWriters.{IsInUse, ReadersRest, unused, with_readers, with_writer, written};
+ghost use Rattle.sweep_schedulers.specs.ReadersWriters.{IsInUse, ReadersRest, unused, with_readers, with_writer};
+ghost use Rattle.sweep_schedulers.specs.ReadersWriters.{written};
 ghost use Rattle.sweep_schedulers.specs.ReadersWritersTraces.{Admits, EndsRead, EndsWrite, StartsRead, StartsWrite};
 
 use crate::not_out::NotOut;
@@ -21,8 +22,8 @@ pub const OKTOREAD: usize = 0;
 /// The condition *oktowrite* of a `ReadersWriters`: who waits there waits to write.
 pub const OKTOWRITE: usize = 1;
 
-/// A value that many may read at a time, or one may write ("Monitors", Readers and Writers). Condition 0 is
-/// *oktoread* (`OKTOREAD`), condition 1 is *oktowrite* (`OKTOWRITE`); busy means that a writer is in. No reader overtakes a
+/// A value that many may read at a time, or one may write ("Monitors", Readers and Writers). Condition 0 is *oktoread*
+/// (`OKTOREAD`), condition 1 is *oktowrite* (`OKTOWRITE`); busy means that a writer is in. No reader overtakes a
 /// waiting writer, and the readers that wait when a writer ends go before the next writer.
 ///
 /// With a monitor `m` of `ReadersWriters::with(7u64)`, and `out`, a place of it:
@@ -52,8 +53,8 @@ impl<T: Copy> Model for ReadersWriters<T> {
         (record { value = s.value; readers = s.readers; busy = s.busy }) };
 }
 
-/// The right of one reader to be in. It can't be dropped or copied, so that each read is ended: by `end_read`. It isn't bound to
-/// its monitor.
+/// The right of one reader to be in. It can't be dropped or copied, so that each read is ended: by `end_read`. It isn't
+/// bound to its monitor.
 #[derive(Debug)]
 pub struct ReadPass {
     unspent: (),
@@ -76,8 +77,8 @@ impl ReadPass {
 #[error("1024 readers are in")]
 pub struct TooManyReaders;
 
-/// No reader is in, so none can end. The pass that was handed in comes back. (It isn't an `Error`: an error may be dropped, and a
-/// pass may not.)
+/// No reader is in, so none can end. The pass that was handed in comes back. (It isn't an `Error`: an error may be
+/// dropped, and a pass may not.)
 #[derive(Debug)]
 pub struct NoReader {
     pub pass: ReadPass,
@@ -203,8 +204,9 @@ impl<T: Copy> ReadersWriters<T> {
         self.busy = false;
     }
 
-    /// Goes in as a reader, once no writer is in or waits, and answers a pass and the value. Refused where 1,024 readers are in
-    /// when the caller could go on: then nothing changed, and after a wait the next reader is resumed all the same.
+    /// Goes in as a reader, once no writer is in or waits, and answers a pass and the value. Refused where 1,024
+    /// readers are in when the caller could go on: then nothing changed, and after a wait the next reader is resumed
+    /// all the same.
     pub fn start_read<R: Wait, M: Monitor<ReadersWriters<T>>>(
         m: &M,
         rt: &R,
@@ -224,8 +226,8 @@ impl<T: Copy> ReadersWriters<T> {
         (out, read)
     }
 
-    /// Ends a read; the last reader lets a waiting writer in. Refused exactly where no reader is in: then nothing changed and
-    /// the pass comes back.
+    /// Ends a read; the last reader lets a waiting writer in. Refused exactly where no reader is in: then nothing
+    /// changed and the pass comes back.
     pub fn end_read<R: Wait, M: Monitor<ReadersWriters<T>>>(
         m: &M,
         rt: &R,
@@ -269,8 +271,8 @@ impl<T: Copy> ReadersWriters<T> {
         (m.leave(rt, inside), value)
     }
 
-    /// Ends a write with this value, and lets the waiting readers in, or where there are none a waiting writer. Refused exactly
-    /// where no writer is in: then nothing changed and the handed value comes back.
+    /// Ends a write with this value, and lets the waiting readers in, or where there are none a waiting writer. Refused
+    /// exactly where no writer is in: then nothing changed and the handed value comes back.
     pub fn end_write<R: Wait, M: Monitor<ReadersWriters<T>>>(
         m: &M,
         rt: &R,

@@ -39,12 +39,14 @@ module _ {D : Type 0} where
         → a.ticket ≡ (d.first + a.number) % 2 ^ 64
         → IsAsked rest ready kinds d a
     asked_is d o a out of at front ticket = record {
-      out = subst (IsOut rest ready kinds d.door) (λ i. record { berth = sym of i; place = sym at i; front = sym front i }) out;
+      out = subst (IsOut rest ready kinds d.door)
+          (λ i. record { berth = sym of i; place = sym at i; front = sym front i }) out;
       ticket_is = ticket;
     }
 
     -- who was let in by its ticket came in its turn
-    pub enters_by : (first ticket k number : ℕ) (f h : History D) (x : Lodged D) {m : Sat D} (c : Came rest ready k f (Admit k) x None m)
+    pub enters_by : (first ticket k number : ℕ) (f h : History D) (x : Lodged D) {m : Sat D}
+        (c : Came rest ready k f (Admit k) x None m)
         → admissions c.log.events ≡ number
         → ticket ≡ (first + number) % 2 ^ 64 → h ≡ with_event c.log (Admit k x.state) → EntersBy first ticket h
     enters_by first ticket k number f h x c counted ticket_is is = record {
@@ -75,5 +77,6 @@ module _ {D : Type 0} where
           place = e.place;
           rests = e.rests;
           front = e.front;
-          in_turn = enters_by d.first b.ticket b.place b.number b.front i.front x c counted asked.ticket_is (ap (λ (j : PlaceIn D). j.front) is);
+          in_turn = enters_by d.first b.ticket b.place b.number b.front i.front x c counted asked.ticket_is
+              (ap (λ (j : PlaceIn D). j.front) is);
         })

@@ -47,7 +47,8 @@ module _ {D : Type 0} where
   module _ (rest : Rest D) (ready : Ready D) where
     pub out_as : (kinds : Kinds) (d : DoorId) (o r : PlaceOut D) (t : Berth) (k : ℕ) (h : History D)
         → IsOut rest ready kinds d o
-        → Stands rest ready h → Known h (knows o.place o.front None) → t ≡ berth_at d o.place → k ≡ o.place → r ≡ place_out t k h
+        → Stands rest ready h → Known h (knows o.place o.front None) → t ≡ berth_at d o.place → k ≡ o.place
+        → r ≡ place_out t k h
         → Learnt rest ready kinds d o h r
     out_as kinds d o r t k h out stands known of place is =
         subst (Learnt rest ready kinds d o h) (sym (is ∙ (λ i. place_out t (place i) h)))

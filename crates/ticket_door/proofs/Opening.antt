@@ -37,7 +37,8 @@ module _ {D : Type 0} (first n : ℕ) where
     next = st.next ∙ ap (λ (m : ℕ). m % 2 ^ 64) (let same : first ≡ first + 0 = omega arith in same);
     served = 0;
     due = refl;
-    serving = st.serving ∙ ap (λ (m : ℕ). m % 2 ^ 64) (let same : 2 * first ≡ 2 * (first + 0) + 0 = omega arith in same);
+    serving = st.serving ∙ ap (λ (m : ℕ). m % 2 ^ 64)
+        (let same : 2 * first ≡ 2 * (first + 0) + 0 = omega arith in same);
     kept = tt;
     bells = st.bells;
   }
@@ -47,7 +48,8 @@ module _ {D : Type 0} (first n : ℕ) where
     begun ws st = record { words_are = st.words_are; next = st.next; serving = st.serving; bells = st.bells }
 
     pub begins_at : (slots id : ℕ) (m : Sat D) → m ≡ (Unopened n, [])
-        → Allows (Kept (Starts first n) (Tells first n) rest ready kinds n) slots id m serving_at (λ r. r) (begins (step slots serving_at 0 0 none) m)
+        → Allows (Kept (Starts first n) (Tells first n) rest ready kinds n) slots id m serving_at (λ r. r)
+        (begins (step slots serving_at 0 0 none) m)
     begins_at slots id m is =
         frame.begins_at (Starts first n) (Tells first n) rest ready kinds n slots id serving_at (λ r. r)
         (step slots serving_at 0 0 none) m is
@@ -55,20 +57,24 @@ module _ {D : Type 0} (first n : ℕ) where
 
     pub opens_at : (slots id : ℕ) (x : Lodged D) (m : Sat D) → m ≡ (Opening n, (0, Some x) ∷ []) → rest x.state nobody
         → IsOf x.book (opened (sizes_at kinds n) tt)
-        → Allows (Kept (Starts first n) (Tells first n) rest ready kinds n) slots id m serving_at (λ r. r) (opens kinds (step slots serving_at 0 0 none) m)
+        → Allows (Kept (Starts first n) (Tells first n) rest ready kinds n) slots id m serving_at (λ r. r)
+        (opens kinds (step slots serving_at 0 0 none) m)
     opens_at slots id x m is at_rest book =
         frame.opens_at (Starts first n) (Tells first n) rest ready kinds n slots id serving_at (λ r. r) x
         (step slots serving_at 0 0 none) m is at_rest book
-        (λ ws st. subst (Tells first n (opened (sizes_at kinds n) x.state) (λ _. None)) (sym (set-get_or ws serving_at 0)) (opened_tells kinds x.state ws st))
+        (λ ws st. subst (Tells first n (opened (sizes_at kinds n) x.state) (λ _. None))
+        (sym (set-get_or ws serving_at 0)) (opened_tells kinds x.state ws st))
 
 -- the words before the door opens
 pub started : (first n : ℕ) (ws : List ℕ) → first < 2 ^ 64
-    → ws ≡ set (set (replicate (8 * n + 16) 0) next_at first) serving_at ((2 * first) % 2 ^ 64) → Starts first n false ws
+    → ws ≡ set (set (replicate (8 * n + 16) 0) next_at first) serving_at ((2 * first) % 2 ^ 64)
+    → Starts first n false ws
 started first n ws small is = subst (Starts first n false) (sym is) (record {
   words_are = long;
   next = get_or-set_other (set zeros next_at first) serving_at next_at served 0 (λ e. omega (arith, e))
       ∙ get_or-set_same zeros next_at first 0 (omega (arith, wide)) ∙ same;
-  serving = get_or-set_same (set zeros next_at first) serving_at served 0 (omega (arith, length-set zeros next_at first, wide));
+  serving = get_or-set_same (set zeros next_at first) serving_at served 0
+      (omega (arith, length-set zeros next_at first, wide));
   bells = λ k b. get_or-set_other (set zeros next_at first) serving_at (bell_at k) served 0 (λ e. omega (arith, e))
       ∙ get_or-set_other zeros next_at (bell_at k) first 0 (λ e. omega (arith, e))
       ∙ get_or-replicate (8 * n + 16) (bell_at k) 0 0 (omega (arith, b));

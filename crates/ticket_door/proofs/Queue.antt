@@ -27,13 +27,15 @@ pub ticket_range : (a : ℕ) (q : List ℕ) (k x : ℕ) → ticket_in a q k ≡ 
 ticket_range a [] k x e = absurd (None≢Some (Ticket x) e)
 ticket_range a (j ∷ q) k x e = dite (ℕ_discrete k j)
     (λ same. let is : a ≡ x = Ticket-injective a x (sym (ticket_here a k j q same) ∙ e) in (omega arith, omega arith))
-    (λ ne. let r = ticket_range (suc a) q k x (sym (ticket_else a k j q ne) ∙ e) in (omega (arith, r.0), omega (arith, r.1)))
+    (λ ne. let r = ticket_range (suc a) q k x (sym (ticket_else a k j q ne) ∙ e) in
+    (omega (arith, r.0), omega (arith, r.1)))
 
 -- nobody in the queue has the gate
 pub ticket_only : (a : ℕ) (q : List ℕ) (k v : ℕ) → ticket_in a q k ≢ Some (Gate v)
 ticket_only a [] k v e = None≢Some (Gate v) e
 ticket_only a (j ∷ q) k v e = dite (ℕ_discrete k j)
-    (λ same. let no : ◌≡◌ {A = Option Token} (Some (Ticket a)) (Some (Gate v)) = sym (ticket_here a k j q same) ∙ e in cc)
+    (λ same. let no : ◌≡◌ {A = Option Token} (Some (Ticket a)) (Some (Gate v)) = sym (ticket_here a k j q same) ∙ e in
+    cc)
     (λ ne. ticket_only (suc a) q k v (sym (ticket_else a k j q ne) ∙ e))
 
 -- who has the first ticket stands first
@@ -48,7 +50,8 @@ pub ticket_none : (a : ℕ) (q : List ℕ) (k : ℕ) → ticket_in a q k ≡ Non
 ticket_none a [] k e = refl
 ticket_none a (j ∷ q) k e = dite (ℕ_discrete k j)
     (λ same. absurd (None≢Some (Ticket a) (sym e ∙ ticket_here a k j q same)))
-    (λ ne. let r = ticket_none (suc a) q k (sym (ticket_else a k j q ne) ∙ e) in omega (arith, r, one_apart k j (ne_eqb k j ne)))
+    (λ ne. let r = ticket_none (suc a) q k (sym (ticket_else a k j q ne) ∙ e) in
+    omega (arith, r, one_apart k j (ne_eqb k j ne)))
 
 pub none_ticket : (a : ℕ) (q : List ℕ) (k : ℕ) → times k q ≡ 0 → ticket_in a q k ≡ None
 none_ticket a [] k z = refl
@@ -57,20 +60,24 @@ none_ticket a (j ∷ q) k z = dite (ℕ_discrete k j)
     (λ ne. ticket_else a k j q ne ∙ none_ticket (suc a) q k (omega (arith, z)))
 
 -- who asks stands last
-pub ticket_last : (a : ℕ) (q : List ℕ) (k : ℕ) → times k q ≡ 0 → ticket_in a (q ++ k ∷ []) k ≡ Some (Ticket (a + length q))
+pub ticket_last : (a : ℕ) (q : List ℕ) (k : ℕ) → times k q ≡ 0
+    → ticket_in a (q ++ k ∷ []) k ≡ Some (Ticket (a + length q))
 ticket_last a [] k z = ticket_here a k k [] refl ∙ ap (λ (n : ℕ). Some (Ticket n)) (omega arith)
 ticket_last a (j ∷ q) k z = dite (ℕ_discrete k j)
     (λ same. absurd (omega (arith, z, subst (λ (i : ℕ). one k i ≡ 1) same (one_same k))))
-    (λ ne. ticket_else a k j (q ++ k ∷ []) ne ∙ ticket_last (suc a) q k (omega (arith, z)) ∙ ap (λ (n : ℕ). Some (Ticket n)) (omega arith))
+    (λ ne. ticket_else a k j (q ++ k ∷ []) ne ∙ ticket_last (suc a) q k (omega (arith, z))
+    ∙ ap (λ (n : ℕ). Some (Ticket n)) (omega arith))
 
 -- and the others keep theirs
 pub ticket_kept : (a : ℕ) (q : List ℕ) (k j : ℕ) → j ≢ k → ticket_in a (q ++ k ∷ []) j ≡ ticket_in a q j
 ticket_kept a [] k j ne = ticket_else a j k [] ne
-ticket_kept a (i ∷ q) k j ne = ap (λ (o : Option Token). cond (eqb j i) (Some (Ticket a)) o) (ticket_kept (suc a) q k j ne)
+ticket_kept a (i ∷ q) k j ne = ap (λ (o : Option Token). cond (eqb j i) (Some (Ticket a)) o)
+    (ticket_kept (suc a) q k j ne)
 
 pub once_more : (q : List ℕ) (k : ℕ) → ((j : ℕ) → times j q ≤ 1) → times k q ≡ 0 → (j : ℕ) → times j (q ++ k ∷ []) ≤ 1
 once_more q k once z j = dite (ℕ_discrete j k)
-    (λ same. let t : times j q ≡ 0 = subst (λ (i : ℕ). times i q ≡ 0) (sym same) z in let o : one j k ≡ 1 = subst (λ (i : ℕ). one j i ≡ 1) same (one_same j) in
+    (λ same. let t : times j q ≡ 0 = subst (λ (i : ℕ). times i q ≡ 0) (sym same) z in
+    let o : one j k ≡ 1 = subst (λ (i : ℕ). one j i ≡ 1) same (one_same j) in
     omega (arith, times-append j q (k ∷ []), t, o))
     (λ ne. omega (arith, times-append j q (k ∷ []), once j, one_apart j k (ne_eqb j k ne)))
 

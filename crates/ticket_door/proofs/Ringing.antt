@@ -43,14 +43,17 @@ module _ {D : Type 0} (first n : ℕ) where
     are_outside = out;
     gate = t.gate;
     tokens_are = λ j. t.tokens_are j ∙ ap (λ (m : ℕ). token_in t.gate m t.queue j) (sym same);
-    next = get_or-set_other ws (bell_at k) next_at y 0 (λ eq. omega (arith, eq)) ∙ t.next ∙ ap (λ (m : ℕ). (first + (m + length t.queue)) % 2 ^ 64) (sym same);
+    next = get_or-set_other ws (bell_at k) next_at y 0 (λ eq. omega (arith, eq)) ∙ t.next
+        ∙ ap (λ (m : ℕ). (first + (m + length t.queue)) % 2 ^ 64) (sym same);
     served = t.served;
     due = let d = t.due in omega (arith, d, before, after, same);
     serving = get_or-set_other ws (bell_at k) serving_at y 0 (λ eq. omega (arith, eq)) ∙ t.serving;
     kept = subst (λ (m : ℕ). IsKept first t.served m t.queue t.gate) (sym same) t.kept;
     bells = λ j b. dite (ℕ_discrete j k)
-        (λ is. subst (λ (i : ℕ). get_or (set ws (bell_at k) y) (bell_at i) 0 ≡ rung (turn h.events) i) (sym is) (get_or-set_same ws (bell_at k) y 0 (omega (arith, wide, small)) ∙ sym here))
-        (λ ne. get_or-set_other ws (bell_at k) (bell_at j) y 0 (λ eq. ne (omega (arith, eq))) ∙ t.bells j b ∙ sym (else_ j ne));
+        (λ is. subst (λ (i : ℕ). get_or (set ws (bell_at k) y) (bell_at i) 0 ≡ rung (turn h.events) i) (sym is)
+        (get_or-set_same ws (bell_at k) y 0 (omega (arith, wide, small)) ∙ sym here))
+        (λ ne. get_or-set_other ws (bell_at k) (bell_at j) y 0 (λ eq. ne (omega (arith, eq))) ∙ t.bells j b
+        ∙ sym (else_ j ne));
   }
 
   module _ (rest : Rest D) (ready : Ready D) (kinds : Kinds) where
@@ -58,13 +61,16 @@ module _ {D : Type 0} (first n : ℕ) where
     K = Kept (Starts first n) (Tells first n) rest ready kinds n
 
     -- who gives the monitor up where j is owed it rings j's bell
-    pub gives_ring : (slots id k j : ℕ) (f : History D) (x : Lodged D) (event : D → Event D) (st : Step (Option (Lodged D)))
+    pub gives_ring : (slots id k j : ℕ) (f : History D) (x : Lodged D) (event : D → Event D)
+        (st : Step (Option (Lodged D)))
         → j < n → Gives rest ready event k f x (next.For j)
-        → Allows K slots id (alone k f, (0, Some x) ∷ []) (bell_at j) (λ _. 1) (gives_as event st (alone k f, (0, Some x) ∷ []))
+        → Allows K slots id (alone k f, (0, Some x) ∷ []) (bell_at j) (λ _. 1)
+        (gives_as event st (alone k f, (0, Some x) ∷ []))
     gives_ring slots id k j f x event st small p =
         frame.gives_ok (Starts first n) (Tells first n) rest ready kinds n slots id k (bell_at j) (λ _. 1) f x
         (next.For j) event st p
-        (λ tokens ws places below t. let h : History D = with_event f (event x.state) in let r = rings_due j (turn h.events) (for_next (turn h.events) j (sym p.next_is)) in
+        (λ tokens ws places below t. let h : History D = with_event f (event x.state) in
+        let r = rings_due j (turn h.events) (for_next (turn h.events) j (sym p.next_is)) in
         rewritten f h tokens ws j 1 small (ap taken p.inside) r.busy
         (admissions-other f (event x.state) (no_admit f (event x.state) p.allowed (held_busy k _ p.inside))) r.here
         (λ i ne. r.else_ i ne ∙ sym (ap (λ (u : Turn). rung u i) p.inside)) t
@@ -76,10 +82,13 @@ module _ {D : Type 0} (first n : ℕ) where
         frame.told_as K slots id (alone k f, []) (bell_at k) (λ _. 0) _ (hears rest ready st (alone k f, []))
         (λ r m c j g is. let q = frame.alone_is k j f g [] [] is in
         subst (λ (p : ℕ × History D). HearsAt rest ready p.0 p.1 (alone k f, []) r m) (λ i. (q.0 i, q.1 i)) c)
-        (frame.comes_ok (Starts first n) (Tells first n) rest ready kinds n slots id k (bell_at k) f None None (due k f) (λ _. 0) (λ r. r ≡ 1) (λ log. Unit {0})
+        (frame.comes_ok (Starts first n) (Tells first n) rest ready kinds n slots id k (bell_at k) f None None (due k f)
+        (λ _. 0) (λ r. r ≡ 1) (λ log. Unit {0})
         (λ r. ℕ_discrete r 1)
-        (λ log tokens ws small t miss. let b = t.bells k small in sym (b ∙ rung_else (turn log.events) k (λ one. miss (b ∙ one))))
-        (λ log tokens ws stands places small same has t hit. let is = rung_due (turn log.events) k (sym (t.bells k small) ∙ hit) in let r = rings_due k (turn log.events) is in
+        (λ log tokens ws small t miss. let b = t.bells k small in
+        sym (b ∙ rung_else (turn log.events) k (λ one. miss (b ∙ one))))
+        (λ log tokens ws stands places small same has t hit. let is = rung_due (turn log.events) k
+        (sym (t.bells k small) ∙ hit) in let r = rings_due k (turn log.events) is in
         let e = frame.enters_due rest ready k log f stands same is in
         let h : History D = with_event log (due k f (latest_data log)) in record {
           given_up = frame.given_up_due k (turn log.events) is;

@@ -74,7 +74,8 @@ module _ {D : Type 0} (first n : ℕ) where
   -- one more place in the queue
   asked : (log : History D) (tokens : Tokens) (ws : List ℕ) (k : ℕ) → k < n → outside k log.events ≡ true
       → tokens k ≡ None → (t : Tells first n log tokens ws)
-      → Tells first n log (given_to tokens k (Some (token.Ticket (admissions log.events + length t.queue)))) (set ws next_at ((get_or ws next_at 0 + 1) % 2 ^ 64))
+      → Tells first n log (given_to tokens k (Some (token.Ticket (admissions log.events + length t.queue))))
+      (set ws next_at ((get_or ws next_at 0 + 1) % 2 ^ 64))
   asked log tokens ws k small out none t =
       let a : ℕ = admissions log.events in let q : List ℕ = t.queue in let x : ℕ = a + length q in
       let has : token_in t.gate a q k ≡ None = sym (t.tokens_are k) ∙ none in
@@ -89,7 +90,8 @@ module _ {D : Type 0} (first n : ℕ) where
         next =
             get_or-set_same ws next_at _ 0 (omega (arith, wide)) ∙ ap (λ (m : ℕ). (m + 1) % 2 ^ 64) t.next
             ∙ next_word first x ∙ ap (λ (m : ℕ). (first + m) % 2 ^ 64)
-            (let l = length-append q (k ∷ []) in let same : x + 1 ≡ a + length (q ++ k ∷ []) = omega (arith, l) in same);
+            (let l = length-append q (k ∷ []) in
+            let same : x + 1 ≡ a + length (q ++ k ∷ []) = omega (arith, l) in same);
         served = t.served;
         due = t.due;
         serving = get_or-set_other ws next_at serving_at _ 0 (λ e. omega (arith, e)) ∙ t.serving;
@@ -118,14 +120,18 @@ module _ {D : Type 0} (first n : ℕ) where
         once = λ j. let once = subst (λ (q : List ℕ). times j q ≤ 1) is (t.once j) in omega (arith, once);
         below = λ j some. t.below j (asks_too j some);
         are_outside = λ j some.
-            let apart : k ≢ j = λ same. let z = subst (λ (i : ℕ). times i rest ≡ 0) same out in omega (arith, z, some) in
+            let apart : k ≢ j = λ same. let z = subst (λ (i : ℕ). times i rest ≡ 0) same out in
+            omega (arith, z, some) in
             outside-other j log.events (Admit k s) apart ∙ t.are_outside j (asks_too j some);
         gate = ajar;
         tokens_are = λ j. dite (ℕ_discrete j k)
-            (λ same. subst (λ (i : ℕ). given_to tokens k None i ≡ ticket_in (admissions h.events) rest i) (sym same) (given_here tokens k None ∙ sym (none_ticket (admissions h.events) rest k out)))
-            (λ ne. given_else tokens k None j ne ∙ t.tokens_are j ∙ (λ i. token_in (is_ajar i) a (is i) j) ∙ ticket_else a j k rest ne ∙ ap (λ (m : ℕ). ticket_in m rest j)
+            (λ same. subst (λ (i : ℕ). given_to tokens k None i ≡ ticket_in (admissions h.events) rest i) (sym same)
+            (given_here tokens k None ∙ sym (none_ticket (admissions h.events) rest k out)))
+            (λ ne. given_else tokens k None j ne ∙ t.tokens_are j ∙ (λ i. token_in (is_ajar i) a (is i) j)
+            ∙ ticket_else a j k rest ne ∙ ap (λ (m : ℕ). ticket_in m rest j)
             (let same : suc a ≡ admissions h.events = omega (arith, more) in same));
-        next = t.next ∙ ap (λ (m : ℕ). (first + m) % 2 ^ 64) (let l = ap length is in let same : a + length t.queue ≡ admissions h.events + length rest = omega (arith, l, more) in same);
+        next = t.next ∙ ap (λ (m : ℕ). (first + m) % 2 ^ 64) (let l = ap length is in
+            let same : a + length t.queue ≡ admissions h.events + length rest = omega (arith, l, more) in same);
         served = t.served;
         due = let d = t.due in omega (arith, d, before, after, more);
         serving = t.serving ∙ ap (λ (g : Gate). (2 * (first + t.served) + shut g) % 2 ^ 64) is_ajar;
@@ -149,14 +155,17 @@ module _ {D : Type 0} (first n : ℕ) where
         are_outside = still_outside f e k t.queue mine (outside-held f.events k held) t.are_outside;
         gate = t.gate;
         tokens_are = λ j. t.tokens_are j ∙ ap (λ (m : ℕ). token_in t.gate m t.queue j) (sym same);
-        next = get_or-set_other ws serving_at next_at _ 0 (λ eq. omega (arith, eq)) ∙ t.next ∙ ap (λ (m : ℕ). (first + (m + length t.queue)) % 2 ^ 64) (sym same);
+        next = get_or-set_other ws serving_at next_at _ 0 (λ eq. omega (arith, eq)) ∙ t.next
+            ∙ ap (λ (m : ℕ). (first + (m + length t.queue)) % 2 ^ 64) (sym same);
         served = t.served + 1;
         due = let d = t.due in omega (arith, d, before, after, same);
-        serving = get_or-set_same ws serving_at _ 0 (omega (arith, wide)) ∙ ap (λ (m : ℕ). (m + 2) % 2 ^ 64) t.serving ∙ next_turn first t.served (shut t.gate);
+        serving = get_or-set_same ws serving_at _ 0 (omega (arith, wide)) ∙ ap (λ (m : ℕ). (m + 2) % 2 ^ 64) t.serving
+            ∙ next_turn first t.served (shut t.gate);
         kept =
             subst (λ (m : ℕ). IsKept first (t.served + 1) m t.queue t.gate) (sym same)
             (serves_kept t.gate first t.served (admissions f.events) t.queue t.kept);
-        bells = λ j b. get_or-set_other ws serving_at (bell_at j) _ 0 (λ eq. omega (arith, eq)) ∙ t.bells j b ∙ (ap (λ (u : Turn). rung u j) held ∙ sym (ap (λ (u : Turn). rung u j) free));
+        bells = λ j b. get_or-set_other ws serving_at (bell_at j) _ 0 (λ eq. omega (arith, eq)) ∙ t.bells j b
+            ∙ (ap (λ (u : Turn). rung u j) held ∙ sym (ap (λ (u : Turn). rung u j) free));
       }
 
   -- an event by which a place stays inside changes neither the tickets nor the words
@@ -187,14 +196,17 @@ module _ {D : Type 0} (first n : ℕ) where
     K = Kept (Starts first n) (Tells first n) rest ready kinds n
 
     abbrev Drawn : ℕ → History D → ℕ → Sat D → Type 0
-    Drawn k f r m = (o : Option Token) × (m ≡ (sole k f o, [])) × ((x : ℕ) × (o ≡ Some (token.Ticket x)) × (r ≡ (first + x) % 2 ^ 64))
+    Drawn k f r m = (o : Option Token) × (m ≡ (sole k f o, []))
+        × ((x : ℕ) × (o ≡ Some (token.Ticket x)) × (r ≡ (first + x) % 2 ^ 64))
 
     pub asks_ok : (slots id k : ℕ) (f : History D) (st : Step (Option (Lodged D))) → outside k f.events ≡ true
         → Allows K slots id (alone k f, []) next_at (λ r. (r + 1) % 2 ^ 64) (asks first st (alone k f, []))
     asks_ok slots id k f st out =
         frame.told_as K slots id (alone k f, []) next_at (λ r. (r + 1) % 2 ^ 64) _ (asks first st (alone k f, []))
-        (λ r m (d : Drawn k f r m) j g is. let q = frame.alone_is k j f g [] [] is in (d.2.0, d.1 ∙ (λ i. (sole (q.0 i) (q.1 i) (d.2.1 i), [])), d.2.2))
-        (frame.draws_ok (Starts first n) (Tells first n) rest ready kinds n slots id k next_at f None [] (λ r. (r + 1) % 2 ^ 64) (λ o r. (x : ℕ) × (o ≡ Some (token.Ticket x)) × (r ≡ (first + x) % 2 ^ 64))
+        (λ r m (d : Drawn k f r m) j g is. let q = frame.alone_is k j f g [] [] is in
+        (d.2.0, d.1 ∙ (λ i. (sole (q.0 i) (q.1 i) (d.2.1 i), [])), d.2.2))
+        (frame.draws_ok (Starts first n) (Tells first n) rest ready kinds n slots id k next_at f None []
+        (λ r. (r + 1) % 2 ^ 64) (λ o r. (x : ℕ) × (o ≡ Some (token.Ticket x)) × (r ≡ (first + x) % 2 ^ 64))
         (λ log tokens ws small same none t. let x : ℕ = admissions log.events + length t.queue in (
           Some (token.Ticket x),
           given_to tokens k (Some (token.Ticket x)),
@@ -249,13 +261,17 @@ module _ {D : Type 0} (first n : ℕ) where
         (looks first rest ready st (asking k f x, []))
     looks_ok slots id k x f st few out =
         frame.told_as K slots id (asking k f x, []) serving_at (λ r. r) _ (looks first rest ready st (asking k f x, []))
-        (λ r m c j g y is. let q = frame.sole_is k j f g (Some (token.Ticket x)) (Some (token.Ticket y)) [] [] is in let same : x ≡ y = Ticket-injective x y q.2 in
+        (λ r m c j g y is. let q = frame.sole_is k j f g (Some (token.Ticket x)) (Some (token.Ticket y)) [] [] is in
+        let same : x ≡ y = Ticket-injective x y q.2 in
         subst (λ (p : ℕ × (History D × ℕ)). LooksAt first rest ready p.0 p.1.0 p.1.1 (asking k f x, []) r m)
         (λ i. (q.0 i, (q.1 i, same i))) c)
-        (frame.comes_ok (Starts first n) (Tells first n) rest ready kinds n slots id k serving_at f (Some (token.Ticket x)) None (Admit k) (λ r. r) (λ r. r ≡ (2 * (first + x)) % 2 ^ 64) (λ log. admissions log.events ≡ x)
+        (frame.comes_ok (Starts first n) (Tells first n) rest ready kinds n slots id k serving_at f
+        (Some (token.Ticket x)) None (Admit k) (λ r. r) (λ r. r ≡ (2 * (first + x)) % 2 ^ 64)
+        (λ log. admissions log.events ≡ x)
         (λ r. ℕ_discrete r ((2 * (first + x)) % 2 ^ 64))
         (λ log tokens ws small t miss. refl)
-        (λ log tokens ws stands places small same has t hit. brings k x f log tokens ws few out stands places small same has t hit))
+        (λ log tokens ws stands places small same has t hit. brings k x f log tokens ws few out stands places small
+        same has t hit))
 
     -- the same of a seat with that view
     pub asks_at : (slots id k : ℕ) (f : History D) (st : Step (Option (Lodged D))) (m : Sat D) (start : ℕ)
@@ -274,17 +290,21 @@ module _ {D : Type 0} (first n : ℕ) where
         (looks_ok slots id k x f st few out)
 
     -- who gives the monitor up where nobody is owed it opens to the next
-    pub gives_open : (slots id k : ℕ) (f : History D) (x : Lodged D) (event : D → Event D) (st : Step (Option (Lodged D)))
+    pub gives_open : (slots id k : ℕ) (f : History D) (x : Lodged D) (event : D → Event D)
+        (st : Step (Option (Lodged D)))
         → Gives rest ready event k f x next.Free
-        → Allows K slots id (alone k f, (0, Some x) ∷ []) serving_at (λ r. (r + 2) % 2 ^ 64) (gives_as event st (alone k f, (0, Some x) ∷ []))
+        → Allows K slots id (alone k f, (0, Some x) ∷ []) serving_at (λ r. (r + 2) % 2 ^ 64)
+        (gives_as event st (alone k f, (0, Some x) ∷ []))
     gives_open slots id k f x event st p =
         frame.gives_ok (Starts first n) (Tells first n) rest ready kinds n slots id k serving_at
         (λ r. (r + 2) % 2 ^ 64) f x next.Free event st p
-        (λ tokens ws places small t. next_served f (event x.state) tokens ws k p.mine p.inside (free_next _ (sym p.next_is))
+        (λ tokens ws places small t. next_served f (event x.state) tokens ws k p.mine p.inside
+        (free_next _ (sym p.next_is))
         (admissions-other f (event x.state) (no_admit f (event x.state) p.allowed (held_busy k _ p.inside))) t)
 
     -- the same of a seat with that view
-    pub gives_open_at : (slots id k : ℕ) (f : History D) (x : Lodged D) (event : D → Event D) (st : Step (Option (Lodged D))) (m : Sat D)
+    pub gives_open_at : (slots id k : ℕ) (f : History D) (x : Lodged D) (event : D → Event D)
+        (st : Step (Option (Lodged D))) (m : Sat D)
         → m ≡ (alone k f, (0, Some x) ∷ []) → Gives rest ready event k f x next.Free
         → Allows K slots id m serving_at (λ r. (r + 2) % 2 ^ 64) (gives_as event st m)
     gives_open_at slots id k f x event st m is p =
@@ -292,7 +312,8 @@ module _ {D : Type 0} (first n : ℕ) where
         (gives_open slots id k f x event st p)
 
     -- who is inside calls others: a look at SERVING
-    pub notes_at : (slots id k : ℕ) (f : History D) (event : History D → Event D) (st : Step (Option (Lodged D))) (m : Sat D)
+    pub notes_at : (slots id k : ℕ) (f : History D) (event : History D → Event D)
+        (st : Step (Option (Lodged D))) (m : Sat D)
         → m ≡ (alone k f, (0, None) ∷ []) → Notes rest ready (event f) k f
         → Allows K slots id m serving_at (λ r. r) (notes_as event st m)
     notes_at slots id k f event st m is p =

@@ -1,9 +1,9 @@
 //! Who gives the monitor up opens the door to newcomers or rings a bell, and who is rung comes back.
 //!
-//! No ring is lost. Who waits tests its bell before it sleeps and after each waking (`Turnstile::claim`). Who hands over rings
-//! first and wakes the place then. So where the test came before the ring, the waking comes after the test; and a sleeper
-//! keeps one permit, so the sleep that follows returns at once. A place that is woken by the permit of an earlier wait
-//! finds the bell silent, and sleeps again.
+//! No ring is lost. Who waits tests its bell before it sleeps and after each waking (`Turnstile::claim`). Who hands
+//! over rings first and wakes the place then. So where the test came before the ring, the waking comes after the test;
+//! and a sleeper keeps one permit, so the sleep that follows returns at once. A place that is woken by the permit of an
+//! earlier wait finds the bell silent, and sleeps again.
 ghost use Rattle.std.specs.Prelude.{◌≡◌, ◌<◌};
 ghost use Rattle.wait_book.specs.Contents.{IsPlaceBelow};
 ghost use Rattle.door_frame.specs.Steps.{MayGive, MayNote};

@@ -19,11 +19,11 @@ use std::alloc::Global;
 use std::marker::Model;
 use wait_book::steps::MakeRefused;
 
-/// A monitor for running threads, in which newcomers come in by the order of their tickets: it implements `Monitor`. Threads
-/// share it by reference, each with its own place.
+/// A monitor for running threads, in which newcomers come in by the order of their tickets: it implements `Monitor`.
+/// Threads share it by reference, each with its own place.
 ///
-/// After `make` no call takes memory. A door can be dropped where its data can, and then its data are dropped too; `close`
-/// gives them back.
+/// After `make` no call takes memory. A door can be dropped where its data can, and then its data are dropped too;
+/// `close` gives them back.
 ///
 /// ```rust
 /// let data = Unasked::<u64, 1> { value: 41 };
@@ -36,7 +36,8 @@ use wait_book::steps::MakeRefused;
 /// ```
 #[derive(Drop)]
 pub struct TicketDoor<D: MonitorData> {
-    /// Each word has a line of the cache of its own. A newcomer that naps sleeps on the word behind a bell, which stays 0.
+    /// Each word has a line of the cache of its own. A newcomer that naps sleeps on the word behind a bell, which stays
+    /// 0.
     ///
     /// | Word | says | and is changed by |
     /// |---|---|---|
@@ -64,10 +65,10 @@ impl<D: MonitorData> Model for TicketDoor<D> {
 }
 
 impl<D: MonitorData + Send> TicketDoor<D> {
-    /// A door of 1 to 64 places and `D::CONDITIONS` conditions, 1 to 8, of which the last `D::MESA` are Mesa conditions, opened with
-    /// the data, and its places, in order. The first ticket is 0. The caller owes `rest` with nobody waiting. Refused, in this
-    /// order: `BadPlaces`, `BadConditions`, and `Memory` where the room for all that the door will ever need can't be had. The
-    /// data come back with each refusal.
+    /// A door of 1 to 64 places and `D::CONDITIONS` conditions, 1 to 8, of which the last `D::MESA` are Mesa
+    /// conditions, opened with the data, and its places, in order. The first ticket is 0. The caller owes `rest` with
+    /// nobody waiting. Refused, in this order: `BadPlaces`, `BadConditions`, and `Memory` where the room for all that
+    /// the door will ever need can't be had. The data come back with each refusal.
     pub fn make(
         alloc: Global,
         state: D,
@@ -86,9 +87,9 @@ impl<D: MonitorData + Send> TicketDoor<D> {
         laws::make_at(alloc, state, places, 0)
     }
 
-    /// Takes the door apart: all of its places are handed in, in any order. The data are at rest with nobody waiting, and
-    /// those that one legal and lawful history left, which begins with what each place knows and in which no place did
-    /// anything else.
+    /// Takes the door apart: all of its places are handed in, in any order. The data are at rest with nobody waiting,
+    /// and those that one legal and lawful history left, which begins with what each place knows and in which no place
+    /// did anything else.
     pub fn close(self, outs: Vec<TicketOut<D>>) -> D
         requires of { All (⟦<TicketDoor<D> as Monitor<D>>⟧.is_of self) outs.items }
         requires places { (k : ℕ) → k < self.door.places → HasPlace k outs.items }

@@ -5,8 +5,9 @@ use door_frame::glance::{Glance, Holder};
 use hoare_law::data::MonitorData;
 
 impl<D: MonitorData> TicketDoor<D> {
-    /// What the words say now: for who looks why a program hangs. Of two bells that ring one after the other it may see the
-    /// first. It needs no place, waits for nobody, and changes nothing. It may be over by the time that it is answered.
+    /// What the words say now: for who looks why a program hangs. Of two bells that ring one after the other it may see
+    /// the first. It needs no place, waits for nobody, and changes nothing. It may be over by the time that it is
+    /// answered.
     pub fn glance(&self) -> Glance {
         let serving = self.table.shared.peek(SERVING);
         let next = self.table.shared.peek(NEXT).wrapping_mul(TURN);

@@ -12,8 +12,8 @@ use door_frame::plays::{Deal, Gather, Learn};
 use hoare_law::data::MonitorData;
 
 impl<D: MonitorData> TicketDoor<D> {
-    /// Two places outside meet: afterwards both know one history, which begins with what each of them knew, and in which
-    /// each did nothing that it doesn't know of. They come back in the order in which they were handed in.
+    /// Two places outside meet: afterwards both know one history, which begins with what each of them knew, and in
+    /// which each did nothing that it doesn't know of. They come back in the order in which they were handed in.
     pub fn meet(&self, a: TicketOut<D>, b: TicketOut<D>) -> (TicketOut<D>, TicketOut<D>)
         requires a { IsOut D.rest D.ready (kinds_of D.CONDITIONS D.MESA) self.now.door a }
         requires b { IsOut D.rest D.ready (kinds_of D.CONDITIONS D.MESA) self.now.door b }

@@ -67,4 +67,5 @@ woken {n = n} {a = a} {found = found} {answer = answer} {g = g} w sum due told s
     let then : found ≡ a + n = due ∙ sum in
     let last : answer ≡ a + n = told ∙ then in
     rw last
-    (woke a w.front g w.enters (rw sum at small) (rw (sum, then) at w.rounds) (Finishes-exit exits place (state ∙ then) front))
+    (woke a w.front g w.enters (rw sum at small) (rw (sum, then) at w.rounds)
+    (Finishes-exit exits place (state ∙ then) front))

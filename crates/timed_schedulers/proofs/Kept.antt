@@ -17,7 +17,8 @@ use Rattle.timed_schedulers.specs.Marks.{mark_of, owned, IsKept}
 some_passes : {X : Type 0} (p : X → Bool) (xs : List X) → 0 < count_by p xs → position_or_len p xs < length xs
 some_passes p [] some = absurd (omega arith)
 some_passes p (x ∷ xs) some =
-    elim (p x) as (λ b. 0 < cond b 1 0 + count_by p xs → cond (not b) (1 + prefix_len (λ y. not (p y)) xs) 0 < suc (length xs)) [
+    elim (p x) as (λ b. 0 < cond b 1 0 + count_by p xs
+    → cond (not b) (1 + prefix_len (λ y. not (p y)) xs) 0 < suc (length xs)) [
       | true ↦ λ all. omega arith
       | false ↦ λ others. let later = some_passes p xs (omega arith) in omega arith
     ] (rw (← sum_by-cons (one_if p) x xs) some)
@@ -51,7 +52,8 @@ first_unmarked {owners = owners} {words = words} {b = b} kept some same unmarked
     let is : first ≡ b = elim (cases_order first b) [
       | inl equal ↦ equal
       | inr (inl before) ↦ absurd (let marked = below first before in omega arith)
-      | inr (inr after) ↦ absurd (let marked : mark_of words b ≡ 1 = kept.marked b (omega arith) ∙ owned-some _ (fails_before_first is_none owners b None after) in omega arith)
+      | inr (inr after) ↦ absurd (let marked : mark_of words b ≡ 1 = kept.marked b (omega arith)
+          ∙ owned-some _ (fails_before_first is_none owners b None after) in omega arith)
     ] in
     rw (lt-ltb first (length owners) within, is) refl
 
@@ -71,18 +73,21 @@ IsKept-set : {owners : List (Option ℕ)} {counts words counts1 words1 : List �
     → length words1 ≡ length words → mark_of words1 b ≡ owned new
     → ((j : ℕ) → j ≢ b → mark_of words1 j ≡ mark_of words j)
     → IsKept (set owners b new) counts1 free1 words1
-IsKept-set {owners = owners} {counts = counts} {words = words} {counts1 = counts1} {words1 = words1} {b = b} old new kept within is stream as_many told told_free as_long here others = record {
-  size = rw (length-set owners b new, as_many) kept.size;
-  streams = subst (λ n. All (λ owner. IfSome owner (λ s. s < n)) (set owners b new)) (sym as_many) (All-set (λ owner. IfSome owner (λ s. s < length counts)) owners b new stream kept.streams);
-  counted = λ t. omega (arith, told t, kept.counted t, count_by-set (is_own t) owners b old new within is);
-  free_counted = omega (arith, kept.free_counted, count_by-set is_none owners b old new within is);
-  few_words = omega (arith, kept.few_words);
-  enough_words = omega (arith, kept.enough_words, length-set owners b new);
-  marked = λ i below. elim (cases_eq i b) [
-    | inl same ↦ rw (same, get_or-set_same owners b new None within) here
-    | inr apart ↦ rw (get_or-set_other owners b i new None apart) (others i apart ∙ kept.marked i (omega (arith, length-set owners b new)))
-  ];
-}
+IsKept-set {owners = owners} {counts = counts} {words = words} {counts1 = counts1} {words1 = words1}
+    {b = b} old new kept within is stream as_many told told_free as_long here others = record {
+      size = rw (length-set owners b new, as_many) kept.size;
+      streams = subst (λ n. All (λ owner. IfSome owner (λ s. s < n)) (set owners b new)) (sym as_many)
+          (All-set (λ owner. IfSome owner (λ s. s < length counts)) owners b new stream kept.streams);
+      counted = λ t. omega (arith, told t, kept.counted t, count_by-set (is_own t) owners b old new within is);
+      free_counted = omega (arith, kept.free_counted, count_by-set is_none owners b old new within is);
+      few_words = omega (arith, kept.few_words);
+      enough_words = omega (arith, kept.enough_words, length-set owners b new);
+      marked = λ i below. elim (cases_eq i b) [
+        | inl same ↦ rw (same, get_or-set_same owners b new None within) here
+        | inr apart ↦ rw (get_or-set_other owners b i new None apart)
+            (others i apart ∙ kept.marked i (omega (arith, length-set owners b new)))
+      ];
+    }
 
 -- one more is counted at s
 counts-more : (counts : List ℕ) (s : ℕ) → s < length counts → (t : ℕ)

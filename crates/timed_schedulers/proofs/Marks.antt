@@ -17,7 +17,8 @@ pub mark_of-set_other : (words : List ℕ) (i j x : ℕ) → i / 64 < length wor
     → ((k : ℕ) → k < 64 → k ≢ i % 64 → bit_at x k ≡ bit_at (get_or words (i / 64) 0) k)
     → mark_of (set words (i / 64) x) j ≡ mark_of words j
 mark_of-set_other words i j x within other kept = elim (cases_eq (j / 64) (i / 64)) [
-  | inl same ↦ rw (same, get_or-set_same words (i / 64) x 0 within) (kept (j % 64) (omega arith) (λ at. other (omega arith)))
+  | inl same ↦ rw (same, get_or-set_same words (i / 64) x 0 within)
+      (kept (j % 64) (omega arith) (λ at. other (omega arith)))
   | inr apart ↦ rw (get_or-set_other words (i / 64) (j / 64) x 0 apart) refl
 ]
 

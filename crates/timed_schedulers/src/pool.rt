@@ -53,9 +53,10 @@ pub enum GiveRefused {
     NotHeld,
 }
 
-/// Buffers that streams of work share ("Monitors", Further Examples: Buffer Allocation; the details are this project's). Condition 0
-/// is *nonfree* (`NONFREE`); a stream waits there with the number of buffers that it holds as its priority, so that who holds the
-/// fewest goes on first. The pool keeps which buffers are whose, and not the buffers.
+/// Buffers that streams of work share ("Monitors", Further Examples: Buffer Allocation; the details are this
+/// project's). Condition 0 is *nonfree* (`NONFREE`); a stream waits there with the number of buffers that it holds as
+/// its priority, so that who holds the fewest goes on first. The pool keeps which buffers are whose, and not the
+/// buffers.
 ///
 /// With a monitor `m` of `Pool::make(alloc, 2, 3)?`, and `out`, a place of it:
 ///
@@ -117,8 +118,8 @@ impl MonitorData for Pool {
 }
 
 impl Pool {
-    /// A pool of 1 to 1024 buffers, all free, for 1 to 256 streams. Refused: `BadSize` exactly where a number is out of range, and
-    /// else `Memory` where the entries can't be had. No procedure takes memory.
+    /// A pool of 1 to 1024 buffers, all free, for 1 to 256 streams. Refused: `BadSize` exactly where a number is out of
+    /// range, and else `Memory` where the entries can't be had. No procedure takes memory.
     pub fn make(alloc: Global, buffers: u32, streams: u32) -> Result<Pool, PoolRefused>
         ensures made { Makes buffers streams result }
         ensures rest { IfOk result (λ p. PoolRests p (nobody 0)) }
@@ -147,9 +148,9 @@ impl Pool {
         }
     }
 
-    /// Takes the least-numbered free buffer for the stream, once one is free, and answers its number. Refused exactly where the
-    /// number isn't that of a stream: at once, or after a wait, where meanwhile another pool was put in this one's place; then the
-    /// monitor is handed on.
+    /// Takes the least-numbered free buffer for the stream, once one is free, and answers its number. Refused exactly
+    /// where the number isn't that of a stream: at once, or after a wait, where meanwhile another pool was put in this
+    /// one's place; then the monitor is handed on.
     pub fn take<R: Wait, M: Monitor<Pool>>(
         m: &M,
         rt: &R,
@@ -177,8 +178,8 @@ impl Pool {
         (m.leave(rt, inside), Ok(buffer))
     }
 
-    /// Frees a buffer that the stream holds, and resumes a process that waits for one. Refused, with nothing changed, by the
-    /// first that applies: `NoStream`, `NoBuffer`, and `NotHeld` where the buffer is free or another stream's.
+    /// Frees a buffer that the stream holds, and resumes a process that waits for one. Refused, with nothing changed,
+    /// by the first that applies: `NoStream`, `NoBuffer`, and `NotHeld` where the buffer is free or another stream's.
     pub fn give<R: Wait, M: Monitor<Pool>>(
         m: &M,
         rt: &R,

@@ -98,7 +98,8 @@ pub AreChains-none : (s : Slab Node) → s.slots ≡ [] → AreChains s (replica
 AreChains-none s e = record {
   many = refl;
   linked = λ c. subst (λ (v : Chain). IsChain s v []) (sym (no_chain CHAINS c)) (record { linked = refl; last = refl });
-  once = λ k. ap (times k) (no_keys CHAINS) ∙ sym (held_none s k (ap (λ (slots : List (Option Node)). get_or slots k None) e));
+  once = λ k. ap (times k) (no_keys CHAINS)
+      ∙ sym (held_none s k (ap (λ (slots : List (Option Node)). get_or slots k None) e));
   counted = ap length (no_keys CHAINS) ∙ sym (ap (count_by is_some) e);
 }
 
@@ -111,7 +112,12 @@ pub apart : {s : Slab Node} {chains : List Chain} {at : ℕ → List Link} → A
 apart {s = s} {at = at} i k c d l n =
     elim (cases_lt d CHAINS) [
       | inl m ↦ omega (arith, times_two (λ e (x : Link). x.key) k CHAINS c d at l m n, i.once k)
-      | inr m ↦ omega (arith, times_one (λ e (x : Link). x.key) k CHAINS c at l, i.once k, ap (λ v. times k (keys v)) (beyond i d m))
+      | inr m ↦ omega (
+        arith,
+        times_one (λ e (x : Link). x.key) k CHAINS c at l,
+        i.once k,
+        ap (λ v. times k (keys v)) (beyond i d m),
+      )
     ]
 
 -- in one chain once at most
@@ -163,13 +169,21 @@ cut {s = s} {chains = chains} c before after i is =
     record { next = r.0; front = r.1; back = r.2 }
 
 -- they are as they were where a node is stored under a vacant key
-pub cut-stored : {s mid : Slab Node} {chains : List Chain} {at : ℕ → List Link} {n : Node} (c k : ℕ) (before after : List Link) (next : Option ℕ)
+pub cut-stored : {s mid : Slab Node} {chains : List Chain} {at : ℕ → List Link} {n : Node} (c k : ℕ)
+    (before after : List Link) (next : Option ℕ)
     → AreChains s chains at → c < CHAINS
     → at c ≡ before ++ after → get s k ≡ None → Updates s mid k (Some n)
     → IsLinked s (chain_at chains c).first before next → IsLinked mid (chain_at chains c).first before next
 cut-stored {s = s} {mid = mid} {chains = chains} c k before after next i l is vacant u front =
     IsLinked-same s mid (chain_at chains c).first before next
-    (λ j p. u.others j (λ q. omega (arith, once_in i j c l, ap (λ v. times j (keys v)) is, keys_append j before after, ap (held s) q, held_none s k vacant))) front
+    (λ j p. u.others j (λ q. omega (
+      arith,
+      once_in i j c l,
+      ap (λ v. times j (keys v)) is,
+      keys_append j before after,
+      ap (held s) q,
+      held_none s k vacant,
+    ))) front
 
 -- what linking a new node does, in two steps: it is stored with the key behind it, and its own key is put behind the
 -- one before
@@ -191,10 +205,20 @@ module _ {s mid t : Slab Node} {first behind next first2 : Option ℕ} {x : Link
       elim (cases_eq k x.key) [
         | inl e ↦
             let h : held t x.key ≡ held s x.key + one x.key x.key =
-            omega
-            (arith, g.held_on x.key, held_some mid x.key _ g.stored.changed, held_none s x.key g.vacant, one_same x.key) in
+            omega (
+              arith,
+              g.held_on x.key,
+              held_some mid x.key _ g.stored.changed,
+              held_none s x.key g.vacant,
+              one_same x.key,
+            ) in
             subst (λ (j : ℕ). held t j ≡ held s j + one j x.key) (sym e) h
-        | inr n ↦ omega (arith, g.held_on k, held_same s mid k (g.stored.others k n), one_apart k x.key (eq_apart k x.key n))
+        | inr n ↦ omega (
+          arith,
+          g.held_on k,
+          held_same s mid k (g.stored.others k n),
+          one_apart k x.key (eq_apart k x.key n),
+        )
       ]
 
   -- nodes that are neither new nor before it stay as they were
@@ -220,7 +244,13 @@ module _ {s mid t : Slab Node} {first behind next first2 : Option ℕ} {x : Link
       (λ b. omega (arith, once k, held_few s k, keys_append k before after, last_within k before (sym e ∙ b)))) m in
       let own : get t x.key ≡ Some (node_of x next) =
       g.others x.key
-      (λ b. omega (arith, once x.key, held_none s x.key g.vacant, keys_append x.key before after, last_within x.key before (sym e ∙ b)))
+      (λ b. omega (
+        arith,
+        once x.key,
+        held_none s x.key g.vacant,
+        keys_append x.key before after,
+        last_within x.key before (sym e ∙ b),
+      ))
       ∙ g.stored.changed in
       IsLinked-append t first2 before (Some x.key) (x ∷ after) None linked (refl, next, own, back)
 
@@ -234,13 +264,16 @@ last_put s last next before x (y ∷ ys) e l =
     rw n (e ∙ last_append None before y ys ∙ sym (last_append None before x (y ∷ ys)))
 
 -- the chains with a new node, wherever the list was cut
-pub AreChains-linked : {s mid t : Slab Node} {chains : List Chain} {at : ℕ → List Link} {behind next first2 last2 : Option ℕ} {x : Link} (c : ℕ) (before after : List Link)
+pub AreChains-linked : {s mid t : Slab Node} {chains : List Chain} {at : ℕ → List Link}
+    {behind next first2 last2 : Option ℕ} {x : Link} (c : ℕ) (before after : List Link)
     → AreChains s chains at → c < CHAINS → Linking s mid t (chain_at chains c).first behind next first2 x
     → last2 ≡ cond (is_some next) (chain_at chains c).last (Some x.key)
-    → ((front : List Link) (to : Option ℕ) → IsLinked s (chain_at chains c).first front to → behind ≡ last_key front → next ≡ to)
+    → ((front : List Link) (to : Option ℕ) → IsLinked s (chain_at chains c).first front to → behind ≡ last_key front
+    → next ≡ to)
     → at c ≡ before ++ after → behind ≡ last_key before
     → AreChains t (set chains c (record { first = first2; last = last2 })) (list_put c (before ++ x ∷ after) at)
-AreChains-linked {s = s} {t = t} {chains = chains} {at = at} {behind = behind} {next = next} {first2 = first2} {last2 = last2} {x = x} c before after i l g n named is e =
+AreChains-linked {s = s} {t = t} {chains = chains} {at = at} {behind = behind} {next = next} {first2 = first2}
+    {last2 = last2} {x = x} c before after i l g n named is e =
     let first = (chain_at chains c).first in
     let there : Cut s first before after = cut c before after i is in
     let same : there.next ≡ next = sym (named before there.next there.front e) in
@@ -256,12 +289,33 @@ AreChains-linked {s = s} {t = t} {chains = chains} {at = at} {behind = behind} {
     let others : (d : ℕ) → d ≢ c → IsChain t (chain_at chains d) (at d) =
     λ d off. chain_kept s t (chain_at chains d) (at d) (λ k p.
     linking_same g k (omega (arith, apart i k c d l off))
-    (λ b. omega (arith, apart i k c d l off, held_few s k, ap (λ v. times k (keys v)) is, keys_append k before after, last_within k before (sym e ∙ b)))) (i.linked d) in
+    (λ b. omega (
+      arith,
+      apart i k c d l off,
+      held_few s k,
+      ap (λ v. times k (keys v)) is,
+      keys_append k before after,
+      last_within k before (sym e ∙ b),
+    ))) (i.linked d) in
     record {
       many = length-set chains c new ∙ i.many;
       linked = chains_put t chains at c new (before ++ x ∷ after) i.many l here others;
-      once = λ k. omega (arith, times_put (λ d (y : Link). y.key) k CHAINS c (before ++ x ∷ after) at l, keys_middle k before x after, ap (λ v. times k (keys v)) is, i.once k, linking_held g k);
-      counted = omega (arith, length_put (λ d (y : Link). y.key) CHAINS c (before ++ x ∷ after) at l, length_middle before x after, ap length is, i.counted, g.longer);
+      once = λ k. omega (
+        arith,
+        times_put (λ d (y : Link). y.key) k CHAINS c (before ++ x ∷ after) at l,
+        keys_middle k before x after,
+        ap (λ v. times k (keys v)) is,
+        i.once k,
+        linking_held g k,
+      );
+      counted = omega (
+        arith,
+        length_put (λ d (y : Link). y.key) CHAINS c (before ++ x ∷ after) at l,
+        length_middle before x after,
+        ap length is,
+        i.counted,
+        g.longer,
+      );
     }
 
 -- a node taken out
@@ -303,26 +357,44 @@ AreChains-taken {s = s} {t = t} {chains = chains} {at = at} {new = new} c k n f 
     elim (cases_eq j g.first.key) [
       | inl q ↦
           let h : held t g.first.key + one g.first.key g.first.key ≡ held s g.first.key =
-          omega
-          (arith, held_none t g.first.key g.updates.changed, once g.first.key, held_few s g.first.key, one_same g.first.key) in
+          omega (
+            arith,
+            held_none t g.first.key g.updates.changed,
+            once g.first.key,
+            held_few s g.first.key,
+            one_same g.first.key,
+          ) in
           subst (λ (v : ℕ). held t v + one v g.first.key ≡ held s v) (sym q) h
-      | inr off ↦ omega (arith, held_same s t j (g.updates.others j off), one_apart j g.first.key (eq_apart j g.first.key off))
+      | inr off ↦ omega (
+        arith,
+        held_same s t j (g.updates.others j off),
+        one_apart j g.first.key (eq_apart j g.first.key off),
+      )
     ] in
     let same : (j : ℕ) → j ≡ g.first.key → one j g.first.key ≡ 1 =
     λ j q. subst (λ (v : ℕ). one v g.first.key ≡ 1) (sym q) (one_same g.first.key) in
     let here : IsChain t new g.after = record {
       linked = subst (λ (v : Option ℕ). IsLinked t v g.after None) (sym f)
-          (IsLinked-same s t n.next g.after None (λ j p. g.updates.others j (λ q. omega (arith, once j, held_few s j, same j q))) g.linked);
-      last = e ∙ last_taken s (chain_at chains c).last n.next g.first g.after ((i.linked c).last ∙ ap last_key g.is) g.linked;
+          (IsLinked-same s t n.next g.after None
+          (λ j p. g.updates.others j (λ q. omega (arith, once j, held_few s j, same j q))) g.linked);
+      last = e ∙ last_taken s (chain_at chains c).last n.next g.first g.after
+          ((i.linked c).last ∙ ap last_key g.is) g.linked;
     } in
     let there : (d : ℕ) → d ≢ c → IsChain t (chain_at chains d) (at d) =
     λ d off. chain_kept s t (chain_at chains d) (at d)
-    (λ j p. g.updates.others j (λ q. omega (arith, apart i j c d l off, held_few s j, ap (λ v. times j (keys v)) g.is, same j q)))
+    (λ j p. g.updates.others j
+    (λ q. omega (arith, apart i j c d l off, held_few s j, ap (λ v. times j (keys v)) g.is, same j q)))
     (i.linked d) in
     record {
       many = length-set chains c new ∙ i.many;
       linked = chains_put t chains at c new g.after i.many l here there;
-      once = λ j. omega (arith, times_put (λ d (y : Link). y.key) j CHAINS c g.after at l, ap (λ v. times j (keys v)) g.is, i.once j, gone j);
+      once = λ j. omega (
+        arith,
+        times_put (λ d (y : Link). y.key) j CHAINS c g.after at l,
+        ap (λ v. times j (keys v)) g.is,
+        i.once j,
+        gone j,
+      );
       counted = omega (arith, length_put (λ d (y : Link). y.key) CHAINS c g.after at l, ap length g.is, i.counted, len);
     }
   where
@@ -346,14 +418,20 @@ pub record Joining (s t : Slab Node) (called : Chain) (key : ℕ) (first2 : Opti
 pub AreChains-joined : {s t : Slab Node} {chains : List Chain} {at : ℕ → List Link} {first2 : Option ℕ} (c key : ℕ)
     → AreChains s chains at → c < CALLED → (chain_at chains c).first ≡ Some key
     → Joining s t (chain_at chains CALLED) key first2
-    → AreChains t (set (set chains CALLED (record { first = first2; last = (chain_at chains c).last })) c empty) (list_put c [] (list_put CALLED (at CALLED ++ at c) at))
+    → AreChains t (set (set chains CALLED (record { first = first2; last = (chain_at chains c).last })) c empty)
+    (list_put c [] (list_put CALLED (at CALLED ++ at c) at))
 AreChains-joined {s = s} {t = t} {chains = chains} {at = at} {first2 = first2} c key i l starts g =
     let xs : List Link = at CALLED in
     let ys : List Link = at c in
     let o : Opens s key ys = opens s (chain_at chains c).first key ys starts (i.linked c).linked in
     let stays : (d : ℕ) → d ≢ CALLED → IsChain t (chain_at chains d) (at d) = λ d off.
     chain_kept s t (chain_at chains d) (at d)
-    (λ k p. g.others k (λ b. omega (arith, apart i k CALLED d (omega arith) off, held_few s k, last_within k xs (sym (i.linked CALLED).last ∙ b))))
+    (λ k p. g.others k (λ b. omega (
+      arith,
+      apart i k CALLED d (omega arith) off,
+      held_few s k,
+      last_within k xs (sym (i.linked CALLED).last ∙ b),
+    )))
     (i.linked d) in
     let front : IsLinked t first2 xs (Some key) =
     g.linked xs None (i.linked CALLED).linked (i.linked CALLED).last
@@ -363,7 +441,8 @@ AreChains-joined {s = s} {t = t} {chains = chains} {at = at} {first2 = first2} c
     let new : Chain = record { first = first2; last = (chain_at chains c).last } in
     let here : IsChain t new (xs ++ ys) = record {
       linked = IsLinked-append t first2 xs (Some key) ys None front back;
-      last = (i.linked c).last ∙ ap last_key o.is ∙ sym (last_append None xs o.first o.after) ∙ ap (λ zs. last_key (xs ++ zs)) (sym o.is);
+      last = (i.linked c).last ∙ ap last_key o.is ∙ sym (last_append None xs o.first o.after)
+          ∙ ap (λ zs. last_key (xs ++ zs)) (sym o.is);
     } in
     let joined : (d : ℕ) → IsChain t (chain_at (set chains CALLED new) d) (list_put CALLED (xs ++ ys) at d) =
     chains_put t chains at CALLED new (xs ++ ys) i.many (omega arith) here stays in
@@ -371,7 +450,8 @@ AreChains-joined {s = s} {t = t} {chains = chains} {at = at} {first2 = first2} c
     let off : list_put CALLED (xs ++ ys) at c ≡ ys = put_other CALLED c (xs ++ ys) at (omega arith) in
     record {
       many = length-set (set chains CALLED new) c empty ∙ many;
-      linked = chains_put t (set chains CALLED new) (list_put CALLED (xs ++ ys) at) c empty [] many (omega arith) (record { linked = refl; last = refl }) (λ d n. joined d);
+      linked = chains_put t (set chains CALLED new) (list_put CALLED (xs ++ ys) at) c empty [] many (omega arith)
+          (record { linked = refl; last = refl }) (λ d n. joined d);
       once = λ k. omega (
         arith,
         times_put (λ d (y : Link). y.key) k CHAINS c [] (list_put CALLED (xs ++ ys) at) (omega arith),

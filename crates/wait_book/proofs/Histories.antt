@@ -62,7 +62,15 @@ IsOf-same b d h e o = subst (λ (v : Contents). IsOf v h) e o
 
 -- a book where nothing happened
 pub IsOf-opened : (n : Sizes) (x y : ℕ)
-    → IsOf (record { sizes = n; room_to_wait = x; room_to_signal = y; waiters = []; signallers = []; called = []; turn = Free }) (opened n tt)
+    → IsOf (record {
+      sizes = n;
+      room_to_wait = x;
+      room_to_signal = y;
+      waiters = [];
+      signallers = [];
+      called = [];
+      turn = Free;
+    }) (opened n tt)
 unfolding waiting urgent called turn outside
 IsOf-opened n x y = record {
   legal = IsLegal-none (opened n tt) refl;
@@ -100,7 +108,8 @@ filter-agree_on {X = X} r p q (x ∷ xs) f = by (r x) refl (filter-agree_on r p 
 -- those who waited and stay
 waiters_stay : (b : Contents) (h : Log) (e : Act) (ws : List Waiter) → spared e b.waiters ≡ ws → IsOf b h
     → (c : ℕ)
-    → map wait_of (filter (on c) ws) ≡ in_order priority_of (filter (λ x. not (concerns c (place_of x) e)) (waiting c h.events))
+    → map wait_of (filter (on c) ws) ≡ in_order priority_of
+    (filter (λ x. not (concerns c (place_of x) e)) (waiting c h.events))
 waiters_stay b h e ws f o c =
     let p : Waiter → Bool = λ w. not (concerns w.condition w.place e) in
     let q : Waiter → Bool = λ w. not (concerns c w.place e) in
@@ -134,7 +143,8 @@ waiters_joined b h w ws p f o c =
     ∙ ap (in_order priority_of) (sym (waiting-push c h.events (wait_of w)))
   where
     by : (t : Bool) (vs : List Waiter)
-        → map wait_of (cond t (put_in key w vs) vs) ≡ cond t (put_in priority_of (wait_of w) (map wait_of vs)) (map wait_of vs)
+        → map wait_of (cond t (put_in key w vs) vs) ≡ cond t (put_in priority_of (wait_of w) (map wait_of vs))
+        (map wait_of vs)
     by true vs = sym (put_in-map wait_of priority_of w vs)
     by false vs = refl
 
@@ -223,7 +233,10 @@ admitted_of b k h i o =
     let e : b.turn ≡ Free = i.free in
     let z : times_in k b ≡ 0 = i.outside in
     IsOf-push b (admitted k b) h act o refl
-    (record { in_range = (place_fits b h k o i.place, tt); fits = (o.turn_is ∙ e, o.outside_are k ∙ sym (zero_is _ z), no_data _) })
+    (record {
+      in_range = (place_fits b h k o i.place, tt);
+      fits = (o.turn_is ∙ e, o.outside_are k ∙ sym (zero_is _ z), no_data _);
+    })
     (waiters_kept b h act b.waiters (λ c. refl) (waiters_apart b act (λ d j. refl) (omega arith)) o)
     (signallers_apart b k (omega arith)) (called_apart b k (omega arith)) refl
     (positive _ (omega (arith, admitted_times b k k e, one_same k)))
@@ -238,7 +251,10 @@ waited_of b w ws h p i l o =
     let e : b.turn ≡ Held w.place = i.inside in
     let apart = holder_apart b w.place i in
     IsOf-push b (waited ws b) h (wait_of w) o refl
-    (record { in_range = (place_fits b h w.place o (held_in_range b w.place s e), condition_fits b h w.condition o l); fits = o.turn_is ∙ e })
+    (record {
+      in_range = (place_fits b h w.place o (held_in_range b w.place s e), condition_fits b h w.condition o l);
+      fits = o.turn_is ∙ e;
+    })
     (waiters_joined b h w ws p (waiters_apart b (wait_of w) (λ d j. refl) apart.0) o)
     (signallers_apart b w.place apart.1) (called_apart b w.place apart.2) refl
     (positive _ (omega (arith, waited_times b w ws w.place p s e, held_hand b w.place e)))
@@ -265,7 +281,13 @@ owed_of b k c h s e l o =
     let act : Act = Resume k c tt in
     let apart = hand_apart b k s (owed_hand b k c e l) in
     IsOf-push b (admitted k b) h act o refl
-    (record { in_range = (place_fits b h k o (owed_in_range b k c s e), condition_fits b h c o (owed_condition b k c s e)); fits = (o.turn_is ∙ e, no_data _) })
+    (record {
+      in_range = (
+        place_fits b h k o (owed_in_range b k c s e),
+        condition_fits b h c o (owed_condition b k c s e),
+      );
+      fits = (o.turn_is ∙ e, no_data _);
+    })
     (waiters_kept b h act b.waiters (λ d. refl) (waiters_apart b act (λ d j. refl) apart.0) o)
     (signallers_apart b k apart.1) (called_apart b k apart.2) refl
     (positive _ (omega (arith, owed_times b k c k e l, owed_hand b k c e l)))
@@ -279,7 +301,8 @@ first_goes k c (w ∷ vs) f l =
     let e : (k == w.place) ≡ true = eq-eqb k w.place (sym f.0) in
     rw e (filter-map wait_of (λ x. not (k == place_of x)) vs
     ∙ ap (map wait_of)
-    (filter-apart (λ (v : Waiter). v.place) k (λ (v : Waiter). not (k == v.place)) vs (λ v t. ap not t) (omega (arith, l, one_at k w.place e))))
+    (filter-apart (λ (v : Waiter). v.place) k (λ (v : Waiter). not (k == v.place)) vs (λ v t. ap not t)
+    (omega (arith, l, one_at k w.place e))))
 
 -- the first that was called goes on
 pub went_on_of : (b : Contents) (k c : ℕ) (h : Log) → IsSound b → b.turn ≡ Owed k c → hoare_of b ≤ c → IsOf b h
@@ -289,8 +312,15 @@ went_on_of b k c h s e l o =
     let first : IsCalledFirst k c b.called = owed_called b k c s e l in
     let count = called_times k k c b.called first in
     IsOf-push b (went_on k b) h act o refl
-    (record { in_range = (place_fits b h k o (owed_in_range b k c s e), condition_fits b h c o (owed_condition b k c s e)); fits = (o.turn_is ∙ e, no_data _) })
-    (waiters_kept b h act b.waiters (λ d. refl) (waiters_apart b act (λ d j. refl) (omega (arith, s.once k, one_same k, count))) o)
+    (record {
+      in_range = (
+        place_fits b h k o (owed_in_range b k c s e),
+        condition_fits b h c o (owed_condition b k c s e),
+      );
+      fits = (o.turn_is ∙ e, no_data _);
+    })
+    (waiters_kept b h act b.waiters (λ d. refl)
+    (waiters_apart b act (λ d j. refl) (omega (arith, s.once k, one_same k, count))) o)
     (signallers_apart b k (omega (arith, s.once k, one_same k, count)))
     (append-nil _ ∙ first_goes k c b.called first (omega (arith, s.once k)))
     refl
@@ -311,7 +341,8 @@ returned_of b k h s e o =
     let count : times k b.signallers ≡ one k k + times k rest = ap (times k) front in
     IsOf-push b (returned k b) h act o refl
     (record { in_range = (place_fits b h k o (return_in_range b k s e), tt); fits = (o.turn_is ∙ e, no_data _) })
-    (waiters_kept b h act b.waiters (λ d. refl) (waiters_apart b act (λ d j. refl) (omega (arith, s.once k, one_same k))) o)
+    (waiters_kept b h act b.waiters (λ d. refl)
+    (waiters_apart b act (λ d j. refl) (omega (arith, s.once k, one_same k))) o)
     (append-nil _ ∙ ap (filter (λ u. not (k == u))) front ∙ front_goes k rest (omega (arith, s.once k, one_same k)))
     (called_apart b k (omega (arith, s.once k, one_same k))) refl
     (positive _ (omega (arith, returned_times b k k s e, return_in b k s e)))
@@ -364,8 +395,10 @@ mesa_fits b h c o m = subst (λ (n : Sizes). IsMesa n.conditions n.mesa c) (sym 
 module _ (b : Contents) (k c w : ℕ) (ws : List Waiter) (r : Resumes b k c w ws) (h : Log) (o : IsOf b h) where
   -- whoever signals is in range, and so are the condition and the one resumed
   ranges : (k < h.sizes.places) × ((c < h.sizes.conditions) × (w < h.sizes.places))
-  ranges =
-      (place_fits b h k o (held_in_range b k r.by.sound r.by.inside), (condition_fits b h c o r.fits, place_fits b h w o (taken_in_range b c w ws r.by.sound r.took)))
+  ranges = (
+    place_fits b h k o (held_in_range b k r.by.sound r.by.inside),
+    (condition_fits b h c o r.fits, place_fits b h w o (taken_in_range b c w ws r.by.sound r.took)),
+  )
 
   -- who waits once the two places acted
   waiters_left : filter (λ (v : Waiter). not (k == v.place || w == v.place)) b.waiters ≡ ws
@@ -373,17 +406,24 @@ module _ (b : Contents) (k c w : ℕ) (ws : List Waiter) (r : Resumes b k c w ws
 
   -- k hands the monitor to the one resumed, and waits among the signallers unless it goes out
   handed_of : c < hoare_of b → (out : Bool)
-      → IsOf (resumed ws (cond out b.signallers (b.signallers ++ k ∷ [])) w c b) (with_event h (without_data (handing {S = Unit {0}} out k c w tt)))
+      → IsOf (resumed ws (cond out b.signallers (b.signallers ++ k ∷ [])) w c b)
+      (with_event h (without_data (handing {S = Unit {0}} out k c w tt)))
   handed_of l true =
       IsOf-push b (resumed ws b.signallers w c b) h (Pass k c w tt) o refl
-      (record { in_range = ranges; fits = (o.turn_is ∙ r.by.inside, chooses b h c w ws o r.took, hoare_fits b h c o l) })
+      (record {
+        in_range = ranges;
+        fits = (o.turn_is ∙ r.by.inside, chooses b h c w ws o r.took, hoare_fits b h c o l);
+      })
       (waiters_kept b h (Pass k c w tt) ws (λ d. refl) waiters_left o)
       (signallers_apart b k (holder_apart b k r.by).1) (called_apart b k (holder_apart b k r.by).2) refl
       (zero_is _ (omega (arith, passed_times b k c w k ws r l, r.by.sound.once k, one_same k)))
       (λ j q. omega (arith, passed_times b k c w j ws r l, one_apart j k (eq_swap j k ∙ q)))
   handed_of l false =
       IsOf-push b (resumed ws (b.signallers ++ k ∷ []) w c b) h (Signal k c w tt) o refl
-      (record { in_range = ranges; fits = (o.turn_is ∙ r.by.inside, chooses b h c w ws o r.took, hoare_fits b h c o l) })
+      (record {
+        in_range = ranges;
+        fits = (o.turn_is ∙ r.by.inside, chooses b h c w ws o r.took, hoare_fits b h c o l);
+      })
       (waiters_kept b h (Signal k c w tt) ws (λ d. refl) waiters_left o)
       (ap (λ l. l ++ k ∷ []) (filter-others k b.signallers (holder_apart b k r.by).1))
       (called_apart b k (holder_apart b k r.by).2) refl
@@ -392,9 +432,11 @@ module _ (b : Contents) (k c w : ℕ) (ws : List Waiter) (r : Resumes b k c w ws
 
   -- what a signal or a pass adds, where one is taken
   pub after_handing-taken : c < hoare_of b → (out : Bool)
-      → IsOf (resumed ws (cond out b.signallers (b.signallers ++ k ∷ [])) w c b) (after_handing out h k c (chosen c h.events))
+      → IsOf (resumed ws (cond out b.signallers (b.signallers ++ k ∷ [])) w c b)
+      (after_handing out h k c (chosen c h.events))
   after_handing-taken l out = subst (IsOf _)
-      (sym (ap (after_handing out h k c) (chosen-taken b h c w ws o r.took) ∙ after_handing-some out h k c w (wait_of r.took.first) tt r.took.place))
+      (sym (ap (after_handing out h k c) (chosen-taken b h c w ws o r.took)
+      ∙ after_handing-some out h k c w (wait_of r.took.first) tt r.took.place))
       (handed_of l out)
 
   -- k calls the one that it takes
@@ -420,7 +462,8 @@ module _ (b : Contents) (k c w : ℕ) (ws : List Waiter) (r : Resumes b k c w ws
   pub after_notify-taken : IsMesa b.sizes.conditions b.sizes.mesa c
       → IsOf (told ws (b.called ++ r.took.first ∷ []) b) (after_notify h k c (chosen c h.events))
   after_notify-taken m = subst (IsOf _)
-      (sym (ap (after_notify h k c) (chosen-taken b h c w ws o r.took) ∙ ap (λ j. with_event h (Notify k c j tt)) r.took.place))
+      (sym (ap (after_notify h k c) (chosen-taken b h c w ws o r.took)
+      ∙ ap (λ j. with_event h (Notify k c j tt)) r.took.place))
       (notified_of m)
 
 -- and where nobody waits, nobody is called
@@ -440,7 +483,8 @@ module _ (b : Contents) (k c : ℕ) (ws : List Waiter) (i : Holds b k) (m : IsMe
   others_left : spared (Broadcast k c tt) b.waiters ≡ ws
   others_left =
       filter-or (λ (w : Waiter). k == w.place) (λ (w : Waiter). c == w.condition) b.waiters
-      (list_all-apart (λ (v : Waiter). v.place) k (λ (v : Waiter). not (k == v.place)) b.waiters (λ v t. ap not t) (holder_apart b k i).0)
+      (list_all-apart (λ (v : Waiter). v.place) k (λ (v : Waiter). not (k == v.place)) b.waiters (λ v t. ap not t)
+      (holder_apart b k i).0)
       ∙ filter_agree (λ (w : Waiter). not (c == w.condition)) (λ (w : Waiter). not (w.condition == c))
       (λ w. ap not (eq_swap c w.condition)) b.waiters
       ∙ sym t.is
@@ -450,7 +494,10 @@ module _ (b : Contents) (k c : ℕ) (ws : List Waiter) (i : Holds b k) (m : IsMe
   broadcast_of some =
       let s : IsSound b = i.sound in
       IsOf-push b (told ws (b.called ++ waiters_on c b) b) h (Broadcast k c tt) o refl
-      (record { in_range = (place_fits b h k o (held_in_range b k s i.inside), condition_fits b h c o m.0); fits = (o.turn_is ∙ i.inside, some, mesa_fits b h c o m) })
+      (record {
+        in_range = (place_fits b h k o (held_in_range b k s i.inside), condition_fits b h c o m.0);
+        fits = (o.turn_is ∙ i.inside, some, mesa_fits b h c o m);
+      })
       (waiters_kept b h (Broadcast k c tt) ws (λ d. refl) others_left o)
       (signallers_apart b k (holder_apart b k i).1)
       ((λ j. stay_called j ++ sym (o.waiters c) j) ∙ sym (map-append wait_of b.called (waiters_on c b)))
@@ -492,8 +539,10 @@ claimed_of (Held j) b k h e n s o = absurd (cc)
 claimed_of (Owed j c) b k h e n s o =
     let q : j ≡ k = cc in subst (λ (i : ℕ). IsOf (claimed (chain_of (Owed j c) (hoare_of b)) i b) (settled h)) q
     (elim (cases_lt c (hoare_of b)) [
-      | inl l ↦ let f : nat_lt c (hoare_of b) ≡ true = grind (arith, nat_tests) in rw f (settles b (admitted j b) h (Owed j c) e o (owed_of b j c h s e l o))
-      | inr l ↦ let f : nat_lt c (hoare_of b) ≡ false = grind (arith, nat_tests) in rw f (settles b (went_on j b) h (Owed j c) e o (went_on_of b j c h s e l o))
+      | inl l ↦ let f : nat_lt c (hoare_of b) ≡ true = grind (arith, nat_tests) in
+          rw f (settles b (admitted j b) h (Owed j c) e o (owed_of b j c h s e l o))
+      | inr l ↦ let f : nat_lt c (hoare_of b) ≡ false = grind (arith, nat_tests) in
+          rw f (settles b (went_on j b) h (Owed j c) e o (went_on_of b j c h s e l o))
     ])
 claimed_of (Return j) b k h e n s o =
     let q : j ≡ k = cc in

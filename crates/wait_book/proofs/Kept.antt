@@ -74,13 +74,15 @@ joined-none c v l none = record {
 
     unjoined : (d : ℕ) → list_put CALLED (list_at v CALLED ++ list_at v c) (list_at v) d ≡ list_at v d
     unjoined d = elim (cases_eq d CALLED) [
-      | inl e ↦ subst (λ (j : ℕ). list_put CALLED (list_at v CALLED ++ list_at v c) (list_at v) j ≡ list_at v j) (sym e) (put_same CALLED (list_at v CALLED ++ list_at v c) (list_at v) ∙ called)
+      | inl e ↦ subst (λ (j : ℕ). list_put CALLED (list_at v CALLED ++ list_at v c) (list_at v) j ≡ list_at v j) (sym e)
+          (put_same CALLED (list_at v CALLED ++ list_at v c) (list_at v) ∙ called)
       | inr n ↦ put_other CALLED d (list_at v CALLED ++ list_at v c) (list_at v) n
     ]
 
     by : (d : ℕ) → list_put c [] (list_put CALLED (list_at v CALLED ++ list_at v c) (list_at v)) d ≡ list_at v d
     by d = elim (cases_eq d c) [
-      | inl e ↦ subst (λ (j : ℕ). list_put c [] (list_put CALLED (list_at v CALLED ++ list_at v c) (list_at v)) j ≡ list_at v j) (sym e)
+      | inl e ↦ subst (λ (j : ℕ). list_put c [] (list_put CALLED (list_at v CALLED ++ list_at v c) (list_at v)) j
+          ≡ list_at v j) (sym e)
           (put_same c [] (list_put CALLED (list_at v CALLED ++ list_at v c) (list_at v)) ∙ sym none)
       | inr n ↦ put_other c d [] (list_put CALLED (list_at v CALLED ++ list_at v c) (list_at v)) n ∙ unjoined d
     ]

@@ -30,8 +30,10 @@ module _ {X : Type 0} (f : ℕ → Link → X) where
 
   module _ (m : List X → ℕ) (sums : (xs ys : List X) → m (xs ++ ys) ≡ m xs + m ys) where
     measure_by : (t : Bool) (n c : ℕ) (xs : List Link) (at : ℕ → List Link) → eqb n c ≡ t → c < suc n
-        → (c < n → m (all_below f n (list_put c xs at)) + m (map (f c) (at c)) ≡ m (all_below f n at) + m (map (f c) xs))
-        → m (all_below f n (list_put c xs at)) + m (map (f n) (cond t xs (at n))) + m (map (f c) (at c)) ≡ m (all_below f n at) + m (map (f n) (at n)) + m (map (f c) xs)
+        → (c < n → m (all_below f n (list_put c xs at)) + m (map (f c) (at c))
+        ≡ m (all_below f n at) + m (map (f c) xs))
+        → m (all_below f n (list_put c xs at)) + m (map (f n) (cond t xs (at n))) + m (map (f c) (at c))
+        ≡ m (all_below f n at) + m (map (f n) (at n)) + m (map (f c) xs)
     measure_by true n c xs at e l r =
         let q : n ≡ c = eqb-true n c e in
         let past : all_below f n (list_put c xs at) ≡ all_below f n at = below_past n c xs at (omega arith) in
@@ -60,7 +62,8 @@ module _ {X : Type 0} (f : ℕ → Link → X) where
 
 -- how often a number stands, in the first n lists with another list in chain c
 pub times_put : (f : ℕ → Link → ℕ) (k n c : ℕ) (xs : List Link) (at : ℕ → List Link) → c < n
-    → times k (all_below f n (list_put c xs at)) + times k (map (f c) (at c)) ≡ times k (all_below f n at) + times k (map (f c) xs)
+    → times k (all_below f n (list_put c xs at)) + times k (map (f c) (at c))
+    ≡ times k (all_below f n at) + times k (map (f c) xs)
 times_put f k = measure_put f (times k) (times-append k)
 
 -- no more often in one than in all

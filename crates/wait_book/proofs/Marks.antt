@@ -48,7 +48,8 @@ AreMarked-none {at = at} h =
     let none : at ≡ (λ c. []) = λ i c. h c i in
     record {
       many = refl;
-      once = λ k. ap (λ (v : ℕ → List Link). times k (places_below CHAINS v)) none ∙ ap (times k) (no_places CHAINS) ∙ sym (ap (λ (v : Bool). cond v 1 0) (no_mark MOST_PLACES k));
+      once = λ k. ap (λ (v : ℕ → List Link). times k (places_below CHAINS v)) none ∙ ap (times k) (no_places CHAINS)
+          ∙ sym (ap (λ (v : Bool). cond v 1 0) (no_mark MOST_PLACES k));
     }
 
 -- of an equal value
@@ -79,7 +80,13 @@ AreMarked-put {s = s} {at = at} {bt = bt} c before after x m l within is apart l
                 let h : times x.place (places_below CHAINS bt) ≡ marked (set s x.place true) x.place =
                 omega (arith, more x.place, one_same x.place, marked-set s x.place true (omega (arith, m.many))) in
                 subst (λ (j : ℕ). times j (places_below CHAINS bt) ≡ marked (set s x.place true) j) (sym e) h
-            | inr n ↦ omega (arith, more k, one_apart k x.place (eq_apart k x.place n), m.once k, marked-other s x.place k true n)
+            | inr n ↦ omega (
+              arith,
+              more k,
+              one_apart k x.place (eq_apart k x.place n),
+              m.once k,
+              marked-other s x.place k true n,
+            )
           ];
     }
 
@@ -107,10 +114,22 @@ module _ {s : List Bool} {at : ℕ → List Link} (c : ℕ) (x : Link) (after : 
       elim (cases_eq k x.place) [
         | inl q ↦
             let h : times x.place (places_below CHAINS bt) ≡ marked (set s x.place false) x.place =
-            omega
-            (arith, less x.place, one_same x.place, m.once x.place, marked_few s x.place, marked-set s x.place false (omega (arith, first_within, m.many))) in
+            omega (
+              arith,
+              less x.place,
+              one_same x.place,
+              m.once x.place,
+              marked_few s x.place,
+              marked-set s x.place false (omega (arith, first_within, m.many)),
+            ) in
             subst (λ (j : ℕ). times j (places_below CHAINS bt) ≡ marked (set s x.place false) j) (sym q) h
-        | inr n ↦ omega (arith, less k, one_apart k x.place (eq_apart k x.place n), m.once k, marked-other s x.place k false n)
+        | inr n ↦ omega (
+          arith,
+          less k,
+          one_apart k x.place (eq_apart k x.place n),
+          m.once k,
+          marked-other s x.place k false n,
+        )
       ] in
       subst (λ (j : ℕ). AreMarked (set s j false) bt) e
       (record { many = length-set s x.place false ∙ m.many; once = once })

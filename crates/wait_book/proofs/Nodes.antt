@@ -46,11 +46,16 @@ pub IsLinked-same : (s t : Slab Node) (from : Option ℕ) (xs : List Link) (to :
     → ((k : ℕ) → 0 < times k (keys xs) → get t k ≡ get s k)
     → IsLinked s from xs to → IsLinked t from xs to
 IsLinked-same s t from [] to h l = l
-IsLinked-same s t from (x ∷ xs) to h l =
-    (l.0, l.1, h x.key (omega (arith, one_same x.key)) ∙ l.2, IsLinked-same s t l.1 xs to (λ k p. h k (omega arith)) l.3)
+IsLinked-same s t from (x ∷ xs) to h l = (
+  l.0,
+  l.1,
+  h x.key (omega (arith, one_same x.key)) ∙ l.2,
+  IsLinked-same s t l.1 xs to (λ k p. h k (omega arith)) l.3,
+)
 
 -- one list behind another
-pub IsLinked-append : (s : Slab Node) (from : Option ℕ) (xs : List Link) (mid : Option ℕ) (ys : List Link) (to : Option ℕ)
+pub IsLinked-append : (s : Slab Node) (from : Option ℕ) (xs : List Link) (mid : Option ℕ) (ys : List Link)
+    (to : Option ℕ)
     → IsLinked s from xs mid → IsLinked s mid ys to → IsLinked s from (xs ++ ys) to
 IsLinked-append s from [] mid ys to l m = subst (λ (k : Option ℕ). IsLinked s k ys to) (sym l) m
 IsLinked-append s from (x ∷ xs) mid ys to l m = (l.0, l.1, l.2, IsLinked-append s l.1 xs mid ys to l.3 m)
@@ -145,8 +150,12 @@ IsLinked-relinked s t from (x ∷ []) mid to b r e once l =
     (l.0, to, ap (get t) q ∙ r.changed (node_of x l.1) (ap (get s) (sym q) ∙ l.2), refl)
 IsLinked-relinked s t from (x ∷ y ∷ xs) mid to b r e once l =
     let apart : x.key ≢ b =
-    λ q. omega (arith, once b, last_within b (y ∷ xs) e, subst (λ (j : ℕ). one b j ≡ 1) (sym q) (one_same b)) in
-    (l.0, l.1, r.others x.key apart ∙ l.2, IsLinked-relinked s t l.1 (y ∷ xs) mid to b r e (λ k. omega (arith, once k)) l.3)
+    λ q. omega (arith, once b, last_within b (y ∷ xs) e, subst (λ (j : ℕ). one b j ≡ 1) (sym q) (one_same b)) in (
+      l.0,
+      l.1,
+      r.others x.key apart ∙ l.2,
+      IsLinked-relinked s t l.1 (y ∷ xs) mid to b r e (λ k. omega (arith, once k)) l.3,
+    )
 
 -- a walk
 
@@ -175,7 +184,12 @@ walked_ends s from e = walk_linked (slab_len s) s from e.list e.linked e.few
 
 -- a step of a walk: the first, and what is left
 pub walked_first : (s : Slab Node) (from : Option ℕ) (k : ℕ) (n : Node) → Ends s from → from ≡ Some k → get s k ≡ Some n
-    → (walked s from ≡ record { key = k; place = n.place; condition = n.condition; priority = n.priority } ∷ walked s n.next) × Ends s n.next
+    → (walked s from ≡ record {
+      key = k;
+      place = n.place;
+      condition = n.condition;
+      priority = n.priority;
+    } ∷ walked s n.next) × Ends s n.next
 walked_first s from k n e f g =
     let o : Opens s k e.list = opens s from k e.list f e.linked in
     let same : Some n ≡ Some (node_of o.first o.next) = sym g ∙ o.node in
@@ -192,7 +206,12 @@ walked_first s from k n e f g =
         → x ∷ ys ≡ record { key = k; place = m.place; condition = m.condition; priority = m.priority } ∷ ys
     by x q m next ys e =
         let at : ℕ → Node → List Link =
-        λ (j : ℕ) (v : Node). record { key = j; place = v.place; condition = v.condition; priority = v.priority } ∷ ys in
+        λ (j : ℕ) (v : Node). record {
+          key = j;
+          place = v.place;
+          condition = v.condition;
+          priority = v.priority;
+        } ∷ ys in
         ap (at x.key) (sym e) ∙ ap (λ (j : ℕ). at j m) q
 
 -- those before the first of a higher priority number

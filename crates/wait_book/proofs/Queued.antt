@@ -87,13 +87,15 @@ put_lower x [] = refl
 put_lower x (y ∷ ys) = by (leb y.priority x.priority) (put_lower x ys)
   where
     by : (t : Bool) → put_in (λ (v : Link). v.priority) x ys ≡ lower x.priority ys ++ x ∷ higher x.priority ys
-        → cond t (y ∷ put_in (λ (v : Link). v.priority) x ys) (x ∷ y ∷ ys) ≡ cond t (y ∷ lower x.priority ys) [] ++ x ∷ cond t (higher x.priority ys) (y ∷ ys)
+        → cond t (y ∷ put_in (λ (v : Link). v.priority) x ys) (x ∷ y ∷ ys)
+        ≡ cond t (y ∷ lower x.priority ys) [] ++ x ∷ cond t (higher x.priority ys) (y ∷ ys)
     by true h = ap (λ l. y ∷ l) h
     by false h = refl
 
 -- into the chain of a condition
 put_waiters : (c : ℕ) (x : Link) (xs : List Link)
-    → map (waiter_on c) (lower x.priority xs ++ x ∷ higher x.priority xs) ≡ put_in key (waiter_on c x) (map (waiter_on c) xs)
+    → map (waiter_on c) (lower x.priority xs ++ x ∷ higher x.priority xs)
+    ≡ put_in key (waiter_on c x) (map (waiter_on c) xs)
 put_waiters c x xs = sym (put_in-map (waiter_on c) key x xs ∙ ap (map (waiter_on c)) (put_lower x xs))
 
 on_put : (c d : ℕ) (x : Link) (at : ℕ → List Link) → d < MOST_CONDITIONS
@@ -103,12 +105,14 @@ on_put c d x at l =
     let xs : List Link = lower x.priority (at c) ++ x ∷ higher x.priority (at c) in
     elim (cases_eq d c) [
       | inl e ↦
-          let same : map (waiter_on c) (list_put c xs at c) ≡ cond (eqb c c) (put_in key (waiter_on c x) (map (waiter_on c) (at c))) (map (waiter_on c) (at c)) =
+          let same : map (waiter_on c) (list_put c xs at c)
+          ≡ cond (eqb c c) (put_in key (waiter_on c x) (map (waiter_on c) (at c))) (map (waiter_on c) (at c)) =
           ap (map (waiter_on c)) (put_same c xs at) ∙ put_waiters c x (at c)
           ∙ ap (λ t. cond t (put_in key (waiter_on c x) (map (waiter_on c) (at c))) (map (waiter_on c) (at c)))
           (sym (eq_self c)) in
           subst
-          (λ (j : ℕ). map (waiter_on j) (list_put c xs at j) ≡ cond (eqb c j) (put_in key (waiter_on c x) (map (waiter_on j) (at j))) (map (waiter_on j) (at j)))
+          (λ (j : ℕ). map (waiter_on j) (list_put c xs at j)
+          ≡ cond (eqb c j) (put_in key (waiter_on c x) (map (waiter_on j) (at j))) (map (waiter_on j) (at j)))
           (sym e) same
       | inr off ↦
           ap (map (waiter_on d)) (put_other c d xs at off)
@@ -119,7 +123,8 @@ on_put c d x at l =
 -- what an insertion into the chain of a condition does to those who wait
 pub PutsIn-put : (c place priority : ℕ) (old new : Lists) → c < MOST_CONDITIONS
     → IsPut c (lower priority (list_at old c)) (higher priority (list_at old c)) place c priority old new
-    → PutsIn (record { place = place; condition = c; priority = priority }) (waiting_below MOST_CONDITIONS (list_at old)) (waiting_below MOST_CONDITIONS (list_at new))
+    → PutsIn (record { place = place; condition = c; priority = priority })
+    (waiting_below MOST_CONDITIONS (list_at old)) (waiting_below MOST_CONDITIONS (list_at new))
 PutsIn-put c place priority old new l p =
     let at : ℕ → List Link = list_at old in
     let x : Link = record { key = p.key; place = place; condition = c; priority = priority } in
@@ -135,15 +140,20 @@ PutsIn-put c place priority old new l p =
         | inr m ↦
             on_before MOST_CONDITIONS d (list_put c xs at) m ∙ sym (on_before MOST_CONDITIONS d at m)
             ∙ ap
-            (λ t. cond t (put_in key (waiter_on c x) (filter (on d) (waiting_below MOST_CONDITIONS at))) (filter (on d) (waiting_below MOST_CONDITIONS at)))
+            (λ t. cond t (put_in key (waiter_on c x) (filter (on d) (waiting_below MOST_CONDITIONS at)))
+            (filter (on d) (waiting_below MOST_CONDITIONS at)))
             (sym (eq_apart c d (omega arith)))
       ];
       more = λ k.
           let counted = times_put (λ e (y : Link). y.place) k MOST_CONDITIONS c xs at l in
           let middle = places_middle k (lower priority (at c)) x (higher priority (at c)) in
           let whole = ap (λ ys. times k (places_in ys)) (lower-higher priority (at c)) in
-          omega
-          (arith, ap (λ ws. times k (places ws)) is, ap (times k) (places_waiting MOST_CONDITIONS (list_put c xs at)), ap (times k) (places_waiting MOST_CONDITIONS at));
+          omega (
+            arith,
+            ap (λ ws. times k (places ws)) is,
+            ap (times k) (places_waiting MOST_CONDITIONS (list_put c xs at)),
+            ap (times k) (places_waiting MOST_CONDITIONS at),
+          );
     }
 
 -- the first taken out
@@ -158,11 +168,14 @@ taken_below (suc n) c x after at l e =
         before = waiting_below n at;
         first = waiter_on c x;
         after = map (waiter_on c) after;
-        was = ap (λ ws. waiting_below n at ++ ws) (subst (λ (m : ℕ). map (waiter_on m) (at m) ≡ waiter_on c x ∷ map (waiter_on c) after) (sym q) (ap (map (waiter_on c)) e));
+        was = ap (λ ws. waiting_below n at ++ ws)
+            (subst (λ (m : ℕ). map (waiter_on m) (at m) ≡ waiter_on c x ∷ map (waiter_on c) after) (sym q)
+            (ap (map (waiter_on c)) e));
         is =
             ap (λ ws. ws ++ map (waiter_on n) (list_put c after at n)) (below_past waiter_on n c after at (omega arith))
             ∙ ap (λ ws. waiting_below n at ++ ws)
-            (subst (λ (m : ℕ). map (waiter_on m) (list_put c after at m) ≡ map (waiter_on c) after) (sym q) (ap (map (waiter_on c)) (put_same c after at)));
+            (subst (λ (m : ℕ). map (waiter_on m) (list_put c after at m) ≡ map (waiter_on c) after) (sym q)
+            (ap (map (waiter_on c)) (put_same c after at)));
         none_before = on_before n c at (omega arith);
         on = refl;
         place = refl;
@@ -176,7 +189,8 @@ taken_below (suc n) c x after at l e =
             first = t.first;
             after = t.after ++ more;
             was = ap (λ ws. ws ++ more) t.was ∙ append_assoc t.before (t.first ∷ t.after) more;
-            is = ap (λ ys. waiting_below n (list_put c after at) ++ map (waiter_on n) ys) (put_other c n after at off) ∙ ap (λ ws. ws ++ more) t.is ∙ append_assoc t.before t.after more;
+            is = ap (λ ys. waiting_below n (list_put c after at) ++ map (waiter_on n) ys) (put_other c n after at off)
+                ∙ ap (λ ws. ws ++ more) t.is ∙ append_assoc t.before t.after more;
             none_before = t.none_before;
             on = t.on;
             place = t.place;
@@ -189,9 +203,11 @@ pub TakesFirst-taken : (c place : ℕ) (old new : Lists) → c < MOST_CONDITIONS
 TakesFirst-taken c place old new l t =
     let lists : list_at new ≡ list_put c t.after (list_at old) = λ i d. t.lists d i in
     subst
-    (λ (at : ℕ → List Link). TakesFirst c (waiting_below MOST_CONDITIONS (list_at old)) (waiting_below MOST_CONDITIONS at) place)
+    (λ (at : ℕ → List Link). TakesFirst c (waiting_below MOST_CONDITIONS (list_at old))
+    (waiting_below MOST_CONDITIONS at) place)
     (sym lists)
-    (subst (λ (j : ℕ). TakesFirst c (waiting_below MOST_CONDITIONS (list_at old)) (waiting_below MOST_CONDITIONS (list_put c t.after (list_at old))) j) t.first_place
+    (subst (λ (j : ℕ). TakesFirst c (waiting_below MOST_CONDITIONS (list_at old))
+    (waiting_below MOST_CONDITIONS (list_put c t.after (list_at old))) j) t.first_place
     (taken_below MOST_CONDITIONS c t.first t.after (list_at old) l t.was))
 
 -- a list without a first one is empty
@@ -280,7 +296,8 @@ kept_on t c d (w ∷ ws) e = by t (eqb w.condition c) (eqb w.condition d) e refl
   where
     by : (t r s : Bool) → eqb d c ≡ t → eqb w.condition c ≡ r → eqb w.condition d ≡ s
         → filter (on d) (filter (λ v. not (on c v)) ws) ≡ cond t [] (filter (on d) ws)
-        → filter (on d) (cond (not r) (w ∷ filter (λ v. not (on c v)) ws) (filter (λ v. not (on c v)) ws)) ≡ cond t [] (cond s (w ∷ filter (on d) ws) (filter (on d) ws))
+        → filter (on d) (cond (not r) (w ∷ filter (λ v. not (on c v)) ws) (filter (λ v. not (on c v)) ws))
+        ≡ cond t [] (cond s (w ∷ filter (on d) ws) (filter (on d) ws))
     by true true s e p q h = h
     by true false true e p q h =
         let no : true ≡ false = sym (ap (λ x. eqb x c) (eqb-true w.condition d q) ∙ e) ∙ p in absurd (cc)
@@ -296,7 +313,8 @@ waited_all : (c : ℕ) (xs : List Link) → All (λ (x : Link). x.condition ≡ 
 waited_all c [] a = refl
 waited_all c (x ∷ xs) a =
     let here : x.condition ≡ c = All-head (λ (y : Link). y.condition ≡ c) x xs a in
-    (λ i. record { place = x.place; condition = here i; priority = x.priority } ∷ waited_all c xs (All-tail (λ (y : Link). y.condition ≡ c) x xs a) i)
+    (λ i. record { place = x.place; condition = here i; priority = x.priority } ∷ waited_all c xs
+    (All-tail (λ (y : Link). y.condition ≡ c) x xs a) i)
 
 pub record AllCalled (c : ℕ) (old new : Lists) : Type 0 where
   pub took : TakesAll c (waiting_below MOST_CONDITIONS (list_at old)) (waiting_below MOST_CONDITIONS (list_at new))
@@ -310,13 +328,18 @@ all_called c old new l j =
     let at : ℕ → List Link = list_at old in
     let zs : List Link = at CALLED ++ at c in
     let lists : list_at new ≡ list_put c [] (list_put CALLED zs at) = λ i d. j.lists d i in
-    let is : waiting_below MOST_CONDITIONS (list_at new) ≡ filter (λ w. not (on c w)) (waiting_below MOST_CONDITIONS at) =
+    let is : waiting_below MOST_CONDITIONS (list_at new)
+    ≡ filter (λ w. not (on c w)) (waiting_below MOST_CONDITIONS at) =
     ap (waiting_below MOST_CONDITIONS) lists ∙ without MOST_CONDITIONS c (list_put CALLED zs at)
     ∙ ap (filter (λ w. not (on c w))) (below_past waiter_on MOST_CONDITIONS CALLED zs at (omega arith)) in
     record {
-      took = record { on = λ d. ap (filter (on d)) is ∙ kept_on (eqb d c) c d (waiting_below MOST_CONDITIONS at) refl; is = is };
+      took = record {
+        on = λ d. ap (filter (on d)) is ∙ kept_on (eqb d c) c d (waiting_below MOST_CONDITIONS at) refl;
+        is = is;
+      };
       room = j.room;
-      signallers = ap places_in (j.lists SIGNALLERS ∙ put_other c SIGNALLERS [] (list_put CALLED zs at) (omega arith) ∙ put_other CALLED SIGNALLERS zs at (omega arith));
+      signallers = ap places_in (j.lists SIGNALLERS ∙ put_other c SIGNALLERS [] (list_put CALLED zs at) (omega arith)
+          ∙ put_other CALLED SIGNALLERS zs at (omega arith));
       called =
           ap called_in
           (j.lists CALLED ∙ put_other c CALLED [] (list_put CALLED zs at) (omega arith) ∙ put_same CALLED zs at)

@@ -14,7 +14,8 @@ use Rattle.wait_book.proofs.Queued.{TakesFirst-taken, chain-more, chain-same, on
 
 -- who is resumed is taken out first, and then the signaller stands behind those held up before
 pub record Signalled (c place resumed : ℕ) (old between new : Lists) : Type 0 where
-  pub took : TakesFirst c (waiting_below MOST_CONDITIONS (list_at old)) (waiting_below MOST_CONDITIONS (list_at between)) resumed
+  pub took : TakesFirst c (waiting_below MOST_CONDITIONS (list_at old))
+      (waiting_below MOST_CONDITIONS (list_at between)) resumed
   pub room : new.room ≡ old.room
   pub waiters : waiting_below MOST_CONDITIONS (list_at new) ≡ waiting_below MOST_CONDITIONS (list_at between)
   pub signallers : places_in (list_at new SIGNALLERS) ≡ places_in (list_at old SIGNALLERS) ++ place ∷ []
@@ -36,7 +37,8 @@ signalled c place resumed old between new l t p =
 
 -- who is called is taken out first, and then stands behind those called before
 pub record Notified (c place : ℕ) (old between new : Lists) : Type 0 where
-  pub took : TakesFirst c (waiting_below MOST_CONDITIONS (list_at old)) (waiting_below MOST_CONDITIONS (list_at between)) place
+  pub took : TakesFirst c (waiting_below MOST_CONDITIONS (list_at old))
+      (waiting_below MOST_CONDITIONS (list_at between)) place
   pub room : new.room ≡ old.room
   pub waiters : waiting_below MOST_CONDITIONS (list_at new) ≡ waiting_below MOST_CONDITIONS (list_at between)
   pub signallers : places_in (list_at new SIGNALLERS) ≡ places_in (list_at old SIGNALLERS)
@@ -53,10 +55,12 @@ taken_is c x (Some p) old new is t =
 
 -- the waiter that is taken out of those who wait is that of the chain's first
 first_waiter : (c : ℕ) (x : Link) (old between : Lists) → c < MOST_CONDITIONS → Some x ≡ first_link (list_at old c)
-    → (t : TakesFirst c (waiting_below MOST_CONDITIONS (list_at old)) (waiting_below MOST_CONDITIONS (list_at between)) x.place)
+    → (t : TakesFirst c (waiting_below MOST_CONDITIONS (list_at old))
+    (waiting_below MOST_CONDITIONS (list_at between)) x.place)
     → waiter_on c x ≡ t.first
 first_waiter c x old between l is t =
-    let left : filter (on c) (waiting_below MOST_CONDITIONS (list_at old)) ≡ t.first ∷ filter (on c) (waiting_below MOST_CONDITIONS (list_at between)) =
+    let left : filter (on c) (waiting_below MOST_CONDITIONS (list_at old))
+    ≡ t.first ∷ filter (on c) (waiting_below MOST_CONDITIONS (list_at between)) =
     filter-taken_on c _ _ x.place t in
     let right : filter (on c) (waiting_below MOST_CONDITIONS (list_at old)) ≡ map (waiter_on c) (list_at old c) =
     on_chain MOST_CONDITIONS c (list_at old) l in

@@ -290,7 +290,8 @@ waited_ordered : (b : Contents) (w : Waiter) (ws : List Waiter) (c : ℕ) → Pu
 waited_ordered b w ws c p o = ap (in_order key) (p.on c) ∙ by (w.condition == c) ∙ sym (p.on c)
   where
     by : (t : Bool)
-        → in_order key (cond t (put_in key w (waiters_on c b)) (waiters_on c b)) ≡ cond t (put_in key w (waiters_on c b)) (waiters_on c b)
+        → in_order key (cond t (put_in key w (waiters_on c b)) (waiters_on c b))
+        ≡ cond t (put_in key w (waiters_on c b)) (waiters_on c b)
     by true = in_order-put_in key w (waiters_on c b) o
     by false = o
 
@@ -325,8 +326,20 @@ room b k o =
     let behind : List ℕ = b.signallers ++ places b.called in
     let all : List ℕ = k ∷ (places b.waiters ++ behind) in
     let few : length all ≤ b.sizes.places = few_once all b.sizes.places
-    (λ j. omega (arith, o.sound.once j, hand_of j b (Held k) o.inside, times-append j (places b.waiters) behind, times-append j b.signallers (places b.called)))
-    (λ j p. o.sound.in_range j (omega (arith, hand_of j b (Held k) o.inside, times-append j (places b.waiters) behind, times-append j b.signallers (places b.called)))) in
+    (λ j. omega (
+      arith,
+      o.sound.once j,
+      hand_of j b (Held k) o.inside,
+      times-append j (places b.waiters) behind,
+      times-append j b.signallers (places b.called),
+    ))
+    (λ j p. o.sound.in_range j
+    (omega (
+      arith,
+      hand_of j b (Held k) o.inside,
+      times-append j (places b.waiters) behind,
+      times-append j b.signallers (places b.called),
+    ))) in
     omega (
       arith,
       length-append (places b.waiters) behind,
@@ -379,7 +392,8 @@ admitted_sound b k i = record {
   waiters_fit = i.sound.waiters_fit;
   signallers_fit = i.sound.signallers_fit;
   once = λ j. omega (arith, admitted_times b k j i.free, once_more (eqb j k) b k j refl i.outside (i.sound.once j));
-  in_range = λ j p. ranged_more (eqb j k) b k j b.sizes.places refl i.place (i.sound.in_range j) (omega (arith, admitted_times b k j i.free));
+  in_range = λ j p. ranged_more (eqb j k) b k j b.sizes.places refl i.place (i.sound.in_range j)
+      (omega (arith, admitted_times b k j i.free));
   on_conditions = i.sound.on_conditions;
   ordered = i.sound.ordered;
   on_mesa = i.sound.on_mesa;
@@ -397,8 +411,12 @@ owed_times b k c j e l = omega (arith, hand_of j b (Owed k c) e, hand_hoare j k 
 pub went_on_times : (b : Contents) (k c j : ℕ) → IsSound b → b.turn ≡ Owed k c → hoare_of b ≤ c
     → times_in j (went_on k b) ≡ times_in j b
 went_on_times b k c j s e l =
-    omega
-    (arith, hand_of j b (Owed k c) e, hand_mesa j k c (hoare_of b) l, called_times j k c b.called (owed_called b k c s e l))
+    omega (
+      arith,
+      hand_of j b (Owed k c) e,
+      hand_mesa j k c (hoare_of b) l,
+      called_times j k c b.called (owed_called b k c s e l),
+    )
 
 -- the first signaller goes on as often as it stood
 pub returned_times : (b : Contents) (k j : ℕ) → IsSound b → b.turn ≡ Return k → times_in j (returned k b) ≡ times_in j b
@@ -465,8 +483,13 @@ taken_conditions b k c w ws r d l =
 pub signalled_times : (b : Contents) (k c w j : ℕ) (ws : List Waiter) → Resumes b k c w ws → c < hoare_of b
     → times_in j (resumed ws (b.signallers ++ k ∷ []) w c b) ≡ times_in j b
 signalled_times b k c w j ws r l =
-    omega
-    (arith, hand_hoare j w c (hoare_of b) l, hand_of j b (Held k) r.by.inside, times-taken j c b.waiters ws w r.took, times-append j b.signallers (k ∷ []))
+    omega (
+      arith,
+      hand_hoare j w c (hoare_of b) l,
+      hand_of j b (Held k) r.by.inside,
+      times-taken j c b.waiters ws w r.took,
+      times-append j b.signallers (k ∷ []),
+    )
 
 -- a pass takes its caller away
 pub passed_times : (b : Contents) (k c w j : ℕ) (ws : List Waiter) → Resumes b k c w ws → c < hoare_of b
@@ -515,8 +538,11 @@ notified_sound b k c w ws r m =
     sound_fewer b (told ws (b.called ++ r.took.first ∷ []) b) r.by.sound (same b)
     (λ j. omega (arith, notified_times b k c w j ws r))
     (taken_conditions b k c w ws r) (taken_ordered b k c w ws r)
-    (All-last mesa b.called (r.took.first ∷ []) r.by.sound.on_mesa (All-cons mesa r.took.first [] (subst (λ (d : ℕ). IsMesa b.sizes.conditions b.sizes.mesa d) (sym r.took.on) m) (All-nil mesa)))
-    (subst (λ (t : Turn). IsTurnBeside b.signallers (b.called ++ r.took.first ∷ []) (hoare_of b) t) (sym r.by.inside) tt)
+    (All-last mesa b.called (r.took.first ∷ []) r.by.sound.on_mesa
+    (All-cons mesa r.took.first [] (subst (λ (d : ℕ). IsMesa b.sizes.conditions b.sizes.mesa d) (sym r.took.on) m)
+    (All-nil mesa)))
+    (subst (λ (t : Turn). IsTurnBeside b.signallers (b.called ++ r.took.first ∷ []) (hoare_of b) t)
+    (sym r.by.inside) tt)
 
 -- those that a filter keeps, and the others
 times-filter : (j : ℕ) (p : Waiter → Bool) (ws : List Waiter)
@@ -526,7 +552,9 @@ times-filter j p (w ∷ ws) = by (p w) (times-filter j p ws)
   where
     by : (t : Bool)
         → times j (places ws) ≡ times j (places (filter (λ v. not (p v)) ws)) + times j (places (filter p ws))
-        → one j w.place + times j (places ws) ≡ times j (places (cond (not t) (w ∷ filter (λ v. not (p v)) ws) (filter (λ v. not (p v)) ws))) + times j (places (cond t (w ∷ filter p ws) (filter p ws)))
+        → one j w.place + times j (places ws)
+        ≡ times j (places (cond (not t) (w ∷ filter (λ v. not (p v)) ws) (filter (λ v. not (p v)) ws))) + times j
+        (places (cond t (w ∷ filter p ws) (filter p ws)))
     by true h = omega arith
     by false h = omega arith
 
@@ -534,8 +562,12 @@ times-filter j p (w ∷ ws) = by (p w) (times-filter j p ws)
 pub broadcast_times : (b : Contents) (c j : ℕ) (ws : List Waiter) → TakesAll c b.waiters ws
     → times_in j (told ws (b.called ++ waiters_on c b) b) ≡ times_in j b
 broadcast_times b c j ws t =
-    omega
-    (arith, times-filter j (on c) b.waiters, ap (λ l. times j (places l)) t.is, times-places j b.called (waiters_on c b))
+    omega (
+      arith,
+      times-filter j (on c) b.waiters,
+      ap (λ l. times j (places l)) t.is,
+      times-places j b.called (waiters_on c b),
+    )
 
 all_on : (P : ℕ → Type 0) (c : ℕ) (ws : List Waiter) → P c → All (λ (w : Waiter). P w.condition) (filter (on c) ws)
 all_on P c [] p = All-nil (λ (w : Waiter). P w.condition)
@@ -571,7 +603,8 @@ broadcast_sound b k c ws o m t =
     (λ j. omega (arith, broadcast_times b c j ws t))
     (λ d l. emptied_conditions b c d ws t (o.sound.on_conditions d l))
     (λ d. emptied_ordered b c d ws t (o.sound.ordered d))
-    (All-last (λ (v : Waiter). IsMesa b.sizes.conditions b.sizes.mesa v.condition) b.called (waiters_on c b) o.sound.on_mesa (all_on (λ (d : ℕ). IsMesa b.sizes.conditions b.sizes.mesa d) c b.waiters m))
+    (All-last (λ (v : Waiter). IsMesa b.sizes.conditions b.sizes.mesa v.condition) b.called
+    (waiters_on c b) o.sound.on_mesa (all_on (λ (d : ℕ). IsMesa b.sizes.conditions b.sizes.mesa d) c b.waiters m))
     (subst (λ (t : Turn). IsTurnBeside b.signallers (b.called ++ waiters_on c b) (hoare_of b) t) (sym o.inside) tt)
 
 -- a new book
@@ -579,7 +612,15 @@ broadcast_sound b k c ws o m t =
 -- a book where nobody is
 pub opened_sound : (n : Sizes) (x : ℕ) → 0 < n.places → n.places ≤ MOST_PLACES → 0 < n.conditions
     → n.conditions ≤ MOST_CONDITIONS → n.mesa ≤ n.conditions → n.places ≤ x
-    → IsSound (record { sizes = n; room_to_wait = x; room_to_signal = x; waiters = []; signallers = []; called = []; turn = Free })
+    → IsSound (record {
+      sizes = n;
+      room_to_wait = x;
+      room_to_signal = x;
+      waiters = [];
+      signallers = [];
+      called = [];
+      turn = Free;
+    })
 opened_sound n x a b d e g f = record {
   some_places = a;
   few_places = b;
@@ -601,7 +642,15 @@ opened_sound n x a b d e g f = record {
 -- a book with these parts
 pub parts : {n : Sizes} {x y p q : ℕ} {ws vs : List Waiter} {us zs : List ℕ} {cs ds : List Waiter} {t r : Turn} → x ≡ y
     → p ≡ q → ws ≡ vs → us ≡ zs → cs ≡ ds → t ≡ r
-    → (let b : Contents = record { sizes = n; room_to_wait = x; room_to_signal = p; waiters = ws; signallers = us; called = cs; turn = t } in
+    → (let b : Contents = record {
+      sizes = n;
+      room_to_wait = x;
+      room_to_signal = p;
+      waiters = ws;
+      signallers = us;
+      called = cs;
+      turn = t;
+    } in
     let d : Contents =
     record { sizes = n; room_to_wait = y; room_to_signal = q; waiters = vs; signallers = zs; called = ds; turn = r } in
     d ≡ b)

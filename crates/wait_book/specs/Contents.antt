@@ -105,5 +105,6 @@ IsPlaceBelow n (next.Held k) = k < n
 abbrev pub make_refusal : Sizes → Option MakeRefused
 make_refusal n =
     if nat_le 1 n.places && nat_le n.places MOST_PLACES then
-    (if nat_le 1 n.conditions && (nat_le n.conditions MOST_CONDITIONS && nat_le n.mesa n.conditions) then None else Some BadConditions)
+    (if nat_le 1 n.conditions && (nat_le n.conditions MOST_CONDITIONS && nat_le n.mesa n.conditions) then None else Some
+    BadConditions)
     else Some BadPlaces

@@ -27,5 +27,6 @@ pub record TakesFirst (c : ℕ) (old new : List Waiter) (k : ℕ) : Type 0 where
 -- all on c are taken out of a list, and the others stay as they were
 pub record TakesAll (c : ℕ) (old new : List Waiter) : Type 0 where
   pub on : (d : ℕ)
-      → filter (λ (w : Waiter). w.condition == d) new ≡ (if d == c then [] else filter (λ (w : Waiter). w.condition == d) old)
+      → filter (λ (w : Waiter). w.condition == d) new
+      ≡ (if d == c then [] else filter (λ (w : Waiter). w.condition == d) old)
   pub is : new ≡ filter (λ (w : Waiter). not (w.condition == c)) old

@@ -16,11 +16,11 @@ pub const MOST_PLACES: usize = 64;
 /// The most conditions that a book has.
 pub const MOST_CONDITIONS: usize = 8;
 
-/// The queues of one monitor: who waits on each condition, who waits as a signaller, who was called, and whose turn it is
-/// ("Monitors", Introduction, Interpretation and Scheduled Waits). It is for one thread, and holds no data.
+/// The queues of one monitor: who waits on each condition, who waits as a signaller, who was called, and whose turn it
+/// is ("Monitors", Introduction, Interpretation and Scheduled Waits). It is for one thread, and holds no data.
 ///
-/// A clause of a call that changes it reads: for every history that the book was of, it is afterwards of that history with
-/// the call's event. `sizes` says that the call kept the places, the conditions and the memory that `make` took.
+/// A clause of a call that changes it reads: for every history that the book was of, it is afterwards of that history
+/// with the call's event. `sizes` says that the call kept the places, the conditions and the memory that `make` took.
 ///
 /// ```rust
 /// let mut book = Book::make(alloc, 2, 1, 0)?; // 2 places, 1 condition, none of it a Mesa condition
@@ -51,7 +51,8 @@ impl Model for Book {
 }
 
 impl Book {
-    ghost use Rattle.std.specs.Prelude.{◌≡◌, ◌≢◌, ◌<◌, ◌≤◌, ◌==◌, ◌↔◌, ℕ, [], length, IsTrue, MatchResult, MatchOption, IfOk, OnErr, ◌⊎◌, Some, None, slice_index, map};
+    ghost use Rattle.std.specs.Prelude.{◌≡◌, ◌≢◌, ◌<◌, ◌≤◌, ◌==◌, ◌↔◌, ℕ, [], length, IsTrue, MatchResult, MatchOption};
+    ghost use Rattle.std.specs.Prelude.{IfOk, OnErr, ◌⊎◌, Some, None, slice_index, map};
     ghost use Rattle.std.specs.Option.{option_map};
     ghost use Rattle.hoare_law.specs.declared.event.History.{History};
     ghost use Rattle.hoare_law.specs.declared.event.Event.TheVariants as event;
@@ -61,13 +62,15 @@ impl Book {
     ghost use Rattle.hoare_law.specs.Turns.{turn, outside};
     ghost use Rattle.hoare_law.specs.Sizes.{IsHoare, IsMesa, sizes_of};
     ghost use Rattle.hoare_law.specs.Priorities.{joined, taken, emptied};
-    ghost use Rattle.wait_book.specs.Contents.{IsOf, IsPlaceBelow, SameSizes, make_refusal, next_of, priorities_on, times, times_in};
+    ghost use Rattle.wait_book.specs.Contents.{IsOf, IsPlaceBelow, SameSizes, make_refusal, next_of, priorities_on};
+    ghost use Rattle.wait_book.specs.Contents.{times, times_in};
     ghost use Rattle.wait_book.specs.Numbers.{number_called};
-    ghost use Rattle.wait_book.specs.Stepping.{IsSettled, after_broadcast, after_notify, after_pass, after_signal, after_step, refusal_of, settled};
+    ghost use Rattle.wait_book.specs.Stepping.{IsSettled, after_broadcast, after_notify, after_pass, after_signal};
+    ghost use Rattle.wait_book.specs.Stepping.{after_step, refusal_of, settled};
 
-    /// A book of 1 to 64 places and 1 to 8 conditions, of which the last `mesa` are Mesa conditions, where nothing happened yet.
-    /// Refused, in this order: `BadPlaces`, `BadConditions`, and `Memory` where the room for all places to wait, to be waiting
-    /// signallers or to be called can't be had.
+    /// A book of 1 to 64 places and 1 to 8 conditions, of which the last `mesa` are Mesa conditions, where nothing
+    /// happened yet. Refused, in this order: `BadPlaces`, `BadConditions`, and `Memory` where the room for all places
+    /// to wait, to be waiting signallers or to be called can't be had.
     pub fn make(
         alloc: Global,
         places: usize,
@@ -172,8 +175,8 @@ impl Book {
         first_priority(&self.chains, condition)
     }
 
-    /// The number of a place among those that were called and haven't gone on yet: 1 of the one that goes on first, and 0 of a
-    /// place that isn't among them.
+    /// The number of a place among those that were called and haven't gone on yet: 1 of the one that goes on first, and
+    /// 0 of a place that isn't among them.
     pub fn number_called(&self, place: usize) -> usize
         ensures of { (h : History (Unit {0})) → IsOf self.now h
             → result ≡ number_called h.events place }
@@ -247,8 +250,8 @@ impl Book {
         self.now()
     }
 
-    /// The place inside signals one of Hoare's conditions: the longest waiting of least priority is handed the monitor, and the place is
-    /// held up as a signaller. Where nobody waits, nothing changes.
+    /// The place inside signals one of Hoare's conditions: the longest waiting of least priority is handed the monitor,
+    /// and the place is held up as a signaller. Where nobody waits, nothing changes.
     pub fn signal(&mut self, place: usize, condition: usize) -> Next
         requires inside { self.old.turn ≡ turns.Held place }
         requires hoare { IsHoare self.old.sizes.conditions self.old.sizes.mesa condition }
@@ -272,8 +275,8 @@ impl Book {
         self.now()
     }
 
-    /// The place inside signals one of Hoare's conditions as its last act: who is resumed is handed the monitor, and the place is outside.
-    /// Where nobody waits, it leaves.
+    /// The place inside signals one of Hoare's conditions as its last act: who is resumed is handed the monitor, and
+    /// the place is outside. Where nobody waits, it leaves.
     pub fn pass(&mut self, place: usize, condition: usize) -> Next
         requires inside { self.old.turn ≡ turns.Held place }
         requires hoare { IsHoare self.old.sizes.conditions self.old.sizes.mesa condition }
@@ -295,8 +298,8 @@ impl Book {
         self.now()
     }
 
-    /// The place inside calls the process that a signal on a Mesa condition would resume, and stays inside. True exactly where
-    /// somebody waits there; where nobody does, nothing changes.
+    /// The place inside calls the process that a signal on a Mesa condition would resume, and stays inside. True
+    /// exactly where somebody waits there; where nobody does, nothing changes.
     #[inline(never)] // apart, so that `try_step` stays small
     pub fn notify(&mut self, place: usize, condition: usize) -> bool
         requires inside { self.old.turn ≡ turns.Held place }
@@ -319,8 +322,8 @@ impl Book {
         true
     }
 
-    /// The place inside calls all that wait on a Mesa condition, in the order in which signals would resume them, stays inside,
-    /// and is told how many they are.
+    /// The place inside calls all that wait on a Mesa condition, in the order in which signals would resume them, stays
+    /// inside, and is told how many they are.
     #[inline(never)] // apart, so that `try_step` stays small
     pub fn broadcast(&mut self, place: usize, condition: usize) -> usize
         requires inside { self.old.turn ≡ turns.Held place }

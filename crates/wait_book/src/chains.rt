@@ -1,11 +1,13 @@
-//! The chains of a book: who waits on each condition, who waits as a signaller, and who was called. The nodes of all chains lie in
-//! one slab, and each holds the key of the next one.
-ghost use Rattle.std.specs.Prelude.{◌≡◌, ◌≢◌, ◌<◌, ◌≤◌, ◌==◌, ℕ, [], ◌++◌, List, Option, Some, None, is_some, if◌then◌else◌, not, IfOk, IfSome, MatchOption};
+//! The chains of a book: who waits on each condition, who waits as a signaller, and who was called. The nodes of all
+//! chains lie in one slab, and each holds the key of the next one.
+ghost use Rattle.std.specs.Prelude.{◌≡◌, ◌≢◌, ◌<◌, ◌≤◌, ◌==◌, ℕ, [], ◌++◌, List, Option, Some, None, is_some};
+ghost use Rattle.std.specs.Prelude.{if◌then◌else◌, not, IfOk, IfSome, MatchOption};
 ghost use Rattle.std.specs.List.Sorted.{IsNonDecreasing};
 ghost use Rattle.slab.specs.Slab.{get, slab_len, ContainsKey};
 ghost use Rattle.wait_book.specs.declared.chains.Link.{Link};
 ghost use Rattle.wait_book.specs.Contents.{times};
-ghost use Rattle.wait_book.specs.Lists.{IsJoined, IsPut, IsTaken, first_link, higher, keys, last_key, list_at, lower, places_below, priorities, total};
+ghost use Rattle.wait_book.specs.Lists.{IsJoined, IsPut, IsTaken, first_link, higher, keys, last_key, list_at, lower};
+ghost use Rattle.wait_book.specs.Lists.{places_below, priorities, total};
 ghost use Rattle.wait_book.specs.Chains.{IsLinked, held};
 
 mod links;
@@ -249,7 +251,8 @@ impl Chains {
         self.link(chain, behind, place, condition, priority);
     }
 
-    /// Puts a place that stands in no chain into one that stands in order, behind those whose priority is its own or less.
+    /// Puts a place that stands in no chain into one that stands in order, behind those whose priority is its own or
+    /// less.
     pub(crate) fn insert(&mut self, chain: usize, place: usize, priority: u64)
         requires chain { chain < CHAINS }
         requires place { place < MOST_PLACES }
@@ -278,7 +281,8 @@ impl Chains {
         Some(node.place)
     }
 
-    /// Puts all in the chain of a condition behind those that were called, in their order: one link is set, however many they are.
+    /// Puts all in the chain of a condition behind those that were called, in their order: one link is set, however
+    /// many they are.
     pub(crate) fn call_all(&mut self, chain: usize)
         requires { chain < SIGNALLERS }
         ensures { IsJoined chain self.old self.new }

@@ -13,7 +13,8 @@ ghost use Rattle.wait_book.specs.declared.chains.Link.{Link};
 use crate::chains::{CALLED, CHAINS, Chains, SIGNALLERS};
 use hoare_law::turn::Turn;
 
-/// Who goes on where the monitor is given up: the longest waiting signaller, else the first that was called, else nobody.
+/// Who goes on where the monitor is given up: the longest waiting signaller, else the first that was called, else
+/// nobody.
 pub(crate) fn turn_given_up(chains: &Chains) -> Turn
     ensures { result ≡ turn_given_up (places_in (list_at chains.now SIGNALLERS))
         (map wait_of (called_in (list_at chains.now CALLED))) }
@@ -73,8 +74,8 @@ pub(crate) fn is_in_hand(turn: Turn, hoare: usize, place: usize) -> bool
     }
 }
 
-/// The chain in which a place stands that is to go on: that of the signallers where it returns from a signal, that of the called
-/// where it waited behind the first conditions, which are Hoare's; none where it was resumed.
+/// The chain in which a place stands that is to go on: that of the signallers where it returns from a signal, that of
+/// the called where it waited behind the first conditions, which are Hoare's; none where it was resumed.
 pub(crate) fn chain_of(turn: Turn, hoare: usize) -> Option<usize>
     ensures { result ≡ chain_of turn hoare }
 {

@@ -1,7 +1,7 @@
 //! A process that waits.
 
-/// A process that waits: its place, the condition that it waits on, and its priority. Only contracts speak of it, as of what
-/// a book contains; no value of it is made.
+/// A process that waits: its place, the condition that it waits on, and its priority. Only contracts speak of it, as of
+/// what a book contains; no value of it is made.
 #[derive(Clone, Copy)]
 pub struct Waiter {
     pub place: usize,

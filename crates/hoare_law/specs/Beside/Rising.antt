@@ -64,9 +64,11 @@ IsNonDecreasing-put_in p (q ∷ qs) r =
 pub IsNonDecreasing-joined : (lists : ℕ → List ℕ) (c p d : ℕ) → IsNonDecreasing (lists d)
     → IsNonDecreasing (joined lists c p d)
 IsNonDecreasing-joined lists c p d r =
-    elim (d == c) as (λ t. IsNonDecreasing (cond t (put_in (λ x. x) p (lists d)) (lists d))) [ true ↦ IsNonDecreasing-put_in p (lists d) r | false ↦ r ]
+    elim (d == c) as (λ t. IsNonDecreasing (cond t (put_in (λ x. x) p (lists d)) (lists d)))
+    [ true ↦ IsNonDecreasing-put_in p (lists d) r | false ↦ r ]
 
 pub IsNonDecreasing-taken : (lists : ℕ → List ℕ) (c d : ℕ) → IsNonDecreasing (lists d)
     → IsNonDecreasing (taken lists c d)
 IsNonDecreasing-taken lists c d r =
-    elim (d == c) as (λ t. IsNonDecreasing (cond t (behind_first (lists d)) (lists d))) [ true ↦ IsNonDecreasing-behind_first (lists d) r | false ↦ r ]
+    elim (d == c) as (λ t. IsNonDecreasing (cond t (behind_first (lists d)) (lists d)))
+    [ true ↦ IsNonDecreasing-behind_first (lists d) r | false ↦ r ]

@@ -4,8 +4,8 @@ use std::alloc::Global;
 use std::fmt::{Debug, Display};
 use std::process::Abort;
 
-/// Fails the test where the value that was found isn't the wanted one. (Each `assert_eq!` is checked where it stands, and takes the
-/// checker some two seconds; a call of this takes it half a second.)
+/// Fails the test where the value that was found isn't the wanted one. (Each `assert_eq!` is checked where it stands,
+/// and takes the checker some two seconds; a call of this takes it half a second.)
 pub fn expect_same<T: Copy + Debug + PartialEq, R: Abort>(rt: &R, found: T, wanted: T) {
     assert_eq!(rt; found, wanted);
 }

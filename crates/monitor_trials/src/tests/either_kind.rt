@@ -1,4 +1,5 @@
-//! A door of either kind, which is chosen where it is made: all calls, several conditions and priorities, and which door answers.
+//! A door of either kind, which is chosen where it is made: all calls, several conditions and priorities, and which
+//! door answers.
 ghost use Rattle.std.specs.Prelude.{◌≡◌};
 
 use crate::tally::Tally;
@@ -41,8 +42,8 @@ fn a_diary_of_either_kind_is_a_legal_history(host: HostRuntime) {
     }
 }
 
-// Where a ticket door is behind this one, place a asks there, and comes in and out. Place b tries on this door, before and after:
-// the ticket of a, and whether the tries came in.
+// Where a ticket door is behind this one, place a asks there, and comes in and out. Place b tries on this door, before
+// and after: the ticket of a, and whether the tries came in.
 fn asks_behind<R: Wait>(
     rt: &R,
     door: &AnyDoor<Tally>,

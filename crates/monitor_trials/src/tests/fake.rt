@@ -1,5 +1,5 @@
-//! The fake monitor, and the plain schedulers on it. A wait of it that finds no answer never returns, so each test runs within the
-//! limit.
+//! The fake monitor, and the plain schedulers on it. A wait of it that finds no answer never returns, so each test runs
+//! within the limit.
 ghost use Rattle.std.specs.Prelude.{◌≤◌};
 ghost use Rattle.hoare_law.specs.Priorities.{nobody};
 ghost use Rattle.plain_schedulers.specs.Buffers.{BufferRests};

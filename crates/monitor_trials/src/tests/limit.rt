@@ -10,8 +10,9 @@ use std::time::{Duration, Instant};
 /// For how many seconds a test waits for its threads.
 const LIMIT: u64 = 25;
 
-/// How often a place comes in, at the most, to see whether others wait. Alone that takes some fifteen seconds; beside busy threads the
-/// limit above comes first. (A million was too few: beside three busy threads every third run of the pool's rows met it.)
+/// How often a place comes in, at the most, to see whether others wait. Alone that takes some fifteen seconds; beside
+/// busy threads the limit above comes first. (A million was too few: beside three busy threads every third run of the
+/// pool's rows met it.)
 pub const VISITS: u32 = 40_000_000;
 
 /// The most looks.

@@ -32,8 +32,8 @@ fn all_ask(door: &TicketDoor<Tally>, outs: Vec<TicketOut<Tally>>, asks: &mut Vec
     }
 }
 
-/// All come in and give up, in the order in which they asked: each notes the number that it finds and its ticket, and adds one
-/// to the number.
+/// All come in and give up, in the order in which they asked: each notes the number that it finds and its ticket, and
+/// adds one to the number.
 fn all_come_in<R: Wait>(
     rt: &R,
     door: &TicketDoor<Tally>,

@@ -1,5 +1,5 @@
-//! Whether the data of the schedulers and of the cookbook are at rest, and ready for one that waits, as code tells it: with nobody waiting, and with one that
-//! waits on condition 0 with priority 5, or on condition 1.
+//! Whether the data of the schedulers and of the cookbook are at rest, and ready for one that waits, as code tells it:
+//! with nobody waiting, and with one that waits on condition 0 with priority 5, or on condition 1.
 ghost use Rattle.std.specs.Prelude.{◌<◌};
 
 use crate::tests::compared::expect_same;
@@ -29,7 +29,8 @@ fn rests<D: MonitorData>(data: &D) -> (bool, bool, bool) {
     )
 }
 
-// Whether they are ready for one that waited on condition 0 with priority 5, with nobody waiting beside it, and with one.
+// Whether they are ready for one that waited on condition 0 with priority 5, with nobody waiting beside it, and with
+// one.
 fn readies<D: MonitorData>(data: &D) -> (bool, bool)
     requires { 0 < D.CONDITIONS }
 {
@@ -52,8 +53,8 @@ fn means<D: MonitorData, R: Abort>(
     expect_same(rt, readies(data), ready);
 }
 
-// A sleeper set to 5 may sleep at 4, and is due at 5. A buffer of two cells with nothing in: who removes may wait, who appends may
-// not. An item, a drive and a free buffer are for who waits; a resource that nobody uses is for a reader.
+// A sleeper set to 5 may sleep at 4, and is due at 5. A buffer of two cells with nothing in: who removes may wait, who
+// appends may not. An item, a drive and a free buffer are for who waits; a resource that nobody uses is for a reader.
 #[test]
 fn data_at_rest_and_ready(rt: HostRuntime) -> Result<(), Fail> {
     let nothing_waits = (true, false, true);
@@ -73,8 +74,8 @@ fn data_at_rest_and_ready(rt: HostRuntime) -> Result<(), Fail> {
     Ok(())
 }
 
-// Nobody is due at a new head, which stands at cylinder 0: it is ready for one that waited for another cylinder, and not
-// for one that waited for its own and wasn't counted.
+// Nobody is due at a new head, which stands at cylinder 0: it is ready for one that waited for another cylinder, and
+// not for one that waited for its own and wasn't counted.
 #[test]
 fn nobody_is_due_at_a_new_head(rt: HostRuntime) {
     let head = Head::with('d', 9);
@@ -83,8 +84,8 @@ fn nobody_is_due_at_a_new_head(rt: HostRuntime) {
     expect_same(&rt, head.ready_holds(0, 0, &Nobody), false);
 }
 
-// A party may wait only where it was counted. Nobody waits at an open latch, nor for room in an empty mailbox, nor alone for an
-// answer, nor beside free seats; an open latch, an empty mailbox and an empty table are for who waits.
+// A party may wait only where it was counted. Nobody waits at an open latch, nor for room in an empty mailbox, nor
+// alone for an answer, nor beside free seats; an open latch, an empty mailbox and an empty table are for who waits.
 #[test]
 fn recipes_at_rest_and_ready(rt: HostRuntime) -> Result<(), Fail> {
     let nothing_waits = (true, false, true);

@@ -1,4 +1,5 @@
-//! What the cookbook's program does not run, on the fake monitor: a philosopher gets up where nobody eats, and a latch is opened twice.
+//! What the cookbook's program does not run, on the fake monitor: a philosopher gets up where nobody eats, and a latch
+//! is opened twice.
 
 use crate::tests::compared::{expect_same, reads_as};
 use crate::tests::fake::with_answers;

@@ -1,4 +1,5 @@
-//! How the refusals of the schedulers and of the work queue read. (That of a read which nobody began stands in `rows::readers`, for its pass can't be made up.)
+//! How the refusals of the schedulers and of the work queue read. (That of a read which nobody began stands in
+//! `rows::readers`, for its pass can't be made up.)
 
 use crate::tests::compared::reads_as;
 use cookbook::work_queue::PutRefused;

@@ -12,8 +12,8 @@ use ticket_door::door::TicketDoor;
 use ticket_door::laws::make_at;
 use ticket_door::place::TicketOut;
 
-// Place a comes in at once, and leaves with a signal that nobody waits for; it meets b, and b asks and comes in. They come back in
-// this order, with whether a resumed somebody, and b's ticket.
+// Place a comes in at once, and leaves with a signal that nobody waits for; it meets b, and b asks and comes in. They
+// come back in this order, with whether a resumed somebody, and b's ticket.
 fn hands_up_and_meets<R: Wait>(
     rt: &R,
     door: &TicketDoor<Tally>,
@@ -34,7 +34,8 @@ fn hands_up_and_meets<R: Wait>(
     ((a, b), (told, ticket))
 }
 
-/// On a door with this first ticket three places ask, in the order c, a, b, and come in by their tickets; c leaves the number
+/// On a door with this first ticket three places ask, in the order c, a, b, and come in by their tickets; c leaves the
+/// number
 /// 7. Then a hands up to nobody, and meets b, which asks once more. The tickets of those that asked, whether a resumed somebody,
 /// and the number that c finds when it comes back.
 fn three_ask<R: Wait + Abort>(rt: &R, alloc: Global, first: u64) -> ([u64; 4], bool, u64) {

@@ -11,8 +11,8 @@ use std::alloc::Global;
 use std::marker::Model;
 use std::sync::Wait;
 
-/// A bounded buffer whose two conditions, numbered as those of `Buffer`, are Mesa conditions: who waited tests again, and whoever
-/// puts an item in or takes one out calls one process and goes on.
+/// A bounded buffer whose two conditions, numbered as those of `Buffer`, are Mesa conditions: who waited tests again,
+/// and whoever puts an item in or takes one out calls one process and goes on.
 #[derive(Drop)]
 pub struct MesaBuffer<T> {
     buffer: Buffer<T>,

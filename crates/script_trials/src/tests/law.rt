@@ -40,7 +40,8 @@ fn newcomers_come_last<S>()
     laws::newcomers_last::<S>();
 }
 
-// That the calls return is all that a run can show of a law; what they say, the clauses of `newcomers_come_last` are proved by.
+// That the calls return is all that a run can show of a law; what they say, the clauses of `newcomers_come_last` are
+// proved by.
 #[test]
 fn laws_can_be_called() {
     newcomers_come_last::<u8>();

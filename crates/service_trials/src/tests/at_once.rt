@@ -1,5 +1,5 @@
-//! How many workers are at work at once, by what `begin` sees: four jobs at a time wait until all four have begun. A service
-//! with fewer workers at work, or with one thread for all jobs, can't do it.
+//! How many workers are at work at once, by what `begin` sees: four jobs at a time wait until all four have begun. A
+//! service with fewer workers at work, or with one thread for all jobs, can't do it.
 use crate::tests::limit::in_time;
 use disk_service::{Gate, Jobs, Report, ServiceFault, serve, serve_tickets};
 use std::alloc::{AllocError, Global};
@@ -154,8 +154,8 @@ fn four_at_once_by_ticket(rt: HostRuntime) -> Result<(), Fail> {
     Ok(())
 }
 
-// One thread that does all jobs, one after another, is seen. (With fewer turns, since a yield may take milliseconds beside other
-// work.)
+// One thread that does all jobs, one after another, is seen. (With fewer turns, since a yield may take milliseconds
+// beside other work.)
 #[test]
 fn one_at_a_time_is_seen(rt: HostRuntime) -> Result<(), Fail> {
     let gate = AtOnce::of(rt.alloc(), 100)?;

@@ -1,4 +1,5 @@
-//! The first job is held up until all others are done, with other workers. A service with one worker for them all can't do it.
+//! The first job is held up until all others are done, with other workers. A service with one worker for them all can't
+//! do it.
 use crate::tests::limit::in_time;
 use disk_service::{Done, Gate, Jobs, Report, ServiceFault, serve, serve_tickets};
 use std::alloc::Global;

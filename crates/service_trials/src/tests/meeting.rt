@@ -1,5 +1,5 @@
-//! Two workers meet: each begins its job only once the other has begun its own. A service that does its jobs one after another
-//! can't do it.
+//! Two workers meet: each begins its job only once the other has begun its own. A service that does its jobs one after
+//! another can't do it.
 use crate::tests::limit::in_time;
 use disk_service::{Done, Gate, Jobs, Report, ServiceFault, serve, serve_tickets};
 use std::alloc::Global;

@@ -1,5 +1,5 @@
-//! Which numbers are marked, as the bits of words: the bit of number i is bit i % 64 of word i / 64. So the least number that is not
-//! marked is found by a look at 16 words at most, and not at 1,024 entries.
+//! Which numbers are marked, as the bits of words: the bit of number i is bit i % 64 of word i / 64. So the least
+//! number that is not marked is found by a look at 16 words at most, and not at 1,024 entries.
 ghost use Rattle.std.specs.Prelude.{◌≡◌, ◌≢◌, ◌<◌, ◌≤◌, ◌/◌, ℕ, length};
 ghost use Rattle.timed_schedulers.specs.Marks.{mark_of};
 

@@ -11,7 +11,8 @@ impl Book {
     ghost use Rattle.hoare_law.specs.declared.turn.Turn.TheVariants as turns;
     ghost use Rattle.wait_book.specs.declared.steps.StepRefused.{StepRefused};
     ghost use Rattle.wait_book.specs.Contents.{IsOf, SameSizes, next_of, times_in};
-    ghost use Rattle.wait_book.specs.Stepping.{IsOfKind, IsSettled, act_refusal, after_step, condition_refusal, enter_refusal, kind_refusal, refusal_of, settled};
+    ghost use Rattle.wait_book.specs.Stepping.{IsOfKind, IsSettled, act_refusal, after_step, condition_refusal};
+    ghost use Rattle.wait_book.specs.Stepping.{enter_refusal, kind_refusal, refusal_of, settled};
 
     // Whoever is owed the monitor goes on. It is called at three places of `try_step`, each of which is to have it in
     // line.

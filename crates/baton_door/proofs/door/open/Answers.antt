@@ -17,8 +17,13 @@ pub store-requires : goal.store-requires
 store-requires g c =
     let D = g.D.MonitorData in
     let begun = c.compare_exchange.ensures.2 _ (ap (λ (m : Sat g.row.D.Denot). m.0) c.requires.seat) in
-    let laid = c.lay_parcel.ensures.laid ∙ ap (λ (m : Sat g.row.D.Denot). (m.0, (0, Some c.args.parcel) ∷ [])) begun in
-    (search rules, search rules, opens_at D.rest D.ready (kinds_of D.CONDITIONS D.MESA) _ _ _ c.args.parcel _ laid c.requires.rest c.requires.book)
+    let laid = c.lay_parcel.ensures.laid
+    ∙ ap (λ (m : Sat g.row.D.Denot). (m.0, (0, Some c.args.parcel) ∷ [])) begun in (
+      search rules,
+      search rules,
+      opens_at D.rest D.ready (kinds_of D.CONDITIONS D.MESA) _ _ _ c.args.parcel _ laid c.requires.rest
+          c.requires.book,
+    )
 
 pub returns-clause-opened : goal.returns-clause-opened
 returns-clause-opened g c =

@@ -10,7 +10,8 @@ pub returns-else-agrees-clause-ok : goal.returns-else-agrees-clause-ok
 returns-else-agrees-clause-ok c =
     let lines = c.sort_unstable_by_key.new.self.items in
     let up : IsNonDecreasingBy (λ (d : Served). d.job) lines =
-    IsNonDecreasingBy-from_sort_by_key (λ (d : Served). d.job) _ c.sort_unstable_by_key.ensures.sorted (λ a r q k. search rules) in (
+    IsNonDecreasingBy-from_sort_by_key (λ (d : Served). d.job) _ c.sort_unstable_by_key.ensures.sorted
+    (λ a r q k. search rules) in (
       (λ f. cc),
       (λ a.
           let b = agrees-sorted c.args.list.now.cylinders c.args.results.items lines c.args.jobs c.args.sum c.args.done

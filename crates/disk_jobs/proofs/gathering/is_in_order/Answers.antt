@@ -20,13 +20,15 @@ returns-then-job-i c =
       )
       | then-job-i-via-else-job-i+then-cylinder-cylinders w ↦ (
         (λ f. cc),
-        differs-at cs lines i w.index-lines-i-else-job-i.result c.if-lines-cylinders.false c.loop-i-test.true w.index-lines-i-else-job-i.is
+        differs-at cs lines i w.index-lines-i-else-job-i.result c.if-lines-cylinders.false c.loop-i-test.true
+            w.index-lines-i-else-job-i.is
             (λ j k. absurd (omega (arith, w.cylinder.ensures, w.if-cylinder-cylinders.true, k))),
       )
     ]
 
 pub returns : goal.returns
 returns c = (
-  (λ t. same_at_each c.args.cylinders.now c.args.lines.now c.if-lines-cylinders.false (λ k d l. c.loop-i.invariant.each k d (omega arith))),
+  (λ t. same_at_each c.args.cylinders.now c.args.lines.now c.if-lines-cylinders.false
+      (λ k d l. c.loop-i.invariant.each k d (omega arith))),
   (λ e. refl),
 )

@@ -6,7 +6,8 @@ use Rattle.disk_jobs.proofs.jobs.off_disk.Goals as goal
 pub returns-then-cylinder-cylmax : goal.returns-then-cylinder-cylmax
 returns-then-cylinder-cylmax c =
     sym
-    (c.loop-i.invariant ∙ off_disk-here c.args.cylmax c.loop-i.i c.args.cylinders.now c.loop-i.i (omega arith) (omega arith))
+    (c.loop-i.invariant ∙ off_disk-here c.args.cylmax c.loop-i.i c.args.cylinders.now c.loop-i.i (omega arith)
+    (omega arith))
 
 pub returns : goal.returns
 returns c =

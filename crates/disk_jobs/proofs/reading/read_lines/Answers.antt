@@ -41,7 +41,8 @@ returns-then-not-is_empty-clause-told g c =
     let e = c.in-Ok-Last.ensures in
     progress.exit_last c.lines.invariant.goes
     (g.R.Read.remaining (reader_inside c.read_line.new.reader)) c.read_line.new.line.items
-    e.one e.short c.in-Ok-Last.field-0 _ c.one_line.result c.one_line.new.jobs c.in-Ok-Last.field-0-is c.as_slice.ensures.value e.known
+    e.one e.short c.in-Ok-Last.field-0 _ c.one_line.result c.one_line.new.jobs c.in-Ok-Last.field-0-is
+    c.as_slice.ensures.value e.known
     (λ z. absurd (grind (arith, nat_tests, c.is_empty.ensures, c.if-not-is_empty.true, ap length z)))
     c.lines.invariant.numbered c.one_line.ensures.told
 
@@ -51,7 +52,8 @@ returns-then-number-eq1-clause-told g c =
     progress.exit_empty c.lines.invariant.goes
     (g.R.Read.remaining (reader_inside c.read_line.new.reader)) c.read_line.new.line.items
     e.one e.short c.in-Ok-Last.field-0 None c.in-Ok-Last.field-0-is e.known
-    (nil_from_length c.read_line.new.line.items (grind (arith, nat_tests, c.is_empty.ensures, c.if-not-is_empty.false))) c.lines.invariant.numbered c.if-number-eq1.true
+    (nil_from_length c.read_line.new.line.items (grind (arith, nat_tests, c.is_empty.ensures, c.if-not-is_empty.false)))
+    c.lines.invariant.numbered c.if-number-eq1.true
 
 pub returns-in-Ok-Last-clause-told : goal.returns-in-Ok-Last-clause-told
 returns-in-Ok-Last-clause-told g c =
@@ -59,14 +61,16 @@ returns-in-Ok-Last-clause-told g c =
     progress.exit_done c.lines.invariant.goes
     (g.R.Read.remaining (reader_inside c.read_line.new.reader)) c.read_line.new.line.items
     e.one e.short c.in-Ok-Last.field-0 c.in-Ok-Last.field-0-is e.known
-    (nil_from_length c.read_line.new.line.items (grind (arith, nat_tests, c.is_empty.ensures, c.if-not-is_empty.false))) c.lines.invariant.numbered c.if-number-eq1.false
+    (nil_from_length c.read_line.new.line.items (grind (arith, nat_tests, c.is_empty.ensures, c.if-not-is_empty.false)))
+    c.lines.invariant.numbered c.if-number-eq1.false
 
 pub returns-in-Err-clause-told : goal.returns-in-Err-clause-told
 returns-in-Err-clause-told g c =
     let e = c.in-Ok-Line.ensures in
     progress.exit_fault c.lines.invariant.goes
     (g.R.Read.remaining (reader_inside c.read_line.new.reader)) c.read_line.new.line.items
-    e.one e.short c.in-Ok-Line.field-0 _ c.in-Err.fault c.one_line-in-Ok-Line.new.jobs c.in-Ok-Line.field-0-is c.as_slice-in-Ok-Line.ensures.value e.known
+    e.one e.short c.in-Ok-Line.field-0 _ c.in-Err.fault c.one_line-in-Ok-Line.new.jobs c.in-Ok-Line.field-0-is
+    c.as_slice-in-Ok-Line.ensures.value e.known
     c.lines.invariant.numbered c.in-Err.ensures.told
 
 pub lines-preserved : goal.lines-preserved
@@ -80,7 +84,8 @@ lines-preserved g c =
       goes =
           progress.next_line c.lines.invariant.goes
           (g.R.Read.remaining (reader_inside c.read_line.new.reader)) c.read_line.new.line.items
-          e.one e.short c.in-Ok-Line.field-0 _ c.one_line-in-Ok-Line.new.jobs c.in-Ok-Line.field-0-is c.as_slice-in-Ok-Line.ensures.value e.known
+          e.one e.short c.in-Ok-Line.field-0 _ c.one_line-in-Ok-Line.new.jobs c.in-Ok-Line.field-0-is
+          c.as_slice-in-Ok-Line.ensures.value e.known
           c.in_default.ensures.told;
       calls = omega (arith, short, e.counts.0, c.lines.invariant.calls);
       bytes = omega (arith, short, e.counts.1, c.lines.invariant.bytes);

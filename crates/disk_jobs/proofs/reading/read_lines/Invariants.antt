@@ -8,7 +8,8 @@ abbrev pub invariant-lines : goal.invariant-lines
 invariant-lines g l = record {
   numbered : l.number ≡ lines_of l.jobs + 1;
   few : l.number ≤ 4098;
-  goes : Known (g.R.Read.remaining (reader_inside l.initial.reader)) (g.R.Read.remaining (reader_inside l.reader)) l.number l.jobs;
+  goes : Known (g.R.Read.remaining (reader_inside l.initial.reader))
+      (g.R.Read.remaining (reader_inside l.reader)) l.number l.jobs;
   calls : read_calls l.reader + 257 ≤ read_calls l.initial.reader + l.number * 257;
   bytes : bytes_given l.reader + 257 ≤ bytes_given l.initial.reader + l.number * 257;
   same_reader : reader_name l.reader ≡ reader_name l.initial.reader;

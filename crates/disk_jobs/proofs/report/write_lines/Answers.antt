@@ -6,7 +6,8 @@ use Rattle.disk_jobs.proofs.report.write_lines.Goals as goal
 pub returns-in-Err-clause-err : goal.returns-in-Err-clause-err
 returns-in-Err-clause-err g c =
     writing-breaks _
-    (g.W.Write.contents (writer_inside c.loop-i.writer)) _ c.args.lines.now c.loop-i.i c.index-lines-i.result _ c.loop-i-test.true c.index-lines-i.is
+    (g.W.Write.contents (writer_inside c.loop-i.writer)) _ c.args.lines.now c.loop-i.i c.index-lines-i.result
+    _ c.loop-i-test.true c.index-lines-i.is
     (c.as_slice.ensures.value ∙ c.line_text-text.ensures) c.loop-i.invariant.written c.in-Err.ensures.err
 
 pub loop-i-preserved : goal.loop-i-preserved
@@ -14,7 +15,8 @@ loop-i-preserved g c = record {
   so_far = omega arith;
   written =
       writing-goes _
-      (g.W.Write.contents (writer_inside c.loop-i.writer)) _ c.args.lines.now c.loop-i.i c.index-lines-i.result _ c.loop-i-test.true c.index-lines-i.is
+      (g.W.Write.contents (writer_inside c.loop-i.writer)) _ c.args.lines.now c.loop-i.i c.index-lines-i.result
+      _ c.loop-i-test.true c.index-lines-i.is
       (c.as_slice.ensures.value ∙ c.line_text-text.ensures) c.loop-i.invariant.written c.in_default.ensures.ok;
   same_writer = search rules;
   mark = search rules;

@@ -7,7 +7,8 @@ use Rattle.disk_jobs.proofs.report.write_lines.Given as goal
 abbrev pub invariant-loop-i : goal.invariant-loop-i
 invariant-loop-i g l = record {
   so_far : l.i ≤ length l.lines;
-  written : Appends (g.W.Write.contents (writer_inside l.initial.writer)) (g.W.Write.contents (writer_inside l.writer)) (lines_text (take l.i l.lines));
+  written : Appends (g.W.Write.contents (writer_inside l.initial.writer)) (g.W.Write.contents (writer_inside l.writer))
+      (lines_text (take l.i l.lines));
   same_writer : writer_name l.writer ≡ writer_name l.initial.writer;
   mark : has_write_failed l.writer ≡ has_write_failed l.initial.writer;
 }

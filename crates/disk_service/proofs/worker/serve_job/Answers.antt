@@ -15,7 +15,8 @@ pub returns-then-not-noted-clause-sleeps : goal.returns-then-not-noted-clause-sl
 returns-then-not-noted-clause-sleeps g c =
     let counted = c.add_to_totals-seat.ensures.clock in
     let noted = c.write-seat.ensures.clock in
-    SleepsForEach-fewer _ _ _ _ 0 _ 0 0 c.read_into_buffer-seat.ensures.sleeps (rw noted (rw counted refl)) (omega arith)
+    SleepsForEach-fewer _ _ _ _ 0 _ 0 0 c.read_into_buffer-seat.ensures.sleeps (rw noted (rw counted refl))
+    (omega arith)
 
 pub returns-clause-sleeps : goal.returns-clause-sleeps
 returns-clause-sleeps g c =

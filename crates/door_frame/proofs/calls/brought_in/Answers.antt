@@ -31,5 +31,8 @@ pub invariant_of-result-2 : goal.invariant_of-result-2
 invariant_of-result-2 g c =
     let k = c.args.place in
     let in_ = came_as (c.deref_mut.ensures.value ∙ c.parcel.view_is) c.requires.came.1 in
-    at_front (λ h. IsInside k h c.args.seat.me c.admit.new.self) _ _ k _ _ in_.me_is
-    (in_.me_is, IsOf-event _ in_.log (Admit k c.deref_mut.result.now.state) (c.admit.ensures.of (erased in_.log) in_.book))
+    at_front (λ h. IsInside k h c.args.seat.me c.admit.new.self) _ _ k _ _ in_.me_is (
+      in_.me_is,
+      IsOf-event _ in_.log (Admit k c.deref_mut.result.now.state)
+          (c.admit.ensures.of (erased in_.log) in_.book),
+    )

@@ -6,8 +6,11 @@ use Rattle.door_frame.proofs.calls.enter.Goals as goal
 
 pub admit-parcel-requires-clause-outside : goal.admit-parcel-requires-clause-outside
 admit-parcel-requires-clause-outside g c =
-    let parts = c.into_parts-seat.ensures in
-    (c.args.out.front, away_as parts.1 parts.2, subst (λ (k : ℕ). outside k c.args.out.front.events ≡ true) (sym parts.1) c.requires.is_outside)
+    let parts = c.into_parts-seat.ensures in (
+      c.args.out.front,
+      away_as parts.1 parts.2,
+      subst (λ (k : ℕ). outside k c.args.out.front.events ≡ true) (sym parts.1) c.requires.is_outside,
+    )
 
 pub brought_in-requires : goal.brought_in-requires
 brought_in-requires g c =

@@ -24,5 +24,6 @@ pub returns : goal.returns
 returns g c =
     let h = holds (c.deref_mut.ensures.value ∙ c.parcel.view_is) c.inside.view_is c.inside.invariant c.requires.of in
     let o =
-    left _ _ h c.requires.rest (berth_as _ c.hand_on.ensures.table) (c.of_parts.ensures _ (c.hand_on.ensures.away _ h.me_is)) in
+    left _ _ h c.requires.rest (berth_as _ c.hand_on.ensures.table)
+    (c.of_parts.ensures _ (c.hand_on.ensures.away _ h.me_is)) in
     record { of = o.of; place = o.place; front = o.front }

@@ -47,9 +47,17 @@ returns g c =
     let told : IsTrue true → priorities c.args.inside.front.events c.args.condition ≢ [] =
     (c.if-not-queue.ensures.lists).0 in
     let came = c.claim-parcel.ensures.came _ (c.hand_on.ensures.away _ h.me_is) in
-    let r = returned c.args.condition _ _ _ _ h (told refl) (c.signal-next.ensures.of (erased f) h.book) c.signal-next.ensures.next
+    let r = returned c.args.condition _ _ _ _ h (told refl)
+    (c.signal-next.ensures.of (erased f) h.book) c.signal-next.ensures.next
     (berth_as _ (c.claim-parcel.ensures.table ∙ c.hand_on.ensures.table)) came (c.brought_back.ensures _ came) in
-    record { of = r.of; place = r.place; told = ((λ _. told refl), λ _. refl); rest = λ _. r.rests; same = λ no. absurd (cc); front = r.front }
+    record {
+      of = r.of;
+      place = r.place;
+      told = ((λ _. told refl), λ _. refl);
+      rest = λ _. r.rests;
+      same = λ no. absurd (cc);
+      front = r.front;
+    }
 
 pub returns-then-not-queue-clause-front : goal.returns-then-not-queue-clause-front
 returns-then-not-queue-clause-front g c =

@@ -39,6 +39,7 @@ returns g c =
     let h = holds (c.deref_mut.ensures.value ∙ c.parcel.view_is) c.inside.view_is c.inside.invariant c.requires.of in
     let came = c.claim-parcel.ensures.came _ (c.hand_on.ensures.away _ h.me_is) in
     let r =
-    resumed c.args.condition c.args.priority _ _ h (berth_as _ (c.claim-parcel.ensures.table ∙ c.hand_on.ensures.table)) came
+    resumed c.args.condition c.args.priority _ _ h
+    (berth_as _ (c.claim-parcel.ensures.table ∙ c.hand_on.ensures.table)) came
     (c.brought_back.ensures _ came) in
     record { of = r.of; place = r.place; ready = r.is_ready; rest = r.rests; front = r.front }

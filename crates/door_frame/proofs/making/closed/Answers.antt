@@ -17,8 +17,11 @@ loop-out-init g c =
     let o = c.in-Some.first in
     let P = IsOut D.rest D.ready (kinds_of D.CONDITIONS D.MESA) d in
     let mine =
-    All-mid P c.pop.new.self.items o [] (subst (All P) (c.in-Some.ensures.items ∙ sym (append-nil _)) c.requires.of) in
-    (ap (λ (b : Berth). b.table) (c.into_parts-seat.ensures.0 ∙ mine.of), (o ∷ [], c.in-Some.ensures.items, c.into_parts-seat.ensures.2))
+    All-mid P c.pop.new.self.items o []
+    (subst (All P) (c.in-Some.ensures.items ∙ sym (append-nil _)) c.requires.of) in (
+      ap (λ (b : Berth). b.table) (c.into_parts-seat.ensures.0 ∙ mine.of),
+      (o ∷ [], c.in-Some.ensures.items, c.into_parts-seat.ensures.2),
+    )
 
 pub join_seat-requires : goal.join_seat-requires
 join_seat-requires g c =
@@ -66,8 +69,10 @@ unwrap-parcel-requires g c =
     let t = c.args.table.shared in
     let W = g.W.Words in
     let d : DoorId = door_of t.table_id (W.places t.key) c.args.wakers.items in
-    let fin = ends_all (W.starts t.key) (W.tells t.key) D.rest D.ready (kinds_of D.CONDITIONS D.MESA) d _ _ inv.1.0 inv.1.1 (none_left _ _ _ p.items p.cases.0 p.rest)
-    (ap (λ (m : Sat g.row.D.Denot). m.0) inv.1.2) c.requires.of c.requires.places c.close_with-closed.ensures.values.2 c.take.ensures.value in
+    let fin = ends_all (W.starts t.key) (W.tells t.key) D.rest D.ready
+    (kinds_of D.CONDITIONS D.MESA) d _ _ inv.1.0 inv.1.1 (none_left _ _ _ p.items p.cases.0 p.rest)
+    (ap (λ (m : Sat g.row.D.Denot). m.0) inv.1.2) c.requires.of c.requires.places c.close_with-closed.ensures.values.2
+    c.take.ensures.value in
     subst IsSome (sym fin.1) refl
 
 pub returns : goal.returns
@@ -78,8 +83,10 @@ returns g c =
     let t = c.args.table.shared in
     let W = g.W.Words in
     let d : DoorId = door_of t.table_id (W.places t.key) c.args.wakers.items in
-    let fin = ends_all (W.starts t.key) (W.tells t.key) D.rest D.ready (kinds_of D.CONDITIONS D.MESA) d _ _ inv.1.0 inv.1.1 (none_left _ _ _ p.items p.cases.0 p.rest)
-    (ap (λ (m : Sat g.row.D.Denot). m.0) inv.1.2) c.requires.of c.requires.places c.close_with-closed.ensures.values.2 c.take.ensures.value in
+    let fin = ends_all (W.starts t.key) (W.tells t.key) D.rest D.ready
+    (kinds_of D.CONDITIONS D.MESA) d _ _ inv.1.0 inv.1.1 (none_left _ _ _ p.items p.cases.0 p.rest)
+    (ap (λ (m : Sat g.row.D.Denot). m.0) inv.1.2) c.requires.of c.requires.places c.close_with-closed.ensures.values.2
+    c.take.ensures.value in
     let e =
     ends_at D.rest D.ready (kinds_of D.CONDITIONS D.MESA) d fin.2 (sym fin.1 ∙ c.unwrap-parcel.ensures)
     (sym c.into_data.ensures) in

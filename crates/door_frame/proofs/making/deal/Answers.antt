@@ -1,4 +1,5 @@
-use Rattle.std.proofs.Common.{rules, length, option_to_list, ◌≡◌, ℕ, ◌+◌, ◌-◌, List, ◌∷◌, [], ◌++◌, reverse, sym, ap, ◌∙◌, subst, append_assoc}
+use Rattle.std.proofs.Common.{rules, length, option_to_list, ◌≡◌, ℕ, ◌+◌, ◌-◌, List, ◌∷◌, [], ◌++◌, reverse, sym, ap}
+use Rattle.std.proofs.Common.{◌∙◌, subst, append_assoc}
 use Rattle.std.proofs.Common.{arith}
 use Rattle.atomic_table.specs.Seated.{TableId}
 use Rattle.atomic_table.specs.Table.{Splits}
@@ -26,7 +27,8 @@ split_seat-cut-requires g c =
       search rules,
       subst (λ (v : View g.row.D.Denot). Splits K c.loop-place.seat.id v (places_behind v) (first_place v))
           (sym (ap (λ (m : Sat g.row.D.Denot). m.0) me))
-          (deals_ok (W.starts q) (W.tells q) D.rest D.ready (kinds_of D.CONDITIONS D.MESA) _ _ c.loop-place.place (c.args.places - c.loop-place.place) all.0
+          (deals_ok (W.starts q) (W.tells q) D.rest D.ready (kinds_of D.CONDITIONS D.MESA) _ _ c.loop-place.place
+          (c.args.places - c.loop-place.place) all.0
           (omega (arith, c.loop-place-test.true))),
     )
 
@@ -35,7 +37,8 @@ of_parts-requires g c =
     let all = c.requires.seat in
     let k = c.loop-place.place in (
       all.0,
-      (cut_off k (c.args.places - k) all.0 (omega (arith, c.loop-place-test.true)) (c.loop-place.invariant.1 all.0 all.1).0
+      (cut_off k (c.args.places - k) all.0 (omega (arith, c.loop-place-test.true))
+          (c.loop-place.invariant.1 all.0 all.1).0
           c.split_seat-cut.ensures.4 c.split_seat-cut.ensures.2).0,
     )
 
@@ -69,7 +72,12 @@ loop-place-preserved g c =
           )),
       search rules,
       search rules,
-      omega
-          (arith, c.pop.ensures.len, ap (λ o. length (option_to_list o)) c.unwrap-sleeper.ensures, inv.4, c.loop-place-test.true),
+      omega (
+        arith,
+        c.pop.ensures.len,
+        ap (λ o. length (option_to_list o)) c.unwrap-sleeper.ensures,
+        inv.4,
+        c.loop-place-test.true,
+      ),
       (w ∷ given, are, omega (arith, inv.5.2)),
     )

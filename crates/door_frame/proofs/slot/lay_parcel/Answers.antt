@@ -9,4 +9,7 @@ exchange-old-requires g c =
 
 pub returns : goal.returns
 returns g c =
-    record { table = c.exchange-old.ensures.0; laid = slot_now None (Some c.args.parcel) c.requires.empty.1 c.exchange-old.ensures.3 }
+    record {
+      table = c.exchange-old.ensures.0;
+      laid = slot_now None (Some c.args.parcel) c.requires.empty.1 c.exchange-old.ensures.3;
+    }

@@ -8,7 +8,8 @@ use Rattle.hoare_law.proofs.laws.one_is_inside.Goals as goal
 pub returns-clause-one : goal.returns-clause-one
 returns-clause-one g c = λ h f later j k legal is first second.
     let cut = cut_to h f in
-    let fits = IsLegal-front {f = cut} {h = h} (record { sizes = refl; opening = refl; later = later; is = sym is }) legal in
+    let fits = IsLegal-front {f = cut} {h = h}
+    (record { sizes = refl; opening = refl; later = later; is = sym is }) legal in
     held_one f j k (inside-held cut j fits first) (inside-held cut k fits second)
 
 pub returns-clause-turn : goal.returns-clause-turn

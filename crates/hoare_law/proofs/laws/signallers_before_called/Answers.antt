@@ -6,4 +6,5 @@ returns-clause-signallers g c = λ h k d s legal mesa allowed. (turn-called h k 
 
 pub returns-clause-first : goal.returns-clause-first
 returns-clause-first g c =
-    λ h k d s legal mesa allowed. let r = turn-called h k d legal mesa allowed.fits.0 in (r.first, r.others, r.are, r.place, r.on)
+    λ h k d s legal mesa allowed. let r = turn-called h k d legal mesa allowed.fits.0 in
+    (r.first, r.others, r.are, r.place, r.on)

@@ -57,7 +57,8 @@ returns-in-Ok-Last-clause-told g c =
     running.exit_end c.lines.invariant.goes
     (g.R.Read.remaining (reader_inside c.read_line.new.reader)) c.read_line.new.line.items
     e.one e.short e.within c.end_before.result c.in-Ok-Last.field-0 c.in-Ok-Last.field-0-is e.known
-    (nil_from_length c.read_line.new.line.items (grind (arith, nat_tests, c.is_empty.ensures, c.if-is_empty.true))) c.end_before.ensures.value
+    (nil_from_length c.read_line.new.line.items (grind (arith, nat_tests, c.is_empty.ensures, c.if-is_empty.true)))
+    c.end_before.ensures.value
 
 pub returns-in-Ok-Last-2-clause-told : goal.returns-in-Ok-Last-2-clause-told
 returns-in-Ok-Last-2-clause-told g c =
@@ -92,7 +93,8 @@ lines-preserved g c =
           (g.R.Read.remaining (reader_inside c.read_line.new.reader)) c.read_line.new.line.items
           e.one e.short e.within
           (g.W.Write.contents (writer_inside c.one_line-in-Ok-Line.new.writer)) c.one_line-in-Ok-Line.new.opened
-          c.in-Ok-Line.field-0 _ c.len.result c.in-Ok-Line.field-0-is c.as_slice-in-Ok-Line.ensures.value c.len.ensures.value
+          c.in-Ok-Line.field-0 _ c.len.result c.in-Ok-Line.field-0-is c.as_slice-in-Ok-Line.ensures.value
+          c.len.ensures.value
           c.in_default.ensures.opened e.known room c.in_default.ensures.of;
       calls = omega (arith, c.len.ensures.value, room, e.counts.0, c.lines.invariant.calls);
       bytes = omega (arith, c.len.ensures.value, room, e.counts.1, c.lines.invariant.bytes);

@@ -7,7 +7,8 @@ use Rattle.hoare_script.proofs.runs.one_line.Goals as goal
 
 pub returns-in-Some-clause-of : goal.returns-in-Some-clause-of
 returns-in-Some-clause-of g c = λ s st.
-    one_line-command c.in-Some.monitor c.command_line.new.opened c.args.number c.args.line.now _ _ c.command_line.result c.command_line.ensures.of s
+    one_line-command c.in-Some.monitor c.command_line.new.opened c.args.number c.args.line.now _ _ c.command_line.result
+    c.command_line.ensures.of s
     (subst (λ (b : Option Contents). IsAt b s) c.in-Some.is st)
 
 pub returns-in-Ok-clause-of : goal.returns-in-Ok-clause-of

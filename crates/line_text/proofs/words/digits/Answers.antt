@@ -6,7 +6,10 @@ use Rattle.line_text.proofs.words.digits.Goals.{then-b-lt48-via-then-b-lt48, the
 pub returns-then-b-lt48 : goal.returns-then-b-lt48
 returns-then-b-lt48 c =
     digits_of-no_digit c.args.word.now c.loop-b.b-index c.loop-b-test.true c.loop-b.invariant.digits
-    (elim c.then-b-lt48.branch [ then-b-lt48-via-then-b-lt48 w ↦ inl w.if-b-lt48.true | then-b-lt48-via-else-b-lt48+then-b-gt57 w ↦ inr w.if-b-gt57.true ])
+    (elim c.then-b-lt48.branch [
+      | then-b-lt48-via-then-b-lt48 w ↦ inl w.if-b-lt48.true
+      | then-b-lt48-via-else-b-lt48+then-b-gt57 w ↦ inr w.if-b-gt57.true
+    ])
 
 pub returns-in_default : goal.returns-in_default
 returns-in_default c =
@@ -20,4 +23,5 @@ returns-in_default-checked_add c =
 
 pub returns : goal.returns
 returns c =
-    digits_of-value c.args.word.now c.loop-b.value c.loop-b.b-index c.loop-b-test.false c.loop-b.invariant.digits c.loop-b.invariant.value c.loop-b.invariant.fits
+    digits_of-value c.args.word.now c.loop-b.value c.loop-b.b-index c.loop-b-test.false c.loop-b.invariant.digits
+    c.loop-b.invariant.value c.loop-b.invariant.fits

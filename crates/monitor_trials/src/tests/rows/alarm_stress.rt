@@ -33,7 +33,8 @@ struct Clockwork {
 }
 
 impl Clockwork {
-    // Whether this may happen next. Who sleeps wakes at its setting, and the clock goes on by one, when nobody is left who is due.
+    // Whether this may happen next. Who sleeps wakes at its setting, and the clock goes on by one, when nobody is left
+    // who is due.
     fn allows(&mut self, line: Line) -> bool {
         match line {
             Line::Sets { place, ticks } => {

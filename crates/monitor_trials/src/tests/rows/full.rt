@@ -49,8 +49,8 @@ fn resume_all<R: Wait, M: Monitor<Row>>(rt: &R, m: &M, inside: M::In) -> M::In
     inside
 }
 
-// Each place waits on the condition of its number modulo 8, and the greater number goes first. The last to come resumes the others and then
-// waits on condition 0, where the first that comes for a second time finds it.
+// Each place waits on the condition of its number modulo 8, and the greater number goes first. The last to come resumes
+// the others and then waits on condition 0, where the first that comes for a second time finds it.
 fn waits_in_row<R: Wait, M: Monitor<Row>>(rt: &R, m: &M, out: M::Out, place: usize) -> (M::Out, u64)
     requires { M.is_of m.now out }
     ensures of { M.is_of m.now result.0 }

@@ -1,4 +1,5 @@
-//! The disk head: in which order it goes to the cylinders. The drive that is handed on has the list of those where it was.
+//! The disk head: in which order it goes to the cylinders. The drive that is handed on has the list of those where it
+//! was.
 ghost use Rattle.std.specs.Prelude.{◌≡◌};
 ghost use Rattle.hoare_law.specs.Priorities.{nobody};
 ghost use Rattle.sweep_schedulers.specs.Heads.{HeadRests};
@@ -118,7 +119,8 @@ struct Plan<'a> {
     trip: &'a [u16],
 }
 
-// Place 0 has the drive while the others ask for it in the order of their numbers; once all had it, it is refused what is refused.
+// Place 0 has the drive while the others ask for it in the order of their numbers; once all had it, it is refused what
+// is refused.
 fn leads_or_follows<R: Wait + Abort + Clock, M: Monitor<Head<Trip>>>(
     rt: &R,
     m: &M,

@@ -36,7 +36,8 @@ struct Wish {
     goes_up: Option<bool>,
 }
 
-/// A disk as it should be: where the drive is and who has it, whether it goes up, who wishes what, and whose cylinder is next.
+/// A disk as it should be: where the drive is and who has it, whether it goes up, who wishes what, and whose cylinder
+/// is next.
 #[derive(Drop)]
 struct Elevator {
     at: u16,

@@ -15,7 +15,8 @@ use std::{hint, thread};
 /// How often a newcomer comes late. With a door's limit of 25 seconds it may take a tenth of a second each time.
 pub const ROUNDS: u64 = 200;
 
-/// For how many milliseconds the other stays inside. A newcomer looks for a tenth of one, and naps for two tenths at a time.
+/// For how many milliseconds the other stays inside. A newcomer looks for a tenth of one, and naps for two tenths at a
+/// time.
 const STAY: u64 = 3;
 
 /// How many places visit, beside as many that keep a processor busy.
@@ -41,8 +42,8 @@ impl Signs {
     }
 }
 
-// Comes in and gives a sign, stays inside for many naps, adds one and leaves. A baton door calls nobody then; a ticket door calls the
-// next in turn, if it naps. It doesn't come again before the other was inside.
+// Comes in and gives a sign, stays inside for many naps, adds one and leaves. A baton door calls nobody then; a ticket
+// door calls the next in turn, if it naps. It doesn't come again before the other was inside.
 fn stays_long<R: Wait + Abort + Clock, M: Monitor<Tally>>(
     rt: &R,
     m: &M,

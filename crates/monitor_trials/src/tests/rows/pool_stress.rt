@@ -1,4 +1,5 @@
-//! Four streams take two buffers each, of five, as often as they can. What they wrote down is held against what a pool is.
+//! Four streams take two buffers each, of five, as often as they can. What they wrote down is held against what a pool
+//! is.
 ghost use Rattle.std.specs.Prelude.{◌≡◌};
 
 use crate::tests::compared::expect_same;

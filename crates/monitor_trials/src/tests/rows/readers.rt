@@ -37,8 +37,8 @@ pub fn writes<R: Wait + Abort, M: Monitor<Shared>>(
     ends_no_write(rt, m, out, value.wrapping_add(1))
 }
 
-/// Starts this many reads, the last of which is the last that there is room for: one more is refused, and goes in once one has
-/// ended. Then each ends with its own pass.
+/// Starts this many reads, the last of which is the last that there is room for: one more is refused, and goes in once
+/// one has ended. Then each ends with its own pass.
 pub fn reads_to_the_limit<R: Wait + Abort, M: Monitor<Shared>>(
     rt: &R,
     m: &M,
@@ -61,7 +61,8 @@ pub fn reads_to_the_limit<R: Wait + Abort, M: Monitor<Shared>>(
     ends_read(rt, m, out, pass)
 }
 
-// Ends another monitor's read where none is: the pass comes back with a refusal that says so, and ends the read where it began.
+// Ends another monitor's read where none is: the pass comes back with a refusal that says so, and ends the read where
+// it began.
 fn ends_foreign_read<R: Wait + Abort, M: Monitor<Shared>, N: Monitor<Shared>>(
     rt: &R,
     alloc: Global,
@@ -101,7 +102,8 @@ pub fn ends_no_read<R: Wait + Abort, M: Monitor<Shared>>(
     ends_foreign_read(rt, alloc, m, out, &fake, other)
 }
 
-/// Is in as the writer while the others come to wait, and writes 3: both readers are in at once, and the other writer waits on.
+/// Is in as the writer while the others come to wait, and writes 3: both readers are in at once, and the other writer
+/// waits on.
 fn writes_first<R: Wait + Abort, M: Monitor<Shared>>(
     rt: &R,
     m: &M,
@@ -141,8 +143,8 @@ fn reads<R: Wait + Abort + Clock, M: Monitor<Shared>>(
     ends_read(rt, m, out, pass)
 }
 
-/// Writes 4 after both readers, and has then the monitor for itself: it reads as often as there is room for, and ends a read where
-/// there is none.
+/// Writes 4 after both readers, and has then the monitor for itself: it reads as often as there is room for, and ends a
+/// read where there is none.
 fn writes_last<R: Wait + Abort + Clock, M: Monitor<Shared>>(
     rt: &R,
     alloc: Global,

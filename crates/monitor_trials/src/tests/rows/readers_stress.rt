@@ -1,4 +1,5 @@
-//! Three processes read and two write, each as often as it can. What they wrote down is held against what readers and writers may do.
+//! Three processes read and two write, each as often as it can. What they wrote down is held against what readers and
+//! writers may do.
 ghost use Rattle.std.specs.Prelude.{◌≡◌, ◌<◌};
 
 use crate::tests::compared::expect_same;
@@ -48,8 +49,8 @@ pub enum Line {
     Wrote,
 }
 
-/// Readers and writers as they should be: who is in, how many writers are on their way out, the value, who may not read before
-/// somebody wrote, how often that was so, and how many read before somebody writes again.
+/// Readers and writers as they should be: who is in, how many writers are on their way out, the value, who may not read
+/// before somebody wrote, how often that was so, and how many read before somebody writes again.
 #[derive(Drop)]
 struct Room {
     reading: [bool; PLACES],
@@ -75,7 +76,8 @@ impl Room {
         is_right
     }
 
-    // A writer is alone, finds what was written last, and comes after the readers that waited when the last writer went.
+    // A writer is alone, finds what was written last, and comes after the readers that waited when the last writer
+    // went.
     fn lets_write(&mut self, place: usize, value: u64) -> bool {
         let is_alone = self.writer.replace(place).is_none() && !self.reading.contains(&true);
         self.must_wait = [false; PLACES];

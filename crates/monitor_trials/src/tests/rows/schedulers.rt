@@ -31,7 +31,8 @@ fn lends<R: Wait + Abort, M: Monitor<Single<u64>>>(
     (out, item)
 }
 
-// Waits for the item after the sign, puts it back, tries to put a second one in, and takes the first again: what it took at first.
+// Waits for the item after the sign, puts it back, tries to put a second one in, and takes the first again: what it
+// took at first.
 fn borrows<R: Wait + Abort + Clock, M: Monitor<Single<u64>>>(
     rt: &R,
     m: &M,
@@ -74,7 +75,8 @@ fn lends_or_borrows<R: Wait + Abort + Clock, M: Monitor<Single<u64>>>(
     }
 }
 
-// Place 0 puts the numbers from 1 to this one in. Place 1 takes as many items out, and answers how many came in their turn.
+// Place 0 puts the numbers from 1 to this one in. Place 1 takes as many items out, and answers how many came in their
+// turn.
 fn appends_or_removes<R: Wait, M: Monitor<Buffer<u64>>>(
     rt: &R,
     m: &M,

@@ -62,7 +62,8 @@ pub fn draw(seed: u64) -> u64 {
         .wrapping_add(1442695040888963407)
 }
 
-/// Comes in and goes out until all `others` wait or have finished: whether any waits. The test fails after `VISITS` times.
+/// Comes in and goes out until all `others` wait or have finished: whether any waits. The test fails after `VISITS`
+/// times.
 pub fn await_others<L, D: MonitorData, R: Wait + Abort, M: Monitor<D>>(
     rt: &R,
     m: &M,

@@ -32,8 +32,8 @@ pub fn add_one<M: Monitor<Tally>>(m: &M, inside: M::In) -> M::In
     inside
 }
 
-/// Place 0 writes 5, reads it at its next visit, waits and reads again: it answers both, as two digits. Place 1 adds one once 0
-/// waits, and signals: it answers whether somebody was resumed.
+/// Place 0 writes 5, reads it at its next visit, waits and reads again: it answers both, as two digits. Place 1 adds
+/// one once 0 waits, and signals: it answers whether somebody was resumed.
 pub fn writes_or_adds<R: Wait + Abort, M: Monitor<Tally>>(
     rt: &R,
     m: &M,
@@ -72,8 +72,8 @@ pub fn adds_thousand<R: Wait, M: Monitor<Tally>>(rt: &R, m: &M, out: M::Out) -> 
     (out, 0)
 }
 
-/// Places 0 and 1 wait, and place 2 signals: 0 goes on, writes 1 and signals 1, which writes 2. Then 2 is back and writes 3,
-/// and then 0, which writes 4.
+/// Places 0 and 1 wait, and place 2 signals: 0 goes on, writes 1 and signals 1, which writes 2. Then 2 is back and
+/// writes 3, and then 0, which writes 4.
 pub fn signals_on<R: Wait + Abort, M: Monitor<Tally>>(
     rt: &R,
     m: &M,
@@ -148,8 +148,8 @@ fn is_resumed_twice<R: Wait, M: Monitor<Tally>>(rt: &R, m: &M, out: M::Out) -> (
     (m.leave(rt, inside), found)
 }
 
-// Writes 1 once another waits, and signals; when it is back it writes 3, and leaves with a signal. It answers what it found when it
-// was back, if both signals resumed somebody.
+// Writes 1 once another waits, and signals; when it is back it writes 3, and leaves with a signal. It answers what it
+// found when it was back, if both signals resumed somebody.
 fn resumes_twice<R: Wait + Abort, M: Monitor<Tally>>(rt: &R, m: &M, out: M::Out) -> (M::Out, u64)
     requires { M.is_of m.now out }
     ensures of { M.is_of m.now result.0 }

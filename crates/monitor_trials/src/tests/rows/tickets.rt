@@ -26,7 +26,8 @@ fn await_asked<R: Abort + Clock>(rt: &R, asked: &AtomicUsize, count: usize) {
     panic!(rt; "a place did not ask")
 }
 
-// The places ask in the order of their numbers, and look in the opposite order: each writes its ticket's number, counted from 1.
+// The places ask in the order of their numbers, and look in the opposite order: each writes its ticket's number,
+// counted from 1.
 fn asks_and_looks_late<R: Wait + Abort + Clock>(
     rt: &R,
     door: &TicketDoor<Tally>,
@@ -78,8 +79,8 @@ fn comes_and_goes<R: Wait>(
     door.give_up(door.enter(rt, out))
 }
 
-// Place 0 draws three tickets, and waits at its fourth. Place 1 hands the monitor up to it, without waiting itself, and answers
-// whether it resumed somebody.
+// Place 0 draws three tickets, and waits at its fourth. Place 1 hands the monitor up to it, without waiting itself, and
+// answers whether it resumed somebody.
 fn waits_or_hands_up<R: Wait + Abort>(
     rt: &R,
     door: &TicketDoor<Tally>,

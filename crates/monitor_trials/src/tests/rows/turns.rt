@@ -1,4 +1,5 @@
-//! In which order processes begin to wait: each awaits its turn, and one gives the turns, the next once those before it wait.
+//! In which order processes begin to wait: each awaits its turn, and one gives the turns, the next once those before it
+//! wait.
 ghost use Rattle.std.specs.Prelude.{◌≡◌};
 
 use crate::tests::limit::VISITS;

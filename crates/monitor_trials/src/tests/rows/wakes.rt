@@ -24,8 +24,8 @@ fn pause<R: Clock>(rt: &R, millis: u64) {
     thread::sleep(rt, Duration::from_millis(millis));
 }
 
-/// Place 0 waits and writes 1: it answers how many milliseconds of the processor's time the wait took. Place 1 lets it wait for a
-/// while, signals, and writes 2 when it is back.
+/// Place 0 waits and writes 1: it answers how many milliseconds of the processor's time the wait took. Place 1 lets it
+/// wait for a while, signals, and writes 2 when it is back.
 pub fn waits_long<R: Wait + Abort + Clock + CpuClock, M: Monitor<Tally>>(
     rt: &R,
     m: &M,
@@ -50,7 +50,8 @@ pub fn waits_long<R: Wait + Abort + Clock + CpuClock, M: Monitor<Tally>>(
     (m.leave(rt, inside), after.saturating_sub(before))
 }
 
-/// Place 0 comes in, gives a sign, stays inside for a while and writes 1. Place 1 comes in after the sign, and writes 2.
+/// Place 0 comes in, gives a sign, stays inside for a while and writes 1. Place 1 comes in after the sign, and writes
+/// 2.
 pub fn comes_late<R: Wait + Abort + Clock, M: Monitor<Tally>>(
     rt: &R,
     m: &M,

@@ -1,4 +1,5 @@
-//! What waits for nobody has bounds, which no clause says: steps of all kinds of a full book end within a limit of time.
+//! What waits for nobody has bounds, which no clause says: steps of all kinds of a full book end within a limit of
+//! time.
 use crate::tests::limit::in_time;
 use hoare_law::waits::Waits;
 use std::alloc::Global;
@@ -26,7 +27,8 @@ fn call_all(book: &mut Book) -> Result<(), StepRefused> {
     Ok(())
 }
 
-// Who is inside resumes the first that waits on a condition, and then each passes the monitor on, by turns on the first four.
+// Who is inside resumes the first that waits on a condition, and then each passes the monitor on, by turns on the first
+// four.
 fn empty(book: &mut Book) -> Result<(), StepRefused> {
     book.try_step(Step::Signal(0, 1))?;
     for turn in 0..PLACES {

@@ -72,8 +72,8 @@ enter 1        .       c1:5    .       .
     is_drawn(&rt, script, Ok(()), lines);
 }
 
-// Of three that are called at once the two of least priority go on first, and of these the one that waits longer. Whenever
-// one goes on, the others move up.
+// Of three that are called at once the two of least priority go on first, and of these the one that waits longer.
+// Whenever one goes on, the others move up.
 #[test]
 fn broadcast_as_text(rt: HostRuntime) {
     let lines = b"monitor 5 1 1    0           1           2           3       4
@@ -99,9 +99,9 @@ leave 4          .           .           .           .       .       -> free
     is_drawn(&rt, BROADCAST, Ok(()), lines);
 }
 
-// The called go on in the order of the calls: first 1, which a notify called; then 2, 3 and 0, which a broadcast called, by
-// rising priority (3, 3, 5), and 2 waited longer than 3; then 4, which a notify called last, though its priority is the
-// least.
+// The called go on in the order of the calls: first 1, which a notify called; then 2, 3 and 0, which a broadcast
+// called, by rising priority (3, 3, 5), and 2 waited longer than 3; then 4, which a notify called last, though its
+// priority is the least.
 #[test]
 fn calls_in_order_as_text(rt: HostRuntime) {
     let script =

@@ -9,7 +9,8 @@ use std::io::{Read, Write};
 use std::process::Abort;
 use std::test::Fail;
 
-// 64 + 28 * 1,164 + 104 = 32,760, and one row more is over 32,767. What has no room isn't begun, and a chart has no such limit.
+// 64 + 28 * 1,164 + 104 = 32,760, and one row more is over 32,767. What has no room isn't begun, and a chart has no
+// such limit.
 #[test]
 fn too_tall_for_an_svg(rt: HostRuntime) -> Result<(), Fail> {
     let mut script = b"monitor 1 1\n".to_vec(rt.alloc())?;
@@ -78,8 +79,8 @@ fn chart_end<R: AllocGlobal>(rt: &R, script: &[u8]) -> Result<(), PictureFault> 
 // A step of 68 bytes with its end, that is refused: no place has this number.
 const LONG_STEP: &[u8] = b"wait 18446744073709551615 18446744073709551615 18446744073709551615\n";
 
-// Behind a header of 12 bytes 15,420 such steps are 1,048,572 bytes, and one more is over 1,048,576. Each takes two lines of the chart:
-// 67 letters leave no room for 4 and `-> refused 1 (there is no such place)`.
+// Behind a header of 12 bytes 15,420 such steps are 1,048,572 bytes, and one more is over 1,048,576. Each takes two
+// lines of the chart: 67 letters leave no room for 4 and `-> refused 1 (there is no such place)`.
 #[test]
 fn long_line_and_large_script(rt: HostRuntime) -> Result<(), Fail> {
     let mut script = b"monitor 1 1\n".to_vec(rt.alloc())?;

@@ -124,13 +124,14 @@ fn wide_and_idle_lanes_as_svg(rt: HostRuntime) {
     assert_eq!(rt; times(text.as_slice(), b"class=\"head\""), 2);
 }
 
-// The longest step has 13 letters, and `called 3` 8, so that a box of the first three lanes is 9 * 8 + 12 = 84 wide and one
-// of the others 68: the lanes stand at 20 + 104 + 24 + 42 = 190, 128 further at 318 and at 446, at 446 + 42 + 44 + 34 =
-// 566 and at 678, and remarks begin at 678 + 34 + 16 = 728; the longest has 37 letters. The broadcast is the eighth row,
-// from 260 on: its arrows run at 274, from the side of place 3's box, at 566 - 34 = 532. Of the three that wait, 1 and 2
-// have priority 1, and 1 waits longer; 0 has priority 2. So 1 is called first, 2 second and 0 third. Two rows later 1 goes
-// on and the others move up, and so do 2 and 0 again two rows and a row later. Sixteen rows end at 512. The last hand-over
-// runs at 414 to the side of place 0's box, behind the boxes: the first of these comes after its head.
+// The longest step has 13 letters, and `called 3` 8, so that a box of the first three lanes is 9 * 8 + 12 = 84 wide and
+// one of the others 68: the lanes stand at 20 + 104 + 24 + 42 = 190, 128 further at 318 and at 446, at 446 + 42 + 44 +
+// 34 = 566 and at 678, and remarks begin at 678 + 34 + 16 = 728; the longest has 37 letters. The broadcast is the
+// eighth row, from 260 on: its arrows run at 274, from the side of place 3's box, at 566 - 34 = 532. Of the three that
+// wait, 1 and 2 have priority 1, and 1 waits longer; 0 has priority 2. So 1 is called first, 2 second and 0 third. Two
+// rows later 1 goes on and the others move up, and so do 2 and 0 again two rows and a row later. Sixteen rows end at
+// 512. The last hand-over runs at 414 to the side of place 0's box, behind the boxes: the first of these comes after
+// its head.
 #[test]
 fn broadcast_as_svg(rt: HostRuntime) {
     let text = drawn_whole(&rt, BROADCAST, Form::Svg);

@@ -6,7 +6,8 @@ use std::io::Read;
 use std::process::Abort;
 use std::test::Fail;
 
-// Gives the letter e, up to a limit of calls, where it fails: so a run that reads on is seen, and doesn't read for ever.
+// Gives the letter e, up to a limit of calls, where it fails: so a run that reads on is seen, and doesn't read for
+// ever.
 #[derive(Drop)]
 struct Endless {
     calls: u64,

@@ -55,8 +55,8 @@ fn counted<R: Abort + AllocGlobal>(
     (result, watched.calls(), watched.bytes())
 }
 
-// Gives a header's line, and then one line again and again, up to a limit of bytes, where it fails: so a run that reads on is
-// seen, and doesn't read for ever.
+// Gives a header's line, and then one line again and again, up to a limit of bytes, where it fails: so a run that reads
+// on is seen, and doesn't read for ever.
 #[derive(Drop)]
 struct Endless {
     line: &'static [u8],

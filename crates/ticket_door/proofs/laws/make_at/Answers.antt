@@ -14,7 +14,8 @@ deal-outs-requires-clause-seat g c =
     let key = ap (λ (z : Sizes). z.places) c.in-Ok-vacant.ensures.table.2 in
     let h =
     opened
-    (sizes_of g.D.MonitorData.CONDITIONS g.D.MonitorData.MESA c.in-Ok-vacant.made.0.shared.key.places) c.in-Ok-vacant.made.2.state in
+    (sizes_of g.D.MonitorData.CONDITIONS g.D.MonitorData.MESA c.in-Ok-vacant.made.0.shared.key.places)
+    c.in-Ok-vacant.made.2.state in
     (h, c.open.ensures.opened ∙ ap (λ (n : ℕ). (Places (all_know 0 n h), [])) key)
 
 pub returns-clause-of : goal.returns-clause-of
@@ -28,7 +29,8 @@ returns-clause-of g c =
     let d = door_of t.table_id t.key.places c.in-Ok-sleepers.wakers.items in
     let dealt = c.deal-outs.ensures h (c.open.ensures.opened ∙ ap (λ (n : ℕ). (Places (all_know 0 n h), [])) key) in
     made_outside D.rest D.ready (kinds_of D.CONDITIONS D.MESA) d s _
-    (dealt ∙ (λ i. places_from (door_of t.table_id (sym key i) (sym c.in-Ok-sleepers.ensures.each_wakes i)) 0 (sym key i) h))
+    (dealt ∙ (λ i. places_from (door_of t.table_id (sym key i) (sym c.in-Ok-sleepers.ensures.each_wakes i)) 0
+    (sym key i) h))
     (subst (λ (r : g.row.D.Denot). D.rest r nobody) (sym made.parcel.0) c.requires.rest)
 
 pub returns-clause-places : goal.returns-clause-places

@@ -7,8 +7,12 @@ use Rattle.hoare_law.specs.Sizes.{kinds_of}
 pub load-requires : goal.load-requires
 load-requires g c =
     let D = g.D.MonitorData in
-    let key = c.args.table.now.shared.key in
-    (search rules, search rules, begins_at key.first key.places D.rest D.ready (kinds_of D.CONDITIONS D.MESA) _ _ _ c.requires.seat)
+    let key = c.args.table.now.shared.key in (
+      search rules,
+      search rules,
+      begins_at key.first key.places D.rest D.ready
+          (kinds_of D.CONDITIONS D.MESA) _ _ _ c.requires.seat,
+    )
 
 pub lay_parcel-requires-clause-empty : goal.lay_parcel-requires-clause-empty
 lay_parcel-requires-clause-empty g c = (_, c.load.ensures.2 _ (ap (λ (m : Sat g.row.D.Denot). m.0) c.requires.seat))
@@ -18,8 +22,13 @@ load-requires-2 g c =
     let D = g.D.MonitorData in
     let key = c.args.table.now.shared.key in
     let begun = c.load.ensures.2 _ (ap (λ (m : Sat g.row.D.Denot). m.0) c.requires.seat) in
-    let laid = c.lay_parcel.ensures.laid ∙ ap (λ (m : Sat g.row.D.Denot). (m.0, (0, Some c.args.parcel) ∷ [])) begun in
-    (search rules, search rules, opens_at key.first key.places D.rest D.ready (kinds_of D.CONDITIONS D.MESA) _ _ c.args.parcel _ laid c.requires.rest c.requires.book)
+    let laid = c.lay_parcel.ensures.laid
+    ∙ ap (λ (m : Sat g.row.D.Denot). (m.0, (0, Some c.args.parcel) ∷ [])) begun in (
+      search rules,
+      search rules,
+      opens_at key.first key.places D.rest D.ready
+          (kinds_of D.CONDITIONS D.MESA) _ _ c.args.parcel _ laid c.requires.rest c.requires.book,
+    )
 
 pub returns-clause-opened : goal.returns-clause-opened
 returns-clause-opened g c =

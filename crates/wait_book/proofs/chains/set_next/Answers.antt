@@ -18,7 +18,12 @@ returns-in-Some-clause-linked c = λ before to linked last once.
           let is : was ≡ n = cc in
           u.changed
           ∙ ap
-          (λ (m : Node). Some (record { place = m.place; condition = m.condition; priority = m.priority; next = Some c.args.key })) is;
+          (λ (m : Node). Some (record {
+            place = m.place;
+            condition = m.condition;
+            priority = m.priority;
+            next = Some c.args.key;
+          })) is;
       others = u.others;
     } in
     IsLinked-relinked s (with_value s b new) c.args.first before to (Some c.args.key) b relinks

@@ -17,7 +17,8 @@ store-requires g c =
       table,
       omega (arith, wide),
       gives_at D.rest D.ready
-          (kinds_of D.CONDITIONS D.MESA) _ _ _ c.args.place e.0 c.args.parcel c.args.next g.J.PickedEvent.event _ _ laid e.2 c.word_of_next.ensures,
+          (kinds_of D.CONDITIONS D.MESA) _ _ _ c.args.place e.0 c.args.parcel c.args.next g.J.PickedEvent.event _ _ laid
+          e.2 c.word_of_next.ensures,
     )
 
 -- who goes on is woken behind the store
@@ -41,7 +42,8 @@ returns-in-For-clause-away g c = λ f is.
 
 pub returns-in-For-clause-woken : goal.returns-in-For-clause-woken
 returns-in-For-clause-woken g c =
-    subst (λ (n : Next). IsWoken c.args.self.now n (Some c.wake.result)) (sym c.in-For.is) (ap (λ w. Some w) c.wake.ensures)
+    subst (λ (n : Next). IsWoken c.args.self.now n (Some c.wake.result)) (sym c.in-For.is)
+    (ap (λ w. Some w) c.wake.ensures)
 
 pub returns-in-Free-clause-away : goal.returns-in-Free-clause-away
 returns-in-Free-clause-away g c = λ f is.

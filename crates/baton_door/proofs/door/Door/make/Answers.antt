@@ -13,7 +13,8 @@ deal-outs-requires-clause-seat g c =
     let key = c.in-Ok-vacant.ensures.table.2 in
     let h =
     opened
-    (sizes_of g.D.MonitorData.CONDITIONS g.D.MonitorData.MESA c.in-Ok-vacant.made.0.shared.key) c.in-Ok-vacant.made.2.state in
+    (sizes_of g.D.MonitorData.CONDITIONS g.D.MonitorData.MESA c.in-Ok-vacant.made.0.shared.key)
+    c.in-Ok-vacant.made.2.state in
     (h, c.open.ensures.opened ∙ ap (λ (n : ℕ). (Places (all_know 0 n h), [])) key)
 
 pub returns-clause-of : goal.returns-clause-of
@@ -27,7 +28,8 @@ returns-clause-of g c =
     let dealt =
     c.deal-outs.ensures h (c.open.ensures.opened ∙ ap (λ (n : ℕ). (Places (all_know 0 n h), [])) made.table.2) in
     made_outside D.rest D.ready (kinds_of D.CONDITIONS D.MESA) d s _
-    (dealt ∙ (λ i. places_from (door_of t.table_id (sym made.table.2 i) (sym c.in-Ok-sleepers.ensures.each_wakes i)) 0 (sym made.table.2 i) h))
+    (dealt ∙ (λ i. places_from (door_of t.table_id (sym made.table.2 i) (sym c.in-Ok-sleepers.ensures.each_wakes i)) 0
+    (sym made.table.2 i) h))
     (subst (λ (r : g.row.D.Denot). D.rest r nobody) (sym made.parcel.0) c.requires.rest)
 
 pub returns-clause-places : goal.returns-clause-places
@@ -37,5 +39,6 @@ returns-clause-places g c =
     let t = c.in-Ok-vacant.made.0.shared in
     let h = opened (sizes_of D.CONDITIONS D.MESA t.key) c.in-Ok-vacant.made.2.state in
     c.deal-outs.ensures h (c.open.ensures.opened ∙ ap (λ (n : ℕ). (Places (all_know 0 n h), [])) made.table.2)
-    ∙ (λ i. places_from (door_of t.table_id (sym made.table.2 i) (sym c.in-Ok-sleepers.ensures.each_wakes i)) 0 c.args.places
+    ∙ (λ i. places_from (door_of t.table_id (sym made.table.2 i) (sym c.in-Ok-sleepers.ensures.each_wakes i)) 0
+    c.args.places
     (opened (sizes_of D.CONDITIONS D.MESA (made.table.2 i)) (made.parcel.0 i)))

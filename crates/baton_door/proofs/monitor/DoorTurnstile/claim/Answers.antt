@@ -27,7 +27,8 @@ pub take_parcel-requires-clause-full : goal.take_parcel-requires-clause-full
 take_parcel-requires-clause-full g c =
     let away = c.requires.away in
     let t =
-    (c.compare_exchange.ensures.2 c.args.place away.0 (c.loop.invariant.2 ∙ away.1)).1 c.if-compare_exchange-mine.true in
+    (c.compare_exchange.ensures.2 c.args.place away.0 (c.loop.invariant.2 ∙ away.1)).1
+    c.if-compare_exchange-mine.true in
     (_, t.0, t.1.me_is)
 
 pub returns-then-compare_exchange-mine-clause-came : goal.returns-then-compare_exchange-mine-clause-came

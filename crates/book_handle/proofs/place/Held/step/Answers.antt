@@ -7,5 +7,6 @@ pub returns-clause-of : goal.returns-clause-of
 returns-clause-of c = λ h o. (
   c.put.ensures.0,
   subst (λ (b : Contents). Stepped h c.args.step b c.stepped-code.result) (sym c.put.ensures.1)
-      (c.stepped-code.ensures.of h (subst (λ (b : Contents). IsOf b h) (sym c.deref_mut.ensures.value) (subst (λ (b : Contents). IsOf b h) (sym c.in-Some.ensures.taken.1) o.of))),
+      (c.stepped-code.ensures.of h (subst (λ (b : Contents). IsOf b h) (sym c.deref_mut.ensures.value)
+      (subst (λ (b : Contents). IsOf b h) (sym c.in-Some.ensures.taken.1) o.of))),
 )

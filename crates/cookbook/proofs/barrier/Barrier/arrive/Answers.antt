@@ -17,7 +17,8 @@ returns-then-lacks_one-clause-trace g c =
     let told : c.generation-generation.result ≡ (g.M.Monitor.data_in c.enter-inside.result).generation =
     rw c.state.ensures at c.generation-generation.ensures in
     rw told
-    (came_last _ _ c.enter-inside.ensures.front (rw c.state-2.ensures at (c.lacks_one.ensures.0 c.if-lacks_one.true)) (Finishes-exit c.signal_leave-out.ensures.front
+    (came_last _ _ c.enter-inside.ensures.front (rw c.state-2.ensures at (c.lacks_one.ensures.0 c.if-lacks_one.true))
+    (Finishes-exit c.signal_leave-out.ensures.front
     (g.met.M.Monitor.keeps_place _ _ ∙ c.enter-inside.ensures.place)
     (g.met.M.Monitor.takes_data _ _ ∙ (rw c.state_mut.ensures.value at c.open.ensures))
     (g.met.M.Monitor.keeps_front _ _)))
@@ -45,6 +46,7 @@ returns-clause-trace g c =
     rw told (waited _ _ _ _ c.enter-inside.ensures.front (omega (arith, c.enter-inside.ensures.rest.within, more))
     (waits-as c.wait-inside.ensures.front place told one_more (g.met.M.Monitor.keeps_front _ _))
     ((c.wait-inside.ensures.ready (omega arith)).begun ∙ ap next told)
-    (Finishes-exit c.signal_leave-out-2.ensures.front (g.met.M.Monitor.keeps_place _ _ ∙ (c.wait-inside.ensures.place ∙ place))
+    (Finishes-exit c.signal_leave-out-2.ensures.front (g.met.M.Monitor.keeps_place _ _
+    ∙ (c.wait-inside.ensures.place ∙ place))
     (g.met.M.Monitor.takes_data _ _ ∙ (rw c.state_mut-3.ensures.value at c.go.ensures))
     (g.met.M.Monitor.keeps_front _ _)))

@@ -9,7 +9,9 @@ returns-clause-trace g c = record {
   found = g.M.Monitor.data_in c.if-not-is_dry.inside;
   front = g.M.Monitor.front_in c.if-not-is_dry.inside;
   comes = elim c.if-not-is_dry.branch [
-    | then-not-is_dry w ↦ rw w.inside-is (ComesTo-waited c.enter-inside.ensures.front (search rules) w.wait-inside.ensures.front (search rules) (search rules)
+    | then-not-is_dry w ↦ rw w.inside-is
+        (ComesTo-waited c.enter-inside.ensures.front (search rules) w.wait-inside.ensures.front (search rules)
+        (search rules)
         (search rules) (search rules) (search rules))
     | else-not-is_dry w ↦ rw w.inside-is (at_once c.enter-inside.ensures.front (search rules))
   ];

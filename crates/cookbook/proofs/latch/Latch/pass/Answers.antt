@@ -9,7 +9,9 @@ returns-clause-trace g c = record {
   found = g.M.Monitor.data_in c.if-not-is_open.inside;
   front = g.M.Monitor.front_in c.if-not-is_open.inside;
   comes = elim c.if-not-is_open.branch [
-    | then-not-is_open w ↦ rw w.inside-is (ComesTo-waited c.enter-inside.ensures.front (search rules) w.wait-inside.ensures.front (search rules) (search rules)
+    | then-not-is_open w ↦ rw w.inside-is
+        (ComesTo-waited c.enter-inside.ensures.front (search rules) w.wait-inside.ensures.front (search rules)
+        (search rules)
         (search rules) (search rules) (search rules))
     | else-not-is_open w ↦ rw w.inside-is (at_once c.enter-inside.ensures.front (search rules))
   ];

@@ -18,7 +18,8 @@ signal_leave-out-requires-clause-ready g c =
 
 pub signal_leave-out-requires-clause-rest : goal.signal_leave-out-requires-clause-rest
 signal_leave-out-requires-clause-rest g c = MeetingRests-nobody _ _
-    (one_waits _ _ _ _ c.enter-inside.ensures.rest (rw c.state_mut.ensures.value at c.answer-first.ensures.value) (ap (λ lists. lists 0) (g.met.M.Monitor.keeps_lists _ _)))
+    (one_waits _ _ _ _ c.enter-inside.ensures.rest (rw c.state_mut.ensures.value at c.answer-first.ensures.value)
+    (ap (λ lists. lists 0) (g.met.M.Monitor.keeps_lists _ _)))
 
 pub returns-then-is_offered-clause-trace : goal.returns-then-is_offered-clause-trace
 returns-then-is_offered-clause-trace g c =
@@ -27,14 +28,16 @@ returns-then-is_offered-clause-trace g c =
     let some =
     somebody_waits _
     (one_waits _ _ _ _ c.enter-inside.ensures.rest offered (ap (λ lists. lists 0) (g.met.M.Monitor.keeps_lists _ _))) in
-    let passed = Exits-resumed c.signal_leave-out.ensures.front (c.signal_leave-out.ensures.told.1 some) (g.met.M.Monitor.keeps_place _ _ ∙ c.enter-inside.ensures.place)
+    let passed = Exits-resumed c.signal_leave-out.ensures.front (c.signal_leave-out.ensures.told.1 some)
+    (g.met.M.Monitor.keeps_place _ _ ∙ c.enter-inside.ensures.place)
     (g.met.M.Monitor.takes_data _ _ ∙ c.answer-first.ensures.after) (g.met.M.Monitor.keeps_front _ _) in
     came_second _ passed.to _ (rw offered at c.enter-inside.ensures.front) passed.chooses passed.is
 
 pub offer-requires : goal.offer-requires
 offer-requires g c =
     rw c.state_mut-2.ensures.value
-    (found_empty _ _ c.enter-inside.ensures.rest (rw c.state.ensures at (iff_false c.is_offered.ensures c.if-is_offered.false)))
+    (found_empty _ _ c.enter-inside.ensures.rest
+    (rw c.state.ensures at (iff_false c.is_offered.ensures c.if-is_offered.false)))
 
 pub wait-inside-requires-clause-rest : goal.wait-inside-requires-clause-rest
 wait-inside-requires-clause-rest g c =
@@ -59,6 +62,7 @@ returns-clause-trace g c =
     let place = g.met.M.Monitor.keeps_place _ _ ∙ c.enter-inside.ensures.place in
     came_first c.collect-second.result (g.M.Monitor.front_in c.enter-inside.result)
     (g.M.Monitor.front_in c.wait-inside.result) (rw empty at c.enter-inside.ensures.front)
-    (rw (← answered) (waits-as c.wait-inside.ensures.front place refl (g.met.M.Monitor.takes_data _ _ ∙ c.offer.ensures) (g.met.M.Monitor.keeps_front _ _)))
+    (rw (← answered) (waits-as c.wait-inside.ensures.front place refl (g.met.M.Monitor.takes_data _ _ ∙ c.offer.ensures)
+    (g.met.M.Monitor.keeps_front _ _)))
     (leaves-as c.leave.ensures.front (g.met.M.Monitor.keeps_place _ _ ∙ (c.wait-inside.ensures.place ∙ place))
     (g.met.M.Monitor.takes_data _ _ ∙ c.collect-second.ensures.after) (g.met.M.Monitor.keeps_front _ _))

@@ -17,7 +17,8 @@ pub hand_on-requires-clause-inv : goal.hand_on-requires-clause-inv
 hand_on-requires-clause-inv g c = λ _ _.
     TableHolds-risen (g.M.Monitor.data_in c.enter-inside.result) _ c.args.seat c.enter-inside.ensures.rest.inv
     (search rules)
-    (g.met.M.Monitor.takes_data c.enter-inside.result c.stop.new.self ∙ (rw c.state_mut.ensures.value at c.stop.ensures))
+    (g.met.M.Monitor.takes_data c.enter-inside.result c.stop.new.self
+    ∙ (rw c.state_mut.ensures.value at c.stop.ensures))
 
 pub returns-clause-place : goal.returns-clause-place
 returns-clause-place g c =
@@ -28,5 +29,6 @@ pub returns-clause-trace : goal.returns-clause-trace
 returns-clause-trace g c =
     got_up _ _ c.enter-inside.ensures.front (search rules) (HandsOn-as c.hand_on.ensures.trace
     (g.met.M.Monitor.keeps_place c.enter-inside.result c.stop.new.self ∙ c.enter-inside.ensures.place)
-    (g.met.M.Monitor.takes_data c.enter-inside.result c.stop.new.self ∙ (rw c.state_mut.ensures.value at c.stop.ensures))
+    (g.met.M.Monitor.takes_data c.enter-inside.result c.stop.new.self
+    ∙ (rw c.state_mut.ensures.value at c.stop.ensures))
     (g.met.M.Monitor.keeps_front c.enter-inside.result c.stop.new.self))

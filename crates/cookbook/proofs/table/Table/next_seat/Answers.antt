@@ -10,14 +10,16 @@ pub loop-seat-preserved : goal.loop-seat-preserved
 loop-seat-preserved g c = record {
   lists =
       below_more
-      (λ k. g.M.Monitor.lists_in c.args.inside.now k ≢ [] → CanEat (g.M.Monitor.data_in c.args.inside.now) k → ⊥) c.loop-seat.seat c.loop-seat.invariant.lists
+      (λ k. g.M.Monitor.lists_in c.args.inside.now k ≢ [] → CanEat (g.M.Monitor.data_in c.args.inside.now) k → ⊥)
+      c.loop-seat.seat c.loop-seat.invariant.lists
       (elim c.else-queue.branch [
         | else-queue-via-then-queue+else-can_eat w ↦ λ some. search rules
         | else-queue-via-else-queue w ↦ λ some can. not_told c.queue.ensures.lists w.if-queue.false some
       ]);
   front =
       below_more
-      (λ k. waiting k (g.M.Monitor.front_in c.args.inside.now).events ≢ [] → CanEat (g.M.Monitor.data_in c.args.inside.now) k → ⊥) c.loop-seat.seat
+      (λ k. waiting k (g.M.Monitor.front_in c.args.inside.now).events ≢ []
+      → CanEat (g.M.Monitor.data_in c.args.inside.now) k → ⊥) c.loop-seat.seat
       c.loop-seat.invariant.front
       (elim c.else-queue.branch [
         | else-queue-via-then-queue+else-can_eat w ↦ λ some. search rules

@@ -16,12 +16,14 @@ came g c = elim c.if-not-can_eat.branch [
       let ready = w.wait-inside.ensures.ready (omega (arith, c.requires.seat)) in
       let cannot = rw c.state.ensures at (iff_false c.can_eat.ensures w.if-not-can_eat.true) in
       rw w.inside-is
-      (Came-waited g.M.Monitor c.enter-inside.ensures.place c.enter-inside.ensures.front cannot w.wait-inside.ensures.of w.wait-inside.ensures.place
+      (Came-waited g.M.Monitor c.enter-inside.ensures.place c.enter-inside.ensures.front cannot w.wait-inside.ensures.of
+      w.wait-inside.ensures.place
       w.wait-inside.ensures.front refl refl (ready.inv, ready.can))
   | else-not-can_eat w ↦
       let can = rw c.state.ensures at (c.can_eat.ensures.0 w.if-not-can_eat.false) in
       rw w.inside-is
-      (Came-at_once g.M.Monitor c.enter-inside.ensures.of c.enter-inside.ensures.place c.enter-inside.ensures.front (λ cannot. cannot can)
+      (Came-at_once g.M.Monitor c.enter-inside.ensures.of c.enter-inside.ensures.place c.enter-inside.ensures.front
+      (λ cannot. cannot can)
       (c.enter-inside.ensures.rest.inv, can))
 ]
 

@@ -6,4 +6,5 @@ use Rattle.disk_jobs.proofs.jobs.Jobs.make.Goals as goal
 pub invariant_of-result : goal.invariant_of-result
 invariant_of-result c =
     refusal_of-none (job_list c.args.cylmax c.args.workers c.args.cylinders.items)
-    (ap (λ (v : List ℕ). refusal_of (job_list c.args.cylmax c.args.workers v)) (sym c.as_slice.ensures.value) ∙ sym c.in-None.ensures)
+    (ap (λ (v : List ℕ). refusal_of (job_list c.args.cylmax c.args.workers v)) (sym c.as_slice.ensures.value)
+    ∙ sym c.in-None.ensures)

@@ -20,5 +20,6 @@ returns g c =
           first-history c.first.result f c.args.condition
           (c.first.ensures.of (erased f) (book_in_hand c.book.ensures c.self.invariant))
           ∙ ap
-          (λ (i : PlaceIn g.row.D.Denot). option_map priority_of (chosen c.args.condition i.front.events)) c.self.view_is;
+          (λ (i : PlaceIn g.row.D.Denot). option_map priority_of (chosen c.args.condition i.front.events))
+          c.self.view_is;
     }

@@ -9,7 +9,9 @@ returns-clause-trace g c = record {
   found = g.M.Monitor.data_in c.if-is_none_free.inside;
   front = g.M.Monitor.front_in c.if-is_none_free.inside;
   comes = elim c.if-is_none_free.branch [
-    | then-is_none_free w ↦ rw w.inside-is (ComesTo-waited c.enter-inside.ensures.front (search rules) w.wait-inside.ensures.front (search rules) (search rules)
+    | then-is_none_free w ↦ rw w.inside-is
+        (ComesTo-waited c.enter-inside.ensures.front (search rules) w.wait-inside.ensures.front (search rules)
+        (search rules)
         (search rules) (search rules) (search rules))
     | else-is_none_free w ↦ rw w.inside-is (at_once c.enter-inside.ensures.front (search rules))
   ];

@@ -7,8 +7,11 @@ use Rattle.monitor_trials.proofs.Stages.{IsInside-admit}
 use Rattle.monitor_trials.proofs.fake.FakeMonitor.enter.Goals as goal
 
 pub returns-clause-of : goal.returns-clause-of
-returns-clause-of g c =
-    (search rules, rw c.tell.ensures.front (IsInside-admit c.requires.1), rw c.tell.ensures.front (IsLeft-untouched _ (Admit 0 _) refl c.requires.2))
+returns-clause-of g c = (
+  search rules,
+  rw c.tell.ensures.front (IsInside-admit c.requires.1),
+  rw c.tell.ensures.front (IsLeft-untouched _ (Admit 0 _) refl c.requires.2),
+)
 
 pub returns-clause-front : goal.returns-clause-front
 returns-clause-front g c =

@@ -7,4 +7,5 @@ use Rattle.monitor_trials.proofs.fake.FakeMonitor.first.Goals as goal
 pub returns-clause-front : goal.returns-clause-front
 returns-clause-front g c =
     sym
-    (ap (option_map priority_of) (chosen-nobody c.args._condition _ (c.requires.of.1.stage.waits_are c.args._condition)))
+    (ap (option_map priority_of)
+    (chosen-nobody c.args._condition _ (c.requires.of.1.stage.waits_are c.args._condition)))

@@ -14,7 +14,8 @@ loop-out-preserved c =
           (all-and-one (IsUnaskedAsking c.args.door.now) asks c.ask.result inv.1 c.ask.ensures.of),
       search rules,
       search rules,
-      λ k at. rw c.push_back_reserved.ensures.items (asks-one k c.pop.new.self.items c.in-Some.out asks c.ask.result c.ask.ensures.place
+      λ k at. rw c.push_back_reserved.ensures.items
+          (asks-one k c.pop.new.self.items c.in-Some.out asks c.ask.result c.ask.ensures.place
           (subst (λ os. HasPlace k os ⊎ HasPlace k (map as_out asks)) c.in-Some.ensures.items (inv.4 k at))),
     )
 

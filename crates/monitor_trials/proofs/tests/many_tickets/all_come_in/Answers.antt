@@ -16,7 +16,8 @@ loop-asked-preserved g c =
           (all-and-one (IsUnaskedOut c.args.door.now.door) outs c.give_up.result inv.1 c.give_up.ensures.of),
       search rules,
       search rules,
-      λ k at. rw c.push_reserved-in-Some.ensures.items (gives-up-one k c.pop_front.new.self.items c.in-Some.asked outs c.give_up.result (search rules)
+      λ k at. rw c.push_reserved-in-Some.ensures.items
+          (gives-up-one k c.pop_front.new.self.items c.in-Some.asked outs c.give_up.result (search rules)
           (subst (λ qs. HasPlace k (map as_out qs) ⊎ HasPlace k outs) c.in-Some.ensures.items (inv.4 k at))),
     )
 

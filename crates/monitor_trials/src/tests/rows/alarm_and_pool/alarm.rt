@@ -66,7 +66,8 @@ pub fn is_full<R: Wait + Abort, M: Monitor<Alarm>>(rt: &R, m: &M, out: M::Out) -
     out
 }
 
-/// At the last time: nothing can be set past it, and there is no next one, but who sets it goes on at once: the time that it found.
+/// At the last time: nothing can be set past it, and there is no next one, but who sets it goes on at once: the time
+/// that it found.
 pub fn ends_the_clock<R: Wait + Abort, M: Monitor<Alarm>>(
     rt: &R,
     m: &M,

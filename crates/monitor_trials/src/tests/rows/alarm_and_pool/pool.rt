@@ -71,7 +71,8 @@ pub fn is_no_stream<R: Wait + Abort, M: Monitor<Pool>>(
     out
 }
 
-/// Takes two buffers for stream 0 and one for stream 1, lets the others wait, and gives two back. Then it is refused in each way.
+/// Takes two buffers for stream 0 and one for stream 1, lets the others wait, and gives two back. Then it is refused in
+/// each way.
 fn lends<R: Wait + Abort, M: Monitor<Pool>>(rt: &R, m: &M, out: M::Out, turns: &Turns) -> M::Out
     requires { M.is_of m.now out }
     ensures of { M.is_of m.now result }
@@ -110,7 +111,8 @@ fn borrows<R: Wait + Abort + Clock, M: Monitor<Pool>>(
     (out, u64::from(buffer))
 }
 
-/// Takes all buffers of the largest pool, in order, for the last stream, and gives the last back: no number is one too many.
+/// Takes all buffers of the largest pool, in order, for the last stream, and gives the last back: no number is one too
+/// many.
 pub fn takes_all<R: Wait + Abort, M: Monitor<Pool>>(rt: &R, m: &M, out: M::Out) -> M::Out
     requires { M.is_of m.now out }
     ensures of { M.is_of m.now result }

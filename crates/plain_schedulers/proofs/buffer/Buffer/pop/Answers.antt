@@ -19,4 +19,5 @@ invariant_of-self g c =
 
 pub returns-clause-items : goal.returns-clause-items
 returns-clause-items g c = rw (← c.self.view_is, c.take-taken.ensures.after)
-    (items_in-pop c.in-Some.item c.self.invariant (rw (← c.self.view_is) at c.requires) (omega arith) c.index_mut.ensures.value (search rules))
+    (items_in-pop c.in-Some.item c.self.invariant (rw (← c.self.view_is) at c.requires)
+    (omega arith) c.index_mut.ensures.value (search rules))

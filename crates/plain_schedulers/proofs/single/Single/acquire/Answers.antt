@@ -14,7 +14,9 @@ returns-clause-trace g c =
       found = g.M.Monitor.data_in c.if-not-is_in.inside;
       front = g.M.Monitor.front_in c.if-not-is_in.inside;
       comes = elim c.if-not-is_in.branch [
-        | then-not-is_in w ↦ rw w.inside-is (ComesTo-waited c.enter-inside.ensures.front (search rules) w.wait-inside.ensures.front c.enter-inside.ensures.place
+        | then-not-is_in w ↦ rw w.inside-is
+            (ComesTo-waited c.enter-inside.ensures.front (search rules) w.wait-inside.ensures.front
+            c.enter-inside.ensures.place
             refl refl refl refl)
         | else-not-is_in w ↦ rw w.inside-is (at_once c.enter-inside.ensures.front (search rules))
       ];

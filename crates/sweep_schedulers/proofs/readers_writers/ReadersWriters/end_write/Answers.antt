@@ -24,6 +24,7 @@ returns-clause-trace g c =
     elim c.if-queue.branch [
       | then-queue w ↦ to_readers a front c.enter-inside.ensures.front (search rules) (told.0 (search rules))
           (Finishes-exit (rw w.next-is at c.signal_leave-out.ensures.front) place state same)
-      | else-queue w ↦ to_writers a front c.enter-inside.ensures.front (search rules) (none_told (waiting 0 front.events) c.queue.result told.1 (search rules))
+      | else-queue w ↦ to_writers a front c.enter-inside.ensures.front (search rules)
+          (none_told (waiting 0 front.events) c.queue.result told.1 (search rules))
           (Finishes-exit (rw w.next-is at c.signal_leave-out.ensures.front) place state same)
     ]

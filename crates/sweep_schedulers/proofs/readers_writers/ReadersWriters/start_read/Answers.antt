@@ -13,12 +13,14 @@ use Rattle.sweep_schedulers.proofs.readers_writers.ReadersWriters.start_read.Goa
 came : (g : Over) (c : After-state_mut g)
     → Came g.M.Monitor c.args.m.now c.args.out ReaderHeldUp (λ _. 0) (λ _. 0) (λ d _. ReadReady d) c.if-is_busy.inside
 came g c = elim c.if-is_busy.branch [
-  | then-is_busy w ↦ rw w.inside-is (Came-waited g.M.Monitor c.enter-inside.ensures.place c.enter-inside.ensures.front (search rules) w.wait-inside.ensures.of w.wait-inside.ensures.place
+  | then-is_busy w ↦ rw w.inside-is (Came-waited g.M.Monitor c.enter-inside.ensures.place c.enter-inside.ensures.front
+      (search rules) w.wait-inside.ensures.of w.wait-inside.ensures.place
       w.wait-inside.ensures.front refl refl (w.wait-inside.ensures.ready (omega arith)))
   | else-is_busy+else-queue w ↦
       let free : (g.M.Monitor.data_in c.enter-inside.result).busy ≡ false = search rules in
       rw w.inside-is
-      (Came-at_once g.M.Monitor c.enter-inside.ensures.of c.enter-inside.ensures.place c.enter-inside.ensures.front (search rules)
+      (Came-at_once g.M.Monitor c.enter-inside.ensures.of c.enter-inside.ensures.place c.enter-inside.ensures.front
+      (search rules)
       (record { inv = c.enter-inside.ensures.rest.inv; no_writer = free }))
 ]
 

@@ -16,17 +16,20 @@ wait-inside-requires-clause-rest g c =
 
 -- it came in and, after a wait or without one, finds nobody in
 came : (g : Over) (c : After-state_mut g)
-    → Came g.M.Monitor c.args.m.now c.args.out (λ _ a. IsInUse a) (λ _. 1) (λ _. 0) (λ d _. WriteReady d) c.if-is_in_use.inside
+    → Came g.M.Monitor c.args.m.now c.args.out (λ _ a. IsInUse a) (λ _. 1) (λ _. 0)
+    (λ d _. WriteReady d) c.if-is_in_use.inside
 came g c = elim c.if-is_in_use.branch [
   | then-is_in_use w ↦
       let used = rw c.state.ensures at (c.is_in_use.ensures.0 w.if-is_in_use.true) in
       rw w.inside-is
-      (Came-waited g.M.Monitor c.enter-inside.ensures.place c.enter-inside.ensures.front used w.wait-inside.ensures.of w.wait-inside.ensures.place
+      (Came-waited g.M.Monitor c.enter-inside.ensures.place c.enter-inside.ensures.front used w.wait-inside.ensures.of
+      w.wait-inside.ensures.place
       w.wait-inside.ensures.front refl refl (w.wait-inside.ensures.ready (omega arith)))
   | else-is_in_use w ↦
       let unused = rw c.state.ensures at (iff_false c.is_in_use.ensures w.if-is_in_use.false) in
       rw w.inside-is
-      (Came-at_once g.M.Monitor c.enter-inside.ensures.of c.enter-inside.ensures.place c.enter-inside.ensures.front unused
+      (Came-at_once g.M.Monitor c.enter-inside.ensures.of c.enter-inside.ensures.place
+      c.enter-inside.ensures.front unused
       (WriteReady-at_once c.enter-inside.ensures.rest unused))
 ]
 

@@ -7,8 +7,11 @@ use Rattle.hoare_law.specs.Sizes.{kinds_of}
 
 pub draw-ticket-requires-clause-newcomer : goal.draw-ticket-requires-clause-newcomer
 draw-ticket-requires-clause-newcomer g c =
-    let p = c.into_parts-seat.ensures in
-    (c.args.out.front, away_as p.1 p.2, subst (λ k. outside k c.args.out.front.events ≡ true) (sym p.1) c.requires.is_outside)
+    let p = c.into_parts-seat.ensures in (
+      c.args.out.front,
+      away_as p.1 p.2,
+      subst (λ k. outside k c.args.out.front.events ≡ true) (sym p.1) c.requires.is_outside,
+    )
 
 pub invariant_of-result : goal.invariant_of-result
 invariant_of-result g c =

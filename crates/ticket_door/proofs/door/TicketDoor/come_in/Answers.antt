@@ -10,12 +10,22 @@ pub served-parcel-requires-clause-asked : goal.served-parcel-requires-clause-ask
 served-parcel-requires-clause-asked g c =
     let D = g.D.MonitorData in
     let o =
-    subst (IsAsked D.rest D.ready (kinds_of D.CONDITIONS D.MESA) c.args.self.now) (sym c.asked.view_is) c.requires in
-    (front_of c.asked.inside.seat.me.0 c.asked.inside.alone, number_of c.asked.inside.seat.me.0, c.asked.invariant, o.ticket_is, o.out.is_outside)
+    subst (IsAsked D.rest D.ready (kinds_of D.CONDITIONS D.MESA) c.args.self.now) (sym c.asked.view_is) c.requires in (
+      front_of c.asked.inside.seat.me.0 c.asked.inside.alone,
+      number_of c.asked.inside.seat.me.0,
+      c.asked.invariant,
+      o.ticket_is,
+      o.out.is_outside,
+    )
 
 pub brought_in-requires : goal.brought_in-requires
 brought_in-requires g c =
-    record { came = (front_of c.asked.inside.seat.me.0 c.asked.inside.alone, (c.served-parcel.ensures.came _ _ c.asked.invariant).0) }
+    record {
+      came = (
+        front_of c.asked.inside.seat.me.0 c.asked.inside.alone,
+        (c.served-parcel.ensures.came _ _ c.asked.invariant).0,
+      );
+    }
 
 pub returns : goal.returns
 returns g c =
@@ -24,6 +34,7 @@ returns g c =
     subst (IsAsked D.rest D.ready (kinds_of D.CONDITIONS D.MESA) c.args.self.now) (sym c.asked.view_is) c.requires in
     let m = c.served-parcel.ensures.came _ _ c.asked.invariant in
     let r =
-    came_in D.rest D.ready (kinds_of D.CONDITIONS D.MESA) c.asked.view_is o (berth_as _ c.served-parcel.ensures.table) m.0 m.1
+    came_in D.rest D.ready (kinds_of D.CONDITIONS D.MESA) c.asked.view_is o
+    (berth_as _ c.served-parcel.ensures.table) m.0 m.1
     (c.brought_in.ensures _ m.0) in
     record { of = r.of; place = r.place; rest = r.rests; front = r.front; in_turn = r.in_turn }

@@ -66,7 +66,8 @@ split_seat-cut-requires g c =
       omega (arith, wide),
       subst (λ (m : Sat g.row.D.Denot). Splits K c.load.new.seat.id m.0 (places_behind m.0) (first_place m.0))
           (sym l.1.me_is)
-          (splits_ok (Starts t.key.first t.key.places) (Tells t.key.first t.key.places) D.rest D.ready (kinds_of D.CONDITIONS D.MESA) t.key.places _ b.place l.0
+          (splits_ok (Starts t.key.first t.key.places) (Tells t.key.first t.key.places) D.rest D.ready
+          (kinds_of D.CONDITIONS D.MESA) t.key.places _ b.place l.0
           (knows a.place l.0 None ∷ []) (l.1.apart.0.0, tt)),
     )
 
@@ -107,4 +108,9 @@ returns g c =
     let q =
     out_as D.rest D.ready (kinds_of D.CONDITIONS D.MESA) d b _ _ _ l.0 c.requires.b l.1.stands l.1.fits.0
     (λ i. berth (table i) (sleeper i)) pb.1 two in
-    record { a = p.of; b = q.of; places = (p.place, q.place); met = meets D.rest D.ready a b _ _ l.0 l.1 p.front q.front }
+    record {
+      a = p.of;
+      b = q.of;
+      places = (p.place, q.place);
+      met = meets D.rest D.ready a b _ _ l.0 l.1 p.front q.front;
+    }

@@ -5,7 +5,8 @@ use Rattle.ticket_door.proofs.door.TicketDoor.served.Goals as goal
 
 pub take_parcel-requires-clause-full : goal.take_parcel-requires-clause-full
 take_parcel-requires-clause-full g c =
-    let a = c.requires.asked in let t = c.is_served.ensures.let_in c.if-is_served.true a.0 a.1 a.2 in (_, t.0, t.1.me_is)
+    let a = c.requires.asked in let t = c.is_served.ensures.let_in c.if-is_served.true a.0 a.1 a.2 in
+    (_, t.0, t.1.me_is)
 
 pub returns-then-is_served-clause-came : goal.returns-then-is_served-clause-came
 returns-then-is_served-clause-came g c = λ f x is.

@@ -18,5 +18,6 @@ pub returns-clause-trace : goal.returns-clause-trace
 returns-clause-trace g c =
     let told : c.advance-now.result ≡ g.M.Monitor.data_in c.enter-inside.result + 1 = cc in
     rw told
-    (ticked _ _ c.enter-inside.ensures.front (omega (arith, c.time.type_inv, c.if-time.false, c.time.ensures, c.state.ensures))
+    (ticked _ _ c.enter-inside.ensures.front
+    (omega (arith, c.time.type_inv, c.if-time.false, c.time.ensures, c.state.ensures))
     (Finishes-exit c.signal_leave-out.ensures.front (search rules) (search rules) (search rules)))

@@ -13,7 +13,10 @@ pub rounds-init : goal.rounds-init
 rounds-init g c = record {
   of = search rules;
   place = search rules;
-  early = record { due = omega (arith, c.time-start.ensures, c.state.ensures, c.in-Some.ensures); others = inl c.enter-inside.ensures.rest };
+  early = record {
+    due = omega (arith, c.time-start.ensures, c.state.ensures, c.in-Some.ensures);
+    others = inl c.enter-inside.ensures.rest;
+  };
   waited = Waited-none c.enter-inside.ensures.front (search rules);
 }
 
@@ -38,5 +41,6 @@ rounds-preserved g c =
       of = search rules;
       place = search rules;
       early = record { due = ready.due; others = inr ready.first };
-      waited = Waited-more c.rounds.invariant.waited (omega (arith, c.time-now.ensures, c.state-in-rounds.ensures)) c.wait-inside.ensures.front (search rules) (search rules) (search rules);
+      waited = Waited-more c.rounds.invariant.waited (omega (arith, c.time-now.ensures, c.state-in-rounds.ensures))
+          c.wait-inside.ensures.front (search rules) (search rules) (search rules);
     }

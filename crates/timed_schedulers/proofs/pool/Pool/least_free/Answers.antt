@@ -5,4 +5,5 @@ pub returns : goal.returns
 returns c =
     let some = rw (← c.self.view_is) at c.requires in
     rw (← c.self.view_is)
-    (first_unmarked c.self.invariant some c.deref.ensures.value c.least_unmarked.ensures.unmarked c.least_unmarked.ensures.least)
+    (first_unmarked c.self.invariant some c.deref.ensures.value c.least_unmarked.ensures.unmarked
+    c.least_unmarked.ensures.least)

@@ -11,8 +11,11 @@ index_mut-requires c =
 pub overflow_add-index_mut : goal.overflow_add-index_mut
 overflow_add-index_mut c =
     let stream = rw (← c.self.view_is) at c.requires.stream in
-    omega
-    (arith, IsKept-few c.args.stream c.self.invariant, get_or_read c.self.inside.held.items _ _ stream c.index_mut-2.ensures.value 0)
+    omega (
+      arith,
+      IsKept-few c.args.stream c.self.invariant,
+      get_or_read c.self.inside.held.items _ _ stream c.index_mut-2.ensures.value 0,
+    )
 
 pub mark-requires : goal.mark-requires
 mark-requires c =
@@ -26,4 +29,5 @@ invariant_of-self c =
     let first = free_first c.self.inside.owners.items (rw (← c.self.view_is) at c.least_free-buffer.ensures) in
     IsKept-own _ c.self.invariant first.0 first.1 stream
     (ap (λ n. n + 1) (get_or_read c.self.inside.held.items _ _ stream c.index_mut-2.ensures.value 0))
-    (omega (arith, c.self.invariant.free_counted, some)) c.mark.ensures.length c.mark.ensures.marked c.mark.ensures.others
+    (omega (arith, c.self.invariant.free_counted, some)) c.mark.ensures.length c.mark.ensures.marked
+    c.mark.ensures.others

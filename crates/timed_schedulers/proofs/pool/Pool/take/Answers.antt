@@ -21,7 +21,8 @@ returns-then-not-has_stream-2-clause-trace g c =
     Takes-late c.enter-inside.ensures.front stream none c.wait-inside.ensures.front
     c.enter-inside.ensures.place refl refl (search rules)
     (no_stream c.has_stream-then-free-eq0.ensures c.if-not-has_stream-2.true c.state-then-free-eq0-2.ensures)
-    (Finishes-exit c.signal_leave-out.ensures.front (c.wait-inside.ensures.place ∙ c.enter-inside.ensures.place) refl refl)
+    (Finishes-exit c.signal_leave-out.ensures.front (c.wait-inside.ensures.place
+    ∙ c.enter-inside.ensures.place) refl refl)
 
 -- it came in and, after a wait or without one, is a stream and finds a buffer
 came : (g : Over) (c : After-state_mut g)
@@ -35,7 +36,8 @@ came g c =
           let stays =
           rw w.state-then-free-eq0-2.ensures at (w.has_stream-then-free-eq0.ensures.0 w.if-not-has_stream-2.false) in
           rw w.inside-is
-          (Came-waited g.M.Monitor c.enter-inside.ensures.place c.enter-inside.ensures.front (stream, none) w.wait-inside.ensures.of
+          (Came-waited g.M.Monitor c.enter-inside.ensures.place c.enter-inside.ensures.front
+          (stream, none) w.wait-inside.ensures.of
           w.wait-inside.ensures.place w.wait-inside.ensures.front refl (search rules)
           (stays, w.wait-inside.ensures.ready (omega arith)))
       | else-free-eq0 w ↦

@@ -11,4 +11,5 @@ returns-clause-marked c =
 
 pub returns-clause-others : goal.returns-clause-others
 returns-clause-others c = λ j other. mark_of-set_other c.args.words.now.items c.args.i j _ c.requires other
-    (λ k small apart. bit_at_set_other w64 _ _ (omega arith) k apart ∙ ap (λ n. bit_at n k) (get_or_read c.args.words.now.items _ _ c.requires c.index_mut.ensures.value 0))
+    (λ k small apart. bit_at_set_other w64 _ _ (omega arith) k apart
+    ∙ ap (λ n. bit_at n k) (get_or_read c.args.words.now.items _ _ c.requires c.index_mut.ensures.value 0))

@@ -37,7 +37,8 @@ returns-clause-of c = λ g o.
     let s = all_called c.args.condition c.self.inside.chains c.call_all.new.self below c.call_all.ensures in
     let h = sound.holds c.self.view_is c.self.invariant c.requires.inside in
     histories.IsOf-same _ _ _ (sound.parts s.room s.room refl s.signallers s.called refl)
-    (histories.after_broadcast-taken b c.args.place c.args.condition _ h m s.took g (histories.IsOf-same _ b g (sym c.self.view_is) o))
+    (histories.after_broadcast-taken b c.args.place c.args.condition _ h m s.took g
+    (histories.IsOf-same _ b g (sym c.self.view_is) o))
 
 pub returns-clause-told : goal.returns-clause-told
 returns-clause-told c =

@@ -24,7 +24,8 @@ invariant_of-self c =
       | in-Some w ↦
           let is : chain_of b.turn (hoare_of b) ≡ Some w.in-Some.chain = sym c.chain_of.ensures ∙ w.in-Some.is in
           subst (λ (i : Inside). IsSound (sound.admitted k (view_of i))) (sym w.self-inside-is)
-          (subst IsSound (claimed-chain w.in-Some.chain k c.self.inside w.take_first.new.self w.take_first.result (chain_of-fits b.turn (hoare_of b) w.in-Some.chain is) w.take_first.ensures)
+          (subst IsSound (claimed-chain w.in-Some.chain k c.self.inside w.take_first.new.self w.take_first.result
+          (chain_of-fits b.turn (hoare_of b) w.in-Some.chain is) w.take_first.ensures)
           (subst (λ (o : Option ℕ). IsSound (sound.claimed o k b)) is all))
       | in_default w ↦
           let is : chain_of b.turn (hoare_of b) ≡ None = sym c.chain_of.ensures ∙ w.in_default.is in
@@ -45,7 +46,8 @@ returns-clause-of c = λ h o.
           let is : chain_of b.turn (hoare_of b) ≡ Some w.in-Some.chain = sym c.chain_of.ensures ∙ w.in-Some.is in
           subst (λ (i : Inside). IsOf (sound.admitted k (view_of i)) (settled h)) (sym w.self-inside-is)
           (subst (λ (v : Contents). IsOf v (settled h))
-          (claimed-chain w.in-Some.chain k c.self.inside w.take_first.new.self w.take_first.result (chain_of-fits b.turn (hoare_of b) w.in-Some.chain is) w.take_first.ensures)
+          (claimed-chain w.in-Some.chain k c.self.inside w.take_first.new.self w.take_first.result
+          (chain_of-fits b.turn (hoare_of b) w.in-Some.chain is) w.take_first.ensures)
           (subst (λ (o : Option ℕ). IsOf (sound.claimed o k b) (settled h)) is all))
       | in_default w ↦
           let is : chain_of b.turn (hoare_of b) ≡ None = sym c.chain_of.ensures ∙ w.in_default.is in
@@ -64,7 +66,9 @@ returns-clause-priorities c = λ d.
           subst (λ (i : Inside). priorities_on (sound.admitted k (view_of i)) d ≡ priorities_on c.args.self.now d)
           (sym w.self-inside-is)
           (ap (λ (v : Contents). priorities_on v d)
-          (sym (claimed-chain w.in-Some.chain k c.self.inside w.take_first.new.self w.take_first.result (chain_of-fits b.turn (hoare_of b) w.in-Some.chain is) w.take_first.ensures))
+          (sym (claimed-chain w.in-Some.chain k c.self.inside w.take_first.new.self w.take_first.result
+          (chain_of-fits b.turn (hoare_of b) w.in-Some.chain is) w.take_first.ensures))
           ∙ claimed-priorities (Some w.in-Some.chain) k d b ∙ before)
-      | in_default w ↦ subst (λ (i : Inside). priorities_on (sound.admitted k (view_of i)) d ≡ priorities_on c.args.self.now d) (sym w.self-inside-is) before
+      | in_default w ↦ subst (λ (i : Inside). priorities_on (sound.admitted k (view_of i)) d
+          ≡ priorities_on c.args.self.now d) (sym w.self-inside-is) before
     ]

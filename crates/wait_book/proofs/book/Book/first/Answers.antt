@@ -10,14 +10,20 @@ use Rattle.wait_book.proofs.book.Book.first.Goals as goal
 
 pub first_priority-requires : goal.first_priority-requires
 first_priority-requires c =
-    omega
-    (arith, sound.same_condition (view_of c.self.inside) _ c.args.condition c.self.view_is c.requires, c.self.invariant.few_conditions)
+    omega (
+      arith,
+      sound.same_condition (view_of c.self.inside) _ c.args.condition c.self.view_is c.requires,
+      c.self.invariant.few_conditions,
+    )
 
 pub returns-clause-lists : goal.returns-clause-lists
 returns-clause-lists c =
     let fits : c.args.condition < MOST_CONDITIONS =
-    omega
-    (arith, sound.same_condition (view_of c.self.inside) _ c.args.condition c.self.view_is c.requires, c.self.invariant.few_conditions) in
+    omega (
+      arith,
+      sound.same_condition (view_of c.self.inside) _ c.args.condition c.self.view_is c.requires,
+      c.self.invariant.few_conditions,
+    ) in
     MatchOption-first_of c.first_priority.result _
     (c.first_priority.ensures ∙ first-chain c.args.condition c.self.inside.chains fits
     ∙ priorities.first-priority _ _ c.args.condition c.self.view_is c.self.invariant)
@@ -25,8 +31,11 @@ returns-clause-lists c =
 pub returns-clause-of : goal.returns-clause-of
 returns-clause-of c = λ h o.
     let fits : c.args.condition < MOST_CONDITIONS =
-    omega
-    (arith, sound.same_condition (view_of c.self.inside) _ c.args.condition c.self.view_is c.requires, c.self.invariant.few_conditions) in
+    omega (
+      arith,
+      sound.same_condition (view_of c.self.inside) _ c.args.condition c.self.view_is c.requires,
+      c.self.invariant.few_conditions,
+    ) in
     c.first_priority.ensures ∙ first-chain c.args.condition c.self.inside.chains fits
     ∙ priorities.first-chosen _ h c.args.condition
     (histories.IsOf-same _ (view_of c.self.inside) h (sym c.self.view_is) o)

@@ -9,7 +9,8 @@ pub returns-clause-of : goal.returns-clause-of
 returns-clause-of c = λ h o.
     let b : Contents = view_of c.self.inside in
     histories.IsOf-same _ _ _ (sound.parts refl refl refl refl refl c.turn_given_up-self-inside.ensures)
-    (histories.left_of b c.args.place h (sound.holds c.self.view_is c.self.invariant c.requires) (histories.IsOf-same _ b h (sym c.self.view_is) o))
+    (histories.left_of b c.args.place h (sound.holds c.self.view_is c.self.invariant c.requires)
+    (histories.IsOf-same _ b h (sym c.self.view_is) o))
 
 pub returns-clause-apart : goal.returns-clause-apart
 returns-clause-apart c = sound.apart_same c.self.view_is c.self.invariant c.requires

@@ -15,8 +15,10 @@ pub invariant_of-result : goal.invariant_of-result
 invariant_of-result c =
     let made = c.in-Ok.ensures in
     sound.IsSound-same _ _
-    (sound.parts refl refl (waits-none MOST_CONDITIONS (list_at c.in-Ok.chains) made.empty) (ap places_in (made.empty SIGNALLERS)) (ap called_in (made.empty CALLED)) refl)
-    (sound.opened_sound (sizes_of c.args.conditions c.args.mesa c.args.places) c.in-Ok.chains.room (omega arith) (omega arith) (omega arith) (omega arith) (omega arith) made.room)
+    (sound.parts refl refl (waits-none MOST_CONDITIONS (list_at c.in-Ok.chains) made.empty)
+    (ap places_in (made.empty SIGNALLERS)) (ap called_in (made.empty CALLED)) refl)
+    (sound.opened_sound (sizes_of c.args.conditions c.args.mesa c.args.places) c.in-Ok.chains.room (omega arith)
+    (omega arith) (omega arith) (omega arith) (omega arith) made.room)
 
 pub returns : goal.returns
 returns c =
@@ -25,6 +27,10 @@ returns c =
     sound.parts refl refl (waits-none MOST_CONDITIONS (list_at c.in-Ok.chains) made.empty)
     (ap places_in (made.empty SIGNALLERS)) (ap called_in (made.empty CALLED)) refl in
     record {
-      made = (grind (arith, nat_tests), histories.IsOf-same _ _ _ empty (histories.IsOf-opened (sizes_of c.args.conditions c.args.mesa c.args.places) _ _));
+      made = (
+        grind (arith, nat_tests),
+        histories.IsOf-same _ _ _ empty
+            (histories.IsOf-opened (sizes_of c.args.conditions c.args.mesa c.args.places) _ _),
+      );
       room = (made.room, made.room);
     }

@@ -26,7 +26,8 @@ returns-in_default-clause-of c = λ h o.
     let nobody =
     waits-nobody c.args.condition c.self.inside.chains below (first_none _ (sym c.first.ensures ∙ c.in_default.is)) in
     histories.IsOf-same b _ _ c.self.view_is
-    (histories.after_notify-nobody b c.args.place c.args.condition h nobody (histories.IsOf-same _ b h (sym c.self.view_is) o))
+    (histories.after_notify-nobody b c.args.place c.args.condition h nobody
+    (histories.IsOf-same _ b h (sym c.self.view_is) o))
 
 pub returns-in_default-clause-told : goal.returns-in_default-clause-told
 returns-in_default-clause-told c =
@@ -65,7 +66,11 @@ append-requires-clause-place c =
       one_same c.in-Some.link.place,
       c.self.invariant.few_places,
       c.self.invariant.in_range c.in-Some.link.place
-          (omega (arith, times-taken c.in-Some.link.place c.args.condition _ _ c.in-Some.link.place took, one_same c.in-Some.link.place)),
+          (omega (
+            arith,
+            times-taken c.in-Some.link.place c.args.condition _ _ c.in-Some.link.place took,
+            one_same c.in-Some.link.place,
+          )),
     )
 
 pub append-requires-clause-apart : goal.append-requires-clause-apart
@@ -88,7 +93,8 @@ append-requires-clause-apart c =
       one_same c.in-Some.link.place,
       ap (times c.in-Some.link.place) same,
       ap (λ ws. times c.in-Some.link.place (places ws))
-          (chain-same called_in c.args.condition CALLED _ c.self.inside.chains c.take_first.new.self (omega arith) t.lists),
+          (chain-same called_in c.args.condition CALLED _ c.self.inside.chains c.take_first.new.self
+          (omega arith) t.lists),
       c.self.invariant.once c.in-Some.link.place,
     )
 
@@ -111,7 +117,8 @@ append-requires-clause-room c =
       length-taken c.args.condition _ _ c.in-Some.link.place took,
       ap length same,
       ap length
-          (chain-same called_in c.args.condition CALLED _ c.self.inside.chains c.take_first.new.self (omega arith) t.lists),
+          (chain-same called_in c.args.condition CALLED _ c.self.inside.chains c.take_first.new.self
+          (omega arith) t.lists),
       t.room,
       sound.room b c.args.place (sound.holds c.self.view_is c.self.invariant c.requires.inside),
       c.self.invariant.signallers_fit,
@@ -123,7 +130,8 @@ invariant_of-self c =
     let m = sound.same_mesa b _ c.args.condition c.self.view_is c.requires.mesa in
     let below : c.args.condition < MOST_CONDITIONS = omega (arith, m.0, c.self.invariant.few_conditions) in
     let s =
-    notified c.args.condition c.in-Some.link c.take_first.result c.self.inside.chains c.take_first.new.self c.append.new.self below
+    notified c.args.condition c.in-Some.link c.take_first.result c.self.inside.chains c.take_first.new.self
+    c.append.new.self below
     (sym c.in-Some.is ∙ c.first.ensures) c.take_first.ensures c.append.ensures in
     let r : sound.Resumes b c.args.place c.args.condition c.in-Some.link.place _ =
     record { by = sound.holds c.self.view_is c.self.invariant c.requires.inside; fits = m.0; took = s.took } in
@@ -136,12 +144,14 @@ returns-clause-of c = λ h o.
     let m = sound.same_mesa b _ c.args.condition c.self.view_is c.requires.mesa in
     let below : c.args.condition < MOST_CONDITIONS = omega (arith, m.0, c.self.invariant.few_conditions) in
     let s =
-    notified c.args.condition c.in-Some.link c.take_first.result c.self.inside.chains c.take_first.new.self c.append.new.self below
+    notified c.args.condition c.in-Some.link c.take_first.result c.self.inside.chains c.take_first.new.self
+    c.append.new.self below
     (sym c.in-Some.is ∙ c.first.ensures) c.take_first.ensures c.append.ensures in
     let r : sound.Resumes b c.args.place c.args.condition c.in-Some.link.place _ =
     record { by = sound.holds c.self.view_is c.self.invariant c.requires.inside; fits = m.0; took = s.took } in
     histories.IsOf-same _ _ _ (sound.parts s.room s.room s.waiters s.signallers s.called refl)
-    (histories.after_notify-taken b c.args.place c.args.condition c.in-Some.link.place _ r h (histories.IsOf-same _ b h (sym c.self.view_is) o) m)
+    (histories.after_notify-taken b c.args.place c.args.condition c.in-Some.link.place _ r h
+    (histories.IsOf-same _ b h (sym c.self.view_is) o) m)
 
 pub returns-clause-told : goal.returns-clause-told
 returns-clause-told c =
@@ -149,7 +159,8 @@ returns-clause-told c =
     let m = sound.same_mesa b _ c.args.condition c.self.view_is c.requires.mesa in
     let below : c.args.condition < MOST_CONDITIONS = omega (arith, m.0, c.self.invariant.few_conditions) in
     let s =
-    notified c.args.condition c.in-Some.link c.take_first.result c.self.inside.chains c.take_first.new.self c.append.new.self below
+    notified c.args.condition c.in-Some.link c.take_first.result c.self.inside.chains c.take_first.new.self
+    c.append.new.self below
     (sym c.in-Some.is ∙ c.first.ensures) c.take_first.ensures c.append.ensures in
     let r : sound.Resumes b c.args.place c.args.condition c.in-Some.link.place _ =
     record { by = sound.holds c.self.view_is c.self.invariant c.requires.inside; fits = m.0; took = s.took } in
@@ -161,7 +172,8 @@ returns-clause-nobody c = λ none.
     let m = sound.same_mesa b _ c.args.condition c.self.view_is c.requires.mesa in
     let below : c.args.condition < MOST_CONDITIONS = omega (arith, m.0, c.self.invariant.few_conditions) in
     let s =
-    notified c.args.condition c.in-Some.link c.take_first.result c.self.inside.chains c.take_first.new.self c.append.new.self below
+    notified c.args.condition c.in-Some.link c.take_first.result c.self.inside.chains c.take_first.new.self
+    c.append.new.self below
     (sym c.in-Some.is ∙ c.first.ensures) c.take_first.ensures c.append.ensures in
     let r : sound.Resumes b c.args.place c.args.condition c.in-Some.link.place _ =
     record { by = sound.holds c.self.view_is c.self.invariant c.requires.inside; fits = m.0; took = s.took } in
@@ -176,7 +188,8 @@ returns-clause-priorities c = λ d.
     let m = sound.same_mesa b _ c.args.condition c.self.view_is c.requires.mesa in
     let below : c.args.condition < MOST_CONDITIONS = omega (arith, m.0, c.self.invariant.few_conditions) in
     let s =
-    notified c.args.condition c.in-Some.link c.take_first.result c.self.inside.chains c.take_first.new.self c.append.new.self below
+    notified c.args.condition c.in-Some.link c.take_first.result c.self.inside.chains c.take_first.new.self
+    c.append.new.self below
     (sym c.in-Some.is ∙ c.first.ensures) c.take_first.ensures c.append.ensures in
     let r : sound.Resumes b c.args.place c.args.condition c.in-Some.link.place _ =
     record { by = sound.holds c.self.view_is c.self.invariant c.requires.inside; fits = m.0; took = s.took } in

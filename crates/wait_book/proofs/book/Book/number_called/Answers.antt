@@ -9,8 +9,11 @@ use Rattle.wait_book.proofs.book.Book.number_called.Goals as goal
 
 pub number_called-requires : goal.number_called-requires
 number_called-requires c =
-    omega
-    (arith, few_called (view_of c.self.inside) c.self.invariant, length-map (list_at c.self.inside.chains CALLED) waiter_of)
+    omega (
+      arith,
+      few_called (view_of c.self.inside) c.self.invariant,
+      length-map (list_at c.self.inside.chains CALLED) waiter_of,
+    )
 
 pub returns-clause-of : goal.returns-clause-of
 returns-clause-of c = λ h o.

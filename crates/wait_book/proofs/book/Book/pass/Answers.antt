@@ -15,8 +15,11 @@ use Rattle.wait_book.proofs.book.Book.pass.Goals as goal
 
 pub take_first-requires : goal.take_first-requires
 take_first-requires c =
-    omega
-    (arith, sound.hoare_condition (view_of c.self.inside) _ c.args.condition c.self.view_is c.requires.hoare, c.self.invariant.few_conditions)
+    omega (
+      arith,
+      sound.hoare_condition (view_of c.self.inside) _ c.args.condition c.self.view_is c.requires.hoare,
+      c.self.invariant.few_conditions,
+    )
 
 -- where nobody waits
 
@@ -24,11 +27,15 @@ pub returns-in_default-clause-of : goal.returns-in_default-clause-of
 returns-in_default-clause-of c = λ h o.
     let b : Contents = view_of c.self.inside in
     let below : c.args.condition < MOST_CONDITIONS =
-    omega
-    (arith, sound.hoare_condition b _ c.args.condition c.self.view_is c.requires.hoare, c.self.invariant.few_conditions) in
+    omega (
+      arith,
+      sound.hoare_condition b _ c.args.condition c.self.view_is c.requires.hoare,
+      c.self.invariant.few_conditions,
+    ) in
     let now : IsOf b h = histories.IsOf-same _ b h (sym c.self.view_is) o in
     let room = ap (λ (v : Lists). v.room) c.in_default.ensures.1 in
-    let same = sound.parts room room (ap (λ (v : Lists). waiting_below MOST_CONDITIONS (list_at v)) c.in_default.ensures.1)
+    let same = sound.parts room room
+    (ap (λ (v : Lists). waiting_below MOST_CONDITIONS (list_at v)) c.in_default.ensures.1)
     (ap (λ (v : Lists). places_in (list_at v SIGNALLERS)) c.in_default.ensures.1)
     (ap (λ (v : Lists). called_in (list_at v CALLED)) c.in_default.ensures.1) refl in
     histories.after_handing-nobody true b _ c.args.place c.args.condition h
@@ -39,8 +46,11 @@ pub returns-in_default-clause-somebody : goal.returns-in_default-clause-somebody
 returns-in_default-clause-somebody c = λ some.
     let b : Contents = view_of c.self.inside in
     let below : c.args.condition < MOST_CONDITIONS =
-    omega
-    (arith, sound.hoare_condition b _ c.args.condition c.self.view_is c.requires.hoare, c.self.invariant.few_conditions) in
+    omega (
+      arith,
+      sound.hoare_condition b _ c.args.condition c.self.view_is c.requires.hoare,
+      c.self.invariant.few_conditions,
+    ) in
     let nobody = waits-nobody c.args.condition c.self.inside.chains below c.in_default.ensures.0 in
     absurd (some (priorities.no_priority_on c.args.condition c.self.view_is nobody))
 
@@ -48,11 +58,16 @@ pub returns-in_default-clause-priorities : goal.returns-in_default-clause-priori
 returns-in_default-clause-priorities c = λ d.
     let b : Contents = view_of c.self.inside in
     let below : c.args.condition < MOST_CONDITIONS =
-    omega
-    (arith, sound.hoare_condition b _ c.args.condition c.self.view_is c.requires.hoare, c.self.invariant.few_conditions) in
+    omega (
+      arith,
+      sound.hoare_condition b _ c.args.condition c.self.view_is c.requires.hoare,
+      c.self.invariant.few_conditions,
+    ) in
     let nobody = waits-nobody c.args.condition c.self.inside.chains below c.in_default.ensures.0 in
     priorities.priorities_on-untaken c.args.condition d (priorities_on c.leave.new.self d) c.self.view_is nobody
-    (c.leave.ensures.priorities d ∙ ap (λ (v : Lists). in_order (λ p. p) (map key (filter (on d) (waiting_below MOST_CONDITIONS (list_at v))))) c.in_default.ensures.1)
+    (c.leave.ensures.priorities d
+    ∙ ap (λ (v : Lists). in_order (λ p. p) (map key (filter (on d) (waiting_below MOST_CONDITIONS (list_at v)))))
+    c.in_default.ensures.1)
 
 -- where one is resumed
 
@@ -60,8 +75,11 @@ pub invariant_of-self-2 : goal.invariant_of-self-2
 invariant_of-self-2 c =
     let b : Contents = view_of c.self.inside in
     let below : c.args.condition < MOST_CONDITIONS =
-    omega
-    (arith, sound.hoare_condition b _ c.args.condition c.self.view_is c.requires.hoare, c.self.invariant.few_conditions) in
+    omega (
+      arith,
+      sound.hoare_condition b _ c.args.condition c.self.view_is c.requires.hoare,
+      c.self.invariant.few_conditions,
+    ) in
     let t = c.in-Some.ensures in
     let r = sound.resumes c.self.view_is c.self.invariant c.requires.inside (omega (arith, c.requires.hoare))
     (TakesFirst-taken c.args.condition c.in-Some.successor c.self.inside.chains c.take_first.new.self below t) in
@@ -69,15 +87,21 @@ invariant_of-self-2 c =
     chain-same places_in c.args.condition SIGNALLERS _ c.self.inside.chains c.take_first.new.self
     (omega arith) t.lists in
     sound.IsSound-same _ _
-    (sound.parts t.room t.room refl same (chain-same called_in c.args.condition CALLED _ c.self.inside.chains c.take_first.new.self (omega arith) t.lists) refl)
-    (sound.passed_sound _ c.args.place c.args.condition c.in-Some.successor _ r (sound.same_hoare b _ c.args.condition c.self.view_is c.requires.hoare))
+    (sound.parts t.room t.room refl same
+    (chain-same called_in c.args.condition CALLED _ c.self.inside.chains c.take_first.new.self
+    (omega arith) t.lists) refl)
+    (sound.passed_sound _ c.args.place c.args.condition c.in-Some.successor _ r
+    (sound.same_hoare b _ c.args.condition c.self.view_is c.requires.hoare))
 
 pub returns : goal.returns
 returns c =
     let b : Contents = view_of c.self.inside in
     let below : c.args.condition < MOST_CONDITIONS =
-    omega
-    (arith, sound.hoare_condition b _ c.args.condition c.self.view_is c.requires.hoare, c.self.invariant.few_conditions) in
+    omega (
+      arith,
+      sound.hoare_condition b _ c.args.condition c.self.view_is c.requires.hoare,
+      c.self.invariant.few_conditions,
+    ) in
     let t = c.in-Some.ensures in
     let r = sound.resumes c.self.view_is c.self.invariant c.requires.inside (omega (arith, c.requires.hoare))
     (TakesFirst-taken c.args.condition c.in-Some.successor c.self.inside.chains c.take_first.new.self below t) in
@@ -86,8 +110,12 @@ returns c =
     (omega arith) t.lists in
     record {
       of =
-          λ h o. histories.IsOf-same _ _ _ (sound.parts t.room t.room refl same (chain-same called_in c.args.condition CALLED _ c.self.inside.chains c.take_first.new.self (omega arith) t.lists) refl)
-          (histories.after_handing-taken b c.args.place c.args.condition c.in-Some.successor _ r h (histories.IsOf-same _ b h (sym c.self.view_is) o) (sound.same_hoare b _ c.args.condition c.self.view_is c.requires.hoare) true);
+          λ h o. histories.IsOf-same _ _ _ (sound.parts t.room t.room refl same
+          (chain-same called_in c.args.condition CALLED _ c.self.inside.chains c.take_first.new.self
+          (omega arith) t.lists) refl)
+          (histories.after_handing-taken b c.args.place c.args.condition c.in-Some.successor _ r h
+          (histories.IsOf-same _ b h (sym c.self.view_is) o)
+          (sound.same_hoare b _ c.args.condition c.self.view_is c.requires.hoare) true);
       next = c.now.ensures.turn;
       somebody = λ some. (c.in-Some.successor, refl);
       answered = c.now.ensures.place;

@@ -14,8 +14,11 @@ use Rattle.wait_book.proofs.book.Book.wait.Goals as goal
 
 pub insert-requires-clause-chain : goal.insert-requires-clause-chain
 insert-requires-clause-chain c =
-    omega
-    (arith, sound.same_condition (view_of c.self.inside) _ c.args.condition c.self.view_is c.requires.condition, c.self.invariant.few_conditions)
+    omega (
+      arith,
+      sound.same_condition (view_of c.self.inside) _ c.args.condition c.self.view_is c.requires.condition,
+      c.self.invariant.few_conditions,
+    )
 
 pub insert-requires-clause-place : goal.insert-requires-clause-place
 insert-requires-clause-place c =
@@ -33,14 +36,21 @@ insert-requires-clause-apart c =
 pub insert-requires-clause-room : goal.insert-requires-clause-room
 insert-requires-clause-room c =
     let h = sound.holds c.self.view_is c.self.invariant c.requires.inside in
-    omega
-    (arith, total_is c.self.inside.chains, sound.room (view_of c.self.inside) c.args.place h, c.self.invariant.waiters_fit)
+    omega (
+      arith,
+      total_is c.self.inside.chains,
+      sound.room (view_of c.self.inside) c.args.place h,
+      c.self.invariant.waiters_fit,
+    )
 
 pub insert-requires-clause-ordered : goal.insert-requires-clause-ordered
 insert-requires-clause-ordered c =
     let fits : c.args.condition < MOST_CONDITIONS =
-    omega
-    (arith, sound.same_condition (view_of c.self.inside) _ c.args.condition c.self.view_is c.requires.condition, c.self.invariant.few_conditions) in
+    omega (
+      arith,
+      sound.same_condition (view_of c.self.inside) _ c.args.condition c.self.view_is c.requires.condition,
+      c.self.invariant.few_conditions,
+    ) in
     priorities-rise c.args.condition c.self.inside.chains fits (c.self.invariant.ordered c.args.condition)
 
 -- whatever the priority is
@@ -56,8 +66,10 @@ invariant_of-self c =
     let called =
     chain-same called_in c.args.condition CALLED _ c.self.inside.chains c.insert.new.self (omega arith) put.lists in
     sound.IsSound-same _ _
-    (sound.parts put.room put.room refl same called (c.turn_given_up-self-inside.ensures ∙ (λ i. turn_given_up (same i) (map wait_of (called i)))))
-    (sound.waited_sound b _ _ (PutsIn-put c.args.condition c.args.place _ c.self.inside.chains c.insert.new.self below put) h fits)
+    (sound.parts put.room put.room refl same called (c.turn_given_up-self-inside.ensures
+    ∙ (λ i. turn_given_up (same i) (map wait_of (called i)))))
+    (sound.waited_sound b _ _ (PutsIn-put c.args.condition c.args.place _ c.self.inside.chains c.insert.new.self below
+    put) h fits)
 
 pub returns-clause-of : goal.returns-clause-of
 returns-clause-of c = λ g o.

@@ -23,5 +23,6 @@ returns-then-index-priority c =
     let list = list_at c.args.self.now c.args.chain in
     let last = sym i.last ∙ c.in_ok-last.was in
     let all =
-    lower_all c.self.inside.nodes _ list _ c.in_ok-last.last c.args.priority c.index.result.now i.linked last c.index.ensures c.if-index-priority.true c.requires.ordered in
+    lower_all c.self.inside.nodes _ list _ c.in_ok-last.last c.args.priority c.index.result.now i.linked last
+    c.index.ensures c.if-index-priority.true c.requires.ordered in
     sym (ap last_key all ∙ last)

@@ -12,7 +12,8 @@ pub returns-in_default : goal.returns-in_default
 returns-in_default c =
     let i = AreChains-equal c.self.view_is c.self.invariant.are in
     joined-none c.args.chain c.args.self.now c.requires
-    (linked_none c.self.inside.nodes _ (list_at c.args.self.now c.args.chain) c.in_default.is (i.linked c.args.chain).linked)
+    (linked_none c.self.inside.nodes _ (list_at c.args.self.now c.args.chain) c.in_default.is
+    (i.linked c.args.chain).linked)
 
 pub set_next-first-requires : goal.set_next-first-requires
 set_next-first-requires c =
@@ -24,7 +25,8 @@ pub invariant_of-self : goal.invariant_of-self
 invariant_of-self c =
     let i = AreChains-equal c.self.view_is c.self.invariant.are in
     let put = c.set_next-first.ensures in
-    let joining : Joining c.self.inside.nodes c.set_next-first.new.nodes (chain_at c.self.inside.chains CALLED) c.in-Some.key c.set_next-first.result = record {
+    let joining : Joining c.self.inside.nodes c.set_next-first.new.nodes
+    (chain_at c.self.inside.chains CALLED) c.in-Some.key c.set_next-first.result = record {
       linked = put.linked;
       others = put.others;
       held_on = put.held;
@@ -33,7 +35,8 @@ invariant_of-self c =
     let are = AreChains-joined c.args.chain c.in-Some.key i (omega (arith, c.requires)) c.in-Some.is joining in
     record {
       are = AreChains-seen are;
-      places = AreMarked-joined c.args.chain (AreMarked-equal c.self.view_is c.self.invariant.places) (omega (arith, c.requires)) (lists_are are);
+      places = AreMarked-joined c.args.chain (AreMarked-equal c.self.view_is c.self.invariant.places)
+          (omega (arith, c.requires)) (lists_are are);
       kept = AreKept-joined _ _ c.args.chain _ (AreKept-equal c.self.view_is c.self.invariant.kept) (lists_are are);
     }
 
@@ -41,7 +44,8 @@ pub returns : goal.returns
 returns c =
     let i = AreChains-equal c.self.view_is c.self.invariant.are in
     let put = c.set_next-first.ensures in
-    let joining : Joining c.self.inside.nodes c.set_next-first.new.nodes (chain_at c.self.inside.chains CALLED) c.in-Some.key c.set_next-first.result = record {
+    let joining : Joining c.self.inside.nodes c.set_next-first.new.nodes
+    (chain_at c.self.inside.chains CALLED) c.in-Some.key c.set_next-first.result = record {
       linked = put.linked;
       others = put.others;
       held_on = put.held;

@@ -23,7 +23,8 @@ set_next-first-requires c =
     let at = cut c.args.chain b.0 b.1 i b.2 in
     let stored = c.insert_reserved-key.ensures in
     behind-contains c.insert_reserved-key.new.self _ b.0 at.next c.args.behind b.3
-    (cut-stored c.args.chain c.insert_reserved-key.result b.0 b.1 at.next i c.requires.chain b.2 stored.was_vacant stored.updates at.front)
+    (cut-stored c.args.chain c.insert_reserved-key.result b.0 b.1 at.next i c.requires.chain b.2 stored.was_vacant
+    stored.updates at.front)
 
 pub invariant_of-self : goal.invariant_of-self
 invariant_of-self c =
@@ -33,8 +34,14 @@ invariant_of-self c =
     let put = c.set_next-first.ensures in
     let first = (chain_at c.self.inside.chains c.args.chain).first in
     let x : Link =
-    record { key = c.insert_reserved-key.result; place = c.args.place; condition = c.args.condition; priority = c.args.priority } in
-    let linking : Linking c.self.inside.nodes c.insert_reserved-key.new.self c.set_next-first.new.nodes first c.args.behind c.next_of-next.result c.set_next-first.result x = record {
+    record {
+      key = c.insert_reserved-key.result;
+      place = c.args.place;
+      condition = c.args.condition;
+      priority = c.args.priority;
+    } in
+    let linking : Linking c.self.inside.nodes c.insert_reserved-key.new.self c.set_next-first.new.nodes first
+    c.args.behind c.next_of-next.result c.set_next-first.result x = record {
       vacant = stored.was_vacant;
       stored = stored.updates;
       linked = put.linked;
@@ -43,12 +50,15 @@ invariant_of-self c =
       longer = put.len ∙ stored.len;
     } in
     let are =
-    AreChains-linked c.args.chain b.0 b.1 i c.requires.chain linking c.last_after-last.ensures c.next_of-next.ensures b.2 b.3 in
+    AreChains-linked c.args.chain b.0 b.1 i c.requires.chain linking c.last_after-last.ensures
+    c.next_of-next.ensures b.2 b.3 in
     let marks = AreMarked-equal c.self.view_is c.self.invariant.places in
     record {
       are = AreChains-seen are;
-      places = AreMarked-put c.args.chain b.0 b.1 x marks c.requires.chain c.requires.place b.2 c.requires.apart (lists_are are);
-      kept = AreKept-put _ _ c.args.chain b.0 b.1 x (AreKept-equal c.self.view_is c.self.invariant.kept) b.2 c.requires.condition (lists_are are);
+      places = AreMarked-put c.args.chain b.0 b.1 x marks c.requires.chain c.requires.place b.2 c.requires.apart
+          (lists_are are);
+      kept = AreKept-put _ _ c.args.chain b.0 b.1 x
+          (AreKept-equal c.self.view_is c.self.invariant.kept) b.2 c.requires.condition (lists_are are);
     }
 
 pub returns : goal.returns
@@ -58,8 +68,14 @@ returns c = λ before after is e.
     let put = c.set_next-first.ensures in
     let first = (chain_at c.self.inside.chains c.args.chain).first in
     let x : Link =
-    record { key = c.insert_reserved-key.result; place = c.args.place; condition = c.args.condition; priority = c.args.priority } in
-    let linking : Linking c.self.inside.nodes c.insert_reserved-key.new.self c.set_next-first.new.nodes first c.args.behind c.next_of-next.result c.set_next-first.result x = record {
+    record {
+      key = c.insert_reserved-key.result;
+      place = c.args.place;
+      condition = c.args.condition;
+      priority = c.args.priority;
+    } in
+    let linking : Linking c.self.inside.nodes c.insert_reserved-key.new.self c.set_next-first.new.nodes first
+    c.args.behind c.next_of-next.result c.set_next-first.result x = record {
       vacant = stored.was_vacant;
       stored = stored.updates;
       linked = put.linked;
@@ -69,6 +85,7 @@ returns c = λ before after is e.
     } in
     record {
       key = c.insert_reserved-key.result;
-      lists = λ d. lists_are (AreChains-linked c.args.chain before after i c.requires.chain linking c.last_after-last.ensures c.next_of-next.ensures is e) d;
+      lists = λ d. lists_are (AreChains-linked c.args.chain before after i c.requires.chain linking
+          c.last_after-last.ensures c.next_of-next.ensures is e) d;
       room = put.capacity ∙ stored.capacity ∙ ap (λ (v : Lists). v.room) c.self.view_is;
     }

@@ -27,8 +27,12 @@ bounds-self-inside-node c =
     let i = AreChains-equal c.self.view_is c.self.invariant.are in
     let node = c.remove-node.ensures in
     let t = takes c.args.chain c.in_ok-first.field-0 c.remove-node.result i c.in_ok-first.was node.value node.updates in
-    omega
-    (arith, t.place, first_within c.args.chain t.first t.after (AreMarked-equal c.self.view_is c.self.invariant.places) c.requires t.is)
+    omega (
+      arith,
+      t.place,
+      first_within c.args.chain t.first t.after
+          (AreMarked-equal c.self.view_is c.self.invariant.places) c.requires t.is,
+    )
 
 pub invariant_of-self-2 : goal.invariant_of-self-2
 invariant_of-self-2 c =
@@ -36,12 +40,15 @@ invariant_of-self-2 c =
     let node = c.remove-node.ensures in
     let t = takes c.args.chain c.in_ok-first.field-0 c.remove-node.result i c.in_ok-first.was node.value node.updates in
     let are =
-    AreChains-taken c.args.chain c.in_ok-first.field-0 c.remove-node.result c.move_on.ensures.first c.move_on.ensures.last i c.requires t node.len in
+    AreChains-taken c.args.chain c.in_ok-first.field-0 c.remove-node.result c.move_on.ensures.first
+    c.move_on.ensures.last i c.requires t node.len in
     let marks = AreMarked-equal c.self.view_is c.self.invariant.places in
     record {
       are = AreChains-seen are;
-      places = AreMarked-taken c.args.chain t.first t.after marks c.requires t.is c.remove-node.result.place t.place (lists_are are);
-      kept = AreKept-taken _ _ c.args.chain t.first t.after (AreKept-equal c.self.view_is c.self.invariant.kept) t.is (lists_are are);
+      places = AreMarked-taken c.args.chain t.first t.after marks c.requires t.is c.remove-node.result.place t.place
+          (lists_are are);
+      kept = AreKept-taken _ _ c.args.chain t.first t.after (AreKept-equal c.self.view_is c.self.invariant.kept) t.is
+          (lists_are are);
     }
 
 pub returns : goal.returns
@@ -54,6 +61,7 @@ returns c =
       after = t.after;
       was = t.is;
       first_place = t.place;
-      lists = λ d. lists_are (AreChains-taken c.args.chain c.in_ok-first.field-0 c.remove-node.result c.move_on.ensures.first c.move_on.ensures.last i c.requires t node.len) d;
+      lists = λ d. lists_are (AreChains-taken c.args.chain c.in_ok-first.field-0 c.remove-node.result
+          c.move_on.ensures.first c.move_on.ensures.last i c.requires t node.len) d;
       room = node.capacity ∙ ap (λ (v : Lists). v.room) c.self.view_is;
     }

@@ -16,5 +16,6 @@ rounds-preserved g c = record {
   of = c.wait-inside.ensures.of;
   place = c.wait-inside.ensures.place ∙ c.rounds.invariant.place;
   holds = c.wait-inside.ensures.rest (omega arith, omega arith);
-  waited = Rounds-again c.rounds.invariant.waited (rw c.state.ensures at (c.if-not-is_empty.ensures.0 refl)) c.wait-inside.ensures.front c.rounds.invariant.place;
+  waited = Rounds-again c.rounds.invariant.waited
+      (rw c.state.ensures at (c.if-not-is_empty.ensures.0 refl)) c.wait-inside.ensures.front c.rounds.invariant.place;
 }

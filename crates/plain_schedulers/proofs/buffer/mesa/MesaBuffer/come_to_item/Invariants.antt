@@ -8,5 +8,6 @@ invariant-rounds g l = record {
   of : g.M.Monitor.is_of_in l.m l.inside;
   place : g.M.Monitor.place_in l.inside ≡ g.M.Monitor.place l.fn.out;
   holds : BufferHolds (g.M.Monitor.data_in l.inside);
-  waited : Rounds (g.M.Monitor.place l.fn.out) 0 (λ (a : Buffered _). length a.items ≡ 0) (g.M.Monitor.front l.fn.out) (g.M.Monitor.front_in l.inside) (g.M.Monitor.data_in l.inside);
+  waited : Rounds (g.M.Monitor.place l.fn.out) 0 (λ (a : Buffered _). length a.items ≡ 0) (g.M.Monitor.front l.fn.out)
+      (g.M.Monitor.front_in l.inside) (g.M.Monitor.data_in l.inside);
 }

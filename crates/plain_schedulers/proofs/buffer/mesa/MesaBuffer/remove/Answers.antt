@@ -7,7 +7,8 @@ pub returns-clause-trace : goal.returns-clause-trace
 returns-clause-trace g c =
     let place = (g.met.M.Monitor.keeps_place _ _ ∙ c.come_to_item-inside.ensures.place) in
     let state =
-    (g.met.M.Monitor.takes_data _ _ ∙ left_of (g.M.Monitor.data_in c.come_to_item-inside.result) (rw c.state_mut.ensures.value at c.pop-item.ensures.size)) in
+    (g.met.M.Monitor.takes_data _ _ ∙ left_of (g.M.Monitor.data_in c.come_to_item-inside.result)
+    (rw c.state_mut.ensures.value at c.pop-item.ensures.size)) in
     record {
       found = g.M.Monitor.data_in c.come_to_item-inside.result;
       front = g.M.Monitor.front_in c.come_to_item-inside.result;

@@ -14,4 +14,5 @@ admit-requires-clause-outside g c = times_in-outside _ 0 _ c.in_ok-book.ensures.
 
 pub admit-requires-2-clause-outside : goal.admit-requires-2-clause-outside
 unfolding outside with_event
-admit-requires-2-clause-outside g c = times_in-outside _ 1 _ (c.wait.ensures.of _ (c.admit.ensures.of _ c.in_ok-book.ensures.made.1)) refl
+admit-requires-2-clause-outside g c =
+    times_in-outside _ 1 _ (c.wait.ensures.of _ (c.admit.ensures.of _ c.in_ok-book.ensures.made.1)) refl

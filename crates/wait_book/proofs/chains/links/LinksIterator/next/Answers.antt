@@ -17,18 +17,21 @@ index-node-requires c =
 
 pub invariant_of-self : goal.invariant_of-self
 invariant_of-self c =
-    (walked_first c.self.inside.nodes.now c.self.inside.at c.in_ok-key.key c.index-node.result.now c.self.invariant c.in_ok-key.was c.index-node.ensures).1
+    (walked_first c.self.inside.nodes.now c.self.inside.at c.in_ok-key.key c.index-node.result.now c.self.invariant
+    c.in_ok-key.was c.index-node.ensures).1
 
 pub returns-clause-steps : goal.returns-clause-steps
 returns-clause-steps c =
     sym c.self.view_is
     ∙
-    (walked_first c.self.inside.nodes.now c.self.inside.at c.in_ok-key.key c.index-node.result.now c.self.invariant c.in_ok-key.was c.index-node.ensures).0
+    (walked_first c.self.inside.nodes.now c.self.inside.at c.in_ok-key.key c.index-node.result.now c.self.invariant
+    c.in_ok-key.was c.index-node.ensures).0
 
 pub returns-clause-goes : goal.returns-clause-goes
 returns-clause-goes c =
     let step =
     sym c.self.view_is
     ∙
-    (walked_first c.self.inside.nodes.now c.self.inside.at c.in_ok-key.key c.index-node.result.now c.self.invariant c.in_ok-key.was c.index-node.ensures).0 in
+    (walked_first c.self.inside.nodes.now c.self.inside.at c.in_ok-key.key c.index-node.result.now c.self.invariant
+    c.in_ok-key.was c.index-node.ensures).0 in
     rw step (search rules)

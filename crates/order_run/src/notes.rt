@@ -6,7 +6,7 @@ use std::sync::atomic::{AtomicU64, Ordering};
 
 /// A call that waits for nobody.
 #[derive(Clone, Copy)]
-pub(crate) enum Note {
+pub enum Note {
     /// This place tried, and came in.
     Enter(usize),
     Notify(usize),
@@ -15,7 +15,7 @@ pub(crate) enum Note {
 
 /// Notes of the one process that runs, in order. The room for all is made beforehand.
 #[derive(Drop)]
-pub(crate) struct Notes {
+pub struct Notes {
     words: Vec<AtomicU64>,
     count: AtomicU64,
 }

@@ -2,10 +2,10 @@
 use Rattle.std.specs.Prelude.{ℕ, List, ◌≡◌, All, Option, Some, None}
 use Rattle.wait_book.specs.declared.steps.Next.{Next}
 use Rattle.wait_book.specs.declared.steps.Next.TheVariants.{Held}
-use Rattle.order_explorer.specs.declared.schedule.Ending.{Ending}
-use Rattle.order_explorer.specs.declared.schedule.Ending.TheVariants.{AllEnded, Stuck}
-use Rattle.order_explorer.specs.declared.schedule.Standing.{Standing}
-use Rattle.order_explorer.specs.declared.schedule.Standing.TheVariants.{Ended}
+use Rattle.order_run.specs.declared.schedule.Ending.{Ending}
+use Rattle.order_run.specs.declared.schedule.Ending.TheVariants.{AllEnded, Stuck}
+use Rattle.order_run.specs.declared.schedule.Standing.{Standing}
+use Rattle.order_run.specs.declared.schedule.Standing.TheVariants.{Ended}
 
 -- who is inside
 abbrev pub held_by : Next → Option ℕ

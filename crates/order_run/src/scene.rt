@@ -2,7 +2,7 @@
 
 ghost use Rattle.std.specs.Prelude.{◌≡◌, ◌↔◌, ◌<◌, ℕ, All, IsTrue, None, Some, length, slice_set};
 ghost use Rattle.wait_book.specs.Contents.{next_of};
-ghost use Rattle.order_explorer.specs.Scenes.{EndsAtRest, held_by};
+ghost use Rattle.order_run.specs.Scenes.{EndsAtRest, held_by};
 
 use crate::choices::Choices;
 use crate::notes::Note;
@@ -14,7 +14,7 @@ use wait_book::steps::{Next, Step};
 
 /// An act of the process inside.
 #[derive(Clone, Copy)]
-pub(crate) enum Act {
+pub enum Act {
     Wait(usize, u64),
     Signal(usize),
     Pass(usize),
@@ -23,7 +23,7 @@ pub(crate) enum Act {
 
 /// What lies under the controller's lock.
 #[derive(Drop)]
-pub(crate) struct Scene {
+pub struct Scene {
     book: Book,
     threads: usize,
     conditions: usize,
@@ -39,8 +39,8 @@ pub(crate) struct Scene {
     run: u64,
 }
 
-// No thread has begun.
-fn none_begun(alloc: Global, threads: usize) -> Result<Vec<Standing>, AllocError> {
+// No run is under way: each thread has ended.
+fn none_under_way(alloc: Global, threads: usize) -> Result<Vec<Standing>, AllocError> {
     let mut standings = Vec::with_capacity(alloc, threads)?;
     for _ in 0..threads {
         standings.push(Standing::Ended)?;
@@ -96,7 +96,7 @@ impl Scene {
             threads,
             conditions,
             mesa,
-            standings: none_begun(alloc, threads)?,
+            standings: none_under_way(alloc, threads)?,
             answers: no_answers(alloc, threads)?,
             steps: Vec::with_capacity(alloc, steps)?,
             patience,

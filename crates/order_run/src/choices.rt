@@ -1,6 +1,6 @@
 //! The choices of a run: which of those that want in is let in next.
 ghost use Rattle.std.specs.Prelude.{◌≡◌, None, MatchBool};
-ghost use Rattle.order_explorer.specs.Turns.{AreLast, IsTurned};
+ghost use Rattle.order_run.specs.Turns.{AreLast, IsTurned};
 
 use crate::schedule::{Ending, Limit};
 use std::alloc::{AllocError, Global};
@@ -18,7 +18,7 @@ pub struct Choice {
 /// The choices of a run: those that are given beforehand, and then those that it made. The room for all is made
 /// beforehand.
 #[derive(Drop)]
-pub(crate) struct Choices {
+pub struct Choices {
     all: Vec<Choice>,
     next: usize,
     latest: usize,

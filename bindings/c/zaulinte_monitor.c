@@ -10,7 +10,7 @@
 #ifndef ZAULINTE_LOOKS
 #define ZAULINTE_LOOKS 500 /* looks at a word before a thread sleeps, at the most */
 #endif
-enum { FEWEST_LOOKS = 20, LONG_EACH = 8 };
+enum { FEWEST_LOOKS = 1, LONG_EACH = 64 };
 enum { FREE, HELD, SLEPT_AT };
 enum { NOTHING, GO_ON, ASLEEP };
 
@@ -52,7 +52,7 @@ static void relax(void) {
 #endif
 }
 /* To look pays where the other has a core at once, and is lost where the cores are busy. So what was looked for in vain
- * halves the thread's next looks; what was seen makes them many again, and so does each eighth time. */
+ * halves the thread's next looks; what was seen makes them many again, and so does each 64th time. */
 static _Thread_local uint32_t looks = ZAULINTE_LOOKS, times;
 static bool sees(zaulinte_bell *b, uint32_t wanted) {
     uint32_t most = ++times % LONG_EACH == 0 ? ZAULINTE_LOOKS : looks;

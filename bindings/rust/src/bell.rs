@@ -5,8 +5,8 @@ use std::sync::{Condvar, Mutex, MutexGuard, PoisonError};
 
 // Looks at a word before a thread sleeps, at the most and at the least, and how seldom at the most.
 const MOST: u32 = 500;
-const FEWEST: u32 = 20;
-const LONG_EACH: u32 = 8;
+const FEWEST: u32 = 1;
+const LONG_EACH: u32 = 64;
 
 thread_local! {
     // the looks of this thread's next time, and how often it looked
@@ -28,7 +28,7 @@ impl Bell {
 
     // Whether the word is soon as it is wanted. To look pays where the other has a core at once, and is lost where the
     // cores are busy. So what was looked for in vain halves the thread's next looks; what was seen makes them many
-    // again, and so does each eighth time.
+    // again, and so does each 64th time.
     pub(crate) fn sees(&self, wanted: u32) -> bool {
         let (looks, times) = LOOKS.get();
         let most = if times % LONG_EACH == 0 { MOST } else { looks };

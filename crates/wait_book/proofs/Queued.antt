@@ -225,6 +225,19 @@ pub chain-same : {Y : Type 0} (g : List Link → Y) (c d : ℕ) (xs : List Link)
     → ((e : ℕ) → list_at new e ≡ list_put c xs (list_at old) e) → g (list_at new d) ≡ g (list_at old d)
 chain-same g c d xs old new n h = ap g (h d ∙ put_other c d xs (list_at old) n)
 
+-- what a change of a condition's chain leaves as it was
+pub record BesideKept (old new : Lists) : Type 0 where
+  pub signallers : places_in (list_at new SIGNALLERS) ≡ places_in (list_at old SIGNALLERS)
+  pub called : called_in (list_at new CALLED) ≡ called_in (list_at old CALLED)
+
+pub beside_kept : (c : ℕ) (xs : List Link) (old new : Lists) → c < MOST_CONDITIONS
+    → ((e : ℕ) → list_at new e ≡ list_put c xs (list_at old) e) → BesideKept old new
+beside_kept c xs old new l h =
+    record {
+      signallers = chain-same places_in c SIGNALLERS xs old new (omega arith) h;
+      called = chain-same called_in c CALLED xs old new (omega arith) h;
+    }
+
 -- and those who wait, where a chain changes that is no condition's
 pub waiters-same : (c : ℕ) (xs : List Link) (old new : Lists) → MOST_CONDITIONS ≤ c
     → ((d : ℕ) → list_at new d ≡ list_put c xs (list_at old) d)

@@ -10,7 +10,7 @@ use Rattle.wait_book.specs.Insides.{called_in, waiter_of, waiter_on, waiting_bel
 use Rattle.wait_book.specs.Lists.{Lists, IsPut, IsTaken, first_link, list_at, places_in}
 use Rattle.wait_book.specs.Queues.{TakesFirst}
 use Rattle.wait_book.proofs.Waiters.{on, filter-taken_on}
-use Rattle.wait_book.proofs.Queued.{TakesFirst-taken, chain-more, chain-same, on_chain, waiters-same}
+use Rattle.wait_book.proofs.Queued.{TakesFirst-taken, beside_kept, chain-more, chain-same, on_chain, waiters-same}
 
 -- who is resumed is taken out first, and then the signaller stands behind those held up before
 pub record Signalled (c place resumed : ℕ) (old between new : Lists) : Type 0 where
@@ -30,9 +30,9 @@ signalled c place resumed old between new l t p =
       room = p.room ∙ t.room;
       waiters = waiters-same SIGNALLERS _ between new (omega arith) p.lists;
       signallers = chain-more (λ (x : Link). x.place) SIGNALLERS place c 0 between new p
-          ∙ ap (λ us. us ++ place ∷ []) (chain-same places_in c SIGNALLERS _ old between (omega arith) t.lists);
+          ∙ ap (λ us. us ++ place ∷ []) (beside_kept c _ old between l t.lists).signallers;
       called = chain-same called_in SIGNALLERS CALLED _ between new (omega arith) p.lists
-          ∙ chain-same called_in c CALLED _ old between (omega arith) t.lists;
+          ∙ (beside_kept c _ old between l t.lists).called;
     }
 
 -- who is called is taken out first, and then stands behind those called before
@@ -83,8 +83,8 @@ notified c x r old between new l is m p =
       room = p.room ∙ t.room;
       waiters = waiters-same CALLED _ between new (omega arith) p.lists;
       signallers = chain-same places_in CALLED SIGNALLERS _ between new (omega arith) p.lists
-          ∙ chain-same places_in c SIGNALLERS _ old between (omega arith) t.lists;
+          ∙ (beside_kept c _ old between l t.lists).signallers;
       called = chain-more waiter_of CALLED x.place c x.priority between new p
-          ∙ ap (λ ws. ws ++ waiter_on c x ∷ []) (chain-same called_in c CALLED _ old between (omega arith) t.lists)
+          ∙ ap (λ ws. ws ++ waiter_on c x ∷ []) (beside_kept c _ old between l t.lists).called
           ∙ ap (λ w. called_in (list_at old CALLED) ++ w ∷ []) (first_waiter c x old between l is took);
     }

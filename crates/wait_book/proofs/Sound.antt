@@ -193,9 +193,13 @@ pub same_hoare : (b d : Contents) (c : ℕ) → b ≡ d → IsHoare d.sizes.cond
 same_hoare b d c e h =
     subst (λ (v : Contents). c < hoare_of v) (sym e) (hoare_below d.sizes.conditions d.sizes.mesa c h)
 
-pub hoare_condition : (b d : Contents) (c : ℕ) → b ≡ d → IsHoare d.sizes.conditions d.sizes.mesa c
-    → c < b.sizes.conditions
-hoare_condition b d c e h = same_condition b d c e (omega (arith, h))
+-- and it has a chain
+pub hoare_chain : (b d : Contents) (c : ℕ) → b ≡ d → IsHoare d.sizes.conditions d.sizes.mesa c → IsSound b
+    → c < MOST_CONDITIONS
+hoare_chain b d c e h s = omega (arith, same_condition b d c e (omega (arith, h)), s.few_conditions)
+
+pub mesa_chain : (b : Contents) (c : ℕ) → IsMesa b.sizes.conditions b.sizes.mesa c → IsSound b → c < MOST_CONDITIONS
+mesa_chain b c m s = omega (arith, m.0, s.few_conditions)
 
 pub same_mesa : (b d : Contents) (c : ℕ) → b ≡ d → IsMesa d.sizes.conditions d.sizes.mesa c
     → IsMesa b.sizes.conditions b.sizes.mesa c

@@ -15,6 +15,7 @@ ghost use Rattle.door_frame.specs.Steps.{Came, due};
 use crate::departure::Departure;
 use crate::notice::Notice;
 use crate::parcel::Parcel;
+use crate::parking::claim;
 use crate::place::{Inside, Outside};
 use crate::plays::DoorSeat;
 use crate::turnstile::Turnstile;
@@ -165,7 +166,7 @@ pub fn wait<D: MonitorData, T: Turnstile<D>, R: Wait>(
         Departure::Wait(condition, priority),
         next,
     );
-    let parcel = door.claim(rt, &mut seat, place, &sleeper);
+    let parcel = claim(door, rt, &mut seat, place, &sleeper);
     brought_back(seat, place, sleeper, parcel)
 }
 
@@ -199,7 +200,7 @@ pub fn signal<D: MonitorData, T: Turnstile<D>, R: Wait>(
     } = inside;
     let next = parcel.held.book.signal(place, condition);
     door.hand_on(&mut seat, parcel, place, Departure::Signal(condition), next);
-    let parcel = door.claim(rt, &mut seat, place, &sleeper);
+    let parcel = claim(door, rt, &mut seat, place, &sleeper);
     (brought_back(seat, place, sleeper, parcel), true)
 }
 

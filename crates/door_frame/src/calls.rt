@@ -40,12 +40,7 @@ pub fn brought_in<D: MonitorData>(
         (with_event c.log (event.Admit place parcel.state)) parcel.state }
 {
     parcel.held.book.admit(place);
-    Inside {
-        seat,
-        place,
-        sleeper,
-        parcel,
-    }
+    Inside::of_parts(seat, place, sleeper, parcel)
 }
 
 /// Who was owed the monitor is inside again, with the parcel: back from a wait or from a signal.
@@ -63,12 +58,7 @@ fn brought_back<D: MonitorData>(
         (with_event c.log (due place f parcel.state)) parcel.state }
 {
     parcel.held.book.claim(place);
-    Inside {
-        seat,
-        place,
-        sleeper,
-        parcel,
-    }
+    Inside::of_parts(seat, place, sleeper, parcel)
 }
 
 /// `Monitor::enter`.
@@ -120,12 +110,7 @@ pub fn leave<D: MonitorData, T: Turnstile<D>>(door: &T, inside: Inside<D>) -> Ou
     ensures place { result.place ≡ inside.place }
     ensures front { result.front ≡ with_event inside.front (event.Leave inside.place inside.state) }
 {
-    let Inside {
-        mut seat,
-        place,
-        sleeper,
-        mut parcel,
-    } = inside;
+    let (mut seat, place, sleeper, mut parcel) = inside.into_parts();
     let next = parcel.held.book.leave(place);
     door.hand_on(&mut seat, parcel, place, Departure::Leave, next);
     Outside::of_parts(seat, place, sleeper)
@@ -152,12 +137,7 @@ pub fn wait<D: MonitorData, T: Turnstile<D>, R: Wait>(
     ensures front { AddsTwo inside.front (event.Wait inside.place condition priority inside.state)
         (event.Resume inside.place condition result.state) result.front }
 {
-    let Inside {
-        mut seat,
-        place,
-        sleeper,
-        mut parcel,
-    } = inside;
+    let (mut seat, place, sleeper, mut parcel) = inside.into_parts();
     let next = parcel.held.book.wait(place, condition, priority);
     door.hand_on(
         &mut seat,
@@ -192,12 +172,7 @@ pub fn signal<D: MonitorData, T: Turnstile<D>, R: Wait>(
     if !inside.queue(condition) {
         return (inside, false);
     }
-    let Inside {
-        mut seat,
-        place,
-        sleeper,
-        mut parcel,
-    } = inside;
+    let (mut seat, place, sleeper, mut parcel) = inside.into_parts();
     let next = parcel.held.book.signal(place, condition);
     door.hand_on(&mut seat, parcel, place, Departure::Signal(condition), next);
     let parcel = claim(door, rt, &mut seat, place, &sleeper);
@@ -224,12 +199,7 @@ pub fn signal_leave<D: MonitorData, T: Turnstile<D>>(
     if !inside.queue(condition) {
         return (leave(door, inside), false);
     }
-    let Inside {
-        mut seat,
-        place,
-        sleeper,
-        mut parcel,
-    } = inside;
+    let (mut seat, place, sleeper, mut parcel) = inside.into_parts();
     let next = parcel.held.book.pass(place, condition);
     door.hand_on(&mut seat, parcel, place, Departure::Pass(condition), next);
     (Outside::of_parts(seat, place, sleeper), true)

@@ -16,7 +16,7 @@ use door_frame::parcel::Parcel;
 use door_frame::place::{Inside, Outside};
 use door_frame::plays::DoorSeat;
 use door_frame::turnstile::Turnstile;
-use door_frame::waking::{Sleeper, Woken};
+use door_frame::waking::Woken;
 use hoare_law::data::MonitorData;
 use hoare_law::monitor::Monitor;
 use std::sync::Wait;
@@ -42,16 +42,19 @@ impl<D: MonitorData> Turnstile<D> for AnyDoor<D> {
         }
     }
 
-    fn claim<R: Wait>(
-        &self,
-        rt: &R,
-        seat: &mut DoorSeat<D>,
-        place: usize,
-        sleeper: &Sleeper,
-    ) -> Parcel<D> {
+    #[inline]
+    fn is_owed(&self, place: usize) -> bool {
         match self {
-            AnyDoor::Baton(door) => door.claim(rt, seat, place, sleeper),
-            AnyDoor::Ticket(door) => door.claim(rt, seat, place, sleeper),
+            AnyDoor::Baton(door) => door.is_owed(place),
+            AnyDoor::Ticket(door) => door.is_owed(place),
+        }
+    }
+
+    #[inline]
+    fn try_claim(&self, seat: &mut DoorSeat<D>, place: usize) -> Option<Parcel<D>> {
+        match self {
+            AnyDoor::Baton(door) => door.try_claim(seat, place),
+            AnyDoor::Ticket(door) => door.try_claim(seat, place),
         }
     }
 

@@ -41,13 +41,8 @@ use wait_book::steps::MakeRefused;
 /// ```
 #[derive(Drop)]
 pub struct Door<D: MonitorData> {
-    /// Of its eight words one is in use. The others keep most other data off that one's line of the cache.
-    ///
-    /// | The word | says | and is changed by |
-    /// |---|---|---|
-    /// | `FREE` (0) | nobody is inside, nobody is owed the monitor | a newcomer, to `HELD` |
-    /// | `HELD` (1) | a place is inside, and has what lies in the slot | that place alone: to `FREE`, or owed to who goes on |
-    /// | `owed(k)` (2 + k) | place k was resumed, or its signal is over | place k alone, to `HELD` |
+    /// Of its eight words one is in use: what it says, and who changes it to what, is a table of the crate's README. The
+    /// others keep most other data off that one's line of the cache.
     pub(crate) table: DoorTable<D>,
     /// What wakes each place, in order.
     pub(crate) wakers: Vec<Waker>,

@@ -18,7 +18,7 @@ use door_frame::parcel::Parcel;
 use door_frame::plays::DoorSeat;
 use door_frame::slot::take_parcel;
 use door_frame::turnstile::Turnstile;
-use door_frame::waking::{Sleeper, Woken};
+use door_frame::waking::Woken;
 use hoare_law::data::MonitorData;
 use hoare_law::monitor::Monitor;
 use std::marker::Brand;
@@ -48,28 +48,24 @@ impl<D: MonitorData> Turnstile<D> for Door<D> {
         Some(take_parcel(&self.table, seat))
     }
 
-    /// It looks a while, then tests the word and sleeps, until the test finds that the monitor is owed to the place.
-    fn claim<R: Wait>(
-        &self,
-        rt: &R,
-        seat: &mut DoorSeat<D>,
-        place: usize,
-        sleeper: &Sleeper,
-    ) -> Parcel<D> {
+    #[inline]
+    fn is_owed(&self, place: usize) -> bool {
+        self.table.shared.peek(DOOR) == owed(place)
+    }
+
+    /// One test of the word: "no" where its exchange doesn't find the monitor owed to the place.
+    #[inline]
+    fn try_claim(&self, seat: &mut DoorSeat<D>, place: usize) -> Option<Parcel<D>> {
         let table = &self.table;
         let mine = owed(place);
-        self.look_for(mine);
-        for _ in rt.forever() {
-            if table
-                .shared
-                .compare_exchange::<Claim>(seat, DOOR, mine, HELD)
-                == mine
-            {
-                return take_parcel(table, seat);
-            }
-            sleeper.sleep(rt);
+        if table
+            .shared
+            .compare_exchange::<Claim>(seat, DOOR, mine, HELD)
+            == mine
+        {
+            return Some(take_parcel(table, seat));
         }
-        unreachable!()
+        None
     }
 
     #[inline]

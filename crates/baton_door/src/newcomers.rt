@@ -6,9 +6,10 @@ use crate::door::Door;
 use crate::rule::Admit;
 use crate::word::{DOOR, FREE, HELD};
 use crossbeam_utils::Backoff;
-use door_frame::looks::TRIES;
+use door_frame::looks::{LOOKS, TRIES};
 use door_frame::plays::DoorSeat;
 use hoare_law::data::MonitorData;
+use std::hint;
 use std::sync::Wait;
 
 impl<D: MonitorData> Door<D> {
@@ -27,6 +28,17 @@ impl<D: MonitorData> Door<D> {
             == FREE
     }
 
+    /// Looks at the word a while, until it is `FREE`: whether it was seen so.
+    fn looks_free(&self) -> bool {
+        for _ in 0..LOOKS {
+            if self.table.shared.peek(DOOR) == FREE {
+                return true;
+            }
+            hint::spin_loop();
+        }
+        false
+    }
+
     /// Tries a while, whenever the word is seen to be `FREE`, and spins longer and longer between the tries: whether
     /// the place is in.
     fn try_a_while(&self, seat: &mut DoorSeat<D>) -> bool
@@ -38,7 +50,7 @@ impl<D: MonitorData> Door<D> {
     {
         let backoff = Backoff::new();
         for _ in 0..TRIES {
-            if self.look_for(FREE) && self.try_in(seat) {
+            if self.looks_free() && self.try_in(seat) {
                 return true;
             }
             backoff.spin();

@@ -1,9 +1,5 @@
-//! How places look at the word, sleep, and wake each other.
-//!
-//! No wake is lost. Who waits tests the word before it sleeps and after each waking (`Turnstile::claim`). Who gives the
-//! monitor up writes the word first and wakes the place then. So where the test came before the write, the waking comes
-//! after the test; and a sleeper keeps one permit, so the sleep that follows returns at once. A place that is
-//! woken by the permit of an earlier wait finds the word unchanged, and sleeps again.
+//! Who gives the monitor up writes the word, and wakes who goes on then. Why so no wake is lost stands at
+//! `door_frame::parking`: the word of each place is the door's one.
 ghost use Rattle.std.specs.Prelude.{◌≡◌, ◌<◌};
 ghost use Rattle.wait_book.specs.Contents.{IsPlaceBelow};
 ghost use Rattle.door_frame.specs.Steps.{MayGive, MayNote};
@@ -13,28 +9,15 @@ ghost use Rattle.door_frame.specs.Seats.{GoesOut, IsBehind, StaysIn};
 use crate::door::Door;
 use crate::word::{DOOR, word_of_next};
 use door_frame::departure::Departure;
-use door_frame::looks::LOOKS;
 use door_frame::notice::Notice;
 use door_frame::parcel::Parcel;
 use door_frame::plays::{DoorSeat, Give, Note, PickedEvent, PickedNotice};
 use door_frame::slot::lay_parcel;
 use door_frame::waking::Woken;
 use hoare_law::data::MonitorData;
-use std::hint;
 use wait_book::steps::Next;
 
 impl<D: MonitorData> Door<D> {
-    /// Looks at the word a while, until it has this number: whether it was seen.
-    pub(crate) fn look_for(&self, wanted: u64) -> bool {
-        for _ in 0..LOOKS {
-            if self.table.shared.peek(DOOR) == wanted {
-                return true;
-            }
-            hint::spin_loop();
-        }
-        false
-    }
-
     /// Gives the parcel back by an event that the call picks.
     #[inline]
     pub(crate) fn give<J: PickedEvent<D>>(

@@ -15,6 +15,7 @@ ghost use Rattle.door_frame.specs.Steps.{Came, due};
 use crate::departure::Departure;
 use crate::notice::Notice;
 use crate::parcel::Parcel;
+use crate::parking::claim;
 use crate::place::{Inside, Outside};
 use crate::plays::DoorSeat;
 use crate::turnstile::Turnstile;
@@ -39,12 +40,7 @@ pub fn brought_in<D: MonitorData>(
         (with_event c.log (event.Admit place parcel.state)) parcel.state }
 {
     parcel.held.book.admit(place);
-    Inside {
-        seat,
-        place,
-        sleeper,
-        parcel,
-    }
+    Inside::of_parts(seat, place, sleeper, parcel)
 }
 
 /// Who was owed the monitor is inside again, with the parcel: back from a wait or from a signal.
@@ -62,12 +58,7 @@ fn brought_back<D: MonitorData>(
         (with_event c.log (due place f parcel.state)) parcel.state }
 {
     parcel.held.book.claim(place);
-    Inside {
-        seat,
-        place,
-        sleeper,
-        parcel,
-    }
+    Inside::of_parts(seat, place, sleeper, parcel)
 }
 
 /// `Monitor::enter`.
@@ -119,12 +110,7 @@ pub fn leave<D: MonitorData, T: Turnstile<D>>(door: &T, inside: Inside<D>) -> Ou
     ensures place { result.place ≡ inside.place }
     ensures front { result.front ≡ with_event inside.front (event.Leave inside.place inside.state) }
 {
-    let Inside {
-        mut seat,
-        place,
-        sleeper,
-        mut parcel,
-    } = inside;
+    let (mut seat, place, sleeper, mut parcel) = inside.into_parts();
     let next = parcel.held.book.leave(place);
     door.hand_on(&mut seat, parcel, place, Departure::Leave, next);
     Outside::of_parts(seat, place, sleeper)
@@ -151,12 +137,7 @@ pub fn wait<D: MonitorData, T: Turnstile<D>, R: Wait>(
     ensures front { AddsTwo inside.front (event.Wait inside.place condition priority inside.state)
         (event.Resume inside.place condition result.state) result.front }
 {
-    let Inside {
-        mut seat,
-        place,
-        sleeper,
-        mut parcel,
-    } = inside;
+    let (mut seat, place, sleeper, mut parcel) = inside.into_parts();
     let next = parcel.held.book.wait(place, condition, priority);
     door.hand_on(
         &mut seat,
@@ -165,7 +146,7 @@ pub fn wait<D: MonitorData, T: Turnstile<D>, R: Wait>(
         Departure::Wait(condition, priority),
         next,
     );
-    let parcel = door.claim(rt, &mut seat, place, &sleeper);
+    let parcel = claim(door, rt, &mut seat, place, &sleeper);
     brought_back(seat, place, sleeper, parcel)
 }
 
@@ -191,15 +172,10 @@ pub fn signal<D: MonitorData, T: Turnstile<D>, R: Wait>(
     if !inside.queue(condition) {
         return (inside, false);
     }
-    let Inside {
-        mut seat,
-        place,
-        sleeper,
-        mut parcel,
-    } = inside;
+    let (mut seat, place, sleeper, mut parcel) = inside.into_parts();
     let next = parcel.held.book.signal(place, condition);
     door.hand_on(&mut seat, parcel, place, Departure::Signal(condition), next);
-    let parcel = door.claim(rt, &mut seat, place, &sleeper);
+    let parcel = claim(door, rt, &mut seat, place, &sleeper);
     (brought_back(seat, place, sleeper, parcel), true)
 }
 
@@ -223,12 +199,7 @@ pub fn signal_leave<D: MonitorData, T: Turnstile<D>>(
     if !inside.queue(condition) {
         return (leave(door, inside), false);
     }
-    let Inside {
-        mut seat,
-        place,
-        sleeper,
-        mut parcel,
-    } = inside;
+    let (mut seat, place, sleeper, mut parcel) = inside.into_parts();
     let next = parcel.held.book.pass(place, condition);
     door.hand_on(&mut seat, parcel, place, Departure::Pass(condition), next);
     (Outside::of_parts(seat, place, sleeper), true)

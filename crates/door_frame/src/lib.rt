@@ -9,6 +9,7 @@ pub mod looks;
 pub mod making;
 pub mod notice;
 pub mod parcel;
+pub mod parking;
 pub mod place;
 pub mod plays;
 pub mod rule;

@@ -70,7 +70,7 @@ impl<D> Outside<D> {
 pub struct Inside<D> {
     pub(crate) seat: DoorSeat<D>,
     pub(crate) place: usize,
-    pub(crate) sleeper: Sleeper,
+    sleeper: Sleeper,
     /// Data and queues. A door on this frame lends them: who changes the queues by hand can't give the place back.
     pub parcel: Parcel<D>,
     ghost alone: { is_alone seat.me.0 ≡ true },
@@ -93,10 +93,48 @@ impl<D> Model for Inside<D> {
 impl<D> Inside<D> {
     ghost use Rattle.std.specs.Prelude.{◌≡◌, ◌≢◌, ◌<◌, ◌↔◌, ℕ, [], IsTrue, slice_index, MatchOption};
     ghost use Rattle.std.specs.Option.{option_map};
+    ghost use Rattle.hoare_law.specs.declared.event.History.{History};
     ghost use Rattle.hoare_law.specs.Priorities.{priorities};
     ghost use Rattle.hoare_law.specs.Waiting.{waiting, chosen, priority_of};
     ghost use Rattle.wait_book.specs.Contents.{priorities_on};
+    ghost use Rattle.door_frame.specs.Places.{berth, place_in};
     ghost use Rattle.door_frame.specs.Seats.{IsInside};
+
+    /// A place inside of its parts.
+    #[inline]
+    pub(crate) fn of_parts(
+        seat: DoorSeat<D>,
+        place: usize,
+        sleeper: Sleeper,
+        parcel: Parcel<D>,
+    ) -> Inside<D>
+        requires { (f : History D) × IsInside place f seat.me parcel.book }
+        ensures { (f : History D) → IsInside place f seat.me parcel.book
+            → result ≡ place_in (berth seat.table_id sleeper) place f parcel.state }
+    {
+        Inside {
+            seat,
+            place,
+            sleeper,
+            parcel,
+        }
+    }
+
+    /// The seat, the number, what the place sleeps on, and the parcel.
+    #[inline]
+    pub(crate) fn into_parts(self) -> (DoorSeat<D>, usize, Sleeper, Parcel<D>)
+        ensures parts { place_in (berth result.0.table_id result.2) result.1 self.front result.3.state
+            ≡ self }
+        ensures seat { IsInside result.1 self.front result.0.me result.3.book }
+    {
+        let Inside {
+            seat,
+            place,
+            sleeper,
+            parcel,
+        } = self;
+        (seat, place, sleeper, parcel)
+    }
 
     /// The queues, as `Monitor::lists`.
     pub fn lists(&self) -> &Book

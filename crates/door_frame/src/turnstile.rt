@@ -1,10 +1,10 @@
-//! What a door has to do with its words: let a newcomer in, also by a mere try, let a place come back, give the monitor
-//! up, and tell of a notice.
+//! What a door has to do with its words: let a newcomer in, also by a mere try, look whether a place is owed the
+//! monitor, let it come back, give the monitor up, and tell of a notice.
 ghost use Rattle.std.specs.Prelude.{◌≡◌, ◌<◌, IfSome, IfNone};
 ghost use Rattle.hoare_law.specs.declared.event.History.{History};
 ghost use Rattle.hoare_law.specs.declared.event.Event.TheVariants as event;
 ghost use Rattle.wait_book.specs.Contents.{IsPlaceBelow};
-ghost use Rattle.door_frame.specs.Places.{DoorId, IsWoken, sleeper_at};
+ghost use Rattle.door_frame.specs.Places.{DoorId, IsWoken};
 ghost use Rattle.door_frame.specs.Steps.{MayGive, MayNote, due};
 ghost use Rattle.door_frame.specs.Seats.{IsAway, IsNewcomer, ComesIn, GoesOut, StaysIn};
 ghost use Rattle.door_frame.specs.Departures.{event_of};
@@ -14,7 +14,7 @@ use crate::departure::Departure;
 use crate::notice::Notice;
 use crate::parcel::Parcel;
 use crate::plays::DoorSeat;
-use crate::waking::{Sleeper, Woken};
+use crate::waking::Woken;
 use hoare_law::data::MonitorData;
 use std::sync::Wait;
 use wait_book::steps::Next;
@@ -42,20 +42,20 @@ pub trait Turnstile<D: MonitorData> {
             seat.old.me parcel seat.new.me) }
         ensures same { IfNone result (seat.new.me ≡ seat.old.me) };
 
-    /// Waits until the monitor is owed to the place, comes in and takes the parcel. It sleeps where it is woken.
-    fn claim<R: Wait>(
-        &self,
-        rt: &R,
-        seat: &mut DoorSeat<D>,
-        place: usize,
-        sleeper: &Sleeper,
-    ) -> Parcel<D>
+    /// Whether the monitor is owed to the place, by one look at its word. No clause speaks of it: a try follows.
+    fn is_owed(&self, place: usize) -> bool
+        requires { place < (id self.now).places };
+
+    /// Lets the place come back where the monitor is owed to it at this moment, and takes the parcel; else the seat is
+    /// as it was. It waits for nobody.
+    fn try_claim(&self, seat: &mut DoorSeat<D>, place: usize) -> Option<Parcel<D>>
         requires table { seat.old.table_id ≡ (id self.now).table }
         requires small { place < (id self.now).places }
-        requires sleeper { sleeper.now ≡ sleeper_at (id self.now) place }
         requires away { (f : History D) × IsAway place f seat.old.me }
         ensures table { seat.new.table_id ≡ seat.old.table_id }
-        ensures came { ComesIn D.rest D.ready place (due place) seat.old.me result seat.new.me };
+        ensures came { IfSome result (λ parcel. ComesIn D.rest D.ready place (due place)
+            seat.old.me parcel seat.new.me) }
+        ensures same { IfNone result (seat.new.me ≡ seat.old.me) };
 
     /// Gives the parcel back by the event of the departure, and wakes the place that goes on: then the answer shows it.
     fn hand_on(

@@ -1,9 +1,5 @@
-//! Who gives the monitor up opens the door to newcomers or rings a bell, and who is rung comes back.
-//!
-//! No ring is lost. Who waits tests its bell before it sleeps and after each waking (`Turnstile::claim`). Who hands
-//! over rings first and wakes the place then. So where the test came before the ring, the waking comes after the test;
-//! and a sleeper keeps one permit, so the sleep that follows returns at once. A place that is woken by the permit of an
-//! earlier wait finds the bell silent, and sleeps again.
+//! Who gives the monitor up opens the door to newcomers, or rings a bell and wakes who goes on then. Why so no wake is
+//! lost stands at `door_frame::parking`: the word of each place is its bell.
 ghost use Rattle.std.specs.Prelude.{◌≡◌, ◌<◌};
 ghost use Rattle.wait_book.specs.Contents.{IsPlaceBelow};
 ghost use Rattle.door_frame.specs.Steps.{MayGive, MayNote};
@@ -13,31 +9,15 @@ ghost use Rattle.door_frame.specs.Seats.{GoesOut, IsBehind, StaysIn};
 use crate::door::TicketDoor;
 use crate::words::{RUNG, SERVING, TURN, bell_of};
 use door_frame::departure::Departure;
-use door_frame::looks::LOOKS;
 use door_frame::notice::Notice;
 use door_frame::parcel::Parcel;
 use door_frame::plays::{DoorSeat, Give, Note, PickedEvent, PickedNotice};
 use door_frame::slot::lay_parcel;
 use door_frame::waking::Woken;
 use hoare_law::data::MonitorData;
-use std::hint;
 use wait_book::steps::Next;
 
 impl<D: MonitorData> TicketDoor<D> {
-    /// Looks at the bell a while, until it rings.
-    pub(crate) fn listen(&self, place: usize)
-        requires { place < self.now.door.places }
-    {
-        let table = &self.table;
-        let bell = bell_of(place);
-        for _ in 0..LOOKS {
-            if table.shared.peek(bell) == RUNG {
-                return;
-            }
-            hint::spin_loop();
-        }
-    }
-
     /// Gives the parcel back by an event that the call picks. `departure` is there for the pick alone.
     #[inline]
     pub(crate) fn give<J: PickedEvent<D>>(

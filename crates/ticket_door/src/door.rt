@@ -36,14 +36,8 @@ use wait_book::steps::MakeRefused;
 /// ```
 #[derive(Drop)]
 pub struct TicketDoor<D: MonitorData> {
-    /// Each word has a line of the cache of its own. A newcomer that naps sleeps on the word behind a bell, which stays
-    /// 0.
-    ///
-    /// | Word | says | and is changed by |
-    /// |---|---|---|
-    /// | `NEXT` | the next ticket to be drawn, modulo 2^64 | each newcomer, by one; one that tries, where that is served |
-    /// | `SERVING` | twice the ticket that comes in next or is inside, modulo 2^64, and one more while the gate is shut | who gives the monitor up to newcomers, by two; a place that tries, by one, and back |
-    /// | `bell_of(k)` | `RUNG` where the monitor is owed to place k, or returns to it, else `SILENT` | who hands over, to `RUNG`; place k, to `SILENT` |
+    /// What its words say, and who changes them to what, is a table of the crate's README. Each has a line of the cache
+    /// of its own. A newcomer that naps sleeps on the word behind a bell, which stays 0.
     pub(crate) table: TicketTable<D>,
     /// What wakes each place, in order.
     pub(crate) wakers: Vec<Waker>,

@@ -18,7 +18,7 @@ use door_frame::parcel::Parcel;
 use door_frame::plays::DoorSeat;
 use door_frame::slot::take_parcel;
 use door_frame::turnstile::Turnstile;
-use door_frame::waking::{Sleeper, Woken};
+use door_frame::waking::Woken;
 use hoare_law::data::MonitorData;
 use hoare_law::monitor::Monitor;
 use std::marker::Brand;
@@ -51,24 +51,20 @@ impl<D: MonitorData> Turnstile<D> for TicketDoor<D> {
         Some(take_parcel(table, seat))
     }
 
-    /// It listens a while, then tests its bell and sleeps, until the test finds that it was rung.
-    fn claim<R: Wait>(
-        &self,
-        rt: &R,
-        seat: &mut DoorSeat<D>,
-        place: usize,
-        sleeper: &Sleeper,
-    ) -> Parcel<D> {
+    #[inline]
+    fn is_owed(&self, place: usize) -> bool {
+        self.table.shared.peek(bell_of(place)) == RUNG
+    }
+
+    /// One test of the place's bell: "no" where it wasn't rung.
+    #[inline]
+    fn try_claim(&self, seat: &mut DoorSeat<D>, place: usize) -> Option<Parcel<D>> {
         let table = &self.table;
         let bell = bell_of(place);
-        self.listen(place);
-        for _ in rt.forever() {
-            if table.shared.swap::<Hear>(seat, bell, SILENT) == RUNG {
-                return take_parcel(table, seat);
-            }
-            sleeper.sleep(rt);
+        if table.shared.swap::<Hear>(seat, bell, SILENT) == RUNG {
+            return Some(take_parcel(table, seat));
         }
-        unreachable!()
+        None
     }
 
     #[inline]

@@ -1,12 +1,14 @@
-use Rattle.std.proofs.Common.{◌<◌, ◌∙◌, subst}
+use Rattle.std.proofs.Common.{◌<◌, ap, sym, ◌∙◌, subst}
 use Rattle.hoare_law.specs.declared.event.Sizes.{Sizes}
 use Rattle.hoare_law.specs.declared.event.Event.TheVariants.{Admit}
 use Rattle.hoare_law.specs.Beside.Erasure.{erased}
+use Rattle.hoare_law.specs.Events.{with_event}
 use Rattle.hoare_law.proofs.Legal.{IsLegal-last}
+use Rattle.wait_book.specs.Contents.{IsOf}
 use Rattle.wait_book.proofs.WithData.{turn-history, times_in-outside, IsOf-event}
-use Rattle.door_frame.specs.Seats.{IsInside}
+use Rattle.door_frame.specs.declared.parcel.Lodged.{Lodged}
+use Rattle.door_frame.specs.Places.{berth, place_in}
 use Rattle.door_frame.proofs.Arrivals.{came_as}
-use Rattle.door_frame.proofs.Seats.{at_front}
 use Rattle.door_frame.proofs.calls.brought_in.Goals as goal
 
 pub admit-requires-clause-free : goal.admit-requires-clause-free
@@ -27,12 +29,25 @@ admit-requires-clause-outside g c =
     let in_ = came_as (c.deref_mut.ensures.value ∙ c.parcel.view_is) c.requires.came.1 in
     times_in-outside _ in_.log _ in_.book (IsLegal-last in_.log _ in_.stands.legal).fits.1
 
-pub invariant_of-result-2 : goal.invariant_of-result-2
-invariant_of-result-2 g c =
-    let k = c.args.place in
-    let in_ = came_as (c.deref_mut.ensures.value ∙ c.parcel.view_is) c.requires.came.1 in
-    at_front (λ h. IsInside k h c.args.seat.me c.admit.new.self) _ _ k _ _ in_.me_is (
-      in_.me_is,
-      IsOf-event _ in_.log (Admit k c.deref_mut.result.now.state)
-          (c.admit.ensures.of (erased in_.log) in_.book),
+pub of_parts-requires : goal.of_parts-requires
+of_parts-requires g c =
+    let in_ = came_as (c.deref_mut.ensures.value ∙ c.parcel.view_is) c.requires.came.1 in (
+      _,
+      (
+        in_.me_is,
+        IsOf-event _ in_.log (Admit c.args.place c.deref_mut.result.now.state)
+            (c.admit.ensures.of (erased in_.log) in_.book),
+      ),
     )
+
+pub returns : goal.returns
+returns g c = λ f came.
+    let same = c.deref_mut.ensures.value ∙ c.parcel.view_is in
+    let k = c.args.place in
+    let e = Admit k c.args.parcel.state in
+    let held = subst (λ (w : Lodged g.row.D.Denot). IsOf w.book (erased came.log)) (sym same) came.book in
+    c.of_parts.ensures (with_event came.log e)
+    (came.me_is, IsOf-event _ came.log e (c.admit.ensures.of (erased came.log) held))
+    ∙ ap
+    (λ (w : Lodged g.row.D.Denot).
+    place_in (berth c.args.seat.table_id c.args.sleeper) k (with_event came.log e) w.state) same

@@ -4,7 +4,6 @@ use Rattle.hoare_law.specs.Growth.{nobody_waited}
 use Rattle.hoare_law.specs.Priorities.{priorities}
 use Rattle.hoare_law.proofs.Priorities.{waiting-no_priority}
 use Rattle.wait_book.proofs.WithData.{none-listed}
-use Rattle.door_frame.specs.Views.{front_of}
 use Rattle.door_frame.proofs.Arrivals.{returned}
 use Rattle.door_frame.proofs.Departures.{gives_handing}
 use Rattle.door_frame.proofs.Inside.{holds, turn_in_hand, small, sleeps}
@@ -13,13 +12,15 @@ use Rattle.door_frame.proofs.calls.signal.Goals as goal
 
 pub signal-next-requires-clause-inside : goal.signal-next-requires-clause-inside
 signal-next-requires-clause-inside g c =
+    let parts = c.into_parts-seat.ensures in
     turn_in_hand
-    (holds (c.deref_mut.ensures.value ∙ c.parcel.view_is) c.inside.view_is c.inside.invariant c.requires.of)
+    (holds (c.deref_mut.ensures.value ∙ c.parcel.view_is) parts.parts parts.seat c.requires.of)
 
 pub hand_on-requires-clause-event : goal.hand_on-requires-clause-event
 hand_on-requires-clause-event g c =
-    let f = front_of c.inside.inside.seat.me.0 c.inside.inside.alone in
-    let h = holds (c.deref_mut.ensures.value ∙ c.parcel.view_is) c.inside.view_is c.inside.invariant c.requires.of in
+    let parts = c.into_parts-seat.ensures in
+    let f = c.args.inside.front in
+    let h = holds (c.deref_mut.ensures.value ∙ c.parcel.view_is) parts.parts parts.seat c.requires.of in
     let told : IsTrue true → priorities c.args.inside.front.events c.args.condition ≢ [] =
     (c.if-not-queue.ensures.lists).0 in
     gives_handing false _ _ _ h c.requires.hoare (told refl) (c.requires.ready (told refl))
@@ -27,23 +28,26 @@ hand_on-requires-clause-event g c =
 
 pub claim-parcel-requires-clause-small : goal.claim-parcel-requires-clause-small
 claim-parcel-requires-clause-small g c =
-    small (holds (c.deref_mut.ensures.value ∙ c.parcel.view_is) c.inside.view_is c.inside.invariant c.requires.of)
+    let parts = c.into_parts-seat.ensures in
+    small (holds (c.deref_mut.ensures.value ∙ c.parcel.view_is) parts.parts parts.seat c.requires.of)
 
 pub claim-parcel-requires-clause-sleeper : goal.claim-parcel-requires-clause-sleeper
 claim-parcel-requires-clause-sleeper g c =
-    sleeps (holds (c.deref_mut.ensures.value ∙ c.parcel.view_is) c.inside.view_is c.inside.invariant c.requires.of)
+    let parts = c.into_parts-seat.ensures in
+    sleeps (holds (c.deref_mut.ensures.value ∙ c.parcel.view_is) parts.parts parts.seat c.requires.of)
 
 pub claim-parcel-requires-clause-away : goal.claim-parcel-requires-clause-away
-claim-parcel-requires-clause-away g c = (_, c.hand_on.ensures.away _ c.inside.invariant.0)
+claim-parcel-requires-clause-away g c = (_, c.hand_on.ensures.away _ c.into_parts-seat.ensures.seat.0)
 
 pub brought_back-requires : goal.brought_back-requires
 brought_back-requires g c =
-    record { came = (_, c.claim-parcel.ensures.came _ (c.hand_on.ensures.away _ c.inside.invariant.0)) }
+    record { came = (_, c.claim-parcel.ensures.came _ (c.hand_on.ensures.away _ c.into_parts-seat.ensures.seat.0)) }
 
 pub returns : goal.returns
 returns g c =
-    let f = front_of c.inside.inside.seat.me.0 c.inside.inside.alone in
-    let h = holds (c.deref_mut.ensures.value ∙ c.parcel.view_is) c.inside.view_is c.inside.invariant c.requires.of in
+    let parts = c.into_parts-seat.ensures in
+    let f = c.args.inside.front in
+    let h = holds (c.deref_mut.ensures.value ∙ c.parcel.view_is) parts.parts parts.seat c.requires.of in
     let told : IsTrue true → priorities c.args.inside.front.events c.args.condition ≢ [] =
     (c.if-not-queue.ensures.lists).0 in
     let came = c.claim-parcel.ensures.came _ (c.hand_on.ensures.away _ h.me_is) in

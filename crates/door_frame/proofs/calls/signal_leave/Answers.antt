@@ -4,7 +4,6 @@ use Rattle.hoare_law.specs.Growth.{just_left}
 use Rattle.hoare_law.specs.Priorities.{priorities}
 use Rattle.hoare_law.proofs.Priorities.{waiting-no_priority}
 use Rattle.wait_book.proofs.WithData.{none-listed}
-use Rattle.door_frame.specs.Views.{front_of}
 use Rattle.door_frame.proofs.Departures.{gives_handing, passed}
 use Rattle.door_frame.proofs.Inside.{holds, turn_in_hand}
 use Rattle.door_frame.proofs.Seats.{berth_as}
@@ -22,25 +21,28 @@ returns-then-not-queue-clause-front g c =
 
 pub pass-next-requires-clause-inside : goal.pass-next-requires-clause-inside
 pass-next-requires-clause-inside g c =
+    let parts = c.into_parts-seat.ensures in
     turn_in_hand
-    (holds (c.deref_mut.ensures.value ∙ c.parcel.view_is) c.inside.view_is c.inside.invariant c.requires.of)
+    (holds (c.deref_mut.ensures.value ∙ c.parcel.view_is) parts.parts parts.seat c.requires.of)
 
 pub hand_on-requires-clause-event : goal.hand_on-requires-clause-event
 hand_on-requires-clause-event g c =
-    let f = front_of c.inside.inside.seat.me.0 c.inside.inside.alone in
-    let h = holds (c.deref_mut.ensures.value ∙ c.parcel.view_is) c.inside.view_is c.inside.invariant c.requires.of in
+    let parts = c.into_parts-seat.ensures in
+    let f = c.args.inside.front in
+    let h = holds (c.deref_mut.ensures.value ∙ c.parcel.view_is) parts.parts parts.seat c.requires.of in
     let told : IsTrue true → priorities c.args.inside.front.events c.args.condition ≢ [] =
     (c.if-not-queue.ensures.lists).0 in
     gives_handing true _ _ _ h c.requires.hoare (told refl) (c.requires.ready (told refl))
     (c.pass-next.ensures.of (erased f) h.book) c.pass-next.ensures.next
 
 pub of_parts-requires : goal.of_parts-requires
-of_parts-requires g c = (_, c.hand_on.ensures.away _ c.inside.invariant.0)
+of_parts-requires g c = (_, c.hand_on.ensures.away _ c.into_parts-seat.ensures.seat.0)
 
 pub returns : goal.returns
 returns g c =
-    let f = front_of c.inside.inside.seat.me.0 c.inside.inside.alone in
-    let h = holds (c.deref_mut.ensures.value ∙ c.parcel.view_is) c.inside.view_is c.inside.invariant c.requires.of in
+    let parts = c.into_parts-seat.ensures in
+    let f = c.args.inside.front in
+    let h = holds (c.deref_mut.ensures.value ∙ c.parcel.view_is) parts.parts parts.seat c.requires.of in
     let told : IsTrue true → priorities c.args.inside.front.events c.args.condition ≢ [] =
     (c.if-not-queue.ensures.lists).0 in
     let o = passed c.args.condition _ _ _ _ h c.requires.hoare (told refl) (c.requires.ready (told refl))

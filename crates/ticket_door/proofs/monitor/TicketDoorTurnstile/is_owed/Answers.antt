@@ -1,9 +1,9 @@
 use Rattle.std.proofs.Common.{◌<◌, sym, subst, arith}
 use Rattle.ticket_door.specs.Asked.{TicketDoorId}
-use Rattle.ticket_door.proofs.door.TicketDoor.listen.Goals as goal
+use Rattle.ticket_door.proofs.monitor.TicketDoorTurnstile.is_owed.Goals as goal
 
-pub bell_of-bell-requires : goal.bell_of-bell-requires
-bell_of-bell-requires g c =
+pub bell_of-requires : goal.bell_of-requires
+bell_of-requires g c =
     let small = subst (λ (d : TicketDoorId). c.args.place < d.door.places) (sym c.self.view_is) c.requires in
     let most = c.self.invariant.most in
     omega (arith, small, most)
@@ -12,4 +12,4 @@ pub peek-requires : goal.peek-requires
 peek-requires g c =
     let small = subst (λ (d : TicketDoorId). c.args.place < d.door.places) (sym c.self.view_is) c.requires in
     let wide = c.self.invariant.words_are in
-    omega (arith, small, wide, c.bell_of-bell.ensures)
+    omega (arith, small, wide, c.bell_of.ensures)

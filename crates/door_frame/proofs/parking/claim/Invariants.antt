@@ -1,5 +1,5 @@
 use Rattle.std.proofs.Common.{◌≡◌}
-use Rattle.baton_door.proofs.monitor.DoorTurnstile.claim.Given as goal
+use Rattle.door_frame.proofs.parking.claim.Given as goal
 
 abbrev pub invariant-loop : goal.invariant-loop
 invariant-loop g l =

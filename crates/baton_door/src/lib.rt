@@ -3,10 +3,10 @@
 
 pub mod door;
 mod glance;
+mod handing;
 mod monitor;
 mod naps;
 mod newcomers;
-mod parking;
 pub mod place;
 mod rule;
 mod word;

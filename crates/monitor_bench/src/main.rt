@@ -1,14 +1,18 @@
 //! Measures what the calls cost. Without arguments it names its measurements; `monitor_bench TURNS` takes them on the
 //! baton door and prints a line `NAME VALUE ns` for each, with its progress on standard error; with `--ticket` before,
-//! on the ticket door; with `--schedulers` before TURNS, those of the schedulers' procedures.
+//! on the ticket door; with `--schedulers` before TURNS, those of the schedulers' procedures. `monitor_bench --book
+//! TURNS` takes those of the book of queues alone; with `--orders` before TURNS, those of other loads on it.
 #![tactic(auto)]
 
 ghost use Rattle.std.specs.Prelude.{IfOk};
 ghost use Rattle.hoare_law.specs.Priorities.{nobody};
 
+mod asked;
+mod book;
 mod disks;
 mod doors;
 mod fairness;
+mod loads;
 mod mesa;
 mod mixed;
 mod opening;
@@ -18,6 +22,7 @@ mod sleepers;
 mod tries;
 mod turns;
 
+use crate::asked::{Measured, USAGE, asked, show};
 use crate::doors::{CounterLoad, WideLoad, buffered, count_widely, count_with, met, mixed};
 use crate::fairness::{Others, all_met, uncounted};
 use crate::mesa::measure_mesa;
@@ -34,41 +39,6 @@ use std::sync::Wait;
 use std::thread::Threads;
 use std::time::Duration;
 use std::{env, io};
-
-const NAMES: &str = "\
-enter_leave: one thread comes in, adds one and goes out
-enter_leave_2, _4, _8: 2, 4, 8 threads at once
-hand_over: a wait, a signal and the signaller's return, between two threads
-buffer_1_1, buffer_4_4: a bounded buffer of 16 cells, 1 or 4 appenders and as many removers
-waiting_16: a wait and a signal, with 16 processes that wait with priorities
-chain_8: one link of a chain of signallers eight deep
-mixed_9: a visit of eight threads that wait with priorities, signal, pass and leave, and a ninth that resumes who waits
-wide_enter_leave: as enter_leave, on a monitor of 64 places and 8 conditions
-mesa_buffer_1_1, mesa_buffer_4_4: as buffer_1_1 and buffer_4_4, with Mesa conditions: who waited tests again, and who
-       puts an item in or takes one out calls one process and goes on
-try_enter: as enter_leave, by a try. try_enter_no: a try while another place is inside
-others_largest, _mean, _none: how many others were let in between two visits of a place, with eight threads that
-       come in and go out, each as soon as it is out: the most, the mean, and how often nobody was, of a hundred
-       (the mean is about 7 at most, in whatever order they come in)
-turns: TURNS for one thread; a tenth for each of several; a hundredth for hand-overs and buffers;
-       a thousandth for waiting_16, chain_8 and mixed_9
-with --schedulers, the procedures of the schedulers: one figure for two that undo each other, so that two visits are in it;
-       one thread, and nobody waits, but in the last line:
-enter_leave: as above, beside them
-acquire_release: a single item. append_remove: a buffer of 16 cells
-take_give_1, _1024, _last: a pool of 1 buffer, of 1024, and of 1024 of which the last alone is free
-request_release: a disk head, sent to the next of 1024 cylinders. start_end_read, start_end_write: readers and writers
-tick, wakeme_0: an alarm clock is set; a sleep of no tick returns at once (one visit each)
-wakeme_tick_1, _60: one sleep of one tick, where 1 or 60 threads sleep again and again, a hundredth and a thousandth of
-       TURNS each, and one more ticks whenever all of them sleep
-release_1, _60: a release of the disk head alone, as the first of a sweep on which 1 or 60 others wait for other cylinders,
-       a thousandth of TURNS
-usage: monitor_bench [[--ticket] [--schedulers] TURNS]
-bench/run compares these with other monitors; bench/schedulers takes those of the schedulers";
-
-fn show(rt: &impl Print) -> io::Result<()> {
-    println!(rt; "{NAMES}")
-}
 
 // Hundredths of a nanosecond for each of `count`, to the nearest.
 fn each(spent: Duration, count: u64) -> u128 {
@@ -251,29 +221,23 @@ fn measure<R: Print + Eprint + Clock + Threads + Wait + Sync>(
 }
 
 fn main(rt: HostRuntime) -> anyhow::Result<ExitCode> {
+    let alloc = rt.alloc();
     let mut words = env::args(&rt)?;
     let _name = words.next();
-    let Some(mut word) = words.next() else {
+    let Some(word) = words.next() else {
         show(&rt)?;
         return Ok(ExitCode::SUCCESS);
     };
-    let mut kind = DoorKind::Baton;
-    if word.as_str() == "--ticket" {
-        kind = DoorKind::Ticket;
-        word = words.next().unwrap_or(word);
-    }
-    let of_schedulers = word.as_str() == "--schedulers";
-    if of_schedulers {
-        word = words.next().unwrap_or(word);
-    }
+    let (asked, word) = asked(word, &mut words);
     let Ok(turns) = word.parse::<u64>() else {
-        eprintln!(rt; "usage: monitor_bench [[--ticket] [--schedulers] TURNS]")?;
+        eprintln!(rt; "{USAGE}")?;
         return Ok(ExitCode::from(2));
     };
-    if of_schedulers {
-        schedulers::measure(&rt, rt.alloc(), kind, turns)?;
-    } else {
-        measure(&rt, rt.alloc(), kind, turns)?;
+    match asked {
+        Measured::Monitor(kind) => measure(&rt, alloc, kind, turns)?,
+        Measured::Schedulers(kind) => schedulers::measure(&rt, alloc, kind, turns)?,
+        Measured::Book => book::measure(&rt, alloc, false, turns)?,
+        Measured::BookOrders => book::measure(&rt, alloc, true, turns)?,
     }
     Ok(ExitCode::SUCCESS)
 }

@@ -1,39 +1,10 @@
-//! Measures what the steps of a book of queues cost, on one thread. Without arguments it names its measurements;
-//! `book_bench TURNS` prints a line `NAME VALUE ns` for each of the first three; with `--orders` before TURNS, for each
-//! of the others.
-#![tactic(auto)]
-
-mod loads;
-
+//! Measures what the steps of a book of queues cost, on one thread.
 use crate::loads::{Call, Load, Order, come_and_go, look_at_clock, spend, spend_on_calls};
 use std::alloc::{AllocError, Global};
-use std::process::ExitCode;
+use std::io;
 use std::rt::Clock;
 use std::time::Duration;
-use std::{env, io};
 use wait_book::book::{Book, MOST_CONDITIONS, MOST_PLACES};
-
-const NAMES: [&str; 12] = [
-    "book_enter_leave: a place comes in and goes out, where nobody waits (64 places, 8 conditions)",
-    "book_enter_wait: a place comes in and waits on the next of eight conditions, with up to 62 others waiting",
-    "book_signal_leave: a place is resumed by a signal and goes out, with up to 62 others waiting",
-    "turns: TURNS in sum for each figure, which is their mean",
-    "with --orders, on one condition:",
-    "book_enter_wait_ORDER_N, book_signal_leave_ORDER_N: 1, 8 or 63 wait, with priorities that are equal, rising or falling",
-    "book_notify, book_broadcast_N: one of 63 is called, or all N, where 1, 8 or 63 wait on a Mesa condition; the calls alone are measured",
-    "book_count_N: N that wait are counted along the chain, as a broadcast does that is told how many it called",
-    "clock: two looks at the clock, of which a share is in each figure: once for N waits, and once for N signals",
-    "size: the bytes of a book, without those on the heap",
-    "usage: book_bench [--orders] TURNS",
-    "bench/run takes the first three beside those of the monitors, bench/book the others",
-];
-
-fn show(rt: &impl Print) -> io::Result<()> {
-    for name in NAMES {
-        println!(rt; "{name}")?;
-    }
-    Ok(())
-}
 
 // Nanoseconds for each of a number.
 fn each(spent: Duration, count: u64) -> u128 {
@@ -138,28 +109,20 @@ fn full_book(alloc: Global, mesa: usize) -> anyhow::Result<Book> {
     }
 }
 
-fn main(rt: HostRuntime) -> anyhow::Result<ExitCode> {
-    let mut words = env::args(&rt)?;
-    let _name = words.next();
-    let Some(mut word) = words.next() else {
-        show(&rt)?;
-        return Ok(ExitCode::SUCCESS);
-    };
-    let of_orders = word.as_str() == "--orders";
-    if of_orders {
-        word = words.next().unwrap_or(word);
+/// The figures of a full book, or with `of_orders` those of all orders, and of notifies and broadcasts: a line each.
+pub fn measure<R: Print + Clock>(
+    rt: &R,
+    alloc: Global,
+    of_orders: bool,
+    turns: u64,
+) -> anyhow::Result<()> {
+    let mut book = full_book(alloc, 0)?;
+    if !of_orders {
+        measure_full(rt, &mut book, turns / 63)?;
+        return Ok(());
     }
-    let Ok(turns) = word.parse::<u64>() else {
-        eprintln!(rt; "usage: book_bench [--orders] TURNS")?;
-        return Ok(ExitCode::from(2));
-    };
-    let mut book = full_book(rt.alloc(), 0)?;
-    if of_orders {
-        measure_orders(&rt, &mut book, turns / 63)?;
-        let mut mesa_book = full_book(rt.alloc(), MOST_CONDITIONS)?;
-        measure_calls(&rt, &mut mesa_book, turns / 63)?;
-    } else {
-        measure_full(&rt, &mut book, turns / 63)?;
-    }
-    Ok(ExitCode::SUCCESS)
+    measure_orders(rt, &mut book, turns / 63)?;
+    let mut mesa_book = full_book(alloc, MOST_CONDITIONS)?;
+    measure_calls(rt, &mut mesa_book, turns / 63)?;
+    Ok(())
 }

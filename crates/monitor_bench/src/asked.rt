@@ -1,0 +1,115 @@
+//! What the program says of itself, and what its words ask for.
+use crate::opening::DoorKind;
+use std::env::Args;
+use std::io;
+
+/// How the program is called.
+pub const USAGE: &str =
+    "usage: monitor_bench [[--ticket] [--schedulers] TURNS | --book [--orders] TURNS]";
+
+const NAMES: &str = "\
+enter_leave: one thread comes in, adds one and goes out
+enter_leave_2, _4, _8: 2, 4, 8 threads at once
+hand_over: a wait, a signal and the signaller's return, between two threads
+buffer_1_1, buffer_4_4: a bounded buffer of 16 cells, 1 or 4 appenders and as many removers
+waiting_16: a wait and a signal, with 16 processes that wait with priorities
+chain_8: one link of a chain of signallers eight deep
+mixed_9: a visit of eight threads that wait with priorities, signal, pass and leave, and a ninth that resumes who waits
+wide_enter_leave: as enter_leave, on a monitor of 64 places and 8 conditions
+mesa_buffer_1_1, mesa_buffer_4_4: as buffer_1_1 and buffer_4_4, with Mesa conditions: who waited tests again, and who
+       puts an item in or takes one out calls one process and goes on
+try_enter: as enter_leave, by a try. try_enter_no: a try while another place is inside
+others_largest, _mean, _none: how many others were let in between two visits of a place, with eight threads that
+       come in and go out, each as soon as it is out: the most, the mean, and how often nobody was, of a hundred
+       (the mean is about 7 at most, in whatever order they come in)
+turns: TURNS for one thread; a tenth for each of several; a hundredth for hand-overs and buffers;
+       a thousandth for waiting_16, chain_8 and mixed_9
+with --schedulers, the procedures of the schedulers: one figure for two that undo each other, so that two visits are in it;
+       one thread, and nobody waits, but in the last line:
+enter_leave: as above, beside them
+acquire_release: a single item. append_remove: a buffer of 16 cells
+take_give_1, _1024, _last: a pool of 1 buffer, of 1024, and of 1024 of which the last alone is free
+request_release: a disk head, sent to the next of 1024 cylinders. start_end_read, start_end_write: readers and writers
+tick, wakeme_0: an alarm clock is set; a sleep of no tick returns at once (one visit each)
+wakeme_tick_1, _60: one sleep of one tick, where 1 or 60 threads sleep again and again, a hundredth and a thousandth of
+       TURNS each, and one more ticks whenever all of them sleep
+release_1, _60: a release of the disk head alone, as the first of a sweep on which 1 or 60 others wait for other cylinders,
+       a thousandth of TURNS
+with --book, the steps of a book of queues alone, on one thread; TURNS in sum for each figure, which is their mean:
+book_enter_leave: a place comes in and goes out, where nobody waits (64 places, 8 conditions)
+book_enter_wait: a place comes in and waits on the next of eight conditions, with up to 62 others waiting
+book_signal_leave: a place is resumed by a signal and goes out, with up to 62 others waiting
+with --book --orders, on one condition:
+book_enter_wait_ORDER_N, book_signal_leave_ORDER_N: 1, 8 or 63 wait, with priorities that are equal, rising or falling
+book_notify, book_broadcast_N: one of 63 is called, or all N, where 1, 8 or 63 wait on a Mesa condition; the calls
+       alone are measured
+book_count_N: N that wait are counted along the chain, as a broadcast does that is told how many it called
+clock: two looks at the clock, of which a share is in each figure: once for N waits, and once for N signals
+size: the bytes of a book, without those on the heap
+bench/run compares these with other monitors; bench/schedulers takes those of the schedulers, bench/book of the book";
+
+/// Names the measurements.
+pub fn show(rt: &impl Print) -> io::Result<()> {
+    println!(rt; "{NAMES}")?;
+    println!(rt; "{USAGE}")
+}
+
+/// What is measured.
+#[derive(Clone, Copy)]
+pub enum Measured {
+    /// The monitor itself, on a door of this kind.
+    Monitor(DoorKind),
+    /// The schedulers' procedures.
+    Schedulers(DoorKind),
+    /// A full book of queues.
+    Book,
+    /// A book under other loads.
+    BookOrders,
+}
+
+// Whether the word is the wanted one, and the word behind it then.
+fn is_word(word: String, wanted: &str, words: &mut Args) -> (bool, String) {
+    if word.as_str() == wanted {
+        (true, words.next().unwrap_or(word))
+    } else {
+        (false, word)
+    }
+}
+
+// Which measures of a book are asked for.
+fn asked_of_book(word: String, words: &mut Args) -> (Measured, String) {
+    let (of_orders, word) = is_word(word, "--orders", words);
+    let measured = if of_orders {
+        Measured::BookOrders
+    } else {
+        Measured::Book
+    };
+    (measured, word)
+}
+
+// Which measures of a monitor.
+fn asked_of_monitor(word: String, words: &mut Args) -> (Measured, String) {
+    let (of_tickets, word) = is_word(word, "--ticket", words);
+    let kind = if of_tickets {
+        DoorKind::Ticket
+    } else {
+        DoorKind::Baton
+    };
+    let (of_schedulers, word) = is_word(word, "--schedulers", words);
+    let measured = if of_schedulers {
+        Measured::Schedulers(kind)
+    } else {
+        Measured::Monitor(kind)
+    };
+    (measured, word)
+}
+
+/// What the words before the number ask for, and the word that should be the number.
+pub fn asked(word: String, words: &mut Args) -> (Measured, String) {
+    let (of_book, word) = is_word(word, "--book", words);
+    if of_book {
+        asked_of_book(word, words)
+    } else {
+        asked_of_monitor(word, words)
+    }
+}

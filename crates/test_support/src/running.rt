@@ -1,0 +1,139 @@
+//! What all tests on threads share: each place acts on a thread of its own.
+ghost use Rattle.std.specs.Prelude.{◌≡◌, ◌<◌, ℕ, IfOk, IfErr, All, vec_len, slice_index_or};
+ghost use Rattle.std.specs.Fork.{AcceptsJobs, GivesJobs};
+ghost use Rattle.test_support.specs.Numbered.{IsNumbered};
+
+use crate::limit::{VISITS, within};
+use hoare_law::data::MonitorData;
+use hoare_law::monitor::Monitor;
+use hoare_law::waits::Waits;
+use std::alloc::{AllocError, Global};
+use std::rt::Clock;
+use std::sync::Wait;
+use std::sync::atomic::{AtomicBool, Ordering};
+use std::thread;
+use std::thread::Threads;
+use std::time::Duration;
+
+/// The places, each with its number.
+fn numbered<O: Drop>(alloc: Global, outs: Vec<O>) -> Result<Vec<(usize, O)>, AllocError>
+    ensures count { IfOk result (λ jobs. vec_len jobs ≡ vec_len outs) }
+    ensures same { IfOk result (λ jobs. (k : ℕ) (d : _) → k < vec_len jobs → (slice_index_or jobs.items k d).1 ≡ slice_index_or outs.items k d.1) }
+{
+    outs.into_iter().enumerate().collect(alloc)
+}
+
+/// The places, without their answers.
+fn outs_of<O: Drop>(alloc: Global, done: Vec<(O, u64)>) -> Result<Vec<O>, AllocError>
+    ensures count { IfOk result (λ outs. vec_len outs ≡ vec_len done) }
+    ensures same { IfOk result (λ outs. (k : ℕ) (d : O) → k < vec_len outs → slice_index_or outs.items k d ≡ (slice_index_or done.items k (d, 0)).0) }
+{
+    done.into_iter().map(|d| d.0).collect(alloc)
+}
+
+/// Each place acts on a thread of its own. Where these don't end in time `late` is called.
+fn act_each<
+    R: Threads + Clock + Sync,
+    O: Send + Drop,
+    F: Fn((usize, O)) -> (O, u64) + Sync,
+    L: FnOnce() + Send,
+>(rt: &R, places: Vec<(usize, O)>, act: &F, late: L) -> Result<Vec<(O, u64)>, AllocError>
+    requires accepts { AcceptsJobs F.Fn act.now places.items }
+    requires late { L.pre late }
+    ensures count { IfOk result (λ v. vec_len v ≡ vec_len places) }
+    ensures each { IfOk result (λ v. GivesJobs F.Fn act.now places.items v.items) }
+{
+    within(
+        rt,
+        || -> Result<Vec<(O, u64)>, AllocError>
+            requires { AcceptsJobs F.Fn act.now places.items }
+            ensures count { IfOk result (λ v. vec_len v ≡ vec_len places) }
+            ensures each { IfOk result (λ v. GivesJobs F.Fn act.entry.now places.items v.items) }
+        { thread::map_vec(rt, places, act) },
+        late,
+    )
+}
+
+/// Each place of a monitor acts by its number: the places again, in order, and what they answered. Where they don't end
+/// in time `late` is called.
+pub fn act_all<
+    D: MonitorData,
+    M: Monitor<D>,
+    F: Fn((usize, M::Out)) -> (M::Out, u64) + Sync,
+    L: FnOnce() + Send,
+    R: Threads + Clock + Sync,
+>(
+    rt: &R,
+    alloc: Global,
+    m: &M,
+    outs: Vec<M::Out>,
+    act: &F,
+    late: L,
+) -> Result<(Vec<M::Out>, Vec<u64>), AllocError>
+    requires of { All (M.is_of m.now) outs.items }
+    requires numbered { IsNumbered M.place outs.items }
+    requires acts { (k : ℕ) (o : M.Out) → M.is_of m.now o → F.pre act.now (k, o) }
+    requires keeps { (k : ℕ) (o : M.Out) (r : _) → M.is_of m.now o → F.post act.now (k, o) r
+        → M.is_of m.now r.0 × (M.place r.0 ≡ M.place o) }
+    requires late { L.pre late }
+    ensures count { IfOk result (λ r. vec_len r.0 ≡ vec_len outs) }
+    ensures of { IfOk result (λ r. All (M.is_of m.now) r.0.items) }
+    ensures numbered { IfOk result (λ r. IsNumbered M.place r.0.items) }
+{
+    let places = numbered(alloc, outs)?;
+    let done = act_each(rt, places, act, late)?;
+    let answers = done.iter().map(|d| d.1).collect(alloc)?;
+    let outs = outs_of(alloc, done)?;
+    Ok((outs, answers))
+}
+
+/// How many wait, on whatever condition.
+pub fn count_waiting<D: MonitorData, M: Monitor<D>>(m: &M, inside: &M::In) -> usize
+    requires { M.is_of_in m.now inside.now }
+{
+    let lists = m.lists(inside);
+    (0..D::CONDITIONS).fold(0usize, |sum, c| sum.saturating_add(lists.count(c)))
+}
+
+/// Comes in once this many wait on the condition. After `VISITS` looks the place is outside again.
+pub fn watch<D: MonitorData, R: Wait, M: Monitor<D>>(
+    rt: &R,
+    m: &M,
+    out: M::Out,
+    condition: usize,
+    waiting: usize,
+) -> Result<M::In, M::Out>
+    requires { M.is_of m.now out }
+    ensures of { IfOk result (λ i. M.is_of_in m.now i) }
+    ensures place { IfOk result (λ i. M.place_in i ≡ M.place out) }
+    ensures rest { IfOk result (λ i. D.rest (M.data_in i) (M.lists_in i)) }
+    ensures out { IfErr result (λ o. M.is_of m.now o × (M.place o ≡ M.place out)) }
+{
+    let mut out = out;
+    for _ in 0..VISITS {
+        let inside = m.enter(rt, out);
+        if m.lists(&inside).count(condition) == waiting {
+            return Ok(inside);
+        }
+        out = m.leave(rt, inside);
+        thread::yield_now();
+    }
+    Err(out)
+}
+
+/// Looks for the sign of another place for 20 seconds, and takes it away: whether it came.
+pub fn sign_came<R: Clock>(rt: &R, sign: &AtomicBool) -> bool {
+    for _ in 0..20_000 {
+        if sign.swap(false, Ordering::SeqCst) {
+            return true;
+        }
+        thread::sleep(rt, Duration::from_millis(1));
+    }
+    false
+}
+
+/// What a failing row calls the baton door.
+pub const BATON: &str = "baton door";
+
+/// What it calls the ticket door.
+pub const TICKET: &str = "ticket door";

@@ -41,8 +41,8 @@ use wait_book::steps::MakeRefused;
 /// ```
 #[derive(Drop)]
 pub struct Door<D: MonitorData> {
-    /// Of its eight words one is in use: what it says, and who changes it to what, is a table of the crate's README. The
-    /// others keep most other data off that one's line of the cache.
+    /// Of its eight words one is in use: what it says, and who changes it to what, is a table of the crate's README.
+    /// The others keep most other data off that one's line of the cache.
     pub(crate) table: DoorTable<D>,
     /// What wakes each place, in order.
     pub(crate) wakers: Vec<Waker>,

@@ -48,7 +48,8 @@ pub(crate) fn opened<D: MonitorData + Send + Drop>(
 
 /// The data that the places left: all of them are handed in.
 pub(crate) fn closed<D: MonitorData + Send>(door: AnyDoor<D>, places: Vec<Outside<D>>) -> D
-    requires { AreFirst (terms D.rest D.ready (kinds_of D.CONDITIONS D.MESA)) (id_of door) (id_of door).places places.items }
+    requires { AreFirst (terms D.rest D.ready (kinds_of D.CONDITIONS D.MESA)) (id_of door) (id_of door).places
+        places.items }
 {
     door.close(places)
 }

@@ -24,8 +24,8 @@ others_largest, _mean, _none: how many others were let in between two visits of 
        (the mean is about 7 at most, in whatever order they come in)
 turns: TURNS for one thread; a tenth for each of several; a hundredth for hand-overs and buffers;
        a thousandth for waiting_16, chain_8 and mixed_9
-with --schedulers, the procedures of the schedulers: one figure for two that undo each other, so that two visits are in it;
-       one thread, and nobody waits, but in the last line:
+with --schedulers, the procedures of the schedulers: one figure for two that undo each other, so that two visits are in
+       it; one thread, and nobody waits, but in the last line:
 enter_leave: as above, beside them
 acquire_release: a single item. append_remove: a buffer of 16 cells
 take_give_1, _1024, _last: a pool of 1 buffer, of 1024, and of 1024 of which the last alone is free
@@ -33,8 +33,8 @@ request_release: a disk head, sent to the next of 1024 cylinders. start_end_read
 tick, wakeme_0: an alarm clock is set; a sleep of no tick returns at once (one visit each)
 wakeme_tick_1, _60: one sleep of one tick, where 1 or 60 threads sleep again and again, a hundredth and a thousandth of
        TURNS each, and one more ticks whenever all of them sleep
-release_1, _60: a release of the disk head alone, as the first of a sweep on which 1 or 60 others wait for other cylinders,
-       a thousandth of TURNS
+release_1, _60: a release of the disk head alone, as the first of a sweep on which 1 or 60 others wait for other
+       cylinders, a thousandth of TURNS
 with --book, the steps of a book of queues alone, on one thread; TURNS in sum for each figure, which is their mean:
 book_enter_leave: a place comes in and goes out, where nobody waits (64 places, 8 conditions)
 book_enter_wait: a place comes in and waits on the next of eight conditions, with up to 62 others waiting

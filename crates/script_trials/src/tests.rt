@@ -2,7 +2,6 @@
 
 mod books;
 mod law;
-mod limit;
 mod lines;
 mod numbers;
 mod past;

@@ -4,7 +4,6 @@
 mod at_once;
 mod jobs;
 mod last;
-mod limit;
 mod meeting;
 mod rows;
 mod workers;

@@ -1,11 +1,11 @@
 //! The ticket door on one thread: tickets in turn, past the last number, and places that meet.
 ghost use Rattle.std.specs.Prelude.{◌≡◌};
 
-use crate::tests::compared::expect_same;
 use hoare_law::monitor::Monitor;
 use std::alloc::Global;
 use std::process::Abort;
 use std::sync::Wait;
+use test_support::compared::expect_same;
 use test_support::tally::{Tally, tries_once};
 use ticket_door::door::TicketDoor;
 use ticket_door::laws::make_at;
@@ -33,10 +33,9 @@ fn hands_up_and_meets<R: Wait>(
     ((a, b), (told, ticket))
 }
 
-/// On a door with this first ticket three places ask, in the order c, a, b, and come in by their tickets; c leaves the
-/// number
-/// 7. Then a hands up to nobody, and meets b, which asks once more. The tickets of those that asked, whether a resumed somebody,
-/// and the number that c finds when it comes back.
+/// On a door with this first ticket three places ask, in the order c, a, b, and come in by their tickets; c leaves
+/// seven as the number. Then a hands up to nobody, and meets b, which asks once more. The tickets of those that asked,
+/// whether a resumed somebody, and the number that c finds when it comes back.
 fn three_ask<R: Wait + Abort>(rt: &R, alloc: Global, first: u64) -> ([u64; 4], bool, u64) {
     let Ok((door, mut outs)) = make_at(alloc, Tally { value: 0 }, 3, first) else {
         panic!(rt; "no memory")

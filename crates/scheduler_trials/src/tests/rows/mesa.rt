@@ -2,7 +2,6 @@
 ghost use Rattle.std.specs.Prelude.{◌≡◌};
 ghost use Rattle.plain_schedulers.specs.Buffers.{BufferHolds};
 
-use crate::tests::compared::expect_same;
 use crate::tests::rows::turns::{Turns, line_up};
 use hoare_law::monitor::Monitor;
 use plain_schedulers::buffer::mesa::MesaBuffer;
@@ -11,6 +10,7 @@ use std::alloc::Global;
 use std::process::Abort;
 use std::rt::Clock;
 use std::sync::Wait;
+use test_support::compared::expect_same;
 use test_support::run_row;
 use test_support::running::{BATON, TICKET, count_waiting};
 

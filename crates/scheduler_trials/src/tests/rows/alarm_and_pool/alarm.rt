@@ -1,15 +1,15 @@
 //! The alarm clock: each sleeper wakes at its setting, and the clock ends at its last time.
 ghost use Rattle.std.specs.Prelude.{◌≡◌};
 
-use crate::tests::compared::{answered, expect_same};
 use crate::tests::rows::alarm_stress::{Line, SLEEPERS, is_a_clock, sleeps_or_ticks_on};
 use crate::tests::rows::shared_log::Log;
 use crate::tests::rows::turns::watch;
 use hoare_law::monitor::Monitor;
 use std::process::Abort;
 use std::sync::Wait;
+use test_support::compared::expect_same;
 use test_support::run_row;
-use test_support::running::{BATON, TICKET};
+use test_support::running::{BATON, TICKET, answered};
 use timed_schedulers::alarm::{Alarm, ClockFull, TooFar};
 
 /// Sleeps for this many ticks: the time at which it woke.

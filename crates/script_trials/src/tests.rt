@@ -1,7 +1,6 @@
-//! The law, the book, lines of a text, scripts and their pictures.
+//! The book, lines of a text, scripts and their pictures.
 
 mod books;
-mod law;
 mod lines;
 mod numbers;
 mod past;

@@ -1,4 +1,4 @@
-//! The law: waiting lists that are put together, and the laws as functions.
+//! Tests of waiting lists that are put together, and calls of the laws.
 ghost use Rattle.std.specs.Prelude.{◌≡◌, ◌∷◌, ℕ, List};
 ghost use Rattle.hoare_law.specs.declared.event.Event.{Event};
 ghost use Rattle.hoare_law.specs.declared.event.History.{History};
@@ -8,8 +8,8 @@ ghost use Rattle.hoare_law.specs.Events.{with_event};
 ghost use Rattle.hoare_law.specs.Turns.{turn, urgent};
 ghost use Rattle.hoare_law.specs.Legal.{Allowed};
 
-use hoare_law::laws;
-use hoare_law::waits::{Joined, Nobody, Taken, Waits};
+use crate::laws;
+use crate::waits::{Joined, Nobody, Taken, Waits};
 
 #[test]
 fn nobody_waits(rt: HostRuntime) {

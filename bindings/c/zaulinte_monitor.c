@@ -127,23 +127,30 @@ static uint64_t may_act(zaulinte_monitor *m, uint32_t place) {
     return ZAULINTE_DONE;
 }
 
+/* of `away`: the places that there aren't */
+static uint64_t beyond(uint64_t places) { return places < 64 ? ~(bit((uint32_t)places) - 1) : 0; }
+/* both take the door, since who is inside uses the book alone */
 uint64_t zaulinte_make(zaulinte_monitor *m, uint64_t places, uint64_t conditions, uint64_t mesa) {
+    if (!takes(m)) return ZAULINTE_IS_MADE;
     uint64_t refused = zaulinte_book_make(&m->book, places, conditions, mesa);
-    if (refused) return refused;
-    make_bell(&m->door);
-    for (uint64_t k = 0; k < places; k++) make_bell(&m->bell[k]);
-    m->away = places < 64 ? ~(bit((uint32_t)places) - 1) : 0; /* no such place */
-    m->hoare = (uint32_t)(conditions - mesa);
-    return ZAULINTE_DONE;
+    if (!refused) {
+        make_bell(&m->door);
+        for (uint64_t k = 0; k < places; k++) make_bell(&m->bell[k]);
+        m->away = beyond(places);
+        m->hoare = (uint32_t)(conditions - mesa);
+    }
+    open_door(m);
+    return refused;
 }
 uint64_t zaulinte_free(zaulinte_monitor *m) {
-    uint64_t places = zaulinte_book_places(&m->book);
-    if (places > 64) return places;
-    uint64_t none = places < 64 ? ~(bit((uint32_t)places) - 1) : 0;
-    if (atomic_load(&m->door.word) != FREE || m->away != none) return ZAULINTE_IN_USE;
+    if (!takes(m)) return ZAULINTE_IN_USE;
+    uint64_t places = zaulinte_book_places(&m->book), refused = places;
+    if (places <= 64) refused = m->away != beyond(places) ? ZAULINTE_IN_USE : zaulinte_book_free(&m->book);
+    open_door(m);
+    if (refused) return refused;
     for (uint64_t k = 0; k < places; k++) free_bell(&m->bell[k]);
     free_bell(&m->door);
-    return zaulinte_book_free(&m->book);
+    return ZAULINTE_DONE;
 }
 
 static uint64_t not_outside(zaulinte_monitor *m, uint32_t place) {
@@ -189,28 +196,28 @@ uint64_t zaulinte_wait(zaulinte_monitor *m, uint32_t place, uint32_t condition, 
     go_away(m, place, now);
     return ZAULINTE_DONE;
 }
-static uint64_t told(bool *resumed, bool is) {
+static uint64_t answers(bool *resumed, bool is) {
     if (resumed) *resumed = is;
     return ZAULINTE_DONE;
 }
 uint64_t zaulinte_signal(zaulinte_monitor *m, uint32_t place, uint32_t condition, bool *resumed) {
-    if (finds_nobody(m, place, condition, false)) return told(resumed, false);
+    if (finds_nobody(m, place, condition, false)) return answers(resumed, false);
     uint64_t refused = may_act(m, place);
     if (refused) return refused;
     uint64_t now = zaulinte_book_signal(&m->book, place, condition);
     if (now > ZAULINTE_FREE) return now;
     go_away(m, place, now);
-    return told(resumed, true);
+    return answers(resumed, true);
 }
 uint64_t zaulinte_signal_leave(zaulinte_monitor *m, uint32_t place, uint32_t condition, bool *resumed) {
-    if (finds_nobody(m, place, condition, false)) return zaulinte_leave(m, place), told(resumed, false);
+    if (finds_nobody(m, place, condition, false)) return zaulinte_leave(m, place), answers(resumed, false);
     uint64_t refused = may_act(m, place);
     if (refused) return refused;
     uint64_t now = zaulinte_book_pass(&m->book, place, condition);
     if (now > ZAULINTE_FREE) return now;
     set_inside(m, 0);
     hand_on(m, now);
-    return told(resumed, true);
+    return answers(resumed, true);
 }
 /* a notify of one, or a broadcast to all */
 static uint64_t calls(zaulinte_monitor *m, uint32_t place, uint32_t condition, bool all, uint64_t *called) {

@@ -37,10 +37,11 @@ typedef struct zaulinte_bell {
 #endif
 } zaulinte_bell;
 
-/* Start with `static zaulinte_monitor m;`, or all zero. Some 4 KB. */
+/* Start with `static zaulinte_monitor m;`, or all zero at a multiple of 64 (by aligned_alloc and memset, not calloc).
+ * Some 4 KB; with condition variables some 8. */
 typedef struct zaulinte_monitor {
     zaulinte_bell door;     /* 0 free, 1 held, 2 held and newcomers may sleep */
-    zaulinte_book book;     /* who is inside alone uses what follows, but `inside` */
+    zaulinte_book book;     /* this, `told`, `hoare` and `away` are for who has the door alone */
     ZAULINTE_WORD inside;   /* 1 + the place that is inside, else 0 */
     bool told;              /* the book was told that the place came in */
     uint32_t hoare;         /* how many of the conditions are Hoare's */
@@ -50,17 +51,21 @@ typedef struct zaulinte_monitor {
 
 /* Sizes as of zaulinte_book_make: a place for each thread that may be in it at once. 0, or 108 to 111. */
 uint64_t zaulinte_make(zaulinte_monitor *m, uint64_t places, uint64_t conditions, uint64_t mesa);
-/* 0; 107 there is none; 112 a place is inside or waits. Nobody may be on its way in. */
+/* 0; 107 there is none; 112 a place is inside or waits. No other call on it may be under way, one that leaves
+ * included: join its threads first. */
 uint64_t zaulinte_free(zaulinte_monitor *m);
 
-/* Each answers 0, or a refusal, and then nothing happened: 101, 103 (enter: the place is inside or waits), 104 (the
- * place isn't inside), 105, 106, 107. A place's number belongs to one thread at a time. */
+/* Each answers 0, or a refusal, and then nothing happened. An act: 101 (a place of 64 or more), 104 (any other that
+ * isn't inside, where there is no monitor too), 105, 106. `enter`: 101, 103 (the place is inside or waits), 107; that a
+ * place waits, or isn't there, or that no monitor is, it finds once the door is open. A place's number belongs to one
+ * thread at a time. */
 uint64_t zaulinte_enter(zaulinte_monitor *m, uint32_t place);
 /* The same, without waiting: 102 where the monitor isn't free. */
 uint64_t zaulinte_try_enter(zaulinte_monitor *m, uint32_t place);
 uint64_t zaulinte_leave(zaulinte_monitor *m, uint32_t place);
 uint64_t zaulinte_wait(zaulinte_monitor *m, uint32_t place, uint32_t condition, uint64_t priority);
-/* Hoare's conditions: who is resumed goes on at once. *resumed tells whether somebody waited (it may be NULL). */
+/* Hoare's conditions: who is resumed goes on at once. *resumed, the thread's own or NULL, tells whether somebody
+ * waited. */
 uint64_t zaulinte_signal(zaulinte_monitor *m, uint32_t place, uint32_t condition, bool *resumed);
 uint64_t zaulinte_signal_leave(zaulinte_monitor *m, uint32_t place, uint32_t condition, bool *resumed);
 /* Mesa conditions: who is called goes on later, and has to test again. *called tells how many were (it may be NULL). */

@@ -13,6 +13,7 @@
 // the scope goes on its way, and the place leaves the monitor with the data as they are.
 #pragma once
 #include "zaulinte_monitor.h"
+#include <cstdint>
 #include <memory>
 #include <optional>
 #include <stdexcept>
@@ -71,7 +72,10 @@ template <class T, class C, unsigned conditions, unsigned mesa = 0> class monito
         bool is = true;
         friend class monitor;
         inside(monitor *m, unsigned k) noexcept : of(m), number(k) {}
-        static std::uint32_t at(C c) noexcept { return static_cast<std::uint32_t>(c); }
+        static std::uint32_t at(C c) noexcept { // a number that is too large is refused, not cut
+            auto n = static_cast<std::uint64_t>(c);
+            return n < conditions ? static_cast<std::uint32_t>(n) : conditions;
+        }
         void holds() const {
             if (!is) throw refused(ZAULINTE_NOT_INSIDE);
         }
@@ -131,12 +135,12 @@ template <class T, class C, unsigned conditions, unsigned mesa = 0> class monito
         }
     };
 
-    inside enter(unsigned number) {
+    [[nodiscard]] inside enter(unsigned number) {
         must(zaulinte_enter(&m, number));
         return inside(this, number);
     }
     // Comes in where the monitor is free, else it answers null.
-    std::unique_ptr<inside> try_enter(unsigned number) {
+    [[nodiscard]] std::unique_ptr<inside> try_enter(unsigned number) {
         std::uint64_t code = zaulinte_try_enter(&m, number);
         if (code == ZAULINTE_NOT_FREE) return nullptr;
         must(code);
@@ -153,7 +157,7 @@ template <class T, class C, unsigned conditions, unsigned mesa = 0> class monito
     }
 };
 
-// A place: one thread's at a time.
+// A place: one thread's at a time. One that was moved from refuses every call.
 template <class M> class place {
     M *of;
     unsigned number;
@@ -162,8 +166,14 @@ template <class M> class place {
     place(M &m, unsigned k) noexcept : of(&m), number(k) {}
     place(const place &) = delete;
     place &operator=(const place &) = delete;
-    place(place &&) = default;
-    typename M::inside enter() { return of->enter(number); }
-    std::unique_ptr<typename M::inside> try_enter() { return of->try_enter(number); }
+    place(place &&p) noexcept : of(std::exchange(p.of, nullptr)), number(p.number) {}
+    [[nodiscard]] typename M::inside enter() { return monitor().enter(number); }
+    [[nodiscard]] std::unique_ptr<typename M::inside> try_enter() { return monitor().try_enter(number); }
+
+  private:
+    M &monitor() {
+        if (!of) throw refused(ZAULINTE_NO_PLACE);
+        return *of;
+    }
 };
 } // namespace zaulinte

@@ -39,7 +39,7 @@ static uint64_t draw(uint64_t *seed) {
     return *seed >> 33;
 }
 static void comes(uint32_t me) {
-    is(zaulinte_enter(&m, me), 0);
+    if (zaulinte_try_enter(&m, me)) is(zaulinte_enter(&m, me), 0);
     put(ADMIT, me, 0, 0, 0);
     data++;
 }
@@ -76,7 +76,7 @@ static void calls(uint32_t me, bool all) {
 }
 static void misuses(uint32_t me, uint64_t lot) {
     uint32_t other = (me + 1) % PLACES;
-    switch (lot % 8) {
+    switch (lot % 9) {
     case 0: is(zaulinte_wait(&m, me, CONDITIONS, 0), ZAULINTE_NO_CONDITION); break;
     case 1: is(zaulinte_leave(&m, other), ZAULINTE_NOT_INSIDE); break;
     case 2: is(zaulinte_enter(&m, me), ZAULINTE_NOT_OUTSIDE); break;
@@ -84,7 +84,8 @@ static void misuses(uint32_t me, uint64_t lot) {
     case 4: is(zaulinte_broadcast(&m, me, 0, NULL), ZAULINTE_WRONG_KIND); break;
     case 5: is(zaulinte_wait(&m, UINT32_MAX, 0, 0), ZAULINTE_NO_PLACE); break;
     case 6: is(zaulinte_try_enter(&m, other), ZAULINTE_NOT_FREE); break;
-    default: is(zaulinte_free(&m), ZAULINTE_IN_USE);
+    case 7: is(zaulinte_free(&m), ZAULINTE_IN_USE); break;
+    default: is(zaulinte_make(&m, 1, 1, 0), ZAULINTE_IS_MADE);
     }
 }
 static void passes(uint32_t me, uint32_t c) {

@@ -27,8 +27,8 @@ impl<C: Condition, M: Condition> Waiting<C, M> {
 }
 
 /// What holds of a monitor's data. In a debug build each is tested where Hoare's rules ask for it, and a panic names
-/// the condition or the act behind which it doesn't hold, and poisons the monitor. In a release build nothing is
-/// tested.
+/// the condition or the act behind which it doesn't hold, and poisons the monitor. Nothing is tested in a release
+/// build, of a poisoned monitor, nor by a thread that panics. A check that panics itself poisons as well.
 ///
 /// - `inv`: always, where the monitor is given up.
 /// - `rest`: at a leave and at a wait, with who waits (who begins to wait included). Nobody waits without a cause.

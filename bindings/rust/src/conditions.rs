@@ -12,9 +12,9 @@ pub trait Condition: Copy + Debug {
 
 /// A monitor without Mesa conditions, or without Hoare's.
 #[derive(Clone, Copy, Debug)]
-pub enum None {}
+pub enum NoConditions {}
 
-impl Condition for None {
+impl Condition for NoConditions {
     const COUNT: usize = 0;
     fn index(self) -> usize {
         match self {}

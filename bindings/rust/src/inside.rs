@@ -5,8 +5,10 @@ use crate::conditions::Condition;
 use crate::{Inner, NoConditions, Own, Place};
 use std::marker::PhantomData;
 use std::ops::{Deref, DerefMut};
+use std::panic::{catch_unwind, resume_unwind, AssertUnwindSafe};
 use std::sync::atomic::Ordering::Relaxed;
 use std::sync::LockResult;
+use std::thread::panicking;
 
 /// A place inside, with the data in hand. Where it is dropped the place leaves; in a panic it also poisons the
 /// monitor.
@@ -38,7 +40,7 @@ fn mesa<C: Condition, M: Condition>(condition: M) -> usize {
 impl<'a, T, C: Condition, M: Condition> Inside<'a, T, C, M> {
     pub(crate) fn new(place: &'a mut Place<T, C, M>) -> Self {
         place.inside = true;
-        Inside { place, panicked: std::thread::panicking(), stays: PhantomData }
+        Inside { place, panicked: panicking(), stays: PhantomData }
     }
 
     fn inner(&self) -> &Inner<T, C, M> {
@@ -82,7 +84,7 @@ impl<'a, T, C: Condition, M: Condition> Inside<'a, T, C, M> {
         self.check_wait(number_of(condition), priority, &condition);
         self.wait_at(number_of(condition), priority);
         self.check_ready(condition, priority);
-        self.inner().told(())
+        self.inner().or_poisoned(())
     }
 
     /// Gives the monitor up until a notify or a broadcast called this place and its turn has come. What it waited for
@@ -90,21 +92,21 @@ impl<'a, T, C: Condition, M: Condition> Inside<'a, T, C, M> {
     pub fn wait_mesa(&mut self, condition: M, priority: u64) -> LockResult<()> {
         self.check_wait(mesa::<C, M>(condition), priority, &condition);
         self.wait_at(mesa::<C, M>(condition), priority);
-        self.inner().told(())
+        self.inner().or_poisoned(())
     }
 
     /// Hands the monitor to whom it resumes, if somebody waits there, and comes back before any newcomer: whether
     /// somebody did. An error where a thread panicked inside.
     pub fn signal(&mut self, condition: C) -> LockResult<bool> {
         if !self.queue(condition) {
-            return self.inner().told(false);
+            return self.inner().or_poisoned(false);
         }
         let number = self.place.number;
         self.check_signal(condition);
         let next = self.told_book().signal(number, number_of(condition)).unwrap_or_else(|why| panic!("{why}"));
         self.own().signaller = number;
         self.go_away(next);
-        self.inner().told(true)
+        self.inner().or_poisoned(true)
     }
 
     /// A signal as the last act: whether somebody waited there.
@@ -179,8 +181,13 @@ impl<T, C: Condition, M: Condition> Inside<'_, T, C, M> {
         waiting
     }
 
+    // Whether anything is tested.
+    fn tests(&self) -> bool {
+        cfg!(debug_assertions) && !self.inner().poisoned.load(Relaxed) && !panicking()
+    }
+
     fn check_wait(&mut self, index: usize, priority: u64, name: &dyn std::fmt::Debug) {
-        if !cfg!(debug_assertions) {
+        if !self.tests() {
             return;
         }
         let (checks, number, mut waiting) = (self.inner().checks, self.place.number, self.waiting());
@@ -191,7 +198,7 @@ impl<T, C: Condition, M: Condition> Inside<'_, T, C, M> {
     }
 
     fn check_signal(&mut self, condition: C) {
-        if cfg!(debug_assertions) {
+        if self.tests() {
             let (checks, number) = (self.inner().checks, self.place.number);
             assert!((checks.inv)(self), "`inv` doesn't hold where place {number} signals {condition:?}");
         }
@@ -199,7 +206,7 @@ impl<T, C: Condition, M: Condition> Inside<'_, T, C, M> {
 
     // Who is resumed looks, since the queues stand then as `ready` speaks of them.
     fn check_ready(&mut self, condition: C, priority: u64) {
-        if !cfg!(debug_assertions) || self.inner().poisoned.load(Relaxed) {
+        if !self.tests() {
             return;
         }
         let (checks, waiting, signaller) = (self.inner().checks, self.waiting(), self.own().signaller);
@@ -209,7 +216,7 @@ impl<T, C: Condition, M: Condition> Inside<'_, T, C, M> {
 
     // The check that doesn't hold where the place leaves.
     fn fault_at_leave(&mut self) -> Option<&'static str> {
-        if !cfg!(debug_assertions) || self.inner().poisoned.load(Relaxed) {
+        if !self.tests() {
             return None;
         }
         let (checks, waiting) = (self.inner().checks, self.waiting());
@@ -240,17 +247,19 @@ impl<T, C: Condition, M: Condition> Drop for Inside<'_, T, C, M> {
             return; // it passed the monitor on
         }
         let number = self.place.number;
-        let panics = std::thread::panicking();
-        let fault = if panics { None } else { self.fault_at_leave() };
-        if fault.is_some() || (panics && !self.panicked) {
+        // a check that panics poisons too, and the place leaves all the same
+        let fault = catch_unwind(AssertUnwindSafe(|| self.fault_at_leave()));
+        if !matches!(fault, Ok(None)) || (panicking() && !self.panicked) {
             self.inner().poisoned.store(true, Relaxed);
         }
         let own = self.own();
         let next = if own.told { own.book.leave(number).unwrap_or(None) } else { None };
         self.place.inside = false;
         self.inner().hand_on(next);
-        if let Some(name) = fault {
-            panic!("`{name}` doesn't hold where place {number} leaves");
+        match fault {
+            Ok(None) => {}
+            Ok(Some(name)) => panic!("`{name}` doesn't hold where place {number} leaves"),
+            Err(of_the_check) => resume_unwind(of_the_check),
         }
     }
 }

@@ -73,7 +73,7 @@ mod inside;
 
 pub use book::Refused;
 pub use checks::{Checks, Waiting};
-pub use conditions::{Condition, None as NoConditions};
+pub use conditions::{Condition, NoConditions};
 pub use inside::Inside;
 
 use bell::Bell;
@@ -158,7 +158,8 @@ impl<T, C, M> Inner<T, C, M> {
         bell.word.store(NOTHING, SeqCst);
     }
 
-    fn told<R>(&self, answer: R) -> LockResult<R> {
+    // The answer; an error with it where a thread panicked inside.
+    fn or_poisoned<R>(&self, answer: R) -> LockResult<R> {
         if self.poisoned.load(Relaxed) {
             Err(PoisonError::new(answer))
         } else {

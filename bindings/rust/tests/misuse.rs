@@ -132,6 +132,16 @@ fn checks_name_the_condition() {
 
 #[cfg(debug_assertions)]
 #[test]
+fn a_check_that_panics_poisons_and_leaves() {
+    let checks = zaulinte::Checks { inv: |_| panic!("in the check"), ..zaulinte::Checks::default() };
+    let (monitor, mut places) = Monitor::<u32, When>::checked(0, 2, checks).unwrap();
+    let fault = catch_unwind(AssertUnwindSafe(|| drop(places[0].enter()))).unwrap_err();
+    assert_eq!(fault.downcast_ref(), Some(&"in the check"));
+    assert!(monitor.is_poisoned() && places[1].try_enter().is_some_and(|inside| inside.is_err()));
+}
+
+#[cfg(debug_assertions)]
+#[test]
 fn who_is_resumed_finds_ready_or_a_panic_names_the_signaller() {
     let ready = |_, _, &s: &u32, _: &zaulinte::Waiting<When, NoConditions>| s == 2;
     let checks = zaulinte::Checks { ready, ..zaulinte::Checks::default() };

@@ -96,9 +96,7 @@ fn passes(mut inside: Inside<'_>, me: u64, c: u64) {
     inside.signal_leave(hoare(c));
 }
 
-fn visit(place: &mut Place, seed: &mut u64) {
-    let me = place.number() as u64;
-    let mut inside = place.enter().unwrap();
+fn acts(mut inside: Inside<'_>, me: u64, seed: &mut u64) {
     inside.put("admit", &[me]);
     inside.data += 1;
     for _ in 0..draw(seed) % 3 {
@@ -118,6 +116,14 @@ fn visit(place: &mut Place, seed: &mut u64) {
         return passes(inside, me, lot / 2 % 3);
     }
     inside.put("leave", &[me]);
+}
+
+fn visit(place: &mut Place, seed: &mut u64) {
+    let me = place.number() as u64;
+    if let Some(inside) = place.try_enter() {
+        return acts(inside.unwrap(), me, seed);
+    }
+    acts(place.enter().unwrap(), me, seed)
 }
 
 fn works(mut place: Place, visits: u64, mut seed: u64) {

@@ -7,7 +7,7 @@ pub enum Turn {
     Free,
     /// That of this place, which is inside.
     Held(usize),
-    /// That of this place, which waited on this condition and was resumed.
+    /// That of this place, which waited on this condition and was resumed or called.
     Owed(usize, usize),
     /// That of this place, which signalled and returns.
     Return(usize),

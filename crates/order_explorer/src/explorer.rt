@@ -309,8 +309,8 @@ fn explore_with<
     explore_shared(rt, alloc, program, explored, places, limits.runs)
 }
 
-/// Tries the orders in which the program's threads can be let in, within the limits: each in a run of its own. It stops
-/// at the first run that is cut off, or ends wrong. Refused where memory, a thread or the program's data can't be had.
+/// Tries the orders in which the program's 1 to 63 threads can be let in, each in a run of its own: up to a limit, or
+/// to the first that ends wrong. Refused with no or more threads, or where memory, a thread or the data can't be had.
 pub fn explore<
     R: Threads + Wait + Copy + Send + 'static,
     D: MonitorData + Send + Drop + 'static,

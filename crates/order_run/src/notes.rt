@@ -4,7 +4,7 @@
 use std::alloc::{AllocError, Global};
 use std::sync::atomic::{AtomicU64, Ordering};
 
-/// A call that waits for nobody.
+/// A call that waits for nobody: a try by a place that came in, or a notify or a broadcast on a condition.
 #[derive(Clone, Copy)]
 pub enum Note {
     /// This place tried, and came in.

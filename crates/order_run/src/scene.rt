@@ -12,7 +12,7 @@ use std::mem;
 use wait_book::book::Book;
 use wait_book::steps::{Next, Step};
 
-/// An act of the process inside.
+/// An act of the process inside: it waits on a condition with a priority, signals or passes on one, or leaves.
 #[derive(Clone, Copy)]
 pub enum Act {
     Wait(usize, u64),

@@ -1,5 +1,7 @@
 //! Tests of the schedulers, by what they run on: the monitor for tests, and rows of tests on both running doors.
 
+mod awaited;
+mod compared;
 mod fake;
 mod meanings;
 mod mesa_on_fake;

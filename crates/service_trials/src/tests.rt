@@ -4,6 +4,7 @@
 mod at_once;
 mod jobs;
 mod last;
+mod limit;
 mod meeting;
 mod rows;
 mod workers;

@@ -1,9 +1,8 @@
 //! What the tests of monitors share: a monitor of one thread that any monitor's procedures run on, where what the other
 //! processes leave is given beforehand; a thread for each place of a door, within a limit of time; a diary of what
-//! processes do, and who judges it. What is refused, comes too late or isn't as wanted fails the test.
+//! processes do, and who judges it. No function here fails a test: it hands back what was refused or came too late.
 #![tactic(auto)]
 
-pub mod compared;
 pub mod diary;
 pub mod diary_calls;
 pub mod drawn;

@@ -1,14 +1,13 @@
-//! A limit for tests: a call that never returns fails its test.
+//! A limit for tests: a call that never returns is noticed.
 
-use std::process::Abort;
 use std::rt::Clock;
 use std::sync::atomic::{AtomicBool, Ordering};
 use std::thread;
 use std::thread::Threads;
 use std::time::{Duration, Instant};
 
-/// For how many seconds a test waits for its threads: it ends before the gate's minute.
-const LIMIT: u64 = 40;
+/// For how many seconds a test waits for its threads.
+const LIMIT: u64 = 25;
 
 /// How often a place comes in, at the most, to see whether others wait. Alone that takes some fifteen seconds; beside
 /// busy threads the limit above comes first. (A million was too few: beside three busy threads every third run of the
@@ -18,12 +17,12 @@ pub const VISITS: u32 = 40_000_000;
 /// The most looks.
 const LOOKS: u32 = 1_000_000;
 
-/// Looks until the flag is set. Where that takes too long it ends the test as failed, with its threads not joined.
-fn await_flag<R: Abort + Clock>(rt: &R, ended: &AtomicBool) {
+/// Looks until the flag is set: whether it was, before that took too long.
+fn is_set_in_time<R: Clock>(rt: &R, ended: &AtomicBool) -> bool {
     if let Ok(start) = Instant::now(rt) {
         for _ in 0..LOOKS {
             if ended.load(Ordering::SeqCst) {
-                return;
+                return true;
             }
             let Ok(spent) = start.elapsed(rt) else { break };
             if spent.as_secs() >= LIMIT {
@@ -32,15 +31,18 @@ fn await_flag<R: Abort + Clock>(rt: &R, ended: &AtomicBool) {
             thread::sleep(rt, Duration::from_millis(1));
         }
     }
-    panic!(rt; "the threads did not end within the limit")
+    false
 }
 
-/// Does the work on another thread, while this one looks on.
-pub fn within<R: Threads + Abort + Clock + Sync, F: FnOnce() -> T + Send, T: Send>(
+/// Does the work on another thread, while this one looks on. Where the work takes too long this one calls `late`, by
+/// which a test ends as failed, with its threads not joined.
+pub fn within<R: Threads + Clock + Sync, F: FnOnce() -> T + Send, T: Send, L: FnOnce() + Send>(
     rt: &R,
     work: F,
+    late: L,
 ) -> T
-    requires { F.pre work }
+    requires work { F.pre work }
+    requires late { L.pre late }
     ensures { F.post work result }
 {
     let ended = AtomicBool::new(false);
@@ -55,7 +57,13 @@ pub fn within<R: Threads + Abort + Clock + Sync, F: FnOnce() -> T + Send, T: Sen
             flag.store(true, Ordering::SeqCst);
             result
         },
-        || -> () { await_flag(rt, flag) },
+        || -> ()
+            requires { L.pre late }
+        {
+            if !is_set_in_time(rt, flag) {
+                late();
+            }
+        },
     );
     result
 }

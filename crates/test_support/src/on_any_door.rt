@@ -1,5 +1,5 @@
 //! A door of either kind: how a row's monitor is made, and closed.
-ghost use Rattle.std.specs.Prelude.{◌≡◌, vec_len, All};
+ghost use Rattle.std.specs.Prelude.{◌≡◌, vec_len, All, IfSome};
 ghost use Rattle.hoare_law.specs.Priorities.{nobody};
 ghost use Rattle.any_door.specs.Doors.{id_of};
 ghost use Rattle.test_support.specs.Numbered.{IsNumbered};
@@ -9,25 +9,23 @@ use door_frame::place::Outside;
 use hoare_law::data::MonitorData;
 use hoare_law::monitor::Monitor;
 use std::alloc::Global;
-use std::process::Abort;
 
-/// A door of this kind with the data, and its places, in order. A refusal fails the test.
-pub fn made<D: MonitorData + Send + Drop, R: Abort>(
-    rt: &R,
+/// A door of this kind with the data, and its places, in order. None where it is refused.
+pub fn made<D: MonitorData + Send + Drop>(
     alloc: Global,
     kind: DoorKind,
     state: D,
     count: usize,
-) -> (AnyDoor<D>, Vec<Outside<D>>)
+) -> Option<(AnyDoor<D>, Vec<Outside<D>>)>
     requires { D.rest state nobody }
-    ensures count { vec_len result.1 ≡ (id_of result.0).places }
-    ensures of { All (⟦<AnyDoor<D> as Monitor<D>>⟧.is_of result.0) result.1.items }
-    ensures numbered { IsNumbered (⟦<AnyDoor<D> as Monitor<D>>⟧.place) result.1.items }
+    ensures count { IfSome result (λ r. vec_len r.1 ≡ (id_of r.0).places) }
+    ensures of { IfSome result (λ r. All (⟦<AnyDoor<D> as Monitor<D>>⟧.is_of r.0) r.1.items) }
+    ensures numbered { IfSome result (λ r. IsNumbered (⟦<AnyDoor<D> as Monitor<D>>⟧.place) r.1.items) }
 {
-    let Ok(made) = AnyDoor::make(alloc, kind, state, count) else {
-        panic!(rt; "no door was made")
-    };
-    made
+    match AnyDoor::make(alloc, kind, state, count) {
+        Ok(made) => Some(made),
+        Err(_refused) => None,
+    }
 }
 
 /// The data that the places left.

@@ -1,5 +1,5 @@
 //! The baton door: how a row's monitor is made, and closed.
-ghost use Rattle.std.specs.Prelude.{◌≡◌, vec_len, All};
+ghost use Rattle.std.specs.Prelude.{◌≡◌, vec_len, All, IfSome};
 ghost use Rattle.hoare_law.specs.Priorities.{nobody};
 ghost use Rattle.test_support.specs.Numbered.{IsNumbered};
 
@@ -8,24 +8,22 @@ use baton_door::place::DoorOut;
 use hoare_law::data::MonitorData;
 use hoare_law::monitor::Monitor;
 use std::alloc::Global;
-use std::process::Abort;
 
-/// A door with the data, and its places, in order. A refusal fails the test.
-pub fn made<D: MonitorData + Send + Drop, R: Abort>(
-    rt: &R,
+/// A door with the data, and its places, in order. None where it is refused.
+pub fn made<D: MonitorData + Send + Drop>(
     alloc: Global,
     state: D,
     count: usize,
-) -> (Door<D>, Vec<DoorOut<D>>)
+) -> Option<(Door<D>, Vec<DoorOut<D>>)>
     requires { D.rest state nobody }
-    ensures count { vec_len result.1 ≡ result.0.places }
-    ensures of { All (⟦<Door<D> as Monitor<D>>⟧.is_of result.0) result.1.items }
-    ensures numbered { IsNumbered (⟦<Door<D> as Monitor<D>>⟧.place) result.1.items }
+    ensures count { IfSome result (λ r. vec_len r.1 ≡ r.0.places) }
+    ensures of { IfSome result (λ r. All (⟦<Door<D> as Monitor<D>>⟧.is_of r.0) r.1.items) }
+    ensures numbered { IfSome result (λ r. IsNumbered (⟦<Door<D> as Monitor<D>>⟧.place) r.1.items) }
 {
-    let Ok(made) = Door::make(alloc, state, count) else {
-        panic!(rt; "no door was made")
-    };
-    made
+    match Door::make(alloc, state, count) {
+        Ok(made) => Some(made),
+        Err(_refused) => None,
+    }
 }
 
 /// The data that the places left.

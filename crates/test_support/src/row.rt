@@ -6,10 +6,20 @@
 #[macro_export]
 macro_rules! run_row {
     ($rt:ident, $alloc:ident, $door:ident($($given:expr)?), $acts:ident($($more:expr),*), $data:expr, $count:expr) => {{
-        let (door, outs) = $crate::$door::made($rt, $alloc, $($given,)? $data, $count);
-        let (outs, answers) = $crate::running::act_all($rt, $alloc, &door, outs, &|place| {
-            $acts($rt, &door, place.1, place.0 $(, $more)*)
-        });
+        let Some((door, outs)) = $crate::$door::made($alloc, $($given,)? $data, $count) else {
+            panic!($rt; "no door was made")
+        };
+        let acted = $crate::running::act_all(
+            $rt,
+            $alloc,
+            &door,
+            outs,
+            &|place| $acts($rt, &door, place.1, place.0 $(, $more)*),
+            || panic!($rt; "the threads did not end within the limit"),
+        );
+        let Ok((outs, answers)) = acted else {
+            panic!($rt; "no memory")
+        };
         ($crate::$door::closed(door, outs), answers)
     }};
 }

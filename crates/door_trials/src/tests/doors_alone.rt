@@ -1,10 +1,10 @@
 //! Each door on one thread: what `make` refuses, and each call once.
+use crate::tests::compared::expect_same;
 use baton_door::door::Door;
 use hoare_law::unasked::Unasked;
 use std::alloc::Global;
 use std::process::Abort;
 use std::sync::Wait;
-use test_support::compared::expect_same;
 use test_support::tally::{Tally, calls_all};
 use ticket_door::door::TicketDoor;
 use wait_book::steps::MakeRefused;

@@ -2,6 +2,7 @@
 //! door answers.
 ghost use Rattle.std.specs.Prelude.{◌≡◌};
 
+use crate::tests::compared::expect_same;
 use crate::tests::rows::stress::{PLACES, agrees, empty_diary, works_or_sweeps};
 use any_door::{AnyDoor, DoorKind};
 use door_frame::place::Outside;
@@ -9,7 +10,6 @@ use hoare_law::monitor::Monitor;
 use std::alloc::Global;
 use std::process::Abort;
 use std::sync::Wait;
-use test_support::compared::expect_same;
 use test_support::run_row;
 use test_support::tally::{Tally, calls_all, tries_once};
 

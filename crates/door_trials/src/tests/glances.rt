@@ -1,6 +1,8 @@
 //! What the words of a door say at a glance.
 ghost use Rattle.std.specs.Prelude.{◌≡◌};
 
+use crate::tests::awaited::{await_sign, watch};
+use crate::tests::compared::{expect_same, reads_as};
 use any_door::door::AnyDoor;
 use any_door::kind::DoorKind;
 use baton_door::door::Door;
@@ -13,9 +15,7 @@ use std::sync::Wait;
 use std::sync::atomic::{AtomicBool, Ordering};
 use std::thread;
 use std::time::Duration;
-use test_support::compared::{expect_same, reads_as};
 use test_support::run_row;
-use test_support::running::{await_sign, watch};
 use test_support::tally::Tally;
 use ticket_door::door::TicketDoor;
 

@@ -5,12 +5,12 @@ ghost use Rattle.door_frame.specs.Places.{HasPlace};
 ghost use Rattle.hoare_law.specs.Sizes.{kinds_of};
 ghost use Rattle.ticket_door.specs.Asked.{IsAsked, as_out};
 
+use crate::tests::compared::expect_same;
 use hoare_law::data::MonitorData;
 use hoare_law::monitor::Monitor;
 use std::collections::VecDeque;
 use std::sync::Wait;
 use std::test::Fail;
-use test_support::compared::expect_same;
 use test_support::tally::Tally;
 use ticket_door::door::TicketDoor;
 use ticket_door::laws::make_at;

@@ -1,11 +1,11 @@
 //! The ticket door on one thread: tickets in turn, past the last number, and places that meet.
 ghost use Rattle.std.specs.Prelude.{◌≡◌};
 
+use crate::tests::compared::expect_same;
 use hoare_law::monitor::Monitor;
 use std::alloc::Global;
 use std::process::Abort;
 use std::sync::Wait;
-use test_support::compared::expect_same;
 use test_support::tally::{Tally, tries_once};
 use ticket_door::door::TicketDoor;
 use ticket_door::laws::make_at;

@@ -4,6 +4,8 @@ ghost use Rattle.std.specs.Prelude.{◌≤◌};
 ghost use Rattle.hoare_law.specs.Priorities.{nobody};
 ghost use Rattle.plain_schedulers.specs.Buffers.{BufferRests};
 
+use crate::tests::awaited::within;
+use crate::tests::compared::expect_same;
 use hoare_law::data::MonitorData;
 use hoare_law::monitor::Monitor;
 use plain_schedulers::buffer::Buffer;
@@ -15,9 +17,7 @@ use std::process::Abort;
 use std::rt::Clock;
 use std::sync::Wait;
 use std::thread::Threads;
-use test_support::compared::expect_same;
 use test_support::fake::{Fake, FakeOut};
-use test_support::limit::within;
 use test_support::tally::{Tally, calls_all};
 
 /// A fake monitor with these data and these answers. Where there is no memory the test fails.

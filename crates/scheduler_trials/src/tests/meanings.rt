@@ -2,6 +2,7 @@
 //! with nobody waiting, and with one that waits on condition 0 with priority 5, or on condition 1.
 ghost use Rattle.std.specs.Prelude.{◌<◌};
 
+use crate::tests::compared::expect_same;
 use cookbook::barrier::Barrier;
 use cookbook::latch::Latch;
 use cookbook::mailbox::Mailbox;
@@ -16,7 +17,6 @@ use std::process::Abort;
 use std::test::Fail;
 use sweep_schedulers::head::Head;
 use sweep_schedulers::readers_writers::ReadersWriters;
-use test_support::compared::expect_same;
 use timed_schedulers::alarm::Alarm;
 use timed_schedulers::pool::Pool;
 

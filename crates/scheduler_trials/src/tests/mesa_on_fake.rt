@@ -1,6 +1,8 @@
 //! The buffer with Mesa conditions on the fake monitor: who goes on after a wait tests again.
 ghost use Rattle.plain_schedulers.specs.Buffers.{BufferHolds};
 
+use crate::tests::awaited::within;
+use crate::tests::compared::expect_same;
 use crate::tests::fake::{take_data, with_answers};
 use hoare_law::monitor::Monitor;
 use plain_schedulers::buffer::mesa::MesaBuffer;
@@ -9,8 +11,6 @@ use std::process::Abort;
 use std::rt::Clock;
 use std::sync::Wait;
 use std::thread::Threads;
-use test_support::compared::expect_same;
-use test_support::limit::within;
 
 // A buffer of one cell with no item.
 fn empty<R: Abort>(rt: &R, alloc: Global) -> MesaBuffer<u8>

@@ -1,6 +1,8 @@
 //! What the cookbook's program does not run, on the fake monitor: a philosopher gets up where nobody eats, and a latch
 //! is opened twice.
 
+use crate::tests::awaited::within;
+use crate::tests::compared::{expect_same, reads_as};
 use crate::tests::fake::with_answers;
 use cookbook::latch::Latch;
 use cookbook::table::{NotEating, Table};
@@ -10,8 +12,6 @@ use std::process::Abort;
 use std::rt::Clock;
 use std::sync::Wait;
 use std::thread::Threads;
-use test_support::compared::{expect_same, reads_as};
-use test_support::limit::within;
 
 // Nobody eats at seat 1: it is refused at an empty table, and beside one that eats. At seat 2 it goes well once.
 fn gets_up_once<R: Wait + Abort, M: Monitor<Table>>(rt: &R, m: &M, out: M::Out)

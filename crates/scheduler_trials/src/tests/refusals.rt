@@ -1,13 +1,13 @@
 //! How the refusals of the schedulers and of the work queue read. (That of a read which nobody began stands in
 //! `rows::readers`, for its pass can't be made up.)
 
+use crate::tests::compared::reads_as;
 use cookbook::work_queue::PutRefused;
 use plain_schedulers::buffer::BufferRefused;
 use plain_schedulers::single;
 use sweep_schedulers::head::OffDisk;
 use sweep_schedulers::not_out;
 use sweep_schedulers::readers_writers::TooManyReaders;
-use test_support::compared::reads_as;
 use timed_schedulers::alarm::{ClockFull, TooFar};
 use timed_schedulers::pool::{GiveRefused, NoStream, PoolRefused};
 

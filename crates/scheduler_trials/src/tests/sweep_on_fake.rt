@@ -3,6 +3,8 @@ ghost use Rattle.std.specs.Prelude.{◌≡◌};
 ghost use Rattle.hoare_law.specs.Priorities.{nobody};
 ghost use Rattle.sweep_schedulers.specs.Heads.{HeadRests};
 
+use crate::tests::awaited::within;
+use crate::tests::compared::expect_same;
 use crate::tests::fake::{take_data, with_answers};
 use crate::tests::rows::drive::{Trip, goes, hands_on};
 use crate::tests::rows::head::{is_off_disk, is_refused};
@@ -19,9 +21,7 @@ use std::sync::Wait;
 use std::thread::Threads;
 use sweep_schedulers::head::Head;
 use sweep_schedulers::readers_writers::ReadersWriters;
-use test_support::compared::expect_same;
 use test_support::fake::{Fake, FakeOut};
-use test_support::limit::within;
 
 // A trip to these cylinders.
 fn trip_to<R: Abort, const N: usize>(rt: &R, alloc: Global, cylinders: [u16; N]) -> Trip {

@@ -1,5 +1,7 @@
 //! The alarm clock and the pool on the fake monitor: what is found after a wait is given beforehand.
 
+use crate::tests::awaited::within;
+use crate::tests::compared::expect_same;
 use crate::tests::fake::with_answers;
 use crate::tests::rows::alarm_and_pool::alarm::{ends_the_clock, is_full, is_too_far};
 use crate::tests::rows::alarm_and_pool::pool::{is_no_stream, takes, takes_all, with_buffers};
@@ -9,8 +11,6 @@ use std::process::Abort;
 use std::rt::Clock;
 use std::sync::Wait;
 use std::thread::Threads;
-use test_support::compared::expect_same;
-use test_support::limit::within;
 use timed_schedulers::alarm::Alarm;
 use timed_schedulers::pool::Pool;
 

@@ -1,12 +1,12 @@
 //! How many workers are at work at once, by what `begin` sees: four jobs at a time wait until all four have begun. A
 //! service with fewer workers at work, or with one thread for all jobs, can't do it.
+use crate::tests::limit::in_time;
 use disk_service::{Gate, Jobs, Report, ServiceFault, serve, serve_tickets};
 use std::alloc::{AllocError, Global};
 use std::process::Abort;
 use std::sync::atomic::{AtomicBool, AtomicUsize, Ordering};
 use std::test::Fail;
 use std::thread;
-use test_support::limit::within;
 
 const WORKERS: usize = 4;
 
@@ -140,7 +140,7 @@ fn assert_at_once<R: Abort>(rt: &R, answer: Result<Report, ServiceFault>, gate: 
 fn four_at_once(rt: HostRuntime) -> Result<(), Fail> {
     let jobs = some_jobs(rt.alloc())?;
     let gate = AtOnce::of(rt.alloc(), TURNS)?;
-    let answer = within(&rt, || serve(&rt, rt.alloc(), &jobs, &gate));
+    let answer = in_time(&rt, || serve(&rt, rt.alloc(), &jobs, &gate));
     assert_at_once(&rt, answer, &gate);
     Ok(())
 }
@@ -149,7 +149,7 @@ fn four_at_once(rt: HostRuntime) -> Result<(), Fail> {
 fn four_at_once_by_ticket(rt: HostRuntime) -> Result<(), Fail> {
     let jobs = some_jobs(rt.alloc())?;
     let gate = AtOnce::of(rt.alloc(), TURNS)?;
-    let answer = within(&rt, || serve_tickets(&rt, rt.alloc(), &jobs, &gate));
+    let answer = in_time(&rt, || serve_tickets(&rt, rt.alloc(), &jobs, &gate));
     assert_at_once(&rt, answer, &gate);
     Ok(())
 }

@@ -1,12 +1,12 @@
 //! The first job is held up until all others are done, with other workers. A service with one worker for them all can't
 //! do it.
+use crate::tests::limit::in_time;
 use disk_service::{Done, Gate, Jobs, Report, ServiceFault, serve, serve_tickets};
 use std::alloc::Global;
 use std::process::Abort;
 use std::sync::atomic::{AtomicBool, AtomicUsize, Ordering};
 use std::test::Fail;
 use std::thread;
-use test_support::limit::within;
 
 const JOBS: usize = 16;
 
@@ -86,7 +86,7 @@ fn assert_in_order<R: Abort>(rt: &R, answer: Result<Report, ServiceFault>, gate:
 fn first_job_last(rt: HostRuntime) -> Result<(), Fail> {
     let jobs = equal_jobs(rt.alloc())?;
     let gate = FirstLast::of(TURNS);
-    let answer = within(&rt, || serve(&rt, rt.alloc(), &jobs, &gate));
+    let answer = in_time(&rt, || serve(&rt, rt.alloc(), &jobs, &gate));
     assert_in_order(&rt, answer, &gate);
     Ok(())
 }
@@ -95,7 +95,7 @@ fn first_job_last(rt: HostRuntime) -> Result<(), Fail> {
 fn first_job_last_by_ticket(rt: HostRuntime) -> Result<(), Fail> {
     let jobs = equal_jobs(rt.alloc())?;
     let gate = FirstLast::of(TURNS);
-    let answer = within(&rt, || serve_tickets(&rt, rt.alloc(), &jobs, &gate));
+    let answer = in_time(&rt, || serve_tickets(&rt, rt.alloc(), &jobs, &gate));
     assert_in_order(&rt, answer, &gate);
     Ok(())
 }

@@ -1,12 +1,12 @@
 //! Two workers meet: each begins its job only once the other has begun its own. A service that does its jobs one after
 //! another can't do it.
+use crate::tests::limit::in_time;
 use disk_service::{Done, Gate, Jobs, Report, ServiceFault, serve, serve_tickets};
 use std::alloc::Global;
 use std::process::Abort;
 use std::sync::atomic::{AtomicBool, Ordering};
 use std::test::Fail;
 use std::thread;
-use test_support::limit::within;
 
 // How often one that has begun looks for the other, with a yield each time.
 const TURNS: u32 = 10_000_000;
@@ -92,7 +92,7 @@ fn assert_met<R: Abort>(rt: &R, answer: Result<Report, ServiceFault>, meeting: &
 fn two_workers_meet(rt: HostRuntime) -> Result<(), Fail> {
     let jobs = two_jobs(rt.alloc())?;
     let meeting = Meeting::of(TURNS);
-    let answer = within(&rt, || serve(&rt, rt.alloc(), &jobs, &meeting));
+    let answer = in_time(&rt, || serve(&rt, rt.alloc(), &jobs, &meeting));
     assert_met(&rt, answer, &meeting);
     Ok(())
 }
@@ -101,7 +101,7 @@ fn two_workers_meet(rt: HostRuntime) -> Result<(), Fail> {
 fn two_workers_meet_by_ticket(rt: HostRuntime) -> Result<(), Fail> {
     let jobs = two_jobs(rt.alloc())?;
     let meeting = Meeting::of(TURNS);
-    let answer = within(&rt, || serve_tickets(&rt, rt.alloc(), &jobs, &meeting));
+    let answer = in_time(&rt, || serve_tickets(&rt, rt.alloc(), &jobs, &meeting));
     assert_met(&rt, answer, &meeting);
     Ok(())
 }

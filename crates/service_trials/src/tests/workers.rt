@@ -1,4 +1,5 @@
 //! The report is the same with any number of workers, byte for byte, and it is the one that is worked out here, apart.
+use crate::tests::limit::in_time;
 use disk_service::{Jobs, NoGate, ServiceFault, serve, write_report};
 use std::alloc::{AllocError, Global};
 use std::io::Write;
@@ -7,7 +8,6 @@ use std::rt::Clock;
 use std::sync::Wait;
 use std::test::Fail;
 use std::thread::Threads;
-use test_support::limit::within;
 
 const JOBS: u32 = 4096;
 
@@ -57,7 +57,7 @@ fn assert_reported<R: Threads + Wait + Abort + Clock + Sync>(
 ) -> Result<(), Fail> {
     let cylinders = drawn(alloc)?;
     let wanted = wanted(alloc, cylinders.as_slice())?;
-    let text = within(rt, || reported(rt, alloc, workers, cylinders));
+    let text = in_time(rt, || reported(rt, alloc, workers, cylinders));
     assert!(rt; text == Ok(wanted));
     Ok(())
 }

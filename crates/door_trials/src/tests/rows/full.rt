@@ -1,13 +1,13 @@
 //! A door of the most places and conditions: each place waits, and goes on in its turn.
 ghost use Rattle.std.specs.Prelude.{◌≡◌};
 
+use crate::tests::compared::expect_same;
 use hoare_law::monitor::Monitor;
 use hoare_law::unasked::Unasked;
 use hoare_law::waits::Waits;
 use std::alloc::Global;
 use std::process::Abort;
 use std::sync::Wait;
-use test_support::compared::expect_same;
 use test_support::run_row;
 
 const PLACES: usize = 64;

@@ -1,6 +1,7 @@
 //! Newcomers nap: one that nobody calls comes in, and many come in beside threads that keep the processors busy.
 ghost use Rattle.std.specs.Prelude.{◌≡◌};
 
+use crate::tests::awaited::await_sign;
 use hoare_law::monitor::Monitor;
 use std::process::Abort;
 use std::rt::Clock;
@@ -8,7 +9,6 @@ use std::sync::Wait;
 use std::sync::atomic::{AtomicBool, AtomicUsize, Ordering};
 use std::time::Duration;
 use std::{hint, thread};
-use test_support::running::await_sign;
 use test_support::tally::{Tally, add_one};
 
 /// How often a newcomer comes late. With a door's limit of 25 seconds it may take a tenth of a second each time.

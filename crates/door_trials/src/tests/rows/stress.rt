@@ -2,6 +2,7 @@
 //! and broadcast, and a ninth resumes or calls who is left. What they wrote down is held against the definitions.
 ghost use Rattle.std.specs.Prelude.{◌≡◌};
 
+use crate::tests::compared::expect_same;
 use hoare_law::monitor::Monitor;
 use std::alloc::Global;
 use std::process::Abort;
@@ -9,7 +10,6 @@ use std::rt::Clock;
 use std::sync::Wait;
 use std::thread;
 use std::time::Duration;
-use test_support::compared::expect_same;
 use test_support::diary::Diary;
 use test_support::diary_calls::{HOARE, broadcast, enter, leave, pass, rouse, wait};
 use test_support::drawn::draw;

@@ -1,10 +1,10 @@
 //! A tally: what is written is found, additions aren't lost, signallers return in order.
 ghost use Rattle.std.specs.Prelude.{◌≡◌};
 
+use crate::tests::awaited::watch;
 use hoare_law::monitor::Monitor;
 use std::process::Abort;
 use std::sync::Wait;
-use test_support::running::watch;
 use test_support::tally::{Tally, add_one, write_digit};
 
 /// Place 0 writes 5, reads it at its next visit, waits and reads again: it answers both, as two digits. Place 1 adds

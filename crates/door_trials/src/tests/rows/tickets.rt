@@ -1,6 +1,8 @@
 //! Who asked comes in by its ticket, whoever is the first to look.
 ghost use Rattle.std.specs.Prelude.{◌≡◌};
 
+use crate::tests::awaited::watch;
+use crate::tests::compared::expect_same;
 use hoare_law::monitor::Monitor;
 use std::process::Abort;
 use std::rt::Clock;
@@ -8,9 +10,7 @@ use std::sync::Wait;
 use std::sync::atomic::{AtomicUsize, Ordering};
 use std::thread;
 use std::time::Duration;
-use test_support::compared::expect_same;
 use test_support::run_row;
-use test_support::running::watch;
 use test_support::tally::{Tally, write_digit};
 use ticket_door::door::TicketDoor;
 use ticket_door::place::TicketOut;

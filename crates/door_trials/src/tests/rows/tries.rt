@@ -1,6 +1,8 @@
 //! Who only tries: it comes in where the monitor is free, and else is where it was. In rows on both doors.
 ghost use Rattle.std.specs.Prelude.{◌≡◌};
 
+use crate::tests::awaited::{await_sign, watch};
+use crate::tests::compared::expect_same;
 use baton_door::door::Door;
 use hoare_law::monitor::Monitor;
 use std::alloc::Global;
@@ -8,8 +10,6 @@ use std::process::Abort;
 use std::rt::Clock;
 use std::sync::Wait;
 use std::sync::atomic::{AtomicBool, Ordering};
-use test_support::compared::expect_same;
-use test_support::running::{await_sign, watch};
 use test_support::tally::{Tally, add_one, write_digit};
 use ticket_door::door::TicketDoor;
 

@@ -1,6 +1,7 @@
 //! What no contract says: that who is resumed wakes, that it slept till then, and that a newcomer comes in.
 ghost use Rattle.std.specs.Prelude.{◌≡◌};
 
+use crate::tests::awaited::{await_sign, watch};
 use hoare_law::monitor::Monitor;
 use std::process::Abort;
 use std::rt::Clock;
@@ -8,7 +9,6 @@ use std::sync::Wait;
 use std::sync::atomic::{AtomicBool, Ordering};
 use std::thread;
 use std::time::{CpuClock, Duration};
-use test_support::running::{await_sign, watch};
 use test_support::tally::{Tally, write_digit};
 
 // What this thread has spent of the processor's time, in milliseconds.

@@ -2,11 +2,11 @@
 //! against what an alarm clock is.
 ghost use Rattle.std.specs.Prelude.{◌≡◌};
 
+use crate::tests::compared::expect_same;
 use crate::tests::rows::shared_log::{Log, await_others};
 use hoare_law::monitor::Monitor;
 use std::process::Abort;
 use std::sync::Wait;
-use test_support::compared::expect_same;
 use test_support::drawn::draw;
 use timed_schedulers::alarm::Alarm;
 

@@ -2,13 +2,13 @@
 ghost use Rattle.std.specs.Prelude.{◌≡◌, ◌∷◌, [], All, vec_len};
 ghost use Rattle.test_support.specs.Numbered.{IsNumbered};
 
+use crate::tests::awaited::within;
+use crate::tests::compared::expect_same;
 use hoare_law::monitor::Monitor;
 use plain_schedulers::single::{NotOut, Single};
 use std::alloc::Global;
 use std::process::Abort;
 use std::sync::Wait;
-use test_support::compared::expect_same;
-use test_support::limit::within;
 use test_support::{on_baton_door, on_ticket_door};
 
 // The only place of a monitor.
@@ -104,8 +104,12 @@ fn change_items<R: Wait + Abort, M: Monitor<Single<u64>>>(
 
 // Two monitors on baton doors: what they have at the end.
 fn change_on_baton<R: Wait + Abort>(rt: &R, alloc: Global) -> [Option<u64>; 2] {
-    let (first, outs) = on_baton_door::made(rt, alloc, Single::with(7u64), 1);
-    let (second, others) = on_baton_door::made(rt, alloc, Single::with(8u64), 1);
+    let Some((first, outs)) = on_baton_door::made(alloc, Single::with(7u64), 1) else {
+        panic!(rt; "no door was made")
+    };
+    let Some((second, others)) = on_baton_door::made(alloc, Single::with(8u64), 1) else {
+        panic!(rt; "no door was made")
+    };
     let (outs, others) = change_items(rt, alloc, &first, outs, &second, others);
     let left = on_baton_door::closed(first, outs).into_item();
     [left, on_baton_door::closed(second, others).into_item()]
@@ -113,8 +117,12 @@ fn change_on_baton<R: Wait + Abort>(rt: &R, alloc: Global) -> [Option<u64>; 2] {
 
 // The same on ticket doors.
 fn change_on_ticket<R: Wait + Abort>(rt: &R, alloc: Global) -> [Option<u64>; 2] {
-    let (first, outs) = on_ticket_door::made(rt, alloc, 0, Single::with(7u64), 1);
-    let (second, others) = on_ticket_door::made(rt, alloc, 0, Single::with(8u64), 1);
+    let Some((first, outs)) = on_ticket_door::made(alloc, 0, Single::with(7u64), 1) else {
+        panic!(rt; "no door was made")
+    };
+    let Some((second, others)) = on_ticket_door::made(alloc, 0, Single::with(8u64), 1) else {
+        panic!(rt; "no door was made")
+    };
     let (outs, others) = change_items(rt, alloc, &first, outs, &second, others);
     let left = on_ticket_door::closed(first, outs).into_item();
     [left, on_ticket_door::closed(second, others).into_item()]

@@ -4,6 +4,7 @@ ghost use Rattle.std.specs.Prelude.{◌≡◌};
 ghost use Rattle.hoare_law.specs.Priorities.{nobody};
 ghost use Rattle.sweep_schedulers.specs.Heads.{HeadRests};
 
+use crate::tests::compared::{all_answered, expect_same};
 use crate::tests::rows::drive::{Trip, goes, hands_on};
 use crate::tests::rows::head_stay::{ASKING, asks_or_counts};
 use crate::tests::rows::head_stress::{CYLMAX, Line, PLACES, is_a_sweep, travels};
@@ -16,9 +17,8 @@ use std::rt::Clock;
 use std::sync::Wait;
 use sweep_schedulers::head::{Head, OffDisk};
 use sweep_schedulers::not_out::NotOut;
-use test_support::compared::expect_same;
 use test_support::run_row;
-use test_support::running::{BATON, TICKET, all_answered};
+use test_support::running::{BATON, TICKET};
 
 /// Takes the drive to cylinder 50, twice where the plan has an idle drive once, and keeps it the last time; hands
 /// it on once the others wait; and takes it to the cylinder `last` when all others had it. The drive has to have
@@ -207,9 +207,25 @@ fn setting(row: HeadRow<'_>) -> (u16, usize) {
     }
 }
 
+// The row on a baton door. (A function for it, since the borrow checker covers a row of one lifetime alone.)
+fn on_baton(rt: &HostRuntime, alloc: Global, row: HeadRow<'_>) -> Vec<u64> {
+    let (cylmax, places) = setting(row);
+    let head = disk(alloc, cylmax);
+    let (_, answers) = run_row!(rt, alloc, on_baton_door(), acts(row), head, places);
+    answers
+}
+
+// The row on a ticket door.
+fn on_ticket(rt: &HostRuntime, alloc: Global, row: HeadRow<'_>) -> Vec<u64> {
+    let (cylmax, places) = setting(row);
+    let head = disk(alloc, cylmax);
+    let (_, answers) = run_row!(rt, alloc, on_ticket_door(0), acts(row), head, places);
+    answers
+}
+
 // The rows on one door.
 macro_rules! rows_of_a_head {
-    ($rt:ident, $alloc:ident, $name:expr, $door:ident($($given:expr)?)) => {{
+    ($rt:ident, $alloc:ident, $name:expr, $runs:ident) => {{
         let turns = Turns::new();
         let log = Log::new($rt, $alloc, 10_000);
         for row in [
@@ -218,10 +234,8 @@ macro_rules! rows_of_a_head {
             HeadRow::StayCountsGrants(&turns),
             HeadRow::TheDriveGoesBySweeps(&log),
         ] {
-            let (cylmax, places) = setting(row);
-            let head = disk($alloc, cylmax);
-            let (_, answers) = run_row!($rt, $alloc, $door($($given)?), acts(row), head, places);
-            all_answered($rt, $name, answers.as_slice(), places);
+            let answers = $runs($rt, $alloc, row);
+            all_answered($rt, $name, answers.as_slice(), setting(row).1);
         }
         is_a_sweep($rt, log);
     }};
@@ -230,11 +244,11 @@ macro_rules! rows_of_a_head {
 #[test]
 fn a_disk_head_on_a_baton_door(host: HostRuntime) {
     let (rt, alloc) = (&host, host.alloc());
-    rows_of_a_head!(rt, alloc, BATON, on_baton_door());
+    rows_of_a_head!(rt, alloc, BATON, on_baton);
 }
 
 #[test]
 fn a_disk_head_on_a_ticket_door(host: HostRuntime) {
     let (rt, alloc) = (&host, host.alloc());
-    rows_of_a_head!(rt, alloc, TICKET, on_ticket_door(0));
+    rows_of_a_head!(rt, alloc, TICKET, on_ticket);
 }

@@ -2,6 +2,7 @@
 //! due there.
 ghost use Rattle.std.specs.Prelude.{◌≡◌};
 
+use crate::tests::compared::expect_same;
 use crate::tests::rows::drive::{Trip, goes, hands_on};
 use crate::tests::rows::turns::{Turns, line_up, watch};
 use hoare_law::monitor::Monitor;
@@ -9,7 +10,6 @@ use std::process::Abort;
 use std::rt::Clock;
 use std::sync::Wait;
 use sweep_schedulers::head::Head;
-use test_support::compared::expect_same;
 
 /// How many places ask.
 pub const ASKING: usize = 5;

@@ -2,13 +2,13 @@
 //! they wrote down is held against what a sweep is.
 ghost use Rattle.std.specs.Prelude.{◌≡◌};
 
+use crate::tests::compared::expect_same;
 use crate::tests::rows::drive::{Trip, goes, hands_on};
 use crate::tests::rows::shared_log::{Log, await_others};
 use hoare_law::monitor::Monitor;
 use std::process::Abort;
 use std::sync::Wait;
 use sweep_schedulers::head::Head;
-use test_support::compared::expect_same;
 use test_support::drawn::draw;
 
 /// How many places ask.

@@ -1,6 +1,7 @@
 //! The most readers are in, a writer waits, and a reader comes late.
 ghost use Rattle.std.specs.Prelude.{◌≡◌};
 
+use crate::tests::compared::expect_same;
 use crate::tests::rows::reading::{
     Shared, ends_read, ends_write, starts_read, starts_write, waiting,
 };
@@ -10,7 +11,6 @@ use std::process::Abort;
 use std::rt::Clock;
 use std::sync::Wait;
 use std::sync::atomic::{AtomicU32, Ordering};
-use test_support::compared::expect_same;
 
 // Starts this many reads, lets the writer and then the late reader come to wait, and ends the reads; it
 // counts each one just before its end. Both wait until the last one ends.

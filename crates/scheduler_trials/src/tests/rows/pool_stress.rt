@@ -2,13 +2,13 @@
 //! is.
 ghost use Rattle.std.specs.Prelude.{◌≡◌};
 
+use crate::tests::compared::expect_same;
 use crate::tests::rows::alarm_and_pool::pool::{gives, takes};
 use crate::tests::rows::shared_log::{Log, await_others, linger};
 use hoare_law::monitor::Monitor;
 use std::process::Abort;
 use std::rt::Clock;
 use std::sync::Wait;
-use test_support::compared::expect_same;
 use timed_schedulers::pool::Pool;
 
 /// How many streams take buffers.

@@ -1,6 +1,7 @@
 //! The readers and writers: who waits for whom, and the most readers.
 ghost use Rattle.std.specs.Prelude.{◌≡◌};
 
+use crate::tests::compared::{all_answered, expect_same, reads_as};
 use crate::tests::fake::with_answers;
 use crate::tests::rows::late_reader::reads_or_writes_late;
 use crate::tests::rows::readers_stress::{Line, PLACES, is_read_and_written, reads_or_writes_on};
@@ -17,9 +18,8 @@ use std::rt::Clock;
 use std::sync::Wait;
 use std::sync::atomic::AtomicU32;
 use sweep_schedulers::readers_writers::{NoReader, ReadersWriters};
-use test_support::compared::{expect_same, reads_as};
 use test_support::run_row;
-use test_support::running::{BATON, TICKET, all_answered};
+use test_support::running::{BATON, TICKET};
 
 /// Writes a number where this one stands, and tries to write another, which comes back.
 pub fn writes<R: Wait + Abort, M: Monitor<Shared>>(
@@ -236,9 +236,23 @@ fn agrees(row: ReadersRow<'_>, value: u64) -> bool {
     }
 }
 
+// The row on a baton door. (A function for it, since the borrow checker covers a row of one lifetime alone.)
+fn on_baton(rt: &HostRuntime, alloc: Global, row: ReadersRow<'_>) -> (Shared, Vec<u64>) {
+    let (value, places) = setting(row);
+    let data = ReadersWriters::with(value);
+    run_row!(rt, alloc, on_baton_door(), acts(row), data, places)
+}
+
+// The row on a ticket door.
+fn on_ticket(rt: &HostRuntime, alloc: Global, row: ReadersRow<'_>) -> (Shared, Vec<u64>) {
+    let (value, places) = setting(row);
+    let data = ReadersWriters::with(value);
+    run_row!(rt, alloc, on_ticket_door(0), acts(row), data, places)
+}
+
 // The rows on one door.
 macro_rules! rows_of_readers {
-    ($rt:ident, $alloc:ident, $name:expr, $door:ident($($given:expr)?)) => {{
+    ($rt:ident, $alloc:ident, $name:expr, $runs:ident) => {{
         let turns = Turns::new();
         let ended = AtomicU32::new(0);
         let log = Log::new($rt, $alloc, 10_000);
@@ -247,10 +261,8 @@ macro_rules! rows_of_readers {
             ReadersRow::WriterBeforeLateReader(&turns, &ended),
             ReadersRow::NoReaderIsInBesideAWriter(&log),
         ] {
-            let (value, places) = setting(row);
-            let data = ReadersWriters::with(value);
-            let (shared, answers) = run_row!($rt, $alloc, $door($($given)?), acts(row), data, places);
-            all_answered($rt, $name, answers.as_slice(), places);
+            let (shared, answers) = $runs($rt, $alloc, row);
+            all_answered($rt, $name, answers.as_slice(), setting(row).1);
             let value = shared.into_value();
             assert!($rt; agrees(row, value), "the {} left {value}", $name);
         }
@@ -261,11 +273,11 @@ macro_rules! rows_of_readers {
 #[test]
 fn readers_and_writers_on_a_baton_door(host: HostRuntime) {
     let (rt, alloc) = (&host, host.alloc());
-    rows_of_readers!(rt, alloc, BATON, on_baton_door());
+    rows_of_readers!(rt, alloc, BATON, on_baton);
 }
 
 #[test]
 fn readers_and_writers_on_a_ticket_door(host: HostRuntime) {
     let (rt, alloc) = (&host, host.alloc());
-    rows_of_readers!(rt, alloc, TICKET, on_ticket_door(0));
+    rows_of_readers!(rt, alloc, TICKET, on_ticket);
 }

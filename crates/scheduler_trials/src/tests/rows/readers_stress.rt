@@ -2,6 +2,7 @@
 //! writers may do.
 ghost use Rattle.std.specs.Prelude.{◌≡◌, ◌<◌};
 
+use crate::tests::compared::expect_same;
 use crate::tests::rows::reading::{Shared, ends_read, ends_write, waiting};
 use crate::tests::rows::shared_log::{Log, linger};
 use hoare_law::monitor::Monitor;
@@ -9,7 +10,6 @@ use std::process::Abort;
 use std::rt::Clock;
 use std::sync::Wait;
 use sweep_schedulers::readers_writers::{ReadPass, ReadersWriters};
-use test_support::compared::expect_same;
 
 const READERS: usize = 3;
 

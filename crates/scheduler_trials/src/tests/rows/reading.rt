@@ -1,13 +1,13 @@
 //! What readers and writers do, one call each.
 ghost use Rattle.std.specs.Prelude.{◌≡◌};
 
+use crate::tests::compared::expect_same;
 use hoare_law::monitor::Monitor;
 use hoare_law::waits::Waits;
 use std::process::Abort;
 use std::sync::Wait;
 use sweep_schedulers::not_out::NotOut;
 use sweep_schedulers::readers_writers::{NoReader, ReadPass, ReadersWriters, TooManyReaders};
-use test_support::compared::expect_same;
 
 /// A number that is read and written.
 pub type Shared = ReadersWriters<u64>;

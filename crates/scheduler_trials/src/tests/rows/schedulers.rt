@@ -1,6 +1,8 @@
 //! The single item and the bounded buffer.
 ghost use Rattle.std.specs.Prelude.{◌≡◌};
 
+use crate::tests::awaited::{await_sign, watch};
+use crate::tests::compared::{answered, expect_same};
 use crate::tests::fake::with_cells;
 use hoare_law::monitor::Monitor;
 use plain_schedulers::buffer::{Buffer, BufferRefused};
@@ -9,9 +11,8 @@ use std::process::Abort;
 use std::rt::Clock;
 use std::sync::Wait;
 use std::sync::atomic::{AtomicBool, Ordering};
-use test_support::compared::expect_same;
 use test_support::run_row;
-use test_support::running::{BATON, TICKET, answered, await_sign, watch};
+use test_support::running::{BATON, TICKET};
 
 // Takes the item, gives a sign, lets another place wait for it, and puts it back: what it took.
 fn lends<R: Wait + Abort, M: Monitor<Single<u64>>>(

@@ -1,8 +1,8 @@
 //! What waits for nobody has bounds, which no clause says: steps of all kinds of a full book end within a limit of
 //! time.
+use crate::tests::limit::in_time;
 use hoare_law::waits::Waits;
 use std::alloc::Global;
-use test_support::limit::within;
 use wait_book::book::Book;
 use wait_book::steps::{Next, Step, StepRefused};
 
@@ -57,6 +57,6 @@ fn is_empty_after(alloc: Global) -> Option<bool> {
 #[test]
 fn steps_end_in_time(rt: HostRuntime) {
     let alloc = rt.alloc();
-    let is_empty = within(&rt, || is_empty_after(alloc));
+    let is_empty = in_time(&rt, || is_empty_after(alloc));
     assert_eq!(rt; is_empty, Some(true));
 }

@@ -3,6 +3,7 @@ ghost use Rattle.std.specs.Prelude.{◌≡◌};
 ghost use Rattle.hoare_law.specs.Priorities.{nobody};
 ghost use Rattle.timed_schedulers.specs.Pools.{PoolRests};
 
+use crate::tests::compared::{answered, expect_same};
 use crate::tests::rows::pool_stress::{BUFFERS, Line, STREAMS, is_a_pool, uses_or_takes_all};
 use crate::tests::rows::shared_log::Log;
 use crate::tests::rows::turns::{Turns, line_up};
@@ -11,9 +12,8 @@ use std::alloc::Global;
 use std::process::Abort;
 use std::rt::Clock;
 use std::sync::Wait;
-use test_support::compared::expect_same;
 use test_support::run_row;
-use test_support::running::{BATON, TICKET, answered};
+use test_support::running::{BATON, TICKET};
 use timed_schedulers::pool::{GiveRefused, NoStream, Pool, PoolRefused};
 
 /// A pool of this many buffers, for this many streams.
@@ -198,18 +198,32 @@ fn wanted(row: PoolRow<'_>) -> &'static [u64] {
     }
 }
 
+// The row on a baton door. (A function for it, since the borrow checker covers a row of one lifetime alone.)
+fn on_baton(rt: &HostRuntime, alloc: Global, row: PoolRow<'_>) -> Vec<u64> {
+    let (buffers, streams, places) = setting(row);
+    let pool = with_buffers(rt, alloc, buffers, streams);
+    let (_, answers) = run_row!(rt, alloc, on_baton_door(), acts(row), pool, places);
+    answers
+}
+
+// The row on a ticket door.
+fn on_ticket(rt: &HostRuntime, alloc: Global, row: PoolRow<'_>) -> Vec<u64> {
+    let (buffers, streams, places) = setting(row);
+    let pool = with_buffers(rt, alloc, buffers, streams);
+    let (_, answers) = run_row!(rt, alloc, on_ticket_door(0), acts(row), pool, places);
+    answers
+}
+
 // The rows on one door.
 macro_rules! rows_of_a_pool {
-    ($rt:ident, $alloc:ident, $name:expr, $door:ident($($given:expr)?)) => {{
+    ($rt:ident, $alloc:ident, $name:expr, $runs:ident) => {{
         let turns = Turns::new();
         let log = Log::new($rt, $alloc, 10_000);
         for row in [
             PoolRow::WhoHoldsTheFewestBuffersGoesOnFirst(&turns),
             PoolRow::ABufferHasOneHolder(&log),
         ] {
-            let (buffers, streams, places) = setting(row);
-            let pool = with_buffers($rt, $alloc, buffers, streams);
-            let (_, answers) = run_row!($rt, $alloc, $door($($given)?), acts(row), pool, places);
+            let answers = $runs($rt, $alloc, row);
             answered($rt, $name, answers.as_slice(), wanted(row));
         }
         is_a_pool($rt, log);
@@ -219,13 +233,13 @@ macro_rules! rows_of_a_pool {
 #[test]
 fn a_pool_on_a_baton_door(host: HostRuntime) {
     let (rt, alloc) = (&host, host.alloc());
-    rows_of_a_pool!(rt, alloc, BATON, on_baton_door());
+    rows_of_a_pool!(rt, alloc, BATON, on_baton);
 }
 
 #[test]
 fn a_pool_on_a_ticket_door(host: HostRuntime) {
     let (rt, alloc) = (&host, host.alloc());
-    rows_of_a_pool!(rt, alloc, TICKET, on_ticket_door(0));
+    rows_of_a_pool!(rt, alloc, TICKET, on_ticket);
 }
 
 #[test]

@@ -34,15 +34,18 @@ fn is_set_in_time<R: Clock>(rt: &R, ended: &AtomicBool) -> bool {
     false
 }
 
-/// Does the work on another thread, while this one looks on. Where the work takes too long this one calls `late`, by
-/// which a test ends as failed, with its threads not joined.
-pub fn within<R: Threads + Clock + Sync, F: FnOnce() -> T + Send, T: Send, L: FnOnce() + Send>(
+/// How a test ends whose threads come too late. (No library may end the process: so the crate of the tests says how.)
+pub trait Late<R> {
+    /// Ends the test as failed, with its threads not joined.
+    fn end(rt: &R);
+}
+
+/// Does the work on another thread, while this one looks on, and ends the test where the work takes too long.
+pub fn within<L: Late<R>, R: Threads + Clock + Sync, F: FnOnce() -> T + Send, T: Send>(
     rt: &R,
     work: F,
-    late: L,
 ) -> T
-    requires work { F.pre work }
-    requires late { L.pre late }
+    requires { F.pre work }
     ensures { F.post work result }
 {
     let ended = AtomicBool::new(false);
@@ -57,11 +60,9 @@ pub fn within<R: Threads + Clock + Sync, F: FnOnce() -> T + Send, T: Send, L: Fn
             flag.store(true, Ordering::SeqCst);
             result
         },
-        || -> ()
-            requires { L.pre late }
-        {
+        || -> () {
             if !is_set_in_time(rt, flag) {
-                late();
+                L::end(rt);
             }
         },
     );

@@ -2,20 +2,20 @@
 
 /// A row on a door that is made as the module of this crate says: a ticket door with its first ticket, a door of either
 /// kind with its kind. It is made with these data and this many places, each acts by its number, and it is closed. It
-/// gives the data that were left, and what the places answered. What is refused or comes too late fails the test.
+/// gives the data that were left, and what the places answered. What is refused fails the test, and what comes too late,
+/// by `Fails` of the crate's `tests::awaited`, which is `Late`.
 #[macro_export]
 macro_rules! run_row {
     ($rt:ident, $alloc:ident, $door:ident($($given:expr)?), $acts:ident($($more:expr),*), $data:expr, $count:expr) => {{
         let Some((door, outs)) = $crate::$door::made($alloc, $($given,)? $data, $count) else {
             panic!($rt; "no door was made")
         };
-        let acted = $crate::running::act_all(
+        let acted = $crate::running::act_all::<crate::tests::awaited::Fails, _, _, _, _>(
             $rt,
             $alloc,
             &door,
             outs,
             &|place| $acts($rt, &door, place.1, place.0 $(, $more)*),
-            || panic!($rt; "the threads did not end within the limit"),
         );
         let Ok((outs, answers)) = acted else {
             panic!($rt; "no memory")

@@ -3,7 +3,7 @@ ghost use Rattle.std.specs.Prelude.{◌≡◌, ◌<◌, ℕ, IfOk, IfErr, All, v
 ghost use Rattle.std.specs.Fork.{AcceptsJobs, GivesJobs};
 ghost use Rattle.test_support.specs.Numbered.{IsNumbered};
 
-use crate::limit::{VISITS, within};
+use crate::limit::{Late, VISITS, within};
 use hoare_law::data::MonitorData;
 use hoare_law::monitor::Monitor;
 use hoare_law::waits::Waits;
@@ -33,36 +33,34 @@ fn outs_of<O: Drop>(alloc: Global, done: Vec<(O, u64)>) -> Result<Vec<O>, AllocE
     done.into_iter().map(|d| d.0).collect(alloc)
 }
 
-/// Each place acts on a thread of its own. Where these don't end in time `late` is called.
+/// Each place acts on a thread of its own. Where these don't end in time the test does.
 fn act_each<
+    L: Late<R>,
     R: Threads + Clock + Sync,
     O: Send + Drop,
     F: Fn((usize, O)) -> (O, u64) + Sync,
-    L: FnOnce() + Send,
->(rt: &R, places: Vec<(usize, O)>, act: &F, late: L) -> Result<Vec<(O, u64)>, AllocError>
-    requires accepts { AcceptsJobs F.Fn act.now places.items }
-    requires late { L.pre late }
+>(rt: &R, places: Vec<(usize, O)>, act: &F) -> Result<Vec<(O, u64)>, AllocError>
+    requires { AcceptsJobs F.Fn act.now places.items }
     ensures count { IfOk result (λ v. vec_len v ≡ vec_len places) }
     ensures each { IfOk result (λ v. GivesJobs F.Fn act.now places.items v.items) }
 {
-    within(
+    within::<L, _, _, _>(
         rt,
         || -> Result<Vec<(O, u64)>, AllocError>
             requires { AcceptsJobs F.Fn act.now places.items }
             ensures count { IfOk result (λ v. vec_len v ≡ vec_len places) }
             ensures each { IfOk result (λ v. GivesJobs F.Fn act.entry.now places.items v.items) }
         { thread::map_vec(rt, places, act) },
-        late,
     )
 }
 
 /// Each place of a monitor acts by its number: the places again, in order, and what they answered. Where they don't end
-/// in time `late` is called.
+/// in time the test does.
 pub fn act_all<
+    L: Late<R>,
     D: MonitorData,
     M: Monitor<D>,
     F: Fn((usize, M::Out)) -> (M::Out, u64) + Sync,
-    L: FnOnce() + Send,
     R: Threads + Clock + Sync,
 >(
     rt: &R,
@@ -70,20 +68,18 @@ pub fn act_all<
     m: &M,
     outs: Vec<M::Out>,
     act: &F,
-    late: L,
 ) -> Result<(Vec<M::Out>, Vec<u64>), AllocError>
     requires of { All (M.is_of m.now) outs.items }
     requires numbered { IsNumbered M.place outs.items }
     requires acts { (k : ℕ) (o : M.Out) → M.is_of m.now o → F.pre act.now (k, o) }
     requires keeps { (k : ℕ) (o : M.Out) (r : _) → M.is_of m.now o → F.post act.now (k, o) r
         → M.is_of m.now r.0 × (M.place r.0 ≡ M.place o) }
-    requires late { L.pre late }
     ensures count { IfOk result (λ r. vec_len r.0 ≡ vec_len outs) }
     ensures of { IfOk result (λ r. All (M.is_of m.now) r.0.items) }
     ensures numbered { IfOk result (λ r. IsNumbered M.place r.0.items) }
 {
     let places = numbered(alloc, outs)?;
-    let done = act_each(rt, places, act, late)?;
+    let done = act_each::<L, _, _, _>(rt, places, act)?;
     let answers = done.iter().map(|d| d.1).collect(alloc)?;
     let outs = outs_of(alloc, done)?;
     Ok((outs, answers))

@@ -7,7 +7,17 @@ use std::process::Abort;
 use std::rt::Clock;
 use std::sync::Wait;
 use std::sync::atomic::AtomicBool;
+use test_support::limit::Late;
 use test_support::running;
+
+/// A test whose threads come too late fails.
+pub struct Fails;
+
+impl<R: Abort> Late<R> for Fails {
+    fn end(rt: &R) {
+        panic!(rt; "the threads did not end within the limit")
+    }
+}
 
 /// Comes in once this many wait on the condition.
 pub fn watch<D: MonitorData, R: Wait + Abort, M: Monitor<D>>(

@@ -8,9 +8,19 @@ use std::rt::Clock;
 use std::sync::Wait;
 use std::sync::atomic::AtomicBool;
 use std::thread::Threads;
+use test_support::limit::Late;
 use test_support::{limit, running};
 
-/// Does the work on another thread. Where that takes too long the test fails, with its threads not joined.
+/// A test whose threads come too late fails.
+pub struct Fails;
+
+impl<R: Abort> Late<R> for Fails {
+    fn end(rt: &R) {
+        panic!(rt; "the threads did not end within the limit")
+    }
+}
+
+/// Does the work on another thread. Where that takes too long the test fails.
 pub fn within<R: Threads + Abort + Clock + Sync, F: FnOnce() -> T + Send, T: Send>(
     rt: &R,
     work: F,
@@ -18,11 +28,7 @@ pub fn within<R: Threads + Abort + Clock + Sync, F: FnOnce() -> T + Send, T: Sen
     requires { F.pre work }
     ensures { F.post work result }
 {
-    limit::within(
-        rt,
-        work,
-        || panic!(rt; "the threads did not end within the limit"),
-    )
+    limit::within::<Fails, _, _, _>(rt, work)
 }
 
 /// Comes in once this many wait on the condition.

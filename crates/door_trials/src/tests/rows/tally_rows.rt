@@ -9,7 +9,6 @@ use crate::tests::rows::tries::{PLACES, adds_on, waits_or_tries};
 use crate::tests::rows::wakes::{comes_late, waits_long};
 use crate::tests::rows::{naps, tries};
 use hoare_law::monitor::Monitor;
-use std::alloc::Global;
 use std::process::Abort;
 use std::rt::Clock;
 use std::sync::Wait;
@@ -110,21 +109,9 @@ fn holds<R: Abort>(rt: &R, door: &str, row: TallyRow<'_>, left: (Tally, Vec<u64>
     );
 }
 
-// The row on a baton door. (A function for it, since the borrow checker covers a row of one lifetime alone.)
-fn on_baton(rt: &HostRuntime, alloc: Global, row: TallyRow<'_>) -> (Tally, Vec<u64>) {
-    let data = Tally { value: 0 };
-    run_row!(rt, alloc, on_baton_door(), acts(row), data, places(row))
-}
-
-// The row on a ticket door.
-fn on_ticket(rt: &HostRuntime, alloc: Global, row: TallyRow<'_>) -> (Tally, Vec<u64>) {
-    let data = Tally { value: 0 };
-    run_row!(rt, alloc, on_ticket_door(0), acts(row), data, places(row))
-}
-
 // The rows on one door.
 macro_rules! rows_of_a_tally {
-    ($rt:ident, $alloc:ident, $name:expr, $runs:ident) => {{
+    ($rt:ident, $alloc:ident, $name:expr, $door:ident($($given:expr)?)) => {{
         let sign = AtomicBool::new(false);
         let signs = Signs::new();
         let gone = AtomicUsize::new(0);
@@ -141,7 +128,8 @@ macro_rules! rows_of_a_tally {
             TallyRow::ANewcomerThatNobodyCallsComesIn(&signs),
             TallyRow::EightComeInBesideEightBusyThreads(&gone),
         ] {
-            let left = $runs($rt, $alloc, row);
+            let data = Tally { value: 0 };
+            let left = run_row!($rt, $alloc, $door($($given)?), acts(row), data, places(row));
             holds($rt, $name, row, left);
         }
     }};
@@ -150,11 +138,11 @@ macro_rules! rows_of_a_tally {
 #[test]
 fn a_tally_on_a_baton_door(host: HostRuntime) {
     let (rt, alloc) = (&host, host.alloc());
-    rows_of_a_tally!(rt, alloc, BATON, on_baton);
+    rows_of_a_tally!(rt, alloc, BATON, on_baton_door());
 }
 
 #[test]
 fn a_tally_on_a_ticket_door(host: HostRuntime) {
     let (rt, alloc) = (&host, host.alloc());
-    rows_of_a_tally!(rt, alloc, TICKET, on_ticket);
+    rows_of_a_tally!(rt, alloc, TICKET, on_ticket_door(0));
 }

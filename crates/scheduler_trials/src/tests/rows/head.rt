@@ -207,25 +207,9 @@ fn setting(row: HeadRow<'_>) -> (u16, usize) {
     }
 }
 
-// The row on a baton door. (A function for it, since the borrow checker covers a row of one lifetime alone.)
-fn on_baton(rt: &HostRuntime, alloc: Global, row: HeadRow<'_>) -> Vec<u64> {
-    let (cylmax, places) = setting(row);
-    let head = disk(alloc, cylmax);
-    let (_, answers) = run_row!(rt, alloc, on_baton_door(), acts(row), head, places);
-    answers
-}
-
-// The row on a ticket door.
-fn on_ticket(rt: &HostRuntime, alloc: Global, row: HeadRow<'_>) -> Vec<u64> {
-    let (cylmax, places) = setting(row);
-    let head = disk(alloc, cylmax);
-    let (_, answers) = run_row!(rt, alloc, on_ticket_door(0), acts(row), head, places);
-    answers
-}
-
 // The rows on one door.
 macro_rules! rows_of_a_head {
-    ($rt:ident, $alloc:ident, $name:expr, $runs:ident) => {{
+    ($rt:ident, $alloc:ident, $name:expr, $door:ident($($given:expr)?)) => {{
         let turns = Turns::new();
         let log = Log::new($rt, $alloc, 10_000);
         for row in [
@@ -234,8 +218,10 @@ macro_rules! rows_of_a_head {
             HeadRow::StayCountsGrants(&turns),
             HeadRow::TheDriveGoesBySweeps(&log),
         ] {
-            let answers = $runs($rt, $alloc, row);
-            all_answered($rt, $name, answers.as_slice(), setting(row).1);
+            let (cylmax, places) = setting(row);
+            let head = disk($alloc, cylmax);
+            let (_, answers) = run_row!($rt, $alloc, $door($($given)?), acts(row), head, places);
+            all_answered($rt, $name, answers.as_slice(), places);
         }
         is_a_sweep($rt, log);
     }};
@@ -244,11 +230,11 @@ macro_rules! rows_of_a_head {
 #[test]
 fn a_disk_head_on_a_baton_door(host: HostRuntime) {
     let (rt, alloc) = (&host, host.alloc());
-    rows_of_a_head!(rt, alloc, BATON, on_baton);
+    rows_of_a_head!(rt, alloc, BATON, on_baton_door());
 }
 
 #[test]
 fn a_disk_head_on_a_ticket_door(host: HostRuntime) {
     let (rt, alloc) = (&host, host.alloc());
-    rows_of_a_head!(rt, alloc, TICKET, on_ticket);
+    rows_of_a_head!(rt, alloc, TICKET, on_ticket_door(0));
 }

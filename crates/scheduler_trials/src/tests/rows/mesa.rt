@@ -150,31 +150,17 @@ fn agrees(row: MesaRow<'_>, answers: &[u64]) -> bool {
     }
 }
 
-// The row on a baton door. (A function for it, since the borrow checker covers a row of one lifetime alone.)
-fn on_baton(rt: &HostRuntime, alloc: Global, row: MesaRow<'_>) -> Vec<u64> {
-    let (cells, places) = setting(row);
-    let buffer = with_cells(rt, alloc, cells);
-    let (_, answers) = run_row!(rt, alloc, on_baton_door(), acts(row), buffer, places);
-    answers
-}
-
-// The row on a ticket door.
-fn on_ticket(rt: &HostRuntime, alloc: Global, row: MesaRow<'_>) -> Vec<u64> {
-    let (cells, places) = setting(row);
-    let buffer = with_cells(rt, alloc, cells);
-    let (_, answers) = run_row!(rt, alloc, on_ticket_door(0), acts(row), buffer, places);
-    answers
-}
-
 // The rows on one door.
 macro_rules! rows_of_a_buffer {
-    ($rt:ident, $alloc:ident, $name:expr, $runs:ident) => {{
+    ($rt:ident, $alloc:ident, $name:expr, $door:ident($($given:expr)?)) => {{
         let turns = Turns::new();
         for row in [
             MesaRow::WhoIsCalledTestsAgain(&turns),
             MesaRow::NoItemIsLostBetweenCalledPlaces,
         ] {
-            let answers = $runs($rt, $alloc, row);
+            let (cells, places) = setting(row);
+            let buffer = with_cells($rt, $alloc, cells);
+            let (_, answers) = run_row!($rt, $alloc, $door($($given)?), acts(row), buffer, places);
             assert!($rt; agrees(row, answers.as_slice()), "the {} answered {answers:?}", $name);
         }
     }};
@@ -183,13 +169,13 @@ macro_rules! rows_of_a_buffer {
 #[test]
 fn who_is_called_tests_again_on_a_baton_door(host: HostRuntime) {
     let (rt, alloc) = (&host, host.alloc());
-    rows_of_a_buffer!(rt, alloc, BATON, on_baton);
+    rows_of_a_buffer!(rt, alloc, BATON, on_baton_door());
 }
 
 #[test]
 fn who_is_called_tests_again_on_a_ticket_door(host: HostRuntime) {
     let (rt, alloc) = (&host, host.alloc());
-    rows_of_a_buffer!(rt, alloc, TICKET, on_ticket);
+    rows_of_a_buffer!(rt, alloc, TICKET, on_ticket_door(0));
 }
 
 #[test]

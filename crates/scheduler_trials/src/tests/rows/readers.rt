@@ -236,23 +236,9 @@ fn agrees(row: ReadersRow<'_>, value: u64) -> bool {
     }
 }
 
-// The row on a baton door. (A function for it, since the borrow checker covers a row of one lifetime alone.)
-fn on_baton(rt: &HostRuntime, alloc: Global, row: ReadersRow<'_>) -> (Shared, Vec<u64>) {
-    let (value, places) = setting(row);
-    let data = ReadersWriters::with(value);
-    run_row!(rt, alloc, on_baton_door(), acts(row), data, places)
-}
-
-// The row on a ticket door.
-fn on_ticket(rt: &HostRuntime, alloc: Global, row: ReadersRow<'_>) -> (Shared, Vec<u64>) {
-    let (value, places) = setting(row);
-    let data = ReadersWriters::with(value);
-    run_row!(rt, alloc, on_ticket_door(0), acts(row), data, places)
-}
-
 // The rows on one door.
 macro_rules! rows_of_readers {
-    ($rt:ident, $alloc:ident, $name:expr, $runs:ident) => {{
+    ($rt:ident, $alloc:ident, $name:expr, $door:ident($($given:expr)?)) => {{
         let turns = Turns::new();
         let ended = AtomicU32::new(0);
         let log = Log::new($rt, $alloc, 10_000);
@@ -261,8 +247,10 @@ macro_rules! rows_of_readers {
             ReadersRow::WriterBeforeLateReader(&turns, &ended),
             ReadersRow::NoReaderIsInBesideAWriter(&log),
         ] {
-            let (shared, answers) = $runs($rt, $alloc, row);
-            all_answered($rt, $name, answers.as_slice(), setting(row).1);
+            let (value, places) = setting(row);
+            let data = ReadersWriters::with(value);
+            let (shared, answers) = run_row!($rt, $alloc, $door($($given)?), acts(row), data, places);
+            all_answered($rt, $name, answers.as_slice(), places);
             let value = shared.into_value();
             assert!($rt; agrees(row, value), "the {} left {value}", $name);
         }
@@ -273,11 +261,11 @@ macro_rules! rows_of_readers {
 #[test]
 fn readers_and_writers_on_a_baton_door(host: HostRuntime) {
     let (rt, alloc) = (&host, host.alloc());
-    rows_of_readers!(rt, alloc, BATON, on_baton);
+    rows_of_readers!(rt, alloc, BATON, on_baton_door());
 }
 
 #[test]
 fn readers_and_writers_on_a_ticket_door(host: HostRuntime) {
     let (rt, alloc) = (&host, host.alloc());
-    rows_of_readers!(rt, alloc, TICKET, on_ticket);
+    rows_of_readers!(rt, alloc, TICKET, on_ticket_door(0));
 }

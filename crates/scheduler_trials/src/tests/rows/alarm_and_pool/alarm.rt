@@ -6,7 +6,6 @@ use crate::tests::rows::alarm_stress::{Line, SLEEPERS, is_a_clock, sleeps_or_tic
 use crate::tests::rows::shared_log::Log;
 use crate::tests::rows::turns::watch;
 use hoare_law::monitor::Monitor;
-use std::alloc::Global;
 use std::process::Abort;
 use std::sync::Wait;
 use test_support::run_row;
@@ -148,44 +147,17 @@ fn wanted(row: AlarmRow<'_>) -> &'static [u64] {
     }
 }
 
-// The row on a baton door. (A function for it, since the borrow checker covers a row of one lifetime alone.)
-fn on_baton(rt: &HostRuntime, alloc: Global, row: AlarmRow<'_>) -> Vec<u64> {
-    let (time, places) = setting(row);
-    let (_, answers) = run_row!(
-        rt,
-        alloc,
-        on_baton_door(),
-        acts(row),
-        Alarm::at(time),
-        places
-    );
-    answers
-}
-
-// The row on a ticket door.
-fn on_ticket(rt: &HostRuntime, alloc: Global, row: AlarmRow<'_>) -> Vec<u64> {
-    let (time, places) = setting(row);
-    let (_, answers) = run_row!(
-        rt,
-        alloc,
-        on_ticket_door(0),
-        acts(row),
-        Alarm::at(time),
-        places
-    );
-    answers
-}
-
 // The rows on one door.
 macro_rules! rows_of_an_alarm_clock {
-    ($rt:ident, $alloc:ident, $name:expr, $runs:ident) => {{
+    ($rt:ident, $alloc:ident, $name:expr, $door:ident($($given:expr)?)) => {{
         let log = Log::new($rt, $alloc, 10_000);
         for row in [
             AlarmRow::SleepersWakeAtTheirSettings,
             AlarmRow::AClockEndsAtItsLastTime,
             AlarmRow::AllThatAreDueWakeAtTheirTime(&log),
         ] {
-            let answers = $runs($rt, $alloc, row);
+            let (time, places) = setting(row);
+            let (_, answers) = run_row!($rt, $alloc, $door($($given)?), acts(row), Alarm::at(time), places);
             answered($rt, $name, answers.as_slice(), wanted(row));
         }
         is_a_clock($rt, log);
@@ -195,11 +167,11 @@ macro_rules! rows_of_an_alarm_clock {
 #[test]
 fn an_alarm_clock_on_a_baton_door(host: HostRuntime) {
     let (rt, alloc) = (&host, host.alloc());
-    rows_of_an_alarm_clock!(rt, alloc, BATON, on_baton);
+    rows_of_an_alarm_clock!(rt, alloc, BATON, on_baton_door());
 }
 
 #[test]
 fn an_alarm_clock_on_a_ticket_door(host: HostRuntime) {
     let (rt, alloc) = (&host, host.alloc());
-    rows_of_an_alarm_clock!(rt, alloc, TICKET, on_ticket);
+    rows_of_an_alarm_clock!(rt, alloc, TICKET, on_ticket_door(0));
 }

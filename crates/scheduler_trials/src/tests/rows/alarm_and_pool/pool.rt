@@ -198,32 +198,18 @@ fn wanted(row: PoolRow<'_>) -> &'static [u64] {
     }
 }
 
-// The row on a baton door. (A function for it, since the borrow checker covers a row of one lifetime alone.)
-fn on_baton(rt: &HostRuntime, alloc: Global, row: PoolRow<'_>) -> Vec<u64> {
-    let (buffers, streams, places) = setting(row);
-    let pool = with_buffers(rt, alloc, buffers, streams);
-    let (_, answers) = run_row!(rt, alloc, on_baton_door(), acts(row), pool, places);
-    answers
-}
-
-// The row on a ticket door.
-fn on_ticket(rt: &HostRuntime, alloc: Global, row: PoolRow<'_>) -> Vec<u64> {
-    let (buffers, streams, places) = setting(row);
-    let pool = with_buffers(rt, alloc, buffers, streams);
-    let (_, answers) = run_row!(rt, alloc, on_ticket_door(0), acts(row), pool, places);
-    answers
-}
-
 // The rows on one door.
 macro_rules! rows_of_a_pool {
-    ($rt:ident, $alloc:ident, $name:expr, $runs:ident) => {{
+    ($rt:ident, $alloc:ident, $name:expr, $door:ident($($given:expr)?)) => {{
         let turns = Turns::new();
         let log = Log::new($rt, $alloc, 10_000);
         for row in [
             PoolRow::WhoHoldsTheFewestBuffersGoesOnFirst(&turns),
             PoolRow::ABufferHasOneHolder(&log),
         ] {
-            let answers = $runs($rt, $alloc, row);
+            let (buffers, streams, places) = setting(row);
+            let pool = with_buffers($rt, $alloc, buffers, streams);
+            let (_, answers) = run_row!($rt, $alloc, $door($($given)?), acts(row), pool, places);
             answered($rt, $name, answers.as_slice(), wanted(row));
         }
         is_a_pool($rt, log);
@@ -233,13 +219,13 @@ macro_rules! rows_of_a_pool {
 #[test]
 fn a_pool_on_a_baton_door(host: HostRuntime) {
     let (rt, alloc) = (&host, host.alloc());
-    rows_of_a_pool!(rt, alloc, BATON, on_baton);
+    rows_of_a_pool!(rt, alloc, BATON, on_baton_door());
 }
 
 #[test]
 fn a_pool_on_a_ticket_door(host: HostRuntime) {
     let (rt, alloc) = (&host, host.alloc());
-    rows_of_a_pool!(rt, alloc, TICKET, on_ticket);
+    rows_of_a_pool!(rt, alloc, TICKET, on_ticket_door(0));
 }
 
 #[test]

@@ -1,0 +1,4 @@
+mod Answers
+mod Many
+mod Numbered
+mod Stages

@@ -1,0 +1,11 @@
+use Rattle.std.proofs.Common.{rules, length, ap, ◌∙◌}
+use Rattle.door_frame.proofs.PlacesInOrder.{length-places}
+use Rattle.monitor_trials.proofs.Numbered.{IsNumbered-places}
+use Rattle.monitor_trials.proofs.tests.on_baton_door.made.Goals as goal
+
+pub returns-clause-count : goal.returns-clause-count
+returns-clause-count g c = let count = ap length c.in-Ok.ensures.places ∙ length-places c.in-Ok.made.0 0 _ _ in
+    search rules
+
+pub returns-clause-numbered : goal.returns-clause-numbered
+returns-clause-numbered g c = rw c.in-Ok.ensures.places (IsNumbered-places c.in-Ok.made.0 _ _)

@@ -1,0 +1,28 @@
+//! Rows of tests on threads: each is written over any monitor, and run on each door.
+pub mod alarm_and_pool;
+mod alarm_stress;
+mod diary;
+mod diary_calls;
+pub mod drive;
+mod foreign_items;
+mod full;
+pub mod head;
+pub mod head_stay;
+mod head_stress;
+mod history;
+mod late_reader;
+mod mesa;
+mod naps;
+mod pool_stress;
+pub mod readers;
+mod readers_stress;
+pub mod reading;
+mod schedulers;
+mod shared_log;
+pub mod stress;
+pub mod tally;
+mod tally_rows;
+mod tickets;
+mod tries;
+mod turns;
+mod wakes;

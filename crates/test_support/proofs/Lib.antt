@@ -1,3 +1,0 @@
-mod Answers
-pub mod Numbered
-mod Stages

@@ -52,29 +52,46 @@ static void relax(void) {
 #endif
 }
 /* To look pays where the other has a core at once, and is lost where the cores are busy. So what was looked for in vain
- * halves the thread's next looks; what was seen makes them many again, and so does each 64th time. */
-static _Thread_local uint32_t looks = ZAULINTE_LOOKS, times;
-static bool sees(zaulinte_bell *b, uint32_t wanted) {
-    uint32_t most = ++times % LONG_EACH == 0 ? ZAULINTE_LOOKS : looks;
-    for (uint32_t i = 0; i < most; i++) {
-        if (atomic_load_explicit(&b->word, memory_order_acquire) == wanted) {
-            looks = ZAULINTE_LOOKS;
-            return true;
-        }
+ * halves a thread's next looks there, at the door or at its bell; what was seen makes them many again, and so does each
+ * 64th time. */
+typedef struct {
+    uint32_t next, times;
+} looks;
+static _Thread_local looks at_door = {ZAULINTE_LOOKS, 0}, at_bell = {ZAULINTE_LOOKS, 0};
+static uint32_t begin_looks(looks *l) { return ++l->times % LONG_EACH == 0 ? ZAULINTE_LOOKS : l->next; }
+static bool end_looks(looks *l, bool seen) {
+    l->next = seen ? ZAULINTE_LOOKS : l->next / 2 > FEWEST_LOOKS ? l->next / 2 : FEWEST_LOOKS;
+    return seen;
+}
+static bool is_rung_soon(zaulinte_bell *b) {
+    for (uint32_t left = begin_looks(&at_bell); left > 0; left--) {
+        if (atomic_load_explicit(&b->word, memory_order_acquire) == GO_ON) return end_looks(&at_bell, true);
         relax();
     }
-    looks = looks / 2 > FEWEST_LOOKS ? looks / 2 : FEWEST_LOOKS;
-    return false;
+    return end_looks(&at_bell, false);
 }
 
 /* the door: who takes the word is the only one that runs inside */
-static bool takes(zaulinte_monitor *m) {
+static bool takes_as(zaulinte_monitor *m, uint32_t as) {
     uint32_t is = FREE;
-    return atomic_compare_exchange_strong(&m->door.word, &is, HELD);
+    return atomic_compare_exchange_strong(&m->door.word, &is, as);
 }
+static bool takes(zaulinte_monitor *m) { return takes_as(m, HELD); }
+static bool takes_soon(zaulinte_monitor *m, uint32_t as) {
+    for (uint32_t left = begin_looks(&at_door); left > 0; left--) {
+        bool is_free = atomic_load_explicit(&m->door.word, memory_order_relaxed) == FREE;
+        if (is_free && takes_as(m, as)) return end_looks(&at_door, true);
+        relax();
+    }
+    return end_looks(&at_door, false);
+}
+/* who slept takes it as a door at which others may sleep */
 static void take(zaulinte_monitor *m) {
-    if (takes(m) || (sees(&m->door, FREE) && takes(m))) return;
-    while (atomic_exchange(&m->door.word, SLEPT_AT) != FREE) sleep_while(&m->door, SLEPT_AT);
+    if (takes(m) || takes_soon(m, HELD)) return;
+    while (atomic_exchange(&m->door.word, SLEPT_AT) != FREE) {
+        sleep_while(&m->door, SLEPT_AT);
+        if (takes_soon(m, SLEPT_AT)) return;
+    }
 }
 static void open_door(zaulinte_monitor *m) {
     if (atomic_exchange(&m->door.word, FREE) == SLEPT_AT) wake_one(&m->door);
@@ -102,7 +119,7 @@ static void go_away(zaulinte_monitor *m, uint32_t place, uint64_t next) {
     m->away |= bit(place);
     set_inside(m, 0);
     hand_on(m, next);
-    if (!sees(mine, GO_ON)) {
+    if (!is_rung_soon(mine)) {
         uint32_t is = NOTHING;
         if (atomic_compare_exchange_strong(&mine->word, &is, ASLEEP))
             while (atomic_load(&mine->word) == ASLEEP) sleep_while(mine, ASLEEP);

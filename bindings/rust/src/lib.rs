@@ -76,10 +76,10 @@ pub use checks::{Checks, Waiting};
 pub use conditions::{Condition, NoConditions};
 pub use inside::Inside;
 
-use bell::Bell;
+use bell::{Bell, AT_BELL, AT_DOOR};
 use book::Book;
 use std::cell::UnsafeCell;
-use std::sync::atomic::{AtomicBool, Ordering::Relaxed, Ordering::SeqCst};
+use std::sync::atomic::{AtomicBool, Ordering::Acquire, Ordering::Relaxed, Ordering::SeqCst};
 use std::sync::{Arc, LockResult, PoisonError};
 
 const FREE: u32 = 0;
@@ -114,7 +114,11 @@ unsafe impl<T: Send, C, M> Sync for Inner<T, C, M> {}
 
 impl<T, C, M> Inner<T, C, M> {
     fn takes(&self) -> bool {
-        self.door.word.compare_exchange(FREE, HELD, SeqCst, SeqCst).is_ok()
+        self.takes_as(HELD)
+    }
+
+    fn takes_as(&self, to: u32) -> bool {
+        self.door.word.compare_exchange(FREE, to, SeqCst, SeqCst).is_ok()
     }
 
     fn take(&self) {
@@ -125,11 +129,15 @@ impl<T, C, M> Inner<T, C, M> {
 
     #[cold]
     fn keep_trying(&self) {
-        if self.door.sees(FREE) && self.takes() {
+        let soon = |to| AT_DOOR.with(|looks| looks.sees(|| self.door.word.load(Relaxed) == FREE && self.takes_as(to)));
+        if soon(HELD) {
             return;
         }
         while self.door.word.swap(SLEPT_AT, SeqCst) != FREE {
             self.door.sleep_while(SLEPT_AT);
+            if soon(SLEPT_AT) {
+                return;
+            }
         }
     }
 
@@ -152,7 +160,8 @@ impl<T, C, M> Inner<T, C, M> {
     // Until this place is rung.
     fn come_back(&self, place: usize) {
         let bell = &self.bells[place];
-        if !bell.sees(GO_ON) && bell.word.compare_exchange(NOTHING, ASLEEP, SeqCst, SeqCst).is_ok() {
+        let rung = AT_BELL.with(|looks| looks.sees(|| bell.word.load(Acquire) == GO_ON));
+        if !rung && bell.word.compare_exchange(NOTHING, ASLEEP, SeqCst, SeqCst).is_ok() {
             bell.sleep_while(ASLEEP);
         }
         bell.word.store(NOTHING, SeqCst);

@@ -198,8 +198,7 @@ impl Held {
     }
 
     /// Whether somebody waits on a condition: 1 or 0; and where one does, the priority of whom a signal would resume.
-    /// Refused:
-    /// `NO_BOOK`, `NO_CONDITION`.
+    /// Refused: `NO_BOOK`, `NO_CONDITION`.
     pub fn first(&mut self, alloc: Global, condition: u64, priority: &mut u64) -> u64
         ensures of { (h : History (Unit {0})) → Holds self.old.live self.old.handle.value h
             → Holds self.new.live self.new.handle.value h × (result ≡ queue_code h condition)

@@ -30,6 +30,7 @@ impl<D: MonitorData> Play<Option<Parcel<D>>, View<D>> for Open {
 pub trait PickedEvent<D> {
     ghost use Rattle.hoare_law.specs.declared.event.Event.{Event};
 
+    /// The event, of the data in the slot.
     ghost event: { D → Event D };
 }
 
@@ -53,6 +54,7 @@ pub trait PickedNotice<D> {
     ghost use Rattle.hoare_law.specs.declared.event.Event.{Event};
     ghost use Rattle.hoare_law.specs.declared.event.History.{History};
 
+    /// The event, of what the place knew.
     ghost event: { History D → Event D };
 }
 

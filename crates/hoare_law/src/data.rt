@@ -40,7 +40,9 @@ pub trait MonitorData {
         ensures { IsTrue result
             ↔ ready condition priority self.now (W.waiting_priorities lists.now) };
 
+    /// Where `rest` holds, the invariant does.
     ghost rest_inv: { (s : Self) (q : ℕ → List ℕ) → rest s q → inv s };
 
+    /// Where `ready` holds, the invariant does.
     ghost ready_inv: { (c p : ℕ) (s : Self) (q : ℕ → List ℕ) → ready c p s q → inv s };
 }

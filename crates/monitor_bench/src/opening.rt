@@ -14,7 +14,9 @@ use ticket_door::place::TicketOut;
 /// Which door is measured.
 #[derive(Clone, Copy)]
 pub enum DoorKind {
+    /// The baton door.
     Baton,
+    /// The ticket door, which lets newcomers in in the order of their tickets.
     Ticket,
 }
 

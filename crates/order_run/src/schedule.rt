@@ -54,8 +54,11 @@ pub enum Standing {
 pub struct Schedule {
     /// Which run it was, from 1 on.
     pub run: u64,
+    /// How many threads, each with the place of its number.
     pub threads: usize,
+    /// How many conditions the monitor has.
     pub conditions: usize,
+    /// How many of them, the last ones, are Mesa conditions.
     pub mesa: usize,
     /// Who is inside at its end.
     pub inside: Option<usize>,
@@ -63,6 +66,7 @@ pub struct Schedule {
     pub steps: Vec<Step>,
     /// Where each thread stands at its end.
     pub standings: Vec<Standing>,
+    /// How it ended.
     pub ending: Ending,
 }
 

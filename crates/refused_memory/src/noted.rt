@@ -7,10 +7,12 @@ use std::io::Write;
 /// What was written, of at most 128 bytes. Nothing is taken where there is no room.
 #[derive(Drop)]
 pub struct Noted {
+    /// The bytes, in order.
     pub bytes: ArrayVec<u8, 128>,
 }
 
 impl Noted {
+    /// Nothing written yet.
     pub fn new() -> Noted {
         Noted {
             bytes: ArrayVec::new(),

@@ -57,7 +57,8 @@ impl Program<Alarm, Explored<Alarm>> for Sleepers {
     }
 }
 
-/// Three threads that tick, and ask for the time.
+/// Three threads that tick, and ask for the time. Nobody sleeps: where somebody would, an order hangs, in which it sets
+/// the clock after the last tick, as with `Sleepers`.
 #[derive(Clone, Copy)]
 pub struct Tickers;
 

@@ -14,8 +14,7 @@ word_of (Owed k c) = k + 2
 word_of (Return k) = k + 2
 
 -- the words before the door opens: free, and held once the first seat has the slot. Nobody uses the last seven, which
--- keep
--- most other data off the first one's line of the cache
+-- keep most other data off the first one's line of the cache
 pub record Starts (begun : Bool) (words : List ℕ) : Type 0 where
   pub words_are : length words ≡ 8
   pub word : slice_index words 0 ≡ (if begun then 1 else 0)

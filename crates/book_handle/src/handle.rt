@@ -10,7 +10,7 @@ use std::alloc::{Allocator, Global};
 use std::marker::Model;
 use wait_book::book::Book;
 
-/// Where a book lies, if `live` is 1. It isn't `Drop`: a book has to be taken out.
+/// Where a book lies, if `live` is 1, and then `value` is what it holds. It isn't `Drop`: a book has to be taken out.
 #[repr(C)]
 pub struct Handle {
     at: *mut u8,

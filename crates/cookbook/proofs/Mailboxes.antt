@@ -1,6 +1,5 @@
 -- Which letter of a mailbox is the most urgent, as far as it was looked through; and what a mailbox keeps of those that
--- wait, as a letter goes in or
--- comes out.
+-- wait, as a letter goes in or comes out.
 use Rattle.std.proofs.Common.{◌≡◌, ◌≢◌, ℕ, suc, ◌+◌, ◌<◌, ◌≤◌, List, [], ◌∷◌, ◌++◌, length, length-append, get_or, take}
 use Rattle.std.proofs.Common.{drop, drop-cons, sym, ap, ◌∙◌, arith}
 use Rattle.std.specs.List.{remove}

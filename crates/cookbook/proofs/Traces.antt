@@ -1,6 +1,5 @@
 -- A wait as a trace names it: one equation each for the place, the priority, the data and the front that the clause
--- names by other
--- words.
+-- names by other words.
 use Rattle.std.proofs.Common.{◌≡◌, ℕ}
 use Rattle.hoare_law.specs.declared.event.History.{History}
 use Rattle.hoare_law.specs.declared.event.Event.TheVariants.{Wait, Resume}

@@ -1,6 +1,5 @@
 -- What holds of a latch and of those that wait at it. The data is how often it must be counted down still; condition 0
--- is "the latch
--- is open".
+-- is "the latch is open".
 use Rattle.std.specs.Prelude.{ℕ, List, [], ◌≡◌, ◌≢◌, ◌<◌}
 
 -- if somebody waits, the latch is shut

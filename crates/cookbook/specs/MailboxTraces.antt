@@ -6,8 +6,7 @@ use Rattle.cookbook.specs.declared.mailbox.Letter.{Letter}
 use Rattle.cookbook.specs.Mailboxes.{TakesMostUrgent}
 
 -- k put the letter in as the latest, after a wait with the letter's priority where there was no room, and resumed a
--- process that
--- waits for mail
+-- process that waits for mail
 pub record Sends (k : ℕ) (letter : Letter) (f h : History (List Letter)) : Type 0 where
   pub found : List Letter
   pub front : History (List Letter)

@@ -1,6 +1,5 @@
 -- What holds of a mailbox and of those that wait at it. Condition 0 is "there is room", condition 1 is "there is mail";
--- a mailbox has
--- room for 8 letters.
+-- a mailbox has room for 8 letters.
 use Rattle.std.specs.Prelude.{ℕ, zero, suc, List, [], ◌∷◌, ◌++◌, All, ◌≡◌, ◌≢◌, ◌<◌, ◌≤◌, ◌+◌}
 use Rattle.cookbook.specs.declared.mailbox.Letter.{Letter}
 

@@ -9,8 +9,7 @@ use Rattle.cookbook.specs.declared.rendezvous.Rendezvous.{Rendezvous}
 use Rattle.cookbook.specs.declared.rendezvous.Rendezvous.TheVariants.{Empty, Offered, Answered}
 
 -- k found nobody, waited with its value as the offer, and took the answer that it was resumed with; or it found an
--- offer, took it, and
--- passed the monitor with its value as the answer to w, which waits
+-- offer, took it, and passed the monitor with its value as the answer to w, which waits
 pub data Exchanges {T : Type 0} (k : ℕ) (value : T) (f h : History (Rendezvous T)) : T → Type 0 where
   came_first : (y : T) (e g : History (Rendezvous T)) → AddsLast f (Admit k Empty) e
       → AddsTwo e (Wait k 0 0 (Offered value)) (Resume k 0 (Answered y)) g → h ≡ with_event g (Leave k Empty)

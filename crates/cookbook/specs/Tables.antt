@@ -1,6 +1,5 @@
 -- What holds of the philosophers' table and of those that wait at it. The data says for each of the five seats whether
--- its philosopher
--- eats; condition k is "the philosopher at seat k can eat".
+-- its philosopher eats; condition k is "the philosopher at seat k can eat".
 use Rattle.std.specs.Prelude.{ℕ, List, [], length, replicate, slice_index_or, slice_set, Bool, true, false, ◌≡◌, ◌≢◌}
 use Rattle.std.specs.Prelude.{◌<◌, ◌+◌, ◌%◌}
 

@@ -24,7 +24,9 @@ pub const THERE_IS_MAIL: usize = 1;
 /// A letter. The least priority is the most urgent.
 #[derive(Clone, Copy, Debug, Default, PartialEq, Eq)]
 pub struct Letter {
+    /// How urgent it is: the least priority is received first.
     pub priority: u64,
+    /// What it says. A mailbox never looks at it.
     pub word: u64,
 }
 

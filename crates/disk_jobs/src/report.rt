@@ -15,8 +15,11 @@ use std::io::Write;
 /// What the service reports: each job that was done, how many they are, and the sum of their blocks.
 #[derive(Debug, Drop, PartialEq, Eq)]
 pub struct Report {
+    /// The jobs that were done, in the order of their numbers.
     pub lines: Vec<Done>,
+    /// How many they are.
     pub jobs: u64,
+    /// The sum of their blocks.
     pub sum: u64,
 }
 

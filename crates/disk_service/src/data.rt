@@ -24,7 +24,9 @@ impl Drive {
 /// How many jobs were done, and the sum of their blocks.
 #[derive(Clone, Copy, Debug, PartialEq, Eq)]
 pub(crate) struct Totals {
+    /// How many jobs were done.
     pub jobs: u64,
+    /// The sum of their blocks.
     pub sum: u64,
 }
 
@@ -43,7 +45,9 @@ impl Totals {
 /// What all may read: how many jobs were done, and whether no more will be.
 #[derive(Clone, Copy, Debug, PartialEq, Eq)]
 pub(crate) struct Board {
+    /// How many jobs were done.
     pub done: u32,
+    /// Whether no more will be.
     pub closed: bool,
 }
 

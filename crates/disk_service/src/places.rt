@@ -20,11 +20,17 @@ use timed_schedulers::pool::Pool;
 /// The places of each door that no thread has: place 0, 1, .. in order.
 #[derive(Drop)]
 pub(crate) struct Places {
+    /// At the door of the jobs that wait for a worker.
     pub items: Vec<Outside<Buffer<Item>>>,
+    /// At the door of the time.
     pub clock: Vec<Outside<Alarm>>,
+    /// At the door of the buffers.
     pub pool: Vec<Outside<Pool>>,
+    /// At the door of the disk.
     pub head: Vec<Outside<Head<Drive>>>,
+    /// At the door of the totals.
     pub totals: Vec<Outside<Single<Totals>>>,
+    /// At the door of the board.
     pub board: Vec<Outside<ReadersWriters<Board>>>,
 }
 

@@ -19,12 +19,19 @@ use timed_schedulers::pool::Pool;
 /// number too.
 #[derive(Drop)]
 pub(crate) struct Seat {
+    /// The number of each of its places. The workers have the numbers from 0 on, then come the clock and the caller.
     pub number: u32,
+    /// Its place at the door of the jobs that wait for a worker.
     pub items: Outside<Buffer<Item>>,
+    /// Its place at the door of the time.
     pub clock: Outside<Alarm>,
+    /// Its place at the door of the buffers.
     pub pool: Outside<Pool>,
+    /// Its place at the door of the disk.
     pub head: Outside<Head<Drive>>,
+    /// Its place at the door of the totals.
     pub totals: Outside<Single<Totals>>,
+    /// Its place at the door of the board.
     pub board: Outside<ReadersWriters<Board>>,
 }
 
@@ -36,7 +43,9 @@ impl Seat {
 /// A thread gives its seat back: the one of this number, at these doors.
 #[derive(Clone, Copy)]
 pub(crate) struct SeatBack<'a> {
+    /// The doors of the seat.
     pub doors: &'a Doors,
+    /// The number of the seat.
     pub number: u32,
 }
 

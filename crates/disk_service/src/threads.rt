@@ -22,8 +22,11 @@ use std::thread::{PromisedHandle, Scope, Threads};
 /// What the caller's thread has in hand: the places that no thread has, the room of each worker, and what is done.
 #[derive(Drop)]
 pub(crate) struct Desk {
+    /// The places that no thread has.
     pub places: Places,
+    /// For each worker that hasn't started yet, in order: the room in which it keeps what is done.
     pub rooms: Vec<Vec<Done>>,
+    /// What was done by the workers that are joined.
     pub results: Vec<Done>,
 }
 

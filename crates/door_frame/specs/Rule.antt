@@ -44,8 +44,7 @@ module _ {D : Type 0} where
     pub book : IsOf x.book (erased h)
 
   -- Of the words: Starts is what they are before the door opens (and by then whether the first seat has the slot),
-  -- Tells what
-  -- they say of the log and the tokens of an open door
+  -- Tells what they say of the log and the tokens of an open door
   module _ (Starts : Bool → List ℕ → Type 0) (Tells : History D → Tokens → List ℕ → Type 0) (rest : Rest D)
       (ready : Ready D) (kinds : Kinds) where
     -- the door is open

@@ -1,10 +1,10 @@
 //! How long places look at a word before they sleep, and newcomers before they nap: the numbers of both doors, and
 //! their reasons. What was measured stands in docs/MEASURES.md, "How places wait".
 
-/// How often a place looks, with the spin hint between: a waiter or a signaller before it sleeps on its parker, and a
-/// newcomer that races for the word before it spins. A look costs some nanoseconds, and a sleep with its waking
-/// several thousand: most hand-overs come while the place still looks. Where there are fewer cores than threads, more
-/// looks take the processor from the place that is waited for.
+/// How often a place looks, with the spin hint between: a waiter or a signaller before it sleeps, and a newcomer that
+/// races for the word before it spins. A look costs some nanoseconds, and a sleep with its waking several thousand:
+/// most hand-overs come while the place still looks. Where there are fewer cores than threads, more looks take the
+/// processor from the place that is waited for.
 pub const LOOKS: u32 = 500;
 
 /// How often a newcomer that races for the word looks so, with longer and longer spins between, before it naps.

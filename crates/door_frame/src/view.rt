@@ -12,8 +12,11 @@ pub enum Token {
 
 /// A place, with its front (the history that it knows) and its token, if it has one.
 pub struct Knowledge<D> {
+    /// The place's number.
     pub place: usize,
+    /// The history that it knows: a beginning of the log.
     pub front: History<D>,
+    /// What it has of the door, as long as it asks or tries and isn't in.
     pub token: Option<Token>,
 }
 

@@ -10,6 +10,7 @@ use std::sync::Wait;
 /// Places 0 and 1 put in as many items as there are rounds, and places 2 and 3 take as many out.
 #[derive(Clone, Copy)]
 pub struct OneCell {
+    /// How many items each place puts in, or takes out.
     pub rounds: u32,
 }
 

@@ -10,7 +10,9 @@ use std::sync::Wait;
 /// So many threads with so many visits each.
 #[derive(Clone, Copy)]
 pub struct Visits {
+    /// How many threads there are.
     pub threads: usize,
+    /// How often each of them comes in.
     pub visits: u32,
 }
 

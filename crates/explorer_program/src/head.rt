@@ -10,6 +10,7 @@ use sweep_schedulers::head::Head;
 /// So many threads that each ask for a cylinder of their own, and put the drive back.
 #[derive(Clone, Copy)]
 pub struct Requests {
+    /// How many threads there are: 10 at most, for a cylinder of its own each.
     pub threads: usize,
 }
 

@@ -10,6 +10,7 @@ use std::sync::atomic::{AtomicU64, Ordering};
 /// Three threads of which the first comes in twice in each second run.
 #[derive(Drop)]
 pub struct Hidden {
+    /// How many runs the first thread was in so far. No run sets it back.
     pub runs: AtomicU64,
 }
 

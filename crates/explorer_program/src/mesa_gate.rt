@@ -10,6 +10,7 @@ const IS_OPEN: usize = 0;
 /// A gate, which is shut until it is opened.
 #[derive(Drop)]
 pub struct MesaGate {
+    /// Whether it is open.
     pub is_open: bool,
 }
 

@@ -10,6 +10,7 @@ use timed_schedulers::pool::Pool;
 /// So many streams that each take a buffer and give it back.
 #[derive(Clone, Copy)]
 pub struct Streams {
+    /// How many threads there are: 4 at most, for a stream of its own each.
     pub threads: usize,
 }
 

@@ -10,6 +10,7 @@ use sweep_schedulers::readers_writers::{NoReader, ReadPass, ReadersWriters};
 /// Place 2 writes, and the others read.
 #[derive(Clone, Copy)]
 pub struct Readers {
+    /// How many threads there are, the writer among them: 3 at least.
     pub threads: usize,
 }
 

@@ -10,6 +10,7 @@ use std::sync::Wait;
 /// So many threads of two visits, each of which adds 1 to the item and answers what it was.
 #[derive(Clone, Copy)]
 pub struct Items {
+    /// How many threads there are.
     pub threads: usize,
 }
 

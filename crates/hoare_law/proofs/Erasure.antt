@@ -74,8 +74,8 @@ map-map_same f g k (x ∷ xs) same = rw (same x, map-map_same f g k xs same) ref
 
 module _ {S : Type 0} where
   -- what is read off an event but its data: place, priority and condition, whether it is a wait on c, whom it takes
-  -- from those that
-  -- wait, whether it is a signal, what it makes of the monitor, and whether its place is outside behind it
+  -- from those that wait, whether it is a signal, what it makes of the monitor, and whether its place is outside behind
+  -- it
   abbrev SameParts : Event (Unit {0}) → Event S → Type 0
   SameParts d e =
       (place_of d ≡ place_of e) × (priority_of d ≡ priority_of e) × (condition_of d ≡ condition_of e)

@@ -44,8 +44,7 @@ Grows-one e f h is = rw is (record {
 })
 
 -- What a procedure adds, from the clauses of its calls. Each lemma takes a call's clause as it stands, and an equation
--- for each of
--- the place, the data and the front that the clause names by other words.
+-- for each of the place, the data and the front that the clause names by other words.
 module _ {S : Type 0} {k k1 : ℕ} {s s1 : S} {g g1 h : History S} where
   -- it came in, was held up, and waited
   pub ComesTo-waited : {held_up : History S → S → Type 0} {condition priority : S → ℕ} {c p : ℕ} {d : S} {f : History S}

@@ -46,8 +46,7 @@ put_in_behind_one p qs (suc i) j h l above =
 pub ruleset joined_steps = (length-put_in, put_in_before, put_in_at, put_in_behind_one)
 
 -- What waits of one's own ask of lists: how many wait after a wait or a signal, and that somebody does. A function
--- whose `rest` or
--- `ready` counts who waits closes with the attribute
+-- whose `rest` or `ready` counts who waits closes with the attribute
 --     #[tactic(auto, using(hoare_law::proofs::Joined::waiting_steps))]
 -- (`joined q c p c` computes to `put_in (λ n. n) p (q c)`, and `taken q c c` to `behind_first (q c)`.)
 pub length-behind_first : (xs : List ℕ) → length (behind_first xs) ≡ length xs - 1

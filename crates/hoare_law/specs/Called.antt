@@ -13,8 +13,7 @@ join_splits f before [] = []
 join_splits f before (x ∷ later) = f before x later ++ join_splits f (before ++ x ∷ []) later
 
 -- the waits of those that the event calls, where f came before: a notify calls the one that it names, a broadcast all
--- that wait on
--- the condition, in the order in which signals would resume them
+-- that wait on the condition, in the order in which signals would resume them
 abbrev pub called_by : {S : Type 0} → List (Event S) → Event S → List (Event S)
 called_by f (Notify k c w s) = filter (λ x. place_of x == w) (waiting c f)
 called_by f (Broadcast k c s) = in_order priority_of (waiting c f)

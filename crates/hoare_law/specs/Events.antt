@@ -1,6 +1,5 @@
 -- Events and histories. A history is a list of events, the oldest first; every word of these files filters that list,
--- and
--- no queue and no counter stands in it. The source is Hoare's paper, where nothing else is said.
+-- and no queue and no counter stands in it. The source is Hoare's paper, where nothing else is said.
 use Rattle.std.specs.Prelude.{ℕ, List, [], ◌∷◌, ◌++◌, ◌==◌, Option, Some, None, unwrap_or}
 use Rattle.std.specs.List.{filter}
 use Rattle.std.specs.Option.{option_map}

@@ -51,8 +51,7 @@ pub data Broadcasts {S : Type 0} (k c : ℕ) (s : S) (f h : History S) : Type 0 
   none_called : waiting c f.events ≡ [] → h ≡ f → Broadcasts k c s f h
 
 -- k came in, and goes on with what it then finds; g is its front then. Where what it first found held it up (of its
--- front at that
--- moment and of the data), it waited once, on the condition and with the priority that those data say
+-- front at that moment and of the data), it waited once, on the condition and with the priority that those data say
 pub data ComesTo {S : Type 0} (k : ℕ) (held_up : History S → S → Type 0) (condition priority : S → ℕ) (f g : History S)
     (found : S) : Type 0 where
   at_once : AddsLast f (Admit k found) g → (held_up g found → ⊥) → ComesTo k held_up condition priority f g found
@@ -61,8 +60,7 @@ pub data ComesTo {S : Type 0} (k : ℕ) (held_up : History S → S → Type 0) (
       → ComesTo k held_up condition priority f g found
 
 -- k gives the monitor up with s by its last act: a signal on c joined with the exit, or a signal on c that resumed
--- somebody, and
--- then a plain exit
+-- somebody, and then a plain exit
 pub data Finishes {S : Type 0} (k c : ℕ) (s : S) (f h : History S) : Type 0 where
   exited : (b : Bool) → Exits k c s f h b → Finishes k c s f h
   signalled : (w : ℕ) (t : S) (g : History S) → Chooses c f.events w → AddsTwo f (Signal k c w s) (Back k t) g

@@ -26,8 +26,7 @@ abbrev pub IsInRange : {S : Type 0} → Sizes → Event S → Type 0
 IsInRange n e = (place_of e < n.places) × NamesInRange n e
 
 -- the event is the turn's, finds the data as they were left, resumes or calls whom it should, and suits the condition's
--- kind: signals
--- are for Hoare's, calls for Mesa conditions
+-- kind: signals are for Hoare's, calls for Mesa conditions
 abbrev pub Fits : {S : Type 0} → History S → Event S → Type 0
 Fits f (Admit k s) = (turn f.events ≡ Free) × (outside k f.events ≡ true) × (s ≡ latest_data f)
 Fits f (Resume k c s) = (turn f.events ≡ Owed k c) × (s ≡ latest_data f)

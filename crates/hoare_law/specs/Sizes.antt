@@ -1,10 +1,7 @@
 -- The sizes of a monitor, and two kinds of conditions: of a monitor's n conditions the last m are Mesa conditions, and
--- the others
--- are Hoare's. Whoever waits on one of Hoare's is resumed by a signal and goes on at once. Whoever waits on a Mesa
--- condition is
--- called by a notify or a broadcast, and goes on later (after Lampson and Redell, "Experience with Processes and
--- Monitors in
--- Mesa", CACM 23(2), 1980).
+-- the others are Hoare's. Whoever waits on one of Hoare's is resumed by a signal and goes on at once. Whoever waits on
+-- a Mesa condition is called by a notify or a broadcast, and goes on later (after Lampson and Redell, "Experience with
+-- Processes and Monitors in Mesa", CACM 23(2), 1980).
 use Rattle.std.specs.Prelude.{ℕ, ◌<◌, ◌≤◌, ◌+◌}
 use Rattle.hoare_law.specs.declared.event.Sizes.{Sizes}
 

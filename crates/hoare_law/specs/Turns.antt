@@ -1,6 +1,5 @@
 -- Whose turn it is, and who is outside ("Monitors", Introduction, and Interpretation for the waiting signallers; that
--- the called go on
--- behind them and before newcomers is this project's choice).
+-- the called go on behind them and before newcomers is this project's choice).
 use Rattle.std.specs.Prelude.{ℕ, List, [], ◌∷◌, ◌&&◌, Bool, true, false, Option, Some, None, map}
 use Rattle.hoare_law.specs.declared.event.Event.{Event}
 use Rattle.hoare_law.specs.declared.event.Event.TheVariants.{Admit, Wait, Signal, Pass, Leave, Resume, Back, Notify}
@@ -16,22 +15,19 @@ is_signal (Signal k c w s) = true
 is_signal _ = false
 
 -- the waiting signallers: the places whose last event is a signal, in the order of those events (this project's choice:
--- the
--- longest waiting signaller goes on first)
+-- the longest waiting signaller goes on first)
 unfoldable pub urgent : {S : Type 0} → List (Event S) → List ℕ
 urgent h = map place_of (filter_by_later (λ e later. is_signal e && is_last_act e later) h)
 
 -- the turn where the monitor is given up: the first waiting signaller's, else that of the first that was called, from
--- the condition
--- on which it waited, else nobody's
+-- the condition on which it waited, else nobody's
 abbrev pub turn_given_up : {S : Type 0} → List ℕ → List (Event S) → Turn
 turn_given_up [] [] = Free
 turn_given_up [] (w ∷ ws) = Owed (place_of w) (condition_of w)
 turn_given_up (u ∷ us) ws = Return u
 
 -- what an event makes of the monitor: its place is inside, it is given up to nobody in particular, or it is handed to
--- w, which
--- waited on c
+-- w, which waited on c
 pub data After : Type 0 where
   stays : After
   frees : After

@@ -55,8 +55,7 @@ abbrev pub is_least : {S : Type 0} → List (Event S) → Event S → Bool
 is_least ws e = list_all (λ x. nat_le (priority_of e) (priority_of x)) ws
 
 -- whom a signal on c resumes: the first of those that wait whose priority no other undercuts (among equal priorities
--- the
--- longest waiting: the paper's rule for plain waits, this project's for equal given priorities)
+-- the longest waiting: the paper's rule for plain waits, this project's for equal given priorities)
 unfoldable pub chosen : {S : Type 0} → ℕ → List (Event S) → Option (Event S)
 chosen c h = find (is_least (waiting c h)) (waiting c h)
 

@@ -3,8 +3,8 @@ ghost use Rattle.std.specs.Prelude.{◌≡◌, ◌<◌, ◌↔◌, ℕ, List, Is
 
 use crate::waits::Waits;
 
-/// The data of a monitor, with what its author says of them ("Monitors", Introduction: the invariant and
-/// the assertions).
+/// The data of a monitor, with what its author says of them ("Monitors", Introduction: the invariant and the
+/// assertions).
 ///
 /// `rest` is what holds at each wait and each leave. `ready` is what a process finds that waited on one of Hoare's
 /// conditions with a priority and is resumed; the waiting priorities then no longer have that process. Who waited on a
@@ -14,11 +14,13 @@ pub trait MonitorData {
     /// How many conditions the monitor has: they are numbered from 0. A monitor can be made of 1 to 8.
     const CONDITIONS: usize;
 
+    /// The same number, to a contract.
     ghost CONDITIONS: { ℕ };
 
     /// How many of them, the last ones, are Mesa conditions; the others are Hoare's.
     const MESA: usize;
 
+    /// The same number, to a contract.
     ghost MESA: { ℕ };
 
     /// What always holds of the data.

@@ -67,15 +67,21 @@ pub enum Event<S> {
 /// Mesa conditions.
 #[derive(Clone, Copy, Debug, PartialEq, Eq)]
 pub struct Sizes {
+    /// How many places it has, numbered from 0.
     pub places: usize,
+    /// How many conditions it has, numbered from 0, Mesa conditions included.
     pub conditions: usize,
+    /// How many of them, the last ones, are Mesa conditions.
     pub mesa: usize,
 }
 
 /// What happened at a monitor of these sizes, opened with this data: its events, the oldest first. No value of it is
 /// ever made.
 pub struct History<S> {
+    /// The numbers of the monitor.
     pub sizes: Sizes,
+    /// The data that it was opened with.
     pub opening: S,
+    /// What happened since, the oldest event first.
     pub events: LinkedList<Event<S>>,
 }

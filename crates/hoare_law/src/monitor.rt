@@ -42,11 +42,13 @@ pub trait Monitor<D: MonitorData> {
     /// The place is of this monitor.
     ghost is_of: { Self → Self.Out → Type 0 };
 
+    /// The place inside is of this monitor.
     ghost is_of_in: { Self → Self.In → Type 0 };
 
     /// The place's number.
     ghost place: { Self.Out → ℕ };
 
+    /// The number of a place inside.
     ghost place_in: { Self.In → ℕ };
 
     /// The data in hand.
@@ -58,6 +60,7 @@ pub trait Monitor<D: MonitorData> {
     /// The history that the place knows.
     ghost front: { Self.Out → History D };
 
+    /// The history that a place inside knows.
     ghost front_in: { Self.In → History D };
 
     /// The place with other data in hand.
@@ -220,22 +223,27 @@ pub trait Monitor<D: MonitorData> {
         → Stands D.rest D.ready (front_in i) × ((front_in i).sizes.conditions ≡ D.CONDITIONS)
         × ((front_in i).sizes.mesa ≡ D.MESA) × (turn (front_in i).events ≡ turns.Held (place_in i)) };
 
-    /// The waiting priorities in hand are those of the front, and rise.
+    /// The waiting priorities in hand are those of the front.
     ghost lists_are: { (m : Self) (i : Self.In) → is_of_in m i
         → lists_in i ≡ priorities (front_in i).events };
 
+    /// Those of each condition rise: the least is the first.
     ghost rise: { (m : Self) (i : Self.In) (c : ℕ) → is_of_in m i
         → IsNonDecreasing (lists_in i c) };
 
-    /// What is written is in hand, and all else stays.
+    /// What is written is in hand.
     ghost takes_data: { (i : Self.In) (d : D) → data_in (with_data i d) ≡ d };
 
+    /// The place stays one of the monitor's.
     ghost keeps_of: { (m : Self) (i : Self.In) (d : D) → is_of_in m i
         → is_of_in m (with_data i d) };
 
+    /// The place's number stays.
     ghost keeps_place: { (i : Self.In) (d : D) → place_in (with_data i d) ≡ place_in i };
 
+    /// The waiting priorities stay.
     ghost keeps_lists: { (i : Self.In) (d : D) → lists_in (with_data i d) ≡ lists_in i };
 
+    /// The history that the place knows stays.
     ghost keeps_front: { (i : Self.In) (d : D) → front_in (with_data i d) ≡ front_in i };
 }

@@ -6,6 +6,7 @@ use crate::waits::Waits;
 /// rest, and ready for whoever waited.
 #[derive(Clone, Copy, Debug, Drop, PartialEq, Eq)]
 pub struct Unasked<T, const CONDITIONS: usize> {
+    /// The value: every one will do.
     pub value: T,
 }
 

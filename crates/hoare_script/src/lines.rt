@@ -10,8 +10,11 @@ use wait_book::steps::Step;
 /// are Mesa conditions.
 #[derive(Clone, Copy, Debug, PartialEq, Eq)]
 pub struct Header {
+    /// The number of places, as the line spells it: a book takes 1 to 64.
     pub places: u64,
+    /// The number of conditions, as the line spells it: a book takes 1 to 8.
     pub conditions: u64,
+    /// How many of these, the last ones, are Mesa conditions: a book takes no more than there are.
     pub mesa: u64,
 }
 

@@ -43,8 +43,11 @@ impl Order {
 /// Who waits: 1 to 63 places, on 1 to 8 conditions in turn, with priorities in this order.
 #[derive(Clone, Copy)]
 pub struct Load {
+    /// How many places wait: 1 to 63.
     pub waiters: u64,
+    /// How many conditions they wait on in turn: 1 to 8.
     pub conditions: u64,
+    /// How their priorities come.
     pub order: Order,
 }
 
@@ -84,8 +87,11 @@ impl Load {
 /// What steps took, and how many places were resumed.
 #[derive(Clone, Copy)]
 pub struct Spent {
+    /// How long the places took to come in and wait, over all rounds.
     pub waits: Duration,
+    /// How long the signals took then, until all were out, over all rounds.
     pub signals: Duration,
+    /// How many places were resumed, over all rounds.
     pub resumed: u64,
 }
 

@@ -14,7 +14,9 @@ pub const WORKERS: u64 = 8;
 /// How often somebody came in or came back, and how many workers are done.
 #[derive(Drop)]
 pub struct Visits {
+    /// How often a worker came in or came back.
     pub visits: u64,
+    /// How many workers are done.
     pub finished: u64,
 }
 

@@ -201,7 +201,9 @@ fn start_end_write<R: Wait + Clock, M: Monitor<ReadersWriters<u64>>>(
 /// How one thread goes in where data are read and written.
 #[derive(Clone, Copy)]
 pub enum Visit {
+    /// As a reader.
     Read,
+    /// As the writer.
     Write,
 }
 

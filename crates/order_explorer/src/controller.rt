@@ -9,6 +9,7 @@ use std::sync::{Condvar, Mutex, MutexGuard, Wait};
 /// A scene under a lock, a bell for each place, and one for who awaits the end of the run.
 #[derive(Drop)]
 pub(crate) struct Controller {
+    /// What is known of the run, and who goes on.
     pub scene: Mutex<Scene>,
     bells: Vec<Condvar>,
     ended: Condvar,

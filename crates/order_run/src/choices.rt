@@ -9,9 +9,13 @@ use std::alloc::{AllocError, Global};
 /// of them was let in, counted from 0.
 #[derive(Clone, Copy, Debug, PartialEq, Eq)]
 pub struct Choice {
+    /// Who wanted in: bit k is place k.
     pub asking: u64,
+    /// The place behind which they are counted, round the row of 64 places.
     pub behind: usize,
+    /// How many they are.
     pub count: u64,
+    /// Which of them was let in, counted from 0.
     pub taken: u64,
 }
 

@@ -9,7 +9,9 @@ use std::sync::atomic::{AtomicU64, Ordering};
 pub enum Note {
     /// This place tried, and came in.
     Enter(usize),
+    /// The process inside calls one that waits on this condition, if one does.
     Notify(usize),
+    /// The process inside calls all that wait on this condition.
     Broadcast(usize),
 }
 

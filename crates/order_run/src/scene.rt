@@ -15,9 +15,13 @@ use wait_book::steps::{Next, Step};
 /// An act of the process inside: it waits on a condition with a priority, signals or passes on one, or leaves.
 #[derive(Clone, Copy)]
 pub enum Act {
+    /// It waits on this condition, with this priority.
     Wait(usize, u64),
+    /// It signals on this condition, and is held up where somebody waits there.
     Signal(usize),
+    /// It signals on this condition as its last act.
     Pass(usize),
+    /// It goes out.
     Leave,
 }
 

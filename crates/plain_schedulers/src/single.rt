@@ -40,6 +40,7 @@ impl<T> Model for Single<T> {
 /// The item is in, so none can be put in. What was handed in comes back.
 #[derive(Debug, Drop)]
 pub struct NotOut<T> {
+    /// What was handed in.
     pub item: T,
 }
 

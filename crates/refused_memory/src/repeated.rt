@@ -5,8 +5,11 @@ use std::io::{Read, Write};
 /// Gives the rest, and then the part as often as is left.
 #[derive(Drop)]
 pub struct Repeated<'a> {
+    /// What is given next.
     pub rest: &'a [u8],
+    /// What is given then, over and over.
     pub part: &'a [u8],
+    /// How often the part is still to come.
     pub left: u64,
 }
 
@@ -23,6 +26,7 @@ impl Read for Repeated<'_> {
 /// How many lines were written.
 #[derive(Drop)]
 pub struct Lines {
+    /// How many lines were ended so far.
     pub count: u64,
 }
 

@@ -23,7 +23,9 @@ const MOST_WAITING: usize = 3;
 /// conditions; nothing is asked of the data.
 #[derive(Drop)]
 pub struct Visits {
+    /// How many visits there were.
     pub visits: u64,
+    /// How many visitors are done.
     pub done: u64,
 }
 

@@ -31,7 +31,9 @@ pub struct Noted {
 /// A call of the place of a lane by another place, at the next row.
 #[derive(Clone, Copy)]
 pub struct Call {
+    /// The place that calls.
     pub from: u64,
+    /// The lane of the place that is called.
     pub to: Track,
 }
 

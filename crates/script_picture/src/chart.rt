@@ -39,22 +39,29 @@ pub type Numbers = [u8; 64];
 /// A command with its answer, and who is called after it.
 #[derive(Clone, Copy, Debug, PartialEq, Eq)]
 pub struct Row {
+    /// What the line asks.
     pub command: Command,
+    /// What is answered.
     pub answer: Answer,
+    /// The numbers of all places among those that are called after it.
     pub numbers: Numbers,
 }
 
 /// A script that was read: its header, and its rows in order.
 #[derive(Drop)]
 pub struct Chart {
+    /// What the first line says.
     pub header: Header,
+    /// A row for each command, in order.
     pub rows: Vec<Row>,
 }
 
 /// One place gives the monitor up, and another goes on.
 #[derive(Clone, Copy, Debug, PartialEq, Eq)]
 pub struct HandOver {
+    /// The place that gives it up.
     pub from: u64,
+    /// The place that goes on.
     pub to: u64,
 }
 

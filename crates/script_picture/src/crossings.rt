@@ -18,8 +18,11 @@ pub struct Crossed {
 /// A hand-over at the next row: whether the one that goes on returns, and whether the other is gone.
 #[derive(Clone, Copy)]
 pub struct Crossing {
+    /// From which place to which.
     pub over: HandOver,
+    /// Whether the one that goes on was a waiting signaller.
     pub returns: bool,
+    /// Whether the other is outside after the row.
     pub gone: bool,
 }
 

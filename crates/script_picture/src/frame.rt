@@ -43,8 +43,11 @@ const REMARKS_GAP: u64 = 16;
 /// Where a place's lane stands: its middle, and half the width of its boxes.
 #[derive(Clone, Copy, Debug, Default, PartialEq, Eq)]
 pub struct Track {
+    /// The place's number.
     pub place: u64,
+    /// The middle of the lane, from the left edge.
     pub middle: u64,
+    /// Half the width of its boxes.
     pub half: u64,
 }
 
@@ -57,8 +60,11 @@ pub struct Frame {
     pub idle: u64,
     /// Where remarks begin.
     pub remarks: u64,
+    /// How wide the picture is.
     pub width: u64,
+    /// How high the picture is.
     pub height: u64,
+    /// How many rows it has.
     pub rows: u64,
 }
 

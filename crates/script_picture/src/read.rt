@@ -29,6 +29,7 @@ const MOST_LINES: u64 = MOST_BYTES as u64 + 1;
 /// do.
 #[derive(Drop)]
 pub struct Script {
+    /// What was read so far.
     pub chart: Chart,
     opened: Opened,
     room: usize,

@@ -9,18 +9,26 @@ pub const BASELINE: u64 = 15;
 /// Where a box stands: its middle, half its width, its top and its height.
 #[derive(Clone, Copy, Debug, PartialEq, Eq)]
 pub struct Area {
+    /// Its middle, from the left edge.
     pub middle: u64,
+    /// Half its width.
     pub half: u64,
+    /// Its top, from the upper edge.
     pub top: u64,
+    /// Its height.
     pub height: u64,
 }
 
 /// An arrow of a hand-over along a row: from here to there, at this height. A return is dashed.
 #[derive(Clone, Copy, Debug, PartialEq, Eq)]
 pub struct Arrow {
+    /// Where it begins, from the left edge.
     pub from: u64,
+    /// Where its tip is, from the left edge.
     pub to: u64,
+    /// How far it is below the upper edge.
     pub middle: u64,
+    /// Whether it leads to a signaller that returns.
     pub returns: bool,
 }
 

@@ -17,7 +17,9 @@ pub struct Boxed {
 /// What a place does after each row from where its boxes end, up to another.
 #[derive(Clone, Copy)]
 pub struct Span {
+    /// What the place does.
     pub lane: Lane,
+    /// The first row after which it does something else, counted from 0, or the number of rows.
     pub end: u64,
 }
 

@@ -6,7 +6,9 @@ use arrayvec::ArrayVec;
 /// A place whose lane is shown, with the length of the longest text in that lane, in bytes.
 #[derive(Clone, Copy, Debug, Default, PartialEq, Eq)]
 pub struct Column {
+    /// The place's number.
     pub place: u64,
+    /// The length of the longest text in its lane, its number included, in bytes.
     pub width: usize,
 }
 
@@ -16,9 +18,13 @@ pub type Columns = ArrayVec<Column, 64>;
 /// The longest step, the columns, how many places are idle, and the longest remark. Lengths are in bytes.
 #[derive(Drop)]
 pub struct Widths {
+    /// The length of the longest step or of the header, in bytes.
     pub steps: usize,
+    /// The lanes that are shown.
     pub columns: Columns,
+    /// How many places are idle, and have no lane.
     pub idle: u64,
+    /// The length of the longest remark or of the note on idle places, in bytes.
     pub remarks: usize,
 }
 

@@ -4,6 +4,7 @@ use std::{error, fmt};
 /// Nothing is out, so nothing can be put in: the drive is in, or no writer is. What was handed in comes back.
 #[derive(Debug, Drop)]
 pub struct NotOut<T> {
+    /// What was handed in.
     pub item: T,
 }
 

@@ -81,6 +81,7 @@ pub struct TooManyReaders;
 /// dropped, and a pass may not.)
 #[derive(Debug)]
 pub struct NoReader {
+    /// The pass that was handed in.
     pub pass: ReadPass,
 }
 

@@ -8,16 +8,14 @@ use Rattle.timed_schedulers.specs.declared.alarm.TooFar.{TooFar}
 use Rattle.timed_schedulers.specs.declared.alarm.ClockFull.{ClockFull}
 
 -- k, which was inside with the front e and found the time a, waited on wakeup with its setting as often as it found an
--- earlier time;
--- g is its front now, and the time that it finds
+-- earlier time; g is its front now, and the time that it finds
 pub data Rounds (k setting : ℕ) (e : History ℕ) (a : ℕ) : History ℕ → ℕ → Type 0 where
   none : Rounds k setting e a e a
   more : (g h : History ℕ) (found now : ℕ) → Rounds k setting e a g found → found < setting
       → AddsTwo g (Wait k 0 setting found) (Resume k 0 now) h → Rounds k setting e a h now
 
 -- k was refused, for its setting is past the last time; or it waited until its setting, the time that it found and n,
--- resumed a
--- process that waits on wakeup, and answers its setting
+-- resumed a process that waits on wakeup, and answers its setting
 pub data Wakes (k n : ℕ) (f h : History ℕ) : Result ℕ TooFar → Type 0 where
   too_far : (a : ℕ) (g : History ℕ) (e : TooFar) → AddsLast f (Admit k a) g → 2 ^ 64 ≤ a + n
       → h ≡ with_event g (Leave k a) → Wakes k n f h (Err e)

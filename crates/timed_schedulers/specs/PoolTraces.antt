@@ -14,10 +14,8 @@ abbrev pub MustWait : ℕ → History Pooled → Pooled → Type 0
 MustWait s _ a = (s < a.streams) × (free_count a ≡ 0)
 
 -- k took the least-numbered free buffer for s, after a wait on nonfree, with as many as s held, where none was free. Or
--- it was
--- refused, for s is no stream: at once, or late, after a wait in which another pool took this one's place; then it
--- resumed a process
--- that waits on nonfree
+-- it was refused, for s is no stream: at once, or late, after a wait in which another pool took this one's place; then
+-- it resumed a process that waits on nonfree
 pub data Takes (k s : ℕ) (f h : History Pooled) : Result ℕ NoStream → Type 0 where
   refused : (a : Pooled) (g : History Pooled) (e : NoStream) → AddsLast f (Admit k a) g → a.streams ≤ s
       → h ≡ with_event g (Leave k a) → Takes k s f h (Err e)

@@ -20,10 +20,9 @@ use Rattle.wait_book.specs.declared.steps.Next.TheVariants as next
 use Rattle.wait_book.specs.declared.steps.MakeRefused.{MakeRefused}
 use Rattle.wait_book.specs.declared.steps.MakeRefused.TheVariants.{BadPlaces, BadConditions}
 
--- what a book holds: the sizes of its monitor, how many it has memory for to wait and
--- as waiting signallers (it may be one memory for both), who waits (on each condition by rising priority, equal ones by
--- time), the
--- signallers (the longest waiting first), who was called (the first called first), and whose turn it is
+-- what a book holds: the sizes of its monitor, how many it has memory for to wait and as waiting signallers (it may be
+-- one memory for both), who waits (on each condition by rising priority, equal ones by time), the signallers (the
+-- longest waiting first), who was called (the first called first), and whose turn it is
 pub record Contents : Type 0 where
   pub sizes : Sizes
   pub room_to_wait : ℕ
@@ -56,8 +55,7 @@ times k [] = 0
 times k (j ∷ js) = one k j + times k js
 
 -- how often place k has the turn by hand, where the first m conditions are Hoare's: it is inside, or was resumed (one
--- that was
--- called stands among the called until it goes on, as one that returns does among the signallers)
+-- that was called stands among the called until it goes on, as one that returns does among the signallers)
 abbrev pub times_in_hand : ℕ → ℕ → Turn → ℕ
 times_in_hand k m Free = 0
 times_in_hand k m (Held j) = one k j

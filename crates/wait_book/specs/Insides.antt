@@ -62,9 +62,8 @@ IsTurnBeside [] ws m (Return k) = ⊥
 IsTurnBeside (u ∷ us) ws m (Return k) = u ≡ k
 
 -- the sizes are in range, there is room for each place, each place stands once at most, those who wait on a condition
--- stand
--- in order, and nobody waits on a condition that isn't the book's (`on_conditions`: no call asks for it; it says that a
--- signal can reach everybody who waits), and whoever was called waited on a Mesa condition
+-- stand in order, and nobody waits on a condition that isn't the book's (`on_conditions`: no call asks for it; it says
+-- that a signal can reach everybody who waits), and whoever was called waited on a Mesa condition
 pub record IsSound (b : Contents) : Type 0 where
   pub some_places : 0 < b.sizes.places
   pub few_places : b.sizes.places ≤ MOST_PLACES

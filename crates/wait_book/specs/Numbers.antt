@@ -10,7 +10,6 @@ number_from n k [] = 0
 number_from n k (j ∷ js) = if j == k then n + 1 else number_from (n + 1) k js
 
 -- the number of place k among those that were called and haven't gone on yet, in the order of the calls: 1 is the first
--- of them,
--- and 0 is a place that isn't among them
+-- of them, and 0 is a place that isn't among them
 abbrev pub number_called : {S : Type 0} → List (Event S) → ℕ → ℕ
 number_called h k = number_from 0 k (map place_of (called h))

@@ -215,8 +215,8 @@ impl Book {
         self.turn = Turn::Held(place); // owed before
     }
 
-    /// The place inside waits on a condition with a priority. The longest waiting signaller goes on, else
-    /// the first that was called, or nobody.
+    /// The place inside waits on a condition with a priority. The longest waiting signaller goes on, else the first
+    /// that was called, or nobody.
     pub fn wait(&mut self, place: usize, condition: usize, priority: u64) -> Next
         requires inside { self.old.turn ≡ turns.Held place }
         requires condition { condition < self.old.sizes.conditions }
@@ -234,8 +234,7 @@ impl Book {
         self.now()
     }
 
-    /// The place inside goes out. The longest waiting signaller goes on, else
-    /// the first that was called, or nobody.
+    /// The place inside goes out. The longest waiting signaller goes on, else the first that was called, or nobody.
     pub fn leave(&mut self, place: usize) -> Next
         requires { self.old.turn ≡ turns.Held place }
         ensures of { (h : History (Unit {0})) → IsOf self.old h

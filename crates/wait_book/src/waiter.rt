@@ -4,7 +4,10 @@
 /// what a book contains; no value of it is made.
 #[derive(Clone, Copy)]
 pub struct Waiter {
+    /// Its place.
     pub place: usize,
+    /// The condition that it waits on.
     pub condition: usize,
+    /// Its priority: the least goes on first.
     pub priority: u64,
 }

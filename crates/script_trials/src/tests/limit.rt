@@ -10,8 +10,8 @@ use std::time::Duration;
 /// How many looks a test has, with a rest of ten milliseconds after each: it ends before the gate's minute.
 const LOOKS: u32 = 2000;
 
-/// The thread of the test: it looks now and then whether the work has ended, and after the last look it
-/// ends the test as failed, with nobody joined.
+/// The thread of the test: it looks now and then whether the work has ended, and after the last look it ends the test
+/// as failed, with nobody joined.
 fn look_on<R: Abort + Clock>(rt: &R, ended: &AtomicBool) {
     for _ in 0..LOOKS {
         if ended.load(Ordering::SeqCst) {

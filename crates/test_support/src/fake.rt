@@ -192,50 +192,33 @@ impl<D: MonitorData + Drop + Send> Monitor<D> for Fake<D> {
         condition: usize,
         priority: u64,
     ) -> FakeIn<D> {
-        let FakeIn {
-            state: left,
-            mut answers,
-            mut seat,
-            lists,
-        } = inside;
-        self.tell(
-            &mut seat,
-            0,
-            Deed::Waits {
-                condition,
-                priority,
-            },
-            &left,
-        );
+        let mut inside = inside;
+        let waits = Deed::Waits {
+            condition,
+            priority,
+        };
+        self.tell(&mut inside.seat, 0, waits, &inside.state);
         if D::CONDITIONS - condition <= D::MESA {
-            let Some(state) = next_at_rest(&mut answers) else {
+            let Some(state) = next_at_rest(&mut inside.answers) else {
                 for _ in rt.forever() {}
                 unreachable!()
             };
-            self.tell(&mut seat, 1, Deed::Enters, &left);
-            self.tell(&mut seat, 1, Deed::Calls { condition }, &state);
-            self.tell(&mut seat, 1, Deed::Leaves, &state);
-            self.tell(&mut seat, 0, Deed::GoesOn { condition }, &state);
-            return FakeIn {
-                state,
-                answers,
-                seat,
-                lists,
-            };
+            self.tell(&mut inside.seat, 1, Deed::Enters, &inside.state);
+            self.tell(&mut inside.seat, 1, Deed::Calls { condition }, &state);
+            self.tell(&mut inside.seat, 1, Deed::Leaves, &state);
+            self.tell(&mut inside.seat, 0, Deed::GoesOn { condition }, &state);
+            inside.state = state;
+            return inside;
         }
-        let Some(state) = next_ready(&mut answers, condition, priority) else {
+        let Some(state) = next_ready(&mut inside.answers, condition, priority) else {
             for _ in rt.forever() {}
             unreachable!()
         };
-        self.tell(&mut seat, 1, Deed::Enters, &left);
-        self.tell(&mut seat, 1, Deed::Passes { condition }, &state);
-        self.tell(&mut seat, 0, Deed::GoesOn { condition }, &state);
-        FakeIn {
-            state,
-            answers,
-            seat,
-            lists,
-        }
+        self.tell(&mut inside.seat, 1, Deed::Enters, &inside.state);
+        self.tell(&mut inside.seat, 1, Deed::Passes { condition }, &state);
+        self.tell(&mut inside.seat, 0, Deed::GoesOn { condition }, &state);
+        inside.state = state;
+        inside
     }
 
     fn signal<R: Wait>(&self, _rt: &R, inside: FakeIn<D>, _condition: usize) -> (FakeIn<D>, bool) {

@@ -1,8 +1,8 @@
 //! The calls that only a door by tickets has, over and over.
 
 use hoare_law::monitor::Monitor;
-use monitor_trials::tally::Tally;
 use std::sync::Wait;
+use test_support::tally::Tally;
 use ticket_door::door::TicketDoor;
 use ticket_door::place::TicketOut;
 

@@ -1,0 +1,10 @@
+//! Tests of the doors: each on one thread, a door of either kind, and rows of tests on both.
+
+mod awaited;
+mod compared;
+mod doors_alone;
+mod either_kind;
+mod glances;
+mod many_tickets;
+mod rows;
+mod tickets_in_turn;

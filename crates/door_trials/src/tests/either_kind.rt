@@ -1,0 +1,97 @@
+//! A door of either kind, which is chosen where it is made: all calls, several conditions and priorities, and which
+//! door answers.
+ghost use Rattle.std.specs.Prelude.{◌≡◌};
+
+use crate::tests::compared::expect_same;
+use crate::tests::rows::stress::{PLACES, agrees, empty_diary, works_or_sweeps};
+use any_door::{AnyDoor, DoorKind};
+use door_frame::place::Outside;
+use hoare_law::monitor::Monitor;
+use std::alloc::Global;
+use std::process::Abort;
+use std::sync::Wait;
+use test_support::run_row;
+use test_support::tally::{Tally, calls_all, tries_once};
+
+/// How many rounds each place of a diary has.
+const ROUNDS: u64 = 60;
+
+#[test]
+fn both_holds_each_kind_once(rt: HostRuntime) {
+    for kind in [DoorKind::Baton, DoorKind::Ticket] {
+        let times = DoorKind::BOTH.iter().filter(|one| **one == kind).count();
+        expect_same(&rt, (kind, times), (kind, 1));
+    }
+}
+
+// A diary has four conditions of both sorts, and its places wait there with priorities 0 to 3.
+#[test]
+fn a_diary_of_either_kind_is_a_legal_history(host: HostRuntime) {
+    let (rt, alloc) = (&host, host.alloc());
+    for kind in DoorKind::BOTH {
+        let data = empty_diary(rt, alloc);
+        let (diary, _) = run_row!(
+            rt,
+            alloc,
+            on_any_door(kind),
+            works_or_sweeps(ROUNDS, 0),
+            data,
+            PLACES
+        );
+        agrees(rt, &diary, ROUNDS);
+    }
+}
+
+// Where a ticket door is behind this one, place a asks there, and comes in and out. Place b tries on this door, before
+// and after: the ticket of a, and whether the tries came in.
+fn asks_behind<R: Wait>(
+    rt: &R,
+    door: &AnyDoor<Tally>,
+    a: Outside<Tally>,
+    b: Outside<Tally>,
+) -> ((Outside<Tally>, Outside<Tally>), Option<(u64, bool, bool)>)
+    requires a { ⟦<AnyDoor<Tally> as Monitor<Tally>>⟧.is_of door.now a }
+    requires b { ⟦<AnyDoor<Tally> as Monitor<Tally>>⟧.is_of door.now b }
+    ensures a { ⟦<AnyDoor<Tally> as Monitor<Tally>>⟧.is_of door.now result.0.0 }
+    ensures b { ⟦<AnyDoor<Tally> as Monitor<Tally>>⟧.is_of door.now result.0.1 }
+    ensures places { (result.0.0.place ≡ a.place) × (result.0.1.place ≡ b.place) }
+{
+    match door {
+        AnyDoor::Baton(_) => ((a, b), None),
+        AnyDoor::Ticket(behind) => {
+            let asked = behind.ask(a);
+            let ticket = asked.ticket();
+            let (b, before) = tries_once(rt, door, b);
+            let a = door.leave(rt, behind.come_in(rt, asked));
+            let (b, after) = tries_once(rt, door, b);
+            ((a, b), Some((ticket, before, after)))
+        }
+    }
+}
+
+// Place a makes each call of a door of this kind, in three visits, and then asks behind it.
+fn calls_and_asks<R: Wait + Abort>(
+    rt: &R,
+    alloc: Global,
+    kind: DoorKind,
+) -> (u64, Option<(u64, bool, bool)>, u64) {
+    let Ok((door, mut outs)) = AnyDoor::make(alloc, kind, Tally { value: 0 }, 2) else {
+        panic!(rt; "no memory")
+    };
+    let (b, a) = (outs.pop().unwrap(), outs.pop().unwrap());
+    let (a, answer) = calls_all(rt, &door, a);
+    let ((a, b), behind) = asks_behind(rt, &door, a, b);
+    outs.push_reserved(a);
+    outs.push_reserved(b);
+    (answer, behind, door.close(outs).value)
+}
+
+// The visits of a door of tickets draw them, and who asked there is before who tries here.
+#[test]
+fn the_door_of_its_kind_answers(rt: HostRuntime) {
+    let alloc = rt.alloc();
+    let baton = calls_and_asks(&rt, alloc, DoorKind::Baton);
+    expect_same(&rt, baton, (1, None, 42));
+    let ticket = calls_and_asks(&rt, alloc, DoorKind::Ticket);
+    expect_same(&rt, ticket, (1, Some((3, false, true)), 42));
+}

@@ -1,0 +1,9 @@
+//! Rows of tests on threads: each is written over any monitor, and run on each door.
+mod full;
+mod naps;
+pub mod stress;
+mod tally;
+mod tally_rows;
+mod tickets;
+mod tries;
+mod wakes;

@@ -1,0 +1,125 @@
+//! A door of the most places and conditions: each place waits, and goes on in its turn.
+ghost use Rattle.std.specs.Prelude.{◌≡◌};
+
+use crate::tests::compared::expect_same;
+use hoare_law::monitor::Monitor;
+use hoare_law::unasked::Unasked;
+use hoare_law::waits::Waits;
+use std::alloc::Global;
+use std::process::Abort;
+use std::sync::Wait;
+use test_support::run_row;
+
+const PLACES: usize = 64;
+
+const CONDITIONS: usize = 8;
+
+/// Which places went on, in order, and eight conditions.
+type Row = Unasked<Vec<usize>, 8>;
+
+// How many wait.
+fn count_waiting<M: Monitor<Row>>(m: &M, inside: &M::In) -> usize
+    requires { M.is_of_in m.now inside.now }
+{
+    let lists = m.lists(inside);
+    (0..CONDITIONS).fold(0usize, |sum, c| sum.saturating_add(lists.count(c)))
+}
+
+// Writes its number, and goes out.
+fn write_and_leave<R: Wait, M: Monitor<Row>>(rt: &R, m: &M, inside: M::In, place: usize) -> M::Out
+    requires { M.is_of_in m.now inside }
+    ensures of { M.is_of m.now result }
+    ensures place { M.place result ≡ M.place_in inside }
+{
+    let mut inside = inside;
+    let _lost = M::state_mut(&mut inside, m).value.push(place).is_err();
+    m.leave(rt, inside)
+}
+
+// Resumes all that wait, condition by condition; each goes out before the next.
+fn resume_all<R: Wait, M: Monitor<Row>>(rt: &R, m: &M, inside: M::In) -> M::In
+    requires { M.is_of_in m.now inside }
+    ensures of { M.is_of_in m.now result }
+    ensures place { M.place_in result ≡ M.place_in inside }
+{
+    let mut inside = inside;
+    for turn in 0..PLACES {
+        let (again, _resumed) = m.signal(rt, inside, turn / CONDITIONS);
+        inside = again;
+    }
+    inside
+}
+
+// Each place waits on the condition of its number modulo 8, and the greater number goes first. The last to come resumes
+// the others and then waits on condition 0, where the first that comes for a second time finds it.
+fn waits_in_row<R: Wait, M: Monitor<Row>>(rt: &R, m: &M, out: M::Out, place: usize) -> (M::Out, u64)
+    requires { M.is_of m.now out }
+    ensures of { M.is_of m.now result.0 }
+    ensures place { M.place result.0 ≡ M.place out }
+{
+    let inside = m.enter(rt, out);
+    if count_waiting(m, &inside) == PLACES - 1 {
+        let inside = resume_all(rt, m, inside);
+        let inside = m.wait(rt, inside, 0, 0);
+        return (write_and_leave(rt, m, inside, place), 0);
+    }
+    let priority = (PLACES as u64).saturating_sub(place as u64);
+    let inside = m.wait(rt, inside, place % CONDITIONS, priority);
+    let out = write_and_leave(rt, m, inside, place);
+    let inside = m.enter(rt, out);
+    let (out, _resumed) = m.signal_leave(rt, inside, 0);
+    (out, 0)
+}
+
+// A list with room for all places.
+fn no_places<R: Abort>(rt: &R, alloc: Global) -> Vec<usize> {
+    let Ok(places) = Vec::with_capacity(alloc, PLACES) else {
+        panic!(rt; "no memory")
+    };
+    places
+}
+
+// The order in which they have to go on: by condition, the greater number first, but this one last.
+fn expected<R: Abort>(rt: &R, alloc: Global, last: usize) -> Vec<usize> {
+    let mut row = no_places(rt, alloc);
+    for turn in 0..PLACES {
+        let place = PLACES - CONDITIONS + turn / CONDITIONS - turn % CONDITIONS * CONDITIONS;
+        if place != last {
+            row.push(place).expect(rt, "memory");
+        }
+    }
+    row.push(last).expect(rt, "memory");
+    row
+}
+
+// They went on in the order in which they have to.
+fn stands_in_order<R: Abort>(rt: &R, alloc: Global, row: &[usize]) {
+    let Some(last) = row.last() else {
+        panic!(rt; "nobody went on")
+    };
+    let expected = expected(rt, alloc, *last);
+    expect_same(rt, row, expected.as_slice());
+}
+
+// The row on one door.
+macro_rules! fill {
+    ($rt:ident, $alloc:ident, $door:ident($($given:expr)?)) => {{
+        let data = Row {
+            value: no_places($rt, $alloc),
+        };
+        let (row, _) = run_row!($rt, $alloc, $door($($given)?), waits_in_row(), data, PLACES);
+        stands_in_order($rt, $alloc, row.value.as_slice());
+    }};
+}
+
+#[test]
+fn sixty_four_places_wait_on_a_baton_door(host: HostRuntime) {
+    let (rt, alloc) = (&host, host.alloc());
+    fill!(rt, alloc, on_baton_door());
+}
+
+#[test]
+fn sixty_four_places_wait_on_a_ticket_door(host: HostRuntime) {
+    let (rt, alloc) = (&host, host.alloc());
+    fill!(rt, alloc, on_ticket_door(0));
+}

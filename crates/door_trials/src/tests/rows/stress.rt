@@ -1,0 +1,179 @@
+//! Eight processes wait with priorities on two conditions of Hoare's and on two Mesa conditions, signal, pass, notify
+//! and broadcast, and a ninth resumes or calls who is left. What they wrote down is held against the definitions.
+ghost use Rattle.std.specs.Prelude.{◌≡◌};
+
+use crate::tests::compared::expect_same;
+use hoare_law::monitor::Monitor;
+use std::alloc::Global;
+use std::process::Abort;
+use std::rt::Clock;
+use std::sync::Wait;
+use std::thread;
+use std::time::Duration;
+use test_support::diary::Diary;
+use test_support::diary_calls::{HOARE, broadcast, enter, leave, pass, rouse, wait};
+use test_support::drawn::draw;
+use test_support::history::{Judged, judge};
+use test_support::run_row;
+use test_support::running::count_waiting;
+
+const WORKERS: usize = 8;
+
+/// How many places a diary's monitor has.
+pub const PLACES: usize = WORKERS + 1;
+
+/// So often the whole test is done, each time with other numbers. (`bench/soak --visits` sets these three to more.)
+const DAYS: u64 = 1;
+
+const ROUNDS: u64 = 300;
+
+/// Where threads outnumber processors, one admission by tickets takes longer.
+const TICKET_ROUNDS: u64 = 60;
+
+// Whether fewer than six wait, so that two workers at least go on.
+fn may_wait<M: Monitor<Diary>>(m: &M, inside: &M::In) -> bool
+    requires { M.is_of_in m.now inside.now }
+{
+    count_waiting(m, inside) < WORKERS - 2
+}
+
+// One visit of a worker: it waits (and may then signal or call), signals or calls, or calls and passes.
+fn visit<R: Wait, M: Monitor<Diary>>(rt: &R, m: &M, out: M::Out, place: usize, lot: u64) -> M::Out
+    requires { M.is_of m.now out }
+    ensures of { M.is_of m.now result }
+    ensures place { M.place result ≡ M.place out }
+{
+    let condition = (lot / 8 % 4) as usize;
+    let inside = enter(rt, m, out, place);
+    if lot % 8 < 4 && may_wait(m, &inside) {
+        let mut inside = wait(rt, m, inside, place, condition, lot);
+        if lot / 128 % 2 == 0 {
+            // Its own signaller may still be held up: then two are.
+            inside = rouse(rt, m, inside, place, (condition + 1) % 4, lot);
+        }
+        return leave(rt, m, inside, place, lot);
+    }
+    if lot % 8 < 6 {
+        let inside = rouse(rt, m, inside, place, condition, lot);
+        return leave(rt, m, inside, place, lot);
+    }
+    let inside = rouse(rt, m, inside, place, HOARE + condition / 2, lot);
+    pass(rt, m, inside, place, condition % 2, lot)
+}
+
+// So many visits, and a note that they are over.
+fn work<R: Wait, M: Monitor<Diary>>(
+    rt: &R,
+    m: &M,
+    out: M::Out,
+    place: usize,
+    rounds: u64,
+    day: u64,
+) -> M::Out
+    requires { M.is_of m.now out }
+    ensures of { M.is_of m.now result }
+    ensures place { M.place result ≡ M.place out }
+{
+    let mut out = out;
+    let mut lot = draw(draw(day).wrapping_add(place as u64));
+    for _ in 0..rounds {
+        lot = draw(lot);
+        out = visit(rt, m, out, place, lot / 65536);
+    }
+    let mut inside = enter(rt, m, out, place);
+    let diary = M::state_mut(&mut inside, m);
+    diary.finished = diary.finished.saturating_add(1);
+    leave(rt, m, inside, place, 0)
+}
+
+// Resumes or calls those that wait until all workers are done.
+fn sweep<R: Wait + Clock, M: Monitor<Diary>>(rt: &R, m: &M, out: M::Out, place: usize) -> M::Out
+    requires { M.is_of m.now out }
+    ensures of { M.is_of m.now result }
+    ensures place { M.place result ≡ M.place out }
+{
+    let mut out = out;
+    for turn in 0..100_000u64 {
+        let inside = enter(rt, m, out, place);
+        if m.state(&inside).finished >= WORKERS {
+            return leave(rt, m, inside, place, turn);
+        }
+        let condition = (turn % 4) as usize;
+        out = if condition < HOARE {
+            pass(rt, m, inside, place, condition, turn)
+        } else {
+            let inside = broadcast(m, inside, place, condition, turn);
+            leave(rt, m, inside, place, turn)
+        };
+        thread::sleep(rt, Duration::from_millis(1));
+    }
+    out
+}
+
+/// The workers work this many rounds, and the last place sweeps.
+pub fn works_or_sweeps<R: Wait + Clock, M: Monitor<Diary>>(
+    rt: &R,
+    m: &M,
+    out: M::Out,
+    place: usize,
+    rounds: u64,
+    day: u64,
+) -> (M::Out, u64)
+    requires { M.is_of m.now out }
+    ensures of { M.is_of m.now result.0 }
+    ensures place { M.place result.0 ≡ M.place out }
+{
+    if place < WORKERS {
+        (work(rt, m, out, place, rounds, day), 0)
+    } else {
+        (sweep(rt, m, out, place), 0)
+    }
+}
+
+/// A diary with room for all that they write.
+pub fn empty_diary<R: Abort>(rt: &R, alloc: Global) -> Diary {
+    let Ok(lines) = Vec::with_capacity(alloc, 100_000) else {
+        panic!(rt; "no memory")
+    };
+    Diary::new(lines)
+}
+
+/// What they wrote in all rounds is what the definitions allow, and they had choices.
+pub fn agrees<R: Abort>(rt: &R, diary: &Diary, rounds: u64) {
+    let lines = diary.lines();
+    let Judged {
+        unlawful,
+        resumed,
+        called,
+        went_on,
+    } = judge(lines);
+    assert!(rt; !diary.is_torn);
+    expect_same(rt, unlawful, None);
+    expect_same(rt, diary.finished, WORKERS);
+    assert!(rt; lines.len() as u64 / 16 >= rounds);
+    assert!(rt; resumed.min(called).min(went_on) as u64 >= rounds / 20);
+}
+
+// So many rounds on one door.
+macro_rules! write_diaries {
+    ($rt:ident, $alloc:ident, $rounds:expr, $door:ident($($given:expr)?)) => {{
+        for day in 0..DAYS {
+            let data = empty_diary($rt, $alloc);
+            let (diary, _) =
+                run_row!($rt, $alloc, $door($($given)?), works_or_sweeps($rounds, day), data, PLACES);
+            agrees($rt, &diary, $rounds);
+        }
+    }};
+}
+
+#[test]
+fn a_diary_of_a_baton_door_is_a_legal_history(host: HostRuntime) {
+    let (rt, alloc) = (&host, host.alloc());
+    write_diaries!(rt, alloc, ROUNDS, on_baton_door());
+}
+
+#[test]
+fn a_diary_of_a_ticket_door_is_a_legal_history(host: HostRuntime) {
+    let (rt, alloc) = (&host, host.alloc());
+    write_diaries!(rt, alloc, TICKET_ROUNDS, on_ticket_door(0));
+}

@@ -1,0 +1,123 @@
+//! Who asked comes in by its ticket, whoever is the first to look.
+ghost use Rattle.std.specs.Prelude.{◌≡◌};
+
+use crate::tests::awaited::watch;
+use crate::tests::compared::expect_same;
+use hoare_law::monitor::Monitor;
+use std::process::Abort;
+use std::rt::Clock;
+use std::sync::Wait;
+use std::sync::atomic::{AtomicUsize, Ordering};
+use std::thread;
+use std::time::Duration;
+use test_support::run_row;
+use test_support::tally::{Tally, write_digit};
+use ticket_door::door::TicketDoor;
+use ticket_door::place::TicketOut;
+
+// Looks until this many asked. The test fails after 20 seconds.
+fn await_asked<R: Abort + Clock>(rt: &R, asked: &AtomicUsize, count: usize) {
+    for _ in 0..20_000 {
+        if asked.load(Ordering::SeqCst) == count {
+            return;
+        }
+        thread::sleep(rt, Duration::from_millis(1));
+    }
+    panic!(rt; "a place did not ask")
+}
+
+// The places ask in the order of their numbers, and look in the opposite order: each writes its ticket's number,
+// counted from 1.
+fn asks_and_looks_late<R: Wait + Abort + Clock>(
+    rt: &R,
+    door: &TicketDoor<Tally>,
+    out: TicketOut<Tally>,
+    place: usize,
+    asked: &AtomicUsize,
+) -> (TicketOut<Tally>, u64)
+    requires { ⟦<TicketDoor<Tally> as Monitor<Tally>>⟧.is_of door.now out }
+    ensures of { ⟦<TicketDoor<Tally> as Monitor<Tally>>⟧.is_of door.now result.0 }
+    ensures place { result.0.place ≡ out.place }
+{
+    await_asked(rt, asked, place);
+    let asking = door.ask(out);
+    let ticket = asking.ticket();
+    asked.store(place.saturating_add(1), Ordering::SeqCst);
+    let others = 2u64.saturating_sub(place as u64);
+    thread::sleep(rt, Duration::from_millis(50 * others));
+    let inside = door.come_in(rt, asking);
+    let inside = write_digit(door, inside, ticket.wrapping_add(1));
+    (door.give_up(inside), ticket)
+}
+
+#[test]
+fn who_asked_comes_in_by_its_ticket(host: HostRuntime) {
+    let (rt, alloc) = (&host, host.alloc());
+    let asked = AtomicUsize::new(0);
+    let (tally, tickets) = run_row!(
+        rt,
+        alloc,
+        on_ticket_door(0),
+        asks_and_looks_late(&asked),
+        Tally { value: 0 },
+        3
+    );
+    expect_same(rt, tickets.as_slice(), [0, 1, 2].as_slice());
+    expect_same(rt, tally.value, 123);
+}
+
+// Comes in and gives up.
+fn comes_and_goes<R: Wait>(
+    rt: &R,
+    door: &TicketDoor<Tally>,
+    out: TicketOut<Tally>,
+) -> TicketOut<Tally>
+    requires { ⟦<TicketDoor<Tally> as Monitor<Tally>>⟧.is_of door.now out }
+    ensures of { ⟦<TicketDoor<Tally> as Monitor<Tally>>⟧.is_of door.now result }
+    ensures place { result.place ≡ out.place }
+{
+    door.give_up(door.enter(rt, out))
+}
+
+// Place 0 draws three tickets, and waits at its fourth. Place 1 hands the monitor up to it, without waiting itself, and
+// answers whether it resumed somebody.
+fn waits_or_hands_up<R: Wait + Abort>(
+    rt: &R,
+    door: &TicketDoor<Tally>,
+    out: TicketOut<Tally>,
+    place: usize,
+) -> (TicketOut<Tally>, u64)
+    requires { ⟦<TicketDoor<Tally> as Monitor<Tally>>⟧.is_of door.now out }
+    ensures of { ⟦<TicketDoor<Tally> as Monitor<Tally>>⟧.is_of door.now result.0 }
+    ensures place { result.0.place ≡ out.place }
+{
+    if place == 0 {
+        let out = comes_and_goes(rt, door, comes_and_goes(rt, door, out));
+        let inside = door.enter(rt, comes_and_goes(rt, door, out));
+        let inside = door.wait(rt, inside, 0, 0);
+        let inside = write_digit(door, inside, 2);
+        return (door.give_up(inside), 0);
+    }
+    let inside = watch(rt, door, out, 0, 1);
+    let inside = write_digit(door, inside, 1);
+    let (out, told) = door.hand_up(inside, 0);
+    (out, u64::from(told))
+}
+
+// Also where the waiting place's tickets went on from the last number with 0.
+#[test]
+fn who_hands_up_resumes_who_waits(host: HostRuntime) {
+    let (rt, alloc) = (&host, host.alloc());
+    for first in [0, 18446744073709551613, 18446744073709551615] {
+        let (tally, told) = run_row!(
+            rt,
+            alloc,
+            on_ticket_door(first),
+            waits_or_hands_up(),
+            Tally { value: 0 },
+            2
+        );
+        expect_same(rt, told.as_slice(), [0, 1].as_slice());
+        expect_same(rt, tally.value, 12);
+    }
+}

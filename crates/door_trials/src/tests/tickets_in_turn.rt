@@ -1,0 +1,151 @@
+//! The ticket door on one thread: tickets in turn, past the last number, and places that meet.
+ghost use Rattle.std.specs.Prelude.{◌≡◌};
+
+use crate::tests::compared::expect_same;
+use hoare_law::monitor::Monitor;
+use std::alloc::Global;
+use std::process::Abort;
+use std::sync::Wait;
+use test_support::tally::{Tally, tries_once};
+use ticket_door::door::TicketDoor;
+use ticket_door::laws::make_at;
+use ticket_door::place::TicketOut;
+
+// Place a comes in at once, and leaves with a signal that nobody waits for; it meets b, and b asks and comes in. They
+// come back in this order, with whether a resumed somebody, and b's ticket.
+fn hands_up_and_meets<R: Wait>(
+    rt: &R,
+    door: &TicketDoor<Tally>,
+    a: TicketOut<Tally>,
+    b: TicketOut<Tally>,
+) -> ((TicketOut<Tally>, TicketOut<Tally>), (bool, u64))
+    requires a { ⟦<TicketDoor<Tally> as Monitor<Tally>>⟧.is_of door.now a }
+    requires b { ⟦<TicketDoor<Tally> as Monitor<Tally>>⟧.is_of door.now b }
+    ensures a { ⟦<TicketDoor<Tally> as Monitor<Tally>>⟧.is_of door.now result.0.0 }
+    ensures b { ⟦<TicketDoor<Tally> as Monitor<Tally>>⟧.is_of door.now result.0.1 }
+    ensures places { (result.0.0.place ≡ a.place) × (result.0.1.place ≡ b.place) }
+{
+    let (a, told) = door.hand_up(door.enter(rt, a), 0);
+    let (b, a) = door.meet(b, a);
+    let b = door.ask(b);
+    let ticket = b.ticket();
+    let b = door.give_up(door.come_in(rt, b));
+    ((a, b), (told, ticket))
+}
+
+/// On a door with this first ticket three places ask, in the order c, a, b, and come in by their tickets; c leaves
+/// seven as the number. Then a hands up to nobody, and meets b, which asks once more. The tickets of those that asked,
+/// whether a resumed somebody, and the number that c finds when it comes back.
+fn three_ask<R: Wait + Abort>(rt: &R, alloc: Global, first: u64) -> ([u64; 4], bool, u64) {
+    let Ok((door, mut outs)) = make_at(alloc, Tally { value: 0 }, 3, first) else {
+        panic!(rt; "no memory")
+    };
+    let (c, b, a) = (
+        outs.pop().unwrap(),
+        outs.pop().unwrap(),
+        outs.pop().unwrap(),
+    );
+    let (c, a, b) = (door.ask(c), door.ask(a), door.ask(b));
+    let tickets = (c.ticket(), a.ticket(), b.ticket());
+    let mut inside = door.come_in(rt, c);
+    TicketDoor::state_mut(&mut inside, &door).value = 7;
+    let c = door.give_up(inside);
+    let a = door.give_up(door.come_in(rt, a));
+    let b = door.give_up(door.come_in(rt, b));
+    let ((a, b), (told, last)) = hands_up_and_meets(rt, &door, a, b);
+    let tickets = [tickets.0, tickets.1, tickets.2, last];
+    let inside = door.come_in(rt, door.ask(c));
+    let found = door.state(&inside).value;
+    let c = door.give_up(inside);
+    (tickets, told, found)
+}
+
+#[test]
+fn tickets_in_turn(rt: HostRuntime) {
+    let asked = three_ask(&rt, rt.alloc(), 0);
+    expect_same(&rt, asked, ([0, 1, 2, 4], false, 7));
+}
+
+// A first ticket may be any number, odd ones too: `make_at` refuses none.
+#[test]
+fn a_first_ticket_may_be_any_number(rt: HostRuntime) {
+    for first in [1, 2, 3, 63, 64, 65, 4294967295, 9223372036854775807] {
+        let asked = three_ask(&rt, rt.alloc(), first);
+        let tickets = [
+            first,
+            first.wrapping_add(1),
+            first.wrapping_add(2),
+            first.wrapping_add(4),
+        ];
+        expect_same(&rt, asked, (tickets, false, 7));
+    }
+}
+
+#[test]
+fn tickets_past_the_last_number(rt: HostRuntime) {
+    for (first, tickets) in [
+        (18446744073709551615, [18446744073709551615, 0, 1, 3]),
+        (
+            18446744073709551613,
+            [
+                18446744073709551613,
+                18446744073709551614,
+                18446744073709551615,
+                1,
+            ],
+        ),
+    ] {
+        let asked = three_ask(&rt, rt.alloc(), first);
+        expect_same(&rt, asked, (tickets, false, 7));
+    }
+}
+
+/// On a door with this first ticket place a asks, b tries, a comes in and out, b tries again, and a asks once more. The
+/// tickets of a, and whether the tries came in.
+fn tries_between<R: Wait + Abort>(rt: &R, alloc: Global, first: u64) -> ((u64, u64), (bool, bool)) {
+    let Ok((door, mut outs)) = make_at(alloc, Tally { value: 0 }, 2, first) else {
+        panic!(rt; "no memory")
+    };
+    let (b, a) = (outs.pop().unwrap(), outs.pop().unwrap());
+    let a = door.ask(a);
+    let early = a.ticket();
+    let (b, before) = tries_once(rt, &door, b);
+    let a = door.give_up(door.come_in(rt, a));
+    let (b, between) = tries_once(rt, &door, b);
+    let a = door.ask(a);
+    let late = a.ticket();
+    outs.push_reserved(door.give_up(door.come_in(rt, a)));
+    outs.push_reserved(b);
+    door.close(outs);
+    ((early, late), (before, between))
+}
+
+// Who tries isn't before who asked, and draws the ticket that is served.
+#[test]
+fn a_try_takes_the_ticket_between(rt: HostRuntime) {
+    for (first, late) in [
+        (0, 2),
+        (9223372036854775807, 9223372036854775809),
+        (18446744073709551614, 0),
+        (18446744073709551615, 1),
+    ] {
+        let tried = tries_between(&rt, rt.alloc(), first);
+        expect_same(&rt, tried, ((first, late), (false, true)));
+    }
+}
+
+#[test]
+fn places_meet(rt: HostRuntime) {
+    let Ok((door, mut outs)) = TicketDoor::make(rt.alloc(), Tally { value: 5 }, 2) else {
+        panic!(rt; "no memory")
+    };
+    let (b, a) = (outs.pop().unwrap(), outs.pop().unwrap());
+    let (a, b) = (door.ask(a), door.ask(b));
+    let (a, told) = door.hand_up(door.come_in(&rt, a), 0);
+    let b = door.give_up(door.come_in(&rt, b));
+    let (b, a) = door.meet(b, a);
+    outs.push_reserved(b);
+    outs.push_reserved(a);
+    let tally = door.close(outs);
+    expect_same(&rt, (told, tally.value), (false, 5));
+}

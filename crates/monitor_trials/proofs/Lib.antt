@@ -1,4 +1,0 @@
-mod Answers
-mod Many
-mod Numbered
-mod Stages

@@ -1,0 +1,29 @@
+//! What all tests compare: values, and how they read.
+
+use std::alloc::Global;
+use std::fmt::{Debug, Display};
+use std::process::Abort;
+
+/// Fails the test where the value that was found isn't the wanted one. (Each `assert_eq!` is checked where it stands,
+/// and takes the checker some two seconds; a call of this takes it half a second.)
+pub fn expect_same<T: Copy + Debug + PartialEq, R: Abort>(rt: &R, found: T, wanted: T) {
+    assert_eq!(rt; found, wanted);
+}
+
+/// Fails the test where the value doesn't read so.
+pub fn reads_as<T: Display, R: Abort>(rt: &R, alloc: Global, value: &T, wanted: &str) {
+    let Ok(shown) = format!(in alloc; "{value}") else {
+        panic!(rt; "no memory")
+    };
+    expect_same(rt, shown.as_str(), wanted);
+}
+
+/// Fails the test where the places of a row answered something else on the door of this name.
+pub fn answered<R: Abort>(rt: &R, door: &str, answers: &[u64], wanted: &[u64]) {
+    expect_same(rt, (door, answers), (door, wanted));
+}
+
+/// Fails the test where not all places of a row answered on the door of this name.
+pub fn all_answered<R: Abort>(rt: &R, door: &str, answers: &[u64], places: usize) {
+    expect_same(rt, (door, answers.len()), (door, places));
+}

@@ -1,0 +1,71 @@
+//! What the cookbook's program does not run, on the fake monitor: a philosopher gets up where nobody eats, and a latch
+//! is opened twice.
+
+use crate::tests::awaited::within;
+use crate::tests::compared::{expect_same, reads_as};
+use crate::tests::fake::with_answers;
+use cookbook::latch::Latch;
+use cookbook::table::{NotEating, Table};
+use hoare_law::monitor::Monitor;
+use std::alloc::Global;
+use std::process::Abort;
+use std::rt::Clock;
+use std::sync::Wait;
+use std::thread::Threads;
+
+// Nobody eats at seat 1: it is refused at an empty table, and beside one that eats. At seat 2 it goes well once.
+fn gets_up_once<R: Wait + Abort, M: Monitor<Table>>(rt: &R, m: &M, out: M::Out)
+    requires { M.is_of m.now out }
+{
+    let (out, nobody) = Table::get_up(m, rt, out, 1);
+    let out = Table::sit_down(m, rt, out, 2);
+    let (out, beside) = Table::get_up(m, rt, out, 1);
+    let (out, once) = Table::get_up(m, rt, out, 2);
+    let (_out, twice) = Table::get_up(m, rt, out, 2);
+    expect_same(rt, (nobody, beside), (Err(NotEating), Err(NotEating)));
+    expect_same(rt, (once, twice), (Ok(()), Err(NotEating)));
+}
+
+fn gets_up<R: Wait + Abort>(rt: &R, alloc: Global) {
+    let (fake, out) = with_answers(rt, alloc, Table::new(), []);
+    gets_up_once(rt, &fake, out);
+}
+
+// Does it within the limit.
+fn runs<R: Threads + Wait + Abort + Clock + Sync>(rt: &R, alloc: Global) {
+    within(rt, || gets_up(rt, alloc))
+}
+
+#[test]
+fn nobody_gets_up_where_nobody_eats(rt: HostRuntime) {
+    let alloc = rt.alloc();
+    runs(&rt, alloc);
+    reads_as(&rt, alloc, &NotEating, "nobody eats at the seat");
+}
+
+// Opens a latch, and counts it down once more: it stays open, so who passes waits for nobody.
+fn opens_twice<R: Wait, M: Monitor<Latch>>(rt: &R, m: &M, out: M::Out)
+    requires { M.is_of m.now out }
+{
+    let out = Latch::count_down(m, rt, out);
+    let out = Latch::count_down(m, rt, out);
+    let _out = Latch::pass(m, rt, out);
+}
+
+// A latch that one count opens, and one that is open.
+fn opens<R: Wait + Abort>(rt: &R, alloc: Global) {
+    for left in [1, 0] {
+        let (fake, out) = with_answers(rt, alloc, Latch::new(left), []);
+        opens_twice(rt, &fake, out);
+    }
+}
+
+// Does it within the limit.
+fn opens_within<R: Threads + Wait + Abort + Clock + Sync>(rt: &R, alloc: Global) {
+    within(rt, || opens(rt, alloc))
+}
+
+#[test]
+fn a_latch_that_is_opened_twice_stays_open(rt: HostRuntime) {
+    opens_within(&rt, rt.alloc());
+}

@@ -1,0 +1,17 @@
+//! Rows of tests on threads: each is written over any monitor, and run on each door.
+pub mod alarm_and_pool;
+mod alarm_stress;
+pub mod drive;
+mod foreign_items;
+pub mod head;
+pub mod head_stay;
+mod head_stress;
+mod late_reader;
+mod mesa;
+mod pool_stress;
+pub mod readers;
+mod readers_stress;
+pub mod reading;
+mod schedulers;
+mod shared_log;
+mod turns;

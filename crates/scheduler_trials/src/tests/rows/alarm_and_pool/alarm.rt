@@ -1,0 +1,177 @@
+//! The alarm clock: each sleeper wakes at its setting, and the clock ends at its last time.
+ghost use Rattle.std.specs.Prelude.{◌≡◌};
+
+use crate::tests::compared::{answered, expect_same};
+use crate::tests::rows::alarm_stress::{Line, SLEEPERS, is_a_clock, sleeps_or_ticks_on};
+use crate::tests::rows::shared_log::Log;
+use crate::tests::rows::turns::watch;
+use hoare_law::monitor::Monitor;
+use std::process::Abort;
+use std::sync::Wait;
+use test_support::run_row;
+use test_support::running::{BATON, TICKET};
+use timed_schedulers::alarm::{Alarm, ClockFull, TooFar};
+
+/// Sleeps for this many ticks: the time at which it woke.
+fn sleeps<R: Wait + Abort, M: Monitor<Alarm>>(
+    rt: &R,
+    m: &M,
+    out: M::Out,
+    ticks: u64,
+) -> (M::Out, u64)
+    requires { M.is_of m.now out }
+    ensures of { M.is_of m.now result.0 }
+    ensures place { M.place result.0 ≡ M.place out }
+{
+    let (out, woke) = Alarm::wakeme(m, rt, out, ticks);
+    (out, woke.expect(rt, "the setting is in time"))
+}
+
+/// Ticks twice once three sleep: the second time.
+fn ticks_twice<R: Wait + Abort, M: Monitor<Alarm>>(rt: &R, m: &M, out: M::Out) -> (M::Out, u64)
+    requires { M.is_of m.now out }
+    ensures of { M.is_of m.now result.0 }
+    ensures place { M.place result.0 ≡ M.place out }
+{
+    let out = watch(rt, m, out, 3);
+    let (out, first) = Alarm::tick(m, rt, out);
+    expect_same(rt, first, Ok(1));
+    let (out, second) = Alarm::tick(m, rt, out);
+    (out, second.expect(rt, "there is a next time"))
+}
+
+/// Sets the clock past the last time, which is refused.
+pub fn is_too_far<R: Wait + Abort, M: Monitor<Alarm>>(
+    rt: &R,
+    m: &M,
+    out: M::Out,
+    ticks: u64,
+) -> M::Out
+    requires { M.is_of m.now out }
+    ensures of { M.is_of m.now result }
+    ensures place { M.place result ≡ M.place out }
+{
+    let (out, woke) = Alarm::wakeme(m, rt, out, ticks);
+    expect_same(rt, woke, Err(TooFar));
+    out
+}
+
+/// Ticks at the last time, which is refused.
+pub fn is_full<R: Wait + Abort, M: Monitor<Alarm>>(rt: &R, m: &M, out: M::Out) -> M::Out
+    requires { M.is_of m.now out }
+    ensures of { M.is_of m.now result }
+    ensures place { M.place result ≡ M.place out }
+{
+    let (out, time) = Alarm::tick(m, rt, out);
+    expect_same(rt, time, Err(ClockFull));
+    out
+}
+
+/// At the last time: nothing can be set past it, and there is no next one, but who sets it goes on at once: the time
+/// that it found.
+pub fn ends_the_clock<R: Wait + Abort, M: Monitor<Alarm>>(
+    rt: &R,
+    m: &M,
+    out: M::Out,
+) -> (M::Out, u64)
+    requires { M.is_of m.now out }
+    ensures of { M.is_of m.now result.0 }
+    ensures place { M.place result.0 ≡ M.place out }
+{
+    let out = is_too_far(rt, m, out, 1);
+    let out = is_full(rt, m, out);
+    sleeps(rt, m, out, 0)
+}
+
+// Places 0 to 2 sleep for 2, 2 and 1 ticks, and place 3 ticks.
+fn sleeps_or_ticks<R: Wait + Abort, M: Monitor<Alarm>>(
+    rt: &R,
+    m: &M,
+    out: M::Out,
+    place: usize,
+) -> (M::Out, u64)
+    requires { M.is_of m.now out }
+    ensures of { M.is_of m.now result.0 }
+    ensures place { M.place result.0 ≡ M.place out }
+{
+    match place {
+        0 | 1 => sleeps(rt, m, out, 2),
+        2 => sleeps(rt, m, out, 1),
+        _ => ticks_twice(rt, m, out),
+    }
+}
+
+/// The rows of an alarm clock.
+#[derive(Clone, Copy)]
+enum AlarmRow<'a> {
+    SleepersWakeAtTheirSettings,
+    AClockEndsAtItsLastTime,
+    /// Its places write down what they do.
+    AllThatAreDueWakeAtTheirTime(&'a Log<Line>),
+}
+
+// Each place does what the row says.
+fn acts<R: Wait + Abort, M: Monitor<Alarm>>(
+    rt: &R,
+    m: &M,
+    out: M::Out,
+    place: usize,
+    row: AlarmRow<'_>,
+) -> (M::Out, u64)
+    requires { M.is_of m.now out }
+    ensures of { M.is_of m.now result.0 }
+    ensures place { M.place result.0 ≡ M.place out }
+{
+    match row {
+        AlarmRow::SleepersWakeAtTheirSettings => sleeps_or_ticks(rt, m, out, place),
+        AlarmRow::AClockEndsAtItsLastTime => ends_the_clock(rt, m, out),
+        AlarmRow::AllThatAreDueWakeAtTheirTime(log) => sleeps_or_ticks_on(rt, m, out, place, log),
+    }
+}
+
+// At which time the clock begins in the row, and how many places act.
+fn setting(row: AlarmRow<'_>) -> (u64, usize) {
+    match row {
+        AlarmRow::SleepersWakeAtTheirSettings => (0, 4),
+        AlarmRow::AClockEndsAtItsLastTime => (u64::MAX, 1),
+        AlarmRow::AllThatAreDueWakeAtTheirTime(_) => (0, SLEEPERS + 1),
+    }
+}
+
+// What the places have to answer.
+fn wanted(row: AlarmRow<'_>) -> &'static [u64] {
+    match row {
+        AlarmRow::SleepersWakeAtTheirSettings => &[2, 2, 1, 2],
+        AlarmRow::AClockEndsAtItsLastTime => &[u64::MAX],
+        AlarmRow::AllThatAreDueWakeAtTheirTime(_) => &[0; SLEEPERS + 1],
+    }
+}
+
+// The rows on one door.
+macro_rules! rows_of_an_alarm_clock {
+    ($rt:ident, $alloc:ident, $name:expr, $door:ident($($given:expr)?)) => {{
+        let log = Log::new($rt, $alloc, 10_000);
+        for row in [
+            AlarmRow::SleepersWakeAtTheirSettings,
+            AlarmRow::AClockEndsAtItsLastTime,
+            AlarmRow::AllThatAreDueWakeAtTheirTime(&log),
+        ] {
+            let (time, places) = setting(row);
+            let (_, answers) = run_row!($rt, $alloc, $door($($given)?), acts(row), Alarm::at(time), places);
+            answered($rt, $name, answers.as_slice(), wanted(row));
+        }
+        is_a_clock($rt, log);
+    }};
+}
+
+#[test]
+fn an_alarm_clock_on_a_baton_door(host: HostRuntime) {
+    let (rt, alloc) = (&host, host.alloc());
+    rows_of_an_alarm_clock!(rt, alloc, BATON, on_baton_door());
+}
+
+#[test]
+fn an_alarm_clock_on_a_ticket_door(host: HostRuntime) {
+    let (rt, alloc) = (&host, host.alloc());
+    rows_of_an_alarm_clock!(rt, alloc, TICKET, on_ticket_door(0));
+}

@@ -1,0 +1,240 @@
+//! The disk head: in which order it goes to the cylinders. The drive that is handed on has the list of those where it
+//! was.
+ghost use Rattle.std.specs.Prelude.{◌≡◌};
+ghost use Rattle.hoare_law.specs.Priorities.{nobody};
+ghost use Rattle.sweep_schedulers.specs.Heads.{HeadRests};
+
+use crate::tests::compared::{all_answered, expect_same};
+use crate::tests::rows::drive::{Trip, goes, hands_on};
+use crate::tests::rows::head_stay::{ASKING, asks_or_counts};
+use crate::tests::rows::head_stress::{CYLMAX, Line, PLACES, is_a_sweep, travels};
+use crate::tests::rows::shared_log::Log;
+use crate::tests::rows::turns::{Turns, line_up};
+use hoare_law::monitor::Monitor;
+use std::alloc::Global;
+use std::process::Abort;
+use std::rt::Clock;
+use std::sync::Wait;
+use sweep_schedulers::head::{Head, OffDisk};
+use sweep_schedulers::not_out::NotOut;
+use test_support::run_row;
+use test_support::running::{BATON, TICKET};
+
+/// Takes the drive to cylinder 50, twice where the plan has an idle drive once, and keeps it the last time; hands
+/// it on once the others wait; and takes it to the cylinder `last` when all others had it. The drive has to have
+/// been where the plan says.
+fn leads<R: Wait + Abort, M: Monitor<Head<Trip>>>(
+    rt: &R,
+    m: &M,
+    out: M::Out,
+    turns: &Turns,
+    plan: &Plan,
+) -> M::Out
+    requires { M.is_of m.now out }
+    ensures of { M.is_of m.now result }
+    ensures place { M.place result ≡ M.place out }
+{
+    let (out, drive) = goes(rt, m, out, 50);
+    let (out, drive) = if plan.is_idle_once {
+        let out = hands_on(rt, m, out, drive);
+        goes(rt, m, out, 50)
+    } else {
+        (out, drive)
+    };
+    let out = line_up(rt, m, out, turns, plan.dests.len());
+    let out = hands_on(rt, m, out, drive);
+    let (out, drive) = goes(rt, m, out, plan.last);
+    expect_same(rt, drive.as_slice(), plan.trip);
+    turns.start_again();
+    hands_on(rt, m, out, drive)
+}
+
+/// Takes the drive to the cylinder at this turn, and hands it on.
+fn follows<R: Wait + Abort + Clock, M: Monitor<Head<Trip>>>(
+    rt: &R,
+    m: &M,
+    out: M::Out,
+    turns: &Turns,
+    turn: usize,
+    plan: &Plan,
+) -> M::Out
+    requires { M.is_of m.now out }
+    ensures of { M.is_of m.now result }
+    ensures place { M.place result ≡ M.place out }
+{
+    turns.await_turn(rt, turn);
+    let Some(dest) = plan.dests.get(turn.saturating_sub(1)) else {
+        panic!(rt; "nothing is planned for this place")
+    };
+    let (out, drive) = goes(rt, m, out, *dest);
+    hands_on(rt, m, out, drive)
+}
+
+/// Asks for a cylinder past the last one, which is refused.
+pub fn is_off_disk<R: Wait + Abort, M: Monitor<Head<Trip>>>(
+    rt: &R,
+    m: &M,
+    out: M::Out,
+    past: u16,
+) -> M::Out
+    requires { M.is_of m.now out }
+    ensures of { M.is_of m.now result }
+    ensures place { M.place result ≡ M.place out }
+{
+    let (out, drive) = Head::request(m, rt, out, past);
+    expect_same(rt, drive.err(), Some(OffDisk));
+    out
+}
+
+/// Asks for a cylinder past the last one, and puts a second drive in, which comes back.
+pub fn is_refused<R: Wait + Abort, M: Monitor<Head<Trip>>>(
+    rt: &R,
+    m: &M,
+    out: M::Out,
+    past: u16,
+    second: Trip,
+) -> M::Out
+    requires { M.is_of m.now out }
+    ensures of { M.is_of m.now result }
+    ensures place { M.place result ≡ M.place out }
+{
+    let out = is_off_disk(rt, m, out, past);
+    let count = second.len();
+    let (out, released) = Head::release(m, rt, out, second);
+    let Err(NotOut { item }) = released else {
+        panic!(rt; "two drives are in")
+    };
+    expect_same(rt, item.len(), count);
+    out
+}
+
+/// Who asks for which cylinder while the drive is at 50, in which order.
+#[derive(Drop)]
+struct Plan<'a> {
+    /// Whether the drive was handed on once before, to nobody.
+    is_idle_once: bool,
+    dests: &'a [u16],
+    /// The cylinder of the last request.
+    last: u16,
+    /// Where the drive has then been.
+    trip: &'a [u16],
+}
+
+// Place 0 has the drive while the others ask for it in the order of their numbers; once all had it, it is refused what
+// is refused.
+fn leads_or_follows<R: Wait + Abort + Clock, M: Monitor<Head<Trip>>>(
+    rt: &R,
+    m: &M,
+    out: M::Out,
+    place: usize,
+    alloc: Global,
+    turns: &Turns,
+    plan: &Plan,
+) -> (M::Out, u64)
+    requires { M.is_of m.now out }
+    ensures of { M.is_of m.now result.0 }
+    ensures place { M.place result.0 ≡ M.place out }
+{
+    if place == 0 {
+        let out = leads(rt, m, out, turns, plan);
+        (is_refused(rt, m, out, 101, Vec::new(alloc)), 0)
+    } else {
+        (follows(rt, m, out, turns, place, plan), 0)
+    }
+}
+
+/// A disk whose drive has been nowhere.
+pub fn disk(alloc: Global, cylmax: u16) -> Head<Trip>
+    ensures { HeadRests result (nobody 0) (nobody 1) }
+{
+    Head::with(Vec::new(alloc), cylmax)
+}
+
+/// The rows of a disk head.
+#[derive(Clone, Copy)]
+enum HeadRow<'a> {
+    /// In the turns and as planned.
+    ByPlan(Global, &'a Turns, &'a Plan<'a>),
+    /// In the turns: one asks for the cylinder where the drive is, and the grants that are due there are counted.
+    StayCountsGrants(&'a Turns),
+    /// Its places write down what they do.
+    TheDriveGoesBySweeps(&'a Log<Line>),
+}
+
+// Each place does what the row says.
+fn acts<R: Wait + Abort + Clock, M: Monitor<Head<Trip>>>(
+    rt: &R,
+    m: &M,
+    out: M::Out,
+    place: usize,
+    row: HeadRow<'_>,
+) -> (M::Out, u64)
+    requires { M.is_of m.now out }
+    ensures of { M.is_of m.now result.0 }
+    ensures place { M.place result.0 ≡ M.place out }
+{
+    match row {
+        HeadRow::ByPlan(alloc, turns, plan) => {
+            leads_or_follows(rt, m, out, place, alloc, turns, plan)
+        }
+        HeadRow::StayCountsGrants(turns) => (asks_or_counts(rt, m, out, place, turns), 0),
+        HeadRow::TheDriveGoesBySweeps(log) => travels(rt, m, out, place, log),
+    }
+}
+
+/// Each cylinder in the order of a sweep. Who asks for the cylinder under the head waits for the way back.
+const SWEEP_ORDER: Plan<'static> = Plan {
+    is_idle_once: false,
+    dests: &[70, 60, 20, 50, 40],
+    last: 0,
+    trip: &[50, 60, 70, 50, 40, 20, 0],
+};
+
+/// A release to nobody turns the head.
+const IDLE_RELEASE_TURNS: Plan<'static> = Plan {
+    is_idle_once: true,
+    dests: &[60, 40],
+    last: 100,
+    trip: &[50, 50, 40, 60, 100],
+};
+
+// The last cylinder of the row's disk, and how many places act.
+fn setting(row: HeadRow<'_>) -> (u16, usize) {
+    match row {
+        HeadRow::ByPlan(_, _, plan) => (100, plan.dests.len() + 1),
+        HeadRow::StayCountsGrants(_) => (100, ASKING),
+        HeadRow::TheDriveGoesBySweeps(_) => (CYLMAX, PLACES),
+    }
+}
+
+// The rows on one door.
+macro_rules! rows_of_a_head {
+    ($rt:ident, $alloc:ident, $name:expr, $door:ident($($given:expr)?)) => {{
+        let turns = Turns::new();
+        let log = Log::new($rt, $alloc, 10_000);
+        for row in [
+            HeadRow::ByPlan($alloc, &turns, &SWEEP_ORDER),
+            HeadRow::ByPlan($alloc, &turns, &IDLE_RELEASE_TURNS),
+            HeadRow::StayCountsGrants(&turns),
+            HeadRow::TheDriveGoesBySweeps(&log),
+        ] {
+            let (cylmax, places) = setting(row);
+            let head = disk($alloc, cylmax);
+            let (_, answers) = run_row!($rt, $alloc, $door($($given)?), acts(row), head, places);
+            all_answered($rt, $name, answers.as_slice(), places);
+        }
+        is_a_sweep($rt, log);
+    }};
+}
+
+#[test]
+fn a_disk_head_on_a_baton_door(host: HostRuntime) {
+    let (rt, alloc) = (&host, host.alloc());
+    rows_of_a_head!(rt, alloc, BATON, on_baton_door());
+}
+
+#[test]
+fn a_disk_head_on_a_ticket_door(host: HostRuntime) {
+    let (rt, alloc) = (&host, host.alloc());
+    rows_of_a_head!(rt, alloc, TICKET, on_ticket_door(0));
+}

@@ -1,0 +1,166 @@
+//! Five processes ask for random cylinders, and each hands the drive on once the others wait for it. What
+//! they wrote down is held against what a sweep is.
+ghost use Rattle.std.specs.Prelude.{◌≡◌};
+
+use crate::tests::compared::expect_same;
+use crate::tests::rows::drive::{Trip, goes, hands_on};
+use crate::tests::rows::shared_log::{Log, await_others};
+use hoare_law::monitor::Monitor;
+use std::process::Abort;
+use std::sync::Wait;
+use sweep_schedulers::head::Head;
+use test_support::drawn::draw;
+
+/// How many places ask.
+pub const PLACES: usize = 5;
+
+const ROUNDS: u64 = 200;
+
+/// The last cylinder.
+pub const CYLMAX: u16 = 9;
+
+/// What happened.
+#[derive(Clone, Copy, Debug, PartialEq, Eq)]
+pub enum Line {
+    /// The place is about to ask for the cylinder.
+    Asks { place: usize, dest: u16 },
+    /// It has the drive there.
+    Gets { place: usize, dest: u16 },
+    /// It is about to hand the drive on; whoever asked before waits.
+    Gives { place: usize },
+}
+
+/// A cylinder that a place wants, and whether it waits for the way up, which is known once the drive is handed on.
+#[derive(Clone, Copy)]
+struct Wish {
+    dest: u16,
+    goes_up: Option<bool>,
+}
+
+/// A disk as it should be: where the drive is and who has it, whether it goes up, who wishes what, and whose cylinder
+/// is next.
+#[derive(Drop)]
+struct Elevator {
+    at: u16,
+    goes_up: bool,
+    holder: Option<usize>,
+    wishes: [Option<Wish>; PLACES],
+    next: Option<Wish>,
+}
+
+impl Elevator {
+    // The way on which the drive comes to the cylinder: it is before it, or under it and the drive goes the other way.
+    fn is_above(&self, dest: u16) -> bool {
+        self.at < dest || (self.at == dest && !self.goes_up)
+    }
+
+    // The nearest cylinder that is wished for on this way.
+    fn nearest(&self, goes_up: bool) -> Option<Wish> {
+        self.wishes
+            .iter()
+            .copied()
+            .flatten()
+            .filter(|wish| wish.goes_up == Some(goes_up))
+            .min_by_key(|wish| wish.dest.abs_diff(self.at))
+    }
+
+    // Who asked since the drive is here waits on the way to its cylinder.
+    fn sort_wishes(&mut self) {
+        for place in 0..PLACES {
+            if let Some(wish) = self.wishes[place] {
+                if wish.goes_up.is_none() {
+                    let goes_up = Some(self.is_above(wish.dest));
+                    self.wishes[place] = Some(Wish { goes_up, ..wish });
+                }
+            }
+        }
+    }
+
+    // The drive goes on the way on which it is, and where nobody waits there, it turns.
+    fn go_on(&mut self) {
+        self.sort_wishes();
+        self.next = self.nearest(self.goes_up);
+        if self.next.is_none() {
+            self.goes_up = !self.goes_up;
+            self.next = self.nearest(self.goes_up);
+        }
+    }
+
+    // Whether the place may have the drive there: it is its wish, and the next where anybody waited.
+    fn lets(&mut self, place: usize, dest: u16) -> bool {
+        let Some(wish) = self.wishes.get_mut(place).and_then(|wish| wish.take()) else {
+            return false;
+        };
+        let is_next = match self.next.take() {
+            Some(next) => wish.dest == next.dest && wish.goes_up == next.goes_up,
+            None => true,
+        };
+        self.at = dest;
+        wish.dest == dest && is_next && self.holder.replace(place).is_none()
+    }
+
+    // Whether this may happen next.
+    fn allows(&mut self, line: Line) -> bool {
+        match line {
+            Line::Asks { place, dest } => {
+                let wish = Wish {
+                    dest,
+                    goes_up: None,
+                };
+                place < PLACES && self.wishes[place].replace(wish).is_none()
+            }
+            Line::Gets { place, dest } => self.lets(place, dest),
+            Line::Gives { place } => {
+                self.go_on();
+                self.holder.take() == Some(place)
+            }
+        }
+    }
+}
+
+// The first line that may not stand where it stands.
+fn first_wrong(lines: &[Line]) -> Option<Line> {
+    let mut disk = Elevator {
+        at: 0,
+        goes_up: true,
+        holder: None,
+        wishes: [None; PLACES],
+        next: None,
+    };
+    lines.iter().copied().find(|line| !disk.allows(*line))
+}
+
+/// Asks for a random cylinder in each round, and hands the drive on when all others wait.
+pub fn travels<R: Wait + Abort, M: Monitor<Head<Trip>>>(
+    rt: &R,
+    m: &M,
+    out: M::Out,
+    place: usize,
+    log: &Log<Line>,
+) -> (M::Out, u64)
+    requires { M.is_of m.now out }
+    ensures of { M.is_of m.now result.0 }
+    ensures place { M.place result.0 ≡ M.place out }
+{
+    let mut out = out;
+    let mut lot = draw(place as u64);
+    for _ in 0..ROUNDS {
+        lot = draw(lot);
+        let dest = (lot / 65536 % 10) as u16;
+        log.write(rt, Line::Asks { place, dest });
+        let (again, drive) = goes(rt, m, out, dest);
+        log.write(rt, Line::Gets { place, dest });
+        let (again, _someone_waits) = await_others(rt, m, again, log, PLACES - 1);
+        log.write(rt, Line::Gives { place });
+        out = hands_on(rt, m, again, drive);
+    }
+    log.finish();
+    (out, 0)
+}
+
+/// What they wrote is what a sweep is, and all was written.
+pub fn is_a_sweep<R: Abort>(rt: &R, log: Log<Line>) {
+    let lines = log.into_lines();
+    expect_same(rt, first_wrong(lines.as_slice()), None);
+    expect_same(rt, lines.len(), 3000);
+}

@@ -1,0 +1,190 @@
+//! The buffer with Mesa conditions: who is called tests again, before any newcomer comes in.
+ghost use Rattle.std.specs.Prelude.{◌≡◌};
+ghost use Rattle.plain_schedulers.specs.Buffers.{BufferHolds};
+
+use crate::tests::compared::expect_same;
+use crate::tests::rows::turns::{Turns, line_up};
+use hoare_law::monitor::Monitor;
+use plain_schedulers::buffer::mesa::MesaBuffer;
+use plain_schedulers::buffer::{BufferRefused, NONEMPTY, NONFULL};
+use std::alloc::Global;
+use std::process::Abort;
+use std::rt::Clock;
+use std::sync::Wait;
+use test_support::run_row;
+use test_support::running::{BATON, TICKET, count_waiting};
+
+/// A buffer of this many cells, with Mesa conditions.
+fn with_cells<R: Abort>(rt: &R, alloc: Global, cells: usize) -> MesaBuffer<u64>
+    ensures { BufferHolds result }
+{
+    MesaBuffer::make(alloc, cells).expect(rt, "there is memory for a buffer of this size")
+}
+
+// Lets two others wait for an item, and calls both though there is none: they wait again before it comes in. Then each
+// is called by an item. How many it called at first.
+fn calls<R: Wait + Abort, M: Monitor<MesaBuffer<u64>>>(
+    rt: &R,
+    m: &M,
+    out: M::Out,
+    turns: &Turns,
+) -> (M::Out, u64)
+    requires { M.is_of m.now out }
+    ensures of { M.is_of m.now result.0 }
+    ensures place { M.place result.0 ≡ M.place out }
+{
+    let out = line_up(rt, m, out, turns, 2);
+    let mut inside = m.enter(rt, out);
+    let called = m.broadcast(&mut inside, NONEMPTY);
+    expect_same(rt, m.queue(&inside, NONEMPTY), false);
+    expect_same(rt, m.notify(&mut inside, NONEMPTY), false);
+    let inside = m.enter(rt, m.leave(rt, inside));
+    expect_same(rt, count_waiting(m, &inside), 2);
+    let out = MesaBuffer::append(m, rt, m.leave(rt, inside), 1);
+    let out = MesaBuffer::append(m, rt, out, 2);
+    (out, called as u64)
+}
+
+// Place 0 calls the others, which wait for an item in the order of their numbers.
+fn calls_or_removes<R: Wait + Abort + Clock, M: Monitor<MesaBuffer<u64>>>(
+    rt: &R,
+    m: &M,
+    out: M::Out,
+    place: usize,
+    turns: &Turns,
+) -> (M::Out, u64)
+    requires { M.is_of m.now out }
+    ensures of { M.is_of m.now result.0 }
+    ensures place { M.place result.0 ≡ M.place out }
+{
+    if place == 0 {
+        return calls(rt, m, out, turns);
+    }
+    turns.await_turn(rt, place);
+    MesaBuffer::remove(m, rt, out)
+}
+
+// Calls all that wait, without a cause.
+fn calls_all<R: Wait, M: Monitor<MesaBuffer<u64>>>(rt: &R, m: &M, out: M::Out) -> M::Out
+    requires { M.is_of m.now out }
+    ensures of { M.is_of m.now result }
+    ensures place { M.place result ≡ M.place out }
+{
+    let mut inside = m.enter(rt, out);
+    m.broadcast(&mut inside, NONEMPTY);
+    m.broadcast(&mut inside, NONFULL);
+    m.leave(rt, inside)
+}
+
+// An even place puts the numbers from 1 to this one in, an odd one takes as many items out: the sum of those. Before
+// every third turn it calls all others without a cause.
+fn trades<R: Wait, M: Monitor<MesaBuffer<u64>>>(
+    rt: &R,
+    m: &M,
+    out: M::Out,
+    place: usize,
+    count: u64,
+) -> (M::Out, u64)
+    requires { M.is_of m.now out }
+    ensures of { M.is_of m.now result.0 }
+    ensures place { M.place result.0 ≡ M.place out }
+{
+    let mut out = out;
+    let mut sum = 0u64;
+    for turn in 1..=count {
+        if turn % 3 == 0 {
+            out = calls_all(rt, m, out);
+        }
+        if place % 2 == 0 {
+            out = MesaBuffer::append(m, rt, out, turn);
+        } else {
+            let (again, item) = MesaBuffer::remove(m, rt, out);
+            out = again;
+            sum = sum.saturating_add(item);
+        }
+    }
+    (out, sum)
+}
+
+/// The rows of a buffer with Mesa conditions.
+#[derive(Clone, Copy)]
+enum MesaRow<'a> {
+    /// In the turns.
+    WhoIsCalledTestsAgain(&'a Turns),
+    NoItemIsLostBetweenCalledPlaces,
+}
+
+// Each place does what the row says.
+fn acts<R: Wait + Abort + Clock, M: Monitor<MesaBuffer<u64>>>(
+    rt: &R,
+    m: &M,
+    out: M::Out,
+    place: usize,
+    row: MesaRow<'_>,
+) -> (M::Out, u64)
+    requires { M.is_of m.now out }
+    ensures of { M.is_of m.now result.0 }
+    ensures place { M.place result.0 ≡ M.place out }
+{
+    match row {
+        MesaRow::WhoIsCalledTestsAgain(turns) => calls_or_removes(rt, m, out, place, turns),
+        MesaRow::NoItemIsLostBetweenCalledPlaces => trades(rt, m, out, place, 300),
+    }
+}
+
+// How many cells and places there are in the row.
+fn setting(row: MesaRow<'_>) -> (usize, usize) {
+    match row {
+        MesaRow::WhoIsCalledTestsAgain(_) => (1, 3),
+        MesaRow::NoItemIsLostBetweenCalledPlaces => (2, 4),
+    }
+}
+
+// Whether the places answered what they have to: the sum of the items that were taken out is that of those put in.
+fn agrees(row: MesaRow<'_>, answers: &[u64]) -> bool {
+    match row {
+        MesaRow::WhoIsCalledTestsAgain(_) => answers == [2, 1, 2].as_slice(),
+        MesaRow::NoItemIsLostBetweenCalledPlaces => {
+            answers.iter().fold(0u64, |sum, n| sum.saturating_add(*n)) == 300 * 301
+        }
+    }
+}
+
+// The rows on one door.
+macro_rules! rows_of_a_buffer {
+    ($rt:ident, $alloc:ident, $name:expr, $door:ident($($given:expr)?)) => {{
+        let turns = Turns::new();
+        for row in [
+            MesaRow::WhoIsCalledTestsAgain(&turns),
+            MesaRow::NoItemIsLostBetweenCalledPlaces,
+        ] {
+            let (cells, places) = setting(row);
+            let buffer = with_cells($rt, $alloc, cells);
+            let (_, answers) = run_row!($rt, $alloc, $door($($given)?), acts(row), buffer, places);
+            assert!($rt; agrees(row, answers.as_slice()), "the {} answered {answers:?}", $name);
+        }
+    }};
+}
+
+#[test]
+fn who_is_called_tests_again_on_a_baton_door(host: HostRuntime) {
+    let (rt, alloc) = (&host, host.alloc());
+    rows_of_a_buffer!(rt, alloc, BATON, on_baton_door());
+}
+
+#[test]
+fn who_is_called_tests_again_on_a_ticket_door(host: HostRuntime) {
+    let (rt, alloc) = (&host, host.alloc());
+    rows_of_a_buffer!(rt, alloc, TICKET, on_ticket_door(0));
+}
+
+#[test]
+fn a_buffer_with_mesa_conditions_has_its_limits(rt: HostRuntime) {
+    for cells in [0, 4097] {
+        let made = MesaBuffer::<u8>::make(rt.alloc(), cells);
+        assert!(rt;
+            matches!(made, Err(BufferRefused::BadSize)),
+            "{cells} cells"
+        );
+    }
+}

@@ -1,0 +1,271 @@
+//! The readers and writers: who waits for whom, and the most readers.
+ghost use Rattle.std.specs.Prelude.{◌≡◌};
+
+use crate::tests::compared::{all_answered, expect_same, reads_as};
+use crate::tests::fake::with_answers;
+use crate::tests::rows::late_reader::reads_or_writes_late;
+use crate::tests::rows::readers_stress::{Line, PLACES, is_read_and_written, reads_or_writes_on};
+use crate::tests::rows::reading::{
+    Shared, ends_no_write, ends_read, ends_write, is_one_too_many, starts_read, starts_write,
+    waiting,
+};
+use crate::tests::rows::shared_log::Log;
+use crate::tests::rows::turns::{Turns, line_up};
+use hoare_law::monitor::Monitor;
+use std::alloc::Global;
+use std::process::Abort;
+use std::rt::Clock;
+use std::sync::Wait;
+use std::sync::atomic::AtomicU32;
+use sweep_schedulers::readers_writers::{NoReader, ReadersWriters};
+use test_support::run_row;
+use test_support::running::{BATON, TICKET};
+
+/// Writes a number where this one stands, and tries to write another, which comes back.
+pub fn writes<R: Wait + Abort, M: Monitor<Shared>>(
+    rt: &R,
+    m: &M,
+    out: M::Out,
+    expected: u64,
+    value: u64,
+) -> M::Out
+    requires { M.is_of m.now out }
+    ensures of { M.is_of m.now result }
+    ensures place { M.place result ≡ M.place out }
+{
+    let out = starts_write(rt, m, out, expected);
+    let out = ends_write(rt, m, out, value);
+    ends_no_write(rt, m, out, value.wrapping_add(1))
+}
+
+/// Starts this many reads, the last of which is the last that there is room for: one more is refused, and goes in once
+/// one has ended. Then each ends with its own pass.
+pub fn reads_to_the_limit<R: Wait + Abort, M: Monitor<Shared>>(
+    rt: &R,
+    m: &M,
+    out: M::Out,
+    reads: u32,
+    value: u64,
+) -> M::Out
+    requires { M.is_of m.now out }
+    ensures of { M.is_of m.now result }
+    ensures place { M.place result ≡ M.place out }
+{
+    let (out, pass) = starts_read(rt, m, out, value);
+    if reads > 1 {
+        let out = reads_to_the_limit(rt, m, out, reads - 1, value);
+        return ends_read(rt, m, out, pass);
+    }
+    let out = is_one_too_many(rt, m, out);
+    let out = ends_read(rt, m, out, pass);
+    let (out, pass) = starts_read(rt, m, out, value);
+    ends_read(rt, m, out, pass)
+}
+
+// Ends another monitor's read where none is: the pass comes back with a refusal that says so, and ends the read where
+// it began.
+fn ends_foreign_read<R: Wait + Abort, M: Monitor<Shared>, N: Monitor<Shared>>(
+    rt: &R,
+    alloc: Global,
+    m: &M,
+    out: M::Out,
+    other: &N,
+    place: N::Out,
+) -> M::Out
+    requires of { M.is_of m.now out }
+    requires other { N.is_of other.now place }
+    ensures of { M.is_of m.now result }
+    ensures place { M.place result ≡ M.place out }
+{
+    let (place, pass) = starts_read(rt, other, place, 8);
+    let (out, ended) = ReadersWriters::end_read(m, rt, out, pass);
+    let Err(refused) = ended else {
+        panic!(rt; "a reader was in")
+    };
+    reads_as(rt, alloc, &refused, "no reader is in");
+    let NoReader { pass } = refused;
+    ends_read(rt, other, place, pass);
+    out
+}
+
+/// Ends a read where none is: the pass, which is another monitor's, comes back.
+pub fn ends_no_read<R: Wait + Abort, M: Monitor<Shared>>(
+    rt: &R,
+    alloc: Global,
+    m: &M,
+    out: M::Out,
+) -> M::Out
+    requires { M.is_of m.now out }
+    ensures of { M.is_of m.now result }
+    ensures place { M.place result ≡ M.place out }
+{
+    let (fake, other) = with_answers(rt, alloc, ReadersWriters::with(8), []);
+    ends_foreign_read(rt, alloc, m, out, &fake, other)
+}
+
+/// Is in as the writer while the others come to wait, and writes 3: both readers are in at once, and the other writer
+/// waits on.
+fn writes_first<R: Wait + Abort, M: Monitor<Shared>>(
+    rt: &R,
+    m: &M,
+    out: M::Out,
+    turns: &Turns,
+) -> M::Out
+    requires { M.is_of m.now out }
+    ensures of { M.is_of m.now result }
+    ensures place { M.place result ≡ M.place out }
+{
+    let out = starts_write(rt, m, out, 0);
+    let out = line_up(rt, m, out, turns, 3);
+    let (out, before) = waiting(rt, m, out);
+    expect_same(rt, before, (2, 1));
+    let out = ends_write(rt, m, out, 3);
+    let (out, after) = waiting(rt, m, out);
+    expect_same(rt, after, (0, 1));
+    turns.give(4);
+    out
+}
+
+/// Reads 3 at this turn, and goes out at the last one.
+fn reads<R: Wait + Abort + Clock, M: Monitor<Shared>>(
+    rt: &R,
+    m: &M,
+    out: M::Out,
+    turns: &Turns,
+    turn: usize,
+) -> M::Out
+    requires { M.is_of m.now out }
+    ensures of { M.is_of m.now result }
+    ensures place { M.place result ≡ M.place out }
+{
+    turns.await_turn(rt, turn);
+    let (out, pass) = starts_read(rt, m, out, 3);
+    turns.await_turn(rt, 4);
+    ends_read(rt, m, out, pass)
+}
+
+/// Writes 4 after both readers, and has then the monitor for itself: it reads as often as there is room for, and ends a
+/// read where there is none.
+fn writes_last<R: Wait + Abort + Clock, M: Monitor<Shared>>(
+    rt: &R,
+    alloc: Global,
+    m: &M,
+    out: M::Out,
+    turns: &Turns,
+) -> M::Out
+    requires { M.is_of m.now out }
+    ensures of { M.is_of m.now result }
+    ensures place { M.place result ≡ M.place out }
+{
+    turns.await_turn(rt, 3);
+    let out = writes(rt, m, out, 3, 4);
+    turns.start_again();
+    let out = reads_to_the_limit(rt, m, out, 1024, 4);
+    ends_no_read(rt, alloc, m, out)
+}
+
+// Place 0 writes while places 1 and 2 come to read, and then place 3 to write.
+fn reads_or_writes<R: Wait + Abort + Clock, M: Monitor<Shared>>(
+    rt: &R,
+    m: &M,
+    out: M::Out,
+    place: usize,
+    alloc: Global,
+    turns: &Turns,
+) -> (M::Out, u64)
+    requires { M.is_of m.now out }
+    ensures of { M.is_of m.now result.0 }
+    ensures place { M.place result.0 ≡ M.place out }
+{
+    let out = match place {
+        0 => writes_first(rt, m, out, turns),
+        1 | 2 => reads(rt, m, out, turns, place),
+        _ => writes_last(rt, alloc, m, out, turns),
+    };
+    (out, 0)
+}
+
+/// The rows of readers and writers.
+#[derive(Clone, Copy)]
+enum ReadersRow<'a> {
+    ReadersAndWriters(Global, &'a Turns),
+    /// The most readers are counted as they go.
+    WriterBeforeLateReader(&'a Turns, &'a AtomicU32),
+    /// Its places write down what they do.
+    NoReaderIsInBesideAWriter(&'a Log<Line>),
+}
+
+// Each place does what the row says.
+fn acts<R: Wait + Abort + Clock, M: Monitor<Shared>>(
+    rt: &R,
+    m: &M,
+    out: M::Out,
+    place: usize,
+    row: ReadersRow<'_>,
+) -> (M::Out, u64)
+    requires { M.is_of m.now out }
+    ensures of { M.is_of m.now result.0 }
+    ensures place { M.place result.0 ≡ M.place out }
+{
+    match row {
+        ReadersRow::ReadersAndWriters(alloc, turns) => reads_or_writes(
+            rt, m, out, place, alloc, turns,
+        ),
+        ReadersRow::WriterBeforeLateReader(turns, ended) => {
+            reads_or_writes_late(rt, m, out, place, turns, ended)
+        }
+        ReadersRow::NoReaderIsInBesideAWriter(log) => reads_or_writes_on(rt, m, out, place, log),
+    }
+}
+
+// The first value of the row, and how many places act.
+fn setting(row: ReadersRow<'_>) -> (u64, usize) {
+    match row {
+        ReadersRow::ReadersAndWriters(_, _) => (0, 4),
+        ReadersRow::WriterBeforeLateReader(_, _) => (4, 3),
+        ReadersRow::NoReaderIsInBesideAWriter(_) => (0, PLACES),
+    }
+}
+
+// Whether the last value of the row is what it has to be. (That of many writes is whichever came last.)
+fn agrees(row: ReadersRow<'_>, value: u64) -> bool {
+    match row {
+        ReadersRow::ReadersAndWriters(_, _) => value == 4,
+        ReadersRow::WriterBeforeLateReader(_, _) => value == 6,
+        ReadersRow::NoReaderIsInBesideAWriter(_) => value > 0,
+    }
+}
+
+// The rows on one door.
+macro_rules! rows_of_readers {
+    ($rt:ident, $alloc:ident, $name:expr, $door:ident($($given:expr)?)) => {{
+        let turns = Turns::new();
+        let ended = AtomicU32::new(0);
+        let log = Log::new($rt, $alloc, 10_000);
+        for row in [
+            ReadersRow::ReadersAndWriters($alloc, &turns),
+            ReadersRow::WriterBeforeLateReader(&turns, &ended),
+            ReadersRow::NoReaderIsInBesideAWriter(&log),
+        ] {
+            let (value, places) = setting(row);
+            let data = ReadersWriters::with(value);
+            let (shared, answers) = run_row!($rt, $alloc, $door($($given)?), acts(row), data, places);
+            all_answered($rt, $name, answers.as_slice(), places);
+            let value = shared.into_value();
+            assert!($rt; agrees(row, value), "the {} left {value}", $name);
+        }
+        is_read_and_written($rt, log);
+    }};
+}
+
+#[test]
+fn readers_and_writers_on_a_baton_door(host: HostRuntime) {
+    let (rt, alloc) = (&host, host.alloc());
+    rows_of_readers!(rt, alloc, BATON, on_baton_door());
+}
+
+#[test]
+fn readers_and_writers_on_a_ticket_door(host: HostRuntime) {
+    let (rt, alloc) = (&host, host.alloc());
+    rows_of_readers!(rt, alloc, TICKET, on_ticket_door(0));
+}

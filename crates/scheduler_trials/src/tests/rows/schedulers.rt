@@ -1,0 +1,161 @@
+//! The single item and the bounded buffer.
+ghost use Rattle.std.specs.Prelude.{◌≡◌};
+
+use crate::tests::awaited::{await_sign, watch};
+use crate::tests::compared::{answered, expect_same};
+use crate::tests::fake::with_cells;
+use hoare_law::monitor::Monitor;
+use plain_schedulers::buffer::{Buffer, BufferRefused};
+use plain_schedulers::single::{NotOut, Single};
+use std::process::Abort;
+use std::rt::Clock;
+use std::sync::Wait;
+use std::sync::atomic::{AtomicBool, Ordering};
+use test_support::run_row;
+use test_support::running::{BATON, TICKET};
+
+// Takes the item, gives a sign, lets another place wait for it, and puts it back: what it took.
+fn lends<R: Wait + Abort, M: Monitor<Single<u64>>>(
+    rt: &R,
+    m: &M,
+    out: M::Out,
+    sign: &AtomicBool,
+) -> (M::Out, u64)
+    requires { M.is_of m.now out }
+    ensures of { M.is_of m.now result.0 }
+    ensures place { M.place result.0 ≡ M.place out }
+{
+    let (out, item) = Single::acquire(m, rt, out);
+    sign.store(true, Ordering::SeqCst);
+    let out = m.leave(rt, watch(rt, m, out, 0, 1));
+    let (out, put) = Single::release(m, rt, out, 7);
+    expect_same(rt, put.is_ok(), true);
+    (out, item)
+}
+
+// Waits for the item after the sign, puts it back, tries to put a second one in, and takes the first again: what it
+// took at first.
+fn borrows<R: Wait + Abort + Clock, M: Monitor<Single<u64>>>(
+    rt: &R,
+    m: &M,
+    out: M::Out,
+    sign: &AtomicBool,
+) -> (M::Out, u64)
+    requires { M.is_of m.now out }
+    ensures of { M.is_of m.now result.0 }
+    ensures place { M.place result.0 ≡ M.place out }
+{
+    await_sign(rt, sign);
+    let (out, item) = Single::acquire(m, rt, out);
+    let (out, put) = Single::release(m, rt, out, 7);
+    let (out, refused) = Single::release(m, rt, out, 9);
+    let back = match refused {
+        Ok(()) => None,
+        Err(NotOut { item }) => Some(item),
+    };
+    let (out, again) = Single::acquire(m, rt, out);
+    expect_same(rt, (put.is_ok(), back, again), (true, Some(9), 7));
+    (out, item)
+}
+
+// Place 0 lends the item, and place 1 borrows it.
+fn lends_or_borrows<R: Wait + Abort + Clock, M: Monitor<Single<u64>>>(
+    rt: &R,
+    m: &M,
+    out: M::Out,
+    place: usize,
+    sign: &AtomicBool,
+) -> (M::Out, u64)
+    requires { M.is_of m.now out }
+    ensures of { M.is_of m.now result.0 }
+    ensures place { M.place result.0 ≡ M.place out }
+{
+    if place == 0 {
+        lends(rt, m, out, sign)
+    } else {
+        borrows(rt, m, out, sign)
+    }
+}
+
+// Place 0 puts the numbers from 1 to this one in. Place 1 takes as many items out, and answers how many came in their
+// turn.
+fn appends_or_removes<R: Wait, M: Monitor<Buffer<u64>>>(
+    rt: &R,
+    m: &M,
+    out: M::Out,
+    place: usize,
+    count: u64,
+) -> (M::Out, u64)
+    requires { M.is_of m.now out }
+    ensures of { M.is_of m.now result.0 }
+    ensures place { M.place result.0 ≡ M.place out }
+{
+    let mut out = out;
+    let mut in_turn = 0u64;
+    for turn in 1..=count {
+        if place == 0 {
+            out = Buffer::append(m, rt, out, turn);
+        } else {
+            let (again, item) = Buffer::remove(m, rt, out);
+            out = again;
+            in_turn = in_turn.saturating_add(u64::from(item == turn));
+        }
+    }
+    (out, in_turn)
+}
+
+// The item on one door.
+macro_rules! lend_an_item {
+    ($rt:ident, $alloc:ident, $name:expr, $door:ident($($given:expr)?)) => {{
+        let sign = AtomicBool::new(false);
+        let single = Single::with(7u64);
+        let (_, answers) = run_row!($rt, $alloc, $door($($given)?), lends_or_borrows(&sign), single, 2);
+        answered($rt, $name, answers.as_slice(), &[7, 7]);
+    }};
+}
+
+#[test]
+fn an_item_is_lent_on_a_baton_door(host: HostRuntime) {
+    let (rt, alloc) = (&host, host.alloc());
+    lend_an_item!(rt, alloc, BATON, on_baton_door());
+}
+
+#[test]
+fn an_item_is_lent_on_a_ticket_door(host: HostRuntime) {
+    let (rt, alloc) = (&host, host.alloc());
+    lend_an_item!(rt, alloc, TICKET, on_ticket_door(0));
+}
+
+// Buffers of one cell and of the most, on one door.
+macro_rules! fill_buffers {
+    ($rt:ident, $alloc:ident, $name:expr, $door:ident($($given:expr)?)) => {{
+        for (cells, items) in [(1, 4), (4096, 5000)] {
+            let buffer = with_cells($rt, $alloc, cells);
+            let (_, answers) = run_row!($rt, $alloc, $door($($given)?), appends_or_removes(items), buffer, 2);
+            answered($rt, $name, answers.as_slice(), &[0, items]);
+        }
+    }};
+}
+
+#[test]
+fn items_come_out_in_order_on_a_baton_door(host: HostRuntime) {
+    let (rt, alloc) = (&host, host.alloc());
+    fill_buffers!(rt, alloc, BATON, on_baton_door());
+}
+
+#[test]
+fn items_come_out_in_order_on_a_ticket_door(host: HostRuntime) {
+    let (rt, alloc) = (&host, host.alloc());
+    fill_buffers!(rt, alloc, TICKET, on_ticket_door(0));
+}
+
+#[test]
+fn a_buffer_has_its_limits(rt: HostRuntime) {
+    for cells in [0, 4097] {
+        let made = Buffer::<u8>::make(rt.alloc(), cells);
+        assert!(rt;
+            matches!(made, Err(BufferRefused::BadSize)),
+            "{cells} cells"
+        );
+    }
+}

@@ -1,0 +1,103 @@
+//! What the processes of a stress test write down outside the monitor, in one order, and how they pass the time.
+ghost use Rattle.std.specs.Prelude.{◌≡◌};
+
+use hoare_law::data::MonitorData;
+use hoare_law::monitor::Monitor;
+use std::alloc::Global;
+use std::process::Abort;
+use std::rt::Clock;
+use std::sync::atomic::{AtomicUsize, Ordering};
+use std::sync::{Mutex, Wait};
+use std::thread;
+use std::time::Duration;
+use test_support::limit::VISITS;
+use test_support::running::count_waiting;
+
+/// Lines in the order in which they were written, and how many processes have finished.
+#[derive(Drop)]
+pub struct Log<L> {
+    lines: Mutex<Vec<L>>,
+    finished: AtomicUsize,
+}
+
+impl<L> Log<L> {
+    /// A log with room for this many lines. Where there is no memory the test fails.
+    pub fn new<R: Abort>(rt: &R, alloc: Global, room: usize) -> Log<L> {
+        let Ok(lines) = Vec::with_capacity(alloc, room) else {
+            panic!(rt; "no memory")
+        };
+        Log {
+            lines: Mutex::new(lines),
+            finished: AtomicUsize::new(0),
+        }
+    }
+
+    /// The lines, the oldest first.
+    pub fn into_lines(self) -> Vec<L> {
+        let Log { lines, finished: _ } = self;
+        lines.into_inner()
+    }
+
+    /// A process writes no more.
+    pub fn finish(&self) {
+        self.finished.fetch_add(1, Ordering::SeqCst);
+    }
+
+    /// How many write no more.
+    pub fn finished(&self) -> usize {
+        self.finished.load(Ordering::SeqCst)
+    }
+}
+
+impl<L: Copy> Log<L> {
+    /// Writes a line. The test fails where there is no room.
+    pub fn write<R: Wait + Abort>(&self, rt: &R, line: L) {
+        self.lines.lock(rt).push(line).expect(rt, "memory");
+    }
+}
+
+/// Comes in and goes out until all `others` wait or have finished: whether any waits. The test fails after `VISITS`
+/// times.
+pub fn await_others<L, D: MonitorData, R: Wait + Abort, M: Monitor<D>>(
+    rt: &R,
+    m: &M,
+    out: M::Out,
+    log: &Log<L>,
+    others: usize,
+) -> (M::Out, bool)
+    requires { M.is_of m.now out }
+    ensures of { M.is_of m.now result.0 }
+    ensures place { M.place result.0 ≡ M.place out }
+{
+    let mut out = out;
+    for _ in 0..VISITS {
+        let finished = log.finished();
+        let inside = m.enter(rt, out);
+        let waiting = count_waiting(m, &inside);
+        out = m.leave(rt, inside);
+        if finished.saturating_add(waiting) == others {
+            return (out, waiting > 0);
+        }
+        thread::yield_now();
+    }
+    panic!(rt; "the others don't wait")
+}
+
+/// Comes in and goes out until somebody waits, or twenty times, and gives the others time to come after each look.
+pub fn linger<D: MonitorData, R: Wait + Clock, M: Monitor<D>>(rt: &R, m: &M, out: M::Out) -> M::Out
+    requires { M.is_of m.now out }
+    ensures of { M.is_of m.now result }
+    ensures place { M.place result ≡ M.place out }
+{
+    let mut out = out;
+    for _ in 0..20 {
+        let inside = m.enter(rt, out);
+        let waiting = count_waiting(m, &inside);
+        out = m.leave(rt, inside);
+        thread::sleep(rt, Duration::from_micros(50));
+        if waiting > 0 {
+            return out;
+        }
+    }
+    out
+}

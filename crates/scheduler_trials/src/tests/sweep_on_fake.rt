@@ -1,0 +1,224 @@
+//! The disk head, and the readers and writers, on the fake monitor: what is found after a wait is given beforehand.
+ghost use Rattle.std.specs.Prelude.{◌≡◌};
+ghost use Rattle.hoare_law.specs.Priorities.{nobody};
+ghost use Rattle.sweep_schedulers.specs.Heads.{HeadRests};
+
+use crate::tests::awaited::within;
+use crate::tests::compared::expect_same;
+use crate::tests::fake::{take_data, with_answers};
+use crate::tests::rows::drive::{Trip, goes, hands_on};
+use crate::tests::rows::head::{is_off_disk, is_refused};
+use crate::tests::rows::head_stay::counts;
+use crate::tests::rows::readers::{ends_no_read, reads_to_the_limit, writes};
+use crate::tests::rows::reading::{
+    Shared, ends_no_write, ends_read, is_one_too_many, starts_read, starts_write,
+};
+use hoare_law::monitor::Monitor;
+use std::alloc::Global;
+use std::process::Abort;
+use std::rt::Clock;
+use std::sync::Wait;
+use std::thread::Threads;
+use sweep_schedulers::head::Head;
+use sweep_schedulers::readers_writers::ReadersWriters;
+use test_support::fake::{Fake, FakeOut};
+
+// A trip to these cylinders.
+fn trip_to<R: Abort, const N: usize>(rt: &R, alloc: Global, cylinders: [u16; N]) -> Trip {
+    Vec::from_array(alloc, cylinders).expect(rt, "memory")
+}
+
+// A disk whose drive has been at this cylinder.
+fn disk<R: Abort>(rt: &R, alloc: Global, cylinder: u16, cylmax: u16) -> Head<Trip>
+    ensures { HeadRests result (nobody 0) (nobody 1) }
+{
+    Head::with(trip_to(rt, alloc, [cylinder]), cylmax)
+}
+
+// Goes to 5, waits for a request of 8 and is refused it late; then it goes to 15, on the disk that it found.
+fn is_refused_late<R: Wait + Abort, M: Monitor<Head<Trip>>>(rt: &R, m: &M, out: M::Out)
+    requires { M.is_of m.now out }
+{
+    let (out, drive) = goes(rt, m, out, 5);
+    expect_same(rt, drive.as_slice(), [1, 5].as_slice());
+    let out = is_off_disk(rt, m, out, 8);
+    let (_out, other) = goes(rt, m, out, 15);
+    expect_same(rt, other.as_slice(), [2, 15].as_slice());
+}
+
+// A request waits for the drive, and finds a disk with another last cylinder.
+fn finds_another_disk<R: Wait + Abort>(rt: &R, alloc: Global) {
+    let found = disk(rt, alloc, 2, 20);
+    let (fake, out) = with_answers(rt, alloc, disk(rt, alloc, 1, 10), [found]);
+    is_refused_late(rt, &fake, out);
+}
+
+// Goes to 5, and waits for a request of 8, which finds the drive in: nobody is due where it then is.
+fn waits_and_counts<R: Wait + Abort, M: Monitor<Head<Trip>>>(rt: &R, m: &M, out: M::Out)
+    requires { M.is_of m.now out }
+{
+    let (out, drive) = counts(rt, m, out, 5);
+    expect_same(rt, drive.as_slice(), [1, 5, 0].as_slice());
+    let (_out, other) = counts(rt, m, out, 8);
+    expect_same(rt, other.as_slice(), [2, 8, 0].as_slice());
+}
+
+// A request waits for the drive, and finds it.
+fn finds_the_drive<R: Wait + Abort>(rt: &R, alloc: Global) {
+    let found = disk(rt, alloc, 2, 10);
+    let (fake, out) = with_answers(rt, alloc, disk(rt, alloc, 1, 10), [found]);
+    waits_and_counts(rt, &fake, out);
+}
+
+// Goes to the last cylinder of a disk, and is refused the one past it, with this trip to hand in where one is.
+fn reaches_the_last<R: Wait + Abort, M: Monitor<Head<Trip>>>(
+    rt: &R,
+    m: &M,
+    out: M::Out,
+    cylmax: u16,
+    trip: Trip,
+)
+    requires { M.is_of m.now out }
+{
+    let (out, drive) = goes(rt, m, out, cylmax);
+    expect_same(rt, drive.as_slice(), [0, cylmax].as_slice());
+    let out = hands_on(rt, m, out, drive);
+    if let Some(past) = cylmax.checked_add(1) {
+        is_refused(rt, m, out, past, trip);
+    }
+}
+
+// A disk of which nobody has the drive, to its end.
+fn goes_to_the_last<R: Wait + Abort>(rt: &R, alloc: Global, cylmax: u16) {
+    let (fake, out) = with_answers(rt, alloc, disk(rt, alloc, 0, cylmax), []);
+    let second = trip_to(rt, alloc, [cylmax, cylmax.saturating_add(1)]);
+    reaches_the_last(rt, &fake, out, cylmax, second);
+}
+
+// Writes, reads to the limit, and ends a read too many.
+fn writes_and_reads<R: Wait + Abort, M: Monitor<Shared>>(rt: &R, alloc: Global, m: &M, out: M::Out)
+    requires { M.is_of m.now out }
+{
+    let out = writes(rt, m, out, 0, 4);
+    let out = reads_to_the_limit(rt, m, out, 1024, 4);
+    ends_no_read(rt, alloc, m, out);
+}
+
+// The value is 0 first.
+fn reads_and_writes<R: Wait + Abort>(rt: &R, alloc: Global) {
+    let (fake, out) = with_answers(rt, alloc, ReadersWriters::with(0), []);
+    writes_and_reads(rt, alloc, &fake, out);
+}
+
+// Is in as a writer who found 0, and comes as a reader where the most are in.
+fn comes_as_one_too_many<R: Wait + Abort, M: Monitor<Shared>>(rt: &R, m: &M, out: M::Out) -> M::Out
+    requires { M.is_of m.now out }
+    ensures { M.is_of m.now result }
+{
+    let out = starts_write(rt, m, out, 0);
+    is_one_too_many(rt, m, out)
+}
+
+// Is in as a writer, and waits to read; it finds these data, in which the most readers are in.
+fn finds_the_most_readers<R: Wait + Abort>(
+    rt: &R,
+    alloc: Global,
+    full: Shared,
+) -> (Fake<Shared>, FakeOut<Shared>)
+    ensures { ⟦<Fake<Shared> as Monitor<Shared>>⟧.is_of result.0 result.1 }
+{
+    let (fake, out) = with_answers(rt, alloc, ReadersWriters::with(0), [full]);
+    let out = comes_as_one_too_many(rt, &fake, out);
+    (fake, out)
+}
+
+// Starts this many reads and hands the data on to another monitor, where each pass ends one.
+fn reads_elsewhere<R: Wait + Abort>(
+    rt: &R,
+    alloc: Global,
+    fake: &Fake<Shared>,
+    out: FakeOut<Shared>,
+    reads: u32,
+) -> (Fake<Shared>, FakeOut<Shared>)
+    requires { ⟦<Fake<Shared> as Monitor<Shared>>⟧.is_of fake.now out }
+    ensures { ⟦<Fake<Shared> as Monitor<Shared>>⟧.is_of result.0 result.1 }
+{
+    let (out, pass) = starts_read(rt, fake, out, 4);
+    let (other, place) = if reads > 1 {
+        reads_elsewhere(rt, alloc, fake, out, reads - 1)
+    } else {
+        finds_the_most_readers(rt, alloc, take_data(rt, fake, out, ReadersWriters::with(0)))
+    };
+    let place = ends_read(rt, &other, place, pass);
+    (other, place)
+}
+
+// Reads 4, and is refused the end of a write.
+fn is_no_writer<R: Wait + Abort, M: Monitor<Shared>>(rt: &R, m: &M, out: M::Out)
+    requires { M.is_of m.now out }
+{
+    let (out, pass) = starts_read(rt, m, out, 4);
+    let out = ends_read(rt, m, out, pass);
+    ends_no_write(rt, m, out, 5);
+}
+
+// The most reads begin on one monitor and end on another.
+fn meets_late_readers<R: Wait + Abort>(rt: &R, alloc: Global) {
+    let (fake, out) = with_answers(rt, alloc, ReadersWriters::with(4), []);
+    let (other, place) = reads_elsewhere(rt, alloc, &fake, out, 1024);
+    is_no_writer(rt, &other, place);
+}
+
+/// What a process does on the fake monitor.
+#[derive(Clone, Copy)]
+enum SweepRow {
+    FindsAnotherDisk,
+    FindsTheDrive,
+    /// The last cylinder.
+    GoesToTheLast(u16),
+    ReadsAndWrites,
+    MeetsLateReaders,
+}
+
+// Does what the row says. What comes out wrong fails the test.
+fn acts<R: Wait + Abort>(rt: &R, alloc: Global, row: SweepRow) {
+    match row {
+        SweepRow::FindsAnotherDisk => finds_another_disk(rt, alloc),
+        SweepRow::FindsTheDrive => finds_the_drive(rt, alloc),
+        SweepRow::GoesToTheLast(cylmax) => goes_to_the_last(rt, alloc, cylmax),
+        SweepRow::ReadsAndWrites => reads_and_writes(rt, alloc),
+        SweepRow::MeetsLateReaders => meets_late_readers(rt, alloc),
+    }
+}
+
+// Does it within the limit.
+fn runs<R: Threads + Wait + Abort + Clock + Sync>(rt: &R, alloc: Global, row: SweepRow) {
+    within(rt, || acts(rt, alloc, row))
+}
+
+#[test]
+fn late_off_disk(rt: HostRuntime) {
+    runs(&rt, rt.alloc(), SweepRow::FindsAnotherDisk);
+}
+
+#[test]
+fn nobody_is_due_where_nobody_waits(rt: HostRuntime) {
+    runs(&rt, rt.alloc(), SweepRow::FindsTheDrive);
+}
+
+#[test]
+fn a_disk_ends_at_its_last_cylinder(rt: HostRuntime) {
+    for cylmax in [0, 100, u16::MAX] {
+        runs(&rt, rt.alloc(), SweepRow::GoesToTheLast(cylmax));
+    }
+}
+
+#[test]
+fn the_most_readers_are_in(rt: HostRuntime) {
+    runs(&rt, rt.alloc(), SweepRow::ReadsAndWrites);
+}
+
+#[test]
+fn late_too_many_readers(rt: HostRuntime) {
+    runs(&rt, rt.alloc(), SweepRow::MeetsLateReaders);
+}

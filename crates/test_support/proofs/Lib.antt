@@ -1,0 +1,4 @@
+pub mod Acted
+mod Answers
+pub mod Numbered
+mod Stages

@@ -1,0 +1,179 @@
+//! The calls of a diary's monitor: each writes down what it is about to do, and what it finds when it goes on.
+ghost use Rattle.std.specs.Prelude.{◌≡◌, ◌<◌, ◌≤◌};
+
+use crate::diary::{Act, Diary};
+use hoare_law::monitor::Monitor;
+use std::sync::Wait;
+
+/// So many of a diary's conditions, the first ones, are Hoare's.
+pub const HOARE: usize = 2;
+
+// It comes, and writes so.
+fn found<M: Monitor<Diary>>(m: &M, inside: M::In, place: usize, act: Act) -> M::In
+    requires { M.is_of_in m.now inside }
+    ensures of { M.is_of_in m.now result }
+    ensures place { M.place_in result ≡ M.place_in inside }
+{
+    let mut inside = inside;
+    M::state_mut(&mut inside, m).finds(place, act);
+    inside
+}
+
+// It is about to do something, and writes so.
+fn left<M: Monitor<Diary>>(m: &M, inside: M::In, place: usize, act: Act, stamp: u64) -> M::In
+    requires { M.is_of_in m.now inside }
+    ensures of { M.is_of_in m.now result }
+    ensures place { M.place_in result ≡ M.place_in inside }
+{
+    let mut inside = inside;
+    M::state_mut(&mut inside, m).leaves(place, act, stamp);
+    inside
+}
+
+/// Comes in.
+pub fn enter<R: Wait, M: Monitor<Diary>>(rt: &R, m: &M, out: M::Out, place: usize) -> M::In
+    requires { M.is_of m.now out }
+    ensures of { M.is_of_in m.now result }
+    ensures place { M.place_in result ≡ M.place out }
+{
+    let inside = m.enter(rt, out);
+    found(m, inside, place, Act::ComesIn)
+}
+
+/// Goes out.
+pub fn leave<R: Wait, M: Monitor<Diary>>(
+    rt: &R,
+    m: &M,
+    inside: M::In,
+    place: usize,
+    stamp: u64,
+) -> M::Out
+    requires { M.is_of_in m.now inside }
+    ensures of { M.is_of m.now result }
+    ensures place { M.place result ≡ M.place_in inside }
+{
+    let inside = left(m, inside, place, Act::Leaves, stamp);
+    m.leave(rt, inside)
+}
+
+/// Resumes who waits first on one of Hoare's conditions, and goes out.
+pub fn pass<R: Wait, M: Monitor<Diary>>(
+    rt: &R,
+    m: &M,
+    inside: M::In,
+    place: usize,
+    condition: usize,
+    stamp: u64,
+) -> M::Out
+    requires of { M.is_of_in m.now inside }
+    requires condition { condition < 2 }
+    ensures of { M.is_of m.now result }
+    ensures place { M.place result ≡ M.place_in inside }
+{
+    let inside = left(m, inside, place, Act::Passes(condition), stamp);
+    let (out, _resumed) = m.signal_leave(rt, inside, condition);
+    out
+}
+
+fn signal<R: Wait, M: Monitor<Diary>>(
+    rt: &R,
+    m: &M,
+    inside: M::In,
+    place: usize,
+    condition: usize,
+    stamp: u64,
+) -> M::In
+    requires of { M.is_of_in m.now inside }
+    requires condition { condition < 2 }
+    ensures of { M.is_of_in m.now result }
+    ensures place { M.place_in result ≡ M.place_in inside }
+{
+    let inside = left(m, inside, place, Act::Signals(condition), stamp);
+    let (inside, resumed) = m.signal(rt, inside, condition);
+    let act = if resumed {
+        Act::IsBack
+    } else {
+        Act::HearsNobody
+    };
+    found(m, inside, place, act)
+}
+
+fn notify<M: Monitor<Diary>>(
+    m: &M,
+    inside: M::In,
+    place: usize,
+    condition: usize,
+    stamp: u64,
+) -> M::In
+    requires of { M.is_of_in m.now inside }
+    requires in_range { condition < 4 }
+    requires mesa { 2 ≤ condition }
+    ensures of { M.is_of_in m.now result }
+    ensures place { M.place_in result ≡ M.place_in inside }
+{
+    let mut inside = left(m, inside, place, Act::Notifies(condition), stamp);
+    let answer = m.notify(&mut inside, condition);
+    found(m, inside, place, Act::HasNotified(answer))
+}
+
+/// Calls all that wait on a Mesa condition.
+pub fn broadcast<M: Monitor<Diary>>(
+    m: &M,
+    inside: M::In,
+    place: usize,
+    condition: usize,
+    stamp: u64,
+) -> M::In
+    requires of { M.is_of_in m.now inside }
+    requires in_range { condition < 4 }
+    requires mesa { 2 ≤ condition }
+    ensures of { M.is_of_in m.now result }
+    ensures place { M.place_in result ≡ M.place_in inside }
+{
+    let mut inside = left(m, inside, place, Act::Broadcasts(condition), stamp);
+    let answer = m.broadcast(&mut inside, condition);
+    found(m, inside, place, Act::HasBroadcast(answer))
+}
+
+/// Signals one of Hoare's conditions, or calls one or all that wait on a Mesa condition.
+pub fn rouse<R: Wait, M: Monitor<Diary>>(
+    rt: &R,
+    m: &M,
+    inside: M::In,
+    place: usize,
+    condition: usize,
+    lot: u64,
+) -> M::In
+    requires of { M.is_of_in m.now inside }
+    requires condition { condition < 4 }
+    ensures of { M.is_of_in m.now result }
+    ensures place { M.place_in result ≡ M.place_in inside }
+{
+    if condition < HOARE {
+        return signal(rt, m, inside, place, condition, lot);
+    }
+    if lot / 256 % 2 == 0 {
+        return notify(m, inside, place, condition, lot);
+    }
+    broadcast(m, inside, place, condition, lot)
+}
+
+/// Waits with a priority that the lot gives.
+pub fn wait<R: Wait, M: Monitor<Diary>>(
+    rt: &R,
+    m: &M,
+    inside: M::In,
+    place: usize,
+    condition: usize,
+    lot: u64,
+) -> M::In
+    requires of { M.is_of_in m.now inside }
+    requires condition { condition < 4 }
+    ensures of { M.is_of_in m.now result }
+    ensures place { M.place_in result ≡ M.place_in inside }
+{
+    let priority = lot / 32 % 4;
+    let inside = left(m, inside, place, Act::Waits(condition, priority), lot);
+    let inside = m.wait(rt, inside, condition, priority);
+    found(m, inside, place, Act::GoesOn(condition))
+}

@@ -1,0 +1,71 @@
+//! A number of which nothing is asked, as data for tests, and what one place does with it.
+ghost use Rattle.std.specs.Prelude.{◌≡◌};
+
+use hoare_law::monitor::Monitor;
+use hoare_law::unasked::Unasked;
+use hoare_law::waits::Waits;
+use std::sync::Wait;
+
+/// A number, of which nothing is asked, and one condition.
+pub type Tally = Unasked<u64, 1>;
+
+/// Appends a digit to the tally.
+pub fn write_digit<M: Monitor<Tally>>(m: &M, inside: M::In, digit: u64) -> M::In
+    requires { M.is_of_in m.now inside }
+    ensures of { M.is_of_in m.now result }
+    ensures place { M.place_in result ≡ M.place_in inside }
+{
+    let mut inside = inside;
+    let tally = M::state_mut(&mut inside, m);
+    tally.value = tally.value.wrapping_mul(10).wrapping_add(digit);
+    inside
+}
+
+/// Adds one to the tally.
+pub fn add_one<M: Monitor<Tally>>(m: &M, inside: M::In) -> M::In
+    requires { M.is_of_in m.now inside }
+    ensures of { M.is_of_in m.now result }
+    ensures place { M.place_in result ≡ M.place_in inside }
+{
+    let mut inside = inside;
+    let tally = M::state_mut(&mut inside, m);
+    tally.value = tally.value.wrapping_add(1);
+    inside
+}
+
+// Whether a place inside finds 0, and that nobody waits.
+fn finds_nobody<M: Monitor<Tally>>(m: &M, inside: &M::In) -> bool
+    requires { M.is_of_in m.now inside.now }
+{
+    let found = m.state(inside).value == 0 && m.lists(inside).count(0) == 0;
+    found && !m.queue(inside, 0) && m.first(inside, 0).is_none()
+}
+
+/// One try: who comes in goes out again. Whether it came in.
+pub fn tries_once<R: Wait, M: Monitor<Tally>>(rt: &R, m: &M, out: M::Out) -> (M::Out, bool)
+    requires { M.is_of m.now out }
+    ensures of { M.is_of m.now result.0 }
+    ensures place { M.place result.0 ≡ M.place out }
+{
+    match m.try_enter(out) {
+        Ok(inside) => (m.leave(rt, inside), true),
+        Err(out) => (out, false),
+    }
+}
+
+/// One place makes each call. Nobody waits, so nothing is resumed: it answers 1 where all calls say so, and leaves 42.
+pub fn calls_all<R: Wait, M: Monitor<Tally>>(rt: &R, m: &M, out: M::Out) -> (M::Out, u64)
+    requires { M.is_of m.now out }
+    ensures of { M.is_of m.now result.0 }
+    ensures place { M.place result.0 ≡ M.place out }
+{
+    let mut inside = m.enter(rt, out);
+    let nobody = finds_nobody(m, &inside);
+    let tally = M::state_mut(&mut inside, m);
+    tally.value = 42;
+    let (inside, told) = m.signal(rt, inside, 0);
+    let (out, told_leaving) = m.signal_leave(rt, inside, 0);
+    let out = m.leave(rt, m.enter(rt, out));
+    let (out, came) = tries_once(rt, m, out);
+    (out, u64::from(nobody && !told && !told_leaving && came))
+}

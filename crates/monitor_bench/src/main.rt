@@ -1,7 +1,8 @@
 //! Measures what the calls cost. Without arguments it names its measurements; `monitor_bench TURNS` takes them on the
 //! baton door and prints a line `NAME VALUE ns` for each, with its progress on standard error; with `--ticket` before,
 //! on the ticket door; with `--schedulers` before TURNS, those of the schedulers' procedures. `monitor_bench --book
-//! TURNS` takes those of the book of queues alone; with `--orders` before TURNS, those of other loads on it.
+//! TURNS` takes those of the book of queues alone; with `--orders` before TURNS, those of other loads on it, and its
+//! size in bytes.
 #![tactic(auto)]
 
 ghost use Rattle.std.specs.Prelude.{IfOk};

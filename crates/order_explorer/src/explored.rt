@@ -43,6 +43,6 @@ pub(crate) fn number_of<D>(out: Outside<D>) -> (Outside<D>, usize)
     ensures same { result.0 ≡ out }
     ensures number { result.1 ≡ out.place }
 {
-    let (seat, place, parker) = out.into_parts();
-    (Outside::of_parts(seat, place, parker), place)
+    let (seat, place, sleeper) = out.into_parts();
+    (Outside::of_parts(seat, place, sleeper), place)
 }

@@ -58,39 +58,35 @@ typedef struct {
     uint32_t next, times;
 } looks;
 static _Thread_local looks at_door = {ZAULINTE_LOOKS, 0}, at_bell = {ZAULINTE_LOOKS, 0};
-static uint32_t begin_looks(looks *l) { return ++l->times % LONG_EACH == 0 ? ZAULINTE_LOOKS : l->next; }
-static bool end_looks(looks *l, bool seen) {
-    l->next = seen ? ZAULINTE_LOOKS : l->next / 2 > FEWEST_LOOKS ? l->next / 2 : FEWEST_LOOKS;
-    return seen;
-}
-static bool is_rung_soon(zaulinte_bell *b) {
-    for (uint32_t left = begin_looks(&at_bell); left > 0; left--) {
-        if (atomic_load_explicit(&b->word, memory_order_acquire) == GO_ON) return end_looks(&at_bell, true);
+static bool sees(looks *l, bool (*seen)(zaulinte_bell *, uint32_t), zaulinte_bell *b, uint32_t what) {
+    uint32_t most = ++l->times % LONG_EACH == 0 ? ZAULINTE_LOOKS : l->next;
+    for (uint32_t i = 0; i < most; i++) {
+        if (seen(b, what)) {
+            l->next = ZAULINTE_LOOKS;
+            return true;
+        }
         relax();
     }
-    return end_looks(&at_bell, false);
+    l->next = l->next / 2 > FEWEST_LOOKS ? l->next / 2 : FEWEST_LOOKS;
+    return false;
+}
+static bool holds(zaulinte_bell *b, uint32_t wanted) {
+    return atomic_load_explicit(&b->word, memory_order_acquire) == wanted;
 }
 
 /* the door: who takes the word is the only one that runs inside */
-static bool takes_as(zaulinte_monitor *m, uint32_t as) {
-    uint32_t is = FREE;
-    return atomic_compare_exchange_strong(&m->door.word, &is, as);
+static bool takes_as(zaulinte_bell *door, uint32_t as) {
+    uint32_t free = FREE;
+    return atomic_compare_exchange_strong(&door->word, &free, as);
 }
-static bool takes(zaulinte_monitor *m) { return takes_as(m, HELD); }
-static bool takes_soon(zaulinte_monitor *m, uint32_t as) {
-    for (uint32_t left = begin_looks(&at_door); left > 0; left--) {
-        bool is_free = atomic_load_explicit(&m->door.word, memory_order_relaxed) == FREE;
-        if (is_free && takes_as(m, as)) return end_looks(&at_door, true);
-        relax();
-    }
-    return end_looks(&at_door, false);
-}
+static bool takes_free(zaulinte_bell *door, uint32_t as) { return holds(door, FREE) && takes_as(door, as); }
+static bool takes(zaulinte_monitor *m) { return takes_as(&m->door, HELD); }
 /* who slept takes it as a door at which others may sleep */
 static void take(zaulinte_monitor *m) {
-    if (takes(m) || takes_soon(m, HELD)) return;
+    if (takes(m) || sees(&at_door, takes_free, &m->door, HELD)) return;
     while (atomic_exchange(&m->door.word, SLEPT_AT) != FREE) {
         sleep_while(&m->door, SLEPT_AT);
-        if (takes_soon(m, SLEPT_AT)) return;
+        if (sees(&at_door, takes_free, &m->door, SLEPT_AT)) return;
     }
 }
 static void open_door(zaulinte_monitor *m) {
@@ -119,7 +115,7 @@ static void go_away(zaulinte_monitor *m, uint32_t place, uint64_t next) {
     m->away |= bit(place);
     set_inside(m, 0);
     hand_on(m, next);
-    if (!is_rung_soon(mine)) {
+    if (!sees(&at_bell, holds, mine, GO_ON)) {
         uint32_t is = NOTHING;
         if (atomic_compare_exchange_strong(&mine->word, &is, ASLEEP))
             while (atomic_load(&mine->word) == ASLEEP) sleep_while(mine, ASLEEP);

@@ -1,6 +1,6 @@
--- The machine values of a `Loose`, and of a struct of two fields. Assumes `Logic`.
+-- The machine values of a `Loose`. Assumes `Logic`.
 use Rattle.std.proofs.Common.{◌≡◌, ℕ, List, [], ◌∷◌, ◌++◌, refl, subst}
-use mathlib.Core.Bool.{Bool, true, false, ◌&&◌}
+use mathlib.Core.Bool.{true, ◌&&◌}
 use lib.Dec.{T}
 use seplogic.Ra.Ura.{Ura}
 use mir.Syntax.{impl, tnil, dnil}
@@ -8,7 +8,7 @@ use mir.Raw.{raw as bare}
 use mir.Val.{Val, vptr, vstruct, vcons, vnil, of_list, has_ty, WT}
 use base.Logic.{never, fst∗}
 use types.Logic.{Logic, sem}
-use types.Kit.{Item, Goal, Seq, Step, step, ‵, ◌$◌, move, drop, fsplit, fjoin, fjoin3, fpick, fpack, feq_i, feq_l}
+use types.Kit.{Item, Goal, Seq, Step, step, ‵, ◌$◌, move, drop, fsplit, fjoin, fpick, fpack, feq_i, feq_l}
 use denote.RattleType.{RattleType, Valss}
 use denote.Builtin.{RawPtr}
 use denote.Memory.{lone}
@@ -27,11 +27,6 @@ use Rattle.book_handle.specs.contracts.loose.Loose as loose
 
 abbrev pub both : Val → Val → Val
 both v w = vstruct (vcons v (vcons w vnil))
-
-pub both_tt : (x y : Bool) → T x → T y → T (x && (y && true))
-both_tt true true s t = tt
-both_tt true false s t = absurd t
-both_tt false y s t = absurd s
 
 module _ (R Z : RattleType) (L : Laws Z) (g : Ghosts Z.Denot) where
   abbrev pub Loose : RattleType
@@ -68,18 +63,3 @@ module _ (R Z : RattleType) (L : Laws Z) (g : Ghosts Z.Denot) where
         $ feq_i t (List Val) (v ∷ []) (v ∷ []) refl $ fjoin t $
         fpack t (Valss (RawPtr ∷ Z ∷ [])) (within (shape (loose.the_type R Z g)) (block_ptr b o, (a, tt)) (v ∷ []))
         (vptr b o ∷ [], (h ∷ [], tt)) $ fjoin t $ s)
-
--- a struct of two fields, by value
-module _ (P Q : RattleType) where
-  abbrev pub Two : RattleType
-  Two = Struct (record { name = []; args = []; types = []; fields = P ∷ Q ∷ [] })
-
-  module _ {M : Type 1} {𝓤 : Ura M} {𝓛 : Logic 𝓤} {K : Type 0} {Γ : List (Item 𝓤)} {G : Goal 𝓤 𝓛.H} (x : P.Denot)
-      (y : Q.Denot) where
-    pub two_in : K → (v w : Val)
-        → Step K 𝓛 (‵ (Two.own_val (x, (y, tt)) (both v w ∷ [])) ∷ Γ) G
-        (‵ (P.own_val x (v ∷ [])) ∷ ‵ (Q.own_val y (w ∷ [])) ∷ Γ) G
-    two_in t v w = step (λ s. nothing t $ move t (1 ∷ 2 ∷ 0 ∷ []) $ fjoin3 t
-        $ feq_i t (List Val) (both v w ∷ []) (both v w ∷ []) refl $ fjoin t $
-        fpack t (Valss (P ∷ Q ∷ [])) (within (record { name = []; args = []; types = []; fields = P ∷ Q ∷ [] })
-        (x, (y, tt)) (both v w ∷ [])) (v ∷ [], (w ∷ [], tt)) $ s)

@@ -1,11 +1,13 @@
 //! How long places look at a word before they sleep, and newcomers before they nap: the numbers of both doors, and
 //! their reasons. What was measured stands in docs/MEASURES.md, "How places wait".
 
-/// How often a place looks, with the spin hint between: a waiter or a signaller before it sleeps, and a newcomer that
-/// races for the word before it spins. A look costs some nanoseconds, and a sleep with its waking several thousand:
-/// most hand-overs come while the place still looks. Where there are fewer cores than threads, more looks take the
-/// processor from the place that is waited for.
-pub const LOOKS: u32 = 500;
+/// How often a waiter or a signaller looks, with the spin hint between, before it sleeps. A look costs some
+/// nanoseconds, and a sleep with its waking several thousand: most hand-overs come while the place still looks. Where
+/// there are fewer cores than threads, more looks take the processor from the place that is waited for.
+pub const LOOKS: u32 = 3000;
+
+/// How often a newcomer that races for the word looks so before it spins.
+pub const NEWCOMER_LOOKS: u32 = 500;
 
 /// How often a newcomer that races for the word looks so, with longer and longer spins between, before it naps.
 pub const TRIES: u32 = 7;

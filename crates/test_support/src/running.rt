@@ -35,6 +35,9 @@ pub fn parted<O: Drop>(alloc: Global, done: Vec<(O, u64)>) -> Result<(Vec<O>, Ve
     ensures count { IfOk result (λ r. vec_len r.0 ≡ vec_len done) }
     ensures same { IfOk result (λ r. (k : ℕ) (d : O) → k < vec_len r.0
         → slice_index_or r.0.items k d ≡ (slice_index_or done.items k (d, 0)).0) }
+    ensures answered { IfOk result (λ r. vec_len r.1 ≡ vec_len done) }
+    ensures answers { IfOk result (λ r. (k : ℕ) (d : O) → k < vec_len r.1
+        → slice_index_or r.1.items k 0 ≡ (slice_index_or done.items k (d, 0)).1) }
 {
     let answers = done.iter().map(|d| d.1).collect(alloc)?;
     let outs = outs_of(alloc, done)?;

@@ -16,6 +16,10 @@ pub const TRIES: u32 = 7;
 /// the program asks for nothing else.
 pub const NAP: u64 = 100;
 
+/// Of so many plain leaves that find others napping one calls one of them. With fewer of them chains of signallers are
+/// faster, and visits of several threads slower: who is called wants in, and takes the word to its core.
+pub const LEAVES: u64 = 128;
+
 /// How often a newcomer whose ticket is the next looks before it yields or naps. One that has n tickets to go looks
 /// an n-th as often. Exactly one thread can come in, and if it isn't running when its ticket is served, it holds up
 /// all others.

@@ -6,11 +6,10 @@
 //! word itself when it wakes.
 //!
 //! A call is a call of the system, which takes longer than a visit. So who leaves the monitor free calls one newcomer
-//! only where its visit is dear anyway, where the monitor was handed to it, or where it goes to wait; and now and then,
-//! so that a plain leave doesn't let one sleep on for the rest of its nap.
+//! only where its visit is dear anyway: where the monitor was handed to it, or where it goes to wait.
 use crossbeam_utils::CachePadded;
 use door_frame::departure::Departure;
-use door_frame::looks::{LEAVES, NAP};
+use door_frame::looks::NAP;
 use std::sync::Wait;
 use std::sync::atomic::{AtomicU64, Ordering};
 use std::time::Duration;
@@ -25,8 +24,6 @@ pub(crate) struct Naps {
     calls: AtomicU64,
     /// 1 where the monitor was handed to who is inside, or is being handed on, else 0.
     handed: AtomicU64,
-    /// How many left the monitor free, and called nobody for another reason, while others napped, modulo 2^64.
-    leaves: AtomicU64,
 }
 
 impl Naps {
@@ -36,7 +33,6 @@ impl Naps {
             nappers: AtomicU64::new(0),
             calls: AtomicU64::new(0),
             handed: AtomicU64::new(0),
-            leaves: AtomicU64::new(0),
         })
     }
 
@@ -71,7 +67,7 @@ impl Naps {
                 if handed {
                     self.handed.store(0, Ordering::Relaxed);
                 }
-                handed || is_wait(departure) || self.is_overdue()
+                handed || is_wait(departure)
             }
             Next::For(_) | Next::Held(_) => {
                 if !handed {
@@ -80,17 +76,6 @@ impl Naps {
                 false
             }
         }
-    }
-
-    /// Whether so many left while others napped that one of these is to be called. Who is inside asks, and nobody else.
-    #[inline]
-    fn is_overdue(&self) -> bool {
-        if self.count() == 0 {
-            return false;
-        }
-        let leaves = self.leaves.load(Ordering::Relaxed).wrapping_add(1);
-        self.leaves.store(leaves, Ordering::Relaxed);
-        leaves % LEAVES == 0
     }
 
     /// Calls one that naps, if one does and it is to be called.

@@ -6,7 +6,7 @@ use crate::door::Door;
 use crate::rule::Admit;
 use crate::word::{DOOR, FREE, HELD};
 use crossbeam_utils::Backoff;
-use door_frame::looks::{NEWCOMER_LOOKS, TRIES};
+use door_frame::looks::{LOOKS, TRIES};
 use door_frame::plays::DoorSeat;
 use hoare_law::data::MonitorData;
 use std::hint;
@@ -30,7 +30,7 @@ impl<D: MonitorData> Door<D> {
 
     /// Looks at the word a while, until it is `FREE`: whether it was seen so.
     fn looks_free(&self) -> bool {
-        for _ in 0..NEWCOMER_LOOKS {
+        for _ in 0..LOOKS {
             if self.table.shared.peek(DOOR) == FREE {
                 return true;
             }

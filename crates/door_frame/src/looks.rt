@@ -1,13 +1,11 @@
 //! How long places look at a word before they sleep, and newcomers before they nap: the numbers of both doors, and
 //! their reasons. What was measured stands in docs/MEASURES.md, "How places wait".
 
-/// How often a waiter or a signaller looks, with the spin hint between, before it sleeps. A look costs some
-/// nanoseconds, and a sleep with its waking several thousand: most hand-overs come while the place still looks. Where
-/// there are fewer cores than threads, more looks take the processor from the place that is waited for.
-pub const LOOKS: u32 = 3000;
-
-/// How often a newcomer that races for the word looks so before it spins.
-pub const NEWCOMER_LOOKS: u32 = 500;
+/// How often a place looks, with the spin hint between: a waiter or a signaller before it sleeps, and a newcomer that
+/// races for the word before it spins. A look costs some nanoseconds, and a sleep with its waking several thousand:
+/// most hand-overs come while the place still looks. Where there are fewer cores than threads, more looks take the
+/// processor from the place that is waited for.
+pub const LOOKS: u32 = 500;
 
 /// How often a newcomer that races for the word looks so, with longer and longer spins between, before it naps.
 pub const TRIES: u32 = 7;
@@ -15,10 +13,6 @@ pub const TRIES: u32 = 7;
 /// How many microseconds a newcomer naps, if it isn't called before. A system makes it longer: Linux by some 50, where
 /// the program asks for nothing else.
 pub const NAP: u64 = 100;
-
-/// Of so many plain leaves that find others napping one calls one of them. With fewer of them chains of signallers are
-/// faster, and visits of several threads slower: who is called wants in, and takes the word to its core.
-pub const LEAVES: u64 = 128;
 
 /// How often a newcomer whose ticket is the next looks before it yields or naps. One that has n tickets to go looks
 /// an n-th as often. Exactly one thread can come in, and if it isn't running when its ticket is served, it holds up

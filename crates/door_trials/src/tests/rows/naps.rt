@@ -41,8 +41,8 @@ impl Signs {
     }
 }
 
-// Comes in and gives a sign, stays inside for many naps, adds one and leaves. A baton door seldom calls anybody then; a
-// ticket door calls the next in turn, if it naps. It doesn't come again before the other was inside.
+// Comes in and gives a sign, stays inside for many naps, adds one and leaves. A baton door calls nobody then; a ticket
+// door calls the next in turn, if it naps. It doesn't come again before the other was inside.
 fn stays_long<R: Wait + Abort + Clock, M: Monitor<Tally>>(
     rt: &R,
     m: &M,

@@ -6,8 +6,6 @@ pub mod data;
 pub mod event;
 pub mod laws;
 pub mod monitor;
-#[cfg(test)]
-mod trials;
 pub mod turn;
 pub mod unasked;
 pub mod waits;

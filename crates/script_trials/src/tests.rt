@@ -1,6 +1,7 @@
-//! The book, lines of a text, scripts and their pictures.
+//! The law, the book, lines of a text, scripts and their pictures.
 
 mod books;
+mod law;
 mod limit;
 mod lines;
 mod numbers;

@@ -19,8 +19,9 @@ const TURNS: u32 = 10_000_000;
 #[derive(Drop)]
 struct AtOnce {
     turns: u32,
-    // How often each job has begun.
+    // How often each job has begun, and ended after it had begun once.
     begins: Vec<AtomicUsize>,
+    ends: Vec<AtomicUsize>,
     // How many have begun, and how many of them before the first one ended.
     begun: AtomicUsize,
     before_an_end: AtomicUsize,
@@ -34,23 +35,44 @@ struct AtOnce {
 // What was seen of a whole service.
 #[derive(Clone, Copy, Debug, PartialEq, Eq)]
 struct Seen {
-    // How many jobs have begun once, and not more often.
+    // How many jobs have begun once, and ended once after that, and not more often.
     begun_once: usize,
+    ended_once: usize,
     before_an_end: usize,
     ended: usize,
     most_at_work: usize,
     gave_up: bool,
 }
 
+// A count for each job.
+fn counts(alloc: Global) -> Result<Vec<AtomicUsize>, AllocError> {
+    let mut counts = Vec::new(alloc);
+    for _ in 0..JOBS {
+        counts.push(AtomicUsize::new(0))?;
+    }
+    Ok(counts)
+}
+
+fn is_one(count: &AtomicUsize) -> bool {
+    count.load(Ordering::SeqCst) == 1
+}
+
+fn ones(counts: &[AtomicUsize]) -> usize {
+    counts.iter().filter(|count| is_one(count)).count()
+}
+
+fn note(counts: &[AtomicUsize], job: usize) {
+    if let Some(count) = counts.get(job) {
+        count.fetch_add(1, Ordering::SeqCst);
+    }
+}
+
 impl AtOnce {
     fn of(alloc: Global, turns: u32) -> Result<AtOnce, AllocError> {
-        let mut begins = Vec::new(alloc);
-        for _ in 0..JOBS {
-            begins.push(AtomicUsize::new(0))?;
-        }
         Ok(AtOnce {
             turns,
-            begins,
+            begins: counts(alloc)?,
+            ends: counts(alloc)?,
             begun: AtomicUsize::new(0),
             before_an_end: AtomicUsize::new(0),
             ended: AtomicUsize::new(0),
@@ -60,16 +82,10 @@ impl AtOnce {
         })
     }
 
-    fn begun_once(&self) -> usize {
-        let begins = self.begins.iter();
-        begins
-            .filter(|count| count.load(Ordering::SeqCst) == 1)
-            .count()
-    }
-
     fn seen(&self) -> Seen {
         Seen {
-            begun_once: self.begun_once(),
+            begun_once: ones(self.begins.as_slice()),
+            ended_once: ones(self.ends.as_slice()),
             before_an_end: self.before_an_end.load(Ordering::SeqCst),
             ended: self.ended.load(Ordering::SeqCst),
             most_at_work: self.most_at_work.load(Ordering::SeqCst),
@@ -85,9 +101,7 @@ impl AtOnce {
         if self.ended.load(Ordering::SeqCst) == 0 {
             self.before_an_end.fetch_add(1, Ordering::SeqCst);
         }
-        if let Some(begins) = self.begins.get(job) {
-            begins.fetch_add(1, Ordering::SeqCst);
-        }
+        note(&self.begins, job);
         self.begun.fetch_add(1, Ordering::SeqCst);
     }
 }
@@ -104,9 +118,12 @@ impl Gate for AtOnce {
         self.gave_up.store(true, Ordering::SeqCst);
     }
 
-    fn end(&self, _job: usize) {
+    fn end(&self, job: usize) {
         self.at_work.fetch_sub(1, Ordering::SeqCst);
         self.ended.fetch_add(1, Ordering::SeqCst);
+        if self.begins.get(job).is_some_and(is_one) {
+            note(&self.ends, job);
+        }
     }
 }
 
@@ -118,7 +135,8 @@ fn some_jobs(alloc: Global) -> Result<Jobs, Fail> {
     }
 }
 
-// Four different jobs had begun before the first ended, each job began once, and never were more than four at work.
+// Four different jobs had begun before the first ended, each job began once and ended once after that, and never were
+// more than four at work.
 fn assert_at_once<R: Abort>(rt: &R, answer: Result<Report, ServiceFault>, gate: &AtOnce) {
     let Ok(report) = answer else {
         panic!(rt; "no report")
@@ -128,6 +146,7 @@ fn assert_at_once<R: Abort>(rt: &R, answer: Result<Report, ServiceFault>, gate: 
         gate.seen(),
         Seen {
             begun_once: JOBS,
+            ended_once: JOBS,
             before_an_end: WORKERS,
             ended: JOBS,
             most_at_work: WORKERS,
@@ -164,7 +183,10 @@ fn one_at_a_time_is_seen(rt: HostRuntime) -> Result<(), Fail> {
         gate.end(job);
     }
     let seen = gate.seen();
-    assert_eq!(rt; (seen.begun_once, seen.ended), (JOBS, JOBS));
+    assert_eq!(rt;
+        (seen.begun_once, seen.ended_once, seen.ended),
+        (JOBS, JOBS, JOBS)
+    );
     assert_eq!(rt; (seen.before_an_end, seen.most_at_work), (1, 1));
     assert!(rt; seen.gave_up);
     Ok(())

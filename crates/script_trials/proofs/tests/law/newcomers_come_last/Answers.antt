@@ -1,4 +1,4 @@
-use Rattle.hoare_law.proofs.trials.newcomers_come_last.Goals as goal
+use Rattle.script_trials.proofs.tests.law.newcomers_come_last.Goals as goal
 
 pub returns-clause-behind_a_signal : goal.returns-clause-behind_a_signal
 returns-clause-behind_a_signal g c = λ h k on w newcomer s found allowed.

@@ -8,8 +8,8 @@ ghost use Rattle.hoare_law.specs.Events.{with_event};
 ghost use Rattle.hoare_law.specs.Turns.{turn, urgent};
 ghost use Rattle.hoare_law.specs.Legal.{Allowed};
 
-use crate::laws;
-use crate::waits::{Joined, Nobody, Taken, Waits};
+use hoare_law::laws;
+use hoare_law::waits::{Joined, Nobody, Taken, Waits};
 
 #[test]
 fn nobody_waits(rt: HostRuntime) {

@@ -155,55 +155,61 @@ fn who_asked_wants_in(host: HostRuntime) {
     expect_same(rt, door.glance(), glance_of(Holder::Nobody, 0));
 }
 
-#[test]
-fn who_is_handed_the_monitor_is_seen(host: HostRuntime) {
-    let (rt, alloc) = (&host, host.alloc());
-    let mut seen = (false, false);
-    for _ in 0..ROUNDS {
-        let (_, mut told) = run_row!(
-            rt,
-            alloc,
-            on_baton_door(),
-            waits_or_hands_over(),
-            Tally { value: 0 },
-            2
-        );
-        seen.0 = seen.0 || told.pop() == Some(1);
-        let (_, mut told) = run_row!(
-            rt,
-            alloc,
-            on_ticket_door(0),
-            waits_or_hands_over(),
-            Tally { value: 0 },
-            2
-        );
-        seen.1 = seen.1 || told.pop() == Some(1);
+/// The rows of two places at a door whose words one of them looks at.
+#[derive(Clone, Copy)]
+enum GlanceRow<'a> {
+    /// Place 1 comes after the sign.
+    ANewcomerIsSeen(&'a AtomicBool),
+    WhoIsHandedTheMonitorIsSeen,
+}
+
+// Each place does what the row says.
+fn acts<R: Wait + Abort + Clock, M: Glanced>(
+    rt: &R,
+    m: &M,
+    out: M::Out,
+    place: usize,
+    row: GlanceRow<'_>,
+) -> (M::Out, u64)
+    requires { M.is_of m.now out }
+    ensures of { M.is_of m.now result.0 }
+    ensures place { M.place result.0 ≡ M.place out }
+{
+    match row {
+        GlanceRow::ANewcomerIsSeen(sign) => sees_a_newcomer(rt, m, out, place, sign),
+        GlanceRow::WhoIsHandedTheMonitorIsSeen => waits_or_hands_over(rt, m, out, place),
     }
-    expect_same(rt, seen, (true, true));
+}
+
+// The rows on one door: the newcomer is seen at once, and who is handed the monitor in one of the rounds.
+macro_rules! glance_at {
+    ($rt:ident, $alloc:ident, $door:ident($($given:expr)?)) => {{
+        let sign = AtomicBool::new(false);
+        let mut row = GlanceRow::ANewcomerIsSeen(&sign);
+        let mut is_owed = false;
+        for round in 0..=ROUNDS {
+            let (_, mut answers) = run_row!($rt, $alloc, $door($($given)?), acts(row), Tally { value: 0 }, 2);
+            if round == 0 {
+                expect_same($rt, answers.as_slice(), [1, 0].as_slice());
+                row = GlanceRow::WhoIsHandedTheMonitorIsSeen;
+            } else {
+                is_owed = is_owed || answers.pop() == Some(1);
+            }
+        }
+        expect_same($rt, is_owed, true);
+    }};
 }
 
 #[test]
-fn a_newcomer_is_seen(host: HostRuntime) {
+fn a_newcomer_and_who_is_owed_are_seen_at_a_baton_door(host: HostRuntime) {
     let (rt, alloc) = (&host, host.alloc());
-    let sign = AtomicBool::new(false);
-    let (_, seen) = run_row!(
-        rt,
-        alloc,
-        on_baton_door(),
-        sees_a_newcomer(&sign),
-        Tally { value: 0 },
-        2
-    );
-    expect_same(rt, seen.as_slice(), [1, 0].as_slice());
-    let (_, seen) = run_row!(
-        rt,
-        alloc,
-        on_ticket_door(0),
-        sees_a_newcomer(&sign),
-        Tally { value: 0 },
-        2
-    );
-    expect_same(rt, seen.as_slice(), [1, 0].as_slice());
+    glance_at!(rt, alloc, on_baton_door());
+}
+
+#[test]
+fn a_newcomer_and_who_is_owed_are_seen_at_a_ticket_door(host: HostRuntime) {
+    let (rt, alloc) = (&host, host.alloc());
+    glance_at!(rt, alloc, on_ticket_door(0));
 }
 
 #[test]

@@ -50,22 +50,6 @@ fn asks_and_looks_late<R: Wait + Abort + Clock>(
     (door.give_up(inside), ticket)
 }
 
-#[test]
-fn who_asked_comes_in_by_its_ticket(host: HostRuntime) {
-    let (rt, alloc) = (&host, host.alloc());
-    let asked = AtomicUsize::new(0);
-    let (tally, tickets) = run_row!(
-        rt,
-        alloc,
-        on_ticket_door(0),
-        asks_and_looks_late(&asked),
-        Tally { value: 0 },
-        3
-    );
-    expect_same(rt, tickets.as_slice(), [0, 1, 2].as_slice());
-    expect_same(rt, tally.value, 123);
-}
-
 // Comes in and gives up.
 fn comes_and_goes<R: Wait>(
     rt: &R,
@@ -104,20 +88,63 @@ fn waits_or_hands_up<R: Wait + Abort>(
     (out, u64::from(told))
 }
 
+/// The rows of a ticket door.
+#[derive(Clone, Copy)]
+enum TicketRow<'a> {
+    /// How many have asked is counted.
+    WhoAskedComesInByItsTicket(&'a AtomicUsize),
+    WhoHandsUpResumesWhoWaits,
+}
+
+// Each place does what the row says.
+fn acts<R: Wait + Abort + Clock>(
+    rt: &R,
+    door: &TicketDoor<Tally>,
+    out: TicketOut<Tally>,
+    place: usize,
+    row: TicketRow<'_>,
+) -> (TicketOut<Tally>, u64)
+    requires { ⟦<TicketDoor<Tally> as Monitor<Tally>>⟧.is_of door.now out }
+    ensures of { ⟦<TicketDoor<Tally> as Monitor<Tally>>⟧.is_of door.now result.0 }
+    ensures place { result.0.place ≡ out.place }
+{
+    match row {
+        TicketRow::WhoAskedComesInByItsTicket(asked) => {
+            asks_and_looks_late(rt, door, out, place, asked)
+        }
+        TicketRow::WhoHandsUpResumesWhoWaits => waits_or_hands_up(rt, door, out, place),
+    }
+}
+
+// How many places act in the row, what they have to answer, and what they have to leave.
+fn wanted(row: TicketRow<'_>) -> (usize, &'static [u64], u64) {
+    match row {
+        TicketRow::WhoAskedComesInByItsTicket(_) => (3, &[0, 1, 2], 123),
+        TicketRow::WhoHandsUpResumesWhoWaits => (2, &[0, 1], 12),
+    }
+}
+
 // Also where the waiting place's tickets went on from the last number with 0.
 #[test]
-fn who_hands_up_resumes_who_waits(host: HostRuntime) {
+fn tickets_on_a_ticket_door(host: HostRuntime) {
     let (rt, alloc) = (&host, host.alloc());
-    for first in [0, 18446744073709551613, 18446744073709551615] {
+    let asked = AtomicUsize::new(0);
+    for (first, row) in [
+        (0, TicketRow::WhoAskedComesInByItsTicket(&asked)),
+        (0, TicketRow::WhoHandsUpResumesWhoWaits),
+        (18446744073709551613, TicketRow::WhoHandsUpResumesWhoWaits),
+        (18446744073709551615, TicketRow::WhoHandsUpResumesWhoWaits),
+    ] {
+        let (places, answers, value) = wanted(row);
         let (tally, told) = run_row!(
             rt,
             alloc,
             on_ticket_door(first),
-            waits_or_hands_up(),
+            acts(row),
             Tally { value: 0 },
-            2
+            places
         );
-        expect_same(rt, told.as_slice(), [0, 1].as_slice());
-        expect_same(rt, tally.value, 12);
+        expect_same(rt, told.as_slice(), answers);
+        expect_same(rt, tally.value, value);
     }
 }

@@ -34,7 +34,8 @@ pub fn read_jobs<R: Read>(alloc: Global, reader: &mut R) -> Result<Jobs, Service
 }
 
 /// `read_jobs`, with a reader that is watched: `ReadFault` is answered exactly where a read failed, and at most 4,098
-/// lines of 257 bytes are read, by as many reads, whatever the reader is.
+/// lines of 257 bytes are read, by as many reads as bytes at the most, as the watched reader counts both, whatever the
+/// reader beneath it is.
 pub fn read_jobs_watched<R: Read>(
     alloc: Global,
     reader: &mut WatchedReader<'_, R>,

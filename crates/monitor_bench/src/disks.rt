@@ -1,12 +1,11 @@
 //! What a release of the disk head takes while others wait elsewhere on the sweep, over any monitor.
 ghost use Rattle.std.specs.Prelude.{All, IfOk};
 
-use crate::opening::{DoorKind, baton, ticket};
-use crate::procedures::CYLINDERS;
+use crate::opening::last_place;
+use crate::procedures::request_release;
 use baton_door::door::Door;
 use hoare_law::monitor::Monitor;
 use hoare_law::waits::Waits;
-use std::alloc::Global;
 use std::rt::Clock;
 use std::sync::Wait;
 use std::sync::atomic::{AtomicBool, AtomicU64, Ordering};
@@ -178,25 +177,29 @@ where
     Ok(all)
 }
 
-/// How long `turns` releases of the drive took at cylinder 1, as the first of an upsweep on which this many others
-/// wait.
-pub fn release_row<R: Clock + Threads + Wait + Sync>(
+/// What the threads of a disk do.
+#[derive(Clone, Copy)]
+pub enum DiskLoad {
+    /// One of them takes the drive to the next cylinder and puts it in again, this many times.
+    Alone(u64),
+    /// This many releases of the drive are measured, at cylinder 1, each as the first of an upsweep on which all but
+    /// two of them wait.
+    Sweeping(u64),
+}
+
+/// The threads of a disk do their load: how long that took.
+pub fn work_disk<R: Threads + Wait + Clock + Sync, M: SharedDisk>(
     rt: &R,
-    alloc: Global,
-    kind: DoorKind,
-    waiting: u8,
-    turns: u64,
-) -> anyhow::Result<Duration> {
-    let count = waiting as usize + 2;
-    let data = Head::with(0, CYLINDERS - 1);
-    match kind {
-        DoorKind::Baton => {
-            let (door, places) = baton(alloc, data, count)?;
-            sweep_many(rt, &door, places, turns)
-        }
-        DoorKind::Ticket => {
-            let (door, places) = ticket(alloc, data, count)?;
-            sweep_many(rt, &door, places, turns)
-        }
+    m: &M,
+    places: Vec<M::Out>,
+    load: DiskLoad,
+) -> anyhow::Result<Duration>
+where
+    M::Lists: Send,
+    requires { All (M.is_of m.now) places.items }
+{
+    match load {
+        DiskLoad::Alone(turns) => request_release(rt, m, last_place(m, places)?, turns),
+        DiskLoad::Sweeping(turns) => sweep_many(rt, m, places, turns),
     }
 }

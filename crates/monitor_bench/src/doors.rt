@@ -4,6 +4,9 @@ ghost use Rattle.std.specs.Prelude.{All};
 
 use crate::fairness::{Counted, Others, count_others};
 use crate::mixed::{Mixed, mix};
+use crate::opening::last_place;
+use crate::procedures::append_remove;
+use crate::tries::{Found, tried};
 use crate::turns::{
     add_many, append_many, link_many, pull_many, remove_many, signal_many, wait_many,
 };
@@ -11,7 +14,6 @@ use baton_door::door::Door;
 use hoare_law::monitor::Monitor;
 use hoare_law::unasked::Unasked;
 use plain_schedulers::buffer::Buffer;
-use std::alloc::AllocError;
 use std::rt::Clock;
 use std::sync::Wait;
 use std::sync::atomic::{AtomicU64, Ordering};
@@ -66,6 +68,8 @@ pub enum CounterLoad {
     Contended(u64),
     /// This many wait, this many times, and one more signals them.
     Waiting(u64, u64),
+    /// One of two tries to come in, this many times, where this is found.
+    Tried(Found, u64),
 }
 
 /// The threads of a counter with one condition do their load: how long that took.
@@ -74,7 +78,7 @@ pub fn count_with<R: Threads + Wait + Clock + Sync, M: OneShared>(
     m: &M,
     places: Vec<M::Out>,
     load: CounterLoad,
-) -> io::Result<Duration>
+) -> anyhow::Result<Duration>
 where
     M::Lists: Send,
     requires { All (M.is_of m.now) places.items }
@@ -84,8 +88,9 @@ where
         CounterLoad::Alone(turns) => alone(rt, m, places, turns)?,
         CounterLoad::Contended(turns) => contended(rt, m, places, turns)?,
         CounterLoad::Waiting(waiters, turns) => waiting(rt, m, places, waiters, turns)?,
+        CounterLoad::Tried(found, turns) => return tried(rt, m, places, found, turns),
     }
-    start.elapsed(rt)
+    Ok(start.elapsed(rt)?)
 }
 
 /// What the threads of a counter with eight conditions do.
@@ -141,14 +146,12 @@ where
 fn alone<const N: usize, R: Wait, M: Monitor<Unasked<u64, N>>>(
     rt: &R,
     m: &M,
-    mut places: Vec<M::Out>,
+    places: Vec<M::Out>,
     turns: u64,
 ) -> io::Result<()>
     requires { All (M.is_of m.now) places.items }
 {
-    let Some(out) = places.pop() else {
-        return Err(io::Error::from(AllocError));
-    };
+    let out = last_place(m, places)?;
     add_many(rt, m, out, turns);
     Ok(())
 }
@@ -212,8 +215,8 @@ where
     Ok(())
 }
 
-/// Half of the threads append to a buffer, the others remove, each `turns` times: how long that took.
-pub fn buffered<R: Threads + Wait + Clock + Sync, M: SharedBuffer>(
+// Half of the threads append to a buffer, the others remove, each `turns` times: how long that took.
+fn buffered<R: Threads + Wait + Clock + Sync, M: SharedBuffer>(
     rt: &R,
     m: &M,
     places: Vec<M::Out>,
@@ -240,6 +243,32 @@ where
         },
     )?;
     start.elapsed(rt)
+}
+
+/// What the threads of a buffer do.
+#[derive(Clone, Copy)]
+pub enum BufferLoad {
+    /// Half of them append, the others remove, each this many times.
+    Shared(u64),
+    /// One of them appends and removes in turn, this many times.
+    Alone(u64),
+}
+
+/// The threads of a buffer do their load: how long that took.
+pub fn work_buffer<R: Threads + Wait + Clock + Sync, M: SharedBuffer>(
+    rt: &R,
+    m: &M,
+    places: Vec<M::Out>,
+    load: BufferLoad,
+) -> anyhow::Result<Duration>
+where
+    M::Lists: Send,
+    requires { All (M.is_of m.now) places.items }
+{
+    match load {
+        BufferLoad::Shared(turns) => Ok(buffered(rt, m, places, turns)?),
+        BufferLoad::Alone(turns) => append_remove(rt, m, last_place(m, places)?, turns),
+    }
 }
 
 /// Threads that mix all calls, each `turns` times, and the last to come, who resumes those that wait: how long that

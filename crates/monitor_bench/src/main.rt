@@ -5,9 +5,6 @@
 //! size in bytes.
 #![tactic(auto)]
 
-ghost use Rattle.std.specs.Prelude.{IfOk};
-ghost use Rattle.hoare_law.specs.Priorities.{nobody};
-
 mod asked;
 mod book;
 mod disks;
@@ -18,21 +15,20 @@ mod mesa;
 mod mixed;
 mod opening;
 mod procedures;
+mod rows;
 mod schedulers;
 mod sleepers;
 mod tries;
 mod turns;
 
 use crate::asked::{Measured, USAGE, asked, show};
-use crate::doors::{CounterLoad, WideLoad, buffered, count_widely, count_with, met, mixed};
-use crate::fairness::{Others, all_met, uncounted};
+use crate::doors::{BufferLoad, CounterLoad, WideLoad};
+use crate::fairness::all_met;
 use crate::mesa::measure_mesa;
-use crate::mixed::{WORKERS, unvisited};
-use crate::opening::{DoorKind, baton, no_memory, ticket};
+use crate::mixed::WORKERS;
+use crate::opening::DoorKind;
+use crate::rows::{buffer_row, counter_row, mixed_row, others_row, wide_row};
 use crate::tries::measure_tries;
-use hoare_law::data::MonitorData;
-use hoare_law::unasked::Unasked;
-use plain_schedulers::buffer::Buffer;
 use std::alloc::Global;
 use std::process::ExitCode;
 use std::rt::Clock;
@@ -54,98 +50,13 @@ fn tell<R: Print + Eprint>(rt: &R, name: &str, spent: Duration, count: u64) -> i
     println!(rt; "{name} {}.{:02} ns", one / 100, one % 100)
 }
 
-// How long the threads of a door of this kind took, made with these data and this number of places.
-macro_rules! on_places {
-    ($kind:ident, $rt:ident, $alloc:ident, $data:expr, $places:ident, $work:ident($($more:expr),*)) => {{
-        let data = $data;
-        match $kind {
-            DoorKind::Baton => {
-                let (door, places) = baton($alloc, data, $places)?;
-                $work($rt, &door, places, $($more),*)
-            }
-            DoorKind::Ticket => {
-                let (door, places) = ticket($alloc, data, $places)?;
-                $work($rt, &door, places, $($more),*)
-            }
-        }
-    }};
-}
-
-// The cells of the buffer.
-const RING: usize = 16;
-
-fn counter<const N: usize>() -> Unasked<u64, N> {
-    Unasked { value: 0 }
-}
-
-fn ring(alloc: Global) -> io::Result<Buffer<u64>>
-    ensures { IfOk result (λ b. ⟦<Buffer<u64> as MonitorData>⟧.rest b nobody) }
-{
-    Buffer::make(alloc, RING).map_err(|_refusal| no_memory())
-}
-
-// A counter with one condition. (A function for all of its rows: what is called at a door's own type is dear to check.)
-fn counter_row<R: Clock + Threads + Wait + Sync>(
-    rt: &R,
-    alloc: Global,
-    kind: DoorKind,
-    count: usize,
-    load: CounterLoad,
-) -> io::Result<Duration> {
-    on_places!(kind, rt, alloc, counter(), count, count_with(load))
-}
-
-// The same with eight conditions.
-fn wide_row<R: Clock + Threads + Wait + Sync>(
-    rt: &R,
-    alloc: Global,
-    kind: DoorKind,
-    count: usize,
-    load: WideLoad,
-) -> io::Result<Duration> {
-    on_places!(kind, rt, alloc, counter(), count, count_widely(load))
-}
-
-// A buffer.
-fn buffer_row<R: Clock + Threads + Wait + Sync>(
-    rt: &R,
-    alloc: Global,
-    kind: DoorKind,
-    count: usize,
-    turns: u64,
-) -> io::Result<Duration> {
-    on_places!(kind, rt, alloc, ring(alloc)?, count, buffered(turns))
-}
-
-// Visits of all kinds.
-fn mixed_row<R: Clock + Threads + Wait + Sync>(
-    rt: &R,
-    alloc: Global,
-    kind: DoorKind,
-    count: usize,
-    turns: u64,
-) -> io::Result<Duration> {
-    on_places!(kind, rt, alloc, unvisited(), count, mixed(turns))
-}
-
-// How many others are let in before a place.
-fn others_row<R: Threads + Wait + Sync>(
-    rt: &R,
-    alloc: Global,
-    kind: DoorKind,
-    count: usize,
-    turns: u64,
-) -> io::Result<Vec<Others>> {
-    on_places!(kind, rt, alloc, uncounted(), count, met(turns))
-}
-
 // Places that come in and go out.
 fn measure_visits<R: Print + Eprint + Clock + Threads + Wait + Sync>(
     rt: &R,
     alloc: Global,
     kind: DoorKind,
     turns: u64,
-) -> io::Result<()> {
+) -> anyhow::Result<()> {
     let spent = counter_row(rt, alloc, kind, 1, CounterLoad::Alone(turns))?;
     tell(rt, "enter_leave", spent, turns)?;
     let tenth = turns / 10;
@@ -166,14 +77,15 @@ fn measure_exchanges<R: Print + Eprint + Clock + Threads + Wait + Sync>(
     alloc: Global,
     kind: DoorKind,
     turns: u64,
-) -> io::Result<()> {
+) -> anyhow::Result<()> {
     let hundredth = turns / 100;
     let spent = counter_row(rt, alloc, kind, 2, CounterLoad::Waiting(1, hundredth))?;
     tell(rt, "hand_over", spent, hundredth)?;
-    let spent = buffer_row(rt, alloc, kind, 2, hundredth)?;
+    let spent = buffer_row(rt, alloc, kind, 2, BufferLoad::Shared(hundredth))?;
     tell(rt, "buffer_1_1", spent, hundredth)?;
-    let spent = buffer_row(rt, alloc, kind, 8, hundredth)?;
-    tell(rt, "buffer_4_4", spent, hundredth.saturating_mul(4))
+    let spent = buffer_row(rt, alloc, kind, 8, BufferLoad::Shared(hundredth))?;
+    tell(rt, "buffer_4_4", spent, hundredth.saturating_mul(4))?;
+    Ok(())
 }
 
 // Many places that wait.
@@ -182,7 +94,7 @@ fn measure_crowds<R: Print + Eprint + Clock + Threads + Wait + Sync>(
     alloc: Global,
     kind: DoorKind,
     turns: u64,
-) -> io::Result<()> {
+) -> anyhow::Result<()> {
     let thousandth = turns / 1000;
     let spent = counter_row(rt, alloc, kind, 17, CounterLoad::Waiting(16, thousandth))?;
     tell(rt, "waiting_16", spent, thousandth.saturating_mul(16))?;
@@ -191,7 +103,8 @@ fn measure_crowds<R: Print + Eprint + Clock + Threads + Wait + Sync>(
     let spent = mixed_row(rt, alloc, kind, 9, thousandth)?;
     tell(rt, "mixed_9", spent, thousandth.saturating_mul(WORKERS))?;
     let spent = wide_row(rt, alloc, kind, 64, WideLoad::Alone(turns))?;
-    tell(rt, "wide_enter_leave", spent, turns)
+    tell(rt, "wide_enter_leave", spent, turns)?;
+    Ok(())
 }
 
 // How many others are let in before one of eight places.

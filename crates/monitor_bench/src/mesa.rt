@@ -1,11 +1,10 @@
 //! A bounded buffer with Mesa conditions, over any monitor: what its threads do, how long that took, and its rows.
-ghost use Rattle.std.specs.Prelude.{All, IfOk};
-ghost use Rattle.hoare_law.specs.Priorities.{nobody};
+ghost use Rattle.std.specs.Prelude.{All};
 
-use crate::opening::{DoorKind, baton, no_memory, ticket};
-use crate::{RING, tell};
+use crate::opening::DoorKind;
+use crate::rows::mesa_row;
+use crate::tell;
 use baton_door::door::Door;
-use hoare_law::data::MonitorData;
 use hoare_law::monitor::Monitor;
 use plain_schedulers::buffer::mesa::MesaBuffer;
 use std::alloc::Global;
@@ -48,8 +47,8 @@ fn remove_many<R: Wait, M: Monitor<MesaBuffer<u64>>>(rt: &R, m: &M, out: M::Out,
     sum
 }
 
-// Half of the threads append, the others remove, each `turns` times: how long that took.
-fn mesa_buffered<R: Threads + Wait + Clock + Sync, M: SharedMesaBuffer>(
+/// Half of the threads append, the others remove, each `turns` times: how long that took.
+pub fn mesa_buffered<R: Threads + Wait + Clock + Sync, M: SharedMesaBuffer>(
     rt: &R,
     m: &M,
     places: Vec<M::Out>,
@@ -76,33 +75,6 @@ where
         },
     )?;
     start.elapsed(rt)
-}
-
-fn mesa_ring(alloc: Global) -> io::Result<MesaBuffer<u64>>
-    ensures { IfOk result (λ b. ⟦<MesaBuffer<u64> as MonitorData>⟧.rest b nobody) }
-{
-    MesaBuffer::make(alloc, RING).map_err(|_refusal| no_memory())
-}
-
-// A buffer with Mesa conditions, at a door of this kind and with this number of places.
-fn mesa_row<R: Clock + Threads + Wait + Sync>(
-    rt: &R,
-    alloc: Global,
-    kind: DoorKind,
-    count: usize,
-    turns: u64,
-) -> io::Result<Duration> {
-    let data = mesa_ring(alloc)?;
-    match kind {
-        DoorKind::Baton => {
-            let (door, places) = baton(alloc, data, count)?;
-            mesa_buffered(rt, &door, places, turns)
-        }
-        DoorKind::Ticket => {
-            let (door, places) = ticket(alloc, data, count)?;
-            mesa_buffered(rt, &door, places, turns)
-        }
-    }
 }
 
 /// The rows of the buffer with Mesa conditions: prints a line for each.

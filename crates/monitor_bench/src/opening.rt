@@ -55,36 +55,13 @@ pub fn ticket<D: MonitorData + Send + Drop>(
     }
 }
 
-// The last of a door's places. An error where there is none.
-fn last_place<D: MonitorData, M: Monitor<D>>(m: &M, mut places: Vec<M::Out>) -> io::Result<M::Out>
+/// The last of a door's places. An error where there is none.
+pub fn last_place<D: MonitorData, M: Monitor<D>>(
+    m: &M,
+    mut places: Vec<M::Out>,
+) -> io::Result<M::Out>
     requires { All (M.is_of m.now) places.items }
     ensures { IfOk result (λ o. M.is_of m.now o) }
 {
     places.pop().ok_or(no_memory())
-}
-
-/// A baton door of one place.
-pub fn one_baton<D: MonitorData + Send + Drop>(
-    alloc: Global,
-    state: D,
-) -> io::Result<(Door<D>, DoorOut<D>)>
-    requires { D.rest state nobody }
-    ensures { IfOk result (λ r. ⟦<Door<D> as Monitor<D>>⟧.is_of r.0 r.1) }
-{
-    let (door, places) = baton(alloc, state, 1)?;
-    let out = last_place(&door, places)?;
-    Ok((door, out))
-}
-
-/// A ticket door of one place.
-pub fn one_ticket<D: MonitorData + Send + Drop>(
-    alloc: Global,
-    state: D,
-) -> io::Result<(TicketDoor<D>, TicketOut<D>)>
-    requires { D.rest state nobody }
-    ensures { IfOk result (λ r. ⟦<TicketDoor<D> as Monitor<D>>⟧.is_of r.0 r.1) }
-{
-    let (door, places) = ticket(alloc, state, 1)?;
-    let out = last_place(&door, places)?;
-    Ok((door, out))
 }

@@ -1,10 +1,9 @@
 //! What one thread does with the procedures of the schedulers, over any monitor: a pair of them, again and again, and
 //! how long that took. A refusal ends it.
-ghost use Rattle.std.specs.Prelude.{IfOk};
+ghost use Rattle.std.specs.Prelude.{All, IfOk};
 
-use crate::turns::add_many;
+use crate::opening::last_place;
 use hoare_law::monitor::Monitor;
-use hoare_law::unasked::Unasked;
 use plain_schedulers::buffer::Buffer;
 use plain_schedulers::single::Single;
 use std::rt::Clock;
@@ -18,31 +17,17 @@ use timed_schedulers::pool::Pool;
 /// How many cylinders the disk has.
 pub const CYLINDERS: u16 = 1024;
 
-/// Comes in, adds one and goes out.
-pub fn enter_leave<R: Wait + Clock, M: Monitor<Unasked<u64, 1>>>(
-    rt: &R,
-    m: &M,
-    out: M::Out,
-    turns: u64,
-) -> anyhow::Result<Duration>
-    requires { M.is_of m.now out }
-{
-    let start = Instant::now(rt)?;
-    add_many(rt, m, out, turns);
-    Ok(start.elapsed(rt)?)
-}
-
 /// Takes the item out and puts the next in.
 pub fn acquire_release<R: Wait + Clock, M: Monitor<Single<u64>>>(
     rt: &R,
     m: &M,
-    out: M::Out,
+    places: Vec<M::Out>,
     turns: u64,
 ) -> anyhow::Result<Duration>
-    requires { M.is_of m.now out }
+    requires { All (M.is_of m.now) places.items }
 {
+    let mut out = last_place(m, places)?;
     let start = Instant::now(rt)?;
-    let mut out = out;
     for _ in 0..turns {
         let (again, item) = Single::acquire(m, rt, out);
         let (again, released) = Single::release(m, rt, again, item.wrapping_add(1));
@@ -94,13 +79,13 @@ fn take_many<R: Wait, M: Monitor<Pool>>(
 pub fn take_give<R: Wait + Clock, M: Monitor<Pool>>(
     rt: &R,
     m: &M,
-    out: M::Out,
+    places: Vec<M::Out>,
     kept: u32,
     turns: u64,
 ) -> anyhow::Result<Duration>
-    requires { M.is_of m.now out }
+    requires { All (M.is_of m.now) places.items }
 {
-    let mut out = take_many(rt, m, out, kept)?;
+    let mut out = take_many(rt, m, last_place(m, places)?, kept)?;
     let start = Instant::now(rt)?;
     for _ in 0..turns {
         let (again, taken) = Pool::take(m, rt, out, 0);
@@ -211,12 +196,13 @@ pub enum Visit {
 pub fn read_or_write<R: Wait + Eprint + Clock, M: Monitor<ReadersWriters<u64>>>(
     rt: &R,
     m: &M,
-    out: M::Out,
+    places: Vec<M::Out>,
     visit: Visit,
     turns: u64,
 ) -> anyhow::Result<Duration>
-    requires { M.is_of m.now out }
+    requires { All (M.is_of m.now) places.items }
 {
+    let out = last_place(m, places)?;
     match visit {
         Visit::Read => start_end_read(rt, m, out, turns),
         Visit::Write => start_end_write(rt, m, out, turns),

@@ -2,6 +2,7 @@
 //! tick.
 ghost use Rattle.std.specs.Prelude.{All};
 
+use crate::opening::last_place;
 use baton_door::door::Door;
 use hoare_law::monitor::Monitor;
 use hoare_law::waits::Waits;
@@ -58,17 +59,17 @@ fn sleep_many<R: Wait, M: Monitor<Alarm>>(
     Ok(())
 }
 
-/// What one thread calls again and again.
+// What one thread calls again and again.
 #[derive(Clone, Copy)]
-pub enum AlarmCall {
-    /// The next time is set.
+enum AlarmCall {
+    // The next time is set.
     Tick,
-    /// A sleep of no tick, which returns at once.
+    // A sleep of no tick, which returns at once.
     WakeAtOnce,
 }
 
-/// Calls it `turns` times: how long that took.
-pub fn call_alarm<R: Wait + Clock, M: Monitor<Alarm>>(
+// Calls it `turns` times: how long that took.
+fn call_alarm<R: Wait + Clock, M: Monitor<Alarm>>(
     rt: &R,
     m: &M,
     out: M::Out,
@@ -116,8 +117,8 @@ fn tick_all<R: Wait, M: Monitor<Alarm>>(
     unreachable!()
 }
 
-/// All but the last to come sleep until the next tick, `turns` times; the last ticks whenever all of them sleep.
-pub fn sleep_and_tick<R: Threads + Wait + Clock + Sync, M: SharedAlarm>(
+// All but the last to come sleep until the next tick, `turns` times; the last ticks whenever all of them sleep.
+fn sleep_and_tick<R: Threads + Wait + Clock + Sync, M: SharedAlarm>(
     rt: &R,
     m: &M,
     places: Vec<M::Out>,
@@ -149,4 +150,35 @@ where
         one?;
     }
     Ok(start.elapsed(rt)?)
+}
+
+/// What the threads of an alarm clock do.
+#[derive(Clone, Copy)]
+pub enum AlarmLoad {
+    /// One of them sets the next time, this many times.
+    Ticking(u64),
+    /// One of them asks for a sleep of no tick, which returns at once, this many times.
+    WakingAtOnce(u64),
+    /// All but the last to come sleep until the next tick, this many times, and the last ticks.
+    Sleeping(u64),
+}
+
+/// The threads of an alarm clock do their load: how long that took.
+pub fn work_alarm<R: Threads + Wait + Clock + Sync, M: SharedAlarm>(
+    rt: &R,
+    m: &M,
+    places: Vec<M::Out>,
+    load: AlarmLoad,
+) -> anyhow::Result<Duration>
+where
+    M::Lists: Send,
+    requires { All (M.is_of m.now) places.items }
+{
+    let sleepers = places.len().saturating_sub(1) as u64;
+    let (call, turns) = match load {
+        AlarmLoad::Ticking(turns) => (AlarmCall::Tick, turns),
+        AlarmLoad::WakingAtOnce(turns) => (AlarmCall::WakeAtOnce, turns),
+        AlarmLoad::Sleeping(turns) => return sleep_and_tick(rt, m, places, sleepers, turns),
+    };
+    call_alarm(rt, m, last_place(m, places)?, call, turns)
 }

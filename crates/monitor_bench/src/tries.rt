@@ -1,13 +1,16 @@
 //! A try to come in, over any monitor: where nobody is inside, and where another place is.
 ghost use Rattle.std.specs.Prelude.{All};
 
-use crate::opening::{DoorKind, baton, no_memory, ticket};
-use crate::{counter, tell};
+use crate::doors::CounterLoad;
+use crate::opening::{DoorKind, no_memory};
+use crate::rows::counter_row;
+use crate::tell;
 use hoare_law::monitor::Monitor;
 use hoare_law::unasked::Unasked;
 use std::alloc::Global;
 use std::rt::Clock;
 use std::sync::Wait;
+use std::thread::Threads;
 use std::time::{Duration, Instant};
 
 /// The data: a counter with one condition.
@@ -63,16 +66,16 @@ fn try_held<R: Wait, M: Monitor<Counter>>(
 
 /// Where a place tries to come in.
 #[derive(Clone, Copy)]
-enum Found {
+pub enum Found {
     /// Nobody is inside.
     Free,
     /// Another place is.
     Held,
 }
 
-// Tries at one of two places, `turns` times: how long that took. An error where the place came in, or did not, against
-// what was found.
-fn tried<R: Wait + Clock, M: Monitor<Counter>>(
+/// Tries at one of two places, `turns` times: how long that took. An error where the place came in, or did not, against
+/// what was found.
+pub fn tried<R: Wait + Clock, M: Monitor<Counter>>(
     rt: &R,
     m: &M,
     mut places: Vec<M::Out>,
@@ -95,36 +98,16 @@ fn tried<R: Wait + Clock, M: Monitor<Counter>>(
     Ok(spent)
 }
 
-// A door of two places.
-fn try_row<R: Clock + Wait>(
-    rt: &R,
-    alloc: Global,
-    kind: DoorKind,
-    found: Found,
-    turns: u64,
-) -> anyhow::Result<Duration> {
-    match kind {
-        DoorKind::Baton => {
-            let (door, places) = baton(alloc, counter(), 2)?;
-            tried(rt, &door, places, found, turns)
-        }
-        DoorKind::Ticket => {
-            let (door, places) = ticket(alloc, counter(), 2)?;
-            tried(rt, &door, places, found, turns)
-        }
-    }
-}
-
 /// The rows of the tries: prints a line for each.
-pub fn measure_tries<R: Print + Eprint + Clock + Wait>(
+pub fn measure_tries<R: Print + Eprint + Clock + Threads + Wait + Sync>(
     rt: &R,
     alloc: Global,
     kind: DoorKind,
     turns: u64,
 ) -> anyhow::Result<()> {
-    let spent = try_row(rt, alloc, kind, Found::Free, turns)?;
+    let spent = counter_row(rt, alloc, kind, 2, CounterLoad::Tried(Found::Free, turns))?;
     tell(rt, "try_enter", spent, turns)?;
-    let spent = try_row(rt, alloc, kind, Found::Held, turns)?;
+    let spent = counter_row(rt, alloc, kind, 2, CounterLoad::Tried(Found::Held, turns))?;
     tell(rt, "try_enter_no", spent, turns)?;
     Ok(())
 }

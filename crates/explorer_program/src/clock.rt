@@ -1,4 +1,5 @@
-//! The alarm clock: who sets it after the last tick sleeps for ever.
+//! The alarm clock: threads that tick and ask for the time; and sleepers, of whom one that sets it after the last tick
+//! sleeps for ever.
 
 use crate::answers::all_one;
 use hoare_law::monitor::Monitor;
@@ -7,11 +8,17 @@ use std::alloc::Global;
 use std::sync::Wait;
 use timed_schedulers::alarm::Alarm;
 
-/// Places 0 and 1 sleep for a tick, and place 2 ticks twice: maybe before they come.
-#[derive(Clone, Copy)]
-pub struct Sleepers;
+/// Three threads at an alarm clock.
+#[derive(Clone, Copy, PartialEq, Eq)]
+pub enum Clock {
+    /// Places 0 and 1 sleep for a tick, and place 2 ticks twice: maybe before they come.
+    Sleepers,
+    /// Each ticks, and asks for the time. Nobody sleeps: where somebody would, an order hangs, in which it sets the clock
+    /// after the last tick, as with `Sleepers`.
+    Tickers,
+}
 
-// What a thread does, by its number.
+// What a sleeper does, or who ticks for the sleepers, by its number.
 fn sleep_and_tick<R: Wait, M: Monitor<Alarm>>(
     rt: &R,
     m: &M,
@@ -30,7 +37,34 @@ fn sleep_and_tick<R: Wait, M: Monitor<Alarm>>(
     (out, u64::from(second.is_ok()))
 }
 
-impl Program<Alarm, Explored<Alarm>> for Sleepers {
+// What a ticker does.
+fn tick_and_wake<R: Wait, M: Monitor<Alarm>>(rt: &R, m: &M, out: M::Out) -> (M::Out, u64)
+    requires { M.is_of m.now out }
+    ensures { M.is_of m.now result.0 }
+{
+    let (out, _ticked) = Alarm::tick(m, rt, out);
+    let (out, woken) = Alarm::wakeme(m, rt, out, 0);
+    (out, woken.unwrap_or(0))
+}
+
+// What a thread does, by its number.
+fn acts<R: Wait, M: Monitor<Alarm>>(
+    rt: &R,
+    m: &M,
+    out: M::Out,
+    program: Clock,
+    number: usize,
+) -> (M::Out, u64)
+    requires { M.is_of m.now out }
+    ensures { M.is_of m.now result.0 }
+{
+    match program {
+        Clock::Sleepers => sleep_and_tick(rt, m, out, number),
+        Clock::Tickers => tick_and_wake(rt, m, out),
+    }
+}
+
+impl Program<Alarm, Explored<Alarm>> for Clock {
     fn threads(&self) -> usize {
         3
     }
@@ -49,52 +83,13 @@ impl Program<Alarm, Explored<Alarm>> for Sleepers {
         requires { ⟦<Explored<Alarm> as Monitor<Alarm>>⟧.is_of m.now out }
         ensures { ⟦<Explored<Alarm> as Monitor<Alarm>>⟧.is_of m.now result.0 }
     {
-        sleep_and_tick(rt, m, out, number)
+        acts(rt, m, out, *self, number)
     }
 
     fn is_right(&self, _left: &Alarm, answers: &[u64]) -> bool {
-        all_one(answers)
-    }
-}
-
-/// Three threads that tick, and ask for the time. Nobody sleeps: where somebody would, an order hangs, in which it sets
-/// the clock after the last tick, as with `Sleepers`.
-#[derive(Clone, Copy)]
-pub struct Tickers;
-
-// What a thread does.
-fn tick_and_wake<R: Wait, M: Monitor<Alarm>>(rt: &R, m: &M, out: M::Out) -> (M::Out, u64)
-    requires { M.is_of m.now out }
-    ensures { M.is_of m.now result.0 }
-{
-    let (out, _ticked) = Alarm::tick(m, rt, out);
-    let (out, woken) = Alarm::wakeme(m, rt, out, 0);
-    (out, woken.unwrap_or(0))
-}
-
-impl Program<Alarm, Explored<Alarm>> for Tickers {
-    fn threads(&self) -> usize {
-        3
-    }
-
-    fn open(&self, _alloc: Global) -> Option<Alarm> {
-        Some(Alarm::at(0))
-    }
-
-    fn act<R: Wait>(
-        &self,
-        rt: &R,
-        m: &Explored<Alarm>,
-        out: Place<Alarm>,
-        _number: usize,
-    ) -> (Place<Alarm>, u64)
-        requires { ⟦<Explored<Alarm> as Monitor<Alarm>>⟧.is_of m.now out }
-        ensures { ⟦<Explored<Alarm> as Monitor<Alarm>>⟧.is_of m.now result.0 }
-    {
-        tick_and_wake(rt, m, out)
-    }
-
-    fn is_right(&self, _left: &Alarm, answers: &[u64]) -> bool {
-        answers.contains(&3)
+        match self {
+            Clock::Sleepers => all_one(answers),
+            Clock::Tickers => answers.contains(&3),
+        }
     }
 }

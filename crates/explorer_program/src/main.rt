@@ -3,6 +3,7 @@
 #![tactic(auto)]
 
 mod answers;
+mod asked;
 mod buffer;
 mod clock;
 mod counting;
@@ -11,13 +12,13 @@ mod gate;
 mod gathering;
 mod head;
 mod hidden;
-mod hungry;
 mod jobs;
 mod letters;
 mod lost;
 mod lost_wake;
 mod mesa;
 mod mesa_gate;
+mod outcome;
 mod pairs;
 mod pool;
 mod readers;
@@ -31,7 +32,8 @@ mod told;
 mod users;
 mod weak_barrier;
 
-use crate::told::{Asked, tell};
+use crate::asked::{Arguments, Asked};
+use crate::told::tell;
 use order_explorer::{Limits, Orders};
 use std::alloc::Global;
 use std::io;
@@ -44,7 +46,7 @@ use std::thread::Threads;
 fn tell_visits<R: Threads + Wait + Clock + Print + Eprint + Copy + Send + 'static>(
     rt: R,
     alloc: Global,
-    asked: &Asked,
+    asked: Asked<'_>,
     threads: usize,
     visits: u32,
 ) -> io::Result<()> {
@@ -54,7 +56,7 @@ fn tell_visits<R: Threads + Wait + Clock + Print + Eprint + Copy + Send + 'stati
         alloc,
         asked,
         name.as_str(),
-        counting::Visits { threads, visits },
+        &counting::Visits { threads, visits },
     )
 }
 
@@ -62,51 +64,51 @@ fn tell_visits<R: Threads + Wait + Clock + Print + Eprint + Copy + Send + 'stati
 fn tell_single<R: Threads + Wait + Clock + Print + Eprint + Copy + Send + 'static>(
     rt: R,
     alloc: Global,
-    asked: &Asked,
+    asked: Asked<'_>,
     threads: usize,
 ) -> io::Result<()> {
     let name = format!(in alloc; "single-{threads}")?;
-    tell(rt, alloc, asked, name.as_str(), single::Items { threads })
+    tell(rt, alloc, asked, name.as_str(), &single::Items { threads })
 }
 
 // The bounded buffer, of so many rounds.
 fn tell_buffer<R: Threads + Wait + Clock + Print + Eprint + Copy + Send + 'static>(
     rt: R,
     alloc: Global,
-    asked: &Asked,
+    asked: Asked<'_>,
     rounds: u32,
 ) -> io::Result<()> {
     let name = format!(in alloc; "buffer-{rounds}")?;
-    tell(rt, alloc, asked, name.as_str(), buffer::OneCell { rounds })
+    tell(rt, alloc, asked, name.as_str(), &buffer::OneCell { rounds })
 }
 
 // The pool, for so many streams.
 fn tell_pool<R: Threads + Wait + Clock + Print + Eprint + Copy + Send + 'static>(
     rt: R,
     alloc: Global,
-    asked: &Asked,
+    asked: Asked<'_>,
     threads: usize,
 ) -> io::Result<()> {
     let name = format!(in alloc; "pool-{threads}")?;
-    tell(rt, alloc, asked, name.as_str(), pool::Streams { threads })
+    tell(rt, alloc, asked, name.as_str(), &pool::Streams { threads })
 }
 
 // The disk head, for so many requests.
 fn tell_head<R: Threads + Wait + Clock + Print + Eprint + Copy + Send + 'static>(
     rt: R,
     alloc: Global,
-    asked: &Asked,
+    asked: Asked<'_>,
     threads: usize,
 ) -> io::Result<()> {
     let name = format!(in alloc; "head-{threads}")?;
-    tell(rt, alloc, asked, name.as_str(), head::Requests { threads })
+    tell(rt, alloc, asked, name.as_str(), &head::Requests { threads })
 }
 
 // A writer, and readers beside it.
 fn tell_readers<R: Threads + Wait + Clock + Print + Eprint + Copy + Send + 'static>(
     rt: R,
     alloc: Global,
-    asked: &Asked,
+    asked: Asked<'_>,
     threads: usize,
 ) -> io::Result<()> {
     let name = format!(in alloc; "readers-{threads}")?;
@@ -115,29 +117,45 @@ fn tell_readers<R: Threads + Wait + Clock + Print + Eprint + Copy + Send + 'stat
         alloc,
         asked,
         name.as_str(),
-        readers::Readers { threads },
+        &readers::Readers { threads },
     )
 }
 
-// Visits alone, the first monitor, and the schedulers.
-fn tell_schedulers<R: Threads + Wait + Clock + Print + Eprint + Copy + Send + 'static>(
+// Visits alone, and the first monitor.
+fn tell_users<R: Threads + Wait + Clock + Print + Eprint + Copy + Send + 'static>(
     rt: R,
     alloc: Global,
-    asked: &Asked,
+    asked: Asked<'_>,
 ) -> io::Result<()> {
     tell_visits(rt, alloc, asked, 2, 1)?;
     tell_visits(rt, alloc, asked, 3, 2)?;
     tell_visits(rt, alloc, asked, 2, 5)?;
     tell_visits(rt, alloc, asked, 4, 1)?;
-    tell(rt, alloc, asked, "permits", users::Workers)?;
-    tell(rt, alloc, asked, "signals", signals::Signals)?;
+    tell(rt, alloc, asked, "permits", &users::Workers)?;
+    tell(rt, alloc, asked, "signals", &signals::Signals)
+}
+
+// The schedulers of one item or one cell.
+fn tell_cells<R: Threads + Wait + Clock + Print + Eprint + Copy + Send + 'static>(
+    rt: R,
+    alloc: Global,
+    asked: Asked<'_>,
+) -> io::Result<()> {
     tell_single(rt, alloc, asked, 2)?;
     tell_single(rt, alloc, asked, 3)?;
     tell_single(rt, alloc, asked, 4)?;
     tell_buffer(rt, alloc, asked, 1)?;
     tell_buffer(rt, alloc, asked, 2)?;
-    tell(rt, alloc, asked, "mesa-buffer", mesa::MesaCell)?;
-    tell(rt, alloc, asked, "alarm", clock::Tickers)?;
+    tell(rt, alloc, asked, "mesa-buffer", &mesa::MesaCell)
+}
+
+// The schedulers of times, pools and sweeps.
+fn tell_schedulers<R: Threads + Wait + Clock + Print + Eprint + Copy + Send + 'static>(
+    rt: R,
+    alloc: Global,
+    asked: Asked<'_>,
+) -> io::Result<()> {
+    tell(rt, alloc, asked, "alarm", &clock::Clock::Tickers)?;
     tell_pool(rt, alloc, asked, 2)?;
     tell_pool(rt, alloc, asked, 3)?;
     tell_head(rt, alloc, asked, 2)?;
@@ -150,8 +168,11 @@ fn tell_schedulers<R: Threads + Wait + Clock + Print + Eprint + Copy + Send + 's
 fn tell_long<R: Threads + Wait + Clock + Print + Eprint + Copy + Send + 'static>(
     rt: R,
     alloc: Global,
-    asked: &Asked,
+    asked: Asked<'_>,
 ) -> io::Result<()> {
+    if !asked.wants_long() {
+        return Ok(());
+    }
     tell_visits(rt, alloc, asked, 4, 2)?;
     tell_visits(rt, alloc, asked, 4, 3)?;
     tell_visits(rt, alloc, asked, 8, 1)?;
@@ -162,93 +183,119 @@ fn tell_long<R: Threads + Wait + Clock + Print + Eprint + Copy + Send + 'static>
 fn tell_recipes<R: Threads + Wait + Clock + Print + Eprint + Copy + Send + 'static>(
     rt: R,
     alloc: Global,
-    asked: &Asked,
+    asked: Asked<'_>,
 ) -> io::Result<()> {
-    tell(rt, alloc, asked, "barrier", gathering::Gathering)?;
-    tell(rt, alloc, asked, "drain", draining::Draining)?;
-    tell(rt, alloc, asked, "latch", starting::Starting)?;
-    tell(rt, alloc, asked, "mailbox", letters::Letters)?;
-    tell(rt, alloc, asked, "rendezvous", pairs::Pairs)?;
-    tell(rt, alloc, asked, "table", supper::Supper)?;
-    tell(rt, alloc, asked, "work-queue", jobs::Jobs)
+    tell(rt, alloc, asked, "barrier", &gathering::Gathering)?;
+    tell(rt, alloc, asked, "drain", &draining::Draining)?;
+    tell(rt, alloc, asked, "latch", &starting::Starting)?;
+    tell(rt, alloc, asked, "mailbox", &letters::Letters)?;
+    tell(rt, alloc, asked, "rendezvous", &pairs::Pairs)?;
+    tell(rt, alloc, asked, "table", &supper::Supper { meals: 1 })?;
+    tell(rt, alloc, asked, "work-queue", &jobs::Jobs)
 }
 
 // Programs of which some order is bad.
 fn tell_bad<R: Threads + Wait + Clock + Print + Eprint + Copy + Send + 'static>(
     rt: R,
     alloc: Global,
-    asked: &Asked,
+    asked: Asked<'_>,
 ) -> io::Result<()> {
-    tell(rt, alloc, asked, "weak-barrier", weak_barrier::Weak)?;
-    tell(rt, alloc, asked, "gate", gate::Late)?;
-    tell(rt, alloc, asked, "lost-wake", lost_wake::OneCalled)?;
-    tell(rt, alloc, asked, "starving", starving::Dance)?;
-    tell(rt, alloc, asked, "late-alarm", clock::Sleepers)?;
-    tell(rt, alloc, asked, "lost", lost::Lost)?;
-    tell(
-        rt,
-        alloc,
-        asked,
-        "hidden",
-        hidden::Hidden {
-            runs: AtomicU64::new(0),
-        },
-    )
+    let hidden = hidden::Hidden {
+        runs: AtomicU64::new(0),
+    };
+    tell(rt, alloc, asked, "weak-barrier", &weak_barrier::Weak)?;
+    tell(rt, alloc, asked, "gate", &gate::Late)?;
+    tell(rt, alloc, asked, "lost-wake", &lost_wake::OneCalled)?;
+    tell(rt, alloc, asked, "starving", &starving::Dance)?;
+    tell(rt, alloc, asked, "late-alarm", &clock::Clock::Sleepers)?;
+    tell(rt, alloc, asked, "lost", &lost::Lost)?;
+    tell(rt, alloc, asked, "hidden", &hidden)
 }
 
 // Three threads of two visits, within limits that are too small.
 fn tell_small<R: Threads + Wait + Clock + Print + Eprint + Copy + Send + 'static>(
     rt: R,
     alloc: Global,
-    asked: &Asked,
+    asked: Asked<'_>,
     name: &str,
+    limits: Limits,
 ) -> io::Result<()> {
     let program = counting::Visits {
         threads: 3,
         visits: 2,
     };
-    tell(rt, alloc, asked, name, program)
+    tell(rt, alloc, Asked { limits, ..asked }, name, &program)
 }
 
-// Programs with limits of their own: a philosopher waits through 16 steps at the most; a run has 6 choices and 12
-// steps; there are 90.
+// A philosopher waits through 16 steps at the most.
+fn tell_hungry<R: Threads + Wait + Clock + Print + Eprint + Copy + Send + 'static>(
+    rt: R,
+    alloc: Global,
+    asked: Asked<'_>,
+) -> io::Result<()> {
+    let limits = Limits {
+        patience: 16,
+        ..asked.limits
+    };
+    tell(
+        rt,
+        alloc,
+        Asked { limits, ..asked },
+        "hungry",
+        &supper::Supper { meals: 3 },
+    )
+}
+
+// Programs with limits of their own: a run has 6 choices and 12 steps; there are 90.
 fn tell_limits<R: Threads + Wait + Clock + Print + Eprint + Copy + Send + 'static>(
     rt: R,
     alloc: Global,
-    asked: Asked,
+    asked: Asked<'_>,
 ) -> io::Result<()> {
-    let limits = asked.limits();
-    let asked = asked.within(Limits {
-        patience: 16,
-        ..limits
-    });
-    tell(rt, alloc, &asked, "hungry", hungry::Hungry)?;
-    let asked = asked.within(Limits { runs: 89, ..limits });
-    tell_small(rt, alloc, &asked, "few-runs")?;
-    let asked = asked.within(Limits {
-        steps: 11,
-        ..limits
-    });
-    tell_small(rt, alloc, &asked, "few-steps")?;
-    let asked = asked.within(Limits { depth: 5, ..limits });
-    tell_small(rt, alloc, &asked, "few-choices")?;
-    let orders = Orders::Drawn(1);
-    let asked = asked.within(Limits {
+    let limits = asked.limits;
+    tell_hungry(rt, alloc, asked)?;
+    tell_small(rt, alloc, asked, "few-runs", Limits { runs: 89, ..limits })?;
+    tell_small(
+        rt,
+        alloc,
+        asked,
+        "few-steps",
+        Limits {
+            steps: 11,
+            ..limits
+        },
+    )?;
+    tell_small(
+        rt,
+        alloc,
+        asked,
+        "few-choices",
+        Limits { depth: 5, ..limits },
+    )?;
+    let drawn = Limits {
         runs: 50,
-        orders,
+        orders: Orders::Drawn(1),
         ..limits
-    });
-    tell_small(rt, alloc, &asked, "drawn")
+    };
+    tell_small(rt, alloc, asked, "drawn", drawn)
+}
+
+// All of them, in order.
+fn tell_all<R: Threads + Wait + Clock + Print + Eprint + Copy + Send + 'static>(
+    rt: R,
+    alloc: Global,
+    asked: Asked<'_>,
+) -> io::Result<()> {
+    tell_users(rt, alloc, asked)?;
+    tell_cells(rt, alloc, asked)?;
+    tell_schedulers(rt, alloc, asked)?;
+    tell_recipes(rt, alloc, asked)?;
+    tell_bad(rt, alloc, asked)?;
+    tell_long(rt, alloc, asked)?;
+    tell_limits(rt, alloc, asked)
 }
 
 fn main(rt: HostRuntime) -> io::Result<()> {
-    let alloc = rt.alloc();
-    let asked = Asked::of(&rt)?;
-    tell_schedulers(rt, alloc, &asked)?;
-    tell_recipes(rt, alloc, &asked)?;
-    tell_bad(rt, alloc, &asked)?;
-    if asked.wants_long() {
-        tell_long(rt, alloc, &asked)?;
-    }
-    tell_limits(rt, alloc, asked)
+    let arguments = Arguments::of(&rt)?;
+    tell_all(rt, rt.alloc(), arguments.asked())
 }

@@ -11,19 +11,19 @@ use std::sync::Wait;
 pub struct Signals;
 
 // Signals who waits, and multiplies by 10 what that one left; or waits, and adds 1.
-fn pair_up<R: Wait, M: Monitor<Tally>>(rt: &R, m: &M, out: M::Out) -> M::Out
-    requires { M.is_of m.now out }
-    ensures { M.is_of m.now result }
+fn pair_up<R: Wait>(rt: &R, m: &Explored<Tally>, out: Place<Tally>) -> Place<Tally>
+    requires { ⟦<Explored<Tally> as Monitor<Tally>>⟧.is_of m.now out }
+    ensures { ⟦<Explored<Tally> as Monitor<Tally>>⟧.is_of m.now result }
 {
     let mut inside = m.enter(rt, out);
     if m.queue(&inside, 0) {
         let (back, _resumed) = m.signal(rt, inside, 0);
         inside = back;
-        let data = M::state_mut(&mut inside, m);
+        let data = Explored::state_mut(&mut inside, m);
         data.value = data.value.wrapping_mul(10);
     } else {
         inside = m.wait(rt, inside, 0, PLAIN);
-        let data = M::state_mut(&mut inside, m);
+        let data = Explored::state_mut(&mut inside, m);
         data.value = data.value.wrapping_add(1);
     }
     m.leave(rt, inside)

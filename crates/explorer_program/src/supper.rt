@@ -1,4 +1,6 @@
-//! The philosophers' table of the cookbook: three neighbours eat once each.
+//! The philosophers' table of the cookbook: three neighbours eat, and the two outer ones may take turns, so that the one
+//! between them waits.
+ghost use Rattle.std.specs.Prelude.{◌<◌};
 
 use crate::answers::all_one;
 use cookbook::table::Table;
@@ -7,19 +9,34 @@ use order_explorer::{Explored, Place, Program};
 use std::alloc::Global;
 use std::sync::Wait;
 
-/// The philosophers at the seats 0, 1 and 2.
+/// The philosophers at the seats 0, 1 and 2: the one between the others eats once.
 #[derive(Clone, Copy)]
-pub struct Supper;
+pub struct Supper {
+    /// How often the two others eat.
+    pub meals: u32,
+}
 
-// What a thread does, by its number.
-fn acts<R: Wait, M: Monitor<Table>>(rt: &R, m: &M, out: M::Out, number: usize) -> (M::Out, u64)
-    requires { M.is_of m.now out }
+// Eats so often. The answer is 1, or 0 where the last time it couldn't get up.
+fn eat<R: Wait, M: Monitor<Table>>(
+    rt: &R,
+    m: &M,
+    out: M::Out,
+    seat: usize,
+    meals: u32,
+) -> (M::Out, u64)
+    requires of { M.is_of m.now out }
+    requires seat { seat < 5 }
     ensures { M.is_of m.now result.0 }
 {
-    let seat = number % 5;
-    let out = Table::sit_down(m, rt, out, seat);
-    let (out, got_up) = Table::get_up(m, rt, out, seat);
-    (out, u64::from(got_up.is_ok()))
+    let mut out = out;
+    let mut answer = 0u64;
+    for _ in 0..meals {
+        out = Table::sit_down(m, rt, out, seat);
+        let (again, got_up) = Table::get_up(m, rt, out, seat);
+        out = again;
+        answer = u64::from(got_up.is_ok());
+    }
+    (out, answer)
 }
 
 impl Program<Table, Explored<Table>> for Supper {
@@ -41,7 +58,8 @@ impl Program<Table, Explored<Table>> for Supper {
         requires { ⟦<Explored<Table> as Monitor<Table>>⟧.is_of m.now out }
         ensures { ⟦<Explored<Table> as Monitor<Table>>⟧.is_of m.now result.0 }
     {
-        acts(rt, m, out, number)
+        let meals = if number == 1 { 1 } else { self.meals };
+        eat(rt, m, out, number % 5, meals)
     }
 
     fn is_right(&self, _left: &Table, answers: &[u64]) -> bool {

@@ -9,12 +9,12 @@ use std::sync::Wait;
 use timed_schedulers::alarm::Alarm;
 
 /// Three threads at an alarm clock.
-#[derive(Clone, Copy, PartialEq, Eq)]
+#[derive(Clone, Copy)]
 pub enum Clock {
     /// Places 0 and 1 sleep for a tick, and place 2 ticks twice: maybe before they come.
     Sleepers,
-    /// Each ticks, and asks for the time. Nobody sleeps: where somebody would, an order hangs, in which it sets the clock
-    /// after the last tick, as with `Sleepers`.
+    /// Each ticks, and asks for the time. Nobody sleeps: where somebody would, an order hangs, in which it sets the
+    /// clock after the last tick, as with `Sleepers`.
     Tickers,
 }
 

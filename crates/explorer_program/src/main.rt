@@ -46,7 +46,7 @@ use std::thread::Threads;
 fn tell_visits<R: Threads + Wait + Clock + Print + Eprint + Copy + Send + 'static>(
     rt: R,
     alloc: Global,
-    asked: Asked<'_>,
+    asked: &Asked<'_>,
     threads: usize,
     visits: u32,
 ) -> io::Result<()> {
@@ -64,7 +64,7 @@ fn tell_visits<R: Threads + Wait + Clock + Print + Eprint + Copy + Send + 'stati
 fn tell_single<R: Threads + Wait + Clock + Print + Eprint + Copy + Send + 'static>(
     rt: R,
     alloc: Global,
-    asked: Asked<'_>,
+    asked: &Asked<'_>,
     threads: usize,
 ) -> io::Result<()> {
     let name = format!(in alloc; "single-{threads}")?;
@@ -75,7 +75,7 @@ fn tell_single<R: Threads + Wait + Clock + Print + Eprint + Copy + Send + 'stati
 fn tell_buffer<R: Threads + Wait + Clock + Print + Eprint + Copy + Send + 'static>(
     rt: R,
     alloc: Global,
-    asked: Asked<'_>,
+    asked: &Asked<'_>,
     rounds: u32,
 ) -> io::Result<()> {
     let name = format!(in alloc; "buffer-{rounds}")?;
@@ -86,7 +86,7 @@ fn tell_buffer<R: Threads + Wait + Clock + Print + Eprint + Copy + Send + 'stati
 fn tell_pool<R: Threads + Wait + Clock + Print + Eprint + Copy + Send + 'static>(
     rt: R,
     alloc: Global,
-    asked: Asked<'_>,
+    asked: &Asked<'_>,
     threads: usize,
 ) -> io::Result<()> {
     let name = format!(in alloc; "pool-{threads}")?;
@@ -97,7 +97,7 @@ fn tell_pool<R: Threads + Wait + Clock + Print + Eprint + Copy + Send + 'static>
 fn tell_head<R: Threads + Wait + Clock + Print + Eprint + Copy + Send + 'static>(
     rt: R,
     alloc: Global,
-    asked: Asked<'_>,
+    asked: &Asked<'_>,
     threads: usize,
 ) -> io::Result<()> {
     let name = format!(in alloc; "head-{threads}")?;
@@ -108,7 +108,7 @@ fn tell_head<R: Threads + Wait + Clock + Print + Eprint + Copy + Send + 'static>
 fn tell_readers<R: Threads + Wait + Clock + Print + Eprint + Copy + Send + 'static>(
     rt: R,
     alloc: Global,
-    asked: Asked<'_>,
+    asked: &Asked<'_>,
     threads: usize,
 ) -> io::Result<()> {
     let name = format!(in alloc; "readers-{threads}")?;
@@ -125,7 +125,7 @@ fn tell_readers<R: Threads + Wait + Clock + Print + Eprint + Copy + Send + 'stat
 fn tell_users<R: Threads + Wait + Clock + Print + Eprint + Copy + Send + 'static>(
     rt: R,
     alloc: Global,
-    asked: Asked<'_>,
+    asked: &Asked<'_>,
 ) -> io::Result<()> {
     tell_visits(rt, alloc, asked, 2, 1)?;
     tell_visits(rt, alloc, asked, 3, 2)?;
@@ -139,7 +139,7 @@ fn tell_users<R: Threads + Wait + Clock + Print + Eprint + Copy + Send + 'static
 fn tell_cells<R: Threads + Wait + Clock + Print + Eprint + Copy + Send + 'static>(
     rt: R,
     alloc: Global,
-    asked: Asked<'_>,
+    asked: &Asked<'_>,
 ) -> io::Result<()> {
     tell_single(rt, alloc, asked, 2)?;
     tell_single(rt, alloc, asked, 3)?;
@@ -153,7 +153,7 @@ fn tell_cells<R: Threads + Wait + Clock + Print + Eprint + Copy + Send + 'static
 fn tell_schedulers<R: Threads + Wait + Clock + Print + Eprint + Copy + Send + 'static>(
     rt: R,
     alloc: Global,
-    asked: Asked<'_>,
+    asked: &Asked<'_>,
 ) -> io::Result<()> {
     tell(rt, alloc, asked, "alarm", &clock::Clock::Tickers)?;
     tell_pool(rt, alloc, asked, 2)?;
@@ -168,7 +168,7 @@ fn tell_schedulers<R: Threads + Wait + Clock + Print + Eprint + Copy + Send + 's
 fn tell_long<R: Threads + Wait + Clock + Print + Eprint + Copy + Send + 'static>(
     rt: R,
     alloc: Global,
-    asked: Asked<'_>,
+    asked: &Asked<'_>,
 ) -> io::Result<()> {
     if !asked.wants_long() {
         return Ok(());
@@ -183,7 +183,7 @@ fn tell_long<R: Threads + Wait + Clock + Print + Eprint + Copy + Send + 'static>
 fn tell_recipes<R: Threads + Wait + Clock + Print + Eprint + Copy + Send + 'static>(
     rt: R,
     alloc: Global,
-    asked: Asked<'_>,
+    asked: &Asked<'_>,
 ) -> io::Result<()> {
     tell(rt, alloc, asked, "barrier", &gathering::Gathering)?;
     tell(rt, alloc, asked, "drain", &draining::Draining)?;
@@ -198,7 +198,7 @@ fn tell_recipes<R: Threads + Wait + Clock + Print + Eprint + Copy + Send + 'stat
 fn tell_bad<R: Threads + Wait + Clock + Print + Eprint + Copy + Send + 'static>(
     rt: R,
     alloc: Global,
-    asked: Asked<'_>,
+    asked: &Asked<'_>,
 ) -> io::Result<()> {
     let hidden = hidden::Hidden {
         runs: AtomicU64::new(0),
@@ -216,7 +216,7 @@ fn tell_bad<R: Threads + Wait + Clock + Print + Eprint + Copy + Send + 'static>(
 fn tell_small<R: Threads + Wait + Clock + Print + Eprint + Copy + Send + 'static>(
     rt: R,
     alloc: Global,
-    asked: Asked<'_>,
+    asked: &Asked<'_>,
     name: &str,
     limits: Limits,
 ) -> io::Result<()> {
@@ -224,14 +224,14 @@ fn tell_small<R: Threads + Wait + Clock + Print + Eprint + Copy + Send + 'static
         threads: 3,
         visits: 2,
     };
-    tell(rt, alloc, Asked { limits, ..asked }, name, &program)
+    tell(rt, alloc, &Asked { limits, ..*asked }, name, &program)
 }
 
 // A philosopher waits through 16 steps at the most.
 fn tell_hungry<R: Threads + Wait + Clock + Print + Eprint + Copy + Send + 'static>(
     rt: R,
     alloc: Global,
-    asked: Asked<'_>,
+    asked: &Asked<'_>,
 ) -> io::Result<()> {
     let limits = Limits {
         patience: 16,
@@ -240,7 +240,7 @@ fn tell_hungry<R: Threads + Wait + Clock + Print + Eprint + Copy + Send + 'stati
     tell(
         rt,
         alloc,
-        Asked { limits, ..asked },
+        &Asked { limits, ..*asked },
         "hungry",
         &supper::Supper { meals: 3 },
     )
@@ -250,7 +250,7 @@ fn tell_hungry<R: Threads + Wait + Clock + Print + Eprint + Copy + Send + 'stati
 fn tell_limits<R: Threads + Wait + Clock + Print + Eprint + Copy + Send + 'static>(
     rt: R,
     alloc: Global,
-    asked: Asked<'_>,
+    asked: &Asked<'_>,
 ) -> io::Result<()> {
     let limits = asked.limits;
     tell_hungry(rt, alloc, asked)?;
@@ -284,7 +284,7 @@ fn tell_limits<R: Threads + Wait + Clock + Print + Eprint + Copy + Send + 'stati
 fn tell_all<R: Threads + Wait + Clock + Print + Eprint + Copy + Send + 'static>(
     rt: R,
     alloc: Global,
-    asked: Asked<'_>,
+    asked: &Asked<'_>,
 ) -> io::Result<()> {
     tell_users(rt, alloc, asked)?;
     tell_cells(rt, alloc, asked)?;
@@ -297,5 +297,5 @@ fn tell_all<R: Threads + Wait + Clock + Print + Eprint + Copy + Send + 'static>(
 
 fn main(rt: HostRuntime) -> io::Result<()> {
     let arguments = Arguments::of(&rt)?;
-    tell_all(rt, rt.alloc(), arguments.asked())
+    tell_all(rt, rt.alloc(), &arguments.asked())
 }

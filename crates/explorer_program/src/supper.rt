@@ -1,5 +1,5 @@
-//! The philosophers' table of the cookbook: three neighbours eat, and the two outer ones may take turns, so that the one
-//! between them waits.
+//! The philosophers' table of the cookbook: three neighbours eat, and the two outer ones may take turns, so that the
+//! one between them waits.
 ghost use Rattle.std.specs.Prelude.{◌<◌};
 
 use crate::answers::all_one;

@@ -17,7 +17,7 @@ pub fn tell<
     R: Threads + Wait + Clock + Print + Eprint + Copy + Send + 'static,
     D: MonitorData + Send + Drop + 'static,
     P: Program<D, Explored<D>> + Clone + 'static,
->(rt: R, alloc: Global, asked: Asked<'_>, name: &str, program: &P) -> io::Result<()> {
+>(rt: R, alloc: Global, asked: &Asked<'_>, name: &str, program: &P) -> io::Result<()> {
     if asked.asks(name) {
         let outcome = outcome_on(rt, alloc, asked.limits, DoorKind::Baton, program)?;
         return tell_alone(&rt, name, &outcome);
@@ -65,7 +65,7 @@ fn tell_on_both<
     R: Threads + Wait + Clock + Print + Copy + Send + 'static,
     D: MonitorData + Send + Drop + 'static,
     P: Program<D, Explored<D>> + Clone + 'static,
->(rt: R, alloc: Global, asked: Asked<'_>, name: &str, program: &P) -> io::Result<()> {
+>(rt: R, alloc: Global, asked: &Asked<'_>, name: &str, program: &P) -> io::Result<()> {
     let (baton, micros) = outcome_in_time(rt, alloc, asked.limits, program)?;
     tell_second(rt, alloc, asked.limits, name, baton.words.as_str(), program)?;
     tell_time(&rt, asked, micros)?;
@@ -108,7 +108,7 @@ fn tell_both<R: Print>(rt: &R, name: &str, baton: &str, ticket: &str) -> io::Res
 }
 
 // Prints how long it took, where that is asked for.
-fn tell_time<R: Print>(rt: &R, asked: Asked<'_>, micros: u128) -> io::Result<()> {
+fn tell_time<R: Print>(rt: &R, asked: &Asked<'_>, micros: u128) -> io::Result<()> {
     if asked.asks("times") {
         return println!(rt; "    in {micros} microseconds");
     }

@@ -1,6 +1,7 @@
 -- The first places of a door of the service: all are there, and none is missing.
-use Rattle.std.proofs.Common.{ℕ, List, ◌≡◌, ◌<◌, length, ap, ◌∙◌, sym, arith}
-use Rattle.std.specs.Prelude.{slice_index_or, All}
+use Rattle.std.proofs.Common.{ℕ, List, ◌≡◌, ◌<◌, length, ap, ◌∙◌, sym, refl, arith, Result, Ok, Err}
+use Rattle.std.specs.Prelude.{slice_index_or, All, IfOk}
+use Rattle.std.specs.Result.{result_and}
 use Rattle.hoare_law.specs.declared.event.History.{History}
 use Rattle.door_frame.specs.Places.{DoorId, PlaceOut, IsOut, places_from, HasPlace}
 use Rattle.door_frame.proofs.PlacesInOrder.{length-places, nth-places, has_nth}
@@ -36,3 +37,14 @@ there-at n m e there = rw (sym e) there
 
 pub staffed-at : {d : Doors} {k : Desk} (n m : ℕ) → n ≡ m → IsStaffed d n k → IsStaffed d m k
 staffed-at n m e staffed = rw (sym e) staffed
+
+-- where the one and the other are right, both are
+pub both-ok : {T U E : Type 0} (x : Result T E) (y : Result U E) (r : Result U E) (v : U) → r ≡ result_and x y → r ≡ Ok v
+    → ((u : T) × (x ≡ Ok u)) × (y ≡ Ok v)
+both-ok (Ok u) y r v all is = ((u, refl), sym all ∙ is)
+both-ok (Err e) y r v all is = let clash : Err e ≡ Ok v = sym all ∙ is in cc
+
+-- what follows where it is right
+pub if-ok : {T E : Type 0} (P : Type 0) (r : Result T E) → ((v : T) → r ≡ Ok v → P) → IfOk r (λ _. P)
+if-ok P (Ok v) f = f v refl
+if-ok P (Err e) f = tt

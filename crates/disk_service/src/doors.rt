@@ -73,6 +73,9 @@ impl Doors {
         Ok((doors, places))
     }
 
+    /// Lets the doors go, with what lies behind them.
+    pub(crate) fn let_go(self) {}
+
     /// Closes all doors, with all of their places: what the totals say, if they are in, and the board.
     pub(crate) fn close(self, places: Places, count: usize) -> (Option<Totals>, Board)
         requires size { AreSized self count }

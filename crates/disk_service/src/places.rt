@@ -101,12 +101,12 @@ impl Places {
             totals,
             board,
         } = seat;
-        put_last(&mut self.items, items)?;
-        put_last(&mut self.clock, clock)?;
-        put_last(&mut self.pool, pool)?;
-        put_last(&mut self.head, head)?;
-        put_last(&mut self.totals, totals)?;
-        put_last(&mut self.board, board)?;
-        Ok(())
+        let items = put_last(&mut self.items, items);
+        let clock = put_last(&mut self.clock, clock);
+        let pool = put_last(&mut self.pool, pool);
+        let head = put_last(&mut self.head, head);
+        let totals = put_last(&mut self.totals, totals);
+        let board = put_last(&mut self.board, board);
+        items.and(clock).and(pool).and(head).and(totals).and(board)
     }
 }

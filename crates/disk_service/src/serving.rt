@@ -1,8 +1,10 @@
 //! The service.
-ghost use Rattle.std.specs.Prelude.{◌≡◌, vec_len, IfOk, IfErr};
+ghost use Rattle.std.specs.Prelude.{◌≡◌, ◌+◌, vec_len, IfOk, IfErr};
 ghost use Rattle.disk_jobs.specs.Faults.{IsOfService};
 ghost use Rattle.disk_jobs.specs.Reports.{account_of};
 ghost use Rattle.disk_jobs.specs.Services.{service};
+ghost use Rattle.disk_service.specs.Desks.{IsReady};
+ghost use Rattle.disk_service.specs.Doors.{AreSized, AreThere};
 
 use crate::doors::Doors;
 use crate::gate::Gate;
@@ -56,6 +58,16 @@ fn rooms(alloc: Global, workers: u32, jobs: usize) -> Result<Vec<Vec<Done>>, All
     Ok(rooms)
 }
 
+// Room for what each worker does, and for what all do: any of them may do all jobs.
+fn room_for(alloc: Global, jobs: &Jobs) -> Result<(Vec<Vec<Done>>, Vec<Done>), AllocError>
+    ensures { IfOk result (λ r. vec_len r.0 ≡ jobs.now.workers) }
+{
+    let (workers, count) = (jobs.workers(), jobs.len());
+    let rooms = rooms(alloc, workers, count)?;
+    let results = Vec::with_capacity(alloc, count)?;
+    Ok((rooms, results))
+}
+
 /// Does the jobs on doors of this kind, and reports them.
 pub(crate) fn serve_on<R: Threads + Wait + Sync, G: Gate + Sync>(
     rt: &R,
@@ -67,26 +79,54 @@ pub(crate) fn serve_on<R: Threads + Wait + Sync, G: Gate + Sync>(
     ensures report { IfOk result (λ r. account_of r ≡ service jobs.now.cylinders) }
     ensures fault { IfErr result IsOfService }
 {
-    let (workers, count) = (jobs.workers(), jobs.len());
-    let Ok(rooms) = rooms(alloc, workers, count) else {
+    let Ok((rooms, results)) = room_for(alloc, jobs) else {
         return Err(ServiceFault::Memory);
     };
-    let Ok(results) = Vec::with_capacity(alloc, count) else {
-        return Err(ServiceFault::Memory);
-    };
-    let seats = workers as usize + 2;
+    let seats = jobs.workers() as usize + 2;
     let (doors, places) = Doors::open(alloc, kind, jobs, seats)?;
     let desk = Desk {
         places,
         rooms,
         results,
     };
+    serve_behind(rt, jobs, gate, doors, desk)
+}
+
+// Does the jobs behind these doors, and reports them.
+fn serve_behind<R: Threads + Wait + Sync, G: Gate + Sync>(
+    rt: &R,
+    jobs: &Jobs,
+    gate: &G,
+    doors: Doors,
+    desk: Desk,
+) -> Result<Report, ServiceFault>
+    requires size { AreSized doors (jobs.now.workers + 2) }
+    requires desk { IsReady doors jobs.now.workers desk }
+    ensures report { IfOk result (λ r. account_of r ≡ service jobs.now.cylinders) }
+    ensures fault { IfErr result IsOfService }
+{
+    match run_threads(rt, gate, jobs, &doors, desk) {
+        Ok(desk) => report_behind(jobs, doors, desk),
+        Err(fault) => {
+            doors.let_go();
+            Err(fault)
+        }
+    }
+}
+
+// Closes the doors, with all of their places, and reports what was done behind them.
+fn report_behind(jobs: &Jobs, doors: Doors, desk: Desk) -> Result<Report, ServiceFault>
+    requires size { AreSized doors (jobs.now.workers + 2) }
+    requires places { AreThere doors (jobs.now.workers + 2) desk.places }
+    ensures report { IfOk result (λ r. account_of r ≡ service jobs.now.cylinders) }
+    ensures fault { IfErr result IsOfService }
+{
     let Desk {
         places,
         results,
         ..
-    } = run_threads(rt, gate, jobs, &doors, desk)?;
-    let (totals, board) = doors.close(places, seats);
+    } = desk;
+    let (totals, board) = doors.close(places, jobs.workers() as usize + 2);
     let Some(totals) = totals else {
         return Err(ServiceFault::Torn);
     };

@@ -3,9 +3,10 @@
 use crate::answer::Answer;
 use crate::repeated::{Lines, Repeated};
 use crate::rounds::{VISITORS, Visits, all_visit};
+use crate::services::report_of;
 use crate::tickets::take_turns;
 use baton_door::door::Door;
-use disk_service::{Jobs, Kind, NoGate, ServiceFault, serve, serve_tickets};
+use disk_service::{Jobs, Kind, ServiceFault};
 use hoare_script::{ScriptFault, run};
 use std::alloc::{AllocError, Global};
 use std::sync::Wait;
@@ -30,21 +31,28 @@ const PART_LINES: u64 = 17;
 
 /// Does the run of this name, a long one or a short one.
 pub fn runs_long<R: Threads + Wait + Sync>(rt: &R, alloc: Global, name: &[u8]) -> Option<Answer> {
-    match name {
-        b"few steps" => Some(steps(alloc, FEW)),
-        b"many steps" => Some(steps(alloc, MANY)),
-        b"few lines" => Some(script(alloc, FEW)),
-        b"many lines" => Some(script(alloc, MANY)),
-        b"few visits baton" => Some(visits_baton(rt, alloc, FEW)),
-        b"many visits baton" => Some(visits_baton(rt, alloc, MANY)),
-        b"few visits ticket" => Some(visits_ticket(rt, alloc, FEW)),
-        b"many visits ticket" => Some(visits_ticket(rt, alloc, MANY)),
-        b"few turns ticket" => Some(turns_ticket(rt, alloc, FEW)),
-        b"many turns ticket" => Some(turns_ticket(rt, alloc, MANY)),
-        b"few jobs baton" => Some(jobs(rt, alloc, Kind::Baton, FEW)),
-        b"many jobs baton" => Some(jobs(rt, alloc, Kind::Baton, MANY)),
-        b"few jobs ticket" => Some(jobs(rt, alloc, Kind::Ticket, FEW)),
-        b"many jobs ticket" => Some(jobs(rt, alloc, Kind::Ticket, MANY)),
+    if let Some(what) = name.strip_prefix(b"few ") {
+        return run_of(rt, alloc, what, FEW);
+    }
+    let what = name.strip_prefix(b"many ")?;
+    run_of(rt, alloc, what, MANY)
+}
+
+// The run of what has this name, of so many turns.
+fn run_of<R: Threads + Wait + Sync>(
+    rt: &R,
+    alloc: Global,
+    what: &[u8],
+    turns: u64,
+) -> Option<Answer> {
+    match what {
+        b"steps" => Some(steps(alloc, turns)),
+        b"lines" => Some(script(alloc, turns)),
+        b"visits baton" => Some(visits_baton(rt, alloc, turns)),
+        b"visits ticket" => Some(visits_ticket(rt, alloc, turns)),
+        b"turns ticket" => Some(turns_ticket(rt, alloc, turns)),
+        b"jobs baton" => Some(jobs(rt, alloc, Kind::Baton, turns)),
+        b"jobs ticket" => Some(jobs(rt, alloc, Kind::Ticket, turns)),
         _ => None,
     }
 }
@@ -151,11 +159,7 @@ fn jobs<R: Threads + Wait + Sync>(rt: &R, alloc: Global, kind: Kind, count: u64)
     let Ok(jobs) = Jobs::make(400, 4, cylinders) else {
         return Answer::Wrong;
     };
-    let answer = match kind {
-        Kind::Baton => serve(rt, alloc, &jobs, &NoGate),
-        Kind::Ticket => serve_tickets(rt, alloc, &jobs, &NoGate),
-    };
-    match answer {
+    match report_of(rt, alloc, kind, &jobs) {
         Ok(report) => Answer::made_if(report.jobs == count),
         Err(fault) => Answer::memory_if(fault == ServiceFault::Memory),
     }

@@ -2,7 +2,9 @@
 
 use crate::answer::Answer;
 use crate::noted::Noted;
-use disk_service::{Jobs, Kind, NoGate, ServiceFault, read_jobs, run, serve, serve_tickets};
+use disk_service::{
+    Jobs, Kind, NoGate, Report, ServiceFault, read_jobs, run, serve, serve_tickets,
+};
 use std::alloc::{AllocError, Global};
 use std::sync::Wait;
 use std::thread::Threads;
@@ -39,16 +41,25 @@ fn jobs(alloc: Global) -> Result<Option<Jobs>, AllocError> {
     Ok(Jobs::make(400, 2, cylinders).ok())
 }
 
+/// The report of these jobs, done on doors of this kind.
+pub fn report_of<R: Threads + Wait + Sync>(
+    rt: &R,
+    alloc: Global,
+    kind: Kind,
+    jobs: &Jobs,
+) -> Result<Report, ServiceFault> {
+    match kind {
+        Kind::Baton => serve(rt, alloc, jobs, &NoGate),
+        Kind::Ticket => serve_tickets(rt, alloc, jobs, &NoGate),
+    }
+}
+
 /// Has three jobs done, on doors of this kind.
 pub fn serves<R: Threads + Wait + Sync>(rt: &R, alloc: Global, kind: Kind) -> Answer {
     let Ok(Some(jobs)) = jobs(alloc) else {
         return Answer::Unprepared;
     };
-    let answer = match kind {
-        Kind::Baton => serve(rt, alloc, &jobs, &NoGate),
-        Kind::Ticket => serve_tickets(rt, alloc, &jobs, &NoGate),
-    };
-    match answer {
+    match report_of(rt, alloc, kind, &jobs) {
         Ok(report) => Answer::made_if(report.sum == SUM),
         Err(fault) => refused(fault, true),
     }

@@ -81,11 +81,21 @@ fn does_script(alloc: Global, name: &[u8]) -> Option<Answer> {
 
 // The services.
 fn does_service<R: Threads + Wait + Sync>(rt: &R, alloc: Global, name: &[u8]) -> Option<Answer> {
+    if let Some(kind) = name.strip_prefix(b"disk_service::run ") {
+        return Some(runs(rt, alloc, named_kind(kind)?));
+    }
     match name {
         b"serve" => Some(serves(rt, alloc, Kind::Baton)),
         b"serve_tickets" => Some(serves(rt, alloc, Kind::Ticket)),
-        b"disk_service::run baton" => Some(runs(rt, alloc, Kind::Baton)),
-        b"disk_service::run ticket" => Some(runs(rt, alloc, Kind::Ticket)),
+        _ => None,
+    }
+}
+
+// The kind of doors that has this name.
+fn named_kind(name: &[u8]) -> Option<Kind> {
+    match name {
+        b"baton" => Some(Kind::Baton),
+        b"ticket" => Some(Kind::Ticket),
         _ => None,
     }
 }

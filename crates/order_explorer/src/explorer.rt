@@ -105,8 +105,8 @@ fn serve<R: Wait, D: MonitorData + Send + Drop, P: Program<D, Explored<D>>>(
     }
 }
 
-// Starts a thread for one place, with shares of its own.
-fn start_with<
+// Starts a thread for one place.
+fn start_one<
     R: Threads + Wait + Copy + Send + 'static,
     D: MonitorData + Send + Drop + 'static,
     P: Program<D, Explored<D>> + 'static,
@@ -123,17 +123,6 @@ fn start_with<
         Ok(_handle) => Ok(()),
         Err(_) => Err(AllocError),
     }
-}
-
-// Starts a thread for one place.
-fn start_one<
-    R: Threads + Wait + Copy + Send + 'static,
-    D: MonitorData + Send + Drop + 'static,
-    P: Program<D, Explored<D>> + 'static,
->(rt: R, program: &Arc<P>, explored: &Arc<Explored<D>>, out: Outside<D>) -> Result<(), AllocError>
-    requires { IsOut D.rest D.ready (kinds_of D.CONDITIONS D.MESA) (id_of (arc_value explored.now).door) out }
-{
-    start_with(rt, Arc::try_clone(program)?, Arc::try_clone(explored)?, out)
 }
 
 // Starts a thread for each place.
@@ -153,7 +142,7 @@ fn start_all<
     let mut outs = outs;
     for _ in 0..outs.len() {
         let Some(out) = outs.pop() else { break };
-        start_one(rt, program, explored, out)?;
+        start_one(rt, Arc::try_clone(program)?, Arc::try_clone(explored)?, out)?;
     }
     Ok(())
 }
@@ -291,30 +280,6 @@ fn explore_shared<
     Ok(found)
 }
 
-// The runs of a program on this monitor, whose places are given.
-fn explore_on<
-    R: Threads + Wait + Copy + Send + 'static,
-    D: MonitorData + Send + Drop + 'static,
-    P: Program<D, Explored<D>> + 'static,
->(
-    rt: R,
-    alloc: Global,
-    program: Arc<P>,
-    explored: Explored<D>,
-    outs: Vec<Outside<D>>,
-    runs: u64,
-) -> Result<Found, AllocError>
-    requires { All (IsOut D.rest D.ready (kinds_of D.CONDITIONS D.MESA) (id_of explored.door)) outs.items }
-{
-    let Some(places) = with_desk(&explored, outs) else {
-        return Err(AllocError);
-    };
-    let Ok(explored) = Arc::new(alloc, explored) else {
-        return Err(AllocError);
-    };
-    explore_shared(rt, alloc, program, explored, places, runs)
-}
-
 // The runs of a program under this controller.
 fn explore_with<
     R: Threads + Wait + Copy + Send + 'static,
@@ -335,7 +300,13 @@ fn explore_with<
         return Err(AllocError);
     };
     let (explored, outs) = Explored::make(alloc, limits.door, controller, state, count)?;
-    explore_on(rt, alloc, program, explored, outs, limits.runs)
+    let Some(places) = with_desk(&explored, outs) else {
+        return Err(AllocError);
+    };
+    let Ok(explored) = Arc::new(alloc, explored) else {
+        return Err(AllocError);
+    };
+    explore_shared(rt, alloc, program, explored, places, limits.runs)
 }
 
 /// Tries the orders in which the program's 1 to 63 threads can be let in, each in a run of its own: up to a limit, or

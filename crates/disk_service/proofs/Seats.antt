@@ -39,8 +39,8 @@ pub staffed-at : {d : Doors} {k : Desk} (n m : ℕ) → n ≡ m → IsStaffed d 
 staffed-at n m e staffed = rw (sym e) staffed
 
 -- where the one and the other are right, both are
-pub both-ok : {T U E : Type 0} (x : Result T E) (y : Result U E) (r : Result U E) (v : U) → r ≡ result_and x y → r ≡ Ok v
-    → ((u : T) × (x ≡ Ok u)) × (y ≡ Ok v)
+pub both-ok : {T U E : Type 0} (x : Result T E) (y : Result U E) (r : Result U E) (v : U) → r ≡ result_and x y
+    → r ≡ Ok v → ((u : T) × (x ≡ Ok u)) × (y ≡ Ok v)
 both-ok (Ok u) y r v all is = ((u, refl), sym all ∙ is)
 both-ok (Err e) y r v all is = let clash : Err e ≡ Ok v = sym all ∙ is in cc
 

@@ -11,6 +11,20 @@ use std::sync::Wait;
 #[derive(Clone, Copy)]
 pub struct Gathering;
 
+// Arrives twice: the number of the second meeting.
+fn acts<R: Wait, M: Monitor<Barrier>>(rt: &R, m: &M, out: M::Out) -> (M::Out, u64)
+    requires { M.is_of m.now out }
+    ensures { M.is_of m.now result.0 }
+{
+    let (out, _arrival) = Barrier::arrive(m, rt, out);
+    let (out, arrival) = Barrier::arrive(m, rt, out);
+    let generation = match arrival {
+        Arrival::Last(generation) => generation,
+        Arrival::Waited(generation) => generation,
+    };
+    (out, generation)
+}
+
 impl Program<Barrier, Explored<Barrier>> for Gathering {
     fn threads(&self) -> usize {
         3
@@ -25,19 +39,12 @@ impl Program<Barrier, Explored<Barrier>> for Gathering {
         rt: &R,
         m: &Explored<Barrier>,
         out: Place<Barrier>,
-        number: usize,
+        _number: usize,
     ) -> (Place<Barrier>, u64)
         requires { ⟦<Explored<Barrier> as Monitor<Barrier>>⟧.is_of m.now out }
         ensures { ⟦<Explored<Barrier> as Monitor<Barrier>>⟧.is_of m.now result.0 }
     {
-        let _number = number;
-        let (out, _arrival) = Barrier::arrive(m, rt, out);
-        let (out, arrival) = Barrier::arrive(m, rt, out);
-        let generation = match arrival {
-            Arrival::Last(generation) => generation,
-            Arrival::Waited(generation) => generation,
-        };
-        (out, generation)
+        acts(rt, m, out)
     }
 
     fn is_right(&self, _left: &Barrier, answers: &[u64]) -> bool {

@@ -14,6 +14,18 @@ pub struct Hidden {
     pub runs: AtomicU64,
 }
 
+// Comes in once or twice.
+fn visit<R: Wait, M: Monitor<Tally>>(rt: &R, m: &M, out: M::Out, is_twice: bool) -> M::Out
+    requires { M.is_of m.now out }
+    ensures { M.is_of m.now result }
+{
+    let out = m.leave(rt, m.enter(rt, out));
+    if is_twice {
+        return m.leave(rt, m.enter(rt, out));
+    }
+    out
+}
+
 impl Clone for Hidden {
     fn clone(&self) -> Result<Hidden, AllocError> {
         Ok(Hidden {
@@ -41,12 +53,8 @@ impl Program<Tally, Explored<Tally>> for Hidden {
         requires { ⟦<Explored<Tally> as Monitor<Tally>>⟧.is_of m.now out }
         ensures { ⟦<Explored<Tally> as Monitor<Tally>>⟧.is_of m.now result.0 }
     {
-        let out = m.leave(rt, m.enter(rt, out));
-        if number == 0 && self.runs.fetch_add(1, Ordering::SeqCst) % 2 == 1 {
-            let out = m.leave(rt, m.enter(rt, out));
-            return (out, 0);
-        }
-        (out, 0)
+        let is_twice = number == 0 && self.runs.fetch_add(1, Ordering::SeqCst) % 2 == 1;
+        (visit(rt, m, out, is_twice), 0)
     }
 
     fn is_right(&self, _left: &Tally, _answers: &[u64]) -> bool {

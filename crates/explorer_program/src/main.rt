@@ -33,6 +33,7 @@ mod users;
 mod weak_barrier;
 
 use crate::asked::{Arguments, Asked};
+use crate::tally::OfTally;
 use crate::told::tell;
 use order_explorer::{Limits, Orders};
 use std::alloc::Global;
@@ -42,22 +43,17 @@ use std::sync::Wait;
 use std::sync::atomic::AtomicU64;
 use std::thread::Threads;
 
-// So many threads of so many visits.
-fn tell_visits<R: Threads + Wait + Clock + Print + Eprint + Copy + Send + 'static>(
+// Programs over a tally.
+fn tell_tallies<R: Threads + Wait + Clock + Print + Eprint + Copy + Send + 'static>(
     rt: R,
     alloc: Global,
     asked: &Asked<'_>,
-    threads: usize,
-    visits: u32,
+    programs: &[(&str, OfTally)],
 ) -> io::Result<()> {
-    let name = format!(in alloc; "visits-{threads}-{visits}")?;
-    tell(
-        rt,
-        alloc,
-        asked,
-        name.as_str(),
-        &counting::Visits { threads, visits },
-    )
+    for (name, program) in programs {
+        tell(rt, alloc, asked, *name, program)?;
+    }
+    Ok(())
 }
 
 // The single item, for so many threads.
@@ -65,10 +61,11 @@ fn tell_single<R: Threads + Wait + Clock + Print + Eprint + Copy + Send + 'stati
     rt: R,
     alloc: Global,
     asked: &Asked<'_>,
-    threads: usize,
 ) -> io::Result<()> {
-    let name = format!(in alloc; "single-{threads}")?;
-    tell(rt, alloc, asked, name.as_str(), &single::Items { threads })
+    for (name, threads) in [("single-2", 2), ("single-3", 3), ("single-4", 4)] {
+        tell(rt, alloc, asked, name, &single::Items { threads })?;
+    }
+    Ok(())
 }
 
 // The bounded buffer, of so many rounds.
@@ -76,10 +73,11 @@ fn tell_buffer<R: Threads + Wait + Clock + Print + Eprint + Copy + Send + 'stati
     rt: R,
     alloc: Global,
     asked: &Asked<'_>,
-    rounds: u32,
 ) -> io::Result<()> {
-    let name = format!(in alloc; "buffer-{rounds}")?;
-    tell(rt, alloc, asked, name.as_str(), &buffer::OneCell { rounds })
+    for (name, rounds) in [("buffer-1", 1), ("buffer-2", 2)] {
+        tell(rt, alloc, asked, name, &buffer::OneCell { rounds })?;
+    }
+    Ok(())
 }
 
 // The pool, for so many streams.
@@ -87,10 +85,11 @@ fn tell_pool<R: Threads + Wait + Clock + Print + Eprint + Copy + Send + 'static>
     rt: R,
     alloc: Global,
     asked: &Asked<'_>,
-    threads: usize,
 ) -> io::Result<()> {
-    let name = format!(in alloc; "pool-{threads}")?;
-    tell(rt, alloc, asked, name.as_str(), &pool::Streams { threads })
+    for (name, threads) in [("pool-2", 2), ("pool-3", 3)] {
+        tell(rt, alloc, asked, name, &pool::Streams { threads })?;
+    }
+    Ok(())
 }
 
 // The disk head, for so many requests.
@@ -98,10 +97,11 @@ fn tell_head<R: Threads + Wait + Clock + Print + Eprint + Copy + Send + 'static>
     rt: R,
     alloc: Global,
     asked: &Asked<'_>,
-    threads: usize,
 ) -> io::Result<()> {
-    let name = format!(in alloc; "head-{threads}")?;
-    tell(rt, alloc, asked, name.as_str(), &head::Requests { threads })
+    for (name, threads) in [("head-2", 2), ("head-3", 3)] {
+        tell(rt, alloc, asked, name, &head::Requests { threads })?;
+    }
+    Ok(())
 }
 
 // A writer, and readers beside it.
@@ -109,74 +109,43 @@ fn tell_readers<R: Threads + Wait + Clock + Print + Eprint + Copy + Send + 'stat
     rt: R,
     alloc: Global,
     asked: &Asked<'_>,
-    threads: usize,
 ) -> io::Result<()> {
-    let name = format!(in alloc; "readers-{threads}")?;
-    tell(
-        rt,
-        alloc,
-        asked,
-        name.as_str(),
-        &readers::Readers { threads },
-    )
+    for (name, threads) in [("readers-3", 3), ("readers-4", 4)] {
+        tell(rt, alloc, asked, name, &readers::Readers { threads })?;
+    }
+    Ok(())
 }
 
-// Visits alone, and the first monitor.
+// Visits alone, signallers that come back, and the first monitor.
 fn tell_users<R: Threads + Wait + Clock + Print + Eprint + Copy + Send + 'static>(
     rt: R,
     alloc: Global,
     asked: &Asked<'_>,
 ) -> io::Result<()> {
-    tell_visits(rt, alloc, asked, 2, 1)?;
-    tell_visits(rt, alloc, asked, 3, 2)?;
-    tell_visits(rt, alloc, asked, 2, 5)?;
-    tell_visits(rt, alloc, asked, 4, 1)?;
-    tell(rt, alloc, asked, "permits", &users::Workers)?;
-    tell(rt, alloc, asked, "signals", &signals::Signals)
+    let tallies = [
+        ("visits-2-1", OfTally::Visits(2, 1)),
+        ("visits-3-2", OfTally::Visits(3, 2)),
+        ("visits-2-5", OfTally::Visits(2, 5)),
+        ("visits-4-1", OfTally::Visits(4, 1)),
+        ("signals", OfTally::Signals),
+    ];
+    tell_tallies(rt, alloc, asked, &tallies)?;
+    tell(rt, alloc, asked, "permits", &users::Workers)
 }
 
-// The schedulers of one item or one cell.
-fn tell_cells<R: Threads + Wait + Clock + Print + Eprint + Copy + Send + 'static>(
-    rt: R,
-    alloc: Global,
-    asked: &Asked<'_>,
-) -> io::Result<()> {
-    tell_single(rt, alloc, asked, 2)?;
-    tell_single(rt, alloc, asked, 3)?;
-    tell_single(rt, alloc, asked, 4)?;
-    tell_buffer(rt, alloc, asked, 1)?;
-    tell_buffer(rt, alloc, asked, 2)?;
-    tell(rt, alloc, asked, "mesa-buffer", &mesa::MesaCell)
-}
-
-// The schedulers of times, pools and sweeps.
+// The schedulers.
 fn tell_schedulers<R: Threads + Wait + Clock + Print + Eprint + Copy + Send + 'static>(
     rt: R,
     alloc: Global,
     asked: &Asked<'_>,
 ) -> io::Result<()> {
+    tell_single(rt, alloc, asked)?;
+    tell_buffer(rt, alloc, asked)?;
+    tell(rt, alloc, asked, "mesa-buffer", &mesa::MesaCell)?;
     tell(rt, alloc, asked, "alarm", &clock::Clock::Tickers)?;
-    tell_pool(rt, alloc, asked, 2)?;
-    tell_pool(rt, alloc, asked, 3)?;
-    tell_head(rt, alloc, asked, 2)?;
-    tell_head(rt, alloc, asked, 3)?;
-    tell_readers(rt, alloc, asked, 3)?;
-    tell_readers(rt, alloc, asked, 4)
-}
-
-// Programs of many orders.
-fn tell_long<R: Threads + Wait + Clock + Print + Eprint + Copy + Send + 'static>(
-    rt: R,
-    alloc: Global,
-    asked: &Asked<'_>,
-) -> io::Result<()> {
-    if !asked.wants_long() {
-        return Ok(());
-    }
-    tell_visits(rt, alloc, asked, 4, 2)?;
-    tell_visits(rt, alloc, asked, 4, 3)?;
-    tell_visits(rt, alloc, asked, 8, 1)?;
-    tell_visits(rt, alloc, asked, 8, 2)
+    tell_pool(rt, alloc, asked)?;
+    tell_head(rt, alloc, asked)?;
+    tell_readers(rt, alloc, asked)
 }
 
 // The recipes of the cookbook.
@@ -203,28 +172,34 @@ fn tell_bad<R: Threads + Wait + Clock + Print + Eprint + Copy + Send + 'static>(
     let hidden = hidden::Hidden {
         runs: AtomicU64::new(0),
     };
+    let tallies = [
+        ("gate", OfTally::Late),
+        ("starving", OfTally::Dance),
+        ("lost", OfTally::Lost),
+    ];
     tell(rt, alloc, asked, "weak-barrier", &weak_barrier::Weak)?;
-    tell(rt, alloc, asked, "gate", &gate::Late)?;
+    tell_tallies(rt, alloc, asked, &tallies)?;
     tell(rt, alloc, asked, "lost-wake", &lost_wake::OneCalled)?;
-    tell(rt, alloc, asked, "starving", &starving::Dance)?;
     tell(rt, alloc, asked, "late-alarm", &clock::Clock::Sleepers)?;
-    tell(rt, alloc, asked, "lost", &lost::Lost)?;
     tell(rt, alloc, asked, "hidden", &hidden)
 }
 
-// Three threads of two visits, within limits that are too small.
-fn tell_small<R: Threads + Wait + Clock + Print + Eprint + Copy + Send + 'static>(
+// Programs of many orders.
+fn tell_long<R: Threads + Wait + Clock + Print + Eprint + Copy + Send + 'static>(
     rt: R,
     alloc: Global,
     asked: &Asked<'_>,
-    name: &str,
-    limits: Limits,
 ) -> io::Result<()> {
-    let program = counting::Visits {
-        threads: 3,
-        visits: 2,
-    };
-    tell(rt, alloc, &Asked { limits, ..*asked }, name, &program)
+    if !asked.wants_long() {
+        return Ok(());
+    }
+    let tallies = [
+        ("visits-4-2", OfTally::Visits(4, 2)),
+        ("visits-4-3", OfTally::Visits(4, 3)),
+        ("visits-8-1", OfTally::Visits(8, 1)),
+        ("visits-8-2", OfTally::Visits(8, 2)),
+    ];
+    tell_tallies(rt, alloc, asked, &tallies)
 }
 
 // A philosopher waits through 16 steps at the most.
@@ -246,38 +221,37 @@ fn tell_hungry<R: Threads + Wait + Clock + Print + Eprint + Copy + Send + 'stati
     )
 }
 
-// Programs with limits of their own: a run has 6 choices and 12 steps; there are 90.
+// Three threads of two visits, within limits of their own: a run has 6 choices and 12 steps, and there are 90.
 fn tell_limits<R: Threads + Wait + Clock + Print + Eprint + Copy + Send + 'static>(
     rt: R,
     alloc: Global,
     asked: &Asked<'_>,
 ) -> io::Result<()> {
     let limits = asked.limits;
-    tell_hungry(rt, alloc, asked)?;
-    tell_small(rt, alloc, asked, "few-runs", Limits { runs: 89, ..limits })?;
-    tell_small(
-        rt,
-        alloc,
-        asked,
-        "few-steps",
-        Limits {
-            steps: 11,
-            ..limits
-        },
-    )?;
-    tell_small(
-        rt,
-        alloc,
-        asked,
-        "few-choices",
-        Limits { depth: 5, ..limits },
-    )?;
-    let drawn = Limits {
-        runs: 50,
-        orders: Orders::Drawn(1),
-        ..limits
-    };
-    tell_small(rt, alloc, asked, "drawn", drawn)
+    let drawn = Orders::Drawn(1);
+    for (name, limits) in [
+        ("few-runs", Limits { runs: 89, ..limits }),
+        (
+            "few-steps",
+            Limits {
+                steps: 11,
+                ..limits
+            },
+        ),
+        ("few-choices", Limits { depth: 5, ..limits }),
+        (
+            "drawn",
+            Limits {
+                runs: 50,
+                orders: drawn,
+                ..limits
+            },
+        ),
+    ] {
+        let program = [(name, OfTally::Visits(3, 2))];
+        tell_tallies(rt, alloc, &Asked { limits, ..*asked }, &program)?;
+    }
+    Ok(())
 }
 
 // All of them, in order.
@@ -287,11 +261,11 @@ fn tell_all<R: Threads + Wait + Clock + Print + Eprint + Copy + Send + 'static>(
     asked: &Asked<'_>,
 ) -> io::Result<()> {
     tell_users(rt, alloc, asked)?;
-    tell_cells(rt, alloc, asked)?;
     tell_schedulers(rt, alloc, asked)?;
     tell_recipes(rt, alloc, asked)?;
     tell_bad(rt, alloc, asked)?;
     tell_long(rt, alloc, asked)?;
+    tell_hungry(rt, alloc, asked)?;
     tell_limits(rt, alloc, asked)
 }
 

@@ -1,8 +1,8 @@
 //! The law, the book, lines of a text, scripts and their pictures.
 
 mod books;
+mod compared;
 mod law;
-mod limit;
 mod lines;
 mod numbers;
 mod past;

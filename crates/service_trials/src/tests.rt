@@ -2,9 +2,9 @@
 //! be.
 
 mod at_once;
+mod compared;
 mod jobs;
 mod last;
-mod limit;
 mod meeting;
 mod rows;
 mod workers;

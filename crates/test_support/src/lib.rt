@@ -10,7 +10,6 @@ pub mod fake;
 pub mod history;
 pub mod limit;
 pub mod on_any_door;
-pub mod on_baton_door;
 pub mod on_ticket_door;
 mod row;
 pub mod running;

@@ -88,9 +88,3 @@ pub fn sign_came<R: Clock>(rt: &R, sign: &AtomicBool) -> bool {
     }
     false
 }
-
-/// What a failing row calls the baton door.
-pub const BATON: &str = "baton door";
-
-/// What it calls the ticket door.
-pub const TICKET: &str = "ticket door";

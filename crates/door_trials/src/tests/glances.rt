@@ -5,7 +5,6 @@ use crate::tests::awaited::{await_sign, watch};
 use crate::tests::compared::{expect_same, reads_as};
 use any_door::door::AnyDoor;
 use any_door::kind::DoorKind;
-use baton_door::door::Door;
 use door_frame::glance::{Glance, Holder};
 use hoare_law::monitor::Monitor;
 use std::alloc::Global;
@@ -25,21 +24,9 @@ const ROUNDS: u64 = 20;
 /// For how many milliseconds it waits before. Then it sleeps.
 const STAY: u64 = 3;
 
-/// A door whose words a test looks at.
+/// A door whose words a test looks at. (What is called at a door's own type is dear to check.)
 trait Glanced: Monitor<Tally> {
     fn seen(&self) -> Glance;
-}
-
-impl Glanced for Door<Tally> {
-    fn seen(&self) -> Glance {
-        self.glance()
-    }
-}
-
-impl Glanced for TicketDoor<Tally> {
-    fn seen(&self) -> Glance {
-        self.glance()
-    }
 }
 
 impl Glanced for AnyDoor<Tally> {
@@ -181,35 +168,32 @@ fn acts<R: Wait + Abort + Clock, M: Glanced>(
     }
 }
 
-// The rows on one door: the newcomer is seen at once, and who is handed the monitor in one of the rounds.
-macro_rules! glance_at {
-    ($rt:ident, $alloc:ident, $door:ident($($given:expr)?)) => {{
+// The newcomer is seen at once, and who is handed the monitor in one of the rounds.
+#[test]
+fn a_newcomer_and_who_is_owed_are_seen_at_each_door(host: HostRuntime) {
+    let (rt, alloc) = (&host, host.alloc());
+    for kind in DoorKind::BOTH {
         let sign = AtomicBool::new(false);
         let mut row = GlanceRow::ANewcomerIsSeen(&sign);
         let mut is_owed = false;
         for round in 0..=ROUNDS {
-            let (_, mut answers) = run_row!($rt, $alloc, $door($($given)?), acts(row), Tally { value: 0 }, 2);
+            let (_, mut answers) = run_row!(
+                rt,
+                alloc,
+                on_any_door(kind),
+                acts(row),
+                Tally { value: 0 },
+                2
+            );
             if round == 0 {
-                expect_same($rt, answers.as_slice(), [1, 0].as_slice());
+                expect_same(rt, answers.as_slice(), [1, 0].as_slice());
                 row = GlanceRow::WhoIsHandedTheMonitorIsSeen;
             } else {
                 is_owed = is_owed || answers.pop() == Some(1);
             }
         }
-        expect_same($rt, is_owed, true);
-    }};
-}
-
-#[test]
-fn a_newcomer_and_who_is_owed_are_seen_at_a_baton_door(host: HostRuntime) {
-    let (rt, alloc) = (&host, host.alloc());
-    glance_at!(rt, alloc, on_baton_door());
-}
-
-#[test]
-fn a_newcomer_and_who_is_owed_are_seen_at_a_ticket_door(host: HostRuntime) {
-    let (rt, alloc) = (&host, host.alloc());
-    glance_at!(rt, alloc, on_ticket_door(0));
+        expect_same(rt, is_owed, true);
+    }
 }
 
 #[test]

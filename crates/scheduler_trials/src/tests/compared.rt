@@ -1,5 +1,6 @@
 //! What all tests compare: values, and how they read.
 
+use any_door::DoorKind;
 use std::alloc::Global;
 use std::fmt::{Debug, Display};
 use std::process::Abort;
@@ -18,12 +19,12 @@ pub fn reads_as<T: Display, R: Abort>(rt: &R, alloc: Global, value: &T, wanted: 
     expect_same(rt, shown.as_str(), wanted);
 }
 
-/// Fails the test where the places of a row answered something else on the door of this name.
-pub fn answered<R: Abort>(rt: &R, door: &str, answers: &[u64], wanted: &[u64]) {
-    expect_same(rt, (door, answers), (door, wanted));
+/// Fails the test where the places of a row answered something else on a door of this kind.
+pub fn answered<R: Abort>(rt: &R, kind: DoorKind, answers: &[u64], wanted: &[u64]) {
+    expect_same(rt, (kind, answers), (kind, wanted));
 }
 
-/// Fails the test where not all places of a row answered on the door of this name.
-pub fn all_answered<R: Abort>(rt: &R, door: &str, answers: &[u64], places: usize) {
-    expect_same(rt, (door, answers.len()), (door, places));
+/// Fails the test where not all places of a row answered on a door of this kind.
+pub fn all_answered<R: Abort>(rt: &R, kind: DoorKind, answers: &[u64], places: usize) {
+    expect_same(rt, (kind, answers.len()), (kind, places));
 }

@@ -4,7 +4,6 @@ ghost use Rattle.std.specs.Prelude.{◌≤◌};
 ghost use Rattle.hoare_law.specs.Priorities.{nobody};
 ghost use Rattle.plain_schedulers.specs.Buffers.{BufferRests};
 
-use crate::tests::awaited::within;
 use crate::tests::compared::expect_same;
 use hoare_law::data::MonitorData;
 use hoare_law::monitor::Monitor;
@@ -14,9 +13,7 @@ use std::alloc::Global;
 use std::collections::VecDeque;
 use std::mem::replace;
 use std::process::Abort;
-use std::rt::Clock;
 use std::sync::Wait;
-use std::thread::Threads;
 use test_support::fake::{Fake, FakeOut};
 use test_support::tally::{Tally, calls_all};
 
@@ -211,70 +208,38 @@ fn appends<R: Wait + Abort>(rt: &R, alloc: Global) {
     last_of_two(rt, &fake, out);
 }
 
-/// What a process does on the fake monitor.
-#[derive(Clone, Copy)]
-enum PlainRow {
-    AcquiresOnce,
-    AcquiresTwice,
-    Releases,
-    WritesAndWaits,
-    PassesFour,
-    Removes,
-    Appends,
-    CallsEach,
-}
-
-// Does what the row says. What comes out wrong fails the test.
-fn acts<R: Wait + Abort>(rt: &R, alloc: Global, row: PlainRow) {
-    match row {
-        PlainRow::AcquiresOnce => acquires_once(rt, alloc),
-        PlainRow::AcquiresTwice => acquires_twice(rt, alloc),
-        PlainRow::Releases => releases(rt, alloc),
-        PlainRow::WritesAndWaits => writes_and_waits(rt, alloc),
-        PlainRow::PassesFour => passes_four(rt, alloc),
-        PlainRow::Removes => removes(rt, alloc),
-        PlainRow::Appends => appends(rt, alloc),
-        PlainRow::CallsEach => calls_each(rt, alloc),
-    }
-}
-
-// Does it within the limit.
-fn runs<R: Threads + Wait + Abort + Clock + Sync>(rt: &R, alloc: Global, row: PlainRow) {
-    within(rt, || acts(rt, alloc, row))
-}
-
 #[test]
 fn an_acquire_goes_on_with_the_first_answer_that_is_ready(rt: HostRuntime) {
-    runs(&rt, rt.alloc(), PlainRow::AcquiresOnce);
-    runs(&rt, rt.alloc(), PlainRow::AcquiresTwice);
+    acquires_once(&rt, rt.alloc());
+    acquires_twice(&rt, rt.alloc());
 }
 
 #[test]
 fn a_release_too_many_is_refused(rt: HostRuntime) {
-    runs(&rt, rt.alloc(), PlainRow::Releases);
+    releases(&rt, rt.alloc());
 }
 
 #[test]
 fn what_is_written_in_hand_is_kept(rt: HostRuntime) {
-    runs(&rt, rt.alloc(), PlainRow::WritesAndWaits);
+    writes_and_waits(&rt, rt.alloc());
 }
 
 #[test]
 fn items_come_out_in_order(rt: HostRuntime) {
-    runs(&rt, rt.alloc(), PlainRow::PassesFour);
+    passes_four(&rt, rt.alloc());
 }
 
 #[test]
 fn a_remove_waits_for_an_item(rt: HostRuntime) {
-    runs(&rt, rt.alloc(), PlainRow::Removes);
+    removes(&rt, rt.alloc());
 }
 
 #[test]
 fn an_append_waits_for_room(rt: HostRuntime) {
-    runs(&rt, rt.alloc(), PlainRow::Appends);
+    appends(&rt, rt.alloc());
 }
 
 #[test]
 fn each_call_is_made_once(rt: HostRuntime) {
-    runs(&rt, rt.alloc(), PlainRow::CallsEach);
+    calls_each(&rt, rt.alloc());
 }

@@ -1,16 +1,13 @@
 //! The buffer with Mesa conditions on the fake monitor: who goes on after a wait tests again.
 ghost use Rattle.plain_schedulers.specs.Buffers.{BufferHolds};
 
-use crate::tests::awaited::within;
 use crate::tests::compared::expect_same;
 use crate::tests::fake::{take_data, with_answers};
 use hoare_law::monitor::Monitor;
 use plain_schedulers::buffer::mesa::MesaBuffer;
 use std::alloc::Global;
 use std::process::Abort;
-use std::rt::Clock;
 use std::sync::Wait;
-use std::thread::Threads;
 
 // A buffer of one cell with no item.
 fn empty<R: Abort>(rt: &R, alloc: Global) -> MesaBuffer<u8>
@@ -35,18 +32,10 @@ fn removes_five<R: Wait + Abort, M: Monitor<MesaBuffer<u8>>>(rt: &R, m: &M, out:
 }
 
 // A remove that is called twice, and finds an item the second time.
-fn removes<R: Wait + Abort>(rt: &R, alloc: Global) {
+#[test]
+fn a_remove_tests_again_after_each_call(host: HostRuntime) {
+    let (rt, alloc) = (&host, host.alloc());
     let answers = [empty(rt, alloc), with_five(rt, alloc)];
     let (fake, out) = with_answers(rt, alloc, empty(rt, alloc), answers);
     removes_five(rt, &fake, out);
-}
-
-// Does it within the limit.
-fn runs<R: Threads + Wait + Abort + Clock + Sync>(rt: &R, alloc: Global) {
-    within(rt, || removes(rt, alloc))
-}
-
-#[test]
-fn a_remove_tests_again_after_each_call(rt: HostRuntime) {
-    runs(&rt, rt.alloc());
 }

@@ -1,7 +1,6 @@
 //! What the cookbook's program does not run, on the fake monitor: a philosopher gets up where nobody eats, and a latch
 //! is opened twice.
 
-use crate::tests::awaited::within;
 use crate::tests::compared::{expect_same, reads_as};
 use crate::tests::fake::with_answers;
 use cookbook::latch::Latch;
@@ -9,9 +8,7 @@ use cookbook::table::{NotEating, Table};
 use hoare_law::monitor::Monitor;
 use std::alloc::Global;
 use std::process::Abort;
-use std::rt::Clock;
 use std::sync::Wait;
-use std::thread::Threads;
 
 // Nobody eats at seat 1: it is refused at an empty table, and beside one that eats. At seat 2 it goes well once.
 fn gets_up_once<R: Wait + Abort, M: Monitor<Table>>(rt: &R, m: &M, out: M::Out)
@@ -26,21 +23,12 @@ fn gets_up_once<R: Wait + Abort, M: Monitor<Table>>(rt: &R, m: &M, out: M::Out)
     expect_same(rt, (once, twice), (Ok(()), Err(NotEating)));
 }
 
-fn gets_up<R: Wait + Abort>(rt: &R, alloc: Global) {
+#[test]
+fn nobody_gets_up_where_nobody_eats(host: HostRuntime) {
+    let (rt, alloc) = (&host, host.alloc());
     let (fake, out) = with_answers(rt, alloc, Table::new(), []);
     gets_up_once(rt, &fake, out);
-}
-
-// Does it within the limit.
-fn runs<R: Threads + Wait + Abort + Clock + Sync>(rt: &R, alloc: Global) {
-    within(rt, || gets_up(rt, alloc))
-}
-
-#[test]
-fn nobody_gets_up_where_nobody_eats(rt: HostRuntime) {
-    let alloc = rt.alloc();
-    runs(&rt, alloc);
-    reads_as(&rt, alloc, &NotEating, "nobody eats at the seat");
+    reads_as(rt, alloc, &NotEating, "nobody eats at the seat");
 }
 
 // Opens a latch, and counts it down once more: it stays open, so who passes waits for nobody.
@@ -53,19 +41,11 @@ fn opens_twice<R: Wait, M: Monitor<Latch>>(rt: &R, m: &M, out: M::Out)
 }
 
 // A latch that one count opens, and one that is open.
-fn opens<R: Wait + Abort>(rt: &R, alloc: Global) {
+#[test]
+fn a_latch_that_is_opened_twice_stays_open(host: HostRuntime) {
+    let (rt, alloc) = (&host, host.alloc());
     for left in [1, 0] {
         let (fake, out) = with_answers(rt, alloc, Latch::new(left), []);
         opens_twice(rt, &fake, out);
     }
-}
-
-// Does it within the limit.
-fn opens_within<R: Threads + Wait + Abort + Clock + Sync>(rt: &R, alloc: Global) {
-    within(rt, || opens(rt, alloc))
-}
-
-#[test]
-fn a_latch_that_is_opened_twice_stays_open(rt: HostRuntime) {
-    opens_within(&rt, rt.alloc());
 }

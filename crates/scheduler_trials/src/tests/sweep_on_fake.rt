@@ -3,7 +3,6 @@ ghost use Rattle.std.specs.Prelude.{◌≡◌};
 ghost use Rattle.hoare_law.specs.Priorities.{nobody};
 ghost use Rattle.sweep_schedulers.specs.Heads.{HeadRests};
 
-use crate::tests::awaited::within;
 use crate::tests::compared::expect_same;
 use crate::tests::fake::{take_data, with_answers};
 use crate::tests::rows::drive::{Trip, goes, hands_on};
@@ -16,9 +15,7 @@ use crate::tests::rows::reading::{
 use hoare_law::monitor::Monitor;
 use std::alloc::Global;
 use std::process::Abort;
-use std::rt::Clock;
 use std::sync::Wait;
-use std::thread::Threads;
 use sweep_schedulers::head::Head;
 use sweep_schedulers::readers_writers::ReadersWriters;
 use test_support::fake::{Fake, FakeOut};
@@ -169,56 +166,29 @@ fn meets_late_readers<R: Wait + Abort>(rt: &R, alloc: Global) {
     is_no_writer(rt, &other, place);
 }
 
-/// What a process does on the fake monitor.
-#[derive(Clone, Copy)]
-enum SweepRow {
-    FindsAnotherDisk,
-    FindsTheDrive,
-    /// The last cylinder.
-    GoesToTheLast(u16),
-    ReadsAndWrites,
-    MeetsLateReaders,
-}
-
-// Does what the row says. What comes out wrong fails the test.
-fn acts<R: Wait + Abort>(rt: &R, alloc: Global, row: SweepRow) {
-    match row {
-        SweepRow::FindsAnotherDisk => finds_another_disk(rt, alloc),
-        SweepRow::FindsTheDrive => finds_the_drive(rt, alloc),
-        SweepRow::GoesToTheLast(cylmax) => goes_to_the_last(rt, alloc, cylmax),
-        SweepRow::ReadsAndWrites => reads_and_writes(rt, alloc),
-        SweepRow::MeetsLateReaders => meets_late_readers(rt, alloc),
-    }
-}
-
-// Does it within the limit.
-fn runs<R: Threads + Wait + Abort + Clock + Sync>(rt: &R, alloc: Global, row: SweepRow) {
-    within(rt, || acts(rt, alloc, row))
-}
-
 #[test]
 fn late_off_disk(rt: HostRuntime) {
-    runs(&rt, rt.alloc(), SweepRow::FindsAnotherDisk);
+    finds_another_disk(&rt, rt.alloc());
 }
 
 #[test]
 fn nobody_is_due_where_nobody_waits(rt: HostRuntime) {
-    runs(&rt, rt.alloc(), SweepRow::FindsTheDrive);
+    finds_the_drive(&rt, rt.alloc());
 }
 
 #[test]
 fn a_disk_ends_at_its_last_cylinder(rt: HostRuntime) {
     for cylmax in [0, 100, u16::MAX] {
-        runs(&rt, rt.alloc(), SweepRow::GoesToTheLast(cylmax));
+        goes_to_the_last(&rt, rt.alloc(), cylmax);
     }
 }
 
 #[test]
 fn the_most_readers_are_in(rt: HostRuntime) {
-    runs(&rt, rt.alloc(), SweepRow::ReadsAndWrites);
+    reads_and_writes(&rt, rt.alloc());
 }
 
 #[test]
 fn late_too_many_readers(rt: HostRuntime) {
-    runs(&rt, rt.alloc(), SweepRow::MeetsLateReaders);
+    meets_late_readers(&rt, rt.alloc());
 }

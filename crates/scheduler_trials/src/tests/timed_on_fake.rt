@@ -1,6 +1,5 @@
 //! The alarm clock and the pool on the fake monitor: what is found after a wait is given beforehand.
 
-use crate::tests::awaited::within;
 use crate::tests::compared::expect_same;
 use crate::tests::fake::with_answers;
 use crate::tests::rows::alarm_and_pool::alarm::{ends_the_clock, is_full, is_too_far};
@@ -8,9 +7,7 @@ use crate::tests::rows::alarm_and_pool::pool::{is_no_stream, takes, takes_all, w
 use hoare_law::monitor::Monitor;
 use std::alloc::Global;
 use std::process::Abort;
-use std::rt::Clock;
 use std::sync::Wait;
-use std::thread::Threads;
 use timed_schedulers::alarm::Alarm;
 use timed_schedulers::pool::Pool;
 
@@ -86,49 +83,23 @@ fn takes_the_most<R: Wait + Abort>(rt: &R, alloc: Global) {
     takes_all(rt, &fake, out);
 }
 
-/// What a process does on the fake monitor.
-#[derive(Clone, Copy)]
-enum TimedRow {
-    WakesTwice,
-    MeetsTheLastTime,
-    TicksToTheLastTime,
-    FindsAnotherPool,
-    TakesTheMost,
-}
-
-// Does what the row says. What comes out wrong fails the test.
-fn acts<R: Wait + Abort>(rt: &R, alloc: Global, row: TimedRow) {
-    match row {
-        TimedRow::WakesTwice => wakes_twice(rt, alloc),
-        TimedRow::MeetsTheLastTime => meets_the_last_time(rt, alloc),
-        TimedRow::TicksToTheLastTime => ticks_to_the_last_time(rt, alloc),
-        TimedRow::FindsAnotherPool => finds_another_pool(rt, alloc),
-        TimedRow::TakesTheMost => takes_the_most(rt, alloc),
-    }
-}
-
-// Does it within the limit.
-fn runs<R: Threads + Wait + Abort + Clock + Sync>(rt: &R, alloc: Global, row: TimedRow) {
-    within(rt, || acts(rt, alloc, row))
-}
-
 #[test]
 fn a_sleeper_waits_until_its_setting(rt: HostRuntime) {
-    runs(&rt, rt.alloc(), TimedRow::WakesTwice);
+    wakes_twice(&rt, rt.alloc());
 }
 
 #[test]
 fn the_last_time_is_one_that_is_met(rt: HostRuntime) {
-    runs(&rt, rt.alloc(), TimedRow::MeetsTheLastTime);
-    runs(&rt, rt.alloc(), TimedRow::TicksToTheLastTime);
+    meets_the_last_time(&rt, rt.alloc());
+    ticks_to_the_last_time(&rt, rt.alloc());
 }
 
 #[test]
 fn late_no_stream(rt: HostRuntime) {
-    runs(&rt, rt.alloc(), TimedRow::FindsAnotherPool);
+    finds_another_pool(&rt, rt.alloc());
 }
 
 #[test]
 fn all_buffers_of_the_largest_pool_are_taken_in_order(rt: HostRuntime) {
-    runs(&rt, rt.alloc(), TimedRow::TakesTheMost);
+    takes_the_most(&rt, rt.alloc());
 }

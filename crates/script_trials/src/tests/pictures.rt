@@ -3,6 +3,7 @@ mod charts;
 mod faults;
 mod svgs;
 
+use crate::tests::compared::expect_same;
 use script_picture::fault::PictureFault;
 use script_picture::picture::{Form, draw_script};
 use std::alloc::Global;
@@ -15,7 +16,8 @@ const HAND_OVER: &[u8] =
 
 // Three wait on a Mesa condition, a fourth calls all of them, and a fifth comes behind them.
 const BROADCAST: &[u8] =
-    b"monitor 5 1 1\nenter 0\nwait 0 0 2\nenter 1\nwait 1 0 1\nenter 2\nwait 2 0 1\nenter 3\nbroadcast 3 0\nenter 4\nleave 3\nenter 4\nleave 1\nleave 2\nleave 0\nenter 4\nleave 4\n";
+    b"monitor 5 1 1\nenter 0\nwait 0 0 2\nenter 1\nwait 1 0 1\nenter 2\nwait 2 0 1\nenter 3\nbroadcast 3 0\nenter 4\n\
+        leave 3\nenter 4\nleave 1\nleave 2\nleave 0\nenter 4\nleave 4\n";
 
 // What a script is drawn as, and how it ends.
 fn drawn(alloc: Global, script: &[u8], form: Form) -> (Result<(), PictureFault>, Vec<u8>) {
@@ -28,7 +30,7 @@ fn drawn(alloc: Global, script: &[u8], form: Form) -> (Result<(), PictureFault>,
 // What a script without a fault is drawn as.
 fn drawn_whole<R: Abort + AllocGlobal>(rt: &R, script: &[u8], form: Form) -> Vec<u8> {
     let (result, text) = drawn(rt.alloc(), script, form);
-    assert_eq!(rt; result, Ok(()));
+    expect_same(rt, result, Ok(()));
     text
 }
 
@@ -40,8 +42,7 @@ fn is_drawn<R: Abort + AllocGlobal>(
     lines: &[u8],
 ) {
     let (result, text) = drawn(rt.alloc(), script, Form::Text);
-    assert_eq!(rt; result, wanted);
-    assert_eq!(rt; text.as_slice(), lines);
+    expect_same(rt, (result, text.as_slice()), (wanted, lines));
 }
 
 // How often a text stands in another.

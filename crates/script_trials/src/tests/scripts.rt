@@ -8,6 +8,7 @@ mod parts;
 mod reading;
 mod rows;
 
+use crate::tests::compared::expect_same;
 use hoare_script::{ScriptFault, run};
 use std::alloc::Global;
 use std::process::Abort;
@@ -28,6 +29,5 @@ fn is_told<R: Abort + AllocGlobal>(
     answers: &[u8],
 ) {
     let (result, written) = told(rt.alloc(), script);
-    assert_eq!(rt; result, wanted);
-    assert_eq!(rt; written.as_slice(), answers);
+    expect_same(rt, (result, written.as_slice()), (wanted, answers));
 }

@@ -1,4 +1,5 @@
 //! How a value is shown.
+use crate::tests::compared::expect_same;
 use std::fmt::Display;
 use std::process::Abort;
 use std::test::Fail;
@@ -10,6 +11,6 @@ pub fn reads<R: Abort + AllocGlobal, T: Display>(
     text: &str,
 ) -> Result<(), Fail> {
     let found = format!(in rt.alloc(); "{shown}")?;
-    assert_eq!(rt; found.as_str(), text);
+    expect_same(rt, found.as_str(), text);
     Ok(())
 }

@@ -1,6 +1,6 @@
 //! How many workers are at work at once, by what `begin` sees: four jobs at a time wait until all four have begun. A
 //! service with fewer workers at work, or with one thread for all jobs, can't do it.
-use crate::tests::limit::in_time;
+use crate::tests::compared::expect_same;
 use disk_service::{Gate, Jobs, Report, ServiceFault, serve, serve_tickets};
 use std::alloc::{AllocError, Global};
 use std::process::Abort;
@@ -141,25 +141,23 @@ fn assert_at_once<R: Abort>(rt: &R, answer: Result<Report, ServiceFault>, gate: 
     let Ok(report) = answer else {
         panic!(rt; "no report")
     };
-    assert_eq!(rt; report.lines.len(), JOBS);
-    assert_eq!(rt;
-        gate.seen(),
-        Seen {
-            begun_once: JOBS,
-            ended_once: JOBS,
-            before_an_end: WORKERS,
-            ended: JOBS,
-            most_at_work: WORKERS,
-            gave_up: false,
-        }
-    );
+    expect_same(rt, report.lines.len(), JOBS);
+    let wanted = Seen {
+        begun_once: JOBS,
+        ended_once: JOBS,
+        before_an_end: WORKERS,
+        ended: JOBS,
+        most_at_work: WORKERS,
+        gave_up: false,
+    };
+    expect_same(rt, gate.seen(), wanted);
 }
 
 #[test]
 fn four_at_once(rt: HostRuntime) -> Result<(), Fail> {
     let jobs = some_jobs(rt.alloc())?;
     let gate = AtOnce::of(rt.alloc(), TURNS)?;
-    let answer = in_time(&rt, || serve(&rt, rt.alloc(), &jobs, &gate));
+    let answer = serve(&rt, rt.alloc(), &jobs, &gate);
     assert_at_once(&rt, answer, &gate);
     Ok(())
 }
@@ -168,7 +166,7 @@ fn four_at_once(rt: HostRuntime) -> Result<(), Fail> {
 fn four_at_once_by_ticket(rt: HostRuntime) -> Result<(), Fail> {
     let jobs = some_jobs(rt.alloc())?;
     let gate = AtOnce::of(rt.alloc(), TURNS)?;
-    let answer = in_time(&rt, || serve_tickets(&rt, rt.alloc(), &jobs, &gate));
+    let answer = serve_tickets(&rt, rt.alloc(), &jobs, &gate);
     assert_at_once(&rt, answer, &gate);
     Ok(())
 }
@@ -182,12 +180,14 @@ fn one_at_a_time_is_seen(rt: HostRuntime) -> Result<(), Fail> {
         gate.begin(job);
         gate.end(job);
     }
-    let seen = gate.seen();
-    assert_eq!(rt;
-        (seen.begun_once, seen.ended_once, seen.ended),
-        (JOBS, JOBS, JOBS)
-    );
-    assert_eq!(rt; (seen.before_an_end, seen.most_at_work), (1, 1));
-    assert!(rt; seen.gave_up);
+    let wanted = Seen {
+        begun_once: JOBS,
+        ended_once: JOBS,
+        before_an_end: 1,
+        ended: JOBS,
+        most_at_work: 1,
+        gave_up: true,
+    };
+    expect_same(&rt, gate.seen(), wanted);
     Ok(())
 }

@@ -1,6 +1,6 @@
 //! The first job is held up until all others are done, with other workers. A service with one worker for them all can't
 //! do it.
-use crate::tests::limit::in_time;
+use crate::tests::compared::expect_same;
 use disk_service::{Done, Gate, Jobs, Report, ServiceFault, serve, serve_tickets};
 use std::alloc::Global;
 use std::process::Abort;
@@ -77,16 +77,16 @@ fn assert_in_order<R: Abort>(rt: &R, answer: Result<Report, ServiceFault>, gate:
     );
     for (job, done) in report.lines.iter().enumerate() {
         assert_eq!(rt; *done, Done::of(job as u32, 3));
-        assert_eq!(rt; done.block(), 26);
+        expect_same(rt, done.block(), 26);
     }
-    assert_eq!(rt; gate.seen(), (16, false));
+    expect_same(rt, gate.seen(), (16, false));
 }
 
 #[test]
 fn first_job_last(rt: HostRuntime) -> Result<(), Fail> {
     let jobs = equal_jobs(rt.alloc())?;
     let gate = FirstLast::of(TURNS);
-    let answer = in_time(&rt, || serve(&rt, rt.alloc(), &jobs, &gate));
+    let answer = serve(&rt, rt.alloc(), &jobs, &gate);
     assert_in_order(&rt, answer, &gate);
     Ok(())
 }
@@ -95,7 +95,7 @@ fn first_job_last(rt: HostRuntime) -> Result<(), Fail> {
 fn first_job_last_by_ticket(rt: HostRuntime) -> Result<(), Fail> {
     let jobs = equal_jobs(rt.alloc())?;
     let gate = FirstLast::of(TURNS);
-    let answer = in_time(&rt, || serve_tickets(&rt, rt.alloc(), &jobs, &gate));
+    let answer = serve_tickets(&rt, rt.alloc(), &jobs, &gate);
     assert_in_order(&rt, answer, &gate);
     Ok(())
 }
@@ -108,5 +108,5 @@ fn first_job_first_looks_gave_up(rt: HostRuntime) {
         gate.begin(job);
         gate.end(job);
     }
-    assert_eq!(rt; gate.seen(), (16, true));
+    expect_same(&rt, gate.seen(), (16, true));
 }

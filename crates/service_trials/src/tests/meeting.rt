@@ -1,6 +1,6 @@
 //! Two workers meet: each begins its job only once the other has begun its own. A service that does its jobs one after
 //! another can't do it.
-use crate::tests::limit::in_time;
+use crate::tests::compared::expect_same;
 use disk_service::{Done, Gate, Jobs, Report, ServiceFault, serve, serve_tickets};
 use std::alloc::Global;
 use std::process::Abort;
@@ -80,19 +80,17 @@ fn assert_met<R: Abort>(rt: &R, answer: Result<Report, ServiceFault>, meeting: &
     let Ok(report) = answer else {
         panic!(rt; "no report")
     };
-    assert_eq!(rt;
-        report.lines.as_slice(),
-        [Done::of(0, 300), Done::of(1, 3)].as_slice()
-    );
-    assert_eq!(rt; (report.jobs, report.sum), (2, 24_507));
-    assert!(rt; meeting.have_met());
+    let lines = [Done::of(0, 300), Done::of(1, 3)];
+    expect_same(rt, report.lines.as_slice(), lines.as_slice());
+    let totals = (report.jobs, report.sum, meeting.have_met());
+    expect_same(rt, totals, (2, 24_507, true));
 }
 
 #[test]
 fn two_workers_meet(rt: HostRuntime) -> Result<(), Fail> {
     let jobs = two_jobs(rt.alloc())?;
     let meeting = Meeting::of(TURNS);
-    let answer = in_time(&rt, || serve(&rt, rt.alloc(), &jobs, &meeting));
+    let answer = serve(&rt, rt.alloc(), &jobs, &meeting);
     assert_met(&rt, answer, &meeting);
     Ok(())
 }
@@ -101,7 +99,7 @@ fn two_workers_meet(rt: HostRuntime) -> Result<(), Fail> {
 fn two_workers_meet_by_ticket(rt: HostRuntime) -> Result<(), Fail> {
     let jobs = two_jobs(rt.alloc())?;
     let meeting = Meeting::of(TURNS);
-    let answer = in_time(&rt, || serve_tickets(&rt, rt.alloc(), &jobs, &meeting));
+    let answer = serve_tickets(&rt, rt.alloc(), &jobs, &meeting);
     assert_met(&rt, answer, &meeting);
     Ok(())
 }

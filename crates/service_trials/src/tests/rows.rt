@@ -1,5 +1,5 @@
 //! Whole job files, on both kinds of doors: what `run` writes, or why it writes nothing.
-use crate::tests::limit::in_time;
+use crate::tests::compared::expect_same;
 use disk_service::{Kind, ServiceFault, run};
 use std::alloc::{AllocError, Global};
 use std::io::Write;
@@ -34,9 +34,9 @@ fn three_reads(rt: HostRuntime) {
             b"disk 400 1\nread 0\nread 3\nread 300\n".as_slice(),
             b"disk 400 4\nread 0\nread 3\nread 300\n".as_slice(),
         ] {
-            let (result, written) = in_time(&rt, || ran(&rt, rt.alloc(), kind, file));
-            assert_eq!(rt; result, Ok(()), "{kind:?}");
-            assert_eq!(rt; written.as_slice(), THREE_READS, "{kind:?}");
+            let (result, written) = ran(&rt, rt.alloc(), kind, file);
+            let found = (kind, result, written.as_slice());
+            expect_same(&rt, found, (kind, Ok(()), THREE_READS));
         }
     }
 }
@@ -67,9 +67,9 @@ fn job_file_limits(rt: HostRuntime) {
                 b"".as_slice(),
             ),
         ] {
-            let (result, written) = in_time(&rt, || ran(&rt, rt.alloc(), kind, file));
-            assert_eq!(rt; result, result_wanted, "{kind:?}");
-            assert_eq!(rt; written.as_slice(), wanted, "{kind:?}");
+            let (result, written) = ran(&rt, rt.alloc(), kind, file);
+            let found = (kind, result, written.as_slice());
+            expect_same(&rt, found, (kind, result_wanted, wanted));
         }
     }
 }
@@ -87,9 +87,9 @@ fn many_lines(alloc: Global, jobs: u32) -> Result<Vec<u8>, AllocError> {
 fn one_job_too_many(rt: HostRuntime) -> Result<(), Fail> {
     let file = many_lines(rt.alloc(), 4097)?;
     for kind in KINDS {
-        let (result, written) = in_time(&rt, || ran(&rt, rt.alloc(), kind, file.as_slice()));
-        assert_eq!(rt; result, Err(ServiceFault::BadLine(4098)), "{kind:?}");
-        assert_eq!(rt; written.len(), 0, "{kind:?}");
+        let (result, written) = ran(&rt, rt.alloc(), kind, file.as_slice());
+        let found = (kind, result, written.len());
+        expect_same(&rt, found, (kind, Err(ServiceFault::BadLine(4098)), 0));
     }
     Ok(())
 }

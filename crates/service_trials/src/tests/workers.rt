@@ -1,10 +1,8 @@
 //! The report is the same with any number of workers, byte for byte, and it is the one that is worked out here, apart.
-use crate::tests::limit::in_time;
 use disk_service::{Jobs, NoGate, ServiceFault, serve, write_report};
 use std::alloc::{AllocError, Global};
 use std::io::Write;
 use std::process::Abort;
-use std::rt::Clock;
 use std::sync::Wait;
 use std::test::Fail;
 use std::thread::Threads;
@@ -50,14 +48,14 @@ fn reported<R: Threads + Wait + Sync>(
     Ok(text)
 }
 
-fn assert_reported<R: Threads + Wait + Abort + Clock + Sync>(
+fn assert_reported<R: Threads + Wait + Abort + Sync>(
     rt: &R,
     alloc: Global,
     workers: u32,
 ) -> Result<(), Fail> {
     let cylinders = drawn(alloc)?;
     let wanted = wanted(alloc, cylinders.as_slice())?;
-    let text = in_time(rt, || reported(rt, alloc, workers, cylinders));
+    let text = reported(rt, alloc, workers, cylinders);
     assert!(rt; text == Ok(wanted));
     Ok(())
 }

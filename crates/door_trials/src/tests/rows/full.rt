@@ -2,6 +2,7 @@
 ghost use Rattle.std.specs.Prelude.{◌≡◌};
 
 use crate::tests::compared::expect_same;
+use any_door::DoorKind;
 use hoare_law::monitor::Monitor;
 use hoare_law::unasked::Unasked;
 use hoare_law::waits::Waits;
@@ -101,25 +102,14 @@ fn stands_in_order<R: Abort>(rt: &R, alloc: Global, row: &[usize]) {
     expect_same(rt, row, expected.as_slice());
 }
 
-// The row on one door.
-macro_rules! fill {
-    ($rt:ident, $alloc:ident, $door:ident($($given:expr)?)) => {{
+#[test]
+fn sixty_four_places_wait_on_each_door(host: HostRuntime) {
+    let (rt, alloc) = (&host, host.alloc());
+    for kind in DoorKind::BOTH {
         let data = Row {
-            value: no_places($rt, $alloc),
+            value: no_places(rt, alloc),
         };
-        let (row, _) = run_row!($rt, $alloc, $door($($given)?), waits_in_row(), data, PLACES);
-        stands_in_order($rt, $alloc, row.value.as_slice());
-    }};
-}
-
-#[test]
-fn sixty_four_places_wait_on_a_baton_door(host: HostRuntime) {
-    let (rt, alloc) = (&host, host.alloc());
-    fill!(rt, alloc, on_baton_door());
-}
-
-#[test]
-fn sixty_four_places_wait_on_a_ticket_door(host: HostRuntime) {
-    let (rt, alloc) = (&host, host.alloc());
-    fill!(rt, alloc, on_ticket_door(0));
+        let (row, _) = run_row!(rt, alloc, on_any_door(kind), waits_in_row(), data, PLACES);
+        stands_in_order(rt, alloc, row.value.as_slice());
+    }
 }

@@ -3,6 +3,7 @@
 ghost use Rattle.std.specs.Prelude.{◌≡◌};
 
 use crate::tests::compared::expect_same;
+use any_door::DoorKind;
 use hoare_law::monitor::Monitor;
 use std::alloc::Global;
 use std::process::Abort;
@@ -154,26 +155,30 @@ pub fn agrees<R: Abort>(rt: &R, diary: &Diary, rounds: u64) {
     assert!(rt; resumed.min(called).min(went_on) as u64 >= rounds / 20);
 }
 
-// So many rounds on one door.
-macro_rules! write_diaries {
-    ($rt:ident, $alloc:ident, $rounds:expr, $door:ident($($given:expr)?)) => {{
+// How many rounds each place has, by the kind of the door.
+fn rounds_on(kind: DoorKind) -> u64 {
+    match kind {
+        DoorKind::Baton => ROUNDS,
+        DoorKind::Ticket => TICKET_ROUNDS,
+    }
+}
+
+#[test]
+fn a_diary_of_each_door_is_a_legal_history(host: HostRuntime) {
+    let (rt, alloc) = (&host, host.alloc());
+    for kind in DoorKind::BOTH {
+        let rounds = rounds_on(kind);
         for day in 0..DAYS {
-            let data = empty_diary($rt, $alloc);
-            let (diary, _) =
-                run_row!($rt, $alloc, $door($($given)?), works_or_sweeps($rounds, day), data, PLACES);
-            agrees($rt, &diary, $rounds);
+            let data = empty_diary(rt, alloc);
+            let (diary, _) = run_row!(
+                rt,
+                alloc,
+                on_any_door(kind),
+                works_or_sweeps(rounds, day),
+                data,
+                PLACES
+            );
+            agrees(rt, &diary, rounds);
         }
-    }};
-}
-
-#[test]
-fn a_diary_of_a_baton_door_is_a_legal_history(host: HostRuntime) {
-    let (rt, alloc) = (&host, host.alloc());
-    write_diaries!(rt, alloc, ROUNDS, on_baton_door());
-}
-
-#[test]
-fn a_diary_of_a_ticket_door_is_a_legal_history(host: HostRuntime) {
-    let (rt, alloc) = (&host, host.alloc());
-    write_diaries!(rt, alloc, TICKET_ROUNDS, on_ticket_door(0));
+    }
 }

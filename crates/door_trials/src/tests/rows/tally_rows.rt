@@ -8,6 +8,7 @@ use crate::tests::rows::tally::{
 use crate::tests::rows::tries::{PLACES, adds_on, waits_or_tries};
 use crate::tests::rows::wakes::{comes_late, waits_long};
 use crate::tests::rows::{naps, tries};
+use any_door::DoorKind;
 use hoare_law::monitor::Monitor;
 use std::process::Abort;
 use std::rt::Clock;
@@ -15,7 +16,6 @@ use std::sync::Wait;
 use std::sync::atomic::{AtomicBool, AtomicUsize};
 use std::time::CpuClock;
 use test_support::run_row;
-use test_support::running::{BATON, TICKET};
 use test_support::tally::{Tally, calls_all};
 
 /// The rows of a tally.
@@ -100,18 +100,19 @@ fn agrees(row: TallyRow<'_>, value: u64, answers: &[u64]) -> bool {
 }
 
 // Where the row left or answered something else the test fails.
-fn holds<R: Abort>(rt: &R, door: &str, row: TallyRow<'_>, left: (Tally, Vec<u64>)) {
+fn holds<R: Abort>(rt: &R, kind: DoorKind, row: TallyRow<'_>, left: (Tally, Vec<u64>)) {
     let (tally, answers) = left;
     assert!(rt;
         agrees(row, tally.value, answers.as_slice()),
-        "the {door} left {}, answered {answers:?}",
+        "the {kind:?} door left {}, answered {answers:?}",
         tally.value
     );
 }
 
-// The rows on one door.
-macro_rules! rows_of_a_tally {
-    ($rt:ident, $alloc:ident, $name:expr, $door:ident($($given:expr)?)) => {{
+#[test]
+fn a_tally_on_each_door(host: HostRuntime) {
+    let (rt, alloc) = (&host, host.alloc());
+    for kind in DoorKind::BOTH {
         let sign = AtomicBool::new(false);
         let signs = Signs::new();
         let gone = AtomicUsize::new(0);
@@ -129,20 +130,8 @@ macro_rules! rows_of_a_tally {
             TallyRow::EightComeInBesideEightBusyThreads(&gone),
         ] {
             let data = Tally { value: 0 };
-            let left = run_row!($rt, $alloc, $door($($given)?), acts(row), data, places(row));
-            holds($rt, $name, row, left);
+            let left = run_row!(rt, alloc, on_any_door(kind), acts(row), data, places(row));
+            holds(rt, kind, row, left);
         }
-    }};
-}
-
-#[test]
-fn a_tally_on_a_baton_door(host: HostRuntime) {
-    let (rt, alloc) = (&host, host.alloc());
-    rows_of_a_tally!(rt, alloc, BATON, on_baton_door());
-}
-
-#[test]
-fn a_tally_on_a_ticket_door(host: HostRuntime) {
-    let (rt, alloc) = (&host, host.alloc());
-    rows_of_a_tally!(rt, alloc, TICKET, on_ticket_door(0));
+    }
 }

@@ -10,6 +10,7 @@ use crate::tests::rows::head_stay::{ASKING, asks_or_counts};
 use crate::tests::rows::head_stress::{CYLMAX, Line, PLACES, is_a_sweep, travels};
 use crate::tests::rows::shared_log::Log;
 use crate::tests::rows::turns::{Turns, line_up};
+use any_door::DoorKind;
 use hoare_law::monitor::Monitor;
 use std::alloc::Global;
 use std::process::Abort;
@@ -18,7 +19,6 @@ use std::sync::Wait;
 use sweep_schedulers::head::{Head, OffDisk};
 use sweep_schedulers::not_out::NotOut;
 use test_support::run_row;
-use test_support::running::{BATON, TICKET};
 
 /// Takes the drive to cylinder 50, twice where the plan has an idle drive once, and keeps it the last time; hands
 /// it on once the others wait; and takes it to the cylinder `last` when all others had it. The drive has to have
@@ -207,34 +207,23 @@ fn setting(row: HeadRow<'_>) -> (u16, usize) {
     }
 }
 
-// The rows on one door.
-macro_rules! rows_of_a_head {
-    ($rt:ident, $alloc:ident, $name:expr, $door:ident($($given:expr)?)) => {{
+#[test]
+fn a_disk_head_on_each_door(host: HostRuntime) {
+    let (rt, alloc) = (&host, host.alloc());
+    for kind in DoorKind::BOTH {
         let turns = Turns::new();
-        let log = Log::new($rt, $alloc, 10_000);
+        let log = Log::new(rt, alloc, 10_000);
         for row in [
-            HeadRow::ByPlan($alloc, &turns, &SWEEP_ORDER),
-            HeadRow::ByPlan($alloc, &turns, &IDLE_RELEASE_TURNS),
+            HeadRow::ByPlan(alloc, &turns, &SWEEP_ORDER),
+            HeadRow::ByPlan(alloc, &turns, &IDLE_RELEASE_TURNS),
             HeadRow::StayCountsGrants(&turns),
             HeadRow::TheDriveGoesBySweeps(&log),
         ] {
             let (cylmax, places) = setting(row);
-            let head = disk($alloc, cylmax);
-            let (_, answers) = run_row!($rt, $alloc, $door($($given)?), acts(row), head, places);
-            all_answered($rt, $name, answers.as_slice(), places);
+            let head = disk(alloc, cylmax);
+            let (_, answers) = run_row!(rt, alloc, on_any_door(kind), acts(row), head, places);
+            all_answered(rt, kind, answers.as_slice(), places);
         }
-        is_a_sweep($rt, log);
-    }};
-}
-
-#[test]
-fn a_disk_head_on_a_baton_door(host: HostRuntime) {
-    let (rt, alloc) = (&host, host.alloc());
-    rows_of_a_head!(rt, alloc, BATON, on_baton_door());
-}
-
-#[test]
-fn a_disk_head_on_a_ticket_door(host: HostRuntime) {
-    let (rt, alloc) = (&host, host.alloc());
-    rows_of_a_head!(rt, alloc, TICKET, on_ticket_door(0));
+        is_a_sweep(rt, log);
+    }
 }

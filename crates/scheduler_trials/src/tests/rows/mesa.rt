@@ -4,6 +4,7 @@ ghost use Rattle.plain_schedulers.specs.Buffers.{BufferHolds};
 
 use crate::tests::compared::expect_same;
 use crate::tests::rows::turns::{Turns, line_up};
+use any_door::DoorKind;
 use hoare_law::monitor::Monitor;
 use plain_schedulers::buffer::mesa::MesaBuffer;
 use plain_schedulers::buffer::{BufferRefused, NONEMPTY, NONFULL};
@@ -12,7 +13,7 @@ use std::process::Abort;
 use std::rt::Clock;
 use std::sync::Wait;
 use test_support::run_row;
-use test_support::running::{BATON, TICKET, count_waiting};
+use test_support::running::count_waiting;
 
 /// A buffer of this many cells, with Mesa conditions.
 fn with_cells<R: Abort>(rt: &R, alloc: Global, cells: usize) -> MesaBuffer<u64>
@@ -150,32 +151,24 @@ fn agrees(row: MesaRow<'_>, answers: &[u64]) -> bool {
     }
 }
 
-// The rows on one door.
-macro_rules! rows_of_a_buffer {
-    ($rt:ident, $alloc:ident, $name:expr, $door:ident($($given:expr)?)) => {{
+#[test]
+fn who_is_called_tests_again_on_each_door(host: HostRuntime) {
+    let (rt, alloc) = (&host, host.alloc());
+    for kind in DoorKind::BOTH {
         let turns = Turns::new();
         for row in [
             MesaRow::WhoIsCalledTestsAgain(&turns),
             MesaRow::NoItemIsLostBetweenCalledPlaces,
         ] {
             let (cells, places) = setting(row);
-            let buffer = with_cells($rt, $alloc, cells);
-            let (_, answers) = run_row!($rt, $alloc, $door($($given)?), acts(row), buffer, places);
-            assert!($rt; agrees(row, answers.as_slice()), "the {} answered {answers:?}", $name);
+            let buffer = with_cells(rt, alloc, cells);
+            let (_, answers) = run_row!(rt, alloc, on_any_door(kind), acts(row), buffer, places);
+            assert!(rt;
+                agrees(row, answers.as_slice()),
+                "the {kind:?} door answered {answers:?}"
+            );
         }
-    }};
-}
-
-#[test]
-fn who_is_called_tests_again_on_a_baton_door(host: HostRuntime) {
-    let (rt, alloc) = (&host, host.alloc());
-    rows_of_a_buffer!(rt, alloc, BATON, on_baton_door());
-}
-
-#[test]
-fn who_is_called_tests_again_on_a_ticket_door(host: HostRuntime) {
-    let (rt, alloc) = (&host, host.alloc());
-    rows_of_a_buffer!(rt, alloc, TICKET, on_ticket_door(0));
+    }
 }
 
 #[test]

@@ -11,6 +11,7 @@ use crate::tests::rows::reading::{
 };
 use crate::tests::rows::shared_log::Log;
 use crate::tests::rows::turns::{Turns, line_up};
+use any_door::DoorKind;
 use hoare_law::monitor::Monitor;
 use std::alloc::Global;
 use std::process::Abort;
@@ -19,7 +20,6 @@ use std::sync::Wait;
 use std::sync::atomic::AtomicU32;
 use sweep_schedulers::readers_writers::{NoReader, ReadersWriters};
 use test_support::run_row;
-use test_support::running::{BATON, TICKET};
 
 /// Writes a number where this one stands, and tries to write another, which comes back.
 pub fn writes<R: Wait + Abort, M: Monitor<Shared>>(
@@ -236,36 +236,25 @@ fn agrees(row: ReadersRow<'_>, value: u64) -> bool {
     }
 }
 
-// The rows on one door.
-macro_rules! rows_of_readers {
-    ($rt:ident, $alloc:ident, $name:expr, $door:ident($($given:expr)?)) => {{
+#[test]
+fn readers_and_writers_on_each_door(host: HostRuntime) {
+    let (rt, alloc) = (&host, host.alloc());
+    for kind in DoorKind::BOTH {
         let turns = Turns::new();
         let ended = AtomicU32::new(0);
-        let log = Log::new($rt, $alloc, 10_000);
+        let log = Log::new(rt, alloc, 10_000);
         for row in [
-            ReadersRow::ReadersAndWriters($alloc, &turns),
+            ReadersRow::ReadersAndWriters(alloc, &turns),
             ReadersRow::WriterBeforeLateReader(&turns, &ended),
             ReadersRow::NoReaderIsInBesideAWriter(&log),
         ] {
             let (value, places) = setting(row);
             let data = ReadersWriters::with(value);
-            let (shared, answers) = run_row!($rt, $alloc, $door($($given)?), acts(row), data, places);
-            all_answered($rt, $name, answers.as_slice(), places);
+            let (shared, answers) = run_row!(rt, alloc, on_any_door(kind), acts(row), data, places);
+            all_answered(rt, kind, answers.as_slice(), places);
             let value = shared.into_value();
-            assert!($rt; agrees(row, value), "the {} left {value}", $name);
+            assert!(rt; agrees(row, value), "the {kind:?} door left {value}");
         }
-        is_read_and_written($rt, log);
-    }};
-}
-
-#[test]
-fn readers_and_writers_on_a_baton_door(host: HostRuntime) {
-    let (rt, alloc) = (&host, host.alloc());
-    rows_of_readers!(rt, alloc, BATON, on_baton_door());
-}
-
-#[test]
-fn readers_and_writers_on_a_ticket_door(host: HostRuntime) {
-    let (rt, alloc) = (&host, host.alloc());
-    rows_of_readers!(rt, alloc, TICKET, on_ticket_door(0));
+        is_read_and_written(rt, log);
+    }
 }

@@ -4,6 +4,7 @@ ghost use Rattle.std.specs.Prelude.{◌≡◌};
 use crate::tests::awaited::{await_sign, watch};
 use crate::tests::compared::{answered, expect_same};
 use crate::tests::fake::with_cells;
+use any_door::DoorKind;
 use hoare_law::monitor::Monitor;
 use plain_schedulers::buffer::{Buffer, BufferRefused};
 use plain_schedulers::single::{NotOut, Single};
@@ -12,7 +13,6 @@ use std::rt::Clock;
 use std::sync::Wait;
 use std::sync::atomic::{AtomicBool, Ordering};
 use test_support::run_row;
-use test_support::running::{BATON, TICKET};
 
 // Takes the item, gives a sign, lets another place wait for it, and puts it back: what it took.
 fn lends<R: Wait + Abort, M: Monitor<Single<u64>>>(
@@ -104,49 +104,41 @@ fn appends_or_removes<R: Wait, M: Monitor<Buffer<u64>>>(
     (out, in_turn)
 }
 
-// The item on one door.
-macro_rules! lend_an_item {
-    ($rt:ident, $alloc:ident, $name:expr, $door:ident($($given:expr)?)) => {{
+#[test]
+fn an_item_is_lent_on_each_door(host: HostRuntime) {
+    let (rt, alloc) = (&host, host.alloc());
+    for kind in DoorKind::BOTH {
         let sign = AtomicBool::new(false);
         let single = Single::with(7u64);
-        let (_, answers) = run_row!($rt, $alloc, $door($($given)?), lends_or_borrows(&sign), single, 2);
-        answered($rt, $name, answers.as_slice(), &[7, 7]);
-    }};
+        let (_, answers) = run_row!(
+            rt,
+            alloc,
+            on_any_door(kind),
+            lends_or_borrows(&sign),
+            single,
+            2
+        );
+        answered(rt, kind, answers.as_slice(), &[7, 7]);
+    }
 }
 
 #[test]
-fn an_item_is_lent_on_a_baton_door(host: HostRuntime) {
+fn items_come_out_in_order_on_each_door(host: HostRuntime) {
     let (rt, alloc) = (&host, host.alloc());
-    lend_an_item!(rt, alloc, BATON, on_baton_door());
-}
-
-#[test]
-fn an_item_is_lent_on_a_ticket_door(host: HostRuntime) {
-    let (rt, alloc) = (&host, host.alloc());
-    lend_an_item!(rt, alloc, TICKET, on_ticket_door(0));
-}
-
-// Buffers of one cell and of the most, on one door.
-macro_rules! fill_buffers {
-    ($rt:ident, $alloc:ident, $name:expr, $door:ident($($given:expr)?)) => {{
+    for kind in DoorKind::BOTH {
         for (cells, items) in [(1, 4), (4096, 5000)] {
-            let buffer = with_cells($rt, $alloc, cells);
-            let (_, answers) = run_row!($rt, $alloc, $door($($given)?), appends_or_removes(items), buffer, 2);
-            answered($rt, $name, answers.as_slice(), &[0, items]);
+            let buffer = with_cells(rt, alloc, cells);
+            let (_, answers) = run_row!(
+                rt,
+                alloc,
+                on_any_door(kind),
+                appends_or_removes(items),
+                buffer,
+                2
+            );
+            answered(rt, kind, answers.as_slice(), &[0, items]);
         }
-    }};
-}
-
-#[test]
-fn items_come_out_in_order_on_a_baton_door(host: HostRuntime) {
-    let (rt, alloc) = (&host, host.alloc());
-    fill_buffers!(rt, alloc, BATON, on_baton_door());
-}
-
-#[test]
-fn items_come_out_in_order_on_a_ticket_door(host: HostRuntime) {
-    let (rt, alloc) = (&host, host.alloc());
-    fill_buffers!(rt, alloc, TICKET, on_ticket_door(0));
+    }
 }
 
 #[test]

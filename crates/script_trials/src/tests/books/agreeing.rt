@@ -3,6 +3,7 @@
 //! called, whose turn it is and who is outside.
 use super::plain::Plain;
 use super::sized::SizedBook;
+use crate::tests::compared::expect_same;
 use crate::tests::numbers::next_number;
 use crate::tests::past::Past;
 use crate::tests::past::event::Event;
@@ -264,7 +265,7 @@ fn three_monitors_agree(rt: HostRuntime) -> Result<(), Fail> {
     let mut tally = Tally::default();
     for number in 0..HISTORIES {
         let agree = history(rt.alloc(), number, &mut tally)?;
-        assert!(rt; agree, "history {number}");
+        expect_same(&rt, (number, agree), (number, true));
     }
     assert!(rt; is_rich(tally), "{tally:?}");
     Ok(())

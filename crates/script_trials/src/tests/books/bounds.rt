@@ -1,6 +1,6 @@
-//! What waits for nobody has bounds, which no clause says: steps of all kinds of a full book end within a limit of
-//! time.
-use crate::tests::limit::in_time;
+//! What waits for nobody has bounds, which no clause says: steps of all kinds of a full book end, within the minute
+//! that `rt ci` gives a test.
+use crate::tests::compared::expect_same;
 use hoare_law::waits::Waits;
 use std::alloc::Global;
 use wait_book::book::Book;
@@ -57,6 +57,5 @@ fn is_empty_after(alloc: Global) -> Option<bool> {
 #[test]
 fn steps_end_in_time(rt: HostRuntime) {
     let alloc = rt.alloc();
-    let is_empty = in_time(&rt, || is_empty_after(alloc));
-    assert_eq!(rt; is_empty, Some(true));
+    expect_same(&rt, is_empty_after(alloc), Some(true));
 }

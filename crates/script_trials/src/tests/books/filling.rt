@@ -1,6 +1,7 @@
 //! All chains filled and emptied in turn, beside the definitions' filters, which are written once more in `plain`.
 
 use super::plain::Plain;
+use crate::tests::compared::expect_same;
 use crate::tests::numbers::next_number;
 use hoare_law::waits::Waits;
 use std::test::Fail;
@@ -123,20 +124,16 @@ fn fills_and_empties_all_chains(rt: HostRuntime) -> Result<(), Fail> {
         number = next_number(number);
         let part = part_of(i);
         let step = step_of(part, i, &plain, number);
-        assert_eq!(rt; book.try_step(step), plain.step(step), "step {i}: {step:?}");
-        assert!(rt;
-            is_like(&book, &plain, (number >> 56) % 8),
-            "after step {i}"
+        expect_same(&rt, (i, book.try_step(step)), (i, plain.step(step)));
+        expect_same(
+            &rt,
+            (i, is_like(&book, &plain, (number >> 56) % 8)),
+            (i, true),
         );
         most = most.max(plain.signallers());
         if part.kind != Kind::Mixed && i % 1_000 == 999 {
-            let (waiting, held_up) = fullest(part);
-            assert_eq!(rt;
-                (plain.count(part.condition), most),
-                (waiting, held_up),
-                "after step {i}"
-            );
-            assert_eq!(rt; plain.signallers(), 0);
+            let counts = (plain.count(part.condition), most);
+            expect_same(&rt, (i, counts, plain.signallers()), (i, fullest(part), 0));
             most = 0;
         }
     }
@@ -172,11 +169,11 @@ fn fills_and_empties_the_called(rt: HostRuntime) -> Result<(), Fail> {
     for i in 0..10_000u64 {
         number = next_number(number);
         let step = calling_step(&plain, i % 2_000 < 1_000, number);
-        assert_eq!(rt; book.try_step(step), plain.step(step), "step {i}: {step:?}");
-        assert!(rt; is_like(&book, &plain, 7), "after step {i}");
+        expect_same(&rt, (i, book.try_step(step)), (i, plain.step(step)));
+        expect_same(&rt, (i, is_like(&book, &plain, 7)), (i, true));
         most = most.max(plain.called());
         if i % 2_000 == 1_999 {
-            assert_eq!(rt; (plain.called(), most), (0, 63), "after step {i}");
+            expect_same(&rt, (i, plain.called(), most), (i, 0, 63));
             most = 0;
         }
     }

@@ -1,5 +1,6 @@
 //! Steps of a book, and what each answers.
 use super::plain::Plain;
+use crate::tests::compared::expect_same;
 use crate::tests::numbers::next_number;
 use hoare_law::waits::Waits;
 use std::process::Abort;
@@ -16,25 +17,27 @@ fn make_refuses_in_order(rt: HostRuntime) {
         (1, 0, 0, MakeRefused::BadConditions),
         (1, 1, 2, MakeRefused::BadConditions),
     ] {
-        assert_eq!(rt;
-            Book::make(rt.alloc(), places, conditions, mesa).err(),
-            Some(want)
-        );
+        let made = Book::make(rt.alloc(), places, conditions, mesa);
+        expect_same(&rt, made.err(), Some(want));
     }
 }
 
 #[test]
 fn make_takes_the_most(rt: HostRuntime) -> Result<(), Fail> {
     let book = Book::make(rt.alloc(), 64, 8, 8)?;
-    assert!(rt; book.now() == Next::Free && book.outside(63));
-    assert!(rt; !book.queue(7) && book.first(7).is_none() && book.count(7) == 0);
+    expect_same(&rt, (book.now(), book.outside(63)), (Next::Free, true));
+    expect_same(
+        &rt,
+        (book.queue(7), book.first(7), book.count(7)),
+        (false, None, 0),
+    );
     Ok(())
 }
 
 // The book answers a step so.
 fn answers<R: Abort>(rt: &R, book: &mut Book, step: Step, want: Result<Next, StepRefused>) {
     let found = book.try_step(step);
-    assert_eq!(rt; found, want, "at {step:?}");
+    expect_same(rt, (step, found), (step, want));
 }
 
 #[test]
@@ -74,13 +77,14 @@ fn a_book_in_use_answers(rt: HostRuntime) -> Result<(), Fail> {
         book.try_step(Step::Wait(1, 1, 2)),
     );
     let third = book.try_step(Step::Enter(2));
-    assert_eq!(rt; first, (Ok(Next::Held(0)), Ok(Next::Free)));
-    assert_eq!(rt; second, (Ok(Next::Held(1)), Ok(Next::Free)));
-    assert_eq!(rt; third, Ok(Next::Held(2)));
-    assert!(rt; book.now() == Next::Held(2) && book.outside(3) && !book.outside(1));
-    assert!(rt; book.queue(1) && !book.queue(0) && book.first(1) == Some(2));
+    expect_same(&rt, first, (Ok(Next::Held(0)), Ok(Next::Free)));
+    expect_same(&rt, second, (Ok(Next::Held(1)), Ok(Next::Free)));
+    expect_same(&rt, third, Ok(Next::Held(2)));
+    expect_same(&rt, (book.outside(3), book.outside(1)), (true, false));
+    expect_same(&rt, (book.now(), book.first(1)), (Next::Held(2), Some(2)));
+    expect_same(&rt, (book.queue(1), book.queue(0)), (true, false));
     assert_eq!(rt; (book.count(0), book.count(1)), (0, 2));
-    assert_eq!(rt; book.priority(1, 1), 9);
+    expect_same(&rt, book.priority(1, 1), 9);
     Ok(())
 }
 
@@ -189,7 +193,7 @@ fn long_mixed_run(rt: HostRuntime) -> Result<(), Fail> {
         number = next_number(number);
         let waits = if i % 2_000 < 1_000 { 5 } else { 2 };
         let step = mixed_step(plain.now(), waits, number);
-        assert_eq!(rt; book.try_step(step), plain.step(step), "step {i}: {step:?}");
+        expect_same(&rt, (i, book.try_step(step)), (i, plain.step(step)));
     }
     Ok(())
 }
@@ -215,7 +219,7 @@ fn long_mesa_run(rt: HostRuntime) -> Result<(), Fail> {
         number = next_number(number);
         let waits = if i % 2_000 < 1_000 { 5 } else { 2 };
         let step = mesa_step(mixed_step(plain.now(), waits, number), number);
-        assert_eq!(rt; book.try_step(step), plain.step(step), "step {i}: {step:?}");
+        expect_same(&rt, (i, book.try_step(step)), (i, plain.step(step)));
     }
     Ok(())
 }

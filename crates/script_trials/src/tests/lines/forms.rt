@@ -1,11 +1,12 @@
 //! Lines of a form, and how a text is put together.
+use crate::tests::compared::expect_same;
 use arrayvec::ArrayVec;
 use line_text::forms::{one_number, three_numbers, two_numbers};
 use line_text::text::{append, append_number};
 
 #[test]
 fn one_after_a_word(rt: HostRuntime) {
-    assert_eq!(rt; one_number(b"read 7", b"read"), Some(7));
+    expect_same(&rt, one_number(b"read 7", b"read"), Some(7));
     let others: [&[u8]; 8] = [
         b"read 07",
         b"read",
@@ -17,7 +18,7 @@ fn one_after_a_word(rt: HostRuntime) {
         b"",
     ];
     for line in others {
-        assert_eq!(rt; one_number(line, b"read"), None);
+        expect_same(&rt, (line, one_number(line, b"read")), (line, None));
     }
 }
 
@@ -32,7 +33,7 @@ fn two_after_a_word(rt: HostRuntime) {
         (b"Disk 400 1", None),
     ];
     for (line, wanted) in lines {
-        assert_eq!(rt; two_numbers(line, b"disk"), wanted);
+        expect_same(&rt, (line, two_numbers(line, b"disk")), (line, wanted));
     }
 }
 
@@ -47,7 +48,7 @@ fn three_after_a_word(rt: HostRuntime) {
         (b"Monitor 4 2 1", None),
     ];
     for (line, wanted) in lines {
-        assert_eq!(rt; three_numbers(line, b"monitor"), wanted);
+        expect_same(&rt, (line, three_numbers(line, b"monitor")), (line, wanted));
     }
 }
 
@@ -58,8 +59,9 @@ fn words_and_numbers_are_added(rt: HostRuntime) {
     append_number(&mut text, 0);
     append(&mut text, b" sum ");
     append_number(&mut text, u64::MAX);
-    assert_eq!(rt;
+    expect_same(
+        &rt,
         text.as_slice(),
-        b"job 0 sum 18446744073709551615".as_slice()
+        b"job 0 sum 18446744073709551615".as_slice(),
     );
 }

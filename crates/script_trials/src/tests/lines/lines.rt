@@ -1,4 +1,5 @@
 //! Lines, their limits, and what is left behind them.
+use crate::tests::compared::expect_same;
 use arrayvec::ArrayVec;
 use line_text::line::{Ended, Line, LineFault, read_line};
 use line_text::reader::WatchedReader;
@@ -15,11 +16,7 @@ fn check<R: Abort>(
     let mut rest = text;
     let mut line: Line = ArrayVec::new();
     let result = read_line(&mut WatchedReader::new(&mut rest), &mut line, room);
-    assert_eq!(rt; result, wanted.0);
-    assert!(rt;
-        line.as_slice() == wanted.1 && rest == wanted.2,
-        "{line:?}, {rest:?}"
-    );
+    expect_same(rt, (result, line.as_slice(), rest), wanted);
 }
 
 #[test]

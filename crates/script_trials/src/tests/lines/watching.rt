@@ -1,4 +1,5 @@
 //! What a watched reader and a watched writer do to those inside, and what they remember.
+use crate::tests::compared::expect_same;
 use arrayvec::ArrayVec;
 use line_text::line::{Ended, Line, LineFault, read_line};
 use line_text::reader::{ReadFailed, WatchedReader};
@@ -48,10 +49,19 @@ fn reads_are_made_and_counted(rt: HostRuntime) {
         let mut reader = Counting::new(b"ab", fails);
         let mut watched = WatchedReader::new(&mut reader);
         let (first, second) = (watched.read_byte(), watched.read_byte());
-        assert!(rt; first == Ok(Some(b'a')) && second == Ok(Some(b'b')) && !watched.has_failed());
-        assert!(rt; watched.read_byte() == end && watched.has_failed() == fails);
-        assert!(rt; watched.calls() == 3 && watched.bytes() == 2);
-        assert!(rt; reader.calls == 3 && reader.failures == failures && reader.bytes == 2);
+        let bytes = (Ok(Some(b'a')), Ok(Some(b'b')));
+        expect_same(&rt, ((first, second), watched.has_failed()), (bytes, false));
+        expect_same(
+            &rt,
+            (watched.read_byte(), watched.has_failed()),
+            (end, fails),
+        );
+        expect_same(&rt, (watched.calls(), watched.bytes()), (3, 2));
+        expect_same(
+            &rt,
+            (reader.calls, reader.failures, reader.bytes),
+            (3, failures, 2),
+        );
     }
 }
 
@@ -61,10 +71,11 @@ fn line_of_a_failing_reader(rt: HostRuntime) {
     let mut watched = WatchedReader::new(&mut reader);
     let mut line: Line = ArrayVec::new();
     let first = read_line(&mut watched, &mut line, 99);
-    assert!(rt; first == Ok(Ended::Line) && !watched.has_failed());
+    expect_same(&rt, (first, watched.has_failed()), (Ok(Ended::Line), false));
     let second = read_line(&mut watched, &mut line, 99);
-    assert!(rt; second == Err(LineFault::Failed) && watched.has_failed() && watched.calls() == 5);
-    assert!(rt; reader.calls == 5 && reader.bytes == 4);
+    let marks = (watched.has_failed(), watched.calls());
+    expect_same(&rt, (second, marks), (Err(LineFault::Failed), (true, 5)));
+    expect_same(&rt, (reader.calls, reader.bytes), (5, 4));
 }
 
 // Takes two bytes a call while there is room, and then fails or takes nothing, and counts its calls.
@@ -102,9 +113,17 @@ fn writes_are_whole_or_marked(rt: HostRuntime) {
         };
         let mut watched = WatchedWriter::new(&mut writer);
         let first = watched.write_whole(b"abcde");
-        assert!(rt; first.is_ok() && !watched.has_failed());
+        expect_same(&rt, (first, watched.has_failed()), (Ok(()), false));
         let second = watched.write_whole(b"fghi");
-        assert!(rt; second == Err(WriteFailed) && watched.has_failed());
-        assert!(rt; writer.taken.as_slice() == b"abcdefgh".as_slice() && writer.calls == 6);
+        expect_same(
+            &rt,
+            (second, watched.has_failed()),
+            (Err(WriteFailed), true),
+        );
+        expect_same(
+            &rt,
+            (writer.taken.as_slice(), writer.calls),
+            (b"abcdefgh".as_slice(), 6),
+        );
     }
 }

@@ -1,4 +1,5 @@
 //! What a line's words and numbers are.
+use crate::tests::compared::expect_same;
 use line_text::words::{first_word, number};
 
 #[test]
@@ -12,7 +13,7 @@ fn first_words(rt: HostRuntime) {
         (b"a ", b"a", Some(b"")),
     ];
     for (line, word, rest) in lines {
-        assert_eq!(rt; first_word(line), (word, rest));
+        expect_same(&rt, (line, first_word(line)), (line, (word, rest)));
     }
 }
 
@@ -36,6 +37,6 @@ fn numbers(rt: HostRuntime) {
         (b"\xff", None),
     ];
     for (word, value) in words {
-        assert_eq!(rt; number(word), value);
+        expect_same(&rt, (word, number(word)), (word, value));
     }
 }

@@ -1,5 +1,6 @@
 //! Charts that were drawn by hand.
 use super::{BROADCAST, HAND_OVER, drawn_whole, is_drawn, sixty_four_waits};
+use crate::tests::compared::expect_same;
 use script_picture::picture::Form;
 use std::io::Write;
 use std::test::Fail;
@@ -20,7 +21,8 @@ leave 1        .       .       -> free
 #[test]
 fn questions_and_refusals_as_text(rt: HostRuntime) {
     let script =
-        b"monitor 3 2\nqueue 1\nenter 0\nenter 1\nwait 0 1 12345\nfirst 1\nfirst 0\nenter 0\nenter 2\nfirst 2\npass 2 1\nleave 3";
+        b"monitor 3 2\nqueue 1\nenter 0\nenter 1\nwait 0 1 12345\nfirst 1\nfirst 0\nenter 0\nenter 2\nfirst 2\n\
+            pass 2 1\nleave 3";
     let lines = b"monitor 3 2       0           2       (1 idle)
 queue 1           .           .       -> false
 enter 0           [in]        .
@@ -42,7 +44,9 @@ leave 3           [in]        .       -> refused 1 (there is no such place)
 #[test]
 fn every_step_as_text(rt: HostRuntime) {
     let script =
-        b"monitor 4 2\nenter 0\nwait 0 0 7\nenter 1\nwait 1 0 7\nenter 2\nwait 2 1 0\nenter 3\nfirst 0\nqueue 1\nsignal 3 0\nfirst 0\npass 0 1\nenter 0\nleave 2\npass 3 1\nenter 0\nsignal 0 0\nwait 1 1 5\nqueue 0\nfirst 1\nleave 0\nenter 1\n";
+        b"monitor 4 2\nenter 0\nwait 0 0 7\nenter 1\nwait 1 0 7\nenter 2\nwait 2 1 0\nenter 3\nfirst 0\nqueue 1\n\
+            signal 3 0\nfirst 0\npass 0 1\nenter 0\nleave 2\npass 3 1\nenter 0\nsignal 0 0\nwait 1 1 5\nqueue 0\n\
+            first 1\nleave 0\nenter 1\n";
     let lines = b"monitor 4 2    0       1       2       3
 enter 0        [in]    .       .       .
 wait 0 0 7     c0:7    .       .       .       -> free
@@ -105,7 +109,8 @@ leave 4          .           .           .           .       .       -> free
 #[test]
 fn calls_in_order_as_text(rt: HostRuntime) {
     let script =
-        b"monitor 5 2 2\nenter 0\nwait 0 0 5\nenter 1\nwait 1 1 9\nenter 2\nwait 2 0 3\nenter 3\nwait 3 0 3\nenter 4\nnotify 4 1\nbroadcast 4 0\nwait 4 0 0\nnotify 1 0\nleave 1\nleave 2\nleave 3\nleave 0\nleave 4\n";
+        b"monitor 5 2 2\nenter 0\nwait 0 0 5\nenter 1\nwait 1 1 9\nenter 2\nwait 2 0 3\nenter 3\nwait 3 0 3\nenter 4\n\
+            notify 4 1\nbroadcast 4 0\nwait 4 0 0\nnotify 1 0\nleave 1\nleave 2\nleave 3\nleave 0\nleave 4\n";
     let lines = b"monitor 5 2 2    0           1           2           3           4
 enter 0          [in]        .           .           .           .
 wait 0 0 5       c0:5        .           .           .           .
@@ -138,7 +143,8 @@ leave 4          .           .           .           .           .
 #[test]
 fn notify_as_text(rt: HostRuntime) {
     let script =
-        b"monitor 4 2 1\nenter 0\nwait 0 0 0\nenter 1\nwait 1 1 0\nenter 2\nsignal 2 0\nnotify 0 0\nnotify 0 1\nleave 0\nleave 2\nleave 1\n";
+        b"monitor 4 2 1\nenter 0\nwait 0 0 0\nenter 1\nwait 1 1 0\nenter 2\nsignal 2 0\nnotify 0 0\nnotify 0 1\n\
+            leave 0\nleave 2\nleave 1\n";
     let lines = b"monitor 4 2 1    0       1           2       (1 idle)
 enter 0          [in]    .           .
 wait 0 0 0       c0:0    .           .       -> free
@@ -161,7 +167,8 @@ leave 1          .       .           .       -> free
 #[test]
 fn notified_in_order_as_text(rt: HostRuntime) {
     let script =
-        b"monitor 4 2 2\nenter 3\nwait 3 0 1\nenter 0\nwait 0 0 1\nenter 1\nwait 1 1 0\nenter 2\nnotify 2 0\nnotify 2 0\nnotify 2 0\n";
+        b"monitor 4 2 2\nenter 3\nwait 3 0 1\nenter 0\nwait 0 0 1\nenter 1\nwait 1 1 0\nenter 2\nnotify 2 0\n\
+            notify 2 0\nnotify 2 0\n";
     let lines = b"monitor 4 2 2    0           1       2       3
 enter 3          .           .       .       [in]
 wait 3 0 1       .           .       .       c0:1        -> free
@@ -182,7 +189,8 @@ notify 2 0       called 2    c1:0    [in]    called 1
 #[test]
 fn folded_lanes_as_text(rt: HostRuntime) {
     let script =
-        b"monitor 3 1\nenter 0\nwait 0 0 18446744073709551615\nenter 1\nwait 1 0 18446744073709551615\nenter 2\nsignal 2 0\nleave 0\nleave 2\n";
+        b"monitor 3 1\nenter 0\nwait 0 0 18446744073709551615\nenter 1\nwait 1 0 18446744073709551615\nenter 2\n\
+            signal 2 0\nleave 0\nleave 2\n";
     let lines = b"monitor 3 1                      0
 enter 0                          [in]
 wait 0 0 18446744073709551615    c0:18446744073709551615
@@ -234,10 +242,8 @@ fn lines_of_eighty_as_text(rt: HostRuntime) -> Result<(), Fail> {
         )?;
         write!(script, "wait 1 0 {priority}\n")?;
         let text = drawn_whole(&rt, script.as_slice(), Form::Text);
-        assert!(rt;
-            text.as_slice().ends_with(end.as_bytes()),
-            "with {priority}"
-        );
+        let ends = text.as_slice().ends_with(end.as_bytes());
+        expect_same(&rt, (priority, ends), (priority, true));
     }
     Ok(())
 }

@@ -1,5 +1,6 @@
 //! Scripts that are at fault, or can't be read or drawn.
 use super::{drawn, drawn_whole, is_drawn, times};
+use crate::tests::compared::expect_same;
 use crate::tests::shown::reads;
 use hoare_script::ScriptFault;
 use script_picture::fault::PictureFault;
@@ -18,11 +19,11 @@ fn too_tall_for_an_svg(rt: HostRuntime) -> Result<(), Fail> {
         script.extend_from_slice(b"leave 0\n")?;
     }
     let text = drawn_whole(&rt, script.as_slice(), Form::Svg);
-    assert!(rt; times(text.as_slice(), b" height=\"32760\" ") == 1);
+    expect_same(&rt, times(text.as_slice(), b" height=\"32760\" "), 1);
     script.extend_from_slice(b"leave 0\n")?;
     isnt_begun(&rt, script.as_slice(), PictureFault::TooTall(1_165));
     let text = drawn_whole(&rt, script.as_slice(), Form::Text);
-    assert!(rt; times(text.as_slice(), b"\n") == 1_166);
+    expect_same(&rt, times(text.as_slice(), b"\n"), 1_166);
     script.extend_from_slice(b"leave\n")?;
     isnt_begun(
         &rt,
@@ -35,8 +36,7 @@ fn too_tall_for_an_svg(rt: HostRuntime) -> Result<(), Fail> {
 // An SVG of the script isn't begun, for this reason.
 fn isnt_begun<R: Abort + AllocGlobal>(rt: &R, script: &[u8], fault: PictureFault) {
     let (result, text) = drawn(rt.alloc(), script, Form::Svg);
-    assert_eq!(rt; result, Err(fault));
-    assert!(rt; text.is_empty());
+    expect_same(rt, (result, text.as_slice()), (Err(fault), b"".as_slice()));
 }
 
 #[test]
@@ -85,16 +85,28 @@ const LONG_STEP: &[u8] = b"wait 18446744073709551615 18446744073709551615 184467
 fn long_line_and_large_script(rt: HostRuntime) -> Result<(), Fail> {
     let mut script = b"monitor 1 1\n".to_vec(rt.alloc())?;
     script.resize(268, b'e')?;
-    assert!(rt; chart_end(&rt, script.as_slice()) == at_fault(ScriptFault::BadLine(2)));
+    expect_same(
+        &rt,
+        chart_end(&rt, script.as_slice()),
+        at_fault(ScriptFault::BadLine(2)),
+    );
     script.push(b'e')?;
-    assert!(rt; chart_end(&rt, script.as_slice()) == at_fault(ScriptFault::LineTooLong(2)));
+    expect_same(
+        &rt,
+        chart_end(&rt, script.as_slice()),
+        at_fault(ScriptFault::LineTooLong(2)),
+    );
     script.truncate(12);
     for _ in 0..15_421u32 {
         script.extend_from_slice(LONG_STEP)?;
     }
     let (result, text) = drawn(rt.alloc(), script.as_slice(), Form::Text);
-    assert!(rt; result == at_fault(ScriptFault::TooMuch));
-    assert!(rt; times(text.as_slice(), b"\n") == 30_841);
+    let lines = times(text.as_slice(), b"\n");
+    expect_same(
+        &rt,
+        (result, lines),
+        (at_fault(ScriptFault::TooMuch), 30_841),
+    );
     Ok(())
 }
 
@@ -116,10 +128,11 @@ fn read_fault_after_whole_rows(rt: HostRuntime) {
     let mut reader = Torn(b"monitor 1 1\nenter 0\nlea");
     let mut writer = Vec::new(rt.alloc());
     let result = draw_script(rt.alloc(), &mut reader, &mut writer, Form::Text);
-    assert!(rt; result == at_fault(ScriptFault::ReadFault));
-    assert_eq!(rt;
-        writer.as_slice(),
-        b"monitor 1 1    0\nenter 0        [in]\n".as_slice()
+    let rows = b"monitor 1 1    0\nenter 0        [in]\n".as_slice();
+    expect_same(
+        &rt,
+        (result, writer.as_slice()),
+        (at_fault(ScriptFault::ReadFault), rows),
     );
 }
 
@@ -141,9 +154,9 @@ impl Write for Full {
 fn write_fault_of_a_whole_script(rt: HostRuntime) {
     for form in [Form::Svg, Form::Text] {
         let whole = full_end(&rt, b"monitor 1 1\n", form);
-        assert!(rt; whole == at_fault(ScriptFault::WriteFault));
+        expect_same(&rt, whole, at_fault(ScriptFault::WriteFault));
         let bad = full_end(&rt, b"monitor 1 1\nenter\n", form);
-        assert!(rt; bad == at_fault(ScriptFault::BadLine(2)));
+        expect_same(&rt, bad, at_fault(ScriptFault::BadLine(2)));
     }
 }
 
@@ -178,7 +191,7 @@ fn faults_are_shown_with_their_status(rt: HostRuntime) -> Result<(), Fail> {
         ),
     ] {
         reads(&rt, &fault, text)?;
-        assert_eq!(rt; fault.status(), status);
+        expect_same(&rt, fault.status(), status);
     }
     Ok(())
 }

@@ -1,5 +1,6 @@
 //! SVGs that were worked out by hand.
 use super::{BROADCAST, HAND_OVER, drawn_whole, sixty_four_waits, times};
+use crate::tests::compared::expect_same;
 use script_picture::picture::Form;
 use std::test::Fail;
 
@@ -9,9 +10,11 @@ use std::test::Fail;
 // ends at 232 and the page at 336. A box has 3 free above and below; an arrow runs along a row's middle, and its head
 // is 8 long.
 const HAND_OVER_DRAWN: &[u8] =
-    b"<svg xmlns=\"http://www.w3.org/2000/svg\" width=\"560\" height=\"336\" viewBox=\"0 0 560 336\" role=\"img\" aria-labelledby=\"title\" aria-describedby=\"about\">
+    b"<svg xmlns=\"http://www.w3.org/2000/svg\" width=\"560\" height=\"336\" viewBox=\"0 0 560 336\" role=\"img\" \
+        aria-labelledby=\"title\" aria-describedby=\"about\">
 <title id=\"title\">A monitor with 2 places and 1 condition, in a script of 6 steps</title>
-<desc id=\"about\">A chart of 6 rows, one for each step, and 2 lanes, one for each place that comes in, with 2 hand-overs and 0 refusals.</desc>
+<desc id=\"about\">A chart of 6 rows, one for each step, and 2 lanes, one for each place that comes in, with 2 \
+    hand-overs and 0 refusals.</desc>
 <style>
 text{font-family:ui-monospace,Menlo,Consolas,'DejaVu Sans Mono',monospace;font-size:13px;fill:#1f2328}
 .page{fill:#fff;stroke:#d0d7de}.band{fill:#f6f8fa}.lane{stroke:#8c959f;stroke-dasharray:2 4}
@@ -75,7 +78,7 @@ text{font-family:ui-monospace,Menlo,Consolas,'DejaVu Sans Mono',monospace;font-s
 #[test]
 fn hand_over_as_svg(rt: HostRuntime) {
     let text = drawn_whole(&rt, HAND_OVER, Form::Svg);
-    assert!(rt; text.as_slice() == HAND_OVER_DRAWN);
+    expect_same(&rt, text.as_slice(), HAND_OVER_DRAWN);
 }
 
 // Each lane as wide as its own texts. The longest step has 30 letters, so that lane 1 begins at 20 + 240 + 24 = 284;
@@ -86,13 +89,15 @@ fn hand_over_as_svg(rt: HostRuntime) {
 #[test]
 fn wide_and_idle_lanes_as_svg(rt: HostRuntime) {
     let script =
-        b"monitor 14 1\nenter 13\nwait 13 0 2\nenter 1\nsignal 1 0\nwait 13 0 18446744073709551615\nenter 4\npass 1 0\nleave 13\n";
+        b"monitor 14 1\nenter 13\nwait 13 0 2\nenter 1\nsignal 1 0\nwait 13 0 18446744073709551615\nenter 4\n\
+            pass 1 0\nleave 13\n";
     let text = drawn_whole(&rt, script, Form::Svg);
     for part in [
         // the picture, and what it is called
         "<svg xmlns=\"http://www.w3.org/2000/svg\" width=\"932\" height=\"392\" viewBox=\"0 0 932 392\" role=\"img\"",
         ">A monitor with 14 places and 1 condition, in a script of 8 steps</title>",
-        ">A chart of 8 rows, one for each step, and 2 lanes, one for each place that comes in, with 3 hand-overs and 1 refusal.</desc>",
+        ">A chart of 8 rows, one for each step, and 2 lanes, one for each place that comes in, with 3 hand-overs and \
+            1 refusal.</desc>",
         // the lanes that are left out, and the two that are shown
         "<text class=\"note\" x=\"616\" y=\"42\">(12 idle)</text>",
         "<text class=\"head\" x=\"318\" y=\"42\">place 1</text><path class=\"lane\" d=\"M318 64V288\"/>",
@@ -111,17 +116,24 @@ fn wide_and_idle_lanes_as_svg(rt: HostRuntime) {
         "<text class=\"dark\" x=\"498\" y=\"194\">c0 p18446744073709551615</text>",
         "<rect class=\"inside\" x=\"396\" y=\"235\" width=\"204\" height=\"22\" rx=\"4\"/>",
         // the signal from 1 to 13, the return from 13 to 1, and the pass from where 1 went out
-        "<path class=\"edge\" d=\"M356 162H388\"/><path class=\"arrow\" d=\"M352 162H388\"/><path d=\"M396 162l-9-5v10z\"/>",
-        "<path class=\"edge\" d=\"M392 190H360\"/><path class=\"arrow back\" d=\"M396 190H360\"/><path d=\"M352 190l9-5v10z\"/>",
+        "<path class=\"edge\" d=\"M356 162H388\"/><path class=\"arrow\" d=\"M352 162H388\"/>\
+            <path d=\"M396 162l-9-5v10z\"/>",
+        "<path class=\"edge\" d=\"M392 190H360\"/><path class=\"arrow back\" d=\"M396 190H360\"/>\
+            <path d=\"M352 190l9-5v10z\"/>",
         "<circle cx=\"318\" cy=\"246\" r=\"4\"/>",
-        "<path class=\"edge\" d=\"M322 246H388\"/><path class=\"arrow\" d=\"M318 246H388\"/><path d=\"M396 246l-9-5v10z\"/>",
+        "<path class=\"edge\" d=\"M322 246H388\"/><path class=\"arrow\" d=\"M318 246H388\"/>\
+            <path d=\"M396 246l-9-5v10z\"/>",
         // the step that is refused
         "<text class=\"refused\" x=\"20\" y=\"222\">enter 4</text>",
         "<text class=\"refused\" x=\"616\" y=\"222\">-> refused 2 (the monitor isn't free)</text>",
     ] {
-        assert_eq!(rt; times(text.as_slice(), part.as_bytes()), 1, "at {part}");
+        expect_same(
+            &rt,
+            (part, times(text.as_slice(), part.as_bytes())),
+            (part, 1),
+        );
     }
-    assert_eq!(rt; times(text.as_slice(), b"class=\"head\""), 2);
+    expect_same(&rt, times(text.as_slice(), b"class=\"head\""), 2);
 }
 
 // The longest step has 13 letters, and `called 3` 8, so that a box of the first three lanes is 9 * 8 + 12 = 84 wide and
@@ -143,22 +155,34 @@ fn broadcast_as_svg(rt: HostRuntime) {
         "<path class=\"arrow call\" d=\"M532 274H240\"/><path class=\"tip\" d=\"M232 274l9-5v10z\"/>",
         "<path class=\"arrow call\" d=\"M532 274H368\"/><path class=\"tip\" d=\"M360 274l9-5v10z\"/>",
         "<path class=\"arrow call\" d=\"M532 274H496\"/><path class=\"tip\" d=\"M488 274l9-5v10z\"/>",
-        "<rect class=\"called\" x=\"148\" y=\"263\" width=\"84\" height=\"50\" rx=\"4\"/>\n<text class=\"dark\" x=\"190\" y=\"278\">called 3</text>",
-        "<rect class=\"called\" x=\"148\" y=\"319\" width=\"84\" height=\"50\" rx=\"4\"/>\n<text class=\"dark\" x=\"190\" y=\"334\">called 2</text>",
-        "<rect class=\"called\" x=\"148\" y=\"375\" width=\"84\" height=\"22\" rx=\"4\"/>\n<text class=\"dark\" x=\"190\" y=\"390\">called 1</text>",
-        "<rect class=\"called\" x=\"276\" y=\"263\" width=\"84\" height=\"50\" rx=\"4\"/>\n<text class=\"dark\" x=\"318\" y=\"278\">called 1</text>",
-        "<rect class=\"called\" x=\"404\" y=\"263\" width=\"84\" height=\"50\" rx=\"4\"/>\n<text class=\"dark\" x=\"446\" y=\"278\">called 2</text>",
-        "<rect class=\"called\" x=\"404\" y=\"319\" width=\"84\" height=\"50\" rx=\"4\"/>\n<text class=\"dark\" x=\"446\" y=\"334\">called 1</text>",
-        "<path d=\"M232 414l9-5v10z\"/>\n<rect class=\"inside\" x=\"148\" y=\"67\" width=\"84\" height=\"22\" rx=\"4\"/>",
+        "<rect class=\"called\" x=\"148\" y=\"263\" width=\"84\" height=\"50\" rx=\"4\"/>\n\
+            <text class=\"dark\" x=\"190\" y=\"278\">called 3</text>",
+        "<rect class=\"called\" x=\"148\" y=\"319\" width=\"84\" height=\"50\" rx=\"4\"/>\n\
+            <text class=\"dark\" x=\"190\" y=\"334\">called 2</text>",
+        "<rect class=\"called\" x=\"148\" y=\"375\" width=\"84\" height=\"22\" rx=\"4\"/>\n\
+            <text class=\"dark\" x=\"190\" y=\"390\">called 1</text>",
+        "<rect class=\"called\" x=\"276\" y=\"263\" width=\"84\" height=\"50\" rx=\"4\"/>\n\
+            <text class=\"dark\" x=\"318\" y=\"278\">called 1</text>",
+        "<rect class=\"called\" x=\"404\" y=\"263\" width=\"84\" height=\"50\" rx=\"4\"/>\n\
+            <text class=\"dark\" x=\"446\" y=\"278\">called 2</text>",
+        "<rect class=\"called\" x=\"404\" y=\"319\" width=\"84\" height=\"50\" rx=\"4\"/>\n\
+            <text class=\"dark\" x=\"446\" y=\"334\">called 1</text>",
+        "<path d=\"M232 414l9-5v10z\"/>\n\
+            <rect class=\"inside\" x=\"148\" y=\"67\" width=\"84\" height=\"22\" rx=\"4\"/>",
         // the legend
         "<path class=\"arrow call\" d=\"M350 593H396\"/><path class=\"tip\" d=\"M404 593l-9-5v10z\"/>",
-        "<rect class=\"called\" x=\"404\" y=\"582\" width=\"68\" height=\"22\" rx=\"4\"/>\n<text class=\"dark\" x=\"438\" y=\"597\">called 1</text>",
+        "<rect class=\"called\" x=\"404\" y=\"582\" width=\"68\" height=\"22\" rx=\"4\"/>\n\
+            <text class=\"dark\" x=\"438\" y=\"597\">called 1</text>",
         "<text class=\"note\" x=\"482\" y=\"597\">is called; 1 goes on first</text>",
     ] {
-        assert_eq!(rt; times(text.as_slice(), part.as_bytes()), 1, "at {part}");
+        expect_same(
+            &rt,
+            (part, times(text.as_slice(), part.as_bytes())),
+            (part, 1),
+        );
     }
-    assert_eq!(rt; times(text.as_slice(), b"class=\"arrow call\""), 4);
-    assert_eq!(rt; times(text.as_slice(), b"class=\"called\""), 7);
+    expect_same(&rt, times(text.as_slice(), b"class=\"arrow call\""), 4);
+    expect_same(&rt, times(text.as_slice(), b"class=\"called\""), 7);
 }
 
 // One wide lane leaves the others as they are: 20 + 29 * 8 + 24 = 276, then a lane of 204, 9 of 68 and 54 of 76 (their
@@ -170,7 +194,11 @@ fn widths_of_sixty_four_lanes(rt: HostRuntime) -> Result<(), Fail> {
     for (greatest, want) in [(false, " width=\"8060\" "), (true, " width=\"16204\" ")] {
         let script = sixty_four_waits(rt.alloc(), greatest)?;
         let text = drawn_whole(&rt, script.as_slice(), Form::Svg);
-        assert_eq!(rt; times(text.as_slice(), want.as_bytes()), 1, "with {want}");
+        expect_same(
+            &rt,
+            (want, times(text.as_slice(), want.as_bytes())),
+            (want, 1),
+        );
     }
     Ok(())
 }

@@ -1,6 +1,7 @@
 //! Scripts that a generator draws, against a second interpreter. It keeps the list of all that happened, filters it for
 //! each answer (`past`), and shares nothing with the book.
 use super::told;
+use crate::tests::compared::expect_same;
 use crate::tests::numbers::next_number;
 use crate::tests::past::Past;
 use crate::tests::past::event::Event;
@@ -188,8 +189,8 @@ fn is_answered_twice<R: Abort + AllocGlobal>(
     writeln!(script)?;
     draw(&mut past, number, &mut script, &mut answers)?;
     let (result, written) = told(rt.alloc(), script.as_slice());
-    assert_eq!(rt; result, Ok(()), "script {number}");
-    assert_eq!(rt; written.as_slice(), answers.as_slice(), "script {number}");
+    let found = (number, result, written.as_slice());
+    expect_same(rt, found, (number, Ok(()), answers.as_slice()));
     Ok(resumptions(&past))
 }
 

@@ -1,5 +1,6 @@
 //! A script that is cut off, a reader that fails and writers that fail, at each byte.
 use super::told;
+use crate::tests::compared::expect_same;
 use arrayvec::ArrayVec;
 use hoare_script::{ScriptFault, run};
 use std::io;
@@ -52,8 +53,8 @@ fn script_cut_at_each_byte(rt: HostRuntime) -> Result<(), Fail> {
         let script = SCRIPT.get(..length).ok_or("a shorter script")?;
         let (wanted, lines) = at_cut(length);
         let (result, written) = told(rt.alloc(), script);
-        let is_so = result == wanted && written.as_slice() == answers_to(lines);
-        assert!(rt; is_so, "cut at {length}: {result:?}");
+        let found = (length, result, written.as_slice());
+        expect_same(&rt, found, (length, wanted, answers_to(lines)));
     }
     Ok(())
 }
@@ -92,9 +93,9 @@ fn script_reader_fails(rt: HostRuntime) -> Result<(), Fail> {
         let rest = SCRIPT.get(..length).ok_or("a shorter script")?;
         let mut written = Vec::new(rt.alloc());
         let result = run(rt.alloc(), &mut Breaking { rest }, &mut written);
-        let is_so = result == Err(ScriptFault::ReadFault)
-            && written.as_slice() == answers_to(lines_ended(length));
-        assert!(rt; is_so, "after {length}: {result:?}");
+        let answers = answers_to(lines_ended(length));
+        let found = (length, result, written.as_slice());
+        expect_same(&rt, found, (length, Err(ScriptFault::ReadFault), answers));
     }
     Ok(())
 }
@@ -146,8 +147,8 @@ fn script_writer_fails(rt: HostRuntime) -> Result<(), Fail> {
                 Ok(())
             };
             let prefix = ANSWERS.get(..room).ok_or("shorter answers")?;
-            let is_so = result == wanted && writer.taken.as_slice() == prefix;
-            assert!(rt; is_so, "after {room}: {result:?}");
+            let found = (room, result, writer.taken.as_slice());
+            expect_same(&rt, found, (room, wanted, prefix));
         }
     }
     Ok(())

@@ -1,4 +1,5 @@
 //! How a fault is shown, and the exit status that it gives.
+use crate::tests::compared::expect_same;
 use crate::tests::shown::reads;
 use hoare_script::ScriptFault;
 use std::process::Abort;
@@ -11,7 +12,7 @@ fn check<R: Abort + AllocGlobal>(
     status: u8,
 ) -> Result<(), Fail> {
     reads(rt, &fault, line)?;
-    assert_eq!(rt; fault.status(), status);
+    expect_same(rt, fault.status(), status);
     Ok(())
 }
 

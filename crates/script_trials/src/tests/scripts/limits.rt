@@ -1,5 +1,6 @@
 //! Where the text itself ends a script.
 use super::{is_told, told};
+use crate::tests::compared::expect_same;
 use hoare_script::{ScriptFault, run};
 use std::io;
 use std::io::Read;
@@ -101,7 +102,8 @@ fn large_script(rt: HostRuntime) -> Result<(), Fail> {
         answers.extend_from_slice(b"leave 0 -> refused 4\n")?;
     }
     let (result, written) = told(rt.alloc(), script.as_slice());
-    assert!(rt; result == Err(ScriptFault::TooMuch) && written.as_slice() == answers.as_slice());
+    let found = (result, written.as_slice());
+    expect_same(&rt, found, (Err(ScriptFault::TooMuch), answers.as_slice()));
     Ok(())
 }
 
@@ -114,6 +116,6 @@ fn endless_line(rt: HostRuntime) {
     ] {
         let mut written = Vec::new(rt.alloc());
         let result = run(rt.alloc(), &mut Endless { calls }, &mut written);
-        assert!(rt; result == Err(fault) && written.is_empty(), "{result:?}");
+        expect_same(&rt, (result, written.len()), (Err(fault), 0));
     }
 }

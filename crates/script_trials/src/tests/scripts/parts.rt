@@ -1,4 +1,5 @@
 //! Each part of a script alone: the grammar, the book that a header opens, and how answers are spelled.
+use crate::tests::compared::expect_same;
 use hoare_script::answers::{Answer, answer_line, outcome_answer};
 use hoare_script::lines::{Command, Header, parse_command, parse_header};
 use hoare_script::opened::Opened;
@@ -27,7 +28,7 @@ fn headers(rt: HostRuntime) {
         (b"monitor 3 x", None),
     ];
     for (line, wanted) in lines {
-        assert_eq!(rt; parse_header(line), wanted);
+        expect_same(&rt, (line, parse_header(line)), (line, wanted));
     }
 }
 
@@ -45,7 +46,7 @@ fn commands(rt: HostRuntime) {
         (b"first 7", Command::First(7)),
     ];
     for (line, wanted) in commands {
-        assert_eq!(rt; parse_command(line), Some(wanted));
+        expect_same(&rt, (line, parse_command(line)), (line, Some(wanted)));
     }
     let others: [&[u8]; 11] = [
         b"",
@@ -61,7 +62,7 @@ fn commands(rt: HostRuntime) {
         b"monitor 1 1",
     ];
     for line in others {
-        assert_eq!(rt; parse_command(line), None);
+        expect_same(&rt, (line, parse_command(line)), (line, None));
     }
 }
 
@@ -78,7 +79,7 @@ fn opened_book(rt: HostRuntime) -> Result<(), Fail> {
         (Command::First(0), Answer::Priority(9)),
         (Command::Queue(1), Answer::Refused(StepRefused::NoCondition)),
     ] {
-        assert_eq!(rt; opened.answer(command), answer);
+        expect_same(&rt, (command, opened.answer(command)), (command, answer));
     }
     Ok(())
 }
@@ -112,7 +113,7 @@ fn answers_as_spelled(rt: HostRuntime) {
         (Answer::Refused(StepRefused::WrongKind), b"x -> refused 6\n"),
     ];
     for (answer, wanted) in answers {
-        assert_eq!(rt; answer_line(b"x", answer).as_slice(), wanted);
+        expect_same(&rt, answer_line(b"x", answer).as_slice(), wanted);
     }
 }
 
@@ -127,6 +128,6 @@ fn outcomes(rt: HostRuntime) {
             Answer::Refused(StepRefused::NotFree),
         ),
     ] {
-        assert_eq!(rt; outcome_answer(outcome), wanted);
+        expect_same(&rt, outcome_answer(outcome), wanted);
     }
 }

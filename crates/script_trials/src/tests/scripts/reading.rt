@@ -1,5 +1,6 @@
 //! What a run reads of its text, and what it leaves.
 use super::failures::Filling;
+use crate::tests::compared::expect_same;
 use hoare_script::{ScriptFault, run, run_watched};
 use line_text::reader::WatchedReader;
 use line_text::writer::WatchedWriter;
@@ -17,8 +18,7 @@ fn check<R: Abort + AllocGlobal>(
     let mut rest = text;
     let mut written = Vec::new(rt.alloc());
     let result = run(rt.alloc(), &mut rest, &mut written);
-    assert_eq!(rt; result, wanted);
-    assert_eq!(rt; rest, left);
+    expect_same(rt, (result, rest), (wanted, left));
 }
 
 #[test]
@@ -91,11 +91,9 @@ impl Read for Endless {
 // One byte more than a script may have is read, and none behind it.
 #[test]
 fn endless_script(rt: HostRuntime) {
-    let most = 1_048_576u64;
     let mut reader = Endless::new(b"leave 0\n", 1_048_577);
     let end = counted(&rt, &mut reader);
-    assert_eq!(rt; end, (Err(ScriptFault::TooMuch), 1_048_577, 1_048_577));
-    assert!(rt; most == 1_048_576);
+    expect_same(&rt, end, (Err(ScriptFault::TooMuch), 1_048_577, 1_048_577));
 }
 
 // The header's 12 bytes, and 257 of the line.
@@ -103,7 +101,7 @@ fn endless_script(rt: HostRuntime) {
 fn endless_second_line(rt: HostRuntime) {
     let mut reader = Endless::new(b"e", 269);
     let end = counted(&rt, &mut reader);
-    assert_eq!(rt; end, (Err(ScriptFault::LineTooLong(2)), 269, 269));
+    expect_same(&rt, end, (Err(ScriptFault::LineTooLong(2)), 269, 269));
 }
 
 // The limit of the reader fires: 20 bytes are given, and the next read fails.
@@ -111,7 +109,7 @@ fn endless_second_line(rt: HostRuntime) {
 fn endless_reader_ends(rt: HostRuntime) {
     let mut reader = Endless::new(b"leave 0\n", 20);
     let end = counted(&rt, &mut reader);
-    assert_eq!(rt; end, (Err(ScriptFault::ReadFault), 21, 20));
+    expect_same(&rt, end, (Err(ScriptFault::ReadFault), 21, 20));
 }
 
 // A line whose answer can't be written is the last that is read, and both marks are what happened.
@@ -122,7 +120,11 @@ fn marks_of_a_full_writer(rt: HostRuntime) {
     let mut reader = WatchedReader::new(&mut rest);
     let mut writer = WatchedWriter::new(&mut full);
     let result = run_watched(rt.alloc(), &mut reader, &mut writer);
-    assert_eq!(rt; result, Err(ScriptFault::WriteFault));
-    assert!(rt; writer.has_failed() && !reader.has_failed() && reader.bytes() == 20);
-    assert!(rt; rest == b"leave 0\n".as_slice());
+    let marks = (writer.has_failed(), reader.has_failed(), reader.bytes());
+    expect_same(
+        &rt,
+        (result, marks),
+        (Err(ScriptFault::WriteFault), (true, false, 20)),
+    );
+    expect_same(&rt, rest, b"leave 0\n".as_slice());
 }

@@ -134,9 +134,11 @@ fn wait_lets_signaller_return(rt: HostRuntime) -> Result<(), Fail> {
 #[test]
 fn greatest_priority(rt: HostRuntime) {
     let script =
-        b"monitor 3 1\nenter 0\nwait 0 0 18446744073709551615\nenter 1\nwait 1 0 0\nenter 2\nsignal 2 0\nwait 1 0 18446744073709551616\n";
+        b"monitor 3 1\nenter 0\nwait 0 0 18446744073709551615\nenter 1\nwait 1 0 0\nenter 2\nsignal 2 0\n\
+            wait 1 0 18446744073709551616\n";
     let answers =
-        b"enter 0 -> 0\nwait 0 0 18446744073709551615 -> free\nenter 1 -> 1\nwait 1 0 0 -> free\nenter 2 -> 2\nsignal 2 0 -> 1\n";
+        b"enter 0 -> 0\nwait 0 0 18446744073709551615 -> free\nenter 1 -> 1\nwait 1 0 0 -> free\nenter 2 -> 2\n\
+            signal 2 0 -> 1\n";
     is_told(&rt, script, Err(ScriptFault::BadLine(8)), answers);
 }
 

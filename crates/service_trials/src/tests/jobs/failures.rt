@@ -1,4 +1,5 @@
 //! A job file that is cut off, a reader that fails and writers that fail, at each byte.
+use crate::tests::compared::expect_same;
 use arrayvec::ArrayVec;
 use disk_jobs::{Done, Report, ServiceFault, read_jobs, write_report};
 use std::io;
@@ -38,7 +39,7 @@ fn jobs_cut_at_each_byte(rt: HostRuntime) -> Result<(), Fail> {
             Ok(jobs) => Ok(jobs.cylinders()),
             Err(fault) => Err(*fault),
         };
-        assert_eq!(rt; found, at_cut(length), "cut at {length}");
+        expect_same(&rt, (length, found), (length, at_cut(length)));
     }
     Ok(())
 }
@@ -63,7 +64,11 @@ fn jobs_reader_fails(rt: HostRuntime) -> Result<(), Fail> {
     for length in 0..=34usize {
         let rest = FILE.get(..length).ok_or("a shorter file")?;
         let result = read_jobs(rt.alloc(), &mut Breaking { rest }).map(|_| ());
-        assert_eq!(rt; result, Err(ServiceFault::ReadFault), "after {length}");
+        expect_same(
+            &rt,
+            (length, result),
+            (length, Err(ServiceFault::ReadFault)),
+        );
     }
     Ok(())
 }
@@ -111,9 +116,10 @@ fn report_writer_fails(rt: HostRuntime) -> Result<(), Fail> {
             } else {
                 Ok(())
             };
-            assert_eq!(rt; write_report(&report, &mut writer), wanted, "after {room}");
+            let end = write_report(&report, &mut writer);
             let prefix = REPORT.get(..room).ok_or("a shorter report")?;
-            assert_eq!(rt; writer.taken.as_slice(), prefix, "after {room}");
+            let found = (room, end, writer.taken.as_slice());
+            expect_same(&rt, found, (room, wanted, prefix));
         }
     }
     Ok(())

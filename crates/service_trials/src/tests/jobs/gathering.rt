@@ -1,4 +1,5 @@
 //! What jobs can be made, and what is gathered of their results.
+use crate::tests::compared::expect_same;
 use disk_jobs::{BadJobs, Done, Jobs, Report, ServiceFault, gather};
 use std::alloc::Global;
 use std::test::Fail;
@@ -38,16 +39,16 @@ fn jobs_and_gather(rt: HostRuntime) -> Result<(), Fail> {
         let Err((back, bad)) = Jobs::make(100, workers, cylinders) else {
             return Err(Fail::from("jobs that can't be"));
         };
-        assert_eq!(rt; (back.as_slice(), bad), (handed.as_slice(), wanted));
+        expect_same(&rt, (back.as_slice(), bad), (handed.as_slice(), wanted));
     }
     let report = gathered(alloc, &[(1, 6), (0, 5)], 2, 95, 2)??;
-    assert_eq!(rt; (report.jobs, report.sum), (2, 95));
+    expect_same(&rt, (report.jobs, report.sum), (2, 95));
     assert_eq!(rt;
         report.lines.as_slice(),
         [Done::of(0, 5), Done::of(1, 6)].as_slice()
     );
-    assert_eq!(rt; report.lines[0].block(), 42);
-    assert_eq!(rt; report.lines[1].block(), 53);
+    let blocks = (report.lines[0].block(), report.lines[1].block());
+    expect_same(&rt, blocks, (42, 53));
     Ok(())
 }
 
@@ -68,7 +69,8 @@ fn torn(rt: HostRuntime) -> Result<(), Fail> {
         ([].as_slice(), 0, 0, 0),
     ] {
         let result = gathered(rt.alloc(), results, jobs, sum, done)?;
-        assert_eq!(rt; result.map(|report| report.jobs), Err(ServiceFault::Torn));
+        let jobs = result.map(|report| report.jobs);
+        expect_same(&rt, jobs, Err(ServiceFault::Torn));
     }
     Ok(())
 }

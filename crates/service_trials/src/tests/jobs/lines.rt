@@ -1,4 +1,5 @@
 //! Each fault of a job file at its line, and where reading stops.
+use crate::tests::compared::expect_same;
 use disk_jobs::{ServiceFault, read_jobs, read_jobs_watched};
 use line_text::reader::WatchedReader;
 use std::alloc::Global;
@@ -31,7 +32,7 @@ fn bad_headers(rt: HostRuntime) {
         b"disk 1 4294967297\n",
         b"\xff",
     ];
-    assert!(rt; is_bad_at(rt.alloc(), 1, files.as_slice()));
+    expect_same(&rt, is_bad_at(rt.alloc(), 1, files.as_slice()), true);
 }
 
 #[test]
@@ -44,19 +45,19 @@ fn bad_jobs(rt: HostRuntime) {
         b"disk 65535 1\nread \xff\n",
         b"disk 65535 1\nread \xff",
     ];
-    assert!(rt; is_bad_at(rt.alloc(), 2, second.as_slice()));
+    expect_same(&rt, is_bad_at(rt.alloc(), 2, second.as_slice()), true);
     let third: [&[u8]; 2] = [b"disk 1 1\nread 1\nread 2\n", b"disk 1 1\nread 1\nread x"];
-    assert!(rt; is_bad_at(rt.alloc(), 3, third.as_slice()));
+    expect_same(&rt, is_bad_at(rt.alloc(), 3, third.as_slice()), true);
 }
 
 #[test]
 fn files_without_a_fault(rt: HostRuntime) {
     let headers: [&[u8]; 2] = [b"disk 1 16", b"disk 65535 16\n"];
     for file in headers {
-        assert_eq!(rt; last_of(rt.alloc(), file), Ok(0));
+        expect_same(&rt, last_of(rt.alloc(), file), Ok(0));
     }
     let two = b"disk 1 1\nread 1\nread 0".as_slice();
-    assert_eq!(rt; last_of(rt.alloc(), two), Ok(2));
+    expect_same(&rt, last_of(rt.alloc(), two), Ok(2));
 }
 
 #[test]
@@ -72,9 +73,9 @@ fn long_lines(rt: HostRuntime) -> Result<(), Fail> {
             file.write_all(b"\nread 1\n")?;
             let mut reader = file.as_slice();
             let result = read_jobs(alloc, &mut reader).map(|_| ());
-            assert_eq!(rt; result, Err(ServiceFault::BadLine(wanted)));
             let past = if length == 256 { 7 } else { length - 257 + 8 };
-            assert_eq!(rt; reader.len(), past);
+            let found = (result, reader.len());
+            expect_same(&rt, found, (Err(ServiceFault::BadLine(wanted)), past));
         }
     }
     Ok(())
@@ -122,7 +123,7 @@ fn endless_readers(rt: HostRuntime) {
         };
         let mut watched = WatchedReader::new(&mut reader);
         let result = read_jobs_watched(rt.alloc(), &mut watched).map(|_| ());
-        assert_eq!(rt; result, Err(ServiceFault::BadLine(wanted)));
-        assert_eq!(rt; (watched.bytes(), watched.calls()), (most, most));
+        let found = (result, watched.bytes(), watched.calls());
+        expect_same(&rt, found, (Err(ServiceFault::BadLine(wanted)), most, most));
     }
 }

@@ -1,4 +1,5 @@
 //! The kinds, and the faults with their texts and statuses.
+use crate::tests::compared::expect_same;
 use disk_jobs::{BadJobs, Kind, ServiceFault, kind_of};
 use std::io::Write;
 use std::test::Fail;
@@ -20,7 +21,7 @@ fn kinds(rt: HostRuntime) -> Result<(), Fail> {
         for word in words {
             given.push(String::from_str(alloc, word)?)?;
         }
-        assert_eq!(rt; kind_of(given.as_slice()), wanted);
+        expect_same(&rt, kind_of(given.as_slice()), wanted);
     }
     Ok(())
 }
@@ -38,8 +39,8 @@ fn faults(rt: HostRuntime) -> Result<(), Fail> {
     ] {
         let mut written = Vec::new(rt.alloc());
         write!(written, "{fault}")?;
-        assert_eq!(rt; written.as_slice(), text.as_bytes());
-        assert_eq!(rt; fault.status(), status);
+        let found = (written.as_slice(), fault.status());
+        expect_same(&rt, found, (text.as_bytes(), status));
     }
     Ok(())
 }
@@ -53,7 +54,7 @@ fn refusals_of_jobs(rt: HostRuntime) -> Result<(), Fail> {
     ] {
         let mut written = Vec::new(rt.alloc());
         write!(written, "{refused}")?;
-        assert_eq!(rt; written.as_slice(), text.as_bytes());
+        expect_same(&rt, written.as_slice(), text.as_bytes());
     }
     Ok(())
 }

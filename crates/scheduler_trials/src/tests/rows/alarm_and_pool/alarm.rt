@@ -5,11 +5,11 @@ use crate::tests::compared::{answered, expect_same};
 use crate::tests::rows::alarm_stress::{Line, SLEEPERS, is_a_clock, sleeps_or_ticks_on};
 use crate::tests::rows::shared_log::Log;
 use crate::tests::rows::turns::watch;
+use any_door::DoorKind;
 use hoare_law::monitor::Monitor;
 use std::process::Abort;
 use std::sync::Wait;
 use test_support::run_row;
-use test_support::running::{BATON, TICKET};
 use timed_schedulers::alarm::{Alarm, ClockFull, TooFar};
 
 /// Sleeps for this many ticks: the time at which it woke.
@@ -147,31 +147,27 @@ fn wanted(row: AlarmRow<'_>) -> &'static [u64] {
     }
 }
 
-// The rows on one door.
-macro_rules! rows_of_an_alarm_clock {
-    ($rt:ident, $alloc:ident, $name:expr, $door:ident($($given:expr)?)) => {{
-        let log = Log::new($rt, $alloc, 10_000);
+#[test]
+fn an_alarm_clock_on_each_door(host: HostRuntime) {
+    let (rt, alloc) = (&host, host.alloc());
+    for kind in DoorKind::BOTH {
+        let log = Log::new(rt, alloc, 10_000);
         for row in [
             AlarmRow::SleepersWakeAtTheirSettings,
             AlarmRow::AClockEndsAtItsLastTime,
             AlarmRow::AllThatAreDueWakeAtTheirTime(&log),
         ] {
             let (time, places) = setting(row);
-            let (_, answers) = run_row!($rt, $alloc, $door($($given)?), acts(row), Alarm::at(time), places);
-            answered($rt, $name, answers.as_slice(), wanted(row));
+            let (_, answers) = run_row!(
+                rt,
+                alloc,
+                on_any_door(kind),
+                acts(row),
+                Alarm::at(time),
+                places
+            );
+            answered(rt, kind, answers.as_slice(), wanted(row));
         }
-        is_a_clock($rt, log);
-    }};
-}
-
-#[test]
-fn an_alarm_clock_on_a_baton_door(host: HostRuntime) {
-    let (rt, alloc) = (&host, host.alloc());
-    rows_of_an_alarm_clock!(rt, alloc, BATON, on_baton_door());
-}
-
-#[test]
-fn an_alarm_clock_on_a_ticket_door(host: HostRuntime) {
-    let (rt, alloc) = (&host, host.alloc());
-    rows_of_an_alarm_clock!(rt, alloc, TICKET, on_ticket_door(0));
+        is_a_clock(rt, log);
+    }
 }

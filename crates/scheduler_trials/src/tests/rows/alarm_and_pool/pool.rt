@@ -7,13 +7,13 @@ use crate::tests::compared::{answered, expect_same};
 use crate::tests::rows::pool_stress::{BUFFERS, Line, STREAMS, is_a_pool, uses_or_takes_all};
 use crate::tests::rows::shared_log::Log;
 use crate::tests::rows::turns::{Turns, line_up};
+use any_door::DoorKind;
 use hoare_law::monitor::Monitor;
 use std::alloc::Global;
 use std::process::Abort;
 use std::rt::Clock;
 use std::sync::Wait;
 use test_support::run_row;
-use test_support::running::{BATON, TICKET};
 use timed_schedulers::pool::{GiveRefused, NoStream, Pool, PoolRefused};
 
 /// A pool of this many buffers, for this many streams.
@@ -198,34 +198,23 @@ fn wanted(row: PoolRow<'_>) -> &'static [u64] {
     }
 }
 
-// The rows on one door.
-macro_rules! rows_of_a_pool {
-    ($rt:ident, $alloc:ident, $name:expr, $door:ident($($given:expr)?)) => {{
+#[test]
+fn a_pool_on_each_door(host: HostRuntime) {
+    let (rt, alloc) = (&host, host.alloc());
+    for kind in DoorKind::BOTH {
         let turns = Turns::new();
-        let log = Log::new($rt, $alloc, 10_000);
+        let log = Log::new(rt, alloc, 10_000);
         for row in [
             PoolRow::WhoHoldsTheFewestBuffersGoesOnFirst(&turns),
             PoolRow::ABufferHasOneHolder(&log),
         ] {
             let (buffers, streams, places) = setting(row);
-            let pool = with_buffers($rt, $alloc, buffers, streams);
-            let (_, answers) = run_row!($rt, $alloc, $door($($given)?), acts(row), pool, places);
-            answered($rt, $name, answers.as_slice(), wanted(row));
+            let pool = with_buffers(rt, alloc, buffers, streams);
+            let (_, answers) = run_row!(rt, alloc, on_any_door(kind), acts(row), pool, places);
+            answered(rt, kind, answers.as_slice(), wanted(row));
         }
-        is_a_pool($rt, log);
-    }};
-}
-
-#[test]
-fn a_pool_on_a_baton_door(host: HostRuntime) {
-    let (rt, alloc) = (&host, host.alloc());
-    rows_of_a_pool!(rt, alloc, BATON, on_baton_door());
-}
-
-#[test]
-fn a_pool_on_a_ticket_door(host: HostRuntime) {
-    let (rt, alloc) = (&host, host.alloc());
-    rows_of_a_pool!(rt, alloc, TICKET, on_ticket_door(0));
+        is_a_pool(rt, log);
+    }
 }
 
 #[test]

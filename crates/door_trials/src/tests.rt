@@ -6,5 +6,6 @@ mod doors_alone;
 mod either_kind;
 mod glances;
 mod many_tickets;
+mod row;
 mod rows;
 mod tickets_in_turn;

@@ -7,6 +7,7 @@ mod meanings;
 mod mesa_on_fake;
 mod recipes_on_fake;
 mod refusals;
+mod row;
 mod rows;
 mod sweep_on_fake;
 mod timed_on_fake;

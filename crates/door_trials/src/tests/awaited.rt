@@ -24,10 +24,7 @@ fn await_flag<R: Abort + Clock>(rt: &R, ended: &AtomicBool) {
 }
 
 /// Does the work on another thread, while this one looks on.
-pub fn within<R: Threads + Abort + Clock + Sync, F: FnOnce() -> T + Send, T: Send>(
-    rt: &R,
-    work: F,
-) -> T
+fn within<R: Threads + Abort + Clock + Sync, F: FnOnce() -> T + Send, T: Send>(rt: &R, work: F) -> T
     requires { F.pre work }
     ensures { F.post work result }
 {

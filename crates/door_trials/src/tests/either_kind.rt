@@ -1,20 +1,48 @@
-//! A door of either kind, which is chosen where it is made: all calls of one place, and which door answers.
+//! A door of either kind, which is chosen where it is made: all calls, several conditions and priorities, and which
+//! door answers.
 ghost use Rattle.std.specs.Prelude.{◌≡◌};
 
+use crate::tests::awaited::act_all;
 use crate::tests::compared::expect_same;
+use crate::tests::rows::stress::{PLACES, agrees, empty_diary, works_or_sweeps};
 use any_door::{AnyDoor, DoorKind};
 use door_frame::place::Outside;
 use hoare_law::monitor::Monitor;
 use std::alloc::Global;
 use std::process::Abort;
 use std::sync::Wait;
+use test_support::on_any_door::{closed, made};
 use test_support::tally::{Tally, calls_all, tries_once};
+
+/// How many rounds each place of a diary has.
+const ROUNDS: u64 = 60;
 
 #[test]
 fn both_holds_each_kind_once(rt: HostRuntime) {
     for kind in [DoorKind::Baton, DoorKind::Ticket] {
         let times = DoorKind::BOTH.iter().filter(|one| **one == kind).count();
         expect_same(&rt, (kind, times), (kind, 1));
+    }
+}
+
+// A diary has four conditions of both sorts, and its places wait there with priorities 0 to 3.
+#[test]
+fn a_diary_of_either_kind_is_a_legal_history(host: HostRuntime) {
+    let (rt, alloc) = (&host, host.alloc());
+    for kind in DoorKind::BOTH {
+        let data = empty_diary(rt, alloc);
+        let Some((door, outs)) = made(alloc, kind, data, PLACES) else {
+            panic!(rt; "no door was made")
+        };
+        let (outs, _) = act_all(
+            rt,
+            alloc,
+            &door,
+            outs,
+            &|place| { works_or_sweeps(rt, &door, place.1, place.0, ROUNDS, 0) },
+        );
+        let diary = closed(door, outs);
+        agrees(rt, &diary, ROUNDS);
     }
 }
 

@@ -2,24 +2,30 @@
 ghost use Rattle.std.specs.Prelude.{◌≡◌};
 
 use crate::tests::compared::expect_same;
+use crate::tests::row::{Row, run};
 use any_door::DoorKind;
+use baton_door::door::Door;
+use baton_door::place::DoorOut;
 use hoare_law::monitor::Monitor;
 use hoare_law::unasked::Unasked;
 use hoare_law::waits::Waits;
 use std::alloc::Global;
 use std::process::Abort;
+use std::rt::Clock;
 use std::sync::Wait;
-use test_support::run_row;
+use std::time::CpuClock;
+use ticket_door::door::TicketDoor;
+use ticket_door::place::TicketOut;
 
 const PLACES: usize = 64;
 
 const CONDITIONS: usize = 8;
 
 /// Which places went on, in order, and eight conditions.
-type Row = Unasked<Vec<usize>, 8>;
+type Order = Unasked<Vec<usize>, 8>;
 
 // How many wait.
-fn count_waiting<M: Monitor<Row>>(m: &M, inside: &M::In) -> usize
+fn count_waiting<M: Monitor<Order>>(m: &M, inside: &M::In) -> usize
     requires { M.is_of_in m.now inside.now }
 {
     let lists = m.lists(inside);
@@ -27,7 +33,7 @@ fn count_waiting<M: Monitor<Row>>(m: &M, inside: &M::In) -> usize
 }
 
 // Writes its number, and goes out.
-fn write_and_leave<R: Wait, M: Monitor<Row>>(rt: &R, m: &M, inside: M::In, place: usize) -> M::Out
+fn write_and_leave<R: Wait, M: Monitor<Order>>(rt: &R, m: &M, inside: M::In, place: usize) -> M::Out
     requires { M.is_of_in m.now inside }
     ensures of { M.is_of m.now result }
     ensures place { M.place result ≡ M.place_in inside }
@@ -38,7 +44,7 @@ fn write_and_leave<R: Wait, M: Monitor<Row>>(rt: &R, m: &M, inside: M::In, place
 }
 
 // Resumes all that wait, condition by condition; each goes out before the next.
-fn resume_all<R: Wait, M: Monitor<Row>>(rt: &R, m: &M, inside: M::In) -> M::In
+fn resume_all<R: Wait, M: Monitor<Order>>(rt: &R, m: &M, inside: M::In) -> M::In
     requires { M.is_of_in m.now inside }
     ensures of { M.is_of_in m.now result }
     ensures place { M.place_in result ≡ M.place_in inside }
@@ -51,9 +57,18 @@ fn resume_all<R: Wait, M: Monitor<Row>>(rt: &R, m: &M, inside: M::In) -> M::In
     inside
 }
 
+/// Each place waits, and goes on in its turn.
+#[derive(Clone, Copy)]
+struct InTurn;
+
 // Each place waits on the condition of its number modulo 8, and the greater number goes first. The last to come resumes
 // the others and then waits on condition 0, where the first that comes for a second time finds it.
-fn waits_in_row<R: Wait, M: Monitor<Row>>(rt: &R, m: &M, out: M::Out, place: usize) -> (M::Out, u64)
+fn waits_in_row<R: Wait, M: Monitor<Order>>(
+    rt: &R,
+    m: &M,
+    out: M::Out,
+    place: usize,
+) -> (M::Out, u64)
     requires { M.is_of m.now out }
     ensures of { M.is_of m.now result.0 }
     ensures place { M.place result.0 ≡ M.place out }
@@ -70,6 +85,38 @@ fn waits_in_row<R: Wait, M: Monitor<Row>>(rt: &R, m: &M, out: M::Out, place: usi
     let inside = m.enter(rt, out);
     let (out, _resumed) = m.signal_leave(rt, inside, 0);
     (out, 0)
+}
+
+impl Row<Order, Door<Order>> for InTurn {
+    fn act<R: Wait + Abort + Clock + CpuClock>(
+        &self,
+        rt: &R,
+        m: &Door<Order>,
+        out: DoorOut<Order>,
+        place: usize,
+    ) -> (DoorOut<Order>, u64)
+        requires { ⟦<Door<Order> as Monitor<Order>>⟧.is_of m.now out }
+        ensures of { ⟦<Door<Order> as Monitor<Order>>⟧.is_of m.now result.0 }
+        ensures place { result.0.place ≡ out.place }
+    {
+        waits_in_row(rt, m, out, place)
+    }
+}
+
+impl Row<Order, TicketDoor<Order>> for InTurn {
+    fn act<R: Wait + Abort + Clock + CpuClock>(
+        &self,
+        rt: &R,
+        m: &TicketDoor<Order>,
+        out: TicketOut<Order>,
+        place: usize,
+    ) -> (TicketOut<Order>, u64)
+        requires { ⟦<TicketDoor<Order> as Monitor<Order>>⟧.is_of m.now out }
+        ensures of { ⟦<TicketDoor<Order> as Monitor<Order>>⟧.is_of m.now result.0 }
+        ensures place { result.0.place ≡ out.place }
+    {
+        waits_in_row(rt, m, out, place)
+    }
 }
 
 // A list with room for all places.
@@ -106,10 +153,10 @@ fn stands_in_order<R: Abort>(rt: &R, alloc: Global, row: &[usize]) {
 fn sixty_four_places_wait_on_each_door(host: HostRuntime) {
     let (rt, alloc) = (&host, host.alloc());
     for kind in DoorKind::BOTH {
-        let data = Row {
+        let data = Order {
             value: no_places(rt, alloc),
         };
-        let (row, _) = run_row!(rt, alloc, on_any_door(kind), waits_in_row(), data, PLACES);
+        let (row, _) = run(rt, alloc, kind, data, PLACES, &InTurn);
         stands_in_order(rt, alloc, row.value.as_slice());
     }
 }

@@ -1,7 +1,7 @@
 //! Who asked comes in by its ticket, whoever is the first to look.
 ghost use Rattle.std.specs.Prelude.{◌≡◌};
 
-use crate::tests::awaited::watch;
+use crate::tests::awaited::{act_all, watch};
 use crate::tests::compared::expect_same;
 use hoare_law::monitor::Monitor;
 use std::process::Abort;
@@ -10,7 +10,7 @@ use std::sync::Wait;
 use std::sync::atomic::{AtomicUsize, Ordering};
 use std::thread;
 use std::time::Duration;
-use test_support::run_row;
+use test_support::on_ticket_door::{closed, made};
 use test_support::tally::{Tally, write_digit};
 use ticket_door::door::TicketDoor;
 use ticket_door::place::TicketOut;
@@ -136,14 +136,17 @@ fn tickets_on_a_ticket_door(host: HostRuntime) {
         (18446744073709551615, TicketRow::WhoHandsUpResumesWhoWaits),
     ] {
         let (places, answers, value) = wanted(row);
-        let (tally, told) = run_row!(
+        let Some((door, outs)) = made(alloc, first, Tally { value: 0 }, places) else {
+            panic!(rt; "no door was made")
+        };
+        let (outs, told) = act_all(
             rt,
             alloc,
-            on_ticket_door(first),
-            acts(row),
-            Tally { value: 0 },
-            places
+            &door,
+            outs,
+            &|place| { acts(rt, &door, place.1, place.0, row) },
         );
+        let tally = closed(door, outs);
         expect_same(rt, told.as_slice(), answers);
         expect_same(rt, tally.value, value);
     }

@@ -3,7 +3,7 @@ ghost use Rattle.std.specs.Prelude.{◌≡◌};
 
 use crate::tests::awaited::{await_sign, watch};
 use crate::tests::compared::expect_same;
-use any_door::{AnyDoor, DoorKind};
+use baton_door::door::Door;
 use hoare_law::monitor::Monitor;
 use std::alloc::Global;
 use std::process::Abort;
@@ -11,6 +11,7 @@ use std::rt::Clock;
 use std::sync::Wait;
 use std::sync::atomic::{AtomicBool, Ordering};
 use test_support::tally::{Tally, add_one, write_digit};
+use ticket_door::door::TicketDoor;
 
 /// How many places come and go, each in a thread of its own.
 pub const PLACES: usize = 4;
@@ -59,24 +60,42 @@ fn tries_while_held<R: Wait, M: Monitor<Tally>>(
     ((a, b), (free, held, again))
 }
 
-// The same on a door of this kind, and the number that it is closed with.
-fn tries_on<R: Wait + Abort>(rt: &R, alloc: Global, kind: DoorKind) -> ((bool, bool, bool), u64) {
-    let Ok((door, mut outs)) = AnyDoor::make(alloc, kind, Tally { value: 0 }, 2) else {
-        panic!(rt; "no memory")
-    };
-    let (b, a) = (outs.pop().unwrap(), outs.pop().unwrap());
-    let ((a, b), came) = tries_while_held(rt, &door, a, b);
-    outs.push_reserved(a);
-    outs.push_reserved(b);
-    (came, door.close(outs).value)
+// The same on a door, and the number that it is closed with.
+macro_rules! try_on {
+    ($door:ident, $rt:expr, $alloc:expr) => {{
+        let Ok((door, mut outs)) = $door::make($alloc, Tally { value: 0 }, 2) else {
+            panic!($rt; "no memory")
+        };
+        let (b, a) = (outs.pop().unwrap(), outs.pop().unwrap());
+        let ((a, b), came) = tries_while_held($rt, &door, a, b);
+        outs.push_reserved(a);
+        outs.push_reserved(b);
+        (came, door.close(outs).value)
+    }};
+}
+
+// That on a baton door.
+fn tries_baton<R: Wait + Abort>(rt: &R, alloc: Global) -> ((bool, bool, bool), u64) {
+    try_on!(Door, rt, alloc)
+}
+
+// That on a ticket door.
+fn tries_ticket<R: Wait + Abort>(rt: &R, alloc: Global) -> ((bool, bool, bool), u64) {
+    try_on!(TicketDoor, rt, alloc)
 }
 
 #[test]
 fn who_tries_comes_in_where_it_is_free(rt: HostRuntime) {
-    for kind in DoorKind::BOTH {
-        let found = tries_on(&rt, rt.alloc(), kind);
-        expect_same(&rt, (kind, found), (kind, ((true, false, true), 123)));
-    }
+    expect_same(
+        &rt,
+        tries_baton(&rt, rt.alloc()),
+        ((true, false, true), 123),
+    );
+    expect_same(
+        &rt,
+        tries_ticket(&rt, rt.alloc()),
+        ((true, false, true), 123),
+    );
 }
 
 /// Place 0 waits, and once it is resumed it stays inside until the sign. Place 1 passes to it, and tries while the

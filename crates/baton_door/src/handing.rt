@@ -7,6 +7,7 @@ ghost use Rattle.door_frame.specs.Places.{IsWoken, sleeper_at};
 ghost use Rattle.door_frame.specs.Seats.{GoesOut, IsBehind, StaysIn};
 
 use crate::door::Door;
+use crate::naps::{is_handed_on, is_to_call};
 use crate::word::{DOOR, word_of_next};
 use door_frame::departure::Departure;
 use door_frame::notice::Notice;
@@ -19,11 +20,11 @@ use wait_book::steps::Next;
 
 impl<D: MonitorData> Door<D> {
     /// Gives the parcel back by an event that the call picks.
-    #[inline]
+    #[inline(always)] // a plain leave is short where it knows that nobody goes on
     pub(crate) fn give<J: PickedEvent<D>>(
         &self,
         seat: &mut DoorSeat<D>,
-        parcel: Parcel<D>,
+        mut parcel: Parcel<D>,
         place: usize,
         departure: Departure,
         next: Next,
@@ -35,8 +36,9 @@ impl<D: MonitorData> Door<D> {
         ensures away { GoesOut place J.event seat.old.me parcel.state seat.new.me }
         ensures woken { IsWoken self.now next result }
     {
+        let is_to_call = is_to_call(parcel.held.handed, departure, next);
+        parcel.held.handed = is_handed_on(next);
         lay_parcel(&self.table, seat, parcel);
-        let is_to_call = self.naps.is_to_call(departure, next);
         self.table
             .shared
             .store::<Give<J>>(seat, DOOR, word_of_next(next));
@@ -67,6 +69,7 @@ impl<D: MonitorData> Door<D> {
     }
 
     /// Wakes a place, or lets its next sleep return at once.
+    #[inline(never)] // apart, so that a plain leave stays small
     fn wake(&self, seat: &DoorSeat<D>, place: usize) -> Woken
         requires below { place < self.now.places }
         requires given_up { IsBehind seat.now.me }

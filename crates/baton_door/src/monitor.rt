@@ -68,7 +68,7 @@ impl<D: MonitorData> Turnstile<D> for Door<D> {
         None
     }
 
-    #[inline]
+    #[inline(always)] // as `give` is, which it calls
     fn hand_on(
         &self,
         seat: &mut DoorSeat<D>,
@@ -143,7 +143,7 @@ impl<D: MonitorData + Send> Monitor<D> for Door<D> {
         calls::try_enter(self, out)
     }
 
-    #[inline]
+    #[inline(always)] // as `calls::leave` is
     fn leave<R: Wait>(&self, rt: &R, inside: DoorIn<D>) -> DoorOut<D> {
         calls::leave(self, inside)
     }
@@ -185,7 +185,7 @@ impl<D: MonitorData + Send> Monitor<D> for Door<D> {
 
     fn state_mut<'a>(inside: &'a mut DoorIn<D>, monitor: &Self) -> &'a mut D {
         let parcel = &mut inside.parcel;
-        &mut parcel.held.state
+        &mut parcel.held.lodged.state
     }
 
     fn lists<'a>(&self, inside: &'a DoorIn<D>) -> &'a Book {

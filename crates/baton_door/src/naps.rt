@@ -22,8 +22,6 @@ pub(crate) struct Naps {
     nappers: AtomicU64,
     /// How often one of them was called, modulo 2^64.
     calls: AtomicU64,
-    /// 1 where the monitor was handed to who is inside, or is being handed on, else 0.
-    handed: AtomicU64,
 }
 
 impl Naps {
@@ -32,7 +30,6 @@ impl Naps {
         CachePadded::new(Naps {
             nappers: AtomicU64::new(0),
             calls: AtomicU64::new(0),
-            handed: AtomicU64::new(0),
         })
     }
 
@@ -58,33 +55,37 @@ impl Naps {
         self.nappers.load(Ordering::Relaxed)
     }
 
-    /// Who is inside tells how it is about to give the monitor up, and asks whether it is to call one that naps then.
-    #[inline]
-    pub(crate) fn is_to_call(&self, departure: Departure, next: Next) -> bool {
-        let handed = self.handed.load(Ordering::Relaxed) == 1;
-        match next {
-            Next::Free => {
-                if handed {
-                    self.handed.store(0, Ordering::Relaxed);
-                }
-                handed || is_wait(departure)
-            }
-            Next::For(_) | Next::Held(_) => {
-                if !handed {
-                    self.handed.store(1, Ordering::Relaxed);
-                }
-                false
-            }
-        }
-    }
-
     /// Calls one that naps, if one does and it is to be called.
     #[inline]
     pub(crate) fn call_one(&self, is_to_call: bool) {
         if is_to_call && self.nappers.load(Ordering::SeqCst) != 0 {
-            self.calls.fetch_add(1, Ordering::SeqCst);
-            self.calls.wake_one();
+            self.call();
         }
+    }
+
+    #[inline(never)] // apart, so that a plain leave stays small
+    fn call(&self) {
+        self.calls.fetch_add(1, Ordering::SeqCst);
+        self.calls.wake_one();
+    }
+}
+
+/// Whether who gives the monitor up so is to call one that naps: it leaves the monitor free, and was handed it or goes
+/// to wait.
+#[inline]
+pub(crate) fn is_to_call(was_handed: bool, departure: Departure, next: Next) -> bool {
+    match next {
+        Next::Free => was_handed || is_wait(departure),
+        Next::For(_) | Next::Held(_) => false,
+    }
+}
+
+/// Whether the monitor is handed on to a place.
+#[inline]
+pub(crate) fn is_handed_on(next: Next) -> bool {
+    match next {
+        Next::For(_) => true,
+        Next::Free | Next::Held(_) => false,
     }
 }
 

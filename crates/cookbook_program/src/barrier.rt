@@ -82,7 +82,8 @@ where
     let together = rounds.together.load(Ordering::SeqCst);
     let last = rounds.last.load(Ordering::SeqCst);
     println!(rt;
-        "barrier, {name}: {PARTIES} parties, {ROUNDS} rounds: all had come {together} times, somebody came last {last} times"
+        "barrier, {name}: {PARTIES} parties, {ROUNDS} rounds: all had come {together} times, \
+        somebody came last {last} times"
     )
 }
 

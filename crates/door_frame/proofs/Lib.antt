@@ -8,3 +8,4 @@ pub mod Notices
 pub mod Close
 pub mod Opened
 pub mod PlacesInOrder
+pub mod Parcels

@@ -39,7 +39,7 @@ pub fn brought_in<D: MonitorData>(
         → result ≡ place_in (berth seat.table_id sleeper) place
         (with_event c.log (event.Admit place parcel.state)) parcel.state }
 {
-    parcel.held.book.admit(place);
+    parcel.held.lodged.book.admit(place);
     Inside::of_parts(seat, place, sleeper, parcel)
 }
 
@@ -57,7 +57,7 @@ fn brought_back<D: MonitorData>(
         → result ≡ place_in (berth seat.table_id sleeper) place
         (with_event c.log (due place f parcel.state)) parcel.state }
 {
-    parcel.held.book.claim(place);
+    parcel.held.lodged.book.claim(place);
     Inside::of_parts(seat, place, sleeper, parcel)
 }
 
@@ -102,7 +102,7 @@ pub fn try_enter<D: MonitorData, T: Turnstile<D>>(
 }
 
 /// `Monitor::leave`.
-#[inline]
+#[inline(always)] // else a door whose `hand_on` is in line has it called
 pub fn leave<D: MonitorData, T: Turnstile<D>>(door: &T, inside: Inside<D>) -> Outside<D>
     requires of { IsIn D.rest D.ready (kinds_of D.CONDITIONS D.MESA) (T.id door.now) inside }
     requires rest { D.rest inside.state (priorities inside.front.events) }
@@ -111,7 +111,7 @@ pub fn leave<D: MonitorData, T: Turnstile<D>>(door: &T, inside: Inside<D>) -> Ou
     ensures front { result.front ≡ with_event inside.front (event.Leave inside.place inside.state) }
 {
     let (mut seat, place, sleeper, mut parcel) = inside.into_parts();
-    let next = parcel.held.book.leave(place);
+    let next = parcel.held.lodged.book.leave(place);
     door.hand_on(&mut seat, parcel, place, Departure::Leave, next);
     Outside::of_parts(seat, place, sleeper)
 }
@@ -138,7 +138,7 @@ pub fn wait<D: MonitorData, T: Turnstile<D>, R: Wait>(
         (event.Resume inside.place condition result.state) result.front }
 {
     let (mut seat, place, sleeper, mut parcel) = inside.into_parts();
-    let next = parcel.held.book.wait(place, condition, priority);
+    let next = parcel.held.lodged.book.wait(place, condition, priority);
     door.hand_on(
         &mut seat,
         parcel,
@@ -173,7 +173,7 @@ pub fn signal<D: MonitorData, T: Turnstile<D>, R: Wait>(
         return (inside, false);
     }
     let (mut seat, place, sleeper, mut parcel) = inside.into_parts();
-    let next = parcel.held.book.signal(place, condition);
+    let next = parcel.held.lodged.book.signal(place, condition);
     door.hand_on(&mut seat, parcel, place, Departure::Signal(condition), next);
     let parcel = claim(door, rt, &mut seat, place, &sleeper);
     (brought_back(seat, place, sleeper, parcel), true)
@@ -200,7 +200,7 @@ pub fn signal_leave<D: MonitorData, T: Turnstile<D>>(
         return (leave(door, inside), false);
     }
     let (mut seat, place, sleeper, mut parcel) = inside.into_parts();
-    let next = parcel.held.book.pass(place, condition);
+    let next = parcel.held.lodged.book.pass(place, condition);
     door.hand_on(&mut seat, parcel, place, Departure::Pass(condition), next);
     (Outside::of_parts(seat, place, sleeper), true)
 }
@@ -234,7 +234,7 @@ fn call<D: MonitorData, T: Turnstile<D>>(door: &T, inside: &mut Inside<D>, notic
     let place = inside.place;
     door.note(&mut inside.seat, &inside.parcel, place, notice);
     let parcel = &mut inside.parcel;
-    book_calls(&mut parcel.held.book, place, notice)
+    book_calls(&mut parcel.held.lodged.book, place, notice)
 }
 
 /// `Monitor::notify`.

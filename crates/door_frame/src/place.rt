@@ -167,6 +167,6 @@ impl<D> Inside<D> {
     pub fn state(&self) -> &D
         ensures { result.now ≡ self.now.state }
     {
-        &self.parcel.held.state
+        &self.parcel.held.lodged.state
     }
 }

@@ -63,7 +63,8 @@ fn write_opening<W: Write>(writer: &mut W, frame: &Frame) -> io::Result<()> {
     let height = frame.height;
     write!(
         writer,
-        "<svg xmlns=\"http://www.w3.org/2000/svg\" width=\"{width}\" height=\"{height}\" viewBox=\"0 0 {width} {height}\""
+        "<svg xmlns=\"http://www.w3.org/2000/svg\" width=\"{width}\" height=\"{height}\" \
+        viewBox=\"0 0 {width} {height}\""
     )?;
     writer.write_all(b" role=\"img\" aria-labelledby=\"title\" aria-describedby=\"about\">\n")
 }

@@ -189,7 +189,7 @@ impl<D: MonitorData + Send> Monitor<D> for TicketDoor<D> {
 
     fn state_mut<'a>(inside: &'a mut TicketIn<D>, monitor: &Self) -> &'a mut D {
         let parcel = &mut inside.parcel;
-        &mut parcel.held.state
+        &mut parcel.held.lodged.state
     }
 
     fn lists<'a>(&self, inside: &'a TicketIn<D>) -> &'a Book {

@@ -1,7 +1,9 @@
-//! How the refusals of the schedulers and of the work queue read. (That of a read which nobody began stands in
+//! How the refusals of the schedulers and of the recipes read. (That of a read which nobody began stands in
 //! `rows::readers`, for its pass can't be made up.)
 
 use crate::tests::compared::reads_as;
+use cookbook::drain::TooMuchWork;
+use cookbook::table::NotEating;
 use cookbook::work_queue::PutRefused;
 use plain_schedulers::buffer::BufferRefused;
 use plain_schedulers::single;
@@ -55,7 +57,7 @@ fn refusals_of_the_sweep_schedulers_read_plainly(rt: HostRuntime) {
 }
 
 #[test]
-fn refusals_of_the_work_queue_read_plainly(rt: HostRuntime) {
+fn refusals_of_the_recipes_read_plainly(rt: HostRuntime) {
     let alloc = rt.alloc();
     reads_as(
         &rt,
@@ -64,4 +66,7 @@ fn refusals_of_the_work_queue_read_plainly(rt: HostRuntime) {
         "the queue was shut down",
     );
     reads_as(&rt, alloc, &PutRefused::Full(7), "the queue is full");
+    let too_much_work = "too much work is under way";
+    reads_as(&rt, alloc, &TooMuchWork, too_much_work);
+    reads_as(&rt, alloc, &NotEating, "nobody eats at the seat");
 }

@@ -9,40 +9,41 @@ use Rattle.wait_book.proofs.WithData.{turn-history, times_in-outside, IsOf-event
 use Rattle.door_frame.specs.declared.parcel.Lodged.{Lodged}
 use Rattle.door_frame.specs.Places.{berth, place_in}
 use Rattle.door_frame.proofs.Arrivals.{came_as}
+use Rattle.door_frame.proofs.Parcels.{unpacked}
 use Rattle.door_frame.proofs.calls.brought_in.Goals as goal
 
 pub admit-requires-clause-free : goal.admit-requires-clause-free
 admit-requires-clause-free g c =
     let D = g.D.MonitorData in
-    let in_ = came_as (c.deref_mut.ensures.value ∙ c.parcel.view_is) c.requires.came.1 in
+    let in_ = came_as (unpacked c.deref_mut.ensures.value c.parcel.view_is) c.requires.came.1 in
     turn-history _ in_.log in_.book ∙ (IsLegal-last in_.log _ in_.stands.legal).fits.0
 
 pub admit-requires-clause-place : goal.admit-requires-clause-place
 admit-requires-clause-place g c =
     let D = g.D.MonitorData in
-    let in_ = came_as (c.deref_mut.ensures.value ∙ c.parcel.view_is) c.requires.came.1 in
+    let in_ = came_as (unpacked c.deref_mut.ensures.value c.parcel.view_is) c.requires.came.1 in
     subst (λ (n : Sizes). c.args.place < n.places) in_.book.sizes (IsLegal-last in_.log _ in_.stands.legal).in_range.0
 
 pub admit-requires-clause-outside : goal.admit-requires-clause-outside
 admit-requires-clause-outside g c =
     let D = g.D.MonitorData in
-    let in_ = came_as (c.deref_mut.ensures.value ∙ c.parcel.view_is) c.requires.came.1 in
+    let in_ = came_as (unpacked c.deref_mut.ensures.value c.parcel.view_is) c.requires.came.1 in
     times_in-outside _ in_.log _ in_.book (IsLegal-last in_.log _ in_.stands.legal).fits.1
 
 pub of_parts-requires : goal.of_parts-requires
 of_parts-requires g c =
-    let in_ = came_as (c.deref_mut.ensures.value ∙ c.parcel.view_is) c.requires.came.1 in (
+    let in_ = came_as (unpacked c.deref_mut.ensures.value c.parcel.view_is) c.requires.came.1 in (
       _,
       (
         in_.me_is,
-        IsOf-event _ in_.log (Admit c.args.place c.deref_mut.result.now.state)
+        IsOf-event _ in_.log (Admit c.args.place c.deref_mut.result.now.lodged.state)
             (c.admit.ensures.of (erased in_.log) in_.book),
       ),
     )
 
 pub returns : goal.returns
 returns g c = λ f came.
-    let same = c.deref_mut.ensures.value ∙ c.parcel.view_is in
+    let same = unpacked c.deref_mut.ensures.value c.parcel.view_is in
     let k = c.args.place in
     let e = Admit k c.args.parcel.state in
     let held = subst (λ (w : Lodged g.row.D.Denot). IsOf w.book (erased came.log)) (sym same) came.book in

@@ -1,4 +1,4 @@
-use Rattle.std.proofs.Common.{ap, ◌∙◌, refl, subst}
+use Rattle.std.proofs.Common.{ap, refl, subst}
 use Rattle.hoare_law.specs.Beside.Erasure.{erased}
 use Rattle.door_frame.specs.declared.parcel.Lodged.{Lodged}
 use Rattle.door_frame.specs.Notices.{IsCounted, called_on}
@@ -7,6 +7,7 @@ use Rattle.door_frame.specs.Views.{front_of}
 use Rattle.door_frame.proofs.Inside.{holds, turn_in_hand, book_in_hand, listed_in_hand}
 use Rattle.door_frame.proofs.Notices.{notes_notice, book_noticed, noted}
 use Rattle.door_frame.proofs.Seats.{is_alone-seat, at_front, berth_as}
+use Rattle.door_frame.proofs.Parcels.{unpacked}
 use Rattle.door_frame.proofs.calls.call.Goals as goal
 
 pub note-requires-clause-event : goal.note-requires-clause-event
@@ -16,7 +17,7 @@ note-requires-clause-event g c =
 
 pub book_calls-requires-clause-inside : goal.book_calls-requires-clause-inside
 book_calls-requires-clause-inside g c =
-    let same = c.deref_mut.ensures.value ∙ c.parcel.view_is in
+    let same = unpacked c.deref_mut.ensures.value c.parcel.view_is in
     turn_in_hand (holds same c.inside.view_is c.inside.invariant c.requires.of)
 
 pub invariant_of-inside-inside : goal.invariant_of-inside-inside
@@ -27,7 +28,7 @@ invariant_of-inside g c =
     let f = front_of c.inside.inside.seat.me.0 c.inside.inside.alone in
     let h = holds refl c.inside.view_is c.inside.invariant c.requires.of in
     let now = c.note.ensures.stays _ c.inside.invariant.0 in
-    let same = c.deref_mut.ensures.value ∙ c.parcel.view_is in
+    let same = unpacked c.deref_mut.ensures.value c.parcel.view_is in
     let book = book_in_hand (ap (λ (w : Lodged g.row.D.Denot). w.book) same) c.inside.invariant in
     at_front (λ h. IsInside c.inside.inside.place h c.note.new.seat.me c.book_calls.new.book) _ _ _ _ _ now
     (now, book_noticed c.args.notice _ h c.requires.some (c.book_calls.ensures.of (erased f) book))
@@ -35,7 +36,7 @@ invariant_of-inside g c =
 pub returns : goal.returns
 returns g c =
     let h = holds refl c.inside.view_is c.inside.invariant c.requires.of in
-    let same = c.deref_mut.ensures.value ∙ c.parcel.view_is in
+    let same = unpacked c.deref_mut.ensures.value c.parcel.view_is in
     let notes = notes_notice c.args.notice h c.requires.mesa c.requires.some in
     record {
       noted = noted c.args.notice _ h notes (berth_as _ c.note.ensures.table)

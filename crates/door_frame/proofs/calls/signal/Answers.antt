@@ -8,19 +8,20 @@ use Rattle.door_frame.proofs.Arrivals.{returned}
 use Rattle.door_frame.proofs.Departures.{gives_handing}
 use Rattle.door_frame.proofs.Inside.{holds, turn_in_hand, small, sleeps}
 use Rattle.door_frame.proofs.Seats.{berth_as}
+use Rattle.door_frame.proofs.Parcels.{unpacked}
 use Rattle.door_frame.proofs.calls.signal.Goals as goal
 
 pub signal-next-requires-clause-inside : goal.signal-next-requires-clause-inside
 signal-next-requires-clause-inside g c =
     let parts = c.into_parts-seat.ensures in
     turn_in_hand
-    (holds (c.deref_mut.ensures.value ∙ c.parcel.view_is) parts.parts parts.seat c.requires.of)
+    (holds (unpacked c.deref_mut.ensures.value c.parcel.view_is) parts.parts parts.seat c.requires.of)
 
 pub hand_on-requires-clause-event : goal.hand_on-requires-clause-event
 hand_on-requires-clause-event g c =
     let parts = c.into_parts-seat.ensures in
     let f = c.args.inside.front in
-    let h = holds (c.deref_mut.ensures.value ∙ c.parcel.view_is) parts.parts parts.seat c.requires.of in
+    let h = holds (unpacked c.deref_mut.ensures.value c.parcel.view_is) parts.parts parts.seat c.requires.of in
     let told : IsTrue true → priorities c.args.inside.front.events c.args.condition ≢ [] =
     (c.if-not-queue.ensures.lists).0 in
     gives_handing false _ _ _ h c.requires.hoare (told refl) (c.requires.ready (told refl))
@@ -29,12 +30,12 @@ hand_on-requires-clause-event g c =
 pub claim-parcel-requires-clause-small : goal.claim-parcel-requires-clause-small
 claim-parcel-requires-clause-small g c =
     let parts = c.into_parts-seat.ensures in
-    small (holds (c.deref_mut.ensures.value ∙ c.parcel.view_is) parts.parts parts.seat c.requires.of)
+    small (holds (unpacked c.deref_mut.ensures.value c.parcel.view_is) parts.parts parts.seat c.requires.of)
 
 pub claim-parcel-requires-clause-sleeper : goal.claim-parcel-requires-clause-sleeper
 claim-parcel-requires-clause-sleeper g c =
     let parts = c.into_parts-seat.ensures in
-    sleeps (holds (c.deref_mut.ensures.value ∙ c.parcel.view_is) parts.parts parts.seat c.requires.of)
+    sleeps (holds (unpacked c.deref_mut.ensures.value c.parcel.view_is) parts.parts parts.seat c.requires.of)
 
 pub claim-parcel-requires-clause-away : goal.claim-parcel-requires-clause-away
 claim-parcel-requires-clause-away g c = (_, c.hand_on.ensures.away _ c.into_parts-seat.ensures.seat.0)
@@ -47,7 +48,7 @@ pub returns : goal.returns
 returns g c =
     let parts = c.into_parts-seat.ensures in
     let f = c.args.inside.front in
-    let h = holds (c.deref_mut.ensures.value ∙ c.parcel.view_is) parts.parts parts.seat c.requires.of in
+    let h = holds (unpacked c.deref_mut.ensures.value c.parcel.view_is) parts.parts parts.seat c.requires.of in
     let told : IsTrue true → priorities c.args.inside.front.events c.args.condition ≢ [] =
     (c.if-not-queue.ensures.lists).0 in
     let came = c.claim-parcel.ensures.came _ (c.hand_on.ensures.away _ h.me_is) in

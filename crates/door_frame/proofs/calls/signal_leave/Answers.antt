@@ -1,4 +1,4 @@
-use Rattle.std.proofs.Common.{◌≢◌, [], true, false, IsTrue, ◌∙◌, refl}
+use Rattle.std.proofs.Common.{◌≢◌, [], true, false, IsTrue, refl}
 use Rattle.hoare_law.specs.Beside.Erasure.{erased}
 use Rattle.hoare_law.specs.Growth.{just_left}
 use Rattle.hoare_law.specs.Priorities.{priorities}
@@ -7,6 +7,7 @@ use Rattle.wait_book.proofs.WithData.{none-listed}
 use Rattle.door_frame.proofs.Departures.{gives_handing, passed}
 use Rattle.door_frame.proofs.Inside.{holds, turn_in_hand}
 use Rattle.door_frame.proofs.Seats.{berth_as}
+use Rattle.door_frame.proofs.Parcels.{unpacked}
 use Rattle.door_frame.proofs.calls.signal_leave.Goals as goal
 
 pub leave-requires-clause-rest : goal.leave-requires-clause-rest
@@ -23,13 +24,13 @@ pub pass-next-requires-clause-inside : goal.pass-next-requires-clause-inside
 pass-next-requires-clause-inside g c =
     let parts = c.into_parts-seat.ensures in
     turn_in_hand
-    (holds (c.deref_mut.ensures.value ∙ c.parcel.view_is) parts.parts parts.seat c.requires.of)
+    (holds (unpacked c.deref_mut.ensures.value c.parcel.view_is) parts.parts parts.seat c.requires.of)
 
 pub hand_on-requires-clause-event : goal.hand_on-requires-clause-event
 hand_on-requires-clause-event g c =
     let parts = c.into_parts-seat.ensures in
     let f = c.args.inside.front in
-    let h = holds (c.deref_mut.ensures.value ∙ c.parcel.view_is) parts.parts parts.seat c.requires.of in
+    let h = holds (unpacked c.deref_mut.ensures.value c.parcel.view_is) parts.parts parts.seat c.requires.of in
     let told : IsTrue true → priorities c.args.inside.front.events c.args.condition ≢ [] =
     (c.if-not-queue.ensures.lists).0 in
     gives_handing true _ _ _ h c.requires.hoare (told refl) (c.requires.ready (told refl))
@@ -42,7 +43,7 @@ pub returns : goal.returns
 returns g c =
     let parts = c.into_parts-seat.ensures in
     let f = c.args.inside.front in
-    let h = holds (c.deref_mut.ensures.value ∙ c.parcel.view_is) parts.parts parts.seat c.requires.of in
+    let h = holds (unpacked c.deref_mut.ensures.value c.parcel.view_is) parts.parts parts.seat c.requires.of in
     let told : IsTrue true → priorities c.args.inside.front.events c.args.condition ≢ [] =
     (c.if-not-queue.ensures.lists).0 in
     let o = passed c.args.condition _ _ _ _ h c.requires.hoare (told refl) (c.requires.ready (told refl))

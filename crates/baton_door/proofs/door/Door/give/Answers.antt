@@ -1,9 +1,9 @@
-use Rattle.std.proofs.Common.{arith, sym, ap, ◌∙◌, subst, Some, None, [], ◌∷◌}
+use Rattle.std.proofs.Common.{arith, sym, ap, ◌∙◌, subst, Some, None}
 use Rattle.wait_book.specs.Contents.{IsPlaceBelow}
 use Rattle.wait_book.specs.declared.steps.Next.{Next}
 use Rattle.door_frame.specs.Places.{DoorId, IsWoken}
-use Rattle.door_frame.specs.Steps.{Sat}
-use Rattle.baton_door.proofs.Steps.{gives_at}
+use Rattle.door_frame.proofs.Parcels.{unpacked}
+use Rattle.baton_door.proofs.Steps.{gives_at, laid_down}
 use Rattle.baton_door.proofs.door.Door.give.Goals as goal
 use Rattle.hoare_law.specs.Sizes.{kinds_of}
 
@@ -13,7 +13,8 @@ store-requires g c =
     let D = g.D.MonitorData in
     let table = c.lay_parcel.ensures.table ∙ c.requires.table ∙ ap (λ (d : DoorId). d.table) (sym c.self.view_is) in
     let wide = c.self.invariant.words_are in
-    let laid = c.lay_parcel.ensures.laid ∙ ap (λ (m : Sat g.row.D.Denot). (m.0, (0, Some c.args.parcel) ∷ [])) e.1 in (
+    let same = unpacked c.deref_mut.ensures.value c.parcel.view_is in
+    let laid = c.lay_parcel.ensures.laid ∙ laid_down c.args.place e.0 c.args.parcel same e.1 in (
       table,
       omega (arith, wide),
       gives_at D.rest D.ready
@@ -27,18 +28,17 @@ pub wake-requires-clause-below : goal.wake-requires-clause-below
 wake-requires-clause-below g c = subst (IsPlaceBelow c.args.self.now.places) c.in-For.is c.requires.next
 
 pub wake-requires-clause-given_up : goal.wake-requires-clause-given_up
-wake-requires-clause-given_up g c = let e = c.requires.event in (
-  c.args.place,
-  _,
-  c.store.ensures.2 c.args.place e.0 c.args.parcel
-      (c.lay_parcel.ensures.laid ∙ ap (λ (m : Sat g.row.D.Denot). (m.0, (0, Some c.args.parcel) ∷ [])) e.1),
-  e.2.given_up,
-)
+wake-requires-clause-given_up g c =
+    let e = c.requires.event in
+    let same = unpacked c.deref_mut.ensures.value c.parcel.view_is in
+    let laid = c.lay_parcel.ensures.laid ∙ laid_down c.args.place e.0 c.args.parcel same e.1 in
+    (c.args.place, _, c.store.ensures.2 c.args.place e.0 c.args.parcel laid, e.2.given_up)
 
 pub returns-in-For-clause-away : goal.returns-in-For-clause-away
 returns-in-For-clause-away g c = λ f is.
-    c.store.ensures.2 c.args.place f c.args.parcel
-    (c.lay_parcel.ensures.laid ∙ ap (λ (m : Sat g.row.D.Denot). (m.0, (0, Some c.args.parcel) ∷ [])) is)
+    let same = unpacked c.deref_mut.ensures.value c.parcel.view_is in
+    let laid = c.lay_parcel.ensures.laid ∙ laid_down c.args.place f c.args.parcel same is in
+    c.store.ensures.2 c.args.place f c.args.parcel laid
 
 pub returns-in-For-clause-woken : goal.returns-in-For-clause-woken
 returns-in-For-clause-woken g c =
@@ -47,8 +47,9 @@ returns-in-For-clause-woken g c =
 
 pub returns-in-Free-clause-away : goal.returns-in-Free-clause-away
 returns-in-Free-clause-away g c = λ f is.
-    c.store.ensures.2 c.args.place f c.args.parcel
-    (c.lay_parcel.ensures.laid ∙ ap (λ (m : Sat g.row.D.Denot). (m.0, (0, Some c.args.parcel) ∷ [])) is)
+    let same = unpacked c.deref_mut.ensures.value c.parcel.view_is in
+    let laid = c.lay_parcel.ensures.laid ∙ laid_down c.args.place f c.args.parcel same is in
+    c.store.ensures.2 c.args.place f c.args.parcel laid
 
 pub returns-in-Free-clause-woken : goal.returns-in-Free-clause-woken
 returns-in-Free-clause-woken g c =
@@ -56,8 +57,9 @@ returns-in-Free-clause-woken g c =
 
 pub returns-in-Held-clause-away : goal.returns-in-Held-clause-away
 returns-in-Held-clause-away g c = λ f is.
-    c.store.ensures.2 c.args.place f c.args.parcel
-    (c.lay_parcel.ensures.laid ∙ ap (λ (m : Sat g.row.D.Denot). (m.0, (0, Some c.args.parcel) ∷ [])) is)
+    let same = unpacked c.deref_mut.ensures.value c.parcel.view_is in
+    let laid = c.lay_parcel.ensures.laid ∙ laid_down c.args.place f c.args.parcel same is in
+    c.store.ensures.2 c.args.place f c.args.parcel laid
 
 pub returns-in-Held-clause-woken : goal.returns-in-Held-clause-woken
 returns-in-Held-clause-woken g c =

@@ -33,85 +33,24 @@ mod users;
 mod weak_barrier;
 
 use crate::asked::{Arguments, Asked};
-use crate::tally::OfTally;
+use crate::tally::{OfTally, Tallied};
 use crate::told::tell;
-use order_explorer::{Limits, Orders};
+use hoare_law::data::MonitorData;
+use order_explorer::{Explored, Limits, Orders, Program};
 use std::alloc::Global;
 use std::io;
 use std::rt::Clock;
 use std::sync::Wait;
-use std::sync::atomic::AtomicU64;
 use std::thread::Threads;
 
-// Programs over a tally.
-fn tell_tallies<R: Threads + Wait + Clock + Print + Eprint + Copy + Send + 'static>(
-    rt: R,
-    alloc: Global,
-    asked: &Asked<'_>,
-    programs: &[(&str, OfTally)],
-) -> io::Result<()> {
+// Programs of one kind.
+fn tell_each<
+    R: Threads + Wait + Clock + Print + Eprint + Copy + Send + 'static,
+    D: MonitorData + Send + Drop + 'static,
+    P: Program<D, Explored<D>> + Clone + 'static,
+>(rt: R, alloc: Global, asked: &Asked<'_>, programs: &[(&str, P)]) -> io::Result<()> {
     for (name, program) in programs {
         tell(rt, alloc, asked, *name, program)?;
-    }
-    Ok(())
-}
-
-// The single item, for so many threads.
-fn tell_single<R: Threads + Wait + Clock + Print + Eprint + Copy + Send + 'static>(
-    rt: R,
-    alloc: Global,
-    asked: &Asked<'_>,
-) -> io::Result<()> {
-    for (name, threads) in [("single-2", 2), ("single-3", 3), ("single-4", 4)] {
-        tell(rt, alloc, asked, name, &single::Items { threads })?;
-    }
-    Ok(())
-}
-
-// The bounded buffer, of so many rounds.
-fn tell_buffer<R: Threads + Wait + Clock + Print + Eprint + Copy + Send + 'static>(
-    rt: R,
-    alloc: Global,
-    asked: &Asked<'_>,
-) -> io::Result<()> {
-    for (name, rounds) in [("buffer-1", 1), ("buffer-2", 2)] {
-        tell(rt, alloc, asked, name, &buffer::OneCell { rounds })?;
-    }
-    Ok(())
-}
-
-// The pool, for so many streams.
-fn tell_pool<R: Threads + Wait + Clock + Print + Eprint + Copy + Send + 'static>(
-    rt: R,
-    alloc: Global,
-    asked: &Asked<'_>,
-) -> io::Result<()> {
-    for (name, threads) in [("pool-2", 2), ("pool-3", 3)] {
-        tell(rt, alloc, asked, name, &pool::Streams { threads })?;
-    }
-    Ok(())
-}
-
-// The disk head, for so many requests.
-fn tell_head<R: Threads + Wait + Clock + Print + Eprint + Copy + Send + 'static>(
-    rt: R,
-    alloc: Global,
-    asked: &Asked<'_>,
-) -> io::Result<()> {
-    for (name, threads) in [("head-2", 2), ("head-3", 3)] {
-        tell(rt, alloc, asked, name, &head::Requests { threads })?;
-    }
-    Ok(())
-}
-
-// A writer, and readers beside it.
-fn tell_readers<R: Threads + Wait + Clock + Print + Eprint + Copy + Send + 'static>(
-    rt: R,
-    alloc: Global,
-    asked: &Asked<'_>,
-) -> io::Result<()> {
-    for (name, threads) in [("readers-3", 3), ("readers-4", 4)] {
-        tell(rt, alloc, asked, name, &readers::Readers { threads })?;
     }
     Ok(())
 }
@@ -123,29 +62,58 @@ fn tell_users<R: Threads + Wait + Clock + Print + Eprint + Copy + Send + 'static
     asked: &Asked<'_>,
 ) -> io::Result<()> {
     let tallies = [
-        ("visits-2-1", OfTally::Visits(2, 1)),
-        ("visits-3-2", OfTally::Visits(3, 2)),
-        ("visits-2-5", OfTally::Visits(2, 5)),
-        ("visits-4-1", OfTally::Visits(4, 1)),
-        ("signals", OfTally::Signals),
+        ("visits-2-1", Tallied::of(OfTally::Visits(2, 1))),
+        ("visits-3-2", Tallied::of(OfTally::Visits(3, 2))),
+        ("visits-2-5", Tallied::of(OfTally::Visits(2, 5))),
+        ("visits-4-1", Tallied::of(OfTally::Visits(4, 1))),
+        ("signals", Tallied::of(OfTally::Signals)),
     ];
-    tell_tallies(rt, alloc, asked, &tallies)?;
+    tell_each(rt, alloc, asked, &tallies)?;
     tell(rt, alloc, asked, "permits", &users::Workers)
 }
 
-// The schedulers.
-fn tell_schedulers<R: Threads + Wait + Clock + Print + Eprint + Copy + Send + 'static>(
+// The single item, and both buffers.
+fn tell_plain<R: Threads + Wait + Clock + Print + Eprint + Copy + Send + 'static>(
     rt: R,
     alloc: Global,
     asked: &Asked<'_>,
 ) -> io::Result<()> {
-    tell_single(rt, alloc, asked)?;
-    tell_buffer(rt, alloc, asked)?;
-    tell(rt, alloc, asked, "mesa-buffer", &mesa::MesaCell)?;
+    let single = [
+        ("single-2", single::Items { threads: 2 }),
+        ("single-3", single::Items { threads: 3 }),
+        ("single-4", single::Items { threads: 4 }),
+    ];
+    let buffer = [
+        ("buffer-1", buffer::OneCell { rounds: 1 }),
+        ("buffer-2", buffer::OneCell { rounds: 2 }),
+    ];
+    tell_each(rt, alloc, asked, &single)?;
+    tell_each(rt, alloc, asked, &buffer)?;
+    tell(rt, alloc, asked, "mesa-buffer", &mesa::MesaCell)
+}
+
+// The other schedulers.
+fn tell_others<R: Threads + Wait + Clock + Print + Eprint + Copy + Send + 'static>(
+    rt: R,
+    alloc: Global,
+    asked: &Asked<'_>,
+) -> io::Result<()> {
+    let pool = [
+        ("pool-2", pool::Streams { threads: 2 }),
+        ("pool-3", pool::Streams { threads: 3 }),
+    ];
+    let head = [
+        ("head-2", head::Requests { threads: 2 }),
+        ("head-3", head::Requests { threads: 3 }),
+    ];
+    let readers = [
+        ("readers-3", readers::Readers { threads: 3 }),
+        ("readers-4", readers::Readers { threads: 4 }),
+    ];
     tell(rt, alloc, asked, "alarm", &clock::Clock::Tickers)?;
-    tell_pool(rt, alloc, asked)?;
-    tell_head(rt, alloc, asked)?;
-    tell_readers(rt, alloc, asked)
+    tell_each(rt, alloc, asked, &pool)?;
+    tell_each(rt, alloc, asked, &head)?;
+    tell_each(rt, alloc, asked, &readers)
 }
 
 // The recipes of the cookbook.
@@ -169,19 +137,16 @@ fn tell_bad<R: Threads + Wait + Clock + Print + Eprint + Copy + Send + 'static>(
     alloc: Global,
     asked: &Asked<'_>,
 ) -> io::Result<()> {
-    let hidden = hidden::Hidden {
-        runs: AtomicU64::new(0),
-    };
     let tallies = [
-        ("gate", OfTally::Late),
-        ("starving", OfTally::Dance),
-        ("lost", OfTally::Lost),
+        ("gate", Tallied::of(OfTally::Late)),
+        ("starving", Tallied::of(OfTally::Dance)),
+        ("lost", Tallied::of(OfTally::Lost)),
     ];
     tell(rt, alloc, asked, "weak-barrier", &weak_barrier::Weak)?;
-    tell_tallies(rt, alloc, asked, &tallies)?;
+    tell_each(rt, alloc, asked, &tallies)?;
     tell(rt, alloc, asked, "lost-wake", &lost_wake::OneCalled)?;
     tell(rt, alloc, asked, "late-alarm", &clock::Clock::Sleepers)?;
-    tell(rt, alloc, asked, "hidden", &hidden)
+    tell(rt, alloc, asked, "hidden", &Tallied::of(OfTally::Hidden))
 }
 
 // Programs of many orders.
@@ -194,12 +159,12 @@ fn tell_long<R: Threads + Wait + Clock + Print + Eprint + Copy + Send + 'static>
         return Ok(());
     }
     let tallies = [
-        ("visits-4-2", OfTally::Visits(4, 2)),
-        ("visits-4-3", OfTally::Visits(4, 3)),
-        ("visits-8-1", OfTally::Visits(8, 1)),
-        ("visits-8-2", OfTally::Visits(8, 2)),
+        ("visits-4-2", Tallied::of(OfTally::Visits(4, 2))),
+        ("visits-4-3", Tallied::of(OfTally::Visits(4, 3))),
+        ("visits-8-1", Tallied::of(OfTally::Visits(8, 1))),
+        ("visits-8-2", Tallied::of(OfTally::Visits(8, 2))),
     ];
-    tell_tallies(rt, alloc, asked, &tallies)
+    tell_each(rt, alloc, asked, &tallies)
 }
 
 // A philosopher waits through 16 steps at the most.
@@ -248,8 +213,8 @@ fn tell_limits<R: Threads + Wait + Clock + Print + Eprint + Copy + Send + 'stati
             },
         ),
     ] {
-        let program = [(name, OfTally::Visits(3, 2))];
-        tell_tallies(rt, alloc, &Asked { limits, ..*asked }, &program)?;
+        let program = Tallied::of(OfTally::Visits(3, 2));
+        tell(rt, alloc, &Asked { limits, ..*asked }, name, &program)?;
     }
     Ok(())
 }
@@ -261,7 +226,8 @@ fn tell_all<R: Threads + Wait + Clock + Print + Eprint + Copy + Send + 'static>(
     asked: &Asked<'_>,
 ) -> io::Result<()> {
     tell_users(rt, alloc, asked)?;
-    tell_schedulers(rt, alloc, asked)?;
+    tell_plain(rt, alloc, asked)?;
+    tell_others(rt, alloc, asked)?;
     tell_recipes(rt, alloc, asked)?;
     tell_bad(rt, alloc, asked)?;
     tell_long(rt, alloc, asked)?;

@@ -2,14 +2,16 @@
 
 use crate::counting::visit;
 use crate::gate::pass_or_open;
+use crate::hidden::visit_again;
 use crate::lost::add_late;
 use crate::signals::pair_up;
 use crate::starving::turn_on;
 use hoare_law::monitor::Monitor;
 use hoare_law::unasked::Unasked;
 use order_explorer::{Explored, Place, Program};
-use std::alloc::Global;
+use std::alloc::{AllocError, Global};
 use std::sync::Wait;
+use std::sync::atomic::AtomicU64;
 
 /// A number of which nothing is asked, and one condition.
 pub type Tally = Unasked<u64, 1>;
@@ -27,6 +29,31 @@ pub enum OfTally {
     Dance,
     /// Two add 1 each, in two visits.
     Lost,
+    /// Three come in, the first twice in each second run.
+    Hidden,
+}
+
+/// A program over a tally.
+#[derive(Drop)]
+pub struct Tallied {
+    acts: OfTally,
+    runs: AtomicU64,
+}
+
+impl Tallied {
+    /// The program in which the threads do this, and that no run was made of yet.
+    pub fn of(acts: OfTally) -> Tallied {
+        Tallied {
+            acts,
+            runs: AtomicU64::new(0),
+        }
+    }
+}
+
+impl Clone for Tallied {
+    fn clone(&self) -> Result<Tallied, AllocError> {
+        Ok(Tallied::of(self.acts))
+    }
 }
 
 // What a thread does, by its number.
@@ -35,26 +62,27 @@ fn acts<R: Wait, M: Monitor<Tally>>(
     m: &M,
     out: M::Out,
     number: usize,
-    program: OfTally,
+    program: &Tallied,
 ) -> (M::Out, u64)
     requires { M.is_of m.now out }
     ensures { M.is_of m.now result.0 }
 {
-    match program {
+    match program.acts {
         OfTally::Visits(_, visits) => (visit(rt, m, out, visits), 0),
         OfTally::Signals => (pair_up(rt, m, out), 0),
         OfTally::Late => (pass_or_open(rt, m, out, number), 0),
         OfTally::Dance => (turn_on(rt, m, out, u64::from(number == 2)), 0),
         OfTally::Lost => add_late(rt, m, out),
+        OfTally::Hidden => (visit_again(rt, m, out, number, &program.runs), 0),
     }
 }
 
-impl Program<Tally, Explored<Tally>> for OfTally {
+impl Program<Tally, Explored<Tally>> for Tallied {
     fn threads(&self) -> usize {
-        match self {
-            OfTally::Visits(threads, _) => *threads,
+        match self.acts {
+            OfTally::Visits(threads, _) => threads,
             OfTally::Signals => 4,
-            OfTally::Late | OfTally::Dance => 3,
+            OfTally::Late | OfTally::Dance | OfTally::Hidden => 3,
             OfTally::Lost => 2,
         }
     }
@@ -73,16 +101,16 @@ impl Program<Tally, Explored<Tally>> for OfTally {
         requires { ⟦<Explored<Tally> as Monitor<Tally>>⟧.is_of m.now out }
         ensures { ⟦<Explored<Tally> as Monitor<Tally>>⟧.is_of m.now result.0 }
     {
-        acts(rt, m, out, number, *self)
+        acts(rt, m, out, number, self)
     }
 
     fn is_right(&self, left: &Tally, _answers: &[u64]) -> bool {
-        match self {
+        match self.acts {
             OfTally::Visits(threads, visits) => {
-                left.value == (*threads as u64).wrapping_mul(u64::from(*visits))
+                left.value == (threads as u64).wrapping_mul(u64::from(visits))
             }
             OfTally::Signals => left.value == 110,
-            OfTally::Late | OfTally::Dance => true,
+            OfTally::Late | OfTally::Dance | OfTally::Hidden => true,
             OfTally::Lost => left.value == 2,
         }
     }

@@ -1,13 +1,16 @@
 //! Long runs and short ones of all that takes no memory once it is made. `bench/counted-memory` holds that both make as
 //! many requests.
 use crate::answer::Answer;
+use crate::cells::{THREADS, all_pass};
 use crate::repeated::{Lines, Repeated};
 use crate::rounds::{VISITORS, Visits, all_visit};
 use crate::services::report_of;
 use crate::tickets::take_turns;
+use any_door::{AnyDoor, DoorKind};
 use baton_door::door::Door;
 use disk_service::{Jobs, Kind, ServiceFault};
 use hoare_script::{ScriptFault, run};
+use plain_schedulers::buffer::mesa::MesaBuffer;
 use std::alloc::{AllocError, Global};
 use std::sync::Wait;
 use std::thread::Threads;
@@ -50,6 +53,10 @@ fn run_of<R: Threads + Wait + Sync>(
         b"lines" => Some(script(alloc, turns)),
         b"visits baton" => Some(visits_baton(rt, alloc, turns)),
         b"visits ticket" => Some(visits_ticket(rt, alloc, turns)),
+        b"visits any baton" => Some(visits_any(rt, alloc, DoorKind::Baton, turns)),
+        b"visits any ticket" => Some(visits_any(rt, alloc, DoorKind::Ticket, turns)),
+        b"cells baton" => Some(cells_baton(rt, alloc, turns)),
+        b"cells ticket" => Some(cells_ticket(rt, alloc, turns)),
         b"turns ticket" => Some(turns_ticket(rt, alloc, turns)),
         b"jobs baton" => Some(jobs(rt, alloc, Kind::Baton, turns)),
         b"jobs ticket" => Some(jobs(rt, alloc, Kind::Ticket, turns)),
@@ -76,7 +83,17 @@ fn drawn_step(now: Next, lot: u64) -> Step {
     }
 }
 
-// A hundred times as many steps of a book, of which some are refused.
+// Whether what a book answers of a condition and a place, if it has them, agrees.
+fn agrees(book: &Book, lot: u64) -> bool {
+    let (condition, place) = ((lot / 16 % 8) as usize, (lot / 128 % 64) as usize);
+    if condition >= book.conditions() || place >= book.places() {
+        return false;
+    }
+    let is_called_or_out = book.number_called(place) == 0 || !book.outside(place);
+    is_called_or_out && book.queue(condition) == book.first(condition).is_some()
+}
+
+// A hundred times as many steps of a book, of which some are refused, with a look at it before each.
 fn steps(alloc: Global, turns: u64) -> Answer {
     let Ok(mut book) = Book::make(alloc, 64, 8, 4) else {
         return Answer::Memory;
@@ -88,7 +105,8 @@ fn steps(alloc: Global, turns: u64) -> Answer {
             .wrapping_mul(6364136223846793005)
             .wrapping_add(1442695040888963407);
         let step = drawn_step(book.now(), lot / 65536);
-        done = done.wrapping_add(u64::from(book.try_step(step).is_ok()));
+        let is_done = agrees(&book, lot / 65536) && book.try_step(step).is_ok();
+        done = done.wrapping_add(u64::from(is_done));
     }
     Answer::made_if(done > turns.saturating_mul(50))
 }
@@ -127,6 +145,41 @@ fn visits_baton<R: Threads + Wait + Sync>(rt: &R, alloc: Global, turns: u64) -> 
 fn visits_ticket<R: Threads + Wait + Sync>(rt: &R, alloc: Global, turns: u64) -> Answer {
     match TicketDoor::make(alloc, Visits::NONE, VISITORS as usize + 1) {
         Ok((door, places)) => seen(all_visit(rt, &door, places, turns)),
+        Err(_) => Answer::Memory,
+    }
+}
+
+// Every call of a door that is one of both, by seven threads.
+fn visits_any<R: Threads + Wait + Sync>(
+    rt: &R,
+    alloc: Global,
+    kind: DoorKind,
+    turns: u64,
+) -> Answer {
+    match AnyDoor::make(alloc, kind, Visits::NONE, VISITORS as usize + 1) {
+        Ok((door, places)) => seen(all_visit(rt, &door, places, turns)),
+        Err(_) => Answer::Memory,
+    }
+}
+
+// A buffer of one cell with Mesa conditions on a baton door, by four threads.
+fn cells_baton<R: Threads + Wait + Sync>(rt: &R, alloc: Global, turns: u64) -> Answer {
+    let Ok(cell) = MesaBuffer::make(alloc, 1) else {
+        return Answer::Memory;
+    };
+    match Door::make(alloc, cell, THREADS) {
+        Ok((door, places)) => seen(all_pass(rt, &door, places, turns)),
+        Err(_) => Answer::Memory,
+    }
+}
+
+// The same on a ticket door.
+fn cells_ticket<R: Threads + Wait + Sync>(rt: &R, alloc: Global, turns: u64) -> Answer {
+    let Ok(cell) = MesaBuffer::make(alloc, 1) else {
+        return Answer::Memory;
+    };
+    match TicketDoor::make(alloc, cell, THREADS) {
+        Ok((door, places)) => seen(all_pass(rt, &door, places, turns)),
         Err(_) => Answer::Memory,
     }
 }

@@ -5,6 +5,7 @@
 
 mod answer;
 mod calls;
+mod cells;
 mod long;
 mod noted;
 mod repeated;

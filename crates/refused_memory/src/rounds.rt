@@ -1,8 +1,10 @@
 //! Every call of a monitor, over and over, by threads that share it. No call takes memory: a long run makes as many
 //! requests as a short one, which `bench/counted-memory` counts.
-ghost use Rattle.std.specs.Prelude.{All};
+ghost use Rattle.std.specs.Prelude.{◌<◌, All};
 
+use any_door::AnyDoor;
 use baton_door::door::Door;
+use door_frame::place::{Inside, Outside};
 use hoare_law::data::MonitorData;
 use hoare_law::monitor::Monitor;
 use hoare_law::waits::Waits;
@@ -65,11 +67,58 @@ impl MonitorData for Visits {
 }
 
 /// A monitor of visits that threads share.
-pub trait SharedVisits: Monitor<Visits> + Sync {}
+pub trait SharedVisits: Monitor<Visits> + Sync {
+    /// How many newcomers are seen to want in, at a glance.
+    fn newcomers(&self) -> u64;
 
-impl SharedVisits for Door<Visits> {}
+    /// `signal_leave`, by the call that waits for nobody where the door has one.
+    fn pass_on<R: Wait>(&self, rt: &R, inside: Self::In, condition: usize) -> Self::Out
+        requires of { Self.is_of_in self.now inside }
+        requires hoare { condition < 2 }
+        ensures { Self.is_of self.now result };
+}
 
-impl SharedVisits for TicketDoor<Visits> {}
+impl SharedVisits for Door<Visits> {
+    fn newcomers(&self) -> u64 {
+        self.glance().newcomers
+    }
+
+    fn pass_on<R: Wait>(&self, rt: &R, inside: Inside<Visits>, condition: usize) -> Outside<Visits>
+        requires of { ⟦<Door<Visits> as Monitor<Visits>>⟧.is_of_in self.now inside }
+        requires hoare { condition < 2 }
+        ensures { ⟦<Door<Visits> as Monitor<Visits>>⟧.is_of self.now result }
+    {
+        self.signal_leave(rt, inside, condition).0
+    }
+}
+
+impl SharedVisits for TicketDoor<Visits> {
+    fn newcomers(&self) -> u64 {
+        self.glance().newcomers
+    }
+
+    fn pass_on<R: Wait>(&self, _rt: &R, inside: Inside<Visits>, condition: usize) -> Outside<Visits>
+        requires of { ⟦<TicketDoor<Visits> as Monitor<Visits>>⟧.is_of_in self.now inside }
+        requires hoare { condition < 2 }
+        ensures { ⟦<TicketDoor<Visits> as Monitor<Visits>>⟧.is_of self.now result }
+    {
+        self.hand_up(inside, condition).0
+    }
+}
+
+impl SharedVisits for AnyDoor<Visits> {
+    fn newcomers(&self) -> u64 {
+        self.glance().newcomers
+    }
+
+    fn pass_on<R: Wait>(&self, rt: &R, inside: Inside<Visits>, condition: usize) -> Outside<Visits>
+        requires of { ⟦<AnyDoor<Visits> as Monitor<Visits>>⟧.is_of_in self.now inside }
+        requires hoare { condition < 2 }
+        ensures { ⟦<AnyDoor<Visits> as Monitor<Visits>>⟧.is_of self.now result }
+    {
+        self.signal_leave(rt, inside, condition).0
+    }
+}
 
 // The next of a row of numbers in which no pattern shows.
 fn draw(seed: u64) -> u64 {
@@ -92,6 +141,14 @@ fn come_in<R: Wait, M: Monitor<Visits>>(rt: &R, m: &M, out: M::Out) -> M::In
     inside
 }
 
+// Whether both ways to ask say the same of a condition.
+fn agree<M: Monitor<Visits>>(m: &M, inside: &M::In, condition: usize) -> bool
+    requires of { M.is_of_in m.now inside.now }
+    requires in_range { condition < 4 }
+{
+    m.queue(inside, condition) == m.first(inside, condition).is_some()
+}
+
 // Whether fewer wait than may, by each way to ask.
 fn may_wait<M: Monitor<Visits>>(m: &M, inside: &M::In) -> bool
     requires { M.is_of_in m.now inside.now }
@@ -99,12 +156,13 @@ fn may_wait<M: Monitor<Visits>>(m: &M, inside: &M::In) -> bool
     let lists = m.lists(inside);
     let hoare = lists.count(0).saturating_add(lists.count(1));
     let mesa = lists.count(2).saturating_add(lists.count(3));
-    let agree = m.queue(inside, 0) == m.first(inside, 0).is_some();
-    agree && hoare.saturating_add(mesa) < MOST_WAITING
+    let hoare_agree = agree(m, inside, 0) && agree(m, inside, 1);
+    let mesa_agree = agree(m, inside, 2) && agree(m, inside, 3);
+    hoare_agree && mesa_agree && hoare.saturating_add(mesa) < MOST_WAITING
 }
 
 // One visit, as its number says: it waits with a priority, signals, notifies, calls all, passes or just leaves.
-fn visit<R: Wait, M: Monitor<Visits>>(rt: &R, m: &M, out: M::Out, lot: u64) -> M::Out
+fn visit<R: Wait, M: SharedVisits>(rt: &R, m: &M, out: M::Out, lot: u64) -> M::Out
     requires { M.is_of m.now out }
     ensures { M.is_of m.now result }
 {
@@ -116,7 +174,7 @@ fn visit<R: Wait, M: Monitor<Visits>>(rt: &R, m: &M, out: M::Out, lot: u64) -> M
         return m.leave(rt, inside);
     }
     if act == 4 {
-        return m.signal_leave(rt, inside, condition).0;
+        return m.pass_on(rt, inside, condition);
     }
     if act == 5 {
         let (inside, _resumed) = m.signal(rt, inside, condition);
@@ -130,14 +188,15 @@ fn visit<R: Wait, M: Monitor<Visits>>(rt: &R, m: &M, out: M::Out, lot: u64) -> M
     m.leave(rt, inside)
 }
 
-// This number of visits, and a note that they are over.
-fn visit_many<R: Wait, M: Monitor<Visits>>(rt: &R, m: &M, out: M::Out, me: u64, turns: u64)
+// This number of visits, with a glance before each, and a note that they are over.
+fn visit_many<R: Wait, M: SharedVisits>(rt: &R, m: &M, out: M::Out, me: u64, turns: u64)
     requires { M.is_of m.now out }
 {
     let mut out = out;
     let mut lot = draw(me);
     for _ in 0..turns {
         lot = draw(lot);
+        let _newcomers = m.newcomers();
         out = visit(rt, m, out, lot / 65536);
     }
     let mut inside = m.enter(rt, out);
@@ -171,7 +230,7 @@ fn sweep<R: Wait, M: Monitor<Visits>>(rt: &R, m: &M, out: M::Out) -> u64
 
 // What one thread does, and how many visits it saw in the end: the last to come resumes those that wait, the others
 // visit.
-fn go_round<R: Wait, M: Monitor<Visits>>(rt: &R, m: &M, out: M::Out, role: u64, turns: u64) -> u64
+fn go_round<R: Wait, M: SharedVisits>(rt: &R, m: &M, out: M::Out, role: u64, turns: u64) -> u64
     requires { M.is_of m.now out }
 {
     if role < VISITORS {

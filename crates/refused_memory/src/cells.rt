@@ -1,0 +1,86 @@
+//! The procedures of a bounded buffer with Mesa conditions, over and over, by threads that share it.
+ghost use Rattle.std.specs.Prelude.{All};
+
+use baton_door::door::Door;
+use hoare_law::monitor::Monitor;
+use plain_schedulers::buffer::mesa::MesaBuffer;
+use std::alloc::AllocError;
+use std::sync::Wait;
+use std::sync::atomic::{AtomicU64, Ordering};
+use std::thread;
+use std::thread::Threads;
+use ticket_door::door::TicketDoor;
+
+/// How many threads there are: each second one appends, and the others remove.
+pub const THREADS: usize = 4;
+
+/// A buffer that threads share.
+pub trait SharedCells: Monitor<MesaBuffer<u64>> + Sync {}
+
+impl SharedCells for Door<MesaBuffer<u64>> {}
+
+impl SharedCells for TicketDoor<MesaBuffer<u64>> {}
+
+// Appends the numbers below this one.
+fn append_all<R: Wait, M: Monitor<MesaBuffer<u64>>>(rt: &R, m: &M, out: M::Out, turns: u64)
+    requires { M.is_of m.now out }
+{
+    let mut out = out;
+    for item in 0..turns {
+        out = MesaBuffer::append(m, rt, out, item);
+    }
+}
+
+// Removes so many items: their sum.
+fn remove_all<R: Wait, M: Monitor<MesaBuffer<u64>>>(rt: &R, m: &M, out: M::Out, turns: u64) -> u64
+    requires { M.is_of m.now out }
+{
+    let mut out = out;
+    let mut sum = 0u64;
+    for _ in 0..turns {
+        let (again, item) = MesaBuffer::remove(m, rt, out);
+        out = again;
+        sum = sum.wrapping_add(item);
+    }
+    sum
+}
+
+// What one thread does, and the sum of what it removed.
+fn go_on<R: Wait, M: Monitor<MesaBuffer<u64>>>(
+    rt: &R,
+    m: &M,
+    out: M::Out,
+    role: u64,
+    turns: u64,
+) -> u64
+    requires { M.is_of m.now out }
+{
+    if role % 2 == 0 {
+        append_all(rt, m, out, turns);
+        return 0;
+    }
+    remove_all(rt, m, out, turns)
+}
+
+/// A thread for each place, with so many items each: whether all that was appended was removed.
+pub fn all_pass<R: Threads + Wait + Sync, M: SharedCells>(
+    rt: &R,
+    m: &M,
+    places: Vec<M::Out>,
+    turns: u64,
+) -> Result<bool, AllocError>
+where
+    M::Lists: Send,
+    requires { All (M.is_of m.now) places.items }
+{
+    let roles = AtomicU64::new(0);
+    let sums = thread::map_vec(
+        rt,
+        places,
+        &|out| -> u64
+            requires { M.is_of m.now out }
+        { go_on(rt, m, out, roles.fetch_add(1, Ordering::SeqCst), turns) },
+    )?;
+    let removed = sums.iter().fold(0u64, |sum, more| sum.wrapping_add(*more));
+    Ok(removed == turns.wrapping_mul(turns.wrapping_sub(1)))
+}

@@ -43,16 +43,28 @@ use std::rt::Clock;
 use std::sync::Wait;
 use std::thread::Threads;
 
-// Programs of one kind.
+// Programs over a tally.
+fn tell_tallies<R: Threads + Wait + Clock + Print + Eprint + Copy + Send + 'static>(
+    rt: R,
+    alloc: Global,
+    asked: &Asked<'_>,
+    told: &mut io::Result<()>,
+    programs: &[(&str, OfTally)],
+) {
+    for (name, acts) in programs {
+        tell(rt, alloc, asked, told, *name, &Tallied::of(*acts));
+    }
+}
+
+// Programs of another kind.
 fn tell_each<
     R: Threads + Wait + Clock + Print + Eprint + Copy + Send + 'static,
     D: MonitorData + Send + Drop + 'static,
     P: Program<D, Explored<D>> + Clone + 'static,
->(rt: R, alloc: Global, asked: &Asked<'_>, programs: &[(&str, P)]) -> io::Result<()> {
+>(rt: R, alloc: Global, asked: &Asked<'_>, told: &mut io::Result<()>, programs: &[(&str, P)]) {
     for (name, program) in programs {
-        tell(rt, alloc, asked, *name, program)?;
+        tell(rt, alloc, asked, told, *name, program);
     }
-    Ok(())
 }
 
 // Visits alone, signallers that come back, and the first monitor.
@@ -60,16 +72,17 @@ fn tell_users<R: Threads + Wait + Clock + Print + Eprint + Copy + Send + 'static
     rt: R,
     alloc: Global,
     asked: &Asked<'_>,
-) -> io::Result<()> {
+    told: &mut io::Result<()>,
+) {
     let tallies = [
-        ("visits-2-1", Tallied::of(OfTally::Visits(2, 1))),
-        ("visits-3-2", Tallied::of(OfTally::Visits(3, 2))),
-        ("visits-2-5", Tallied::of(OfTally::Visits(2, 5))),
-        ("visits-4-1", Tallied::of(OfTally::Visits(4, 1))),
-        ("signals", Tallied::of(OfTally::Signals)),
+        ("visits-2-1", OfTally::Visits(2, 1)),
+        ("visits-3-2", OfTally::Visits(3, 2)),
+        ("visits-2-5", OfTally::Visits(2, 5)),
+        ("visits-4-1", OfTally::Visits(4, 1)),
+        ("signals", OfTally::Signals),
     ];
-    tell_each(rt, alloc, asked, &tallies)?;
-    tell(rt, alloc, asked, "permits", &users::Workers)
+    tell_tallies(rt, alloc, asked, told, &tallies);
+    tell(rt, alloc, asked, told, "permits", &users::Workers);
 }
 
 // The single item, and both buffers.
@@ -77,7 +90,8 @@ fn tell_plain<R: Threads + Wait + Clock + Print + Eprint + Copy + Send + 'static
     rt: R,
     alloc: Global,
     asked: &Asked<'_>,
-) -> io::Result<()> {
+    told: &mut io::Result<()>,
+) {
     let single = [
         ("single-2", single::Items { threads: 2 }),
         ("single-3", single::Items { threads: 3 }),
@@ -87,9 +101,9 @@ fn tell_plain<R: Threads + Wait + Clock + Print + Eprint + Copy + Send + 'static
         ("buffer-1", buffer::OneCell { rounds: 1 }),
         ("buffer-2", buffer::OneCell { rounds: 2 }),
     ];
-    tell_each(rt, alloc, asked, &single)?;
-    tell_each(rt, alloc, asked, &buffer)?;
-    tell(rt, alloc, asked, "mesa-buffer", &mesa::MesaCell)
+    tell_each(rt, alloc, asked, told, &single);
+    tell_each(rt, alloc, asked, told, &buffer);
+    tell(rt, alloc, asked, told, "mesa-buffer", &mesa::MesaCell);
 }
 
 // The other schedulers.
@@ -97,7 +111,8 @@ fn tell_others<R: Threads + Wait + Clock + Print + Eprint + Copy + Send + 'stati
     rt: R,
     alloc: Global,
     asked: &Asked<'_>,
-) -> io::Result<()> {
+    told: &mut io::Result<()>,
+) {
     let pool = [
         ("pool-2", pool::Streams { threads: 2 }),
         ("pool-3", pool::Streams { threads: 3 }),
@@ -110,10 +125,10 @@ fn tell_others<R: Threads + Wait + Clock + Print + Eprint + Copy + Send + 'stati
         ("readers-3", readers::Readers { threads: 3 }),
         ("readers-4", readers::Readers { threads: 4 }),
     ];
-    tell(rt, alloc, asked, "alarm", &clock::Clock::Tickers)?;
-    tell_each(rt, alloc, asked, &pool)?;
-    tell_each(rt, alloc, asked, &head)?;
-    tell_each(rt, alloc, asked, &readers)
+    tell(rt, alloc, asked, told, "alarm", &clock::Clock::Tickers);
+    tell_each(rt, alloc, asked, told, &pool);
+    tell_each(rt, alloc, asked, told, &head);
+    tell_each(rt, alloc, asked, told, &readers);
 }
 
 // The recipes of the cookbook.
@@ -121,14 +136,22 @@ fn tell_recipes<R: Threads + Wait + Clock + Print + Eprint + Copy + Send + 'stat
     rt: R,
     alloc: Global,
     asked: &Asked<'_>,
-) -> io::Result<()> {
-    tell(rt, alloc, asked, "barrier", &gathering::Gathering)?;
-    tell(rt, alloc, asked, "drain", &draining::Draining)?;
-    tell(rt, alloc, asked, "latch", &starting::Starting)?;
-    tell(rt, alloc, asked, "mailbox", &letters::Letters)?;
-    tell(rt, alloc, asked, "rendezvous", &pairs::Pairs)?;
-    tell(rt, alloc, asked, "table", &supper::Supper { meals: 1 })?;
-    tell(rt, alloc, asked, "work-queue", &jobs::Jobs)
+    told: &mut io::Result<()>,
+) {
+    tell(rt, alloc, asked, told, "barrier", &gathering::Gathering);
+    tell(rt, alloc, asked, told, "drain", &draining::Draining);
+    tell(rt, alloc, asked, told, "latch", &starting::Starting);
+    tell(rt, alloc, asked, told, "mailbox", &letters::Letters);
+    tell(rt, alloc, asked, told, "rendezvous", &pairs::Pairs);
+    tell(
+        rt,
+        alloc,
+        asked,
+        told,
+        "table",
+        &supper::Supper { meals: 1 },
+    );
+    tell(rt, alloc, asked, told, "work-queue", &jobs::Jobs);
 }
 
 // Programs of which some order is bad.
@@ -136,17 +159,25 @@ fn tell_bad<R: Threads + Wait + Clock + Print + Eprint + Copy + Send + 'static>(
     rt: R,
     alloc: Global,
     asked: &Asked<'_>,
-) -> io::Result<()> {
+    told: &mut io::Result<()>,
+) {
     let tallies = [
-        ("gate", Tallied::of(OfTally::Late)),
-        ("starving", Tallied::of(OfTally::Dance)),
-        ("lost", Tallied::of(OfTally::Lost)),
+        ("gate", OfTally::Late),
+        ("starving", OfTally::Dance),
+        ("lost", OfTally::Lost),
     ];
-    tell(rt, alloc, asked, "weak-barrier", &weak_barrier::Weak)?;
-    tell_each(rt, alloc, asked, &tallies)?;
-    tell(rt, alloc, asked, "lost-wake", &lost_wake::OneCalled)?;
-    tell(rt, alloc, asked, "late-alarm", &clock::Clock::Sleepers)?;
-    tell(rt, alloc, asked, "hidden", &Tallied::of(OfTally::Hidden))
+    tell(rt, alloc, asked, told, "weak-barrier", &weak_barrier::Weak);
+    tell_tallies(rt, alloc, asked, told, &tallies);
+    tell(rt, alloc, asked, told, "lost-wake", &lost_wake::OneCalled);
+    tell(
+        rt,
+        alloc,
+        asked,
+        told,
+        "late-alarm",
+        &clock::Clock::Sleepers,
+    );
+    tell_tallies(rt, alloc, asked, told, &[("hidden", OfTally::Hidden)]);
 }
 
 // Programs of many orders.
@@ -154,17 +185,18 @@ fn tell_long<R: Threads + Wait + Clock + Print + Eprint + Copy + Send + 'static>
     rt: R,
     alloc: Global,
     asked: &Asked<'_>,
-) -> io::Result<()> {
+    told: &mut io::Result<()>,
+) {
     if !asked.wants_long() {
-        return Ok(());
+        return;
     }
     let tallies = [
-        ("visits-4-2", Tallied::of(OfTally::Visits(4, 2))),
-        ("visits-4-3", Tallied::of(OfTally::Visits(4, 3))),
-        ("visits-8-1", Tallied::of(OfTally::Visits(8, 1))),
-        ("visits-8-2", Tallied::of(OfTally::Visits(8, 2))),
+        ("visits-4-2", OfTally::Visits(4, 2)),
+        ("visits-4-3", OfTally::Visits(4, 3)),
+        ("visits-8-1", OfTally::Visits(8, 1)),
+        ("visits-8-2", OfTally::Visits(8, 2)),
     ];
-    tell_each(rt, alloc, asked, &tallies)
+    tell_tallies(rt, alloc, asked, told, &tallies);
 }
 
 // A philosopher waits through 16 steps at the most.
@@ -172,7 +204,8 @@ fn tell_hungry<R: Threads + Wait + Clock + Print + Eprint + Copy + Send + 'stati
     rt: R,
     alloc: Global,
     asked: &Asked<'_>,
-) -> io::Result<()> {
+    told: &mut io::Result<()>,
+) {
     let limits = Limits {
         patience: 16,
         ..asked.limits
@@ -181,9 +214,10 @@ fn tell_hungry<R: Threads + Wait + Clock + Print + Eprint + Copy + Send + 'stati
         rt,
         alloc,
         &Asked { limits, ..*asked },
+        told,
         "hungry",
         &supper::Supper { meals: 3 },
-    )
+    );
 }
 
 // Three threads of two visits, within limits of their own: a run has 6 choices and 12 steps, and there are 90.
@@ -191,7 +225,8 @@ fn tell_limits<R: Threads + Wait + Clock + Print + Eprint + Copy + Send + 'stati
     rt: R,
     alloc: Global,
     asked: &Asked<'_>,
-) -> io::Result<()> {
+    told: &mut io::Result<()>,
+) {
     let limits = asked.limits;
     let drawn = Orders::Drawn(1);
     for (name, limits) in [
@@ -213,10 +248,9 @@ fn tell_limits<R: Threads + Wait + Clock + Print + Eprint + Copy + Send + 'stati
             },
         ),
     ] {
-        let program = Tallied::of(OfTally::Visits(3, 2));
-        tell(rt, alloc, &Asked { limits, ..*asked }, name, &program)?;
+        let program = [(name, OfTally::Visits(3, 2))];
+        tell_tallies(rt, alloc, &Asked { limits, ..*asked }, told, &program);
     }
-    Ok(())
 }
 
 // All of them, in order.
@@ -224,18 +258,21 @@ fn tell_all<R: Threads + Wait + Clock + Print + Eprint + Copy + Send + 'static>(
     rt: R,
     alloc: Global,
     asked: &Asked<'_>,
-) -> io::Result<()> {
-    tell_users(rt, alloc, asked)?;
-    tell_plain(rt, alloc, asked)?;
-    tell_others(rt, alloc, asked)?;
-    tell_recipes(rt, alloc, asked)?;
-    tell_bad(rt, alloc, asked)?;
-    tell_long(rt, alloc, asked)?;
-    tell_hungry(rt, alloc, asked)?;
-    tell_limits(rt, alloc, asked)
+    told: &mut io::Result<()>,
+) {
+    tell_users(rt, alloc, asked, told);
+    tell_plain(rt, alloc, asked, told);
+    tell_others(rt, alloc, asked, told);
+    tell_recipes(rt, alloc, asked, told);
+    tell_bad(rt, alloc, asked, told);
+    tell_long(rt, alloc, asked, told);
+    tell_hungry(rt, alloc, asked, told);
+    tell_limits(rt, alloc, asked, told);
 }
 
 fn main(rt: HostRuntime) -> io::Result<()> {
     let arguments = Arguments::of(&rt)?;
-    tell_all(rt, rt.alloc(), &arguments.asked())
+    let mut told = Ok(());
+    tell_all(rt, rt.alloc(), &arguments.asked(), &mut told);
+    told
 }

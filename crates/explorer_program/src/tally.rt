@@ -33,7 +33,7 @@ pub enum OfTally {
     Hidden,
 }
 
-/// A program over a tally.
+/// A program over a tally: what its threads do, and how many runs the first of them was in, which only `Hidden` counts.
 #[derive(Drop)]
 pub struct Tallied {
     acts: OfTally,

@@ -11,21 +11,31 @@ use std::sync::Wait;
 use std::thread::Threads;
 use std::time::Instant;
 
-/// Tries the orders of a program on both doors, and prints what came of it. Where it alone is asked for, that goes to
-/// standard error, and the script of its bad order to standard output.
+/// Tries the orders of a program on both doors, and prints what came of it, unless a write failed before. Where it alone
+/// is asked for, that goes to standard error, and the script of its bad order to standard output.
 pub fn tell<
     R: Threads + Wait + Clock + Print + Eprint + Copy + Send + 'static,
     D: MonitorData + Send + Drop + 'static,
     P: Program<D, Explored<D>> + Clone + 'static,
->(rt: R, alloc: Global, asked: &Asked<'_>, name: &str, program: &P) -> io::Result<()> {
+>(rt: R, alloc: Global, asked: &Asked<'_>, told: &mut io::Result<()>, name: &str, program: &P) {
+    if told.is_err() {
+        return;
+    }
     if asked.asks(name) {
-        let outcome = outcome_on(rt, alloc, asked.limits, DoorKind::Baton, program)?;
-        return tell_alone(&rt, name, &outcome);
+        *told = tell_one(rt, alloc, asked, name, program);
+    } else if asked.is_all() {
+        *told = tell_on_both(rt, alloc, asked, name, program);
     }
-    if asked.is_all() {
-        return tell_on_both(rt, alloc, asked, name, program);
-    }
-    Ok(())
+}
+
+// Prints what comes of the program that alone is asked for.
+fn tell_one<
+    R: Threads + Wait + Print + Eprint + Copy + Send + 'static,
+    D: MonitorData + Send + Drop + 'static,
+    P: Program<D, Explored<D>> + Clone + 'static,
+>(rt: R, alloc: Global, asked: &Asked<'_>, name: &str, program: &P) -> io::Result<()> {
+    let outcome = outcome_on(rt, alloc, asked.limits, DoorKind::Baton, program)?;
+    tell_alone(&rt, name, &outcome)
 }
 
 // What comes of a program on a door of this kind.

@@ -1,7 +1,7 @@
 //! The procedures of a bounded buffer with Mesa conditions, over and over, by threads that share it.
 ghost use Rattle.std.specs.Prelude.{All};
 
-use baton_door::door::Door;
+use any_door::AnyDoor;
 use hoare_law::monitor::Monitor;
 use plain_schedulers::buffer::mesa::MesaBuffer;
 use std::alloc::AllocError;
@@ -9,7 +9,6 @@ use std::sync::Wait;
 use std::sync::atomic::{AtomicU64, Ordering};
 use std::thread;
 use std::thread::Threads;
-use ticket_door::door::TicketDoor;
 
 /// How many threads there are: each second one appends, and the others remove.
 pub const THREADS: usize = 4;
@@ -17,9 +16,7 @@ pub const THREADS: usize = 4;
 /// A buffer that threads share.
 pub trait SharedCells: Monitor<MesaBuffer<u64>> + Sync {}
 
-impl SharedCells for Door<MesaBuffer<u64>> {}
-
-impl SharedCells for TicketDoor<MesaBuffer<u64>> {}
+impl SharedCells for AnyDoor<MesaBuffer<u64>> {}
 
 // Appends the numbers below this one.
 fn append_all<R: Wait, M: Monitor<MesaBuffer<u64>>>(rt: &R, m: &M, out: M::Out, turns: u64)

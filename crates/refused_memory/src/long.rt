@@ -48,18 +48,33 @@ fn run_of<R: Threads + Wait + Sync>(
     what: &[u8],
     turns: u64,
 ) -> Option<Answer> {
+    if let Some(door) = what.strip_prefix(b"visits ") {
+        return visits(rt, alloc, door, turns);
+    }
     match what {
         b"steps" => Some(steps(alloc, turns)),
         b"lines" => Some(script(alloc, turns)),
-        b"visits baton" => Some(visits_baton(rt, alloc, turns)),
-        b"visits ticket" => Some(visits_ticket(rt, alloc, turns)),
-        b"visits any baton" => Some(visits_any(rt, alloc, DoorKind::Baton, turns)),
-        b"visits any ticket" => Some(visits_any(rt, alloc, DoorKind::Ticket, turns)),
-        b"cells baton" => Some(cells_baton(rt, alloc, turns)),
-        b"cells ticket" => Some(cells_ticket(rt, alloc, turns)),
         b"turns ticket" => Some(turns_ticket(rt, alloc, turns)),
+        b"cells baton" => Some(cells(rt, alloc, DoorKind::Baton, turns)),
+        b"cells ticket" => Some(cells(rt, alloc, DoorKind::Ticket, turns)),
         b"jobs baton" => Some(jobs(rt, alloc, Kind::Baton, turns)),
         b"jobs ticket" => Some(jobs(rt, alloc, Kind::Ticket, turns)),
+        _ => None,
+    }
+}
+
+// Visits of the door that has this name.
+fn visits<R: Threads + Wait + Sync>(
+    rt: &R,
+    alloc: Global,
+    door: &[u8],
+    turns: u64,
+) -> Option<Answer> {
+    match door {
+        b"baton" => Some(visits_baton(rt, alloc, turns)),
+        b"ticket" => Some(visits_ticket(rt, alloc, turns)),
+        b"any baton" => Some(visits_any(rt, alloc, DoorKind::Baton, turns)),
+        b"any ticket" => Some(visits_any(rt, alloc, DoorKind::Ticket, turns)),
         _ => None,
     }
 }
@@ -162,23 +177,12 @@ fn visits_any<R: Threads + Wait + Sync>(
     }
 }
 
-// A buffer of one cell with Mesa conditions on a baton door, by four threads.
-fn cells_baton<R: Threads + Wait + Sync>(rt: &R, alloc: Global, turns: u64) -> Answer {
+// A buffer of one cell with Mesa conditions, by four threads.
+fn cells<R: Threads + Wait + Sync>(rt: &R, alloc: Global, kind: DoorKind, turns: u64) -> Answer {
     let Ok(cell) = MesaBuffer::make(alloc, 1) else {
         return Answer::Memory;
     };
-    match Door::make(alloc, cell, THREADS) {
-        Ok((door, places)) => seen(all_pass(rt, &door, places, turns)),
-        Err(_) => Answer::Memory,
-    }
-}
-
-// The same on a ticket door.
-fn cells_ticket<R: Threads + Wait + Sync>(rt: &R, alloc: Global, turns: u64) -> Answer {
-    let Ok(cell) = MesaBuffer::make(alloc, 1) else {
-        return Answer::Memory;
-    };
-    match TicketDoor::make(alloc, cell, THREADS) {
+    match AnyDoor::make(alloc, kind, cell, THREADS) {
         Ok((door, places)) => seen(all_pass(rt, &door, places, turns)),
         Err(_) => Answer::Memory,
     }

@@ -34,27 +34,21 @@ fn tell_one<
     D: MonitorData + Send + Drop + 'static,
     P: Program<D, Explored<D>> + Clone + 'static,
 >(rt: R, alloc: Global, asked: &Asked<'_>, name: &str, program: &P) -> io::Result<()> {
-    let outcome = outcome_on(rt, alloc, asked.limits, DoorKind::Baton, program)?;
+    let outcome = outcome_of(rt, alloc, asked.limits, None, program)?;
     tell_alone(&rt, name, &outcome)
 }
 
-// What comes of a program on a door of this kind.
-fn outcome_on<
+// What comes of a program: of all its orders, or of that of a script alone.
+fn outcome_of<
     R: Threads + Wait + Copy + Send + 'static,
     D: MonitorData + Send + Drop + 'static,
     P: Program<D, Explored<D>> + Clone + 'static,
->(rt: R, alloc: Global, limits: Limits, door: DoorKind, program: &P) -> io::Result<Outcome> {
-    let found = explore(rt, alloc, program.clone()?, Limits { door, ..limits })?;
-    Outcome::of(alloc, &found)
-}
-
-// What comes of the order of a script alone.
-fn outcome_again<
-    R: Threads + Wait + Copy + Send + 'static,
-    D: MonitorData + Send + Drop + 'static,
-    P: Program<D, Explored<D>> + Clone + 'static,
->(rt: R, alloc: Global, limits: Limits, script: &str, program: &P) -> io::Result<Outcome> {
-    let found = explore_again(rt, alloc, program.clone()?, script, limits)?;
+>(rt: R, alloc: Global, limits: Limits, script: Option<&str>, program: &P) -> io::Result<Outcome> {
+    let program = program.clone()?;
+    let found = match script {
+        None => explore(rt, alloc, program, limits)?,
+        Some(script) => explore_again(rt, alloc, program, script, limits)?,
+    };
     Outcome::of(alloc, &found)
 }
 
@@ -65,7 +59,7 @@ fn outcome_in_time<
     P: Program<D, Explored<D>> + Clone + 'static,
 >(rt: R, alloc: Global, limits: Limits, program: &P) -> io::Result<(Outcome, u128)> {
     let start = Instant::now(&rt)?;
-    let outcome = outcome_on(rt, alloc, limits, DoorKind::Baton, program)?;
+    let outcome = outcome_of(rt, alloc, limits, None, program)?;
     let spent = start.elapsed(&rt)?;
     Ok((outcome, spent.as_micros()))
 }
@@ -88,7 +82,8 @@ fn tell_second<
     D: MonitorData + Send + Drop + 'static,
     P: Program<D, Explored<D>> + Clone + 'static,
 >(rt: R, alloc: Global, limits: Limits, name: &str, baton: &str, program: &P) -> io::Result<()> {
-    let ticket = outcome_on(rt, alloc, limits, DoorKind::Ticket, program)?;
+    let door = DoorKind::Ticket;
+    let ticket = outcome_of(rt, alloc, Limits { door, ..limits }, None, program)?;
     tell_both(&rt, name, baton, ticket.words.as_str())
 }
 
@@ -101,7 +96,8 @@ fn tell_again<
     if outcome.ending.is_none() {
         return Ok(());
     }
-    let again = outcome_again(rt, alloc, limits, outcome.script.as_str(), program)?;
+    let script = Some(outcome.script.as_str());
+    let again = outcome_of(rt, alloc, limits, script, program)?;
     if again.is_as(outcome) {
         return Ok(());
     }

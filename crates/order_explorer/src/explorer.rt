@@ -1,5 +1,5 @@
 //! The runs: one for each order, until all were tried or one ends otherwise than it should.
-ghost use Rattle.std.specs.Prelude.{◌≡◌, All, IfOk, IfSome};
+ghost use Rattle.std.specs.Prelude.{◌≡◌, All, IfSome};
 ghost use Rattle.std.specs.Arc.{arc_value};
 ghost use Rattle.hoare_law.specs.Sizes.{kinds_of};
 ghost use Rattle.door_frame.specs.Places.{IsOut};
@@ -110,19 +110,6 @@ fn start_one<
     R: Threads + Wait + Copy + Send + 'static,
     D: MonitorData + Send + Drop + 'static,
     P: Program<D, Explored<D>> + 'static,
->(rt: R, program: &Arc<P>, explored: &Arc<Explored<D>>, out: Outside<D>) -> Result<(), AllocError>
-    requires { IsOut D.rest D.ready (kinds_of D.CONDITIONS D.MESA) (id_of (arc_value explored.now).door) out }
-{
-    let program = Arc::try_clone(program)?;
-    let explored = Arc::try_clone(explored)?;
-    start_with(rt, program, explored, out)
-}
-
-// Starts a thread that shares the program and the monitor.
-fn start_with<
-    R: Threads + Wait + Copy + Send + 'static,
-    D: MonitorData + Send + Drop + 'static,
-    P: Program<D, Explored<D>> + 'static,
 >(rt: R, program: Arc<P>, explored: Arc<Explored<D>>, out: Outside<D>) -> Result<(), AllocError>
     requires { IsOut D.rest D.ready (kinds_of D.CONDITIONS D.MESA) (id_of (arc_value explored).door) out }
 {
@@ -152,10 +139,8 @@ fn start_all<
     requires { All (IsOut D.rest D.ready (kinds_of D.CONDITIONS D.MESA) (id_of (arc_value explored.now).door))
         outs.items }
 {
-    let mut outs = outs;
-    for _ in 0..outs.len() {
-        let Some(out) = outs.pop() else { break };
-        start_one(rt, program, explored, out)?;
+    for out in outs {
+        start_one(rt, Arc::try_clone(program)?, Arc::try_clone(explored)?, out)?;
     }
     Ok(())
 }
@@ -293,22 +278,6 @@ fn explore_shared<
     Ok(found)
 }
 
-// The monitor of a program's runs, on a door of this kind, and its places: one more than there are threads.
-fn monitor_of<D: MonitorData + Send + Drop, P: Program<D, Explored<D>>>(
-    alloc: Global,
-    program: &P,
-    controller: Controller,
-    door: DoorKind,
-) -> Result<(Explored<D>, Vec<Outside<D>>), AllocError>
-    ensures { IfOk result (λ r. All (⟦<Explored<D> as Monitor<D>>⟧.is_of r.0) r.1.items) }
-{
-    let count = program.threads().saturating_add(1);
-    let Some(state) = program.open(alloc) else {
-        return Err(AllocError);
-    };
-    Explored::make(alloc, door, controller, state, count)
-}
-
 // The runs of a program under this controller.
 fn explore_with<
     R: Threads + Wait + Copy + Send + 'static,
@@ -321,14 +290,18 @@ fn explore_with<
     controller: Controller,
     limits: Limits,
 ) -> Result<Found, AllocError> {
-    let (explored, outs) = monitor_of(alloc, &program, controller, limits.door)?;
+    let count = program.threads().saturating_add(1);
+    let Some(state) = program.open(alloc) else {
+        return Err(AllocError);
+    };
+    let Ok(program) = Arc::new(alloc, program) else {
+        return Err(AllocError);
+    };
+    let (explored, outs) = Explored::make(alloc, limits.door, controller, state, count)?;
     let Some(places) = with_desk(&explored, outs) else {
         return Err(AllocError);
     };
     let Ok(explored) = Arc::new(alloc, explored) else {
-        return Err(AllocError);
-    };
-    let Ok(program) = Arc::new(alloc, program) else {
         return Err(AllocError);
     };
     explore_shared(rt, alloc, program, explored, places, limits.runs)

@@ -98,14 +98,14 @@ fn drawn_step(now: Next, lot: u64) -> Step {
     }
 }
 
-// Whether what a book answers of a condition and a place, if it has them, agrees.
+// Whether what a book answers of a condition and a place agrees: nobody who was called is outside.
 fn agrees(book: &Book, lot: u64) -> bool {
     let (condition, place) = ((lot / 16 % 8) as usize, (lot / 128 % 64) as usize);
     if condition >= book.conditions() || place >= book.places() {
         return false;
     }
-    let is_called_or_out = book.number_called(place) == 0 || !book.outside(place);
-    is_called_or_out && book.queue(condition) == book.first(condition).is_some()
+    let is_called_outside = book.outside(place) && book.number_called(place) > 0;
+    !is_called_outside && book.queue(condition) == book.first(condition).is_some()
 }
 
 // A hundred times as many steps of a book, of which some are refused, with a look at it before each.

@@ -50,13 +50,6 @@ begun ws b = record {
 }
 
 module _ {D : Type 0} where
-  -- who was inside with an empty slot, and laid down what is x, stands with x in the slot
-  pub laid_down : {m : Sat D} {laid : Lodged D} (k : ℕ) (f : History D) (x : Lodged D)
-      → laid ≡ x → m ≡ (alone k f, (0, None) ∷ [])
-      → ◌≡◌ {A = Sat D} (m.0, (0, Some laid) ∷ []) (alone k f, (0, Some x) ∷ [])
-  laid_down {m} k f x same is =
-      ap (λ (y : Lodged D). (m.0, (0, Some y) ∷ [])) same ∙ ap (λ (o : Sat D). (o.0, (0, Some x) ∷ [])) is
-
   -- and free where nothing happened yet
   opened_tells : (kinds : Kinds) (n : ℕ) (s : D) (ws : List ℕ) → Starts true ws
       → Tells (opened (sizes_at kinds n) s) (λ _. None) (set ws 0 0)

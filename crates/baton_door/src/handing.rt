@@ -42,7 +42,9 @@ impl<D: MonitorData> Door<D> {
         self.table
             .shared
             .store::<Give<J>>(seat, DOOR, word_of_next(next));
-        self.naps.call_one(is_to_call);
+        if is_to_call {
+            self.naps.call_one();
+        }
         match next {
             Next::For(resumed) => Some(self.wake(seat, resumed)),
             Next::Free => None,

@@ -55,18 +55,13 @@ impl Naps {
         self.nappers.load(Ordering::Relaxed)
     }
 
-    /// Calls one that naps, if one does and it is to be called.
-    #[inline]
-    pub(crate) fn call_one(&self, is_to_call: bool) {
-        if is_to_call && self.nappers.load(Ordering::SeqCst) != 0 {
-            self.call();
-        }
-    }
-
+    /// Calls one that naps, if one does.
     #[inline(never)] // apart, so that a plain leave stays small
-    fn call(&self) {
-        self.calls.fetch_add(1, Ordering::SeqCst);
-        self.calls.wake_one();
+    pub(crate) fn call_one(&self) {
+        if self.nappers.load(Ordering::SeqCst) != 0 {
+            self.calls.fetch_add(1, Ordering::SeqCst);
+            self.calls.wake_one();
+        }
     }
 }
 

@@ -32,47 +32,28 @@ mod told;
 mod users;
 mod weak_barrier;
 
-use crate::asked::{Arguments, Asked};
+use crate::asked::Arguments;
 use crate::tally::{OfTally, Tallied};
-use crate::told::tell;
-use hoare_law::data::MonitorData;
-use order_explorer::{Explored, Limits, Orders, Program};
-use std::alloc::Global;
+use crate::told::Teller;
+use order_explorer::{Limits, Orders};
 use std::io;
 use std::rt::Clock;
 use std::sync::Wait;
 use std::thread::Threads;
 
-// Programs over a tally.
+// Programs over a tally, each under its name.
 fn tell_tallies<R: Threads + Wait + Clock + Print + Eprint + Copy + Send + 'static>(
-    rt: R,
-    alloc: Global,
-    asked: &Asked<'_>,
-    told: &mut io::Result<()>,
+    teller: &mut Teller<'_, R>,
     programs: &[(&str, OfTally)],
 ) {
     for (name, acts) in programs {
-        tell(rt, alloc, asked, told, *name, &Tallied::of(*acts));
-    }
-}
-
-// Programs of another kind.
-fn tell_each<
-    R: Threads + Wait + Clock + Print + Eprint + Copy + Send + 'static,
-    D: MonitorData + Send + Drop + 'static,
-    P: Program<D, Explored<D>> + Clone + 'static,
->(rt: R, alloc: Global, asked: &Asked<'_>, told: &mut io::Result<()>, programs: &[(&str, P)]) {
-    for (name, program) in programs {
-        tell(rt, alloc, asked, told, *name, program);
+        teller.tell(*name, &Tallied::of(*acts));
     }
 }
 
 // Visits alone, signallers that come back, and the first monitor.
 fn tell_users<R: Threads + Wait + Clock + Print + Eprint + Copy + Send + 'static>(
-    rt: R,
-    alloc: Global,
-    asked: &Asked<'_>,
-    told: &mut io::Result<()>,
+    teller: &mut Teller<'_, R>,
 ) {
     let tallies = [
         ("visits-2-1", OfTally::Visits(2, 1)),
@@ -81,113 +62,69 @@ fn tell_users<R: Threads + Wait + Clock + Print + Eprint + Copy + Send + 'static
         ("visits-4-1", OfTally::Visits(4, 1)),
         ("signals", OfTally::Signals),
     ];
-    tell_tallies(rt, alloc, asked, told, &tallies);
-    tell(rt, alloc, asked, told, "permits", &users::Workers);
+    tell_tallies(teller, &tallies);
+    teller.tell("permits", &users::Workers);
 }
 
 // The single item, and both buffers.
 fn tell_plain<R: Threads + Wait + Clock + Print + Eprint + Copy + Send + 'static>(
-    rt: R,
-    alloc: Global,
-    asked: &Asked<'_>,
-    told: &mut io::Result<()>,
+    teller: &mut Teller<'_, R>,
 ) {
-    let single = [
-        ("single-2", single::Items { threads: 2 }),
-        ("single-3", single::Items { threads: 3 }),
-        ("single-4", single::Items { threads: 4 }),
-    ];
-    let buffer = [
-        ("buffer-1", buffer::OneCell { rounds: 1 }),
-        ("buffer-2", buffer::OneCell { rounds: 2 }),
-    ];
-    tell_each(rt, alloc, asked, told, &single);
-    tell_each(rt, alloc, asked, told, &buffer);
-    tell(rt, alloc, asked, told, "mesa-buffer", &mesa::MesaCell);
+    teller.tell("single-2", &single::Items { threads: 2 });
+    teller.tell("single-3", &single::Items { threads: 3 });
+    teller.tell("single-4", &single::Items { threads: 4 });
+    teller.tell("buffer-1", &buffer::OneCell { rounds: 1 });
+    teller.tell("buffer-2", &buffer::OneCell { rounds: 2 });
+    teller.tell("mesa-buffer", &mesa::MesaCell);
 }
 
 // The other schedulers.
 fn tell_others<R: Threads + Wait + Clock + Print + Eprint + Copy + Send + 'static>(
-    rt: R,
-    alloc: Global,
-    asked: &Asked<'_>,
-    told: &mut io::Result<()>,
+    teller: &mut Teller<'_, R>,
 ) {
-    let pool = [
-        ("pool-2", pool::Streams { threads: 2 }),
-        ("pool-3", pool::Streams { threads: 3 }),
-    ];
-    let head = [
-        ("head-2", head::Requests { threads: 2 }),
-        ("head-3", head::Requests { threads: 3 }),
-    ];
-    let readers = [
-        ("readers-3", readers::Readers { threads: 3 }),
-        ("readers-4", readers::Readers { threads: 4 }),
-    ];
-    tell(rt, alloc, asked, told, "alarm", &clock::Clock::Tickers);
-    tell_each(rt, alloc, asked, told, &pool);
-    tell_each(rt, alloc, asked, told, &head);
-    tell_each(rt, alloc, asked, told, &readers);
+    teller.tell("alarm", &clock::Clock::Tickers);
+    teller.tell("pool-2", &pool::Streams { threads: 2 });
+    teller.tell("pool-3", &pool::Streams { threads: 3 });
+    teller.tell("head-2", &head::Requests { threads: 2 });
+    teller.tell("head-3", &head::Requests { threads: 3 });
+    teller.tell("readers-3", &readers::Readers { threads: 3 });
+    teller.tell("readers-4", &readers::Readers { threads: 4 });
 }
 
 // The recipes of the cookbook.
 fn tell_recipes<R: Threads + Wait + Clock + Print + Eprint + Copy + Send + 'static>(
-    rt: R,
-    alloc: Global,
-    asked: &Asked<'_>,
-    told: &mut io::Result<()>,
+    teller: &mut Teller<'_, R>,
 ) {
-    tell(rt, alloc, asked, told, "barrier", &gathering::Gathering);
-    tell(rt, alloc, asked, told, "drain", &draining::Draining);
-    tell(rt, alloc, asked, told, "latch", &starting::Starting);
-    tell(rt, alloc, asked, told, "mailbox", &letters::Letters);
-    tell(rt, alloc, asked, told, "rendezvous", &pairs::Pairs);
-    tell(
-        rt,
-        alloc,
-        asked,
-        told,
-        "table",
-        &supper::Supper { meals: 1 },
-    );
-    tell(rt, alloc, asked, told, "work-queue", &jobs::Jobs);
+    teller.tell("barrier", &gathering::Gathering);
+    teller.tell("drain", &draining::Draining);
+    teller.tell("latch", &starting::Starting);
+    teller.tell("mailbox", &letters::Letters);
+    teller.tell("rendezvous", &pairs::Pairs);
+    teller.tell("table", &supper::Supper { meals: 1 });
+    teller.tell("work-queue", &jobs::Jobs);
 }
 
 // Programs of which some order is bad.
 fn tell_bad<R: Threads + Wait + Clock + Print + Eprint + Copy + Send + 'static>(
-    rt: R,
-    alloc: Global,
-    asked: &Asked<'_>,
-    told: &mut io::Result<()>,
+    teller: &mut Teller<'_, R>,
 ) {
     let tallies = [
         ("gate", OfTally::Late),
         ("starving", OfTally::Dance),
         ("lost", OfTally::Lost),
     ];
-    tell(rt, alloc, asked, told, "weak-barrier", &weak_barrier::Weak);
-    tell_tallies(rt, alloc, asked, told, &tallies);
-    tell(rt, alloc, asked, told, "lost-wake", &lost_wake::OneCalled);
-    tell(
-        rt,
-        alloc,
-        asked,
-        told,
-        "late-alarm",
-        &clock::Clock::Sleepers,
-    );
-    tell_tallies(rt, alloc, asked, told, &[("hidden", OfTally::Hidden)]);
+    teller.tell("weak-barrier", &weak_barrier::Weak);
+    tell_tallies(teller, &tallies);
+    teller.tell("lost-wake", &lost_wake::OneCalled);
+    teller.tell("late-alarm", &clock::Clock::Sleepers);
+    tell_tallies(teller, &[("hidden", OfTally::Hidden)]);
 }
 
 // Programs of many orders.
 fn tell_long<R: Threads + Wait + Clock + Print + Eprint + Copy + Send + 'static>(
-    rt: R,
-    alloc: Global,
-    asked: &Asked<'_>,
-    told: &mut io::Result<()>,
+    teller: &mut Teller<'_, R>,
 ) {
-    if !asked.wants_long() {
+    if !teller.asked().wants_long() {
         return;
     }
     let tallies = [
@@ -196,83 +133,65 @@ fn tell_long<R: Threads + Wait + Clock + Print + Eprint + Copy + Send + 'static>
         ("visits-8-1", OfTally::Visits(8, 1)),
         ("visits-8-2", OfTally::Visits(8, 2)),
     ];
-    tell_tallies(rt, alloc, asked, told, &tallies);
+    tell_tallies(teller, &tallies);
 }
 
 // A philosopher waits through 16 steps at the most.
 fn tell_hungry<R: Threads + Wait + Clock + Print + Eprint + Copy + Send + 'static>(
-    rt: R,
-    alloc: Global,
-    asked: &Asked<'_>,
-    told: &mut io::Result<()>,
+    teller: &mut Teller<'_, R>,
 ) {
     let limits = Limits {
         patience: 16,
-        ..asked.limits
+        ..teller.asked().limits
     };
-    tell(
-        rt,
-        alloc,
-        &Asked { limits, ..*asked },
-        told,
-        "hungry",
-        &supper::Supper { meals: 3 },
-    );
+    teller.tell_within(limits, "hungry", &supper::Supper { meals: 3 });
 }
 
 // Three threads of two visits, within limits of their own: a run has 6 choices and 12 steps, and there are 90.
 fn tell_limits<R: Threads + Wait + Clock + Print + Eprint + Copy + Send + 'static>(
-    rt: R,
-    alloc: Global,
-    asked: &Asked<'_>,
-    told: &mut io::Result<()>,
+    teller: &mut Teller<'_, R>,
 ) {
-    let limits = asked.limits;
-    let drawn = Orders::Drawn(1);
-    for (name, limits) in [
-        ("few-runs", Limits { runs: 89, ..limits }),
-        (
-            "few-steps",
-            Limits {
-                steps: 11,
-                ..limits
-            },
-        ),
-        ("few-choices", Limits { depth: 5, ..limits }),
-        (
-            "drawn",
-            Limits {
-                runs: 50,
-                orders: drawn,
-                ..limits
-            },
-        ),
-    ] {
-        let program = [(name, OfTally::Visits(3, 2))];
-        tell_tallies(rt, alloc, &Asked { limits, ..*asked }, told, &program);
-    }
+    let limits = teller.asked().limits;
+    let orders = Orders::Drawn(1);
+    let visits = Tallied::of(OfTally::Visits(3, 2));
+    teller.tell_within(Limits { runs: 89, ..limits }, "few-runs", &visits);
+    teller.tell_within(
+        Limits {
+            steps: 11,
+            ..limits
+        },
+        "few-steps",
+        &visits,
+    );
+    teller.tell_within(Limits { depth: 5, ..limits }, "few-choices", &visits);
+    teller.tell_within(
+        Limits {
+            runs: 50,
+            orders,
+            ..limits
+        },
+        "drawn",
+        &visits,
+    );
 }
 
 // All of them, in order.
 fn tell_all<R: Threads + Wait + Clock + Print + Eprint + Copy + Send + 'static>(
-    rt: R,
-    alloc: Global,
-    asked: &Asked<'_>,
-    told: &mut io::Result<()>,
+    teller: &mut Teller<'_, R>,
 ) {
-    tell_users(rt, alloc, asked, told);
-    tell_plain(rt, alloc, asked, told);
-    tell_others(rt, alloc, asked, told);
-    tell_recipes(rt, alloc, asked, told);
-    tell_bad(rt, alloc, asked, told);
-    tell_long(rt, alloc, asked, told);
-    tell_hungry(rt, alloc, asked, told);
-    tell_limits(rt, alloc, asked, told);
+    tell_users(teller);
+    tell_plain(teller);
+    tell_others(teller);
+    tell_recipes(teller);
+    tell_bad(teller);
+    tell_long(teller);
+    tell_hungry(teller);
+    tell_limits(teller);
 }
 
 fn main(rt: HostRuntime) -> io::Result<()> {
     let arguments = Arguments::of(&rt)?;
-    let mut told = Ok(());
-    tell_all(rt, rt.alloc(), &arguments.asked(), &mut told);
-    told
+    let mut teller = Teller::of(rt, rt.alloc(), arguments.asked());
+    tell_all(&mut teller);
+    teller.end()
 }

@@ -1,7 +1,7 @@
 //! What came of an exploration: in words, and as the script of its last run.
 
 use order_explorer::{Ending, Found, Limit, Schedule};
-use std::alloc::Global;
+use std::alloc::{AllocError, Global};
 use std::io;
 
 /// What came of an exploration.
@@ -31,41 +31,58 @@ impl Outcome {
     }
 }
 
-// How the bad run ended, if one was found.
-fn ending_of(found: &Found) -> Option<Ending> {
+// The bad run, if one was found.
+fn bad_of(found: &Found) -> Option<&Schedule> {
     match found {
         Found::Limit(..) => None,
-        _ => match found.schedule() {
-            Some(bad) => Some(bad.ending),
-            None => None,
-        },
+        _ => found.schedule(),
+    }
+}
+
+// How the bad run ended, if one was found.
+fn ending_of(found: &Found) -> Option<Ending> {
+    match bad_of(found) {
+        Some(bad) => Some(bad.ending),
+        None => None,
     }
 }
 
 // The script of the last run.
-fn script_of(alloc: Global, found: &Found) -> io::Result<String> {
+fn script_of(alloc: Global, found: &Found) -> Result<String, AllocError> {
     match found.schedule() {
-        Some(schedule) => Ok(schedule.script(alloc)?),
+        Some(schedule) => schedule.script(alloc),
         None => Ok(String::new(alloc)),
     }
 }
 
-// What came of it, in words.
-fn words_of(alloc: Global, found: &Found) -> io::Result<String> {
-    match found {
-        Found::AllOrders(runs) => Ok(format!(in alloc; "all {runs} orders end, and end right\n")?),
-        Found::Limit(limit, runs, _) => words_of_limit(alloc, *limit, *runs),
-        Found::Stuck(bad) => words_of_bad(alloc, "stuck", bad),
-        Found::Starved(place, bad) => words_of_starved(alloc, *place, bad),
-        Found::Wrong(bad) => words_of_bad(alloc, "wrong", bad),
-        Found::Differs(bad) => words_of_bad(alloc, "other threads want in than before", bad),
+// What came of it, in words: of a bad run also which it is, and where its threads stand.
+fn words_of(alloc: Global, found: &Found) -> Result<String, AllocError> {
+    let mut words = String::new(alloc);
+    add_words(&mut words, found)?;
+    if let Some(bad) = bad_of(found) {
+        let run = bad.run;
+        writeln!(words, ", in run {run}")?;
+        words.push_str(bad.left(alloc)?.as_str())?;
     }
+    Ok(words)
 }
 
-// Which limit is met, and after how many runs.
-fn words_of_limit(alloc: Global, limit: Limit, runs: u64) -> io::Result<String> {
-    let limit = name_of_limit(limit);
-    Ok(format!(in alloc; "{runs} orders end, and end right; the limit of {limit} is met\n")?)
+// Adds what came of it, without the run.
+fn add_words(words: &mut String, found: &Found) -> Result<(), AllocError> {
+    match found {
+        Found::AllOrders(runs) => writeln!(words, "all {runs} orders end, and end right"),
+        Found::Limit(limit, runs, _) => {
+            let limit = name_of_limit(*limit);
+            writeln!(
+                words,
+                "{runs} orders end, and end right; the limit of {limit} is met"
+            )
+        }
+        Found::Stuck(_) => words.push_str("stuck"),
+        Found::Starved(place, _) => write!(words, "thread {place} starves"),
+        Found::Wrong(_) => words.push_str("wrong"),
+        Found::Differs(_) => words.push_str("other threads want in than before"),
+    }
 }
 
 fn name_of_limit(limit: Limit) -> &'static str {
@@ -74,17 +91,4 @@ fn name_of_limit(limit: Limit) -> &'static str {
         Limit::Steps => "steps",
         Limit::Depth => "choices",
     }
-}
-
-// Who starves, in which run, and where its threads stand.
-fn words_of_starved(alloc: Global, place: usize, bad: &Schedule) -> io::Result<String> {
-    let word = format!(in alloc; "thread {place} starves")?;
-    words_of_bad(alloc, word.as_str(), bad)
-}
-
-// Which run is bad, and where its threads stand.
-fn words_of_bad(alloc: Global, word: &str, bad: &Schedule) -> io::Result<String> {
-    let run = bad.run;
-    let left = bad.left(alloc)?;
-    Ok(format!(in alloc; "{word}, in run {run}\n{left}")?)
 }

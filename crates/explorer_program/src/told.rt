@@ -11,21 +11,74 @@ use std::sync::Wait;
 use std::thread::Threads;
 use std::time::Instant;
 
-/// Tries the orders of a program on both doors, and prints what came of it, unless a write failed before. Where it alone
-/// is asked for, that goes to standard error, and the script of its bad order to standard output.
-pub fn tell<
+/// Tries programs and prints what comes of each, until one can't be tried or told.
+#[derive(Drop)]
+pub struct Teller<'a, R> {
+    rt: R,
+    alloc: Global,
+    asked: Asked<'a>,
+    told: io::Result<()>,
+}
+
+impl<'a, R: Threads + Wait + Clock + Print + Eprint + Copy + Send + 'static> Teller<'a, R> {
+    /// Who tells what is asked for.
+    pub fn of(rt: R, alloc: Global, asked: Asked<'a>) -> Teller<'a, R> {
+        let told = Ok(());
+        Teller {
+            rt,
+            alloc,
+            asked,
+            told,
+        }
+    }
+
+    /// What is asked for.
+    pub fn asked(&self) -> Asked<'a> {
+        self.asked
+    }
+
+    /// Tries the orders of a program on both doors, and prints what came of it. Where it alone is asked for, that goes
+    /// to standard error, and the script of its bad order to standard output.
+    pub fn tell<
+        D: MonitorData + Send + Drop + 'static,
+        P: Program<D, Explored<D>> + Clone + 'static,
+    >(&mut self, name: &str, program: &P) {
+        self.tell_within(self.asked.limits, name, program);
+    }
+
+    /// The same, within limits of its own.
+    pub fn tell_within<
+        D: MonitorData + Send + Drop + 'static,
+        P: Program<D, Explored<D>> + Clone + 'static,
+    >(&mut self, limits: Limits, name: &str, program: &P) {
+        if self.told.is_ok() {
+            let asked = Asked {
+                limits,
+                ..self.asked
+            };
+            self.told = tell_of(self.rt, self.alloc, &asked, name, program);
+        }
+    }
+
+    /// Whether all was told.
+    pub fn end(self) -> io::Result<()> {
+        self.told
+    }
+}
+
+// What comes of a program, as far as it is asked for.
+fn tell_of<
     R: Threads + Wait + Clock + Print + Eprint + Copy + Send + 'static,
     D: MonitorData + Send + Drop + 'static,
     P: Program<D, Explored<D>> + Clone + 'static,
->(rt: R, alloc: Global, asked: &Asked<'_>, told: &mut io::Result<()>, name: &str, program: &P) {
-    if told.is_err() {
-        return;
-    }
+>(rt: R, alloc: Global, asked: &Asked<'_>, name: &str, program: &P) -> io::Result<()> {
     if asked.asks(name) {
-        *told = tell_one(rt, alloc, asked, name, program);
-    } else if asked.is_all() {
-        *told = tell_on_both(rt, alloc, asked, name, program);
+        return tell_one(rt, alloc, asked, name, program);
     }
+    if asked.is_all() {
+        return tell_on_both(rt, alloc, asked, name, program);
+    }
+    Ok(())
 }
 
 // Prints what comes of the program that alone is asked for.

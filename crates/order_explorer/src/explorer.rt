@@ -85,6 +85,13 @@ impl Found {
     }
 }
 
+// What the threads of an exploration share: the program, and the monitor over which it runs.
+#[derive(Drop)]
+struct Shared<D: MonitorData, P> {
+    program: P,
+    explored: Explored<D>,
+}
+
 // What one thread does: its part in each run, until no run comes any more.
 fn serve<R: Wait, D: MonitorData + Send + Drop, P: Program<D, Explored<D>>>(
     rt: &R,
@@ -110,14 +117,15 @@ fn start_one<
     R: Threads + Wait + Copy + Send + 'static,
     D: MonitorData + Send + Drop + 'static,
     P: Program<D, Explored<D>> + 'static,
->(rt: R, program: Arc<P>, explored: Arc<Explored<D>>, out: Outside<D>) -> Result<(), AllocError>
-    requires { IsOut D.rest D.ready (kinds_of D.CONDITIONS D.MESA) (id_of (arc_value explored).door) out }
+>(rt: R, shared: Arc<Shared<D, P>>, out: Outside<D>) -> Result<(), AllocError>
+    requires { IsOut D.rest D.ready (kinds_of D.CONDITIONS D.MESA) (id_of (arc_value shared).explored.door) out }
 {
     let started = thread::spawn(
         &rt,
         move || -> ()
-            requires { IsOut D.rest D.ready (kinds_of D.CONDITIONS D.MESA) (id_of (arc_value explored).door) out }
-        { serve(&rt, &*program, &*explored, out) },
+            requires { IsOut D.rest D.ready (kinds_of D.CONDITIONS D.MESA)
+                (id_of (arc_value shared).explored.door) out }
+        { serve(&rt, &shared.program, &shared.explored, out) },
     );
     match started {
         Ok(_handle) => Ok(()),
@@ -130,17 +138,12 @@ fn start_all<
     R: Threads + Wait + Copy + Send + 'static,
     D: MonitorData + Send + Drop + 'static,
     P: Program<D, Explored<D>> + 'static,
->(
-    rt: R,
-    program: &Arc<P>,
-    explored: &Arc<Explored<D>>,
-    outs: Vec<Outside<D>>,
-) -> Result<(), AllocError>
-    requires { All (IsOut D.rest D.ready (kinds_of D.CONDITIONS D.MESA) (id_of (arc_value explored.now).door))
+>(rt: R, shared: &Arc<Shared<D, P>>, outs: Vec<Outside<D>>) -> Result<(), AllocError>
+    requires { All (IsOut D.rest D.ready (kinds_of D.CONDITIONS D.MESA) (id_of (arc_value shared.now).explored.door))
         outs.items }
 {
     for out in outs {
-        start_one(rt, Arc::try_clone(program)?, Arc::try_clone(explored)?, out)?;
+        start_one(rt, Arc::try_clone(shared)?, out)?;
     }
     Ok(())
 }
@@ -254,7 +257,7 @@ fn with_desk<D: MonitorData + Send + Drop>(
     Some((desk, outs))
 }
 
-// The runs of a program that its threads share.
+// The runs of a program by threads that share it.
 fn explore_shared<
     R: Threads + Wait + Copy + Send + 'static,
     D: MonitorData + Send + Drop + 'static,
@@ -262,19 +265,19 @@ fn explore_shared<
 >(
     rt: R,
     alloc: Global,
-    program: Arc<P>,
-    explored: Arc<Explored<D>>,
+    shared: Arc<Shared<D, P>>,
     places: (Outside<D>, Vec<Outside<D>>),
     runs: u64,
 ) -> Result<Found, AllocError>
-    requires desk { IsOut D.rest D.ready (kinds_of D.CONDITIONS D.MESA) (id_of (arc_value explored).door) places.0 }
-    requires outs { All (IsOut D.rest D.ready (kinds_of D.CONDITIONS D.MESA) (id_of (arc_value explored).door))
+    requires desk { IsOut D.rest D.ready (kinds_of D.CONDITIONS D.MESA)
+        (id_of (arc_value shared).explored.door) places.0 }
+    requires outs { All (IsOut D.rest D.ready (kinds_of D.CONDITIONS D.MESA) (id_of (arc_value shared).explored.door))
         places.1.items }
 {
     let (desk, outs) = places;
-    start_all(rt, &program, &explored, outs)?;
-    let found = run_all(&rt, alloc, &*program, &*explored, desk, runs)?;
-    explored.controller.stop(&rt);
+    start_all(rt, &shared, outs)?;
+    let found = run_all(&rt, alloc, &shared.program, &shared.explored, desk, runs)?;
+    shared.explored.controller.stop(&rt);
     Ok(found)
 }
 
@@ -294,17 +297,14 @@ fn explore_with<
     let Some(state) = program.open(alloc) else {
         return Err(AllocError);
     };
-    let Ok(program) = Arc::new(alloc, program) else {
-        return Err(AllocError);
-    };
     let (explored, outs) = Explored::make(alloc, limits.door, controller, state, count)?;
     let Some(places) = with_desk(&explored, outs) else {
         return Err(AllocError);
     };
-    let Ok(explored) = Arc::new(alloc, explored) else {
+    let Ok(shared) = Arc::new(alloc, Shared { program, explored }) else {
         return Err(AllocError);
     };
-    explore_shared(rt, alloc, program, explored, places, limits.runs)
+    explore_shared(rt, alloc, shared, places, limits.runs)
 }
 
 /// Tries the orders in which the program's 1 to 63 threads can be let in, each in a run of its own: up to a limit, or

@@ -71,41 +71,36 @@ pub struct Schedule {
 }
 
 // Adds the line of a step.
-fn add_step(alloc: Global, text: &mut String, step: Step) -> Result<(), AllocError> {
-    let line = match step {
-        Step::Enter(place) => format!(in alloc; "enter {place}\n")?,
-        Step::Wait(place, condition, priority) => {
-            format!(in alloc; "wait {place} {condition} {priority}\n")?
-        }
-        Step::Signal(place, condition) => format!(in alloc; "signal {place} {condition}\n")?,
-        Step::Pass(place, condition) => format!(in alloc; "pass {place} {condition}\n")?,
-        Step::Leave(place) => format!(in alloc; "leave {place}\n")?,
-        Step::Notify(place, condition) => format!(in alloc; "notify {place} {condition}\n")?,
-        Step::Broadcast(place, condition) => format!(in alloc; "broadcast {place} {condition}\n")?,
-    };
-    text.push_str(line.as_str())?;
-    Ok(())
+fn add_step(text: &mut String, step: Step) -> Result<(), AllocError> {
+    match step {
+        Step::Enter(place) => writeln!(text, "enter {place}"),
+        Step::Wait(place, condition, priority) => writeln!(
+            text,
+            "wait {place} {condition} {priority}"
+        ),
+        Step::Signal(place, condition) => writeln!(text, "signal {place} {condition}"),
+        Step::Pass(place, condition) => writeln!(text, "pass {place} {condition}"),
+        Step::Leave(place) => writeln!(text, "leave {place}"),
+        Step::Notify(place, condition) => writeln!(text, "notify {place} {condition}"),
+        Step::Broadcast(place, condition) => writeln!(text, "broadcast {place} {condition}"),
+    }
 }
 
 // Adds a line that says where a thread stands, if it hasn't ended.
-fn add_standing(
-    alloc: Global,
-    text: &mut String,
-    place: usize,
-    standing: Standing,
-) -> Result<(), AllocError> {
-    let line = match standing {
-        Standing::Ready => format!(in alloc; "thread {place} hasn't begun\n")?,
-        Standing::Outside => format!(in alloc; "thread {place} is outside\n")?,
-        Standing::Asks => format!(in alloc; "thread {place} wants in\n")?,
-        Standing::Inside => format!(in alloc; "thread {place} is inside, or a signaller\n")?,
+fn add_standing(text: &mut String, place: usize, standing: Standing) -> Result<(), AllocError> {
+    match standing {
+        Standing::Ready => writeln!(text, "thread {place} hasn't begun"),
+        Standing::Outside => writeln!(text, "thread {place} is outside"),
+        Standing::Asks => writeln!(text, "thread {place} wants in"),
+        Standing::Inside => writeln!(text, "thread {place} is inside, or a signaller"),
         Standing::Waits(condition, step) => {
-            format!(in alloc; "thread {place} waits on condition {condition} since step {step}\n")?
+            writeln!(
+                text,
+                "thread {place} waits on condition {condition} since step {step}"
+            )
         }
-        Standing::Ended => return Ok(()),
-    };
-    text.push_str(line.as_str())?;
-    Ok(())
+        Standing::Ended => Ok(()),
+    }
 }
 
 impl Schedule {
@@ -114,13 +109,14 @@ impl Schedule {
         let threads = self.threads;
         let conditions = self.conditions;
         let mesa = self.mesa;
-        let mut text = if mesa == 0 {
-            format!(in alloc; "monitor {threads} {conditions}\n")?
+        let mut text = String::new(alloc);
+        if mesa == 0 {
+            writeln!(text, "monitor {threads} {conditions}")?;
         } else {
-            format!(in alloc; "monitor {threads} {conditions} {mesa}\n")?
-        };
+            writeln!(text, "monitor {threads} {conditions} {mesa}")?;
+        }
         for step in self.steps.as_slice() {
-            add_step(alloc, &mut text, *step)?;
+            add_step(&mut text, *step)?;
         }
         Ok(text)
     }
@@ -129,7 +125,7 @@ impl Schedule {
     pub fn left(&self, alloc: Global) -> Result<String, AllocError> {
         let mut text = String::new(alloc);
         for place in 0..self.standings.len() {
-            add_standing(alloc, &mut text, place, self.standings[place])?;
+            add_standing(&mut text, place, self.standings[place])?;
         }
         Ok(text)
     }

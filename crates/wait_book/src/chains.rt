@@ -36,11 +36,12 @@ pub(crate) struct Link {
     pub(crate) priority: u64,
 }
 
-// One that stands in a chain, with the key of the next one's node.
+// One that stands in a chain, with the key of the next one's node. Place and condition fit a byte, so that more nodes
+// lie in a line of the cache.
 #[derive(Clone, Copy)]
 struct Node {
-    place: usize,
-    condition: usize,
+    place: u8,
+    condition: u8,
     priority: u64,
     next: Option<usize>,
 }
@@ -213,6 +214,7 @@ impl Chains {
     )
         requires chain { chain < CHAINS }
         requires condition { chain < SIGNALLERS → condition ≡ chain }
+        requires few { condition < CHAINS }
         requires place { place < MOST_PLACES }
         requires apart { times place (places_below CHAINS (list_at self.old)) ≡ 0 }
         requires room { total self.old < self.old.room }
@@ -225,8 +227,8 @@ impl Chains {
         let Chain { first, last } = self.chains[chain];
         let next = next_of(&self.nodes, first, behind);
         let node = Node {
-            place,
-            condition,
+            place: place as u8,
+            condition: condition as u8,
             priority,
             next,
         };
@@ -242,6 +244,7 @@ impl Chains {
     pub(crate) fn append(&mut self, chain: usize, place: usize, condition: usize, priority: u64)
         requires chain { chain < CHAINS }
         requires no_condition { SIGNALLERS ≤ chain }
+        requires few { condition < CHAINS }
         requires place { place < MOST_PLACES }
         requires apart { times place (places_below CHAINS (list_at self.old)) ≡ 0 }
         requires room { total self.old < self.old.room }
@@ -277,8 +280,9 @@ impl Chains {
         let first = self.chains[chain].first;
         let node = self.nodes.remove(first?);
         move_on(&mut self.chains[chain], node.next);
-        self.standing[node.place] = false;
-        Some(node.place)
+        let place = node.place as usize;
+        self.standing[place] = false;
+        Some(place)
     }
 
     /// Puts all in the chain of a condition behind those that were called, in their order: one link is set, however

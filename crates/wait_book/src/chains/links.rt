@@ -39,8 +39,8 @@ impl<'a> Iterator for Links<'a> {
         self.at = node.next;
         Some(Link {
             key,
-            place: node.place,
-            condition: node.condition,
+            place: node.place as usize,
+            condition: node.condition as usize,
             priority: node.priority,
         })
     }

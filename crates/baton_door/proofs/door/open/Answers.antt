@@ -1,5 +1,6 @@
-use Rattle.std.proofs.Common.{rules, [], ◌∷◌, Some, ap, ◌∙◌}
+use Rattle.std.proofs.Common.{rules, refl, ap, ◌∙◌}
 use Rattle.door_frame.specs.Steps.{Sat}
+use Rattle.door_frame.proofs.Parcels.{laid_down}
 use Rattle.baton_door.proofs.Steps.{begins_at, opens_at}
 use Rattle.baton_door.proofs.door.open.Goals as goal
 use Rattle.hoare_law.specs.Sizes.{kinds_of}
@@ -17,8 +18,7 @@ pub store-requires : goal.store-requires
 store-requires g c =
     let D = g.D.MonitorData in
     let begun = c.compare_exchange.ensures.2 _ (ap (λ (m : Sat g.row.D.Denot). m.0) c.requires.seat) in
-    let laid = c.lay_parcel.ensures.laid
-    ∙ ap (λ (m : Sat g.row.D.Denot). (m.0, (0, Some c.args.parcel) ∷ [])) begun in (
+    let laid = c.lay_parcel.ensures.laid ∙ laid_down c.args.parcel refl begun in (
       search rules,
       search rules,
       opens_at D.rest D.ready (kinds_of D.CONDITIONS D.MESA) _ _ _ c.args.parcel _ laid c.requires.rest
@@ -28,5 +28,5 @@ store-requires g c =
 pub returns-clause-opened : goal.returns-clause-opened
 returns-clause-opened g c =
     let begun = c.compare_exchange.ensures.2 _ (ap (λ (m : Sat g.row.D.Denot). m.0) c.requires.seat) in
-    let laid = c.lay_parcel.ensures.laid ∙ ap (λ (m : Sat g.row.D.Denot). (m.0, (0, Some c.args.parcel) ∷ [])) begun in
+    let laid = c.lay_parcel.ensures.laid ∙ laid_down c.args.parcel refl begun in
     c.store.ensures.2 _ c.args.parcel laid

@@ -1,5 +1,6 @@
-use Rattle.std.proofs.Common.{rules, [], ◌∷◌, Some, ap, ◌∙◌}
+use Rattle.std.proofs.Common.{rules, refl, ap, ◌∙◌}
 use Rattle.door_frame.specs.Steps.{Sat}
+use Rattle.door_frame.proofs.Parcels.{laid_down}
 use Rattle.ticket_door.proofs.Opening.{begins_at, opens_at}
 use Rattle.ticket_door.proofs.laws.open.Goals as goal
 use Rattle.hoare_law.specs.Sizes.{kinds_of}
@@ -22,8 +23,7 @@ load-requires-2 g c =
     let D = g.D.MonitorData in
     let key = c.args.table.now.shared.key in
     let begun = c.load.ensures.2 _ (ap (λ (m : Sat g.row.D.Denot). m.0) c.requires.seat) in
-    let laid = c.lay_parcel.ensures.laid
-    ∙ ap (λ (m : Sat g.row.D.Denot). (m.0, (0, Some c.args.parcel) ∷ [])) begun in (
+    let laid = c.lay_parcel.ensures.laid ∙ laid_down c.args.parcel refl begun in (
       search rules,
       search rules,
       opens_at key.first key.places D.rest D.ready
@@ -33,5 +33,5 @@ load-requires-2 g c =
 pub returns-clause-opened : goal.returns-clause-opened
 returns-clause-opened g c =
     let begun = c.load.ensures.2 _ (ap (λ (m : Sat g.row.D.Denot). m.0) c.requires.seat) in
-    let laid = c.lay_parcel.ensures.laid ∙ ap (λ (m : Sat g.row.D.Denot). (m.0, (0, Some c.args.parcel) ∷ [])) begun in
+    let laid = c.lay_parcel.ensures.laid ∙ laid_down c.args.parcel refl begun in
     c.load-2.ensures.2 _ c.args.parcel laid

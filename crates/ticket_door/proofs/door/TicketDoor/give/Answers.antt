@@ -1,11 +1,12 @@
-use Rattle.std.proofs.Common.{◌<◌, sym, ap, ◌∙◌, subst, Some, None, [], ◌∷◌, arith}
+use Rattle.std.proofs.Common.{◌<◌, refl, sym, ap, ◌∙◌, subst, Some, None, arith}
 use mathlib.Core.Option.{none}
 use Rattle.atomic_table.specs.Table.{step}
 use Rattle.wait_book.specs.Contents.{IsPlaceBelow}
 use Rattle.wait_book.specs.declared.steps.Next.{Next}
 use Rattle.door_frame.specs.Places.{IsWoken}
-use Rattle.door_frame.specs.Steps.{Sat, Gives}
+use Rattle.door_frame.specs.Steps.{Gives}
 use Rattle.door_frame.proofs.Departures.{gives_gone}
+use Rattle.door_frame.proofs.Parcels.{laid_down}
 use Rattle.ticket_door.specs.Asked.{TicketDoorId}
 use Rattle.ticket_door.proofs.Serving.{gives_open_at}
 use Rattle.ticket_door.proofs.Ringing.{gives_ring_at}
@@ -18,7 +19,7 @@ fetch_add-requires g c =
     let D = g.D.MonitorData in
     let t = c.self.inside.table.shared in
     let wide = c.self.invariant.words_are in
-    let laid = c.lay_parcel.ensures.laid ∙ ap (λ (m : Sat g.row.D.Denot). (m.0, (0, Some c.args.parcel) ∷ [])) e.1 in
+    let laid = c.lay_parcel.ensures.laid ∙ laid_down c.args.parcel refl e.1 in
     let gives = subst (Gives D.rest D.ready g.J.PickedEvent.event c.args.place e.0 c.args.parcel) c.in-Free.is e.2 in (
       c.lay_parcel.ensures.table ∙ c.requires.table ∙ ap (λ (d : TicketDoorId). d.door.table) (sym c.self.view_is),
       omega (arith, wide),
@@ -46,7 +47,7 @@ store-requires g c =
     let asked : j < c.args.self.now.door.places =
     subst (IsPlaceBelow c.args.self.now.door.places) c.in-For.is c.requires.next in
     let below : j < t.key.places = omega (arith, asked, places) in
-    let laid = c.lay_parcel.ensures.laid ∙ ap (λ (m : Sat g.row.D.Denot). (m.0, (0, Some c.args.parcel) ∷ [])) e.1 in
+    let laid = c.lay_parcel.ensures.laid ∙ laid_down c.args.parcel refl e.1 in
     let gives = subst (Gives D.rest D.ready g.J.PickedEvent.event c.args.place e.0 c.args.parcel) c.in-For.is e.2 in (
       c.lay_parcel.ensures.table ∙ c.requires.table ∙ ap (λ (d : TicketDoorId). d.door.table) (sym c.self.view_is),
       omega (arith, wide, below, c.bell_of.ensures),
@@ -65,7 +66,7 @@ wake-requires-clause-given_up g c = let e = c.requires.event in (
   c.args.place,
   _,
   c.store.ensures.2 c.args.place e.0 c.args.parcel
-      (c.lay_parcel.ensures.laid ∙ ap (λ (m : Sat g.row.D.Denot). (m.0, (0, Some c.args.parcel) ∷ [])) e.1),
+      (c.lay_parcel.ensures.laid ∙ laid_down c.args.parcel refl e.1),
   e.2.given_up,
 )
 
@@ -78,12 +79,12 @@ unreachable-requires g c =
 pub returns-in-Free-clause-away : goal.returns-in-Free-clause-away
 returns-in-Free-clause-away g c = λ f is.
     c.fetch_add.ensures.2 c.args.place f c.args.parcel
-    (c.lay_parcel.ensures.laid ∙ ap (λ (m : Sat g.row.D.Denot). (m.0, (0, Some c.args.parcel) ∷ [])) is)
+    (c.lay_parcel.ensures.laid ∙ laid_down c.args.parcel refl is)
 
 pub returns-in-For-clause-away : goal.returns-in-For-clause-away
 returns-in-For-clause-away g c = λ f is.
     c.store.ensures.2 c.args.place f c.args.parcel
-    (c.lay_parcel.ensures.laid ∙ ap (λ (m : Sat g.row.D.Denot). (m.0, (0, Some c.args.parcel) ∷ [])) is)
+    (c.lay_parcel.ensures.laid ∙ laid_down c.args.parcel refl is)
 
 pub returns-in-Free-clause-woken : goal.returns-in-Free-clause-woken
 returns-in-Free-clause-woken g c =

@@ -57,6 +57,7 @@ append-requires c =
     record {
       chain = search rules;
       no_condition = search rules;
+      few = omega (arith, below);
       place = omega (
         arith,
         here,

@@ -64,6 +64,7 @@ append-requires c =
     record {
       chain = search rules;
       no_condition = search rules;
+      few = omega (arith, below);
       place = omega (arith, sound.held_in_range b c.args.place h.sound h.inside, c.self.invariant.few_places);
       apart = omega (
         arith,

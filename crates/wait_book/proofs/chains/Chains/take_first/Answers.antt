@@ -22,8 +22,8 @@ remove-node-requires c =
     opens-contains s c.in_ok-first.field-0 list
     (opens s _ c.in_ok-first.field-0 list c.in_ok-first.was (i.linked c.args.chain).linked)
 
-pub bounds-self-inside-node : goal.bounds-self-inside-node
-bounds-self-inside-node c =
+pub bounds-self-inside-place : goal.bounds-self-inside-place
+bounds-self-inside-place c =
     let i = AreChains-equal c.self.view_is c.self.invariant.are in
     let node = c.remove-node.ensures in
     let t = takes c.args.chain c.in_ok-first.field-0 c.remove-node.result i c.in_ok-first.was node.value node.updates in

@@ -1,7 +1,7 @@
 -- How the fields of the chains stand for lists.
-use Rattle.std.specs.Prelude.{ℕ, ◌≡◌, ◌<◌, All, Bool, false, if◌then◌else◌, List, length, slice_index_or}
+use Rattle.std.specs.Prelude.{ℕ, ◌≡◌, ◌<◌, ◌≤◌, All, Bool, false, if◌then◌else◌, List, length, slice_index_or}
 use Rattle.wait_book.specs.declared.book.TheConstants.{MOST_CONDITIONS, MOST_PLACES}
-use Rattle.wait_book.specs.declared.chains.TheConstants.{CHAINS}
+use Rattle.wait_book.specs.declared.chains.TheConstants.{CHAINS, MOST_KEYS}
 use Rattle.wait_book.specs.declared.chains.Chains.TheInside as chains
 use Rattle.wait_book.specs.declared.chains.Link.{Link}
 use Rattle.wait_book.specs.Contents.{times}
@@ -25,8 +25,9 @@ pub record AreMarked (s : List Bool) (at : ℕ → List Link) : Type 0 where
 abbrev pub AreKept : (ℕ → List Link) → Type 0
 AreKept at = (c : ℕ) → c < MOST_CONDITIONS → All (λ (x : Link). x.condition ≡ c) (at c)
 
--- the nodes stand for those lists, and the marks tell their places
+-- the nodes stand for those lists, the marks tell their places, and keys fit a byte
 pub record IsGood (a : chains.Inside) : Type 0 where
   pub are : AreChains a.nodes a.chains (list_at (view_of a))
   pub places : AreMarked a.standing (list_at (view_of a))
   pub kept : AreKept (list_at (view_of a))
+  pub few : a.nodes.capacity ≤ MOST_KEYS

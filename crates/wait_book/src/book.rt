@@ -33,9 +33,9 @@ pub const MOST_CONDITIONS: usize = 8;
 /// ```
 #[derive(Drop)]
 pub struct Book {
-    sizes: Sizes,
-    chains: Chains,
     turn: Turn,
+    chains: Chains,
+    sizes: Sizes,
 }
 
 impl Model for Book {

@@ -24,40 +24,43 @@ pub(crate) const SIGNALLERS: usize = MOST_CONDITIONS;
 /// The number of the chain of those that were called, behind the signallers'.
 pub(crate) const CALLED: usize = MOST_CONDITIONS + 1;
 
+/// The most nodes for which there may be room: their keys fit a byte.
+const MOST_KEYS: usize = 256;
+
 /// How many chains there are: one for each condition, the signallers' and that of those called.
 pub(crate) const CHAINS: usize = MOST_CONDITIONS + 2;
 
 /// One that stands in a chain: the key of its node, its place, and the condition and the priority of its wait.
 #[derive(Clone, Copy)]
 pub(crate) struct Link {
-    pub(crate) key: usize,
+    pub(crate) key: u8,
     pub(crate) place: usize,
     pub(crate) condition: usize,
     pub(crate) priority: u64,
 }
 
-// One that stands in a chain, with the key of the next one's node. Place and condition fit a byte, so that more nodes
-// lie in a line of the cache.
+// One that stands in a chain, with the key of the next one's node. All that fits a byte is one, here and in a chain, so
+// that a step writes few lines of the cache.
 #[derive(Clone, Copy)]
 struct Node {
     place: u8,
     condition: u8,
     priority: u64,
-    next: Option<usize>,
+    next: Option<u8>,
 }
 
 // The keys of a chain's first node and of its last.
 #[derive(Clone, Copy)]
 struct Chain {
-    first: Option<usize>,
-    last: Option<usize>,
+    first: Option<u8>,
+    last: Option<u8>,
 }
 
 /// The chains, the slab in which the nodes of all lie, and a mark for each place that stands in a chain.
 #[derive(Drop)]
 pub(crate) struct Chains {
-    nodes: Slab<Node>,
     chains: [Chain; CHAINS],
+    nodes: Slab<Node>,
     standing: [bool; MOST_PLACES],
 }
 
@@ -74,24 +77,19 @@ impl Model for Chains {
 }
 
 // The key behind a node, or of the first where none is before.
-fn next_of(nodes: &Slab<Node>, first: Option<usize>, behind: Option<usize>) -> Option<usize>
+fn next_of(nodes: &Slab<Node>, first: Option<u8>, behind: Option<u8>) -> Option<u8>
     requires { IfSome behind (ContainsKey nodes.now) }
     ensures { (before : List Link) (to : Option ℕ) → IsLinked nodes.now first before to
         → behind ≡ last_key before → result ≡ to }
 {
     match behind {
-        Some(key) => nodes[key].next,
+        Some(key) => nodes[key as usize].next,
         None => first,
     }
 }
 
 // Puts a key behind a node, or first where none is before, and answers the first.
-fn set_next(
-    nodes: &mut Slab<Node>,
-    first: Option<usize>,
-    behind: Option<usize>,
-    key: usize,
-) -> Option<usize>
+fn set_next(nodes: &mut Slab<Node>, first: Option<u8>, behind: Option<u8>, key: u8) -> Option<u8>
     requires { IfSome behind (ContainsKey nodes.old) }
     ensures linked { (before : List Link) (to : Option ℕ) → IsLinked nodes.old first before to
         → behind ≡ last_key before → ((k : ℕ) → times k (keys before) ≤ 1)
@@ -103,7 +101,7 @@ fn set_next(
 {
     match behind {
         Some(before) => {
-            nodes[before].next = Some(key);
+            nodes[before as usize].next = Some(key);
             first
         }
         None => Some(key),
@@ -111,7 +109,7 @@ fn set_next(
 }
 
 // The last key of a chain as it was, where a node comes behind the place of a change; else another.
-fn last_after(next: Option<usize>, last: Option<usize>, otherwise: Option<usize>) -> Option<usize>
+fn last_after(next: Option<u8>, last: Option<u8>, otherwise: Option<u8>) -> Option<u8>
     ensures { result ≡ (if is_some next then last else otherwise) }
 {
     match next {
@@ -121,7 +119,7 @@ fn last_after(next: Option<usize>, last: Option<usize>, otherwise: Option<usize>
 }
 
 // The first of a chain went: the next one is its first, and where there is none, none is its last.
-fn move_on(chain: &mut Chain, next: Option<usize>)
+fn move_on(chain: &mut Chain, next: Option<u8>)
     ensures first { chain.new.first ≡ next }
     ensures last { chain.new.last ≡ (if is_some next then chain.old.last else None) }
 {
@@ -137,12 +135,16 @@ impl Chains {
         ensures empty { IfOk result (λ q. (c : ℕ) → list_at q c ≡ []) }
         ensures room { IfOk result (λ q. places ≤ q.room) }
     {
+        let nodes = Slab::with_capacity(alloc, places)?;
+        if nodes.capacity() > MOST_KEYS {
+            return Err(AllocError); // never, since a slab has the room that is asked for
+        }
         Ok(Chains {
-            nodes: Slab::with_capacity(alloc, places)?,
             chains: [Chain {
                 first: None,
                 last: None,
             }; CHAINS],
+            nodes,
             standing: [false; MOST_PLACES],
         })
     }
@@ -174,7 +176,7 @@ impl Chains {
     }
 
     // The key of the last in a chain whose priority isn't above this one, met on a walk from the first.
-    fn walk_behind(&self, chain: usize, priority: u64) -> Option<usize>
+    fn walk_behind(&self, chain: usize, priority: u64) -> Option<u8>
         requires { chain < CHAINS }
         ensures { result ≡ last_key (lower priority (list_at self.now chain)) }
     {
@@ -189,13 +191,13 @@ impl Chains {
     }
 
     // The same, in one step where the chain's last isn't above.
-    fn behind(&self, chain: usize, priority: u64) -> Option<usize>
+    fn behind(&self, chain: usize, priority: u64) -> Option<u8>
         requires chain { chain < CHAINS }
         requires ordered { IsNonDecreasing (priorities (list_at self.now chain)) }
         ensures { result ≡ last_key (lower priority (list_at self.now chain)) }
     {
         let last = self.chains[chain].last?;
-        if self.nodes[last].priority <= priority {
+        if self.nodes[last as usize].priority <= priority {
             return Some(last);
         }
         self.walk_behind(chain, priority)
@@ -207,7 +209,7 @@ impl Chains {
     fn link(
         &mut self,
         chain: usize,
-        behind: Option<usize>,
+        behind: Option<u8>,
         place: usize,
         condition: usize,
         priority: u64,
@@ -233,6 +235,7 @@ impl Chains {
             next,
         };
         let key = self.nodes.insert_reserved(node);
+        let key = key as u8;
         let first = set_next(&mut self.nodes, first, behind, key);
         let last = last_after(next, last, Some(key));
         self.chains[chain] = Chain { first, last };
@@ -278,7 +281,7 @@ impl Chains {
             (λ place. IsTaken chain place self.old self.new) }
     {
         let first = self.chains[chain].first;
-        let node = self.nodes.remove(first?);
+        let node = self.nodes.remove(first? as usize);
         move_on(&mut self.chains[chain], node.next);
         let place = node.place as usize;
         self.standing[place] = false;

@@ -10,7 +10,7 @@ use std::marker::Model;
 pub(crate) struct Links<'a> {
     pub(super) nodes: &'a Slab<Node>,
     // The key of the next node.
-    pub(super) at: Option<usize>,
+    pub(super) at: Option<u8>,
 }
 
 impl<'a> Model for Links<'a> {
@@ -35,7 +35,7 @@ impl<'a> Iterator for Links<'a> {
 
     fn next(&mut self) -> Option<Link> {
         let key = self.at?;
-        let node = &self.nodes[key];
+        let node = &self.nodes[key as usize];
         self.at = node.next;
         Some(Link {
             key,

@@ -38,6 +38,7 @@ invariant_of-self c =
       places = AreMarked-joined c.args.chain (AreMarked-equal c.self.view_is c.self.invariant.places)
           (omega (arith, c.requires)) (lists_are are);
       kept = AreKept-joined _ _ c.args.chain _ (AreKept-equal c.self.view_is c.self.invariant.kept) (lists_are are);
+      few = omega (arith, put.capacity, c.self.invariant.few);
     }
 
 pub returns : goal.returns

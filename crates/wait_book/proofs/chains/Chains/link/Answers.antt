@@ -1,4 +1,4 @@
-use Rattle.std.proofs.Common.{ap, ◌∙◌}
+use Rattle.std.proofs.Common.{ap, ◌∙◌, arith}
 use Rattle.wait_book.specs.declared.chains.Link.{Link}
 use Rattle.wait_book.specs.Lists.{Lists}
 use Rattle.wait_book.specs.Chains.{chain_at}
@@ -59,6 +59,7 @@ invariant_of-self c =
           (lists_are are);
       kept = AreKept-put _ _ c.args.chain b.0 b.1 x
           (AreKept-equal c.self.view_is c.self.invariant.kept) b.2 c.requires.condition (lists_are are);
+      few = omega (arith, put.capacity, stored.capacity, c.self.invariant.few);
     }
 
 pub returns : goal.returns

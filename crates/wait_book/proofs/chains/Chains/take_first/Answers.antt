@@ -49,6 +49,7 @@ invariant_of-self-2 c =
           (lists_are are);
       kept = AreKept-taken _ _ c.args.chain t.first t.after (AreKept-equal c.self.view_is c.self.invariant.kept) t.is
           (lists_are are);
+      few = omega (arith, node.capacity, c.self.invariant.few);
     }
 
 pub returns : goal.returns

@@ -1,16 +1,11 @@
-/* No C library at all: x86-64 Linux, with a memset, an entry and an exit of its own. Fills a book of 64 places,
+/* No C library at all: x86-64 Linux, with an entry and an exit of its own. Fills a book of 64 places,
  * three times, so that what it freed is used again. The status is 0, or 1 where a call was refused. */
 #include "zaulinte_book.h"
 #include <stddef.h>
 
 size_t zaulinte_room_used(void);
-void *memset(void *at, int byte, size_t n);
 void _start(void);
 
-void *memset(void *at, int byte, size_t n) {
-    for (unsigned char volatile *p = at; n--;) *p++ = (unsigned char)byte;
-    return at;
-}
 static zaulinte_book b;
 static int fills(void) {
     if (zaulinte_book_make(&b, 64, 8, 4)) return 1;

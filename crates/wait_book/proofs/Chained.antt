@@ -5,7 +5,10 @@ use Rattle.std.proofs.Common.{sym, ◌∙◌, subst, arith}
 use Rattle.std.proofs.lemmas.Bool.{cases_eq, cases_lt}
 use Rattle.std.proofs.lemmas.List.{append-nil, get_or-set_same, get_or-set_other, get_or_past, length-append}
 use Rattle.std.proofs.lemmas.List.{length-set}
-use Rattle.slab.specs.Slab.{Slab, get, slab_len, Updates}
+use Rattle.std.proofs.lemmas.List.Sums.{sum_by-set}
+use Rattle.std.specs.Prelude.{IfSome}
+use Rattle.slab.specs.Slab.{Slab, get, slab_len, with_value, ContainsKey, Updates}
+use Rattle.slab.proofs.SlabLemmas.{ContainsKey-within, Updates-set, Updates-with_value}
 use Rattle.wait_book.specs.declared.chains.TheConstants.{CALLED, CHAINS}
 use Rattle.wait_book.specs.declared.chains.Node.{Node}
 use Rattle.wait_book.specs.declared.chains.Chain.{Chain}
@@ -15,7 +18,8 @@ use Rattle.wait_book.specs.Lists.{Lists, all_below, keys, keys_below, last_key, 
 use Rattle.wait_book.specs.Chains.{node_of, IsLinked, IsChain, AreChains, Ends, empty, chain_at, held, walked, lists_of}
 use Rattle.wait_book.proofs.Times.{one_same, one_apart}
 use Rattle.wait_book.proofs.Nodes.{Opens, opens, IsLinked-same, IsLinked-append, IsLinked-split, linked_none}
-use Rattle.wait_book.proofs.Nodes.{last_within, last_append, walk_linked, walked_none}
+use Rattle.wait_book.proofs.Nodes.{last_within, last_append, walk_linked, walked_none, naming, behind-contains}
+use Rattle.wait_book.proofs.Nodes.{same_end}
 use Rattle.wait_book.proofs.Lists.{eq_apart, keys_middle, keys_append, length_middle, length_put, length_one, put_same}
 use Rattle.wait_book.proofs.Lists.{put_other, times_put, times_one, times_two}
 
@@ -325,6 +329,8 @@ pub record Takes (s t : Slab Node) (k : ℕ) (xs : List Link) (n : Node) : Type 
   pub first : Link
   pub after : List Link
   pub is : xs ≡ first ∷ after
+  pub key : first.key ≡ k
+  pub node : node_of first n.next ≡ n
   pub place : first.place ≡ n.place
   pub linked : IsLinked s n.next after None
   pub updates : Updates s t first.key None
@@ -340,6 +346,8 @@ takes {s = s} {t = t} {chains = chains} {at = at} c k n i e g u =
       first = o.first;
       after = o.after;
       is = o.is;
+      key = o.key;
+      node = ap (λ (m : Node). node_of o.first m.next) (sym is) ∙ is;
       place = ap (λ (m : Node). m.place) is;
       linked = subst (λ (m : Node). IsLinked s m.next o.after None) is o.linked;
       updates = subst (λ (j : ℕ). Updates s t j None) (sym o.key) u;
@@ -471,3 +479,101 @@ AreChains-joined {s = s} {t = t} {chains = chains} {at = at} {first2 = first2} c
         g.as_long,
       );
     }
+
+-- the first of a chain put behind another chain, in the node that it had: as if that were taken out, and one with the
+-- same key were linked then
+
+-- the slab without the node under a key
+abbrev pub without : Slab Node → ℕ → Slab Node
+without s k = record s { slots = set s.slots k None }
+
+without-updates : (s : Slab Node) (k : ℕ) (n : Node) → get s k ≡ Some n → Updates s (without s k) k None
+without-updates s k n g = Updates-set s (without s k) k None (ContainsKey-within s k (rw g refl)) refl
+
+without-fewer : (s : Slab Node) (k : ℕ) (n : Node) → get s k ≡ Some n → slab_len (without s k) + 1 ≡ slab_len s
+without-fewer s k n g = omega (
+  arith,
+  sum_by-set (λ (o : Option Node). cond (is_some o) 1 0) s.slots k None None (ContainsKey-within s k (rw g refl)),
+  held_some s k n g,
+)
+
+-- a write of a node that is there leaves as many
+with_value-len : (s : Slab Node) (k : ℕ) (n m : Node) → get s k ≡ Some n → slab_len (with_value s k m) ≡ slab_len s
+with_value-len s k n m g = omega (
+  arith,
+  sum_by-set (λ (o : Option Node). cond (is_some o) 1 0) s.slots k (Some m) None (ContainsKey-within s k (rw g refl)),
+  held_some s k n g,
+)
+
+-- the node under a key was the first of a chain: now the next one is, and it names `gone`, no key
+pub record Leaving (s : Slab Node) (chain new : Chain) (key : ℕ) (n : Node) (next gone : Option ℕ) : Type 0 where
+  pub was : get s key ≡ Some n
+  pub starts : chain.first ≡ Some key
+  pub names : next ≡ n.next
+  pub ends : gone ≡ None
+  pub first : new.first ≡ next
+  pub last : new.last ≡ cond (is_some next) chain.last None
+
+module _ {s : Slab Node} {chains : List Chain} {at : ℕ → List Link} {new : Chain} {next gone : Option ℕ} (c key : ℕ)
+    (n : Node) (i : AreChains s chains at) (l : c < CALLED)
+    (g : Leaving s (chain_at chains c) new key n next gone) where
+  abbrev mid : Slab Node
+  mid = with_value s key (naming gone n)
+
+  pub leaves : Takes s (without s key) key (at c) n
+  leaves = takes c key n i g.starts g.was (without-updates s key n g.was)
+
+  left : AreChains (without s key) (set chains c new) (list_put c leaves.after at)
+  left = AreChains-taken c key n (g.first ∙ g.names)
+      (g.last ∙ ap (λ (v : Option ℕ). cond (is_some v) (chain_at chains c).last None) g.names) i (omega arith) leaves
+      (without-fewer s key n g.was)
+
+  called : list_put c leaves.after at CALLED ≡ at CALLED
+  called = put_other c CALLED leaves.after at (omega arith)
+
+  behind : (chain_at (set chains c new) CALLED).last ≡ last_key (at CALLED)
+  behind = (left.linked CALLED).last ∙ ap last_key called
+
+  before : IsLinked (without s key) (chain_at (set chains c new) CALLED).first (at CALLED) None
+  before = subst (λ (xs : List Link). IsLinked (without s key) (chain_at (set chains c new) CALLED).first xs None)
+      called (left.linked CALLED).linked
+
+  vacant : get (without s key) leaves.first.key ≡ None
+  vacant = leaves.updates.changed
+
+  -- as if the node were stored anew
+  stored : Updates (without s key) mid leaves.first.key (Some (node_of leaves.first None))
+  stored =
+      let u : Updates s mid key (Some (naming gone n)) = Updates-with_value s key (naming gone n) (rw g.was refl) in
+      subst (λ (j : ℕ). Updates (without s key) mid j (Some (node_of leaves.first None))) (sym leaves.key) (record {
+        changed = u.changed ∙ ap (λ (to : Option ℕ). Some (naming to n)) g.ends
+            ∙ ap (λ (m : Node). Some (naming None m)) (sym leaves.node);
+        others = λ k off. u.others k off ∙ sym ((without-updates s key n g.was).others k off);
+      })
+
+  -- the node behind which it comes is there
+  pub behind_called : IfSome (chain_at (set chains c new) CALLED).last (ContainsKey mid)
+  behind_called =
+      behind-contains mid _ (at CALLED) None _ behind
+      (cut-stored CALLED leaves.first.key (at CALLED) [] None left (omega arith)
+      (called ∙ sym (append-nil (at CALLED))) vacant stored before)
+
+  pub AreChains-called : {t : Slab Node} {first2 : Option ℕ}
+      → Joining mid t (chain_at (set chains c new) CALLED) key first2
+      → AreChains t (set (set chains c new) CALLED (record { first = first2; last = Some key }))
+      (list_put CALLED (at CALLED ++ leaves.first ∷ []) (list_put c leaves.after at))
+  AreChains-called {t = t} {first2 = first2} j =
+      let first = (chain_at (set chains c new) CALLED).first in
+      let last = (chain_at (set chains c new) CALLED).last in
+      let linking : Linking (without s key) mid t first last None first2 leaves.first = record {
+        vacant = vacant;
+        stored = stored;
+        linked = λ front to linked e once.
+            subst (λ (k : ℕ). IsLinked t first2 front (Some k)) (sym leaves.key) (j.linked front to linked e once);
+        others = j.others;
+        held_on = j.held_on;
+        longer = omega (arith, j.as_long, with_value-len s key n (naming gone n) g.was, without-fewer s key n g.was);
+      } in
+      AreChains-linked CALLED (at CALLED) [] left (omega arith) linking (ap (λ (k : ℕ). Some k) (sym leaves.key))
+      (λ front to linked e. same_end (without s key) first (at CALLED) front None to before linked (sym behind ∙ e))
+      (called ∙ sym (append-nil (at CALLED))) behind

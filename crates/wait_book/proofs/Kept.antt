@@ -53,6 +53,18 @@ pub AreKept-taken : (at bt : ℕ → List Link) (c : ℕ) (x : Link) (after : Li
 AreKept-taken at bt c x after m is lists =
     AreKept-list at bt c after m (λ l. All-tail (Waited c) x after (subst (All (Waited c)) is (m c l))) lists
 
+-- the first of chain c waits there
+pub first_waits : (at : ℕ → List Link) (c : ℕ) (x : Link) (after : List Link) → AreKept at → c < MOST_CONDITIONS
+    → at c ≡ x ∷ after → x.condition ≡ c
+first_waits at c x after m l is = All-head (Waited c) x after (subst (All (Waited c)) is (m c l))
+
+-- and is put behind those called
+pub AreKept-called : (at bt : ℕ → List Link) (c : ℕ) (x : Link) (xs after : List Link) → AreKept at → at c ≡ x ∷ after
+    → ((d : ℕ) → bt d ≡ list_put CALLED xs (list_put c after at) d) → AreKept bt
+AreKept-called at bt c x xs after m is lists =
+    AreKept-list (list_put c after at) bt CALLED xs
+    (AreKept-taken at (list_put c after at) c x after m is (λ d. refl)) (λ l. absurd (omega arith)) lists
+
 -- all of chain c put behind those called
 pub AreKept-joined : (at bt : ℕ → List Link) (c : ℕ) (xs : List Link) → AreKept at
     → ((d : ℕ) → bt d ≡ list_put c [] (list_put CALLED xs at) d) → AreKept bt

@@ -134,6 +134,24 @@ module _ {s : List Bool} {at : ℕ → List Link} (c : ℕ) (x : Link) (after : 
       subst (λ (j : ℕ). AreMarked (set s j false) bt) e
       (record { many = length-set s x.place false ∙ m.many; once = once })
 
+  -- and put behind another list
+  pub AreMarked-called : {bt : ℕ → List Link} → c < CALLED
+      → ((d : ℕ) → bt d ≡ list_put CALLED (at CALLED ++ x ∷ []) (list_put c after at) d) → AreMarked s bt
+  AreMarked-called {bt = bt} below lists =
+      let same : bt ≡ list_put CALLED (at CALLED ++ x ∷ []) (list_put c after at) = λ i d. lists d i in
+      record {
+        many = m.many;
+        once = λ k. omega (
+          arith,
+          ap (λ (v : ℕ → List Link). times k (places_below CHAINS v)) same,
+          times_put (λ d (y : Link). y.place) k CHAINS CALLED (at CALLED ++ x ∷ []) (list_put c after at) (omega arith),
+          places_append k (at CALLED) (x ∷ []),
+          ap (λ v. times k (places_in v)) (put_other c CALLED after at (omega arith)),
+          taken_times k,
+          m.once k,
+        );
+      }
+
 -- a whole list put behind another
 pub AreMarked-joined : {s : List Bool} {at bt : ℕ → List Link} (c : ℕ) → AreMarked s at → c < CALLED
     → ((d : ℕ) → bt d ≡ list_put c [] (list_put CALLED (at CALLED ++ at c) at) d) → AreMarked s bt

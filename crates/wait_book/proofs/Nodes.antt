@@ -4,7 +4,8 @@ use Rattle.std.proofs.Common.{length, Option, Some, None, refl, ap, sym, ◌∙�
 use Rattle.std.proofs.lemmas.Bool.Decides.{nat_tests}
 use Rattle.std.specs.List.Sorted.{IsNonDecreasing}
 use Rattle.std.specs.Prelude.{IfSome}
-use Rattle.slab.specs.Slab.{Slab, get, slab_len, ContainsKey}
+use Rattle.slab.specs.Slab.{Slab, get, slab_len, with_value, ContainsKey, Updates}
+use Rattle.slab.proofs.SlabLemmas.{Updates-with_value}
 use Rattle.wait_book.specs.declared.chains.Node.{Node}
 use Rattle.wait_book.specs.declared.chains.Link.{Link}
 use Rattle.wait_book.specs.Contents.{one, times}
@@ -128,17 +129,45 @@ closes-next s b to n c g =
     let is : node_of c.last to ≡ n = cc in
     sym (ap (λ (m : Node). m.next) is)
 
+-- behind the same last one comes the same
+pub same_end : (s : Slab Node) (from : Option ℕ) (xs ys : List Link) (to end : Option ℕ)
+    → IsLinked s from xs to → IsLinked s from ys end → last_key xs ≡ last_key ys → to ≡ end
+same_end s from xs ys to end l m e = by (last_key xs) refl
+  where
+    by : (b : Option ℕ) → last_key xs ≡ b → to ≡ end
+    by None q = sym (linked_nothing s from xs to q l) ∙ linked_nothing s from ys end (sym e ∙ q) m
+    by (Some b) q =
+        let there : Closes s b end = closes s from ys end b (sym e ∙ q) m in
+        sym (closes-next s b to (node_of there.last end) (closes s from xs to b q l) there.node)
+
 -- the node behind which one comes is there
 pub behind-contains : (s : Slab Node) (from : Option ℕ) (xs : List Link) (to behind : Option ℕ) → behind ≡ last_key xs
     → IsLinked s from xs to → IfSome behind (ContainsKey s)
 behind-contains s from xs to None e l = tt
 behind-contains s from xs to (Some b) e l = closes-contains s b to (closes s from xs to b (sym e) l)
 
+-- the node with another key behind it
+abbrev pub naming : Option ℕ → Node → Node
+naming to n = record { place = n.place; condition = n.condition; priority = n.priority; next = to }
+
 -- the node under b now names another key, and the others are as they were
 pub record Relinks (s t : Slab Node) (b : ℕ) (to : Option ℕ) : Type 0 where
-  pub changed : (n : Node) → get s b ≡ Some n
-      → get t b ≡ Some (record { place = n.place; condition = n.condition; priority = n.priority; next = to })
+  pub changed : (n : Node) → get s b ≡ Some n → get t b ≡ Some (naming to n)
   pub others : (k : ℕ) → k ≢ b → get t k ≡ get s k
+
+-- so it is after a write of that node
+pub Relinks-with_value : (s : Slab Node) (b : ℕ) (n : Node) (to : Option ℕ) → get s b ≡ Some n
+    → Relinks s (with_value s b (naming to n)) b to
+Relinks-with_value s b n to g =
+    let u : Updates s (with_value s b (naming to n)) b (Some (naming to n)) =
+    Updates-with_value s b (naming to n) (rw g refl) in
+    record {
+      changed = λ m f.
+          let same : Some n ≡ Some m = sym g ∙ f in
+          let is : n ≡ m = cc in
+          u.changed ∙ ap (λ v. Some (naming to v)) is;
+      others = u.others;
+    }
 
 -- a list whose last node was changed so
 pub IsLinked-relinked : (s t : Slab Node) (from : Option ℕ) (xs : List Link) (mid to : Option ℕ) (b : ℕ)

@@ -158,7 +158,7 @@ PutsIn-put c place priority old new l p =
 
 -- the first taken out
 
-taken_below : (n c : ℕ) (x : Link) (after : List Link) (at : ℕ → List Link) → c < n → at c ≡ x ∷ after
+pub taken_below : (n c : ℕ) (x : Link) (after : List Link) (at : ℕ → List Link) → c < n → at c ≡ x ∷ after
     → TakesFirst c (waiting_below n at) (waiting_below n (list_put c after at)) x.place
 unfolding all_below
 taken_below zero c x after at l e = absurd (omega arith)
@@ -209,11 +209,6 @@ TakesFirst-taken c place old new l t =
     (subst (λ (j : ℕ). TakesFirst c (waiting_below MOST_CONDITIONS (list_at old))
     (waiting_below MOST_CONDITIONS (list_put c t.after (list_at old))) j) t.first_place
     (taken_below MOST_CONDITIONS c t.first t.after (list_at old) l t.was))
-
--- a list without a first one is empty
-pub first_none : (xs : List Link) → first_link xs ≡ None → xs ≡ []
-first_none [] e = refl
-first_none (x ∷ xs) e = absurd (cc)
 
 -- nobody waits where the chain is empty
 pub waits-nobody : (c : ℕ) (v : Lists) → c < MOST_CONDITIONS → list_at v c ≡ []

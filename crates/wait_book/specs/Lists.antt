@@ -1,6 +1,6 @@
 -- What a contract sees of the chains: the list of those in each.
-use Rattle.std.specs.Prelude.{ℕ, zero, suc, ◌≡◌, ◌==◌, All, nat_le, if◌then◌else◌, List, [], ◌∷◌, ◌++◌, map, length}
-use Rattle.std.specs.Prelude.{Option, Some, None, slice_index_or}
+use Rattle.std.specs.Prelude.{ℕ, zero, suc, ◌≡◌, ◌==◌, All, Bool, true, false, nat_le, if◌then◌else◌, List, [], ◌∷◌}
+use Rattle.std.specs.Prelude.{◌++◌, map, length, Option, Some, None, slice_index_or}
 use Rattle.wait_book.specs.declared.chains.TheConstants.{CALLED, CHAINS}
 use Rattle.wait_book.specs.declared.chains.Link.{Link}
 
@@ -85,6 +85,21 @@ pub record IsTaken (c place : ℕ) (old new : Lists) : Type 0 where
   pub first_place : first.place ≡ place
   pub lists : (d : ℕ) → list_at new d ≡ list_put c after (list_at old) d
   pub room : new.room ≡ old.room
+
+-- the first in the chain of condition c now stands behind those that were called, in the node that it had
+pub record IsCalled (c : ℕ) (old new : Lists) : Type 0 where
+  pub first : Link
+  pub after : List Link
+  pub was : list_at old c ≡ first ∷ after
+  pub waited : first.condition ≡ c
+  pub lists : (d : ℕ)
+      → list_at new d ≡ list_put CALLED (list_at old CALLED ++ first ∷ []) (list_put c after (list_at old)) d
+  pub room : new.room ≡ old.room
+
+-- so it is, or the chain has nobody and nothing changed
+abbrev pub CallsFirst : Bool → ℕ → Lists → Lists → Type 0
+CallsFirst true c old new = IsCalled c old new
+CallsFirst false c old new = (list_at old c ≡ []) × (new ≡ old)
 
 -- all in the chain of condition c now stand behind those that were called
 pub record IsJoined (c : ℕ) (old new : Lists) : Type 0 where

@@ -2,7 +2,7 @@
 mod stepping;
 mod waits;
 
-use crate::chains::{CALLED, Chains, SIGNALLERS};
+use crate::chains::{Chains, SIGNALLERS};
 use crate::queues::{chain_of, first_priority, is_in_hand, number_called, turn_given_up};
 use crate::steps::{MakeRefused, Next};
 use hoare_law::event::Sizes;
@@ -312,13 +312,7 @@ impl Book {
             → priorities_on self.new c ≡ taken (priorities_on self.old) condition c }
         ensures sizes { SameSizes self.old self.new }
     {
-        let Some(link) = self.chains.first(condition) else {
-            return false;
-        };
-        self.chains.take_first(condition);
-        self.chains
-            .append(CALLED, link.place, condition, link.priority);
-        true
+        self.chains.call_first(condition)
     }
 
     /// The place inside calls all that wait on a Mesa condition, in the order in which signals would resume them, stays

@@ -6,8 +6,8 @@ ghost use Rattle.std.specs.List.Sorted.{IsNonDecreasing};
 ghost use Rattle.slab.specs.Slab.{get, slab_len, ContainsKey};
 ghost use Rattle.wait_book.specs.declared.chains.Link.{Link};
 ghost use Rattle.wait_book.specs.Contents.{times};
-ghost use Rattle.wait_book.specs.Lists.{IsJoined, IsPut, IsTaken, first_link, higher, keys, last_key, list_at, lower};
-ghost use Rattle.wait_book.specs.Lists.{places_below, priorities, total};
+ghost use Rattle.wait_book.specs.Lists.{CallsFirst, IsJoined, IsPut, IsTaken, first_link, higher, keys, last_key};
+ghost use Rattle.wait_book.specs.Lists.{list_at, lower, places_below, priorities, total};
 ghost use Rattle.wait_book.specs.Chains.{IsLinked, held};
 
 mod links;
@@ -40,12 +40,12 @@ pub(crate) struct Link {
 }
 
 // One that stands in a chain, with the key of the next one's node. All that fits a byte is one, here and in a chain, so
-// that a step writes few lines of the cache.
+// that a step writes few lines of the cache. Fields lie in this order: with the widest first, a node has 16 bytes.
 #[derive(Clone, Copy)]
 struct Node {
+    priority: u64,
     place: u8,
     condition: u8,
-    priority: u64,
     next: Option<u8>,
 }
 
@@ -137,7 +137,8 @@ impl Chains {
     {
         let nodes = Slab::with_capacity(alloc, places)?;
         if nodes.capacity() > MOST_KEYS {
-            return Err(AllocError); // never, since a slab has the room that is asked for
+            // Not seen to happen: a slab promises at least the room asked for, and keys above 255 don't fit.
+            return Err(AllocError);
         }
         Ok(Chains {
             chains: [Chain {
@@ -286,6 +287,27 @@ impl Chains {
         let place = node.place as usize;
         self.standing[place] = false;
         Some(place)
+    }
+
+    /// Puts the first in the chain of a condition behind those that were called: its node stays where it lies. Answers
+    /// whether there is one.
+    #[inline(always)] // it has one caller
+    pub(crate) fn call_first(&mut self, chain: usize) -> bool
+        requires { chain < SIGNALLERS }
+        ensures { CallsFirst result chain self.old self.new }
+    {
+        let Some(key) = self.chains[chain].first else {
+            return false;
+        };
+        let next = self.nodes[key as usize].next.take();
+        move_on(&mut self.chains[chain], next);
+        let called = self.chains[CALLED];
+        let first = set_next(&mut self.nodes, called.first, called.last, key);
+        self.chains[CALLED] = Chain {
+            first,
+            last: Some(key),
+        };
+        true
     }
 
     /// Puts all in the chain of a condition behind those that were called, in their order: one link is set, however

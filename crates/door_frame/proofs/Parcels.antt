@@ -8,7 +8,7 @@ use Rattle.door_frame.specs.Steps.{Sat}
 pub unpacked : {D : Type 0} {now held : Boxed D} {x : Lodged D} → now ≡ held → held.lodged ≡ x → now.lodged ≡ x
 unpacked {D} found is = ap (λ (n : Boxed D). n.lodged) found ∙ is
 
--- who lays down what is x has x in the slot, and is in sight what it was
+-- who lays down what is x has x in the slot, and its view stays
 pub laid_down : {D : Type 0} {m before : Sat D} {laid : Lodged D} (x : Lodged D) → laid ≡ x → m ≡ before
     → ◌≡◌ {A = Sat D} (m.0, (0, Some laid) ∷ []) (before.0, (0, Some x) ∷ [])
 laid_down {D} {m} x same is =

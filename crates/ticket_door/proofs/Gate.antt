@@ -1,5 +1,5 @@
 -- Who has the gate, and what the tokens are then.
-use Rattle.std.proofs.Common.{◌≡◌, ◌≢◌, ℕ, ◌+◌, eqb, cond, List, [], ◌∷◌, ◌++◌, length, Option, Some, None, refl, sym}
+use Rattle.std.proofs.Common.{◌≡◌, ◌≢◌, ℕ, ◌+◌, eqb, cond, List, [], ◌∷◌, ◌++◌, length, Option, Some, None, sym}
 use Rattle.std.proofs.Common.{ap, ◌∙◌, subst, arith, eq-eqb, ne_eqb}
 use mathlib.Core.Logic.{dite}
 use native.Mathlib.Decide.{ℕ_discrete}
@@ -10,7 +10,7 @@ use Rattle.door_frame.specs.declared.view.Token.TheVariants as token
 use Rattle.door_frame.specs.Rule.{Tokens}
 use Rattle.door_frame.proofs.Views.{given_to, given_here, given_else}
 use Rattle.ticket_door.specs.Queue.{ticket_in}
-use Rattle.ticket_door.specs.Rule.{Gate, ajar, shut_by, token_in, Shut, IsKept}
+use Rattle.ticket_door.specs.Rule.{Gate, ajar, shut_by, token_in, IsKept}
 use Rattle.ticket_door.proofs.Queue.{None≢Some, ticket_only, ticket_none, none_ticket, ticket_last, ticket_kept}
 
 -- who shut the gate has it

@@ -1,5 +1,5 @@
 -- A place tries: it shuts the gate, is let in where nobody asked, and opens the gate again.
-use Rattle.std.proofs.Common.{◌≡◌, ◌≢◌, ℕ, suc, ◌+◌, ◌-◌, ◌*◌, ◌<◌, ◌≤◌, ◌%◌, ◌^◌, eqb, true, List, [], ◌∷◌, set}
+use Rattle.std.proofs.Common.{◌≡◌, ◌≢◌, ℕ, ◌+◌, ◌-◌, ◌*◌, ◌<◌, ◌≤◌, ◌%◌, ◌^◌, eqb, true, List, [], ◌∷◌, set}
 use Rattle.std.proofs.Common.{get_or, length, length-set, get_or-set_same, Option, Some, None, refl, sym, ap, ◌∙◌}
 use Rattle.std.proofs.Common.{subst, arith, eq-eqb, ne_eqb, Bool, false}
 use Rattle.std.proofs.lemmas.List.{get_or-set_other}
@@ -21,7 +21,6 @@ use Rattle.hoare_law.specs.Turns.{turn, outside}
 use Rattle.hoare_law.specs.Admissions.{admissions}
 use Rattle.hoare_law.proofs.Admissions.{admissions-admit}
 use Rattle.hoare_law.proofs.Entering.{outside-same}
-use Rattle.wait_book.specs.Contents.{times}
 use Rattle.wait_book.proofs.Times.{few_once}
 use Rattle.door_frame.specs.declared.parcel.Lodged.{Lodged}
 use Rattle.door_frame.specs.declared.view.Token.{Token}
@@ -31,11 +30,10 @@ use Rattle.door_frame.specs.Steps.{Sat, Came, CameWith}
 use Rattle.door_frame.specs.Views.{alone, trying, sole}
 use Rattle.door_frame.proofs.Steps as frame
 use Rattle.door_frame.proofs.Views.{given_to, given_here, given_else}
-use Rattle.ticket_door.specs.Queue.{ticket_in}
 use Rattle.ticket_door.specs.Rule.{Starts, Tells, Gate, ajar, shut_by, shut, token_in, Shut, IsKept, next_at}
 use Rattle.ticket_door.specs.Rule.{serving_at, bell_at, taken, rung}
 use Rattle.ticket_door.specs.Tries.{IsTrying, HasGate, IsLetIn, Reopened}
-use Rattle.ticket_door.specs.Steps.{shuts, ShutsAt, tries, TriesAt, reopens}
+use Rattle.ticket_door.specs.Steps.{shuts, tries, TriesAt, reopens}
 use Rattle.ticket_door.proofs.Gate.{has_none, has_gate, shuts_tokens, reopens_tokens}
 use Rattle.ticket_door.proofs.Turns.{taken_le, taken_free, next_word, even_ajar, open_bit, shut_word, open_word}
 

@@ -1,4 +1,4 @@
-use Rattle.std.proofs.Common.{ℕ, List, set, replicate, ap, ◌∙◌}
+use Rattle.std.proofs.Common.{ℕ, set, replicate, ap, ◌∙◌}
 use Rattle.ticket_door.proofs.Opening.{started}
 use Rattle.ticket_door.proofs.laws.first_words.Goals as goal
 

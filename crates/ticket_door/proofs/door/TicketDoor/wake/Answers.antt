@@ -1,4 +1,4 @@
-use Rattle.std.proofs.Common.{◌<◌, length, ap, ◌∙◌, sym, arith}
+use Rattle.std.proofs.Common.{◌<◌, length, ap, ◌∙◌, arith}
 use Rattle.std.proofs.lemmas.List.{get_or_default}
 use Rattle.door_frame.specs.Places.{sleeper_at}
 use Rattle.ticket_door.specs.Asked.{TicketDoorId}

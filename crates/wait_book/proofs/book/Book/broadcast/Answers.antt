@@ -1,6 +1,5 @@
-use Rattle.std.proofs.Common.{◌≡◌, ◌<◌, inl, length, arith, rules, refl, ap, sym, ◌∙◌}
+use Rattle.std.proofs.Common.{◌≡◌, inl, length, arith, rules, refl, ap, sym, ◌∙◌}
 use Rattle.std.proofs.lemmas.Iterator.Consumers.{YieldsList-from_first, count_from_yields_List}
-use Rattle.wait_book.specs.declared.book.TheConstants.{MOST_CONDITIONS}
 use Rattle.wait_book.specs.Contents.{Contents}
 use Rattle.wait_book.specs.Insides.{view_of}
 use Rattle.wait_book.specs.Lists.{list_at}

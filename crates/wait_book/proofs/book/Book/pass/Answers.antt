@@ -1,11 +1,10 @@
-use Rattle.std.proofs.Common.{◌<◌, true, map, arith, rules, refl, ap, sym, ◌∙◌}
+use Rattle.std.proofs.Common.{true, map, arith, rules, refl, ap, sym, ◌∙◌}
 use Rattle.std.specs.List.{filter}
 use Rattle.hoare_law.specs.Priorities.{in_order}
 use Rattle.wait_book.specs.declared.book.TheConstants.{MOST_CONDITIONS}
-use Rattle.wait_book.specs.declared.chains.TheConstants.{CALLED, SIGNALLERS}
 use Rattle.wait_book.specs.Contents.{Contents, IsOf, priorities_on}
-use Rattle.wait_book.specs.Insides.{called_in, view_of, waiting_below}
-use Rattle.wait_book.specs.Lists.{Lists, list_at, places_in}
+use Rattle.wait_book.specs.Insides.{view_of, waiting_below}
+use Rattle.wait_book.specs.Lists.{Lists, list_at}
 use Rattle.wait_book.proofs.Sound as sound
 use Rattle.wait_book.proofs.Histories as histories
 use Rattle.wait_book.proofs.Priorities as priorities

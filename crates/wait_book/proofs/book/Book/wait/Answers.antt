@@ -1,11 +1,9 @@
 use Rattle.std.proofs.Common.{◌<◌, map, arith, rules, sym, refl, ◌∙◌}
 use Rattle.hoare_law.specs.Turns.{turn_given_up}
-use Rattle.wait_book.specs.declared.chains.TheConstants.{CALLED, SIGNALLERS}
-use Rattle.wait_book.specs.Lists.{places_in}
 use Rattle.wait_book.specs.declared.book.TheConstants.{MOST_CONDITIONS}
 use Rattle.wait_book.specs.declared.waiter.Waiter.{Waiter}
 use Rattle.wait_book.specs.Contents.{Contents, wait_of}
-use Rattle.wait_book.specs.Insides.{view_of, called_in}
+use Rattle.wait_book.specs.Insides.{view_of}
 use Rattle.wait_book.proofs.Sound as sound
 use Rattle.wait_book.proofs.Histories as histories
 use Rattle.wait_book.proofs.Priorities as priorities

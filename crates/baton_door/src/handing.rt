@@ -7,7 +7,7 @@ ghost use Rattle.door_frame.specs.Places.{IsWoken, sleeper_at};
 ghost use Rattle.door_frame.specs.Seats.{GoesOut, IsBehind, StaysIn};
 
 use crate::door::Door;
-use crate::naps::{is_handed_on, is_to_call};
+use crate::naps::{is_to_call, is_to_heed, since_handed_after};
 use crate::word::{DOOR, word_of_next};
 use door_frame::departure::Departure;
 use door_frame::notice::Notice;
@@ -36,14 +36,15 @@ impl<D: MonitorData> Door<D> {
         ensures away { GoesOut place J.event seat.old.me parcel.state seat.new.me }
         ensures woken { IsWoken self.now next result }
     {
-        let is_to_call = is_to_call(parcel.held.handed, departure, next);
-        parcel.held.handed = is_handed_on(next);
+        let since_handed = parcel.held.since_handed;
+        let is_to_heed = is_to_heed(since_handed, departure, next);
+        parcel.held.since_handed = since_handed_after(since_handed, next);
         lay_parcel(&self.table, seat, parcel);
         self.table
             .shared
             .store::<Give<J>>(seat, DOOR, word_of_next(next));
-        if is_to_call {
-            self.naps.call_one();
+        if is_to_heed {
+            self.naps.heed(is_to_call(since_handed, departure));
         }
         match next {
             Next::For(resumed) => Some(self.wake(seat, resumed)),

@@ -7,11 +7,16 @@
 //!
 //! A call is a call of the system, which takes longer than a visit. So who leaves the monitor free calls one newcomer
 //! only where its visit is dear anyway: where the monitor was handed to it, or where it goes to wait.
+//!
+//! Who was called may have to wait for the very core of one that comes in and goes out all the time, until that one's
+//! slice ends, some milliseconds later. So behind each `ROW` visits of which none was handed the monitor, who leaves
+//! gives its core away where somebody was called and nobody got up since.
 use crossbeam_utils::CachePadded;
 use door_frame::departure::Departure;
-use door_frame::looks::NAP;
+use door_frame::looks::{NAP, ROW};
 use std::sync::Wait;
 use std::sync::atomic::{AtomicU64, Ordering};
+use std::thread;
 use std::time::Duration;
 use wait_book::steps::Next;
 
@@ -22,6 +27,8 @@ pub(crate) struct Naps {
     nappers: AtomicU64,
     /// How often one of them was called, modulo 2^64.
     calls: AtomicU64,
+    /// What `calls` was when one got up last.
+    answered: AtomicU64,
 }
 
 impl Naps {
@@ -30,6 +37,7 @@ impl Naps {
         CachePadded::new(Naps {
             nappers: AtomicU64::new(0),
             calls: AtomicU64::new(0),
+            answered: AtomicU64::new(0),
         })
     }
 
@@ -48,6 +56,8 @@ impl Naps {
     /// One fewer naps.
     pub(crate) fn get_up(&self) {
         self.nappers.fetch_sub(1, Ordering::SeqCst);
+        let calls = self.calls.load(Ordering::SeqCst);
+        self.answered.store(calls, Ordering::Relaxed);
     }
 
     /// How many nap.
@@ -55,32 +65,43 @@ impl Naps {
         self.nappers.load(Ordering::Relaxed)
     }
 
-    /// Calls one that naps, if one does.
+    /// Where one naps, calls one, or makes way for who was called.
     #[inline(never)] // apart, so that a plain leave stays small
-    pub(crate) fn call_one(&self) {
-        if self.nappers.load(Ordering::SeqCst) != 0 {
+    pub(crate) fn heed(&self, is_to_call: bool) {
+        if self.nappers.load(Ordering::SeqCst) == 0 {
+            return;
+        }
+        if is_to_call {
             self.calls.fetch_add(1, Ordering::SeqCst);
             self.calls.wake_one();
+        } else if self.calls.load(Ordering::Relaxed) != self.answered.load(Ordering::Relaxed) {
+            thread::yield_now();
         }
     }
 }
 
-/// Whether who gives the monitor up so is to call one that naps: it leaves the monitor free, and was handed it or goes
-/// to wait.
+/// Whether who gives the monitor up so is to heed those that nap: it leaves the monitor free, and is to call one, or
+/// ends a long row of visits of which none was handed the monitor.
 #[inline]
-pub(crate) fn is_to_call(was_handed: bool, departure: Departure, next: Next) -> bool {
+pub(crate) fn is_to_heed(since_handed: u32, departure: Departure, next: Next) -> bool {
     match next {
-        Next::Free => was_handed || is_wait(departure),
+        Next::Free => since_handed % ROW == 0 || is_wait(departure),
         Next::For(_) | Next::Held(_) => false,
     }
 }
 
-/// Whether the monitor is handed on to a place.
+/// Whether who leaves the monitor free is to call one that naps: it was handed it, or goes to wait.
 #[inline]
-pub(crate) fn is_handed_on(next: Next) -> bool {
+pub(crate) fn is_to_call(since_handed: u32, departure: Departure) -> bool {
+    since_handed == 0 || is_wait(departure)
+}
+
+/// How often the monitor was given up since it was handed on last, once it is given up so.
+#[inline]
+pub(crate) fn since_handed_after(since_handed: u32, next: Next) -> u32 {
     match next {
-        Next::For(_) => true,
-        Next::Free | Next::Held(_) => false,
+        Next::For(_) => 0,
+        Next::Free | Next::Held(_) => since_handed.wrapping_add(1),
     }
 }
 

@@ -14,6 +14,10 @@ pub const TRIES: u32 = 7;
 /// the program asks for nothing else.
 pub const NAP: u64 = 100;
 
+/// Behind how many visits in a row, of which none was handed the monitor, who leaves makes way for a newcomer that was
+/// called and hasn't got up. That many take some ten microseconds, in which most get up by themselves.
+pub const ROW: u32 = 1024;
+
 /// How often a newcomer whose ticket is the next looks before it yields or naps. One that has n tickets to go looks
 /// an n-th as often. Exactly one thread can come in, and if it isn't running when its ticket is served, it holds up
 /// all others.

@@ -120,10 +120,7 @@ module _ {D : Type 0} where
             let e = enters log stands (subst (λ (m : ℕ). k < m) (sym places) small) same (sym t.word ∙ hit) in
             let h : History D = with_event log (event k f (latest_data log)) in record {
               given_up = e.0;
-              allowed = e.1.allowed;
-              owes = e.1.owes;
-              mine = e.1.mine;
-              inside = e.1.inside;
+              enters = e.1;
               also = tt;
               tokens' = tokens;
               token_now = no_token;

@@ -117,9 +117,9 @@ module _ {D : Type 0} where
         (joins_ok Starts Tells rest ready kinds d.places id (known_to os) other (knows k f None ∷ []))
 
   -- what was found in the slot is what the call gives back
-  pub ends_at : (rest : Rest D) (ready : Ready D) (kinds : Kinds) (d : DoorId) {os : List (PlaceOut D)}
+  pub ends_at : {rest : Rest D} {ready : Ready D} {kinds : Kinds} {d : DoorId} {os : List (PlaceOut D)}
       {l x : Lodged D} {s : D}
       → Ends rest ready kinds d os l → Some l ≡ Some x → x.state ≡ s → Closes rest ready kinds d os s × rest s nobody
-  ends_at rest ready kinds d {os = os} {l = l} {x = x} {s = s} e found is =
+  ends_at {rest = rest} {ready = ready} {kinds = kinds} {d = d} {os = os} {l = l} {x = x} {s = s} e found is =
       let same : l.state ≡ s = ap (λ (o : Option (Lodged D)). (unwrap_or o l).state) found ∙ is in
       subst (λ (t : D). Closes rest ready kinds d os t × rest t nobody) same (e.closes, e.rests)

@@ -10,11 +10,13 @@ use Rattle.hoare_law.specs.Priorities.{priorities}
 use Rattle.hoare_law.proofs.Waiters.{held-in_range}
 use Rattle.wait_book.specs.Contents.{Contents, IsOf, priorities_on}
 use Rattle.wait_book.proofs.WithData.{turn-history, priorities_on-history}
+use Rattle.door_frame.specs.declared.parcel.Boxed.{Boxed}
 use Rattle.door_frame.specs.declared.parcel.Lodged.{Lodged}
 use Rattle.door_frame.specs.Places.{Berth, DoorId, PlaceIn, IsIn, place_in, sleeper_at}
 use Rattle.door_frame.specs.Seats.{IsInside}
 use Rattle.door_frame.specs.Steps.{Sat}
 use Rattle.door_frame.specs.Views.{alone}
+use Rattle.door_frame.proofs.Parcels.{unpacked}
 
 module _ {D : Type 0} where
   -- the place k, with the seat me, front f and the parcel x in hand, is the i of the contract
@@ -26,33 +28,41 @@ module _ {D : Type 0} where
     pub me_is : me ≡ (alone k f, (0, None) ∷ [])
 
   module _ {rest : Rest D} {ready : Ready D} {kinds : Kinds} {d : DoorId} {i : PlaceIn D} {t : Berth} {k : ℕ}
-      {f : History D} {me : Sat D} {x : Lodged D} where
-    pub holds : {y : Lodged D} → x ≡ y → place_in t k f y.state ≡ i → IsInside k f me y.book → IsIn rest ready kinds d i
-        → Holds rest ready kinds d i t k f me x
+      {f : History D} {me : Sat D} where
+    pub holds : {x y : Lodged D} → x ≡ y → place_in t k f y.state ≡ i → IsInside k f me y.book
+        → IsIn rest ready kinds d i → Holds rest ready kinds d i t k f me x
     holds same view inv of =
-        let seen : place_in t k f x.state ≡ i = ap (λ (w : Lodged D). place_in t k f w.state) same ∙ view in record {
+        let seen = ap (λ (w : Lodged D). place_in t k f w.state) same ∙ view in record {
           seen = seen;
           within = subst (IsIn rest ready kinds d) (sym seen) of;
           book = subst (λ (w : Lodged D). IsOf w.book (erased f)) (sym same) inv.1;
           me_is = inv.0;
         }
 
-    -- the book says so too
-    pub turn_in_hand : Holds rest ready kinds d i t k f me x → x.book.turn ≡ Held k
-    turn_in_hand h = turn-history x.book f h.book ∙ h.within.is_inside
+    -- the same of a place taken apart, once its box is looked into
+    pub holds_unpacked : {now held : Boxed D} {y : Lodged D} → now ≡ held → held.lodged ≡ y
+        → record { parts : place_in t k f y.state ≡ i; seat : IsInside k f me y.book } → IsIn rest ready kinds d i
+        → Holds rest ready kinds d i t k f me now.lodged
+    holds_unpacked found is apart of = holds (unpacked found is) apart.parts apart.seat of
 
-    -- and has the door's sizes
-    pub sized_in_hand : (P : Sizes → Type 0) → Holds rest ready kinds d i t k f me x → P (sizes_at kinds d.places)
-        → P x.book.sizes
-    sized_in_hand P h asked = subst P (sym h.within.sized ∙ h.book.sizes) asked
+    module _ {x : Lodged D} where
+      -- the book says so too
+      pub turn_in_hand : Holds rest ready kinds d i t k f me x → x.book.turn ≡ Held k
+      turn_in_hand h = turn-history x.book f h.book ∙ h.within.is_inside
 
-    pub small : Holds rest ready kinds d i t k f me x → k < d.places
-    small h =
-        subst (λ (n : Sizes). k < n.places) h.within.sized (held-in_range f k h.within.stands.legal h.within.is_inside)
+      -- and has the door's sizes
+      pub sized_in_hand : (P : Sizes → Type 0) → Holds rest ready kinds d i t k f me x → P (sizes_at kinds d.places)
+          → P x.book.sizes
+      sized_in_hand P h asked = subst P (sym h.within.sized ∙ h.book.sizes) asked
 
-    -- it sleeps where it is woken
-    pub sleeps : Holds rest ready kinds d i t k f me x → t.sleeper ≡ sleeper_at d k
-    sleeps h = ap (λ (b : Berth). b.sleeper) h.within.of
+      pub small : Holds rest ready kinds d i t k f me x → k < d.places
+      small h =
+          subst (λ (n : Sizes). k < n.places) h.within.sized
+          (held-in_range f k h.within.stands.legal h.within.is_inside)
+
+      -- it sleeps where it is woken
+      pub sleeps : Holds rest ready kinds d i t k f me x → t.sleeper ≡ sleeper_at d k
+      sleeps h = ap (λ (b : Berth). b.sleeper) h.within.of
 
   -- the book that a call is lent is of the front
   pub book_in_hand : {k : ℕ} {f : History D} {me : Sat D} {b c : Contents} → b ≡ c → IsInside k f me c

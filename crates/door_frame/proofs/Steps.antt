@@ -299,10 +299,7 @@ module _ {D : Type 0} (Starts : Bool → List ℕ → Type 0) (Tells : History D
       (tokens : Tokens)
       (ws : List ℕ) (e : Event D) : Type 0 where
     pub given_up : IsGivenUp (turn log.events)
-    pub allowed : Allowed log e
-    pub owes : Owes rest ready log.events e
-    pub mine : place_of e ≡ k
-    pub inside : turn (with_event log e).events ≡ Held k
+    pub enters : Enters rest ready k log e
     pub also : Also log
     pub tokens' : Tokens
     pub token_now : tokens' k ≡ p
@@ -328,15 +325,15 @@ module _ {D : Type 0} (Starts : Bool → List ℕ → Type 0) (Tells : History D
       fit.own_are fit.token_is r.tells hit in let home = r.home b0.given_up in let l : Lodged D = home.0 in
       let e : Event D = event l.state in let h : History D = with_event r.log e in let w : View D = sole k h p in
       let b : BringsIn k i p g Also r.log r.tokens s.words e =
-      subst (λ (d : D). BringsIn k i p g Also r.log r.tokens s.words (event d)) (sym home.2.latest) b0 in (
+      subst (λ (d : D). BringsIn k i p g Also r.log r.tokens s.words (event d)) (sym home.2.latest) b0 in
+      let enters = b.enters in (
         w,
         takes 0 (Some l),
         home.1,
         runs
-            (adds n s r id k f o p b.tokens' e (set s.words i (g x)) (set s.homes 0 none) at b.mine b.allowed b.owes
-            (length-set s.homes 0 none
-            ∙ deep) b.token_now b.others b.tells (not_given_up l h b.inside) (λ j held. set_here s.homes 0 none
-            (omega (arith, deep)))),
+            (adds n s r id k f o p b.tokens' e (set s.words i (g x)) (set s.homes 0 none) at enters.mine enters.allowed
+            enters.owes (length-set s.homes 0 none ∙ deep) b.token_now b.others b.tells
+            (not_given_up l h enters.inside) (λ j held. set_here s.homes 0 none (omega (arith, deep)))),
         (
           (λ ne. absurd (ne hit)),
           λ _. (
@@ -346,7 +343,7 @@ module _ {D : Type 0} (Starts : Bool → List ℕ → Type 0) (Tells : History D
               me_is = refl;
               begins = fit.begins;
               own_are = fit.own_are;
-              stands = Stands-push e r.stands b.allowed b.owes;
+              stands = Stands-push e r.stands enters.allowed enters.owes;
               book = home.2.book;
             },
             b.also,

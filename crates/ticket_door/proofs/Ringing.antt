@@ -92,10 +92,7 @@ module _ {D : Type 0} (first n : ℕ) where
         let e = frame.enters_due rest ready k log f stands same is in
         let h : History D = with_event log (due k f (latest_data log)) in record {
           given_up = frame.given_up_due k (turn log.events) is;
-          allowed = e.allowed;
-          owes = e.owes;
-          mine = e.mine;
-          inside = e.inside;
+          enters = e;
           also = tt;
           tokens' = tokens;
           token_now = has;

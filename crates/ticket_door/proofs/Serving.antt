@@ -245,10 +245,7 @@ module _ {D : Type 0} (first n : ℕ) where
         (outside-same k f log same out) in
         record {
           given_up = frame.given_up_free (turn log.events) free;
-          allowed = e.allowed;
-          owes = e.owes;
-          mine = refl;
-          inside = e.inside;
+          enters = e;
           also = here;
           tokens' = given_to tokens k None;
           token_now = given_here tokens k None;

@@ -117,7 +117,7 @@ module _ {D : Type 0} where
   first-history r h c is =
       is ∙ ap (option_map priority_of) (chosen-erased c h.events) ∙ kept_priority (chosen c h.events)
 
--- no priority stands where none was told
-pub none-listed : (b : Bool) (q : List ℕ) → b ≡ false → (IsTrue b → q ≢ []) × (q ≢ [] → IsTrue b) → q ≡ []
-none-listed b [] n told = refl
-none-listed b (x ∷ q) n told = let yes : b ≡ true = told.1 (λ e. cc) in absurd (true≢false (sym yes ∙ n))
+-- nothing is listed where that was told
+pub none-listed : {A : Type 0} (q : List A) → (IsTrue false → q ≢ []) × (q ≢ [] → IsTrue false) → q ≡ []
+none-listed [] told = refl
+none-listed (x ∷ q) told = absurd (true≢false (sym (told.1 (λ e. cc))))

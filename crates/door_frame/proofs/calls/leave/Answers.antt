@@ -1,30 +1,25 @@
 use Rattle.hoare_law.specs.Beside.Erasure.{erased}
 use Rattle.door_frame.proofs.Departures.{gives_leave, left}
-use Rattle.door_frame.proofs.Inside.{holds, turn_in_hand}
+use Rattle.door_frame.proofs.Inside.{holds_unpacked, turn_in_hand}
 use Rattle.door_frame.proofs.Seats.{berth_as}
-use Rattle.door_frame.proofs.Parcels.{unpacked}
 use Rattle.door_frame.proofs.calls.leave.Goals as goal
 
 pub leave-next-requires : goal.leave-next-requires
 leave-next-requires g c =
-    let parts = c.into_parts-seat.ensures in
-    turn_in_hand
-    (holds (unpacked c.deref_mut.ensures.value c.parcel.view_is) parts.parts parts.seat c.requires.of)
+    turn_in_hand (holds_unpacked c.deref_mut.ensures.value c.parcel.view_is c.into_parts-seat.ensures c.requires.of)
 
 pub hand_on-requires-clause-event : goal.hand_on-requires-clause-event
 hand_on-requires-clause-event g c =
-    let parts = c.into_parts-seat.ensures in
-    let f = c.args.inside.front in
-    let h = holds (unpacked c.deref_mut.ensures.value c.parcel.view_is) parts.parts parts.seat c.requires.of in
-    gives_leave _ _ h c.requires.rest (c.leave-next.ensures.of (erased f) h.book) c.leave-next.ensures.next
+    let h = holds_unpacked c.deref_mut.ensures.value c.parcel.view_is c.into_parts-seat.ensures c.requires.of in
+    gives_leave _ _ h c.requires.rest (c.leave-next.ensures.of (erased c.args.inside.front) h.book)
+    c.leave-next.ensures.next
 
 pub of_parts-requires : goal.of_parts-requires
 of_parts-requires g c = (_, c.hand_on.ensures.away _ c.into_parts-seat.ensures.seat.0)
 
 pub returns : goal.returns
 returns g c =
-    let parts = c.into_parts-seat.ensures in
-    let h = holds (unpacked c.deref_mut.ensures.value c.parcel.view_is) parts.parts parts.seat c.requires.of in
+    let h = holds_unpacked c.deref_mut.ensures.value c.parcel.view_is c.into_parts-seat.ensures c.requires.of in
     let o =
     left _ _ h c.requires.rest (berth_as _ c.hand_on.ensures.table)
     (c.of_parts.ensures _ (c.hand_on.ensures.away _ h.me_is)) in

@@ -1,6 +1,5 @@
-use Rattle.std.proofs.Common.{false, refl}
+use Rattle.std.proofs.Common.{refl}
 use Rattle.hoare_law.specs.Growth.{nobody_called}
-use Rattle.hoare_law.proofs.Priorities.{waiting-no_priority}
 use Rattle.wait_book.proofs.WithData.{none-listed}
 use Rattle.door_frame.proofs.Notices.{taken_none, notified}
 use Rattle.door_frame.proofs.calls.notify.Goals as goal
@@ -8,14 +7,13 @@ use Rattle.door_frame.proofs.calls.notify.Goals as goal
 -- where nobody waits
 
 pub returns-then-not-queue-clause-lists : goal.returns-then-not-queue-clause-lists
-returns-then-not-queue-clause-lists g c = taken_none _ _ (none-listed false _ refl c.if-not-queue.ensures.lists)
+returns-then-not-queue-clause-lists g c = taken_none _ _ (none-listed _ c.if-not-queue.ensures.lists)
 
 pub returns-then-not-queue-clause-told : goal.returns-then-not-queue-clause-told
 returns-then-not-queue-clause-told g c = c.if-not-queue.ensures.lists
 
 pub returns-then-not-queue-clause-front : goal.returns-then-not-queue-clause-front
-returns-then-not-queue-clause-front g c =
-    nobody_called (waiting-no_priority _ _ (none-listed false _ refl c.if-not-queue.ensures.lists)) refl
+returns-then-not-queue-clause-front g c = nobody_called (none-listed _ c.if-not-queue.ensures.front) refl
 
 -- where somebody does
 

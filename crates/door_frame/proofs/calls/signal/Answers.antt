@@ -1,41 +1,31 @@
-use Rattle.std.proofs.Common.{◌≢◌, [], true, false, IsTrue, ◌∙◌, refl}
+use Rattle.std.proofs.Common.{false, ◌∙◌, refl}
 use Rattle.hoare_law.specs.Beside.Erasure.{erased}
 use Rattle.hoare_law.specs.Growth.{nobody_waited}
-use Rattle.hoare_law.specs.Priorities.{priorities}
-use Rattle.hoare_law.proofs.Priorities.{waiting-no_priority}
 use Rattle.wait_book.proofs.WithData.{none-listed}
 use Rattle.door_frame.proofs.Arrivals.{returned}
 use Rattle.door_frame.proofs.Departures.{gives_handing}
-use Rattle.door_frame.proofs.Inside.{holds, turn_in_hand, small, sleeps}
+use Rattle.door_frame.proofs.Inside.{holds_unpacked, turn_in_hand, small, sleeps}
 use Rattle.door_frame.proofs.Seats.{berth_as}
-use Rattle.door_frame.proofs.Parcels.{unpacked}
 use Rattle.door_frame.proofs.calls.signal.Goals as goal
 
 pub signal-next-requires-clause-inside : goal.signal-next-requires-clause-inside
 signal-next-requires-clause-inside g c =
-    let parts = c.into_parts-seat.ensures in
-    turn_in_hand
-    (holds (unpacked c.deref_mut.ensures.value c.parcel.view_is) parts.parts parts.seat c.requires.of)
+    turn_in_hand (holds_unpacked c.deref_mut.ensures.value c.parcel.view_is c.into_parts-seat.ensures c.requires.of)
 
 pub hand_on-requires-clause-event : goal.hand_on-requires-clause-event
 hand_on-requires-clause-event g c =
-    let parts = c.into_parts-seat.ensures in
-    let f = c.args.inside.front in
-    let h = holds (unpacked c.deref_mut.ensures.value c.parcel.view_is) parts.parts parts.seat c.requires.of in
-    let told : IsTrue true → priorities c.args.inside.front.events c.args.condition ≢ [] =
-    (c.if-not-queue.ensures.lists).0 in
-    gives_handing false _ _ _ h c.requires.hoare (told refl) (c.requires.ready (told refl))
-    (c.signal-next.ensures.of (erased f) h.book) c.signal-next.ensures.next
+    let h = holds_unpacked c.deref_mut.ensures.value c.parcel.view_is c.into_parts-seat.ensures c.requires.of in
+    let some = (c.if-not-queue.ensures.lists).0 refl in
+    gives_handing false _ _ _ h c.requires.hoare some (c.requires.ready some)
+    (c.signal-next.ensures.of (erased c.args.inside.front) h.book) c.signal-next.ensures.next
 
 pub claim-parcel-requires-clause-small : goal.claim-parcel-requires-clause-small
 claim-parcel-requires-clause-small g c =
-    let parts = c.into_parts-seat.ensures in
-    small (holds (unpacked c.deref_mut.ensures.value c.parcel.view_is) parts.parts parts.seat c.requires.of)
+    small (holds_unpacked c.deref_mut.ensures.value c.parcel.view_is c.into_parts-seat.ensures c.requires.of)
 
 pub claim-parcel-requires-clause-sleeper : goal.claim-parcel-requires-clause-sleeper
 claim-parcel-requires-clause-sleeper g c =
-    let parts = c.into_parts-seat.ensures in
-    sleeps (holds (unpacked c.deref_mut.ensures.value c.parcel.view_is) parts.parts parts.seat c.requires.of)
+    sleeps (holds_unpacked c.deref_mut.ensures.value c.parcel.view_is c.into_parts-seat.ensures c.requires.of)
 
 pub claim-parcel-requires-clause-away : goal.claim-parcel-requires-clause-away
 claim-parcel-requires-clause-away g c = (_, c.hand_on.ensures.away _ c.into_parts-seat.ensures.seat.0)
@@ -46,24 +36,20 @@ brought_back-requires g c =
 
 pub returns : goal.returns
 returns g c =
-    let parts = c.into_parts-seat.ensures in
-    let f = c.args.inside.front in
-    let h = holds (unpacked c.deref_mut.ensures.value c.parcel.view_is) parts.parts parts.seat c.requires.of in
-    let told : IsTrue true → priorities c.args.inside.front.events c.args.condition ≢ [] =
-    (c.if-not-queue.ensures.lists).0 in
+    let h = holds_unpacked c.deref_mut.ensures.value c.parcel.view_is c.into_parts-seat.ensures c.requires.of in
+    let some = (c.if-not-queue.ensures.lists).0 refl in
     let came = c.claim-parcel.ensures.came _ (c.hand_on.ensures.away _ h.me_is) in
-    let r = returned c.args.condition _ _ _ _ h (told refl)
-    (c.signal-next.ensures.of (erased f) h.book) c.signal-next.ensures.next
+    let r = returned c.args.condition _ _ _ _ h some
+    (c.signal-next.ensures.of (erased c.args.inside.front) h.book) c.signal-next.ensures.next
     (berth_as _ (c.claim-parcel.ensures.table ∙ c.hand_on.ensures.table)) came (c.brought_back.ensures _ came) in
     record {
       of = r.of;
       place = r.place;
-      told = ((λ _. told refl), λ _. refl);
+      told = ((λ _. some), λ _. refl);
       rest = λ _. r.rests;
       same = λ no. absurd (cc);
       front = r.front;
     }
 
 pub returns-then-not-queue-clause-front : goal.returns-then-not-queue-clause-front
-returns-then-not-queue-clause-front g c =
-    nobody_waited (waiting-no_priority _ _ (none-listed false _ refl c.if-not-queue.ensures.lists)) refl refl
+returns-then-not-queue-clause-front g c = nobody_waited (none-listed _ c.if-not-queue.ensures.front) refl refl

@@ -1,52 +1,40 @@
-use Rattle.std.proofs.Common.{◌≢◌, [], true, false, IsTrue, refl}
+use Rattle.std.proofs.Common.{true, refl}
 use Rattle.hoare_law.specs.Beside.Erasure.{erased}
 use Rattle.hoare_law.specs.Growth.{just_left}
-use Rattle.hoare_law.specs.Priorities.{priorities}
-use Rattle.hoare_law.proofs.Priorities.{waiting-no_priority}
 use Rattle.wait_book.proofs.WithData.{none-listed}
 use Rattle.door_frame.proofs.Departures.{gives_handing, passed}
-use Rattle.door_frame.proofs.Inside.{holds, turn_in_hand}
+use Rattle.door_frame.proofs.Inside.{holds_unpacked, turn_in_hand}
 use Rattle.door_frame.proofs.Seats.{berth_as}
-use Rattle.door_frame.proofs.Parcels.{unpacked}
 use Rattle.door_frame.proofs.calls.signal_leave.Goals as goal
 
 pub leave-requires-clause-rest : goal.leave-requires-clause-rest
-leave-requires-clause-rest g c = c.requires.rest (none-listed false _ refl c.if-not-queue.ensures.lists)
+leave-requires-clause-rest g c = c.requires.rest (none-listed _ c.if-not-queue.ensures.lists)
 
 pub returns-then-not-queue-clause-told : goal.returns-then-not-queue-clause-told
 returns-then-not-queue-clause-told g c = c.if-not-queue.ensures.lists
 
 pub returns-then-not-queue-clause-front : goal.returns-then-not-queue-clause-front
-returns-then-not-queue-clause-front g c =
-    just_left (waiting-no_priority _ _ (none-listed false _ refl c.if-not-queue.ensures.lists)) c.leave.ensures.front
+returns-then-not-queue-clause-front g c = just_left (none-listed _ c.if-not-queue.ensures.front) c.leave.ensures.front
 
 pub pass-next-requires-clause-inside : goal.pass-next-requires-clause-inside
 pass-next-requires-clause-inside g c =
-    let parts = c.into_parts-seat.ensures in
-    turn_in_hand
-    (holds (unpacked c.deref_mut.ensures.value c.parcel.view_is) parts.parts parts.seat c.requires.of)
+    turn_in_hand (holds_unpacked c.deref_mut.ensures.value c.parcel.view_is c.into_parts-seat.ensures c.requires.of)
 
 pub hand_on-requires-clause-event : goal.hand_on-requires-clause-event
 hand_on-requires-clause-event g c =
-    let parts = c.into_parts-seat.ensures in
-    let f = c.args.inside.front in
-    let h = holds (unpacked c.deref_mut.ensures.value c.parcel.view_is) parts.parts parts.seat c.requires.of in
-    let told : IsTrue true → priorities c.args.inside.front.events c.args.condition ≢ [] =
-    (c.if-not-queue.ensures.lists).0 in
-    gives_handing true _ _ _ h c.requires.hoare (told refl) (c.requires.ready (told refl))
-    (c.pass-next.ensures.of (erased f) h.book) c.pass-next.ensures.next
+    let h = holds_unpacked c.deref_mut.ensures.value c.parcel.view_is c.into_parts-seat.ensures c.requires.of in
+    let some = (c.if-not-queue.ensures.lists).0 refl in
+    gives_handing true _ _ _ h c.requires.hoare some (c.requires.ready some)
+    (c.pass-next.ensures.of (erased c.args.inside.front) h.book) c.pass-next.ensures.next
 
 pub of_parts-requires : goal.of_parts-requires
 of_parts-requires g c = (_, c.hand_on.ensures.away _ c.into_parts-seat.ensures.seat.0)
 
 pub returns : goal.returns
 returns g c =
-    let parts = c.into_parts-seat.ensures in
-    let f = c.args.inside.front in
-    let h = holds (unpacked c.deref_mut.ensures.value c.parcel.view_is) parts.parts parts.seat c.requires.of in
-    let told : IsTrue true → priorities c.args.inside.front.events c.args.condition ≢ [] =
-    (c.if-not-queue.ensures.lists).0 in
-    let o = passed c.args.condition _ _ _ _ h c.requires.hoare (told refl) (c.requires.ready (told refl))
-    (c.pass-next.ensures.of (erased f) h.book) c.pass-next.ensures.next
+    let h = holds_unpacked c.deref_mut.ensures.value c.parcel.view_is c.into_parts-seat.ensures c.requires.of in
+    let some = (c.if-not-queue.ensures.lists).0 refl in
+    let o = passed c.args.condition _ _ _ _ h c.requires.hoare some (c.requires.ready some)
+    (c.pass-next.ensures.of (erased c.args.inside.front) h.book) c.pass-next.ensures.next
     (berth_as _ c.hand_on.ensures.table) (c.of_parts.ensures _ (c.hand_on.ensures.away _ h.me_is)) in
-    record { of = o.of; place = o.place; told = ((λ _. told refl), λ _. refl); front = o.front }
+    record { of = o.of; place = o.place; told = ((λ _. some), λ _. refl); front = o.front }

@@ -2,34 +2,27 @@ use Rattle.std.proofs.Common.{◌∙◌}
 use Rattle.hoare_law.specs.Beside.Erasure.{erased}
 use Rattle.door_frame.proofs.Arrivals.{resumed}
 use Rattle.door_frame.proofs.Departures.{gives_wait}
-use Rattle.door_frame.proofs.Inside.{holds, turn_in_hand, small, sleeps}
+use Rattle.door_frame.proofs.Inside.{holds_unpacked, turn_in_hand, small, sleeps}
 use Rattle.door_frame.proofs.Seats.{berth_as}
-use Rattle.door_frame.proofs.Parcels.{unpacked}
 use Rattle.door_frame.proofs.calls.wait.Goals as goal
 
 pub wait-next-requires-clause-inside : goal.wait-next-requires-clause-inside
 wait-next-requires-clause-inside g c =
-    let parts = c.into_parts-seat.ensures in
-    turn_in_hand
-    (holds (unpacked c.deref_mut.ensures.value c.parcel.view_is) parts.parts parts.seat c.requires.of)
+    turn_in_hand (holds_unpacked c.deref_mut.ensures.value c.parcel.view_is c.into_parts-seat.ensures c.requires.of)
 
 pub hand_on-requires-clause-event : goal.hand_on-requires-clause-event
 hand_on-requires-clause-event g c =
-    let parts = c.into_parts-seat.ensures in
-    let f = c.args.inside.front in
-    let h = holds (unpacked c.deref_mut.ensures.value c.parcel.view_is) parts.parts parts.seat c.requires.of in
+    let h = holds_unpacked c.deref_mut.ensures.value c.parcel.view_is c.into_parts-seat.ensures c.requires.of in
     gives_wait _ _ _ _ h c.requires.in_range c.requires.rest
-    (c.wait-next.ensures.of (erased f) h.book) c.wait-next.ensures.next
+    (c.wait-next.ensures.of (erased c.args.inside.front) h.book) c.wait-next.ensures.next
 
 pub claim-parcel-requires-clause-small : goal.claim-parcel-requires-clause-small
 claim-parcel-requires-clause-small g c =
-    let parts = c.into_parts-seat.ensures in
-    small (holds (unpacked c.deref_mut.ensures.value c.parcel.view_is) parts.parts parts.seat c.requires.of)
+    small (holds_unpacked c.deref_mut.ensures.value c.parcel.view_is c.into_parts-seat.ensures c.requires.of)
 
 pub claim-parcel-requires-clause-sleeper : goal.claim-parcel-requires-clause-sleeper
 claim-parcel-requires-clause-sleeper g c =
-    let parts = c.into_parts-seat.ensures in
-    sleeps (holds (unpacked c.deref_mut.ensures.value c.parcel.view_is) parts.parts parts.seat c.requires.of)
+    sleeps (holds_unpacked c.deref_mut.ensures.value c.parcel.view_is c.into_parts-seat.ensures c.requires.of)
 
 pub claim-parcel-requires-clause-away : goal.claim-parcel-requires-clause-away
 claim-parcel-requires-clause-away g c = (_, c.hand_on.ensures.away _ c.into_parts-seat.ensures.seat.0)
@@ -40,8 +33,7 @@ brought_back-requires g c =
 
 pub returns : goal.returns
 returns g c =
-    let parts = c.into_parts-seat.ensures in
-    let h = holds (unpacked c.deref_mut.ensures.value c.parcel.view_is) parts.parts parts.seat c.requires.of in
+    let h = holds_unpacked c.deref_mut.ensures.value c.parcel.view_is c.into_parts-seat.ensures c.requires.of in
     let came = c.claim-parcel.ensures.came _ (c.hand_on.ensures.away _ h.me_is) in
     let r =
     resumed c.args.condition c.args.priority _ _ h

@@ -1,12 +1,15 @@
-use Rattle.std.proofs.Common.{rules, ◌≡◌, ℕ, ◌-◌, List, ◌∷◌, ◌++◌, [], take, IsSome, refl, sym, ap, ◌∙◌, subst, arith}
-use Rattle.std.proofs.Common.{append-nil, append_assoc}
+use Rattle.std.proofs.Common.{rules, arith, ◌≡◌, ℕ, ◌-◌, List, ◌∷◌, ◌++◌, [], take, Some, IsSome, refl, sym, ap, ◌∙◌}
+use Rattle.std.proofs.Common.{subst, append-nil, append_assoc}
 use Rattle.std.specs.Prelude.{All}
+use Rattle.door_frame.specs.declared.parcel.Lodged.{Lodged}
 use Rattle.door_frame.specs.declared.view.View.TheVariants.{Places}
 use Rattle.door_frame.specs.Places.{Berth, DoorId, PlaceOut, IsOut, door_of}
 use Rattle.door_frame.specs.Steps.{Sat}
 use Rattle.door_frame.specs.Views.{both_places}
-use Rattle.door_frame.proofs.Close.{All-mid, ends_all, ends_at, joins_one, known_to}
+use Rattle.door_frame.proofs.Close.{All-mid, Ends, ends_all, ends_at, joins_one, known_to}
+use Rattle.door_frame.proofs.making.closed.Given.{Over}
 use Rattle.door_frame.proofs.making.closed.Goals as goal
+use Rattle.door_frame.proofs.making.closed.Goals.{After-take}
 use Rattle.hoare_law.specs.Sizes.{kinds_of}
 
 pub loop-out-init : goal.loop-out-init
@@ -61,33 +64,24 @@ none_left : {A : Type 0} (n : ℕ) (l new : List A) → l ≡ new ++ [] → n �
 none_left n l new items none rest =
     let z : n - 1 ≡ 0 = omega arith in items ∙ (append-nil new ∙ (rest ∙ ap (λ (m : ℕ). take m l) z))
 
-pub unwrap-parcel-requires : goal.unwrap-parcel-requires
-unwrap-parcel-requires g c =
+-- what is taken from the slot at the end
+ended : (g : Over) (c : After-take g) → let D = g.D.MonitorData in let t = c.args.table.shared in
+    (l : Lodged g.row.D.Denot) × (c.take.result ≡ Some l)
+    × Ends D.rest D.ready (kinds_of D.CONDITIONS D.MESA)
+    (door_of t.table_id (g.W.Words.places t.key) c.args.wakers.items) c.args.outs.items l
+ended g c =
     let inv = c.loop-out.invariant in
     let p = c.in_default-pop.ensures in
-    let D = g.D.MonitorData in
-    let t = c.args.table.shared in
-    let W = g.W.Words in
-    let d : DoorId = door_of t.table_id (W.places t.key) c.args.wakers.items in
-    let fin = ends_all (W.starts t.key) (W.tells t.key) D.rest D.ready
-    (kinds_of D.CONDITIONS D.MESA) d _ _ inv.1.0 inv.1.1 (none_left _ _ _ p.items p.cases.0 p.rest)
-    (ap (λ (m : Sat g.row.D.Denot). m.0) inv.1.2) c.requires.of c.requires.places c.close_with-closed.ensures.values.2
-    c.take.ensures.value in
-    subst IsSome (sym fin.1) refl
+    let q = c.args.table.shared.key in
+    ends_all (g.W.Words.starts q) (g.W.Words.tells q) _ _ _ _ _ _ inv.1.0 inv.1.1
+    (none_left _ _ _ p.items p.cases.0 p.rest) (ap (λ (m : Sat g.row.D.Denot). m.0) inv.1.2) c.requires.of
+    c.requires.places c.close_with-closed.ensures.values.2 c.take.ensures.value
+
+pub unwrap-parcel-requires : goal.unwrap-parcel-requires
+unwrap-parcel-requires g c = subst IsSome (sym (ended g c).1) refl
 
 pub returns : goal.returns
 returns g c =
-    let inv = c.loop-out.invariant in
-    let p = c.in_default-pop.ensures in
-    let D = g.D.MonitorData in
-    let t = c.args.table.shared in
-    let W = g.W.Words in
-    let d : DoorId = door_of t.table_id (W.places t.key) c.args.wakers.items in
-    let fin = ends_all (W.starts t.key) (W.tells t.key) D.rest D.ready
-    (kinds_of D.CONDITIONS D.MESA) d _ _ inv.1.0 inv.1.1 (none_left _ _ _ p.items p.cases.0 p.rest)
-    (ap (λ (m : Sat g.row.D.Denot). m.0) inv.1.2) c.requires.of c.requires.places c.close_with-closed.ensures.values.2
-    c.take.ensures.value in
-    let e =
-    ends_at D.rest D.ready (kinds_of D.CONDITIONS D.MESA) d fin.2 (sym fin.1 ∙ c.unwrap-parcel.ensures)
-    (sym c.into_data.ensures) in
+    let fin = ended g (goal.at.returns g c).After-take in
+    let e = ends_at fin.2 (sym fin.1 ∙ c.unwrap-parcel.ensures) (sym c.into_data.ensures) in
     record { closes = e.0; rest = e.1 }

@@ -15,7 +15,8 @@ use Rattle.wait_book.specs.declared.chains.Chain.{Chain}
 use Rattle.wait_book.specs.declared.chains.Link.{Link}
 use Rattle.wait_book.specs.Contents.{one, times}
 use Rattle.wait_book.specs.Lists.{Lists, all_below, keys, keys_below, last_key, list_at, list_put}
-use Rattle.wait_book.specs.Chains.{node_of, IsLinked, IsChain, AreChains, Ends, empty, chain_at, held, walked, lists_of}
+use Rattle.wait_book.specs.Chains.{node_of, IsLinked, IsChain, IsKeyPut, AreChains, Ends, empty, chain_at, held, walked}
+use Rattle.wait_book.specs.Chains.{lists_of}
 use Rattle.wait_book.proofs.Times.{one_same, one_apart}
 use Rattle.wait_book.proofs.Nodes.{Opens, opens, IsLinked-same, IsLinked-append, IsLinked-split, linked_none}
 use Rattle.wait_book.proofs.Nodes.{last_within, last_append, walk_linked, walked_none, naming, behind-contains}
@@ -194,12 +195,8 @@ cut-stored {s = s} {mid = mid} {chains = chains} c k before after next i l is va
 pub record Linking (s mid t : Slab Node) (first behind next first2 : Option ℕ) (x : Link) : Type 0 where
   pub vacant : get s x.key ≡ None
   pub stored : Updates s mid x.key (Some (node_of x next))
-  pub linked : (before : List Link) (to : Option ℕ) → IsLinked mid first before to → behind ≡ last_key before
-      → ((k : ℕ) → times k (keys before) ≤ 1)
-      → IsLinked t first2 before (Some x.key)
-  pub others : (k : ℕ) → behind ≢ Some k → get t k ≡ get mid k
-  pub held_on : (k : ℕ) → held t k ≡ held mid k
-  pub longer : slab_len t ≡ slab_len s + 1
+  pub longer : slab_len mid ≡ slab_len s + 1
+  pub put : IsKeyPut first behind x.key first2 mid t
 
 module _ {s mid t : Slab Node} {first behind next first2 : Option ℕ} {x : Link}
     (g : Linking s mid t first behind next first2 x) where
@@ -211,7 +208,7 @@ module _ {s mid t : Slab Node} {first behind next first2 : Option ℕ} {x : Link
             let h : held t x.key ≡ held s x.key + one x.key x.key =
             omega (
               arith,
-              g.held_on x.key,
+              g.put.held_on x.key,
               held_some mid x.key _ g.stored.changed,
               held_none s x.key g.vacant,
               one_same x.key,
@@ -219,7 +216,7 @@ module _ {s mid t : Slab Node} {first behind next first2 : Option ℕ} {x : Link
             subst (λ (j : ℕ). held t j ≡ held s j + one j x.key) (sym e) h
         | inr n ↦ omega (
           arith,
-          g.held_on k,
+          g.put.held_on k,
           held_same s mid k (g.stored.others k n),
           one_apart k x.key (eq_apart k x.key n),
         )
@@ -229,7 +226,7 @@ module _ {s mid t : Slab Node} {first behind next first2 : Option ℕ} {x : Link
   linking_same : (k : ℕ) → 0 < held s k → behind ≢ Some k → get t k ≡ get s k
   linking_same k h n =
       let off : k ≢ x.key = λ e. omega (arith, ap (held s) e, held_none s x.key g.vacant) in
-      g.others k n ∙ g.stored.others k off
+      g.put.others k n ∙ g.stored.others k off
 
   -- the list with the new one in its place
   linking_list : (before after : List Link) → behind ≡ last_key before
@@ -242,12 +239,12 @@ module _ {s mid t : Slab Node} {first behind next first2 : Option ℕ} {x : Link
       IsLinked-same s mid first before next
       (λ k p. g.stored.others k (stays k (omega (arith, keys_append k before after)))) l in
       let linked : IsLinked t first2 before (Some x.key) =
-      g.linked before next front e (λ k. omega (arith, once k, held_few s k, keys_append k before after)) in
+      g.put.linked before next front e (λ k. omega (arith, once k, held_few s k, keys_append k before after)) in
       let back : IsLinked t next after None = IsLinked-same s t next after None
       (λ k p. linking_same k (omega (arith, once k, keys_append k before after))
       (λ b. omega (arith, once k, held_few s k, keys_append k before after, last_within k before (sym e ∙ b)))) m in
       let own : get t x.key ≡ Some (node_of x next) =
-      g.others x.key
+      g.put.others x.key
       (λ b. omega (
         arith,
         once x.key,
@@ -319,6 +316,7 @@ AreChains-linked {s = s} {t = t} {chains = chains} {at = at} {behind = behind} {
         ap length is,
         i.counted,
         g.longer,
+        g.put.as_long,
       );
     }
 
@@ -414,18 +412,10 @@ AreChains-taken {s = s} {t = t} {chains = chains} {at = at} {new = new} c k n f 
 
 -- a whole chain put behind another
 
--- what linking two chains does: the first key of the one is put behind the last of the other
-pub record Joining (s t : Slab Node) (called : Chain) (key : ℕ) (first2 : Option ℕ) : Type 0 where
-  pub linked : (before : List Link) (to : Option ℕ) → IsLinked s called.first before to → called.last ≡ last_key before
-      → ((k : ℕ) → times k (keys before) ≤ 1)
-      → IsLinked t first2 before (Some key)
-  pub others : (k : ℕ) → called.last ≢ Some k → get t k ≡ get s k
-  pub held_on : (k : ℕ) → held t k ≡ held s k
-  pub as_long : slab_len t ≡ slab_len s
-
+-- the first key of the one is put behind the last of the other
 pub AreChains-joined : {s t : Slab Node} {chains : List Chain} {at : ℕ → List Link} {first2 : Option ℕ} (c key : ℕ)
     → AreChains s chains at → c < CALLED → (chain_at chains c).first ≡ Some key
-    → Joining s t (chain_at chains CALLED) key first2
+    → IsKeyPut (chain_at chains CALLED).first (chain_at chains CALLED).last key first2 s t
     → AreChains t (set (set chains CALLED (record { first = first2; last = (chain_at chains c).last })) c empty)
     (list_put c [] (list_put CALLED (at CALLED ++ at c) at))
 AreChains-joined {s = s} {t = t} {chains = chains} {at = at} {first2 = first2} c key i l starts g =
@@ -514,13 +504,20 @@ pub record Leaving (s : Slab Node) (chain new : Chain) (key : ℕ) (n : Node) (n
   pub first : new.first ≡ next
   pub last : new.last ≡ cond (is_some next) chain.last None
 
+-- the first of chain c now stands behind those called
+pub record Calls (t : Slab Node) (chains : List Chain) (c : ℕ) (at : ℕ → List Link) : Type 0 where
+  pub first : Link
+  pub after : List Link
+  pub was : at c ≡ first ∷ after
+  pub are : AreChains t chains (list_put CALLED (at CALLED ++ first ∷ []) (list_put c after at))
+
 module _ {s : Slab Node} {chains : List Chain} {at : ℕ → List Link} {new : Chain} {next gone : Option ℕ} (c key : ℕ)
     (n : Node) (i : AreChains s chains at) (l : c < CALLED)
     (g : Leaving s (chain_at chains c) new key n next gone) where
   abbrev mid : Slab Node
   mid = with_value s key (naming gone n)
 
-  pub leaves : Takes s (without s key) key (at c) n
+  leaves : Takes s (without s key) key (at c) n
   leaves = takes c key n i g.starts g.was (without-updates s key n g.was)
 
   left : AreChains (without s key) (set chains c new) (list_put c leaves.after at)
@@ -558,22 +555,25 @@ module _ {s : Slab Node} {chains : List Chain} {at : ℕ → List Link} {new : C
       (cut-stored CALLED leaves.first.key (at CALLED) [] None left (omega arith)
       (called ∙ sym (append-nil (at CALLED))) vacant stored before)
 
-  pub AreChains-called : {t : Slab Node} {first2 : Option ℕ}
-      → Joining mid t (chain_at (set chains c new) CALLED) key first2
-      → AreChains t (set (set chains c new) CALLED (record { first = first2; last = Some key }))
-      (list_put CALLED (at CALLED ++ leaves.first ∷ []) (list_put c leaves.after at))
-  AreChains-called {t = t} {first2 = first2} j =
+  -- once its key is put behind the last of them
+  pub calls : {t : Slab Node} {first2 : Option ℕ}
+      → (let chain : Chain = chain_at (set chains c new) CALLED in IsKeyPut chain.first chain.last key first2 mid t)
+      → Calls t (set (set chains c new) CALLED (record { first = first2; last = Some key })) c at
+  calls {t = t} {first2 = first2} j =
       let first = (chain_at (set chains c new) CALLED).first in
       let last = (chain_at (set chains c new) CALLED).last in
       let linking : Linking (without s key) mid t first last None first2 leaves.first = record {
         vacant = vacant;
         stored = stored;
-        linked = λ front to linked e once.
-            subst (λ (k : ℕ). IsLinked t first2 front (Some k)) (sym leaves.key) (j.linked front to linked e once);
-        others = j.others;
-        held_on = j.held_on;
-        longer = omega (arith, j.as_long, with_value-len s key n (naming gone n) g.was, without-fewer s key n g.was);
+        longer = omega (arith, with_value-len s key n (naming gone n) g.was, without-fewer s key n g.was);
+        put = subst (λ (k : ℕ). IsKeyPut first last k first2 mid t) (sym leaves.key) j;
       } in
-      AreChains-linked CALLED (at CALLED) [] left (omega arith) linking (ap (λ (k : ℕ). Some k) (sym leaves.key))
-      (λ front to linked e. same_end (without s key) first (at CALLED) front None to before linked (sym behind ∙ e))
-      (called ∙ sym (append-nil (at CALLED))) behind
+      record {
+        first = leaves.first;
+        after = leaves.after;
+        was = leaves.is;
+        are = AreChains-linked CALLED (at CALLED) [] left (omega arith) linking
+            (ap (λ (k : ℕ). Some k) (sym leaves.key))
+            (λ front to linked e. same_end (without s key) first (at CALLED) front None to before linked
+            (sym behind ∙ e)) (called ∙ sym (append-nil (at CALLED))) behind;
+      }

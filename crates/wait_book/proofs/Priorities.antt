@@ -24,6 +24,7 @@ use Rattle.wait_book.specs.Queues.{PutsIn, TakesAll, TakesFirst}
 use Rattle.wait_book.proofs.Waiters.{on, key, filter-taken_on, filter-taken_off}
 use Rattle.wait_book.proofs.Sound.{told, waited, resumed, Resumes, taken_ordered}
 use Rattle.wait_book.proofs.Histories.{chosen-first_on, chosen-nobody}
+use Rattle.wait_book.proofs.Signalled.{NobodyWaits}
 
 -- they are those of the waiters as they stand
 pub priorities_on-are : (b : Contents) (c : ℕ) → in_order key (waiters_on c b) ≡ waiters_on c b
@@ -139,15 +140,15 @@ priorities_on-after {b = b} {k = k} {c = c} {w = w} {ws = ws} us q r d =
     priorities_after b us k c w d ws r ∙ ap (λ (v : Contents). taken (priorities_on v) c d) q
 
 -- where nobody waits, they take nothing away
-pub priorities_on-untaken : {b d : Contents} (c e : ℕ) (ps : List ℕ) → b ≡ d → waiters_on c b ≡ []
-    → ps ≡ priorities_on b e → ps ≡ taken (priorities_on d) c e
+pub priorities_on-untaken : {b d v : Contents} (c e : ℕ) (ps : List ℕ) → b ≡ d → NobodyWaits c b v
+    → ps ≡ priorities_on v e → ps ≡ taken (priorities_on d) c e
 priorities_on-untaken {b = b} {d = d} c e ps is none same =
-    same ∙ ap (λ (v : Contents). priorities_on v e) is ∙ by (e == c) refl
+    same ∙ ap (λ (u : Contents). priorities_on u e) (none.same ∙ is) ∙ by (e == c) refl
   where
     by : (t : Bool) → (e == c) ≡ t → priorities_on d e ≡ cond t (behind_first (priorities_on d e)) (priorities_on d e)
     by true q =
         let empty : priorities_on d e ≡ [] =
-        subst (λ (j : ℕ). priorities_on d j ≡ []) (sym (eqb-true e c q)) (no_priority_on c is none) in
+        subst (λ (j : ℕ). priorities_on d j ≡ []) (sym (eqb-true e c q)) (no_priority_on c is none.nobody) in
         empty ∙ sym (ap behind_first empty)
     by false q = refl
 

@@ -1,19 +1,49 @@
--- What a signal does to the chains, where one is resumed, and a notify, where one is called.
+-- What a signal and a pass do to the chains, where one is resumed, and a notify, where one is called; and where nobody
+-- waits.
 use Rattle.std.proofs.Common.{◌≡◌, ◌⊎◌, ◌<◌, ℕ, Bool, true, false, inl, inr, List, [], ◌∷◌, ◌++◌, map, arith, refl}
 use Rattle.std.proofs.Common.{ap, sym, subst, ◌∙◌}
 use Rattle.std.proofs.lemmas.List.{map-append}
 use Rattle.std.specs.List.{filter}
 use Rattle.wait_book.specs.declared.book.TheConstants.{MOST_CONDITIONS}
+use Rattle.wait_book.specs.declared.book.Book.TheInside.{Inside}
 use Rattle.wait_book.specs.declared.chains.TheConstants.{CALLED, SIGNALLERS}
 use Rattle.wait_book.specs.declared.chains.Link.{Link}
 use Rattle.wait_book.specs.declared.waiter.Waiter.{Waiter}
-use Rattle.wait_book.specs.Insides.{called_in, waiter_of, waiter_on, waiting_below}
+use Rattle.wait_book.specs.Contents.{Contents, waiters_on}
+use Rattle.wait_book.specs.Insides.{called_in, view_of, waiter_of, waiter_on, waiting_below}
 use Rattle.wait_book.specs.Lists.{CallsFirst, Lists, IsCalled, IsPut, IsTaken, list_at, list_put, places_in}
 use Rattle.wait_book.specs.Queues.{TakesFirst}
 use Rattle.wait_book.proofs.Waiters.{on, filter-taken_on}
 use Rattle.wait_book.proofs.Lists.{below_past, put_other, put_same}
-use Rattle.wait_book.proofs.Queued.{TakesFirst-taken, beside_kept, chain-more, chain-same, on_chain, taken_below}
-use Rattle.wait_book.proofs.Queued.{waiters-same}
+use Rattle.wait_book.proofs.Queued.{BesideKept, TakesFirst-taken, beside_kept, chain-more, chain-same, on_chain}
+use Rattle.wait_book.proofs.Queued.{taken_below, waiters-same, waits-nobody}
+
+-- nobody waits on c, and the book holds what it held
+pub record NobodyWaits (c : ℕ) (old new : Contents) : Type 0 where
+  pub nobody : waiters_on c old ≡ []
+  pub same : new ≡ old
+
+pub nobody_waits : (c : ℕ) (a : Inside) (new : Lists) → c < MOST_CONDITIONS → list_at a.chains c ≡ [] → new ≡ a.chains
+    → NobodyWaits c (view_of a) (view_of (record a { chains = new }))
+nobody_waits c a new l none same = record {
+  nobody = waits-nobody c a.chains l none;
+  same = ap (λ (v : Lists). view_of (record a { chains = v })) same;
+}
+
+-- who is resumed is taken out of those who wait, and the other lists stay
+pub record TakenOut (c resumed : ℕ) (old new : Lists) : Type 0 where
+  pub took : TakesFirst c (waiting_below MOST_CONDITIONS (list_at old))
+      (waiting_below MOST_CONDITIONS (list_at new)) resumed
+  pub room : new.room ≡ old.room
+  pub kept : BesideKept old new
+
+pub taken_out : (c resumed : ℕ) (old new : Lists) → c < MOST_CONDITIONS → IsTaken c resumed old new
+    → TakenOut c resumed old new
+taken_out c resumed old new l t = record {
+  took = TakesFirst-taken c resumed old new l t;
+  room = t.room;
+  kept = beside_kept c _ old new l t.lists;
+}
 
 -- who is resumed is taken out first, and then the signaller stands behind those held up before
 pub record Signalled (c place resumed : ℕ) (old between new : Lists) : Type 0 where
@@ -28,14 +58,15 @@ pub signalled : (c place resumed : ℕ) (old between new : Lists) → c < MOST_C
     → IsPut SIGNALLERS (list_at between SIGNALLERS) [] place c 0 between new
     → Signalled c place resumed old between new
 signalled c place resumed old between new l t p =
+    let out = taken_out c resumed old between l t in
     record {
-      took = TakesFirst-taken c resumed old between l t;
-      room = p.room ∙ t.room;
+      took = out.took;
+      room = p.room ∙ out.room;
       waiters = waiters-same SIGNALLERS _ between new (omega arith) p.lists;
       signallers = chain-more (λ (x : Link). x.place) SIGNALLERS place c 0 between new p
-          ∙ ap (λ us. us ++ place ∷ []) (beside_kept c _ old between l t.lists).signallers;
+          ∙ ap (λ us. us ++ place ∷ []) out.kept.signallers;
       called = chain-same called_in SIGNALLERS CALLED _ between new (omega arith) p.lists
-          ∙ (beside_kept c _ old between l t.lists).called;
+          ∙ out.kept.called;
     }
 
 -- who is called is taken out of those who wait, and stands behind those called before

@@ -221,7 +221,7 @@ pub record Resumes (b : Contents) (k c w : ℕ) (ws : List Waiter) : Type 0 wher
   pub took : TakesFirst c b.waiters ws w
 
 -- from what a call asks for, and what taking the first did
-pub resumes : {b d : Contents} {k c w : ℕ} {ws : List Waiter} → b ≡ d → IsSound b → d.turn ≡ Held k
+abbrev pub resumes : {b d : Contents} {k c w : ℕ} {ws : List Waiter} → b ≡ d → IsSound b → d.turn ≡ Held k
     → c < d.sizes.conditions → TakesFirst c b.waiters ws w → Resumes b k c w ws
 resumes {b = b} {c = c} e s h l t = record { by = holds e s h; fits = same_condition b _ c e l; took = t }
 

@@ -1,13 +1,13 @@
 -- How nodes in a slab stand for lists.
-use Rattle.std.specs.Prelude.{ℕ, zero, suc, ◌≡◌, ◌≤◌, if◌then◌else◌, List, [], ◌∷◌, map, length, Option, Some, None}
-use Rattle.std.specs.Prelude.{is_some, slice_index_or}
+use Rattle.std.specs.Prelude.{ℕ, zero, suc, ◌≡◌, ◌≢◌, ◌≤◌, if◌then◌else◌, List, [], ◌∷◌, map, length, Option, Some}
+use Rattle.std.specs.Prelude.{None, is_some, slice_index_or}
 use Rattle.slab.specs.Slab.{Slab, get, slab_len}
 use Rattle.wait_book.specs.declared.chains.TheConstants.{CHAINS}
 use Rattle.wait_book.specs.declared.chains.Node.{Node}
 use Rattle.wait_book.specs.declared.chains.Chain.{Chain}
 use Rattle.wait_book.specs.declared.chains.Link.{Link}
 use Rattle.wait_book.specs.Contents.{times}
-use Rattle.wait_book.specs.Lists.{last_key, keys_below}
+use Rattle.wait_book.specs.Lists.{keys, keys_below, last_key}
 
 -- the node of one that stands before the node under the next key
 abbrev pub node_of : Link → Option ℕ → Node
@@ -35,6 +35,17 @@ chain_at chains c = slice_index_or chains c empty
 -- 1 where there is a node under the key, else 0
 abbrev pub held : Slab Node → ℕ → ℕ
 held s k = if is_some (get s k) then 1 else 0
+
+-- a key was put behind another in a chain that begins with `first`, or before all: the chain now begins with `first2`,
+-- its nodes up to the one behind which the key was put lead to the key, and no other node changed
+pub record IsKeyPut (first behind : Option ℕ) (key : ℕ) (first2 : Option ℕ) (old new : Slab Node) : Type 0 where
+  pub linked : (before : List Link) (to : Option ℕ) → IsLinked old first before to → behind ≡ last_key before
+      → ((k : ℕ) → times k (keys before) ≤ 1)
+      → IsLinked new first2 before (Some key)
+  pub others : (k : ℕ) → behind ≢ Some k → get new k ≡ get old k
+  pub held_on : (k : ℕ) → held new k ≡ held old k
+  pub as_long : slab_len new ≡ slab_len old
+  pub capacity : new.capacity ≡ old.capacity
 
 -- there are all chains, each is a list, and each node of the slab stands in them once
 pub record AreChains (s : Slab Node) (chains : List Chain) (at : ℕ → List Link) : Type 0 where

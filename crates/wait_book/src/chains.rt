@@ -1,14 +1,14 @@
 //! The chains of a book: who waits on each condition, who waits as a signaller, and who was called. The nodes of all
 //! chains lie in one slab, and each holds the key of the next one.
-ghost use Rattle.std.specs.Prelude.{◌≡◌, ◌≢◌, ◌<◌, ◌≤◌, ◌==◌, ℕ, [], ◌++◌, List, Option, Some, None, is_some};
+ghost use Rattle.std.specs.Prelude.{◌≡◌, ◌<◌, ◌≤◌, ◌==◌, ℕ, [], ◌++◌, List, Option, Some, None, is_some};
 ghost use Rattle.std.specs.Prelude.{if◌then◌else◌, not, IfOk, IfSome, MatchOption};
 ghost use Rattle.std.specs.List.Sorted.{IsNonDecreasing};
-ghost use Rattle.slab.specs.Slab.{get, slab_len, ContainsKey};
+ghost use Rattle.slab.specs.Slab.{ContainsKey};
 ghost use Rattle.wait_book.specs.declared.chains.Link.{Link};
 ghost use Rattle.wait_book.specs.Contents.{times};
-ghost use Rattle.wait_book.specs.Lists.{CallsFirst, IsJoined, IsPut, IsTaken, first_link, higher, keys, last_key};
+ghost use Rattle.wait_book.specs.Lists.{CallsFirst, IsJoined, IsPut, IsTaken, first_link, higher, last_key};
 ghost use Rattle.wait_book.specs.Lists.{list_at, lower, places_below, priorities, total};
-ghost use Rattle.wait_book.specs.Chains.{IsLinked, held};
+ghost use Rattle.wait_book.specs.Chains.{IsKeyPut, IsLinked};
 
 mod links;
 
@@ -91,13 +91,7 @@ fn next_of(nodes: &Slab<Node>, first: Option<u8>, behind: Option<u8>) -> Option<
 // Puts a key behind a node, or first where none is before, and answers the first.
 fn set_next(nodes: &mut Slab<Node>, first: Option<u8>, behind: Option<u8>, key: u8) -> Option<u8>
     requires { IfSome behind (ContainsKey nodes.old) }
-    ensures linked { (before : List Link) (to : Option ℕ) → IsLinked nodes.old first before to
-        → behind ≡ last_key before → ((k : ℕ) → times k (keys before) ≤ 1)
-        → IsLinked nodes.new result before (Some key) }
-    ensures others { (k : ℕ) → behind ≢ Some k → get nodes.new k ≡ get nodes.old k }
-    ensures held { (k : ℕ) → held nodes.new k ≡ held nodes.old k }
-    ensures len { slab_len nodes.new ≡ slab_len nodes.old }
-    ensures capacity { nodes.new.capacity ≡ nodes.old.capacity }
+    ensures { IsKeyPut first behind key result nodes.old nodes.new }
 {
     match behind {
         Some(before) => {

@@ -1,16 +1,10 @@
-use Rattle.std.proofs.Common.{◌≡◌, map, true, false, inl, inr, arith, rules, refl, ap, sym, ◌∙◌}
-use Rattle.std.specs.List.{filter}
-use Rattle.hoare_law.specs.Priorities.{in_order}
-use Rattle.wait_book.specs.declared.book.TheConstants.{MOST_CONDITIONS}
+use Rattle.std.proofs.Common.{◌≡◌, true, false, inl, inr, arith, rules, refl, ap, sym, ◌∙◌}
 use Rattle.wait_book.specs.Contents.{Contents}
-use Rattle.wait_book.specs.Insides.{view_of, waiting_below}
-use Rattle.wait_book.specs.Lists.{Lists, list_at}
+use Rattle.wait_book.specs.Insides.{view_of}
 use Rattle.wait_book.proofs.Sound as sound
 use Rattle.wait_book.proofs.Histories as histories
 use Rattle.wait_book.proofs.Priorities as priorities
-use Rattle.wait_book.proofs.Waiters.{key, on}
-use Rattle.wait_book.proofs.Queued.{waits-nobody}
-use Rattle.wait_book.proofs.Signalled.{called_or_none, notified}
+use Rattle.wait_book.proofs.Signalled.{called_or_none, nobody_waits, notified}
 use Rattle.wait_book.proofs.book.Book.notify.Goals as goal
 
 pub call_first-requires : goal.call_first-requires
@@ -28,17 +22,12 @@ invariant_of-self c =
     c.call_first.ensures) [
       | inl f ↦
           let s = notified c.args.condition c.self.inside.chains c.call_first.new.self below f.1 in
-          let r : sound.Resumes b c.args.place c.args.condition f.1.first.place _ =
-          record { by = sound.holds c.self.view_is c.self.invariant c.requires.inside; fits = m.0; took = s.took } in
+          let r = sound.resumes c.self.view_is c.self.invariant c.requires.inside c.requires.mesa.0 s.took in
           sound.IsSound-same _ _ (sound.parts s.room s.room refl s.signallers s.called refl)
           (sound.notified_sound _ c.args.place c.args.condition f.1.first.place _ r m)
       | inr none ↦
-          let same = ap (λ (v : Lists). view_of (record {
-            sizes = c.self.inside.sizes;
-            chains = v;
-            turn = c.self.inside.turn;
-          })) none.2 in
-          sound.IsSound-same _ b (sym same) c.self.invariant
+          let n = nobody_waits c.args.condition c.self.inside c.call_first.new.self below none.1 none.2 in
+          sound.IsSound-same _ b (sym n.same) c.self.invariant
     ]
 
 pub returns : goal.returns
@@ -50,8 +39,7 @@ returns c =
     c.call_first.ensures) [
       | inl f ↦
           let s = notified c.args.condition c.self.inside.chains c.call_first.new.self below f.1 in
-          let r : sound.Resumes b c.args.place c.args.condition f.1.first.place _ =
-          record { by = sound.holds c.self.view_is c.self.invariant c.requires.inside; fits = m.0; took = s.took } in
+          let r = sound.resumes c.self.view_is c.self.invariant c.requires.inside c.requires.mesa.0 s.took in
           record {
             of = λ h o. histories.IsOf-same _ _ _ (sound.parts s.room s.room refl s.signallers s.called refl)
                 (histories.after_notify-taken b c.args.place c.args.condition f.1.first.place _ r h
@@ -63,25 +51,18 @@ returns c =
             sizes = search rules;
           }
       | inr none ↦
-          let nobody = waits-nobody c.args.condition c.self.inside.chains below none.1 in
-          let same = ap (λ (v : Lists). view_of (record {
-            sizes = c.self.inside.sizes;
-            chains = v;
-            turn = c.self.inside.turn;
-          })) none.2 in
+          let n = nobody_waits c.args.condition c.self.inside c.call_first.new.self below none.1 none.2 in
           record {
-            of = λ h o. histories.IsOf-same b _ _ (sym same)
-                (histories.after_notify-nobody b c.args.place c.args.condition h nobody
+            of = λ h o. histories.IsOf-same b _ _ (sym n.same)
+                (histories.after_notify-nobody b c.args.place c.args.condition h n.nobody
                 (histories.IsOf-same _ b h (sym c.self.view_is) o));
             told = (
               (λ t. let no : true ≡ false = sym t ∙ none.0 in absurd (cc)),
-              (λ some. absurd (some (priorities.no_priority_on c.args.condition c.self.view_is nobody))),
+              (λ some. absurd (some (priorities.no_priority_on c.args.condition c.self.view_is n.nobody))),
             );
-            nobody = λ empty. same ∙ c.self.view_is;
+            nobody = λ empty. n.same ∙ c.self.view_is;
             inside = ap (λ (v : Contents). v.turn) c.self.view_is ∙ c.requires.inside;
-            priorities = λ d. priorities.priorities_on-untaken c.args.condition d _ c.self.view_is nobody
-                (ap (λ (v : Lists). in_order (λ p. p) (map key (filter (on d)
-                (waiting_below MOST_CONDITIONS (list_at v))))) none.2);
+            priorities = λ d. priorities.priorities_on-untaken c.args.condition d _ c.self.view_is n refl;
             sizes = search rules;
           }
     ]

@@ -1,17 +1,15 @@
 use Rattle.std.proofs.Common.{false, List, length, map, arith, rules, refl, ap, sym, ◌∙◌}
 use Rattle.std.specs.List.{filter}
 use Rattle.hoare_law.specs.Priorities.{in_order}
-use Rattle.wait_book.specs.declared.book.TheConstants.{MOST_CONDITIONS}
 use Rattle.wait_book.specs.declared.waiter.Waiter.{Waiter}
 use Rattle.wait_book.specs.Contents.{Contents, IsOf, times}
-use Rattle.wait_book.specs.Insides.{view_of, waiting_below}
-use Rattle.wait_book.specs.Lists.{Lists, list_at}
+use Rattle.wait_book.specs.Insides.{view_of}
 use Rattle.wait_book.proofs.Sound as sound
 use Rattle.wait_book.proofs.Histories as histories
 use Rattle.wait_book.proofs.Priorities as priorities
 use Rattle.wait_book.proofs.Waiters.{key, on, places, length-taken, times-taken}
-use Rattle.wait_book.proofs.Queued.{TakesFirst-taken, beside_kept, times_all, total_is, waits-nobody}
-use Rattle.wait_book.proofs.Signalled.{signalled}
+use Rattle.wait_book.proofs.Queued.{times_all, total_is}
+use Rattle.wait_book.proofs.Signalled.{nobody_waits, signalled, taken_out}
 use Rattle.wait_book.proofs.book.Book.signal.Goals as goal
 
 pub take_first-requires : goal.take_first-requires
@@ -27,25 +25,19 @@ pub returns-in_default : goal.returns-in_default
 returns-in_default c =
     let b : Contents = view_of c.self.inside in
     let below = sound.hoare_chain b _ c.args.condition c.self.view_is c.requires.hoare c.self.invariant in
-    let nobody = waits-nobody c.args.condition c.self.inside.chains below c.in_default.ensures.0 in
-    let same = ap (λ (v : Lists). view_of (record {
-      sizes = c.self.inside.sizes;
-      chains = v;
-      turn = c.self.inside.turn;
-    })) c.in_default.ensures.1 in
+    let e = c.in_default.ensures in
+    let none = nobody_waits c.args.condition c.self.inside c.take_first.new.self below e.0 e.1 in
     record {
       of = λ h o.
           let now : IsOf b h = histories.IsOf-same _ b h (sym c.self.view_is) o in
-          histories.IsOf-same _ _ _ (sym same)
-          (histories.after_handing-nobody false b b c.args.place c.args.condition h nobody now now);
+          histories.IsOf-same _ _ _ (sym none.same)
+          (histories.after_handing-nobody false b b c.args.place c.args.condition h none.nobody now now);
       next = search rules;
       nobody = search rules;
-      somebody = λ some. absurd (some (priorities.no_priority_on c.args.condition c.self.view_is nobody));
+      somebody = λ some. absurd (some (priorities.no_priority_on c.args.condition c.self.view_is none.nobody));
       answered = search rules;
       apart = sound.apart_same c.self.view_is c.self.invariant c.requires.inside;
-      priorities = λ d. priorities.priorities_on-untaken c.args.condition d _ c.self.view_is nobody
-          (ap (λ (v : Lists). in_order (λ p. p) (map key (filter (on d) (waiting_below MOST_CONDITIONS (list_at v)))))
-          c.in_default.ensures.1);
+      priorities = λ d. priorities.priorities_on-untaken c.args.condition d _ c.self.view_is none refl;
       sizes = search rules;
     }
 
@@ -56,8 +48,7 @@ append-requires c =
     let b : Contents = view_of c.self.inside in
     let below = sound.hoare_chain b _ c.args.condition c.self.view_is c.requires.hoare c.self.invariant in
     let t = c.in-Some.ensures in
-    let took = TakesFirst-taken c.args.condition c.in-Some.resumed c.self.inside.chains c.take_first.new.self below t in
-    let kept = beside_kept c.args.condition _ c.self.inside.chains c.take_first.new.self below t.lists in
+    let out = taken_out c.args.condition c.in-Some.resumed c.self.inside.chains c.take_first.new.self below t in
     let h = sound.holds c.self.view_is c.self.invariant c.requires.inside in
     let apart = sound.holder_apart b c.args.place h in
     record {
@@ -68,9 +59,9 @@ append-requires c =
       apart = omega (
         arith,
         times_all c.args.place c.take_first.new.self,
-        times-taken c.args.place c.args.condition _ _ c.in-Some.resumed took,
-        ap (times c.args.place) kept.signallers,
-        ap (λ ws. times c.args.place (places ws)) kept.called,
+        times-taken c.args.place c.args.condition _ _ c.in-Some.resumed out.took,
+        ap (times c.args.place) out.kept.signallers,
+        ap (λ ws. times c.args.place (places ws)) out.kept.called,
         apart.0,
         apart.1,
         apart.2,
@@ -78,10 +69,10 @@ append-requires c =
       room = omega (
         arith,
         total_is c.take_first.new.self,
-        length-taken c.args.condition _ _ c.in-Some.resumed took,
-        ap length kept.signallers,
-        ap length kept.called,
-        t.room,
+        length-taken c.args.condition _ _ c.in-Some.resumed out.took,
+        ap length out.kept.signallers,
+        ap length out.kept.called,
+        out.room,
         sound.room b c.args.place h,
         c.self.invariant.signallers_fit,
       );

@@ -1,9 +1,8 @@
 use Rattle.std.proofs.Common.{ap, arith, ◌∙◌}
 use Rattle.wait_book.specs.declared.chains.TheConstants.{CALLED}
 use Rattle.wait_book.specs.Lists.{Lists, list_at}
-use Rattle.wait_book.specs.Chains.{chain_at}
 use Rattle.wait_book.proofs.Nodes.{behind-contains, linked_none}
-use Rattle.wait_book.proofs.Chained.{AreChains-equal, AreChains-seen, AreChains-joined, Joining, lists_are}
+use Rattle.wait_book.proofs.Chained.{AreChains-equal, AreChains-seen, AreChains-joined, lists_are}
 use Rattle.wait_book.proofs.Marks.{AreMarked-equal, AreMarked-joined}
 use Rattle.wait_book.proofs.Kept.{AreKept-equal, AreKept-joined, joined-none}
 use Rattle.wait_book.proofs.chains.Chains.call_all.Goals as goal
@@ -25,14 +24,7 @@ pub invariant_of-self : goal.invariant_of-self
 invariant_of-self c =
     let i = AreChains-equal c.self.view_is c.self.invariant.are in
     let put = c.set_next-first.ensures in
-    let joining : Joining c.self.inside.nodes c.set_next-first.new.nodes
-    (chain_at c.self.inside.chains CALLED) c.in-Some.key c.set_next-first.result = record {
-      linked = put.linked;
-      others = put.others;
-      held_on = put.held;
-      as_long = put.len;
-    } in
-    let are = AreChains-joined c.args.chain c.in-Some.key i (omega (arith, c.requires)) c.in-Some.is joining in
+    let are = AreChains-joined c.args.chain c.in-Some.key i (omega (arith, c.requires)) c.in-Some.is put in
     record {
       are = AreChains-seen are;
       places = AreMarked-joined c.args.chain (AreMarked-equal c.self.view_is c.self.invariant.places)
@@ -45,14 +37,7 @@ pub returns : goal.returns
 returns c =
     let i = AreChains-equal c.self.view_is c.self.invariant.are in
     let put = c.set_next-first.ensures in
-    let joining : Joining c.self.inside.nodes c.set_next-first.new.nodes
-    (chain_at c.self.inside.chains CALLED) c.in-Some.key c.set_next-first.result = record {
-      linked = put.linked;
-      others = put.others;
-      held_on = put.held;
-      as_long = put.len;
-    } in
-    let are = AreChains-joined c.args.chain c.in-Some.key i (omega (arith, c.requires)) c.in-Some.is joining in
+    let are = AreChains-joined c.args.chain c.in-Some.key i (omega (arith, c.requires)) c.in-Some.is put in
     record {
       lists = λ d. lists_are are d;
       waited = AreKept-equal c.self.view_is c.self.invariant.kept c.args.chain c.requires;

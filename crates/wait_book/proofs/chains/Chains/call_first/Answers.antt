@@ -1,13 +1,12 @@
-use Rattle.std.proofs.Common.{◌<◌, ap, arith, refl, ◌∙◌}
-use Rattle.wait_book.specs.declared.chains.TheConstants.{CALLED}
+use Rattle.std.proofs.Common.{ap, arith, refl, ◌∙◌}
 use Rattle.wait_book.specs.Lists.{Lists, list_at}
 use Rattle.wait_book.specs.Chains.{chain_at}
 use Rattle.wait_book.proofs.Nodes.{opens, opens-contains, linked_none}
-use Rattle.wait_book.proofs.Chained.{AreChains-equal, AreChains-seen, AreChains-called, Joining, Leaving, behind_called}
-use Rattle.wait_book.proofs.Chained.{leaves, lists_are}
+use Rattle.wait_book.proofs.Chained.{AreChains-equal, AreChains-seen, Leaving, behind_called, calls, lists_are}
 use Rattle.wait_book.proofs.Marks.{AreMarked-equal, AreMarked-called}
 use Rattle.wait_book.proofs.Kept.{AreKept-called, AreKept-equal, first_waits}
 use Rattle.wait_book.proofs.chains.Chains.call_first.Goals as goal
+use Rattle.wait_book.proofs.chains.Chains.call_first.Goals.{After-move_on}
 
 pub returns-in_default : goal.returns-in_default
 returns-in_default c =
@@ -24,85 +23,52 @@ index_mut-requires c =
     let list = list_at c.args.self.now c.args.chain in
     opens-contains s c.in-Some.key list (opens s _ c.in-Some.key list c.in-Some.is (i.linked c.args.chain).linked)
 
+-- the first of the chain has left it
+left : (c : After-move_on) → Leaving c.self.inside.nodes (chain_at c.self.inside.chains c.args.chain)
+    c.move_on.new.chain c.in-Some.key c.index_mut.result.now c.take-next.result c.take-next.new.self
+left c = record {
+  was = c.index_mut.ensures.value;
+  starts = c.in-Some.is;
+  names = c.take-next.ensures.value;
+  ends = c.take-next.ensures.after;
+  first = c.move_on.ensures.first;
+  last = c.move_on.ensures.last;
+}
+
 pub set_next-first-requires : goal.set_next-first-requires
 set_next-first-requires c =
     let i = AreChains-equal c.self.view_is c.self.invariant.are in
-    let s = c.self.inside.nodes in
-    let n = c.index_mut.result.now in
-    let leaving : Leaving s (chain_at c.self.inside.chains c.args.chain) c.move_on.new.chain c.in-Some.key n
-    c.take-next.result c.take-next.new.self = record {
-      was = c.index_mut.ensures.value;
-      starts = c.in-Some.is;
-      names = c.take-next.ensures.value;
-      ends = c.take-next.ensures.after;
-      first = c.move_on.ensures.first;
-      last = c.move_on.ensures.last;
-    } in
-    behind_called c.args.chain c.in-Some.key n i (omega (arith, c.requires)) leaving
+    behind_called c.args.chain c.in-Some.key c.index_mut.result.now i (omega (arith, c.requires))
+    (left (goal.at.set_next-first-requires c).After-move_on)
 
 pub invariant_of-self : goal.invariant_of-self
 invariant_of-self c =
     let i = AreChains-equal c.self.view_is c.self.invariant.are in
-    let s = c.self.inside.nodes in
-    let n = c.index_mut.result.now in
-    let leaving : Leaving s (chain_at c.self.inside.chains c.args.chain) c.move_on.new.chain c.in-Some.key n
-    c.take-next.result c.take-next.new.self = record {
-      was = c.index_mut.ensures.value;
-      starts = c.in-Some.is;
-      names = c.take-next.ensures.value;
-      ends = c.take-next.ensures.after;
-      first = c.move_on.ensures.first;
-      last = c.move_on.ensures.last;
-    } in
-    let below : c.args.chain < CALLED = omega (arith, c.requires) in
-    let put = c.set_next-first.ensures in
-    let joining : Joining _ c.set_next-first.new.nodes _ c.in-Some.key c.set_next-first.result = record {
-      linked = put.linked;
-      others = put.others;
-      held_on = put.held;
-      as_long = put.len;
-    } in
-    let t = leaves c.args.chain c.in-Some.key n i below leaving in
-    let are = AreChains-called c.args.chain c.in-Some.key n i below leaving joining in
+    let called =
+    calls c.args.chain c.in-Some.key c.index_mut.result.now i (omega (arith, c.requires))
+    (left (goal.at.invariant_of-self c).After-move_on) c.set_next-first.ensures in
     record {
-      are = AreChains-seen are;
-      places = AreMarked-called c.args.chain t.first t.after (AreMarked-equal c.self.view_is c.self.invariant.places)
-          (omega (arith, c.requires)) t.is below (lists_are are);
-      kept = AreKept-called _ _ c.args.chain t.first _ t.after (AreKept-equal c.self.view_is c.self.invariant.kept) t.is
-          (lists_are are);
-      few = omega (arith, put.capacity, c.self.invariant.few);
+      are = AreChains-seen called.are;
+      places = AreMarked-called c.args.chain called.first called.after
+          (AreMarked-equal c.self.view_is c.self.invariant.places) (omega (arith, c.requires)) called.was
+          (omega (arith, c.requires)) (lists_are called.are);
+      kept = AreKept-called _ _ c.args.chain called.first _ called.after
+          (AreKept-equal c.self.view_is c.self.invariant.kept) called.was (lists_are called.are);
+      few = omega (arith, c.set_next-first.ensures.capacity, c.self.invariant.few);
     }
 
 pub returns : goal.returns
 returns c =
     let i = AreChains-equal c.self.view_is c.self.invariant.are in
-    let s = c.self.inside.nodes in
-    let n = c.index_mut.result.now in
-    let leaving : Leaving s (chain_at c.self.inside.chains c.args.chain) c.move_on.new.chain c.in-Some.key n
-    c.take-next.result c.take-next.new.self = record {
-      was = c.index_mut.ensures.value;
-      starts = c.in-Some.is;
-      names = c.take-next.ensures.value;
-      ends = c.take-next.ensures.after;
-      first = c.move_on.ensures.first;
-      last = c.move_on.ensures.last;
-    } in
-    let below : c.args.chain < CALLED = omega (arith, c.requires) in
-    let put = c.set_next-first.ensures in
-    let joining : Joining _ c.set_next-first.new.nodes _ c.in-Some.key c.set_next-first.result = record {
-      linked = put.linked;
-      others = put.others;
-      held_on = put.held;
-      as_long = put.len;
-    } in
-    let t = leaves c.args.chain c.in-Some.key n i below leaving in
-    let are = AreChains-called c.args.chain c.in-Some.key n i below leaving joining in
+    let called =
+    calls c.args.chain c.in-Some.key c.index_mut.result.now i (omega (arith, c.requires))
+    (left (goal.at.returns c).After-move_on) c.set_next-first.ensures in
     record {
-      first = t.first;
-      after = t.after;
-      was = t.is;
-      waited = first_waits _ c.args.chain t.first t.after (AreKept-equal c.self.view_is c.self.invariant.kept)
-          c.requires t.is;
-      lists = λ d. lists_are are d;
-      room = put.capacity ∙ ap (λ (v : Lists). v.room) c.self.view_is;
+      first = called.first;
+      after = called.after;
+      was = called.was;
+      waited = first_waits _ c.args.chain called.first called.after
+          (AreKept-equal c.self.view_is c.self.invariant.kept) c.requires called.was;
+      lists = lists_are called.are;
+      room = c.set_next-first.ensures.capacity ∙ ap (λ (v : Lists). v.room) c.self.view_is;
     }

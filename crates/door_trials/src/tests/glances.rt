@@ -3,11 +3,10 @@ ghost use Rattle.std.specs.Prelude.{◌≡◌};
 
 use crate::tests::awaited::{await_sign, watch};
 use crate::tests::compared::{expect_same, reads_as};
-use crate::tests::row::{Row, run};
+use crate::tests::row::run;
 use any_door::door::AnyDoor;
 use any_door::kind::DoorKind;
 use baton_door::door::Door;
-use baton_door::place::DoorOut;
 use door_frame::glance::{Glance, Holder};
 use hoare_law::monitor::Monitor;
 use std::alloc::Global;
@@ -16,10 +15,9 @@ use std::rt::Clock;
 use std::sync::Wait;
 use std::sync::atomic::{AtomicBool, Ordering};
 use std::thread;
-use std::time::{CpuClock, Duration};
+use std::time::Duration;
 use test_support::tally::Tally;
 use ticket_door::door::TicketDoor;
-use ticket_door::place::TicketOut;
 
 /// How often a place is handed the monitor: that it isn't awake by then is seen at least once.
 const ROUNDS: u64 = 20;
@@ -183,38 +181,6 @@ fn acts<R: Wait + Abort + Clock, M: Glanced>(
     }
 }
 
-impl Row<Tally, Door<Tally>> for GlanceRow<'_> {
-    fn act<R: Wait + Abort + Clock + CpuClock>(
-        &self,
-        rt: &R,
-        m: &Door<Tally>,
-        out: DoorOut<Tally>,
-        place: usize,
-    ) -> (DoorOut<Tally>, u64)
-        requires { ⟦<Door<Tally> as Monitor<Tally>>⟧.is_of m.now out }
-        ensures of { ⟦<Door<Tally> as Monitor<Tally>>⟧.is_of m.now result.0 }
-        ensures place { result.0.place ≡ out.place }
-    {
-        acts(rt, m, out, place, *self)
-    }
-}
-
-impl Row<Tally, TicketDoor<Tally>> for GlanceRow<'_> {
-    fn act<R: Wait + Abort + Clock + CpuClock>(
-        &self,
-        rt: &R,
-        m: &TicketDoor<Tally>,
-        out: TicketOut<Tally>,
-        place: usize,
-    ) -> (TicketOut<Tally>, u64)
-        requires { ⟦<TicketDoor<Tally> as Monitor<Tally>>⟧.is_of m.now out }
-        ensures of { ⟦<TicketDoor<Tally> as Monitor<Tally>>⟧.is_of m.now result.0 }
-        ensures place { result.0.place ≡ out.place }
-    {
-        acts(rt, m, out, place, *self)
-    }
-}
-
 // The newcomer is seen at once, and who is handed the monitor in one of the rounds.
 #[test]
 fn a_newcomer_and_who_is_owed_are_seen_at_each_door(host: HostRuntime) {
@@ -224,7 +190,7 @@ fn a_newcomer_and_who_is_owed_are_seen_at_each_door(host: HostRuntime) {
         let mut row = GlanceRow::ANewcomerIsSeen(&sign);
         let mut is_owed = false;
         for round in 0..=ROUNDS {
-            let (_, mut answers) = run(rt, alloc, kind, Tally { value: 0 }, 2, &row);
+            let (_, mut answers) = run!(rt, alloc, kind, Tally { value: 0 }, 2, acts(row));
             if round == 0 {
                 expect_same(rt, answers.as_slice(), [1, 0].as_slice());
                 row = GlanceRow::WhoIsHandedTheMonitorIsSeen;

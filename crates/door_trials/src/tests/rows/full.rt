@@ -2,20 +2,14 @@
 ghost use Rattle.std.specs.Prelude.{◌≡◌};
 
 use crate::tests::compared::expect_same;
-use crate::tests::row::{Row, run};
+use crate::tests::row::run;
 use any_door::DoorKind;
-use baton_door::door::Door;
-use baton_door::place::DoorOut;
 use hoare_law::monitor::Monitor;
 use hoare_law::unasked::Unasked;
 use hoare_law::waits::Waits;
 use std::alloc::Global;
 use std::process::Abort;
-use std::rt::Clock;
 use std::sync::Wait;
-use std::time::CpuClock;
-use ticket_door::door::TicketDoor;
-use ticket_door::place::TicketOut;
 
 const PLACES: usize = 64;
 
@@ -57,10 +51,6 @@ fn resume_all<R: Wait, M: Monitor<Order>>(rt: &R, m: &M, inside: M::In) -> M::In
     inside
 }
 
-/// Each place waits, and goes on in its turn.
-#[derive(Clone, Copy)]
-struct InTurn;
-
 // Each place waits on the condition of its number modulo 8, and the greater number goes first. The last to come resumes
 // the others and then waits on condition 0, where the first that comes for a second time finds it.
 fn waits_in_row<R: Wait, M: Monitor<Order>>(
@@ -85,38 +75,6 @@ fn waits_in_row<R: Wait, M: Monitor<Order>>(
     let inside = m.enter(rt, out);
     let (out, _resumed) = m.signal_leave(rt, inside, 0);
     (out, 0)
-}
-
-impl Row<Order, Door<Order>> for InTurn {
-    fn act<R: Wait + Abort + Clock + CpuClock>(
-        &self,
-        rt: &R,
-        m: &Door<Order>,
-        out: DoorOut<Order>,
-        place: usize,
-    ) -> (DoorOut<Order>, u64)
-        requires { ⟦<Door<Order> as Monitor<Order>>⟧.is_of m.now out }
-        ensures of { ⟦<Door<Order> as Monitor<Order>>⟧.is_of m.now result.0 }
-        ensures place { result.0.place ≡ out.place }
-    {
-        waits_in_row(rt, m, out, place)
-    }
-}
-
-impl Row<Order, TicketDoor<Order>> for InTurn {
-    fn act<R: Wait + Abort + Clock + CpuClock>(
-        &self,
-        rt: &R,
-        m: &TicketDoor<Order>,
-        out: TicketOut<Order>,
-        place: usize,
-    ) -> (TicketOut<Order>, u64)
-        requires { ⟦<TicketDoor<Order> as Monitor<Order>>⟧.is_of m.now out }
-        ensures of { ⟦<TicketDoor<Order> as Monitor<Order>>⟧.is_of m.now result.0 }
-        ensures place { result.0.place ≡ out.place }
-    {
-        waits_in_row(rt, m, out, place)
-    }
 }
 
 // A list with room for all places.
@@ -156,7 +114,7 @@ fn sixty_four_places_wait_on_each_door(host: HostRuntime) {
         let data = Order {
             value: no_places(rt, alloc),
         };
-        let (row, _) = run(rt, alloc, kind, data, PLACES, &InTurn);
+        let (row, _) = run!(rt, alloc, kind, data, PLACES, waits_in_row());
         stands_in_order(rt, alloc, row.value.as_slice());
     }
 }

@@ -3,24 +3,20 @@
 ghost use Rattle.std.specs.Prelude.{◌≡◌};
 
 use crate::tests::compared::expect_same;
-use crate::tests::row::{Row, run};
+use crate::tests::row::run;
 use any_door::DoorKind;
-use baton_door::door::Door;
-use baton_door::place::DoorOut;
 use hoare_law::monitor::Monitor;
 use std::alloc::Global;
 use std::process::Abort;
 use std::rt::Clock;
 use std::sync::Wait;
 use std::thread;
-use std::time::{CpuClock, Duration};
+use std::time::Duration;
 use test_support::diary::Diary;
 use test_support::diary_calls::{HOARE, broadcast, enter, leave, pass, rouse, wait};
 use test_support::drawn::draw;
 use test_support::history::{Judged, judge};
 use test_support::running::count_waiting;
-use ticket_door::door::TicketDoor;
-use ticket_door::place::TicketOut;
 
 const WORKERS: usize = 8;
 
@@ -115,13 +111,6 @@ fn sweep<R: Wait + Clock, M: Monitor<Diary>>(rt: &R, m: &M, out: M::Out, place: 
     out
 }
 
-/// The workers work this many rounds, with the numbers of this day.
-#[derive(Clone, Copy)]
-struct Writing {
-    rounds: u64,
-    day: u64,
-}
-
 /// The workers work this many rounds, and the last place sweeps.
 pub fn works_or_sweeps<R: Wait + Clock, M: Monitor<Diary>>(
     rt: &R,
@@ -139,38 +128,6 @@ pub fn works_or_sweeps<R: Wait + Clock, M: Monitor<Diary>>(
         (work(rt, m, out, place, rounds, day), 0)
     } else {
         (sweep(rt, m, out, place), 0)
-    }
-}
-
-impl Row<Diary, Door<Diary>> for Writing {
-    fn act<R: Wait + Abort + Clock + CpuClock>(
-        &self,
-        rt: &R,
-        m: &Door<Diary>,
-        out: DoorOut<Diary>,
-        place: usize,
-    ) -> (DoorOut<Diary>, u64)
-        requires { ⟦<Door<Diary> as Monitor<Diary>>⟧.is_of m.now out }
-        ensures of { ⟦<Door<Diary> as Monitor<Diary>>⟧.is_of m.now result.0 }
-        ensures place { result.0.place ≡ out.place }
-    {
-        works_or_sweeps(rt, m, out, place, self.rounds, self.day)
-    }
-}
-
-impl Row<Diary, TicketDoor<Diary>> for Writing {
-    fn act<R: Wait + Abort + Clock + CpuClock>(
-        &self,
-        rt: &R,
-        m: &TicketDoor<Diary>,
-        out: TicketOut<Diary>,
-        place: usize,
-    ) -> (TicketOut<Diary>, u64)
-        requires { ⟦<TicketDoor<Diary> as Monitor<Diary>>⟧.is_of m.now out }
-        ensures of { ⟦<TicketDoor<Diary> as Monitor<Diary>>⟧.is_of m.now result.0 }
-        ensures place { result.0.place ≡ out.place }
-    {
-        works_or_sweeps(rt, m, out, place, self.rounds, self.day)
     }
 }
 
@@ -213,7 +170,7 @@ fn a_diary_of_each_door_is_a_legal_history(host: HostRuntime) {
         let rounds = rounds_on(kind);
         for day in 0..DAYS {
             let data = empty_diary(rt, alloc);
-            let (diary, _) = run(rt, alloc, kind, data, PLACES, &Writing { rounds, day });
+            let (diary, _) = run!(rt, alloc, kind, data, PLACES, works_or_sweeps(rounds, day));
             agrees(rt, &diary, rounds);
         }
     }

@@ -1,7 +1,7 @@
 //! The rows of a tally, on both doors.
 ghost use Rattle.std.specs.Prelude.{◌≡◌};
 
-use crate::tests::row::{Row, run};
+use crate::tests::row::run;
 use crate::tests::rows::naps::{Signs, VISITORS, VISITS, stays_or_comes, visits_or_spins};
 use crate::tests::rows::tally::{
     adds_thousand, resumes_by_each_signal, signals_on, writes_or_adds,
@@ -10,8 +10,6 @@ use crate::tests::rows::tries::{PLACES, adds_on, waits_or_tries};
 use crate::tests::rows::wakes::{comes_late, waits_long};
 use crate::tests::rows::{naps, tries};
 use any_door::DoorKind;
-use baton_door::door::Door;
-use baton_door::place::DoorOut;
 use hoare_law::monitor::Monitor;
 use std::process::Abort;
 use std::rt::Clock;
@@ -19,8 +17,6 @@ use std::sync::Wait;
 use std::sync::atomic::{AtomicBool, AtomicUsize};
 use std::time::CpuClock;
 use test_support::tally::{Tally, calls_all};
-use ticket_door::door::TicketDoor;
-use ticket_door::place::TicketOut;
 
 /// The rows of a tally.
 #[derive(Clone, Copy)]
@@ -113,38 +109,6 @@ fn holds<R: Abort>(rt: &R, kind: DoorKind, row: TallyRow<'_>, left: (Tally, Vec<
     );
 }
 
-impl Row<Tally, Door<Tally>> for TallyRow<'_> {
-    fn act<R: Wait + Abort + Clock + CpuClock>(
-        &self,
-        rt: &R,
-        m: &Door<Tally>,
-        out: DoorOut<Tally>,
-        place: usize,
-    ) -> (DoorOut<Tally>, u64)
-        requires { ⟦<Door<Tally> as Monitor<Tally>>⟧.is_of m.now out }
-        ensures of { ⟦<Door<Tally> as Monitor<Tally>>⟧.is_of m.now result.0 }
-        ensures place { result.0.place ≡ out.place }
-    {
-        acts(rt, m, out, place, *self)
-    }
-}
-
-impl Row<Tally, TicketDoor<Tally>> for TallyRow<'_> {
-    fn act<R: Wait + Abort + Clock + CpuClock>(
-        &self,
-        rt: &R,
-        m: &TicketDoor<Tally>,
-        out: TicketOut<Tally>,
-        place: usize,
-    ) -> (TicketOut<Tally>, u64)
-        requires { ⟦<TicketDoor<Tally> as Monitor<Tally>>⟧.is_of m.now out }
-        ensures of { ⟦<TicketDoor<Tally> as Monitor<Tally>>⟧.is_of m.now result.0 }
-        ensures place { result.0.place ≡ out.place }
-    {
-        acts(rt, m, out, place, *self)
-    }
-}
-
 #[test]
 fn a_tally_on_each_door(host: HostRuntime) {
     let (rt, alloc) = (&host, host.alloc());
@@ -166,7 +130,7 @@ fn a_tally_on_each_door(host: HostRuntime) {
             TallyRow::EightComeInBesideEightBusyThreads(&gone),
         ] {
             let data = Tally { value: 0 };
-            let left = run(rt, alloc, kind, data, places(row), &row);
+            let left = run!(rt, alloc, kind, data, places(row), acts(row));
             holds(rt, kind, row, left);
         }
     }

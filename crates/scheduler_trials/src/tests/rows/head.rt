@@ -5,15 +5,13 @@ ghost use Rattle.hoare_law.specs.Priorities.{nobody};
 ghost use Rattle.sweep_schedulers.specs.Heads.{HeadRests};
 
 use crate::tests::compared::{all_answered, expect_same};
-use crate::tests::row::{Row, run};
+use crate::tests::row::run;
 use crate::tests::rows::drive::{Trip, goes, hands_on};
 use crate::tests::rows::head_stay::{ASKING, asks_or_counts};
 use crate::tests::rows::head_stress::{CYLMAX, Line, PLACES, is_a_sweep, travels};
 use crate::tests::rows::shared_log::Log;
 use crate::tests::rows::turns::{Turns, line_up};
 use any_door::DoorKind;
-use baton_door::door::Door;
-use baton_door::place::DoorOut;
 use hoare_law::monitor::Monitor;
 use std::alloc::Global;
 use std::process::Abort;
@@ -21,8 +19,6 @@ use std::rt::Clock;
 use std::sync::Wait;
 use sweep_schedulers::head::{Head, OffDisk};
 use sweep_schedulers::not_out::NotOut;
-use ticket_door::door::TicketDoor;
-use ticket_door::place::TicketOut;
 
 /// Takes the drive to cylinder 50, twice where the plan has an idle drive once, and keeps it the last time; hands
 /// it on once the others wait; and takes it to the cylinder `last` when all others had it. The drive has to have
@@ -186,38 +182,6 @@ fn acts<R: Wait + Abort + Clock, M: Monitor<Head<Trip>>>(
     }
 }
 
-impl Row<Head<Trip>, Door<Head<Trip>>> for HeadRow<'_> {
-    fn act<R: Wait + Abort + Clock>(
-        &self,
-        rt: &R,
-        m: &Door<Head<Trip>>,
-        out: DoorOut<Head<Trip>>,
-        place: usize,
-    ) -> (DoorOut<Head<Trip>>, u64)
-        requires { ⟦<Door<Head<Trip>> as Monitor<Head<Trip>>>⟧.is_of m.now out }
-        ensures of { ⟦<Door<Head<Trip>> as Monitor<Head<Trip>>>⟧.is_of m.now result.0 }
-        ensures place { result.0.place ≡ out.place }
-    {
-        acts(rt, m, out, place, *self)
-    }
-}
-
-impl Row<Head<Trip>, TicketDoor<Head<Trip>>> for HeadRow<'_> {
-    fn act<R: Wait + Abort + Clock>(
-        &self,
-        rt: &R,
-        m: &TicketDoor<Head<Trip>>,
-        out: TicketOut<Head<Trip>>,
-        place: usize,
-    ) -> (TicketOut<Head<Trip>>, u64)
-        requires { ⟦<TicketDoor<Head<Trip>> as Monitor<Head<Trip>>>⟧.is_of m.now out }
-        ensures of { ⟦<TicketDoor<Head<Trip>> as Monitor<Head<Trip>>>⟧.is_of m.now result.0 }
-        ensures place { result.0.place ≡ out.place }
-    {
-        acts(rt, m, out, place, *self)
-    }
-}
-
 /// Each cylinder in the order of a sweep. Who asks for the cylinder under the head waits for the way back.
 const SWEEP_ORDER: Plan<'static> = Plan {
     is_idle_once: false,
@@ -257,7 +221,7 @@ fn a_disk_head_on_each_door(host: HostRuntime) {
         ] {
             let (cylmax, places) = setting(row);
             let head = disk(alloc, cylmax);
-            let (_, answers) = run(rt, alloc, kind, head, places, &row);
+            let (_, answers) = run!(rt, alloc, kind, head, places, acts(row));
             all_answered(rt, kind, answers.as_slice(), places);
         }
         is_a_sweep(rt, log);

@@ -35,60 +35,10 @@ pub fn counts<R: Wait + Abort, M: Monitor<Head<Trip>>>(
     (out, drive)
 }
 
-/// Takes the drive to cylinder 10, and hands it on once three others wait.
-fn leads<R: Wait + Abort, M: Monitor<Head<Trip>>>(
-    rt: &R,
-    m: &M,
-    out: M::Out,
-    turns: &Turns,
-) -> M::Out
-    requires { M.is_of m.now out }
-    ensures of { M.is_of m.now result }
-    ensures place { M.place result ≡ M.place out }
-{
-    let (out, drive) = counts(rt, m, out, 10);
-    let out = line_up(rt, m, out, turns, 3);
-    hands_on(rt, m, out, drive)
-}
-
-/// Takes the drive to cylinder 20, and hands it on once the last place waits too, which asks for this cylinder.
-fn lets_one_ask<R: Wait + Abort, M: Monitor<Head<Trip>>>(
-    rt: &R,
-    m: &M,
-    out: M::Out,
-    turns: &Turns,
-) -> M::Out
-    requires { M.is_of m.now out }
-    ensures of { M.is_of m.now result }
-    ensures place { M.place result ≡ M.place out }
-{
-    let (out, drive) = counts(rt, m, out, 20);
-    turns.give(4);
-    let out = watch(rt, m, out, 3);
-    hands_on(rt, m, out, drive)
-}
-
-/// Takes the drive to cylinder 20, when all others had it. The drive has to have been where the order says, with so
+/// What each place does: place 0 takes the drive to cylinder 10, and hands it on once three others wait. The places 1
+/// and 2 ask for cylinder 20, place 3 for 30, and place 4 for 20 when place 1 has the drive there, which hands it on
+/// once place 4 waits too. Place 4 has it when all others had it: it has to have been where the order says, with so
 /// many due.
-fn ends<R: Wait + Abort, M: Monitor<Head<Trip>>>(
-    rt: &R,
-    m: &M,
-    out: M::Out,
-    turns: &Turns,
-) -> M::Out
-    requires { M.is_of m.now out }
-    ensures of { M.is_of m.now result }
-    ensures place { M.place result ≡ M.place out }
-{
-    let (out, drive) = counts(rt, m, out, 20);
-    let order = [10, 0, 20, 1, 20, 0, 30, 0, 20, 0];
-    expect_same(rt, drive.as_slice(), order.as_slice());
-    turns.start_again();
-    hands_on(rt, m, out, drive)
-}
-
-/// What each place does: the places 1 and 2 ask for cylinder 20, place 3 for 30, and place 4 for 20 when place 1 has
-/// the drive there.
 pub fn asks_or_counts<R: Wait + Abort + Clock, M: Monitor<Head<Trip>>>(
     rt: &R,
     m: &M,
@@ -101,14 +51,25 @@ pub fn asks_or_counts<R: Wait + Abort + Clock, M: Monitor<Head<Trip>>>(
     ensures place { M.place result ≡ M.place out }
 {
     turns.await_turn(rt, place);
-    match place {
-        0 => leads(rt, m, out, turns),
-        1 => lets_one_ask(rt, m, out, turns),
-        4 => ends(rt, m, out, turns),
-        _ => {
-            let dest = if place == 2 { 20 } else { 30 };
-            let (out, drive) = counts(rt, m, out, dest);
-            hands_on(rt, m, out, drive)
+    let dest = match place {
+        0 => 10,
+        1 | 2 | 4 => 20,
+        _ => 30,
+    };
+    let (out, drive) = counts(rt, m, out, dest);
+    let out = match place {
+        0 => line_up(rt, m, out, turns, 3),
+        1 => {
+            turns.give(4);
+            watch(rt, m, out, 3)
         }
-    }
+        4 => {
+            let order = [10, 0, 20, 1, 20, 0, 30, 0, 20, 0];
+            expect_same(rt, drive.as_slice(), order.as_slice());
+            turns.start_again();
+            out
+        }
+        _ => out,
+    };
+    hands_on(rt, m, out, drive)
 }

@@ -3,11 +3,9 @@ ghost use Rattle.std.specs.Prelude.{◌≡◌};
 ghost use Rattle.plain_schedulers.specs.Buffers.{BufferHolds};
 
 use crate::tests::compared::expect_same;
-use crate::tests::row::{Row, run};
+use crate::tests::row::run;
 use crate::tests::rows::turns::{Turns, line_up};
 use any_door::DoorKind;
-use baton_door::door::Door;
-use baton_door::place::DoorOut;
 use hoare_law::monitor::Monitor;
 use plain_schedulers::buffer::mesa::MesaBuffer;
 use plain_schedulers::buffer::{BufferRefused, NONEMPTY, NONFULL};
@@ -16,8 +14,6 @@ use std::process::Abort;
 use std::rt::Clock;
 use std::sync::Wait;
 use test_support::running::count_waiting;
-use ticket_door::door::TicketDoor;
-use ticket_door::place::TicketOut;
 
 /// A buffer of this many cells, with Mesa conditions.
 fn with_cells<R: Abort>(rt: &R, alloc: Global, cells: usize) -> MesaBuffer<u64>
@@ -155,38 +151,6 @@ fn agrees(row: MesaRow<'_>, answers: &[u64]) -> bool {
     }
 }
 
-impl Row<MesaBuffer<u64>, Door<MesaBuffer<u64>>> for MesaRow<'_> {
-    fn act<R: Wait + Abort + Clock>(
-        &self,
-        rt: &R,
-        m: &Door<MesaBuffer<u64>>,
-        out: DoorOut<MesaBuffer<u64>>,
-        place: usize,
-    ) -> (DoorOut<MesaBuffer<u64>>, u64)
-        requires { ⟦<Door<MesaBuffer<u64>> as Monitor<MesaBuffer<u64>>>⟧.is_of m.now out }
-        ensures of { ⟦<Door<MesaBuffer<u64>> as Monitor<MesaBuffer<u64>>>⟧.is_of m.now result.0 }
-        ensures place { result.0.place ≡ out.place }
-    {
-        acts(rt, m, out, place, *self)
-    }
-}
-
-impl Row<MesaBuffer<u64>, TicketDoor<MesaBuffer<u64>>> for MesaRow<'_> {
-    fn act<R: Wait + Abort + Clock>(
-        &self,
-        rt: &R,
-        m: &TicketDoor<MesaBuffer<u64>>,
-        out: TicketOut<MesaBuffer<u64>>,
-        place: usize,
-    ) -> (TicketOut<MesaBuffer<u64>>, u64)
-        requires { ⟦<TicketDoor<MesaBuffer<u64>> as Monitor<MesaBuffer<u64>>>⟧.is_of m.now out }
-        ensures of { ⟦<TicketDoor<MesaBuffer<u64>> as Monitor<MesaBuffer<u64>>>⟧.is_of m.now result.0 }
-        ensures place { result.0.place ≡ out.place }
-    {
-        acts(rt, m, out, place, *self)
-    }
-}
-
 #[test]
 fn who_is_called_tests_again_on_each_door(host: HostRuntime) {
     let (rt, alloc) = (&host, host.alloc());
@@ -198,7 +162,7 @@ fn who_is_called_tests_again_on_each_door(host: HostRuntime) {
         ] {
             let (cells, places) = setting(row);
             let buffer = with_cells(rt, alloc, cells);
-            let (_, answers) = run(rt, alloc, kind, buffer, places, &row);
+            let (_, answers) = run!(rt, alloc, kind, buffer, places, acts(row));
             assert!(rt;
                 agrees(row, answers.as_slice()),
                 "the {kind:?} door answered {answers:?}"

@@ -3,7 +3,7 @@ ghost use Rattle.std.specs.Prelude.{◌≡◌};
 
 use crate::tests::compared::{all_answered, expect_same, reads_as};
 use crate::tests::fake::with_answers;
-use crate::tests::row::{Row, run};
+use crate::tests::row::run;
 use crate::tests::rows::late_reader::reads_or_writes_late;
 use crate::tests::rows::readers_stress::{Line, PLACES, is_read_and_written, reads_or_writes_on};
 use crate::tests::rows::reading::{
@@ -13,8 +13,6 @@ use crate::tests::rows::reading::{
 use crate::tests::rows::shared_log::Log;
 use crate::tests::rows::turns::{Turns, line_up};
 use any_door::DoorKind;
-use baton_door::door::Door;
-use baton_door::place::DoorOut;
 use hoare_law::monitor::Monitor;
 use std::alloc::Global;
 use std::process::Abort;
@@ -22,8 +20,6 @@ use std::rt::Clock;
 use std::sync::Wait;
 use std::sync::atomic::AtomicU32;
 use sweep_schedulers::readers_writers::{NoReader, ReadersWriters};
-use ticket_door::door::TicketDoor;
-use ticket_door::place::TicketOut;
 
 /// Writes a number where this one stands, and tries to write another, which comes back.
 pub fn writes<R: Wait + Abort, M: Monitor<Shared>>(
@@ -240,38 +236,6 @@ fn agrees(row: ReadersRow<'_>, value: u64) -> bool {
     }
 }
 
-impl Row<Shared, Door<Shared>> for ReadersRow<'_> {
-    fn act<R: Wait + Abort + Clock>(
-        &self,
-        rt: &R,
-        m: &Door<Shared>,
-        out: DoorOut<Shared>,
-        place: usize,
-    ) -> (DoorOut<Shared>, u64)
-        requires { ⟦<Door<Shared> as Monitor<Shared>>⟧.is_of m.now out }
-        ensures of { ⟦<Door<Shared> as Monitor<Shared>>⟧.is_of m.now result.0 }
-        ensures place { result.0.place ≡ out.place }
-    {
-        acts(rt, m, out, place, *self)
-    }
-}
-
-impl Row<Shared, TicketDoor<Shared>> for ReadersRow<'_> {
-    fn act<R: Wait + Abort + Clock>(
-        &self,
-        rt: &R,
-        m: &TicketDoor<Shared>,
-        out: TicketOut<Shared>,
-        place: usize,
-    ) -> (TicketOut<Shared>, u64)
-        requires { ⟦<TicketDoor<Shared> as Monitor<Shared>>⟧.is_of m.now out }
-        ensures of { ⟦<TicketDoor<Shared> as Monitor<Shared>>⟧.is_of m.now result.0 }
-        ensures place { result.0.place ≡ out.place }
-    {
-        acts(rt, m, out, place, *self)
-    }
-}
-
 #[test]
 fn readers_and_writers_on_each_door(host: HostRuntime) {
     let (rt, alloc) = (&host, host.alloc());
@@ -286,7 +250,7 @@ fn readers_and_writers_on_each_door(host: HostRuntime) {
         ] {
             let (value, places) = setting(row);
             let data = ReadersWriters::with(value);
-            let (shared, answers) = run(rt, alloc, kind, data, places, &row);
+            let (shared, answers) = run!(rt, alloc, kind, data, places, acts(row));
             all_answered(rt, kind, answers.as_slice(), places);
             let value = shared.into_value();
             assert!(rt; agrees(row, value), "the {kind:?} door left {value}");

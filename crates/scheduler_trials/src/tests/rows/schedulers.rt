@@ -4,10 +4,8 @@ ghost use Rattle.std.specs.Prelude.{◌≡◌};
 use crate::tests::awaited::{await_sign, watch};
 use crate::tests::compared::{answered, expect_same};
 use crate::tests::fake::with_cells;
-use crate::tests::row::{Row, run};
+use crate::tests::row::run;
 use any_door::DoorKind;
-use baton_door::door::Door;
-use baton_door::place::DoorOut;
 use hoare_law::monitor::Monitor;
 use plain_schedulers::buffer::{Buffer, BufferRefused};
 use plain_schedulers::single::{NotOut, Single};
@@ -15,8 +13,6 @@ use std::process::Abort;
 use std::rt::Clock;
 use std::sync::Wait;
 use std::sync::atomic::{AtomicBool, Ordering};
-use ticket_door::door::TicketDoor;
-use ticket_door::place::TicketOut;
 
 // Takes the item, gives a sign, lets another place wait for it, and puts it back: what it took.
 fn lends<R: Wait + Abort, M: Monitor<Single<u64>>>(
@@ -62,10 +58,6 @@ fn borrows<R: Wait + Abort + Clock, M: Monitor<Single<u64>>>(
     (out, item)
 }
 
-/// An item is lent, with this sign.
-#[derive(Clone, Copy)]
-struct Lending<'a>(&'a AtomicBool);
-
 // Place 0 lends the item, and place 1 borrows it.
 fn lends_or_borrows<R: Wait + Abort + Clock, M: Monitor<Single<u64>>>(
     rt: &R,
@@ -84,42 +76,6 @@ fn lends_or_borrows<R: Wait + Abort + Clock, M: Monitor<Single<u64>>>(
         borrows(rt, m, out, sign)
     }
 }
-
-impl Row<Single<u64>, Door<Single<u64>>> for Lending<'_> {
-    fn act<R: Wait + Abort + Clock>(
-        &self,
-        rt: &R,
-        m: &Door<Single<u64>>,
-        out: DoorOut<Single<u64>>,
-        place: usize,
-    ) -> (DoorOut<Single<u64>>, u64)
-        requires { ⟦<Door<Single<u64>> as Monitor<Single<u64>>>⟧.is_of m.now out }
-        ensures of { ⟦<Door<Single<u64>> as Monitor<Single<u64>>>⟧.is_of m.now result.0 }
-        ensures place { result.0.place ≡ out.place }
-    {
-        lends_or_borrows(rt, m, out, place, self.0)
-    }
-}
-
-impl Row<Single<u64>, TicketDoor<Single<u64>>> for Lending<'_> {
-    fn act<R: Wait + Abort + Clock>(
-        &self,
-        rt: &R,
-        m: &TicketDoor<Single<u64>>,
-        out: TicketOut<Single<u64>>,
-        place: usize,
-    ) -> (TicketOut<Single<u64>>, u64)
-        requires { ⟦<TicketDoor<Single<u64>> as Monitor<Single<u64>>>⟧.is_of m.now out }
-        ensures of { ⟦<TicketDoor<Single<u64>> as Monitor<Single<u64>>>⟧.is_of m.now result.0 }
-        ensures place { result.0.place ≡ out.place }
-    {
-        lends_or_borrows(rt, m, out, place, self.0)
-    }
-}
-
-/// So many items go through a buffer.
-#[derive(Clone, Copy)]
-struct Filling(u64);
 
 // Place 0 puts the numbers from 1 to this one in. Place 1 takes as many items out, and answers how many came in their
 // turn.
@@ -148,45 +104,13 @@ fn appends_or_removes<R: Wait, M: Monitor<Buffer<u64>>>(
     (out, in_turn)
 }
 
-impl Row<Buffer<u64>, Door<Buffer<u64>>> for Filling {
-    fn act<R: Wait + Abort + Clock>(
-        &self,
-        rt: &R,
-        m: &Door<Buffer<u64>>,
-        out: DoorOut<Buffer<u64>>,
-        place: usize,
-    ) -> (DoorOut<Buffer<u64>>, u64)
-        requires { ⟦<Door<Buffer<u64>> as Monitor<Buffer<u64>>>⟧.is_of m.now out }
-        ensures of { ⟦<Door<Buffer<u64>> as Monitor<Buffer<u64>>>⟧.is_of m.now result.0 }
-        ensures place { result.0.place ≡ out.place }
-    {
-        appends_or_removes(rt, m, out, place, self.0)
-    }
-}
-
-impl Row<Buffer<u64>, TicketDoor<Buffer<u64>>> for Filling {
-    fn act<R: Wait + Abort + Clock>(
-        &self,
-        rt: &R,
-        m: &TicketDoor<Buffer<u64>>,
-        out: TicketOut<Buffer<u64>>,
-        place: usize,
-    ) -> (TicketOut<Buffer<u64>>, u64)
-        requires { ⟦<TicketDoor<Buffer<u64>> as Monitor<Buffer<u64>>>⟧.is_of m.now out }
-        ensures of { ⟦<TicketDoor<Buffer<u64>> as Monitor<Buffer<u64>>>⟧.is_of m.now result.0 }
-        ensures place { result.0.place ≡ out.place }
-    {
-        appends_or_removes(rt, m, out, place, self.0)
-    }
-}
-
 #[test]
 fn an_item_is_lent_on_each_door(host: HostRuntime) {
     let (rt, alloc) = (&host, host.alloc());
     for kind in DoorKind::BOTH {
         let sign = AtomicBool::new(false);
         let single = Single::with(7u64);
-        let (_, answers) = run(rt, alloc, kind, single, 2, &Lending(&sign));
+        let (_, answers) = run!(rt, alloc, kind, single, 2, lends_or_borrows(&sign));
         answered(rt, kind, answers.as_slice(), &[7, 7]);
     }
 }
@@ -197,7 +121,7 @@ fn items_come_out_in_order_on_each_door(host: HostRuntime) {
     for kind in DoorKind::BOTH {
         for (cells, items) in [(1, 4), (4096, 5000)] {
             let buffer = with_cells(rt, alloc, cells);
-            let (_, answers) = run(rt, alloc, kind, buffer, 2, &Filling(items));
+            let (_, answers) = run!(rt, alloc, kind, buffer, 2, appends_or_removes(items));
             answered(rt, kind, answers.as_slice(), &[0, items]);
         }
     }

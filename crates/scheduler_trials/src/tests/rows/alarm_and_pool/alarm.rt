@@ -2,19 +2,14 @@
 ghost use Rattle.std.specs.Prelude.{◌≡◌};
 
 use crate::tests::compared::{answered, expect_same};
-use crate::tests::row::{Row, run};
+use crate::tests::row::run;
 use crate::tests::rows::alarm_stress::{Line, SLEEPERS, is_a_clock, sleeps_or_ticks_on};
 use crate::tests::rows::shared_log::Log;
 use crate::tests::rows::turns::watch;
 use any_door::DoorKind;
-use baton_door::door::Door;
-use baton_door::place::DoorOut;
 use hoare_law::monitor::Monitor;
 use std::process::Abort;
-use std::rt::Clock;
 use std::sync::Wait;
-use ticket_door::door::TicketDoor;
-use ticket_door::place::TicketOut;
 use timed_schedulers::alarm::{Alarm, ClockFull, TooFar};
 
 /// Sleeps for this many ticks: the time at which it woke.
@@ -152,38 +147,6 @@ fn wanted(row: AlarmRow<'_>) -> &'static [u64] {
     }
 }
 
-impl Row<Alarm, Door<Alarm>> for AlarmRow<'_> {
-    fn act<R: Wait + Abort + Clock>(
-        &self,
-        rt: &R,
-        m: &Door<Alarm>,
-        out: DoorOut<Alarm>,
-        place: usize,
-    ) -> (DoorOut<Alarm>, u64)
-        requires { ⟦<Door<Alarm> as Monitor<Alarm>>⟧.is_of m.now out }
-        ensures of { ⟦<Door<Alarm> as Monitor<Alarm>>⟧.is_of m.now result.0 }
-        ensures place { result.0.place ≡ out.place }
-    {
-        acts(rt, m, out, place, *self)
-    }
-}
-
-impl Row<Alarm, TicketDoor<Alarm>> for AlarmRow<'_> {
-    fn act<R: Wait + Abort + Clock>(
-        &self,
-        rt: &R,
-        m: &TicketDoor<Alarm>,
-        out: TicketOut<Alarm>,
-        place: usize,
-    ) -> (TicketOut<Alarm>, u64)
-        requires { ⟦<TicketDoor<Alarm> as Monitor<Alarm>>⟧.is_of m.now out }
-        ensures of { ⟦<TicketDoor<Alarm> as Monitor<Alarm>>⟧.is_of m.now result.0 }
-        ensures place { result.0.place ≡ out.place }
-    {
-        acts(rt, m, out, place, *self)
-    }
-}
-
 #[test]
 fn an_alarm_clock_on_each_door(host: HostRuntime) {
     let (rt, alloc) = (&host, host.alloc());
@@ -195,7 +158,7 @@ fn an_alarm_clock_on_each_door(host: HostRuntime) {
             AlarmRow::AllThatAreDueWakeAtTheirTime(&log),
         ] {
             let (time, places) = setting(row);
-            let (_, answers) = run(rt, alloc, kind, Alarm::at(time), places, &row);
+            let (_, answers) = run!(rt, alloc, kind, Alarm::at(time), places, acts(row));
             answered(rt, kind, answers.as_slice(), wanted(row));
         }
         is_a_clock(rt, log);

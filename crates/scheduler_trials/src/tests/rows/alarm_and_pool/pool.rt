@@ -4,20 +4,16 @@ ghost use Rattle.hoare_law.specs.Priorities.{nobody};
 ghost use Rattle.timed_schedulers.specs.Pools.{PoolRests};
 
 use crate::tests::compared::{answered, expect_same};
-use crate::tests::row::{Row, run};
+use crate::tests::row::run;
 use crate::tests::rows::pool_stress::{BUFFERS, Line, STREAMS, is_a_pool, uses_or_takes_all};
 use crate::tests::rows::shared_log::Log;
 use crate::tests::rows::turns::{Turns, line_up};
 use any_door::DoorKind;
-use baton_door::door::Door;
-use baton_door::place::DoorOut;
 use hoare_law::monitor::Monitor;
 use std::alloc::Global;
 use std::process::Abort;
 use std::rt::Clock;
 use std::sync::Wait;
-use ticket_door::door::TicketDoor;
-use ticket_door::place::TicketOut;
 use timed_schedulers::pool::{GiveRefused, NoStream, Pool, PoolRefused};
 
 /// A pool of this many buffers, for this many streams.
@@ -202,38 +198,6 @@ fn wanted(row: PoolRow<'_>) -> &'static [u64] {
     }
 }
 
-impl Row<Pool, Door<Pool>> for PoolRow<'_> {
-    fn act<R: Wait + Abort + Clock>(
-        &self,
-        rt: &R,
-        m: &Door<Pool>,
-        out: DoorOut<Pool>,
-        place: usize,
-    ) -> (DoorOut<Pool>, u64)
-        requires { ⟦<Door<Pool> as Monitor<Pool>>⟧.is_of m.now out }
-        ensures of { ⟦<Door<Pool> as Monitor<Pool>>⟧.is_of m.now result.0 }
-        ensures place { result.0.place ≡ out.place }
-    {
-        acts(rt, m, out, place, *self)
-    }
-}
-
-impl Row<Pool, TicketDoor<Pool>> for PoolRow<'_> {
-    fn act<R: Wait + Abort + Clock>(
-        &self,
-        rt: &R,
-        m: &TicketDoor<Pool>,
-        out: TicketOut<Pool>,
-        place: usize,
-    ) -> (TicketOut<Pool>, u64)
-        requires { ⟦<TicketDoor<Pool> as Monitor<Pool>>⟧.is_of m.now out }
-        ensures of { ⟦<TicketDoor<Pool> as Monitor<Pool>>⟧.is_of m.now result.0 }
-        ensures place { result.0.place ≡ out.place }
-    {
-        acts(rt, m, out, place, *self)
-    }
-}
-
 #[test]
 fn a_pool_on_each_door(host: HostRuntime) {
     let (rt, alloc) = (&host, host.alloc());
@@ -246,7 +210,7 @@ fn a_pool_on_each_door(host: HostRuntime) {
         ] {
             let (buffers, streams, places) = setting(row);
             let pool = with_buffers(rt, alloc, buffers, streams);
-            let (_, answers) = run(rt, alloc, kind, pool, places, &row);
+            let (_, answers) = run!(rt, alloc, kind, pool, places, acts(row));
             answered(rt, kind, answers.as_slice(), wanted(row));
         }
         is_a_pool(rt, log);

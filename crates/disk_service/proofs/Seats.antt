@@ -8,7 +8,7 @@ use Rattle.door_frame.proofs.PlacesInOrder.{length-places, nth-places, has_nth}
 use Rattle.disk_service.specs.declared.doors.Doors.{Doors}
 use Rattle.disk_service.specs.declared.places.Places.{Places}
 use Rattle.disk_service.specs.declared.threads.Desk.{Desk}
-use Rattle.disk_service.specs.Doors.{Terms, IsAt, AreFirst, AreThere}
+use Rattle.disk_service.specs.Doors.{Terms, AreFirst, AreThere}
 use Rattle.disk_service.specs.Desks.{IsStaffed}
 
 module _ {D : Type 0} where

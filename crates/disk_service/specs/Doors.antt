@@ -1,5 +1,5 @@
 -- The doors of the service, and whose places are where.
-use Rattle.std.specs.Prelude.{ℕ, ◌+◌, ◌<◌, ◌≡◌, List, length, slice_index_or, Option}
+use Rattle.std.specs.Prelude.{ℕ, ◌<◌, ◌≡◌, List, length, slice_index_or, Option}
 use Rattle.hoare_law.specs.Lawful.{Rest, Ready}
 use Rattle.hoare_law.specs.Sizes.{Kinds, kinds_of}
 use Rattle.door_frame.specs.Places.{DoorId, PlaceOut, IsOut}

@@ -1,6 +1,6 @@
 -- Who is inside by its own events has the turn, in a legal history.
-use Rattle.std.proofs.Common.{◌≡◌, ◌==◌, ℕ, zero, suc, List, [], ◌∷◌, ◌++◌, length, Bool, true, false, cond, Some, None}
-use Rattle.std.proofs.Common.{Option, refl, ap, sym, ◌∙◌, subst, arith, eq-eqb, eqb-true, true≢false, length-append}
+use Rattle.std.proofs.Common.{◌≡◌, ◌==◌, ℕ, zero, suc, List, [], ◌∷◌, ◌++◌, length, Bool, true, false, cond, Some}
+use Rattle.std.proofs.Common.{refl, ap, sym, ◌∙◌, arith, eq-eqb, eqb-true, true≢false, length-append}
 use Rattle.std.proofs.Common.{append_assoc}
 use Rattle.std.proofs.lemmas.List.{append-nil}
 use Rattle.hoare_law.specs.declared.event.Event.{Event}
@@ -16,7 +16,6 @@ use Rattle.hoare_law.proofs.Events.{newest-push, own-push}
 use Rattle.hoare_law.proofs.Filters.{HasLast, nothing, pushed, has_last}
 use Rattle.hoare_law.proofs.Fronts.{place_of-held}
 use Rattle.hoare_law.proofs.Held.{is_inside, own-held}
-use Rattle.hoare_law.proofs.Legal.{IsLegal-front}
 use Rattle.hoare_law.proofs.Turns.{turn-push}
 
 module _ {S : Type 0} where

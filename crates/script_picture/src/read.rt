@@ -114,7 +114,7 @@ impl Script {
     /// Reads the rows, up to the end or the first fault: `BadLine`, `LineTooLong`, `TooMuch`, `ReadFault`, or `Memory`
     /// where no row can be added. What was read stays in the chart, each row answered as the history since the opening
     /// says.
-    #[tactic(auto, using(crate::proofs::Reading::front_self, crate::proofs::Reading::front_more, crate::proofs::Reading::front_same))]
+    #[tactic(auto, using(crate::proofs::Reading::front_self, crate::proofs::Reading::front_same))]
     pub fn read_rows<R: Read>(
         &mut self,
         reader: &mut WatchedReader<'_, R>,

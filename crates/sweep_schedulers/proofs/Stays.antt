@@ -1,13 +1,13 @@
 -- Each grant of a head that stays was counted as due.
-use Rattle.std.proofs.Common.{◌≡◌, ◌≢◌, ◌==◌, ℕ, zero, suc, ◌+◌, ◌∙◌, ◌-◌, ◌≤◌, List, [], ◌∷◌, Bool, true, false, None}
+use Rattle.std.proofs.Common.{◌≡◌, ◌≢◌, ◌==◌, ℕ, suc, ◌+◌, ◌∙◌, ◌-◌, ◌≤◌, List, [], ◌∷◌, Bool, true, None}
 use Rattle.std.proofs.Common.{count_by, refl, arith}
 use Rattle.std.specs.Prelude.{slice_index}
 use Rattle.std.proofs.lemmas.Bool.Decides.{nat_tests}
 use Rattle.hoare_law.specs.Priorities.{joined, taken, behind_first}
 use Rattle.sweep_schedulers.specs.declared.direction.Direction.{Direction}
 use Rattle.sweep_schedulers.specs.declared.direction.Direction.TheVariants.{Up, Down}
-use Rattle.sweep_schedulers.specs.Heads.{Disk, HeadRests, sweep, cylinder_of, priority_at, waiting_here}
-use Rattle.sweep_schedulers.specs.Stays.{Stays, none, joins, grants, handed}
+use Rattle.sweep_schedulers.specs.Heads.{Disk, HeadRests, sweep, cylinder_of, priority_at}
+use Rattle.sweep_schedulers.specs.Stays.{Stays, none, joins, grants}
 use Rattle.sweep_schedulers.proofs.Lists.{count_by-cons}
 use Rattle.sweep_schedulers.proofs.Due.{at_here, up_one, down_one}
 

@@ -1,5 +1,5 @@
 -- What a disk head keeps of its waiting requests: as one joins, as one is granted, and as the head is handed on.
-use Rattle.std.proofs.Common.{◌≡◌, ◌≢◌, ℕ, zero, suc, ◌+◌, ◌-◌, ◌<◌, ◌≤◌, List, [], ◌∷◌, Bool, true, false, cond, leb}
+use Rattle.std.proofs.Common.{◌≡◌, ◌≢◌, ℕ, zero, suc, ◌+◌, ◌-◌, ◌≤◌, List, [], ◌∷◌, Bool, true, false, cond, leb}
 use Rattle.std.proofs.Common.{Option, Some, None, refl, sym, ◌∙◌, arith}
 use Rattle.std.specs.Prelude.{IsSome, slice_index}
 use Rattle.std.specs.List.Sorted.{IsNonDecreasing}

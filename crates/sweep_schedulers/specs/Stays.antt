@@ -1,5 +1,5 @@
 -- How long a head stays: what may happen while it stands at a cylinder, the drive is out, and it keeps its direction.
-use Rattle.std.specs.Prelude.{ℕ, zero, suc, List, slice_index, ◌≡◌, ◌≢◌, []}
+use Rattle.std.specs.Prelude.{ℕ, suc, List, slice_index, ◌≡◌, ◌≢◌, []}
 use Rattle.hoare_law.specs.Priorities.{joined, taken}
 use Rattle.sweep_schedulers.specs.Heads.{Disk, HeadRests, sweep, put, sent, counted, cylinder_of}
 

@@ -1,4 +1,4 @@
-use Rattle.std.proofs.Common.{arith, rules, ◌≡◌, ◌+◌, ◌-◌, sym}
+use Rattle.std.proofs.Common.{arith, rules}
 use Rattle.disk_service.proofs.Seats.{staffed-at}
 use Rattle.disk_service.proofs.threads.+with_workers.Goals as goal
 

@@ -1,4 +1,4 @@
-use Rattle.std.proofs.Common.{arith, rules, ◌≡◌, ◌+◌}
+use Rattle.std.proofs.Common.{arith, rules, ◌+◌}
 use Rattle.disk_service.proofs.Seats.{there-at}
 use Rattle.disk_service.proofs.threads.with_clock.Goals as goal
 

@@ -1,4 +1,4 @@
-use Rattle.std.proofs.Common.{arith, ◌≡◌, ◌+◌}
+use Rattle.std.proofs.Common.{arith}
 use Rattle.disk_service.proofs.threads.Desk.take_out.Goals as goal
 
 pub returns-clause-left : goal.returns-clause-left

@@ -2,9 +2,9 @@ use Rattle.std.proofs.Common.{rules, ◌≡◌, ◌≢◌, ◌+◌, ◌≤◌, �
 use Rattle.std.proofs.lemmas.Bool.{iff_false}
 use Rattle.hoare_law.proofs.Growth.{leaves-as}
 use Rattle.hoare_law.specs.Priorities.{priorities}
-use Rattle.sweep_schedulers.specs.Heads.{Disk, HeadRests, HeadReady, counted, due, given_out, one_granted, sent}
+use Rattle.sweep_schedulers.specs.Heads.{Disk, HeadRests, counted, due, given_out, one_granted, sent}
 use Rattle.sweep_schedulers.specs.Heads.{waiting_here}
-use Rattle.sweep_schedulers.specs.HeadTraces.{Reaches, at_once, off_disk, granted, other_disk, counted_after}
+use Rattle.sweep_schedulers.specs.HeadTraces.{Reaches, at_once, off_disk, granted, other_disk}
 use Rattle.sweep_schedulers.proofs.Due.{granted-stay}
 use Rattle.sweep_schedulers.proofs.Sweeps.{HeadRests-joined, HeadRests-granted, HeadRests-at_once, HandsOn-as}
 use Rattle.sweep_schedulers.proofs.Sweeps.{HandsOn-due, Reaches-waited, HeadReady-free, HeadFree-due, OnSweeps-due}

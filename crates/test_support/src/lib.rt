@@ -1,6 +1,6 @@
 //! What the tests of monitors share: a monitor of one thread that any monitor's procedures run on, where what the other
-//! processes leave is given beforehand; a row's door, made and closed; a limit of time; a diary of what processes do, and
-//! who judges it. No function here fails a test: it hands back what was refused or came too late.
+//! processes leave is given beforehand; a row's door, made and closed; a limit of time; a diary of what processes do,
+//! and who judges it. No function here fails a test: it hands back what was refused or came too late.
 #![tactic(auto)]
 
 pub mod diary;

@@ -5,14 +5,20 @@
  * began to wait, was resumed or was called: its queues would stay as they are. */
 #define _GNU_SOURCE
 #include "zaulinte_monitor.h"
+#include <sched.h>
 #include <stddef.h>
+#include <time.h>
 
 #ifndef ZAULINTE_LOOKS
 #define ZAULINTE_LOOKS 500 /* looks at a word before a thread sleeps, at the most */
 #endif
 enum { FEWEST_LOOKS = 1, LONG_EACH = 64 };
+enum { LOOKS_FOR_OTHERS = 20, SPINS_FOR_OTHERS = 128, ROW = 256 };
+enum { LONG_YIELD = 200000, NAP = 50000 }; /* nanoseconds */
+enum { FEWEST_KEPT = 1024, MOST_KEPT = 65536 };
 enum { FREE, HELD, SLEPT_AT };
 enum { NOTHING, GO_ON, ASLEEP };
+enum { AT_ONCE, LOOKS_FIRST, YIELDS_FIRST };
 
 /* sleeping: while the word is as it was, in one step with the test */
 #ifdef ZAULINTE_CONDVAR
@@ -74,6 +80,25 @@ static bool holds(zaulinte_bell *b, uint32_t wanted) {
     return atomic_load_explicit(&b->word, memory_order_acquire) == wanted;
 }
 
+/* To yield pays where the others on this core soon stop, and is lost where one of them goes on until its slice ends. So
+ * behind a yield that took long the thread keeps its core for many times. */
+static _Thread_local uint32_t kept, keeps = FEWEST_KEPT;
+static int64_t nanoseconds(void) {
+    struct timespec now;
+    clock_gettime(CLOCK_MONOTONIC, &now);
+    return (int64_t)now.tv_sec * 1000000000 + now.tv_nsec;
+}
+static bool yields(void) {
+    if (kept) return kept--, false;
+    int64_t start = nanoseconds();
+    sched_yield();
+    bool was_long = nanoseconds() - start > LONG_YIELD;
+    if (was_long) kept = keeps;
+    keeps = !was_long ? FEWEST_KEPT : keeps < MOST_KEPT ? 2 * keeps : MOST_KEPT;
+    return true;
+}
+static void nap(void) { nanosleep(&(struct timespec){0, NAP}, NULL); }
+
 /* the door: who takes the word is the only one that runs inside */
 static bool takes_as(zaulinte_bell *door, uint32_t as) {
     uint32_t free = FREE;
@@ -81,16 +106,38 @@ static bool takes_as(zaulinte_bell *door, uint32_t as) {
 }
 static bool takes_free(zaulinte_bell *door, uint32_t as) { return holds(door, FREE) && takes_as(door, as); }
 static bool takes(zaulinte_monitor *m) { return takes_as(&m->door, HELD); }
+/* Who waited, and was handed the monitor by one that left it, would mostly come in again before that one does, find what
+ * it waited for gone, and wait again: then each visit costs a hand-over. So it looks a little first, and where somebody
+ * else comes in leaves it alone for a while. Who slept may have stopped that one on its own core, and yields before. */
+static void make_way(zaulinte_monitor *m, zaulinte_bell *mine) {
+    uint32_t way = atomic_load_explicit(&mine->way, memory_order_relaxed), seen_free = 0;
+    if (way == AT_ONCE) return;
+    atomic_store_explicit(&mine->way, AT_ONCE, memory_order_relaxed);
+    if (way == YIELDS_FIRST) yields();
+    while (holds(&m->door, FREE)) {
+        if (++seen_free == LOOKS_FOR_OTHERS) return;
+        relax();
+    }
+    for (int i = 0; i < SPINS_FOR_OTHERS; i++) relax();
+}
 /* who slept takes it as a door at which others may sleep */
 static void take(zaulinte_monitor *m) {
     if (takes(m) || sees(&at_door, takes_free, &m->door, HELD)) return;
     while (atomic_exchange(&m->door.word, SLEPT_AT) != FREE) {
         sleep_while(&m->door, SLEPT_AT);
+        atomic_store_explicit(&m->awaited, false, memory_order_relaxed);
         if (sees(&at_door, takes_free, &m->door, SLEPT_AT)) return;
     }
 }
+/* Who was woken there may have to wait for this very core. So who comes in again and again gives it away. */
 static void open_door(zaulinte_monitor *m) {
-    if (atomic_exchange(&m->door.word, FREE) == SLEPT_AT) wake_one(&m->door);
+    bool makes_way = m->row && m->row % ROW == 0;
+    if (atomic_exchange(&m->door.word, FREE) == SLEPT_AT) {
+        atomic_store_explicit(&m->awaited, true, memory_order_relaxed);
+        wake_one(&m->door);
+    } else if (makes_way && atomic_load_explicit(&m->awaited, memory_order_relaxed) && !yields()) {
+        nap();
+    }
 }
 
 static void set_inside(zaulinte_monitor *m, uint32_t is) {
@@ -102,7 +149,8 @@ static bool is_inside(zaulinte_monitor *m, uint32_t place) {
 static uint64_t bit(uint32_t place) { return (uint64_t)1 << place; }
 
 /* whom the book names goes on; nobody: a newcomer may come in */
-static void hand_on(zaulinte_monitor *m, uint64_t next) {
+static void hand_on(zaulinte_monitor *m, uint64_t next, bool leaves) {
+    m->left = leaves;
     if (next >= ZAULINTE_FREE) {
         open_door(m);
     } else if (atomic_exchange(&m->bell[next].word, GO_ON) == ASLEEP) {
@@ -112,14 +160,15 @@ static void hand_on(zaulinte_monitor *m, uint64_t next) {
 /* the word of the bell is changed by the sleeper from nothing to asleep, and by who rings to go on: no ring is lost */
 static void go_away(zaulinte_monitor *m, uint32_t place, uint64_t next) {
     zaulinte_bell *mine = &m->bell[place];
+    uint32_t is = NOTHING;
     m->away |= bit(place);
+    m->row = 0;
     set_inside(m, 0);
-    hand_on(m, next);
-    if (!sees(&at_bell, holds, mine, GO_ON)) {
-        uint32_t is = NOTHING;
-        if (atomic_compare_exchange_strong(&mine->word, &is, ASLEEP))
-            while (atomic_load(&mine->word) == ASLEEP) sleep_while(mine, ASLEEP);
-    }
+    hand_on(m, next, false);
+    bool sleeps = !sees(&at_bell, holds, mine, GO_ON) && atomic_compare_exchange_strong(&mine->word, &is, ASLEEP);
+    while (sleeps && atomic_load(&mine->word) == ASLEEP) sleep_while(mine, ASLEEP);
+    uint32_t way = !m->left ? AT_ONCE : sleeps ? YIELDS_FIRST : LOOKS_FIRST;
+    atomic_store_explicit(&mine->way, way, memory_order_relaxed);
     atomic_store_explicit(&mine->word, NOTHING, memory_order_relaxed);
     m->away &= ~bit(place);
     m->told = true;
@@ -178,12 +227,15 @@ static uint64_t came_in(zaulinte_monitor *m, uint32_t place) {
         return why;
     }
     m->told = false;
+    m->row = m->last == place ? m->row + 1 : 0;
+    m->last = place;
     set_inside(m, 1 + place);
     return ZAULINTE_DONE;
 }
 uint64_t zaulinte_enter(zaulinte_monitor *m, uint32_t place) {
     if (place >= 64) return ZAULINTE_NO_PLACE;
     if (is_inside(m, place)) return ZAULINTE_NOT_OUTSIDE;
+    make_way(m, &m->bell[place]);
     take(m);
     return came_in(m, place);
 }
@@ -198,7 +250,7 @@ uint64_t zaulinte_leave(zaulinte_monitor *m, uint32_t place) {
     uint64_t now = m->told ? zaulinte_book_leave(&m->book, place) : ZAULINTE_FREE;
     if (now > ZAULINTE_FREE) return now;
     set_inside(m, 0);
-    hand_on(m, now);
+    hand_on(m, now, true);
     return ZAULINTE_DONE;
 }
 uint64_t zaulinte_wait(zaulinte_monitor *m, uint32_t place, uint32_t condition, uint64_t priority) {
@@ -229,7 +281,7 @@ uint64_t zaulinte_signal_leave(zaulinte_monitor *m, uint32_t place, uint32_t con
     uint64_t now = zaulinte_book_pass(&m->book, place, condition);
     if (now > ZAULINTE_FREE) return now;
     set_inside(m, 0);
-    hand_on(m, now);
+    hand_on(m, now, true);
     return answers(resumed, true);
 }
 /* a notify of one, or a broadcast to all */

@@ -31,6 +31,7 @@ enum { ZAULINTE_IN_USE = 112 };
 /* What a thread sleeps on. */
 typedef struct zaulinte_bell {
     alignas(64) ZAULINTE_WORD word;
+    ZAULINTE_WORD way; /* of a place's: how it makes way before it comes in again */
 #ifdef ZAULINTE_CONDVAR
     pthread_mutex_t lock;
     pthread_cond_t rung;
@@ -41,9 +42,12 @@ typedef struct zaulinte_bell {
  * Some 4 KB; with condition variables some 8. */
 typedef struct zaulinte_monitor {
     zaulinte_bell door;     /* 0 free, 1 held, 2 held and newcomers may sleep */
-    zaulinte_book book;     /* this, `told`, `hoare` and `away` are for who has the door alone */
+    zaulinte_book book;     /* this, and the fields from `told` to `away`, are for who has the door alone */
     ZAULINTE_WORD inside;   /* 1 + the place that is inside, else 0 */
+    ZAULINTE_WORD awaited;  /* whether a newcomer was woken that hasn't got up */
     bool told;              /* the book was told that the place came in */
+    bool left;              /* who handed the monitor on last left it by that act */
+    uint32_t last, row;     /* the place that came in last, and how often in a row */
     uint32_t hoare;         /* how many of the conditions are Hoare's */
     uint64_t away;          /* a bit for each place that waits, as a signaller or on a condition, or was called */
     zaulinte_bell bell[64]; /* 0 nothing, 1 go on, 2 asleep */

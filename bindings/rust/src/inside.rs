@@ -1,4 +1,5 @@
 //! A place inside.
+use crate::bell::Way;
 use crate::book::Book;
 use crate::checks::Waiting;
 use crate::conditions::Condition;
@@ -66,9 +67,17 @@ impl<'a, T, C: Condition, M: Condition> Inside<'a, T, C, M> {
 
     fn go_away(&mut self, next: Option<usize>) {
         let number = self.place.number;
-        self.inner().hand_on(next);
-        self.inner().come_back(number);
-        self.own().told = true;
+        let own = self.own();
+        (own.left, own.row) = (false, 0);
+        self.inner().hand_on(next, 0);
+        let slept = self.inner().come_back(number);
+        let own = self.own();
+        own.told = true;
+        self.place.way = match (own.left, slept) {
+            (false, _) => Way::AtOnce,
+            (true, true) => Way::YieldsFirst,
+            (true, false) => Way::LooksFirst,
+        };
     }
 
     fn wait_at(&mut self, condition: usize, priority: u64) {
@@ -117,9 +126,10 @@ impl<'a, T, C: Condition, M: Condition> Inside<'a, T, C, M> {
         let number = self.place.number;
         self.check_signal(condition);
         let next = self.told_book().pass(number, number_of(condition)).unwrap_or_else(|why| panic!("{why}"));
-        self.own().signaller = number;
+        let own = self.own();
+        (own.signaller, own.left) = (number, true);
         self.place.inside = false;
-        self.inner().hand_on(next);
+        self.inner().hand_on(next, 0);
         true
     }
 
@@ -254,8 +264,10 @@ impl<T, C: Condition, M: Condition> Drop for Inside<'_, T, C, M> {
         }
         let own = self.own();
         let next = if own.told { own.book.leave(number).unwrap_or(None) } else { None };
+        own.left = true;
+        let row = own.row;
         self.place.inside = false;
-        self.inner().hand_on(next);
+        self.inner().hand_on(next, row);
         match fault {
             Ok(None) => {}
             Ok(Some(name)) => panic!("`{name}` doesn't hold where place {number} leaves"),

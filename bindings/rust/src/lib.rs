@@ -76,15 +76,23 @@ pub use checks::{Checks, Waiting};
 pub use conditions::{Condition, NoConditions};
 pub use inside::Inside;
 
-use bell::{Bell, AT_BELL, AT_DOOR};
+use bell::{Bell, Way, Yields, AT_BELL, AT_DOOR, YIELDS};
 use book::Book;
 use std::cell::UnsafeCell;
 use std::sync::atomic::{AtomicBool, Ordering::Acquire, Ordering::Relaxed, Ordering::SeqCst};
 use std::sync::{Arc, LockResult, PoisonError};
+use std::time::Duration;
 
 const FREE: u32 = 0;
 const HELD: u32 = 1;
 const SLEPT_AT: u32 = 2;
+
+// Looks of who makes way, the spins for which it leaves others alone, the visits in a row behind which who comes in
+// again and again makes way, and how long it naps where a yield takes long.
+const LOOKS_FOR_OTHERS: u32 = 20;
+const SPINS_FOR_OTHERS: u32 = 128;
+const ROW: u32 = 256;
+const NAP: Duration = Duration::from_micros(50);
 
 const NOTHING: u32 = 0;
 const GO_ON: u32 = 1;
@@ -94,8 +102,11 @@ const ASLEEP: u32 = 2;
 struct Own<T> {
     book: Book,
     data: T,
-    told: bool,      // the book was told that the place came in
+    told: bool,       // the book was told that the place came in
     signaller: usize, // the last
+    left: bool,       // who handed the monitor on last left it by that act
+    last: usize,      // the place that came in last
+    row: u32,         // how often it did in a row
 }
 
 // The door's word stays taken while the monitor is handed from place to place, so that no newcomer comes between: who
@@ -105,6 +116,7 @@ struct Inner<T, C, M> {
     door: Bell,
     bells: Box<[Bell]>,
     poisoned: AtomicBool,
+    awaited: AtomicBool, // a newcomer was woken that hasn't got up
     checks: Checks<T, C, M>,
     own: UnsafeCell<Own<T>>,
 }
@@ -135,20 +147,46 @@ impl<T, C, M> Inner<T, C, M> {
         }
         while self.door.word.swap(SLEPT_AT, SeqCst) != FREE {
             self.door.sleep_while(SLEPT_AT);
+            self.awaited.store(false, Relaxed);
             if soon(SLEPT_AT) {
                 return;
             }
         }
     }
 
-    // Whom the book names goes on; nobody: a newcomer may come in.
-    fn hand_on(&self, next: Option<usize>) {
+    // Who waited, and was handed the monitor by one that left it, would mostly come in again before that one does, find
+    // what it waited for gone, and wait again: then each visit costs a hand-over. So it looks a little first, and where
+    // somebody else comes in leaves it alone for a while. Who slept may have stopped that one on its own core, and
+    // yields before.
+    #[cold]
+    fn make_way(&self, way: Way) {
+        if way == Way::YieldsFirst {
+            YIELDS.with(Yields::gives_core);
+        }
+        let comes_in = (0..LOOKS_FOR_OTHERS).any(|_| {
+            std::hint::spin_loop();
+            self.door.word.load(Relaxed) != FREE
+        });
+        if comes_in {
+            (0..SPINS_FOR_OTHERS).for_each(|_| std::hint::spin_loop());
+        }
+    }
+
+    // A newcomer may come in. Who was woken may have to wait for this very core, so who comes in again and again gives
+    // it away.
+    fn open_door(&self, row: u32) {
+        if self.door.word.swap(FREE, SeqCst) == SLEPT_AT {
+            self.awaited.store(true, Relaxed);
+            self.door.wake_one();
+        } else if row > 0 && row % ROW == 0 && self.awaited.load(Relaxed) && !YIELDS.with(Yields::gives_core) {
+            std::thread::sleep(NAP);
+        }
+    }
+
+    // Whom the book names goes on; nobody: a newcomer may come in. `row` is the visits in a row of who gives it up.
+    fn hand_on(&self, next: Option<usize>, row: u32) {
         match next {
-            None => {
-                if self.door.word.swap(FREE, SeqCst) == SLEPT_AT {
-                    self.door.wake_one();
-                }
-            }
+            None => self.open_door(row),
             Some(place) => {
                 if self.bells[place].word.swap(GO_ON, SeqCst) == ASLEEP {
                     self.bells[place].wake_one();
@@ -157,14 +195,16 @@ impl<T, C, M> Inner<T, C, M> {
         }
     }
 
-    // Until this place is rung.
-    fn come_back(&self, place: usize) {
+    // Until this place is rung: whether it slept.
+    fn come_back(&self, place: usize) -> bool {
         let bell = &self.bells[place];
         let rung = AT_BELL.with(|looks| looks.sees(|| bell.word.load(Acquire) == GO_ON));
-        if !rung && bell.word.compare_exchange(NOTHING, ASLEEP, SeqCst, SeqCst).is_ok() {
+        let sleeps = !rung && bell.word.compare_exchange(NOTHING, ASLEEP, SeqCst, SeqCst).is_ok();
+        if sleeps {
             bell.sleep_while(ASLEEP);
         }
         bell.word.store(NOTHING, SeqCst);
+        sleeps
     }
 
     // The answer; an error with it where a thread panicked inside.
@@ -186,6 +226,7 @@ pub struct Place<T, C, M = NoConditions> {
     inner: Arc<Inner<T, C, M>>,
     number: usize,
     inside: bool,
+    way: Way,
 }
 
 impl<T: Send, C: Condition, M: Condition> Monitor<T, C, M> {
@@ -207,10 +248,12 @@ impl<T: Send, C: Condition, M: Condition> Monitor<T, C, M> {
             door: Bell::default(),
             bells: (0..places).map(|_| Bell::default()).collect(),
             poisoned: AtomicBool::new(false),
+            awaited: AtomicBool::new(false),
             checks,
-            own: UnsafeCell::new(Own { book, data, told: false, signaller: 0 }),
+            own: UnsafeCell::new(Own { book, data, told: false, signaller: 0, left: false, last: 0, row: 0 }),
         });
-        let all = (0..places).map(|number| Place { inner: Arc::clone(&inner), number, inside: false });
+        let place = |number| Place { inner: Arc::clone(&inner), number, inside: false, way: Way::AtOnce };
+        let all = (0..places).map(place);
         let all = all.collect();
         Ok((Monitor(inner), all))
     }
@@ -247,6 +290,9 @@ impl<T: Send, C: Condition, M: Condition> Place<T, C, M> {
     /// Where the place is inside, since an earlier guard was forgotten (`mem::forget`).
     pub fn enter(&mut self) -> LockResult<Inside<'_, T, C, M>> {
         assert!(!self.inside, "place {} is inside: its guard was forgotten", self.number);
+        if self.way != Way::AtOnce {
+            self.inner.make_way(std::mem::replace(&mut self.way, Way::AtOnce));
+        }
         self.inner.take();
         self.came_in()
     }
@@ -262,7 +308,10 @@ impl<T: Send, C: Condition, M: Condition> Place<T, C, M> {
 
     fn came_in(&mut self) -> LockResult<Inside<'_, T, C, M>> {
         // SAFETY: it took the word, so it is inside
-        unsafe { (*self.inner.own.get()).told = false };
+        let own = unsafe { &mut *self.inner.own.get() };
+        own.told = false;
+        own.row = if own.last == self.number { own.row.wrapping_add(1) } else { 0 };
+        own.last = self.number;
         let poisoned = self.inner.poisoned.load(Relaxed);
         let inside = Inside::new(self);
         if poisoned {

@@ -7,7 +7,7 @@ ghost use Rattle.door_frame.specs.Places.{IsWoken, sleeper_at};
 ghost use Rattle.door_frame.specs.Seats.{GoesOut, IsBehind, StaysIn};
 
 use crate::door::Door;
-use crate::naps::{is_to_call, is_to_heed, since_handed_after};
+use crate::others::{is_to_heed, is_wait, since_handed_after};
 use crate::word::{DOOR, word_of_next};
 use door_frame::departure::Departure;
 use door_frame::notice::Notice;
@@ -38,13 +38,13 @@ impl<D: MonitorData> Door<D> {
     {
         let since_handed = parcel.held.since_handed;
         let is_to_heed = is_to_heed(since_handed, departure, next);
-        parcel.held.since_handed = since_handed_after(since_handed, next);
+        parcel.held.since_handed = since_handed_after(since_handed, departure, next);
         lay_parcel(&self.table, seat, parcel);
         self.table
             .shared
             .store::<Give<J>>(seat, DOOR, word_of_next(next));
         if is_to_heed {
-            self.naps.heed(is_to_call(since_handed, departure));
+            self.heed_others(since_handed, is_wait(departure));
         }
         match next {
             Next::For(resumed) => Some(self.wake(seat, resumed)),

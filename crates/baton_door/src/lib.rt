@@ -7,6 +7,7 @@ mod handing;
 mod monitor;
 mod naps;
 mod newcomers;
+mod others;
 pub mod place;
 mod rule;
 mod word;

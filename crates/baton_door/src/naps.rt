@@ -5,20 +5,13 @@
 //! that nobody gives, costs the rest of one nap and nothing else: who naps is outside, holds nothing, and looks at the
 //! word itself when it wakes.
 //!
-//! A call is a call of the system, which takes longer than a visit. So who leaves the monitor free calls one newcomer
-//! only where its visit is dear anyway: where the monitor was handed to it, or where it goes to wait.
-//!
-//! Who was called may have to wait for the very core of one that comes in and goes out all the time, until that one's
-//! slice ends, some milliseconds later. So behind each `ROW` visits of which none was handed the monitor, who leaves
-//! gives its core away where somebody was called and nobody got up since.
+//! A call is a call of the system, which takes longer than a visit: `others` says who gives one.
 use crossbeam_utils::CachePadded;
-use door_frame::departure::Departure;
-use door_frame::looks::{NAP, ROW};
+use door_frame::looks::NAP;
 use std::sync::Wait;
 use std::sync::atomic::{AtomicU64, Ordering};
 use std::thread;
 use std::time::Duration;
-use wait_book::steps::Next;
 
 /// What the places of a door tell each other of naps. No clause speaks of it.
 #[derive(Drop)]
@@ -77,37 +70,5 @@ impl Naps {
         } else if self.calls.load(Ordering::Relaxed) != self.answered.load(Ordering::Relaxed) {
             thread::yield_now();
         }
-    }
-}
-
-/// Whether who gives the monitor up so is to heed those that nap: it leaves the monitor free, and is to call one, or
-/// ends a long row of visits of which none was handed the monitor.
-#[inline]
-pub(crate) fn is_to_heed(since_handed: u32, departure: Departure, next: Next) -> bool {
-    match next {
-        Next::Free => since_handed % ROW == 0 || is_wait(departure),
-        Next::For(_) | Next::Held(_) => false,
-    }
-}
-
-/// Whether who leaves the monitor free is to call one that naps: it was handed it, or goes to wait.
-#[inline]
-pub(crate) fn is_to_call(since_handed: u32, departure: Departure) -> bool {
-    since_handed == 0 || is_wait(departure)
-}
-
-/// How often the monitor was given up since it was handed on last, once it is given up so.
-#[inline]
-pub(crate) fn since_handed_after(since_handed: u32, next: Next) -> u32 {
-    match next {
-        Next::For(_) => 0,
-        Next::Free | Next::Held(_) => since_handed.wrapping_add(1),
-    }
-}
-
-fn is_wait(departure: Departure) -> bool {
-    match departure {
-        Departure::Wait(_, _) => true,
-        Departure::Signal(_) | Departure::Pass(_) | Departure::Leave => false,
     }
 }

@@ -18,6 +18,12 @@ pub const NAP: u64 = 100;
 /// called and hasn't got up. That many take some ten microseconds, in which most get up by themselves.
 pub const ROW: u32 = 1024;
 
+/// How often who makes way for others, as it leaves, looks whether one of them comes in.
+pub const LOOKS_FOR_OTHERS: u32 = 20;
+
+/// For how many spins it leaves them alone then: half a microsecond, less than a hand-over takes.
+pub const SPINS_FOR_OTHERS: u32 = 128;
+
 /// How often a newcomer whose ticket is the next looks before it yields or naps. One that has n tickets to go looks
 /// an n-th as often. Exactly one thread can come in, and if it isn't running when its ticket is served, it holds up
 /// all others.

@@ -1,8 +1,8 @@
 //! A place inside.
-use crate::bell::Way;
 use crate::book::Book;
 use crate::checks::Waiting;
 use crate::conditions::Condition;
+use crate::way::Way;
 use crate::{Inner, NoConditions, Own, Place};
 use std::marker::PhantomData;
 use std::ops::{Deref, DerefMut};

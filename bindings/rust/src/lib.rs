@@ -70,18 +70,22 @@ mod checks;
 mod conditions;
 mod heap;
 mod inside;
+mod looks;
+mod way;
 
 pub use book::Refused;
 pub use checks::{Checks, Waiting};
 pub use conditions::{Condition, NoConditions};
 pub use inside::Inside;
 
-use bell::{Bell, Way, Yields, AT_BELL, AT_DOOR, YIELDS};
+use bell::Bell;
 use book::Book;
+use looks::{AT_BELL, AT_DOOR};
 use std::cell::UnsafeCell;
 use std::sync::atomic::{AtomicBool, Ordering::Acquire, Ordering::Relaxed, Ordering::SeqCst};
 use std::sync::{Arc, LockResult, PoisonError};
 use std::time::Duration;
+use way::{Way, Yields, YIELDS};
 
 const FREE: u32 = 0;
 const HELD: u32 = 1;

@@ -22,6 +22,7 @@ use hoare_law::data::MonitorData;
 use hoare_law::monitor::Monitor;
 use std::alloc::Global;
 use std::marker::Model;
+use std::sync::atomic::AtomicBool;
 use wait_book::book::Book;
 use wait_book::steps::MakeRefused;
 
@@ -46,6 +47,8 @@ pub struct Door<D: MonitorData> {
     pub(crate) table: DoorTable<D>,
     /// What wakes each place, in order.
     pub(crate) wakers: Vec<Waker>,
+    /// Whether who comes in next is to make way first. It is seldom written, and stands beside what is only read.
+    pub(crate) is_to_make_way: AtomicBool,
     /// Who among the newcomers naps.
     pub(crate) naps: CachePadded<Naps>,
 }
@@ -122,11 +125,11 @@ impl<D: MonitorData + Send> Door<D> {
         };
         open(&table, &mut seat, parcel);
         let outs = deal(&table, seat, sleepers, outs, places);
-        let naps = Naps::new();
         let door = Door {
             table,
             wakers,
-            naps,
+            is_to_make_way: AtomicBool::new(false),
+            naps: Naps::new(),
         };
         Ok((door, outs))
     }
@@ -143,6 +146,7 @@ impl<D: MonitorData + Send> Door<D> {
         let Door {
             table,
             wakers,
+            is_to_make_way: _,
             naps: _,
         } = self;
         closed(table, wakers, outs)

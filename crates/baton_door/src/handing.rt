@@ -2,12 +2,13 @@
 //! `door_frame::parking`: the word of each place is the door's one.
 ghost use Rattle.std.specs.Prelude.{◌≡◌, ◌<◌};
 ghost use Rattle.wait_book.specs.Contents.{IsPlaceBelow};
+ghost use Rattle.wait_book.specs.declared.steps.Next.TheVariants.{For};
 ghost use Rattle.door_frame.specs.Steps.{MayGive, MayNote};
 ghost use Rattle.door_frame.specs.Places.{IsWoken, sleeper_at};
 ghost use Rattle.door_frame.specs.Seats.{GoesOut, IsBehind, StaysIn};
 
 use crate::door::Door;
-use crate::others::{is_to_heed, is_wait, since_handed_after};
+use crate::others::{handed, is_leaving, is_to_heed, is_wait};
 use crate::word::{DOOR, word_of_next};
 use door_frame::departure::Departure;
 use door_frame::notice::Notice;
@@ -24,7 +25,7 @@ impl<D: MonitorData> Door<D> {
     pub(crate) fn give<J: PickedEvent<D>>(
         &self,
         seat: &mut DoorSeat<D>,
-        mut parcel: Parcel<D>,
+        parcel: Parcel<D>,
         place: usize,
         departure: Departure,
         next: Next,
@@ -36,21 +37,64 @@ impl<D: MonitorData> Door<D> {
         ensures away { GoesOut place J.event seat.old.me parcel.state seat.new.me }
         ensures woken { IsWoken self.now next result }
     {
-        let since_handed = parcel.held.since_handed;
-        let is_to_heed = is_to_heed(since_handed, departure, next);
-        parcel.held.since_handed = since_handed_after(since_handed, departure, next);
+        match next {
+            Next::For(resumed) => {
+                Some(self.give_to::<J>(seat, parcel, place, is_leaving(departure), resumed))
+            }
+            Next::Free | Next::Held(_) => {
+                let since_handed = parcel.held.since_handed;
+                self.lay_down::<J>(seat, parcel, place, since_handed.wrapping_add(1), next);
+                if is_to_heed(since_handed, departure) {
+                    self.heed_others(since_handed, is_wait(departure));
+                }
+                None
+            }
+        }
+    }
+
+    /// Gives the parcel to who goes on, and wakes that place.
+    #[inline(never)] // apart, so that a plain leave stays small
+    fn give_to<J: PickedEvent<D>>(
+        &self,
+        seat: &mut DoorSeat<D>,
+        parcel: Parcel<D>,
+        place: usize,
+        leaves: bool,
+        resumed: usize,
+    ) -> Woken
+        requires table { seat.old.table_id ≡ self.now.table }
+        requires below { resumed < self.now.places }
+        requires event { MayGive D.rest D.ready J.event place seat.old.me parcel (For resumed) }
+        ensures table { seat.new.table_id ≡ seat.old.table_id }
+        ensures away { GoesOut place J.event seat.old.me parcel.state seat.new.me }
+        ensures woken { result ≡ sleeper_at self.now resumed }
+    {
+        self.lay_down::<J>(seat, parcel, place, handed(leaves), Next::For(resumed));
+        self.wake(seat, resumed)
+    }
+
+    /// Lays the parcel down, and writes who goes on.
+    #[inline(always)] // as `give` is, which calls it
+    fn lay_down<J: PickedEvent<D>>(
+        &self,
+        seat: &mut DoorSeat<D>,
+        mut parcel: Parcel<D>,
+        place: usize,
+        since_handed: u32,
+        next: Next,
+    )
+        requires table { seat.old.table_id ≡ self.now.table }
+        requires next { IsPlaceBelow self.now.places next }
+        requires event { MayGive D.rest D.ready J.event place seat.old.me parcel next }
+        ensures table { seat.new.table_id ≡ seat.old.table_id }
+        ensures away { GoesOut place J.event seat.old.me parcel.state seat.new.me }
+        ensures behind { IsBehind seat.new.me }
+    {
+        parcel.held.since_handed = since_handed;
         lay_parcel(&self.table, seat, parcel);
         self.table
             .shared
             .store::<Give<J>>(seat, DOOR, word_of_next(next));
-        if is_to_heed {
-            self.heed_others(since_handed, is_wait(departure));
-        }
-        match next {
-            Next::For(resumed) => Some(self.wake(seat, resumed)),
-            Next::Free => None,
-            Next::Held(_) => None,
-        }
     }
 
     /// A look at the word by which the place inside comes to know of an event that the call picks. What is found isn't
@@ -72,7 +116,6 @@ impl<D: MonitorData> Door<D> {
     }
 
     /// Wakes a place, or lets its next sleep return at once.
-    #[inline(never)] // apart, so that a plain leave stays small
     fn wake(&self, seat: &DoorSeat<D>, place: usize) -> Woken
         requires below { place < self.now.places }
         requires given_up { IsBehind seat.now.me }

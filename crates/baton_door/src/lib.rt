@@ -11,3 +11,4 @@ mod others;
 pub mod place;
 mod rule;
 mod word;
+mod yields;

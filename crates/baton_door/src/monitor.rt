@@ -32,7 +32,7 @@ impl<D: MonitorData> Turnstile<D> for Door<D> {
     /// The first try stands alone: it is short enough to be inlined.
     #[inline]
     fn admit<R: Wait>(&self, rt: &R, seat: &mut DoorSeat<D>, place: usize) -> Parcel<D> {
-        if self.try_in(seat) {
+        if self.try_at_once(seat) {
             return take_parcel(&self.table, seat);
         }
         self.keep_trying(rt, seat);

@@ -6,11 +6,11 @@
 //! word itself when it wakes.
 //!
 //! A call is a call of the system, which takes longer than a visit: `others` says who gives one.
+use crate::yields::Yields;
 use crossbeam_utils::CachePadded;
 use door_frame::looks::NAP;
 use std::sync::Wait;
 use std::sync::atomic::{AtomicU64, Ordering};
-use std::thread;
 use std::time::Duration;
 
 /// What the places of a door tell each other of naps. No clause speaks of it.
@@ -22,6 +22,8 @@ pub(crate) struct Naps {
     calls: AtomicU64,
     /// What `calls` was when one got up last.
     answered: AtomicU64,
+    /// What is known of yields, by how naps end.
+    yields: Yields,
 }
 
 impl Naps {
@@ -31,6 +33,7 @@ impl Naps {
             nappers: AtomicU64::new(0),
             calls: AtomicU64::new(0),
             answered: AtomicU64::new(0),
+            yields: Yields::new(),
         })
     }
 
@@ -44,6 +47,8 @@ impl Naps {
     pub(crate) fn sleep<R: Wait>(&self, rt: &R, before: u64) {
         let low = (before % (1 << 32)) as u32;
         self.calls.park_timeout(rt, low, Duration::from_micros(NAP));
+        self.yields
+            .count_nap(self.calls.load(Ordering::Relaxed) != before);
     }
 
     /// One fewer naps.
@@ -53,22 +58,29 @@ impl Naps {
         self.answered.store(calls, Ordering::Relaxed);
     }
 
+    /// Gives the core away, where another newcomer naps and no yield was long of late: whether it did.
+    pub(crate) fn give_core(&self) -> bool {
+        !self.are_none() && self.yields.gives_core()
+    }
+
     /// How many nap.
     pub(crate) fn count(&self) -> u64 {
         self.nappers.load(Ordering::Relaxed)
     }
 
-    /// Where one naps, calls one, or makes way for who was called.
-    #[inline(never)] // apart, so that a plain leave stays small
-    pub(crate) fn heed(&self, is_to_call: bool) {
-        if self.nappers.load(Ordering::SeqCst) == 0 {
-            return;
-        }
-        if is_to_call {
-            self.calls.fetch_add(1, Ordering::SeqCst);
-            self.calls.wake_one();
-        } else if self.calls.load(Ordering::Relaxed) != self.answered.load(Ordering::Relaxed) {
-            thread::yield_now();
-        }
+    /// Whether nobody naps.
+    pub(crate) fn are_none(&self) -> bool {
+        self.nappers.load(Ordering::SeqCst) == 0
+    }
+
+    /// Calls one of those that nap.
+    pub(crate) fn call(&self) {
+        self.calls.fetch_add(1, Ordering::SeqCst);
+        self.calls.wake_one();
+    }
+
+    /// Whether one was called, and nobody got up since.
+    pub(crate) fn is_one_awaited(&self) -> bool {
+        self.calls.load(Ordering::Relaxed) != self.answered.load(Ordering::Relaxed)
     }
 }

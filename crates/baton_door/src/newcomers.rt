@@ -6,11 +6,12 @@ use crate::door::Door;
 use crate::rule::Admit;
 use crate::word::{DOOR, FREE, HELD};
 use crossbeam_utils::Backoff;
-use door_frame::looks::{LOOKS, TRIES};
+use door_frame::looks::{NEWCOMER_LOOKS, SPINS, TRIES};
 use door_frame::plays::DoorSeat;
 use hoare_law::data::MonitorData;
 use std::hint;
 use std::sync::Wait;
+use std::sync::atomic::Ordering;
 
 impl<D: MonitorData> Door<D> {
     /// One try of a newcomer: whether the monitor was free, and the place is in.
@@ -28,10 +29,22 @@ impl<D: MonitorData> Door<D> {
             == FREE
     }
 
-    /// Looks at the word a while, until it is `FREE`: whether it was seen so.
-    fn looks_free(&self) -> bool {
-        for _ in 0..LOOKS {
-            if self.table.shared.peek(DOOR) == FREE {
+    /// The first try, but of one that is to make way: whether the monitor was free, and the place is in.
+    #[inline]
+    pub(crate) fn try_at_once(&self, seat: &mut DoorSeat<D>) -> bool
+        requires table { seat.old.table_id ≡ self.now.table }
+        requires outside { IsOutside seat.old.me }
+        ensures table { seat.new.table_id ≡ seat.old.table_id }
+        ensures turned_away { result ≡ false → seat.new.me ≡ seat.old.me }
+        ensures let_in { result ≡ true → IsLetIn D.rest D.ready seat.old.me seat.new.me }
+    {
+        !self.is_to_make_way.load(Ordering::Relaxed) && self.try_in(seat)
+    }
+
+    /// Looks at the word so many times, until it is `FREE`, or until it isn't: whether it was seen so.
+    pub(crate) fn sees(&self, free: bool, looks: u32) -> bool {
+        for _ in 0..looks {
+            if (self.table.shared.peek(DOOR) == FREE) == free {
                 return true;
             }
             hint::spin_loop();
@@ -39,8 +52,8 @@ impl<D: MonitorData> Door<D> {
         false
     }
 
-    /// Tries a while, whenever the word is seen to be `FREE`, and spins longer and longer between the tries: whether
-    /// the place is in.
+    /// Tries a while, whenever the word is seen to be `FREE`. Between the tries it spins longer and longer, and then gives
+    /// its core away where that is short: whether the place is in.
     fn try_a_while(&self, seat: &mut DoorSeat<D>) -> bool
         requires table { seat.old.table_id ≡ self.now.table }
         requires outside { IsOutside seat.old.me }
@@ -49,16 +62,20 @@ impl<D: MonitorData> Door<D> {
         ensures let_in { result ≡ true → IsLetIn D.rest D.ready seat.old.me seat.new.me }
     {
         let backoff = Backoff::new();
-        for _ in 0..TRIES {
-            if self.looks_free() && self.try_in(seat) {
+        for tries in 0..TRIES {
+            if self.sees(true, NEWCOMER_LOOKS) && self.try_in(seat) {
                 return true;
             }
-            backoff.spin();
+            if tries < SPINS {
+                backoff.spin();
+            } else if !self.naps.give_core() {
+                return false;
+            }
         }
         false
     }
 
-    /// Tries until the place is in, and naps where it tried a while for nothing.
+    /// Makes way, tries until the place is in, and naps where it tried a while for nothing.
     #[inline(never)]
     pub(crate) fn keep_trying<R: Wait>(&self, rt: &R, seat: &mut DoorSeat<D>)
         requires table { seat.old.table_id ≡ self.now.table }
@@ -66,6 +83,7 @@ impl<D: MonitorData> Door<D> {
         ensures table { seat.new.table_id ≡ seat.old.table_id }
         ensures let_in { IsLetIn D.rest D.ready seat.old.me seat.new.me }
     {
+        self.make_way();
         for _ in rt.forever() {
             if self.try_a_while(seat) {
                 return;

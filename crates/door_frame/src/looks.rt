@@ -1,22 +1,45 @@
 //! How long places look at a word before they sleep, and newcomers before they nap: the numbers of both doors, and
 //! their reasons. What was measured stands in docs/MEASURES.md, "How places wait".
 
-/// How often a place looks, with the spin hint between: a waiter or a signaller before it sleeps, and a newcomer that
-/// races for the word before it spins. A look costs some nanoseconds, and a sleep with its waking several thousand:
-/// most hand-overs come while the place still looks. Where there are fewer cores than threads, more looks take the
-/// processor from the place that is waited for.
-pub const LOOKS: u32 = 500;
+/// How often a waiter looks, with the spin hint between, before it sleeps. A look costs some nanoseconds, and a sleep
+/// with its waking several thousand: many hand-overs come while the place still looks. Where there are fewer cores than
+/// threads, more looks take the processor from the place that is waited for.
+pub const WAITER_LOOKS: u32 = 1000;
 
-/// How often a newcomer that races for the word looks so, with longer and longer spins between, before it naps.
-pub const TRIES: u32 = 7;
+/// How often a signaller looks so before it sleeps. Whom it resumed may have slept: until that one runs, and is gone
+/// again, takes longer than most waits of those that look.
+pub const SIGNALLER_LOOKS: u32 = 3000;
+
+/// How often a newcomer that races for the word looks so, before it spins. While it looks it has a core that who goes on
+/// may want.
+pub const NEWCOMER_LOOKS: u32 = 100;
+
+/// How often it looks so before it naps.
+pub const TRIES: u32 = 12;
+
+/// Behind how many of those it spins, longer and longer. Behind the others it yields, where a yield is short.
+pub const SPINS: u32 = 7;
+
+/// How much time counts for a nap that ran out, where one that a call ended counts for 1.
+pub const TICK: u64 = 8;
+
+/// Behind how much of that time a yield was long: it met one that went on until its slice ended. That is some naps that
+/// ran out, or more calls than come while a thread of the same program has the core.
+pub const LONG_YIELD: u64 = 32;
+
+/// How often newcomers keep their cores behind a long yield, at the least and at the most.
+pub const FEWEST_KEPT: u64 = 1024;
+
+/// The most of it: behind each long yield that follows on one it is twice as many.
+pub const MOST_KEPT: u64 = 65_536;
 
 /// How many microseconds a newcomer naps, if it isn't called before. A system makes it longer: Linux by some 50, where
 /// the program asks for nothing else.
 pub const NAP: u64 = 100;
 
-/// Behind how many visits in a row, of which none was handed the monitor, who leaves makes way for a newcomer that was
-/// called and hasn't got up. That many take some ten microseconds, in which most get up by themselves.
-pub const ROW: u32 = 1024;
+/// Behind how many visits in a row, of which none was handed the monitor, who comes in makes way for a newcomer that was
+/// called and hasn't got up.
+pub const ROW: u32 = 256;
 
 /// How often who makes way for others, as it leaves, looks whether one of them comes in.
 pub const LOOKS_FOR_OTHERS: u32 = 20;

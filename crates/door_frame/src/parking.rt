@@ -16,7 +16,6 @@ ghost use Rattle.door_frame.specs.Places.{sleeper_at};
 ghost use Rattle.door_frame.specs.Steps.{due};
 ghost use Rattle.door_frame.specs.Seats.{IsAway, ComesIn};
 
-use crate::looks::LOOKS;
 use crate::parcel::Parcel;
 use crate::plays::DoorSeat;
 use crate::turnstile::Turnstile;
@@ -25,11 +24,11 @@ use hoare_law::data::MonitorData;
 use std::hint;
 use std::sync::Wait;
 
-/// Looks a while whether the monitor is owed to the place.
-fn look_for_turn<D: MonitorData, T: Turnstile<D>>(door: &T, place: usize)
+/// Looks so many times whether the monitor is owed to the place.
+fn look_for_turn<D: MonitorData, T: Turnstile<D>>(door: &T, place: usize, looks: u32)
     requires { place < (T.id door.now).places }
 {
-    for _ in 0..LOOKS {
+    for _ in 0..looks {
         if door.is_owed(place) {
             return;
         }
@@ -37,7 +36,7 @@ fn look_for_turn<D: MonitorData, T: Turnstile<D>>(door: &T, place: usize)
     }
 }
 
-/// Waits until the monitor is owed to the place, comes in and takes the parcel. It looks a while, then tests and
+/// Waits until the monitor is owed to the place, comes in and takes the parcel. It looks so many times, then tests and
 /// sleeps, where it is woken, until a test lets it in.
 pub fn claim<D: MonitorData, T: Turnstile<D>, R: Wait>(
     door: &T,
@@ -45,6 +44,7 @@ pub fn claim<D: MonitorData, T: Turnstile<D>, R: Wait>(
     seat: &mut DoorSeat<D>,
     place: usize,
     sleeper: &Sleeper,
+    looks: u32,
 ) -> Parcel<D>
     requires table { seat.old.table_id ≡ (T.id door.now).table }
     requires small { place < (T.id door.now).places }
@@ -53,7 +53,7 @@ pub fn claim<D: MonitorData, T: Turnstile<D>, R: Wait>(
     ensures table { seat.new.table_id ≡ seat.old.table_id }
     ensures came { ComesIn D.rest D.ready place (due place) seat.old.me result seat.new.me }
 {
-    look_for_turn(door, place);
+    look_for_turn(door, place, looks);
     for _ in rt.forever() {
         if let Some(parcel) = door.try_claim(seat, place) {
             return parcel;

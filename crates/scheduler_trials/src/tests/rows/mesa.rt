@@ -151,6 +151,14 @@ fn agrees(row: MesaRow<'_>, answers: &[u64]) -> bool {
     }
 }
 
+// Where the places answered something else the test fails.
+fn holds<R: Abort>(rt: &R, kind: DoorKind, row: MesaRow<'_>, answers: &[u64]) {
+    assert!(rt;
+        agrees(row, answers),
+        "the {kind:?} door answered {answers:?}"
+    );
+}
+
 #[test]
 fn who_is_called_tests_again_on_each_door(host: HostRuntime) {
     let (rt, alloc) = (&host, host.alloc());
@@ -163,10 +171,7 @@ fn who_is_called_tests_again_on_each_door(host: HostRuntime) {
             let (cells, places) = setting(row);
             let buffer = with_cells(rt, alloc, cells);
             let (_, answers) = run!(rt, alloc, kind, buffer, places, acts(row));
-            assert!(rt;
-                agrees(row, answers.as_slice()),
-                "the {kind:?} door answered {answers:?}"
-            );
+            holds(rt, kind, row, answers.as_slice());
         }
     }
 }

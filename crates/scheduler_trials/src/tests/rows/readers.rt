@@ -236,6 +236,11 @@ fn agrees(row: ReadersRow<'_>, value: u64) -> bool {
     }
 }
 
+// Where the row left another value the test fails.
+fn holds<R: Abort>(rt: &R, kind: DoorKind, row: ReadersRow<'_>, value: u64) {
+    assert!(rt; agrees(row, value), "the {kind:?} door left {value}");
+}
+
 #[test]
 fn readers_and_writers_on_each_door(host: HostRuntime) {
     let (rt, alloc) = (&host, host.alloc());
@@ -252,8 +257,7 @@ fn readers_and_writers_on_each_door(host: HostRuntime) {
             let data = ReadersWriters::with(value);
             let (shared, answers) = run!(rt, alloc, kind, data, places, acts(row));
             all_answered(rt, kind, answers.as_slice(), places);
-            let value = shared.into_value();
-            assert!(rt; agrees(row, value), "the {kind:?} door left {value}");
+            holds(rt, kind, row, shared.into_value());
         }
         is_read_and_written(rt, log);
     }

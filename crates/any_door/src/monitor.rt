@@ -11,6 +11,7 @@ ghost use Rattle.any_door.specs.Doors.{id_of};
 use crate::door::AnyDoor;
 use door_frame::calls;
 use door_frame::departure::Departure;
+use door_frame::looks::Looks;
 use door_frame::notice::Notice;
 use door_frame::parcel::Parcel;
 use door_frame::place::{Inside, Outside};
@@ -25,6 +26,13 @@ use wait_book::steps::Next;
 
 impl<D: MonitorData> Turnstile<D> for AnyDoor<D> {
     ghost id = { λ d. id_of d };
+
+    fn looks(&self) -> Looks {
+        match self {
+            AnyDoor::Baton(door) => door.looks(),
+            AnyDoor::Ticket(door) => door.looks(),
+        }
+    }
 
     #[inline]
     fn admit<R: Wait>(&self, rt: &R, seat: &mut DoorSeat<D>, place: usize) -> Parcel<D> {

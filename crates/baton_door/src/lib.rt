@@ -11,4 +11,3 @@ mod others;
 pub mod place;
 mod rule;
 mod word;
-mod yields;

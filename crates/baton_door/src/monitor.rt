@@ -13,6 +13,7 @@ use crate::rule::Claim;
 use crate::word::{DOOR, HELD, owed};
 use door_frame::calls;
 use door_frame::departure::Departure;
+use door_frame::looks::{BATON_LOOKS, Looks};
 use door_frame::notice::Notice;
 use door_frame::parcel::Parcel;
 use door_frame::plays::DoorSeat;
@@ -28,6 +29,10 @@ use wait_book::steps::Next;
 
 impl<D: MonitorData> Turnstile<D> for Door<D> {
     ghost id = { λ d. d };
+
+    fn looks(&self) -> Looks {
+        BATON_LOOKS
+    }
 
     /// The first try stands alone: it is short enough to be inlined.
     #[inline]

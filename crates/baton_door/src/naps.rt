@@ -6,9 +6,9 @@
 //! word itself when it wakes.
 //!
 //! A call is a call of the system, which takes longer than a visit: `others` says who gives one.
-use crate::yields::Yields;
 use crossbeam_utils::CachePadded;
 use door_frame::looks::NAP;
+use door_frame::yields::Yields;
 use std::sync::Wait;
 use std::sync::atomic::{AtomicU64, Ordering};
 use std::time::Duration;
@@ -59,8 +59,13 @@ impl Naps {
     }
 
     /// Gives the core away, where another newcomer naps and no yield was long of late: whether it did.
-    pub(crate) fn give_core(&self) -> bool {
-        !self.are_none() && self.yields.gives_core()
+    pub(crate) fn gives_core(&self) -> bool {
+        if self.are_none() || self.yields.keeps_core() {
+            return false;
+        }
+        let was_long = self.yields.yields_long();
+        self.yields.learn(was_long);
+        true
     }
 
     /// How many nap.

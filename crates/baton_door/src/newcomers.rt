@@ -52,8 +52,8 @@ impl<D: MonitorData> Door<D> {
         false
     }
 
-    /// Tries a while, whenever the word is seen to be `FREE`. Between the tries it spins longer and longer, and then gives
-    /// its core away where that is short: whether the place is in.
+    /// Tries a while, whenever the word is seen to be `FREE`. Between the tries it spins longer and longer, and then
+    /// gives its core away where that is short: whether the place is in.
     fn try_a_while(&self, seat: &mut DoorSeat<D>) -> bool
         requires table { seat.old.table_id ≡ self.now.table }
         requires outside { IsOutside seat.old.me }
@@ -68,7 +68,7 @@ impl<D: MonitorData> Door<D> {
             }
             if tries < SPINS {
                 backoff.spin();
-            } else if !self.naps.give_core() {
+            } else if !self.naps.gives_core() {
                 return false;
             }
         }

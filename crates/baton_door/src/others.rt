@@ -8,8 +8,8 @@
 //! next gives its core away before, where somebody was called and nobody got up since.
 //!
 //! Who was handed the monitor by one that left it would mostly come in again before that one does, find what it waited
-//! for gone, and wait again: then each visit costs a hand-over. So it looks a little whether somebody else comes in, and
-//! leaves that one alone for a while.
+//! for gone, and wait again: then each visit costs a hand-over. So it looks a little whether somebody else comes in,
+//! and leaves that one alone for a while.
 use crate::door::Door;
 use door_frame::departure::Departure;
 use door_frame::looks::{LOOKS_FOR_OTHERS, ROW, SPINS_FOR_OTHERS};

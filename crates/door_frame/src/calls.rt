@@ -13,7 +13,6 @@ ghost use Rattle.door_frame.specs.Places.{IsOut, IsIn, Handed, berth, place_in};
 ghost use Rattle.door_frame.specs.Steps.{Came, due};
 
 use crate::departure::Departure;
-use crate::looks::{SIGNALLER_LOOKS, WAITER_LOOKS};
 use crate::notice::Notice;
 use crate::parcel::Parcel;
 use crate::parking::claim;
@@ -147,7 +146,7 @@ pub fn wait<D: MonitorData, T: Turnstile<D>, R: Wait>(
         Departure::Wait(condition, priority),
         next,
     );
-    let parcel = claim(door, rt, &mut seat, place, &sleeper, WAITER_LOOKS);
+    let parcel = claim(door, rt, &mut seat, place, &sleeper, door.looks().waiter);
     brought_back(seat, place, sleeper, parcel)
 }
 
@@ -176,7 +175,7 @@ pub fn signal<D: MonitorData, T: Turnstile<D>, R: Wait>(
     let (mut seat, place, sleeper, mut parcel) = inside.into_parts();
     let next = parcel.held.lodged.book.signal(place, condition);
     door.hand_on(&mut seat, parcel, place, Departure::Signal(condition), next);
-    let parcel = claim(door, rt, &mut seat, place, &sleeper, SIGNALLER_LOOKS);
+    let parcel = claim(door, rt, &mut seat, place, &sleeper, door.looks().signaller);
     (brought_back(seat, place, sleeper, parcel), true)
 }
 

@@ -17,3 +17,4 @@ pub mod slot;
 pub mod turnstile;
 pub mod view;
 pub mod waking;
+pub mod yields;

@@ -1,17 +1,33 @@
 //! How long places look at a word before they sleep, and newcomers before they nap: the numbers of both doors, and
 //! their reasons. What was measured stands in docs/MEASURES.md, "How places wait".
 
-/// How often a waiter looks, with the spin hint between, before it sleeps. A look costs some nanoseconds, and a sleep
-/// with its waking several thousand: many hand-overs come while the place still looks. Where there are fewer cores than
-/// threads, more looks take the processor from the place that is waited for.
-pub const WAITER_LOOKS: u32 = 1000;
+/// How often a place looks whether the monitor is owed to it, with the spin hint between, before it sleeps.
+#[derive(Clone, Copy)]
+pub struct Looks {
+    /// One that waits on a condition.
+    pub waiter: u32,
+    /// One that signalled. Whom it resumed may have slept: until that one runs, and is gone again, takes longer than
+    /// most waits of those that look.
+    pub signaller: u32,
+}
 
-/// How often a signaller looks so before it sleeps. Whom it resumed may have slept: until that one runs, and is gone
-/// again, takes longer than most waits of those that look.
-pub const SIGNALLER_LOOKS: u32 = 3000;
+/// On the baton door. A look costs some nanoseconds, and a sleep with its waking several thousand: many hand-overs come
+/// while the place still looks. Where there are fewer cores than threads, more looks take the processor from the place
+/// that is waited for.
+pub const BATON_LOOKS: Looks = Looks {
+    waiter: 1000,
+    signaller: 2000,
+};
 
-/// How often a newcomer that races for the word looks so, before it spins. While it looks it has a core that who goes on
-/// may want.
+/// On the ticket door. There newcomers that are near look too, and much longer, since exactly one of them can come in:
+/// so fewer cores are left to those that wait.
+pub const TICKET_LOOKS: Looks = Looks {
+    waiter: 500,
+    signaller: 500,
+};
+
+/// How often a newcomer that races for the word looks so, before it spins. While it looks it has a core that who goes
+/// on may want.
 pub const NEWCOMER_LOOKS: u32 = 100;
 
 /// How often it looks so before it naps.
@@ -37,8 +53,8 @@ pub const MOST_KEPT: u64 = 65_536;
 /// the program asks for nothing else.
 pub const NAP: u64 = 100;
 
-/// Behind how many visits in a row, of which none was handed the monitor, who comes in makes way for a newcomer that was
-/// called and hasn't got up.
+/// Behind how many visits in a row, of which none was handed the monitor, who comes in makes way for a newcomer that
+/// was called and hasn't got up.
 pub const ROW: u32 = 256;
 
 /// How often who makes way for others, as it leaves, looks whether one of them comes in.
@@ -55,13 +71,5 @@ pub const NEXT_IN_TURN: u64 = 4000;
 /// A newcomer that has more tickets to go than this yields or naps at once.
 pub const NEAR: u64 = 3;
 
-/// How often a newcomer with a ticket yields before it naps. A rotation of some threads that share a core takes less.
-pub const YIELDS: u64 = 30;
-
-/// How often the next in turn looks so for nothing before cores count as busy.
-pub const STALL: u64 = 2;
-
-/// For how many turns newcomers with tickets nap at once, where cores count as busy. A stall costs up to a
-/// slice, some milliseconds; shared by so many turns it is some ten microseconds each. More turns cost more where the
-/// stall was by chance.
-pub const BUSY_TURNS: u64 = 200;
+/// How often at the most newcomers with tickets yield while nobody naps who could tell how long a yield takes.
+pub const MOST_TRUSTED: u64 = 64;

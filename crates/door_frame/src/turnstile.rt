@@ -11,6 +11,7 @@ ghost use Rattle.door_frame.specs.Departures.{event_of};
 ghost use Rattle.door_frame.specs.Notices.{event_of_notice};
 
 use crate::departure::Departure;
+use crate::looks::Looks;
 use crate::notice::Notice;
 use crate::parcel::Parcel;
 use crate::plays::DoorSeat;
@@ -23,6 +24,9 @@ use wait_book::steps::Next;
 pub trait Turnstile<D: MonitorData> {
     /// The table that its seats are of, and how many places it has.
     ghost id: { Self → DoorId };
+
+    /// How often places look whether the monitor is owed to them, before they sleep. No clause speaks of it.
+    fn looks(&self) -> Looks;
 
     /// Lets a newcomer in as soon as it is its turn, and takes the parcel.
     fn admit<R: Wait>(&self, rt: &R, seat: &mut DoorSeat<D>, place: usize) -> Parcel<D>

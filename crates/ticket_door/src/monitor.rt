@@ -13,6 +13,7 @@ use crate::rule::Hear;
 use crate::words::{NEXT, RUNG, SERVING, SILENT, bell_of, served_as};
 use door_frame::calls;
 use door_frame::departure::Departure;
+use door_frame::looks::{Looks, TICKET_LOOKS};
 use door_frame::notice::Notice;
 use door_frame::parcel::Parcel;
 use door_frame::plays::DoorSeat;
@@ -28,6 +29,10 @@ use wait_book::steps::Next;
 
 impl<D: MonitorData> Turnstile<D> for TicketDoor<D> {
     ghost id = { λ d. d.door };
+
+    fn looks(&self) -> Looks {
+        TICKET_LOOKS
+    }
 
     #[inline]
     fn admit<R: Wait>(&self, rt: &R, seat: &mut DoorSeat<D>, place: usize) -> Parcel<D> {

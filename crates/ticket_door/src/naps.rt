@@ -6,61 +6,31 @@
 //! itself when it wakes. Who serves a ticket calls the one that has it, since nobody else can come in.
 //!
 //! While cores are idle a yield is short, and a nap with its call is long; where all are busy a yield may cost a slice.
-//! The next in turn tells the two apart: where it looked for long, yielded, looked again, and SERVING stays, whose turn
-//! it is isn't running. Then newcomers nap in place of yields, for `BUSY_TURNS` turns.
+//! So while one newcomer naps, others yield, and its naps tell how long that took: behind a long yield newcomers nap
+//! for many times (`door_frame::yields`). Where nobody naps nothing tells it. Then newcomers yield only as often as
+//! short yields let them, and behind that one naps.
 use crate::door::TicketDoor;
 use crate::words::{SERVING, SHUT, TURN, mark_of, nap_of};
 use crossbeam_utils::CachePadded;
-use door_frame::looks::{BUSY_TURNS, NAP, NEAR, NEXT_IN_TURN, STALL, YIELDS};
+use door_frame::looks::{MOST_TRUSTED, NAP, NEAR, NEXT_IN_TURN};
+use door_frame::yields::Yields;
 use hoare_law::data::MonitorData;
-use std::cell::Cell;
 use std::sync::Wait;
 use std::sync::atomic::{AtomicU64, Ordering};
 use std::time::Duration;
 use std::{hint, thread};
-
-/// How a newcomer has waited since it asked.
-#[derive(Drop)]
-pub(crate) struct Patience {
-    /// How often it yielded.
-    yields: Cell<u64>,
-    /// How often it looked for nothing as the next in turn.
-    stalls: Cell<u64>,
-}
-
-impl Patience {
-    pub(crate) fn new() -> Patience {
-        Patience {
-            yields: Cell::new(0),
-            stalls: Cell::new(0),
-        }
-    }
-
-    /// One look for nothing more as the next in turn: whether that is a stall.
-    fn is_stalled(&self) -> bool {
-        let stalls = self.stalls.get().saturating_add(1);
-        self.stalls.set(stalls);
-        stalls == STALL
-    }
-
-    /// One yield more, unless it yielded often enough: whether it is to yield.
-    fn is_to_yield(&self) -> bool {
-        let yields = self.yields.get();
-        if yields >= YIELDS {
-            return false;
-        }
-        self.yields.set(yields + 1);
-        true
-    }
-}
 
 /// What the places of a door tell each other of naps. No clause speaks of it.
 #[derive(Drop)]
 pub(crate) struct Naps {
     /// The marks of the turns whose newcomers nap.
     napping: AtomicU64,
-    /// The turn from which on newcomers yield again.
-    calm_from: AtomicU64,
+    /// What is known of yields, by how naps end.
+    yields: Yields,
+    /// How often newcomers may yield from now on while nobody naps.
+    trusted: AtomicU64,
+    /// How often they may behind the next short yield.
+    trusts: AtomicU64,
 }
 
 impl Naps {
@@ -68,41 +38,64 @@ impl Naps {
     pub(crate) fn new() -> CachePadded<Naps> {
         CachePadded::new(Naps {
             napping: AtomicU64::new(0),
-            calm_from: AtomicU64::new(0),
+            yields: Yields::new(),
+            trusted: AtomicU64::new(0),
+            trusts: AtomicU64::new(1),
         })
     }
 
-    /// The next in turn looked for nothing, too often.
-    fn stalled_before(&self, turn: u64) {
-        let calm_from = turn.wrapping_add(TURN * BUSY_TURNS);
-        self.calm_from.store(calm_from, Ordering::Relaxed);
+    /// Gives the core away, unless a yield was long of late or nothing is known of yields: whether it did.
+    fn gives_core(&self) -> bool {
+        let nappers = self.napping.load(Ordering::SeqCst);
+        if nappers == 0 {
+            return self.yields_untimed();
+        }
+        if self.yields.keeps_core() {
+            return false;
+        }
+        let was_long = self.yields.yields_long();
+        let was_timed = nappers & self.napping.load(Ordering::SeqCst) != 0;
+        if was_long || was_timed {
+            self.learn(was_long);
+        }
+        true
     }
 
-    /// Whether a turn comes so soon after a stall that its newcomer doesn't yield.
-    fn is_busy(&self, turn: u64) -> bool {
-        let left = self.calm_from.load(Ordering::Relaxed).wrapping_sub(turn);
-        0 < left && left <= TURN * BUSY_TURNS
+    /// Gives the core away while nobody naps, as often as it is trusted that this is short: whether it did.
+    fn yields_untimed(&self) -> bool {
+        let trusted = self.trusted.load(Ordering::Relaxed);
+        if trusted == 0 {
+            return false;
+        }
+        self.trusted.store(trusted - 1, Ordering::Relaxed);
+        thread::yield_now();
+        true
+    }
+
+    /// What a yield tells of the next ones: behind each short one twice as many are trusted, behind a long one none.
+    fn learn(&self, was_long: bool) {
+        self.yields.learn(was_long);
+        let trusts = if was_long {
+            0
+        } else {
+            self.trusts.load(Ordering::Relaxed)
+        };
+        self.trusted.store(trusts, Ordering::Relaxed);
+        let next = trusts.saturating_mul(2).clamp(1, MOST_TRUSTED);
+        self.trusts.store(next, Ordering::Relaxed);
     }
 }
 
 impl<D: MonitorData> TicketDoor<D> {
-    /// A newcomer that is near looks on for a while, longer the nearer it is. Then it yields, or naps where cores are
-    /// busy or it has yielded often enough.
-    pub(crate) fn stand_back<R: Wait>(&self, rt: &R, turn: u64, patience: &Patience) {
+    /// A newcomer that is near looks on for a while, longer the nearer it is. Then it yields, or naps where it mayn't.
+    pub(crate) fn stand_back<R: Wait>(&self, rt: &R, turn: u64) {
         let ahead = self.turns_ahead(turn);
         if 0 < ahead && ahead <= NEAR && self.look_for(turn, NEXT_IN_TURN / ahead) {
             return;
         }
-        if !self.naps.is_busy(turn) {
-            if ahead == 1 && patience.is_stalled() {
-                self.naps.stalled_before(turn);
-            }
-            if patience.is_to_yield() {
-                thread::yield_now();
-                return;
-            }
+        if !self.naps.gives_core() {
+            self.nap(rt, turn);
         }
-        self.nap(rt, turn);
     }
 
     /// How many turns come before this one; 0 where it is served, also while the gate is shut.
@@ -131,6 +124,7 @@ impl<D: MonitorData> TicketDoor<D> {
             self.table
                 .shared
                 .park_timeout(rt, word, 0, Duration::from_micros(NAP));
+            self.naps.yields.count_nap(self.turns_ahead(turn) == 0);
         }
         self.naps.napping.fetch_and(!mark, Ordering::SeqCst);
     }

@@ -14,7 +14,6 @@ ghost use Rattle.ticket_door.specs.Asked.{IsAsking, IsServed, IsAsked, EntersBy}
 ghost use Rattle.hoare_law.specs.Admissions.{admissions};
 
 use crate::door::TicketDoor;
-use crate::naps::Patience;
 use crate::place::{Asked, TicketIn, TicketOut};
 use crate::rule::{Ask, Counting, Look};
 use crate::words::{NEXT, SERVING, served_as};
@@ -71,12 +70,11 @@ impl<D: MonitorData> TicketDoor<D> {
         ensures let_in { IsServed D.rest D.ready place seat.old.me seat.new.me }
     {
         let turn = served_as(ticket);
-        let patience = Patience::new();
         for _ in rt.forever() {
             if self.is_served::<J>(seat, place, ticket) {
                 return;
             }
-            self.stand_back(rt, turn, &patience);
+            self.stand_back(rt, turn);
         }
         unreachable!()
     }

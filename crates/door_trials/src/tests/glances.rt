@@ -181,6 +181,24 @@ fn acts<R: Wait + Abort + Clock, M: Glanced>(
     }
 }
 
+// The row on a baton door: what its places answered.
+fn on_baton_door(rt: &HostRuntime, alloc: Global, row: GlanceRow<'_>) -> Vec<u64> {
+    run!(on_baton_door(), rt, alloc, Tally { value: 0 }, 2, acts(row)).1
+}
+
+// The same on a ticket door.
+fn on_ticket_door(rt: &HostRuntime, alloc: Global, row: GlanceRow<'_>) -> Vec<u64> {
+    run!(
+        on_ticket_door(0),
+        rt,
+        alloc,
+        Tally { value: 0 },
+        2,
+        acts(row)
+    )
+    .1
+}
+
 // The newcomer is seen at once, and who is handed the monitor in one of the rounds.
 #[test]
 fn a_newcomer_and_who_is_owed_are_seen_at_each_door(host: HostRuntime) {
@@ -190,7 +208,10 @@ fn a_newcomer_and_who_is_owed_are_seen_at_each_door(host: HostRuntime) {
         let mut row = GlanceRow::ANewcomerIsSeen(&sign);
         let mut is_owed = false;
         for round in 0..=ROUNDS {
-            let (_, mut answers) = run!(rt, alloc, kind, Tally { value: 0 }, 2, acts(row));
+            let mut answers = match kind {
+                DoorKind::Baton => on_baton_door(rt, alloc, row),
+                DoorKind::Ticket => on_ticket_door(rt, alloc, row),
+            };
             if round == 0 {
                 expect_same(rt, answers.as_slice(), [1, 0].as_slice());
                 row = GlanceRow::WhoIsHandedTheMonitorIsSeen;

@@ -207,6 +207,34 @@ fn setting(row: HeadRow<'_>) -> (u16, usize) {
     }
 }
 
+// The row on a baton door: what its places answered.
+fn on_baton_door(rt: &HostRuntime, alloc: Global, row: HeadRow<'_>) -> Vec<u64> {
+    let (cylmax, places) = setting(row);
+    run!(
+        on_baton_door(),
+        rt,
+        alloc,
+        disk(alloc, cylmax),
+        places,
+        acts(row)
+    )
+    .1
+}
+
+// The same on a ticket door.
+fn on_ticket_door(rt: &HostRuntime, alloc: Global, row: HeadRow<'_>) -> Vec<u64> {
+    let (cylmax, places) = setting(row);
+    run!(
+        on_ticket_door(0),
+        rt,
+        alloc,
+        disk(alloc, cylmax),
+        places,
+        acts(row)
+    )
+    .1
+}
+
 #[test]
 fn a_disk_head_on_each_door(host: HostRuntime) {
     let (rt, alloc) = (&host, host.alloc());
@@ -219,10 +247,11 @@ fn a_disk_head_on_each_door(host: HostRuntime) {
             HeadRow::StayCountsGrants(&turns),
             HeadRow::TheDriveGoesBySweeps(&log),
         ] {
-            let (cylmax, places) = setting(row);
-            let head = disk(alloc, cylmax);
-            let (_, answers) = run!(rt, alloc, kind, head, places, acts(row));
-            all_answered(rt, kind, answers.as_slice(), places);
+            let answers = match kind {
+                DoorKind::Baton => on_baton_door(rt, alloc, row),
+                DoorKind::Ticket => on_ticket_door(rt, alloc, row),
+            };
+            all_answered(rt, kind, answers.as_slice(), setting(row).1);
         }
         is_a_sweep(rt, log);
     }

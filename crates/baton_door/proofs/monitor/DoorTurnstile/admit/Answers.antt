@@ -21,11 +21,13 @@ returns-then-try_at_once-clause-came g c = λ f away.
 pub take_parcel-requires-2-clause-full : goal.take_parcel-requires-2-clause-full
 take_parcel-requires-2-clause-full g c =
     let out = c.requires.outside in
-    let t = c.keep_trying.ensures.let_in c.args.place out.0 (c.try_at_once.ensures.turned_away c.if-try_at_once.false ∙ out.1) in
+    let away = c.try_at_once.ensures.turned_away c.if-try_at_once.false ∙ out.1 in
+    let t = c.keep_trying.ensures.let_in c.args.place out.0 away in
     (_, t.0, t.1.me_is)
 
 pub returns-clause-came : goal.returns-clause-came
 returns-clause-came g c = λ f away.
     let D = g.D.MonitorData in
-    let t = c.keep_trying.ensures.let_in c.args.place f (c.try_at_once.ensures.turned_away c.if-try_at_once.false ∙ away) in
+    let still_away = c.try_at_once.ensures.turned_away c.if-try_at_once.false ∙ away in
+    let t = c.keep_trying.ensures.let_in c.args.place f still_away in
     took D.rest D.ready t.1 c.take_parcel-2.ensures.taken c.take_parcel-2.ensures.empty

@@ -8,6 +8,7 @@ use crate::tests::rows::shared_log::Log;
 use crate::tests::rows::turns::watch;
 use any_door::DoorKind;
 use hoare_law::monitor::Monitor;
+use std::alloc::Global;
 use std::process::Abort;
 use std::sync::Wait;
 use timed_schedulers::alarm::{Alarm, ClockFull, TooFar};
@@ -147,6 +148,34 @@ fn wanted(row: AlarmRow<'_>) -> &'static [u64] {
     }
 }
 
+// The row on a baton door: what its places answered.
+fn on_baton_door(rt: &HostRuntime, alloc: Global, row: AlarmRow<'_>) -> Vec<u64> {
+    let (time, places) = setting(row);
+    run!(
+        on_baton_door(),
+        rt,
+        alloc,
+        Alarm::at(time),
+        places,
+        acts(row)
+    )
+    .1
+}
+
+// The same on a ticket door.
+fn on_ticket_door(rt: &HostRuntime, alloc: Global, row: AlarmRow<'_>) -> Vec<u64> {
+    let (time, places) = setting(row);
+    run!(
+        on_ticket_door(0),
+        rt,
+        alloc,
+        Alarm::at(time),
+        places,
+        acts(row)
+    )
+    .1
+}
+
 #[test]
 fn an_alarm_clock_on_each_door(host: HostRuntime) {
     let (rt, alloc) = (&host, host.alloc());
@@ -157,8 +186,10 @@ fn an_alarm_clock_on_each_door(host: HostRuntime) {
             AlarmRow::AClockEndsAtItsLastTime,
             AlarmRow::AllThatAreDueWakeAtTheirTime(&log),
         ] {
-            let (time, places) = setting(row);
-            let (_, answers) = run!(rt, alloc, kind, Alarm::at(time), places, acts(row));
+            let answers = match kind {
+                DoorKind::Baton => on_baton_door(rt, alloc, row),
+                DoorKind::Ticket => on_ticket_door(rt, alloc, row),
+            };
             answered(rt, kind, answers.as_slice(), wanted(row));
         }
         is_a_clock(rt, log);

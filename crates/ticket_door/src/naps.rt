@@ -89,8 +89,8 @@ impl Naps {
 impl<D: MonitorData> TicketDoor<D> {
     /// A newcomer that is near looks on for a while, longer the nearer it is. Then it yields, or naps where it mayn't.
     pub(crate) fn stand_back<R: Wait>(&self, rt: &R, turn: u64) {
-        let ahead = self.turns_ahead(turn);
-        if 0 < ahead && ahead <= NEAR && self.look_for(turn, NEXT_IN_TURN / ahead) {
+        let ahead = self.turns_ahead(turn).max(1);
+        if ahead <= NEAR && self.look_for(turn, NEXT_IN_TURN / ahead) {
             return;
         }
         if !self.naps.gives_core() {
@@ -119,7 +119,7 @@ impl<D: MonitorData> TicketDoor<D> {
     fn nap<R: Wait>(&self, rt: &R, turn: u64) {
         let mark = mark_of(turn);
         self.naps.napping.fetch_or(mark, Ordering::SeqCst);
-        if self.turns_ahead(turn) != 0 {
+        if self.table.shared.peek(SERVING) != turn {
             let word = nap_of(turn, self.wakers.len());
             self.table
                 .shared

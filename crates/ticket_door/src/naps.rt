@@ -7,8 +7,8 @@
 //!
 //! While cores are idle a yield is short, and a nap with its call is long; where all are busy a yield may cost a slice.
 //! So while one newcomer naps, others yield, and its naps tell how long that took: behind a long yield newcomers nap
-//! for many times (`door_frame::yields`). Where nobody naps nothing tells it. Then newcomers yield only as often as
-//! short yields let them, and behind that one naps.
+//! for many times (`door_frame::yields`). Where nobody naps nothing tells it. Then newcomers yield only where many in a
+//! row were short, and not often; else one naps.
 use crate::door::TicketDoor;
 use crate::words::{SERVING, SHUT, TURN, mark_of, nap_of};
 use crossbeam_utils::CachePadded;
@@ -27,10 +27,10 @@ pub(crate) struct Naps {
     napping: AtomicU64,
     /// What is known of yields, by how naps end.
     yields: Yields,
+    /// How many yields in a row were short, up to `MOST_TRUSTED`.
+    row: AtomicU64,
     /// How often newcomers may yield from now on while nobody naps.
     trusted: AtomicU64,
-    /// How often they may behind the next short yield.
-    trusts: AtomicU64,
 }
 
 impl Naps {
@@ -39,8 +39,8 @@ impl Naps {
         CachePadded::new(Naps {
             napping: AtomicU64::new(0),
             yields: Yields::new(),
+            row: AtomicU64::new(0),
             trusted: AtomicU64::new(0),
-            trusts: AtomicU64::new(1),
         })
     }
 
@@ -72,17 +72,19 @@ impl Naps {
         true
     }
 
-    /// What a yield tells of the next ones: behind each short one twice as many are trusted, behind a long one none.
+    /// What a yield tells of the next ones: where so many in a row were short as many more are trusted, and none behind
+    /// a long one.
     fn learn(&self, was_long: bool) {
         self.yields.learn(was_long);
-        let trusts = if was_long {
-            0
+        let row = self.row.load(Ordering::Relaxed);
+        if was_long {
+            self.row.store(0, Ordering::Relaxed);
+            self.trusted.store(0, Ordering::Relaxed);
+        } else if row < MOST_TRUSTED {
+            self.row.store(row + 1, Ordering::Relaxed);
         } else {
-            self.trusts.load(Ordering::Relaxed)
-        };
-        self.trusted.store(trusts, Ordering::Relaxed);
-        let next = trusts.saturating_mul(2).clamp(1, MOST_TRUSTED);
-        self.trusts.store(next, Ordering::Relaxed);
+            self.trusted.store(MOST_TRUSTED, Ordering::Relaxed);
+        }
     }
 }
 

@@ -15,6 +15,7 @@ use std::rt::Clock;
 use std::sync::Wait;
 use std::sync::atomic::{AtomicBool, Ordering};
 use std::thread;
+use std::thread::Threads;
 use std::time::Duration;
 use test_support::tally::Tally;
 use ticket_door::door::TicketDoor;
@@ -182,12 +183,20 @@ fn acts<R: Wait + Abort + Clock, M: Glanced>(
 }
 
 // The row on a baton door: what its places answered.
-fn on_baton_door(rt: &HostRuntime, alloc: Global, row: GlanceRow<'_>) -> Vec<u64> {
+fn on_baton_door<R: Threads + Wait + Abort + Clock + Sync>(
+    rt: &R,
+    alloc: Global,
+    row: GlanceRow<'_>,
+) -> Vec<u64> {
     run!(on_baton_door(), rt, alloc, Tally { value: 0 }, 2, acts(row)).1
 }
 
 // The same on a ticket door.
-fn on_ticket_door(rt: &HostRuntime, alloc: Global, row: GlanceRow<'_>) -> Vec<u64> {
+fn on_ticket_door<R: Threads + Wait + Abort + Clock + Sync>(
+    rt: &R,
+    alloc: Global,
+    row: GlanceRow<'_>,
+) -> Vec<u64> {
     run!(
         on_ticket_door(0),
         rt,

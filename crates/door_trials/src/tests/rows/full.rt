@@ -9,7 +9,9 @@ use hoare_law::unasked::Unasked;
 use hoare_law::waits::Waits;
 use std::alloc::Global;
 use std::process::Abort;
+use std::rt::Clock;
 use std::sync::Wait;
+use std::thread::Threads;
 
 const PLACES: usize = 64;
 
@@ -108,7 +110,7 @@ fn stands_in_order<R: Abort>(rt: &R, alloc: Global, row: &[usize]) {
 }
 
 // All places of a baton door wait: the order in which they went on.
-fn on_baton_door(rt: &HostRuntime, alloc: Global) -> Order {
+fn on_baton_door<R: Threads + Wait + Abort + Clock + Sync>(rt: &R, alloc: Global) -> Order {
     let order = Order {
         value: no_places(rt, alloc),
     };
@@ -116,7 +118,7 @@ fn on_baton_door(rt: &HostRuntime, alloc: Global) -> Order {
 }
 
 // The same on a ticket door.
-fn on_ticket_door(rt: &HostRuntime, alloc: Global) -> Order {
+fn on_ticket_door<R: Threads + Wait + Abort + Clock + Sync>(rt: &R, alloc: Global) -> Order {
     let order = Order {
         value: no_places(rt, alloc),
     };

@@ -11,6 +11,7 @@ use std::process::Abort;
 use std::rt::Clock;
 use std::sync::Wait;
 use std::thread;
+use std::thread::Threads;
 use std::time::Duration;
 use test_support::diary::Diary;
 use test_support::diary_calls::{HOARE, broadcast, enter, leave, pass, rouse, wait};
@@ -164,7 +165,12 @@ fn rounds_on(kind: DoorKind) -> u64 {
 }
 
 // A day on a baton door: what the places wrote.
-fn on_baton_door(rt: &HostRuntime, alloc: Global, rounds: u64, day: u64) -> Diary {
+fn on_baton_door<R: Threads + Wait + Abort + Clock + Sync>(
+    rt: &R,
+    alloc: Global,
+    rounds: u64,
+    day: u64,
+) -> Diary {
     let diary = empty_diary(rt, alloc);
     run!(
         on_baton_door(),
@@ -178,7 +184,12 @@ fn on_baton_door(rt: &HostRuntime, alloc: Global, rounds: u64, day: u64) -> Diar
 }
 
 // The same on a ticket door.
-fn on_ticket_door(rt: &HostRuntime, alloc: Global, rounds: u64, day: u64) -> Diary {
+fn on_ticket_door<R: Threads + Wait + Abort + Clock + Sync>(
+    rt: &R,
+    alloc: Global,
+    rounds: u64,
+    day: u64,
+) -> Diary {
     let diary = empty_diary(rt, alloc);
     run!(
         on_ticket_door(0),

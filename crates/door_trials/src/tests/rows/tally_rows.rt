@@ -16,6 +16,7 @@ use std::process::Abort;
 use std::rt::Clock;
 use std::sync::Wait;
 use std::sync::atomic::{AtomicBool, AtomicUsize};
+use std::thread::Threads;
 use std::time::CpuClock;
 use test_support::tally::{Tally, calls_all};
 
@@ -111,7 +112,11 @@ fn holds<R: Abort>(rt: &R, kind: DoorKind, row: TallyRow<'_>, left: (Tally, Vec<
 }
 
 // The row on a baton door: the data that were left, and what its places answered.
-fn on_baton_door(rt: &HostRuntime, alloc: Global, row: TallyRow<'_>) -> (Tally, Vec<u64>) {
+fn on_baton_door<R: Threads + Wait + Abort + Clock + CpuClock + Sync>(
+    rt: &R,
+    alloc: Global,
+    row: TallyRow<'_>,
+) -> (Tally, Vec<u64>) {
     run!(
         on_baton_door(),
         rt,
@@ -123,7 +128,11 @@ fn on_baton_door(rt: &HostRuntime, alloc: Global, row: TallyRow<'_>) -> (Tally, 
 }
 
 // The same on a ticket door.
-fn on_ticket_door(rt: &HostRuntime, alloc: Global, row: TallyRow<'_>) -> (Tally, Vec<u64>) {
+fn on_ticket_door<R: Threads + Wait + Abort + Clock + CpuClock + Sync>(
+    rt: &R,
+    alloc: Global,
+    row: TallyRow<'_>,
+) -> (Tally, Vec<u64>) {
     run!(
         on_ticket_door(0),
         rt,

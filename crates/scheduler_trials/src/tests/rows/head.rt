@@ -17,6 +17,7 @@ use std::alloc::Global;
 use std::process::Abort;
 use std::rt::Clock;
 use std::sync::Wait;
+use std::thread::Threads;
 use sweep_schedulers::head::{Head, OffDisk};
 use sweep_schedulers::not_out::NotOut;
 
@@ -208,7 +209,11 @@ fn setting(row: HeadRow<'_>) -> (u16, usize) {
 }
 
 // The row on a baton door: what its places answered.
-fn on_baton_door(rt: &HostRuntime, alloc: Global, row: HeadRow<'_>) -> Vec<u64> {
+fn on_baton_door<R: Threads + Wait + Abort + Clock + Sync>(
+    rt: &R,
+    alloc: Global,
+    row: HeadRow<'_>,
+) -> Vec<u64> {
     let (cylmax, places) = setting(row);
     run!(
         on_baton_door(),
@@ -222,7 +227,11 @@ fn on_baton_door(rt: &HostRuntime, alloc: Global, row: HeadRow<'_>) -> Vec<u64> 
 }
 
 // The same on a ticket door.
-fn on_ticket_door(rt: &HostRuntime, alloc: Global, row: HeadRow<'_>) -> Vec<u64> {
+fn on_ticket_door<R: Threads + Wait + Abort + Clock + Sync>(
+    rt: &R,
+    alloc: Global,
+    row: HeadRow<'_>,
+) -> Vec<u64> {
     let (cylmax, places) = setting(row);
     run!(
         on_ticket_door(0),

@@ -13,6 +13,7 @@ use std::alloc::Global;
 use std::process::Abort;
 use std::rt::Clock;
 use std::sync::Wait;
+use std::thread::Threads;
 use test_support::running::count_waiting;
 
 /// A buffer of this many cells, with Mesa conditions.
@@ -160,7 +161,11 @@ fn holds<R: Abort>(rt: &R, kind: DoorKind, row: MesaRow<'_>, answers: &[u64]) {
 }
 
 // The row on a baton door: what its places answered.
-fn on_baton_door(rt: &HostRuntime, alloc: Global, row: MesaRow<'_>) -> Vec<u64> {
+fn on_baton_door<R: Threads + Wait + Abort + Clock + Sync>(
+    rt: &R,
+    alloc: Global,
+    row: MesaRow<'_>,
+) -> Vec<u64> {
     let (cells, places) = setting(row);
     run!(
         on_baton_door(),
@@ -174,7 +179,11 @@ fn on_baton_door(rt: &HostRuntime, alloc: Global, row: MesaRow<'_>) -> Vec<u64> 
 }
 
 // The same on a ticket door.
-fn on_ticket_door(rt: &HostRuntime, alloc: Global, row: MesaRow<'_>) -> Vec<u64> {
+fn on_ticket_door<R: Threads + Wait + Abort + Clock + Sync>(
+    rt: &R,
+    alloc: Global,
+    row: MesaRow<'_>,
+) -> Vec<u64> {
     let (cells, places) = setting(row);
     run!(
         on_ticket_door(0),

@@ -19,6 +19,7 @@ use std::process::Abort;
 use std::rt::Clock;
 use std::sync::Wait;
 use std::sync::atomic::AtomicU32;
+use std::thread::Threads;
 use sweep_schedulers::readers_writers::{NoReader, ReadersWriters};
 
 /// Writes a number where this one stands, and tries to write another, which comes back.
@@ -242,7 +243,11 @@ fn holds<R: Abort>(rt: &R, kind: DoorKind, row: ReadersRow<'_>, value: u64) {
 }
 
 // The row on a baton door: the data that were left, and what its places answered.
-fn on_baton_door(rt: &HostRuntime, alloc: Global, row: ReadersRow<'_>) -> (Shared, Vec<u64>) {
+fn on_baton_door<R: Threads + Wait + Abort + Clock + Sync>(
+    rt: &R,
+    alloc: Global,
+    row: ReadersRow<'_>,
+) -> (Shared, Vec<u64>) {
     let (value, places) = setting(row);
     run!(
         on_baton_door(),
@@ -255,7 +260,11 @@ fn on_baton_door(rt: &HostRuntime, alloc: Global, row: ReadersRow<'_>) -> (Share
 }
 
 // The same on a ticket door.
-fn on_ticket_door(rt: &HostRuntime, alloc: Global, row: ReadersRow<'_>) -> (Shared, Vec<u64>) {
+fn on_ticket_door<R: Threads + Wait + Abort + Clock + Sync>(
+    rt: &R,
+    alloc: Global,
+    row: ReadersRow<'_>,
+) -> (Shared, Vec<u64>) {
     let (value, places) = setting(row);
     run!(
         on_ticket_door(0),

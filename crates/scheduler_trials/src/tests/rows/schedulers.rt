@@ -14,6 +14,7 @@ use std::process::Abort;
 use std::rt::Clock;
 use std::sync::Wait;
 use std::sync::atomic::{AtomicBool, Ordering};
+use std::thread::Threads;
 
 // Takes the item, gives a sign, lets another place wait for it, and puts it back: what it took.
 fn lends<R: Wait + Abort, M: Monitor<Single<u64>>>(
@@ -106,7 +107,11 @@ fn appends_or_removes<R: Wait, M: Monitor<Buffer<u64>>>(
 }
 
 // An item is lent on a baton door: what the places took.
-fn lent_on_baton_door(rt: &HostRuntime, alloc: Global, sign: &AtomicBool) -> Vec<u64> {
+fn lent_on_baton_door<R: Threads + Wait + Abort + Clock + Sync>(
+    rt: &R,
+    alloc: Global,
+    sign: &AtomicBool,
+) -> Vec<u64> {
     run!(
         on_baton_door(),
         rt,
@@ -119,7 +124,11 @@ fn lent_on_baton_door(rt: &HostRuntime, alloc: Global, sign: &AtomicBool) -> Vec
 }
 
 // The same on a ticket door.
-fn lent_on_ticket_door(rt: &HostRuntime, alloc: Global, sign: &AtomicBool) -> Vec<u64> {
+fn lent_on_ticket_door<R: Threads + Wait + Abort + Clock + Sync>(
+    rt: &R,
+    alloc: Global,
+    sign: &AtomicBool,
+) -> Vec<u64> {
     run!(
         on_ticket_door(0),
         rt,
@@ -145,7 +154,12 @@ fn an_item_is_lent_on_each_door(host: HostRuntime) {
 }
 
 // Items go through a buffer on a baton door: how many came in their turn.
-fn passed_on_baton_door(rt: &HostRuntime, alloc: Global, cells: usize, items: u64) -> Vec<u64> {
+fn passed_on_baton_door<R: Threads + Wait + Abort + Clock + Sync>(
+    rt: &R,
+    alloc: Global,
+    cells: usize,
+    items: u64,
+) -> Vec<u64> {
     let buffer = with_cells(rt, alloc, cells);
     run!(
         on_baton_door(),
@@ -159,7 +173,12 @@ fn passed_on_baton_door(rt: &HostRuntime, alloc: Global, cells: usize, items: u6
 }
 
 // The same on a ticket door.
-fn passed_on_ticket_door(rt: &HostRuntime, alloc: Global, cells: usize, items: u64) -> Vec<u64> {
+fn passed_on_ticket_door<R: Threads + Wait + Abort + Clock + Sync>(
+    rt: &R,
+    alloc: Global,
+    cells: usize,
+    items: u64,
+) -> Vec<u64> {
     let buffer = with_cells(rt, alloc, cells);
     run!(
         on_ticket_door(0),

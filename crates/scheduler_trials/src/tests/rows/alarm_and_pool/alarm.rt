@@ -10,7 +10,9 @@ use any_door::DoorKind;
 use hoare_law::monitor::Monitor;
 use std::alloc::Global;
 use std::process::Abort;
+use std::rt::Clock;
 use std::sync::Wait;
+use std::thread::Threads;
 use timed_schedulers::alarm::{Alarm, ClockFull, TooFar};
 
 /// Sleeps for this many ticks: the time at which it woke.
@@ -149,7 +151,11 @@ fn wanted(row: AlarmRow<'_>) -> &'static [u64] {
 }
 
 // The row on a baton door: what its places answered.
-fn on_baton_door(rt: &HostRuntime, alloc: Global, row: AlarmRow<'_>) -> Vec<u64> {
+fn on_baton_door<R: Threads + Wait + Abort + Clock + Sync>(
+    rt: &R,
+    alloc: Global,
+    row: AlarmRow<'_>,
+) -> Vec<u64> {
     let (time, places) = setting(row);
     run!(
         on_baton_door(),
@@ -163,7 +169,11 @@ fn on_baton_door(rt: &HostRuntime, alloc: Global, row: AlarmRow<'_>) -> Vec<u64>
 }
 
 // The same on a ticket door.
-fn on_ticket_door(rt: &HostRuntime, alloc: Global, row: AlarmRow<'_>) -> Vec<u64> {
+fn on_ticket_door<R: Threads + Wait + Abort + Clock + Sync>(
+    rt: &R,
+    alloc: Global,
+    row: AlarmRow<'_>,
+) -> Vec<u64> {
     let (time, places) = setting(row);
     run!(
         on_ticket_door(0),

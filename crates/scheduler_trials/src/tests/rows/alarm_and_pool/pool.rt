@@ -14,6 +14,7 @@ use std::alloc::Global;
 use std::process::Abort;
 use std::rt::Clock;
 use std::sync::Wait;
+use std::thread::Threads;
 use timed_schedulers::pool::{GiveRefused, NoStream, Pool, PoolRefused};
 
 /// A pool of this many buffers, for this many streams.
@@ -199,14 +200,22 @@ fn wanted(row: PoolRow<'_>) -> &'static [u64] {
 }
 
 // The row on a baton door: what its places answered.
-fn on_baton_door(rt: &HostRuntime, alloc: Global, row: PoolRow<'_>) -> Vec<u64> {
+fn on_baton_door<R: Threads + Wait + Abort + Clock + Sync>(
+    rt: &R,
+    alloc: Global,
+    row: PoolRow<'_>,
+) -> Vec<u64> {
     let (buffers, streams, places) = setting(row);
     let pool = with_buffers(rt, alloc, buffers, streams);
     run!(on_baton_door(), rt, alloc, pool, places, acts(row)).1
 }
 
 // The same on a ticket door.
-fn on_ticket_door(rt: &HostRuntime, alloc: Global, row: PoolRow<'_>) -> Vec<u64> {
+fn on_ticket_door<R: Threads + Wait + Abort + Clock + Sync>(
+    rt: &R,
+    alloc: Global,
+    row: PoolRow<'_>,
+) -> Vec<u64> {
     let (buffers, streams, places) = setting(row);
     let pool = with_buffers(rt, alloc, buffers, streams);
     run!(on_ticket_door(0), rt, alloc, pool, places, acts(row)).1

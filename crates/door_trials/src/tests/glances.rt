@@ -15,7 +15,6 @@ use std::rt::Clock;
 use std::sync::Wait;
 use std::sync::atomic::{AtomicBool, Ordering};
 use std::thread;
-use std::thread::Threads;
 use std::time::Duration;
 use test_support::tally::Tally;
 use ticket_door::door::TicketDoor;
@@ -182,32 +181,6 @@ fn acts<R: Wait + Abort + Clock, M: Glanced>(
     }
 }
 
-// The row on a baton door: what its places answered.
-fn on_baton_door<R: Threads + Wait + Abort + Clock + Sync>(
-    rt: &R,
-    alloc: Global,
-    row: GlanceRow<'_>,
-) -> Vec<u64> {
-    run!(on_baton_door(), rt, alloc, Tally { value: 0 }, 2, acts(row)).1
-}
-
-// The same on a ticket door.
-fn on_ticket_door<R: Threads + Wait + Abort + Clock + Sync>(
-    rt: &R,
-    alloc: Global,
-    row: GlanceRow<'_>,
-) -> Vec<u64> {
-    run!(
-        on_ticket_door(0),
-        rt,
-        alloc,
-        Tally { value: 0 },
-        2,
-        acts(row)
-    )
-    .1
-}
-
 // The newcomer is seen at once, and who is handed the monitor in one of the rounds.
 #[test]
 fn a_newcomer_and_who_is_owed_are_seen_at_each_door(host: HostRuntime) {
@@ -217,10 +190,7 @@ fn a_newcomer_and_who_is_owed_are_seen_at_each_door(host: HostRuntime) {
         let mut row = GlanceRow::ANewcomerIsSeen(&sign);
         let mut is_owed = false;
         for round in 0..=ROUNDS {
-            let mut answers = match kind {
-                DoorKind::Baton => on_baton_door(rt, alloc, row),
-                DoorKind::Ticket => on_ticket_door(rt, alloc, row),
-            };
+            let (_, mut answers) = run!(rt, alloc, kind, Tally { value: 0 }, 2, acts(row));
             if round == 0 {
                 expect_same(rt, answers.as_slice(), [1, 0].as_slice());
                 row = GlanceRow::WhoIsHandedTheMonitorIsSeen;

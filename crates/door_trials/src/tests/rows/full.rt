@@ -9,9 +9,7 @@ use hoare_law::unasked::Unasked;
 use hoare_law::waits::Waits;
 use std::alloc::Global;
 use std::process::Abort;
-use std::rt::Clock;
 use std::sync::Wait;
-use std::thread::Threads;
 
 const PLACES: usize = 64;
 
@@ -109,30 +107,14 @@ fn stands_in_order<R: Abort>(rt: &R, alloc: Global, row: &[usize]) {
     expect_same(rt, row, expected.as_slice());
 }
 
-// All places of a baton door wait: the order in which they went on.
-fn on_baton_door<R: Threads + Wait + Abort + Clock + Sync>(rt: &R, alloc: Global) -> Order {
-    let order = Order {
-        value: no_places(rt, alloc),
-    };
-    run!(on_baton_door(), rt, alloc, order, PLACES, waits_in_row()).0
-}
-
-// The same on a ticket door.
-fn on_ticket_door<R: Threads + Wait + Abort + Clock + Sync>(rt: &R, alloc: Global) -> Order {
-    let order = Order {
-        value: no_places(rt, alloc),
-    };
-    run!(on_ticket_door(0), rt, alloc, order, PLACES, waits_in_row()).0
-}
-
 #[test]
 fn sixty_four_places_wait_on_each_door(host: HostRuntime) {
     let (rt, alloc) = (&host, host.alloc());
     for kind in DoorKind::BOTH {
-        let row = match kind {
-            DoorKind::Baton => on_baton_door(rt, alloc),
-            DoorKind::Ticket => on_ticket_door(rt, alloc),
+        let data = Order {
+            value: no_places(rt, alloc),
         };
+        let (row, _) = run!(rt, alloc, kind, data, PLACES, waits_in_row());
         stands_in_order(rt, alloc, row.value.as_slice());
     }
 }

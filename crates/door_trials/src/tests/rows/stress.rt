@@ -11,7 +11,6 @@ use std::process::Abort;
 use std::rt::Clock;
 use std::sync::Wait;
 use std::thread;
-use std::thread::Threads;
 use std::time::Duration;
 use test_support::diary::Diary;
 use test_support::diary_calls::{HOARE, broadcast, enter, leave, pass, rouse, wait};
@@ -164,54 +163,14 @@ fn rounds_on(kind: DoorKind) -> u64 {
     }
 }
 
-// A day on a baton door: what the places wrote.
-fn on_baton_door<R: Threads + Wait + Abort + Clock + Sync>(
-    rt: &R,
-    alloc: Global,
-    rounds: u64,
-    day: u64,
-) -> Diary {
-    let diary = empty_diary(rt, alloc);
-    run!(
-        on_baton_door(),
-        rt,
-        alloc,
-        diary,
-        PLACES,
-        works_or_sweeps(rounds, day)
-    )
-    .0
-}
-
-// The same on a ticket door.
-fn on_ticket_door<R: Threads + Wait + Abort + Clock + Sync>(
-    rt: &R,
-    alloc: Global,
-    rounds: u64,
-    day: u64,
-) -> Diary {
-    let diary = empty_diary(rt, alloc);
-    run!(
-        on_ticket_door(0),
-        rt,
-        alloc,
-        diary,
-        PLACES,
-        works_or_sweeps(rounds, day)
-    )
-    .0
-}
-
 #[test]
 fn a_diary_of_each_door_is_a_legal_history(host: HostRuntime) {
     let (rt, alloc) = (&host, host.alloc());
     for kind in DoorKind::BOTH {
         let rounds = rounds_on(kind);
         for day in 0..DAYS {
-            let diary = match kind {
-                DoorKind::Baton => on_baton_door(rt, alloc, rounds, day),
-                DoorKind::Ticket => on_ticket_door(rt, alloc, rounds, day),
-            };
+            let data = empty_diary(rt, alloc);
+            let (diary, _) = run!(rt, alloc, kind, data, PLACES, works_or_sweeps(rounds, day));
             agrees(rt, &diary, rounds);
         }
     }

@@ -11,12 +11,10 @@ use crate::tests::rows::wakes::{comes_late, waits_long};
 use crate::tests::rows::{naps, tries};
 use any_door::DoorKind;
 use hoare_law::monitor::Monitor;
-use std::alloc::Global;
 use std::process::Abort;
 use std::rt::Clock;
 use std::sync::Wait;
 use std::sync::atomic::{AtomicBool, AtomicUsize};
-use std::thread::Threads;
 use std::time::CpuClock;
 use test_support::tally::{Tally, calls_all};
 
@@ -111,38 +109,6 @@ fn holds<R: Abort>(rt: &R, kind: DoorKind, row: TallyRow<'_>, left: (Tally, Vec<
     );
 }
 
-// The row on a baton door: the data that were left, and what its places answered.
-fn on_baton_door<R: Threads + Wait + Abort + Clock + CpuClock + Sync>(
-    rt: &R,
-    alloc: Global,
-    row: TallyRow<'_>,
-) -> (Tally, Vec<u64>) {
-    run!(
-        on_baton_door(),
-        rt,
-        alloc,
-        Tally { value: 0 },
-        places(row),
-        acts(row)
-    )
-}
-
-// The same on a ticket door.
-fn on_ticket_door<R: Threads + Wait + Abort + Clock + CpuClock + Sync>(
-    rt: &R,
-    alloc: Global,
-    row: TallyRow<'_>,
-) -> (Tally, Vec<u64>) {
-    run!(
-        on_ticket_door(0),
-        rt,
-        alloc,
-        Tally { value: 0 },
-        places(row),
-        acts(row)
-    )
-}
-
 #[test]
 fn a_tally_on_each_door(host: HostRuntime) {
     let (rt, alloc) = (&host, host.alloc());
@@ -163,10 +129,8 @@ fn a_tally_on_each_door(host: HostRuntime) {
             TallyRow::ANewcomerThatNobodyCallsComesIn(&signs),
             TallyRow::EightComeInBesideEightBusyThreads(&gone),
         ] {
-            let left = match kind {
-                DoorKind::Baton => on_baton_door(rt, alloc, row),
-                DoorKind::Ticket => on_ticket_door(rt, alloc, row),
-            };
+            let data = Tally { value: 0 };
+            let left = run!(rt, alloc, kind, data, places(row), acts(row));
             holds(rt, kind, row, left);
         }
     }

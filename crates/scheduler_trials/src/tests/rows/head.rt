@@ -17,7 +17,6 @@ use std::alloc::Global;
 use std::process::Abort;
 use std::rt::Clock;
 use std::sync::Wait;
-use std::thread::Threads;
 use sweep_schedulers::head::{Head, OffDisk};
 use sweep_schedulers::not_out::NotOut;
 
@@ -208,42 +207,6 @@ fn setting(row: HeadRow<'_>) -> (u16, usize) {
     }
 }
 
-// The row on a baton door: what its places answered.
-fn on_baton_door<R: Threads + Wait + Abort + Clock + Sync>(
-    rt: &R,
-    alloc: Global,
-    row: HeadRow<'_>,
-) -> Vec<u64> {
-    let (cylmax, places) = setting(row);
-    run!(
-        on_baton_door(),
-        rt,
-        alloc,
-        disk(alloc, cylmax),
-        places,
-        acts(row)
-    )
-    .1
-}
-
-// The same on a ticket door.
-fn on_ticket_door<R: Threads + Wait + Abort + Clock + Sync>(
-    rt: &R,
-    alloc: Global,
-    row: HeadRow<'_>,
-) -> Vec<u64> {
-    let (cylmax, places) = setting(row);
-    run!(
-        on_ticket_door(0),
-        rt,
-        alloc,
-        disk(alloc, cylmax),
-        places,
-        acts(row)
-    )
-    .1
-}
-
 #[test]
 fn a_disk_head_on_each_door(host: HostRuntime) {
     let (rt, alloc) = (&host, host.alloc());
@@ -256,11 +219,10 @@ fn a_disk_head_on_each_door(host: HostRuntime) {
             HeadRow::StayCountsGrants(&turns),
             HeadRow::TheDriveGoesBySweeps(&log),
         ] {
-            let answers = match kind {
-                DoorKind::Baton => on_baton_door(rt, alloc, row),
-                DoorKind::Ticket => on_ticket_door(rt, alloc, row),
-            };
-            all_answered(rt, kind, answers.as_slice(), setting(row).1);
+            let (cylmax, places) = setting(row);
+            let head = disk(alloc, cylmax);
+            let (_, answers) = run!(rt, alloc, kind, head, places, acts(row));
+            all_answered(rt, kind, answers.as_slice(), places);
         }
         is_a_sweep(rt, log);
     }

@@ -13,7 +13,6 @@ use std::alloc::Global;
 use std::process::Abort;
 use std::rt::Clock;
 use std::sync::Wait;
-use std::thread::Threads;
 use test_support::running::count_waiting;
 
 /// A buffer of this many cells, with Mesa conditions.
@@ -160,42 +159,6 @@ fn holds<R: Abort>(rt: &R, kind: DoorKind, row: MesaRow<'_>, answers: &[u64]) {
     );
 }
 
-// The row on a baton door: what its places answered.
-fn on_baton_door<R: Threads + Wait + Abort + Clock + Sync>(
-    rt: &R,
-    alloc: Global,
-    row: MesaRow<'_>,
-) -> Vec<u64> {
-    let (cells, places) = setting(row);
-    run!(
-        on_baton_door(),
-        rt,
-        alloc,
-        with_cells(rt, alloc, cells),
-        places,
-        acts(row)
-    )
-    .1
-}
-
-// The same on a ticket door.
-fn on_ticket_door<R: Threads + Wait + Abort + Clock + Sync>(
-    rt: &R,
-    alloc: Global,
-    row: MesaRow<'_>,
-) -> Vec<u64> {
-    let (cells, places) = setting(row);
-    run!(
-        on_ticket_door(0),
-        rt,
-        alloc,
-        with_cells(rt, alloc, cells),
-        places,
-        acts(row)
-    )
-    .1
-}
-
 #[test]
 fn who_is_called_tests_again_on_each_door(host: HostRuntime) {
     let (rt, alloc) = (&host, host.alloc());
@@ -205,10 +168,9 @@ fn who_is_called_tests_again_on_each_door(host: HostRuntime) {
             MesaRow::WhoIsCalledTestsAgain(&turns),
             MesaRow::NoItemIsLostBetweenCalledPlaces,
         ] {
-            let answers = match kind {
-                DoorKind::Baton => on_baton_door(rt, alloc, row),
-                DoorKind::Ticket => on_ticket_door(rt, alloc, row),
-            };
+            let (cells, places) = setting(row);
+            let buffer = with_cells(rt, alloc, cells);
+            let (_, answers) = run!(rt, alloc, kind, buffer, places, acts(row));
             holds(rt, kind, row, answers.as_slice());
         }
     }

@@ -19,7 +19,6 @@ use std::process::Abort;
 use std::rt::Clock;
 use std::sync::Wait;
 use std::sync::atomic::AtomicU32;
-use std::thread::Threads;
 use sweep_schedulers::readers_writers::{NoReader, ReadersWriters};
 
 /// Writes a number where this one stands, and tries to write another, which comes back.
@@ -242,40 +241,6 @@ fn holds<R: Abort>(rt: &R, kind: DoorKind, row: ReadersRow<'_>, value: u64) {
     assert!(rt; agrees(row, value), "the {kind:?} door left {value}");
 }
 
-// The row on a baton door: the data that were left, and what its places answered.
-fn on_baton_door<R: Threads + Wait + Abort + Clock + Sync>(
-    rt: &R,
-    alloc: Global,
-    row: ReadersRow<'_>,
-) -> (Shared, Vec<u64>) {
-    let (value, places) = setting(row);
-    run!(
-        on_baton_door(),
-        rt,
-        alloc,
-        ReadersWriters::with(value),
-        places,
-        acts(row)
-    )
-}
-
-// The same on a ticket door.
-fn on_ticket_door<R: Threads + Wait + Abort + Clock + Sync>(
-    rt: &R,
-    alloc: Global,
-    row: ReadersRow<'_>,
-) -> (Shared, Vec<u64>) {
-    let (value, places) = setting(row);
-    run!(
-        on_ticket_door(0),
-        rt,
-        alloc,
-        ReadersWriters::with(value),
-        places,
-        acts(row)
-    )
-}
-
 #[test]
 fn readers_and_writers_on_each_door(host: HostRuntime) {
     let (rt, alloc) = (&host, host.alloc());
@@ -288,11 +253,10 @@ fn readers_and_writers_on_each_door(host: HostRuntime) {
             ReadersRow::WriterBeforeLateReader(&turns, &ended),
             ReadersRow::NoReaderIsInBesideAWriter(&log),
         ] {
-            let (shared, answers) = match kind {
-                DoorKind::Baton => on_baton_door(rt, alloc, row),
-                DoorKind::Ticket => on_ticket_door(rt, alloc, row),
-            };
-            all_answered(rt, kind, answers.as_slice(), setting(row).1);
+            let (value, places) = setting(row);
+            let data = ReadersWriters::with(value);
+            let (shared, answers) = run!(rt, alloc, kind, data, places, acts(row));
+            all_answered(rt, kind, answers.as_slice(), places);
             holds(rt, kind, row, shared.into_value());
         }
         is_read_and_written(rt, log);

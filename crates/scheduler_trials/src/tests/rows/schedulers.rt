@@ -9,12 +9,10 @@ use any_door::DoorKind;
 use hoare_law::monitor::Monitor;
 use plain_schedulers::buffer::{Buffer, BufferRefused};
 use plain_schedulers::single::{NotOut, Single};
-use std::alloc::Global;
 use std::process::Abort;
 use std::rt::Clock;
 use std::sync::Wait;
 use std::sync::atomic::{AtomicBool, Ordering};
-use std::thread::Threads;
 
 // Takes the item, gives a sign, lets another place wait for it, and puts it back: what it took.
 fn lends<R: Wait + Abort, M: Monitor<Single<u64>>>(
@@ -106,89 +104,15 @@ fn appends_or_removes<R: Wait, M: Monitor<Buffer<u64>>>(
     (out, in_turn)
 }
 
-// An item is lent on a baton door: what the places took.
-fn lent_on_baton_door<R: Threads + Wait + Abort + Clock + Sync>(
-    rt: &R,
-    alloc: Global,
-    sign: &AtomicBool,
-) -> Vec<u64> {
-    run!(
-        on_baton_door(),
-        rt,
-        alloc,
-        Single::with(7u64),
-        2,
-        lends_or_borrows(sign)
-    )
-    .1
-}
-
-// The same on a ticket door.
-fn lent_on_ticket_door<R: Threads + Wait + Abort + Clock + Sync>(
-    rt: &R,
-    alloc: Global,
-    sign: &AtomicBool,
-) -> Vec<u64> {
-    run!(
-        on_ticket_door(0),
-        rt,
-        alloc,
-        Single::with(7u64),
-        2,
-        lends_or_borrows(sign)
-    )
-    .1
-}
-
 #[test]
 fn an_item_is_lent_on_each_door(host: HostRuntime) {
     let (rt, alloc) = (&host, host.alloc());
     for kind in DoorKind::BOTH {
         let sign = AtomicBool::new(false);
-        let answers = match kind {
-            DoorKind::Baton => lent_on_baton_door(rt, alloc, &sign),
-            DoorKind::Ticket => lent_on_ticket_door(rt, alloc, &sign),
-        };
+        let single = Single::with(7u64);
+        let (_, answers) = run!(rt, alloc, kind, single, 2, lends_or_borrows(&sign));
         answered(rt, kind, answers.as_slice(), &[7, 7]);
     }
-}
-
-// Items go through a buffer on a baton door: how many came in their turn.
-fn passed_on_baton_door<R: Threads + Wait + Abort + Clock + Sync>(
-    rt: &R,
-    alloc: Global,
-    cells: usize,
-    items: u64,
-) -> Vec<u64> {
-    let buffer = with_cells(rt, alloc, cells);
-    run!(
-        on_baton_door(),
-        rt,
-        alloc,
-        buffer,
-        2,
-        appends_or_removes(items)
-    )
-    .1
-}
-
-// The same on a ticket door.
-fn passed_on_ticket_door<R: Threads + Wait + Abort + Clock + Sync>(
-    rt: &R,
-    alloc: Global,
-    cells: usize,
-    items: u64,
-) -> Vec<u64> {
-    let buffer = with_cells(rt, alloc, cells);
-    run!(
-        on_ticket_door(0),
-        rt,
-        alloc,
-        buffer,
-        2,
-        appends_or_removes(items)
-    )
-    .1
 }
 
 #[test]
@@ -196,10 +120,8 @@ fn items_come_out_in_order_on_each_door(host: HostRuntime) {
     let (rt, alloc) = (&host, host.alloc());
     for kind in DoorKind::BOTH {
         for (cells, items) in [(1, 4), (4096, 5000)] {
-            let answers = match kind {
-                DoorKind::Baton => passed_on_baton_door(rt, alloc, cells, items),
-                DoorKind::Ticket => passed_on_ticket_door(rt, alloc, cells, items),
-            };
+            let buffer = with_cells(rt, alloc, cells);
+            let (_, answers) = run!(rt, alloc, kind, buffer, 2, appends_or_removes(items));
             answered(rt, kind, answers.as_slice(), &[0, items]);
         }
     }

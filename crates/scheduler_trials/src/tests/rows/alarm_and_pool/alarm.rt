@@ -8,11 +8,8 @@ use crate::tests::rows::shared_log::Log;
 use crate::tests::rows::turns::watch;
 use any_door::DoorKind;
 use hoare_law::monitor::Monitor;
-use std::alloc::Global;
 use std::process::Abort;
-use std::rt::Clock;
 use std::sync::Wait;
-use std::thread::Threads;
 use timed_schedulers::alarm::{Alarm, ClockFull, TooFar};
 
 /// Sleeps for this many ticks: the time at which it woke.
@@ -150,42 +147,6 @@ fn wanted(row: AlarmRow<'_>) -> &'static [u64] {
     }
 }
 
-// The row on a baton door: what its places answered.
-fn on_baton_door<R: Threads + Wait + Abort + Clock + Sync>(
-    rt: &R,
-    alloc: Global,
-    row: AlarmRow<'_>,
-) -> Vec<u64> {
-    let (time, places) = setting(row);
-    run!(
-        on_baton_door(),
-        rt,
-        alloc,
-        Alarm::at(time),
-        places,
-        acts(row)
-    )
-    .1
-}
-
-// The same on a ticket door.
-fn on_ticket_door<R: Threads + Wait + Abort + Clock + Sync>(
-    rt: &R,
-    alloc: Global,
-    row: AlarmRow<'_>,
-) -> Vec<u64> {
-    let (time, places) = setting(row);
-    run!(
-        on_ticket_door(0),
-        rt,
-        alloc,
-        Alarm::at(time),
-        places,
-        acts(row)
-    )
-    .1
-}
-
 #[test]
 fn an_alarm_clock_on_each_door(host: HostRuntime) {
     let (rt, alloc) = (&host, host.alloc());
@@ -196,10 +157,8 @@ fn an_alarm_clock_on_each_door(host: HostRuntime) {
             AlarmRow::AClockEndsAtItsLastTime,
             AlarmRow::AllThatAreDueWakeAtTheirTime(&log),
         ] {
-            let answers = match kind {
-                DoorKind::Baton => on_baton_door(rt, alloc, row),
-                DoorKind::Ticket => on_ticket_door(rt, alloc, row),
-            };
+            let (time, places) = setting(row);
+            let (_, answers) = run!(rt, alloc, kind, Alarm::at(time), places, acts(row));
             answered(rt, kind, answers.as_slice(), wanted(row));
         }
         is_a_clock(rt, log);

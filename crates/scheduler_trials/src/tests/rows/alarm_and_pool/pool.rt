@@ -14,7 +14,6 @@ use std::alloc::Global;
 use std::process::Abort;
 use std::rt::Clock;
 use std::sync::Wait;
-use std::thread::Threads;
 use timed_schedulers::pool::{GiveRefused, NoStream, Pool, PoolRefused};
 
 /// A pool of this many buffers, for this many streams.
@@ -199,28 +198,6 @@ fn wanted(row: PoolRow<'_>) -> &'static [u64] {
     }
 }
 
-// The row on a baton door: what its places answered.
-fn on_baton_door<R: Threads + Wait + Abort + Clock + Sync>(
-    rt: &R,
-    alloc: Global,
-    row: PoolRow<'_>,
-) -> Vec<u64> {
-    let (buffers, streams, places) = setting(row);
-    let pool = with_buffers(rt, alloc, buffers, streams);
-    run!(on_baton_door(), rt, alloc, pool, places, acts(row)).1
-}
-
-// The same on a ticket door.
-fn on_ticket_door<R: Threads + Wait + Abort + Clock + Sync>(
-    rt: &R,
-    alloc: Global,
-    row: PoolRow<'_>,
-) -> Vec<u64> {
-    let (buffers, streams, places) = setting(row);
-    let pool = with_buffers(rt, alloc, buffers, streams);
-    run!(on_ticket_door(0), rt, alloc, pool, places, acts(row)).1
-}
-
 #[test]
 fn a_pool_on_each_door(host: HostRuntime) {
     let (rt, alloc) = (&host, host.alloc());
@@ -231,10 +208,9 @@ fn a_pool_on_each_door(host: HostRuntime) {
             PoolRow::WhoHoldsTheFewestBuffersGoesOnFirst(&turns),
             PoolRow::ABufferHasOneHolder(&log),
         ] {
-            let answers = match kind {
-                DoorKind::Baton => on_baton_door(rt, alloc, row),
-                DoorKind::Ticket => on_ticket_door(rt, alloc, row),
-            };
+            let (buffers, streams, places) = setting(row);
+            let pool = with_buffers(rt, alloc, buffers, streams);
+            let (_, answers) = run!(rt, alloc, kind, pool, places, acts(row));
             answered(rt, kind, answers.as_slice(), wanted(row));
         }
         is_a_pool(rt, log);

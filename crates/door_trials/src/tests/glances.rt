@@ -18,6 +18,7 @@ use std::thread;
 use std::time::Duration;
 use test_support::tally::Tally;
 use ticket_door::door::TicketDoor;
+use ticket_door::place::TicketOut;
 
 /// How often a place is handed the monitor: that it isn't awake by then is seen at least once.
 const ROUNDS: u64 = 20;
@@ -133,6 +134,28 @@ fn nobody_or_somebody_is_inside(host: HostRuntime) {
 }
 
 // The first that asked is served, and the others want in.
+fn ask_and_come_in<R: Wait + Abort>(
+    rt: &R,
+    door: &TicketDoor<Tally>,
+    a: TicketOut<Tally>,
+    b: TicketOut<Tally>,
+    c: TicketOut<Tally>,
+)
+    requires a { ⟦<TicketDoor<Tally> as Monitor<Tally>>⟧.is_of door.now a }
+    requires b { ⟦<TicketDoor<Tally> as Monitor<Tally>>⟧.is_of door.now b }
+    requires c { ⟦<TicketDoor<Tally> as Monitor<Tally>>⟧.is_of door.now c }
+{
+    let a = door.ask(a);
+    expect_same(rt, door.glance(), glance_of(Holder::Somebody, 0));
+    let (b, c) = (door.ask(b), door.ask(c));
+    expect_same(rt, door.glance(), glance_of(Holder::Somebody, 2));
+    let a = door.give_up(door.come_in(rt, a));
+    expect_same(rt, door.glance(), glance_of(Holder::Somebody, 1));
+    let b = door.give_up(door.come_in(rt, b));
+    let c = door.give_up(door.come_in(rt, c));
+    expect_same(rt, door.glance(), glance_of(Holder::Nobody, 0));
+}
+
 #[test]
 fn who_asked_wants_in(host: HostRuntime) {
     let (rt, alloc) = (&host, host.alloc());
@@ -144,15 +167,7 @@ fn who_asked_wants_in(host: HostRuntime) {
         outs.pop().unwrap(),
         outs.pop().unwrap(),
     );
-    let a = door.ask(a);
-    expect_same(rt, door.glance(), glance_of(Holder::Somebody, 0));
-    let (b, c) = (door.ask(b), door.ask(c));
-    expect_same(rt, door.glance(), glance_of(Holder::Somebody, 2));
-    let a = door.give_up(door.come_in(rt, a));
-    expect_same(rt, door.glance(), glance_of(Holder::Somebody, 1));
-    let b = door.give_up(door.come_in(rt, b));
-    let c = door.give_up(door.come_in(rt, c));
-    expect_same(rt, door.glance(), glance_of(Holder::Nobody, 0));
+    ask_and_come_in(rt, &door, a, b, c);
 }
 
 /// The rows of two places at a door whose words one of them looks at.

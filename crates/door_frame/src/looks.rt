@@ -66,10 +66,14 @@ pub const SPINS_FOR_OTHERS: u32 = 128;
 /// How often a newcomer whose ticket is the next looks before it yields or naps. One that has n tickets to go looks
 /// an n-th as often. Exactly one thread can come in, and if it isn't running when its ticket is served, it holds up
 /// all others.
-pub const NEXT_IN_TURN: u64 = 4000;
+pub const NEXT_IN_TURN: u64 = 1000;
 
 /// A newcomer that has more tickets to go than this yields or naps at once.
 pub const NEAR: u64 = 3;
 
-/// How often at the most newcomers with tickets yield while nobody naps who could tell how long a yield takes.
-pub const MOST_TRUSTED: u64 = 64;
+/// Behind how many short yields in a row newcomers with tickets also yield while nobody naps, who could tell how long
+/// that takes.
+pub const SHORT_ROW: u64 = 64;
+
+/// How often they do. The nap that follows costs some microseconds, which so many visits share.
+pub const MOST_TRUSTED: u64 = 256;

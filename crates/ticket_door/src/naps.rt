@@ -8,11 +8,11 @@
 //! While cores are idle a yield is short, and a nap with its call is long; where all are busy a yield may cost a slice.
 //! So while one newcomer naps, others yield, and its naps tell how long that took: behind a long yield newcomers nap
 //! for many times (`door_frame::yields`). Where nobody naps nothing tells it. Then newcomers yield only where many in a
-//! row were short, and not often; else one naps.
+//! row were short, and so often at most; else one naps.
 use crate::door::TicketDoor;
 use crate::words::{SERVING, SHUT, TURN, mark_of, nap_of};
 use crossbeam_utils::CachePadded;
-use door_frame::looks::{MOST_TRUSTED, NAP, NEAR, NEXT_IN_TURN};
+use door_frame::looks::{MOST_TRUSTED, NAP, NEAR, NEXT_IN_TURN, SHORT_ROW};
 use door_frame::yields::Yields;
 use hoare_law::data::MonitorData;
 use std::sync::Wait;
@@ -23,21 +23,22 @@ use std::{hint, thread};
 /// What the places of a door tell each other of naps. No clause speaks of it.
 #[derive(Drop)]
 pub(crate) struct Naps {
-    /// The marks of the turns whose newcomers nap.
-    napping: AtomicU64,
+    /// The marks of the turns whose newcomers nap. All look at them, few change them: so their line of the cache has
+    /// nothing else on it.
+    napping: CachePadded<AtomicU64>,
     /// What is known of yields, by how naps end.
     yields: Yields,
-    /// How many yields in a row were short, up to `MOST_TRUSTED`.
+    /// How many yields in a row were short, up to `SHORT_ROW`.
     row: AtomicU64,
     /// How often newcomers may yield from now on while nobody naps.
     trusted: AtomicU64,
 }
 
 impl Naps {
-    /// Nobody naps, on a line of the cache of its own.
+    /// Nobody naps, and no yield was short or long.
     pub(crate) fn new() -> CachePadded<Naps> {
         CachePadded::new(Naps {
-            napping: AtomicU64::new(0),
+            napping: CachePadded::new(AtomicU64::new(0)),
             yields: Yields::new(),
             row: AtomicU64::new(0),
             trusted: AtomicU64::new(0),
@@ -72,15 +73,15 @@ impl Naps {
         true
     }
 
-    /// What a yield tells of the next ones: where so many in a row were short as many more are trusted, and none behind
-    /// a long one.
+    /// What a yield tells of the next ones: behind a row of short ones the next are trusted, and behind a long one none
+    /// is.
     fn learn(&self, was_long: bool) {
         self.yields.learn(was_long);
         let row = self.row.load(Ordering::Relaxed);
         if was_long {
             self.row.store(0, Ordering::Relaxed);
             self.trusted.store(0, Ordering::Relaxed);
-        } else if row < MOST_TRUSTED {
+        } else if row < SHORT_ROW {
             self.row.store(row + 1, Ordering::Relaxed);
         } else {
             self.trusted.store(MOST_TRUSTED, Ordering::Relaxed);

@@ -53,7 +53,7 @@ impl<D: MonitorData> TicketDoor<D> {
         self.table.shared.load::<Look<J>>(seat, SERVING) == served_as(ticket)
     }
 
-    /// Looks until the ticket is served. Between the looks it yields, and later naps.
+    /// Looks until the ticket is served. Between the looks it yields or naps.
     #[inline(never)]
     fn keep_looking<J: Counting, R: Wait>(
         &self,

@@ -3,12 +3,13 @@ ghost use Rattle.std.specs.Prelude.{◌≡◌, ◌∷◌, [], All, vec_len};
 ghost use Rattle.test_support.specs.Numbered.{IsNumbered};
 
 use crate::tests::compared::expect_same;
+use any_door::DoorKind;
 use hoare_law::monitor::Monitor;
 use plain_schedulers::single::{NotOut, Single};
 use std::alloc::Global;
 use std::process::Abort;
 use std::sync::Wait;
-use test_support::{on_baton_door, on_ticket_door};
+use test_support::on_any_door;
 
 // The only place of a monitor.
 fn only<O: Drop, R: Abort>(rt: &R, outs: Vec<O>) -> O
@@ -101,37 +102,24 @@ fn change_items<R: Wait + Abort, M: Monitor<Single<u64>>>(
     (alone(rt, alloc, out), alone(rt, alloc, other))
 }
 
-// Two monitors on baton doors: what they have at the end.
-fn change_on_baton<R: Wait + Abort>(rt: &R, alloc: Global) -> [Option<u64>; 2] {
-    let Some((first, outs)) = on_baton_door::made(alloc, Single::with(7u64), 1) else {
+// Two monitors on doors of this kind: what they have at the end.
+fn change_on<R: Wait + Abort>(rt: &R, alloc: Global, kind: DoorKind) -> [Option<u64>; 2] {
+    let Some((first, outs)) = on_any_door::made(alloc, kind, Single::with(7u64), 1) else {
         panic!(rt; "no door was made")
     };
-    let Some((second, others)) = on_baton_door::made(alloc, Single::with(8u64), 1) else {
-        panic!(rt; "no door was made")
-    };
-    let (outs, others) = change_items(rt, alloc, &first, outs, &second, others);
-    let left = on_baton_door::closed(first, outs).into_item();
-    [left, on_baton_door::closed(second, others).into_item()]
-}
-
-// The same on ticket doors.
-fn change_on_ticket<R: Wait + Abort>(rt: &R, alloc: Global) -> [Option<u64>; 2] {
-    let Some((first, outs)) = on_ticket_door::made(alloc, 0, Single::with(7u64), 1) else {
-        panic!(rt; "no door was made")
-    };
-    let Some((second, others)) = on_ticket_door::made(alloc, 0, Single::with(8u64), 1) else {
+    let Some((second, others)) = on_any_door::made(alloc, kind, Single::with(8u64), 1) else {
         panic!(rt; "no door was made")
     };
     let (outs, others) = change_items(rt, alloc, &first, outs, &second, others);
-    let left = on_ticket_door::closed(first, outs).into_item();
-    [left, on_ticket_door::closed(second, others).into_item()]
+    let left = on_any_door::closed(first, outs).into_item();
+    [left, on_any_door::closed(second, others).into_item()]
 }
 
 #[test]
 fn items_change_monitors(host: HostRuntime) {
     let (rt, alloc) = (&host, host.alloc());
-    let left = change_on_baton(rt, alloc);
-    expect_same(rt, left, [None, Some(7)]);
-    let left = change_on_ticket(rt, alloc);
-    expect_same(rt, left, [None, Some(7)]);
+    for kind in DoorKind::BOTH {
+        let left = change_on(rt, alloc, kind);
+        expect_same(rt, left, [None, Some(7)]);
+    }
 }

@@ -38,8 +38,9 @@ impl<D: MonitorData> TicketDoor<D> {
         lay_parcel(&self.table, seat, parcel);
         match next {
             Next::Free => {
-                self.table.shared.fetch_add::<Give<J>>(seat, SERVING, TURN);
+                let turn = self.table.shared.fetch_add::<Give<J>>(seat, SERVING, TURN);
                 self.call_next();
+                self.let_one_ask(turn);
                 None
             }
             Next::For(resumed) => {

@@ -4,6 +4,7 @@
 mod bells;
 pub mod door;
 mod glance;
+mod late;
 pub mod laws;
 mod meeting;
 mod monitor;

@@ -7,9 +7,10 @@
 //!
 //! While cores are idle a yield is short, and a nap with its call is long; where all are busy a yield may cost a slice.
 //! So while one newcomer naps, others yield, and its naps tell how long that took: behind a long yield newcomers nap
-//! for many times (`door_frame::yields`). Where nobody naps nothing tells it. Then newcomers yield only where many in a
-//! row were short, and so often at most; else one naps.
+//! for many times (`door_frame::yields`). Where nobody naps, newcomers yield only where many in a row were short, and
+//! so often at most; else one naps. There too a long yield shows: who comes back was missed (`late`).
 use crate::door::TicketDoor;
+use crate::late::Late;
 use crate::words::{SERVING, SHUT, TURN, mark_of, nap_of};
 use crossbeam_utils::CachePadded;
 use door_frame::looks::{MOST_TRUSTED, NAP, NEAR, NEXT_IN_TURN, SHORT_ROW};
@@ -17,8 +18,8 @@ use door_frame::yields::Yields;
 use hoare_law::data::MonitorData;
 use std::sync::Wait;
 use std::sync::atomic::{AtomicU64, Ordering};
+use std::thread;
 use std::time::Duration;
-use std::{hint, thread};
 
 /// What the places of a door tell each other of naps. No clause speaks of it.
 #[derive(Drop)]
@@ -26,6 +27,8 @@ pub(crate) struct Naps {
     /// The marks of the turns whose newcomers nap. All look at them, few change them: so their line of the cache has
     /// nothing else on it.
     napping: CachePadded<AtomicU64>,
+    /// Who came late. All look at that too.
+    pub(crate) late: CachePadded<Late>,
     /// What is known of yields, by how naps end.
     yields: Yields,
     /// How many yields in a row were short, up to `SHORT_ROW`.
@@ -39,6 +42,7 @@ impl Naps {
     pub(crate) fn new() -> CachePadded<Naps> {
         CachePadded::new(Naps {
             napping: CachePadded::new(AtomicU64::new(0)),
+            late: CachePadded::new(Late::new()),
             yields: Yields::new(),
             row: AtomicU64::new(0),
             trusted: AtomicU64::new(0),
@@ -46,10 +50,10 @@ impl Naps {
     }
 
     /// Gives the core away, unless a yield was long of late or nothing is known of yields: whether it did.
-    fn gives_core(&self) -> bool {
+    fn gives_core(&self, turn: u64) -> bool {
         let nappers = self.napping.load(Ordering::SeqCst);
         if nappers == 0 {
-            return self.yields_untimed();
+            return self.yields_untimed(turn);
         }
         if self.yields.keeps_core() {
             return false;
@@ -62,14 +66,18 @@ impl Naps {
         true
     }
 
-    /// Gives the core away while nobody naps, as often as it is trusted that this is short: whether it did.
-    fn yields_untimed(&self) -> bool {
+    /// Gives the core away while nobody naps, as often as it is trusted that this is short: whether it did. Where the
+    /// turn was missed meanwhile, it wasn't.
+    fn yields_untimed(&self, turn: u64) -> bool {
         let trusted = self.trusted.load(Ordering::Relaxed);
         if trusted == 0 {
             return false;
         }
         self.trusted.store(trusted - 1, Ordering::Relaxed);
         thread::yield_now();
+        if self.late.is_missed(turn) {
+            self.distrust();
+        }
         true
     }
 
@@ -79,13 +87,18 @@ impl Naps {
         self.yields.learn(was_long);
         let row = self.row.load(Ordering::Relaxed);
         if was_long {
-            self.row.store(0, Ordering::Relaxed);
-            self.trusted.store(0, Ordering::Relaxed);
+            self.distrust();
         } else if row < SHORT_ROW {
             self.row.store(row + 1, Ordering::Relaxed);
         } else {
             self.trusted.store(MOST_TRUSTED, Ordering::Relaxed);
         }
+    }
+
+    /// No yield is trusted, until many in a row were short again.
+    fn distrust(&self) {
+        self.row.store(0, Ordering::Relaxed);
+        self.trusted.store(0, Ordering::Relaxed);
     }
 }
 
@@ -96,7 +109,7 @@ impl<D: MonitorData> TicketDoor<D> {
         if ahead <= NEAR && self.look_for(turn, NEXT_IN_TURN / ahead) {
             return;
         }
-        if !self.naps.gives_core() {
+        if !self.naps.gives_core(turn) {
             self.nap(rt, turn);
         }
     }
@@ -105,17 +118,6 @@ impl<D: MonitorData> TicketDoor<D> {
     fn turns_ahead(&self, turn: u64) -> u64 {
         let serving = self.table.shared.peek(SERVING);
         turn.wrapping_add(SHUT).wrapping_sub(serving) / TURN
-    }
-
-    /// Looks so many times whether this turn has come: whether it has.
-    fn look_for(&self, turn: u64, looks: u64) -> bool {
-        for _ in 0..looks {
-            if self.table.shared.peek(SERVING) == turn {
-                return true;
-            }
-            hint::spin_loop();
-        }
-        false
     }
 
     /// Sleeps on the turn's own word, unless its turn has come by now.

@@ -26,6 +26,9 @@ pub(crate) const TURN: u64 = 2;
 /// What SERVING has more while the gate is shut.
 pub(crate) const SHUT: u64 = 1;
 
+/// What SERVING is of no ticket while the gate is open.
+pub(crate) const NO_TURN: u64 = SHUT;
+
 /// SERVING while this ticket is served and the gate is open.
 #[inline]
 pub(crate) fn served_as(ticket: u64) -> u64

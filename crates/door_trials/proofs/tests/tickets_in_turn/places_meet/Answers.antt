@@ -1,0 +1,18 @@
+use Rattle.std.specs.Prelude.{All}
+use Rattle.std.proofs.lemmas.List.Elements.{All-take}
+use Rattle.door_trials.proofs.Many.{IsUnaskedOut, all-and-one}
+use Rattle.door_trials.proofs.tests.tickets_in_turn.places_meet.Goals as goal
+
+-- both were handed out, and both come back from the meeting
+pub close-tally-requires-clause-of : goal.close-tally-requires-clause-of
+close-tally-requires-clause-of g c κs =
+    let IsOurs = IsUnaskedOut c.in-Ok.door.door in
+    let one : All IsOurs c.pop.new.self.items =
+    rw c.pop.ensures.rest (All-take IsOurs _ c.in-Ok.outs.items c.in-Ok.ensures.of) in
+    let none : All IsOurs c.pop-2.new.self.items =
+    rw c.pop-2.ensures.rest (All-take IsOurs _ c.pop.new.self.items one) in
+    let first : All IsOurs c.push_reserved.new.self.items =
+    rw c.push_reserved.ensures.items
+    (all-and-one IsOurs c.pop-2.new.self.items c.meet-b.result.0 none c.meet-b.ensures.a) in
+    rw c.push_reserved-2.ensures.items
+    (all-and-one IsOurs c.push_reserved.new.self.items c.meet-b.result.1 first c.meet-b.ensures.b)

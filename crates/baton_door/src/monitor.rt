@@ -167,6 +167,7 @@ impl<D: MonitorData + Send> Monitor<D> for Door<D> {
         calls::signal(self, rt, inside, condition)
     }
 
+    #[inline(always)] // as `calls::signal_leave` is: where nobody waits it is a plain leave
     fn signal_leave<R: Wait>(
         &self,
         rt: &R,

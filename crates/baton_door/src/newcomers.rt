@@ -9,9 +9,9 @@ use crossbeam_utils::Backoff;
 use door_frame::looks::{NEWCOMER_LOOKS, SPINS, TRIES};
 use door_frame::plays::DoorSeat;
 use hoare_law::data::MonitorData;
-use std::hint;
 use std::sync::Wait;
 use std::sync::atomic::Ordering;
+use std::{hint, thread};
 
 impl<D: MonitorData> Door<D> {
     /// One try of a newcomer: whether the monitor was free, and the place is in.
@@ -73,6 +73,14 @@ impl<D: MonitorData> Door<D> {
             }
         }
         false
+    }
+
+    /// Gives the core away once, where who comes in next is to make way.
+    fn make_way(&self) {
+        if self.is_to_make_way.load(Ordering::Relaxed) {
+            self.is_to_make_way.store(false, Ordering::Relaxed);
+            thread::yield_now();
+        }
     }
 
     /// Makes way, tries until the place is in, and naps where it tried a while for nothing.

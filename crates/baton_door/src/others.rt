@@ -14,8 +14,8 @@ use crate::door::Door;
 use door_frame::departure::Departure;
 use door_frame::looks::{LOOKS_FOR_OTHERS, ROW, SPINS_FOR_OTHERS};
 use hoare_law::data::MonitorData;
+use std::hint;
 use std::sync::atomic::Ordering;
-use std::{hint, thread};
 
 /// Where the count of `since_handed` begins, where who handed the monitor on left it by that act.
 const BY_WHO_LEFT: u32 = 0;
@@ -44,14 +44,6 @@ impl<D: MonitorData> Door<D> {
             self.naps.call();
         } else if self.naps.is_one_awaited() {
             self.is_to_make_way.store(true, Ordering::Relaxed);
-        }
-    }
-
-    /// Gives the core away once, where who comes in next is to make way.
-    pub(crate) fn make_way(&self) {
-        if self.is_to_make_way.load(Ordering::Relaxed) {
-            self.is_to_make_way.store(false, Ordering::Relaxed);
-            thread::yield_now();
         }
     }
 }

@@ -180,6 +180,7 @@ pub fn signal<D: MonitorData, T: Turnstile<D>, R: Wait>(
 }
 
 /// `Monitor::signal_leave`.
+#[inline(always)] // as `leave` is, which it is where nobody waits
 pub fn signal_leave<D: MonitorData, T: Turnstile<D>>(
     door: &T,
     inside: Inside<D>,

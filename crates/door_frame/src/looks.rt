@@ -78,8 +78,8 @@ pub const SHORT_ROW: u64 = 64;
 /// How often they do. The nap that follows costs some microseconds, which so many visits share.
 pub const MOST_TRUSTED: u64 = 1024;
 
-/// Behind how many looks of who has the next ticket the one that is served counts as late: some times as many as a
-/// visit takes where who comes in has a core.
+/// Behind how many looks of who has the next ticket the one that is served counts as late: a few more than a visit
+/// takes where who comes in has a core.
 pub const LATE: u64 = 64;
 
 /// How often who was late looks, as it goes, whether another one draws a ticket before it draws its next.

@@ -2,6 +2,7 @@
 //! lost stands at `door_frame::parking`: the word of each place is its bell.
 ghost use Rattle.std.specs.Prelude.{◌≡◌, ◌<◌};
 ghost use Rattle.wait_book.specs.Contents.{IsPlaceBelow};
+ghost use Rattle.wait_book.specs.declared.steps.Next.TheVariants.{For, Free};
 ghost use Rattle.door_frame.specs.Steps.{MayGive, MayNote};
 ghost use Rattle.door_frame.specs.Places.{IsWoken, sleeper_at};
 ghost use Rattle.door_frame.specs.Seats.{GoesOut, IsBehind, StaysIn};
@@ -19,7 +20,7 @@ use wait_book::steps::Next;
 
 impl<D: MonitorData> TicketDoor<D> {
     /// Gives the parcel back by an event that the call picks. `departure` is there for the pick alone.
-    #[inline]
+    #[inline(always)] // a plain leave is short where it knows that nobody goes on
     pub(crate) fn give<J: PickedEvent<D>>(
         &self,
         seat: &mut DoorSeat<D>,
@@ -35,22 +36,51 @@ impl<D: MonitorData> TicketDoor<D> {
         ensures away { GoesOut place J.event seat.old.me parcel.state seat.new.me }
         ensures woken { IsWoken self.now.door next result }
     {
-        lay_parcel(&self.table, seat, parcel);
         match next {
             Next::Free => {
-                let turn = self.table.shared.fetch_add::<Give<J>>(seat, SERVING, TURN);
-                self.call_next();
-                self.let_one_ask(turn);
+                self.open::<J>(seat, parcel, place);
                 None
             }
-            Next::For(resumed) => {
-                self.table
-                    .shared
-                    .store::<Give<J>>(seat, bell_of(resumed), RUNG);
-                Some(self.wake(seat, resumed))
-            }
+            Next::For(resumed) => Some(self.ring::<J>(seat, parcel, place, resumed)),
             Next::Held(_) => unreachable!(),
         }
+    }
+
+    /// Gives the parcel back where nobody goes on: the next ticket is served.
+    #[inline(always)] // as `give` is, which calls it
+    fn open<J: PickedEvent<D>>(&self, seat: &mut DoorSeat<D>, parcel: Parcel<D>, place: usize)
+        requires table { seat.old.table_id ≡ self.now.door.table }
+        requires event { MayGive D.rest D.ready J.event place seat.old.me parcel Free }
+        ensures table { seat.new.table_id ≡ seat.old.table_id }
+        ensures away { GoesOut place J.event seat.old.me parcel.state seat.new.me }
+    {
+        lay_parcel(&self.table, seat, parcel);
+        let turn = self.table.shared.fetch_add::<Give<J>>(seat, SERVING, TURN);
+        self.call_next();
+        self.let_one_ask(turn);
+    }
+
+    /// Gives the parcel to who goes on, rings that place's bell, and wakes it.
+    #[inline(never)] // apart, so that a plain leave stays small
+    fn ring<J: PickedEvent<D>>(
+        &self,
+        seat: &mut DoorSeat<D>,
+        parcel: Parcel<D>,
+        place: usize,
+        resumed: usize,
+    ) -> Woken
+        requires table { seat.old.table_id ≡ self.now.door.table }
+        requires below { resumed < self.now.door.places }
+        requires event { MayGive D.rest D.ready J.event place seat.old.me parcel (For resumed) }
+        ensures table { seat.new.table_id ≡ seat.old.table_id }
+        ensures away { GoesOut place J.event seat.old.me parcel.state seat.new.me }
+        ensures woken { result ≡ sleeper_at self.now.door resumed }
+    {
+        lay_parcel(&self.table, seat, parcel);
+        self.table
+            .shared
+            .store::<Give<J>>(seat, bell_of(resumed), RUNG);
+        self.wake(seat, resumed)
     }
 
     /// A look at the word by which the place inside comes to know of an event that the call picks. What is found isn't

@@ -72,7 +72,7 @@ impl<D: MonitorData> Turnstile<D> for TicketDoor<D> {
         None
     }
 
-    #[inline]
+    #[inline(always)] // as `give` is, which it calls
     fn hand_on(
         &self,
         seat: &mut DoorSeat<D>,
@@ -147,7 +147,7 @@ impl<D: MonitorData + Send> Monitor<D> for TicketDoor<D> {
         calls::try_enter(self, out)
     }
 
-    #[inline]
+    #[inline(always)] // as `calls::leave` is
     fn leave<R: Wait>(&self, rt: &R, inside: TicketIn<D>) -> TicketOut<D> {
         calls::leave(self, inside)
     }

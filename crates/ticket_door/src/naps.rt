@@ -139,11 +139,17 @@ impl<D: MonitorData> TicketDoor<D> {
     pub(crate) fn call_next(&self) {
         let napping = self.naps.napping.load(Ordering::SeqCst);
         if napping != 0 {
-            let serving = self.table.shared.peek(SERVING);
-            if napping & mark_of(serving) != 0 {
-                let word = nap_of(serving, self.wakers.len());
-                self.table.shared.wake_one(word);
-            }
+            self.call_among(napping);
+        }
+    }
+
+    /// Calls the newcomer whose ticket is served now, if it is one of these that nap.
+    #[inline(never)] // apart, so that a plain leave stays small
+    fn call_among(&self, napping: u64) {
+        let serving = self.table.shared.peek(SERVING);
+        if napping & mark_of(serving) != 0 {
+            let word = nap_of(serving, self.wakers.len());
+            self.table.shared.wake_one(word);
         }
     }
 }

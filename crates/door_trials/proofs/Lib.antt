@@ -1,1 +1,2 @@
+mod InOrder
 mod Many

@@ -7,5 +7,7 @@ mod lines;
 mod numbers;
 mod past;
 mod pictures;
+mod repeated;
 mod scripts;
 mod shown;
+mod streams;

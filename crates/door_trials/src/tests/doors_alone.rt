@@ -1,11 +1,18 @@
 //! Each door on one thread: what `make` refuses, and each call once.
+ghost use Rattle.std.specs.Prelude.{◌≡◌, vec_len, All};
+ghost use Rattle.test_support.specs.Numbered.{IsNumbered};
+
 use crate::tests::compared::expect_same;
+use crate::tests::rows::tries::both_try;
+use any_door::DoorKind;
 use baton_door::door::Door;
+use hoare_law::monitor::Monitor;
 use hoare_law::unasked::Unasked;
 use std::alloc::Global;
 use std::process::Abort;
 use std::sync::Wait;
 use test_support::tally::{Tally, calls_all};
+use test_support::{on_baton_door, on_ticket_door};
 use ticket_door::door::TicketDoor;
 use wait_book::steps::MakeRefused;
 
@@ -56,30 +63,83 @@ fn make_refuses_in_order(rt: HostRuntime) {
     }
 }
 
-// What one place answers that makes each call of a door, and the number that it leaves.
-macro_rules! one_place {
-    ($rt:ident, $alloc:ident, $door:ident) => {{
-        let Ok((door, mut outs)) = $door::make($alloc, Tally { value: 0 }, 1) else {
-            panic!($rt; "no memory")
-        };
-        let (out, answer) = calls_all($rt, &door, outs.pop().unwrap());
-        outs.push_reserved(out);
-        (answer, door.close(outs).value)
-    }};
+/// The rows of a door on the test's own thread.
+#[derive(Clone, Copy)]
+pub enum AloneRow {
+    OnePlaceCallsAll,
+    WhoTriesComesInWhereItIsFree,
 }
 
-// That of a baton door.
-fn calls_baton<R: Wait + Abort>(rt: &R, alloc: Global) -> (u64, u64) {
-    one_place!(rt, alloc, Door)
+// The last place of a monitor makes each call.
+fn one_calls_all<R: Wait + Abort, M: Monitor<Tally>>(
+    rt: &R,
+    m: &M,
+    outs: Vec<M::Out>,
+) -> Vec<M::Out>
+    requires of { All (M.is_of m.now) outs.items }
+    requires numbered { IsNumbered M.place outs.items }
+    ensures count { vec_len result ≡ vec_len outs }
+    ensures of { All (M.is_of m.now) result.items }
+    ensures numbered { IsNumbered M.place result.items }
+{
+    let mut outs = outs;
+    let Some(out) = outs.pop() else {
+        panic!(rt; "no place")
+    };
+    let (out, answer) = calls_all(rt, m, out);
+    expect_same(rt, answer, 1);
+    outs.push_reserved(out);
+    outs
 }
 
-// That of a ticket door.
-fn calls_ticket<R: Wait + Abort>(rt: &R, alloc: Global) -> (u64, u64) {
-    one_place!(rt, alloc, TicketDoor)
+// All places act in the row.
+fn acts<R: Wait + Abort, M: Monitor<Tally>>(
+    rt: &R,
+    m: &M,
+    outs: Vec<M::Out>,
+    row: AloneRow,
+) -> Vec<M::Out>
+    requires of { All (M.is_of m.now) outs.items }
+    requires numbered { IsNumbered M.place outs.items }
+    ensures count { vec_len result ≡ vec_len outs }
+    ensures of { All (M.is_of m.now) result.items }
+    ensures numbered { IsNumbered M.place result.items }
+{
+    match row {
+        AloneRow::OnePlaceCallsAll => one_calls_all(rt, m, outs),
+        AloneRow::WhoTriesComesInWhereItIsFree => both_try(rt, m, outs),
+    }
+}
+
+/// The row on a door of this kind, by its own type: the number that it is closed with.
+pub fn left_by<R: Wait + Abort>(rt: &R, alloc: Global, kind: DoorKind, row: AloneRow) -> u64 {
+    let places = match row {
+        AloneRow::OnePlaceCallsAll => 1,
+        AloneRow::WhoTriesComesInWhereItIsFree => 2,
+    };
+    let data = Tally { value: 0 };
+    match kind {
+        DoorKind::Baton => {
+            let Some((door, outs)) = on_baton_door::made(alloc, data, places) else {
+                panic!(rt; "no door was made")
+            };
+            let outs = acts(rt, &door, outs, row);
+            on_baton_door::closed(door, outs).value
+        }
+        DoorKind::Ticket => {
+            let Some((door, outs)) = on_ticket_door::made(alloc, 0, data, places) else {
+                panic!(rt; "no door was made")
+            };
+            let outs = acts(rt, &door, outs, row);
+            on_ticket_door::closed(door, outs).value
+        }
+    }
 }
 
 #[test]
 fn one_place_calls_all(rt: HostRuntime) {
-    expect_same(&rt, calls_baton(&rt, rt.alloc()), (1, 42));
-    expect_same(&rt, calls_ticket(&rt, rt.alloc()), (1, 42));
+    for kind in DoorKind::BOTH {
+        let left = left_by(&rt, rt.alloc(), kind, AloneRow::OnePlaceCallsAll);
+        expect_same(&rt, (kind, left), (kind, 42));
+    }
 }

@@ -1,11 +1,13 @@
-//! A door of either kind, which is chosen where it is made: all calls, several conditions and priorities, and which
-//! door answers.
+//! A door of either kind, which is chosen where it is made: all calls, several conditions and priorities, which door
+//! answers, and what its words say.
 ghost use Rattle.std.specs.Prelude.{◌≡◌};
 
 use crate::tests::awaited::act_all;
 use crate::tests::compared::expect_same;
+use crate::tests::glances::glance_of;
 use crate::tests::rows::stress::{PLACES, agrees, empty_diary, works_or_sweeps};
 use any_door::{AnyDoor, DoorKind};
+use door_frame::glance::{Glance, Holder};
 use door_frame::place::Outside;
 use hoare_law::monitor::Monitor;
 use std::alloc::Global;
@@ -73,29 +75,45 @@ fn asks_behind<R: Wait>(
     }
 }
 
-// Place a makes each call of a door of this kind, in three visits, and then asks behind it.
-fn calls_and_asks<R: Wait + Abort>(
+// Place a makes each call of a door of this kind, in three visits, then asks behind it, and comes in once more: the
+// answers and the number that is left, and what the words say before all, while it is inside then and after it left.
+fn calls_asks_and_looks<R: Wait + Abort>(
     rt: &R,
     alloc: Global,
     kind: DoorKind,
-) -> (u64, Option<(u64, bool, bool)>, u64) {
+) -> ((u64, Option<(u64, bool, bool)>, u64), [Glance; 3]) {
     let Ok((door, mut outs)) = AnyDoor::make(alloc, kind, Tally { value: 0 }, 2) else {
         panic!(rt; "no memory")
     };
+    let before = door.glance();
     let (b, a) = (outs.pop().unwrap(), outs.pop().unwrap());
     let (a, answer) = calls_all(rt, &door, a);
     let ((a, b), behind) = asks_behind(rt, &door, a, b);
-    outs.push_reserved(a);
+    let inside = door.enter(rt, a);
+    let between = door.glance();
+    outs.push_reserved(door.leave(rt, inside));
     outs.push_reserved(b);
-    (answer, behind, door.close(outs).value)
+    let seen = [before, between, door.glance()];
+    ((answer, behind, door.close(outs).value), seen)
 }
 
 // The visits of a door of tickets draw them, and who asked there is before who tries here.
 #[test]
 fn the_door_of_its_kind_answers(rt: HostRuntime) {
-    let alloc = rt.alloc();
-    let baton = calls_and_asks(&rt, alloc, DoorKind::Baton);
-    expect_same(&rt, baton, (1, None, 42));
-    let ticket = calls_and_asks(&rt, alloc, DoorKind::Ticket);
-    expect_same(&rt, ticket, (1, Some((3, false, true)), 42));
+    for (kind, behind) in [
+        (DoorKind::Baton, None),
+        (DoorKind::Ticket, Some((3, false, true))),
+    ] {
+        let (told, _) = calls_asks_and_looks(&rt, rt.alloc(), kind);
+        expect_same(&rt, told, (1, behind, 42));
+    }
+}
+
+#[test]
+fn nobody_or_somebody_is_inside(rt: HostRuntime) {
+    let (nobody, somebody) = (glance_of(Holder::Nobody, 0), glance_of(Holder::Somebody, 0));
+    for kind in [DoorKind::Baton, DoorKind::Ticket] {
+        let (_, seen) = calls_asks_and_looks(&rt, rt.alloc(), kind);
+        expect_same(&rt, seen, [nobody, somebody, nobody]);
+    }
 }

@@ -5,5 +5,5 @@ pub mod stress;
 mod tally;
 mod tally_rows;
 mod tickets;
-mod tries;
+pub mod tries;
 mod wakes;

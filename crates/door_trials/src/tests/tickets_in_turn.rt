@@ -33,10 +33,19 @@ fn hands_up_and_meets<R: Wait>(
     ((a, b), (told, ticket))
 }
 
-/// On a door with this first ticket three places ask, in the order c, a, b, and come in by their tickets; c leaves
-/// seven as the number. Then a hands up to nobody, and meets b, which asks once more. The tickets of those that asked,
-/// whether a resumed somebody, and the number that c finds when it comes back.
-fn three_ask<R: Wait + Abort>(rt: &R, alloc: Global, first: u64) -> ([u64; 4], bool, u64) {
+/// A door with this first ticket, and its three places.
+pub fn three_places<R: Abort>(
+    rt: &R,
+    alloc: Global,
+    first: u64,
+) -> (
+    TicketDoor<Tally>,
+    (TicketOut<Tally>, TicketOut<Tally>, TicketOut<Tally>),
+)
+    ensures a { ⟦<TicketDoor<Tally> as Monitor<Tally>>⟧.is_of result.0 result.1.0 }
+    ensures b { ⟦<TicketDoor<Tally> as Monitor<Tally>>⟧.is_of result.0 result.1.1 }
+    ensures c { ⟦<TicketDoor<Tally> as Monitor<Tally>>⟧.is_of result.0 result.1.2 }
+{
     let Ok((door, mut outs)) = make_at(alloc, Tally { value: 0 }, 3, first) else {
         panic!(rt; "no memory")
     };
@@ -45,6 +54,14 @@ fn three_ask<R: Wait + Abort>(rt: &R, alloc: Global, first: u64) -> ([u64; 4], b
         outs.pop().unwrap(),
         outs.pop().unwrap(),
     );
+    (door, (a, b, c))
+}
+
+/// On a door with this first ticket three places ask, in the order c, a, b, and come in by their tickets; c leaves
+/// seven as the number. Then a hands up to nobody, and meets b, which asks once more. The tickets of those that asked,
+/// whether a resumed somebody, and the number that c finds when it comes back.
+fn three_ask<R: Wait + Abort>(rt: &R, alloc: Global, first: u64) -> ([u64; 4], bool, u64) {
+    let (door, (a, b, c)) = three_places(rt, alloc, first);
     let (c, a, b) = (door.ask(c), door.ask(a), door.ask(b));
     let tickets = (c.ticket(), a.ticket(), b.ticket());
     let mut inside = door.come_in(rt, c);

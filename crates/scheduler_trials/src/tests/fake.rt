@@ -54,62 +54,94 @@ pub fn take_data<R: Wait, D: MonitorData + Drop + Send>(
     data
 }
 
-// A single whose item was acquired.
-fn with_item_out<R: Wait + Abort>(rt: &R, alloc: Global) -> Single<u8> {
-    let (fake, out) = with_answers(rt, alloc, Single::with(7), []);
-    let (out, _item) = Single::acquire(&fake, rt, out);
+// A step of a place at a single item.
+#[derive(Clone, Copy)]
+enum SingleStep {
+    /// It takes the item, which has to be this.
+    Takes(u8),
+    /// It puts the item in where none is.
+    Puts(u8),
+    /// It tries to put the item in where one is: it comes back.
+    IsRefused(u8),
+}
+
+// Tries to put the item in where one is: it comes back.
+fn is_refused<R: Wait + Abort, M: Monitor<Single<u8>>>(
+    rt: &R,
+    m: &M,
+    out: M::Out,
+    item: u8,
+) -> M::Out
+    requires { M.is_of m.now out }
+    ensures { M.is_of m.now result }
+{
+    let (out, refused) = Single::release(m, rt, out, item);
+    let back = match refused {
+        Ok(()) => None,
+        Err(NotOut { item: back }) => Some(back),
+    };
+    expect_same(rt, back, Some(item));
+    out
+}
+
+// Takes the step.
+fn takes_single_step<R: Wait + Abort, M: Monitor<Single<u8>>>(
+    rt: &R,
+    m: &M,
+    out: M::Out,
+    step: SingleStep,
+) -> M::Out
+    requires { M.is_of m.now out }
+    ensures { M.is_of m.now result }
+{
+    match step {
+        SingleStep::Takes(wanted) => {
+            let (out, item) = Single::acquire(m, rt, out);
+            expect_same(rt, item, wanted);
+            out
+        }
+        SingleStep::Puts(item) => {
+            let (out, put) = Single::release(m, rt, out, item);
+            expect_same(rt, put.is_ok(), true);
+            out
+        }
+        SingleStep::IsRefused(item) => is_refused(rt, m, out, item),
+    }
+}
+
+// Takes the steps, one after another.
+fn takes_single_steps<R: Wait + Abort, M: Monitor<Single<u8>>>(
+    rt: &R,
+    m: &M,
+    out: M::Out,
+    steps: &[SingleStep],
+) -> M::Out
+    requires { M.is_of m.now out }
+    ensures { M.is_of m.now result }
+{
+    let mut out = out;
+    for step in steps {
+        out = takes_single_step(rt, m, out, *step);
+    }
+    out
+}
+
+// Takes the steps at this item, with these answers: what is left.
+fn on_single<R: Wait + Abort, const N: usize>(
+    rt: &R,
+    alloc: Global,
+    single: Single<u8>,
+    answers: [Single<u8>; N],
+    steps: &[SingleStep],
+) -> Single<u8> {
+    let (fake, out) = with_answers(rt, alloc, single, answers);
+    let out = takes_single_steps(rt, &fake, out, steps);
     take_data(rt, &fake, out, Single::with(0))
 }
 
-// Acquires twice, where answers of 8 and 9 stand behind one that isn't ready.
-fn gets_both<R: Wait + Abort, M: Monitor<Single<u8>>>(rt: &R, m: &M, out: M::Out)
-    requires { M.is_of m.now out }
-{
-    let (out, first) = Single::acquire(m, rt, out);
-    let (_out, second) = Single::acquire(m, rt, out);
-    expect_same(rt, (first, second), (8, 9));
-}
-
-// The first answer isn't ready.
-fn acquires_twice<R: Wait + Abort>(rt: &R, alloc: Global) {
-    let answers = [with_item_out(rt, alloc), Single::with(8), Single::with(9)];
-    let (fake, out) = with_answers(rt, alloc, with_item_out(rt, alloc), answers);
-    gets_both(rt, &fake, out);
-}
-
-// Takes the item 8.
-fn gets_eight<R: Wait + Abort, M: Monitor<Single<u8>>>(rt: &R, m: &M, out: M::Out)
-    requires { M.is_of m.now out }
-{
-    let (_out, item) = Single::acquire(m, rt, out);
-    expect_same(rt, item, 8);
-}
-
-// The one answer is ready.
-fn acquires_once<R: Wait + Abort>(rt: &R, alloc: Global) {
-    let (fake, out) = with_answers(rt, alloc, with_item_out(rt, alloc), [Single::with(8)]);
-    gets_eight(rt, &fake, out);
-}
-
-// Puts an item in, takes it, and tries to put in two more: it takes the first, and the last comes back.
-fn puts_two_more<R: Wait + Abort, M: Monitor<Single<u8>>>(rt: &R, m: &M, out: M::Out)
-    requires { M.is_of m.now out }
-{
-    let (out, _put) = Single::release(m, rt, out, 5);
-    let (out, item) = Single::acquire(m, rt, out);
-    let (out, _put) = Single::release(m, rt, out, 6);
-    let (_out, refused) = Single::release(m, rt, out, 9);
-    let back = match refused {
-        Ok(()) => 0,
-        Err(NotOut { item: back }) => back,
-    };
-    expect_same(rt, (item, back), (5, 9));
-}
-
-// Nothing is in before the first release.
-fn releases<R: Wait + Abort>(rt: &R, alloc: Global) {
-    let (fake, out) = with_answers(rt, alloc, with_item_out(rt, alloc), []);
-    puts_two_more(rt, &fake, out);
+// A single whose item was acquired.
+fn with_item_out<R: Wait + Abort>(rt: &R, alloc: Global) -> Single<u8> {
+    on_single(rt, alloc, Single::with(7), [], &[SingleStep::Takes(7)])
 }
 
 // Writes 2, passes, comes in again and waits: it finds 2 before the wait and 3 after, and resumed nobody.
@@ -127,20 +159,6 @@ fn passes_and_waits<R: Wait + Abort, M: Monitor<Tally>>(rt: &R, m: &M, out: M::O
     expect_same(rt, (kept, found, resumed), (2, 3, false));
 }
 
-// What it finds after the wait is an answer of 3.
-fn writes_and_waits<R: Wait + Abort>(rt: &R, alloc: Global) {
-    let (fake, out) = with_answers(rt, alloc, Tally { value: 1 }, [Tally { value: 3 }]);
-    passes_and_waits(rt, &fake, out);
-}
-
-// Each call once, with nobody waiting.
-fn calls_each<R: Wait + Abort>(rt: &R, alloc: Global) {
-    let (fake, out) = with_answers(rt, alloc, Tally { value: 0 }, []);
-    let (out, answer) = calls_all(rt, &fake, out);
-    let left = take_data(rt, &fake, out, Tally { value: 0 });
-    expect_same(rt, (answer, left.value), (1, 42));
-}
-
 /// An empty buffer of this many cells.
 pub fn with_cells<T: Drop, R: Abort>(rt: &R, alloc: Global, cells: usize) -> Buffer<T>
     ensures { BufferRests result (nobody 0) (nobody 1) }
@@ -148,98 +166,133 @@ pub fn with_cells<T: Drop, R: Abort>(rt: &R, alloc: Global, cells: usize) -> Buf
     Buffer::make(alloc, cells).expect(rt, "there is memory for a buffer of this size")
 }
 
+/// A step of a place at a buffer.
+#[derive(Clone, Copy)]
+pub enum BufferStep {
+    /// It appends the item.
+    Appends(u8),
+    /// It removes an item, which has to be this.
+    Removes(u8),
+}
+
+// Takes the steps, one after another.
+fn takes_buffer_steps<R: Wait + Abort, M: Monitor<Buffer<u8>>>(
+    rt: &R,
+    m: &M,
+    out: M::Out,
+    steps: &[BufferStep],
+) -> M::Out
+    requires { M.is_of m.now out }
+    ensures { M.is_of m.now result }
+{
+    let mut out = out;
+    for step in steps {
+        out = match *step {
+            BufferStep::Appends(item) => Buffer::append(m, rt, out, item),
+            BufferStep::Removes(wanted) => {
+                let (again, item) = Buffer::remove(m, rt, out);
+                expect_same(rt, item, wanted);
+                again
+            }
+        };
+    }
+    out
+}
+
+// Takes the steps at an empty buffer of this many cells, with these answers: what is left.
+fn on_buffer<R: Wait + Abort, const N: usize>(
+    rt: &R,
+    alloc: Global,
+    cells: usize,
+    answers: [Buffer<u8>; N],
+    steps: &[BufferStep],
+) -> Buffer<u8> {
+    let (fake, out) = with_answers(rt, alloc, with_cells(rt, alloc, cells), answers);
+    let out = takes_buffer_steps(rt, &fake, out, steps);
+    take_data(rt, &fake, out, with_cells(rt, alloc, cells))
+}
+
 // A buffer of one cell with the item 5, taken from another monitor after an append.
 fn with_one_item<R: Wait + Abort>(rt: &R, alloc: Global) -> Buffer<u8> {
-    let (fake, out) = with_answers(rt, alloc, with_cells(rt, alloc, 1), []);
-    let out = Buffer::append(&fake, rt, out, 5);
-    take_data(rt, &fake, out, with_cells(rt, alloc, 1))
+    on_buffer(rt, alloc, 1, [], &[BufferStep::Appends(5)])
 }
 
-// Four items through a buffer, which come out in order.
-fn four_through<R: Wait + Abort, M: Monitor<Buffer<u8>>>(rt: &R, m: &M, out: M::Out)
-    requires { M.is_of m.now out }
-{
-    let out = Buffer::append(m, rt, out, 1);
-    let out = Buffer::append(m, rt, out, 2);
-    let (out, first) = Buffer::remove(m, rt, out);
-    let out = Buffer::append(m, rt, out, 3);
-    let out = Buffer::append(m, rt, out, 4);
-    let (out, second) = Buffer::remove(m, rt, out);
-    let (out, third) = Buffer::remove(m, rt, out);
-    let (_out, fourth) = Buffer::remove(m, rt, out);
-    expect_same(rt, (first, second, third, fourth), (1, 2, 3, 4));
+// The first answer is ready, or stands behind one that isn't.
+#[test]
+fn an_acquire_goes_on_with_the_first_answer_that_is_ready(host: HostRuntime) {
+    let (rt, alloc) = (&host, host.alloc());
+    let answers = [Single::with(8)];
+    let once = [SingleStep::Takes(8)];
+    on_single(rt, alloc, with_item_out(rt, alloc), answers, &once);
+    let answers = [with_item_out(rt, alloc), Single::with(8), Single::with(9)];
+    let twice = [SingleStep::Takes(8), SingleStep::Takes(9)];
+    on_single(rt, alloc, with_item_out(rt, alloc), answers, &twice);
 }
 
-// A buffer of three cells.
-fn passes_four<R: Wait + Abort>(rt: &R, alloc: Global) {
-    let (fake, out) = with_answers(rt, alloc, with_cells(rt, alloc, 3), []);
-    four_through(rt, &fake, out);
+// Nothing is in before the first release.
+#[test]
+fn a_release_too_many_is_refused(host: HostRuntime) {
+    let (rt, alloc) = (&host, host.alloc());
+    let steps = [
+        SingleStep::Puts(5),
+        SingleStep::Takes(5),
+        SingleStep::Puts(6),
+        SingleStep::IsRefused(9),
+    ];
+    on_single(rt, alloc, with_item_out(rt, alloc), [], &steps);
 }
 
-// Takes the item 5 out.
-fn removes_five<R: Wait + Abort, M: Monitor<Buffer<u8>>>(rt: &R, m: &M, out: M::Out)
-    requires { M.is_of m.now out }
-{
-    let (_out, item) = Buffer::remove(m, rt, out);
-    expect_same(rt, item, 5);
+// What it finds after the wait is an answer of 3.
+#[test]
+fn what_is_written_in_hand_is_kept(host: HostRuntime) {
+    let (rt, alloc) = (&host, host.alloc());
+    let (fake, out) = with_answers(rt, alloc, Tally { value: 1 }, [Tally { value: 3 }]);
+    passes_and_waits(rt, &fake, out);
 }
 
-// A remove that waits for an item.
-fn removes<R: Wait + Abort>(rt: &R, alloc: Global) {
+// Four items through a buffer of three cells.
+#[test]
+fn items_come_out_in_order(host: HostRuntime) {
+    let (rt, alloc) = (&host, host.alloc());
+    let steps = [
+        BufferStep::Appends(1),
+        BufferStep::Appends(2),
+        BufferStep::Removes(1),
+        BufferStep::Appends(3),
+        BufferStep::Appends(4),
+        BufferStep::Removes(2),
+        BufferStep::Removes(3),
+        BufferStep::Removes(4),
+    ];
+    on_buffer(rt, alloc, 3, [], &steps);
+}
+
+#[test]
+fn a_remove_waits_for_an_item(host: HostRuntime) {
+    let (rt, alloc) = (&host, host.alloc());
     let answers = [with_cells(rt, alloc, 1), with_one_item(rt, alloc)];
-    let (fake, out) = with_answers(rt, alloc, with_cells(rt, alloc, 1), answers);
-    removes_five(rt, &fake, out);
+    on_buffer(rt, alloc, 1, answers, &[BufferStep::Removes(5)]);
 }
 
-// Appends two items, and takes the second out.
-fn last_of_two<R: Wait + Abort, M: Monitor<Buffer<u8>>>(rt: &R, m: &M, out: M::Out)
-    requires { M.is_of m.now out }
-{
-    let out = Buffer::append(m, rt, out, 6);
-    let out = Buffer::append(m, rt, out, 7);
-    let (_out, item) = Buffer::remove(m, rt, out);
-    expect_same(rt, item, 7);
-}
-
-// An append that waits for room, and what is in the buffer after it.
-fn appends<R: Wait + Abort>(rt: &R, alloc: Global) {
+// The second append waits for room: what is in the buffer after it.
+#[test]
+fn an_append_waits_for_room(host: HostRuntime) {
+    let (rt, alloc) = (&host, host.alloc());
     let answers = [with_one_item(rt, alloc), with_cells(rt, alloc, 1)];
-    let (fake, out) = with_answers(rt, alloc, with_cells(rt, alloc, 1), answers);
-    last_of_two(rt, &fake, out);
+    let steps = [
+        BufferStep::Appends(6),
+        BufferStep::Appends(7),
+        BufferStep::Removes(7),
+    ];
+    on_buffer(rt, alloc, 1, answers, &steps);
 }
 
+// With nobody waiting.
 #[test]
-fn an_acquire_goes_on_with_the_first_answer_that_is_ready(rt: HostRuntime) {
-    acquires_once(&rt, rt.alloc());
-    acquires_twice(&rt, rt.alloc());
-}
-
-#[test]
-fn a_release_too_many_is_refused(rt: HostRuntime) {
-    releases(&rt, rt.alloc());
-}
-
-#[test]
-fn what_is_written_in_hand_is_kept(rt: HostRuntime) {
-    writes_and_waits(&rt, rt.alloc());
-}
-
-#[test]
-fn items_come_out_in_order(rt: HostRuntime) {
-    passes_four(&rt, rt.alloc());
-}
-
-#[test]
-fn a_remove_waits_for_an_item(rt: HostRuntime) {
-    removes(&rt, rt.alloc());
-}
-
-#[test]
-fn an_append_waits_for_room(rt: HostRuntime) {
-    appends(&rt, rt.alloc());
-}
-
-#[test]
-fn each_call_is_made_once(rt: HostRuntime) {
-    calls_each(&rt, rt.alloc());
+fn each_call_is_made_once(host: HostRuntime) {
+    let (rt, alloc) = (&host, host.alloc());
+    let (fake, out) = with_answers(rt, alloc, Tally { value: 0 }, []);
+    let (out, answer) = calls_all(rt, &fake, out);
+    let left = take_data(rt, &fake, out, Tally { value: 0 });
+    expect_same(rt, (answer, left.value), (1, 42));
 }

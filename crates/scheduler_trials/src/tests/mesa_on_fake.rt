@@ -2,7 +2,7 @@
 ghost use Rattle.plain_schedulers.specs.Buffers.{BufferHolds};
 
 use crate::tests::compared::expect_same;
-use crate::tests::fake::{take_data, with_answers};
+use crate::tests::fake::{BufferStep, take_data, with_answers};
 use hoare_law::monitor::Monitor;
 use plain_schedulers::buffer::mesa::MesaBuffer;
 use std::alloc::Global;
@@ -16,26 +16,43 @@ fn empty<R: Abort>(rt: &R, alloc: Global) -> MesaBuffer<u8>
     MesaBuffer::make(alloc, 1).expect(rt, "there is memory for one cell")
 }
 
-// A buffer of one cell with the item 5, taken from another monitor after an append.
-fn with_five<R: Wait + Abort>(rt: &R, alloc: Global) -> MesaBuffer<u8> {
-    let (fake, out) = with_answers(rt, alloc, empty(rt, alloc), []);
-    let out = MesaBuffer::append(&fake, rt, out, 5);
+// Appends the item, or removes one.
+fn takes_step<R: Wait + Abort, M: Monitor<MesaBuffer<u8>>>(
+    rt: &R,
+    m: &M,
+    out: M::Out,
+    step: BufferStep,
+) -> M::Out
+    requires { M.is_of m.now out }
+    ensures { M.is_of m.now result }
+{
+    match step {
+        BufferStep::Appends(item) => MesaBuffer::append(m, rt, out, item),
+        BufferStep::Removes(wanted) => {
+            let (out, item) = MesaBuffer::remove(m, rt, out);
+            expect_same(rt, item, wanted);
+            out
+        }
+    }
+}
+
+// Takes the step at a buffer with no item, with these answers: what is left.
+fn on_empty<R: Wait + Abort, const N: usize>(
+    rt: &R,
+    alloc: Global,
+    answers: [MesaBuffer<u8>; N],
+    step: BufferStep,
+) -> MesaBuffer<u8> {
+    let (fake, out) = with_answers(rt, alloc, empty(rt, alloc), answers);
+    let out = takes_step(rt, &fake, out, step);
     take_data(rt, &fake, out, empty(rt, alloc))
 }
 
-// Takes the item 5 out.
-fn removes_five<R: Wait + Abort, M: Monitor<MesaBuffer<u8>>>(rt: &R, m: &M, out: M::Out)
-    requires { M.is_of m.now out }
-{
-    let (_out, item) = MesaBuffer::remove(m, rt, out);
-    expect_same(rt, item, 5);
-}
-
-// A remove that is called twice, and finds an item the second time.
+// A remove that is called twice, and finds an item, which was appended on another monitor, the second time.
 #[test]
 fn a_remove_tests_again_after_each_call(host: HostRuntime) {
     let (rt, alloc) = (&host, host.alloc());
-    let answers = [empty(rt, alloc), with_five(rt, alloc)];
-    let (fake, out) = with_answers(rt, alloc, empty(rt, alloc), answers);
-    removes_five(rt, &fake, out);
+    let with_five = on_empty(rt, alloc, [], BufferStep::Appends(5));
+    let answers = [empty(rt, alloc), with_five];
+    on_empty(rt, alloc, answers, BufferStep::Removes(5));
 }

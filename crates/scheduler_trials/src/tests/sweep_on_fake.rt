@@ -43,13 +43,6 @@ fn is_refused_late<R: Wait + Abort, M: Monitor<Head<Trip>>>(rt: &R, m: &M, out: 
     expect_same(rt, other.as_slice(), [2, 15].as_slice());
 }
 
-// A request waits for the drive, and finds a disk with another last cylinder.
-fn finds_another_disk<R: Wait + Abort>(rt: &R, alloc: Global) {
-    let found = disk(rt, alloc, 2, 20);
-    let (fake, out) = with_answers(rt, alloc, disk(rt, alloc, 1, 10), [found]);
-    is_refused_late(rt, &fake, out);
-}
-
 // Goes to 5, and waits for a request of 8, which finds the drive in: nobody is due where it then is.
 fn waits_and_counts<R: Wait + Abort, M: Monitor<Head<Trip>>>(rt: &R, m: &M, out: M::Out)
     requires { M.is_of m.now out }
@@ -58,13 +51,6 @@ fn waits_and_counts<R: Wait + Abort, M: Monitor<Head<Trip>>>(rt: &R, m: &M, out:
     expect_same(rt, drive.as_slice(), [1, 5, 0].as_slice());
     let (_out, other) = counts(rt, m, out, 8);
     expect_same(rt, other.as_slice(), [2, 8, 0].as_slice());
-}
-
-// A request waits for the drive, and finds it.
-fn finds_the_drive<R: Wait + Abort>(rt: &R, alloc: Global) {
-    let found = disk(rt, alloc, 2, 10);
-    let (fake, out) = with_answers(rt, alloc, disk(rt, alloc, 1, 10), [found]);
-    waits_and_counts(rt, &fake, out);
 }
 
 // Goes to the last cylinder of a disk, and is refused the one past it, with this trip to hand in where one is.
@@ -85,11 +71,38 @@ fn reaches_the_last<R: Wait + Abort, M: Monitor<Head<Trip>>>(
     }
 }
 
-// A disk of which nobody has the drive, to its end.
-fn goes_to_the_last<R: Wait + Abort>(rt: &R, alloc: Global, cylmax: u16) {
-    let (fake, out) = with_answers(rt, alloc, disk(rt, alloc, 0, cylmax), []);
-    let second = trip_to(rt, alloc, [cylmax, cylmax.saturating_add(1)]);
-    reaches_the_last(rt, &fake, out, cylmax, second);
+// What one place does at a disk.
+#[derive(Drop)]
+enum Play {
+    IsRefusedLate,
+    WaitsAndCounts,
+    /// It goes to the last cylinder, with this trip to hand in where one is.
+    ReachesTheLast(u16, Trip),
+}
+
+// Does it.
+fn plays<R: Wait + Abort, M: Monitor<Head<Trip>>>(rt: &R, m: &M, out: M::Out, play: Play)
+    requires { M.is_of m.now out }
+{
+    match play {
+        Play::IsRefusedLate => is_refused_late(rt, m, out),
+        Play::WaitsAndCounts => waits_and_counts(rt, m, out),
+        Play::ReachesTheLast(cylmax, trip) => reaches_the_last(rt, m, out, cylmax, trip),
+    }
+}
+
+// Does it at this disk, of which nobody has the drive, with these answers.
+fn on_disk<R: Wait + Abort, const N: usize>(
+    rt: &R,
+    alloc: Global,
+    disk: Head<Trip>,
+    answers: [Head<Trip>; N],
+    play: Play,
+)
+    requires { HeadRests disk (nobody 0) (nobody 1) }
+{
+    let (fake, out) = with_answers(rt, alloc, disk, answers);
+    plays(rt, &fake, out, play);
 }
 
 // Writes, reads to the limit, and ends a read too many.
@@ -99,12 +112,6 @@ fn writes_and_reads<R: Wait + Abort, M: Monitor<Shared>>(rt: &R, alloc: Global, 
     let out = writes(rt, m, out, 0, 4);
     let out = reads_to_the_limit(rt, m, out, 1024, 4);
     ends_no_read(rt, alloc, m, out);
-}
-
-// The value is 0 first.
-fn reads_and_writes<R: Wait + Abort>(rt: &R, alloc: Global) {
-    let (fake, out) = with_answers(rt, alloc, ReadersWriters::with(0), []);
-    writes_and_reads(rt, alloc, &fake, out);
 }
 
 // Is in as a writer who found 0, and comes as a reader where the most are in.
@@ -159,36 +166,58 @@ fn is_no_writer<R: Wait + Abort, M: Monitor<Shared>>(rt: &R, m: &M, out: M::Out)
     ends_no_write(rt, m, out, 5);
 }
 
-// The most reads begin on one monitor and end on another.
-fn meets_late_readers<R: Wait + Abort>(rt: &R, alloc: Global) {
-    let (fake, out) = with_answers(rt, alloc, ReadersWriters::with(4), []);
-    let (other, place) = reads_elsewhere(rt, alloc, &fake, out, 1024);
-    is_no_writer(rt, &other, place);
+// A request waits for the drive, and finds a disk with another last cylinder.
+#[test]
+fn late_off_disk(host: HostRuntime) {
+    let (rt, alloc) = (&host, host.alloc());
+    let found = disk(rt, alloc, 2, 20);
+    on_disk(
+        rt,
+        alloc,
+        disk(rt, alloc, 1, 10),
+        [found],
+        Play::IsRefusedLate,
+    );
 }
 
+// A request waits for the drive, and finds it.
 #[test]
-fn late_off_disk(rt: HostRuntime) {
-    finds_another_disk(&rt, rt.alloc());
+fn nobody_is_due_where_nobody_waits(host: HostRuntime) {
+    let (rt, alloc) = (&host, host.alloc());
+    let found = disk(rt, alloc, 2, 10);
+    on_disk(
+        rt,
+        alloc,
+        disk(rt, alloc, 1, 10),
+        [found],
+        Play::WaitsAndCounts,
+    );
 }
 
+// Nobody has the drive of the disk.
 #[test]
-fn nobody_is_due_where_nobody_waits(rt: HostRuntime) {
-    finds_the_drive(&rt, rt.alloc());
-}
-
-#[test]
-fn a_disk_ends_at_its_last_cylinder(rt: HostRuntime) {
+fn a_disk_ends_at_its_last_cylinder(host: HostRuntime) {
+    let (rt, alloc) = (&host, host.alloc());
     for cylmax in [0, 100, u16::MAX] {
-        goes_to_the_last(&rt, rt.alloc(), cylmax);
+        let second = trip_to(rt, alloc, [cylmax, cylmax.saturating_add(1)]);
+        let play = Play::ReachesTheLast(cylmax, second);
+        on_disk(rt, alloc, disk(rt, alloc, 0, cylmax), [], play);
     }
 }
 
+// The value is 0 first.
 #[test]
-fn the_most_readers_are_in(rt: HostRuntime) {
-    reads_and_writes(&rt, rt.alloc());
+fn the_most_readers_are_in(host: HostRuntime) {
+    let (rt, alloc) = (&host, host.alloc());
+    let (fake, out) = with_answers(rt, alloc, ReadersWriters::with(0), []);
+    writes_and_reads(rt, alloc, &fake, out);
 }
 
+// The most reads begin on one monitor and end on another.
 #[test]
-fn late_too_many_readers(rt: HostRuntime) {
-    meets_late_readers(&rt, rt.alloc());
+fn late_too_many_readers(host: HostRuntime) {
+    let (rt, alloc) = (&host, host.alloc());
+    let (fake, out) = with_answers(rt, alloc, ReadersWriters::with(4), []);
+    let (other, place) = reads_elsewhere(rt, alloc, &fake, out, 1024);
+    is_no_writer(rt, &other, place);
 }

@@ -2,7 +2,7 @@
 
 use crate::tests::compared::expect_same;
 use crate::tests::fake::with_answers;
-use crate::tests::rows::alarm_and_pool::alarm::{ends_the_clock, is_full, is_too_far};
+use crate::tests::rows::alarm_and_pool::alarm::{is_full, is_too_far};
 use crate::tests::rows::alarm_and_pool::pool::{is_no_stream, takes, takes_all, with_buffers};
 use hoare_law::monitor::Monitor;
 use std::alloc::Global;
@@ -11,52 +11,65 @@ use std::sync::Wait;
 use timed_schedulers::alarm::Alarm;
 use timed_schedulers::pool::Pool;
 
-// Sleeps for two ticks from time 0, and goes on at 2.
-fn wakes_at_two<R: Wait + Abort, M: Monitor<Alarm>>(rt: &R, m: &M, out: M::Out)
+// A step of a place at an alarm clock.
+#[derive(Clone, Copy)]
+enum ClockStep {
+    /// It sleeps for so many ticks, and wakes at this time.
+    Wakes { ticks: u64, time: u64 },
+    /// It sets the clock past the last time, which is refused.
+    IsTooFar(u64),
+    /// It ticks: this is the next time.
+    Ticks(u64),
+    /// It ticks at the last time, which is refused.
+    IsFull,
+}
+
+// Takes the step.
+fn takes_step<R: Wait + Abort, M: Monitor<Alarm>>(
+    rt: &R,
+    m: &M,
+    out: M::Out,
+    step: ClockStep,
+) -> M::Out
+    requires { M.is_of m.now out }
+    ensures { M.is_of m.now result }
+{
+    match step {
+        ClockStep::Wakes { ticks, time } => {
+            let (out, woke) = Alarm::wakeme(m, rt, out, ticks);
+            expect_same(rt, woke, Ok(time));
+            out
+        }
+        ClockStep::IsTooFar(ticks) => is_too_far(rt, m, out, ticks),
+        ClockStep::Ticks(time) => {
+            let (out, told) = Alarm::tick(m, rt, out);
+            expect_same(rt, told, Ok(time));
+            out
+        }
+        ClockStep::IsFull => is_full(rt, m, out),
+    }
+}
+
+// Takes the steps, one after another.
+fn takes_steps<R: Wait + Abort, M: Monitor<Alarm>>(rt: &R, m: &M, out: M::Out, steps: &[ClockStep])
     requires { M.is_of m.now out }
 {
-    let (_out, woke) = Alarm::wakeme(m, rt, out, 2);
-    expect_same(rt, woke.ok(), Some(2));
+    let mut out = out;
+    for step in steps {
+        out = takes_step(rt, m, out, *step);
+    }
 }
 
-// Who sleeps finds a time past its setting, which isn't ready, one before it and then its setting.
-fn wakes_twice<R: Wait + Abort>(rt: &R, alloc: Global) {
-    let answers = [Alarm::at(3), Alarm::at(1), Alarm::at(2)];
-    let (fake, out) = with_answers(rt, alloc, Alarm::at(0), answers);
-    wakes_at_two(rt, &fake, out);
-}
-
-// A setting past the last time is refused, and one at it is met, where the clock ends.
-fn sleeps_to_the_last_time<R: Wait + Abort, M: Monitor<Alarm>>(rt: &R, m: &M, out: M::Out)
-    requires { M.is_of m.now out }
-{
-    let out = is_too_far(rt, m, out, 2);
-    let (out, woke) = Alarm::wakeme(m, rt, out, 1);
-    expect_same(rt, woke, Ok(u64::MAX));
-    let (_out, time) = ends_the_clock(rt, m, out);
-    expect_same(rt, time, u64::MAX);
-}
-
-// Before the last time there is one tick, and a setting at the last time.
-fn meets_the_last_time<R: Wait + Abort>(rt: &R, alloc: Global) {
-    let answers = [Alarm::at(u64::MAX)];
-    let (fake, out) = with_answers(rt, alloc, Alarm::at(u64::MAX - 1), answers);
-    sleeps_to_the_last_time(rt, &fake, out);
-}
-
-// Ticks twice: to the last time, and then it is refused.
-fn ticks_twice<R: Wait + Abort, M: Monitor<Alarm>>(rt: &R, m: &M, out: M::Out)
-    requires { M.is_of m.now out }
-{
-    let (out, time) = Alarm::tick(m, rt, out);
-    expect_same(rt, time, Ok(u64::MAX));
-    is_full(rt, m, out);
-}
-
-// Before the last time there is one tick.
-fn ticks_to_the_last_time<R: Wait + Abort>(rt: &R, alloc: Global) {
-    let (fake, out) = with_answers(rt, alloc, Alarm::at(u64::MAX - 1), []);
-    ticks_twice(rt, &fake, out);
+// Takes the steps at a clock that stands at this time, with these answers.
+fn on_clock<R: Wait + Abort, const N: usize>(
+    rt: &R,
+    alloc: Global,
+    time: u64,
+    answers: [Alarm; N],
+    steps: &[ClockStep],
+) {
+    let (fake, out) = with_answers(rt, alloc, Alarm::at(time), answers);
+    takes_steps(rt, &fake, out, steps);
 }
 
 // Takes the one buffer, is refused late as stream 1, and takes the one buffer of the pool that it found.
@@ -69,37 +82,51 @@ fn is_no_stream_late<R: Wait + Abort, M: Monitor<Pool>>(rt: &R, m: &M, out: M::O
     expect_same(rt, (first, least), (0, 0));
 }
 
+// Who sleeps finds a time past its setting, which isn't ready, one before it and then its setting.
+#[test]
+fn a_sleeper_waits_until_its_setting(host: HostRuntime) {
+    let answers = [Alarm::at(3), Alarm::at(1), Alarm::at(2)];
+    let steps = [ClockStep::Wakes { ticks: 2, time: 2 }];
+    on_clock(&host, host.alloc(), 0, answers, &steps);
+}
+
+// Before the last time there is one tick, and a setting at the last time. At the last time nothing can be set past it,
+// and there is no next one, but who sets it goes on at once.
+#[test]
+fn the_last_time_is_one_that_is_met(host: HostRuntime) {
+    let (rt, alloc) = (&host, host.alloc());
+    let last = u64::MAX;
+    let sleeps = [
+        ClockStep::IsTooFar(2),
+        ClockStep::Wakes {
+            ticks: 1,
+            time: last,
+        },
+        ClockStep::IsTooFar(1),
+        ClockStep::IsFull,
+        ClockStep::Wakes {
+            ticks: 0,
+            time: last,
+        },
+    ];
+    on_clock(rt, alloc, last - 1, [Alarm::at(last)], &sleeps);
+    let ticks = [ClockStep::Ticks(last), ClockStep::IsFull];
+    on_clock(rt, alloc, last - 1, [], &ticks);
+}
+
 // A stream waits for the one buffer, and finds a pool in which it is none.
-fn finds_another_pool<R: Wait + Abort>(rt: &R, alloc: Global) {
+#[test]
+fn late_no_stream(host: HostRuntime) {
+    let (rt, alloc) = (&host, host.alloc());
     let answers = [with_buffers(rt, alloc, 1, 1)];
     let (fake, out) = with_answers(rt, alloc, with_buffers(rt, alloc, 1, 2), answers);
     is_no_stream_late(rt, &fake, out);
 }
 
-// The largest pool.
-fn takes_the_most<R: Wait + Abort>(rt: &R, alloc: Global) {
+#[test]
+fn all_buffers_of_the_largest_pool_are_taken_in_order(host: HostRuntime) {
+    let (rt, alloc) = (&host, host.alloc());
     let most = with_buffers(rt, alloc, 1024, 256);
     let (fake, out) = with_answers(rt, alloc, most, []);
     takes_all(rt, &fake, out);
-}
-
-#[test]
-fn a_sleeper_waits_until_its_setting(rt: HostRuntime) {
-    wakes_twice(&rt, rt.alloc());
-}
-
-#[test]
-fn the_last_time_is_one_that_is_met(rt: HostRuntime) {
-    meets_the_last_time(&rt, rt.alloc());
-    ticks_to_the_last_time(&rt, rt.alloc());
-}
-
-#[test]
-fn late_no_stream(rt: HostRuntime) {
-    finds_another_pool(&rt, rt.alloc());
-}
-
-#[test]
-fn all_buffers_of_the_largest_pool_are_taken_in_order(rt: HostRuntime) {
-    takes_the_most(&rt, rt.alloc());
 }

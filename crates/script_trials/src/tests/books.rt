@@ -6,3 +6,21 @@ mod plain;
 mod sized;
 mod steps;
 mod texts;
+
+use crate::tests::compared::expect_same;
+use plain::Plain;
+use std::panic::Expect;
+use std::process::Abort;
+use wait_book::book::Book;
+use wait_book::steps::Step;
+
+// A book of these numbers, where nothing happened yet.
+fn made<R: Abort + AllocGlobal>(rt: &R, places: usize, conditions: usize, mesa: usize) -> Book {
+    Book::make(rt.alloc(), places, conditions, mesa).expect(rt, "a book")
+}
+
+// The book and the plain monitor answer the same to a step, the one with this number.
+fn answer_alike<R: Abort>(rt: &R, number: u64, step: Step, book: &mut Book, plain: &mut Plain) {
+    let found = book.try_step(step);
+    expect_same(rt, (number, found), (number, plain.step(step)));
+}

@@ -3,7 +3,7 @@
 pub mod event;
 pub mod filters;
 
-use event::Event;
+use event::{Event, Wait};
 use filters::{called, chosen, outside, turn, urgent, waiting};
 use hoare_law::turn::Turn;
 use std::alloc::{AllocError, Global};
@@ -32,18 +32,18 @@ impl Past {
     }
 
     /// Who waits on a condition, in the order in which they came to wait.
-    pub fn waiting(&self, condition: usize) -> Result<Vec<Event>, AllocError> {
+    pub fn waiting(&self, condition: usize) -> Result<Vec<Wait>, AllocError> {
         waiting(self.alloc, condition, self.events.as_slice())
     }
 
     /// The wait of the process that a signal on a condition would resume.
-    pub fn chosen(&self, condition: usize) -> Result<Option<Event>, AllocError> {
+    pub fn chosen(&self, condition: usize) -> Result<Option<Wait>, AllocError> {
         let waits = self.waiting(condition)?;
         Ok(chosen(waits.as_slice()))
     }
 
     /// Who was called and hasn't gone on.
-    pub fn called(&self) -> Result<Vec<Event>, AllocError> {
+    pub fn called(&self) -> Result<Vec<Wait>, AllocError> {
         called(self.alloc, self.events.as_slice())
     }
 
@@ -144,20 +144,22 @@ impl Past {
             Step::Enter(place) => return Ok(Some(Event::Admit(place as usize))),
             Step::Leave(place) => return Ok(Some(Event::Leave(place as usize))),
             Step::Wait(place, condition, priority) => {
-                let event = Event::Wait(place as usize, condition as usize, priority);
-                return Ok(Some(event));
+                return Ok(Some(Event::Wait(Wait {
+                    place: place as usize,
+                    condition: condition as usize,
+                    priority,
+                })));
             }
             Step::Signal(place, condition)
             | Step::Pass(place, condition)
             | Step::Notify(place, condition)
             | Step::Broadcast(place, condition) => (place as usize, condition as usize),
         };
-        let chosen = self.chosen(condition)?.map(Event::place);
-        Ok(match (step, chosen) {
-            (Step::Signal(..), Some(resumed)) => Some(Event::Signal(place, condition, resumed)),
-            (Step::Pass(..), Some(resumed)) => Some(Event::Pass(place, condition, resumed)),
+        Ok(match (step, self.chosen(condition)?) {
+            (Step::Signal(..), Some(wait)) => Some(Event::Signal(place, condition, wait.place)),
+            (Step::Pass(..), Some(wait)) => Some(Event::Pass(place, condition, wait.place)),
             (Step::Pass(..), None) => Some(Event::Leave(place)),
-            (Step::Notify(..), Some(called)) => Some(Event::Notify(place, condition, called)),
+            (Step::Notify(..), Some(wait)) => Some(Event::Notify(place, condition, wait.place)),
             (Step::Broadcast(..), Some(_)) => Some(Event::Broadcast(place, condition)),
             _ => None,
         })

@@ -6,10 +6,9 @@ mod svgs;
 use crate::tests::compared::expect_same;
 use script_picture::fault::PictureFault;
 use script_picture::picture::{Form, draw_script};
-use std::alloc::Global;
-use std::io::Write;
+use std::alloc::{AllocError, Global};
+use std::panic::Expect;
 use std::process::Abort;
-use std::test::Fail;
 
 const HAND_OVER: &[u8] =
     b"monitor 2 1\nenter 0\nwait 0 0 0\nenter 1\nsignal 1 0\nleave 0\nleave 1\n";
@@ -56,12 +55,18 @@ fn times(text: &[u8], part: &[u8]) -> usize {
     found
 }
 
-// A script in which each of 64 places waits, with the greatest priority or with 7.
-fn sixty_four_waits(alloc: Global, greatest: bool) -> Result<Vec<u8>, Fail> {
-    let mut script = b"monitor 64 1\n".to_vec(alloc)?;
+// All of 64 places come in and wait, with the greatest priority or with 7.
+fn add_waits(script: &mut String, greatest: bool) -> Result<(), AllocError> {
     for place in 0..64u32 {
         let priority = if greatest || place == 0 { u64::MAX } else { 7 };
-        write!(script, "enter {place}\nwait {place} 0 {priority}\n")?;
+        writeln!(script, "enter {place}\nwait {place} 0 {priority}")?;
     }
-    Ok(script)
+    Ok(())
+}
+
+// A script in which each of 64 places waits, with the greatest priority or with 7.
+fn sixty_four_waits<R: Abort + AllocGlobal>(rt: &R, greatest: bool) -> String {
+    let mut script = format!(in rt.alloc(); "monitor 64 1\n").expect(rt, "memory for a script");
+    add_waits(&mut script, greatest).expect(rt, "memory for a script");
+    script
 }

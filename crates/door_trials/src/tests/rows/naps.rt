@@ -21,6 +21,9 @@ const STAY: u64 = 3;
 /// How many places visit, beside as many that keep a processor busy.
 pub const VISITORS: usize = 8;
 
+/// How many places that makes.
+pub const PLACES: usize = 2 * VISITORS;
+
 /// How often each of them comes in.
 pub const VISITS: u64 = 2000;
 

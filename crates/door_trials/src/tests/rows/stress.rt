@@ -148,11 +148,14 @@ pub fn agrees<R: Abort>(rt: &R, diary: &Diary, rounds: u64) {
         called,
         went_on,
     } = judge(lines);
-    assert!(rt; !diary.is_torn);
-    expect_same(rt, unlawful, None);
-    expect_same(rt, diary.finished, WORKERS);
-    assert!(rt; lines.len() as u64 / 16 >= rounds);
-    assert!(rt; resumed.min(called).min(went_on) as u64 >= rounds / 20);
+    expect_same(
+        rt,
+        (diary.is_torn, unlawful, diary.finished),
+        (false, None, WORKERS),
+    );
+    let is_long = lines.len() as u64 / 16 >= rounds;
+    let had_choices = resumed.min(called).min(went_on) as u64 >= rounds / 20;
+    expect_same(rt, (is_long, had_choices), (true, true));
 }
 
 // How many rounds each place has, by the kind of the door.

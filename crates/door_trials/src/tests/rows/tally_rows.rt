@@ -1,12 +1,14 @@
 //! The rows of a tally, on both doors.
 ghost use Rattle.std.specs.Prelude.{◌≡◌};
 
+use crate::tests::compared::expect_same;
+use crate::tests::glances::{Glanced, sees_a_newcomer, waits_or_hands_over};
 use crate::tests::row::run;
 use crate::tests::rows::naps::{Signs, VISITORS, VISITS, stays_or_comes, visits_or_spins};
 use crate::tests::rows::tally::{
     adds_thousand, resumes_by_each_signal, signals_on, writes_or_adds,
 };
-use crate::tests::rows::tries::{PLACES, adds_on, waits_or_tries};
+use crate::tests::rows::tries::{adds_on, waits_or_tries};
 use crate::tests::rows::wakes::{comes_late, waits_long};
 use crate::tests::rows::{naps, tries};
 use any_door::DoorKind;
@@ -32,6 +34,9 @@ enum TallyRow<'a> {
     /// Place 0 stays inside until the sign.
     WhoTriesIsNotBeforeWhoIsResumed(&'a AtomicBool),
     WhoTriesAndWhoEntersLoseNoAddition,
+    WhoIsHandedTheMonitorIsSeen,
+    /// Place 1 comes after the sign.
+    ANewcomerIsSeen(&'a AtomicBool),
     /// They tell each other that they are inside.
     ANewcomerThatNobodyCallsComesIn(&'a Signs),
     /// The visitors are counted as they go.
@@ -39,7 +44,7 @@ enum TallyRow<'a> {
 }
 
 // Each place does what the row says.
-fn acts<R: Wait + Abort + Clock + CpuClock, M: Monitor<Tally>>(
+fn acts<R: Wait + Abort + Clock + CpuClock, M: Glanced>(
     rt: &R,
     m: &M,
     out: M::Out,
@@ -60,6 +65,8 @@ fn acts<R: Wait + Abort + Clock + CpuClock, M: Monitor<Tally>>(
         TallyRow::ANewcomerComesInOnceNobodyIsInside(sign) => comes_late(rt, m, out, place, sign),
         TallyRow::WhoTriesIsNotBeforeWhoIsResumed(sign) => waits_or_tries(rt, m, out, place, sign),
         TallyRow::WhoTriesAndWhoEntersLoseNoAddition => adds_on(rt, m, out),
+        TallyRow::WhoIsHandedTheMonitorIsSeen => waits_or_hands_over(rt, m, out, place),
+        TallyRow::ANewcomerIsSeen(sign) => sees_a_newcomer(rt, m, out, place, sign),
         TallyRow::ANewcomerThatNobodyCallsComesIn(signs) => stays_or_comes(
             rt, m, out, place, signs,
         ),
@@ -69,48 +76,34 @@ fn acts<R: Wait + Abort + Clock + CpuClock, M: Monitor<Tally>>(
     }
 }
 
-// How many places act in the row.
-fn places(row: TallyRow<'_>) -> usize {
+// What the row has to leave, and what its places have to answer: 0 is the answer of one that has nothing to say.
+fn wanted(row: TallyRow<'_>) -> (u64, &'static [u64]) {
     match row {
-        TallyRow::OnePlaceCallsAll => 1,
-        TallyRow::SignallersReturnInOrder => 3,
-        TallyRow::WhoTriesAndWhoEntersLoseNoAddition => PLACES,
-        TallyRow::EightComeInBesideEightBusyThreads(_) => 2 * VISITORS,
-        _ => 2,
+        TallyRow::OnePlaceCallsAll => (42, &[1]),
+        TallyRow::WhatIsWrittenIsFound => (6, &[56, 1]),
+        TallyRow::TwoThousandAdditions => (2000, &[0, 0]),
+        TallyRow::SignallersReturnInOrder => (1234, &[0, 0, 0]),
+        TallyRow::EachSignalResumes => (1234, &[1123, 12]),
+        TallyRow::WhoWaitsSleepsUntilItIsWoken => (12, &[0, 0]),
+        TallyRow::ANewcomerComesInOnceNobodyIsInside(_) => (12, &[0, 0]),
+        TallyRow::WhoTriesIsNotBeforeWhoIsResumed(_) => (12, &[0, 0]),
+        TallyRow::WhoTriesAndWhoEntersLoseNoAddition => (
+            tries::PLACES as u64 * tries::ROUNDS,
+            &[0; tries::PLACES],
+        ),
+        TallyRow::WhoIsHandedTheMonitorIsSeen => (0, &[0, 1]),
+        TallyRow::ANewcomerIsSeen(_) => (0, &[1, 0]),
+        TallyRow::ANewcomerThatNobodyCallsComesIn(_) => (2 * naps::ROUNDS, &[0, 0]),
+        TallyRow::EightComeInBesideEightBusyThreads(_) => (
+            VISITORS as u64 * VISITS,
+            &[0; naps::PLACES],
+        ),
     }
 }
 
-// Whether the last value of the row and what the places answered are what they have to be.
-fn agrees(row: TallyRow<'_>, value: u64, answers: &[u64]) -> bool {
-    match row {
-        TallyRow::OnePlaceCallsAll => value == 42 && answers == [1].as_slice(),
-        TallyRow::WhatIsWrittenIsFound => value == 6 && answers == [56, 1].as_slice(),
-        TallyRow::TwoThousandAdditions => value == 2000,
-        TallyRow::SignallersReturnInOrder => value == 1234,
-        TallyRow::EachSignalResumes => value == 1234 && answers == [1123, 12].as_slice(),
-        TallyRow::WhoWaitsSleepsUntilItIsWoken => {
-            value == 12 && answers.iter().all(|millis| *millis < 30)
-        }
-        TallyRow::ANewcomerComesInOnceNobodyIsInside(_) => value == 12,
-        TallyRow::WhoTriesIsNotBeforeWhoIsResumed(_) => value == 12 && answers == [0, 0].as_slice(),
-        TallyRow::WhoTriesAndWhoEntersLoseNoAddition => value == PLACES as u64 * tries::ROUNDS,
-        TallyRow::ANewcomerThatNobodyCallsComesIn(_) => value == 2 * naps::ROUNDS,
-        TallyRow::EightComeInBesideEightBusyThreads(_) => value == VISITORS as u64 * VISITS,
-    }
-}
-
-// Where the row left or answered something else the test fails.
-fn holds<R: Abort>(rt: &R, kind: DoorKind, row: TallyRow<'_>, left: (Tally, Vec<u64>)) {
-    let (tally, answers) = left;
-    assert!(rt;
-        agrees(row, tally.value, answers.as_slice()),
-        "the {kind:?} door left {}, answered {answers:?}",
-        tally.value
-    );
-}
-
+// The newcomer is seen at once, and who is owed the monitor, being handed it, in one of the rounds.
 #[test]
-fn a_tally_on_each_door(host: HostRuntime) {
+fn a_tally_on_each_door_where_a_newcomer_and_who_is_owed_are_seen(host: HostRuntime) {
     let (rt, alloc) = (&host, host.alloc());
     for kind in DoorKind::BOTH {
         let sign = AtomicBool::new(false);
@@ -126,12 +119,16 @@ fn a_tally_on_each_door(host: HostRuntime) {
             TallyRow::ANewcomerComesInOnceNobodyIsInside(&sign),
             TallyRow::WhoTriesIsNotBeforeWhoIsResumed(&sign),
             TallyRow::WhoTriesAndWhoEntersLoseNoAddition,
+            TallyRow::WhoIsHandedTheMonitorIsSeen,
+            TallyRow::ANewcomerIsSeen(&sign),
             TallyRow::ANewcomerThatNobodyCallsComesIn(&signs),
             TallyRow::EightComeInBesideEightBusyThreads(&gone),
         ] {
+            let (value, answers) = wanted(row);
             let data = Tally { value: 0 };
-            let left = run!(rt, alloc, kind, data, places(row), acts(row));
-            holds(rt, kind, row, left);
+            let (tally, told) = run!(rt, alloc, kind, data, answers.len(), acts(row));
+            expect_same(rt, (kind, tally.value), (kind, value));
+            expect_same(rt, told.as_slice(), answers);
         }
     }
 }

@@ -63,6 +63,24 @@ fn comes_and_goes<R: Wait>(
     door.give_up(door.enter(rt, out))
 }
 
+// Comes in, waits, and writes 2.
+fn waits_and_writes<R: Wait, M: Monitor<Tally>>(rt: &R, m: &M, out: M::Out) -> M::In
+    requires { M.is_of m.now out }
+    ensures of { M.is_of_in m.now result }
+    ensures place { M.place_in result ≡ M.place out }
+{
+    write_digit(m, m.wait(rt, m.enter(rt, out), 0, 0), 2)
+}
+
+// Comes in once another waits, and writes 1.
+fn watches_and_writes<R: Wait + Abort, M: Monitor<Tally>>(rt: &R, m: &M, out: M::Out) -> M::In
+    requires { M.is_of m.now out }
+    ensures of { M.is_of_in m.now result }
+    ensures place { M.place_in result ≡ M.place out }
+{
+    write_digit(m, watch(rt, m, out, 0, 1), 1)
+}
+
 // Place 0 draws three tickets, and waits at its fourth. Place 1 hands the monitor up to it, without waiting itself, and
 // answers whether it resumed somebody.
 fn waits_or_hands_up<R: Wait + Abort>(
@@ -77,13 +95,10 @@ fn waits_or_hands_up<R: Wait + Abort>(
 {
     if place == 0 {
         let out = comes_and_goes(rt, door, comes_and_goes(rt, door, out));
-        let inside = door.enter(rt, comes_and_goes(rt, door, out));
-        let inside = door.wait(rt, inside, 0, 0);
-        let inside = write_digit(door, inside, 2);
+        let inside = waits_and_writes(rt, door, comes_and_goes(rt, door, out));
         return (door.give_up(inside), 0);
     }
-    let inside = watch(rt, door, out, 0, 1);
-    let inside = write_digit(door, inside, 1);
+    let inside = watches_and_writes(rt, door, out);
     let (out, told) = door.hand_up(inside, 0);
     (out, u64::from(told))
 }

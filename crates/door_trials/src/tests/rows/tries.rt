@@ -1,17 +1,17 @@
 //! Who only tries: it comes in where the monitor is free, and else is where it was. In rows on both doors.
-ghost use Rattle.std.specs.Prelude.{◌≡◌};
+ghost use Rattle.std.specs.Prelude.{◌≡◌, vec_len, All};
+ghost use Rattle.test_support.specs.Numbered.{IsNumbered};
 
 use crate::tests::awaited::{await_sign, watch};
 use crate::tests::compared::expect_same;
-use baton_door::door::Door;
+use crate::tests::doors_alone::{AloneRow, left_by};
+use any_door::DoorKind;
 use hoare_law::monitor::Monitor;
-use std::alloc::Global;
 use std::process::Abort;
 use std::rt::Clock;
 use std::sync::Wait;
 use std::sync::atomic::{AtomicBool, Ordering};
 use test_support::tally::{Tally, add_one, write_digit};
-use ticket_door::door::TicketDoor;
 
 /// How many places come and go, each in a thread of its own.
 pub const PLACES: usize = 4;
@@ -60,42 +60,39 @@ fn tries_while_held<R: Wait, M: Monitor<Tally>>(
     ((a, b), (free, held, again))
 }
 
-// The same on a door, and the number that it is closed with.
-macro_rules! try_on {
-    ($door:ident, $rt:expr, $alloc:expr) => {{
-        let Ok((door, mut outs)) = $door::make($alloc, Tally { value: 0 }, 2) else {
-            panic!($rt; "no memory")
-        };
-        let (b, a) = (outs.pop().unwrap(), outs.pop().unwrap());
-        let ((a, b), came) = tries_while_held($rt, &door, a, b);
-        outs.push_reserved(a);
-        outs.push_reserved(b);
-        (came, door.close(outs).value)
-    }};
-}
-
-// That on a baton door.
-fn tries_baton<R: Wait + Abort>(rt: &R, alloc: Global) -> ((bool, bool, bool), u64) {
-    try_on!(Door, rt, alloc)
-}
-
-// That on a ticket door.
-fn tries_ticket<R: Wait + Abort>(rt: &R, alloc: Global) -> ((bool, bool, bool), u64) {
-    try_on!(TicketDoor, rt, alloc)
+/// The same by the last two places of a monitor: the first try and the third come in.
+pub fn both_try<R: Wait + Abort, M: Monitor<Tally>>(rt: &R, m: &M, outs: Vec<M::Out>) -> Vec<M::Out>
+    requires of { All (M.is_of m.now) outs.items }
+    requires numbered { IsNumbered M.place outs.items }
+    ensures count { vec_len result ≡ vec_len outs }
+    ensures of { All (M.is_of m.now) result.items }
+    ensures numbered { IsNumbered M.place result.items }
+{
+    let mut outs = outs;
+    let Some(b) = outs.pop() else {
+        panic!(rt; "no place")
+    };
+    let Some(a) = outs.pop() else {
+        panic!(rt; "one place")
+    };
+    let ((a, b), came) = tries_while_held(rt, m, a, b);
+    expect_same(rt, came, (true, false, true));
+    outs.push_reserved(a);
+    outs.push_reserved(b);
+    outs
 }
 
 #[test]
 fn who_tries_comes_in_where_it_is_free(rt: HostRuntime) {
-    expect_same(
-        &rt,
-        tries_baton(&rt, rt.alloc()),
-        ((true, false, true), 123),
-    );
-    expect_same(
-        &rt,
-        tries_ticket(&rt, rt.alloc()),
-        ((true, false, true), 123),
-    );
+    for kind in DoorKind::BOTH {
+        let left = left_by(
+            &rt,
+            rt.alloc(),
+            kind,
+            AloneRow::WhoTriesComesInWhereItIsFree,
+        );
+        expect_same(&rt, (kind, left), (kind, 123));
+    }
 }
 
 /// Place 0 waits, and once it is resumed it stays inside until the sign. Place 1 passes to it, and tries while the

@@ -11,6 +11,9 @@ use std::thread;
 use std::time::{CpuClock, Duration};
 use test_support::tally::{Tally, write_digit};
 
+/// Who sleeps in a wait takes fewer milliseconds of the processor's time for it.
+const AWAKE: u64 = 30;
+
 // What this thread has spent of the processor's time, in milliseconds.
 fn spent<R: Abort + CpuClock>(rt: &R) -> u64 {
     let Ok(time) = rt.thread_cpu_time() else {
@@ -23,8 +26,8 @@ fn pause<R: Clock>(rt: &R, millis: u64) {
     thread::sleep(rt, Duration::from_millis(millis));
 }
 
-/// Place 0 waits and writes 1: it answers how many milliseconds of the processor's time the wait took. Place 1 lets it
-/// wait for a while, signals, and writes 2 when it is back.
+/// Place 0 waits and writes 1: it answers 0 where it slept meanwhile, and else how many milliseconds of the processor's
+/// time the wait took. Place 1 lets it wait for a while, signals, and writes 2 when it is back.
 pub fn waits_long<R: Wait + Abort + Clock + CpuClock, M: Monitor<Tally>>(
     rt: &R,
     m: &M,
@@ -46,7 +49,8 @@ pub fn waits_long<R: Wait + Abort + Clock + CpuClock, M: Monitor<Tally>>(
     let inside = m.wait(rt, inside, 0, 0);
     let after = spent(rt);
     let inside = write_digit(m, inside, 1);
-    (m.leave(rt, inside), after.saturating_sub(before))
+    let took = after.saturating_sub(before);
+    (m.leave(rt, inside), if took < AWAKE { 0 } else { took })
 }
 
 /// Place 0 comes in, gives a sign, stays inside for a while and writes 1. Place 1 comes in after the sign, and writes

@@ -1,6 +1,7 @@
 //! A drive that a disk head grants: who has it takes it to a cylinder, and hands it on.
 ghost use Rattle.std.specs.Prelude.{◌≡◌};
 
+use crate::tests::compared::expect_same;
 use hoare_law::monitor::Monitor;
 use std::process::Abort;
 use std::sync::Wait;
@@ -38,6 +39,6 @@ pub fn hands_on<R: Wait + Abort, M: Monitor<Head<Trip>>>(
     ensures place { M.place result ≡ M.place out }
 {
     let (out, released) = Head::release(m, rt, out, drive);
-    assert!(rt; released.is_ok());
+    expect_same(rt, released.is_ok(), true);
     out
 }

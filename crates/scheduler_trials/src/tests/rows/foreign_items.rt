@@ -3,6 +3,7 @@ ghost use Rattle.std.specs.Prelude.{◌≡◌, ◌∷◌, [], All, vec_len};
 ghost use Rattle.test_support.specs.Numbered.{IsNumbered};
 
 use crate::tests::compared::expect_same;
+use crate::tests::row::door;
 use any_door::DoorKind;
 use hoare_law::monitor::Monitor;
 use plain_schedulers::single::{NotOut, Single};
@@ -64,7 +65,7 @@ fn releases<R: Wait + Abort, M: Monitor<Single<u64>>>(
     ensures place { M.place result ≡ M.place out }
 {
     let (out, put) = Single::release(m, rt, out, item);
-    assert!(rt; put.is_ok());
+    expect_same(rt, put.is_ok(), true);
     out
 }
 
@@ -104,12 +105,8 @@ fn change_items<R: Wait + Abort, M: Monitor<Single<u64>>>(
 
 // Two monitors on doors of this kind: what they have at the end.
 fn change_on<R: Wait + Abort>(rt: &R, alloc: Global, kind: DoorKind) -> [Option<u64>; 2] {
-    let Some((first, outs)) = on_any_door::made(alloc, kind, Single::with(7u64), 1) else {
-        panic!(rt; "no door was made")
-    };
-    let Some((second, others)) = on_any_door::made(alloc, kind, Single::with(8u64), 1) else {
-        panic!(rt; "no door was made")
-    };
+    let (first, outs) = door(rt, alloc, kind, Single::with(7u64), 1);
+    let (second, others) = door(rt, alloc, kind, Single::with(8u64), 1);
     let (outs, others) = change_items(rt, alloc, &first, outs, &second, others);
     let left = on_any_door::closed(first, outs).into_item();
     [left, on_any_door::closed(second, others).into_item()]

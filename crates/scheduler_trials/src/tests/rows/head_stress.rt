@@ -2,7 +2,7 @@
 //! they wrote down is held against what a sweep is.
 ghost use Rattle.std.specs.Prelude.{◌≡◌};
 
-use crate::tests::compared::expect_same;
+use crate::tests::compared::{expect_none, expect_same};
 use crate::tests::rows::drive::{Trip, goes, hands_on};
 use crate::tests::rows::shared_log::{Log, await_others};
 use hoare_law::monitor::Monitor;
@@ -20,7 +20,7 @@ const ROUNDS: u64 = 200;
 pub const CYLMAX: u16 = 9;
 
 /// What happened.
-#[derive(Clone, Copy, Debug, PartialEq, Eq)]
+#[derive(Clone, Copy, Debug)]
 pub enum Line {
     /// The place is about to ask for the cylinder.
     Asks { place: usize, dest: u16 },
@@ -88,7 +88,10 @@ impl Elevator {
 
     // Whether the place may have the drive there: it is its wish, and the next where anybody waited.
     fn lets(&mut self, place: usize, dest: u16) -> bool {
-        let Some(wish) = self.wishes.get_mut(place).and_then(|wish| wish.take()) else {
+        if place >= PLACES {
+            return false;
+        }
+        let Some(wish) = self.wishes[place].take() else {
             return false;
         };
         let is_next = match self.next.take() {
@@ -127,7 +130,12 @@ fn first_wrong(lines: &[Line]) -> Option<Line> {
         wishes: [None; PLACES],
         next: None,
     };
-    lines.iter().copied().find(|line| !disk.allows(*line))
+    for line in lines {
+        if !disk.allows(*line) {
+            return Some(*line);
+        }
+    }
+    None
 }
 
 /// Asks for a random cylinder in each round, and hands the drive on when all others wait.
@@ -161,6 +169,6 @@ pub fn travels<R: Wait + Abort, M: Monitor<Head<Trip>>>(
 /// What they wrote is what a sweep is, and all was written.
 pub fn is_a_sweep<R: Abort>(rt: &R, log: Log<Line>) {
     let lines = log.into_lines();
-    expect_same(rt, first_wrong(lines.as_slice()), None);
+    expect_none(rt, first_wrong(lines.as_slice()));
     expect_same(rt, lines.len(), 3000);
 }

@@ -153,10 +153,8 @@ fn agrees(row: MesaRow<'_>, answers: &[u64]) -> bool {
 
 // Where the places answered something else the test fails.
 fn holds<R: Abort>(rt: &R, kind: DoorKind, row: MesaRow<'_>, answers: &[u64]) {
-    assert!(rt;
-        agrees(row, answers),
-        "the {kind:?} door answered {answers:?}"
-    );
+    let wanted = (kind, answers, true);
+    expect_same(rt, (kind, answers, agrees(row, answers)), wanted);
 }
 
 #[test]
@@ -180,9 +178,7 @@ fn who_is_called_tests_again_on_each_door(host: HostRuntime) {
 fn a_buffer_with_mesa_conditions_has_its_limits(rt: HostRuntime) {
     for cells in [0, 4097] {
         let made = MesaBuffer::<u8>::make(rt.alloc(), cells);
-        assert!(rt;
-            matches!(made, Err(BufferRefused::BadSize)),
-            "{cells} cells"
-        );
+        let wanted = Some(BufferRefused::BadSize);
+        expect_same(&rt, (cells, made.err()), (cells, wanted));
     }
 }

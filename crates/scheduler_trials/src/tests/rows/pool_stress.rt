@@ -2,7 +2,7 @@
 //! is.
 ghost use Rattle.std.specs.Prelude.{◌≡◌};
 
-use crate::tests::compared::expect_same;
+use crate::tests::compared::{expect_none, expect_same};
 use crate::tests::rows::alarm_and_pool::pool::{gives, takes};
 use crate::tests::rows::shared_log::{Log, await_others, linger};
 use hoare_law::monitor::Monitor;
@@ -20,7 +20,7 @@ pub const BUFFERS: u32 = 5;
 const ROUNDS: u64 = 200;
 
 /// What happened.
-#[derive(Clone, Copy, Debug, PartialEq, Eq)]
+#[derive(Clone, Copy, Debug)]
 pub enum Line {
     /// The stream has taken the buffer.
     Has { stream: u32, buffer: u32 },
@@ -43,10 +43,12 @@ fn allows(holders: &mut [Option<u32>; BUFFERS as usize], line: Line) -> bool {
 // The first line that may not stand where it stands.
 fn first_wrong(lines: &[Line]) -> Option<Line> {
     let mut holders = [None; BUFFERS as usize];
-    lines
-        .iter()
-        .copied()
-        .find(|line| !allows(&mut holders, *line))
+    for line in lines {
+        if !allows(&mut holders, *line) {
+            return Some(*line);
+        }
+    }
+    None
 }
 
 // Takes a buffer, and writes so.
@@ -149,6 +151,6 @@ pub fn uses_or_takes_all<R: Wait + Abort + Clock, M: Monitor<Pool>>(
 /// What they wrote is what a pool does, and all was written.
 pub fn is_a_pool<R: Abort>(rt: &R, log: Log<Line>) {
     let lines = log.into_lines();
-    expect_same(rt, first_wrong(lines.as_slice()), None);
+    expect_none(rt, first_wrong(lines.as_slice()));
     expect_same(rt, lines.len(), 3200);
 }

@@ -238,7 +238,8 @@ fn agrees(row: ReadersRow<'_>, value: u64) -> bool {
 
 // Where the row left another value the test fails.
 fn holds<R: Abort>(rt: &R, kind: DoorKind, row: ReadersRow<'_>, value: u64) {
-    assert!(rt; agrees(row, value), "the {kind:?} door left {value}");
+    let wanted = (kind, value, true);
+    expect_same(rt, (kind, value, agrees(row, value)), wanted);
 }
 
 #[test]

@@ -77,7 +77,7 @@ pub fn ends_write<R: Wait + Abort, M: Monitor<Shared>>(
     ensures place { M.place result ≡ M.place out }
 {
     let (out, written) = ReadersWriters::end_write(m, rt, out, value);
-    assert!(rt; written.is_ok());
+    expect_same(rt, written.is_ok(), true);
     out
 }
 

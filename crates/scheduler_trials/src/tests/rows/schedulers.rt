@@ -131,9 +131,7 @@ fn items_come_out_in_order_on_each_door(host: HostRuntime) {
 fn a_buffer_has_its_limits(rt: HostRuntime) {
     for cells in [0, 4097] {
         let made = Buffer::<u8>::make(rt.alloc(), cells);
-        assert!(rt;
-            matches!(made, Err(BufferRefused::BadSize)),
-            "{cells} cells"
-        );
+        let wanted = Some(BufferRefused::BadSize);
+        expect_same(&rt, (cells, made.err()), (cells, wanted));
     }
 }

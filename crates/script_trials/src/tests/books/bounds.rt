@@ -1,8 +1,8 @@
 //! What waits for nobody has bounds, which no clause says: steps of all kinds of a full book end, within the minute
 //! that `rt ci` gives a test.
+use super::made;
 use crate::tests::compared::expect_same;
 use hoare_law::waits::Waits;
-use std::alloc::Global;
 use wait_book::book::Book;
 use wait_book::steps::{Next, Step, StepRefused};
 
@@ -46,16 +46,23 @@ fn whole_run(book: &mut Book) -> Result<(), StepRefused> {
     empty(book)
 }
 
-// Whether nobody is inside and nobody waits after a whole run; nothing where a step was refused.
-fn is_empty_after(alloc: Global) -> Option<bool> {
-    let mut book = Book::make(alloc, 64, 8, 4).ok()?;
-    whole_run(&mut book).ok()?;
-    let is_waited_for = (0..8usize).any(|condition| book.count(condition) > 0);
-    Some(book.now() == Next::Free && !is_waited_for)
+// How many wait on all conditions.
+fn waiting(book: &Book) -> usize {
+    let mut count: usize = 0;
+    for condition in 0..8usize {
+        count = count.saturating_add(book.count(condition));
+    }
+    count
 }
 
+// After a whole run nobody is inside and nobody waits.
 #[test]
 fn steps_end_in_time(rt: HostRuntime) {
-    let alloc = rt.alloc();
-    expect_same(&rt, is_empty_after(alloc), Some(true));
+    let mut book = made(&rt, 64, 8, 4);
+    let end = whole_run(&mut book);
+    expect_same(
+        &rt,
+        (end, book.now(), waiting(&book)),
+        (Ok(()), Next::Free, 0),
+    );
 }

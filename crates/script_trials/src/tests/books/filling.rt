@@ -1,15 +1,16 @@
 //! All chains filled and emptied in turn, beside the definitions' filters, which are written once more in `plain`.
 
 use super::plain::Plain;
+use super::plain::place::Group;
+use super::{answer_alike, made};
 use crate::tests::compared::expect_same;
 use crate::tests::numbers::next_number;
 use hoare_law::waits::Waits;
-use std::test::Fail;
 use wait_book::book::Book;
 use wait_book::steps::{Next, Step};
 
 // How the processes that wait are told apart in one part of the run, and how they are resumed.
-#[derive(Clone, Copy, PartialEq, Eq)]
+#[derive(Clone, Copy)]
 enum Kind {
     Equal,
     Rising,
@@ -72,16 +73,16 @@ fn step_of(part: Part, i: u64, plain: &Plain, number: u64) -> Step {
         return Step::Enter((number >> 32) % 64);
     };
     let place = inside as u64;
-    if part.kind == Kind::Mixed {
+    if matches!(part.kind, Kind::Mixed) {
         return mixed_step(place, number);
     }
     if part.fills && place != 0 {
         return Step::Wait(place, part.condition, priority_of(part.kind, i, number));
     }
-    if part.fills || plain.count(part.condition) == 0 {
+    if part.fills || plain.count(Group::On(part.condition)) == 0 {
         return Step::Leave(place);
     }
-    if part.kind == Kind::Passed {
+    if matches!(part.kind, Kind::Passed) {
         return Step::Pass(place, part.condition);
     }
     Step::Signal(place, part.condition)
@@ -90,7 +91,7 @@ fn step_of(part: Part, i: u64, plain: &Plain, number: u64) -> Step {
 // Whether as many wait on a condition, the first and the last of them with the same priorities.
 fn is_like(book: &Book, plain: &Plain, condition: u64) -> bool {
     let count = book.count(condition as usize);
-    if count != plain.count(condition) {
+    if count != plain.count(Group::On(condition)) {
         return false;
     }
     if count == 0 {
@@ -101,22 +102,22 @@ fn is_like(book: &Book, plain: &Plain, condition: u64) -> bool {
     plain.extremes(condition) == Some((first, last))
 }
 
-// How many wait at the end of a half, and how many were signallers at once in it.
-fn fullest(part: Part) -> (usize, usize) {
+// How many wait at the end of a half, how many were signallers at once in it, and how many still are.
+fn fullest(part: Part) -> (usize, usize, usize) {
     if part.fills {
-        (63, 0)
-    } else if part.kind == Kind::Passed {
-        (0, 0)
+        (63, 0, 0)
+    } else if matches!(part.kind, Kind::Passed) {
+        (0, 0, 0)
     } else {
-        (0, 63)
+        (0, 63, 0)
     }
 }
 
 // 100,000 steps of 64 places: each of the eight chains, and the signallers' chain, is filled up to 63 and emptied
 // again, with equal, rising, falling and mixed priorities; at last all at once.
 #[test]
-fn fills_and_empties_all_chains(rt: HostRuntime) -> Result<(), Fail> {
-    let mut book = Book::make(rt.alloc(), 64, 8, 0)?;
+fn fills_and_empties_all_chains(rt: HostRuntime) {
+    let mut book = made(&rt, 64, 8, 0);
     let mut plain = Plain::new(64, 8, 0);
     let mut number = 1;
     let mut most = 0;
@@ -124,20 +125,17 @@ fn fills_and_empties_all_chains(rt: HostRuntime) -> Result<(), Fail> {
         number = next_number(number);
         let part = part_of(i);
         let step = step_of(part, i, &plain, number);
-        expect_same(&rt, (i, book.try_step(step)), (i, plain.step(step)));
-        expect_same(
-            &rt,
-            (i, is_like(&book, &plain, (number >> 56) % 8)),
-            (i, true),
-        );
-        most = most.max(plain.signallers());
-        if part.kind != Kind::Mixed && i % 1_000 == 999 {
-            let counts = (plain.count(part.condition), most);
-            expect_same(&rt, (i, counts, plain.signallers()), (i, fullest(part), 0));
+        answer_alike(&rt, i, step, &mut book, &mut plain);
+        let alike = is_like(&book, &plain, (number >> 56) % 8);
+        expect_same(&rt, (i, alike), (i, true));
+        let signallers = plain.count(Group::Signallers);
+        most = most.max(signallers);
+        if !matches!(part.kind, Kind::Mixed) && i % 1_000 == 999 {
+            let counts = (plain.count(Group::On(part.condition)), most, signallers);
+            expect_same(&rt, (i, counts), (i, fullest(part)));
             most = 0;
         }
     }
-    Ok(())
 }
 
 // The place inside waits on one Mesa condition, or all are called and go out.
@@ -149,7 +147,7 @@ fn calling_step(plain: &Plain, fills: bool, number: u64) -> Step {
     if fills && place != 0 {
         return Step::Wait(place, 7, (number >> 24) % 4);
     }
-    if fills || plain.count(7) == 0 {
+    if fills || plain.count(Group::On(7)) == 0 {
         return Step::Leave(place);
     }
     if (number >> 40) % 16 == 0 {
@@ -161,21 +159,22 @@ fn calling_step(plain: &Plain, fills: bool, number: u64) -> Step {
 // 10,000 steps: the chain of a Mesa condition is filled up to 63 and emptied into that of the called, by a broadcast or
 // by notifies, and this one is emptied by leaves.
 #[test]
-fn fills_and_empties_the_called(rt: HostRuntime) -> Result<(), Fail> {
-    let mut book = Book::make(rt.alloc(), 64, 8, 1)?;
+fn fills_and_empties_the_called(rt: HostRuntime) {
+    let mut book = made(&rt, 64, 8, 1);
     let mut plain = Plain::new(64, 8, 1);
     let mut number = 1;
     let mut most = 0;
     for i in 0..10_000u64 {
         number = next_number(number);
         let step = calling_step(&plain, i % 2_000 < 1_000, number);
-        expect_same(&rt, (i, book.try_step(step)), (i, plain.step(step)));
-        expect_same(&rt, (i, is_like(&book, &plain, 7)), (i, true));
-        most = most.max(plain.called());
+        answer_alike(&rt, i, step, &mut book, &mut plain);
+        let alike = is_like(&book, &plain, 7);
+        expect_same(&rt, (i, alike), (i, true));
+        let called = plain.count(Group::Called);
+        most = most.max(called);
         if i % 2_000 == 1_999 {
-            expect_same(&rt, (i, plain.called(), most), (i, 0, 63));
+            expect_same(&rt, (i, called, most), (i, 0, 63));
             most = 0;
         }
     }
-    Ok(())
 }

@@ -1,9 +1,9 @@
 //! A monitor told by where its places are, as the definitions' filters tell it: each place knows where it is and since
 //! when, and who goes on is found by looking at all places. No code of the book is used for it.
 
-mod place;
+pub mod place;
 
-use place::{Where, is_before, is_better};
+use place::{Group, Where, is_before, is_better};
 use wait_book::steps::{Next, Step, StepRefused};
 
 /// A monitor of at most 64 places, of whose conditions the last `mesa` are Mesa conditions, told by where its places
@@ -47,33 +47,21 @@ impl Plain {
 
     /// Whether a place is outside.
     pub fn outside(&self, place: u64) -> bool {
-        self.at(place) == Some(Where::Outside)
+        matches!(self.at(place), Some(Where::Outside))
     }
 
-    /// Whether a place waits on a condition.
-    pub fn waits_on(&self, place: u64, condition: u64) -> bool {
-        matches!(self.at(place), Some(Where::Waits(on, _, _)) if on == condition)
+    /// Whether a place waits in a group, with so many of it before.
+    pub fn stands(&self, place: u64, group: Group, before: usize) -> bool {
+        match self.at(place) {
+            Some(at) => at.is_in(group) && self.before(at) == before,
+            None => false,
+        }
     }
 
-    /// Whether a place was called and hasn't gone on.
-    pub fn is_called(&self, place: u64) -> bool {
-        matches!(self.at(place), Some(Where::Called(_)))
-    }
-
-    /// Whether a place is a waiting signaller.
-    pub fn signals(&self, place: u64) -> bool {
-        matches!(self.at(place), Some(Where::Signals(_)))
-    }
-
-    /// How many go on before a place, which waits on a condition, is a signaller or was called.
-    pub fn before(&self, place: u64) -> usize {
-        let Some(at) = self.at(place) else {
-            return 0;
-        };
-        self.standing()
-            .iter()
-            .filter(|one| is_before(**one, at))
-            .count()
+    // How many go on before a place of their group.
+    fn before(&self, at: Where) -> usize {
+        let places = self.standing().iter();
+        places.filter(|one| is_before(**one, at)).count()
     }
 
     fn put(&mut self, place: usize, at: Where) {
@@ -82,36 +70,30 @@ impl Plain {
         }
     }
 
-    // Whom a signal on a condition resumes.
-    fn chosen(&self, condition: u64) -> Option<usize> {
+    // Who of a group goes on first: on a condition, whom a signal resumes.
+    fn first(&self, group: Group) -> Option<usize> {
         let mut best = None;
         for (place, at) in self.standing().iter().enumerate() {
-            let waits = matches!(*at, Where::Waits(on, _, _) if on == condition);
-            if waits && is_better(*at, best) {
+            if at.is_in(group) && is_better(*at, best) {
                 best = Some((place, *at));
             }
         }
-        best.map(|(place, _)| place)
+        let (place, _) = best?;
+        Some(place)
     }
 
     // The signaller that waits longest, else the one that was called first.
     fn longest(&self) -> Option<usize> {
-        let mut best = None;
-        for (place, at) in self.standing().iter().enumerate() {
-            let may_go_on = matches!(*at, Where::Signals(_) | Where::Called(_));
-            if may_go_on && is_better(*at, best) {
-                best = Some((place, *at));
-            }
+        match self.first(Group::Signallers) {
+            None => self.first(Group::Called),
+            signaller => signaller,
         }
-        best.map(|(place, _)| place)
     }
 
-    /// How many wait on a condition.
-    pub fn count(&self, condition: u64) -> usize {
-        self.standing()
-            .iter()
-            .filter(|at| matches!(**at, Where::Waits(on, _, _) if on == condition))
-            .count()
+    /// How many wait in a group.
+    pub fn count(&self, group: Group) -> usize {
+        let places = self.standing().iter();
+        places.filter(|at| at.is_in(group)).count()
     }
 
     /// The least and the greatest priority on a condition.
@@ -128,25 +110,9 @@ impl Plain {
         found
     }
 
-    /// How many were called and haven't gone on.
-    pub fn called(&self) -> usize {
-        self.standing()
-            .iter()
-            .filter(|at| matches!(**at, Where::Called(_)))
-            .count()
-    }
-
     /// Whether somebody goes on where the place inside gives the monitor up.
     pub fn is_awaited(&self) -> bool {
         self.longest().is_some()
-    }
-
-    /// How many signallers wait.
-    pub fn signallers(&self) -> usize {
-        self.standing()
-            .iter()
-            .filter(|at| matches!(**at, Where::Signals(_)))
-            .count()
     }
 
     // The monitor goes to a place.
@@ -170,11 +136,13 @@ impl Plain {
         if self.inside.is_some() {
             return Err(StepRefused::NotFree);
         }
-        if at != Where::Outside {
-            return Err(StepRefused::NotOutside);
+        match at {
+            Where::Outside => {
+                self.go_on(place as usize);
+                Ok(())
+            }
+            _ => Err(StepRefused::NotOutside),
         }
-        self.go_on(place as usize);
-        Ok(())
     }
 
     // The place inside, if it is this one.
@@ -218,7 +186,7 @@ impl Plain {
 
     fn signal(&mut self, place: u64, condition: u64) -> Result<(), StepRefused> {
         let place = self.actor_of(place, condition, false)?;
-        if let Some(resumed) = self.chosen(condition) {
+        if let Some(resumed) = self.first(Group::On(condition)) {
             self.put(place, Where::Signals(self.steps));
             self.go_on(resumed);
         }
@@ -227,7 +195,7 @@ impl Plain {
 
     fn pass(&mut self, place: u64, condition: u64) -> Result<(), StepRefused> {
         let place = self.actor_of(place, condition, false)?;
-        let resumed = self.chosen(condition);
+        let resumed = self.first(Group::On(condition));
         self.put(place, Where::Outside);
         match resumed {
             Some(successor) => self.go_on(successor),
@@ -238,7 +206,7 @@ impl Plain {
 
     // The one that a signal would resume is called, if one waits.
     fn call(&mut self, condition: u64) {
-        if let Some(called) = self.chosen(condition) {
+        if let Some(called) = self.first(Group::On(condition)) {
             self.put(called, Where::Called(self.calls));
             self.calls = self.calls.wrapping_add(1);
         }
@@ -252,7 +220,7 @@ impl Plain {
 
     fn broadcast(&mut self, place: u64, condition: u64) -> Result<(), StepRefused> {
         self.actor_of(place, condition, true)?;
-        for _ in 0..self.count(condition) {
+        for _ in 0..self.count(Group::On(condition)) {
             self.call(condition);
         }
         Ok(())

@@ -3,7 +3,7 @@ ghost use Rattle.std.specs.Prelude.{◌≡◌, IfSome};
 ghost use Rattle.hoare_law.specs.declared.turn.Turn.TheVariants as turns;
 ghost use Rattle.hoare_law.specs.Sizes.{IsMesa};
 
-use crate::tests::past::event::Event;
+use crate::tests::past::event::Wait;
 use hoare_law::event::Sizes;
 use hoare_law::waits::Waits;
 use std::alloc::Global;
@@ -93,23 +93,23 @@ impl SizedBook {
     }
 
     /// Whether these wait on a condition, in the order in which signals would resume them.
-    pub fn has_waiting(&self, condition: usize, waits: &[Event]) -> bool {
+    pub fn has_waiting(&self, condition: usize, waits: &[Wait]) -> bool {
         if condition >= self.sizes.conditions || self.book.count(condition) != waits.len() {
             return false;
         }
-        let first = waits.first().copied();
+        let first = waits.first().map(|wait| wait.priority);
         self.book.queue(condition) == first.is_some()
-            && self.book.first(condition) == first.map(Event::priority)
+            && self.book.first(condition) == first
             && self.has_priorities(condition, waits)
     }
 
     // Whether the priorities on a condition begin with those of the waits.
-    fn has_priorities(&self, condition: usize, waits: &[Event]) -> bool {
+    fn has_priorities(&self, condition: usize, waits: &[Wait]) -> bool {
         for at in 0..waits.len() {
             if at >= self.book.count(condition) {
                 return false;
             }
-            if self.book.priority(condition, at) != waits[at].priority() {
+            if self.book.priority(condition, at) != waits[at].priority {
                 return false;
             }
         }

@@ -1,5 +1,6 @@
 //! Steps of a book, and what each answers.
 use super::plain::Plain;
+use super::{answer_alike, made};
 use crate::tests::compared::expect_same;
 use crate::tests::numbers::next_number;
 use hoare_law::waits::Waits;
@@ -34,109 +35,115 @@ fn make_takes_the_most(rt: HostRuntime) -> Result<(), Fail> {
     Ok(())
 }
 
-// The book answers a step so.
-fn answers<R: Abort>(rt: &R, book: &mut Book, step: Step, want: Result<Next, StepRefused>) {
-    let found = book.try_step(step);
-    expect_same(rt, (step, found), (step, want));
+// What a step is answered.
+type Answer = Result<Next, StepRefused>;
+
+// The book answers these steps so.
+fn answers<R: Abort>(rt: &R, mut book: Book, steps: &[(Step, Answer)]) {
+    for (step, wanted) in steps {
+        let found = book.try_step(*step);
+        expect_same(rt, (*step, found), (*step, *wanted));
+    }
 }
 
+// Steps of five places on two conditions.
+const BY_PRIORITY: &[(Step, Answer)] = &[
+    (Step::Enter(0), Ok(Next::Held(0))),
+    (Step::Wait(0, 1, 7), Ok(Next::Free)),
+    (Step::Enter(1), Ok(Next::Held(1))),
+    (Step::Wait(1, 1, 3), Ok(Next::Free)),
+    (Step::Enter(2), Ok(Next::Held(2))),
+    (Step::Wait(2, 1, 7), Ok(Next::Free)),
+    (Step::Enter(3), Ok(Next::Held(3))),
+    (Step::Signal(3, 0), Ok(Next::Held(3))),
+    (Step::Signal(3, 1), Ok(Next::Held(1))),
+    (Step::Pass(1, 1), Ok(Next::Held(0))),
+    (Step::Signal(0, 1), Ok(Next::Held(2))),
+    (Step::Leave(2), Ok(Next::Held(3))),
+    (Step::Leave(3), Ok(Next::Held(0))),
+    (Step::Pass(0, 1), Ok(Next::Free)),
+    (Step::Enter(1), Ok(Next::Held(1))),
+];
+
 #[test]
-fn steps_go_by_priority_then_time(rt: HostRuntime) -> Result<(), Fail> {
-    let mut book = Book::make(rt.alloc(), 5, 2, 0)?;
-    for (step, want) in [
-        (Step::Enter(0), Next::Held(0)),
-        (Step::Wait(0, 1, 7), Next::Free),
-        (Step::Enter(1), Next::Held(1)),
-        (Step::Wait(1, 1, 3), Next::Free),
-        (Step::Enter(2), Next::Held(2)),
-        (Step::Wait(2, 1, 7), Next::Free),
-        (Step::Enter(3), Next::Held(3)),
-        (Step::Signal(3, 0), Next::Held(3)),
-        (Step::Signal(3, 1), Next::Held(1)),
-        (Step::Pass(1, 1), Next::Held(0)),
-        (Step::Signal(0, 1), Next::Held(2)),
-        (Step::Leave(2), Next::Held(3)),
-        (Step::Leave(3), Next::Held(0)),
-        (Step::Pass(0, 1), Next::Free),
-        (Step::Enter(1), Next::Held(1)),
-    ] {
-        answers(&rt, &mut book, step, Ok(want));
-    }
-    Ok(())
+fn steps_go_by_priority_then_time(rt: HostRuntime) {
+    answers(&rt, made(&rt, 5, 2, 0), BY_PRIORITY);
 }
 
 #[test]
 fn a_book_in_use_answers(rt: HostRuntime) -> Result<(), Fail> {
     let mut book = Book::make(rt.alloc(), 4, 2, 0)?;
-    let first = (
+    let answers = [
         book.try_step(Step::Enter(0)),
         book.try_step(Step::Wait(0, 1, 9)),
-    );
-    let second = (
         book.try_step(Step::Enter(1)),
         book.try_step(Step::Wait(1, 1, 2)),
-    );
-    let third = book.try_step(Step::Enter(2));
-    expect_same(&rt, first, (Ok(Next::Held(0)), Ok(Next::Free)));
-    expect_same(&rt, second, (Ok(Next::Held(1)), Ok(Next::Free)));
-    expect_same(&rt, third, Ok(Next::Held(2)));
-    expect_same(&rt, (book.outside(3), book.outside(1)), (true, false));
-    expect_same(&rt, (book.now(), book.first(1)), (Next::Held(2), Some(2)));
-    expect_same(&rt, (book.queue(1), book.queue(0)), (true, false));
+        book.try_step(Step::Enter(2)),
+    ];
+    let wanted = [
+        Ok(Next::Held(0)),
+        Ok(Next::Free),
+        Ok(Next::Held(1)),
+        Ok(Next::Free),
+        Ok(Next::Held(2)),
+    ];
+    expect_same(&rt, answers, wanted);
+    let found = (book.now(), book.outside(3), book.outside(1));
+    expect_same(&rt, found, (Next::Held(2), true, false));
+    let waits = (book.queue(0), book.queue(1), book.first(1));
+    expect_same(&rt, waits, (false, true, Some(2)));
     assert_eq!(rt; (book.count(0), book.count(1)), (0, 2));
     expect_same(&rt, book.priority(1, 1), 9);
     Ok(())
 }
 
+// Steps of three places on one condition.
+const REFUSED: &[(Step, Answer)] = &[
+    (Step::Enter(3), Err(StepRefused::NoPlace)),
+    (Step::Leave(u64::MAX), Err(StepRefused::NoPlace)),
+    (Step::Wait(3, 1, 0), Err(StepRefused::NoPlace)),
+    (Step::Wait(0, 1, 0), Err(StepRefused::NotInside)),
+    (Step::Signal(0, 1), Err(StepRefused::NotInside)),
+    (Step::Pass(0, 1), Err(StepRefused::NotInside)),
+    (Step::Leave(0), Err(StepRefused::NotInside)),
+    (Step::Enter(0), Ok(Next::Held(0))),
+    (Step::Enter(0), Err(StepRefused::NotFree)),
+    (Step::Enter(1), Err(StepRefused::NotFree)),
+    (Step::Wait(0, 1, 0), Err(StepRefused::NoCondition)),
+    (Step::Signal(0, 1), Err(StepRefused::NoCondition)),
+    (Step::Pass(0, 1), Err(StepRefused::NoCondition)),
+    (Step::Wait(0, 0, 0), Ok(Next::Free)),
+    (Step::Enter(0), Err(StepRefused::NotOutside)),
+];
+
 #[test]
-fn steps_are_refused_in_order(rt: HostRuntime) -> Result<(), Fail> {
-    let mut book = Book::make(rt.alloc(), 3, 1, 0)?;
-    for (step, want) in [
-        (Step::Enter(3), Err(StepRefused::NoPlace)),
-        (Step::Leave(u64::MAX), Err(StepRefused::NoPlace)),
-        (Step::Wait(3, 1, 0), Err(StepRefused::NoPlace)),
-        (Step::Wait(0, 1, 0), Err(StepRefused::NotInside)),
-        (Step::Signal(0, 1), Err(StepRefused::NotInside)),
-        (Step::Pass(0, 1), Err(StepRefused::NotInside)),
-        (Step::Leave(0), Err(StepRefused::NotInside)),
-        (Step::Enter(0), Ok(Next::Held(0))),
-        (Step::Enter(0), Err(StepRefused::NotFree)),
-        (Step::Enter(1), Err(StepRefused::NotFree)),
-        (Step::Wait(0, 1, 0), Err(StepRefused::NoCondition)),
-        (Step::Signal(0, 1), Err(StepRefused::NoCondition)),
-        (Step::Pass(0, 1), Err(StepRefused::NoCondition)),
-        (Step::Wait(0, 0, 0), Ok(Next::Free)),
-        (Step::Enter(0), Err(StepRefused::NotOutside)),
-    ] {
-        answers(&rt, &mut book, step, want);
-    }
-    Ok(())
+fn steps_are_refused_in_order(rt: HostRuntime) {
+    answers(&rt, made(&rt, 3, 1, 0), REFUSED);
 }
+
+// Steps of three places on a condition of each kind.
+const KINDS: &[(Step, Answer)] = &[
+    (Step::Notify(3, 2), Err(StepRefused::NoPlace)),
+    (Step::Broadcast(0, 2), Err(StepRefused::NotInside)),
+    (Step::Notify(0, 0), Err(StepRefused::NotInside)),
+    (Step::Enter(0), Ok(Next::Held(0))),
+    (Step::Notify(0, 2), Err(StepRefused::NoCondition)),
+    (Step::Broadcast(0, 2), Err(StepRefused::NoCondition)),
+    (Step::Notify(0, 0), Err(StepRefused::WrongKind)),
+    (Step::Broadcast(0, 0), Err(StepRefused::WrongKind)),
+    (Step::Signal(0, 1), Err(StepRefused::WrongKind)),
+    (Step::Pass(0, 1), Err(StepRefused::WrongKind)),
+    (Step::Notify(0, 1), Ok(Next::Held(0))),
+    (Step::Broadcast(0, 1), Ok(Next::Held(0))),
+    (Step::Signal(0, 0), Ok(Next::Held(0))),
+    (Step::Wait(0, 1, 0), Ok(Next::Free)),
+];
 
 // The kind of the condition is looked at last. Where nobody waits, each of the steps that suit it leaves its place
 // inside.
 #[test]
-fn kinds_are_refused_last(rt: HostRuntime) -> Result<(), Fail> {
-    let mut book = Book::make(rt.alloc(), 3, 2, 1)?;
-    for (step, want) in [
-        (Step::Notify(3, 2), Err(StepRefused::NoPlace)),
-        (Step::Broadcast(0, 2), Err(StepRefused::NotInside)),
-        (Step::Notify(0, 0), Err(StepRefused::NotInside)),
-        (Step::Enter(0), Ok(Next::Held(0))),
-        (Step::Notify(0, 2), Err(StepRefused::NoCondition)),
-        (Step::Broadcast(0, 2), Err(StepRefused::NoCondition)),
-        (Step::Notify(0, 0), Err(StepRefused::WrongKind)),
-        (Step::Broadcast(0, 0), Err(StepRefused::WrongKind)),
-        (Step::Signal(0, 1), Err(StepRefused::WrongKind)),
-        (Step::Pass(0, 1), Err(StepRefused::WrongKind)),
-        (Step::Notify(0, 1), Ok(Next::Held(0))),
-        (Step::Broadcast(0, 1), Ok(Next::Held(0))),
-        (Step::Signal(0, 0), Ok(Next::Held(0))),
-        (Step::Wait(0, 1, 0), Ok(Next::Free)),
-    ] {
-        answers(&rt, &mut book, step, want);
-    }
-    Ok(())
+fn kinds_are_refused_last(rt: HostRuntime) {
+    answers(&rt, made(&rt, 3, 2, 1), KINDS);
 }
 
 // Each call of its own, with what it asks for proved of the history so far.
@@ -147,15 +154,15 @@ fn calls_hand_the_monitor_on(rt: HostRuntime) -> Result<(), Fail> {
     assert_eq!(rt; book.wait(0, 1, 7), Next::Free);
     book.admit(1);
     assert_eq!(rt; book.signal(1, 1), Next::For(0));
-    assert_eq!(rt; book.first(1), None);
+    let first = book.first(1);
     book.claim(0);
-    assert_eq!(rt; book.now(), Next::Held(0));
+    expect_same(&rt, (first, book.now()), (None, Next::Held(0)));
     assert_eq!(rt; book.wait(0, 0, 2), Next::For(1));
     book.claim(1);
     assert_eq!(rt; book.pass(1, 0), Next::For(0));
-    assert!(rt; book.outside(1));
+    let is_outside = book.outside(1);
     book.claim(0);
-    assert_eq!(rt; book.leave(0), Next::Free);
+    expect_same(&rt, (is_outside, book.leave(0)), (true, Next::Free));
     Ok(())
 }
 
@@ -185,17 +192,16 @@ fn mixed_step(now: Next, waits: u64, number: u64) -> Step {
 // filters answer it. No step asks for memory: `rt try --test --fail-alloc N` passes with this test from the same N on
 // as without.
 #[test]
-fn long_mixed_run(rt: HostRuntime) -> Result<(), Fail> {
-    let mut book = Book::make(rt.alloc(), 64, 8, 0)?;
+fn long_mixed_run(rt: HostRuntime) {
+    let mut book = made(&rt, 64, 8, 0);
     let mut plain = Plain::new(64, 8, 0);
     let mut number = 1;
     for i in 0..10_000 {
         number = next_number(number);
         let waits = if i % 2_000 < 1_000 { 5 } else { 2 };
         let step = mixed_step(plain.now(), waits, number);
-        expect_same(&rt, (i, book.try_step(step)), (i, plain.step(step)));
+        answer_alike(&rt, i, step, &mut book, &mut plain);
     }
-    Ok(())
 }
 
 // The same with notifies and broadcasts on the last four conditions.
@@ -211,15 +217,14 @@ fn mesa_step(step: Step, number: u64) -> Step {
 
 // As `long_mixed_run`, on four conditions of each kind. A pass on a Mesa condition is refused now and then.
 #[test]
-fn long_mesa_run(rt: HostRuntime) -> Result<(), Fail> {
-    let mut book = Book::make(rt.alloc(), 64, 8, 4)?;
+fn long_mesa_run(rt: HostRuntime) {
+    let mut book = made(&rt, 64, 8, 4);
     let mut plain = Plain::new(64, 8, 4);
     let mut number = 1;
     for i in 0..10_000 {
         number = next_number(number);
         let waits = if i % 2_000 < 1_000 { 5 } else { 2 };
         let step = mesa_step(mixed_step(plain.now(), waits, number), number);
-        expect_same(&rt, (i, book.try_step(step)), (i, plain.step(step)));
+        answer_alike(&rt, i, step, &mut book, &mut plain);
     }
-    Ok(())
 }

@@ -4,51 +4,58 @@ use arrayvec::ArrayVec;
 use line_text::forms::{one_number, three_numbers, two_numbers};
 use line_text::text::{append, append_number};
 
+// Lines that are not `read` and a number.
+const NO_NUMBER: &[&[u8]] = &[
+    b"read 07",
+    b"read",
+    b"read ",
+    b"read 7 ",
+    b"read 7 8",
+    b" read 7",
+    b"reads 7",
+    b"",
+];
+
 #[test]
 fn one_after_a_word(rt: HostRuntime) {
     expect_same(&rt, one_number(b"read 7", b"read"), Some(7));
-    let others: [&[u8]; 8] = [
-        b"read 07",
-        b"read",
-        b"read ",
-        b"read 7 ",
-        b"read 7 8",
-        b" read 7",
-        b"reads 7",
-        b"",
-    ];
-    for line in others {
-        expect_same(&rt, (line, one_number(line, b"read")), (line, None));
+    for line in NO_NUMBER {
+        expect_same(&rt, (*line, one_number(line, b"read")), (*line, None));
     }
 }
+
+// Lines, and the two numbers behind `disk`.
+const TWO_NUMBERS: &[(&[u8], Option<(u64, u64)>)] = &[
+    (b"disk 400 1", Some((400, 1))),
+    (b"disk 1 400", Some((1, 400))),
+    (b"disk 400", None),
+    (b"disk 400 x", None),
+    (b"disk 400 1 2", None),
+    (b"Disk 400 1", None),
+];
 
 #[test]
 fn two_after_a_word(rt: HostRuntime) {
-    let lines: [(&[u8], Option<(u64, u64)>); 6] = [
-        (b"disk 400 1", Some((400, 1))),
-        (b"disk 1 400", Some((1, 400))),
-        (b"disk 400", None),
-        (b"disk 400 x", None),
-        (b"disk 400 1 2", None),
-        (b"Disk 400 1", None),
-    ];
-    for (line, wanted) in lines {
-        expect_same(&rt, (line, two_numbers(line, b"disk")), (line, wanted));
+    for (line, wanted) in TWO_NUMBERS {
+        expect_same(&rt, (*line, two_numbers(line, b"disk")), (*line, *wanted));
     }
 }
 
+// Lines, and the three numbers behind `monitor`.
+const THREE_NUMBERS: &[(&[u8], Option<(u64, u64, u64)>)] = &[
+    (b"monitor 4 2 1", Some((4, 2, 1))),
+    (b"monitor 1 2 4", Some((1, 2, 4))),
+    (b"monitor 4 2", None),
+    (b"monitor 4 2 x", None),
+    (b"monitor 4 2 1 0", None),
+    (b"Monitor 4 2 1", None),
+];
+
 #[test]
 fn three_after_a_word(rt: HostRuntime) {
-    let lines: [(&[u8], Option<(u64, u64, u64)>); 6] = [
-        (b"monitor 4 2 1", Some((4, 2, 1))),
-        (b"monitor 1 2 4", Some((1, 2, 4))),
-        (b"monitor 4 2", None),
-        (b"monitor 4 2 x", None),
-        (b"monitor 4 2 1 0", None),
-        (b"Monitor 4 2 1", None),
-    ];
-    for (line, wanted) in lines {
-        expect_same(&rt, (line, three_numbers(line, b"monitor")), (line, wanted));
+    for (line, wanted) in THREE_NUMBERS {
+        let found = three_numbers(line, b"monitor");
+        expect_same(&rt, (*line, found), (*line, *wanted));
     }
 }
 

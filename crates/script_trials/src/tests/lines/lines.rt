@@ -4,7 +4,6 @@ use arrayvec::ArrayVec;
 use line_text::line::{Ended, Line, LineFault, read_line};
 use line_text::reader::WatchedReader;
 use std::process::Abort;
-use std::test::Fail;
 
 // Reads one line of a text where there is room: the line, how it ended, and what is left.
 fn check<R: Abort>(
@@ -38,26 +37,14 @@ fn room_of_a_line(rt: HostRuntime) {
 }
 
 #[test]
-fn longest_line(rt: HostRuntime) -> Result<(), Fail> {
-    let mut text = Vec::new(rt.alloc());
-    text.resize(256, b'e')?;
-    text.extend_from_slice(b"\nx")?;
-    let longest = text.as_slice().get(..256).ok_or("a shorter text")?;
-    check(&rt, text.as_slice(), 999, (Ok(Ended::Line), longest, b"x"));
-    check(&rt, longest, 999, (Ok(Ended::Last), longest, b""));
-    check(
-        &rt,
-        text.as_slice(),
-        256,
-        (Err(LineFault::TooMuch), longest, b"x"),
-    );
-    let mut longer = Vec::new(rt.alloc());
-    longer.resize(258, b'e')?;
-    check(
-        &rt,
-        longer.as_slice(),
-        999,
-        (Err(LineFault::TooLong), longest, b"e"),
-    );
-    Ok(())
+fn longest_line(rt: HostRuntime) {
+    let longest = [b'e'; 256];
+    let mut text = [b'e'; 258];
+    text[256] = b'\n';
+    text[257] = b'x';
+    check(&rt, &text, 999, (Ok(Ended::Line), &longest, b"x"));
+    check(&rt, &longest, 999, (Ok(Ended::Last), &longest, b""));
+    check(&rt, &text, 256, (Err(LineFault::TooMuch), &longest, b"x"));
+    let longer = [b'e'; 258];
+    check(&rt, &longer, 999, (Err(LineFault::TooLong), &longest, b"e"));
 }

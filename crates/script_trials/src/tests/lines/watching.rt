@@ -49,18 +49,20 @@ fn reads_are_made_and_counted(rt: HostRuntime) {
         let mut reader = Counting::new(b"ab", fails);
         let mut watched = WatchedReader::new(&mut reader);
         let (first, second) = (watched.read_byte(), watched.read_byte());
-        let bytes = (Ok(Some(b'a')), Ok(Some(b'b')));
-        expect_same(&rt, ((first, second), watched.has_failed()), (bytes, false));
+        let mark = watched.has_failed();
+        let reads = [first, second, watched.read_byte()];
+        let marks = [mark, watched.has_failed()];
+        let counts = [watched.calls(), watched.bytes()];
+        let inside = [reader.calls, reader.failures, reader.bytes];
         expect_same(
             &rt,
-            (watched.read_byte(), watched.has_failed()),
-            (end, fails),
-        );
-        expect_same(&rt, (watched.calls(), watched.bytes()), (3, 2));
-        expect_same(
-            &rt,
-            (reader.calls, reader.failures, reader.bytes),
-            (3, failures, 2),
+            (reads, marks, counts, inside),
+            (
+                [Ok(Some(b'a')), Ok(Some(b'b')), end],
+                [false, fails],
+                [3, 2],
+                [3, failures, 2],
+            ),
         );
     }
 }

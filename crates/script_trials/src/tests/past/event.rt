@@ -1,12 +1,20 @@
 //! What happens at a monitor.
 
+/// A place waits on a condition with a priority.
+#[derive(Clone, Copy, PartialEq, Eq)]
+pub struct Wait {
+    pub place: usize,
+    pub condition: usize,
+    pub priority: u64,
+}
+
 /// What a place does. A signal and a pass name whom they resume, and a notify whom it calls.
-#[derive(Clone, Copy, Debug, PartialEq, Eq)]
+#[derive(Clone, Copy)]
 pub enum Event {
     /// The place comes in.
     Admit(usize),
-    /// The place waits on a condition with a priority.
-    Wait(usize, usize, u64),
+    /// The place waits on a condition.
+    Wait(Wait),
     /// The place signals a condition and is held up.
     Signal(usize, usize, usize),
     /// The place signals a condition and is outside.
@@ -28,34 +36,20 @@ impl Event {
     pub fn place(self) -> usize {
         match self {
             Event::Admit(place) | Event::Leave(place) | Event::Back(place) => place,
-            Event::Wait(place, _, _) | Event::Signal(place, _, _) | Event::Pass(place, _, _) => {
-                place
-            }
+            Event::Wait(wait) => wait.place,
+            Event::Signal(place, _, _) | Event::Pass(place, _, _) => place,
             Event::Notify(place, _, _) | Event::Resume(place, _) | Event::Broadcast(place, _) => {
                 place
             }
         }
     }
 
-    /// The priority of a wait.
-    pub fn priority(self) -> u64 {
+    /// The wait on a condition, if it is one.
+    pub fn wait_on(self, condition: usize) -> Option<Wait> {
         match self {
-            Event::Wait(_, _, priority) => priority,
-            _ => 0,
+            Event::Wait(wait) if wait.condition == condition => Some(wait),
+            _ => None,
         }
-    }
-
-    /// The condition of a wait.
-    pub fn condition(self) -> usize {
-        match self {
-            Event::Wait(_, condition, _) => condition,
-            _ => 0,
-        }
-    }
-
-    /// Whether it is a wait on a condition.
-    pub fn waits_on(self, condition: usize) -> bool {
-        matches!(self, Event::Wait(_, on, _) if on == condition)
     }
 
     /// Whether it concerns a place that waits on a condition: the place acts, is resumed or called, or all that wait

@@ -1,70 +1,86 @@
 //! What the definitions of `hoare_law` read off the list of all that happened, each as a filter over that list.
-use super::event::Event;
+use super::event::{Event, Wait};
 use hoare_law::turn::Turn;
 use std::alloc::{AllocError, Global};
 
 // The place does nothing later.
 fn is_idle(place: usize, later: &[Event]) -> bool {
-    later.iter().all(|event| event.place() != place)
+    for event in later {
+        if event.place() == place {
+            return false;
+        }
+    }
+    true
 }
 
-// Nothing that comes later concerns the place of an event, which waits on a condition.
-fn is_untouched(condition: usize, event: Event, later: &[Event]) -> bool {
-    let place = event.place();
-    later.iter().all(|other| !other.concerns(condition, place))
+// Nothing that comes later concerns the place, which waits on a condition.
+fn is_untouched(wait: Wait, later: &[Event]) -> bool {
+    for event in later {
+        if event.concerns(wait.condition, wait.place) {
+            return false;
+        }
+    }
+    true
 }
 
 /// Who waits on a condition, by their waits.
-pub fn waiting(
-    alloc: Global,
-    condition: usize,
-    events: &[Event],
-) -> Result<Vec<Event>, AllocError> {
+pub fn waiting(alloc: Global, condition: usize, events: &[Event]) -> Result<Vec<Wait>, AllocError> {
     let mut found = Vec::new(alloc);
     for at in 0..events.len() {
-        let event = events[at];
-        if event.waits_on(condition) && is_untouched(condition, event, &events[at + 1..]) {
-            found.push(event)?;
+        match events[at].wait_on(condition) {
+            Some(wait) if is_untouched(wait, &events[at + 1..]) => found.push(wait)?,
+            _ => {}
         }
     }
     Ok(found)
 }
 
 // No priority of these waits undercuts that of one.
-fn is_least(waits: &[Event], one: Event) -> bool {
-    waits.iter().all(|other| one.priority() <= other.priority())
+fn is_least(waits: &[Wait], one: Wait) -> bool {
+    for other in waits {
+        if other.priority < one.priority {
+            return false;
+        }
+    }
+    true
 }
 
 /// The first of these waits whose priority no other undercuts.
-pub fn chosen(waits: &[Event]) -> Option<Event> {
-    waits.iter().copied().find(|one| is_least(waits, *one))
+pub fn chosen(waits: &[Wait]) -> Option<Wait> {
+    for one in waits {
+        if is_least(waits, *one) {
+            return Some(*one);
+        }
+    }
+    None
 }
 
-// Puts a wait behind those whose priority is its own or less.
-fn put_in(placed: &mut Vec<Event>, wait: Event) -> Result<(), AllocError> {
-    let behind = placed
-        .iter()
-        .position(|other| other.priority() > wait.priority());
-    let at = behind.unwrap_or(placed.len()).min(placed.len());
-    placed.insert(at, wait)?;
-    Ok(())
+// How many of these waits, from the first on, have this priority or less.
+fn behind(waits: &[Wait], priority: u64) -> usize {
+    for at in 0..waits.len() {
+        if waits[at].priority > priority {
+            return at;
+        }
+    }
+    waits.len()
 }
 
 /// These waits by rising priority, equal ones as they stood.
-pub fn in_order(alloc: Global, waits: &[Event]) -> Result<Vec<Event>, AllocError> {
+pub fn in_order(alloc: Global, waits: &[Wait]) -> Result<Vec<Wait>, AllocError> {
     let mut placed = Vec::new(alloc);
     for wait in waits {
-        put_in(&mut placed, *wait)?;
+        let at = behind(placed.as_slice(), wait.priority).min(placed.len());
+        placed.insert(at, *wait)?;
     }
     Ok(placed)
 }
 
 // The waits of those that an event calls.
-fn called_by(alloc: Global, before: &[Event], event: Event) -> Result<Vec<Event>, AllocError> {
+fn called_by(alloc: Global, before: &[Event], event: Event) -> Result<Vec<Wait>, AllocError> {
     match event {
         Event::Notify(_, condition, called) => {
             let mut waits = waiting(alloc, condition, before)?;
-            waits.retain(|wait| wait.place() == called);
+            waits.retain(|wait| wait.place == called);
             Ok(waits)
         }
         Event::Broadcast(_, condition) => {
@@ -76,9 +92,9 @@ fn called_by(alloc: Global, before: &[Event], event: Event) -> Result<Vec<Event>
 }
 
 // Adds the waits whose places do nothing later.
-fn add_idle(found: &mut Vec<Event>, waits: &[Event], later: &[Event]) -> Result<(), AllocError> {
+fn add_idle(found: &mut Vec<Wait>, waits: &[Wait], later: &[Event]) -> Result<(), AllocError> {
     for wait in waits {
-        if is_idle(wait.place(), later) {
+        if is_idle(wait.place, later) {
             found.push(*wait)?;
         }
     }
@@ -86,7 +102,7 @@ fn add_idle(found: &mut Vec<Event>, waits: &[Event], later: &[Event]) -> Result<
 }
 
 /// Who was called and hasn't gone on, by their waits, in the order of the calls.
-pub fn called(alloc: Global, events: &[Event]) -> Result<Vec<Event>, AllocError> {
+pub fn called(alloc: Global, events: &[Event]) -> Result<Vec<Wait>, AllocError> {
     let mut found = Vec::new(alloc);
     for at in 0..events.len() {
         let waits = called_by(alloc, &events[..at], events[at])?;
@@ -99,10 +115,9 @@ pub fn called(alloc: Global, events: &[Event]) -> Result<Vec<Event>, AllocError>
 pub fn urgent(alloc: Global, events: &[Event]) -> Result<Vec<usize>, AllocError> {
     let mut found = Vec::new(alloc);
     for at in 0..events.len() {
-        if let Event::Signal(place, _, _) = events[at] {
-            if is_idle(place, &events[at + 1..]) {
-                found.push(place)?;
-            }
+        match events[at] {
+            Event::Signal(place, _, _) if is_idle(place, &events[at + 1..]) => found.push(place)?,
+            _ => {}
         }
     }
     Ok(found)
@@ -114,7 +129,7 @@ fn turn_given_up(alloc: Global, events: &[Event]) -> Result<Turn, AllocError> {
         return Ok(Turn::Return(*signaller));
     }
     match called(alloc, events)?.first() {
-        Some(wait) => Ok(Turn::Owed(wait.place(), wait.condition())),
+        Some(wait) => Ok(Turn::Owed(wait.place, wait.condition)),
         None => Ok(Turn::Free),
     }
 }
@@ -130,12 +145,16 @@ pub fn turn(alloc: Global, events: &[Event]) -> Result<Turn, AllocError> {
         Event::Signal(_, condition, resumed) | Event::Pass(_, condition, resumed) => {
             Ok(Turn::Owed(resumed, condition))
         }
-        Event::Wait(_, _, _) | Event::Leave(_) => turn_given_up(alloc, events),
+        Event::Wait(_) | Event::Leave(_) => turn_given_up(alloc, events),
     }
 }
 
 /// A place did nothing yet, or last left or passed.
 pub fn outside(place: usize, events: &[Event]) -> bool {
-    let last = events.iter().rev().find(|event| event.place() == place);
-    last.is_none_or(|event| matches!(event, Event::Leave(_) | Event::Pass(_, _, _)))
+    for event in events.iter().rev() {
+        if event.place() == place {
+            return matches!(event, Event::Leave(_) | Event::Pass(_, _, _));
+        }
+    }
+    true
 }

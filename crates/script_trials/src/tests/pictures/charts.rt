@@ -2,8 +2,6 @@
 use super::{BROADCAST, HAND_OVER, drawn_whole, is_drawn, sixty_four_waits};
 use crate::tests::compared::expect_same;
 use script_picture::picture::Form;
-use std::io::Write;
-use std::test::Fail;
 
 #[test]
 fn hand_over_as_text(rt: HostRuntime) {
@@ -214,55 +212,58 @@ leave 2                          c0:18446744073709551615    .       -> free
     is_drawn(&rt, script, Ok(()), lines);
 }
 
+// Scripts with a long last step, and how the chart of each ends.
+const LONG_STEPS: &[(&[u8], &[u8])] = &[
+    (
+        b"monitor 2 1\nenter 0\nwait 0 0 18446744073709551615\nenter 1\nwait 1 0 100000\n",
+        b"\nwait 1 0 100000                  c0:18446744073709551615    c0:100000    -> free\n",
+    ),
+    (
+        b"monitor 2 1\nenter 0\nwait 0 0 18446744073709551615\nenter 1\nwait 1 0 1000000\n",
+        b"\nwait 1 0 1000000                 c0:18446744073709551615    c0:1000000\n    -> free\n",
+    ),
+    (
+        b"monitor 2 1\nenter 0\nwait 0 0 18446744073709551615\nenter 1\nwait 1 0 10000000000000\n",
+        b"\nwait 1 0 10000000000000          c0:18446744073709551615    c0:10000000000000\n    -> free\n",
+    ),
+    (
+        b"monitor 2 1\nenter 0\nwait 0 0 18446744073709551615\nenter 1\nwait 1 0 100000000000000\n",
+        b"\nwait 1 0 100000000000000         c0:100000000000000    -> free\n",
+    ),
+];
+
 // A lane stands beside another where the line has 80 letters at most with an arrow behind it, and so does a remark. The
 // step has 29 letters, the first lane 4 + 23 and the second 4 + 3 and the digits of its priority: with 14 digits and 3
 // for an arrow that is 80. With 6 digits it is 69, and `-> free` is 4 + 7 more.
 #[test]
-fn lines_of_eighty_as_text(rt: HostRuntime) -> Result<(), Fail> {
-    for (priority, end) in [
-        (
-            100_000u64,
-            "\nwait 1 0 100000                  c0:18446744073709551615    c0:100000    -> free\n",
-        ),
-        (
-            1_000_000,
-            "\nwait 1 0 1000000                 c0:18446744073709551615    c0:1000000\n    -> free\n",
-        ),
-        (
-            10_000_000_000_000,
-            "\nwait 1 0 10000000000000          c0:18446744073709551615    c0:10000000000000\n    -> free\n",
-        ),
-        (
-            100_000_000_000_000,
-            "\nwait 1 0 100000000000000         c0:100000000000000    -> free\n",
-        ),
-    ] {
-        let mut script = b"monitor 2 1\nenter 0\nwait 0 0 18446744073709551615\nenter 1\n".to_vec(
-            rt.alloc(),
-        )?;
-        write!(script, "wait 1 0 {priority}\n")?;
-        let text = drawn_whole(&rt, script.as_slice(), Form::Text);
-        let ends = text.as_slice().ends_with(end.as_bytes());
-        expect_same(&rt, (priority, ends), (priority, true));
+fn lines_of_eighty_as_text(rt: HostRuntime) {
+    for (script, end) in LONG_STEPS {
+        let text = drawn_whole(&rt, script, Form::Text);
+        let found = text.as_slice().ends_with(end);
+        expect_same(&rt, (*end, found), (*end, true));
     }
-    Ok(())
+}
+
+// The length of the longest line.
+fn longest_line(text: &[u8]) -> usize {
+    let mut length: usize = 0;
+    let mut longest = 0;
+    for byte in text {
+        length = match *byte {
+            b'\n' => 0,
+            _ => length.saturating_add(1),
+        };
+        longest = longest.max(length);
+    }
+    longest
 }
 
 // No line is over 80 long, where all 64 places wait with priorities of one digit, or of twenty.
 #[test]
-fn lines_fit_a_terminal(rt: HostRuntime) -> Result<(), Fail> {
+fn lines_fit_a_terminal(rt: HostRuntime) {
     for greatest in [false, true] {
-        let script = sixty_four_waits(rt.alloc(), greatest)?;
-        let text = drawn_whole(&rt, script.as_slice(), Form::Text);
-        let mut length: usize = 0;
-        for byte in text.as_slice() {
-            length = if *byte == b'\n' {
-                0
-            } else {
-                length.saturating_add(1)
-            };
-            assert!(rt; length <= 80);
-        }
+        let script = sixty_four_waits(&rt, greatest);
+        let text = drawn_whole(&rt, script.as_bytes(), Form::Text);
+        assert!(rt; longest_line(text.as_slice()) <= 80);
     }
-    Ok(())
 }

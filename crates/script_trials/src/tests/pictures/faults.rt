@@ -1,36 +1,28 @@
 //! Scripts that are at fault, or can't be read or drawn.
 use super::{drawn, drawn_whole, is_drawn, times};
 use crate::tests::compared::expect_same;
+use crate::tests::repeated::repeated;
 use crate::tests::shown::reads;
+use crate::tests::streams::{Breaking, Filling};
 use hoare_script::ScriptFault;
 use script_picture::fault::PictureFault;
 use script_picture::picture::{Form, draw_script};
-use std::io;
-use std::io::{Read, Write};
 use std::process::Abort;
-use std::test::Fail;
 
 // 64 + 28 * 1,164 + 104 = 32,760, and one row more is over 32,767. What has no room isn't begun, and a chart has no
 // such limit.
 #[test]
-fn too_tall_for_an_svg(rt: HostRuntime) -> Result<(), Fail> {
-    let mut script = b"monitor 1 1\n".to_vec(rt.alloc())?;
-    for _ in 0..1_164u32 {
-        script.extend_from_slice(b"leave 0\n")?;
-    }
-    let text = drawn_whole(&rt, script.as_slice(), Form::Svg);
+fn too_tall_for_an_svg(rt: HostRuntime) {
+    let tallest = repeated(&rt, b"monitor 1 1\n", b"leave 0\n", 1_164);
+    let text = drawn_whole(&rt, tallest.as_slice(), Form::Svg);
     expect_same(&rt, times(text.as_slice(), b" height=\"32760\" "), 1);
-    script.extend_from_slice(b"leave 0\n")?;
-    isnt_begun(&rt, script.as_slice(), PictureFault::TooTall(1_165));
-    let text = drawn_whole(&rt, script.as_slice(), Form::Text);
+    let taller = repeated(&rt, b"monitor 1 1\n", b"leave 0\n", 1_165);
+    isnt_begun(&rt, taller.as_slice(), PictureFault::TooTall(1_165));
+    let text = drawn_whole(&rt, taller.as_slice(), Form::Text);
     expect_same(&rt, times(text.as_slice(), b"\n"), 1_166);
-    script.extend_from_slice(b"leave\n")?;
-    isnt_begun(
-        &rt,
-        script.as_slice(),
-        PictureFault::Script(ScriptFault::BadLine(1_167)),
-    );
-    Ok(())
+    let bad = repeated(&rt, taller.as_slice(), b"leave\n", 1);
+    let fault = PictureFault::Script(ScriptFault::BadLine(1_167));
+    isnt_begun(&rt, bad.as_slice(), fault);
 }
 
 // An SVG of the script isn't begun, for this reason.
@@ -71,9 +63,10 @@ fn at_fault(fault: ScriptFault) -> Result<(), PictureFault> {
     Err(PictureFault::Script(fault))
 }
 
-// How a script ends that is drawn as a chart.
-fn chart_end<R: AllocGlobal>(rt: &R, script: &[u8]) -> Result<(), PictureFault> {
-    drawn(rt.alloc(), script, Form::Text).0
+// The chart of a script ends with this fault.
+fn ends_with<R: Abort + AllocGlobal>(rt: &R, script: &[u8], fault: ScriptFault) {
+    let (result, _) = drawn(rt.alloc(), script, Form::Text);
+    expect_same(rt, result, at_fault(fault));
 }
 
 // A step of 68 bytes with its end, that is refused: no place has this number.
@@ -82,50 +75,21 @@ const LONG_STEP: &[u8] = b"wait 18446744073709551615 18446744073709551615 184467
 // Behind a header of 12 bytes 15,420 such steps are 1,048,572 bytes, and one more is over 1,048,576. Each takes two
 // lines of the chart: 67 letters leave no room for 4 and `-> refused 1 (there is no such place)`.
 #[test]
-fn long_line_and_large_script(rt: HostRuntime) -> Result<(), Fail> {
-    let mut script = b"monitor 1 1\n".to_vec(rt.alloc())?;
-    script.resize(268, b'e')?;
-    expect_same(
-        &rt,
-        chart_end(&rt, script.as_slice()),
-        at_fault(ScriptFault::BadLine(2)),
-    );
-    script.push(b'e')?;
-    expect_same(
-        &rt,
-        chart_end(&rt, script.as_slice()),
-        at_fault(ScriptFault::LineTooLong(2)),
-    );
-    script.truncate(12);
-    for _ in 0..15_421u32 {
-        script.extend_from_slice(LONG_STEP)?;
-    }
+fn long_line_and_large_script(rt: HostRuntime) {
+    let longest = repeated(&rt, b"monitor 1 1\n", b"e", 256);
+    ends_with(&rt, longest.as_slice(), ScriptFault::BadLine(2));
+    let longer = repeated(&rt, b"monitor 1 1\n", b"e", 257);
+    ends_with(&rt, longer.as_slice(), ScriptFault::LineTooLong(2));
+    let script = repeated(&rt, b"monitor 1 1\n", LONG_STEP, 15_421);
     let (result, text) = drawn(rt.alloc(), script.as_slice(), Form::Text);
-    let lines = times(text.as_slice(), b"\n");
-    expect_same(
-        &rt,
-        (result, lines),
-        (at_fault(ScriptFault::TooMuch), 30_841),
-    );
-    Ok(())
-}
-
-// Gives bytes once, and then fails.
-#[derive(Drop)]
-struct Torn<'a>(&'a [u8]);
-
-impl<'a> Read for Torn<'a> {
-    fn read(&mut self, buf: &mut [u8]) -> io::Result<usize> {
-        if self.0.is_empty() {
-            return Err(io::Error::from(io::ErrorKind::Other));
-        }
-        self.0.read(buf)
-    }
+    expect_same(&rt, result, at_fault(ScriptFault::TooMuch));
+    expect_same(&rt, times(text.as_slice(), b"\n"), 30_841);
 }
 
 #[test]
 fn read_fault_after_whole_rows(rt: HostRuntime) {
-    let mut reader = Torn(b"monitor 1 1\nenter 0\nlea");
+    let rest = b"monitor 1 1\nenter 0\nlea".as_slice();
+    let mut reader = Breaking { rest };
     let mut writer = Vec::new(rt.alloc());
     let result = draw_script(rt.alloc(), &mut reader, &mut writer, Form::Text);
     let rows = b"monitor 1 1    0\nenter 0        [in]\n".as_slice();
@@ -134,20 +98,6 @@ fn read_fault_after_whole_rows(rt: HostRuntime) {
         (result, writer.as_slice()),
         (at_fault(ScriptFault::ReadFault), rows),
     );
-}
-
-// Takes nothing.
-#[derive(Drop)]
-struct Full;
-
-impl Write for Full {
-    fn write(&mut self, _buf: &[u8]) -> io::Result<usize> {
-        Ok(0)
-    }
-
-    fn flush(&mut self) -> io::Result<()> {
-        Ok(())
-    }
 }
 
 #[test]
@@ -163,35 +113,37 @@ fn write_fault_of_a_whole_script(rt: HostRuntime) {
 // How a script ends of which nothing can be written.
 fn full_end<R: AllocGlobal>(rt: &R, script: &[u8], form: Form) -> Result<(), PictureFault> {
     let mut reader = script;
-    draw_script(rt.alloc(), &mut reader, &mut Full, form)
+    draw_script(rt.alloc(), &mut reader, &mut Filling::new(0, false), form)
 }
 
+// Faults, how each is shown, and its exit status.
+const FAULTS: &[(PictureFault, &str, u8)] = &[
+    (
+        PictureFault::Script(ScriptFault::BadLine(3)),
+        "fault 2 BadLine line 3",
+        2,
+    ),
+    (
+        PictureFault::Script(ScriptFault::ReadFault),
+        "fault 4 ReadFault",
+        3,
+    ),
+    (
+        PictureFault::Script(ScriptFault::Memory),
+        "fault 6 Memory",
+        3,
+    ),
+    (
+        PictureFault::TooTall(1_165),
+        "fault 9 TooTall steps 1165: an SVG has at most 1164, a chart (--text) any number",
+        4,
+    ),
+];
+
 #[test]
-fn faults_are_shown_with_their_status(rt: HostRuntime) -> Result<(), Fail> {
-    for (fault, text, status) in [
-        (
-            PictureFault::Script(ScriptFault::BadLine(3)),
-            "fault 2 BadLine line 3",
-            2,
-        ),
-        (
-            PictureFault::Script(ScriptFault::ReadFault),
-            "fault 4 ReadFault",
-            3,
-        ),
-        (
-            PictureFault::Script(ScriptFault::Memory),
-            "fault 6 Memory",
-            3,
-        ),
-        (
-            PictureFault::TooTall(1_165),
-            "fault 9 TooTall steps 1165: an SVG has at most 1164, a chart (--text) any number",
-            4,
-        ),
-    ] {
-        reads(&rt, &fault, text)?;
-        expect_same(&rt, fault.status(), status);
+fn faults_are_shown_with_their_status(rt: HostRuntime) {
+    for (fault, text, status) in FAULTS {
+        reads(&rt, fault, text);
+        expect_same(&rt, fault.status(), *status);
     }
-    Ok(())
 }

@@ -2,7 +2,7 @@
 use super::{BROADCAST, HAND_OVER, drawn_whole, sixty_four_waits, times};
 use crate::tests::compared::expect_same;
 use script_picture::picture::Form;
-use std::test::Fail;
+use std::process::Abort;
 
 // The whole picture of `HAND_OVER`, worked out by hand from the measures in the README. The longest step has 11 letters
 // of 8 after a margin of 20, and a box of 7 letters is 68 wide: so the lanes stand at 20 + 88 + 24 + 34 = 166 and 68 +
@@ -75,11 +75,55 @@ text{font-family:ui-monospace,Menlo,Consolas,'DejaVu Sans Mono',monospace;font-s
 </svg>
 ";
 
+// Each of these stands in a picture once.
+fn stand_once<R: Abort>(rt: &R, picture: &[u8], parts: &[&str]) {
+    for part in parts {
+        expect_same(rt, (*part, times(picture, part.as_bytes())), (*part, 1));
+    }
+}
+
 #[test]
 fn hand_over_as_svg(rt: HostRuntime) {
     let text = drawn_whole(&rt, HAND_OVER, Form::Svg);
     expect_same(&rt, text.as_slice(), HAND_OVER_DRAWN);
 }
+
+// What stands once in the picture of two lanes and twelve idle places.
+const IDLE_LANES: &[&str] = &[
+    // the picture, and what it is called
+    "<svg xmlns=\"http://www.w3.org/2000/svg\" width=\"932\" height=\"392\" viewBox=\"0 0 932 392\" role=\"img\"",
+    ">A monitor with 14 places and 1 condition, in a script of 8 steps</title>",
+    ">A chart of 8 rows, one for each step, and 2 lanes, one for each place that comes in, with 3 hand-overs and \
+        1 refusal.</desc>",
+    // the lanes that are left out, and the two that are shown
+    "<text class=\"note\" x=\"616\" y=\"42\">(12 idle)</text>",
+    "<text class=\"head\" x=\"318\" y=\"42\">place 1</text><path class=\"lane\" d=\"M318 64V288\"/>",
+    "<text class=\"head\" x=\"498\" y=\"42\">place 13</text><path class=\"lane\" d=\"M498 64V288\"/>",
+    // place 1: inside in row 2, signals in row 3, inside in rows 4 and 5
+    "<rect class=\"inside\" x=\"284\" y=\"123\" width=\"68\" height=\"22\" rx=\"4\"/>",
+    "<rect class=\"half\" x=\"284\" y=\"151\" width=\"34\" height=\"22\" rx=\"4\"/>",
+    "<rect class=\"signals\" x=\"284\" y=\"151\" width=\"68\" height=\"22\" rx=\"4\"/>",
+    "<rect class=\"inside\" x=\"284\" y=\"179\" width=\"68\" height=\"50\" rx=\"4\"/>",
+    // place 13: inside, waits in rows 1 and 2, inside, waits in rows 4 and 5, inside
+    "<rect class=\"inside\" x=\"396\" y=\"67\" width=\"204\" height=\"22\" rx=\"4\"/>",
+    "<rect class=\"waits\" x=\"396\" y=\"95\" width=\"204\" height=\"50\" rx=\"4\"/>",
+    "<text class=\"dark\" x=\"498\" y=\"110\">c0 p2</text>",
+    "<rect class=\"inside\" x=\"396\" y=\"151\" width=\"204\" height=\"22\" rx=\"4\"/>",
+    "<rect class=\"waits\" x=\"396\" y=\"179\" width=\"204\" height=\"50\" rx=\"4\"/>",
+    "<text class=\"dark\" x=\"498\" y=\"194\">c0 p18446744073709551615</text>",
+    "<rect class=\"inside\" x=\"396\" y=\"235\" width=\"204\" height=\"22\" rx=\"4\"/>",
+    // the signal from 1 to 13, the return from 13 to 1, and the pass from where 1 went out
+    "<path class=\"edge\" d=\"M356 162H388\"/><path class=\"arrow\" d=\"M352 162H388\"/>\
+        <path d=\"M396 162l-9-5v10z\"/>",
+    "<path class=\"edge\" d=\"M392 190H360\"/><path class=\"arrow back\" d=\"M396 190H360\"/>\
+        <path d=\"M352 190l9-5v10z\"/>",
+    "<circle cx=\"318\" cy=\"246\" r=\"4\"/>",
+    "<path class=\"edge\" d=\"M322 246H388\"/><path class=\"arrow\" d=\"M318 246H388\"/>\
+        <path d=\"M396 246l-9-5v10z\"/>",
+    // the step that is refused
+    "<text class=\"refused\" x=\"20\" y=\"222\">enter 4</text>",
+    "<text class=\"refused\" x=\"616\" y=\"222\">-> refused 2 (the monitor isn't free)</text>",
+];
 
 // Each lane as wide as its own texts. The longest step has 30 letters, so that lane 1 begins at 20 + 240 + 24 = 284;
 // its longest text is its name, of 7 letters of 8 with 6 at each side: it is 68 wide, and its middle is 318. Lane 13
@@ -92,49 +136,39 @@ fn wide_and_idle_lanes_as_svg(rt: HostRuntime) {
         b"monitor 14 1\nenter 13\nwait 13 0 2\nenter 1\nsignal 1 0\nwait 13 0 18446744073709551615\nenter 4\n\
             pass 1 0\nleave 13\n";
     let text = drawn_whole(&rt, script, Form::Svg);
-    for part in [
-        // the picture, and what it is called
-        "<svg xmlns=\"http://www.w3.org/2000/svg\" width=\"932\" height=\"392\" viewBox=\"0 0 932 392\" role=\"img\"",
-        ">A monitor with 14 places and 1 condition, in a script of 8 steps</title>",
-        ">A chart of 8 rows, one for each step, and 2 lanes, one for each place that comes in, with 3 hand-overs and \
-            1 refusal.</desc>",
-        // the lanes that are left out, and the two that are shown
-        "<text class=\"note\" x=\"616\" y=\"42\">(12 idle)</text>",
-        "<text class=\"head\" x=\"318\" y=\"42\">place 1</text><path class=\"lane\" d=\"M318 64V288\"/>",
-        "<text class=\"head\" x=\"498\" y=\"42\">place 13</text><path class=\"lane\" d=\"M498 64V288\"/>",
-        // place 1: inside in row 2, signals in row 3, inside in rows 4 and 5
-        "<rect class=\"inside\" x=\"284\" y=\"123\" width=\"68\" height=\"22\" rx=\"4\"/>",
-        "<rect class=\"half\" x=\"284\" y=\"151\" width=\"34\" height=\"22\" rx=\"4\"/>",
-        "<rect class=\"signals\" x=\"284\" y=\"151\" width=\"68\" height=\"22\" rx=\"4\"/>",
-        "<rect class=\"inside\" x=\"284\" y=\"179\" width=\"68\" height=\"50\" rx=\"4\"/>",
-        // place 13: inside, waits in rows 1 and 2, inside, waits in rows 4 and 5, inside
-        "<rect class=\"inside\" x=\"396\" y=\"67\" width=\"204\" height=\"22\" rx=\"4\"/>",
-        "<rect class=\"waits\" x=\"396\" y=\"95\" width=\"204\" height=\"50\" rx=\"4\"/>",
-        "<text class=\"dark\" x=\"498\" y=\"110\">c0 p2</text>",
-        "<rect class=\"inside\" x=\"396\" y=\"151\" width=\"204\" height=\"22\" rx=\"4\"/>",
-        "<rect class=\"waits\" x=\"396\" y=\"179\" width=\"204\" height=\"50\" rx=\"4\"/>",
-        "<text class=\"dark\" x=\"498\" y=\"194\">c0 p18446744073709551615</text>",
-        "<rect class=\"inside\" x=\"396\" y=\"235\" width=\"204\" height=\"22\" rx=\"4\"/>",
-        // the signal from 1 to 13, the return from 13 to 1, and the pass from where 1 went out
-        "<path class=\"edge\" d=\"M356 162H388\"/><path class=\"arrow\" d=\"M352 162H388\"/>\
-            <path d=\"M396 162l-9-5v10z\"/>",
-        "<path class=\"edge\" d=\"M392 190H360\"/><path class=\"arrow back\" d=\"M396 190H360\"/>\
-            <path d=\"M352 190l9-5v10z\"/>",
-        "<circle cx=\"318\" cy=\"246\" r=\"4\"/>",
-        "<path class=\"edge\" d=\"M322 246H388\"/><path class=\"arrow\" d=\"M318 246H388\"/>\
-            <path d=\"M396 246l-9-5v10z\"/>",
-        // the step that is refused
-        "<text class=\"refused\" x=\"20\" y=\"222\">enter 4</text>",
-        "<text class=\"refused\" x=\"616\" y=\"222\">-> refused 2 (the monitor isn't free)</text>",
-    ] {
-        expect_same(
-            &rt,
-            (part, times(text.as_slice(), part.as_bytes())),
-            (part, 1),
-        );
-    }
+    stand_once(&rt, text.as_slice(), IDLE_LANES);
     expect_same(&rt, times(text.as_slice(), b"class=\"head\""), 2);
 }
+
+// What stands once in the picture of `BROADCAST`.
+const CALLS: &[&str] = &[
+    "<svg xmlns=\"http://www.w3.org/2000/svg\" width=\"1044\" height=\"616\" viewBox=\"0 0 1044 616\" role=\"img\"",
+    ">A monitor with 5 places and 1 condition (1 Mesa), in a script of 16 steps</title>",
+    " and 5 lanes, one for each place that comes in, with 3 hand-overs, 3 calls and 2 refusals.</desc>",
+    "<text class=\"title\" x=\"20\" y=\"42\">monitor 5 1 1</text>",
+    "<path class=\"arrow call\" d=\"M532 274H240\"/><path class=\"tip\" d=\"M232 274l9-5v10z\"/>",
+    "<path class=\"arrow call\" d=\"M532 274H368\"/><path class=\"tip\" d=\"M360 274l9-5v10z\"/>",
+    "<path class=\"arrow call\" d=\"M532 274H496\"/><path class=\"tip\" d=\"M488 274l9-5v10z\"/>",
+    "<rect class=\"called\" x=\"148\" y=\"263\" width=\"84\" height=\"50\" rx=\"4\"/>\n\
+        <text class=\"dark\" x=\"190\" y=\"278\">called 3</text>",
+    "<rect class=\"called\" x=\"148\" y=\"319\" width=\"84\" height=\"50\" rx=\"4\"/>\n\
+        <text class=\"dark\" x=\"190\" y=\"334\">called 2</text>",
+    "<rect class=\"called\" x=\"148\" y=\"375\" width=\"84\" height=\"22\" rx=\"4\"/>\n\
+        <text class=\"dark\" x=\"190\" y=\"390\">called 1</text>",
+    "<rect class=\"called\" x=\"276\" y=\"263\" width=\"84\" height=\"50\" rx=\"4\"/>\n\
+        <text class=\"dark\" x=\"318\" y=\"278\">called 1</text>",
+    "<rect class=\"called\" x=\"404\" y=\"263\" width=\"84\" height=\"50\" rx=\"4\"/>\n\
+        <text class=\"dark\" x=\"446\" y=\"278\">called 2</text>",
+    "<rect class=\"called\" x=\"404\" y=\"319\" width=\"84\" height=\"50\" rx=\"4\"/>\n\
+        <text class=\"dark\" x=\"446\" y=\"334\">called 1</text>",
+    "<path d=\"M232 414l9-5v10z\"/>\n\
+        <rect class=\"inside\" x=\"148\" y=\"67\" width=\"84\" height=\"22\" rx=\"4\"/>",
+    // the legend
+    "<path class=\"arrow call\" d=\"M350 593H396\"/><path class=\"tip\" d=\"M404 593l-9-5v10z\"/>",
+    "<rect class=\"called\" x=\"404\" y=\"582\" width=\"68\" height=\"22\" rx=\"4\"/>\n\
+        <text class=\"dark\" x=\"438\" y=\"597\">called 1</text>",
+    "<text class=\"note\" x=\"482\" y=\"597\">is called; 1 goes on first</text>",
+];
 
 // The longest step has 13 letters, and `called 3` 8, so that a box of the first three lanes is 9 * 8 + 12 = 84 wide and
 // one of the others 68: the lanes stand at 20 + 104 + 24 + 42 = 190, 128 further at 318 and at 446, at 446 + 42 + 44 +
@@ -147,40 +181,7 @@ fn wide_and_idle_lanes_as_svg(rt: HostRuntime) {
 #[test]
 fn broadcast_as_svg(rt: HostRuntime) {
     let text = drawn_whole(&rt, BROADCAST, Form::Svg);
-    for part in [
-        "<svg xmlns=\"http://www.w3.org/2000/svg\" width=\"1044\" height=\"616\" viewBox=\"0 0 1044 616\" role=\"img\"",
-        ">A monitor with 5 places and 1 condition (1 Mesa), in a script of 16 steps</title>",
-        " and 5 lanes, one for each place that comes in, with 3 hand-overs, 3 calls and 2 refusals.</desc>",
-        "<text class=\"title\" x=\"20\" y=\"42\">monitor 5 1 1</text>",
-        "<path class=\"arrow call\" d=\"M532 274H240\"/><path class=\"tip\" d=\"M232 274l9-5v10z\"/>",
-        "<path class=\"arrow call\" d=\"M532 274H368\"/><path class=\"tip\" d=\"M360 274l9-5v10z\"/>",
-        "<path class=\"arrow call\" d=\"M532 274H496\"/><path class=\"tip\" d=\"M488 274l9-5v10z\"/>",
-        "<rect class=\"called\" x=\"148\" y=\"263\" width=\"84\" height=\"50\" rx=\"4\"/>\n\
-            <text class=\"dark\" x=\"190\" y=\"278\">called 3</text>",
-        "<rect class=\"called\" x=\"148\" y=\"319\" width=\"84\" height=\"50\" rx=\"4\"/>\n\
-            <text class=\"dark\" x=\"190\" y=\"334\">called 2</text>",
-        "<rect class=\"called\" x=\"148\" y=\"375\" width=\"84\" height=\"22\" rx=\"4\"/>\n\
-            <text class=\"dark\" x=\"190\" y=\"390\">called 1</text>",
-        "<rect class=\"called\" x=\"276\" y=\"263\" width=\"84\" height=\"50\" rx=\"4\"/>\n\
-            <text class=\"dark\" x=\"318\" y=\"278\">called 1</text>",
-        "<rect class=\"called\" x=\"404\" y=\"263\" width=\"84\" height=\"50\" rx=\"4\"/>\n\
-            <text class=\"dark\" x=\"446\" y=\"278\">called 2</text>",
-        "<rect class=\"called\" x=\"404\" y=\"319\" width=\"84\" height=\"50\" rx=\"4\"/>\n\
-            <text class=\"dark\" x=\"446\" y=\"334\">called 1</text>",
-        "<path d=\"M232 414l9-5v10z\"/>\n\
-            <rect class=\"inside\" x=\"148\" y=\"67\" width=\"84\" height=\"22\" rx=\"4\"/>",
-        // the legend
-        "<path class=\"arrow call\" d=\"M350 593H396\"/><path class=\"tip\" d=\"M404 593l-9-5v10z\"/>",
-        "<rect class=\"called\" x=\"404\" y=\"582\" width=\"68\" height=\"22\" rx=\"4\"/>\n\
-            <text class=\"dark\" x=\"438\" y=\"597\">called 1</text>",
-        "<text class=\"note\" x=\"482\" y=\"597\">is called; 1 goes on first</text>",
-    ] {
-        expect_same(
-            &rt,
-            (part, times(text.as_slice(), part.as_bytes())),
-            (part, 1),
-        );
-    }
+    stand_once(&rt, text.as_slice(), CALLS);
     expect_same(&rt, times(text.as_slice(), b"class=\"arrow call\""), 4);
     expect_same(&rt, times(text.as_slice(), b"class=\"called\""), 7);
 }
@@ -190,15 +191,10 @@ fn broadcast_as_svg(rt: HostRuntime) {
 // the widest picture that there is but for longer steps and remarks: 20 + 30 * 8 + 24, then 64 * 204 + 63 * 44 =
 // 15,828, then 16 + 56 + 20.
 #[test]
-fn widths_of_sixty_four_lanes(rt: HostRuntime) -> Result<(), Fail> {
+fn widths_of_sixty_four_lanes(rt: HostRuntime) {
     for (greatest, want) in [(false, " width=\"8060\" "), (true, " width=\"16204\" ")] {
-        let script = sixty_four_waits(rt.alloc(), greatest)?;
-        let text = drawn_whole(&rt, script.as_slice(), Form::Svg);
-        expect_same(
-            &rt,
-            (want, times(text.as_slice(), want.as_bytes())),
-            (want, 1),
-        );
+        let script = sixty_four_waits(&rt, greatest);
+        let text = drawn_whole(&rt, script.as_bytes(), Form::Svg);
+        stand_once(&rt, text.as_slice(), &[want]);
     }
-    Ok(())
 }

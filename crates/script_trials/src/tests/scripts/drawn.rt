@@ -5,11 +5,9 @@ use crate::tests::compared::expect_same;
 use crate::tests::numbers::next_number;
 use crate::tests::past::Past;
 use crate::tests::past::event::Event;
-use std::alloc::Global;
-use std::io;
-use std::io::Write;
+use std::alloc::{AllocError, Global};
+use std::panic::Expect;
 use std::process::Abort;
-use std::test::Fail;
 use wait_book::steps::{Next, Step, StepRefused};
 
 const LINES: usize = 50;
@@ -21,19 +19,30 @@ enum Line {
     First(u64),
 }
 
-fn spell<W: Write>(to: &mut W, line: Line) -> io::Result<()> {
+// Adds a word and the numbers behind it.
+fn add_words(to: &mut String, word: &str, numbers: &[u64]) -> Result<(), AllocError> {
+    to.push_str(word)?;
+    for number in numbers {
+        write!(to, " {number}")?;
+    }
+    Ok(())
+}
+
+fn spell(to: &mut String, line: Line) -> Result<(), AllocError> {
     match line {
-        Line::Do(Step::Enter(place)) => write!(to, "enter {place}"),
+        Line::Do(Step::Enter(place)) => add_words(to, "enter", &[place]),
         Line::Do(Step::Wait(place, condition, priority)) => {
-            write!(to, "wait {place} {condition} {priority}")
+            add_words(to, "wait", &[place, condition, priority])
         }
-        Line::Do(Step::Signal(place, condition)) => write!(to, "signal {place} {condition}"),
-        Line::Do(Step::Pass(place, condition)) => write!(to, "pass {place} {condition}"),
-        Line::Do(Step::Leave(place)) => write!(to, "leave {place}"),
-        Line::Do(Step::Notify(place, condition)) => write!(to, "notify {place} {condition}"),
-        Line::Do(Step::Broadcast(place, condition)) => write!(to, "broadcast {place} {condition}"),
-        Line::Queue(condition) => write!(to, "queue {condition}"),
-        Line::First(condition) => write!(to, "first {condition}"),
+        Line::Do(Step::Signal(place, condition)) => add_words(to, "signal", &[place, condition]),
+        Line::Do(Step::Pass(place, condition)) => add_words(to, "pass", &[place, condition]),
+        Line::Do(Step::Leave(place)) => add_words(to, "leave", &[place]),
+        Line::Do(Step::Notify(place, condition)) => add_words(to, "notify", &[place, condition]),
+        Line::Do(Step::Broadcast(place, condition)) => {
+            add_words(to, "broadcast", &[place, condition])
+        }
+        Line::Queue(condition) => add_words(to, "queue", &[condition]),
+        Line::First(condition) => add_words(to, "first", &[condition]),
     }
 }
 
@@ -48,46 +57,46 @@ fn number_of(refused: StepRefused) -> u8 {
     }
 }
 
-fn refusal(past: &Past, line: Line) -> Result<Option<StepRefused>, Fail> {
+fn refusal(past: &Past, line: Line) -> Result<Option<StepRefused>, AllocError> {
     match line {
-        Line::Do(step) => Ok(past.refusal(step)?),
+        Line::Do(step) => past.refusal(step),
         Line::Queue(condition) | Line::First(condition) => Ok(past.refuses_question(condition)),
     }
 }
 
 // Does a step that isn't refused, and writes who is then inside.
-fn answer_step<W: Write>(past: &mut Past, to: &mut W, step: Step) -> Result<(), Fail> {
+fn answer_step(past: &mut Past, to: &mut String, step: Step) -> Result<(), AllocError> {
     past.act(step)?;
     match past.now()? {
-        Next::Held(place) | Next::For(place) => writeln!(to, " -> {place}")?,
-        Next::Free => writeln!(to, " -> free")?,
+        Next::Held(place) | Next::For(place) => writeln!(to, " -> {place}"),
+        Next::Free => to.push_str(" -> free\n"),
     }
-    Ok(())
 }
 
-fn answer_first<W: Write>(past: &Past, to: &mut W, condition: u64) -> Result<(), Fail> {
+fn answer_first(past: &Past, to: &mut String, condition: u64) -> Result<(), AllocError> {
     match past.chosen(condition as usize)? {
-        Some(wait) => writeln!(to, " -> {}", wait.priority())?,
-        None => writeln!(to, " -> none")?,
+        Some(wait) => writeln!(to, " -> {}", wait.priority),
+        None => to.push_str(" -> none\n"),
     }
-    Ok(())
+}
+
+fn answer_queue(past: &Past, to: &mut String, condition: u64) -> Result<(), AllocError> {
+    match past.chosen(condition as usize)? {
+        Some(_) => to.push_str(" -> true\n"),
+        None => to.push_str(" -> false\n"),
+    }
 }
 
 // Does what a line asks, and writes the answer to it.
-fn answer<W: Write>(past: &mut Past, to: &mut W, line: Line) -> Result<(), Fail> {
+fn answer(past: &mut Past, to: &mut String, line: Line) -> Result<(), AllocError> {
     spell(to, line)?;
     if let Some(refused) = refusal(past, line)? {
-        writeln!(to, " -> refused {}", number_of(refused))?;
-        return Ok(());
+        return writeln!(to, " -> refused {}", number_of(refused));
     }
     match line {
         Line::Do(step) => answer_step(past, to, step),
         Line::First(condition) => answer_first(past, to, condition),
-        Line::Queue(condition) => {
-            let waits = past.chosen(condition as usize)?.is_some();
-            writeln!(to, " -> {waits}")?;
-            Ok(())
-        }
+        Line::Queue(condition) => answer_queue(past, to, condition),
     }
 }
 
@@ -104,7 +113,7 @@ fn is_called(past: &Past, condition: u64, is_strange: bool) -> bool {
 }
 
 // The next line: mostly one that isn't refused, and that leaves somebody outside.
-fn drawn(past: &Past, lot: u64) -> Result<Line, Fail> {
+fn drawn(past: &Past, lot: u64) -> Result<Line, AllocError> {
     let is_strange = lot / 4096 % 16 == 0;
     let any = lot / 8 % past.places.saturating_add(1);
     let newcomer = newcomer(past, lot);
@@ -155,63 +164,62 @@ fn past_of(alloc: Global, number: u64, mesa: u64) -> Past {
     Past::new(alloc, places, number % 3 + 1, mesa)
 }
 
+fn spell_header(to: &mut String, past: &Past) -> Result<(), AllocError> {
+    match past.mesa {
+        0 => add_words(to, "monitor", &[past.places, past.conditions]),
+        mesa => add_words(to, "monitor", &[past.places, past.conditions, mesa]),
+    }
+}
+
 // Draws the lines of a script, with an answer to each.
-fn draw<W: Write>(
+fn draw(
     past: &mut Past,
     number: u64,
-    script: &mut W,
-    answers: &mut W,
-) -> Result<(), Fail> {
+    script: &mut String,
+    answers: &mut String,
+) -> Result<(), AllocError> {
+    spell_header(script, past)?;
+    script.push_str("\n")?;
     let mut seed = number;
     for _ in 0..LINES {
         seed = next_number(seed);
         let line = drawn(past, seed / 65536)?;
         spell(script, line)?;
-        writeln!(script)?;
+        script.push_str("\n")?;
         answer(past, answers, line)?;
     }
     Ok(())
 }
 
 // One script, answered twice: how many resumptions it had.
-fn is_answered_twice<R: Abort + AllocGlobal>(
-    rt: &R,
-    number: u64,
-    mesa: u64,
-) -> Result<usize, Fail> {
+fn is_answered_twice<R: Abort + AllocGlobal>(rt: &R, number: u64, mesa: u64) -> usize {
     let mut past = past_of(rt.alloc(), number, mesa);
-    let mut script = Vec::new(rt.alloc());
-    let mut answers = Vec::new(rt.alloc());
-    write!(script, "monitor {} {}", past.places, past.conditions)?;
-    if mesa > 0 {
-        write!(script, " {mesa}")?;
-    }
-    writeln!(script)?;
-    draw(&mut past, number, &mut script, &mut answers)?;
-    let (result, written) = told(rt.alloc(), script.as_slice());
+    let mut script = String::new(rt.alloc());
+    let mut answers = String::new(rt.alloc());
+    let drawn = draw(&mut past, number, &mut script, &mut answers);
+    drawn.expect(rt, "memory for a script");
+    let (result, written) = told(rt.alloc(), script.as_bytes());
     let found = (number, result, written.as_slice());
-    expect_same(rt, found, (number, Ok(()), answers.as_slice()));
-    Ok(resumptions(&past))
+    expect_same(rt, found, (number, Ok(()), answers.as_bytes()));
+    resumptions(&past)
 }
 
 #[test]
-fn two_hundred_thousand_lines(rt: HostRuntime) -> Result<(), Fail> {
+fn two_hundred_thousand_lines(rt: HostRuntime) {
     let mut resumptions = 0usize;
     for number in 0..4_000 {
-        resumptions = resumptions.saturating_add(is_answered_twice(&rt, number, 0)?);
+        resumptions = resumptions.saturating_add(is_answered_twice(&rt, number, 0));
     }
     assert!(rt; resumptions >= 14_000);
-    Ok(())
 }
 
 // With one Mesa condition or more.
 #[test]
-fn two_hundred_thousand_mesa_lines(rt: HostRuntime) -> Result<(), Fail> {
+fn two_hundred_thousand_mesa_lines(rt: HostRuntime) {
     let mut resumptions = 0usize;
     for number in 0..4_000 {
         let mesa = number / 3 % (number % 3 + 1) + 1;
-        resumptions = resumptions.saturating_add(is_answered_twice(&rt, number, mesa)?);
+        resumptions = resumptions.saturating_add(is_answered_twice(&rt, number, mesa));
     }
     assert!(rt; resumptions >= 12_000);
-    Ok(())
 }

@@ -1,10 +1,9 @@
 //! A script that is cut off, a reader that fails and writers that fail, at each byte.
 use super::told;
 use crate::tests::compared::expect_same;
-use arrayvec::ArrayVec;
+use crate::tests::streams::{Breaking, Filling};
 use hoare_script::{ScriptFault, run};
-use std::io;
-use std::io::{Read, Write};
+use std::process::Abort;
 use std::test::Fail;
 
 const SCRIPT: &[u8] = b"monitor 2 1\nenter 0\nwait 0 0 0\nenter 1\nsignal 1 0\nleave 0\nleave 1\n";
@@ -59,21 +58,6 @@ fn script_cut_at_each_byte(rt: HostRuntime) -> Result<(), Fail> {
     Ok(())
 }
 
-// Gives its bytes, and then fails.
-#[derive(Drop)]
-struct Breaking<'a> {
-    rest: &'a [u8],
-}
-
-impl Read for Breaking<'_> {
-    fn read(&mut self, buf: &mut [u8]) -> io::Result<usize> {
-        if self.rest.is_empty() {
-            return Err(io::Error::from(io::ErrorKind::BrokenPipe));
-        }
-        self.rest.read(buf)
-    }
-}
-
 // How many step lines end at or before a byte.
 fn lines_ended(length: usize) -> usize {
     match length {
@@ -87,69 +71,52 @@ fn lines_ended(length: usize) -> usize {
     }
 }
 
+/// A script ends so whose reader fails behind it, and these are its answers.
+pub fn breaks<R: Abort + AllocGlobal>(
+    rt: &R,
+    script: &[u8],
+    wanted: Result<(), ScriptFault>,
+    answers: &[u8],
+) {
+    let mut written = Vec::new(rt.alloc());
+    let result = run(rt.alloc(), &mut Breaking { rest: script }, &mut written);
+    let found = (script.len(), result, written.as_slice());
+    expect_same(rt, found, (script.len(), wanted, answers));
+}
+
 #[test]
 fn script_reader_fails(rt: HostRuntime) -> Result<(), Fail> {
     for length in 0..=66usize {
-        let rest = SCRIPT.get(..length).ok_or("a shorter script")?;
-        let mut written = Vec::new(rt.alloc());
-        let result = run(rt.alloc(), &mut Breaking { rest }, &mut written);
+        let script = SCRIPT.get(..length).ok_or("a shorter script")?;
         let answers = answers_to(lines_ended(length));
-        let found = (length, result, written.as_slice());
-        expect_same(&rt, found, (length, Err(ScriptFault::ReadFault), answers));
+        breaks(&rt, script, Err(ScriptFault::ReadFault), answers);
     }
     Ok(())
 }
 
-// Takes a byte a call while there is room, and then fails or takes nothing.
-#[derive(Drop)]
-pub struct Filling {
-    taken: ArrayVec<u8, 90>,
+// The script ends so on a writer of this room, which takes this of the answers.
+fn fills<R: Abort + AllocGlobal>(
+    rt: &R,
     room: usize,
     fails: bool,
-}
-
-impl Filling {
-    pub fn new(room: usize, fails: bool) -> Filling {
-        Filling {
-            taken: ArrayVec::new(),
-            room,
-            fails,
-        }
-    }
-}
-
-impl Write for Filling {
-    fn write(&mut self, buf: &[u8]) -> io::Result<usize> {
-        match buf.first() {
-            Some(byte) if self.taken.len() < self.room && self.taken.try_push(*byte).is_ok() => {
-                Ok(1)
-            }
-            _ if self.fails => Err(io::Error::from(io::ErrorKind::BrokenPipe)),
-            _ => Ok(0),
-        }
-    }
-
-    fn flush(&mut self) -> io::Result<()> {
-        Ok(())
-    }
+    wanted: (Result<(), ScriptFault>, &[u8]),
+) {
+    let mut writer = Filling::new(room, fails);
+    let mut reader = SCRIPT;
+    let result = run(rt.alloc(), &mut reader, &mut writer);
+    let found = (result, writer.taken.as_slice());
+    expect_same(rt, (room, fails, found), (room, fails, wanted));
 }
 
 #[test]
 fn script_writer_fails(rt: HostRuntime) -> Result<(), Fail> {
-    for fails in [true, false] {
-        for room in 0..=90usize {
-            let mut writer = Filling::new(room, fails);
-            let mut reader = SCRIPT;
-            let result = run(rt.alloc(), &mut reader, &mut writer);
-            let wanted = if room < 90 {
-                Err(ScriptFault::WriteFault)
-            } else {
-                Ok(())
-            };
-            let prefix = ANSWERS.get(..room).ok_or("shorter answers")?;
-            let found = (room, result, writer.taken.as_slice());
-            expect_same(&rt, found, (room, wanted, prefix));
-        }
+    for room in 0..90usize {
+        let prefix = ANSWERS.get(..room).ok_or("shorter answers")?;
+        let wanted = (Err(ScriptFault::WriteFault), prefix);
+        fills(&rt, room, true, wanted);
+        fills(&rt, room, false, wanted);
     }
+    fills(&rt, 90, true, (Ok(()), ANSWERS));
+    fills(&rt, 90, false, (Ok(()), ANSWERS));
     Ok(())
 }

@@ -1,29 +1,9 @@
 //! Where the text itself ends a script.
-use super::{is_told, told};
-use crate::tests::compared::expect_same;
-use hoare_script::{ScriptFault, run};
-use std::io;
-use std::io::Read;
+use super::failures::breaks;
+use super::is_told;
+use crate::tests::repeated::repeated;
+use hoare_script::ScriptFault;
 use std::process::Abort;
-use std::test::Fail;
-
-// Gives the letter e, up to a limit of calls, where it fails: so a run that reads on is seen, and doesn't read for
-// ever.
-#[derive(Drop)]
-struct Endless {
-    calls: u64,
-}
-
-impl Read for Endless {
-    fn read(&mut self, buf: &mut [u8]) -> io::Result<usize> {
-        if self.calls == 0 {
-            return Err(io::Error::from(io::ErrorKind::BrokenPipe));
-        }
-        self.calls -= 1;
-        buf.fill(b'e');
-        Ok(buf.len())
-    }
-}
 
 // Runs a script that is answered nothing.
 fn check<R: Abort + AllocGlobal>(rt: &R, script: &[u8], wanted: Result<(), ScriptFault>) {
@@ -82,40 +62,25 @@ fn bad_lines(rt: HostRuntime) {
 }
 
 #[test]
-fn long_line(rt: HostRuntime) -> Result<(), Fail> {
-    let mut script = b"monitor 1 1\n".to_vec(rt.alloc())?;
-    script.resize(268, b'e')?;
-    check(&rt, script.as_slice(), Err(ScriptFault::BadLine(2)));
-    script.push(b'e')?;
-    check(&rt, script.as_slice(), Err(ScriptFault::LineTooLong(2)));
-    Ok(())
+fn long_line(rt: HostRuntime) {
+    let longest = repeated(&rt, b"monitor 1 1\n", b"e", 256);
+    check(&rt, longest.as_slice(), Err(ScriptFault::BadLine(2)));
+    let longer = repeated(&rt, b"monitor 1 1\n", b"e", 257);
+    check(&rt, longer.as_slice(), Err(ScriptFault::LineTooLong(2)));
 }
 
 #[test]
-fn large_script(rt: HostRuntime) -> Result<(), Fail> {
-    let mut script = b"monitor 1 1\n".to_vec(rt.alloc())?;
-    for _ in 0..131_071u32 {
-        script.extend_from_slice(b"leave 0\n")?;
-    }
-    let mut answers = Vec::new(rt.alloc());
-    for _ in 0..131_070u32 {
-        answers.extend_from_slice(b"leave 0 -> refused 4\n")?;
-    }
-    let (result, written) = told(rt.alloc(), script.as_slice());
-    let found = (result, written.as_slice());
-    expect_same(&rt, found, (Err(ScriptFault::TooMuch), answers.as_slice()));
-    Ok(())
+fn large_script(rt: HostRuntime) {
+    let script = repeated(&rt, b"monitor 1 1\n", b"leave 0\n", 131_071);
+    let answers = repeated(&rt, b"", b"leave 0 -> refused 4\n", 131_070);
+    let fault = Err(ScriptFault::TooMuch);
+    is_told(&rt, script.as_slice(), fault, answers.as_slice());
 }
 
-// The 257th byte tells that the line is too long; with a call less the limit of the reader fires.
+// The 257th byte tells that the line is too long; where the reader gives a byte less, it fails before.
 #[test]
 fn endless_line(rt: HostRuntime) {
-    for (calls, fault) in [
-        (257, ScriptFault::LineTooLong(1)),
-        (256, ScriptFault::ReadFault),
-    ] {
-        let mut written = Vec::new(rt.alloc());
-        let result = run(rt.alloc(), &mut Endless { calls }, &mut written);
-        expect_same(&rt, (result, written.len()), (Err(fault), 0));
-    }
+    let bytes = [b'e'; 257];
+    breaks(&rt, &bytes, Err(ScriptFault::LineTooLong(1)), b"");
+    breaks(&rt, &bytes[..256], Err(ScriptFault::ReadFault), b"");
 }

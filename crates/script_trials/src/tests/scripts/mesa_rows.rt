@@ -1,220 +1,209 @@
 //! Rows of scripts with Mesa conditions: each is a line with its answer, worked out by hand from the rules.
 use super::rows::check;
-use std::test::Fail;
 
 // Who is called goes on behind the one that calls it, before a newcomer, and is no longer counted as waiting.
 #[test]
-fn notify_one(rt: HostRuntime) -> Result<(), Fail> {
-    let rows = [
-        "enter 0 -> 0",
-        "wait 0 0 0 -> free",
-        "enter 1 -> 1",
-        "signal 1 0 -> refused 6",
-        "notify 1 0 -> 1",
-        "queue 0 -> false",
-        "enter 2 -> refused 2",
-        "leave 1 -> 0",
-        "leave 0 -> free",
-    ];
-    check(&rt, "monitor 3 1 1", &rows)
+fn notify_one(rt: HostRuntime) {
+    let rows = "enter 0 -> 0
+wait 0 0 0 -> free
+enter 1 -> 1
+signal 1 0 -> refused 6
+notify 1 0 -> 1
+queue 0 -> false
+enter 2 -> refused 2
+leave 1 -> 0
+leave 0 -> free
+";
+    check(&rt, "monitor 3 1 1", rows);
 }
 
 // All are called in the order in which signals would resume them.
 #[test]
-fn broadcast_all(rt: HostRuntime) -> Result<(), Fail> {
-    let rows = [
-        "enter 0 -> 0",
-        "wait 0 0 2 -> free",
-        "enter 1 -> 1",
-        "wait 1 0 1 -> free",
-        "enter 2 -> 2",
-        "broadcast 2 0 -> 2",
-        "leave 2 -> 1",
-        "leave 1 -> 0",
-        "leave 0 -> free",
-    ];
-    check(&rt, "monitor 4 1 1", &rows)
+fn broadcast_all(rt: HostRuntime) {
+    let rows = "enter 0 -> 0
+wait 0 0 2 -> free
+enter 1 -> 1
+wait 1 0 1 -> free
+enter 2 -> 2
+broadcast 2 0 -> 2
+leave 2 -> 1
+leave 1 -> 0
+leave 0 -> free
+";
+    check(&rt, "monitor 4 1 1", rows);
 }
 
 #[test]
-fn signaller_before_called(rt: HostRuntime) -> Result<(), Fail> {
-    let rows = [
-        "enter 0 -> 0",
-        "wait 0 0 0 -> free",
-        "enter 1 -> 1",
-        "wait 1 1 0 -> free",
-        "enter 2 -> 2",
-        "signal 2 0 -> 0",
-        "notify 0 0 -> refused 6",
-        "notify 0 1 -> 0",
-        "leave 0 -> 2",
-        "leave 2 -> 1",
-        "leave 1 -> free",
-    ];
-    check(&rt, "monitor 4 2 1", &rows)
+fn signaller_before_called(rt: HostRuntime) {
+    let rows = "enter 0 -> 0
+wait 0 0 0 -> free
+enter 1 -> 1
+wait 1 1 0 -> free
+enter 2 -> 2
+signal 2 0 -> 0
+notify 0 0 -> refused 6
+notify 0 1 -> 0
+leave 0 -> 2
+leave 2 -> 1
+leave 1 -> free
+";
+    check(&rt, "monitor 4 2 1", rows);
 }
 
 // Of three with priority 7 and one with 3, the one with 3 goes on first, and then the others as they came.
 #[test]
-fn broadcast_by_priority_then_time(rt: HostRuntime) -> Result<(), Fail> {
-    let rows = [
-        "enter 0 -> 0",
-        "wait 0 0 7 -> free",
-        "enter 1 -> 1",
-        "wait 1 0 7 -> free",
-        "enter 2 -> 2",
-        "wait 2 0 3 -> free",
-        "enter 3 -> 3",
-        "wait 3 0 7 -> free",
-        "enter 4 -> 4",
-        "first 0 -> 3",
-        "broadcast 4 0 -> 4",
-        "first 0 -> none",
-        "leave 4 -> 2",
-        "leave 2 -> 0",
-        "leave 0 -> 1",
-        "leave 1 -> 3",
-        "leave 3 -> free",
-    ];
-    check(&rt, "monitor 5 1 1", &rows)
+fn broadcast_by_priority_then_time(rt: HostRuntime) {
+    let rows = "enter 0 -> 0
+wait 0 0 7 -> free
+enter 1 -> 1
+wait 1 0 7 -> free
+enter 2 -> 2
+wait 2 0 3 -> free
+enter 3 -> 3
+wait 3 0 7 -> free
+enter 4 -> 4
+first 0 -> 3
+broadcast 4 0 -> 4
+first 0 -> none
+leave 4 -> 2
+leave 2 -> 0
+leave 0 -> 1
+leave 1 -> 3
+leave 3 -> free
+";
+    check(&rt, "monitor 5 1 1", rows);
 }
 
 // Place 0 is called, waits again while place 1 is still called, and is called again.
 #[test]
-fn called_again(rt: HostRuntime) -> Result<(), Fail> {
-    let rows = [
-        "enter 0 -> 0",
-        "wait 0 0 0 -> free",
-        "enter 1 -> 1",
-        "wait 1 0 0 -> free",
-        "enter 2 -> 2",
-        "broadcast 2 0 -> 2",
-        "leave 2 -> 0",
-        "queue 0 -> false",
-        "wait 0 0 0 -> 1",
-        "queue 0 -> true",
-        "notify 1 0 -> 1",
-        "queue 0 -> false",
-        "leave 1 -> 0",
-        "leave 0 -> free",
-        "enter 0 -> 0",
-    ];
-    check(&rt, "monitor 3 1 1", &rows)
+fn called_again(rt: HostRuntime) {
+    let rows = "enter 0 -> 0
+wait 0 0 0 -> free
+enter 1 -> 1
+wait 1 0 0 -> free
+enter 2 -> 2
+broadcast 2 0 -> 2
+leave 2 -> 0
+queue 0 -> false
+wait 0 0 0 -> 1
+queue 0 -> true
+notify 1 0 -> 1
+queue 0 -> false
+leave 1 -> 0
+leave 0 -> free
+enter 0 -> 0
+";
+    check(&rt, "monitor 3 1 1", rows);
 }
 
 // Notifies one by one call in the order in which signals would resume, and a later wait is behind them.
 #[test]
-fn notified_in_turn(rt: HostRuntime) -> Result<(), Fail> {
-    let rows = [
-        "enter 0 -> 0",
-        "wait 0 0 5 -> free",
-        "enter 1 -> 1",
-        "wait 1 0 5 -> free",
-        "enter 2 -> 2",
-        "wait 2 0 4 -> free",
-        "enter 3 -> 3",
-        "notify 3 0 -> 3",
-        "first 0 -> 5",
-        "notify 3 0 -> 3",
-        "wait 3 0 0 -> 2",
-        "first 0 -> 0",
-        "leave 2 -> 0",
-        "notify 0 0 -> 0",
-        "first 0 -> 5",
-        "leave 0 -> 3",
-        "leave 3 -> free",
-        "queue 0 -> true",
-    ];
-    check(&rt, "monitor 4 1 1", &rows)
+fn notified_in_turn(rt: HostRuntime) {
+    let rows = "enter 0 -> 0
+wait 0 0 5 -> free
+enter 1 -> 1
+wait 1 0 5 -> free
+enter 2 -> 2
+wait 2 0 4 -> free
+enter 3 -> 3
+notify 3 0 -> 3
+first 0 -> 5
+notify 3 0 -> 3
+wait 3 0 0 -> 2
+first 0 -> 0
+leave 2 -> 0
+notify 0 0 -> 0
+first 0 -> 5
+leave 0 -> 3
+leave 3 -> free
+queue 0 -> true
+";
+    check(&rt, "monitor 4 1 1", rows);
 }
 
 // A call of nobody changes nothing, and isn't kept for who waits later.
 #[test]
-fn nobody_called(rt: HostRuntime) -> Result<(), Fail> {
-    let rows = [
-        "enter 0 -> 0",
-        "notify 0 0 -> 0",
-        "broadcast 0 0 -> 0",
-        "leave 0 -> free",
-        "enter 1 -> 1",
-        "wait 1 0 0 -> free",
-        "enter 0 -> 0",
-        "leave 0 -> free",
-        "enter 1 -> refused 3",
-        "queue 0 -> true",
-    ];
-    check(&rt, "monitor 2 1 1", &rows)
+fn nobody_called(rt: HostRuntime) {
+    let rows = "enter 0 -> 0
+notify 0 0 -> 0
+broadcast 0 0 -> 0
+leave 0 -> free
+enter 1 -> 1
+wait 1 0 0 -> free
+enter 0 -> 0
+leave 0 -> free
+enter 1 -> refused 3
+queue 0 -> true
+";
+    check(&rt, "monitor 2 1 1", rows);
 }
 
 // Two are called before place 3 signals, and it returns before them all the same.
 #[test]
-fn signaller_before_two_called(rt: HostRuntime) -> Result<(), Fail> {
-    let rows = [
-        "enter 0 -> 0",
-        "wait 0 0 0 -> free",
-        "enter 1 -> 1",
-        "wait 1 1 0 -> free",
-        "enter 2 -> 2",
-        "wait 2 1 0 -> free",
-        "enter 3 -> 3",
-        "broadcast 3 1 -> 3",
-        "signal 3 0 -> 0",
-        "enter 4 -> refused 2",
-        "leave 0 -> 3",
-        "enter 4 -> refused 2",
-        "leave 3 -> 1",
-        "leave 1 -> 2",
-        "enter 4 -> refused 2",
-        "leave 2 -> free",
-        "enter 4 -> 4",
-    ];
-    check(&rt, "monitor 5 2 1", &rows)
+fn signaller_before_two_called(rt: HostRuntime) {
+    let rows = "enter 0 -> 0
+wait 0 0 0 -> free
+enter 1 -> 1
+wait 1 1 0 -> free
+enter 2 -> 2
+wait 2 1 0 -> free
+enter 3 -> 3
+broadcast 3 1 -> 3
+signal 3 0 -> 0
+enter 4 -> refused 2
+leave 0 -> 3
+enter 4 -> refused 2
+leave 3 -> 1
+leave 1 -> 2
+enter 4 -> refused 2
+leave 2 -> free
+enter 4 -> 4
+";
+    check(&rt, "monitor 5 2 1", rows);
 }
 
 // The third number is that of the conditions: none is one of Hoare's.
 #[test]
-fn all_conditions_mesa(rt: HostRuntime) -> Result<(), Fail> {
-    let rows = [
-        "enter 0 -> 0",
-        "signal 0 0 -> refused 6",
-        "pass 0 1 -> refused 6",
-        "wait 0 1 0 -> free",
-        "enter 1 -> 1",
-        "signal 1 1 -> refused 6",
-        "pass 1 1 -> refused 6",
-        "notify 1 0 -> 1",
-        "queue 1 -> true",
-        "notify 1 1 -> 1",
-        "leave 1 -> 0",
-        "broadcast 0 0 -> 0",
-        "leave 0 -> free",
-    ];
-    check(&rt, "monitor 2 2 2", &rows)
+fn all_conditions_mesa(rt: HostRuntime) {
+    let rows = "enter 0 -> 0
+signal 0 0 -> refused 6
+pass 0 1 -> refused 6
+wait 0 1 0 -> free
+enter 1 -> 1
+signal 1 1 -> refused 6
+pass 1 1 -> refused 6
+notify 1 0 -> 1
+queue 1 -> true
+notify 1 1 -> 1
+leave 1 -> 0
+broadcast 0 0 -> 0
+leave 0 -> free
+";
+    check(&rt, "monitor 2 2 2", rows);
 }
 
 // Refusals 1, 4 and 5 come before 6, which comes where nobody waits too. None changes anything.
 #[test]
-fn wrong_kind_comes_last(rt: HostRuntime) -> Result<(), Fail> {
-    let rows = [
-        "signal 1 1 -> refused 1",
-        "pass 1 1 -> refused 1",
-        "notify 1 0 -> refused 1",
-        "broadcast 1 2 -> refused 1",
-        "signal 0 1 -> refused 4",
-        "pass 0 1 -> refused 4",
-        "notify 0 0 -> refused 4",
-        "broadcast 0 2 -> refused 4",
-        "enter 0 -> 0",
-        "signal 0 2 -> refused 5",
-        "pass 0 2 -> refused 5",
-        "notify 0 2 -> refused 5",
-        "broadcast 0 2 -> refused 5",
-        "signal 0 1 -> refused 6",
-        "pass 0 1 -> refused 6",
-        "notify 0 0 -> refused 6",
-        "broadcast 0 0 -> refused 6",
-        "signal 1 1 -> refused 1",
-        "leave 0 -> free",
-    ];
-    check(&rt, "monitor 1 2 1", &rows)
+fn wrong_kind_comes_last(rt: HostRuntime) {
+    let rows = "signal 1 1 -> refused 1
+pass 1 1 -> refused 1
+notify 1 0 -> refused 1
+broadcast 1 2 -> refused 1
+signal 0 1 -> refused 4
+pass 0 1 -> refused 4
+notify 0 0 -> refused 4
+broadcast 0 2 -> refused 4
+enter 0 -> 0
+signal 0 2 -> refused 5
+pass 0 2 -> refused 5
+notify 0 2 -> refused 5
+broadcast 0 2 -> refused 5
+signal 0 1 -> refused 6
+pass 0 1 -> refused 6
+notify 0 0 -> refused 6
+broadcast 0 0 -> refused 6
+signal 1 1 -> refused 1
+leave 0 -> free
+";
+    check(&rt, "monitor 1 2 1", rows);
 }

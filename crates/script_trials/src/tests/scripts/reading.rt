@@ -1,6 +1,6 @@
 //! What a run reads of its text, and what it leaves.
-use super::failures::Filling;
 use crate::tests::compared::expect_same;
+use crate::tests::streams::Filling;
 use hoare_script::{ScriptFault, run, run_watched};
 use line_text::reader::WatchedReader;
 use line_text::writer::WatchedWriter;
@@ -123,8 +123,11 @@ fn marks_of_a_full_writer(rt: HostRuntime) {
     let marks = (writer.has_failed(), reader.has_failed(), reader.bytes());
     expect_same(
         &rt,
-        (result, marks),
-        (Err(ScriptFault::WriteFault), (true, false, 20)),
+        (result, marks, rest),
+        (
+            Err(ScriptFault::WriteFault),
+            (true, false, 20),
+            b"leave 0\n",
+        ),
     );
-    expect_same(&rt, rest, b"leave 0\n".as_slice());
 }

@@ -1,133 +1,118 @@
 //! Each row is a line with its answer, as it is written.
 use super::is_told;
 use hoare_script::ScriptFault;
-use std::io;
-use std::io::Write;
+use std::alloc::AllocError;
+use std::panic::Expect;
 use std::process::Abort;
-use std::test::Fail;
 
-// Runs the script, whose answers are these.
-fn is_answered<R: Abort + AllocGlobal>(rt: &R, script: &[u8], answers: &[u8]) {
-    is_told(rt, script, Ok(()), answers);
-}
-
-// Adds the row's line to the script, and the row to the answers.
-fn add_row<W: Write>(script: &mut W, answers: &mut W, row: &str) -> Result<(), Fail> {
-    let (line, _) = row.split_once(" -> ").ok_or("a row without an answer")?;
-    writeln!(script, "{line}")?;
-    writeln!(answers, "{row}")?;
+// Adds the lines of the rows. A row without an answer is a line itself, and is answered otherwise than it says.
+fn add_lines(script: &mut String, rows: &str) -> Result<(), AllocError> {
+    for row in rows.lines() {
+        let (line, _) = row.split_once(" -> ").unwrap_or((row, ""));
+        script.push_str(line)?;
+        script.push_str("\n")?;
+    }
     Ok(())
 }
 
 /// Runs the script of a header and of the rows' lines, whose answers are the rows.
-pub fn check<R: Abort + AllocGlobal>(rt: &R, header: &str, rows: &[&str]) -> Result<(), Fail> {
-    let mut script = Vec::new(rt.alloc());
-    let mut answers = Vec::new(rt.alloc());
-    writeln!(script, "{header}")?;
-    for row in rows {
-        add_row(&mut script, &mut answers, row)?;
-    }
-    is_answered(rt, script.as_slice(), answers.as_slice());
-    Ok(())
+pub fn check<R: Abort + AllocGlobal>(rt: &R, header: &str, rows: &str) {
+    let mut script = format!(in rt.alloc(); "{header}\n").expect(rt, "memory for a script");
+    add_lines(&mut script, rows).expect(rt, "memory for a script");
+    is_told(rt, script.as_bytes(), Ok(()), rows.as_bytes());
 }
 
 #[test]
-fn enter_and_leave(rt: HostRuntime) -> Result<(), Fail> {
-    check(&rt, "monitor 1 1", &["enter 0 -> 0", "leave 0 -> free"])
+fn enter_and_leave(rt: HostRuntime) {
+    check(&rt, "monitor 1 1", "enter 0 -> 0\nleave 0 -> free\n");
 }
 
 #[test]
-fn signal_nobody(rt: HostRuntime) -> Result<(), Fail> {
-    let rows = [
-        "enter 0 -> 0",
-        "signal 0 0 -> 0",
-        "queue 0 -> false",
-        "first 0 -> none",
-    ];
-    check(&rt, "monitor 1 1", &rows)
+fn signal_nobody(rt: HostRuntime) {
+    let rows = "enter 0 -> 0
+signal 0 0 -> 0
+queue 0 -> false
+first 0 -> none
+";
+    check(&rt, "monitor 1 1", rows);
 }
 
 #[test]
-fn hand_over(rt: HostRuntime) -> Result<(), Fail> {
-    let rows = [
-        "enter 0 -> 0",
-        "wait 0 0 0 -> free",
-        "enter 1 -> 1",
-        "signal 1 0 -> 0",
-        "leave 0 -> 1",
-        "leave 1 -> free",
-    ];
-    check(&rt, "monitor 2 1", &rows)
+fn hand_over(rt: HostRuntime) {
+    let rows = "enter 0 -> 0
+wait 0 0 0 -> free
+enter 1 -> 1
+signal 1 0 -> 0
+leave 0 -> 1
+leave 1 -> free
+";
+    check(&rt, "monitor 2 1", rows);
 }
 
 #[test]
-fn signaller_before_newcomer(rt: HostRuntime) -> Result<(), Fail> {
-    let rows = [
-        "enter 0 -> 0",
-        "wait 0 0 0 -> free",
-        "enter 1 -> 1",
-        "signal 1 0 -> 0",
-        "enter 2 -> refused 2",
-        "leave 0 -> 1",
-        "enter 2 -> refused 2",
-        "leave 1 -> free",
-        "enter 2 -> 2",
-    ];
-    check(&rt, "monitor 3 1", &rows)
+fn signaller_before_newcomer(rt: HostRuntime) {
+    let rows = "enter 0 -> 0
+wait 0 0 0 -> free
+enter 1 -> 1
+signal 1 0 -> 0
+enter 2 -> refused 2
+leave 0 -> 1
+enter 2 -> refused 2
+leave 1 -> free
+enter 2 -> 2
+";
+    check(&rt, "monitor 3 1", rows);
 }
 
 #[test]
-fn least_priority_longest_waiting(rt: HostRuntime) -> Result<(), Fail> {
-    let rows = [
-        "enter 0 -> 0",
-        "wait 0 0 5 -> free",
-        "enter 1 -> 1",
-        "wait 1 0 3 -> free",
-        "enter 2 -> 2",
-        "wait 2 0 3 -> free",
-        "enter 3 -> 3",
-        "queue 0 -> true",
-        "first 0 -> 3",
-        "signal 3 0 -> 1",
-        "leave 1 -> 3",
-        "signal 3 0 -> 2",
-        "leave 2 -> 3",
-        "signal 3 0 -> 0",
-        "leave 0 -> 3",
-        "leave 3 -> free",
-    ];
-    check(&rt, "monitor 4 1", &rows)
+fn least_priority_longest_waiting(rt: HostRuntime) {
+    let rows = "enter 0 -> 0
+wait 0 0 5 -> free
+enter 1 -> 1
+wait 1 0 3 -> free
+enter 2 -> 2
+wait 2 0 3 -> free
+enter 3 -> 3
+queue 0 -> true
+first 0 -> 3
+signal 3 0 -> 1
+leave 1 -> 3
+signal 3 0 -> 2
+leave 2 -> 3
+signal 3 0 -> 0
+leave 0 -> 3
+leave 3 -> free
+";
+    check(&rt, "monitor 4 1", rows);
 }
 
 #[test]
-fn two_signallers_in_turn(rt: HostRuntime) -> Result<(), Fail> {
-    let rows = [
-        "enter 0 -> 0",
-        "wait 0 0 0 -> free",
-        "enter 1 -> 1",
-        "wait 1 1 0 -> free",
-        "enter 2 -> 2",
-        "signal 2 0 -> 0",
-        "signal 0 1 -> 1",
-        "leave 1 -> 2",
-        "leave 2 -> 0",
-        "leave 0 -> free",
-    ];
-    check(&rt, "monitor 3 2", &rows)
+fn two_signallers_in_turn(rt: HostRuntime) {
+    let rows = "enter 0 -> 0
+wait 0 0 0 -> free
+enter 1 -> 1
+wait 1 1 0 -> free
+enter 2 -> 2
+signal 2 0 -> 0
+signal 0 1 -> 1
+leave 1 -> 2
+leave 2 -> 0
+leave 0 -> free
+";
+    check(&rt, "monitor 3 2", rows);
 }
 
 #[test]
-fn wait_lets_signaller_return(rt: HostRuntime) -> Result<(), Fail> {
-    let rows = [
-        "enter 0 -> 0",
-        "wait 0 0 0 -> free",
-        "enter 1 -> 1",
-        "signal 1 0 -> 0",
-        "wait 0 0 0 -> 1",
-        "leave 1 -> free",
-        "enter 0 -> refused 3",
-    ];
-    check(&rt, "monitor 2 1", &rows)
+fn wait_lets_signaller_return(rt: HostRuntime) {
+    let rows = "enter 0 -> 0
+wait 0 0 0 -> free
+enter 1 -> 1
+signal 1 0 -> 0
+wait 0 0 0 -> 1
+leave 1 -> free
+enter 0 -> refused 3
+";
+    check(&rt, "monitor 2 1", rows);
 }
 
 // The greatest number is a priority, and the next one is none.
@@ -143,96 +128,85 @@ fn greatest_priority(rt: HostRuntime) {
 }
 
 #[test]
-fn refusals_in_order(rt: HostRuntime) -> Result<(), Fail> {
-    let rows = [
-        "wait 0 0 0 -> refused 4",
-        "enter 1 -> refused 1",
-        "enter 0 -> 0",
-        "enter 0 -> refused 2",
-        "wait 0 1 0 -> refused 5",
-        "queue 1 -> refused 5",
-        "wait 0 0 0 -> free",
-    ];
-    check(&rt, "monitor 1 1", &rows)
+fn refusals_in_order(rt: HostRuntime) {
+    let rows = "wait 0 0 0 -> refused 4
+enter 1 -> refused 1
+enter 0 -> 0
+enter 0 -> refused 2
+wait 0 1 0 -> refused 5
+queue 1 -> refused 5
+wait 0 0 0 -> free
+";
+    check(&rt, "monitor 1 1", rows);
 }
 
 #[test]
-fn pass_and_leave(rt: HostRuntime) -> Result<(), Fail> {
-    let rows = [
-        "enter 0 -> 0",
-        "wait 0 0 0 -> free",
-        "enter 1 -> 1",
-        "pass 1 0 -> 0",
-        "leave 0 -> free",
-        "enter 1 -> 1",
-        "pass 1 0 -> free",
-    ];
-    check(&rt, "monitor 2 1", &rows)
+fn pass_and_leave(rt: HostRuntime) {
+    let rows = "enter 0 -> 0
+wait 0 0 0 -> free
+enter 1 -> 1
+pass 1 0 -> 0
+leave 0 -> free
+enter 1 -> 1
+pass 1 0 -> free
+";
+    check(&rt, "monitor 2 1", rows);
 }
 
-// The place comes in and waits.
-fn add_waiter<W: Write>(
-    script: &mut W,
-    answers: &mut W,
-    place: u64,
-    priority: u64,
-) -> io::Result<()> {
-    writeln!(script, "enter {place}\nwait {place} 0 {priority}")?;
-    writeln!(
-        answers,
-        "enter {place} -> {place}\nwait {place} 0 {priority} -> free"
-    )
+// Places 0 to 62 come in and wait with priorities 62 to 0, and place 63 comes in.
+fn add_waiters(rows: &mut String) -> Result<(), AllocError> {
+    for place in 0..63u64 {
+        let priority = 62 - place;
+        writeln!(
+            rows,
+            "enter {place} -> {place}\nwait {place} 0 {priority} -> free"
+        )?;
+    }
+    rows.push_str("enter 63 -> 63\n")
 }
 
-// Place 63 resumes the place, which leaves.
-fn add_resumption<W: Write>(script: &mut W, answers: &mut W, place: u64) -> io::Result<()> {
-    writeln!(script, "signal 63 0\nleave {place}")?;
-    writeln!(answers, "signal 63 0 -> {place}\nleave {place} -> 63")
+// Place 63 resumes places 62 to 0, each of which leaves, and leaves itself.
+fn add_resumptions(rows: &mut String) -> Result<(), AllocError> {
+    for place in (0..63u64).rev() {
+        writeln!(rows, "signal 63 0 -> {place}\nleave {place} -> 63")?;
+    }
+    rows.push_str("leave 63 -> free\n")
 }
 
 // Places 0 to 62 wait with priorities 62 to 0, and the last place resumes them from 62 down to 0.
 #[test]
-fn sixty_three_priorities(rt: HostRuntime) -> Result<(), Fail> {
-    let mut script = b"monitor 64 8\n".to_vec(rt.alloc())?;
-    let mut answers = Vec::new(rt.alloc());
-    for place in 0..63u64 {
-        add_waiter(&mut script, &mut answers, place, 62 - place)?;
-    }
-    add_row(&mut script, &mut answers, "enter 63 -> 63")?;
-    for place in (0..63u64).rev() {
-        add_resumption(&mut script, &mut answers, place)?;
-    }
-    add_row(&mut script, &mut answers, "leave 63 -> free")?;
-    is_answered(&rt, script.as_slice(), answers.as_slice());
-    Ok(())
+fn sixty_three_priorities(rt: HostRuntime) {
+    let mut rows = String::new(rt.alloc());
+    add_waiters(&mut rows).expect(&rt, "memory for rows");
+    add_resumptions(&mut rows).expect(&rt, "memory for rows");
+    check(&rt, "monitor 64 8", rows.as_str());
 }
 
 // The script of docs/DEFINITIONS.md that has every step, worked there by hand.
 #[test]
-fn every_step(rt: HostRuntime) -> Result<(), Fail> {
-    let rows = [
-        "enter 0 -> 0",
-        "wait 0 0 7 -> free",
-        "enter 1 -> 1",
-        "wait 1 0 7 -> free",
-        "enter 2 -> 2",
-        "wait 2 1 0 -> free",
-        "enter 3 -> 3",
-        "first 0 -> 7",
-        "queue 1 -> true",
-        "signal 3 0 -> 0",
-        "first 0 -> 7",
-        "pass 0 1 -> 2",
-        "enter 0 -> refused 2",
-        "leave 2 -> 3",
-        "pass 3 1 -> free",
-        "enter 0 -> 0",
-        "signal 0 0 -> 1",
-        "wait 1 1 5 -> 0",
-        "queue 0 -> false",
-        "first 1 -> 5",
-        "leave 0 -> free",
-        "enter 1 -> refused 3",
-    ];
-    check(&rt, "monitor 4 2", &rows)
+fn every_step(rt: HostRuntime) {
+    let rows = "enter 0 -> 0
+wait 0 0 7 -> free
+enter 1 -> 1
+wait 1 0 7 -> free
+enter 2 -> 2
+wait 2 1 0 -> free
+enter 3 -> 3
+first 0 -> 7
+queue 1 -> true
+signal 3 0 -> 0
+first 0 -> 7
+pass 0 1 -> 2
+enter 0 -> refused 2
+leave 2 -> 3
+pass 3 1 -> free
+enter 0 -> 0
+signal 0 0 -> 1
+wait 1 1 5 -> 0
+queue 0 -> false
+first 1 -> 5
+leave 0 -> free
+enter 1 -> refused 3
+";
+    check(&rt, "monitor 4 2", rows);
 }

@@ -69,11 +69,7 @@ pub fn is_full<R: Wait + Abort, M: Monitor<Alarm>>(rt: &R, m: &M, out: M::Out) -
 
 /// At the last time: nothing can be set past it, and there is no next one, but who sets it goes on at once: the time
 /// that it found.
-pub fn ends_the_clock<R: Wait + Abort, M: Monitor<Alarm>>(
-    rt: &R,
-    m: &M,
-    out: M::Out,
-) -> (M::Out, u64)
+fn ends_the_clock<R: Wait + Abort, M: Monitor<Alarm>>(rt: &R, m: &M, out: M::Out) -> (M::Out, u64)
     requires { M.is_of m.now out }
     ensures of { M.is_of m.now result.0 }
     ensures place { M.place result.0 ≡ M.place out }

@@ -221,9 +221,11 @@ fn a_pool_on_each_door(host: HostRuntime) {
 fn a_pool_has_its_limits(rt: HostRuntime) {
     for (buffers, streams) in [(0, 1), (1025, 1), (1, 0), (1, 257)] {
         let made = Pool::make(rt.alloc(), buffers, streams);
-        assert!(rt;
-            matches!(made, Err(PoolRefused::BadSize)),
-            "{buffers} and {streams}"
+        let wanted = Some(PoolRefused::BadSize);
+        expect_same(
+            &rt,
+            (buffers, streams, made.err()),
+            (buffers, streams, wanted),
         );
     }
 }

@@ -1,7 +1,7 @@
 //! Where a place is, and which of two goes on first.
 
 /// Where a place is, and since which step it waits there.
-#[derive(Clone, Copy, PartialEq, Eq)]
+#[derive(Clone, Copy)]
 pub enum Where {
     /// It is outside.
     Outside,
@@ -15,8 +15,30 @@ pub enum Where {
     Called(u64),
 }
 
-/// Whether the one goes on before the other: of two that wait on one condition the one of lesser priority, or else the
-/// one that waits longer; the signallers, each in turn, before the called, each in turn.
+/// Those that wait together, in an order.
+#[derive(Clone, Copy)]
+pub enum Group {
+    /// Who waits on a condition.
+    On(u64),
+    /// The signallers.
+    Signallers,
+    /// Who was called.
+    Called,
+}
+
+impl Where {
+    /// Whether a place that is there waits in a group.
+    pub fn is_in(self, group: Group) -> bool {
+        match (self, group) {
+            (Where::Waits(on, _, _), Group::On(condition)) => on == condition,
+            (Where::Signals(_), Group::Signallers) | (Where::Called(_), Group::Called) => true,
+            _ => false,
+        }
+    }
+}
+
+/// Whether of two in one group the one goes on before the other: on a condition the one of lesser priority, or else the
+/// one that waits longer; the signallers, and the called, each in turn.
 pub fn is_before(one: Where, other: Where) -> bool {
     match (one, other) {
         (Where::Waits(on, priority, since), Where::Waits(there, least, last)) => {
@@ -24,7 +46,6 @@ pub fn is_before(one: Where, other: Where) -> bool {
         }
         (Where::Signals(since), Where::Signals(last)) => since < last,
         (Where::Called(number), Where::Called(last)) => number < last,
-        (Where::Signals(_), Where::Called(_)) => true,
         _ => false,
     }
 }

@@ -12,9 +12,8 @@
 //! and leaves that one alone for a while.
 use crate::door::Door;
 use door_frame::departure::Departure;
-use door_frame::looks::{LOOKS_FOR_OTHERS, ROW, SPINS_FOR_OTHERS};
+use door_frame::looks::{LOOKS_FOR_OTHERS, ROW, SPINS_FOR_OTHERS, spin};
 use hoare_law::data::MonitorData;
-use std::hint;
 use std::sync::atomic::Ordering;
 
 /// Where the count of `since_handed` begins, where who handed the monitor on left it by that act.
@@ -31,7 +30,7 @@ impl<D: MonitorData> Door<D> {
         let was_handed = since_handed == BY_WHO_LEFT || since_handed == BY_WHO_STAYS;
         self.heed_nappers(was_handed || waits);
         if since_handed == BY_WHO_LEFT && !waits && self.sees(false, LOOKS_FOR_OTHERS) {
-            leave_alone();
+            spin(SPINS_FOR_OTHERS);
         }
     }
 
@@ -45,13 +44,6 @@ impl<D: MonitorData> Door<D> {
         } else if self.naps.is_one_awaited() {
             self.is_to_make_way.store(true, Ordering::Relaxed);
         }
-    }
-}
-
-/// Spins, and looks at nothing.
-fn leave_alone() {
-    for _ in 0..SPINS_FOR_OTHERS {
-        hint::spin_loop();
     }
 }
 

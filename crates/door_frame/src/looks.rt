@@ -1,7 +1,8 @@
 //! How long places look at a word before they sleep, and newcomers before they nap: the numbers of both doors, and
 //! their reasons. What was measured stands in docs/MEASURES.md, "How places wait".
+use std::hint;
 
-/// How often a place looks whether the monitor is owed to it, with the spin hint between, before it sleeps.
+/// How often a place looks whether the monitor is owed to it, with spin hints between, before it sleeps.
 #[derive(Clone, Copy)]
 pub struct Looks {
     /// One that waits on a condition.
@@ -9,25 +10,37 @@ pub struct Looks {
     /// One that signalled. Whom it resumed may have slept: until that one runs, and is gone again, takes longer than
     /// most waits of those that look.
     pub signaller: u32,
+    /// How many spin hints come between two looks.
+    pub spins: u32,
 }
 
-/// On the baton door. A look costs some nanoseconds, and a sleep with its waking several thousand: many hand-overs come
-/// while the place still looks. Where there are fewer cores than threads, more looks take the processor from the place
-/// that is waited for.
+/// On the baton door. There all look at the one word that whoever comes and goes writes: a look takes its line of the
+/// cache away from who writes next. So there is some time between two of them. All looks take some microseconds, and a
+/// sleep with its waking some more: many hand-overs come while the place still looks. Where there are fewer cores than
+/// threads, more looks take the processor from the place that is waited for.
 pub const BATON_LOOKS: Looks = Looks {
-    waiter: 1000,
-    signaller: 2000,
+    waiter: 120,
+    signaller: 250,
+    spins: 16,
 };
 
-/// On the ticket door. There newcomers that are near look too, and much longer, since exactly one of them can come in:
-/// so fewer cores are left to those that wait.
+/// On the ticket door. There each place has a word of its own, so it can look all the time. But newcomers that are near
+/// look too, and much longer, since exactly one of them can come in: so fewer cores are left to those that wait.
 pub const TICKET_LOOKS: Looks = Looks {
     waiter: 500,
     signaller: 500,
+    spins: 1,
 };
 
-/// How often a newcomer that races for the word looks so, before it spins. While it looks it has a core that who goes
-/// on may want.
+/// Lets the time of so many spin hints go by.
+pub fn spin(hints: u32) {
+    for _ in 0..hints {
+        hint::spin_loop();
+    }
+}
+
+/// How often a newcomer that races for the word looks, with a spin hint between, before it spins. While it looks it has
+/// a core that who goes on may want.
 pub const NEWCOMER_LOOKS: u32 = 100;
 
 /// How often it looks so before it naps.

@@ -16,23 +16,23 @@ ghost use Rattle.door_frame.specs.Places.{sleeper_at};
 ghost use Rattle.door_frame.specs.Steps.{due};
 ghost use Rattle.door_frame.specs.Seats.{IsAway, ComesIn};
 
+use crate::looks::spin;
 use crate::parcel::Parcel;
 use crate::plays::DoorSeat;
 use crate::turnstile::Turnstile;
 use crate::waking::Sleeper;
 use hoare_law::data::MonitorData;
-use std::hint;
 use std::sync::Wait;
 
-/// Looks so many times whether the monitor is owed to the place.
-fn look_for_turn<D: MonitorData, T: Turnstile<D>>(door: &T, place: usize, looks: u32)
+/// Looks so many times whether the monitor is owed to the place, with so many spin hints between.
+fn look_for_turn<D: MonitorData, T: Turnstile<D>>(door: &T, place: usize, looks: u32, spins: u32)
     requires { place < (T.id door.now).places }
 {
     for _ in 0..looks {
         if door.is_owed(place) {
             return;
         }
-        hint::spin_loop();
+        spin(spins);
     }
 }
 
@@ -53,7 +53,7 @@ pub fn claim<D: MonitorData, T: Turnstile<D>, R: Wait>(
     ensures table { seat.new.table_id ≡ seat.old.table_id }
     ensures came { ComesIn D.rest D.ready place (due place) seat.old.me result seat.new.me }
 {
-    look_for_turn(door, place, looks);
+    look_for_turn(door, place, looks, door.looks().spins);
     for _ in rt.forever() {
         if let Some(parcel) = door.try_claim(seat, place) {
             return parcel;

@@ -171,6 +171,7 @@ impl<D: MonitorData + Send> Monitor<D> for TicketDoor<D> {
         calls::signal(self, rt, inside, condition)
     }
 
+    #[inline(always)] // as `leave` is
     fn signal_leave<R: Wait>(
         &self,
         rt: &R,

@@ -1,5 +1,5 @@
 //! The cells of a buffer, in a ring.
-ghost use Rattle.std.specs.Prelude.{◌≡◌, ◌↔◌, ◌<◌, ◌∷◌, IsTrue, IfOk, length, replicate, Some, None};
+ghost use Rattle.std.specs.Prelude.{◌≡◌, ◌↔◌, ◌<◌, ◌+◌, ◌%◌, ◌∷◌, IsTrue, IfOk, length, replicate, Some, None};
 ghost use Rattle.plain_schedulers.specs.Buffers.{BufferHolds, added};
 
 use super::Buffer;
@@ -14,6 +14,15 @@ pub(super) fn empty_cells<T: Drop>(alloc: Global, n: usize) -> Result<Vec<Option
         cells.push(None)?;
     }
     Ok(cells)
+}
+
+// The cell that is so many from the first one on, around the end once at most.
+#[inline]
+fn around(cell: usize, size: usize) -> usize
+    requires once { cell < size + size }
+    ensures { result ≡ cell % size }
+{
+    if cell < size { cell } else { cell - size }
 }
 
 impl<T: Drop> Buffer<T> {
@@ -52,7 +61,7 @@ impl<T: Drop> Buffer<T> {
         ensures { self.new ≡ added self.old item }
     {
         self.cells[self.last] = Some(item);
-        self.last = (self.last + 1) % self.cells.len();
+        self.last = around(self.last + 1, self.cells.len());
         self.count += 1;
     }
 
@@ -63,7 +72,7 @@ impl<T: Drop> Buffer<T> {
         ensures size { self.new.size ≡ self.old.size }
     {
         let size = self.cells.len();
-        let oldest = (self.last + size - self.count) % size;
+        let oldest = around(self.last + size - self.count, size);
         let taken = self.cells[oldest].take();
         self.count -= 1;
         match taken {

@@ -10,14 +10,14 @@ overflow_sub-self g c =
 
 pub unreachable-requires : goal.unreachable-requires
 unreachable-requires g c =
-    oldest_is_in c.self.invariant (rw (← c.self.view_is) at c.requires) (omega arith) c.index_mut.ensures.value
-    (search rules)
+    oldest_is_in c.self.invariant (rw (← c.self.view_is) at c.requires) (omega arith)
+    (rw c.around-oldest.ensures at c.index_mut.ensures.value) (search rules)
 
 pub invariant_of-self : goal.invariant_of-self
-invariant_of-self g c =
-    rw c.take-taken.ensures.after (IsRing-pop c.self.invariant (rw (← c.self.view_is) at c.requires) (omega arith))
+invariant_of-self g c = rw (c.take-taken.ensures.after, c.around-oldest.ensures)
+    (IsRing-pop c.self.invariant (rw (← c.self.view_is) at c.requires) (omega arith))
 
 pub returns-clause-items : goal.returns-clause-items
-returns-clause-items g c = rw (← c.self.view_is, c.take-taken.ensures.after)
+returns-clause-items g c = rw (← c.self.view_is, c.take-taken.ensures.after, c.around-oldest.ensures)
     (items_in-pop c.in-Some.item c.self.invariant (rw (← c.self.view_is) at c.requires)
-    (omega arith) c.index_mut.ensures.value (search rules))
+    (omega arith) (rw c.around-oldest.ensures at c.index_mut.ensures.value) (search rules))

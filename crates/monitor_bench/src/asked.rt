@@ -5,7 +5,7 @@ use std::io;
 
 /// How the program is called.
 pub const USAGE: &str =
-    "usage: monitor_bench [[--ticket] [--schedulers] TURNS | --book [--orders] TURNS]";
+    "usage: monitor_bench [[--ticket] [--schedulers | --buffers] TURNS | --book [--orders] TURNS]";
 
 const NAMES: &str = "\
 enter_leave: one thread comes in, adds one and goes out
@@ -35,6 +35,8 @@ wakeme_tick_1, _60: one sleep of one tick, where 1 or 60 threads sleep again and
        TURNS each, and one more ticks whenever all of them sleep
 release_1, _60: a release of the disk head alone, as the first of a sweep on which 1 or 60 others wait for other
        cylinders, a thousandth of TURNS
+with --buffers, buffer_1_1, mesa_buffer_1_1, buffer_4_4 and mesa_buffer_4_4 alone: those of Hoare's conditions and those
+       with Mesa conditions in turn, four rows of each in one run, and their mean
 with --book, the steps of a book of queues alone, on one thread; TURNS in sum for each figure, which is their mean:
 book_enter_leave: a place comes in and goes out, where nobody waits (64 places, 8 conditions)
 book_enter_wait: a place comes in and waits on the next of eight conditions, with up to 62 others waiting
@@ -46,7 +48,8 @@ book_notify, book_broadcast_N: one of 63 is called, or all N, where 1, 8 or 63 w
 book_count_N: N that wait are counted along the chain, as a broadcast does that is told how many it called
 clock: two looks at the clock, of which a share is in each figure: once for N waits, and once for N signals
 size: the bytes of a book, without those on the heap
-bench/run compares these with other monitors; bench/schedulers takes those of the schedulers, bench/book of the book";
+bench/run compares these with other monitors; bench/schedulers takes those of the schedulers, bench/buffers of the
+       buffers in turn, bench/book of the book";
 
 /// Names the measurements.
 pub fn show(rt: &impl Print) -> io::Result<()> {
@@ -61,6 +64,8 @@ pub enum Measured {
     Monitor(DoorKind),
     /// The schedulers' procedures.
     Schedulers(DoorKind),
+    /// The buffers with conditions of either kind, in turn.
+    Buffers(DoorKind),
     /// A full book of queues.
     Book,
     /// A book under other loads.
@@ -96,8 +101,12 @@ fn asked_of_monitor(word: String, words: &mut Args) -> (Measured, String) {
         DoorKind::Baton
     };
     let (of_schedulers, word) = is_word(word, "--schedulers", words);
-    let measured = if of_schedulers {
-        Measured::Schedulers(kind)
+    if of_schedulers {
+        return (Measured::Schedulers(kind), word);
+    }
+    let (of_buffers, word) = is_word(word, "--buffers", words);
+    let measured = if of_buffers {
+        Measured::Buffers(kind)
     } else {
         Measured::Monitor(kind)
     };

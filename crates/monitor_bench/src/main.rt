@@ -1,12 +1,13 @@
 //! Measures what the calls cost. Without arguments it names its measurements; `monitor_bench TURNS` takes them on the
 //! baton door and prints a line `NAME VALUE ns` for each, with its progress on standard error; with `--ticket` before,
-//! on the ticket door; with `--schedulers` before TURNS, those of the schedulers' procedures. `monitor_bench --book
-//! TURNS` takes those of the book of queues alone; with `--orders` before TURNS, those of other loads on it, and its
-//! size in bytes.
+//! on the ticket door; with `--schedulers` before TURNS, those of the schedulers' procedures, with `--buffers` those of
+//! the buffers with conditions of either kind in turn. `monitor_bench --book TURNS` takes those of the book of queues
+//! alone; with `--orders` before TURNS, those of other loads on it, and its size in bytes.
 #![tactic(auto)]
 
 mod asked;
 mod book;
+mod buffers;
 mod disks;
 mod doors;
 mod fairness;
@@ -150,6 +151,7 @@ fn main(rt: HostRuntime) -> anyhow::Result<ExitCode> {
     match asked {
         Measured::Monitor(kind) => measure(&rt, alloc, kind, turns)?,
         Measured::Schedulers(kind) => schedulers::measure(&rt, alloc, kind, turns)?,
+        Measured::Buffers(kind) => buffers::measure(&rt, alloc, kind, turns)?,
         Measured::Book => book::measure(&rt, alloc, false, turns)?,
         Measured::BookOrders => book::measure(&rt, alloc, true, turns)?,
     }

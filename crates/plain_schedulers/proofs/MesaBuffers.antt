@@ -1,17 +1,27 @@
 -- What a process adds that tests again, and what one adds that calls another.
-use Rattle.std.proofs.Common.{◌≡◌, ℕ, Bool, refl, ap, sym, ◌∙◌}
+use Rattle.std.proofs.Common.{◌≡◌, ℕ, Bool}
 use Rattle.hoare_law.specs.declared.event.History.{History}
 use Rattle.hoare_law.specs.declared.event.Event.TheVariants.{Wait, Leave, Resume}
+use Rattle.hoare_law.specs.declared.monitor.Monitor.{Ghosts}
 use Rattle.hoare_law.specs.Events.{with_event}
 use Rattle.hoare_law.specs.Growth.{AddsTwo, Notifies}
+use Rattle.plain_schedulers.specs.Buffers.{Buffered, BufferHolds, HoldsUp}
 use Rattle.plain_schedulers.specs.MesaTraces.{Rounds, again, Tells}
 
-module _ {S : Type 0} {k k1 c : ℕ} {f g h : History S} {found now : S} where
+module _ {T : Type 0} {k k1 c : ℕ} {f g h : History (Buffered T)} {found now : Buffered T} where
   -- one more wait
-  pub Rounds-again : {held_up : S → Type 0} → Rounds k c held_up f g found → held_up found
-      → AddsTwo g (Wait k1 c 0 found) (Resume k1 c now) h → k1 ≡ k
-      → Rounds k c held_up f h now
+  pub Rounds-again : Rounds k c f g found → HoldsUp c found
+      → AddsTwo g (Wait k1 c 0 found) (Resume k1 c now) h → k1 ≡ k → Rounds k c f h now
   Rounds-again waited held adds place = again g h found now waited held (rw place at adds)
+
+module _ {Self Out In Lists T : Type 0} (M : Ghosts Self (Buffered T) Out In Lists) where
+  -- it came in by `out`, waited on c as often as what it found held it up, and stands inside at i, where nothing does
+  pub record CameFree (m : Self) (out : Out) (c : ℕ) (i : In) : Type 0 where
+    pub of : M.is_of_in m i
+    pub place : M.place_in i ≡ M.place out
+    pub holds : BufferHolds (M.data_in i)
+    pub free : HoldsUp c (M.data_in i) → ⊥
+    pub comes : Rounds (M.place out) c (M.front out) (M.front_in i) (M.data_in i)
 
 module _ {S : Type 0} {k k1 k2 c : ℕ} {s s1 s2 : S} {f f1 g h : History S} {b : Bool} where
   -- a call, and then a leave

@@ -20,6 +20,11 @@ with_items b items = record { size = b.size; items = items }
 abbrev pub added : {T : Type 0} → Buffered T → T → Buffered T
 added b x = with_items b (b.items ++ x ∷ [])
 
+-- what is in holds up who waits on the condition: for an item there is none, for room there is none
+abbrev pub HoldsUp : {T : Type 0} → ℕ → Buffered T → Type 0
+HoldsUp zero b = length b.items ≡ 0
+HoldsUp (suc c) b = length b.items ≡ b.size
+
 -- what always holds: 1 to 4096 cells, and no more items than cells
 pub record BufferHolds {T : Type 0} (b : Buffered T) : Type 0 where
   pub least : 1 ≤ b.size

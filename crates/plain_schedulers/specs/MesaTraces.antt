@@ -4,13 +4,13 @@ use Rattle.hoare_law.specs.declared.event.History.{History}
 use Rattle.hoare_law.specs.declared.event.Event.TheVariants.{Admit, Wait, Leave, Resume}
 use Rattle.hoare_law.specs.Events.{with_event}
 use Rattle.hoare_law.specs.Growth.{AddsLast, AddsTwo, Notifies}
-use Rattle.plain_schedulers.specs.Buffers.{Buffered, added, with_items}
+use Rattle.plain_schedulers.specs.Buffers.{Buffered, HoldsUp, added, with_items}
 
 -- k came in, and waited on c as often as what it found held it up; g is its front now, and found what it finds
-pub data Rounds {S : Type 0} (k c : ℕ) (held_up : S → Type 0) (f : History S) : History S → S → Type 0 where
-  entered : (g : History S) (found : S) → AddsLast f (Admit k found) g → Rounds k c held_up f g found
-  again : (g h : History S) (found now : S) → Rounds k c held_up f g found → held_up found
-      → AddsTwo g (Wait k c 0 found) (Resume k c now) h → Rounds k c held_up f h now
+pub data Rounds {T : Type 0} (k c : ℕ) (f : History (Buffered T)) : History (Buffered T) → Buffered T → Type 0 where
+  entered : (g : History (Buffered T)) (found : Buffered T) → AddsLast f (Admit k found) g → Rounds k c f g found
+  again : (g h : History (Buffered T)) (found now : Buffered T) → Rounds k c f g found → HoldsUp c found
+      → AddsTwo g (Wait k c 0 found) (Resume k c now) h → Rounds k c f h now
 
 -- k called a process that waits on c, where one did, and left, with s
 pub record Tells {S : Type 0} (k c : ℕ) (s : S) (f h : History S) : Type 0 where
@@ -24,7 +24,7 @@ pub record Tells {S : Type 0} (k c : ℕ) (s : S) (f h : History S) : Type 0 whe
 pub record MesaAppends {T : Type 0} (k : ℕ) (x : T) (f h : History (Buffered T)) : Type 0 where
   pub found : Buffered T
   pub front : History (Buffered T)
-  pub comes : Rounds k 1 (λ a. length a.items ≡ a.size) f front found
+  pub comes : Rounds k 1 f front found
   pub room : length found.items < found.size
   pub tells : Tells k 0 (added found x) front h
 
@@ -34,6 +34,6 @@ pub record MesaRemoves {T : Type 0} (k : ℕ) (x : T) (f h : History (Buffered T
   pub found : Buffered T
   pub others : List T
   pub front : History (Buffered T)
-  pub comes : Rounds k 0 (λ a. length a.items ≡ 0) f front found
+  pub comes : Rounds k 0 f front found
   pub oldest : found.items ≡ x ∷ others
   pub tells : Tells k 1 (with_items found others) front h

@@ -1,6 +1,7 @@
 //! The bounded buffer with Mesa conditions.
 ghost use Rattle.std.specs.Prelude.{◌≡◌, ◌≢◌, ◌↔◌, ◌<◌, ◌∷◌, ℕ, IsTrue, IfOk, length};
-ghost use Rattle.plain_schedulers.specs.Buffers.{BufferHolds, Makes, added};
+ghost use Rattle.hoare_law.specs.declared.event.History.{History};
+ghost use Rattle.plain_schedulers.specs.Buffers.{BufferHolds, Buffered, HoldsUp, Makes, added};
 ghost use Rattle.plain_schedulers.specs.MesaTraces.{MesaAppends, MesaRemoves, Rounds};
 
 use super::{Buffer, BufferRefused, NONEMPTY, NONFULL};
@@ -106,40 +107,41 @@ impl<T: Drop> MesaBuffer<T> {
         item
     }
 
-    // Comes in, and waits on nonfull as often as there is no room.
-    fn come_to_room<R: Wait, M: Monitor<MesaBuffer<T>>>(m: &M, rt: &R, out: M::Out) -> M::In
-        requires { M.is_of m.now out }
-        ensures of { M.is_of_in m.now result }
-        ensures place { M.place_in result ≡ M.place out }
-        ensures room { length (M.data_in result).items < (M.data_in result).size }
-        ensures comes { Rounds (M.place out) 1 (λ a. length a.items ≡ a.size) (M.front out)
-            (M.front_in result) (M.data_in result) }
+    // Whether what is in holds up who waits on the condition.
+    fn holds_up(&self, condition: usize) -> bool
+        ensures { IsTrue result ↔ HoldsUp condition self.now }
     {
-        let mut inside = m.enter(rt, out);
-        'rounds: for _ in rt.forever() {
-            if !m.state(&inside).is_full() {
-                return inside;
-            }
-            inside = m.wait(rt, inside, NONFULL, PLAIN);
+        if condition == NONEMPTY {
+            return self.is_empty();
         }
-        unreachable!()
+        self.is_full()
     }
 
-    // Comes in, and waits on nonempty as often as there is no item.
-    fn come_to_item<R: Wait, M: Monitor<MesaBuffer<T>>>(m: &M, rt: &R, out: M::Out) -> M::In
-        requires { M.is_of m.now out }
+    // Waits on the condition as often as what is found holds it up.
+    #[inline(never)] // apart, so that who needn't wait has a short way
+    fn wait_on<R: Wait, M: Monitor<MesaBuffer<T>>>(
+        m: &M,
+        rt: &R,
+        mut inside: M::In,
+        condition: usize,
+    ) -> M::In
+        requires of { M.is_of_in m.now inside }
+        requires in_range { condition < 2 }
+        requires holds { BufferHolds (M.data_in inside) }
+        requires held_up { HoldsUp condition (M.data_in inside) }
         ensures of { M.is_of_in m.now result }
-        ensures place { M.place_in result ≡ M.place out }
-        ensures some { 0 < length (M.data_in result).items }
-        ensures comes { Rounds (M.place out) 0 (λ a. length a.items ≡ 0) (M.front out)
-            (M.front_in result) (M.data_in result) }
+        ensures place { M.place_in result ≡ M.place_in inside }
+        ensures holds { BufferHolds (M.data_in result) }
+        ensures free { HoldsUp condition (M.data_in result) → ⊥ }
+        ensures comes { (f : History (Buffered T)) → Rounds (M.place_in inside) condition f
+            (M.front_in inside) (M.data_in inside)
+            → Rounds (M.place_in inside) condition f (M.front_in result) (M.data_in result) }
     {
-        let mut inside = m.enter(rt, out);
         'rounds: for _ in rt.forever() {
-            if !m.state(&inside).is_empty() {
+            inside = m.wait(rt, inside, condition, PLAIN);
+            if !m.state(&inside).holds_up(condition) {
                 return inside;
             }
-            inside = m.wait(rt, inside, NONEMPTY, PLAIN);
         }
         unreachable!()
     }
@@ -151,7 +153,10 @@ impl<T: Drop> MesaBuffer<T> {
         ensures place { M.place result ≡ M.place out }
         ensures trace { MesaAppends (M.place out) item (M.front out) (M.front result) }
     {
-        let mut inside = MesaBuffer::come_to_room(m, rt, out);
+        let mut inside = m.enter(rt, out);
+        if m.state(&inside).is_full() {
+            inside = MesaBuffer::wait_on(m, rt, inside, NONFULL);
+        }
         M::state_mut(&mut inside, m).push(item);
         m.notify(&mut inside, NONEMPTY);
         m.leave(rt, inside)
@@ -164,7 +169,10 @@ impl<T: Drop> MesaBuffer<T> {
         ensures place { M.place result.0 ≡ M.place out }
         ensures trace { MesaRemoves (M.place out) result.1 (M.front out) (M.front result.0) }
     {
-        let mut inside = MesaBuffer::come_to_item(m, rt, out);
+        let mut inside = m.enter(rt, out);
+        if m.state(&inside).is_empty() {
+            inside = MesaBuffer::wait_on(m, rt, inside, NONEMPTY);
+        }
         let item = M::state_mut(&mut inside, m).pop();
         m.notify(&mut inside, NONFULL);
         (m.leave(rt, inside), item)

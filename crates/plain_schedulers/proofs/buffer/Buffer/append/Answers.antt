@@ -1,4 +1,4 @@
-use Rattle.std.proofs.Common.{◌≡◌, ◌<◌, ◌∙◌, arith, refl, length}
+use Rattle.std.proofs.Common.{◌≡◌, ◌∙◌, arith, refl, length}
 use Rattle.std.proofs.lemmas.Bool.{iff_false}
 use Rattle.hoare_law.proofs.Came.{Came, Came-at_once, Came-waited}
 use Rattle.hoare_law.proofs.Growth.{Finishes-exit}

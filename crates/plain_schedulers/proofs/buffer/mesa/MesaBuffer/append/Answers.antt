@@ -1,15 +1,48 @@
-use Rattle.std.proofs.Common.{◌≡◌, ◌∙◌, refl}
-use Rattle.plain_schedulers.proofs.MesaBuffers.{Tells-leave}
+use Rattle.std.proofs.Common.{◌∙◌, arith}
+use Rattle.std.proofs.lemmas.Bool.{iff_false}
+use Rattle.plain_schedulers.specs.MesaTraces.{entered}
+use Rattle.plain_schedulers.proofs.MesaBuffers.{CameFree, Tells-leave}
+use Rattle.plain_schedulers.proofs.buffer.mesa.MesaBuffer.append.Given.{Over}
 use Rattle.plain_schedulers.proofs.buffer.mesa.MesaBuffer.append.Goals as goal
+use Rattle.plain_schedulers.proofs.buffer.mesa.MesaBuffer.append.Goals.{After-state_mut, then-is_full, else-is_full}
+
+-- it came in and, after as many waits as it found no room, finds room
+came : (g : Over) (c : After-state_mut g) → CameFree g.M.Monitor c.args.m.now c.args.out 1 c.if-is_full.inside
+came g c = elim c.if-is_full.branch [
+  | then-is_full w ↦
+      let waited = w.wait_on-inside.ensures in
+      rw w.inside-is (record {
+        of = waited.of;
+        place = waited.place ∙ c.enter-inside.ensures.place;
+        holds = waited.holds;
+        free = waited.free;
+        comes = (rw c.enter-inside.ensures.place at (waited.comes (g.M.Monitor.front c.args.out)))
+            (entered _ _ c.enter-inside.ensures.front);
+      })
+  | else-is_full w ↦
+      rw w.inside-is (record {
+        of = c.enter-inside.ensures.of;
+        place = c.enter-inside.ensures.place;
+        holds = c.enter-inside.ensures.rest;
+        free = rw c.state.ensures at (iff_false c.is_full.ensures w.if-is_full.false);
+        comes = entered _ _ c.enter-inside.ensures.front;
+      })
+]
+
+pub push-requires : goal.push-requires
+push-requires g c =
+    let inside = came g c in
+    rw c.state_mut.ensures.value (omega (arith, inside.holds.fits, inside.free))
 
 pub returns-clause-trace : goal.returns-clause-trace
 returns-clause-trace g c =
-    let place = (g.met.M.Monitor.keeps_place _ _ ∙ c.come_to_room-inside.ensures.place) in
+    let inside = came g (goal.at.returns-clause-trace g c).After-state_mut in
+    let place = (g.met.M.Monitor.keeps_place _ _ ∙ inside.place) in
     let state = (g.met.M.Monitor.takes_data _ _ ∙ (rw c.state_mut.ensures.value at c.push.ensures.items)) in record {
-      found = g.M.Monitor.data_in c.come_to_room-inside.result;
-      front = g.M.Monitor.front_in c.come_to_room-inside.result;
-      comes = c.come_to_room-inside.ensures.comes;
-      room = c.come_to_room-inside.ensures.room;
+      found = g.M.Monitor.data_in c.if-is_full.inside;
+      front = g.M.Monitor.front_in c.if-is_full.inside;
+      comes = inside.comes;
+      room = omega (arith, inside.holds.fits, inside.free);
       tells = Tells-leave c.notify.ensures.front place state (g.met.M.Monitor.keeps_front _ _)
           c.leave.ensures.front (c.notify.ensures.place ∙ place) (c.notify.ensures.data ∙ state);
     }

@@ -1,18 +1,49 @@
-use Rattle.std.proofs.Common.{◌≡◌, ◌∙◌, refl}
+use Rattle.std.proofs.Common.{◌∙◌, arith}
+use Rattle.std.proofs.lemmas.Bool.{iff_false}
+use Rattle.plain_schedulers.specs.MesaTraces.{entered}
 use Rattle.plain_schedulers.proofs.Buffers.{left_of}
-use Rattle.plain_schedulers.proofs.MesaBuffers.{Tells-leave}
+use Rattle.plain_schedulers.proofs.MesaBuffers.{CameFree, Tells-leave}
+use Rattle.plain_schedulers.proofs.buffer.mesa.MesaBuffer.remove.Given.{Over}
 use Rattle.plain_schedulers.proofs.buffer.mesa.MesaBuffer.remove.Goals as goal
+use Rattle.plain_schedulers.proofs.buffer.mesa.MesaBuffer.remove.Goals.{After-state_mut, then-is_empty, else-is_empty}
+
+-- it came in and, after as many waits as it found no item, finds an item
+came : (g : Over) (c : After-state_mut g) → CameFree g.M.Monitor c.args.m.now c.args.out 0 c.if-is_empty.inside
+came g c = elim c.if-is_empty.branch [
+  | then-is_empty w ↦
+      let waited = w.wait_on-inside.ensures in
+      rw w.inside-is (record {
+        of = waited.of;
+        place = waited.place ∙ c.enter-inside.ensures.place;
+        holds = waited.holds;
+        free = waited.free;
+        comes = (rw c.enter-inside.ensures.place at (waited.comes (g.M.Monitor.front c.args.out)))
+            (entered _ _ c.enter-inside.ensures.front);
+      })
+  | else-is_empty w ↦
+      rw w.inside-is (record {
+        of = c.enter-inside.ensures.of;
+        place = c.enter-inside.ensures.place;
+        holds = c.enter-inside.ensures.rest;
+        free = rw c.state.ensures at (iff_false c.is_empty.ensures w.if-is_empty.false);
+        comes = entered _ _ c.enter-inside.ensures.front;
+      })
+]
+
+pub pop-item-requires : goal.pop-item-requires
+pop-item-requires g c = let inside = came g c in rw c.state_mut.ensures.value (omega (arith, inside.free))
 
 pub returns-clause-trace : goal.returns-clause-trace
 returns-clause-trace g c =
-    let place = (g.met.M.Monitor.keeps_place _ _ ∙ c.come_to_item-inside.ensures.place) in
+    let inside = came g (goal.at.returns-clause-trace g c).After-state_mut in
+    let place = (g.met.M.Monitor.keeps_place _ _ ∙ inside.place) in
     let state =
-    (g.met.M.Monitor.takes_data _ _ ∙ left_of (g.M.Monitor.data_in c.come_to_item-inside.result)
+    (g.met.M.Monitor.takes_data _ _ ∙ left_of (g.M.Monitor.data_in c.if-is_empty.inside)
     (rw c.state_mut.ensures.value at c.pop-item.ensures.size)) in
     record {
-      found = g.M.Monitor.data_in c.come_to_item-inside.result;
-      front = g.M.Monitor.front_in c.come_to_item-inside.result;
-      comes = c.come_to_item-inside.ensures.comes;
+      found = g.M.Monitor.data_in c.if-is_empty.inside;
+      front = g.M.Monitor.front_in c.if-is_empty.inside;
+      comes = inside.comes;
       others = c.pop-item.new.self.items;
       oldest = rw c.state_mut.ensures.value at c.pop-item.ensures.items;
       tells = Tells-leave c.notify.ensures.front place state (g.met.M.Monitor.keeps_front _ _)

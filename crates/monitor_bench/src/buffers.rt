@@ -1,0 +1,84 @@
+//! The buffers with Hoare's conditions and those with Mesa conditions, in turn in one run.
+use crate::doors::BufferLoad;
+use crate::opening::DoorKind;
+use crate::rows::{buffer_row, mesa_row};
+use crate::tell;
+use std::alloc::Global;
+use std::rt::Clock;
+use std::sync::Wait;
+use std::thread::Threads;
+use std::time::Duration;
+
+// The conditions of a buffer.
+#[derive(Clone, Copy)]
+enum Conditions {
+    Hoare,
+    Mesa,
+}
+
+// In which order the rows come: each kind stands behind the other as often as before it.
+const IN_TURN: [Conditions; 8] = [
+    Conditions::Hoare,
+    Conditions::Mesa,
+    Conditions::Mesa,
+    Conditions::Hoare,
+    Conditions::Mesa,
+    Conditions::Hoare,
+    Conditions::Hoare,
+    Conditions::Mesa,
+];
+
+// How many rows of each kind there are.
+const ROWS: u64 = 4;
+
+// How long all rows of each kind took.
+#[derive(Clone, Copy)]
+struct Spent {
+    hoare: Duration,
+    mesa: Duration,
+}
+
+// The rows at this number of places, half of which append this many items each.
+fn in_turn<R: Clock + Threads + Wait + Sync>(
+    rt: &R,
+    alloc: Global,
+    kind: DoorKind,
+    places: usize,
+    items: u64,
+) -> anyhow::Result<Spent> {
+    let mut hoare = Duration::ZERO;
+    let mut mesa = Duration::ZERO;
+    for conditions in IN_TURN {
+        match conditions {
+            Conditions::Hoare => {
+                let spent = buffer_row(rt, alloc, kind, places, BufferLoad::Shared(items))?;
+                hoare = hoare.saturating_add(spent);
+            }
+            Conditions::Mesa => {
+                let spent = mesa_row(rt, alloc, kind, places, items)?;
+                mesa = mesa.saturating_add(spent);
+            }
+        }
+    }
+    Ok(Spent { hoare, mesa })
+}
+
+/// The rows of the buffers in turn: prints a line for each. A row before them isn't counted.
+pub fn measure<R: Print + Eprint + Clock + Threads + Wait + Sync>(
+    rt: &R,
+    alloc: Global,
+    kind: DoorKind,
+    turns: u64,
+) -> anyhow::Result<()> {
+    let items = turns / 100;
+    buffer_row(rt, alloc, kind, 2, BufferLoad::Shared(items))?;
+    let spent = in_turn(rt, alloc, kind, 2, items)?;
+    let all = items.saturating_mul(ROWS);
+    tell(rt, "buffer_1_1", spent.hoare, all)?;
+    tell(rt, "mesa_buffer_1_1", spent.mesa, all)?;
+    let spent = in_turn(rt, alloc, kind, 8, items)?;
+    let all = all.saturating_mul(4);
+    tell(rt, "buffer_4_4", spent.hoare, all)?;
+    tell(rt, "mesa_buffer_4_4", spent.mesa, all)?;
+    Ok(())
+}

@@ -34,14 +34,12 @@ impl<D: MonitorData> Turnstile<D> for Door<D> {
         BATON_LOOKS
     }
 
-    /// The first try stands alone: it is short enough to be inlined.
     #[inline]
     fn admit<R: Wait>(&self, rt: &R, seat: &mut DoorSeat<D>, place: usize) -> Parcel<D> {
-        if self.try_at_once(seat) {
-            return take_parcel(&self.table, seat);
+        match self.admit_at_once(seat, place) {
+            Some(parcel) => parcel,
+            None => self.admit_later(rt, seat, place),
         }
-        self.keep_trying(rt, seat);
-        take_parcel(&self.table, seat)
     }
 
     /// One try: "no" where its exchange doesn't find `FREE`.
@@ -138,9 +136,18 @@ impl<D: MonitorData + Send> Monitor<D> for Door<D> {
 
     ghost with_data = { λ i d. with_state i d };
 
+    /// As `calls::enter`, but that no call which may wait stands around the first try: behind each the compiler tests
+    /// whether it came back.
     #[inline]
     fn enter<R: Wait>(&self, rt: &R, out: DoorOut<D>) -> DoorIn<D> {
-        calls::enter(self, rt, out)
+        let (mut seat, place, sleeper) = out.into_parts();
+        match self.admit_at_once(&mut seat, place) {
+            Some(parcel) => calls::brought_in(seat, place, sleeper, parcel),
+            None => {
+                let parcel = self.admit_later(rt, &mut seat, place);
+                calls::brought_in(seat, place, sleeper, parcel)
+            }
+        }
     }
 
     #[inline]

@@ -1,5 +1,7 @@
 //! How newcomers come in.
-ghost use Rattle.std.specs.Prelude.{◌≡◌, true, false};
+ghost use Rattle.std.specs.Prelude.{◌≡◌, true, false, IfSome, IfNone};
+ghost use Rattle.hoare_law.specs.declared.event.Event.TheVariants as event;
+ghost use Rattle.door_frame.specs.Seats.{ComesIn, IsNewcomer};
 ghost use Rattle.baton_door.specs.Newcomers.{IsOutside, IsLetIn};
 
 use crate::door::Door;
@@ -7,7 +9,9 @@ use crate::rule::Admit;
 use crate::word::{DOOR, FREE, HELD};
 use crossbeam_utils::Backoff;
 use door_frame::looks::{NEWCOMER_LOOKS, SPINS, TRIES};
+use door_frame::parcel::Parcel;
 use door_frame::plays::DoorSeat;
+use door_frame::slot::take_parcel;
 use hoare_law::data::MonitorData;
 use std::sync::Wait;
 use std::sync::atomic::Ordering;
@@ -39,6 +43,39 @@ impl<D: MonitorData> Door<D> {
         ensures let_in { result ≡ true → IsLetIn D.rest D.ready seat.old.me seat.new.me }
     {
         !self.is_to_make_way.load(Ordering::Relaxed) && self.try_in(seat)
+    }
+
+    /// The first try, by which the place takes the parcel; else the seat is as it was. It is short enough to be inlined.
+    #[inline]
+    pub(crate) fn admit_at_once(&self, seat: &mut DoorSeat<D>, place: usize) -> Option<Parcel<D>>
+        requires table { seat.old.table_id ≡ self.now.table }
+        requires outside { IsNewcomer place seat.old.me }
+        ensures table { seat.new.table_id ≡ seat.old.table_id }
+        ensures came { IfSome result (λ parcel. ComesIn D.rest D.ready place (λ f. event.Admit place)
+            seat.old.me parcel seat.new.me) }
+        ensures same { IfNone result (seat.new.me ≡ seat.old.me) }
+    {
+        if !self.try_at_once(seat) {
+            return None;
+        }
+        Some(take_parcel(&self.table, seat))
+    }
+
+    /// Tries until the place is in, and takes the parcel.
+    pub(crate) fn admit_later<R: Wait>(
+        &self,
+        rt: &R,
+        seat: &mut DoorSeat<D>,
+        place: usize,
+    ) -> Parcel<D>
+        requires table { seat.old.table_id ≡ self.now.table }
+        requires outside { IsNewcomer place seat.old.me }
+        ensures table { seat.new.table_id ≡ seat.old.table_id }
+        ensures came { ComesIn D.rest D.ready place (λ f. event.Admit place) seat.old.me
+            result seat.new.me }
+    {
+        self.keep_trying(rt, seat);
+        take_parcel(&self.table, seat)
     }
 
     /// Looks at the word so many times, until it is `FREE`, or until it isn't: whether it was seen so.

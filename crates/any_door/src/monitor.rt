@@ -35,14 +35,6 @@ impl<D: MonitorData> Turnstile<D> for AnyDoor<D> {
     }
 
     #[inline]
-    fn admit<R: Wait>(&self, rt: &R, seat: &mut DoorSeat<D>, place: usize) -> Parcel<D> {
-        match self {
-            AnyDoor::Baton(door) => door.admit(rt, seat, place),
-            AnyDoor::Ticket(door) => door.admit(rt, seat, place),
-        }
-    }
-
-    #[inline]
     fn try_admit(&self, seat: &mut DoorSeat<D>, place: usize) -> Option<Parcel<D>> {
         match self {
             AnyDoor::Baton(door) => door.try_admit(seat, place),
@@ -139,7 +131,10 @@ impl<D: MonitorData + Send> Monitor<D> for AnyDoor<D> {
 
     #[inline]
     fn enter<R: Wait>(&self, rt: &R, out: Outside<D>) -> Inside<D> {
-        calls::enter(self, rt, out)
+        match self {
+            AnyDoor::Baton(door) => door.enter(rt, out),
+            AnyDoor::Ticket(door) => door.enter(rt, out),
+        }
     }
 
     #[inline]

@@ -24,6 +24,7 @@ use hoare_law::data::MonitorData;
 use hoare_law::monitor::Monitor;
 use std::marker::Brand;
 use std::sync::Wait;
+use std::sync::atomic::Ordering;
 use wait_book::book::Book;
 use wait_book::steps::Next;
 
@@ -32,14 +33,6 @@ impl<D: MonitorData> Turnstile<D> for Door<D> {
 
     fn looks(&self) -> Looks {
         BATON_LOOKS
-    }
-
-    #[inline]
-    fn admit<R: Wait>(&self, rt: &R, seat: &mut DoorSeat<D>, place: usize) -> Parcel<D> {
-        match self.admit_at_once(seat, place) {
-            Some(parcel) => parcel,
-            None => self.admit_later(rt, seat, place),
-        }
     }
 
     /// One try: "no" where its exchange doesn't find `FREE`.
@@ -136,17 +129,16 @@ impl<D: MonitorData + Send> Monitor<D> for Door<D> {
 
     ghost with_data = { λ i d. with_state i d };
 
-    /// As `calls::enter`, but that no call which may wait stands around the first try: behind each the compiler tests
-    /// whether it came back.
+    /// A try at once, as `try_enter`, behind which it keeps trying. No call that may wait stands around that try, since
+    /// behind each such call the compiler tests whether it came back.
     #[inline]
     fn enter<R: Wait>(&self, rt: &R, out: DoorOut<D>) -> DoorIn<D> {
-        let (mut seat, place, sleeper) = out.into_parts();
-        match self.admit_at_once(&mut seat, place) {
-            Some(parcel) => calls::brought_in(seat, place, sleeper, parcel),
-            None => {
-                let parcel = self.admit_later(rt, &mut seat, place);
-                calls::brought_in(seat, place, sleeper, parcel)
-            }
+        if self.is_to_make_way.load(Ordering::Relaxed) {
+            self.make_way();
+        }
+        match calls::try_enter(self, out) {
+            Ok(inside) => inside,
+            Err(out) => self.enter_later(rt, out),
         }
     }
 

@@ -1,15 +1,19 @@
 //! How newcomers come in.
-ghost use Rattle.std.specs.Prelude.{◌≡◌, true, false, IfSome, IfNone};
+ghost use Rattle.std.specs.Prelude.{◌≡◌, true, false};
 ghost use Rattle.hoare_law.specs.declared.event.Event.TheVariants as event;
-ghost use Rattle.door_frame.specs.Seats.{ComesIn, IsNewcomer};
+ghost use Rattle.hoare_law.specs.Growth.{AddsLast};
+ghost use Rattle.hoare_law.specs.Priorities.{priorities};
+ghost use Rattle.hoare_law.specs.Sizes.{kinds_of};
+ghost use Rattle.door_frame.specs.Places.{IsIn, IsOut};
 ghost use Rattle.baton_door.specs.Newcomers.{IsOutside, IsLetIn};
 
 use crate::door::Door;
+use crate::place::{DoorIn, DoorOut};
 use crate::rule::Admit;
 use crate::word::{DOOR, FREE, HELD};
 use crossbeam_utils::Backoff;
+use door_frame::calls::brought_in;
 use door_frame::looks::{NEWCOMER_LOOKS, SPINS, TRIES};
-use door_frame::parcel::Parcel;
 use door_frame::plays::DoorSeat;
 use door_frame::slot::take_parcel;
 use hoare_law::data::MonitorData;
@@ -31,51 +35,6 @@ impl<D: MonitorData> Door<D> {
             .shared
             .compare_exchange::<Admit>(seat, DOOR, FREE, HELD)
             == FREE
-    }
-
-    /// The first try, but of one that is to make way: whether the monitor was free, and the place is in.
-    #[inline]
-    pub(crate) fn try_at_once(&self, seat: &mut DoorSeat<D>) -> bool
-        requires table { seat.old.table_id ≡ self.now.table }
-        requires outside { IsOutside seat.old.me }
-        ensures table { seat.new.table_id ≡ seat.old.table_id }
-        ensures turned_away { result ≡ false → seat.new.me ≡ seat.old.me }
-        ensures let_in { result ≡ true → IsLetIn D.rest D.ready seat.old.me seat.new.me }
-    {
-        !self.is_to_make_way.load(Ordering::Relaxed) && self.try_in(seat)
-    }
-
-    /// The first try, by which the place takes the parcel; else the seat is as it was. It is short enough to be inlined.
-    #[inline]
-    pub(crate) fn admit_at_once(&self, seat: &mut DoorSeat<D>, place: usize) -> Option<Parcel<D>>
-        requires table { seat.old.table_id ≡ self.now.table }
-        requires outside { IsNewcomer place seat.old.me }
-        ensures table { seat.new.table_id ≡ seat.old.table_id }
-        ensures came { IfSome result (λ parcel. ComesIn D.rest D.ready place (λ f. event.Admit place)
-            seat.old.me parcel seat.new.me) }
-        ensures same { IfNone result (seat.new.me ≡ seat.old.me) }
-    {
-        if !self.try_at_once(seat) {
-            return None;
-        }
-        Some(take_parcel(&self.table, seat))
-    }
-
-    /// Tries until the place is in, and takes the parcel.
-    pub(crate) fn admit_later<R: Wait>(
-        &self,
-        rt: &R,
-        seat: &mut DoorSeat<D>,
-        place: usize,
-    ) -> Parcel<D>
-        requires table { seat.old.table_id ≡ self.now.table }
-        requires outside { IsNewcomer place seat.old.me }
-        ensures table { seat.new.table_id ≡ seat.old.table_id }
-        ensures came { ComesIn D.rest D.ready place (λ f. event.Admit place) seat.old.me
-            result seat.new.me }
-    {
-        self.keep_trying(rt, seat);
-        take_parcel(&self.table, seat)
     }
 
     /// Looks at the word so many times, until it is `FREE`, or until it isn't: whether it was seen so.
@@ -112,23 +71,20 @@ impl<D: MonitorData> Door<D> {
         false
     }
 
-    /// Gives the core away once, where who comes in next is to make way.
-    fn make_way(&self) {
-        if self.is_to_make_way.load(Ordering::Relaxed) {
-            self.is_to_make_way.store(false, Ordering::Relaxed);
-            thread::yield_now();
-        }
+    /// Gives the core away, since who comes in next is to make way. Then nobody is.
+    #[inline(never)] // apart, so that an enter stays small
+    pub(crate) fn make_way(&self) {
+        self.is_to_make_way.store(false, Ordering::Relaxed);
+        thread::yield_now();
     }
 
-    /// Makes way, tries until the place is in, and naps where it tried a while for nothing.
-    #[inline(never)]
-    pub(crate) fn keep_trying<R: Wait>(&self, rt: &R, seat: &mut DoorSeat<D>)
+    /// Tries until the place is in, and naps where it tried a while for nothing.
+    fn keep_trying<R: Wait>(&self, rt: &R, seat: &mut DoorSeat<D>)
         requires table { seat.old.table_id ≡ self.now.table }
         requires outside { IsOutside seat.old.me }
         ensures table { seat.new.table_id ≡ seat.old.table_id }
         ensures let_in { IsLetIn D.rest D.ready seat.old.me seat.new.me }
     {
-        self.make_way();
         for _ in rt.forever() {
             if self.try_a_while(seat) {
                 return;
@@ -136,6 +92,21 @@ impl<D: MonitorData> Door<D> {
             self.nap(rt);
         }
         unreachable!()
+    }
+
+    /// Comes in, once a try lets it.
+    #[inline(never)] // apart, so that an enter stays small
+    pub(crate) fn enter_later<R: Wait>(&self, rt: &R, out: DoorOut<D>) -> DoorIn<D>
+        requires { IsOut D.rest D.ready (kinds_of D.CONDITIONS D.MESA) self.now out }
+        ensures of { IsIn D.rest D.ready (kinds_of D.CONDITIONS D.MESA) self.now result }
+        ensures place { result.place ≡ out.place }
+        ensures rest { D.rest result.state (priorities result.front.events) }
+        ensures front { AddsLast out.front (event.Admit out.place result.state) result.front }
+    {
+        let (mut seat, place, sleeper) = out.into_parts();
+        self.keep_trying(rt, &mut seat);
+        let parcel = take_parcel(&self.table, &mut seat);
+        brought_in(seat, place, sleeper, parcel)
     }
 
     /// A nap, unless the monitor is free by now.

@@ -61,24 +61,6 @@ fn brought_back<D: MonitorData>(
     Inside::of_parts(seat, place, sleeper, parcel)
 }
 
-/// `Monitor::enter`.
-#[inline]
-pub fn enter<D: MonitorData, T: Turnstile<D>, R: Wait>(
-    door: &T,
-    rt: &R,
-    out: Outside<D>,
-) -> Inside<D>
-    requires { IsOut D.rest D.ready (kinds_of D.CONDITIONS D.MESA) (T.id door.now) out }
-    ensures of { IsIn D.rest D.ready (kinds_of D.CONDITIONS D.MESA) (T.id door.now) result }
-    ensures place { result.place ≡ out.place }
-    ensures rest { D.rest result.state (priorities result.front.events) }
-    ensures front { AddsLast out.front (event.Admit out.place result.state) result.front }
-{
-    let (mut seat, place, sleeper) = out.into_parts();
-    let parcel = door.admit(rt, &mut seat, place);
-    brought_in(seat, place, sleeper, parcel)
-}
-
 /// `Monitor::try_enter`.
 #[inline]
 pub fn try_enter<D: MonitorData, T: Turnstile<D>>(

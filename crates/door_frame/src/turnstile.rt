@@ -1,5 +1,5 @@
-//! What a door has to do with its words: let a newcomer in, also by a mere try, look whether a place is owed the
-//! monitor, let it come back, give the monitor up, and tell of a notice.
+//! What a door has to do with its words: let a newcomer in that only tries, look whether a place is owed the monitor,
+//! let it come back, give the monitor up, and tell of a notice. How a newcomer waits to come in is the door's alone.
 ghost use Rattle.std.specs.Prelude.{◌≡◌, ◌<◌, IfSome, IfNone};
 ghost use Rattle.hoare_law.specs.declared.event.History.{History};
 ghost use Rattle.hoare_law.specs.declared.event.Event.TheVariants as event;
@@ -17,7 +17,6 @@ use crate::parcel::Parcel;
 use crate::plays::DoorSeat;
 use crate::waking::Woken;
 use hoare_law::data::MonitorData;
-use std::sync::Wait;
 use wait_book::steps::Next;
 
 /// A door, as far as its words go.
@@ -27,14 +26,6 @@ pub trait Turnstile<D: MonitorData> {
 
     /// How often places look whether the monitor is owed to them, before they sleep. No clause speaks of it.
     fn looks(&self) -> Looks;
-
-    /// Lets a newcomer in as soon as it is its turn, and takes the parcel.
-    fn admit<R: Wait>(&self, rt: &R, seat: &mut DoorSeat<D>, place: usize) -> Parcel<D>
-        requires table { seat.old.table_id ≡ (id self.now).table }
-        requires outside { IsNewcomer place seat.old.me }
-        ensures table { seat.new.table_id ≡ seat.old.table_id }
-        ensures came { ComesIn D.rest D.ready place (λ f. event.Admit place) seat.old.me
-            result seat.new.me };
 
     /// Lets a newcomer in where it is its turn at this moment, and takes the parcel; else the seat is as it was. It
     /// waits for nobody.

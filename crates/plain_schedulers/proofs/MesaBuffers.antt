@@ -1,12 +1,12 @@
 -- What a process adds that tests again, and what one adds that calls another.
-use Rattle.std.proofs.Common.{◌≡◌, ℕ, Bool}
+use Rattle.std.proofs.Common.{◌≡◌, ℕ, Bool, ◌∙◌}
 use Rattle.hoare_law.specs.declared.event.History.{History}
-use Rattle.hoare_law.specs.declared.event.Event.TheVariants.{Wait, Leave, Resume}
+use Rattle.hoare_law.specs.declared.event.Event.TheVariants.{Admit, Wait, Leave, Resume}
 use Rattle.hoare_law.specs.declared.monitor.Monitor.{Ghosts}
 use Rattle.hoare_law.specs.Events.{with_event}
-use Rattle.hoare_law.specs.Growth.{AddsTwo, Notifies}
+use Rattle.hoare_law.specs.Growth.{AddsLast, AddsTwo, Notifies}
 use Rattle.plain_schedulers.specs.Buffers.{Buffered, BufferHolds, HoldsUp}
-use Rattle.plain_schedulers.specs.MesaTraces.{Rounds, again, Tells}
+use Rattle.plain_schedulers.specs.MesaTraces.{Rounds, again, entered, Tells}
 
 module _ {T : Type 0} {k k1 c : ℕ} {f g h : History (Buffered T)} {found now : Buffered T} where
   -- one more wait
@@ -22,6 +22,29 @@ module _ {Self Out In Lists T : Type 0} (M : Ghosts Self (Buffered T) Out In Lis
     pub holds : BufferHolds (M.data_in i)
     pub free : HoldsUp c (M.data_in i) → ⊥
     pub comes : Rounds (M.place out) c (M.front out) (M.front_in i) (M.data_in i)
+
+  module _ {m : Self} {out : Out} {c : ℕ} {i : In} where
+    -- nothing held it up
+    pub CameFree-at_once : M.is_of_in m i → M.place_in i ≡ M.place out → BufferHolds (M.data_in i)
+        → AddsLast (M.front out) (Admit (M.place out) (M.data_in i)) (M.front_in i) → (HoldsUp c (M.data_in i) → ⊥)
+        → CameFree m out c i
+    CameFree-at_once of place holds front free =
+        record { of = of; place = place; holds = holds; free = free; comes = entered _ _ front }
+
+    -- it was held up, and waited until nothing did
+    pub CameFree-waited : {j : In} → M.place_in i ≡ M.place out
+        → AddsLast (M.front out) (Admit (M.place out) (M.data_in i)) (M.front_in i)
+        → M.is_of_in m j → M.place_in j ≡ M.place_in i → BufferHolds (M.data_in j) → (HoldsUp c (M.data_in j) → ⊥)
+        → (Rounds (M.place_in i) c (M.front out) (M.front_in i) (M.data_in i)
+        → Rounds (M.place_in i) c (M.front out) (M.front_in j) (M.data_in j))
+        → CameFree m out c j
+    CameFree-waited came front of place holds free waited = record {
+      of = of;
+      place = place ∙ came;
+      holds = holds;
+      free = free;
+      comes = (rw came at waited) (entered _ _ front);
+    }
 
 module _ {S : Type 0} {k k1 k2 c : ℕ} {s s1 s2 : S} {f f1 g h : History S} {b : Bool} where
   -- a call, and then a leave

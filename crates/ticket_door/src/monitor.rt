@@ -34,12 +34,6 @@ impl<D: MonitorData> Turnstile<D> for TicketDoor<D> {
         TICKET_LOOKS
     }
 
-    #[inline]
-    fn admit<R: Wait>(&self, rt: &R, seat: &mut DoorSeat<D>, place: usize) -> Parcel<D> {
-        let ticket = self.draw::<Brand>(seat, place);
-        self.served::<Brand, R>(rt, seat, place, ticket)
-    }
-
     /// It shuts the gate where both words have one ticket, tries that ticket, and opens the gate again. "No" where
     /// somebody has the monitor or asked, and also where another place tries, or a word changes between the looks.
     fn try_admit(&self, seat: &mut DoorSeat<D>, place: usize) -> Option<Parcel<D>> {
@@ -139,7 +133,8 @@ impl<D: MonitorData + Send> Monitor<D> for TicketDoor<D> {
 
     #[inline]
     fn enter<R: Wait>(&self, rt: &R, out: TicketOut<D>) -> TicketIn<D> {
-        calls::enter(self, rt, out)
+        let asked = self.ask(out);
+        self.come_in(rt, asked)
     }
 
     #[inline]

@@ -106,6 +106,7 @@ impl<D: MonitorData> TicketDoor<D> {
     }
 
     /// Draws a ticket. The place is let in by it with `come_in`.
+    #[inline]
     pub fn ask(&self, out: TicketOut<D>) -> Asked<D>
         requires { IsOut D.rest D.ready (kinds_of D.CONDITIONS D.MESA) self.now.door out }
         ensures of { IsAsked D.rest D.ready (kinds_of D.CONDITIONS D.MESA) self.now result }
@@ -123,6 +124,7 @@ impl<D: MonitorData> TicketDoor<D> {
     }
 
     /// Comes in, once the ticket is served.
+    #[inline]
     pub fn come_in<R: Wait>(&self, rt: &R, asked: Asked<D>) -> TicketIn<D>
         requires { IsAsked D.rest D.ready (kinds_of D.CONDITIONS D.MESA) self.now asked }
         ensures of { IsIn D.rest D.ready (kinds_of D.CONDITIONS D.MESA) self.now.door result }

@@ -1,7 +1,6 @@
 use Rattle.std.proofs.Common.{◌∙◌, arith}
 use Rattle.std.proofs.lemmas.Bool.{iff_false}
-use Rattle.plain_schedulers.specs.MesaTraces.{entered}
-use Rattle.plain_schedulers.proofs.MesaBuffers.{CameFree, Tells-leave}
+use Rattle.plain_schedulers.proofs.MesaBuffers.{CameFree, CameFree-at_once, CameFree-waited, Tells-leave}
 use Rattle.plain_schedulers.proofs.buffer.mesa.MesaBuffer.append.Given.{Over}
 use Rattle.plain_schedulers.proofs.buffer.mesa.MesaBuffer.append.Goals as goal
 use Rattle.plain_schedulers.proofs.buffer.mesa.MesaBuffer.append.Goals.{After-state_mut, then-is_full, else-is_full}
@@ -11,22 +10,13 @@ came : (g : Over) (c : After-state_mut g) → CameFree g.M.Monitor c.args.m.now 
 came g c = elim c.if-is_full.branch [
   | then-is_full w ↦
       let waited = w.wait_on-inside.ensures in
-      rw w.inside-is (record {
-        of = waited.of;
-        place = waited.place ∙ c.enter-inside.ensures.place;
-        holds = waited.holds;
-        free = waited.free;
-        comes = (rw c.enter-inside.ensures.place at (waited.comes (g.M.Monitor.front c.args.out)))
-            (entered _ _ c.enter-inside.ensures.front);
-      })
+      rw w.inside-is
+      (CameFree-waited g.M.Monitor c.enter-inside.ensures.place c.enter-inside.ensures.front waited.of waited.place
+      waited.holds waited.free (waited.comes (g.M.Monitor.front c.args.out)))
   | else-is_full w ↦
-      rw w.inside-is (record {
-        of = c.enter-inside.ensures.of;
-        place = c.enter-inside.ensures.place;
-        holds = c.enter-inside.ensures.rest;
-        free = rw c.state.ensures at (iff_false c.is_full.ensures w.if-is_full.false);
-        comes = entered _ _ c.enter-inside.ensures.front;
-      })
+      rw w.inside-is
+      (CameFree-at_once g.M.Monitor c.enter-inside.ensures.of c.enter-inside.ensures.place c.enter-inside.ensures.rest
+      c.enter-inside.ensures.front (rw c.state.ensures at (iff_false c.is_full.ensures w.if-is_full.false)))
 ]
 
 pub push-requires : goal.push-requires

@@ -1,8 +1,7 @@
 use Rattle.std.proofs.Common.{◌∙◌, arith}
 use Rattle.std.proofs.lemmas.Bool.{iff_false}
-use Rattle.plain_schedulers.specs.MesaTraces.{entered}
 use Rattle.plain_schedulers.proofs.Buffers.{left_of}
-use Rattle.plain_schedulers.proofs.MesaBuffers.{CameFree, Tells-leave}
+use Rattle.plain_schedulers.proofs.MesaBuffers.{CameFree, CameFree-at_once, CameFree-waited, Tells-leave}
 use Rattle.plain_schedulers.proofs.buffer.mesa.MesaBuffer.remove.Given.{Over}
 use Rattle.plain_schedulers.proofs.buffer.mesa.MesaBuffer.remove.Goals as goal
 use Rattle.plain_schedulers.proofs.buffer.mesa.MesaBuffer.remove.Goals.{After-state_mut, then-is_empty, else-is_empty}
@@ -12,22 +11,13 @@ came : (g : Over) (c : After-state_mut g) → CameFree g.M.Monitor c.args.m.now 
 came g c = elim c.if-is_empty.branch [
   | then-is_empty w ↦
       let waited = w.wait_on-inside.ensures in
-      rw w.inside-is (record {
-        of = waited.of;
-        place = waited.place ∙ c.enter-inside.ensures.place;
-        holds = waited.holds;
-        free = waited.free;
-        comes = (rw c.enter-inside.ensures.place at (waited.comes (g.M.Monitor.front c.args.out)))
-            (entered _ _ c.enter-inside.ensures.front);
-      })
+      rw w.inside-is
+      (CameFree-waited g.M.Monitor c.enter-inside.ensures.place c.enter-inside.ensures.front waited.of waited.place
+      waited.holds waited.free (waited.comes (g.M.Monitor.front c.args.out)))
   | else-is_empty w ↦
-      rw w.inside-is (record {
-        of = c.enter-inside.ensures.of;
-        place = c.enter-inside.ensures.place;
-        holds = c.enter-inside.ensures.rest;
-        free = rw c.state.ensures at (iff_false c.is_empty.ensures w.if-is_empty.false);
-        comes = entered _ _ c.enter-inside.ensures.front;
-      })
+      rw w.inside-is
+      (CameFree-at_once g.M.Monitor c.enter-inside.ensures.of c.enter-inside.ensures.place c.enter-inside.ensures.rest
+      c.enter-inside.ensures.front (rw c.state.ensures at (iff_false c.is_empty.ensures w.if-is_empty.false)))
 ]
 
 pub pop-item-requires : goal.pop-item-requires

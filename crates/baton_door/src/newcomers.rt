@@ -79,6 +79,7 @@ impl<D: MonitorData> Door<D> {
     }
 
     /// Tries until the place is in, and naps where it tried a while for nothing.
+    #[inline(never)] // apart, so that an enter stays small
     fn keep_trying<R: Wait>(&self, rt: &R, seat: &mut DoorSeat<D>)
         requires table { seat.old.table_id ≡ self.now.table }
         requires outside { IsOutside seat.old.me }
@@ -95,7 +96,7 @@ impl<D: MonitorData> Door<D> {
     }
 
     /// Comes in, once a try lets it.
-    #[inline(never)] // apart, so that an enter stays small
+    #[inline] // else the place comes back through memory, which each visit clears
     pub(crate) fn enter_later<R: Wait>(&self, rt: &R, out: DoorOut<D>) -> DoorIn<D>
         requires { IsOut D.rest D.ready (kinds_of D.CONDITIONS D.MESA) self.now out }
         ensures of { IsIn D.rest D.ready (kinds_of D.CONDITIONS D.MESA) self.now result }

@@ -16,8 +16,9 @@ enum Conditions {
     Mesa,
 }
 
-// In which order the rows come: each kind stands behind the other as often as before it.
-const IN_TURN: [Conditions; 8] = [
+// In which order the rows come: each half is the other with the kinds exchanged. So what a row finds, as where the rows
+// before it left room in memory, isn't another thing for one kind.
+const IN_TURN: [Conditions; 16] = [
     Conditions::Hoare,
     Conditions::Mesa,
     Conditions::Mesa,
@@ -26,10 +27,18 @@ const IN_TURN: [Conditions; 8] = [
     Conditions::Hoare,
     Conditions::Hoare,
     Conditions::Mesa,
+    Conditions::Mesa,
+    Conditions::Hoare,
+    Conditions::Hoare,
+    Conditions::Mesa,
+    Conditions::Hoare,
+    Conditions::Mesa,
+    Conditions::Mesa,
+    Conditions::Hoare,
 ];
 
 // How many rows of each kind there are.
-const ROWS: u64 = 4;
+const ROWS: u64 = 8;
 
 // How long all rows of each kind took.
 #[derive(Clone, Copy)]

@@ -36,7 +36,7 @@ wakeme_tick_1, _60: one sleep of one tick, where 1 or 60 threads sleep again and
 release_1, _60: a release of the disk head alone, as the first of a sweep on which 1 or 60 others wait for other
        cylinders, a thousandth of TURNS
 with --buffers, buffer_1_1, mesa_buffer_1_1, buffer_4_4 and mesa_buffer_4_4 alone: those of Hoare's conditions and those
-       with Mesa conditions in turn, four rows of each in one run, and their mean
+       with Mesa conditions in turn, eight rows of each in one run, and their mean
 with --book, the steps of a book of queues alone, on one thread; TURNS in sum for each figure, which is their mean:
 book_enter_leave: a place comes in and goes out, where nobody waits (64 places, 8 conditions)
 book_enter_wait: a place comes in and waits on the next of eight conditions, with up to 62 others waiting

@@ -176,9 +176,13 @@ fn who_is_called_tests_again_on_each_door(host: HostRuntime) {
 
 #[test]
 fn a_buffer_with_mesa_conditions_has_its_limits(rt: HostRuntime) {
-    for cells in [0, 4097] {
+    for (cells, refused) in [
+        (0, Some(BufferRefused::BadSize)),
+        (1, None),
+        (4096, None),
+        (4097, Some(BufferRefused::BadSize)),
+    ] {
         let made = MesaBuffer::<u8>::make(rt.alloc(), cells);
-        let wanted = Some(BufferRefused::BadSize);
-        expect_same(&rt, (cells, made.err()), (cells, wanted));
+        expect_same(&rt, (cells, made.err()), (cells, refused));
     }
 }

@@ -87,6 +87,14 @@ module _ {D : Type 0} where
         frame.opens_at Starts Tells rest ready kinds n slots id 0 (λ _. 0) x (step slots 0 0 0 none) m is at_rest book
         (λ ws b. opened_tells kinds n x.state ws b)
 
+    -- the same where the step picks kinds that are the door's
+    pub opens_as : (picked : Kinds) → picked ≡ kinds → (slots id : ℕ) (x : Lodged D) (m : Sat D)
+        → m ≡ (Opening n, (0, Some x) ∷ []) → rest x.state nobody → IsOf x.book (opened (sizes_at picked n) tt)
+        → Allows K slots id m 0 (λ _. 0) (λ _. opens picked (step slots 0 0 0 none) m 0)
+    opens_as picked same slots id x m is at_rest book =
+        subst (λ (z : Kinds). Allows K slots id m 0 (λ _. 0) (λ _. opens z (step slots 0 0 0 none) m 0)) (sym same)
+        (opens_at slots id x m is at_rest (subst (λ (z : Kinds). IsOf x.book (opened (sizes_at z n) tt)) same book))
+
     -- k comes in by the event where the word is as expected
     comes_at : (slots id k expected : ℕ) (f : History D) (event : ℕ → History D → D → Event D) (m : Sat D)
         → m ≡ (alone k f, [])

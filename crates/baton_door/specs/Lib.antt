@@ -3,3 +3,4 @@ pub mod Rule
 pub mod Steps
 pub mod Newcomers
 pub mod Places
+pub mod StepDoors

@@ -1,7 +1,7 @@
 //! The running door: how it is made and closed.
 ghost use Rattle.std.specs.Prelude.{◌≡◌, ◌<◌, ◌≤◌, ◌⊎◌, ℕ, [], IfOk, IfErr, Some, None, All};
 ghost use Rattle.hoare_law.specs.Events.{opened};
-ghost use Rattle.hoare_law.specs.Sizes.{kinds_of, sizes_of};
+ghost use Rattle.hoare_law.specs.Sizes.{kinds_of, sizes_at, sizes_of};
 ghost use Rattle.hoare_law.specs.Priorities.{nobody};
 ghost use Rattle.wait_book.specs.Contents.{IsOf, make_refusal};
 ghost use Rattle.door_frame.specs.declared.view.View.TheVariants.{Unopened, Places};
@@ -10,12 +10,12 @@ ghost use Rattle.door_frame.specs.Places.{places_from, HasPlace, Closes};
 
 use crate::naps::Naps;
 use crate::place::DoorOut;
-use crate::rule::{BatonWords, DoorTable};
+use crate::rule::{BatonWords, DoorKey, DoorTable};
 use crate::word::{DOOR, FREE, HELD};
 use crossbeam_utils::CachePadded;
 use door_frame::making::{closed, deal, sleepers, vacant};
 use door_frame::parcel::Parcel;
-use door_frame::plays::{Begin, DoorSeat, Open};
+use door_frame::plays::{Begin, DoorSeat, KindsOf, Open, PickedKinds};
 use door_frame::slot::lay_parcel;
 use door_frame::waking::Waker;
 use hoare_law::data::MonitorData;
@@ -67,16 +67,21 @@ impl<D: MonitorData> Model for Door<D> {
 }
 
 /// The door opens: the first seat takes the empty slot, and gives it back with the data.
-fn open<D: MonitorData>(table: &DoorTable<D>, seat: &mut DoorSeat<D>, parcel: Parcel<D>)
+pub(crate) fn open<D: MonitorData, K: DoorKey<D>, J: PickedKinds>(
+    table: &DoorTable<D, K>,
+    seat: &mut DoorSeat<D>,
+    parcel: Parcel<D>,
+)
     requires table { (seat.old.table_id ≡ table.now.shared.table_id)
         × (0 < table.now.shared.table_id.words) }
-    requires seat { seat.old.me ≡ (Unopened table.now.shared.key, []) }
+    requires kinds { J.kinds ≡ K.kinds table.now.shared.key }
+    requires seat { seat.old.me ≡ (Unopened (K.places table.now.shared.key), []) }
     requires rest { D.rest parcel.state nobody }
-    requires book { IsOf parcel.book (opened (sizes_of D.CONDITIONS D.MESA table.now.shared.key) tt) }
+    requires book { IsOf parcel.book (opened (sizes_at J.kinds (K.places table.now.shared.key)) tt) }
     ensures table { seat.new.table_id ≡ seat.old.table_id }
     ensures opened { seat.new.me ≡ (
-      Places (all_know 0 table.now.shared.key
-          (opened (sizes_of D.CONDITIONS D.MESA table.now.shared.key) parcel.state)),
+      Places (all_know 0 (K.places table.now.shared.key)
+          (opened (sizes_at J.kinds (K.places table.now.shared.key)) parcel.state)),
       [],
     ) }
 {
@@ -84,7 +89,7 @@ fn open<D: MonitorData>(table: &DoorTable<D>, seat: &mut DoorSeat<D>, parcel: Pa
         .shared
         .compare_exchange::<Begin>(seat, DOOR, FREE, HELD);
     lay_parcel(table, seat, parcel);
-    table.shared.store::<Open>(seat, DOOR, FREE);
+    table.shared.store::<Open<J>>(seat, DOOR, FREE);
 }
 
 impl<D: MonitorData + Send> Door<D> {
@@ -123,7 +128,7 @@ impl<D: MonitorData + Send> Door<D> {
             Ok(made) => made,
             Err(state) => return Err((state, MakeRefused::Memory)),
         };
-        open(&table, &mut seat, parcel);
+        open::<D, usize, KindsOf<D>>(&table, &mut seat, parcel);
         let outs = deal(&table, seat, sleepers, outs, places);
         let door = Door {
             table,

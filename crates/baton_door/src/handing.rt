@@ -3,18 +3,16 @@
 ghost use Rattle.std.specs.Prelude.{◌≡◌, ◌<◌};
 ghost use Rattle.wait_book.specs.Contents.{IsPlaceBelow};
 ghost use Rattle.wait_book.specs.declared.steps.Next.TheVariants.{For};
-ghost use Rattle.door_frame.specs.Steps.{MayGive, MayNote};
+ghost use Rattle.door_frame.specs.Steps.{MayGive};
 ghost use Rattle.door_frame.specs.Places.{IsWoken, sleeper_at};
-ghost use Rattle.door_frame.specs.Seats.{GoesOut, IsBehind, StaysIn};
+ghost use Rattle.door_frame.specs.Seats.{GoesOut, IsBehind};
 
 use crate::door::Door;
 use crate::others::{handed, is_leaving, is_to_heed, is_wait};
-use crate::word::{DOOR, word_of_next};
+use crate::table_steps::lay_down;
 use door_frame::departure::Departure;
-use door_frame::notice::Notice;
 use door_frame::parcel::Parcel;
-use door_frame::plays::{DoorSeat, Give, Note, PickedEvent, PickedNotice};
-use door_frame::slot::lay_parcel;
+use door_frame::plays::{DoorSeat, PickedEvent};
 use door_frame::waking::Woken;
 use hoare_law::data::MonitorData;
 use wait_book::steps::Next;
@@ -43,7 +41,14 @@ impl<D: MonitorData> Door<D> {
             }
             Next::Free | Next::Held(_) => {
                 let since_handed = parcel.held.since_handed;
-                self.lay_down::<J>(seat, parcel, place, since_handed.wrapping_add(1), next);
+                lay_down::<D, usize, J>(
+                    &self.table,
+                    seat,
+                    parcel,
+                    place,
+                    since_handed.wrapping_add(1),
+                    next,
+                );
                 if is_to_heed(since_handed, departure) {
                     self.heed_others(since_handed, is_wait(departure));
                 }
@@ -69,50 +74,9 @@ impl<D: MonitorData> Door<D> {
         ensures away { GoesOut place J.event seat.old.me parcel.state seat.new.me }
         ensures woken { result ≡ sleeper_at self.now resumed }
     {
-        self.lay_down::<J>(seat, parcel, place, handed(leaves), Next::For(resumed));
+        let (table, next) = (&self.table, Next::For(resumed));
+        lay_down::<D, usize, J>(table, seat, parcel, place, handed(leaves), next);
         self.wake(seat, resumed)
-    }
-
-    /// Lays the parcel down, and writes who goes on.
-    #[inline(always)] // as `give` is, which calls it
-    fn lay_down<J: PickedEvent<D>>(
-        &self,
-        seat: &mut DoorSeat<D>,
-        mut parcel: Parcel<D>,
-        place: usize,
-        since_handed: u32,
-        next: Next,
-    )
-        requires table { seat.old.table_id ≡ self.now.table }
-        requires next { IsPlaceBelow self.now.places next }
-        requires event { MayGive D.rest D.ready J.event place seat.old.me parcel next }
-        ensures table { seat.new.table_id ≡ seat.old.table_id }
-        ensures away { GoesOut place J.event seat.old.me parcel.state seat.new.me }
-        ensures behind { IsBehind seat.new.me }
-    {
-        parcel.held.since_handed = since_handed;
-        lay_parcel(&self.table, seat, parcel);
-        self.table
-            .shared
-            .store::<Give<J>>(seat, DOOR, word_of_next(next));
-    }
-
-    /// A look at the word by which the place inside comes to know of an event that the call picks. What is found isn't
-    /// looked at. `parcel` and `notice` are there for the pick alone.
-    #[inline]
-    pub(crate) fn tell<J: PickedNotice<D>>(
-        &self,
-        seat: &mut DoorSeat<D>,
-        parcel: &Parcel<D>,
-        place: usize,
-        notice: Notice,
-    )
-        requires table { seat.old.table_id ≡ self.now.table }
-        requires event { MayNote D.rest D.ready J.event place seat.old.me }
-        ensures table { seat.new.table_id ≡ seat.old.table_id }
-        ensures stays { StaysIn place J.event seat.old.me seat.new.me }
-    {
-        self.table.shared.load::<Note<J>>(seat, DOOR);
     }
 
     /// Wakes a place, or lets its next sleep return at once.

@@ -10,4 +10,6 @@ mod newcomers;
 mod others;
 pub mod place;
 mod rule;
+pub mod step_door;
+mod table_steps;
 mod word;

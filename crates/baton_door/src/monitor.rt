@@ -1,5 +1,6 @@
 //! The calls of a monitor, on a door.
 ghost use Rattle.std.specs.Prelude.{◌≡◌};
+ghost use Rattle.hoare_law.specs.Sizes.{kinds_of};
 ghost use Rattle.wait_book.specs.Contents.{IsPlaceBelow};
 ghost use Rattle.door_frame.specs.Steps.{MayGive, MayNote};
 ghost use Rattle.door_frame.specs.Places.{IsWoken};
@@ -9,16 +10,15 @@ ghost use Rattle.door_frame.specs.Notices.{event_of_notice};
 
 use crate::door::Door;
 use crate::place::{DoorIn, DoorOut};
-use crate::rule::Claim;
-use crate::word::{DOOR, HELD, owed};
+use crate::table_steps;
+use crate::word::{DOOR, owed};
 use door_frame::calls;
 use door_frame::departure::Departure;
 use door_frame::looks::{BATON_LOOKS, Looks};
 use door_frame::notice::Notice;
 use door_frame::parcel::Parcel;
 use door_frame::plays::DoorSeat;
-use door_frame::slot::take_parcel;
-use door_frame::turnstile::Turnstile;
+use door_frame::turnstile::{Turnstile, Wakes};
 use door_frame::waking::Woken;
 use hoare_law::data::MonitorData;
 use hoare_law::monitor::Monitor;
@@ -31,6 +31,12 @@ use wait_book::steps::Next;
 impl<D: MonitorData> Turnstile<D> for Door<D> {
     ghost id = { λ d. d };
 
+    ghost kinds = { λ d. kinds_of D.CONDITIONS D.MESA };
+
+    type Shown = Option<Woken>;
+
+    ghost is_woken = { IsWoken };
+
     fn looks(&self) -> Looks {
         BATON_LOOKS
     }
@@ -38,10 +44,7 @@ impl<D: MonitorData> Turnstile<D> for Door<D> {
     /// One try: "no" where its exchange doesn't find `FREE`.
     #[inline]
     fn try_admit(&self, seat: &mut DoorSeat<D>, place: usize) -> Option<Parcel<D>> {
-        if !self.try_in(seat) {
-            return None;
-        }
-        Some(take_parcel(&self.table, seat))
+        table_steps::try_admit(&self.table, seat, place)
     }
 
     #[inline]
@@ -52,16 +55,7 @@ impl<D: MonitorData> Turnstile<D> for Door<D> {
     /// One test of the word: "no" where its exchange doesn't find the monitor owed to the place.
     #[inline]
     fn try_claim(&self, seat: &mut DoorSeat<D>, place: usize) -> Option<Parcel<D>> {
-        let table = &self.table;
-        let mine = owed(place);
-        if table
-            .shared
-            .compare_exchange::<Claim>(seat, DOOR, mine, HELD)
-            == mine
-        {
-            return Some(take_parcel(table, seat));
-        }
-        None
+        table_steps::try_claim(&self.table, seat, place)
     }
 
     #[inline(always)] // as `give` is, which it calls
@@ -94,14 +88,19 @@ impl<D: MonitorData> Turnstile<D> for Door<D> {
         ensures stays { StaysIn place (event_of_notice place notice parcel.now.state)
             seat.old.me seat.new.me }
     {
-        self.tell::<Brand>(seat, parcel, place, notice);
+        table_steps::tell::<D, usize, Brand>(&self.table, seat, parcel, place, notice);
     }
+}
+
+impl<D: MonitorData> Wakes<D> for Door<D> {
+    ghost woken = { λ w. w };
+
+    ghost wakes = { λ d next w is. is };
 }
 
 impl<D: MonitorData + Send> Monitor<D> for Door<D> {
     ghost use Rattle.std.specs.Prelude.{◌≡◌, ◌≢◌, ◌<◌, ℕ, refl};
     ghost use Rattle.hoare_law.specs.Priorities.{priorities};
-    ghost use Rattle.hoare_law.specs.Sizes.{kinds_of};
     ghost use Rattle.hoare_law.proofs.Priorities.{IsNonDecreasing-priorities};
     ghost use Rattle.door_frame.specs.Places.{PlaceIn, IsOut, IsIn, with_state};
 

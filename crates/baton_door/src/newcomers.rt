@@ -9,8 +9,8 @@ ghost use Rattle.baton_door.specs.Newcomers.{IsOutside, IsLetIn};
 
 use crate::door::Door;
 use crate::place::{DoorIn, DoorOut};
-use crate::rule::Admit;
-use crate::word::{DOOR, FREE, HELD};
+use crate::table_steps::try_in;
+use crate::word::{DOOR, FREE};
 use crossbeam_utils::Backoff;
 use door_frame::calls::brought_in;
 use door_frame::looks::{NEWCOMER_LOOKS, SPINS, TRIES};
@@ -22,21 +22,6 @@ use std::sync::atomic::Ordering;
 use std::{hint, thread};
 
 impl<D: MonitorData> Door<D> {
-    /// One try of a newcomer: whether the monitor was free, and the place is in.
-    #[inline]
-    pub(crate) fn try_in(&self, seat: &mut DoorSeat<D>) -> bool
-        requires table { seat.old.table_id ≡ self.now.table }
-        requires outside { IsOutside seat.old.me }
-        ensures table { seat.new.table_id ≡ seat.old.table_id }
-        ensures turned_away { result ≡ false → seat.new.me ≡ seat.old.me }
-        ensures let_in { result ≡ true → IsLetIn D.rest D.ready seat.old.me seat.new.me }
-    {
-        self.table
-            .shared
-            .compare_exchange::<Admit>(seat, DOOR, FREE, HELD)
-            == FREE
-    }
-
     /// Looks at the word so many times, until it is `FREE`, or until it isn't: whether it was seen so.
     pub(crate) fn sees(&self, free: bool, looks: u32) -> bool {
         for _ in 0..looks {
@@ -59,7 +44,7 @@ impl<D: MonitorData> Door<D> {
     {
         let backoff = Backoff::new();
         for tries in 0..TRIES {
-            if self.sees(true, NEWCOMER_LOOKS) && self.try_in(seat) {
+            if self.sees(true, NEWCOMER_LOOKS) && try_in(&self.table, seat) {
                 return true;
             }
             if tries < SPINS {

@@ -8,20 +8,53 @@ use door_frame::rule;
 use door_frame::rule::Words;
 use door_frame::view::View;
 use hoare_law::data::MonitorData;
+use hoare_law::event::Sizes;
 
-/// What the door's word says. The key is the number of places.
-pub struct BatonWords;
+/// What the table of a door keeps of the door's sizes.
+pub trait DoorKey<D> {
+    ghost use Rattle.std.specs.Prelude.{ℕ};
+    ghost use Rattle.hoare_law.specs.Sizes.{Kinds};
 
-impl<D> Words<D, usize> for BatonWords {
+    /// How many places the door has.
+    ghost places: { Self → ℕ };
+
+    /// How many conditions it has, and how many of them are Mesa conditions.
+    ghost kinds: { Self → Kinds };
+}
+
+/// The number of places. The data's type fixes the conditions.
+impl<D: MonitorData> DoorKey<D> for usize {
+    ghost use Rattle.hoare_law.specs.Sizes.{kinds_of};
+
     ghost places = { λ n. n };
 
-    ghost starts = { λ n. Starts };
+    ghost kinds = { λ n. kinds_of D.CONDITIONS D.MESA };
+}
 
-    ghost tells = { λ n. Tells };
+/// All sizes: `make` was given the conditions too.
+impl<D> DoorKey<D> for Sizes {
+    ghost use Rattle.hoare_law.specs.Sizes.{kinds_of};
+
+    ghost places = { λ s. s.places };
+
+    ghost kinds = { λ s. kinds_of s.conditions s.mesa };
+}
+
+/// What the door's word says.
+pub struct BatonWords;
+
+impl<D, K: DoorKey<D>> Words<D, K> for BatonWords {
+    ghost places = { λ k. K.places k };
+
+    ghost kinds = { λ k. K.kinds k };
+
+    ghost starts = { λ k. Starts };
+
+    ghost tells = { λ k. Tells };
 }
 
 /// The table of a door: one word in use and one slot.
-pub(crate) type DoorTable<D> = rule::DoorTable<D, usize, BatonWords>;
+pub(crate) type DoorTable<D, K = usize> = rule::DoorTable<D, K, BatonWords>;
 
 /// A newcomer comes in where the word is `FREE`.
 pub(crate) struct Admit;

@@ -1,5 +1,5 @@
 -- A place comes in: from outside, from a wait or from a signal.
-use Rattle.std.proofs.Common.{◌≡◌, ◌≢◌, ℕ, true, false, [], Option, Some, None, refl, ap, sym, ◌∙◌, subst}
+use Rattle.std.proofs.Common.{◌≡◌, ℕ, true, Option, Some, None, refl, ap, sym, ◌∙◌, subst}
 use Rattle.hoare_law.specs.declared.event.Sizes.{Sizes}
 use Rattle.hoare_law.specs.declared.event.Event.{Event}
 use Rattle.hoare_law.specs.declared.event.History.{History}
@@ -7,28 +7,24 @@ use Rattle.hoare_law.specs.declared.event.Event.TheVariants.{Admit, Wait, Signal
 use Rattle.hoare_law.specs.declared.turn.Turn.TheVariants.{Owed, Return}
 use Rattle.hoare_law.specs.Beside.Erasure.{erased}
 use Rattle.hoare_law.specs.Events.{place_of, own, newest, with_event}
-use Rattle.hoare_law.specs.Growth.{Begins, AddsLast, AddsTwo, Signals, resumed_one}
+use Rattle.hoare_law.specs.Growth.{Begins, AddsLast, Signals, resumed_one}
 use Rattle.hoare_law.specs.Sizes.{IsHoare, IsMesa, Kinds, sizes_at}
 use Rattle.hoare_law.specs.Lawful.{Rest, Ready, Stands}
 use Rattle.hoare_law.specs.Legal.{Allowed}
 use Rattle.hoare_law.specs.Priorities.{priorities}
 use Rattle.hoare_law.specs.Turns.{turn}
-use Rattle.hoare_law.specs.Waiting.{chosen}
 use Rattle.hoare_law.proofs.Entering.{own-last, turn-in, sizes-with, AddsLast-one, AddsTwo-one, finds-admit, finds-back}
 use Rattle.hoare_law.proofs.Entering.{finds-resume, finds-called}
 use Rattle.hoare_law.proofs.Events.{newest-push}
 use Rattle.hoare_law.proofs.Held.{is_inside}
-use Rattle.wait_book.specs.declared.steps.Next.{Next}
 use Rattle.wait_book.specs.declared.steps.Next.TheVariants.{For}
 use Rattle.wait_book.specs.Contents.{Contents, IsOf, next_of}
-use Rattle.wait_book.specs.Stepping.{settled, after_signal}
+use Rattle.wait_book.specs.Stepping.{settled}
 use Rattle.wait_book.proofs.WithData.{IsOf-claim}
 use Rattle.door_frame.specs.declared.parcel.Lodged.{Lodged}
-use Rattle.door_frame.specs.Departures.{place_for}
-use Rattle.door_frame.specs.Places.{Berth, DoorId, IsIn, IsOut, berth_at, PlaceIn, PlaceOut, place_in}
+use Rattle.door_frame.specs.Places.{Berth, DoorId, HandsTo, IsBack, IsAway, IsIn, IsOut, IsResumed, IsReturned, berth_at}
+use Rattle.door_frame.specs.Places.{PlaceIn, PlaceOut, place_in}
 use Rattle.door_frame.specs.Steps.{Sat, Came, awaited, due, due_by, due_from}
-use Rattle.door_frame.proofs.Departures.{Resumes, resumes_handing, chooses}
-use Rattle.door_frame.proofs.Inside.{Holds}
 
 module _ {D : Type 0} where
   -- what an enter says of the place inside
@@ -39,27 +35,18 @@ module _ {D : Type 0} where
     pub rests : rest i.state (priorities i.front.events)
     pub front : AddsLast o.front (Admit o.place i.state) i.front
 
-  -- what a wait says of the place inside
-  pub record Resumed (rest : Rest D) (ready : Ready D) (kinds : Kinds) (d : DoorId) (i : PlaceIn D) (c p : ℕ)
-      (j : PlaceIn D) : Type 0 where
-    pub of : IsIn rest ready kinds d j
-    pub place : j.place ≡ i.place
-    pub is_ready : IsHoare kinds.conditions kinds.mesa c → ready c p j.state (priorities j.front.events)
-    pub rests : IsMesa kinds.conditions kinds.mesa c → rest j.state (priorities j.front.events)
-    pub front : AddsTwo i.front (Wait i.place c p i.state) (Resume i.place c j.state) j.front
-
-  -- what a signal that resumed somebody says of the place inside
-  pub record Returned (rest : Rest D) (ready : Ready D) (kinds : Kinds) (d : DoorId) (i : PlaceIn D) (c : ℕ)
-      (j : PlaceIn D) : Type 0 where
-    pub of : IsIn rest ready kinds d j
-    pub place : j.place ≡ i.place
-    pub rests : rest j.state (priorities j.front.events)
-    pub front : Signals i.place c i.state j.state i.front j.front true
-
   -- who comes back does so from a wait or from a signal
   data ComesBack (k : ℕ) (event : D → Event D) : Type 0 where
     from_wait : (c : ℕ) → event ≡ (λ s. Resume k c s) → ComesBack k event
     from_signal : event ≡ (λ s. Back k s) → ComesBack k event
+
+  due_inside : (k : ℕ) (o : Option ℕ) (s : D) → is_inside (due_from k o s) ≡ true
+  due_inside k None s = refl
+  due_inside k (Some c) s = refl
+
+  due_mine : (k : ℕ) (o : Option ℕ) (s : D) → place_of (due_from k o s) ≡ k
+  due_mine k None s = refl
+  due_mine k (Some c) s = refl
 
   comes_back : (k : ℕ) (o : Option ℕ) → ComesBack k (due_from k o)
   comes_back k None = from_signal refl
@@ -139,68 +126,85 @@ module _ {D : Type 0} where
                 front = AddsLast-one o.place o.front c.log e refl c.begins c.own_are;
               })
 
-      module _ {i : PlaceIn D} {t : Berth} {k : ℕ} {f : History D} {me : Sat D} {x : Lodged D} where
-        after_own : (e : Event D) → Holds rest ready kinds d i t k f me x
-            → (with_event f e).sizes ≡ sizes_at kinds d.places
-        unfolding with_event
-        after_own e h = h.within.sized
+      -- a place that was gone is inside again, back from what it did last
+      pub came_back : {k : ℕ} {y : Lodged D} {m : Sat D} (o : PlaceOut D) (t : Berth) (j : PlaceIn D)
+          → IsAway rest ready kinds d o
+          → t ≡ o.berth → k ≡ o.place → (b : Came rest ready k o.front (due k o.front) y None m)
+          → j ≡ place_in t k (with_event b.log (due k o.front y.state)) y.state → IsBack rest ready kinds d o j
+      came_back {k = k} {y = y} {m = m} o t j gone berth place =
+          subst
+          (λ (i : ℕ). (b : Came rest ready i o.front (due i o.front) y None m)
+          → j ≡ place_in t i (with_event b.log (due i o.front y.state)) y.state
+          → IsBack rest ready kinds d o j) (sym place) at
+        where
+          at : (b : Came rest ready o.place o.front (due o.place o.front) y None m)
+              → j ≡ place_in t o.place (with_event b.log (due o.place o.front y.state)) y.state
+              → IsBack rest ready kinds d o j
+          at b is =
+              let log : History D = b.log in
+              let n : ℕ = o.place in
+              let last = awaited (newest (own n o.front.events)) in
+              let sized : (P : Sizes → Type 0) → P (sizes_at kinds d.places) → P log.sizes =
+              λ P asked. subst P (sym gone.sized ∙ b.begins.sizes) asked in
+              subst (IsBack rest ready kinds d o) (sym is) (record {
+                of = is_in t n o.front log (due n o.front y.state) y.state (berth ∙ gone.of) gone.sized b.begins
+                    b.stands (due_inside n last y.state) (due_mine n last y.state);
+                place = refl;
+                resumed = λ f c p s was.
+                    let w : Event D = Wait n c p s in
+                    let e : Event D = Resume n c y.state in
+                    let which : due n o.front y.state ≡ e =
+                    ap (λ (g : History D). due n g y.state) was ∙ due_own f n w y.state refl in
+                    let stands : Stands rest ready (with_event log e) =
+                    subst (λ (v : Event D). Stands rest ready (with_event log v)) which b.stands in
+                    let begins = subst (λ (g : History D). Begins g log) was b.begins in
+                    let same = b.own_are ∙ ap (λ (g : History D). own n g.events) was in
+                    subst
+                    (λ (v : Event D). IsResumed rest ready kinds n f c p s (place_in t n (with_event log v) y.state))
+                    (sym which)
+                    (record {
+                      front = AddsTwo-one n f w log e refl refl begins same;
+                      is_ready = λ hoare. finds-resume rest ready log f n c p s y.state same
+                          (sized (λ z. IsHoare z.conditions z.mesa c) hoare) stands;
+                      rests = λ called. finds-called rest ready log n c y.state
+                          (sized (λ z. IsMesa z.conditions z.mesa c) called) stands;
+                    });
+                returned = λ f c v s was.
+                    let w : Event D = Signal n c v s in
+                    let e : Event D = Back n y.state in
+                    let which : due n o.front y.state ≡ e =
+                    ap (λ (g : History D). due n g y.state) was ∙ due_own f n w y.state refl in
+                    let stands : Stands rest ready (with_event log e) =
+                    subst (λ (u : Event D). Stands rest ready (with_event log u)) which b.stands in
+                    let begins = subst (λ (g : History D). Begins g log) was b.begins in
+                    let same = b.own_are ∙ ap (λ (g : History D). own n g.events) was in
+                    subst
+                    (λ (u : Event D). IsReturned rest ready kinds n f c v s (place_in t n (with_event log u) y.state))
+                    (sym which)
+                    (record {
+                      front = AddsTwo-one n f w log e refl refl begins same;
+                      rests = finds-back rest ready log n y.state stands;
+                    });
+              })
 
-        pub resumed : {y : Lodged D} {m : Sat D} (c p : ℕ) (z : Berth) (j : PlaceIn D)
-            → Holds rest ready kinds d i t k f me x → z ≡ t
-            → (b : Came rest ready k (with_event f (Wait k c p x.state))
-            (due k (with_event f (Wait k c p x.state))) y None m)
-            → j ≡ place_in z k (with_event b.log (due k (with_event f (Wait k c p x.state)) y.state)) y.state
-            → Resumed rest ready kinds d i c p j
-        resumed {y = y} c p z j h same b is =
-            let w : Event D = Wait k c p x.state in
-            let e : Event D = Resume k c y.state in
-            let which : due k (with_event f w) y.state ≡ e = due_own f k w y.state refl in
-            let stands : Stands rest ready (with_event b.log e) =
-            subst (λ (v : Event D). Stands rest ready (with_event b.log v)) which b.stands in
-            let here : j ≡ place_in z k (with_event b.log e) y.state =
-            is ∙ ap (λ (v : Event D). place_in z k (with_event b.log v) y.state) which in
-            let sizes = after_own w h in
-            let sized : (P : Sizes → Type 0) → P (sizes_at kinds d.places) → P b.log.sizes =
-            λ P asked. subst P (sym sizes ∙ b.begins.sizes) asked in
-            subst (Resumed rest ready kinds d i c p) (sym here) (record {
-              of = is_in z k (with_event f w) b.log e y.state (same ∙ h.within.of) sizes b.begins stands refl refl;
-              place = ap (λ (v : PlaceIn D). v.place) h.seen;
-              is_ready = λ hoare. finds-resume rest ready b.log f k c p x.state y.state b.own_are
-                  (sized (λ n. IsHoare n.conditions n.mesa c) hoare) stands;
-              rests = λ called. finds-called rest ready b.log k c y.state
-                  (sized (λ n. IsMesa n.conditions n.mesa c) called) stands;
-              front =
-                  subst
-                  (λ (v : PlaceIn D). AddsTwo v.front (Wait v.place c p v.state) (Resume v.place c y.state)
-                  (with_event b.log e)) h.seen
-                  (AddsTwo-one k f w b.log e refl refl b.begins b.own_are);
-            })
+      -- back from a wait, to who knows of its beginning
+      pub waited_back : (o : PlaceOut D) (i j : PlaceIn D) (c p : ℕ) → o.place ≡ i.place
+          → o.front ≡ with_event i.front (Wait i.place c p i.state)
+          → IsBack rest ready kinds d o j
+          → IsResumed rest ready kinds i.place i.front c p i.state j
+      waited_back o i j c p place front back =
+          subst
+          (λ (k : ℕ). o.front ≡ with_event i.front (Wait k c p i.state)
+          → IsResumed rest ready kinds k i.front c p i.state j) place (back.resumed i.front c p i.state) front
 
-        pub returned : {y : Lodged D} {m : Sat D} (c : ℕ) (b : Contents) (who : Next) (z : Berth) (j : PlaceIn D)
-            → Holds rest ready kinds d i t k f me x
-            → priorities i.front.events c ≢ [] → IsOf b (after_signal (erased f) k c (chosen c (erased f).events))
-            → who ≡ next_of b.turn → z ≡ t
-            → (a : Came rest ready k (with_event f (Signal k c (place_for who) x.state))
-            (due k (with_event f (Signal k c (place_for who) x.state))) y None m)
-            → j ≡ place_in z k (with_event a.log (due k (with_event f (Signal k c (place_for who) x.state)) y.state))
-            y.state
-            → Returned rest ready kinds d i c j
-        returned {y = y} c b who z j h some book answer same a is =
-            let v : ℕ = place_for who in
-            let w : Event D = Signal k c v x.state in
-            let e : Event D = Back k y.state in
-            let r : Resumes c f who = resumes_handing false c b who h some book answer in
-            let which : due k (with_event f w) y.state ≡ e = due_own f k w y.state refl in
-            let stands : Stands rest ready (with_event a.log e) =
-            subst (λ (u : Event D). Stands rest ready (with_event a.log u)) which a.stands in
-            let here : j ≡ place_in z k (with_event a.log e) y.state =
-            is ∙ ap (λ (u : Event D). place_in z k (with_event a.log u) y.state) which in
-            let sizes = after_own w h in
-            subst (Returned rest ready kinds d i c) (sym here) (record {
-              of = is_in z k (with_event f w) a.log e y.state (same ∙ h.within.of) sizes a.begins stands refl refl;
-              place = ap (λ (u : PlaceIn D). u.place) h.seen;
-              rests = finds-back rest ready a.log k y.state stands;
-              front =
-                  subst (λ (u : PlaceIn D). Signals u.place c u.state y.state u.front (with_event a.log e) true) h.seen
-                  (resumed_one v (chooses c f who r) (AddsTwo-one k f w a.log e refl refl a.begins a.own_are));
-            })
+      -- back from a signal
+      pub signalled_back : (o : PlaceOut D) (i j : PlaceIn D) (c : ℕ) → o.place ≡ i.place → HandsTo c i o.front
+          → IsBack rest ready kinds d o j
+          → Signals i.place c i.state j.state i.front j.front true × rest j.state (priorities j.front.events)
+      signalled_back o i j c place hands back =
+          let r =
+          subst
+          (λ (k : ℕ). o.front ≡ with_event i.front (Signal k c hands.goes_on i.state)
+          → IsReturned rest ready kinds k i.front c hands.goes_on i.state j) place
+          (back.returned i.front c hands.goes_on i.state) hands.front in
+          (resumed_one hands.goes_on hands.is_chosen r.front, r.rests)

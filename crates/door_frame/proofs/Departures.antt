@@ -3,7 +3,7 @@ use Rattle.std.proofs.Common.{◌≡◌, ◌≢◌, ℕ, ◌<◌, Bool, true, fa
 use Rattle.hoare_law.specs.declared.event.Sizes.{Sizes}
 use Rattle.hoare_law.specs.declared.event.Event.{Event}
 use Rattle.hoare_law.specs.declared.event.History.{History}
-use Rattle.hoare_law.specs.declared.event.Event.TheVariants.{Wait, Pass, Leave}
+use Rattle.hoare_law.specs.declared.event.Event.TheVariants.{Wait, Signal, Pass, Leave}
 use Rattle.hoare_law.specs.declared.turn.Turn.{Turn}
 use Rattle.hoare_law.specs.declared.turn.Turn.TheVariants.{Free, Held, Owed, Return}
 use Rattle.hoare_law.specs.Beside.Erasure.{erased}
@@ -28,13 +28,14 @@ use Rattle.hoare_law.proofs.Waiters.{held-in_range}
 use Rattle.wait_book.specs.declared.steps.Next.{Next}
 use Rattle.wait_book.specs.declared.steps.Next.TheVariants as next
 use Rattle.wait_book.specs.Contents.{Contents, IsOf, next_of}
-use Rattle.wait_book.specs.Stepping.{after_pass}
+use Rattle.wait_book.specs.Stepping.{after_pass, after_signal}
 use Rattle.wait_book.proofs.Histories.{after_handing}
 use Rattle.wait_book.proofs.WithData.{next-history, turn-history, IsOf-event, IsOf-handing}
 use Rattle.door_frame.specs.declared.parcel.Lodged.{Lodged}
 use Rattle.door_frame.specs.declared.departure.Departure.TheVariants as departure
 use Rattle.door_frame.specs.Departures.{place_for, event_of}
-use Rattle.door_frame.specs.Places.{Berth, DoorId, IsOut, PlaceOut, PlaceIn, Handed, berth_at, place_in, place_out}
+use Rattle.door_frame.specs.Places.{Berth, DoorId, IsOut, IsAway, PlaceOut, PlaceIn, Handed, HandsTo, Released, waits}
+use Rattle.door_frame.specs.Places.{signalled, berth_at, place_in, place_out}
 use Rattle.door_frame.specs.Steps.{Sat, Gives, MayGive}
 use Rattle.door_frame.proofs.Inside.{Holds}
 
@@ -77,6 +78,20 @@ module _ {D : Type 0} where
     pub of : IsOut rest ready kinds d o
     pub place : o.place ≡ k
     pub front : o.front ≡ h
+
+  -- what a call that gave the monitor up for a while says of the place that is gone
+  pub record Departs (rest : Rest D) (ready : Ready D) (kinds : Kinds) (d : DoorId) (k : ℕ) (h : History D)
+      (o : PlaceOut D) : Type 0 where
+    pub of : IsAway rest ready kinds d o
+    pub place : o.place ≡ k
+    pub front : o.front ≡ h
+
+  -- what a signal that resumed somebody says of the place that is gone
+  pub record Signalled (rest : Rest D) (ready : Ready D) (kinds : Kinds) (d : DoorId) (i : PlaceIn D) (c : ℕ)
+      (o : PlaceOut D) : Type 0 where
+    pub of : IsAway rest ready kinds d o
+    pub place : o.place ≡ i.place
+    pub front : HandsTo c i o.front
 
   -- what a pass says of the place outside
   pub record Passed (rest : Rest D) (ready : Ready D) (kinds : Kinds) (d : DoorId) (i : PlaceIn D) (c : ℕ)
@@ -230,6 +245,96 @@ module _ {D : Type 0} where
           place = refl;
           front = refl;
         })
+
+    -- who goes on after the event
+    next_after : (e : Event D) (b : Contents) (who : Next) (z : Berth) (o : PlaceOut D)
+        → Holds rest ready kinds d i t k f me x
+        → IsOf b (erased (with_event f e)) → who ≡ next_of b.turn → o ≡ place_out z k (with_event f e)
+        → who ≡ next_of (turn o.front.events)
+    next_after e b who z o h book answered is =
+        next-history b (with_event f e) who book answered
+        ∙ ap (λ (p : PlaceOut D). next_of (turn p.front.events)) (sym is)
+
+    pub next_leave : (b : Contents) (who : Next) (z : Berth) (o : PlaceOut D) → Holds rest ready kinds d i t k f me x
+        → IsOf b (with_event (erased f) (Leave k tt)) → who ≡ next_of b.turn
+        → o ≡ place_out z k (with_event f (Leave k x.state)) → who ≡ next_of (turn o.front.events)
+    next_leave b who z o h book answered is =
+        next_after (Leave k x.state) b who z o h (IsOf-event b f (Leave k x.state) book) answered is
+
+    pub next_wait : (c p : ℕ) (b : Contents) (who : Next) (z : Berth) (o : PlaceOut D)
+        → Holds rest ready kinds d i t k f me x
+        → IsOf b (with_event (erased f) (Wait k c p tt)) → who ≡ next_of b.turn
+        → o ≡ place_out z k (with_event f (Wait k c p x.state)) → who ≡ next_of (turn o.front.events)
+    next_wait c p b who z o h book answered is =
+        next_after (Wait k c p x.state) b who z o h (IsOf-event b f (Wait k c p x.state) book) answered is
+
+    pub next_handing : (out : Bool) (c : ℕ) (b : Contents) (who : Next) (z : Berth) (o : PlaceOut D)
+        → Holds rest ready kinds d i t k f me x → priorities i.front.events c ≢ []
+        → IsOf b (after_handing out (erased f) k c (chosen c (erased f).events)) → who ≡ next_of b.turn
+        → o ≡ place_out z k (with_event f (handing out k c (place_for who) x.state))
+        → who ≡ next_of (turn o.front.events)
+    next_handing out c b who z o h some book answered is =
+        let r = resumes_handing out c b who h some book answered in
+        next_after (handing out k c (place_for who) x.state) b who z o h
+        (subst (λ (j : ℕ). IsOf b (erased (with_event f (handing out k c j x.state)))) (sym r.goes_on)
+        (IsOf-handing out b f k c r.chosen_one x.state r.is book)) answered is
+
+    -- the place after an event by which it is gone for a while
+    went_off : (e : Event D) (z : Berth) (o : PlaceOut D) → Holds rest ready kinds d i t k f me x
+        → Allowed f e → Owes rest ready f.events e → Released k (with_event f e) → z ≡ t
+        → o ≡ place_out z k (with_event f e)
+        → Departs rest ready kinds d k (with_event f e) o
+    went_off e z o h may owes went same is =
+        let sizes = entering.sizes-with f f e (sizes_at kinds d.places) (Begins-refl f) h.within.sized in
+        subst (Departs rest ready kinds d k (with_event f e)) (sym is) (record {
+          of = record {
+            of = same ∙ h.within.of;
+            sized = sizes;
+            below = subst (λ (m : Sizes). k < m.places) h.within.sized
+                (held-in_range f k h.within.stands.legal h.within.is_inside);
+            stands = Stands-push e h.within.stands may owes;
+            went = went;
+          };
+          place = refl;
+          front = refl;
+        })
+
+    pub waited : (c p : ℕ) (z : Berth) (o : PlaceOut D) → Holds rest ready kinds d i t k f me x
+        → c < kinds.conditions → rest i.state (joined (priorities i.front.events) c p) → z ≡ t
+        → o ≡ place_out z k (with_event f (Wait k c p x.state))
+        → Departs rest ready kinds d i.place (with_event i.front (Wait i.place c p i.state)) o
+    waited c p z o h small asked same is =
+        asked_back (λ j. Departs rest ready kinds d j.place (with_event j.front (Wait j.place c p j.state)) o) h
+        (went_off (Wait k c p x.state) z o h
+        (Allowed-wait f k c p x.state h.within.stands.legal h.within.is_inside
+        (sized_here (λ n. c < n.conditions) h small))
+        (Owes-wait rest ready f k c p x.state h.within.is_inside
+        (asked_here (λ j. rest j.state (joined (priorities j.front.events) c p)) h asked))
+        (waits f c p x.state refl) same is)
+
+    pub handed_over : (c : ℕ) (b : Contents) (who : Next) (z : Berth) (o : PlaceOut D)
+        → Holds rest ready kinds d i t k f me x → IsHoare kinds.conditions kinds.mesa c
+        → priorities i.front.events c ≢ [] → Handed ready c i
+        → IsOf b (after_signal (erased f) k c (chosen c (erased f).events)) → who ≡ next_of b.turn
+        → z ≡ t → o ≡ place_out z k (with_event f (Signal k c (place_for who) x.state))
+        → Signalled rest ready kinds d i c o
+    handed_over c b who z o h hoare some asked book is same gone =
+        let r = resumes_handing false c b who h some book is in
+        let w : ℕ = place_for who in
+        let out : Departs rest ready kinds d k (with_event f (Signal k c w x.state)) o =
+        subst
+        (λ (j : ℕ). o ≡ place_out z k (with_event f (Signal k c j x.state))
+        → Departs rest ready kinds d k (with_event f (Signal k c j x.state)) o)
+        (sym r.goes_on)
+        (went_off (Signal k c (place_of r.chosen_one) x.state) z o h
+        (allowed_handing false c r.chosen_one h hoare r.is) (owes_handing false c r.chosen_one h r.is asked)
+        (signalled f c (place_of r.chosen_one) x.state refl) same)
+        gone in record {
+          of = out.of;
+          place = asked_back (λ j. o.place ≡ j.place) h out.place;
+          front = asked_back (λ j. HandsTo c j o.front) h
+              (record { goes_on = w; is_chosen = chooses c f who r; front = out.front });
+        }
 
     pub left : (z : Berth) (o : PlaceOut D) → Holds rest ready kinds d i t k f me x
         → rest i.state (priorities i.front.events) → z ≡ t

@@ -8,7 +8,7 @@ use Rattle.hoare_law.specs.declared.event.History.{History}
 use Rattle.hoare_law.specs.Lawful.{Rest, Ready}
 use Rattle.door_frame.specs.declared.parcel.Lodged.{Lodged}
 use Rattle.door_frame.specs.Places.{berth}
-use Rattle.door_frame.specs.Seats.{IsAway}
+use Rattle.door_frame.specs.Seats.{IsEmptyHanded}
 use Rattle.door_frame.specs.Steps.{Sat, Came}
 use Rattle.door_frame.specs.declared.view.Knowledge.{Knowledge}
 use Rattle.door_frame.specs.declared.view.View.{View}
@@ -22,6 +22,11 @@ one_slot {S = S} l x e = e ∙ ap (λ (z : List (ℕ × S)). x ∷ rest z) (sym 
 -- a berth at the same table
 pub berth_as : (w : TableId) {y z : TableId} → y ≡ z → berth y w ≡ berth z w
 berth_as w same = ap (λ (z : TableId). berth z w) same
+
+-- the same with what a place of that table sleeps on
+pub berth_on : {X : Type 0} (at : TableId → X → TableId) (s : X) {y z : TableId} → y ≡ z
+    → berth y (at y s) ≡ berth z (at z s)
+berth_on at s same = ap (λ (z : TableId). berth z (at z s)) same
 
 module _ {D : Type 0} where
   abbrev slot_or : Option (Lodged D) → List (ℕ × Option (Lodged D)) → Option (Lodged D)
@@ -97,5 +102,5 @@ module _ {D : Type 0} where
     b ∙ (ap (λ (z : Sat D). (places_behind z.0, z.1)) is ∙ ap (λ (v : List (Knowledge D)). (Places v, [])) d.1),
   )
 
-  pub away_as : {j k : ℕ} {f : History D} {me : Sat D} → j ≡ k → IsAway k f me → IsAway j f me
-  away_as {f = f} {me = me} same away = subst (λ (i : ℕ). IsAway i f me) (sym same) away
+  pub away_as : {j k : ℕ} {f : History D} {me : Sat D} → j ≡ k → IsEmptyHanded k f me → IsEmptyHanded j f me
+  away_as {f = f} {me = me} same away = subst (λ (i : ℕ). IsEmptyHanded i f me) (sym same) away

@@ -4,13 +4,15 @@ use Rattle.std.specs.Prelude.{Option}
 use Rattle.std.specs.Prelude.{Some, ⊤}
 use Rattle.atomic_table.specs.Seated.{TableId}
 use Rattle.hoare_law.specs.declared.event.History.{History}
-use Rattle.hoare_law.specs.Sizes.{Kinds, sizes_at}
+use Rattle.hoare_law.specs.Sizes.{IsHoare, IsMesa, Kinds, sizes_at}
+use Rattle.hoare_law.specs.declared.event.Event.TheVariants.{Wait, Signal, Resume, Back}
 use Rattle.hoare_law.specs.declared.turn.Turn.TheVariants.{Held}
-use Rattle.hoare_law.specs.Events.{own, latest_data}
+use Rattle.hoare_law.specs.Events.{own, latest_data, with_event}
 use Rattle.hoare_law.specs.Turns.{turn, outside}
-use Rattle.hoare_law.specs.Growth.{Begins}
+use Rattle.hoare_law.specs.Growth.{Begins, AddsTwo}
 use Rattle.hoare_law.specs.Lawful.{Rest, Ready, Stands}
 use Rattle.hoare_law.specs.Priorities.{priorities, taken}
+use Rattle.hoare_law.specs.Waiting.{Chooses}
 use Rattle.wait_book.specs.declared.steps.Next.{Next}
 use Rattle.wait_book.specs.declared.steps.Next.TheVariants.{For}
 
@@ -86,6 +88,17 @@ module _ {D : Type 0} where
     pub begins : Begins o.front h
     pub own_are : own o.place h.events ≡ own o.place o.front.events
 
+  -- the place i handed the monitor to the one that is chosen on c, by a signal; its front is g then
+  pub record HandsTo (c : ℕ) (i : PlaceIn D) (g : History D) : Type 0 where
+    pub goes_on : ℕ
+    pub is_chosen : Chooses c i.front.events goes_on
+    pub front : g ≡ with_event i.front (Signal i.place c goes_on i.state)
+
+  -- what the place k did last, by which it gave the monitor up and is to come back
+  pub data Released (k : ℕ) (g : History D) : Type 0 where
+    waits : (f : History D) (c p : ℕ) (s : D) → g ≡ with_event f (Wait k c p s) → Released k g
+    signalled : (f : History D) (c w : ℕ) (s : D) → g ≡ with_event f (Signal k c w s) → Released k g
+
   module _ (rest : Rest D) (ready : Ready D) (kinds : Kinds) where
     -- the place outside is of the door: it sleeps where it is woken, and what it knows is legal and lawful, and has it
     -- outside
@@ -102,6 +115,34 @@ module _ {D : Type 0} where
       pub sized : i.front.sizes ≡ sizes_at kinds door.places
       pub stands : Stands rest ready i.front
       pub is_inside : turn i.front.events ≡ Held i.place
+
+    -- the same of a place that waits or signalled
+    pub record IsAway (door : DoorId) (o : PlaceOut D) : Type 0 where
+      pub of : o.berth ≡ berth_at door o.place
+      pub sized : o.front.sizes ≡ sizes_at kinds door.places
+      pub below : o.place < door.places
+      pub stands : Stands rest ready o.front
+      pub went : Released o.place o.front
+
+    -- the place is inside again with the data t and this front, where f was its front before it waited
+    pub record IsResumed (k : ℕ) (f : History D) (c p : ℕ) (s : D) (i : PlaceIn D) : Type 0 where
+      pub front : AddsTwo f (Wait k c p s) (Resume k c i.state) i.front
+      pub is_ready : IsHoare kinds.conditions kinds.mesa c → ready c p i.state (priorities i.front.events)
+      pub rests : IsMesa kinds.conditions kinds.mesa c → rest i.state (priorities i.front.events)
+
+    -- the same of one that signalled
+    pub record IsReturned (k : ℕ) (f : History D) (c w : ℕ) (s : D) (i : PlaceIn D) : Type 0 where
+      pub front : AddsTwo f (Signal k c w s) (Back k i.state) i.front
+      pub rests : rest i.state (priorities i.front.events)
+
+    -- the place that was gone is inside again: back from what it did last
+    pub record IsBack (door : DoorId) (o : PlaceOut D) (i : PlaceIn D) : Type 0 where
+      pub of : IsIn door i
+      pub place : i.place ≡ o.place
+      pub resumed : (f : History D) (c p : ℕ) (s : D) → o.front ≡ with_event f (Wait o.place c p s)
+          → IsResumed o.place f c p s i
+      pub returned : (f : History D) (c w : ℕ) (s : D) → o.front ≡ with_event f (Signal o.place c w s)
+          → IsReturned o.place f c w s i
 
     -- one legal and lawful history of all places of the door ends with these data
     pub record Closes (door : DoorId) (os : List (PlaceOut D)) (s : D) : Type 0 where

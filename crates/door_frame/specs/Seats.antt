@@ -13,8 +13,8 @@ use Rattle.door_frame.specs.Views.{alone}
 
 module _ {D : Type 0} where
   -- the seat of the place k, which knows f, without the slot
-  abbrev pub IsAway : ℕ → History D → Sat D → Type 0
-  IsAway k f me = me ≡ (alone k f, [])
+  abbrev pub IsEmptyHanded : ℕ → History D → Sat D → Type 0
+  IsEmptyHanded k f me = me ≡ (alone k f, [])
 
   -- the same with the slot, empty: the book in hand is of f
   abbrev pub IsInside : ℕ → History D → Sat D → Contents → Type 0
@@ -22,15 +22,15 @@ module _ {D : Type 0} where
 
   -- the seat of a place that has given the monitor up, as it knows
   abbrev pub IsBehind : Sat D → Type 0
-  IsBehind me = (k : ℕ) × (f : History D) × IsAway k f me × IsGivenUp (turn f.events)
+  IsBehind me = (k : ℕ) × (f : History D) × IsEmptyHanded k f me × IsGivenUp (turn f.events)
 
   -- the seat of the place k, which is outside
   abbrev pub IsNewcomer : ℕ → Sat D → Type 0
-  IsNewcomer k me = (f : History D) × IsAway k f me × (outside k f.events ≡ true)
+  IsNewcomer k me = (f : History D) × IsEmptyHanded k f me × (outside k f.events ≡ true)
 
   -- the seat of the place k, then outside or owed the monitor, came in by the event of its front, and took x
   abbrev pub ComesIn : Rest D → Ready D → ℕ → (History D → D → Event D) → Sat D → Lodged D → Sat D → Type 0
-  ComesIn rest ready k event me x me' = (f : History D) → IsAway k f me → Came rest ready k f (event f) x None me'
+  ComesIn rest ready k event me x me' = (f : History D) → IsEmptyHanded k f me → Came rest ready k f (event f) x None me'
 
   -- the seat of the place k, then inside, stayed inside by the event
   abbrev pub StaysIn : ℕ → (History D → Event D) → Sat D → Sat D → Type 0
@@ -39,4 +39,4 @@ module _ {D : Type 0} where
 
   -- the seat of the place k, then inside, gave up the data s by the event
   abbrev pub GoesOut : ℕ → (D → Event D) → Sat D → D → Sat D → Type 0
-  GoesOut k event me s me' = (f : History D) → me ≡ (alone k f, (0, None) ∷ []) → IsAway k (with_event f (event s)) me'
+  GoesOut k event me s me' = (f : History D) → me ≡ (alone k f, (0, None) ∷ []) → IsEmptyHanded k (with_event f (event s)) me'

@@ -4,39 +4,41 @@ ghost use Rattle.hoare_law.specs.declared.event.History.{History};
 ghost use Rattle.hoare_law.specs.declared.event.Event.TheVariants as event;
 ghost use Rattle.hoare_law.specs.Events.{with_event};
 ghost use Rattle.hoare_law.specs.Growth.{AddsLast, AddsTwo, Broadcasts, Exits, Notifies, Signals};
-ghost use Rattle.hoare_law.specs.Sizes.{IsHoare, IsMesa, kinds_of};
+ghost use Rattle.hoare_law.specs.Sizes.{IsHoare, IsMesa};
 ghost use Rattle.hoare_law.specs.Priorities.{emptied, joined, priorities, taken};
-ghost use Rattle.hoare_law.specs.declared.turn.Turn.TheVariants as turn;
-ghost use Rattle.wait_book.specs.Contents.{IsOf, priorities_on};
+ghost use Rattle.hoare_law.specs.declared.turn.Turn.TheVariants as turns;
+ghost use Rattle.hoare_law.specs.Turns.{turn};
+ghost use Rattle.wait_book.specs.Contents.{IsOf, next_of, priorities_on};
 ghost use Rattle.door_frame.specs.Notices.{IsCounted, Noted, after_notice, called_on};
-ghost use Rattle.door_frame.specs.Places.{IsOut, IsIn, Handed, berth, place_in};
+ghost use Rattle.door_frame.specs.Places.{IsOut, IsIn, IsAway, IsBack, Handed, HandsTo, berth, place_in};
 ghost use Rattle.door_frame.specs.Steps.{Came, due};
 
 use crate::departure::Departure;
 use crate::notice::Notice;
 use crate::parcel::Parcel;
 use crate::parking::claim;
-use crate::place::{Inside, Outside};
+use crate::place::{Away, Inside, Outside};
 use crate::plays::DoorSeat;
-use crate::turnstile::Turnstile;
-use crate::waking::Sleeper;
+use crate::turnstile::{Turnstile, Wakes};
+use crate::waking::Parking;
 use hoare_law::data::MonitorData;
 use std::sync::Wait;
 use wait_book::book::Book;
+use wait_book::steps::Next;
 
 /// Who was let in is inside, with the parcel.
 #[inline]
-pub fn brought_in<D: MonitorData>(
+pub fn brought_in<D: MonitorData, S: Parking>(
     seat: DoorSeat<D>,
     place: usize,
-    sleeper: Sleeper,
+    sleeper: S,
     mut parcel: Parcel<D>,
-) -> Inside<D>
+) -> Inside<D, S>
     requires came { (f : History D)
         × Came D.rest D.ready place f (event.Admit place) parcel None seat.me }
     ensures { (f : History D)
         (c : Came D.rest D.ready place f (event.Admit place) parcel None seat.me)
-        → result ≡ place_in (berth seat.table_id sleeper) place
+        → result ≡ place_in (berth seat.table_id (S.at seat.table_id sleeper)) place
         (with_event c.log (event.Admit place parcel.state)) parcel.state }
 {
     parcel.held.lodged.book.admit(place);
@@ -45,16 +47,16 @@ pub fn brought_in<D: MonitorData>(
 
 /// Who was owed the monitor is inside again, with the parcel: back from a wait or from a signal.
 #[inline]
-fn brought_back<D: MonitorData>(
+fn brought_back<D: MonitorData, S: Parking>(
     seat: DoorSeat<D>,
     place: usize,
-    sleeper: Sleeper,
+    sleeper: S,
     mut parcel: Parcel<D>,
-) -> Inside<D>
+) -> Inside<D, S>
     requires came { (f : History D)
         × Came D.rest D.ready place f (due place f) parcel None seat.me }
     ensures { (f : History D) (c : Came D.rest D.ready place f (due place f) parcel None seat.me)
-        → result ≡ place_in (berth seat.table_id sleeper) place
+        → result ≡ place_in (berth seat.table_id (S.at seat.table_id sleeper)) place
         (with_event c.log (due place f parcel.state)) parcel.state }
 {
     parcel.held.lodged.book.claim(place);
@@ -63,13 +65,13 @@ fn brought_back<D: MonitorData>(
 
 /// `Monitor::try_enter`.
 #[inline]
-pub fn try_enter<D: MonitorData, T: Turnstile<D>>(
+pub fn try_enter<D: MonitorData, T: Turnstile<D>, S: Parking>(
     door: &T,
-    out: Outside<D>,
-) -> Result<Inside<D>, Outside<D>>
-    requires { IsOut D.rest D.ready (kinds_of D.CONDITIONS D.MESA) (T.id door.now) out }
+    out: Outside<D, S>,
+) -> Result<Inside<D, S>, Outside<D, S>>
+    requires { IsOut D.rest D.ready (T.kinds door.now) (T.id door.now) out }
     ensures of { IfOk result
-        (λ i. IsIn D.rest D.ready (kinds_of D.CONDITIONS D.MESA) (T.id door.now) i) }
+        (λ i. IsIn D.rest D.ready (T.kinds door.now) (T.id door.now) i) }
     ensures place { IfOk result (λ i. i.place ≡ out.place) }
     ensures rest { IfOk result (λ i. D.rest i.state (priorities i.front.events)) }
     ensures front { IfOk result
@@ -83,41 +85,60 @@ pub fn try_enter<D: MonitorData, T: Turnstile<D>>(
     }
 }
 
-/// `Monitor::leave`.
-#[inline(always)] // else a door whose `hand_on` is in line has it called
-pub fn leave<D: MonitorData, T: Turnstile<D>>(door: &T, inside: Inside<D>) -> Outside<D>
-    requires of { IsIn D.rest D.ready (kinds_of D.CONDITIONS D.MESA) (T.id door.now) inside }
+/// `Monitor::leave`. It answers who goes on: where the door doesn't wake its places, the caller does.
+#[inline(always)] // as `leave` is
+pub fn leave_to<D: MonitorData, T: Turnstile<D>, S: Parking>(
+    door: &T,
+    inside: Inside<D, S>,
+) -> (Outside<D, S>, Next)
+    requires of { IsIn D.rest D.ready (T.kinds door.now) (T.id door.now) inside }
     requires rest { D.rest inside.state (priorities inside.front.events) }
-    ensures of { IsOut D.rest D.ready (kinds_of D.CONDITIONS D.MESA) (T.id door.now) result }
-    ensures place { result.place ≡ inside.place }
-    ensures front { result.front ≡ with_event inside.front (event.Leave inside.place inside.state) }
+    ensures of { IsOut D.rest D.ready (T.kinds door.now) (T.id door.now) result.0 }
+    ensures place { result.0.place ≡ inside.place }
+    ensures front { result.0.front
+        ≡ with_event inside.front (event.Leave inside.place inside.state) }
+    ensures next { result.1 ≡ next_of (turn result.0.front.events) }
 {
     let (mut seat, place, sleeper, mut parcel) = inside.into_parts();
     let next = parcel.held.lodged.book.leave(place);
     door.hand_on(&mut seat, parcel, place, Departure::Leave, next);
-    Outside::of_parts(seat, place, sleeper)
+    (Outside::of_parts(seat, place, sleeper), next)
 }
 
-/// `Monitor::wait`.
-pub fn wait<D: MonitorData, T: Turnstile<D>, R: Wait>(
+/// `Monitor::leave`.
+#[inline(always)] // else a door whose `hand_on` is in line has it called
+pub fn leave<D: MonitorData, T: Turnstile<D>, S: Parking>(
     door: &T,
-    rt: &R,
-    inside: Inside<D>,
+    inside: Inside<D, S>,
+) -> Outside<D, S>
+    requires of { IsIn D.rest D.ready (T.kinds door.now) (T.id door.now) inside }
+    requires rest { D.rest inside.state (priorities inside.front.events) }
+    ensures of { IsOut D.rest D.ready (T.kinds door.now) (T.id door.now) result }
+    ensures place { result.place ≡ inside.place }
+    ensures front { result.front ≡ with_event inside.front (event.Leave inside.place inside.state) }
+{
+    let (out, _) = leave_to(door, inside);
+    out
+}
+
+/// The first half of `Monitor::wait`: the place gives the monitor up, and is to come back. It answers who goes on, as
+/// `leave_to`.
+#[inline]
+pub fn begin_wait<D: MonitorData, T: Turnstile<D>, S: Parking>(
+    door: &T,
+    inside: Inside<D, S>,
     condition: usize,
     priority: u64,
-) -> Inside<D>
-    requires of { IsIn D.rest D.ready (kinds_of D.CONDITIONS D.MESA) (T.id door.now) inside }
-    requires in_range { condition < D.CONDITIONS }
+) -> (Away<D, S>, Next)
+    requires of { IsIn D.rest D.ready (T.kinds door.now) (T.id door.now) inside }
+    requires in_range { condition < (T.kinds door.now).conditions }
     requires rest { D.rest inside.state
         (joined (priorities inside.front.events) condition priority) }
-    ensures of { IsIn D.rest D.ready (kinds_of D.CONDITIONS D.MESA) (T.id door.now) result }
-    ensures place { result.place ≡ inside.place }
-    ensures ready { IsHoare D.CONDITIONS D.MESA condition
-        → D.ready condition priority result.state (priorities result.front.events) }
-    ensures rest { IsMesa D.CONDITIONS D.MESA condition
-        → D.rest result.state (priorities result.front.events) }
-    ensures front { AddsTwo inside.front (event.Wait inside.place condition priority inside.state)
-        (event.Resume inside.place condition result.state) result.front }
+    ensures of { IsAway D.rest D.ready (T.kinds door.now) (T.id door.now) result.0 }
+    ensures place { result.0.place ≡ inside.place }
+    ensures front { result.0.front
+        ≡ with_event inside.front (event.Wait inside.place condition priority inside.state) }
+    ensures next { result.1 ≡ next_of (turn result.0.front.events) }
 {
     let (mut seat, place, sleeper, mut parcel) = inside.into_parts();
     let next = parcel.held.lodged.book.wait(place, condition, priority);
@@ -128,22 +149,111 @@ pub fn wait<D: MonitorData, T: Turnstile<D>, R: Wait>(
         Departure::Wait(condition, priority),
         next,
     );
-    let parcel = claim(door, rt, &mut seat, place, &sleeper, door.looks().waiter);
+    (Away::of_parts(seat, place, sleeper), next)
+}
+
+/// The first half of `Monitor::signal`: where somebody waits there, the place hands the monitor over, and is to come
+/// back. It answers who goes on. Where nobody waits the place stays inside, as it was.
+#[inline]
+pub fn begin_signal<D: MonitorData, T: Turnstile<D>, S: Parking>(
+    door: &T,
+    inside: Inside<D, S>,
+    condition: usize,
+) -> Result<(Away<D, S>, Next), Inside<D, S>>
+    requires of { IsIn D.rest D.ready (T.kinds door.now) (T.id door.now) inside }
+    requires hoare { IsHoare (T.kinds door.now).conditions (T.kinds door.now).mesa condition }
+    requires ready { priorities inside.front.events condition ≢ []
+        → Handed D.ready condition inside }
+    ensures of { IfOk result
+        (λ r. IsAway D.rest D.ready (T.kinds door.now) (T.id door.now) r.0) }
+    ensures place { IfOk result (λ r. r.0.place ≡ inside.place) }
+    ensures some { IfOk result (λ r. priorities inside.front.events condition ≢ []) }
+    ensures front { IfOk result (λ r. HandsTo condition inside r.0.front) }
+    ensures next { IfOk result (λ r. r.1 ≡ next_of (turn r.0.front.events)) }
+    ensures nobody { IfErr result (λ i. priorities inside.front.events condition ≡ []) }
+    ensures same { IfErr result (λ i. i ≡ inside) }
+{
+    if !inside.queue(condition) {
+        return Err(inside);
+    }
+    let (mut seat, place, sleeper, mut parcel) = inside.into_parts();
+    let next = parcel.held.lodged.book.signal(place, condition);
+    door.hand_on(&mut seat, parcel, place, Departure::Signal(condition), next);
+    Ok((Away::of_parts(seat, place, sleeper), next))
+}
+
+/// The second half of `Monitor::wait` and of `Monitor::signal`, if it is its turn at this moment: the place is inside
+/// again, else it is away as before. It waits for nobody.
+#[inline]
+pub fn try_return<D: MonitorData, T: Turnstile<D>, S: Parking>(
+    door: &T,
+    away: Away<D, S>,
+) -> Result<Inside<D, S>, Away<D, S>>
+    requires { IsAway D.rest D.ready (T.kinds door.now) (T.id door.now) away }
+    ensures back { IfOk result
+        (λ i. IsBack D.rest D.ready (T.kinds door.now) (T.id door.now) away i) }
+    ensures same { IfErr result (λ g. g ≡ away) }
+{
+    let (mut seat, place, sleeper) = away.into_parts();
+    match door.try_claim(&mut seat, place) {
+        Some(parcel) => Ok(brought_back(seat, place, sleeper, parcel)),
+        None => Err(Away::of_parts(seat, place, sleeper)),
+    }
+}
+
+/// The second half, for a place that the door wakes: it waits until it is its turn.
+#[inline]
+fn come_back<D: MonitorData, T: Wakes<D>, R: Wait>(
+    door: &T,
+    rt: &R,
+    away: Away<D>,
+    looks: u32,
+) -> Inside<D>
+    requires { IsAway D.rest D.ready (T.kinds door.now) (T.id door.now) away }
+    ensures { IsBack D.rest D.ready (T.kinds door.now) (T.id door.now) away result }
+{
+    let (mut seat, place, sleeper) = away.into_parts();
+    let parcel = claim(door, rt, &mut seat, place, &sleeper, looks);
     brought_back(seat, place, sleeper, parcel)
 }
 
+/// `Monitor::wait`.
+pub fn wait<D: MonitorData, T: Wakes<D>, R: Wait>(
+    door: &T,
+    rt: &R,
+    inside: Inside<D>,
+    condition: usize,
+    priority: u64,
+) -> Inside<D>
+    requires of { IsIn D.rest D.ready (T.kinds door.now) (T.id door.now) inside }
+    requires in_range { condition < (T.kinds door.now).conditions }
+    requires rest { D.rest inside.state
+        (joined (priorities inside.front.events) condition priority) }
+    ensures of { IsIn D.rest D.ready (T.kinds door.now) (T.id door.now) result }
+    ensures place { result.place ≡ inside.place }
+    ensures ready { IsHoare (T.kinds door.now).conditions (T.kinds door.now).mesa condition
+        → D.ready condition priority result.state (priorities result.front.events) }
+    ensures rest { IsMesa (T.kinds door.now).conditions (T.kinds door.now).mesa condition
+        → D.rest result.state (priorities result.front.events) }
+    ensures front { AddsTwo inside.front (event.Wait inside.place condition priority inside.state)
+        (event.Resume inside.place condition result.state) result.front }
+{
+    let (away, _) = begin_wait(door, inside, condition, priority);
+    come_back(door, rt, away, door.looks().waiter)
+}
+
 /// `Monitor::signal`.
-pub fn signal<D: MonitorData, T: Turnstile<D>, R: Wait>(
+pub fn signal<D: MonitorData, T: Wakes<D>, R: Wait>(
     door: &T,
     rt: &R,
     inside: Inside<D>,
     condition: usize,
 ) -> (Inside<D>, bool)
-    requires of { IsIn D.rest D.ready (kinds_of D.CONDITIONS D.MESA) (T.id door.now) inside }
-    requires hoare { IsHoare D.CONDITIONS D.MESA condition }
+    requires of { IsIn D.rest D.ready (T.kinds door.now) (T.id door.now) inside }
+    requires hoare { IsHoare (T.kinds door.now).conditions (T.kinds door.now).mesa condition }
     requires ready { priorities inside.front.events condition ≢ []
         → Handed D.ready condition inside }
-    ensures of { IsIn D.rest D.ready (kinds_of D.CONDITIONS D.MESA) (T.id door.now) result.0 }
+    ensures of { IsIn D.rest D.ready (T.kinds door.now) (T.id door.now) result.0 }
     ensures place { result.0.place ≡ inside.place }
     ensures told { IsTrue result.1 ↔ (priorities inside.front.events condition ≢ []) }
     ensures rest { result.1 ≡ true → D.rest result.0.state (priorities result.0.front.events) }
@@ -151,47 +261,67 @@ pub fn signal<D: MonitorData, T: Turnstile<D>, R: Wait>(
     ensures front { Signals inside.place condition inside.state result.0.state
         inside.front result.0.front result.1 }
 {
-    if !inside.queue(condition) {
-        return (inside, false);
+    match begin_signal(door, inside, condition) {
+        Ok((away, _)) => (come_back(door, rt, away, door.looks().signaller), true),
+        Err(inside) => (inside, false),
     }
-    let (mut seat, place, sleeper, mut parcel) = inside.into_parts();
-    let next = parcel.held.lodged.book.signal(place, condition);
-    door.hand_on(&mut seat, parcel, place, Departure::Signal(condition), next);
-    let parcel = claim(door, rt, &mut seat, place, &sleeper, door.looks().signaller);
-    (brought_back(seat, place, sleeper, parcel), true)
 }
 
-/// `Monitor::signal_leave`.
-#[inline(always)] // as `leave` is, which it is where nobody waits
-pub fn signal_leave<D: MonitorData, T: Turnstile<D>>(
+/// `Monitor::signal_leave`. It answers who goes on, as `leave_to`.
+#[inline(always)] // as `signal_leave` is
+pub fn signal_leave_to<D: MonitorData, T: Turnstile<D>, S: Parking>(
     door: &T,
-    inside: Inside<D>,
+    inside: Inside<D, S>,
     condition: usize,
-) -> (Outside<D>, bool)
-    requires of { IsIn D.rest D.ready (kinds_of D.CONDITIONS D.MESA) (T.id door.now) inside }
-    requires hoare { IsHoare D.CONDITIONS D.MESA condition }
+) -> (Outside<D, S>, bool, Next)
+    requires of { IsIn D.rest D.ready (T.kinds door.now) (T.id door.now) inside }
+    requires hoare { IsHoare (T.kinds door.now).conditions (T.kinds door.now).mesa condition }
     requires ready { priorities inside.front.events condition ≢ []
         → Handed D.ready condition inside }
     requires rest { priorities inside.front.events condition ≡ []
         → D.rest inside.state (priorities inside.front.events) }
-    ensures of { IsOut D.rest D.ready (kinds_of D.CONDITIONS D.MESA) (T.id door.now) result.0 }
+    ensures of { IsOut D.rest D.ready (T.kinds door.now) (T.id door.now) result.0 }
     ensures place { result.0.place ≡ inside.place }
     ensures told { IsTrue result.1 ↔ (priorities inside.front.events condition ≢ []) }
     ensures front { Exits inside.place condition inside.state inside.front result.0.front result.1 }
+    ensures next { result.2 ≡ next_of (turn result.0.front.events) }
 {
     if !inside.queue(condition) {
-        return (leave(door, inside), false);
+        let (out, next) = leave_to(door, inside);
+        return (out, false, next);
     }
     let (mut seat, place, sleeper, mut parcel) = inside.into_parts();
     let next = parcel.held.lodged.book.pass(place, condition);
     door.hand_on(&mut seat, parcel, place, Departure::Pass(condition), next);
-    (Outside::of_parts(seat, place, sleeper), true)
+    (Outside::of_parts(seat, place, sleeper), true, next)
+}
+
+/// `Monitor::signal_leave`.
+#[inline(always)] // as `leave` is, which it is where nobody waits
+pub fn signal_leave<D: MonitorData, T: Turnstile<D>, S: Parking>(
+    door: &T,
+    inside: Inside<D, S>,
+    condition: usize,
+) -> (Outside<D, S>, bool)
+    requires of { IsIn D.rest D.ready (T.kinds door.now) (T.id door.now) inside }
+    requires hoare { IsHoare (T.kinds door.now).conditions (T.kinds door.now).mesa condition }
+    requires ready { priorities inside.front.events condition ≢ []
+        → Handed D.ready condition inside }
+    requires rest { priorities inside.front.events condition ≡ []
+        → D.rest inside.state (priorities inside.front.events) }
+    ensures of { IsOut D.rest D.ready (T.kinds door.now) (T.id door.now) result.0 }
+    ensures place { result.0.place ≡ inside.place }
+    ensures told { IsTrue result.1 ↔ (priorities inside.front.events condition ≢ []) }
+    ensures front { Exits inside.place condition inside.state inside.front result.0.front result.1 }
+{
+    let (out, told, _) = signal_leave_to(door, inside, condition);
+    (out, told)
 }
 
 /// The book calls those that the notice calls. How many they are is told of a broadcast.
 #[inline]
 fn book_calls(book: &mut Book, place: usize, notice: Notice) -> usize
-    requires inside { book.old.turn ≡ turn.Held place }
+    requires inside { book.old.turn ≡ turns.Held place }
     requires mesa { IsMesa book.old.sizes.conditions book.old.sizes.mesa (called_on notice) }
     ensures of { (h : History (Unit {0})) → IsOf book.old h
         → IsOf book.new (after_notice h place notice) }
@@ -206,11 +336,15 @@ fn book_calls(book: &mut Book, place: usize, notice: Notice) -> usize
 /// Who is inside calls those that the notice calls, where somebody waits there. How many they are is told of a
 /// broadcast.
 #[inline]
-fn call<D: MonitorData, T: Turnstile<D>>(door: &T, inside: &mut Inside<D>, notice: Notice) -> usize
-    requires of { IsIn D.rest D.ready (kinds_of D.CONDITIONS D.MESA) (T.id door.now) inside.old }
-    requires mesa { IsMesa D.CONDITIONS D.MESA (called_on notice) }
+fn call<D: MonitorData, T: Turnstile<D>, S: Parking>(
+    door: &T,
+    inside: &mut Inside<D, S>,
+    notice: Notice,
+) -> usize
+    requires of { IsIn D.rest D.ready (T.kinds door.now) (T.id door.now) inside.old }
+    requires mesa { IsMesa (T.kinds door.now).conditions (T.kinds door.now).mesa (called_on notice) }
     requires some { priorities inside.old.front.events (called_on notice) ≢ [] }
-    ensures noted { Noted D.rest D.ready (kinds_of D.CONDITIONS D.MESA) (T.id door.now)
+    ensures noted { Noted D.rest D.ready (T.kinds door.now) (T.id door.now)
         inside.old notice inside.new }
     ensures told { IsCounted notice (priorities inside.old.front.events (called_on notice)) result }
 {
@@ -221,14 +355,14 @@ fn call<D: MonitorData, T: Turnstile<D>>(door: &T, inside: &mut Inside<D>, notic
 }
 
 /// `Monitor::notify`.
-pub fn notify<D: MonitorData, T: Turnstile<D>>(
+pub fn notify<D: MonitorData, T: Turnstile<D>, S: Parking>(
     door: &T,
-    inside: &mut Inside<D>,
+    inside: &mut Inside<D, S>,
     condition: usize,
 ) -> bool
-    requires of { IsIn D.rest D.ready (kinds_of D.CONDITIONS D.MESA) (T.id door.now) inside.old }
-    requires mesa { IsMesa D.CONDITIONS D.MESA condition }
-    ensures of { IsIn D.rest D.ready (kinds_of D.CONDITIONS D.MESA) (T.id door.now) inside.new }
+    requires of { IsIn D.rest D.ready (T.kinds door.now) (T.id door.now) inside.old }
+    requires mesa { IsMesa (T.kinds door.now).conditions (T.kinds door.now).mesa condition }
+    ensures of { IsIn D.rest D.ready (T.kinds door.now) (T.id door.now) inside.new }
     ensures place { inside.new.place ≡ inside.old.place }
     ensures data { inside.new.state ≡ inside.old.state }
     ensures lists { priorities inside.new.front.events
@@ -245,14 +379,14 @@ pub fn notify<D: MonitorData, T: Turnstile<D>>(
 }
 
 /// `Monitor::broadcast`.
-pub fn broadcast<D: MonitorData, T: Turnstile<D>>(
+pub fn broadcast<D: MonitorData, T: Turnstile<D>, S: Parking>(
     door: &T,
-    inside: &mut Inside<D>,
+    inside: &mut Inside<D, S>,
     condition: usize,
 ) -> usize
-    requires of { IsIn D.rest D.ready (kinds_of D.CONDITIONS D.MESA) (T.id door.now) inside.old }
-    requires mesa { IsMesa D.CONDITIONS D.MESA condition }
-    ensures of { IsIn D.rest D.ready (kinds_of D.CONDITIONS D.MESA) (T.id door.now) inside.new }
+    requires of { IsIn D.rest D.ready (T.kinds door.now) (T.id door.now) inside.old }
+    requires mesa { IsMesa (T.kinds door.now).conditions (T.kinds door.now).mesa condition }
+    ensures of { IsIn D.rest D.ready (T.kinds door.now) (T.id door.now) inside.new }
     ensures place { inside.new.place ≡ inside.old.place }
     ensures data { inside.new.state ≡ inside.old.state }
     ensures lists { priorities inside.new.front.events

@@ -2,7 +2,6 @@
 ghost use Rattle.std.specs.Prelude.{◌≡◌, ◌<◌, ◌≤◌, ℕ, List, [], false, reverse, length, vec_len, vec_capacity, IfOk};
 ghost use Rattle.std.specs.Prelude.{IfErr, All};
 ghost use Rattle.hoare_law.specs.declared.event.History.{History};
-ghost use Rattle.hoare_law.specs.Sizes.{kinds_of};
 ghost use Rattle.hoare_law.specs.Priorities.{nobody};
 ghost use Rattle.door_frame.specs.declared.view.View.TheVariants.{Unopened, Places};
 ghost use Rattle.door_frame.specs.Views.{all_know};
@@ -12,10 +11,11 @@ use crate::parcel::Parcel;
 use crate::place::Outside;
 use crate::plays::{Deal, DoorSeat, Gather};
 use crate::rule::{DoorTable, Words};
-use crate::waking::{Sleeper, Waker};
+use crate::waking::{Parking, ByCaller, Sleeper, Waker};
 use atomic_table::Table;
 use hoare_law::data::MonitorData;
 use std::alloc::{AllocError, Global};
+use std::marker::Brand;
 use wait_book::book::Book;
 
 /// What each place sleeps on, the last place's first, and what wakes each, the first place's first.
@@ -81,20 +81,56 @@ pub fn deal<D: MonitorData, K, W: Words<D, K>>(
     outs
 }
 
-/// Takes the door's parts apart: all places are handed in, in any order. The data are those that one legal and lawful
-/// history left, and at rest with nobody waiting.
-pub fn closed<D: MonitorData, K, W: Words<D, K>>(
+/// The places of a door that wakes none of them, of a seat that stands for all of them.
+pub fn deal_by_caller<D: MonitorData, K, W: Words<D, K>>(
+    table: &DoorTable<D, K, W>,
+    mut seat: DoorSeat<D>,
+    mut outs: Vec<Outside<D, ByCaller>>,
+    places: usize,
+) -> Vec<Outside<D, ByCaller>>
+    requires table { (seat.table_id ≡ table.now.shared.table_id)
+        × (0 < table.now.shared.table_id.words) }
+    requires room { (vec_len outs ≡ 0) × (places ≤ vec_capacity outs) }
+    requires seat { (f : History D) × (seat.me ≡ (Places (all_know 0 places f), [])) }
+    ensures { (f : History D) → seat.me ≡ (Places (all_know 0 places f), [])
+        → result.items ≡ places_from (door_of table.now.shared.table_id places []) 0 places f }
+{
+    for place in 0..places {
+        let cut = table.shared.split_seat::<Deal>(&mut seat);
+        outs.push_reserved(Outside::of_parts(cut, place, ByCaller));
+    }
+    outs
+}
+
+/// What the places of a door sleep on, the first place's first. Each call picks it.
+pub trait PickedSleepers {
+    ghost use Rattle.std.specs.Prelude.{List};
+    ghost use Rattle.atomic_table.specs.Seated.{TableId};
+
+    /// Which they are.
+    ghost sleepers: { List TableId };
+}
+
+impl PickedSleepers for Brand {
+    ghost use Rattle.std.specs.Prelude.{[]};
+
+    ghost sleepers = { [] };
+}
+
+/// Takes the door's table apart: all places are handed in, in any order. The data are those that one legal and lawful
+/// history left, and at rest with nobody waiting. `_wakers` are there for the pick alone.
+pub fn closed_as<D: MonitorData, K, W: Words<D, K>, S: Parking + Drop, V: Drop, J: PickedSleepers>(
     table: DoorTable<D, K, W>,
-    wakers: Vec<Waker>,
-    mut outs: Vec<Outside<D>>,
+    _wakers: V,
+    mut outs: Vec<Outside<D, S>>,
 ) -> D
     requires table { (0 < table.shared.table_id.words) × (table.shared.table_id.slots ≡ 1)
         × (0 < W.places table.shared.key) }
-    requires of { All (IsOut D.rest D.ready (kinds_of D.CONDITIONS D.MESA)
-        (door_of table.shared.table_id (W.places table.shared.key) wakers.items)) outs.items }
+    requires of { All (IsOut D.rest D.ready (W.kinds table.shared.key)
+        (door_of table.shared.table_id (W.places table.shared.key) J.sleepers)) outs.items }
     requires places { (k : ℕ) → k < W.places table.shared.key → HasPlace k outs.items }
-    ensures closes { Closes D.rest D.ready (kinds_of D.CONDITIONS D.MESA)
-        (door_of table.shared.table_id (W.places table.shared.key) wakers.items) outs.items result }
+    ensures closes { Closes D.rest D.ready (W.kinds table.shared.key)
+        (door_of table.shared.table_id (W.places table.shared.key) J.sleepers) outs.items result }
     ensures rest { D.rest result nobody }
 {
     let Some(first) = outs.pop() else {
@@ -109,4 +145,22 @@ pub fn closed<D: MonitorData, K, W: Words<D, K>>(
     let parcel = closed.take(0).unwrap();
     closed.free();
     parcel.into_data()
+}
+
+/// The same of a door that wakes its places.
+pub fn closed<D: MonitorData, K, W: Words<D, K>>(
+    table: DoorTable<D, K, W>,
+    wakers: Vec<Waker>,
+    outs: Vec<Outside<D>>,
+) -> D
+    requires table { (0 < table.shared.table_id.words) × (table.shared.table_id.slots ≡ 1)
+        × (0 < W.places table.shared.key) }
+    requires of { All (IsOut D.rest D.ready (W.kinds table.shared.key)
+        (door_of table.shared.table_id (W.places table.shared.key) wakers.items)) outs.items }
+    requires places { (k : ℕ) → k < W.places table.shared.key → HasPlace k outs.items }
+    ensures closes { Closes D.rest D.ready (W.kinds table.shared.key)
+        (door_of table.shared.table_id (W.places table.shared.key) wakers.items) outs.items result }
+    ensures rest { D.rest result nobody }
+{
+    closed_as::<D, K, W, Sleeper, Vec<Waker>, Brand>(table, wakers, outs)
 }

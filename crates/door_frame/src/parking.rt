@@ -14,12 +14,12 @@ ghost use Rattle.std.specs.Prelude.{◌≡◌, ◌<◌};
 ghost use Rattle.hoare_law.specs.declared.event.History.{History};
 ghost use Rattle.door_frame.specs.Places.{sleeper_at};
 ghost use Rattle.door_frame.specs.Steps.{due};
-ghost use Rattle.door_frame.specs.Seats.{IsAway, ComesIn};
+ghost use Rattle.door_frame.specs.Seats.{IsEmptyHanded, ComesIn};
 
 use crate::looks::spin;
 use crate::parcel::Parcel;
 use crate::plays::DoorSeat;
-use crate::turnstile::Turnstile;
+use crate::turnstile::{Turnstile, Wakes};
 use crate::waking::Sleeper;
 use hoare_law::data::MonitorData;
 use std::sync::Wait;
@@ -38,7 +38,7 @@ fn look_for_turn<D: MonitorData, T: Turnstile<D>>(door: &T, place: usize, looks:
 
 /// Waits until the monitor is owed to the place, comes in and takes the parcel. It looks so many times, then tests and
 /// sleeps, where it is woken, until a test lets it in.
-pub fn claim<D: MonitorData, T: Turnstile<D>, R: Wait>(
+pub fn claim<D: MonitorData, T: Wakes<D>, R: Wait>(
     door: &T,
     rt: &R,
     seat: &mut DoorSeat<D>,
@@ -49,7 +49,7 @@ pub fn claim<D: MonitorData, T: Turnstile<D>, R: Wait>(
     requires table { seat.old.table_id ≡ (T.id door.now).table }
     requires small { place < (T.id door.now).places }
     requires sleeper { sleeper.now ≡ sleeper_at (T.id door.now) place }
-    requires away { (f : History D) × IsAway place f seat.old.me }
+    requires away { (f : History D) × IsEmptyHanded place f seat.old.me }
     ensures table { seat.new.table_id ≡ seat.old.table_id }
     ensures came { ComesIn D.rest D.ready place (due place) seat.old.me result seat.new.me }
 {

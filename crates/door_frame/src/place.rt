@@ -1,48 +1,49 @@
-//! A place of a door, outside and inside.
+//! A place of a door: outside, inside, or gone and to come back.
 ghost use Rattle.std.specs.Prelude.{◌≡◌, true};
 ghost use Rattle.door_frame.specs.Views.{is_alone};
 
 use crate::parcel::Parcel;
 use crate::plays::DoorSeat;
-use crate::waking::Sleeper;
+use crate::waking::{Parking, Sleeper};
 use std::marker::Model;
 use wait_book::book::Book;
 
 /// A place outside: it may enter. It moves between threads, can't be copied, and a place that is dropped is never heard
 /// of again (then its door can't be closed). A contract sees its berth, its number and its front.
 #[derive(Drop)]
-pub struct Outside<D> {
+pub struct Outside<D, S: Parking = Sleeper> {
     seat: DoorSeat<D>,
     place: usize,
-    sleeper: Sleeper,
+    sleeper: S,
     ghost alone: { is_alone seat.me.0 ≡ true },
 }
 
-impl<D> Model for Outside<D> {
+impl<D, S: Parking> Model for Outside<D, S> {
     ghost use Rattle.door_frame.specs.Places.{PlaceOut, berth, place_out};
     ghost use Rattle.door_frame.specs.Views.{front_of};
-    ghost use Rattle.door_frame.specs.Seats.{IsAway};
+    ghost use Rattle.door_frame.specs.Seats.{IsEmptyHanded};
 
     ghost Value = { PlaceOut D };
 
-    ghost view = { λ o. place_out (berth o.seat.table_id o.sleeper) o.place (front_of o.seat.me.0 o.alone) };
+    ghost view = { λ o. place_out (berth o.seat.table_id (S.at o.seat.table_id o.sleeper)) o.place
+        (front_of o.seat.me.0 o.alone) };
 
-    ghost invariant = { λ o. IsAway o.place (front_of o.seat.me.0 o.alone) o.seat.me };
+    ghost invariant = { λ o. IsEmptyHanded o.place (front_of o.seat.me.0 o.alone) o.seat.me };
 }
 
-impl<D> Outside<D> {
+impl<D, S: Parking> Outside<D, S> {
     ghost use Rattle.hoare_law.specs.declared.event.History.{History};
     ghost use Rattle.std.specs.Prelude.{◌≡◌, true};
     ghost use Rattle.door_frame.specs.Places.{berth, place_out};
-    ghost use Rattle.door_frame.specs.Seats.{IsAway};
+    ghost use Rattle.door_frame.specs.Seats.{IsEmptyHanded};
     ghost use Rattle.door_frame.specs.Views.{is_alone, front_of};
 
     /// A place of its parts. It is there for doors on this frame: a seat can't be had otherwise.
     #[inline]
-    pub fn of_parts(seat: DoorSeat<D>, place: usize, sleeper: Sleeper) -> Outside<D>
-        requires { (f : History D) × IsAway place f seat.me }
-        ensures { (f : History D) → IsAway place f seat.me
-            → result ≡ place_out (berth seat.table_id sleeper) place f }
+    pub fn of_parts(seat: DoorSeat<D>, place: usize, sleeper: S) -> Outside<D, S>
+        requires { (f : History D) × IsEmptyHanded place f seat.me }
+        ensures { (f : History D) → IsEmptyHanded place f seat.me
+            → result ≡ place_out (berth seat.table_id (S.at seat.table_id sleeper)) place f }
     {
         Outside {
             seat,
@@ -51,11 +52,18 @@ impl<D> Outside<D> {
         }
     }
 
+    /// Returns the place's number.
+    pub fn number(&self) -> usize
+        ensures { result ≡ self.now.place }
+    {
+        self.place
+    }
+
     /// The seat, the number, and what the place sleeps on.
     #[inline]
-    pub fn into_parts(self) -> (DoorSeat<D>, usize, Sleeper)
-        ensures { (berth result.0.table_id result.2 ≡ self.berth) × (result.1 ≡ self.place)
-            × IsAway self.place self.front result.0.me }
+    pub fn into_parts(self) -> (DoorSeat<D>, usize, S)
+        ensures { (berth result.0.table_id (S.at result.0.table_id result.2) ≡ self.berth) × (result.1 ≡ self.place)
+            × IsEmptyHanded self.place self.front result.0.me }
     {
         let Outside {
             seat,
@@ -66,31 +74,75 @@ impl<D> Outside<D> {
     }
 }
 
+/// A place that waits on a condition, or that signalled: it gave the monitor up, and is to come back once the monitor
+/// is owed to it. A contract sees of it what it sees of a place outside.
+#[derive(Drop)]
+pub struct Away<D, S: Parking = Sleeper> {
+    spot: Outside<D, S>,
+}
+
+impl<D, S: Parking> Model for Away<D, S> {
+    ghost use Rattle.door_frame.specs.Places.{PlaceOut};
+
+    ghost Value = { PlaceOut D };
+
+    ghost view = { λ g. g.spot };
+}
+
+impl<D, S: Parking> Away<D, S> {
+    ghost use Rattle.hoare_law.specs.declared.event.History.{History};
+    ghost use Rattle.std.specs.Prelude.{◌≡◌};
+    ghost use Rattle.door_frame.specs.Places.{berth, place_out};
+    ghost use Rattle.door_frame.specs.Seats.{IsEmptyHanded};
+
+    /// A place of its parts, as `Outside::of_parts`.
+    #[inline]
+    pub(crate) fn of_parts(seat: DoorSeat<D>, place: usize, sleeper: S) -> Away<D, S>
+        requires { (f : History D) × IsEmptyHanded place f seat.me }
+        ensures { (f : History D) → IsEmptyHanded place f seat.me
+            → result ≡ place_out (berth seat.table_id (S.at seat.table_id sleeper)) place f }
+    {
+        Away {
+            spot: Outside::of_parts(seat, place, sleeper),
+        }
+    }
+
+    /// The seat, the number, and what the place sleeps on.
+    #[inline]
+    pub(crate) fn into_parts(self) -> (DoorSeat<D>, usize, S)
+        ensures { (berth result.0.table_id (S.at result.0.table_id result.2) ≡ self.berth)
+            × (result.1 ≡ self.place) × IsEmptyHanded self.place self.front result.0.me }
+    {
+        let Away { spot } = self;
+        spot.into_parts()
+    }
+}
+
 /// A place inside, with the data in hand. It can't be dropped: who is inside leaves. A contract sees the data too.
-pub struct Inside<D> {
+pub struct Inside<D, S: Parking = Sleeper> {
     pub(crate) seat: DoorSeat<D>,
     pub(crate) place: usize,
-    sleeper: Sleeper,
+    sleeper: S,
     /// Data and queues. A door on this frame lends them: who changes the queues by hand can't give the place back.
     pub parcel: Parcel<D>,
     ghost alone: { is_alone seat.me.0 ≡ true },
 }
 
-impl<D> Model for Inside<D> {
+impl<D, S: Parking> Model for Inside<D, S> {
     ghost use Rattle.door_frame.specs.Places.{PlaceIn, berth, place_in};
     ghost use Rattle.door_frame.specs.Views.{front_of};
     ghost use Rattle.door_frame.specs.Seats.{IsInside};
 
     ghost Value = { PlaceIn D };
 
-    ghost view = { λ i. place_in (berth i.seat.table_id i.sleeper) i.place
+    ghost view = { λ i. place_in (berth i.seat.table_id (S.at i.seat.table_id i.sleeper)) i.place
         (front_of i.seat.me.0 i.alone) i.parcel.state };
 
     ghost invariant = { λ i. IsInside i.place
         (front_of i.seat.me.0 i.alone) i.seat.me i.parcel.book };
 }
 
-impl<D> Inside<D> {
+impl<D, S: Parking> Inside<D, S> {
     ghost use Rattle.std.specs.Prelude.{◌≡◌, ◌≢◌, ◌<◌, ◌↔◌, ℕ, [], IsTrue, slice_index, MatchOption};
     ghost use Rattle.std.specs.Option.{option_map};
     ghost use Rattle.hoare_law.specs.declared.event.History.{History};
@@ -105,12 +157,12 @@ impl<D> Inside<D> {
     pub(crate) fn of_parts(
         seat: DoorSeat<D>,
         place: usize,
-        sleeper: Sleeper,
+        sleeper: S,
         parcel: Parcel<D>,
-    ) -> Inside<D>
+    ) -> Inside<D, S>
         requires { (f : History D) × IsInside place f seat.me parcel.book }
         ensures { (f : History D) → IsInside place f seat.me parcel.book
-            → result ≡ place_in (berth seat.table_id sleeper) place f parcel.state }
+            → result ≡ place_in (berth seat.table_id (S.at seat.table_id sleeper)) place f parcel.state }
     {
         Inside {
             seat,
@@ -122,8 +174,9 @@ impl<D> Inside<D> {
 
     /// The seat, the number, what the place sleeps on, and the parcel.
     #[inline]
-    pub(crate) fn into_parts(self) -> (DoorSeat<D>, usize, Sleeper, Parcel<D>)
-        ensures parts { place_in (berth result.0.table_id result.2) result.1 self.front result.3.state
+    pub(crate) fn into_parts(self) -> (DoorSeat<D>, usize, S, Parcel<D>)
+        ensures parts { place_in (berth result.0.table_id (S.at result.0.table_id result.2))
+            result.1 self.front result.3.state
             ≡ self }
         ensures seat { IsInside result.1 self.front result.0.me result.3.book }
     {

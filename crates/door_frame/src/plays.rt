@@ -1,7 +1,6 @@
 //! What the steps tell that every door has.
 ghost use Rattle.door_frame.specs.Views.{places_behind, first_place, both_places, no_places};
 ghost use Rattle.door_frame.specs.Steps.{begins, opens, gives_as, notes_as, learns};
-ghost use Rattle.hoare_law.specs.Sizes.{kinds_of};
 
 use crate::parcel::Parcel;
 use crate::view::View;
@@ -19,11 +18,38 @@ impl<D> Play<Option<Parcel<D>>, View<D>> for Begin {
     ghost then = { begins };
 }
 
-/// It gives the slot back with the data: the door is open.
-pub struct Open;
+/// The kinds of conditions that a door opens with. A step can't read them from the table, so each call picks them.
+pub trait PickedKinds {
+    ghost use Rattle.hoare_law.specs.Sizes.{Kinds};
 
-impl<D: MonitorData> Play<Option<Parcel<D>>, View<D>> for Open {
-    ghost then = { opens (kinds_of D.CONDITIONS D.MESA) };
+    /// How many conditions there are, and how many of them are Mesa conditions.
+    ghost kinds: { Kinds };
+}
+
+impl PickedKinds for Brand {
+    ghost use Rattle.hoare_law.specs.Sizes.{kinds_of};
+
+    ghost kinds = { kinds_of 1 0 };
+}
+
+/// Picks the kinds that the data's type fixes.
+pub struct KindsOf<D> {
+    of: PhantomData<D>,
+}
+
+impl<D: MonitorData> PickedKinds for KindsOf<D> {
+    ghost use Rattle.hoare_law.specs.Sizes.{kinds_of};
+
+    ghost kinds = { kinds_of D.CONDITIONS D.MESA };
+}
+
+/// The first seat gives the slot back with the data: the door is open.
+pub struct Open<J> {
+    of: PhantomData<J>,
+}
+
+impl<D: MonitorData, J: PickedKinds> Play<Option<Parcel<D>>, View<D>> for Open<J> {
+    ghost then = { opens J.kinds };
 }
 
 /// The event of a step that gives the slot back, from the data in it. Each call picks it.

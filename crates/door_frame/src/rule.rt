@@ -1,7 +1,6 @@
 //! The rule of a door's table.
 ghost use Rattle.door_frame.specs.Rule.{Kept};
 ghost use Rattle.door_frame.specs.Views.{unopened};
-ghost use Rattle.hoare_law.specs.Sizes.{kinds_of};
 
 use crate::parcel::Parcel;
 use crate::view::View;
@@ -14,10 +13,14 @@ use std::marker::PhantomData;
 pub trait Words<D, K> {
     ghost use Rattle.std.specs.Prelude.{ℕ, Bool, List};
     ghost use Rattle.hoare_law.specs.declared.event.History.{History};
+    ghost use Rattle.hoare_law.specs.Sizes.{Kinds};
     ghost use Rattle.door_frame.specs.Rule.{Tokens};
 
     /// How many places the door has.
     ghost places: { K → ℕ };
+
+    /// How many conditions it has, of each kind.
+    ghost kinds: { K → Kinds };
 
     /// The words before the door opens, and by then whether the first seat has the slot.
     ghost starts: { K → Bool → List ℕ → Type 0 };
@@ -33,7 +36,7 @@ pub struct Rule<W> {
 
 impl<D: MonitorData, K, W: Words<D, K>> TableRule<Option<Parcel<D>>, View<D>, K> for Rule<W> {
     ghost holds = { λ key. Kept (W.starts key) (W.tells key)
-        D.rest D.ready (kinds_of D.CONDITIONS D.MESA) (W.places key) };
+        D.rest D.ready (W.kinds key) (W.places key) };
 
     ghost first = { λ key. unopened (W.places key) };
 }

@@ -35,6 +35,15 @@ impl Outcome<bool, bool> for Takes {
     ghost then = { λ _ _ _ _. Unit {0} };
 }
 
+/// What a place has to sleep on, if its door wakes it.
+pub trait Parking {
+    ghost use Rattle.atomic_table.specs.Seated.{TableId};
+
+    /// Which it is, of a place of the door with this table. A place that no door wakes has the table there, on which
+    /// nobody sleeps.
+    ghost at: { TableId → Self → TableId };
+}
+
 /// What one place sleeps on. A contract sees which it is.
 #[derive(Drop)]
 pub struct Sleeper {
@@ -48,6 +57,18 @@ impl Model for Sleeper {
     ghost Value = { TableId };
 
     ghost view = { λ s. (arc_value s.parker.unparker.state).shared.table_id };
+}
+
+impl Parking for Sleeper {
+    ghost at = { λ _ s. s };
+}
+
+/// A place whose caller looks after its sleep and its waking has nothing to sleep on.
+#[derive(Clone, Copy)]
+pub struct ByCaller;
+
+impl Parking for ByCaller {
+    ghost at = { λ z _. z };
 }
 
 /// What wakes the place that sleeps on one sleeper. A contract sees on which.

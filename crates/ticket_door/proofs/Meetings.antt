@@ -6,7 +6,7 @@ use Rattle.hoare_law.specs.Lawful.{Rest, Ready, Stands}
 use Rattle.door_frame.specs.declared.view.Knowledge.{Knowledge}
 use Rattle.door_frame.specs.declared.view.View.TheVariants.{Places}
 use Rattle.door_frame.specs.Places.{Berth, DoorId, PlaceOut, IsOut, IsTold, berth_at, place_out}
-use Rattle.door_frame.specs.Seats.{IsAway}
+use Rattle.door_frame.specs.Seats.{IsEmptyHanded}
 use Rattle.door_frame.specs.Steps.{Sat, Known, Learns}
 use Rattle.door_frame.specs.Views.{alone, knows, both_places, places_behind, first_place}
 use Rattle.door_frame.proofs.Departures.{told_out}
@@ -17,20 +17,20 @@ module _ {D : Type 0} where
   abbrev pub both_of : PlaceOut D → PlaceOut D → List (Knowledge D)
   both_of a b = knows b.place b.front None ∷ knows a.place a.front None ∷ []
 
-  pub joined : (a b : PlaceOut D) {m n both : Sat D} → IsAway a.place a.front m → IsAway b.place b.front n
+  pub joined : (a b : PlaceOut D) {m n both : Sat D} → IsEmptyHanded a.place a.front m → IsEmptyHanded b.place b.front n
       → both ≡ (both_places m.0 n.0, m.1) → both ≡ (Places (both_of a b), [])
   joined a b p q is = is ∙ (λ i. (both_places (p i).0 (q i).0, (p i).1))
 
   -- the seat of a is left, and that of b is cut off
   pub went_first : (a b : PlaceOut D) {rest : Rest D} {ready : Ready D} {h : History D} {k : ℕ} {m n : Sat D}
       → k ≡ a.place
-      → Learns rest ready h (both_of a b) m → n ≡ (places_behind m.0, m.1) → IsAway k h n
+      → Learns rest ready h (both_of a b) m → n ≡ (places_behind m.0, m.1) → IsEmptyHanded k h n
   went_first a b {h = h} place l is =
       is ∙ (ap (λ (z : Sat D). (places_behind z.0, z.1)) l.me_is ∙ (λ i. (alone (sym place i) h, [])))
 
   pub went_second : (a b : PlaceOut D) {rest : Rest D} {ready : Ready D} {h : History D} {k : ℕ} {m n : Sat D}
       → k ≡ b.place
-      → Learns rest ready h (both_of a b) m → n ≡ (first_place m.0, []) → IsAway k h n
+      → Learns rest ready h (both_of a b) m → n ≡ (first_place m.0, []) → IsEmptyHanded k h n
   went_second a b {h = h} place l is =
       is ∙ (ap (λ (z : Sat D). (first_place z.0, [])) l.me_is ∙ (λ i. (alone (sym place i) h, [])))
 

@@ -16,7 +16,7 @@ use crate::rule::{Sizes, TicketTable, TicketWords};
 use crate::words::{NEXT, SERVING, served_as, words_for};
 use door_frame::making::{deal, sleepers, vacant};
 use door_frame::parcel::Parcel;
-use door_frame::plays::{Begin, DoorSeat, Open};
+use door_frame::plays::{Begin, DoorSeat, KindsOf, Open};
 use door_frame::slot::lay_parcel;
 use hoare_law::data::MonitorData;
 use hoare_law::monitor::Monitor;
@@ -51,7 +51,7 @@ fn open<D: MonitorData>(table: &TicketTable<D>, seat: &mut DoorSeat<D>, parcel: 
 {
     table.shared.load::<Begin>(seat, SERVING);
     lay_parcel(table, seat, parcel);
-    table.shared.load::<Open>(seat, SERVING);
+    table.shared.load::<Open<KindsOf<D>>>(seat, SERVING);
 }
 
 /// `TicketDoor::make`, with this first ticket.

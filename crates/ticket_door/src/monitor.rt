@@ -1,5 +1,6 @@
 //! The calls of a monitor, on a ticket door.
 ghost use Rattle.std.specs.Prelude.{◌≡◌};
+ghost use Rattle.hoare_law.specs.Sizes.{kinds_of};
 ghost use Rattle.wait_book.specs.Contents.{IsPlaceBelow};
 ghost use Rattle.door_frame.specs.Steps.{MayGive, MayNote};
 ghost use Rattle.door_frame.specs.Places.{IsWoken};
@@ -18,7 +19,7 @@ use door_frame::notice::Notice;
 use door_frame::parcel::Parcel;
 use door_frame::plays::DoorSeat;
 use door_frame::slot::take_parcel;
-use door_frame::turnstile::Turnstile;
+use door_frame::turnstile::{Turnstile, Wakes};
 use door_frame::waking::Woken;
 use hoare_law::data::MonitorData;
 use hoare_law::monitor::Monitor;
@@ -29,6 +30,12 @@ use wait_book::steps::Next;
 
 impl<D: MonitorData> Turnstile<D> for TicketDoor<D> {
     ghost id = { λ d. d.door };
+
+    ghost kinds = { λ d. kinds_of D.CONDITIONS D.MESA };
+
+    type Shown = Option<Woken>;
+
+    ghost is_woken = { IsWoken };
 
     fn looks(&self) -> Looks {
         TICKET_LOOKS
@@ -100,10 +107,15 @@ impl<D: MonitorData> Turnstile<D> for TicketDoor<D> {
     }
 }
 
+impl<D: MonitorData> Wakes<D> for TicketDoor<D> {
+    ghost woken = { λ w. w };
+
+    ghost wakes = { λ d next w is. is };
+}
+
 impl<D: MonitorData + Send> Monitor<D> for TicketDoor<D> {
     ghost use Rattle.std.specs.Prelude.{◌≡◌, ◌≢◌, ◌<◌, ℕ, refl};
     ghost use Rattle.hoare_law.specs.Priorities.{priorities};
-    ghost use Rattle.hoare_law.specs.Sizes.{kinds_of};
     ghost use Rattle.hoare_law.proofs.Priorities.{IsNonDecreasing-priorities};
     ghost use Rattle.door_frame.specs.Places.{PlaceIn, IsOut, IsIn, with_state};
 

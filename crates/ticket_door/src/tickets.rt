@@ -8,7 +8,7 @@ ghost use Rattle.hoare_law.specs.Sizes.{IsHoare, kinds_of};
 ghost use Rattle.hoare_law.specs.Priorities.{priorities};
 ghost use Rattle.hoare_law.specs.Turns.{outside};
 ghost use Rattle.door_frame.specs.Places.{IsOut, IsIn, Handed};
-ghost use Rattle.door_frame.specs.Seats.{IsAway, IsNewcomer};
+ghost use Rattle.door_frame.specs.Seats.{IsEmptyHanded, IsNewcomer};
 ghost use Rattle.door_frame.specs.Steps.{Came};
 ghost use Rattle.ticket_door.specs.Asked.{IsAsking, IsServed, IsAsked, EntersBy};
 ghost use Rattle.hoare_law.specs.Admissions.{admissions};
@@ -33,7 +33,7 @@ impl<D: MonitorData> TicketDoor<D> {
         requires first { self.now.first ≡ J.first }
         requires newcomer { IsNewcomer place seat.old.me }
         ensures table { seat.new.table_id ≡ seat.old.table_id }
-        ensures drawn { (f : History D) → IsAway place f seat.old.me → (x : ℕ)
+        ensures drawn { (f : History D) → IsEmptyHanded place f seat.old.me → (x : ℕ)
             × IsAsking place f x seat.new.me × (result ≡ (self.now.first + x) % 2 ^ 64) }
     {
         self.table.shared.fetch_add::<Ask<J>>(seat, NEXT, 1)

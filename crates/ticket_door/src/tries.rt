@@ -9,7 +9,7 @@
 ghost use Rattle.std.specs.Prelude.{◌≡◌, ◌*◌, ◌%◌, ◌^◌, true, false};
 ghost use Rattle.hoare_law.specs.declared.event.History.{History};
 ghost use Rattle.hoare_law.specs.Turns.{outside};
-ghost use Rattle.door_frame.specs.Seats.{IsAway};
+ghost use Rattle.door_frame.specs.Seats.{IsEmptyHanded};
 ghost use Rattle.ticket_door.specs.Tries.{IsTrying, HasGate, IsLetIn, Reopened};
 
 use crate::door::TicketDoor;
@@ -23,10 +23,10 @@ impl<D: MonitorData> TicketDoor<D> {
     #[inline]
     pub(crate) fn shut(&self, seat: &mut DoorSeat<D>, place: usize, ticket: u64) -> bool
         requires table { seat.old.table_id ≡ self.now.door.table }
-        requires away { (f : History D) × IsAway place f seat.old.me }
+        requires away { (f : History D) × IsEmptyHanded place f seat.old.me }
         ensures table { seat.new.table_id ≡ seat.old.table_id }
         ensures missed { result ≡ false → seat.new.me ≡ seat.old.me }
-        ensures shut { result ≡ true → (f : History D) → IsAway place f seat.old.me
+        ensures shut { result ≡ true → (f : History D) → IsEmptyHanded place f seat.old.me
             → IsTrying place f ((2 * ticket) % 2 ^ 64) seat.new.me }
     {
         let turn = served_as(ticket);

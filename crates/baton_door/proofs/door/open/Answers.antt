@@ -1,14 +1,14 @@
 use Rattle.std.proofs.Common.{rules, refl, ap, ◌∙◌}
 use Rattle.door_frame.specs.Steps.{Sat}
 use Rattle.door_frame.proofs.Parcels.{laid_down}
-use Rattle.baton_door.proofs.Steps.{begins_at, opens_at}
+use Rattle.baton_door.proofs.Steps.{begins_at, opens_as}
 use Rattle.baton_door.proofs.door.open.Goals as goal
-use Rattle.hoare_law.specs.Sizes.{kinds_of}
 
 pub compare_exchange-requires : goal.compare_exchange-requires
 compare_exchange-requires g c =
     let D = g.D.MonitorData in
-    (search rules, search rules, begins_at D.rest D.ready (kinds_of D.CONDITIONS D.MESA) _ _ _ _ c.requires.seat)
+    let kinds = g.K.DoorKey.kinds c.args.table.now.shared.key in
+    (search rules, search rules, begins_at D.rest D.ready kinds _ _ _ _ c.requires.seat)
 
 pub lay_parcel-requires-clause-empty : goal.lay_parcel-requires-clause-empty
 lay_parcel-requires-clause-empty g c =
@@ -21,8 +21,8 @@ store-requires g c =
     let laid = c.lay_parcel.ensures.laid ∙ laid_down c.args.parcel refl begun in (
       search rules,
       search rules,
-      opens_at D.rest D.ready (kinds_of D.CONDITIONS D.MESA) _ _ _ c.args.parcel _ laid c.requires.rest
-          c.requires.book,
+      opens_as D.rest D.ready (g.K.DoorKey.kinds c.args.table.now.shared.key) _ g.J.PickedKinds.kinds c.requires.kinds
+          _ _ c.args.parcel _ laid c.requires.rest c.requires.book,
     )
 
 pub returns-clause-opened : goal.returns-clause-opened

@@ -35,4 +35,4 @@ returns g c = λ f came.
     let back = is_due_by k came.log f c.claim.new.self _ (IsLegal-last came.log _ came.stands.legal) in
     let held = subst (λ (w : Lodged g.row.D.Denot). IsOf w.book (erased came.log)) (sym same) came.book in
     c.of_parts.ensures now (came.me_is, back.settles (c.claim.ensures.of (erased came.log) held))
-    ∙ ap (λ (w : Lodged g.row.D.Denot). place_in (berth c.args.seat.table_id c.args.sleeper) k now w.state) same
+    ∙ ap (λ (w : Lodged g.row.D.Denot). place_in (berth c.args.seat.table_id (g.S.Parking.at c.args.seat.table_id c.args.sleeper)) k now w.state) same

@@ -51,4 +51,4 @@ returns g c = λ f came.
     (came.me_is, IsOf-event _ came.log e (c.admit.ensures.of (erased came.log) held))
     ∙ ap
     (λ (w : Lodged g.row.D.Denot).
-    place_in (berth c.args.seat.table_id c.args.sleeper) k (with_event came.log e) w.state) same
+    place_in (berth c.args.seat.table_id (g.S.Parking.at c.args.seat.table_id c.args.sleeper)) k (with_event came.log e) w.state) same

@@ -6,7 +6,7 @@ use Rattle.door_frame.specs.Seats.{IsInside}
 use Rattle.door_frame.specs.Views.{front_of}
 use Rattle.door_frame.proofs.Inside.{holds, turn_in_hand, book_in_hand, listed_in_hand}
 use Rattle.door_frame.proofs.Notices.{notes_notice, book_noticed, noted}
-use Rattle.door_frame.proofs.Seats.{is_alone-seat, at_front, berth_as}
+use Rattle.door_frame.proofs.Seats.{is_alone-seat, at_front, berth_on}
 use Rattle.door_frame.proofs.Parcels.{unpacked}
 use Rattle.door_frame.proofs.calls.call.Goals as goal
 
@@ -39,7 +39,7 @@ returns g c =
     let same = unpacked c.deref_mut.ensures.value c.parcel.view_is in
     let notes = notes_notice c.args.notice h c.requires.mesa c.requires.some in
     record {
-      noted = noted c.args.notice _ h notes (berth_as _ c.note.ensures.table)
+      noted = noted c.args.notice _ h notes (berth_on g.S.Parking.at _ c.note.ensures.table)
           (ap (λ (w : Lodged g.row.D.Denot). w.state) same) (c.note.ensures.stays _ c.inside.invariant.0);
       told = subst (λ q. IsCounted c.args.notice (q (called_on c.args.notice)) c.book_calls.result)
           (listed_in_hand (ap (λ (w : Lodged g.row.D.Denot). w.book) same) c.inside.invariant c.inside.view_is)

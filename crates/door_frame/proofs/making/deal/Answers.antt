@@ -13,7 +13,6 @@ use Rattle.door_frame.proofs.Steps.{deals_ok}
 use Rattle.door_frame.proofs.Seats.{cut_off}
 use Rattle.door_frame.proofs.Views.{nth_reversed, places_and}
 use Rattle.door_frame.proofs.making.deal.Goals as goal
-use Rattle.hoare_law.specs.Sizes.{kinds_of}
 
 pub split_seat-cut-requires : goal.split_seat-cut-requires
 split_seat-cut-requires g c =
@@ -22,12 +21,12 @@ split_seat-cut-requires g c =
     let D = g.D.MonitorData in
     let W = g.W.Words in
     let q = c.args.table.now.shared.key in
-    let K = Kept (W.starts q) (W.tells q) D.rest D.ready (kinds_of D.CONDITIONS D.MESA) (W.places q) in (
+    let K = Kept (W.starts q) (W.tells q) D.rest D.ready (W.kinds q) (W.places q) in (
       search rules,
       search rules,
       subst (λ (v : View g.row.D.Denot). Splits K c.loop-place.seat.id v (places_behind v) (first_place v))
           (sym (ap (λ (m : Sat g.row.D.Denot). m.0) me))
-          (deals_ok (W.starts q) (W.tells q) D.rest D.ready (kinds_of D.CONDITIONS D.MESA) _ _ c.loop-place.place
+          (deals_ok (W.starts q) (W.tells q) D.rest D.ready (W.kinds q) _ _ c.loop-place.place
           (c.args.places - c.loop-place.place) all.0
           (omega (arith, c.loop-place-test.true))),
     )

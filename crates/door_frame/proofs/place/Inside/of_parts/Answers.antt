@@ -15,5 +15,5 @@ invariant_of-result-2 g c =
 
 pub returns : goal.returns
 returns g c = λ f is.
-    ap (λ h. place_in (berth c.args.seat.table_id c.args.sleeper) c.args.place h c.args.parcel.state)
+    ap (λ h. place_in (berth c.args.seat.table_id (g.S.Parking.at c.args.seat.table_id c.args.sleeper)) c.args.place h c.args.parcel.state)
     (front_is _ _ _ _ _ is.0)

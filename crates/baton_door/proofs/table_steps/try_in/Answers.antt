@@ -1,16 +1,16 @@
-use Rattle.std.proofs.Common.{eqb-true, eq-eqb, true≢false, sym, ◌∙◌, ap, arith}
-use Rattle.door_frame.specs.Places.{DoorId}
+use Rattle.std.proofs.Common.{eqb-true, eq-eqb, true≢false, sym, ◌∙◌, arith}
 use Rattle.baton_door.proofs.Steps.{admits_at}
-use Rattle.baton_door.proofs.door.Door.try_in.Goals as goal
-use Rattle.hoare_law.specs.Sizes.{kinds_of}
+use Rattle.baton_door.proofs.table_steps.try_in.Goals as goal
 
 pub compare_exchange-requires : goal.compare_exchange-requires
 compare_exchange-requires g c =
     let out = c.requires.outside in
     let D = g.D.MonitorData in
-    let table = c.requires.table ∙ ap (λ (d : DoorId). d.table) (sym c.self.view_is) in
-    let wide = c.self.invariant.words_are in
-    (table, omega (arith, wide), admits_at D.rest D.ready (kinds_of D.CONDITIONS D.MESA) _ _ _ _ _ _ out.1.1 out.1.2)
+    let wide = c.requires.wide in (
+      c.requires.table,
+      omega (arith, wide),
+      admits_at D.rest D.ready (g.K.DoorKey.kinds c.args.table.now.shared.key) _ _ _ _ _ _ out.1.1 out.1.2,
+    )
 
 pub returns-clause-turned_away : goal.returns-clause-turned_away
 returns-clause-turned_away g c = λ no.

@@ -3,22 +3,21 @@ use Rattle.std.proofs.Common.{subst, append-nil, append_assoc}
 use Rattle.std.specs.Prelude.{All}
 use Rattle.door_frame.specs.declared.parcel.Lodged.{Lodged}
 use Rattle.door_frame.specs.declared.view.View.TheVariants.{Places}
-use Rattle.door_frame.specs.Places.{Berth, DoorId, PlaceOut, IsOut, door_of}
+use Rattle.door_frame.specs.Places.{Berth, DoorId, HasPlace, PlaceOut, IsOut, door_of}
 use Rattle.door_frame.specs.Steps.{Sat}
 use Rattle.door_frame.specs.Views.{both_places}
 use Rattle.door_frame.proofs.Close.{All-mid, Ends, ends_all, ends_at, joins_one, known_to}
-use Rattle.door_frame.proofs.making.closed.Given.{Over}
-use Rattle.door_frame.proofs.making.closed.Goals as goal
-use Rattle.door_frame.proofs.making.closed.Goals.{After-take}
-use Rattle.hoare_law.specs.Sizes.{kinds_of}
+use Rattle.door_frame.proofs.making.closed_as.Given.{Over}
+use Rattle.door_frame.proofs.making.closed_as.Goals as goal
+use Rattle.door_frame.proofs.making.closed_as.Goals.{After-take}
 
 pub loop-out-init : goal.loop-out-init
 loop-out-init g c =
     let D = g.D.MonitorData in
     let t = c.args.table.shared in
-    let d : DoorId = door_of t.table_id (g.W.Words.places t.key) c.args.wakers.items in
+    let d : DoorId = door_of t.table_id (g.W.Words.places t.key) g.J.PickedSleepers.sleepers in
     let o = c.in-Some.first in
-    let P = IsOut D.rest D.ready (kinds_of D.CONDITIONS D.MESA) d in
+    let P = IsOut D.rest D.ready (g.W.Words.kinds t.key) d in
     let mine =
     All-mid P c.pop.new.self.items o []
     (subst (All P) (c.in-Some.ensures.items ∙ sym (append-nil _)) c.requires.of) in (
@@ -33,9 +32,9 @@ join_seat-requires g c =
     let t = c.args.table.shared in
     let W = g.W.Words in
     let q = t.key in
-    let d : DoorId = door_of t.table_id (W.places q) c.args.wakers.items in
+    let d : DoorId = door_of t.table_id (W.places q) g.J.PickedSleepers.sleepers in
     let o = c.in-Some-pop.out in
-    let P = IsOut D.rest D.ready (kinds_of D.CONDITIONS D.MESA) d in
+    let P = IsOut D.rest D.ready (W.kinds q) d in
     let left = c.pop-in-loop-out.new.self.items in
     let items : c.args.outs.items ≡ (left ++ o ∷ []) ++ inv.1.0 =
     inv.1.1 ∙ ap (λ (l : List (PlaceOut g.row.D.Denot)). l ++ inv.1.0) c.in-Some-pop.ensures.items in
@@ -44,7 +43,7 @@ join_seat-requires g c =
       ap (λ (b : Berth). b.table) (c.into_parts-other.ensures.0 ∙ mine.of),
       ap (λ (m : Sat g.row.D.Denot). m.1) c.into_parts-other.ensures.2,
       search rules,
-      joins_one (W.starts q) (W.tells q) D.rest D.ready (kinds_of D.CONDITIONS D.MESA) d _ _ _ _ inv.1.0 o.place o.front
+      joins_one (W.starts q) (W.tells q) D.rest D.ready (W.kinds q) d _ _ _ _ inv.1.0 o.place o.front
           (ap (λ (m : Sat g.row.D.Denot). m.0) inv.1.2)
           (ap (λ (m : Sat g.row.D.Denot). m.0) c.into_parts-other.ensures.2),
     )
@@ -64,11 +63,17 @@ none_left : {A : Type 0} (n : ℕ) (l new : List A) → l ≡ new ++ [] → n �
 none_left n l new items none rest =
     let z : n - 1 ≡ 0 = omega arith in items ∙ (append-nil new ∙ (rest ∙ ap (λ (m : ℕ). take m l) z))
 
+pub unreachable-requires : goal.unreachable-requires
+unreachable-requires g c =
+    let p = c.in_default.ensures in
+    subst (λ (os : List (PlaceOut g.row.D.Denot)). HasPlace 0 os) (none_left _ _ _ p.items p.cases.0 p.rest)
+    (c.requires.places 0 c.requires.table.2)
+
 -- what is taken from the slot at the end
 ended : (g : Over) (c : After-take g) → let D = g.D.MonitorData in let t = c.args.table.shared in
     (l : Lodged g.row.D.Denot) × (c.take.result ≡ Some l)
-    × Ends D.rest D.ready (kinds_of D.CONDITIONS D.MESA)
-    (door_of t.table_id (g.W.Words.places t.key) c.args.wakers.items) c.args.outs.items l
+    × Ends D.rest D.ready (g.W.Words.kinds t.key)
+    (door_of t.table_id (g.W.Words.places t.key) g.J.PickedSleepers.sleepers) c.args.outs.items l
 ended g c =
     let inv = c.loop-out.invariant in
     let p = c.in_default-pop.ensures in

@@ -1,5 +1,5 @@
 use Rattle.door_frame.proofs.Seats.{took}
-use Rattle.baton_door.proofs.monitor.DoorTurnstile.try_admit.Goals as goal
+use Rattle.baton_door.proofs.table_steps.try_admit.Goals as goal
 
 pub try_in-requires-clause-outside : goal.try_in-requires-clause-outside
 try_in-requires-clause-outside g c = (c.args.place, c.requires.outside)

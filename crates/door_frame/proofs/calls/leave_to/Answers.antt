@@ -1,8 +1,8 @@
 use Rattle.hoare_law.specs.Beside.Erasure.{erased}
-use Rattle.door_frame.proofs.Departures.{gives_leave, left}
+use Rattle.door_frame.proofs.Departures.{gives_leave, left, next_leave}
 use Rattle.door_frame.proofs.Inside.{holds_unpacked, turn_in_hand}
-use Rattle.door_frame.proofs.Seats.{berth_as}
-use Rattle.door_frame.proofs.calls.leave.Goals as goal
+use Rattle.door_frame.proofs.Seats.{berth_on}
+use Rattle.door_frame.proofs.calls.leave_to.Goals as goal
 
 pub leave-next-requires : goal.leave-next-requires
 leave-next-requires g c =
@@ -20,7 +20,12 @@ of_parts-requires g c = (_, c.hand_on.ensures.away _ c.into_parts-seat.ensures.s
 pub returns : goal.returns
 returns g c =
     let h = holds_unpacked c.deref_mut.ensures.value c.parcel.view_is c.into_parts-seat.ensures c.requires.of in
-    let o =
-    left _ _ h c.requires.rest (berth_as _ c.hand_on.ensures.table)
-    (c.of_parts.ensures _ (c.hand_on.ensures.away _ h.me_is)) in
-    record { of = o.of; place = o.place; front = o.front }
+    let is = c.of_parts.ensures _ (c.hand_on.ensures.away _ h.me_is) in
+    let o = left _ _ h c.requires.rest (berth_on g.S.Parking.at _ c.hand_on.ensures.table) is in
+    record {
+      of = o.of;
+      place = o.place;
+      front = o.front;
+      next = next_leave _ _ _ _ h (c.leave-next.ensures.of (erased c.args.inside.front) h.book)
+          c.leave-next.ensures.next is;
+    }

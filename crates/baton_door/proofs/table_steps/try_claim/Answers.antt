@@ -1,25 +1,16 @@
-use Rattle.std.proofs.Common.{arith, ◌<◌, sym, ap, ◌∙◌, subst}
-use Rattle.door_frame.specs.Places.{DoorId}
+use Rattle.std.proofs.Common.{arith}
 use Rattle.door_frame.proofs.Seats.{took}
 use Rattle.baton_door.proofs.Steps.{claims_at}
-use Rattle.baton_door.proofs.monitor.DoorTurnstile.try_claim.Goals as goal
-use Rattle.hoare_law.specs.Sizes.{kinds_of}
-
-pub owed-mine-requires : goal.owed-mine-requires
-owed-mine-requires g c =
-    let small = subst (λ (d : DoorId). c.args.place < d.places) (sym c.self.view_is) c.requires.small in
-    let most = c.self.invariant.most in
-    omega (arith, small, most)
+use Rattle.baton_door.proofs.table_steps.try_claim.Goals as goal
 
 pub compare_exchange-requires : goal.compare_exchange-requires
 compare_exchange-requires g c =
     let away = c.requires.away in
     let D = g.D.MonitorData in
-    let table = c.requires.table ∙ ap (λ (d : DoorId). d.table) (sym c.self.view_is) in
-    let wide = c.self.invariant.words_are in (
-      table,
+    let wide = c.requires.wide in (
+      c.requires.table,
       omega (arith, wide),
-      claims_at D.rest D.ready (kinds_of D.CONDITIONS D.MESA) _ _ _ c.args.place away.0 _ _ away.1 c.owed-mine.ensures,
+      claims_at D.rest D.ready (g.K.DoorKey.kinds c.args.table.now.shared.key) _ _ _ c.args.place away.0 _ _ away.1 c.owed-mine.ensures,
     )
 
 pub take_parcel-requires-clause-full : goal.take_parcel-requires-clause-full

@@ -2,19 +2,20 @@ use Rattle.std.proofs.Common.{true, refl}
 use Rattle.hoare_law.specs.Beside.Erasure.{erased}
 use Rattle.hoare_law.specs.Growth.{just_left}
 use Rattle.wait_book.proofs.WithData.{none-listed}
-use Rattle.door_frame.proofs.Departures.{gives_handing, passed}
+use Rattle.door_frame.proofs.Departures.{gives_handing, passed, next_handing}
 use Rattle.door_frame.proofs.Inside.{holds_unpacked, turn_in_hand}
-use Rattle.door_frame.proofs.Seats.{berth_as}
-use Rattle.door_frame.proofs.calls.signal_leave.Goals as goal
+use Rattle.door_frame.proofs.Seats.{berth_on}
+use Rattle.door_frame.proofs.calls.signal_leave_to.Goals as goal
 
-pub leave-requires-clause-rest : goal.leave-requires-clause-rest
-leave-requires-clause-rest g c = c.requires.rest (none-listed _ c.if-not-queue.ensures.lists)
+pub leave_to-out-requires-clause-rest : goal.leave_to-out-requires-clause-rest
+leave_to-out-requires-clause-rest g c = c.requires.rest (none-listed _ c.if-not-queue.ensures.lists)
 
 pub returns-then-not-queue-clause-told : goal.returns-then-not-queue-clause-told
 returns-then-not-queue-clause-told g c = c.if-not-queue.ensures.lists
 
 pub returns-then-not-queue-clause-front : goal.returns-then-not-queue-clause-front
-returns-then-not-queue-clause-front g c = just_left (none-listed _ c.if-not-queue.ensures.front) c.leave.ensures.front
+returns-then-not-queue-clause-front g c =
+    just_left (none-listed _ c.if-not-queue.ensures.front) c.leave_to-out.ensures.front
 
 pub pass-next-requires-clause-inside : goal.pass-next-requires-clause-inside
 pass-next-requires-clause-inside g c =
@@ -34,7 +35,14 @@ pub returns : goal.returns
 returns g c =
     let h = holds_unpacked c.deref_mut.ensures.value c.parcel.view_is c.into_parts-seat.ensures c.requires.of in
     let some = (c.if-not-queue.ensures.lists).0 refl in
-    let o = passed c.args.condition _ _ _ _ h c.requires.hoare some (c.requires.ready some)
-    (c.pass-next.ensures.of (erased c.args.inside.front) h.book) c.pass-next.ensures.next
-    (berth_as _ c.hand_on.ensures.table) (c.of_parts.ensures _ (c.hand_on.ensures.away _ h.me_is)) in
-    record { of = o.of; place = o.place; told = ((λ _. some), λ _. refl); front = o.front }
+    let book = c.pass-next.ensures.of (erased c.args.inside.front) h.book in
+    let is = c.of_parts.ensures _ (c.hand_on.ensures.away _ h.me_is) in
+    let o = passed c.args.condition _ _ _ _ h c.requires.hoare some (c.requires.ready some) book
+    c.pass-next.ensures.next (berth_on g.S.Parking.at _ c.hand_on.ensures.table) is in
+    record {
+      of = o.of;
+      place = o.place;
+      told = ((λ _. some), λ _. refl);
+      front = o.front;
+      next = next_handing true c.args.condition _ _ _ _ h some book c.pass-next.ensures.next is;
+    }

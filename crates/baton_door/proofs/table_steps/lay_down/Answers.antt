@@ -1,22 +1,19 @@
-use Rattle.std.proofs.Common.{arith, sym, ap, ◌∙◌}
-use Rattle.door_frame.specs.Places.{DoorId}
+use Rattle.std.proofs.Common.{arith, ◌∙◌}
 use Rattle.door_frame.proofs.Parcels.{unpacked, laid_down}
 use Rattle.baton_door.proofs.Steps.{gives_at}
-use Rattle.baton_door.proofs.door.Door.lay_down.Goals as goal
-use Rattle.hoare_law.specs.Sizes.{kinds_of}
+use Rattle.baton_door.proofs.table_steps.lay_down.Goals as goal
 
 pub store-requires : goal.store-requires
 store-requires g c =
     let e = c.requires.event in
     let D = g.D.MonitorData in
-    let table = c.lay_parcel.ensures.table ∙ c.requires.table ∙ ap (λ (d : DoorId). d.table) (sym c.self.view_is) in
-    let wide = c.self.invariant.words_are in
+    let wide = c.requires.wide in
     let same = unpacked c.deref_mut.ensures.value c.parcel.view_is in
     let laid = c.lay_parcel.ensures.laid ∙ laid_down c.args.parcel same e.1 in (
-      table,
+      c.lay_parcel.ensures.table ∙ c.requires.table,
       omega (arith, wide),
       gives_at D.rest D.ready
-          (kinds_of D.CONDITIONS D.MESA) _ _ _ c.args.place e.0 c.args.parcel c.args.next g.J.PickedEvent.event _ _ laid
+          (g.K.DoorKey.kinds c.args.table.now.shared.key) _ _ _ c.args.place e.0 c.args.parcel c.args.next g.J.PickedEvent.event _ _ laid
           e.2 c.word_of_next.ensures,
     )
 

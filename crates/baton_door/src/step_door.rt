@@ -1,0 +1,203 @@
+//! A door whose calls are steps: none waits for another thread, and none wakes one.
+//!
+//! Who gives the monitor up is told who goes on, and wakes that place by means of its own; the place then tries to
+//! return. The calls are those of `door_frame::calls`: `try_enter`, `leave_to`, `begin_wait`, `begin_signal`,
+//! `signal_leave_to`, `try_return`, `notify` and `broadcast`.
+ghost use Rattle.std.specs.Prelude.{◌≡◌, ◌<◌, ◌≤◌, ◌⊎◌, ℕ, ⊤, IfOk, IfErr, Some, None, All};
+ghost use Rattle.hoare_law.specs.Events.{opened};
+ghost use Rattle.hoare_law.specs.Sizes.{kinds_of};
+ghost use Rattle.hoare_law.specs.Priorities.{nobody};
+ghost use Rattle.wait_book.specs.Contents.{IsPlaceBelow, make_refusal};
+ghost use Rattle.door_frame.specs.Places.{Closes, HasPlace, IsOut, places_from};
+ghost use Rattle.door_frame.specs.Steps.{MayGive, MayNote};
+ghost use Rattle.door_frame.specs.Seats.{GoesOut, StaysIn};
+ghost use Rattle.door_frame.specs.Departures.{event_of};
+ghost use Rattle.door_frame.specs.Notices.{event_of_notice};
+
+use crate::door::open;
+use crate::rule::{BatonWords, DoorTable};
+use crate::table_steps;
+use crate::word::{DOOR, FREE, owed};
+use door_frame::departure::Departure;
+use door_frame::looks::{BATON_LOOKS, Looks};
+use door_frame::making::{closed_as, deal_by_caller, vacant};
+use door_frame::notice::Notice;
+use door_frame::parcel::Parcel;
+use door_frame::place::Outside;
+use door_frame::plays::{DoorSeat, PickedEvent};
+use door_frame::turnstile::Turnstile;
+use door_frame::waking::ByCaller;
+use hoare_law::data::MonitorData;
+use hoare_law::event::Sizes;
+use std::alloc::Global;
+use std::marker::{Brand, Model};
+use wait_book::book::Book;
+use wait_book::steps::{MakeRefused, Next};
+
+/// A door whose calls are steps. After `make` no call takes memory.
+#[derive(Drop)]
+pub struct StepDoor<D: MonitorData> {
+    /// As in `Door`, but its key has the numbers of conditions too.
+    table: DoorTable<D, Sizes>,
+    sizes: Sizes,
+}
+
+impl<D: MonitorData> Model for StepDoor<D> {
+    ghost use Rattle.hoare_law.specs.Sizes.{kinds_of};
+    ghost use Rattle.door_frame.specs.Places.{door_of};
+    ghost use Rattle.std.specs.Prelude.{◌≡◌, []};
+    ghost use Rattle.baton_door.specs.Rule.{Sized};
+    ghost use Rattle.baton_door.specs.StepDoors.{StepId, step_id, AreSizes};
+
+    ghost Value = { StepId };
+
+    ghost view = { λ d. step_id (door_of d.table.shared.table_id d.table.shared.key.places [])
+        (kinds_of d.table.shared.key.conditions d.table.shared.key.mesa) };
+
+    ghost invariant = { λ d. Sized d.table.shared.table_id.words d.table.shared.table_id.slots
+        d.table.shared.key.places d.table.shared.key.places
+        × (d.sizes ≡ d.table.shared.key) × AreSizes d.table.shared.key };
+}
+
+impl<D: MonitorData> StepDoor<D> {
+    /// Makes a door of 1 to 64 places and 1 to 8 conditions, the last `mesa` of which are Mesa conditions, opened with the
+    /// data, and its places, in order. The conditions are these, whatever `D` says of its own. The caller owes `rest` with
+    /// nobody waiting. Refused, in this order: `BadPlaces`, `BadConditions` (also if `mesa` is over `conditions`), and
+    /// `Memory` if an allocation failed. The data come back with each refusal.
+    pub fn make(
+        alloc: Global,
+        state: D,
+        sizes: Sizes,
+    ) -> Result<(StepDoor<D>, Vec<Outside<D, ByCaller>>), (D, MakeRefused)>
+        requires rest { D.rest state nobody }
+        ensures made { IfOk result (λ r. (make_refusal sizes ≡ None)
+            × (r.0.door.places ≡ sizes.places) × (r.0.kinds ≡ kinds_of sizes.conditions sizes.mesa)) }
+        ensures of { IfOk result (λ r. All (IsOut D.rest D.ready r.0.kinds r.0.door) r.1.items) }
+        ensures places { IfOk result (λ r. r.1.items ≡ places_from r.0.door 0 sizes.places (opened sizes state)) }
+        ensures returned { IfErr result (λ e. e.0 ≡ state) }
+        ensures refused { IfErr result (λ e. (make_refusal sizes ≡ Some e.1)
+            ⊎ ((make_refusal sizes ≡ None) × (e.1 ≡ MakeRefused.Memory))) }
+    {
+        let book = match Book::make(alloc, sizes.places, sizes.conditions, sizes.mesa) {
+            Ok(book) => book,
+            Err(refused) => return Err((state, refused)),
+        };
+        let Ok(outs) = Vec::with_capacity(alloc, sizes.places) else {
+            return Err((state, MakeRefused::Memory));
+        };
+        let (table, mut seat, parcel) = match vacant::<D, Sizes, BatonWords>(
+            alloc, state, book, &[FREE; 8], &sizes,
+        ) {
+            Ok(made) => made,
+            Err(state) => return Err((state, MakeRefused::Memory)),
+        };
+        open::<D, Sizes, Brand>(&table, &mut seat, parcel);
+        let outs = deal_by_caller(&table, seat, outs, sizes.places);
+        Ok((StepDoor { table, sizes }, outs))
+    }
+
+    /// Returns the numbers of places, conditions and Mesa conditions.
+    #[inline]
+    pub fn sizes(&self) -> Sizes
+        ensures places { result.places ≡ self.now.door.places }
+        ensures kinds { (result.conditions ≡ self.now.kinds.conditions) × (result.mesa ≡ self.now.kinds.mesa) }
+        ensures few { (result.places ≤ 64) × (result.conditions ≤ 8) × (result.mesa ≤ result.conditions) }
+    {
+        self.sizes
+    }
+
+    /// Takes the door apart. All of its places are handed in, in any order. The data are at rest with nobody waiting, and
+    /// those that one legal and lawful history left, which begins with what each place knows and in which no place did
+    /// anything else.
+    pub fn close(self, outs: Vec<Outside<D, ByCaller>>) -> D
+        requires of { All (IsOut D.rest D.ready self.kinds self.door) outs.items }
+        requires places { (k : ℕ) → k < self.door.places → HasPlace k outs.items }
+        ensures closes { Closes D.rest D.ready self.kinds self.door outs.items result }
+        ensures rest { D.rest result nobody }
+    {
+        let StepDoor { table, sizes: _ } = self;
+        closed_as::<D, Sizes, BatonWords, ByCaller, (), Brand>(table, (), outs)
+    }
+
+    /// Gives the parcel back by an event that the call picks. `departure` is there for the pick alone.
+    #[inline(always)] // as `table_steps::lay_down` is
+    fn give<J: PickedEvent<D>>(
+        &self,
+        seat: &mut DoorSeat<D>,
+        parcel: Parcel<D>,
+        place: usize,
+        departure: Departure,
+        next: Next,
+    )
+        requires table { seat.old.table_id ≡ self.now.door.table }
+        requires next { IsPlaceBelow self.now.door.places next }
+        requires event { MayGive D.rest D.ready J.event place seat.old.me parcel next }
+        ensures table { seat.new.table_id ≡ seat.old.table_id }
+        ensures away { GoesOut place J.event seat.old.me parcel.state seat.new.me }
+    {
+        table_steps::lay_down::<D, Sizes, J>(&self.table, seat, parcel, place, 1, next)
+    }
+}
+
+impl<D: MonitorData> Turnstile<D> for StepDoor<D> {
+    ghost id = { λ d. d.door };
+
+    ghost kinds = { λ d. d.kinds };
+
+    type Shown = ();
+
+    /// It wakes nobody.
+    ghost is_woken = { λ d next shown. ⊤ };
+
+    fn looks(&self) -> Looks {
+        BATON_LOOKS
+    }
+
+    #[inline]
+    fn try_admit(&self, seat: &mut DoorSeat<D>, place: usize) -> Option<Parcel<D>> {
+        table_steps::try_admit(&self.table, seat, place)
+    }
+
+    #[inline]
+    fn is_owed(&self, place: usize) -> bool {
+        self.table.shared.peek(DOOR) == owed(place)
+    }
+
+    #[inline]
+    fn try_claim(&self, seat: &mut DoorSeat<D>, place: usize) -> Option<Parcel<D>> {
+        table_steps::try_claim(&self.table, seat, place)
+    }
+
+    #[inline(always)] // as `give` is
+    fn hand_on(
+        &self,
+        seat: &mut DoorSeat<D>,
+        parcel: Parcel<D>,
+        place: usize,
+        departure: Departure,
+        next: Next,
+    )
+        requires table { seat.old.table_id ≡ self.now.door.table }
+        requires next { IsPlaceBelow self.now.door.places next }
+        requires event { MayGive D.rest D.ready (event_of place departure next) place
+            seat.old.me parcel next }
+        ensures table { seat.new.table_id ≡ seat.old.table_id }
+        ensures away { GoesOut place (event_of place departure next)
+            seat.old.me parcel.state seat.new.me }
+        ensures woken { ⊤ }
+    {
+        self.give::<Brand>(seat, parcel, place, departure, next)
+    }
+
+    #[inline]
+    fn note(&self, seat: &mut DoorSeat<D>, parcel: &Parcel<D>, place: usize, notice: Notice)
+        requires table { seat.old.table_id ≡ self.now.door.table }
+        requires event { MayNote D.rest D.ready (event_of_notice place notice parcel.now.state)
+            place seat.old.me }
+        ensures table { seat.new.table_id ≡ seat.old.table_id }
+        ensures stays { StaysIn place (event_of_notice place notice parcel.now.state)
+            seat.old.me seat.new.me }
+    {
+        table_steps::tell::<D, Sizes, Brand>(&self.table, seat, parcel, place, notice)
+    }
+}

@@ -1,0 +1,128 @@
+//! What a door does with its word, by its table alone. No function here waits for another thread, or wakes one.
+ghost use Rattle.std.specs.Prelude.{◌≡◌, ◌<◌, true, false, IfSome, IfNone};
+ghost use Rattle.hoare_law.specs.declared.event.History.{History};
+ghost use Rattle.hoare_law.specs.declared.event.Event.TheVariants as event;
+ghost use Rattle.wait_book.specs.Contents.{IsPlaceBelow};
+ghost use Rattle.door_frame.specs.Steps.{MayGive, MayNote, due};
+ghost use Rattle.door_frame.specs.Seats.{IsEmptyHanded, IsBehind, IsNewcomer, ComesIn, GoesOut, StaysIn};
+ghost use Rattle.baton_door.specs.Newcomers.{IsOutside, IsLetIn};
+
+use crate::rule::{Admit, Claim, DoorKey, DoorTable};
+use crate::word::{DOOR, FREE, HELD, owed, word_of_next};
+use door_frame::notice::Notice;
+use door_frame::parcel::Parcel;
+use door_frame::plays::{DoorSeat, Give, Note, PickedEvent, PickedNotice};
+use door_frame::slot::{lay_parcel, take_parcel};
+use hoare_law::data::MonitorData;
+use wait_book::steps::Next;
+
+/// One try of a newcomer: whether the monitor was free, and the place is in.
+#[inline]
+pub(crate) fn try_in<D: MonitorData, K: DoorKey<D>>(
+    table: &DoorTable<D, K>,
+    seat: &mut DoorSeat<D>,
+) -> bool
+    requires table { seat.old.table_id ≡ table.now.shared.table_id }
+    requires wide { table.now.shared.table_id.words ≡ 8 }
+    requires outside { IsOutside seat.old.me }
+    ensures table { seat.new.table_id ≡ seat.old.table_id }
+    ensures turned_away { result ≡ false → seat.new.me ≡ seat.old.me }
+    ensures let_in { result ≡ true → IsLetIn D.rest D.ready seat.old.me seat.new.me }
+{
+    table
+        .shared
+        .compare_exchange::<Admit>(seat, DOOR, FREE, HELD)
+        == FREE
+}
+
+/// The same, where it takes the parcel.
+#[inline]
+pub(crate) fn try_admit<D: MonitorData, K: DoorKey<D>>(
+    table: &DoorTable<D, K>,
+    seat: &mut DoorSeat<D>,
+    place: usize,
+) -> Option<Parcel<D>>
+    requires table { seat.old.table_id ≡ table.now.shared.table_id }
+    requires wide { table.now.shared.table_id.words ≡ 8 }
+    requires outside { IsNewcomer place seat.old.me }
+    ensures table { seat.new.table_id ≡ seat.old.table_id }
+    ensures came { IfSome result (λ parcel. ComesIn D.rest D.ready place (λ f. event.Admit place)
+        seat.old.me parcel seat.new.me) }
+    ensures same { IfNone result (seat.new.me ≡ seat.old.me) }
+{
+    if !try_in(table, seat) {
+        return None;
+    }
+    Some(take_parcel(table, seat))
+}
+
+/// One test of the word: "no" where its exchange doesn't find the monitor owed to the place.
+#[inline]
+pub(crate) fn try_claim<D: MonitorData, K: DoorKey<D>>(
+    table: &DoorTable<D, K>,
+    seat: &mut DoorSeat<D>,
+    place: usize,
+) -> Option<Parcel<D>>
+    requires table { seat.old.table_id ≡ table.now.shared.table_id }
+    requires wide { table.now.shared.table_id.words ≡ 8 }
+    requires small { place < 64 }
+    requires away { (f : History D) × IsEmptyHanded place f seat.old.me }
+    ensures table { seat.new.table_id ≡ seat.old.table_id }
+    ensures came { IfSome result (λ parcel. ComesIn D.rest D.ready place (due place)
+        seat.old.me parcel seat.new.me) }
+    ensures same { IfNone result (seat.new.me ≡ seat.old.me) }
+{
+    let mine = owed(place);
+    if table
+        .shared
+        .compare_exchange::<Claim>(seat, DOOR, mine, HELD)
+        == mine
+    {
+        return Some(take_parcel(table, seat));
+    }
+    None
+}
+
+/// Lays the parcel down by an event that the call picks, and writes who goes on.
+#[inline(always)] // a plain leave is short where it knows that nobody goes on
+pub(crate) fn lay_down<D: MonitorData, K: DoorKey<D>, J: PickedEvent<D>>(
+    table: &DoorTable<D, K>,
+    seat: &mut DoorSeat<D>,
+    mut parcel: Parcel<D>,
+    place: usize,
+    since_handed: u32,
+    next: Next,
+)
+    requires table { seat.old.table_id ≡ table.now.shared.table_id }
+    requires wide { table.now.shared.table_id.words ≡ 8 }
+    requires next { IsPlaceBelow 64 next }
+    requires event { MayGive D.rest D.ready J.event place seat.old.me parcel next }
+    ensures table { seat.new.table_id ≡ seat.old.table_id }
+    ensures away { GoesOut place J.event seat.old.me parcel.state seat.new.me }
+    ensures behind { IsBehind seat.new.me }
+{
+    parcel.held.since_handed = since_handed;
+    lay_parcel(table, seat, parcel);
+    table
+        .shared
+        .store::<Give<J>>(seat, DOOR, word_of_next(next));
+}
+
+/// A look at the word by which the place inside comes to know of an event that the call picks. What is found isn't
+/// looked at. `parcel` and `notice` are there for the pick alone.
+#[inline]
+pub(crate) fn tell<D: MonitorData, K: DoorKey<D>, J: PickedNotice<D>>(
+    table: &DoorTable<D, K>,
+    seat: &mut DoorSeat<D>,
+    parcel: &Parcel<D>,
+    place: usize,
+    notice: Notice,
+)
+    requires table { seat.old.table_id ≡ table.now.shared.table_id }
+    requires wide { table.now.shared.table_id.words ≡ 8 }
+    requires event { MayNote D.rest D.ready J.event place seat.old.me }
+    ensures table { seat.new.table_id ≡ seat.old.table_id }
+    ensures stays { StaysIn place J.event seat.old.me seat.new.me }
+{
+    table.shared.load::<Note<J>>(seat, DOOR);
+}

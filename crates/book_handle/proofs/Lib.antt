@@ -1,2 +1,0 @@
-mod Values
-mod Handles

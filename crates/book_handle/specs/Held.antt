@@ -1,13 +1,7 @@
--- What a handle owns, and which book C holds.
-use Rattle.std.specs.Prelude.{ℕ, zero, suc, ◌≡◌}
-use base.Fml.{Fml, ftrue}
+-- Which book C holds.
+use Rattle.std.specs.Prelude.{ℕ, ◌≡◌}
 use Rattle.hoare_law.specs.declared.event.History.{History}
 use Rattle.wait_book.specs.Contents.{Contents, IsOf}
-
--- nothing where it is of no book, else the book
-abbrev pub held : ℕ → Fml → Fml
-held zero book = ftrue
-held (suc n) book = book
 
 -- there is a book, and it is of the history
 pub record Holds (live : ℕ) (book : Contents) (h : History (Unit {0})) : Type 0 where

@@ -1,2 +1,3 @@
 pub mod Held
 pub mod Codes
+pub mod Words

@@ -3,5 +3,4 @@
 
 pub mod codes;
 pub mod handle;
-mod loose;
 pub mod place;

@@ -126,7 +126,7 @@ module _ {D : Type 0} where
                 front = AddsLast-one o.place o.front c.log e refl c.begins c.own_are;
               })
 
-      -- a place that was gone is inside again, back from what it did last
+      -- a place that was away is inside again: it returned from its last event
       pub came_back : {k : ℕ} {y : Lodged D} {m : Sat D} (o : PlaceOut D) (t : Berth) (j : PlaceIn D)
           → IsAway rest ready kinds d o
           → t ≡ o.berth → k ≡ o.place → (b : Came rest ready k o.front (due k o.front) y None m)
@@ -187,7 +187,7 @@ module _ {D : Type 0} where
                     });
               })
 
-      -- back from a wait, to who knows of its beginning
+      -- both halves of a wait: the place i waited and was then away as o, and returned as j
       pub waited_back : (o : PlaceOut D) (i j : PlaceIn D) (c p : ℕ) → o.place ≡ i.place
           → o.front ≡ with_event i.front (Wait i.place c p i.state)
           → IsBack rest ready kinds d o j
@@ -197,7 +197,7 @@ module _ {D : Type 0} where
           (λ (k : ℕ). o.front ≡ with_event i.front (Wait k c p i.state)
           → IsResumed rest ready kinds k i.front c p i.state j) place (back.resumed i.front c p i.state) front
 
-      -- back from a signal
+      -- both halves of a signal
       pub signalled_back : (o : PlaceOut D) (i j : PlaceIn D) (c : ℕ) → o.place ≡ i.place → HandsTo c i o.front
           → IsBack rest ready kinds d o j
           → Signals i.place c i.state j.state i.front j.front true × rest j.state (priorities j.front.events)

@@ -79,14 +79,14 @@ module _ {D : Type 0} where
     pub place : o.place ≡ k
     pub front : o.front ≡ h
 
-  -- what a call that gave the monitor up for a while says of the place that is gone
+  -- what a call by which a place is away says of that place
   pub record Departs (rest : Rest D) (ready : Ready D) (kinds : Kinds) (d : DoorId) (k : ℕ) (h : History D)
       (o : PlaceOut D) : Type 0 where
     pub of : IsAway rest ready kinds d o
     pub place : o.place ≡ k
     pub front : o.front ≡ h
 
-  -- what a signal that resumed somebody says of the place that is gone
+  -- what a signal that resumed a waiter says of the place that is away
   pub record Signalled (rest : Rest D) (ready : Ready D) (kinds : Kinds) (d : DoorId) (i : PlaceIn D) (c : ℕ)
       (o : PlaceOut D) : Type 0 where
     pub of : IsAway rest ready kinds d o
@@ -246,7 +246,7 @@ module _ {D : Type 0} where
           front = refl;
         })
 
-    -- who goes on after the event
+    -- which place resumes next after the event
     next_after : (e : Event D) (b : Contents) (who : Next) (z : Berth) (o : PlaceOut D)
         → Holds rest ready kinds d i t k f me x
         → IsOf b (erased (with_event f e)) → who ≡ next_of b.turn → o ≡ place_out z k (with_event f e)
@@ -279,7 +279,7 @@ module _ {D : Type 0} where
         (subst (λ (j : ℕ). IsOf b (erased (with_event f (handing out k c j x.state)))) (sym r.goes_on)
         (IsOf-handing out b f k c r.chosen_one x.state r.is book)) answered is
 
-    -- the place after an event by which it is gone for a while
+    -- the place after an event by which it is away
     went_off : (e : Event D) (z : Berth) (o : PlaceOut D) → Holds rest ready kinds d i t k f me x
         → Allowed f e → Owes rest ready f.events e → Released k (with_event f e) → z ≡ t
         → o ≡ place_out z k (with_event f e)

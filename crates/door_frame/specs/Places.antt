@@ -88,13 +88,13 @@ module _ {D : Type 0} where
     pub begins : Begins o.front h
     pub own_are : own o.place h.events ≡ own o.place o.front.events
 
-  -- the place i handed the monitor to the one that is chosen on c, by a signal; its front is g then
+  -- the place i handed the monitor off to the chosen waiter on c, by a signal; its front is then g
   pub record HandsTo (c : ℕ) (i : PlaceIn D) (g : History D) : Type 0 where
     pub goes_on : ℕ
     pub is_chosen : Chooses c i.front.events goes_on
     pub front : g ≡ with_event i.front (Signal i.place c goes_on i.state)
 
-  -- what the place k did last, by which it gave the monitor up and is to come back
+  -- the last event of the place k, by which it released the monitor and is away: a wait or a signal
   pub data Released (k : ℕ) (g : History D) : Type 0 where
     waits : (f : History D) (c p : ℕ) (s : D) → g ≡ with_event f (Wait k c p s) → Released k g
     signalled : (f : History D) (c w : ℕ) (s : D) → g ≡ with_event f (Signal k c w s) → Released k g
@@ -116,7 +116,8 @@ module _ {D : Type 0} where
       pub stands : Stands rest ready i.front
       pub is_inside : turn i.front.events ≡ Held i.place
 
-    -- the same of a place that waits or signalled
+    -- the place that is away is of the door: it parks where it is woken, and what it knows is legal and lawful, and
+    -- ends with its wait or its signal
     pub record IsAway (door : DoorId) (o : PlaceOut D) : Type 0 where
       pub of : o.berth ≡ berth_at door o.place
       pub sized : o.front.sizes ≡ sizes_at kinds door.places
@@ -124,18 +125,18 @@ module _ {D : Type 0} where
       pub stands : Stands rest ready o.front
       pub went : Released o.place o.front
 
-    -- the place is inside again with the data t and this front, where f was its front before it waited
+    -- the place k, whose front was f before it waited on c with the data s, is inside again as i
     pub record IsResumed (k : ℕ) (f : History D) (c p : ℕ) (s : D) (i : PlaceIn D) : Type 0 where
       pub front : AddsTwo f (Wait k c p s) (Resume k c i.state) i.front
       pub is_ready : IsHoare kinds.conditions kinds.mesa c → ready c p i.state (priorities i.front.events)
       pub rests : IsMesa kinds.conditions kinds.mesa c → rest i.state (priorities i.front.events)
 
-    -- the same of one that signalled
+    -- the place k, whose front was f before it signalled c with the data s, is inside again as i
     pub record IsReturned (k : ℕ) (f : History D) (c w : ℕ) (s : D) (i : PlaceIn D) : Type 0 where
       pub front : AddsTwo f (Signal k c w s) (Back k i.state) i.front
       pub rests : rest i.state (priorities i.front.events)
 
-    -- the place that was gone is inside again: back from what it did last
+    -- the place o, which was away, is inside again as i: it returned from its last event
     pub record IsBack (door : DoorId) (o : PlaceOut D) (i : PlaceIn D) : Type 0 where
       pub of : IsIn door i
       pub place : i.place ≡ o.place

@@ -1,4 +1,4 @@
-//! The calls of a monitor, on any door.
+//! The calls of a monitor, on any door, and the halves of which they are made.
 ghost use Rattle.std.specs.Prelude.{◌≡◌, ◌≢◌, ◌<◌, ◌↔◌, ℕ, [], length, true, false, IsTrue, None, IfOk, IfErr};
 ghost use Rattle.hoare_law.specs.declared.event.History.{History};
 ghost use Rattle.hoare_law.specs.declared.event.Event.TheVariants as event;
@@ -26,7 +26,7 @@ use std::sync::Wait;
 use wait_book::book::Book;
 use wait_book::steps::Next;
 
-/// Who was let in is inside, with the parcel.
+/// Makes a place inside of the parts of a place that was just admitted, and enters it in the queue book.
 #[inline]
 pub fn brought_in<D: MonitorData, S: Parking>(
     seat: DoorSeat<D>,
@@ -45,7 +45,8 @@ pub fn brought_in<D: MonitorData, S: Parking>(
     Inside::of_parts(seat, place, sleeper, parcel)
 }
 
-/// Who was owed the monitor is inside again, with the parcel: back from a wait or from a signal.
+/// Makes a place inside of the parts of a place that just returned from a wait or a signal, and records its return in
+/// the queue book.
 #[inline]
 fn brought_back<D: MonitorData, S: Parking>(
     seat: DoorSeat<D>,
@@ -63,7 +64,8 @@ fn brought_back<D: MonitorData, S: Parking>(
     Inside::of_parts(seat, place, sleeper, parcel)
 }
 
-/// `Monitor::try_enter`.
+/// Implements `Monitor::try_enter`: enters if the door admits the place at this moment, else returns the place
+/// unchanged.
 #[inline]
 pub fn try_enter<D: MonitorData, T: Turnstile<D>, S: Parking>(
     door: &T,
@@ -85,7 +87,8 @@ pub fn try_enter<D: MonitorData, T: Turnstile<D>, S: Parking>(
     }
 }
 
-/// `Monitor::leave`. It answers who goes on: where the door doesn't wake its places, the caller does.
+/// Leaves as `Monitor::leave` does, and also returns which place resumes next. If the door doesn't wake its places, the
+/// caller wakes that place.
 #[inline(always)] // as `leave` is
 pub fn leave_to<D: MonitorData, T: Turnstile<D>, S: Parking>(
     door: &T,
@@ -105,8 +108,8 @@ pub fn leave_to<D: MonitorData, T: Turnstile<D>, S: Parking>(
     (Outside::of_parts(seat, place, sleeper), next)
 }
 
-/// `Monitor::leave`.
-#[inline(always)] // else a door whose `hand_on` is in line has it called
+/// Implements `Monitor::leave`.
+#[inline(always)] // else an inlined `hand_on` of the door is called
 pub fn leave<D: MonitorData, T: Turnstile<D>, S: Parking>(
     door: &T,
     inside: Inside<D, S>,
@@ -121,8 +124,8 @@ pub fn leave<D: MonitorData, T: Turnstile<D>, S: Parking>(
     out
 }
 
-/// The first half of `Monitor::wait`: the place gives the monitor up, and is to come back. It answers who goes on, as
-/// `leave_to`.
+/// Does the first half of `Monitor::wait`: releases the monitor. The place is then away, and returns by `try_return`.
+/// Also returns which place resumes next. If the door doesn't wake its places, the caller wakes that place.
 #[inline]
 pub fn begin_wait<D: MonitorData, T: Turnstile<D>, S: Parking>(
     door: &T,
@@ -152,8 +155,9 @@ pub fn begin_wait<D: MonitorData, T: Turnstile<D>, S: Parking>(
     (Away::of_parts(seat, place, sleeper), next)
 }
 
-/// The first half of `Monitor::signal`: where somebody waits there, the place hands the monitor over, and is to come
-/// back. It answers who goes on. Where nobody waits the place stays inside, as it was.
+/// Does the first half of `Monitor::signal`. If a place waits on `condition`, hands the monitor off to it: the place
+/// that signals is then away, and returns by `try_return`; also returns which place resumes next. If the door doesn't
+/// wake its places, the caller wakes that place. If no place waits there, returns the place inside, unchanged.
 #[inline]
 pub fn begin_signal<D: MonitorData, T: Turnstile<D>, S: Parking>(
     door: &T,
@@ -182,8 +186,8 @@ pub fn begin_signal<D: MonitorData, T: Turnstile<D>, S: Parking>(
     Ok((Away::of_parts(seat, place, sleeper), next))
 }
 
-/// The second half of `Monitor::wait` and of `Monitor::signal`, if it is its turn at this moment: the place is inside
-/// again, else it is away as before. It waits for nobody.
+/// Does the second half of `Monitor::wait` and of `Monitor::signal` if the monitor is owed to the place at this moment:
+/// the place is inside again. Else returns the place unchanged. Never blocks.
 #[inline]
 pub fn try_return<D: MonitorData, T: Turnstile<D>, S: Parking>(
     door: &T,
@@ -201,7 +205,8 @@ pub fn try_return<D: MonitorData, T: Turnstile<D>, S: Parking>(
     }
 }
 
-/// The second half, for a place that the door wakes: it waits until it is its turn.
+/// Does the second half of `Monitor::wait` and of `Monitor::signal` at a door that wakes its places: polls at most
+/// `looks` times, then parks until the monitor is owed to the place.
 #[inline]
 fn come_back<D: MonitorData, T: Wakes<D>, R: Wait>(
     door: &T,
@@ -217,7 +222,7 @@ fn come_back<D: MonitorData, T: Wakes<D>, R: Wait>(
     brought_back(seat, place, sleeper, parcel)
 }
 
-/// `Monitor::wait`.
+/// Implements `Monitor::wait`, at a door that wakes its places.
 pub fn wait<D: MonitorData, T: Wakes<D>, R: Wait>(
     door: &T,
     rt: &R,
@@ -242,7 +247,7 @@ pub fn wait<D: MonitorData, T: Wakes<D>, R: Wait>(
     come_back(door, rt, away, door.looks().waiter)
 }
 
-/// `Monitor::signal`.
+/// Implements `Monitor::signal`, at a door that wakes its places.
 pub fn signal<D: MonitorData, T: Wakes<D>, R: Wait>(
     door: &T,
     rt: &R,
@@ -267,7 +272,8 @@ pub fn signal<D: MonitorData, T: Wakes<D>, R: Wait>(
     }
 }
 
-/// `Monitor::signal_leave`. It answers who goes on, as `leave_to`.
+/// Signals and leaves as `Monitor::signal_leave` does, and also returns which place resumes next. If the door doesn't
+/// wake its places, the caller wakes that place.
 #[inline(always)] // as `signal_leave` is
 pub fn signal_leave_to<D: MonitorData, T: Turnstile<D>, S: Parking>(
     door: &T,
@@ -296,8 +302,8 @@ pub fn signal_leave_to<D: MonitorData, T: Turnstile<D>, S: Parking>(
     (Outside::of_parts(seat, place, sleeper), true, next)
 }
 
-/// `Monitor::signal_leave`.
-#[inline(always)] // as `leave` is, which it is where nobody waits
+/// Implements `Monitor::signal_leave`.
+#[inline(always)] // as `leave` is, which it calls if nobody waits
 pub fn signal_leave<D: MonitorData, T: Turnstile<D>, S: Parking>(
     door: &T,
     inside: Inside<D, S>,
@@ -318,7 +324,7 @@ pub fn signal_leave<D: MonitorData, T: Turnstile<D>, S: Parking>(
     (out, told)
 }
 
-/// The book calls those that the notice calls. How many they are is told of a broadcast.
+/// Records `notice` of `place` in the queue book. Returns how many waiters it notified (specified of a broadcast only).
 #[inline]
 fn book_calls(book: &mut Book, place: usize, notice: Notice) -> usize
     requires inside { book.old.turn ≡ turns.Held place }
@@ -333,8 +339,8 @@ fn book_calls(book: &mut Book, place: usize, notice: Notice) -> usize
     }
 }
 
-/// Who is inside calls those that the notice calls, where somebody waits there. How many they are is told of a
-/// broadcast.
+/// Notifies the waiters that `notice` names, of whom there is at least one. Returns how many it notified (specified of
+/// a broadcast only).
 #[inline]
 fn call<D: MonitorData, T: Turnstile<D>, S: Parking>(
     door: &T,
@@ -354,7 +360,7 @@ fn call<D: MonitorData, T: Turnstile<D>, S: Parking>(
     book_calls(&mut parcel.held.lodged.book, place, notice)
 }
 
-/// `Monitor::notify`.
+/// Implements `Monitor::notify`.
 pub fn notify<D: MonitorData, T: Turnstile<D>, S: Parking>(
     door: &T,
     inside: &mut Inside<D, S>,
@@ -378,7 +384,7 @@ pub fn notify<D: MonitorData, T: Turnstile<D>, S: Parking>(
     true
 }
 
-/// `Monitor::broadcast`.
+/// Implements `Monitor::broadcast`.
 pub fn broadcast<D: MonitorData, T: Turnstile<D>, S: Parking>(
     door: &T,
     inside: &mut Inside<D, S>,

@@ -11,14 +11,14 @@ use crate::parcel::Parcel;
 use crate::place::Outside;
 use crate::plays::{Deal, DoorSeat, Gather};
 use crate::rule::{DoorTable, Words};
-use crate::waking::{Parking, ByCaller, Sleeper, Waker};
+use crate::waking::{ByCaller, Parking, Sleeper, Waker};
 use atomic_table::Table;
 use hoare_law::data::MonitorData;
 use std::alloc::{AllocError, Global};
 use std::marker::Brand;
 use wait_book::book::Book;
 
-/// What each place sleeps on, the last place's first, and what wakes each, the first place's first.
+/// Creates what each of `places` places parks on, the last place's first, and what wakes each, the first place's first.
 pub fn sleepers(alloc: Global, places: usize) -> Result<(Vec<Sleeper>, Vec<Waker>), AllocError>
     ensures sizes { IfOk result (λ r. (vec_len r.0 ≡ places) × (vec_len r.1 ≡ places)) }
     ensures each_wakes { IfOk result (λ r. r.1.items ≡ reverse r.0.items) }
@@ -34,8 +34,9 @@ pub fn sleepers(alloc: Global, places: usize) -> Result<(Vec<Sleeper>, Vec<Waker
     Ok((sleepers, wakers))
 }
 
-/// A table whose slot is empty, its first seat, and what is to lie in the slot. Where memory is refused, the data come
-/// back: so the slot is empty at first, and the door's own two opening steps take it and give it back with the parcel.
+/// Creates a table whose slot is empty, its first seat, and the parcel that is to go into the slot. Returns the data if
+/// an allocation failed: that is why the slot is empty at first, and the door's own two opening steps take it and put
+/// it back with the parcel.
 pub fn vacant<D: MonitorData, K, W: Words<D, K>>(
     alloc: Global,
     state: D,
@@ -58,7 +59,7 @@ pub fn vacant<D: MonitorData, K, W: Words<D, K>>(
     }
 }
 
-/// The places, each with what it sleeps on, of a seat that stands for all of them.
+/// Creates the places of a door that wakes them, each with what it parks on, from a seat that stands for all of them.
 pub fn deal<D: MonitorData, K, W: Words<D, K>>(
     table: &DoorTable<D, K, W>,
     mut seat: DoorSeat<D>,
@@ -81,7 +82,7 @@ pub fn deal<D: MonitorData, K, W: Words<D, K>>(
     outs
 }
 
-/// The places of a door that wakes none of them, of a seat that stands for all of them.
+/// Creates the places of a door that wakes none of them, from a seat that stands for all of them.
 pub fn deal_by_caller<D: MonitorData, K, W: Words<D, K>>(
     table: &DoorTable<D, K, W>,
     mut seat: DoorSeat<D>,
@@ -102,12 +103,12 @@ pub fn deal_by_caller<D: MonitorData, K, W: Words<D, K>>(
     outs
 }
 
-/// What the places of a door sleep on, the first place's first. Each call picks it.
+/// What the places of a door park on, the first place's first. Each call of `closed_as` picks it.
 pub trait PickedSleepers {
     ghost use Rattle.std.specs.Prelude.{List};
     ghost use Rattle.atomic_table.specs.Seated.{TableId};
 
-    /// Which they are.
+    /// Identifies what each place parks on.
     ghost sleepers: { List TableId };
 }
 
@@ -117,8 +118,8 @@ impl PickedSleepers for Brand {
     ghost sleepers = { [] };
 }
 
-/// Takes the door's table apart: all places are handed in, in any order. The data are those that one legal and lawful
-/// history left, and at rest with nobody waiting. `_wakers` are there for the pick alone.
+/// Takes a door's table apart. All places are handed in, in any order. Returns the data that one legal and lawful
+/// history left, at rest with nobody waiting. `_wakers` only serves to pick `J`.
 pub fn closed_as<D: MonitorData, K, W: Words<D, K>, S: Parking + Drop, V: Drop, J: PickedSleepers>(
     table: DoorTable<D, K, W>,
     _wakers: V,
@@ -147,7 +148,8 @@ pub fn closed_as<D: MonitorData, K, W: Words<D, K>, S: Parking + Drop, V: Drop, 
     parcel.into_data()
 }
 
-/// The same of a door that wakes its places.
+/// Takes the table of a door that wakes its places apart. All places are handed in, in any order. Returns the data that
+/// one legal and lawful history left, at rest with nobody waiting.
 pub fn closed<D: MonitorData, K, W: Words<D, K>>(
     table: DoorTable<D, K, W>,
     wakers: Vec<Waker>,

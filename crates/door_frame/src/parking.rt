@@ -1,15 +1,15 @@
-//! How a place sleeps until the monitor is owed to it, on any door, and why no wake is lost.
+//! How a place parks until the monitor is owed to it, on any door, and why no wake-up is lost.
 //!
-//! Each place that waits or signalled has one word that says whether the monitor is owed to it. Only who gives the
-//! monitor up makes the word say so, and only the place itself makes it say so no longer.
+//! Each place that waits or has signalled has one word that says whether the monitor is owed to it. Only the thread
+//! that releases the monitor sets it; only the place itself clears it.
 //!
-//! - The place tests its word before each sleep (`claim`).
-//! - Who gives the monitor up writes the word first and wakes the place then (`Turnstile::hand_on`, `Waker::wake`).
-//! - A sleeper keeps one permit: where the place is woken while it is awake, its next sleep returns at once.
+//! - The place tests its word before each park (`claim`).
+//! - The releasing thread first writes the word, then unparks the place (`Turnstile::hand_on`, `Waker::wake`).
+//! - A parker holds one permit: if the place is awake when it is unparked, its next park returns at once.
 //!
-//! So a test that comes after the write finds the monitor owed. Where a test comes before the write, the waking comes
-//! after the test, and ends the sleep that follows, or is the permit by which that sleep returns at once; then the next
-//! test finds it. A place that is woken by the permit of an earlier wait finds the word unchanged, and sleeps again.
+//! A test after the write finds the monitor owed. If the test comes before the write, the unpark comes after the test:
+//! it ends the park that follows, or is the permit with which that park returns at once; the next test then succeeds. A
+//! stale permit of an earlier wait costs one extra test: the word is unchanged, and the place parks again.
 ghost use Rattle.std.specs.Prelude.{◌≡◌, ◌<◌};
 ghost use Rattle.hoare_law.specs.declared.event.History.{History};
 ghost use Rattle.door_frame.specs.Places.{sleeper_at};
@@ -24,7 +24,7 @@ use crate::waking::Sleeper;
 use hoare_law::data::MonitorData;
 use std::sync::Wait;
 
-/// Looks so many times whether the monitor is owed to the place, with so many spin hints between.
+/// Polls at most `looks` times, `spins` spin hints apart, until the monitor is owed to `place`.
 fn look_for_turn<D: MonitorData, T: Turnstile<D>>(door: &T, place: usize, looks: u32, spins: u32)
     requires { place < (T.id door.now).places }
 {
@@ -36,8 +36,8 @@ fn look_for_turn<D: MonitorData, T: Turnstile<D>>(door: &T, place: usize, looks:
     }
 }
 
-/// Waits until the monitor is owed to the place, comes in and takes the parcel. It looks so many times, then tests and
-/// sleeps, where it is woken, until a test lets it in.
+/// Blocks until the monitor is owed to `place`, enters and takes the parcel. Polls `looks` times, then tests and parks
+/// in turn.
 pub fn claim<D: MonitorData, T: Wakes<D>, R: Wait>(
     door: &T,
     rt: &R,

@@ -1,4 +1,4 @@
-//! A place of a door: outside, inside, or gone and to come back.
+//! A place of a door: outside, inside, or away, if it waits or has signalled and is to return.
 ghost use Rattle.std.specs.Prelude.{◌≡◌, true};
 ghost use Rattle.door_frame.specs.Views.{is_alone};
 
@@ -8,8 +8,8 @@ use crate::waking::{Parking, Sleeper};
 use std::marker::Model;
 use wait_book::book::Book;
 
-/// A place outside: it may enter. It moves between threads, can't be copied, and a place that is dropped is never heard
-/// of again (then its door can't be closed). A contract sees its berth, its number and its front.
+/// A place outside, which may enter. It moves between threads and can't be copied. A place that is dropped is lost, and
+/// its door can't be closed any more. A contract sees its berth, its number and its front.
 #[derive(Drop)]
 pub struct Outside<D, S: Parking = Sleeper> {
     seat: DoorSeat<D>,
@@ -38,7 +38,7 @@ impl<D, S: Parking> Outside<D, S> {
     ghost use Rattle.door_frame.specs.Seats.{IsEmptyHanded};
     ghost use Rattle.door_frame.specs.Views.{is_alone, front_of};
 
-    /// A place of its parts. It is there for doors on this frame: a seat can't be had otherwise.
+    /// Creates a place outside of its parts. Only a door on this frame can call it: nothing else has a seat.
     #[inline]
     pub fn of_parts(seat: DoorSeat<D>, place: usize, sleeper: S) -> Outside<D, S>
         requires { (f : History D) × IsEmptyHanded place f seat.me }
@@ -59,7 +59,7 @@ impl<D, S: Parking> Outside<D, S> {
         self.place
     }
 
-    /// The seat, the number, and what the place sleeps on.
+    /// Takes the place apart: its seat, its number, and what it parks on.
     #[inline]
     pub fn into_parts(self) -> (DoorSeat<D>, usize, S)
         ensures { (berth result.0.table_id (S.at result.0.table_id result.2) ≡ self.berth) × (result.1 ≡ self.place)
@@ -74,8 +74,8 @@ impl<D, S: Parking> Outside<D, S> {
     }
 }
 
-/// A place that waits on a condition, or that signalled: it gave the monitor up, and is to come back once the monitor
-/// is owed to it. A contract sees of it what it sees of a place outside.
+/// A place that waits on a condition or has signalled: it released the monitor, and returns once the monitor is owed to
+/// it. A contract sees its berth, its number and its front.
 #[derive(Drop)]
 pub struct Away<D, S: Parking = Sleeper> {
     spot: Outside<D, S>,
@@ -95,7 +95,7 @@ impl<D, S: Parking> Away<D, S> {
     ghost use Rattle.door_frame.specs.Places.{berth, place_out};
     ghost use Rattle.door_frame.specs.Seats.{IsEmptyHanded};
 
-    /// A place of its parts, as `Outside::of_parts`.
+    /// Creates a place that waits or has signalled, of its parts.
     #[inline]
     pub(crate) fn of_parts(seat: DoorSeat<D>, place: usize, sleeper: S) -> Away<D, S>
         requires { (f : History D) × IsEmptyHanded place f seat.me }
@@ -107,7 +107,7 @@ impl<D, S: Parking> Away<D, S> {
         }
     }
 
-    /// The seat, the number, and what the place sleeps on.
+    /// Takes the place apart: its seat, its number, and what it parks on.
     #[inline]
     pub(crate) fn into_parts(self) -> (DoorSeat<D>, usize, S)
         ensures { (berth result.0.table_id (S.at result.0.table_id result.2) ≡ self.berth)
@@ -118,12 +118,14 @@ impl<D, S: Parking> Away<D, S> {
     }
 }
 
-/// A place inside, with the data in hand. It can't be dropped: who is inside leaves. A contract sees the data too.
+/// A place inside, with the data in hand. It can't be dropped: it has to leave. A contract sees its berth, its number,
+/// its front and the data.
 pub struct Inside<D, S: Parking = Sleeper> {
     pub(crate) seat: DoorSeat<D>,
     pub(crate) place: usize,
     sleeper: S,
-    /// Data and queues. A door on this frame lends them: who changes the queues by hand can't give the place back.
+    /// The data and the queues. Public so that a door on this frame can lend the data. Code that changes the queues by
+    /// hand isn't proved: the place's invariant then fails.
     pub parcel: Parcel<D>,
     ghost alone: { is_alone seat.me.0 ≡ true },
 }
@@ -152,7 +154,7 @@ impl<D, S: Parking> Inside<D, S> {
     ghost use Rattle.door_frame.specs.Places.{berth, place_in};
     ghost use Rattle.door_frame.specs.Seats.{IsInside};
 
-    /// A place inside of its parts.
+    /// Creates a place inside of its parts.
     #[inline]
     pub(crate) fn of_parts(
         seat: DoorSeat<D>,
@@ -172,7 +174,7 @@ impl<D, S: Parking> Inside<D, S> {
         }
     }
 
-    /// The seat, the number, what the place sleeps on, and the parcel.
+    /// Takes the place apart: its seat, its number, what it parks on, and the parcel.
     #[inline]
     pub(crate) fn into_parts(self) -> (DoorSeat<D>, usize, S, Parcel<D>)
         ensures parts { place_in (berth result.0.table_id (S.at result.0.table_id result.2))
@@ -189,14 +191,14 @@ impl<D, S: Parking> Inside<D, S> {
         (seat, place, sleeper, parcel)
     }
 
-    /// The queues, as `Monitor::lists`.
+    /// Implements `Monitor::lists`: returns the queues.
     pub fn lists(&self) -> &Book
         ensures { priorities_on result.now ≡ priorities self.now.front.events }
     {
         self.parcel.book()
     }
 
-    /// `Monitor::queue`.
+    /// Implements `Monitor::queue`.
     pub fn queue(&self, condition: usize) -> bool
         requires { condition < self.now.front.sizes.conditions }
         ensures lists { IsTrue result ↔ (priorities self.now.front.events condition ≢ []) }
@@ -205,7 +207,7 @@ impl<D, S: Parking> Inside<D, S> {
         self.parcel.book().queue(condition)
     }
 
-    /// `Monitor::first`.
+    /// Implements `Monitor::first`.
     pub fn first(&self, condition: usize) -> Option<u64>
         requires { condition < self.now.front.sizes.conditions }
         ensures lists { MatchOption result (priorities self.now.front.events condition ≡ [])
@@ -216,7 +218,7 @@ impl<D, S: Parking> Inside<D, S> {
         self.parcel.book().first(condition)
     }
 
-    /// The data in hand.
+    /// Returns the data in hand.
     pub fn state(&self) -> &D
         ensures { result.now ≡ self.now.state }
     {

@@ -1,5 +1,5 @@
-//! What a door has to do with its words: let a newcomer in that only tries, look whether a place is owed the monitor,
-//! let it come back, give the monitor up, and tell of a notice. How a newcomer waits to come in is the door's alone.
+//! What a door does with its words: admit a place by one attempt, poll whether the monitor is owed to a place, let that
+//! place return, hand the monitor off, and record a notice.
 ghost use Rattle.std.specs.Prelude.{◌≡◌, ◌<◌, IfSome, IfNone};
 ghost use Rattle.hoare_law.specs.declared.event.History.{History};
 ghost use Rattle.hoare_law.specs.declared.event.Event.TheVariants as event;
@@ -18,28 +18,29 @@ use crate::plays::DoorSeat;
 use hoare_law::data::MonitorData;
 use wait_book::steps::Next;
 
-/// A door, as far as its words go.
+/// A door, as far as its words go. How an entering thread waits until it is admitted is each door's own.
 pub trait Turnstile<D: MonitorData> {
     ghost use Rattle.hoare_law.specs.Sizes.{Kinds};
     ghost use Rattle.wait_book.specs.declared.steps.Next.{Next};
 
-    /// The table that its seats are of, and how many places it has.
+    /// The table that the door's seats belong to, how many places it has, and what each parks on.
     ghost id: { Self → DoorId };
 
-    /// How many conditions it has, and how many of them are Mesa conditions.
+    /// How many conditions the door has, and how many of them are Mesa conditions.
     ghost kinds: { Self → Kinds };
 
-    /// What `hand_on` returns.
+    /// The type of what `hand_on` returns.
     type Shown: Drop;
 
-    /// What that shows of the place that resumes next. A door that wakes its places implements `Wakes` too.
+    /// What a value that `hand_on` returned shows of the place that resumes next. A door that wakes its places
+    /// implements `Wakes` too.
     ghost is_woken: { DoorId → Next → Self.Shown → Type 0 };
 
-    /// How often places look whether the monitor is owed to them, before they sleep. No clause speaks of it.
+    /// Returns how often a place polls whether the monitor is owed to it, before it parks. Performance only; not part
+    /// of the contract.
     fn looks(&self) -> Looks;
 
-    /// Lets a newcomer in where it is its turn at this moment, and takes the parcel; else the seat is as it was. It
-    /// waits for nobody.
+    /// Admits the place if it may enter at this moment, and takes the parcel; else the seat is unchanged. Never blocks.
     fn try_admit(&self, seat: &mut DoorSeat<D>, place: usize) -> Option<Parcel<D>>
         requires table { seat.old.table_id ≡ (id self.now).table }
         requires outside { IsNewcomer place seat.old.me }
@@ -48,12 +49,13 @@ pub trait Turnstile<D: MonitorData> {
             seat.old.me parcel seat.new.me) }
         ensures same { IfNone result (seat.new.me ≡ seat.old.me) };
 
-    /// Whether the monitor is owed to the place, by one look at its word. No clause speaks of it: a try follows.
+    /// Polls the place's word once. Returns true if the monitor is owed to the place. Not specified: a `try_claim`
+    /// follows.
     fn is_owed(&self, place: usize) -> bool
         requires { place < (id self.now).places };
 
-    /// Lets the place come back where the monitor is owed to it at this moment, and takes the parcel; else the seat is
-    /// as it was. It waits for nobody.
+    /// Lets the place return if the monitor is owed to it at this moment, and takes the parcel; else the seat is
+    /// unchanged. Never blocks.
     fn try_claim(&self, seat: &mut DoorSeat<D>, place: usize) -> Option<Parcel<D>>
         requires table { seat.old.table_id ≡ (id self.now).table }
         requires small { place < (id self.now).places }
@@ -63,8 +65,8 @@ pub trait Turnstile<D: MonitorData> {
             seat.old.me parcel seat.new.me) }
         ensures same { IfNone result (seat.new.me ≡ seat.old.me) };
 
-    /// Gives the parcel back by the event of the departure. A door that wakes its places wakes the one that resumes
-    /// next, and the result shows it.
+    /// Releases the monitor by the event of `departure`: puts the parcel back, and then writes that `next` resumes. A
+    /// door that wakes its places then wakes that place, and the result shows it.
     fn hand_on(
         &self,
         seat: &mut DoorSeat<D>,
@@ -82,8 +84,8 @@ pub trait Turnstile<D: MonitorData> {
             seat.old.me parcel.state seat.new.me }
         ensures woken { is_woken (id self.now) next result };
 
-    /// Tells of the notice's event: a look at a word, by which the place inside comes to know of it. What is found
-    /// isn't looked at, and no word changes. `parcel` is there for the data that the event has.
+    /// Adds the event of `notice` to the door's history, by one load of a word. The value found isn't used, and no word
+    /// changes. `parcel` only names the data in the event.
     fn note(&self, seat: &mut DoorSeat<D>, parcel: &Parcel<D>, place: usize, notice: Notice)
         requires table { seat.old.table_id ≡ (id self.now).table }
         requires event { MayNote D.rest D.ready (event_of_notice place notice parcel.now.state)
@@ -93,18 +95,18 @@ pub trait Turnstile<D: MonitorData> {
             seat.old.me seat.new.me };
 }
 
-/// A door that parks its places and wakes them. A call that parks asks for it: at a door that wakes nobody the place would
-/// never resume.
+/// A door that wakes its places. A call that parks requires it: at a door that wakes nobody a parked place would never
+/// resume.
 pub trait Wakes<D: MonitorData>: Turnstile<D> {
     ghost use Rattle.std.specs.Prelude.{Option};
     ghost use Rattle.atomic_table.specs.Seated.{TableId};
     ghost use Rattle.wait_book.specs.declared.steps.Next.{Next};
     ghost use Rattle.door_frame.specs.Places.{DoorId, IsWoken};
 
-    /// Which sleeper was woken, by what `hand_on` returned.
+    /// The sleeper that was woken, if any, by what `hand_on` returned.
     ghost woken: { Self.Shown → Option TableId };
 
-    /// It is that of the place that resumes next.
+    /// The sleeper that was woken is that of the place that resumes next.
     ghost wakes: { (d : DoorId) (next : Next) (shown : Self.Shown) → Self.is_woken d next shown
         → IsWoken d next (woken shown) };
 }

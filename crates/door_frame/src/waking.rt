@@ -1,4 +1,4 @@
-//! What a place sleeps on, what wakes it, and what shows that it was woken.
+//! What a place parks on, what wakes it, and what shows that it was woken.
 ghost use Rattle.std.specs.Prelude.{◌≡◌, true, IfOk};
 ghost use Rattle.crossbeam_utils.specs.Token.{parker_view};
 ghost use Rattle.door_frame.specs.Seats.{IsBehind};
@@ -10,7 +10,8 @@ use std::alloc::{AllocError, Global};
 use std::marker::Model;
 use std::sync::Wait;
 
-/// Nothing is asked of a parker's token. Who has a pass to it knows whether it gave one.
+/// The protocol of a parker's token, which requires nothing. The thread that has a pass to the token knows whether it
+/// gave one.
 pub struct Waking;
 
 impl Protocol<bool, bool> for Waking {
@@ -35,16 +36,16 @@ impl Outcome<bool, bool> for Takes {
     ghost then = { λ _ _ _ _. Unit {0} };
 }
 
-/// What a place has to sleep on, if its door wakes it.
+/// What a place parks on: a `Sleeper` if its door wakes it, `ByCaller` if the caller does.
 pub trait Parking {
     ghost use Rattle.atomic_table.specs.Seated.{TableId};
 
-    /// Which it is, of a place of the door with this table. A place that no door wakes has the table there, on which
-    /// nobody sleeps.
+    /// Identifies it, for a place of the door with this table. Of a place that no door wakes it is the table itself, on
+    /// which no thread parks.
     ghost at: { TableId → Self → TableId };
 }
 
-/// What one place sleeps on. A contract sees which it is.
+/// What one place parks on. A contract sees which it is.
 #[derive(Drop)]
 pub struct Sleeper {
     parker: RuledParker<bool, Waking>,
@@ -63,7 +64,7 @@ impl Parking for Sleeper {
     ghost at = { λ _ s. s };
 }
 
-/// A place whose caller looks after its sleep and its waking has nothing to sleep on.
+/// What a place parks on if its caller does the parking and the waking: nothing.
 #[derive(Clone, Copy)]
 pub struct ByCaller;
 
@@ -71,7 +72,7 @@ impl Parking for ByCaller {
     ghost at = { λ z _. z };
 }
 
-/// What wakes the place that sleeps on one sleeper. A contract sees on which.
+/// What wakes the place that parks on one sleeper. A contract sees on which.
 #[derive(Drop)]
 pub struct Waker {
     unparker: RuledUnparker<bool, Waking>,
@@ -86,7 +87,7 @@ impl Model for Waker {
     ghost view = { λ w. (arc_value w.unparker.state).shared.table_id };
 }
 
-/// Shows that who sleeps on one sleeper was woken. A contract sees on which.
+/// Shows that the place that parks on one sleeper was woken. A contract sees on which.
 #[derive(Drop)]
 pub struct Woken {
     pass: Pass<bool>,
@@ -102,7 +103,7 @@ impl Model for Woken {
 }
 
 impl Sleeper {
-    /// A sleeper, and what wakes who sleeps on it.
+    /// Creates a sleeper, and what wakes the place that parks on it.
     pub fn new(alloc: Global) -> Result<(Sleeper, Waker), AllocError>
         ensures { IfOk result (λ r. r.1 ≡ r.0) }
     {
@@ -111,7 +112,7 @@ impl Sleeper {
         Ok((Sleeper { parker }, Waker { unparker }))
     }
 
-    /// Sleeps until it is woken, or returns at once where it was since it slept last.
+    /// Parks until it is woken. Returns at once if it was woken since it parked last.
     #[inline]
     pub fn sleep<R: Wait>(&self, rt: &R) {
         let mut pass = self.parker.unparker().pass();
@@ -120,8 +121,8 @@ impl Sleeper {
 }
 
 impl Waker {
-    /// Wakes the place, or lets its next sleep return at once. It is for who has given the monitor up: a place that is
-    /// woken before finds nothing, and sleeps on.
+    /// Wakes the place, or lets its next park return at once. The caller has released the monitor: a place that is
+    /// woken before that finds nothing, and parks again.
     #[inline]
     pub fn wake<D>(&self, seat: &DoorSeat<D>) -> Woken
         requires given_up { IsBehind seat.now.me }

@@ -4,7 +4,7 @@ use Rattle.hoare_law.specs.Sizes.{Kinds}
 use Rattle.hoare_law.specs.declared.event.Sizes.{Sizes}
 use Rattle.door_frame.specs.Places.{DoorId}
 
--- its table and places, and its conditions
+-- the door's table and places, and its conditions
 pub record StepId : Type 0 where
   pub door : DoorId
   pub kinds : Kinds

@@ -28,9 +28,9 @@ use wait_book::steps::MakeRefused;
 
 /// A monitor for running threads: it implements `Monitor`. Threads share it by reference, each with its own place.
 ///
-/// After `make` no call takes memory. One word says whether the monitor is free, held, or owed to a place; one slot has
-/// the data and the queues. A door can be dropped where its data can, and then its data are dropped too; `close` gives
-/// them back.
+/// After `make` no call allocates. One state word says whether the monitor is free, held, or owed to a place; one slot
+/// has the data and the queues. A door can be dropped if its data can, and its data are then dropped too; `close`
+/// returns them.
 ///
 /// ```rust
 /// let data = Unasked::<u64, 1> { value: 41 };
@@ -42,14 +42,15 @@ use wait_book::steps::MakeRefused;
 /// ```
 #[derive(Drop)]
 pub struct Door<D: MonitorData> {
-    /// Of its eight words one is in use: what it says, and who changes it to what, is a table of the crate's README.
-    /// The others keep most other data off that one's line of the cache.
+    /// Eight words, of which the state word is in use, and the slot. The crate's README has a table of the state word's
+    /// values and of the threads that change it. The other seven words are padding against false sharing.
     pub(crate) table: DoorTable<D>,
     /// What wakes each place, in order.
     pub(crate) wakers: Vec<Waker>,
-    /// Whether who comes in next is to make way first. It is seldom written, and stands beside what is only read.
+    /// True if the next thread to enter is to yield first. Seldom written, so it shares a cache line with what is only
+    /// read.
     pub(crate) is_to_make_way: AtomicBool,
-    /// Who among the newcomers naps.
+    /// The entering threads that are parked.
     pub(crate) naps: CachePadded<Naps>,
 }
 
@@ -66,7 +67,7 @@ impl<D: MonitorData> Model for Door<D> {
         d.table.shared.key (vec_len d.wakers) };
 }
 
-/// The door opens: the first seat takes the empty slot, and gives it back with the data.
+/// Opens the door: the first seat takes the empty slot, and puts it back with the data.
 pub(crate) fn open<D: MonitorData, K: DoorKey<D>, J: PickedKinds>(
     table: &DoorTable<D, K>,
     seat: &mut DoorSeat<D>,
@@ -93,10 +94,10 @@ pub(crate) fn open<D: MonitorData, K: DoorKey<D>, J: PickedKinds>(
 }
 
 impl<D: MonitorData + Send> Door<D> {
-    /// A door of 1 to 64 places and `D::CONDITIONS` conditions, 1 to 8, of which the last `D::MESA` are Mesa
-    /// conditions, opened with the data, and its places, in order. The caller owes `rest` with nobody waiting. Refused,
-    /// in this order: `BadPlaces`, `BadConditions`, and `Memory` where the room for all that the door will ever need
-    /// can't be had. The data come back with each refusal.
+    /// Creates a door of 1 to 64 places and `D::CONDITIONS` conditions, 1 to 8, opened with the data, and its places,
+    /// in order. The last `D::MESA` conditions are Mesa conditions. The caller must prove `rest` of the data with
+    /// nobody waiting. Refuses, in this order, with `BadPlaces`, `BadConditions`, and `Memory` if an allocation of what
+    /// the door will ever need failed. Each refusal returns the data.
     pub fn make(
         alloc: Global,
         state: D,
@@ -139,9 +140,9 @@ impl<D: MonitorData + Send> Door<D> {
         Ok((door, outs))
     }
 
-    /// Takes the door apart: all of its places are handed in, in any order. The data are at rest with nobody waiting,
-    /// and those that one legal and lawful history left, which begins with what each place knows and in which no place
-    /// did anything else.
+    /// Takes the door apart. All of its places are handed in, in any order. Returns the data as one legal and lawful
+    /// history left them, at rest with nobody waiting. That history begins with what each place knows, and has no other
+    /// event of any place.
     pub fn close(self, outs: Vec<DoorOut<D>>) -> D
         requires of { All (⟦<Door<D> as Monitor<D>>⟧.is_of self) outs.items }
         requires places { (k : ℕ) → k < self.places → HasPlace k outs.items }

@@ -41,7 +41,7 @@ impl<D: MonitorData> Turnstile<D> for Door<D> {
         BATON_LOOKS
     }
 
-    /// One try: "no" where its exchange doesn't find `FREE`.
+    /// Tries once to enter. Returns `None` if the compare-exchange doesn't find `FREE`.
     #[inline]
     fn try_admit(&self, seat: &mut DoorSeat<D>, place: usize) -> Option<Parcel<D>> {
         table_steps::try_admit(&self.table, seat, place)
@@ -52,7 +52,7 @@ impl<D: MonitorData> Turnstile<D> for Door<D> {
         self.table.shared.peek(DOOR) == owed(place)
     }
 
-    /// One test of the word: "no" where its exchange doesn't find the monitor owed to the place.
+    /// Tries once to return. Returns `None` if the compare-exchange doesn't find the monitor owed to the place.
     #[inline]
     fn try_claim(&self, seat: &mut DoorSeat<D>, place: usize) -> Option<Parcel<D>> {
         table_steps::try_claim(&self.table, seat, place)
@@ -128,8 +128,8 @@ impl<D: MonitorData + Send> Monitor<D> for Door<D> {
 
     ghost with_data = { λ i d. with_state i d };
 
-    /// A try at once, as `try_enter`, behind which it keeps trying. No call that may wait stands around that try, since
-    /// behind each such call the compiler tests whether it came back.
+    /// Tries once to enter, as `try_enter` does, and then keeps trying. The first attempt isn't inside a function that
+    /// may block: after a call to one the compiler checks whether it returned.
     #[inline]
     fn enter<R: Wait>(&self, rt: &R, out: DoorOut<D>) -> DoorIn<D> {
         if self.is_to_make_way.load(Ordering::Relaxed) {
@@ -165,7 +165,7 @@ impl<D: MonitorData + Send> Monitor<D> for Door<D> {
         calls::signal(self, rt, inside, condition)
     }
 
-    #[inline(always)] // as `calls::signal_leave` is: where nobody waits it is a plain leave
+    #[inline(always)] // as `calls::signal_leave` is: if nobody waits it is a plain leave
     fn signal_leave<R: Wait>(
         &self,
         rt: &R,

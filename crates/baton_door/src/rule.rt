@@ -1,4 +1,4 @@
-//! The rule of the door's table, and what its own steps tell.
+//! The rule of the door's table, and what the door's own steps prove.
 ghost use Rattle.baton_door.specs.Rule.{Starts, Tells};
 ghost use Rattle.baton_door.specs.Steps.{admits, claims};
 
@@ -10,7 +10,7 @@ use door_frame::view::View;
 use hoare_law::data::MonitorData;
 use hoare_law::event::Sizes;
 
-/// What the table of a door keeps of the door's sizes.
+/// The key of a door's table: which of the door's sizes the table keeps.
 pub trait DoorKey<D> {
     ghost use Rattle.std.specs.Prelude.{ℕ};
     ghost use Rattle.hoare_law.specs.Sizes.{Kinds};
@@ -18,11 +18,11 @@ pub trait DoorKey<D> {
     /// How many places the door has.
     ghost places: { Self → ℕ };
 
-    /// How many conditions it has, and how many of them are Mesa conditions.
+    /// How many conditions the door has, and how many of them are Mesa conditions.
     ghost kinds: { Self → Kinds };
 }
 
-/// The number of places. The data's type fixes the conditions.
+/// The number of places as the key: the data's type fixes the conditions.
 impl<D: MonitorData> DoorKey<D> for usize {
     ghost use Rattle.hoare_law.specs.Sizes.{kinds_of};
 
@@ -31,7 +31,7 @@ impl<D: MonitorData> DoorKey<D> for usize {
     ghost kinds = { λ n. kinds_of D.CONDITIONS D.MESA };
 }
 
-/// All sizes: `make` was given the conditions too.
+/// All sizes as the key: the caller of `make` gives the conditions too.
 impl<D> DoorKey<D> for Sizes {
     ghost use Rattle.hoare_law.specs.Sizes.{kinds_of};
 
@@ -40,7 +40,7 @@ impl<D> DoorKey<D> for Sizes {
     ghost kinds = { λ s. kinds_of s.conditions s.mesa };
 }
 
-/// What the door's word says.
+/// What the state word says.
 pub struct BatonWords;
 
 impl<D, K: DoorKey<D>> Words<D, K> for BatonWords {
@@ -53,17 +53,17 @@ impl<D, K: DoorKey<D>> Words<D, K> for BatonWords {
     ghost tells = { λ k. Tells };
 }
 
-/// The table of a door: one word in use and one slot.
+/// The table of a door: one word in use, the state word, and one slot.
 pub(crate) type DoorTable<D, K = usize> = rule::DoorTable<D, K, BatonWords>;
 
-/// A newcomer comes in where the word is `FREE`.
+/// A place enters if the state word is `FREE`.
 pub(crate) struct Admit;
 
 impl<D: MonitorData> Play<Option<Parcel<D>>, View<D>> for Admit {
     ghost then = { admits D.rest D.ready };
 }
 
-/// A place comes back where the word owes it the monitor.
+/// A place returns if the state word owes it the monitor.
 pub(crate) struct Claim;
 
 impl<D: MonitorData> Play<Option<Parcel<D>>, View<D>> for Claim {

@@ -1,8 +1,8 @@
-//! A door whose calls are steps: none waits for another thread, and none wakes one.
+//! A door whose calls are steps: no call blocks, and none wakes a thread.
 //!
-//! Who gives the monitor up is told who goes on, and wakes that place by means of its own; the place then tries to
-//! return. The calls are those of `door_frame::calls`: `try_enter`, `leave_to`, `begin_wait`, `begin_signal`,
-//! `signal_leave_to`, `try_return`, `notify` and `broadcast`.
+//! A call that releases the monitor returns which place resumes next. The caller wakes that place by means of its own,
+//! and the place then tries to return. The calls are those of `door_frame::calls`: `try_enter`, `leave_to`,
+//! `begin_wait`, `begin_signal`, `signal_leave_to`, `try_return`, `notify` and `broadcast`.
 ghost use Rattle.std.specs.Prelude.{◌≡◌, ◌<◌, ◌≤◌, ◌⊎◌, ℕ, ⊤, IfOk, IfErr, Some, None, All};
 ghost use Rattle.hoare_law.specs.Events.{opened};
 ghost use Rattle.hoare_law.specs.Sizes.{kinds_of};
@@ -34,10 +34,11 @@ use std::marker::{Brand, Model};
 use wait_book::book::Book;
 use wait_book::steps::{MakeRefused, Next};
 
-/// A door whose calls are steps. After `make` no call takes memory.
+/// A door whose calls are steps: no call blocks, and none wakes a thread. After `make` no call allocates.
 #[derive(Drop)]
 pub struct StepDoor<D: MonitorData> {
-    /// As in `Door`, but its key has the numbers of conditions too.
+    /// Eight words, of which the state word is in use, and the slot. Its key has the numbers of places and of
+    /// conditions.
     table: DoorTable<D, Sizes>,
     sizes: Sizes,
 }
@@ -60,10 +61,10 @@ impl<D: MonitorData> Model for StepDoor<D> {
 }
 
 impl<D: MonitorData> StepDoor<D> {
-    /// Makes a door of 1 to 64 places and 1 to 8 conditions, the last `mesa` of which are Mesa conditions, opened with the
-    /// data, and its places, in order. The conditions are these, whatever `D` says of its own. The caller owes `rest` with
-    /// nobody waiting. Refused, in this order: `BadPlaces`, `BadConditions` (also if `mesa` is over `conditions`), and
-    /// `Memory` if an allocation failed. The data come back with each refusal.
+    /// Creates a door of 1 to 64 places and 1 to 8 conditions, opened with the data, and its places, in order. The last
+    /// `sizes.mesa` conditions are Mesa conditions; `D::CONDITIONS` and `D::MESA` are ignored. The caller must prove
+    /// `rest` of the data with nobody waiting. Refuses, in this order, with `BadPlaces`, `BadConditions` (also if
+    /// `mesa` is over `conditions`), and `Memory` if an allocation failed. Each refusal returns the data.
     pub fn make(
         alloc: Global,
         state: D,
@@ -106,9 +107,9 @@ impl<D: MonitorData> StepDoor<D> {
         self.sizes
     }
 
-    /// Takes the door apart. All of its places are handed in, in any order. The data are at rest with nobody waiting, and
-    /// those that one legal and lawful history left, which begins with what each place knows and in which no place did
-    /// anything else.
+    /// Takes the door apart. All of its places are handed in, in any order. Returns the data as one legal and lawful
+    /// history left them, at rest with nobody waiting. That history begins with what each place knows, and has no other
+    /// event of any place.
     pub fn close(self, outs: Vec<Outside<D, ByCaller>>) -> D
         requires of { All (IsOut D.rest D.ready self.kinds self.door) outs.items }
         requires places { (k : ℕ) → k < self.door.places → HasPlace k outs.items }
@@ -119,7 +120,8 @@ impl<D: MonitorData> StepDoor<D> {
         closed_as::<D, Sizes, BatonWords, ByCaller, (), Brand>(table, (), outs)
     }
 
-    /// Gives the parcel back by an event that the call picks. `departure` is there for the pick alone.
+    /// Puts the parcel back and writes that `next` resumes, by an event that the call picks. `departure` only serves
+    /// that pick.
     #[inline(always)] // as `table_steps::lay_down` is
     fn give<J: PickedEvent<D>>(
         &self,
@@ -146,7 +148,7 @@ impl<D: MonitorData> Turnstile<D> for StepDoor<D> {
 
     type Shown = ();
 
-    /// It wakes nobody.
+    /// The door wakes nobody, so the result shows nothing.
     ghost is_woken = { λ d next shown. ⊤ };
 
     fn looks(&self) -> Looks {

@@ -1,4 +1,4 @@
-//! What a door does with its word, by its table alone. No function here waits for another thread, or wakes one.
+//! What a baton door does with its state word, by its table alone. No function here blocks, or wakes a thread.
 ghost use Rattle.std.specs.Prelude.{◌≡◌, ◌<◌, true, false, IfSome, IfNone};
 ghost use Rattle.hoare_law.specs.declared.event.History.{History};
 ghost use Rattle.hoare_law.specs.declared.event.Event.TheVariants as event;
@@ -16,7 +16,7 @@ use door_frame::slot::{lay_parcel, take_parcel};
 use hoare_law::data::MonitorData;
 use wait_book::steps::Next;
 
-/// One try of a newcomer: whether the monitor was free, and the place is in.
+/// Tries once to enter. Returns true if the monitor was free; the place is then inside.
 #[inline]
 pub(crate) fn try_in<D: MonitorData, K: DoorKey<D>>(
     table: &DoorTable<D, K>,
@@ -35,7 +35,8 @@ pub(crate) fn try_in<D: MonitorData, K: DoorKey<D>>(
         == FREE
 }
 
-/// The same, where it takes the parcel.
+/// Tries once to enter, and takes the parcel. Returns `None`, with the seat unchanged, if the compare-exchange doesn't
+/// find `FREE`.
 #[inline]
 pub(crate) fn try_admit<D: MonitorData, K: DoorKey<D>>(
     table: &DoorTable<D, K>,
@@ -56,7 +57,8 @@ pub(crate) fn try_admit<D: MonitorData, K: DoorKey<D>>(
     Some(take_parcel(table, seat))
 }
 
-/// One test of the word: "no" where its exchange doesn't find the monitor owed to the place.
+/// Tries once to return, and takes the parcel. Returns `None`, with the seat unchanged, if the compare-exchange doesn't
+/// find the monitor owed to `place`.
 #[inline]
 pub(crate) fn try_claim<D: MonitorData, K: DoorKey<D>>(
     table: &DoorTable<D, K>,
@@ -83,8 +85,8 @@ pub(crate) fn try_claim<D: MonitorData, K: DoorKey<D>>(
     None
 }
 
-/// Lays the parcel down by an event that the call picks, and writes who goes on.
-#[inline(always)] // a plain leave is short where it knows that nobody goes on
+/// Puts the parcel back by an event that the call picks, and then writes into the state word that `next` resumes.
+#[inline(always)] // a plain leave is short if it knows that nobody resumes
 pub(crate) fn lay_down<D: MonitorData, K: DoorKey<D>, J: PickedEvent<D>>(
     table: &DoorTable<D, K>,
     seat: &mut DoorSeat<D>,
@@ -108,8 +110,8 @@ pub(crate) fn lay_down<D: MonitorData, K: DoorKey<D>, J: PickedEvent<D>>(
         .store::<Give<J>>(seat, DOOR, word_of_next(next));
 }
 
-/// A look at the word by which the place inside comes to know of an event that the call picks. What is found isn't
-/// looked at. `parcel` and `notice` are there for the pick alone.
+/// Adds an event that the call picks to the door's history, by one load of the state word. The value found isn't used.
+/// `parcel` and `notice` only serve that pick.
 #[inline]
 pub(crate) fn tell<D: MonitorData, K: DoorKey<D>, J: PickedNotice<D>>(
     table: &DoorTable<D, K>,

@@ -8,4 +8,5 @@ mod glances;
 mod many_tickets;
 mod row;
 mod rows;
+mod steps;
 mod tickets_in_turn;

@@ -1,0 +1,2 @@
+mod Acts
+mod Lists

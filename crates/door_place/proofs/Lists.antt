@@ -1,0 +1,30 @@
+-- Which places are among those in hand.
+use Rattle.std.proofs.Common.{◌≡◌, ◌≢◌, ◌<◌, ◌+◌, ◌⊎◌, ◌++◌, ℕ, zero, suc, Bool, true, false, List, [], ◌∷◌, length, slice_index_or}
+use Rattle.std.proofs.Common.{inl, inr, refl, sym, ◌∙◌, subst, arith, eqb, eqb-true, eq-eqb, true≢false}
+use Rattle.door_frame.specs.Places.{HasPlace, PlaceOut}
+use Rattle.door_place.specs.Places.{GaveOut, in_hand, returned}
+use Rattle.door_place.specs.States.{Carried}
+use Rattle.door_place.specs.declared.state.State.TheVariants.{Outside}
+
+pub has_at : (k i : ℕ) (os : List (PlaceOut Carried)) (else_one : PlaceOut Carried) → i < length os
+    → (slice_index_or os i else_one).place ≡ k → HasPlace k os
+has_at k i [] e below is = absurd (omega (arith, below))
+has_at k zero (o ∷ os) e below is = inl is
+has_at k (suc i) (o ∷ os) e below is = inr (has_at k i os e (omega (arith, below)) is)
+
+-- all of the first n are there, and place n is: so all of the first n + 1
+pub one_more : (os : List (PlaceOut Carried)) (n : ℕ) → ((k : ℕ) → k < n → HasPlace k os) → HasPlace n os → (k : ℕ)
+    → k < n + 1 → HasPlace k os
+one_more os n all one k below = by (eqb k n) refl
+  where
+    by : (b : Bool) → eqb k n ≡ b → HasPlace k os
+    by true is = subst (λ (m : ℕ). HasPlace m os) (sym (eqb-true k n is)) one
+    by false is =
+        let apart : k ≢ n = (λ e. true≢false (sym (eq-eqb k n e) ∙ is)) in
+        all k (omega (arith, below, apart))
+
+-- what the keeper gives out is the last in hand, or it had none
+pub gave : {old mid new : List (PlaceOut Carried)} (o : PlaceOut Carried) → (old ≡ []) ⊎ (mid ≡ old)
+    → mid ≡ new ++ o ∷ [] → GaveOut old new (Outside o)
+gave o (inl none) is = returned o refl none
+gave o (inr same) is = in_hand o refl (sym same ∙ is)

@@ -1,0 +1,15 @@
+use Rattle.std.proofs.Common.{ap, sym, subst, ◌∙◌}
+use Rattle.door_place.specs.Places.{GaveOut, KeeperOf, PlaceAt}
+use Rattle.door_place.specs.declared.state.State.{State}
+use Rattle.door_place.proofs.Lists.{gave}
+use Rattle.door_place.proofs.keeper.Keeper.give_out.Goals as goal
+
+pub returns-clause-gave : goal.returns-clause-gave
+returns-clause-gave c = (
+  ap (λ (p : PlaceAt). p.door) c.new.ensures ∙ c.in-Ok.ensures ∙ ap (λ (k : KeeperOf). k.door) c.self.view_is
+      ∙ c.refill.ensures.door,
+  subst (λ (s : State). GaveOut c.args.self.now.outs c.pop.new.self.items s)
+      (sym (ap (λ (p : PlaceAt). p.state) c.new.ensures))
+      (gave c.in-Some.out c.refill.ensures.outs
+      (sym (ap (λ (k : KeeperOf). k.outs) c.self.view_is) ∙ c.in-Some.ensures.items)),
+)

@@ -1,0 +1,5 @@
+use Rattle.std.proofs.Common.{◌≡◌, All}
+use Rattle.door_place.proofs.shared.slots.Given as goal
+
+abbrev pub invariant-loop-made : goal.invariant-loop-made
+invariant-loop-made l = All (λ tag. tag ≡ l.door) l.slots.items

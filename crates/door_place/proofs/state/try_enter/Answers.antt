@@ -1,0 +1,12 @@
+use Rattle.std.proofs.Common.{arith, refl, ap, sym, ◌∙◌}
+use Rattle.door_place.specs.declared.state.State.TheVariants.{Outside, Inside, Away}
+use Rattle.door_place.specs.States.{entered, not_now}
+use Rattle.door_place.proofs.state.try_enter.Goals as goal
+
+pub returns-in-Ok-clause-made : goal.returns-in-Ok-clause-made
+returns-in-Ok-clause-made c =
+    entered c.in-Outside.out c.in-Ok.inside c.in-Outside.is refl refl c.in-Ok.ensures.place c.in-Ok.ensures.front
+
+pub returns-in-Err-clause-made : goal.returns-in-Err-clause-made
+returns-in-Err-clause-made c =
+    not_now c.in-Outside.out c.in-Outside.is (ap (λ o. Outside o) c.in-Err.ensures.same ∙ sym c.in-Outside.is) refl

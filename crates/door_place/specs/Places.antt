@@ -1,0 +1,83 @@
+-- A place with its door, and the keeper of a door.
+use Rattle.std.specs.Prelude.{◌≡◌, ◌⊎◌, ◌<◌, ◌≢◌, ℕ, List, [], ◌∷◌, ◌++◌, All, Some, None}
+use Rattle.hoare_law.specs.declared.event.Sizes.{Sizes}
+use Rattle.hoare_law.specs.Events.{opened}
+use Rattle.hoare_law.specs.Sizes.{kinds_of}
+use Rattle.wait_book.specs.Contents.{make_refusal}
+use Rattle.wait_book.specs.declared.steps.MakeRefused.TheVariants.{BadPlaces, BadConditions}
+use Rattle.door_frame.specs.Places.{PlaceOut, places_from}
+use Rattle.hoare_law.specs.Growth.{Begins}
+use Rattle.baton_door.specs.StepDoors.{StepId}
+use Rattle.door_place.specs.declared.state.State.{State}
+use Rattle.door_place.specs.declared.act.Act.{Act}
+use Rattle.door_place.specs.declared.act.Act.TheVariants.{TryEnter, TryReturn, Leave, Wait, Signal, SignalLeave, Notify}
+use Rattle.door_place.specs.declared.act.Act.TheVariants.{Broadcast, Set}
+use Rattle.door_place.specs.States.{IsState, TriesToEnter, TriesToReturn, Leaves, Waits, Signals, SignalLeaves, Notifies}
+use Rattle.door_place.specs.States.{Broadcasts, Sets, Carried, NotOutside, front_of, number_of}
+use Rattle.door_place.specs.declared.state.State.TheVariants.{Outside, Nowhere}
+
+-- the act made this of the state, with this code
+abbrev pub Made : StepId → Act → State → State → ℕ → Type 0
+Made d TryEnter old new code = TriesToEnter old new code
+Made d TryReturn old new code = TriesToReturn d old new code
+Made d Leave old new code = Leaves old new code
+Made d (Wait c p) old new code = Waits d old c p new code
+Made d (Signal c) old new code = Signals d old c new code
+Made d (SignalLeave c) old new code = SignalLeaves d old c new code
+Made d (Notify c) old new code = Notifies d old c new code
+Made d (Broadcast c) old new code = Broadcasts d old c new code
+Made d (Set value) old new code = Sets old value new code
+
+-- the act was done or refused: the place is still that of the same door, what it knows is legal and begins with what it
+-- knew
+pub record Acts (d : StepId) (act : Act) (old new : State) (code : ℕ) : Type 0 where
+  pub made : Made d act old new code
+  pub of : IsState d new
+  pub number : number_of new ≡ number_of old
+  pub front : Begins (front_of old) (front_of new)
+
+-- a place with its door
+pub record PlaceAt : Type 0 where
+  pub door : StepId
+  pub state : State
+
+abbrev pub place_at : StepId → State → PlaceAt
+place_at d s = record { door = d; state = s }
+
+-- the place was given back (0): it isn't here any more; else it is as it was: it isn't outside (103), or its slot is in
+-- another hand (102)
+pub data GivesBack (old new : State) (code : ℕ) : Type 0 where
+  given_back : (o : PlaceOut Carried) → old ≡ Outside o → new ≡ Nowhere → code ≡ 0 → GivesBack old new code
+  not_outside : NotOutside old → new ≡ old → code ≡ 103 → GivesBack old new code
+  not_now : (o : PlaceOut Carried) → old ≡ Outside o → new ≡ old → code ≡ 102 → GivesBack old new code
+
+-- a door with its places that the keeper has in hand
+pub record KeeperOf : Type 0 where
+  pub door : StepId
+  pub outs : List (PlaceOut Carried)
+
+abbrev pub keeper_of : StepId → List (PlaceOut Carried) → KeeperOf
+keeper_of d os = record { door = d; outs = os }
+
+-- a new door of these sizes, opened with the value, with all of its places
+pub record IsNew (sizes : Sizes) (value : ℕ) (k : KeeperOf) : Type 0 where
+  pub allowed : make_refusal sizes ≡ None
+  pub places : k.door.door.places ≡ sizes.places
+  pub kinds : k.door.kinds ≡ kinds_of sizes.conditions sizes.mesa
+  pub outs : k.outs ≡ places_from k.door.door 0 sizes.places (opened sizes (record { value = value }))
+
+-- why a door wasn't made: bad places (109), bad conditions (110), no memory (111), in this order
+pub data MadeNot (sizes : Sizes) (code : ℕ) : Type 0 where
+  bad_places : make_refusal sizes ≡ Some BadPlaces → code ≡ 109 → MadeNot sizes code
+  bad_conditions : make_refusal sizes ≡ Some BadConditions → code ≡ 110 → MadeNot sizes code
+  no_memory : make_refusal sizes ≡ None → code ≡ 111 → MadeNot sizes code
+
+-- the keeper gave a place out: the last of those that it had in hand, or, if it had none, one that was given back
+pub data GaveOut (old new : List (PlaceOut Carried)) (state : State) : Type 0 where
+  in_hand : (o : PlaceOut Carried) → state ≡ Outside o → old ≡ new ++ o ∷ [] → GaveOut old new state
+  returned : (o : PlaceOut Carried) → state ≡ Outside o → old ≡ [] → GaveOut old new state
+
+-- why it didn't: no memory (111), or all places are taken (114)
+pub data GaveNone (new : List (PlaceOut Carried)) (code : ℕ) : Type 0 where
+  no_memory : code ≡ 111 → GaveNone new code
+  none_left : new ≡ [] → code ≡ 114 → GaveNone new code

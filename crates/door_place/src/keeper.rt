@@ -1,0 +1,155 @@
+//! A door with those of its places that nobody has taken.
+ghost use Rattle.std.specs.Prelude.{◌≡◌, ◌⊎◌, ◌<◌, ◌++◌, [], ℕ, List, IfOk, IfErr, true};
+ghost use Rattle.door_frame.specs.Places.{Closes, HasPlace, PlaceOut};
+ghost use Rattle.door_place.specs.Places.{GaveNone, GaveOut, IsNew, MadeNot};
+ghost use Rattle.door_place.specs.States.{Carried, any, calm};
+
+use crate::codes::{BAD_CONDITIONS, BAD_PLACES, NO_MEMORY, NONE_LEFT};
+use crate::place::Place;
+use crate::shared::Shared;
+use crate::state::{Carried, Out};
+use baton_door::step_door::StepDoor;
+use hoare_law::event::Sizes;
+use std::alloc::Global;
+use std::marker::Model;
+use std::sync::Arc;
+use wait_book::steps::MakeRefused;
+
+/// A door, and in hand those of its places that nobody has taken, or that were collected.
+#[derive(Drop)]
+pub struct Keeper {
+    shared: Arc<Shared>,
+    outs: Vec<Out>,
+}
+
+impl Model for Keeper {
+    ghost use Rattle.std.specs.Prelude.{All};
+    ghost use Rattle.std.specs.Arc.{arc_value};
+    ghost use Rattle.door_frame.specs.Places.{IsOut};
+    ghost use Rattle.door_place.specs.Places.{KeeperOf, keeper_of};
+    ghost use Rattle.door_place.specs.States.{any, calm};
+
+    ghost Value = { KeeperOf };
+
+    ghost view = { λ k. keeper_of (arc_value k.shared) k.outs.items };
+
+    ghost invariant = { λ k. All (IsOut calm any (arc_value k.shared).kinds (arc_value k.shared).door) k.outs.items };
+}
+
+/// Returns whether the place with this number is among these.
+fn has(outs: &[Out], number: usize) -> bool
+    ensures { result ≡ true → HasPlace number outs.now }
+{
+    for i in 0..outs.len() {
+        if outs[i].number() == number {
+            return true;
+        }
+    }
+    false
+}
+
+/// Returns whether the first so many places are among these.
+fn has_all(outs: &[Out], places: usize) -> bool
+    ensures { result ≡ true → (k : ℕ) → k < places → HasPlace k outs.now }
+{
+    for number in 0..places {
+        if !has(outs, number) {
+            return false;
+        }
+    }
+    true
+}
+
+impl Keeper {
+    /// Makes a door of these sizes: 1 to 64 places and 1 to 8 conditions, the last `sizes.mesa` of which are Mesa
+    /// conditions. A word of the caller's lies in it. Refused, in this order: `BAD_PLACES`, `BAD_CONDITIONS`, `NO_MEMORY`.
+    pub fn make(alloc: Global, sizes: Sizes, value: u64) -> Result<Keeper, u64>
+        ensures made { IfOk result (λ k. IsNew sizes value k) }
+        ensures refused { IfErr result (λ code. MadeNot sizes code) }
+    {
+        let (door, outs) = match StepDoor::make(alloc, Carried { value }, sizes) {
+            Ok(made) => made,
+            Err((_, MakeRefused::BadPlaces)) => return Err(BAD_PLACES),
+            Err((_, MakeRefused::BadConditions)) => return Err(BAD_CONDITIONS),
+            Err((_, MakeRefused::Memory)) => return Err(NO_MEMORY),
+        };
+        let Ok(shared) = Shared::new(alloc, door, sizes.places) else {
+            return Err(NO_MEMORY);
+        };
+        match Arc::new(alloc, shared) {
+            Ok(shared) => Ok(Keeper { shared, outs }),
+            Err(_) => Err(NO_MEMORY),
+        }
+    }
+
+    /// Takes the place with this number in hand, if it was given back.
+    fn collect_one(&mut self, number: usize)
+        ensures door { self.new.door ≡ self.old.door }
+        ensures outs { (more : List (PlaceOut Carried)) × (self.new.outs ≡ self.old.outs ++ more) }
+    {
+        if self.outs.len() == self.outs.capacity() {
+            return;
+        }
+        let Some(out) = self.shared.take(number) else {
+            return;
+        };
+        self.outs.push_reserved(out);
+    }
+
+    /// Takes those places in hand that were given back.
+    pub fn collect(&mut self)
+        ensures door { self.new.door ≡ self.old.door }
+        ensures outs { (more : List (PlaceOut Carried)) × (self.new.outs ≡ self.old.outs ++ more) }
+    {
+        let places = self.shared.door().sizes().places;
+        for number in 0..places {
+            self.collect_one(number);
+        }
+    }
+
+    /// Collects, if no place is in hand.
+    fn refill(&mut self)
+        ensures door { self.new.door ≡ self.old.door }
+        ensures outs { (self.old.outs ≡ []) ⊎ (self.new.outs ≡ self.old.outs) }
+    {
+        if self.outs.is_empty() {
+            self.collect();
+        }
+    }
+
+    /// Gives a place out, for a thread of its own. Refused: `NO_MEMORY` if an allocation failed, and `NONE_LEFT` if all
+    /// places are taken.
+    pub fn give_out(&mut self) -> Result<Place, u64>
+        ensures door { self.new.door ≡ self.old.door }
+        ensures gave { IfOk result (λ p. (p.door ≡ self.old.door) × GaveOut self.old.outs self.new.outs p.state) }
+        ensures refused { IfErr result (λ code. GaveNone self.new.outs code) }
+    {
+        self.refill();
+        let Ok(shared) = Arc::try_clone(&self.shared) else {
+            return Err(NO_MEMORY);
+        };
+        let Some(out) = self.outs.pop() else {
+            return Err(NONE_LEFT);
+        };
+        Ok(Place::new(shared, out))
+    }
+
+    /// Takes the door apart, if all of its places are in hand. The word is the one that one legal history left, which
+    /// begins with what each place knows and in which no place did anything else. Else the keeper comes back.
+    pub fn close(self) -> Result<u64, Keeper>
+        ensures all { IfOk result (λ v. (k : ℕ) → k < self.door.door.places → HasPlace k self.outs) }
+        ensures closes { IfOk result (λ v. Closes calm any self.door.kinds self.door.door self.outs
+            (record { value = v })) }
+        ensures same { IfErr result (λ k. k ≡ self) }
+    {
+        let places = self.shared.door().sizes().places;
+        if !has_all(&self.outs, places) {
+            return Err(self);
+        }
+        let Keeper { shared, outs } = self;
+        match Arc::try_unwrap(shared) {
+            Ok(shared) => Ok(shared.into_door().close(outs).value),
+            Err(shared) => Err(Keeper { shared, outs }),
+        }
+    }
+}

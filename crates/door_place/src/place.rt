@@ -1,0 +1,142 @@
+//! A place with its door.
+ghost use Rattle.std.specs.Prelude.{◌≡◌};
+ghost use Rattle.baton_door.specs.StepDoors.{StepId};
+ghost use Rattle.std.specs.Arc.{arc_value};
+ghost use Rattle.door_place.specs.Places.{Acts, GivesBack, place_at};
+ghost use Rattle.door_place.specs.States.{IsState, Gets, Counts, AsksQueue, AsksFirst, where_is};
+ghost use Rattle.door_place.specs.declared.state.State.TheVariants.{Outside};
+
+use crate::act::Act;
+use crate::codes::{DONE, NOT_NOW, NOT_OUTSIDE};
+use crate::shared::Shared;
+use crate::state::{self, Out, State};
+use door_frame::calls;
+use std::marker::Model;
+use std::mem;
+use std::sync::Arc;
+
+/// A place of a door, with its door. It moves between threads. If it is dropped while it is inside it leaves first, and
+/// nobody learns which place to wake: give it back instead.
+pub struct Place {
+    shared: Arc<Shared>,
+    state: State,
+}
+
+impl Model for Place {
+    ghost use Rattle.std.specs.Arc.{arc_value};
+    ghost use Rattle.door_place.specs.Places.{PlaceAt, place_at};
+    ghost use Rattle.door_place.specs.States.{IsState};
+
+    ghost Value = { PlaceAt };
+
+    ghost view = { λ p. place_at (arc_value p.shared) p.state };
+
+    ghost invariant = { λ p. IsState (arc_value p.shared) p.state };
+}
+
+impl Drop for Place {
+    fn drop(self) {
+        let Place { shared, state } = self;
+        match state {
+            State::Inside(inside) => {
+                calls::leave_to(shared.door(), inside);
+            }
+            State::Outside(_) | State::Away(_) | State::Nowhere => {}
+        }
+    }
+}
+
+/// Puts a place that is outside into its slot.
+fn given_back(shared: &Shared, state: State) -> (State, u64)
+    requires { IsState shared.now state }
+    ensures gives { GivesBack state result.0 result.1 }
+    ensures of { IsState shared.now result.0 }
+{
+    match state {
+        State::Outside(out) => match shared.put(out) {
+            Ok(()) => (State::Nowhere, DONE),
+            Err(out) => (State::Outside(out), NOT_NOW),
+        },
+        State::Inside(inside) => (State::Inside(inside), NOT_OUTSIDE),
+        State::Away(away) => (State::Away(away), NOT_OUTSIDE),
+        State::Nowhere => (State::Nowhere, NOT_OUTSIDE),
+    }
+}
+
+impl Place {
+    /// A place of the door that is shared, outside.
+    pub(crate) fn new(shared: Arc<Shared>, out: Out) -> Place
+        requires { IsState (arc_value shared) (Outside out) }
+        ensures { result ≡ place_at (arc_value shared) (Outside out) }
+    {
+        Place {
+            shared,
+            state: State::Outside(out),
+        }
+    }
+
+    /// Does one act, or refuses it. Returns its code.
+    #[inline(always)]
+    pub fn act(&mut self, act: Act) -> u64
+        ensures door { self.new.door ≡ self.old.door }
+        ensures acts { Acts self.old.door act self.old.state self.new.state result }
+    {
+        let state = mem::replace(&mut self.state, State::Nowhere);
+        let (state, code) = state::act(self.shared.door(), state, act);
+        let nowhere = mem::replace(&mut self.state, state);
+        let State::Nowhere = nowhere else {
+            unreachable!()
+        };
+        code
+    }
+
+    /// Gives the place back to its door: then it isn't here any more. Refused: `NOT_OUTSIDE`, and `NOT_NOW` if another
+    /// thread has the place's slot in hand.
+    pub fn give_back(&mut self) -> u64
+        ensures door { self.new.door ≡ self.old.door }
+        ensures gives { GivesBack self.old.state self.new.state result }
+    {
+        let state = mem::replace(&mut self.state, State::Nowhere);
+        let (state, code) = given_back(&self.shared, state);
+        let nowhere = mem::replace(&mut self.state, state);
+        let State::Nowhere = nowhere else {
+            unreachable!()
+        };
+        code
+    }
+
+    /// Returns where the place is: outside (0), inside (1) or away (2), or that it isn't here.
+    pub fn where_is(&self) -> u64
+        ensures { result ≡ where_is self.now.state }
+    {
+        state::where_is(&self.state)
+    }
+
+    /// Reads the word that the place has in hand.
+    pub fn get(&self, value: &mut u64) -> u64
+        ensures { Gets self.now.state value.old value.new result }
+    {
+        state::get(&self.state, value)
+    }
+
+    /// Returns how many wait on a condition.
+    pub fn count(&self, condition: u64) -> u64
+        ensures { Counts self.now.door self.now.state condition result }
+    {
+        state::count(self.shared.door(), &self.state, condition)
+    }
+
+    /// Returns whether somebody waits on a condition.
+    pub fn queue(&self, condition: u64) -> u64
+        ensures { AsksQueue self.now.door self.now.state condition result }
+    {
+        state::queue(self.shared.door(), &self.state, condition)
+    }
+
+    /// Reads the priority of the place that a signal would resume, if somebody waits on the condition.
+    pub fn first(&self, condition: u64, priority: &mut u64) -> u64
+        ensures { AsksFirst self.now.door self.now.state condition priority.old priority.new result }
+    {
+        state::first(self.shared.door(), &self.state, condition, priority)
+    }
+}

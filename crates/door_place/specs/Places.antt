@@ -44,6 +44,11 @@ pub record PlaceAt : Type 0 where
 abbrev pub place_at : StepId → State → PlaceAt
 place_at d s = record { door = d; state = s }
 
+-- the number of a place that is outside, below 64, or 64
+pub data NumberIs (state : State) (n : ℕ) : Type 0 where
+  outside : (o : PlaceOut Carried) → state ≡ Outside o → n ≡ o.place → n < 64 → NumberIs state n
+  elsewhere : NotOutside state → n ≡ 64 → NumberIs state n
+
 -- the place was given back (0): it isn't here any more; else it is as it was: it isn't outside (103), or its slot is in
 -- another hand (102)
 pub data GivesBack (old new : State) (code : ℕ) : Type 0 where

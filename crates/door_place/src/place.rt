@@ -2,12 +2,12 @@
 ghost use Rattle.std.specs.Prelude.{◌≡◌};
 ghost use Rattle.baton_door.specs.StepDoors.{StepId};
 ghost use Rattle.std.specs.Arc.{arc_value};
-ghost use Rattle.door_place.specs.Places.{Acts, GivesBack, place_at};
+ghost use Rattle.door_place.specs.Places.{Acts, GivesBack, NumberIs, place_at};
 ghost use Rattle.door_place.specs.States.{IsState, Gets, Counts, AsksQueue, AsksFirst, where_is};
 ghost use Rattle.door_place.specs.declared.state.State.TheVariants.{Outside};
 
 use crate::act::Act;
-use crate::codes::{DONE, NOT_NOW, NOT_OUTSIDE};
+use crate::codes::{DONE, NOBODY, NOT_NOW, NOT_OUTSIDE};
 use crate::shared::Shared;
 use crate::state::{self, Out, State};
 use door_frame::calls;
@@ -103,6 +103,17 @@ impl Place {
             unreachable!()
         };
         code
+    }
+
+    /// Returns the place's number if it is outside, and else `NOBODY`.
+    pub fn number(&self) -> u64
+        ensures { NumberIs self.now.state result }
+    {
+        let sizes = self.shared.door().sizes(); // at most 64 places
+        match &self.state {
+            State::Outside(out) => out.number() as u64,
+            State::Inside(_) | State::Away(_) | State::Nowhere => NOBODY,
+        }
     }
 
     /// Returns where the place is: outside (0), inside (1) or away (2), or that it isn't here.

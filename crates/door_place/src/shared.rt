@@ -36,6 +36,14 @@ impl Model for Shared {
     ghost view = { λ s. s.door };
 }
 
+/// Returns an empty slot for a place of this door.
+#[inline(never)] // else the loop that makes all slots becomes a call of memset, which a kernel may not have
+fn slot(door: &Door) -> Counted<Option<Returned>>
+    ensures { result ≡ door.now }
+{
+    Counted::new(None, door)
+}
+
 /// Returns `places` empty slots for places of this door.
 fn slots(
     alloc: Global,
@@ -46,7 +54,7 @@ fn slots(
 {
     let mut slots = Vec::with_capacity(alloc, places)?;
     for made in 0..places {
-        slots.push(Counted::new(None, door))?;
+        slots.push_reserved(slot(door));
     }
     Ok(slots)
 }

@@ -1,0 +1,657 @@
+/* Every code of every call of the door, beside what was worked out by hand: refusals in their order, hand-overs, each
+ * split of the conditions into Hoare's and Mesa conditions, and memory that is refused at each request in turn. */
+#include "zaulinte_door.h"
+#include <inttypes.h>
+#include <stdbool.h>
+#include <stdio.h>
+#include <stdlib.h>
+#include <string.h>
+
+/* The archive's memory, by malloc: garbage at first, and refused from request `first` to request `last`. */
+struct tried {
+    bool is;
+    void *at;
+};
+struct tried rattle_alloc(size_t bytes, size_t align);
+void rattle_dealloc(void *at);
+static unsigned requests, pieces, first_refused = 1, last_refused;
+struct tried rattle_alloc(size_t bytes, size_t align) {
+    struct tried no = {false, NULL}, yes = {true, NULL};
+    requests++;
+    if (align > 16 || (first_refused <= requests && requests <= last_refused)) return no;
+    yes.at = malloc(bytes);
+    if (!yes.at) return no;
+    memset(yes.at, 0xa5, bytes);
+    pieces++;
+    return yes;
+}
+void rattle_dealloc(void *at) {
+    pieces--;
+    free(at);
+}
+static void refuse(unsigned first, unsigned last) { requests = 0, first_refused = first, last_refused = last; }
+static void refuse_all(void) { refuse(1, ~0u); }
+static void refuse_none(void) { refuse(1, 0); }
+
+/* the first wrong answer ends the test */
+#define IS(call, wanted) is(__LINE__, #call, call, wanted)
+static void is(int line, const char *call, uint64_t answer, uint64_t wanted) {
+    if (answer == wanted) return;
+    printf("door.c, line %d: %s: %" PRIu64 " and not %" PRIu64 "\n", line, call, answer, wanted);
+    exit(1);
+}
+
+/* One door and its places. place[k] has number k on a fresh door; else number[k], which is below 64. `out` has a bit
+ * for each number that is out. */
+static zaulinte_door door;
+static zaulinte_door_place place[64];
+static uint64_t number[64], out;
+static uint64_t enters(int k) { return zaulinte_door_try_enter(&place[k]); }
+static uint64_t returns(int k) { return zaulinte_door_try_return(&place[k]); }
+static uint64_t leaves(int k) { return zaulinte_door_leave(&place[k]); }
+static uint64_t waits(int k, uint64_t c, uint64_t p) { return zaulinte_door_wait(&place[k], c, p); }
+static uint64_t signals(int k, uint64_t c) { return zaulinte_door_signal(&place[k], c); }
+static uint64_t exits(int k, uint64_t c) { return zaulinte_door_signal_leave(&place[k], c); }
+static uint64_t notifies(int k, uint64_t c) { return zaulinte_door_notify(&place[k], c); }
+static uint64_t broadcasts(int k, uint64_t c) { return zaulinte_door_broadcast(&place[k], c); }
+static uint64_t queue(int k, uint64_t c) { return zaulinte_door_queue(&place[k], c); }
+static uint64_t count(int k, uint64_t c) { return zaulinte_door_count(&place[k], c); }
+static uint64_t first(int k, uint64_t c, uint64_t *p) { return zaulinte_door_first(&place[k], c, p); }
+static uint64_t reads(int k, uint64_t *value) { return zaulinte_door_get(&place[k], value); }
+static uint64_t writes(int k, uint64_t value) { return zaulinte_door_set(&place[k], value); }
+static uint64_t state(int k) { return zaulinte_door_state(&place[k]); }
+static uint64_t gives_back(int k) {
+    uint64_t code = zaulinte_door_give_back(&place[k]);
+    if (code == 0) out &= ~((uint64_t)1 << number[k]);
+    return code;
+}
+/* place[k] was given out with this number: below `places`, and not out */
+static void is_out(int k, int places, uint64_t answer) {
+    IS(answer < (uint64_t)places, 1);
+    IS(out >> answer & 1, 0);
+    number[k] = answer;
+    out |= (uint64_t)1 << answer;
+}
+static void gives_out(int k, int places) { is_out(k, places, zaulinte_door_give_out(&door, &place[k])); }
+static void gives_first(int k, int places) {
+    gives_out(k, places);
+    IS(number[k], (uint64_t)k);
+}
+/* makes the door and gives all places out: they come as places - 1, .., 0 */
+static void opens(int places, uint64_t conditions, uint64_t mesa, uint64_t value) {
+    IS(zaulinte_door_make(&door, (uint64_t)places, conditions, mesa, value), 0);
+    for (int k = places; k-- > 0;) gives_first(k, places);
+}
+static void closes(int places, uint64_t wanted) {
+    uint64_t value = 77;
+    for (int k = 0; k < places; k++) IS(gives_back(k), 0);
+    IS(zaulinte_door_close(&door, &value), 0);
+    IS(value, wanted);
+    IS(pieces, 0);
+    IS(out, 0);
+}
+/* a visit that ends with this wait */
+static void comes_to_wait(int k, uint64_t c, uint64_t p) {
+    IS(enters(k), 64);
+    IS(waits(k, c, p), 64);
+    IS(state(k), 2);
+}
+/* the place is back inside, and its leave returns this */
+static void returns_and_leaves(int k, uint64_t next) {
+    IS(state(k), 2);
+    IS(returns(k), 64);
+    IS(state(k), 1);
+    IS(leaves(k), next);
+    IS(state(k), 0);
+}
+
+/* a place that holds nothing, and a door that holds nothing: 107, whatever else comes */
+static void answers_of_no_door(zaulinte_door *d) {
+    uint64_t kept = 77;
+    zaulinte_door_place unheld = {0, 0, 0};
+    IS(zaulinte_door_give_out(d, &unheld), 107);
+    IS(zaulinte_door_close(d, &kept), 107);
+    IS(kept, 77);
+}
+static void answers_of_no_place(zaulinte_door_place *p) {
+    uint64_t kept = 77;
+    IS(zaulinte_door_give_back(p), 107);
+    IS(zaulinte_door_try_enter(p), 107);
+    IS(zaulinte_door_try_return(p), 107);
+    IS(zaulinte_door_leave(p), 107);
+    IS(zaulinte_door_wait(p, UINT64_MAX, UINT64_MAX), 107);
+    IS(zaulinte_door_signal(p, 0), 107);
+    IS(zaulinte_door_signal_leave(p, UINT64_MAX), 107);
+    IS(zaulinte_door_notify(p, 0), 107);
+    IS(zaulinte_door_broadcast(p, 8), 107);
+    IS(zaulinte_door_get(p, &kept), 107);
+    IS(zaulinte_door_set(p, 1), 107);
+    IS(zaulinte_door_queue(p, 9), 107);
+    IS(zaulinte_door_first(p, 0, &kept), 107);
+    IS(zaulinte_door_count(p, 9), 107);
+    IS(zaulinte_door_state(p), 107);
+    IS(kept, 77);
+}
+static void handles(void) {
+    zaulinte_door none = {0, 0, 0}, other = {0, 0, 0};
+    zaulinte_door_place unheld = {0, 0, 0}, held = {0, 0, 0}, more = {0, 0, 0};
+    uint64_t value = 77;
+    refuse_all();
+    answers_of_no_door(&none);
+    answers_of_no_place(&unheld);
+    IS(zaulinte_door_make(&none, 0, 0, 9, 5), 109);
+    IS(zaulinte_door_make(&none, 0, 1, 0, 5), 109);
+    IS(zaulinte_door_make(&none, 65, 9, 0, 5), 109);
+    IS(zaulinte_door_make(&none, UINT64_MAX, 1, 0, 5), 109);
+    IS(zaulinte_door_make(&none, 1, 0, 0, 5), 110);
+    IS(zaulinte_door_make(&none, 64, 9, 0, 5), 110);
+    IS(zaulinte_door_make(&none, 1, UINT64_MAX, 0, 5), 110);
+    IS(zaulinte_door_make(&none, 1, 2, 3, 5), 110);
+    IS(zaulinte_door_make(&none, 1, 8, UINT64_MAX, 5), 110);
+    IS(zaulinte_door_make(&none, 64, 8, 8, 5), 111);
+    IS(zaulinte_door_make(&none, 1, 1, 0, 5), 111);
+    answers_of_no_door(&none);
+    refuse_none();
+    IS(zaulinte_door_make(&other, 1, 1, 0, 5), 0);
+    IS(zaulinte_door_make(&other, 0, 0, 9, 6), 108);
+    IS(zaulinte_door_give_out(&other, &held), 0);
+    IS(zaulinte_door_give_out(&other, &more), 114);
+    answers_of_no_place(&more);
+    IS(zaulinte_door_give_out(&other, &held), 108);
+    IS(zaulinte_door_give_out(&none, &held), 108);
+    refuse_all();
+    IS(zaulinte_door_make(&other, 1, 1, 0, 6), 108);
+    IS(zaulinte_door_make(&other, 65, 1, 0, 6), 108);
+    IS(zaulinte_door_give_out(&none, &held), 108);
+    IS(zaulinte_door_give_out(&none, &more), 107);
+    IS(zaulinte_door_give_out(&other, &held), 108);
+    IS(zaulinte_door_give_out(&other, &more), 114);
+    IS(zaulinte_door_state(&held), 0);
+    IS(zaulinte_door_close(&other, &value), 112);
+    IS(value, 77);
+    IS(zaulinte_door_give_back(&held), 0);
+    answers_of_no_place(&held);
+    IS(zaulinte_door_close(&other, &value), 0);
+    IS(value, 5);
+    answers_of_no_door(&other);
+    IS(zaulinte_door_make(&other, 0, 1, 0, 6), 109);
+    refuse_none();
+    IS(zaulinte_door_make(&other, 64, 8, 4, UINT64_MAX), 0);
+    IS(zaulinte_door_close(&other, &value), 0);
+    IS(value, UINT64_MAX);
+    IS(pieces, 0);
+}
+
+/* what a place is refused that isn't inside: 104 before 105 and 106; conditions: 0 of Hoare's, 1 Mesa */
+static void not_inside(int k) {
+    uint64_t kept = 77, before = state(k);
+    static const uint64_t any[] = {0, 1, 2, UINT64_MAX};
+    IS(leaves(k), 104);
+    for (int i = 0; i < 4; i++) {
+        IS(waits(k, any[i], 0), 104);
+        IS(signals(k, any[i]), 104);
+        IS(exits(k, any[i]), 104);
+        IS(notifies(k, any[i]), 104);
+        IS(broadcasts(k, any[i]), 104);
+        IS(queue(k, any[i]), 104);
+        IS(first(k, any[i], &kept), 104);
+        IS(count(k, any[i]), 104);
+    }
+    IS(reads(k, &kept), 104);
+    IS(writes(k, 9), 104);
+    IS(kept, 77);
+    IS(state(k), before);
+}
+static void away(int k) {
+    not_inside(k);
+    IS(enters(k), 103);
+    IS(gives_back(k), 103);
+    IS(state(k), 2);
+}
+static void inside(int k) {
+    uint64_t kept = 77;
+    static const uint64_t none[] = {2, 8, UINT64_MAX};
+    IS(enters(k), 103);
+    IS(returns(k), 113);
+    IS(gives_back(k), 103);
+    for (int i = 0; i < 3; i++) {
+        IS(waits(k, none[i], 0), 105);
+        IS(signals(k, none[i]), 105);
+        IS(exits(k, none[i]), 105);
+        IS(notifies(k, none[i]), 105);
+        IS(broadcasts(k, none[i]), 105);
+        IS(queue(k, none[i]), 105);
+        IS(first(k, none[i], &kept), 105);
+        IS(count(k, none[i]), 105);
+    }
+    IS(signals(k, 1), 106);
+    IS(exits(k, 1), 106);
+    IS(notifies(k, 0), 106);
+    IS(broadcasts(k, 0), 106);
+    IS(kept, 77);
+    IS(state(k), 1);
+}
+static void refusals(void) {
+    uint64_t value = 77;
+    opens(3, 2, 1, 40);
+    refuse_all(); /* no step takes memory */
+    for (int k = 0; k < 3; k++) {
+        not_inside(k);
+        IS(returns(k), 113);
+        IS(state(k), 0);
+    }
+    IS(enters(0), 64);
+    inside(0);
+    IS(enters(1), 102);
+    not_inside(1);
+    IS(reads(0, &value), 0);
+    IS(value, 40);
+    IS(writes(0, 41), 0);
+    IS(zaulinte_door_close(&door, &value), 112);
+    IS(value, 40);
+    IS(waits(0, 0, 5), 64);
+    away(0);
+    IS(returns(0), 102);
+    IS(enters(1), 64);
+    IS(reads(1, &value), 0);
+    IS(value, 41);
+    IS(signals(1, 0), 0);
+    away(0);
+    away(1);
+    IS(returns(1), 102);
+    IS(enters(2), 102);
+    IS(returns(0), 64);
+    inside(0);
+    IS(waits(0, 1, 5), 1);
+    away(0);
+    away(1);
+    IS(returns(0), 102);
+    IS(returns(1), 64);
+    IS(notifies(1, 1), 1);
+    inside(1);
+    away(0);
+    IS(returns(0), 102);
+    IS(leaves(1), 0);
+    not_inside(1);
+    IS(returns(1), 113);
+    away(0);
+    IS(enters(1), 102);
+    IS(returns(0), 64);
+    IS(exits(0, 0), 64);
+    IS(returns(0), 113);
+    IS(requests, 0);
+    closes(3, 41);
+    refuse_none();
+}
+
+/* a signaller before an entering place; a signal that finds nobody; a signal as the last act */
+static void hands_over(void) {
+    uint64_t found = 77;
+    opens(3, 1, 0, 0);
+    IS(enters(2), 64);
+    IS(signals(2, 0), 64);
+    IS(state(2), 1);
+    IS(leaves(2), 64);
+    comes_to_wait(0, 0, UINT64_MAX);
+    IS(enters(1), 64);
+    IS(queue(1, 0), 1);
+    IS(first(1, 0, &found), 1);
+    IS(found, UINT64_MAX);
+    IS(count(1, 0), 1);
+    IS(signals(1, 0), 0);
+    IS(state(1), 2);
+    IS(enters(2), 102);
+    IS(returns(1), 102);
+    IS(returns(0), 64);
+    IS(queue(0, 0), 0);
+    IS(enters(2), 102);
+    IS(leaves(0), 1);
+    IS(enters(2), 102);
+    IS(enters(0), 102);
+    returns_and_leaves(1, 64);
+    IS(enters(2), 64);
+    IS(leaves(2), 64);
+    /* the same by signal_leave: nobody is owed the monitor after it */
+    comes_to_wait(0, 0, 1);
+    IS(enters(1), 64);
+    IS(exits(1, 0), 0);
+    IS(state(1), 0);
+    IS(enters(1), 102);
+    returns_and_leaves(0, 64);
+    IS(enters(1), 64);
+    IS(exits(1, 0), 64);
+    IS(state(1), 0);
+    /* a signal_leave that finds nobody goes to the signaller; so does a wait */
+    comes_to_wait(0, 0, 1);
+    IS(enters(1), 64);
+    IS(signals(1, 0), 0);
+    IS(returns(0), 64);
+    IS(exits(0, 0), 1);
+    IS(returns(1), 64);
+    IS(waits(1, 0, 3), 64);
+    IS(enters(0), 64);
+    IS(signals(0, 0), 1);
+    IS(returns(1), 64);
+    IS(waits(1, 0, 3), 0);
+    IS(returns(0), 64);
+    IS(exits(0, 0), 1);
+    returns_and_leaves(1, 64);
+    closes(3, 0);
+}
+/* the signallers return in the order of their signals */
+static void two_signallers(void) {
+    opens(4, 2, 0, 0);
+    comes_to_wait(0, 0, 0);
+    comes_to_wait(1, 1, 0);
+    IS(enters(2), 64);
+    IS(signals(2, 0), 0);
+    IS(returns(0), 64);
+    IS(signals(0, 1), 1);
+    IS(returns(0), 102);
+    IS(returns(2), 102);
+    IS(returns(1), 64);
+    IS(leaves(1), 2);
+    IS(enters(3), 102);
+    IS(returns(0), 102);
+    returns_and_leaves(2, 0);
+    IS(enters(3), 102);
+    returns_and_leaves(0, 64);
+    IS(enters(3), 64);
+    IS(leaves(3), 64);
+    closes(4, 0);
+}
+/* signallers, then notified places, then an entering one; a place that is notified doesn't wait any more */
+static void notified_after_signallers(void) {
+    opens(5, 2, 1, 0);
+    comes_to_wait(0, 1, 0);
+    comes_to_wait(1, 0, 0);
+    comes_to_wait(2, 1, 0);
+    IS(enters(3), 64);
+    IS(count(3, 1), 2);
+    IS(notifies(3, 1), 1);
+    IS(count(3, 1), 1);
+    IS(returns(0), 102);
+    IS(signals(3, 0), 1);
+    IS(enters(4), 102);
+    IS(returns(1), 64);
+    IS(notifies(1, 1), 1);
+    IS(notifies(1, 1), 0);
+    IS(queue(1, 1), 0);
+    IS(leaves(1), 3);
+    IS(returns(0), 102);
+    returns_and_leaves(3, 0);
+    IS(enters(4), 102);
+    IS(returns(2), 102);
+    returns_and_leaves(0, 2);
+    IS(enters(4), 102);
+    returns_and_leaves(2, 64);
+    /* a place that was notified twice in a row, with a signal in between */
+    comes_to_wait(2, 1, 0);
+    IS(enters(4), 64);
+    IS(broadcasts(4, 1), 1);
+    IS(exits(4, 0), 2);
+    returns_and_leaves(2, 64);
+    closes(5, 0);
+}
+/* the least priority first, of equal ones the longest waiting */
+static void by_priority(void) {
+    static const int order[] = {2, 0, 1, 4, 3};
+    static const uint64_t priority[] = {5, 5, 3, UINT64_MAX, 6};
+    uint64_t found = 77;
+    opens(6, 1, 0, 0);
+    for (int k = 0; k < 5; k++) comes_to_wait(k, 0, priority[k]);
+    for (int i = 0; i < 5; i++) {
+        IS(enters(5), 64);
+        IS(count(5, 0), (uint64_t)(5 - i));
+        IS(first(5, 0, &found), 1);
+        IS(found, priority[order[i]]);
+        IS(signals(5, 0), (uint64_t)order[i]);
+        returns_and_leaves(order[i], 5);
+        returns_and_leaves(5, 64);
+    }
+    IS(enters(5), 64);
+    found = 77;
+    IS(first(5, 0, &found), 0);
+    IS(found, 77);
+    IS(leaves(5), 64);
+    closes(6, 0);
+}
+/* 63 wait; then all are notified at once, or are signalled in turn */
+static void of_all_places(void) {
+    opens(64, 8, 4, 0);
+    for (int k = 0; k < 63; k++) comes_to_wait(k, 7, (uint64_t)(62 - k));
+    IS(enters(63), 64);
+    IS(broadcasts(63, 6), 0);
+    IS(count(63, 7), 63);
+    IS(broadcasts(63, 7), 63);
+    IS(broadcasts(63, 7), 0);
+    IS(leaves(63), 62);
+    for (int k = 62; k > 0; k--) returns_and_leaves(k, (uint64_t)(k - 1));
+    returns_and_leaves(0, 64);
+    for (int k = 0; k < 63; k++) comes_to_wait(k, 3, 9);
+    IS(enters(63), 64);
+    for (int k = 0; k < 62; k++) {
+        IS(signals(k ? k - 1 : 63, 3), (uint64_t)k);
+        IS(returns(k), 64);
+    }
+    IS(exits(61, 3), 62);
+    IS(returns(62), 64);
+    IS(leaves(62), 63);
+    returns_and_leaves(63, 0);
+    for (int k = 0; k < 60; k++) returns_and_leaves(k, (uint64_t)(k + 1));
+    returns_and_leaves(60, 64);
+    closes(64, 0);
+}
+
+/* the first conditions - mesa conditions are Hoare's, the others Mesa conditions */
+static void on_condition(uint64_t c, uint64_t conditions, bool mesa) {
+    uint64_t found = 77;
+    comes_to_wait(0, c, 100 + c);
+    IS(enters(1), 64);
+    for (uint64_t other = 0; other < conditions; other++) IS(queue(1, other), other == c);
+    IS(first(1, c, &found), 1);
+    IS(found, 100 + c);
+    IS(signals(1, c), mesa ? 106 : 0);
+    if (mesa) {
+        IS(exits(1, c), 106);
+        IS(notifies(1, c), 1);
+        IS(notifies(1, c), 0);
+        IS(leaves(1), 0);
+        returns_and_leaves(0, 64);
+    } else {
+        returns_and_leaves(0, 1);
+        IS(returns(1), 64);
+        IS(notifies(1, c), 106);
+        IS(broadcasts(1, c), 106);
+        IS(exits(1, c), 64);
+    }
+    comes_to_wait(0, c, 1);
+    IS(enters(1), 64);
+    if (mesa) {
+        IS(broadcasts(1, c), 1);
+        IS(leaves(1), 0);
+    } else {
+        IS(exits(1, c), 0);
+    }
+    returns_and_leaves(0, 64);
+}
+static void splits(void) {
+    for (uint64_t conditions = 1; conditions <= 8; conditions++) {
+        for (uint64_t mesa = 0; mesa <= conditions; mesa++) {
+            opens(2, conditions, mesa, conditions);
+            for (uint64_t c = 0; c < conditions; c++) on_condition(c, conditions, c >= conditions - mesa);
+            IS(enters(0), 64);
+            IS(waits(0, conditions, 0), 105);
+            IS(signals(0, conditions), 105);
+            IS(notifies(0, conditions), 105);
+            IS(count(0, conditions), 105);
+            IS(leaves(0), 64);
+            closes(2, conditions);
+        }
+    }
+}
+
+/* A door isn't closed while a place is out, wherever that is. A place that was given back is given out again. */
+static void close_and_again(void) {
+    zaulinte_door_place again = {0, 0, 0}, more = {0, 0, 0};
+    uint64_t value = 77;
+    opens(2, 1, 0, 30);
+    IS(gives_back(0), 0);
+    answers_of_no_place(&place[0]);
+    IS(zaulinte_door_close(&door, &value), 112);
+    IS(zaulinte_door_give_out(&door, &again), 0); /* 0 is the only number that isn't out */
+    IS(zaulinte_door_give_out(&door, &more), 114);
+    answers_of_no_place(&more);
+    IS(zaulinte_door_try_enter(&again), 64);
+    IS(zaulinte_door_close(&door, &value), 112);
+    IS(zaulinte_door_set(&again, 31), 0);
+    IS(zaulinte_door_wait(&again, 0, 0), 64);
+    IS(zaulinte_door_close(&door, &value), 112);
+    IS(enters(1), 64);
+    IS(reads(1, &value), 0);
+    IS(value, 31);
+    IS(writes(1, 32), 0);
+    IS(writes(1, 33), 0);
+    IS(signals(1, 0), 0);
+    IS(zaulinte_door_close(&door, &value), 112);
+    IS(value, 31);
+    IS(zaulinte_door_try_return(&again), 64);
+    IS(zaulinte_door_leave(&again), 1);
+    IS(zaulinte_door_give_back(&again), 0);
+    IS(zaulinte_door_close(&door, &value), 112);
+    IS(gives_back(1), 103);
+    IS(returns(1), 64);
+    IS(gives_back(1), 103);
+    IS(zaulinte_door_close(&door, &value), 112);
+    IS(leaves(1), 64);
+    IS(zaulinte_door_close(&door, &value), 112);
+    IS(value, 31);
+    IS(gives_back(1), 0);
+    IS(gives_back(1), 107);
+    IS(zaulinte_door_close(&door, &value), 0);
+    IS(value, 33);
+    answers_of_no_door(&door);
+    answers_of_no_place(&again);
+    IS(pieces, 0);
+    /* a door whose close was refused gives places out still */
+    IS(zaulinte_door_make(&door, 2, 1, 0, 9), 0);
+    gives_first(1, 2);
+    IS(zaulinte_door_close(&door, &value), 112);
+    gives_first(0, 2);
+    closes(2, 9);
+}
+
+/* all numbers are out, and a signal and a leave return the number with which the place was given out */
+static void numbers(int places) {
+    IS(out, places < 64 ? ((uint64_t)1 << places) - 1 : UINT64_MAX);
+    for (int k = 0; k + 1 < places; k += 2) {
+        comes_to_wait(k, 0, 0);
+        IS(enters(k + 1), 64);
+        IS(signals(k + 1, 0), number[k]);
+        IS(returns(k), 64);
+        IS(leaves(k), number[k + 1]);
+        returns_and_leaves(k + 1, 64);
+    }
+}
+static void all_given_out_again(void) {
+    zaulinte_door_place more = {0, 0, 0};
+    opens(64, 8, 0, 0);
+    numbers(64);
+    for (int k = 1; k < 64; k += 2) IS(gives_back(k), 0); /* those of odd number */
+    gives_out(1, 64);
+    IS(gives_back(0), 0);
+    for (int k = 3; k < 64; k += 2) gives_out(k, 64);
+    gives_out(0, 64);
+    IS(zaulinte_door_give_out(&door, &more), 114);
+    numbers(64);
+    for (int round = 0; round < 3; round++) {
+        for (int k = 0; k < 64; k++) IS(gives_back(k), 0);
+        for (int k = 0; k < 64; k++) gives_out(k, 64);
+        IS(zaulinte_door_give_out(&door, &more), 114);
+        numbers(64);
+    }
+    closes(64, 0);
+}
+
+/* How many requests the call makes, if all are granted. Each of them is refused in turn, alone and with all after it:
+ * 111, and as many pieces as before. */
+static void make_without_memory(uint64_t places) {
+    refuse_none();
+    IS(zaulinte_door_make(&door, places, 8, 4, 5), 0);
+    unsigned all = requests;
+    closes(0, 5);
+    IS(all > 0, 1);
+    for (unsigned k = 1; k <= all; k++) {
+        for (int alone = 0; alone < 2; alone++) {
+            refuse(k, alone ? k : ~0u);
+            IS(zaulinte_door_make(&door, places, 8, 4, 5), 111);
+            IS(pieces, 0);
+            refuse_none();
+            answers_of_no_door(&door);
+        }
+    }
+}
+/* after a refusal the place went back: any number that isn't out may come next */
+static void given_out_without_memory(int i, int places) {
+    unsigned before = pieces, all = 0;
+    for (unsigned k = 1; !all; k++) {
+        for (int alone = 0; alone < 2; alone++) {
+            refuse(k, alone ? k : ~0u);
+            uint64_t code = zaulinte_door_give_out(&door, &place[i]);
+            unsigned asked = requests;
+            refuse_none();
+            if (code < 64 && asked < k) {
+                all = asked; /* none was refused */
+                is_out(i, places, code);
+                break;
+            }
+            IS(code, 111);
+            IS(pieces, before);
+            answers_of_no_place(&place[i]);
+        }
+    }
+    IS(state(i), 0);
+}
+static void memory_refused(void) {
+    make_without_memory(1);
+    make_without_memory(64);
+    zaulinte_door_place more = {0, 0, 0};
+    IS(zaulinte_door_make(&door, 4, 1, 0, 5), 0);
+    for (int round = 0; round < 2; round++) {
+        for (int k = 0; k < 4; k++) given_out_without_memory(k, 4);
+        unsigned before = pieces;
+        IS(zaulinte_door_give_out(&door, &more), 114);
+        IS(pieces, before);
+        numbers(4);
+        for (int k = 0; k < 4; k++) IS(gives_back(k), 0);
+    }
+    for (int k = 0; k < 4; k++) gives_out(k, 4);
+    refuse_all();
+    uint64_t value = 77;
+    IS(zaulinte_door_close(&door, &value), 112);
+    IS(gives_back(0), 0);
+    IS(zaulinte_door_close(&door, &value), 112);
+    IS(zaulinte_door_give_out(&door, &place[0]), 111);
+    IS(requests > 0, 1);
+    refuse_none();
+    gives_out(0, 4);
+    numbers(4);
+    refuse_all();
+    closes(4, 5);
+    IS(requests, 0);
+    refuse_none();
+}
+int main(void) {
+    handles();
+    refusals();
+    hands_over();
+    two_signallers();
+    notified_after_signallers();
+    by_priority();
+    of_all_places();
+    splits();
+    close_and_again();
+    all_given_out_again();
+    memory_refused();
+    return 0;
+}

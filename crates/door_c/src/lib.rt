@@ -1,0 +1,228 @@
+//! A running door and its places for C: each function that C calls. `bindings/c/zaulinte_door.h` declares them.
+//!
+//! A door and a place are each a word and two pointers of C's, all 0 at first; `alloc` is nothing to C. No function has a
+//! premise: each answers for every number, and if nothing is held. No function waits for another thread, and none wakes
+//! one: an act that releases the monitor answers which place to wake, below 64, or 64 if none is to be woken.
+#![tactic(auto)]
+
+ghost use Rattle.std.specs.Prelude.{◌≡◌, ◌≢◌, ◌<◌, ◌≤◌};
+ghost use Rattle.hoare_law.specs.Sizes.{sizes_of};
+ghost use Rattle.door_place.specs.States.{AsksFirst, AsksQueue, Counts, Gets, where_is};
+ghost use Rattle.door_place.specs.declared.act.Act.TheVariants as act;
+ghost use Rattle.door_handle.specs.Desks.{IsKept, WasClosed};
+ghost use Rattle.door_handle.specs.Held.{Acted, GaveHeld, GivenBack, IsSame, Made};
+
+use door_handle::door::HeldDoor;
+use door_handle::place::HeldPlace;
+use door_place::act::Act;
+use std::alloc::Global;
+
+/// Makes a door of 1 to 64 places and 1 to 8 conditions, the last `mesa` of which are Mesa conditions, with the word
+/// `value` in it: 0. Refused, in this order: 108 a door is held already, 109 bad places, 110 bad conditions, 111 an
+/// allocation failed.
+#[unsafe(no_mangle)]
+pub extern "C" fn zaulinte_door_make(
+    alloc: Global,
+    door: &mut HeldDoor,
+    places: u64,
+    conditions: u64,
+    mesa: u64,
+    value: u64,
+) -> u64
+    ensures held { door.old.live ≡ 1 → (result ≡ 108) × (door.new ≡ door.old) }
+    ensures made { door.old.live ≡ 0 → Made (sizes_of conditions mesa places) value
+        door.new.live door.new.handle.value.keeper result }
+{
+    door.make(alloc, places, conditions, mesa, value)
+}
+
+/// Gives a place out, for a thread of its own: its number, below 64. Refused, in this order: 108 `place` holds one already,
+/// 107 no door is held, 114 all places are taken, 111 an allocation failed.
+#[unsafe(no_mangle)]
+pub extern "C" fn zaulinte_door_give_out(
+    alloc: Global,
+    door: &mut HeldDoor,
+    place: &mut HeldPlace,
+) -> u64
+    ensures held { place.old.live ≡ 1 → (result ≡ 108) × (door.new ≡ door.old) × (place.new ≡ place.old) }
+    ensures none { place.old.live ≡ 0 → door.old.live ≡ 0
+        → (result ≡ 107) × (door.new ≡ door.old) × (place.new ≡ place.old) }
+    ensures gave { result < 64 → (place.new.live ≡ 1)
+        × GaveHeld door.old.handle.value.keeper door.new.handle.value.keeper place.new.handle.value result }
+    ensures refused { 64 ≤ result → place.new ≡ place.old }
+{
+    door.give_out(alloc, place)
+}
+
+/// Gives a place back to its door: 0, and `place` holds none. Refused: 107 none is held, 103 it isn't outside, 102 another
+/// thread has its slot in hand at this moment.
+#[unsafe(no_mangle)]
+pub extern "C" fn zaulinte_door_give_back(alloc: Global, place: &mut HeldPlace) -> u64
+    ensures given { place.old.live ≡ 1
+        → GivenBack place.old.handle.value place.new.live place.new.handle.value result }
+    ensures none { place.old.live ≡ 0 → (result ≡ 107) × (place.new ≡ place.old) }
+{
+    place.give_back(alloc)
+}
+
+/// Closes the door, if all of its places were given back: 0, and `value` is its word. Refused: 107 no door is held, 112 a
+/// place wasn't given back.
+#[unsafe(no_mangle)]
+pub extern "C" fn zaulinte_door_close(alloc: Global, door: &mut HeldDoor, value: &mut u64) -> u64
+    ensures closed { door.old.live ≡ 1 → result ≡ 0
+        → (door.new.live ≡ 0) × WasClosed door.old.handle.value.keeper value.new }
+    ensures kept { door.old.live ≡ 1 → result ≢ 0 → (result ≡ 112) × (door.new.live ≡ 1)
+        × IsKept door.old.handle.value.keeper door.new.handle.value.keeper × (value.new ≡ value.old) }
+    ensures none { door.old.live ≡ 0 → (result ≡ 107) × (door.new ≡ door.old) × (value.new ≡ value.old) }
+{
+    door.close(alloc, value)
+}
+
+/// The place enters, if the monitor is free at this moment: 64, or 102. Refused: 107, 103 not outside.
+#[unsafe(no_mangle)]
+pub extern "C" fn zaulinte_door_try_enter(place: &mut HeldPlace) -> u64
+    ensures acted { place.old.live ≡ 1
+        → Acted act.TryEnter place.old.handle.value place.new.live place.new.handle.value result }
+    ensures none { place.old.live ≡ 0 → (result ≡ 107) × (place.new ≡ place.old) }
+{
+    place.act(Act::TryEnter)
+}
+
+/// The place returns from its wait or its signal, if the monitor is owed to it at this moment: 64, or 102. Refused: 107,
+/// 113 it is not away.
+#[unsafe(no_mangle)]
+pub extern "C" fn zaulinte_door_try_return(place: &mut HeldPlace) -> u64
+    ensures acted { place.old.live ≡ 1
+        → Acted act.TryReturn place.old.handle.value place.new.live place.new.handle.value result }
+    ensures none { place.old.live ≡ 0 → (result ≡ 107) × (place.new ≡ place.old) }
+{
+    place.act(Act::TryReturn)
+}
+
+/// The place leaves: which place to wake, or 64. Refused: 107, 104 not inside.
+#[unsafe(no_mangle)]
+pub extern "C" fn zaulinte_door_leave(place: &mut HeldPlace) -> u64
+    ensures acted { place.old.live ≡ 1
+        → Acted act.Leave place.old.handle.value place.new.live place.new.handle.value result }
+    ensures none { place.old.live ≡ 0 → (result ≡ 107) × (place.new ≡ place.old) }
+{
+    place.act(Act::Leave)
+}
+
+/// The place waits on a condition, with a priority: which place to wake, or 64. Once it is woken it tries to return.
+/// Refused: 107, 104, 105 no such condition.
+#[unsafe(no_mangle)]
+pub extern "C" fn zaulinte_door_wait(place: &mut HeldPlace, condition: u64, priority: u64) -> u64
+    ensures acted { place.old.live ≡ 1
+        → Acted (act.Wait condition priority) place.old.handle.value place.new.live place.new.handle.value result }
+    ensures none { place.old.live ≡ 0 → (result ≡ 107) × (place.new ≡ place.old) }
+{
+    place.act(Act::Wait(condition, priority))
+}
+
+/// The place signals one of Hoare's conditions: which place to wake, and then this place is away and tries to return once
+/// it is woken; or 64 if nobody waits there, and it is inside still. Refused: 107, 104, 105, 106 a Mesa condition.
+#[unsafe(no_mangle)]
+pub extern "C" fn zaulinte_door_signal(place: &mut HeldPlace, condition: u64) -> u64
+    ensures acted { place.old.live ≡ 1
+        → Acted (act.Signal condition) place.old.handle.value place.new.live place.new.handle.value result }
+    ensures none { place.old.live ≡ 0 → (result ≡ 107) × (place.new ≡ place.old) }
+{
+    place.act(Act::Signal(condition))
+}
+
+/// The place signals one of Hoare's conditions as its last act: which place to wake, or 64. Refused as a signal.
+#[unsafe(no_mangle)]
+pub extern "C" fn zaulinte_door_signal_leave(place: &mut HeldPlace, condition: u64) -> u64
+    ensures acted { place.old.live ≡ 1
+        → Acted (act.SignalLeave condition) place.old.handle.value place.new.live place.new.handle.value result }
+    ensures none { place.old.live ≡ 0 → (result ≡ 107) × (place.new ≡ place.old) }
+{
+    place.act(Act::SignalLeave(condition))
+}
+
+/// The place notifies the place that a signal on this Mesa condition would resume: how many it notified. Refused: 107,
+/// 104, 105, 106 one of Hoare's.
+#[unsafe(no_mangle)]
+pub extern "C" fn zaulinte_door_notify(place: &mut HeldPlace, condition: u64) -> u64
+    ensures acted { place.old.live ≡ 1
+        → Acted (act.Notify condition) place.old.handle.value place.new.live place.new.handle.value result }
+    ensures none { place.old.live ≡ 0 → (result ≡ 107) × (place.new ≡ place.old) }
+{
+    place.act(Act::Notify(condition))
+}
+
+/// The place notifies all that wait on a Mesa condition: how many they were. Refused as a notify.
+#[unsafe(no_mangle)]
+pub extern "C" fn zaulinte_door_broadcast(place: &mut HeldPlace, condition: u64) -> u64
+    ensures acted { place.old.live ≡ 1
+        → Acted (act.Broadcast condition) place.old.handle.value place.new.live place.new.handle.value result }
+    ensures none { place.old.live ≡ 0 → (result ≡ 107) × (place.new ≡ place.old) }
+{
+    place.act(Act::Broadcast(condition))
+}
+
+/// The place inside writes the word that lies in the monitor: 0. Refused: 107, 104.
+#[unsafe(no_mangle)]
+pub extern "C" fn zaulinte_door_set(place: &mut HeldPlace, value: u64) -> u64
+    ensures acted { place.old.live ≡ 1
+        → Acted (act.Set value) place.old.handle.value place.new.live place.new.handle.value result }
+    ensures none { place.old.live ≡ 0 → (result ≡ 107) × (place.new ≡ place.old) }
+{
+    place.act(Act::Set(value))
+}
+
+/// Reads the word that the place inside has in hand: 0. Refused: 107, 104.
+#[unsafe(no_mangle)]
+pub extern "C" fn zaulinte_door_get(place: &mut HeldPlace, value: &mut u64) -> u64
+    ensures asked { place.old.live ≡ 1 → IsSame place.old.handle.value place.new.live place.new.handle.value
+        × Gets place.old.handle.value.state value.old value.new result }
+    ensures none { place.old.live ≡ 0 → (result ≡ 107) × (place.new ≡ place.old) × (value.new ≡ value.old) }
+{
+    place.get(value)
+}
+
+/// Returns how many wait on a condition. Refused: 107, 104, 105.
+#[unsafe(no_mangle)]
+pub extern "C" fn zaulinte_door_count(place: &mut HeldPlace, condition: u64) -> u64
+    ensures asked { place.old.live ≡ 1 → IsSame place.old.handle.value place.new.live place.new.handle.value
+        × Counts place.old.handle.value.door place.old.handle.value.state condition result }
+    ensures none { place.old.live ≡ 0 → (result ≡ 107) × (place.new ≡ place.old) }
+{
+    place.count(condition)
+}
+
+/// Returns whether somebody waits on a condition: 1 or 0. Refused: 107, 104, 105.
+#[unsafe(no_mangle)]
+pub extern "C" fn zaulinte_door_queue(place: &mut HeldPlace, condition: u64) -> u64
+    ensures asked { place.old.live ≡ 1 → IsSame place.old.handle.value place.new.live place.new.handle.value
+        × AsksQueue place.old.handle.value.door place.old.handle.value.state condition result }
+    ensures none { place.old.live ≡ 0 → (result ≡ 107) × (place.new ≡ place.old) }
+{
+    place.queue(condition)
+}
+
+/// The same, and at 1 reads the priority of the place that a signal would resume.
+#[unsafe(no_mangle)]
+pub extern "C" fn zaulinte_door_first(
+    place: &mut HeldPlace,
+    condition: u64,
+    priority: &mut u64,
+) -> u64
+    ensures asked { place.old.live ≡ 1 → IsSame place.old.handle.value place.new.live place.new.handle.value
+        × AsksFirst place.old.handle.value.door place.old.handle.value.state condition
+        priority.old priority.new result }
+    ensures none { place.old.live ≡ 0 → (result ≡ 107) × (place.new ≡ place.old) × (priority.new ≡ priority.old) }
+{
+    place.first(condition, priority)
+}
+
+/// Returns where the place is: outside (0), inside (1) or away (2). Refused: 107.
+#[unsafe(no_mangle)]
+pub extern "C" fn zaulinte_door_state(place: &mut HeldPlace) -> u64
+    ensures asked { place.old.live ≡ 1 → IsSame place.old.handle.value place.new.live place.new.handle.value
+        × (result ≡ where_is place.old.handle.value.state) }
+    ensures none { place.old.live ≡ 0 → (result ≡ 107) × (place.new ≡ place.old) }
+{
+    place.where_is()
+}

@@ -1,0 +1,30 @@
+-- C's words as those of `c_handle`, and back.
+use Rattle.std.specs.Borrow.{Lends, MutBor, Fml}
+use Rattle.door_handle.specs.declared.desk.Desk.{Desk}
+use Rattle.door_handle.specs.contracts.desk.Desk as desks
+use Rattle.c_handle.specs.declared.held.Held as generic
+use Rattle.c_handle.specs.contracts.held.Held as held
+use Rattle.door_handle.specs.declared.door.HeldDoor.{HeldDoor}
+use Rattle.door_handle.specs.contracts.door.HeldDoor as words
+
+abbrev pub of_c : HeldDoor → generic.Held Desk
+of_c s = record {
+  live = s.live;
+  spare = s.spare;
+  handle = record { at = s.handle.at; alloc = s.handle.alloc; live = s.handle.live; value = s.handle.value };
+  same = s.same;
+  few = s.few;
+}
+
+abbrev pub to_c : generic.Held Desk → HeldDoor
+to_c s = record {
+  live = s.live;
+  spare = s.spare;
+  handle = record { at = s.handle.at; alloc = s.handle.alloc; live = s.handle.live; value = s.handle.value };
+  same = s.same;
+  few = s.few;
+}
+
+-- C's words end as the last value behind r
+abbrev pub LendsWords : MutBor HeldDoor → MutBor (generic.Held Desk) → Fml
+LendsWords s r = Lends words.the_row (held.the_row desks.the_row) s r to_c

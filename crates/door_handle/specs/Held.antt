@@ -1,0 +1,33 @@
+-- What a call made of a door or a place that C holds.
+use Rattle.std.specs.Prelude.{◌≡◌, ◌<◌, ℕ, Option, Some}
+use Rattle.hoare_law.specs.declared.event.Sizes.{Sizes}
+use Rattle.door_place.specs.Places.{Acts, GaveOut, GivesBack, IsNew, KeeperOf, MadeNot, PlaceAt}
+use Rattle.door_place.specs.States.{number_of}
+use Rattle.door_place.specs.declared.act.Act.{Act}
+
+-- a new door is there (0); else there is none as before, for the first reason that applies
+pub data Made (sizes : Sizes) (value live : ℕ) (new : Option KeeperOf) (code : ℕ) : Type 0 where
+  made : (k : KeeperOf) → live ≡ 1 → new ≡ Some k → IsNew sizes value k → code ≡ 0 → Made sizes value live new code
+  refused : live ≡ 0 → MadeNot sizes code → Made sizes value live new code
+
+-- the keeper gave out the place, at its door, and the code is its number, below 64
+pub data GaveHeld (old new : Option KeeperOf) (p : PlaceAt) (code : ℕ) : Type 0 where
+  gave : (k l : KeeperOf) → old ≡ Some k → new ≡ Some l → l.door ≡ k.door → p.door ≡ k.door
+      → GaveOut k.outs l.outs p.state → code ≡ number_of p.state → code < 64 → GaveHeld old new p code
+
+-- the place is still held, at its door, and the act was done or refused
+pub record Acted (act : Act) (old : PlaceAt) (live : ℕ) (new : PlaceAt) (code : ℕ) : Type 0 where
+  pub live_is : live ≡ 1
+  pub door : new.door ≡ old.door
+  pub acts : Acts old.door act old.state new.state code
+
+-- the place is still held, as it was
+pub record IsSame (old : PlaceAt) (live : ℕ) (new : PlaceAt) : Type 0 where
+  pub live_is : live ≡ 1
+  pub same : new ≡ old
+
+-- the place was given back (0), and none is held; or it is held as it was: it isn't outside (103), or its slot is in
+-- another hand (102)
+pub data GivenBack (old : PlaceAt) (live : ℕ) (new : PlaceAt) (code : ℕ) : Type 0 where
+  given_back : live ≡ 0 → code ≡ 0 → GivenBack old live new code
+  refused_as : IsSame old live new → GivesBack old.state old.state code → GivenBack old live new code

@@ -1,0 +1,4 @@
+pub mod Desks
+pub mod DoorWords
+pub mod PlaceWords
+pub mod Held

@@ -1,0 +1,30 @@
+//! The keeper of a door, which can be closed where it lies.
+ghost use Rattle.std.specs.Prelude.{◌≡◌, IfNone, IfSome, None};
+ghost use Rattle.door_handle.specs.Desks.{IsKept, WasClosed};
+
+use door_place::keeper::Keeper;
+
+/// A keeper, until its door is closed.
+#[derive(Drop)]
+pub struct Desk {
+    /// The keeper, or `None` once the door is closed.
+    pub keeper: Option<Keeper>,
+}
+
+impl Desk {
+    /// Collects the places that were given back. Closes the door if all of its places are in hand, and returns its word.
+    pub fn close(&mut self) -> Option<u64>
+        ensures closed { IfSome result (λ v. (self.new.keeper ≡ None) × WasClosed self.old.keeper v) }
+        ensures kept { IfNone result (IsKept self.old.keeper self.new.keeper) }
+    {
+        let mut keeper = self.keeper.take()?;
+        keeper.collect();
+        match keeper.close() {
+            Ok(value) => Some(value),
+            Err(keeper) => {
+                self.keeper = Some(keeper);
+                None
+            }
+        }
+    }
+}

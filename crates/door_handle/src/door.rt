@@ -1,0 +1,129 @@
+//! Where C keeps a door.
+ghost use Rattle.std.specs.Prelude.{◌≡◌, ◌≢◌, ◌<◌, ◌≤◌, ◌⊎◌};
+ghost use Rattle.hoare_law.specs.Sizes.{sizes_of};
+ghost use Rattle.door_handle.specs.Desks.{IsKept, WasClosed};
+ghost use Rattle.door_handle.specs.Held.{GaveHeld, Made};
+
+use crate::desk::Desk;
+use crate::handle::DoorHandle;
+use crate::place::HeldPlace;
+use c_handle::held;
+use door_place::codes::{DONE, IN_USE, IS_HELD, NO_MEMORY, NOTHING_HELD};
+use door_place::keeper::Keeper;
+use hoare_law::event::Sizes;
+use std::alloc::Global;
+
+/// Where C keeps a door: all bytes 0 at first. `live` is 1 while there is one. It isn't `Drop`: a door that it holds has
+/// to be closed.
+#[repr(C)]
+pub struct HeldDoor {
+    live: u64,
+    spare: *mut u8,
+    handle: DoorHandle,
+    ghost same: { live ≡ handle.live },
+    ghost few: { live ≤ 1 },
+}
+
+impl HeldDoor {
+    ghost use Rattle.std.specs.Borrow.{sem};
+    ghost use Rattle.door_handle.specs.DoorWords.{of_c, LendsWords};
+
+    // The same words, as those of a generic handle.
+    #[inline(always)]
+    fn held(&mut self) -> &mut held::Held<Desk>
+        ensures* writes_back { sem 𝓛 (LendsWords self.entry result) }
+        ensures value { result.now ≡ of_c self.old }
+    {
+        unsafe { &mut *(self as *mut HeldDoor as *mut held::Held<Desk>) }
+    }
+
+    /// Makes a door of 1 to 64 places and 1 to 8 conditions, the last `mesa` of which are Mesa conditions, with a word of
+    /// the caller's in it. Refused, in this order: `IS_HELD`, `BAD_PLACES`, `BAD_CONDITIONS`, `NO_MEMORY`.
+    pub fn make(
+        &mut self,
+        alloc: Global,
+        places: u64,
+        conditions: u64,
+        mesa: u64,
+        value: u64,
+    ) -> u64
+        ensures held { self.old.live ≡ 1 → (result ≡ 108) × (self.new ≡ self.old) }
+        ensures made { self.old.live ≡ 0 → Made (sizes_of conditions mesa places) value
+            self.new.live self.new.handle.value.keeper result }
+    {
+        if self.live != 0 {
+            return IS_HELD;
+        }
+        let sizes = Sizes {
+            places: places as usize,
+            conditions: conditions as usize,
+            mesa: mesa as usize,
+        };
+        let keeper = match Keeper::make(alloc, sizes, value) {
+            Ok(keeper) => keeper,
+            Err(code) => return code,
+        };
+        let desk = Desk {
+            keeper: Some(keeper),
+        };
+        match self.held().keep(alloc, desk) {
+            Ok(()) => DONE,
+            Err(_) => NO_MEMORY,
+        }
+    }
+
+    /// Gives a place out, and returns its number, below 64. Refused, in this order: `IS_HELD` if `place` holds one,
+    /// `NOTHING_HELD`, and as `Keeper::give_out`; `NO_MEMORY` also if the place has no room of its own, and then it is given
+    /// back.
+    pub fn give_out(&mut self, alloc: Global, place: &mut HeldPlace) -> u64
+        ensures held { place.old.live ≡ 1 → (result ≡ 108) × (self.new ≡ self.old) × (place.new ≡ place.old) }
+        ensures none { place.old.live ≡ 0 → self.old.live ≡ 0
+            → (result ≡ 107) × (self.new ≡ self.old) × (place.new ≡ place.old) }
+        ensures gave { result < 64 → (place.new.live ≡ 1)
+            × GaveHeld self.old.handle.value.keeper self.new.handle.value.keeper place.new.handle.value result }
+        ensures refused { 64 ≤ result → place.new ≡ place.old }
+    {
+        if place.live != 0 {
+            return IS_HELD;
+        }
+        let Some(desk) = self.held().get_mut() else {
+            return NOTHING_HELD;
+        };
+        let Some(keeper) = &mut desk.keeper else {
+            return NOTHING_HELD;
+        };
+        let given = match keeper.give_out() {
+            Ok(given) => given,
+            Err(code) => return code,
+        };
+        let number = given.number();
+        match place.held().keep(alloc, given) {
+            Ok(()) => number,
+            Err(mut given) => {
+                given.give_back();
+                NO_MEMORY
+            }
+        }
+    }
+
+    /// Closes the door, if all of its places were given back, and tells its word. Refused: `NOTHING_HELD`, `IN_USE`.
+    pub fn close(&mut self, alloc: Global, value: &mut u64) -> u64
+        ensures closed { self.old.live ≡ 1 → result ≡ 0
+            → (self.new.live ≡ 0) × WasClosed self.old.handle.value.keeper value.new }
+        ensures kept { self.old.live ≡ 1 → result ≢ 0 → (result ≡ 112) × (self.new.live ≡ 1)
+            × IsKept self.old.handle.value.keeper self.new.handle.value.keeper × (value.new ≡ value.old) }
+        ensures none { self.old.live ≡ 0 → (result ≡ 107) × (self.new ≡ self.old) × (value.new ≡ value.old) }
+    {
+        let Some(desk) = self.held().get_mut() else {
+            return NOTHING_HELD;
+        };
+        let Some(word) = desk.close() else {
+            return IN_USE;
+        };
+        *value = word;
+        if let Some(desk) = self.held().take(alloc) {
+            drop(desk);
+        }
+        DONE
+    }
+}

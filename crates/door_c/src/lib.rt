@@ -131,7 +131,8 @@ pub extern "C" fn zaulinte_door_signal(place: &mut HeldPlace, condition: u64) ->
     place.act(Act::Signal(condition))
 }
 
-/// The place signals one of Hoare's conditions as its last act: which place to wake, or 64. Refused as a signal.
+/// The place signals one of Hoare's conditions as its last act: which place to wake, or 64. Refused: 107, 104,
+/// 105, 106 a Mesa condition.
 #[unsafe(no_mangle)]
 pub extern "C" fn zaulinte_door_signal_leave(place: &mut HeldPlace, condition: u64) -> u64
     ensures acted { place.old.live ≡ 1
@@ -152,7 +153,8 @@ pub extern "C" fn zaulinte_door_notify(place: &mut HeldPlace, condition: u64) ->
     place.act(Act::Notify(condition))
 }
 
-/// The place notifies all that wait on a Mesa condition: how many they were. Refused as a notify.
+/// The place notifies all that wait on a Mesa condition: how many they were. Refused: 107, 104, 105, 106 one
+/// of Hoare's.
 #[unsafe(no_mangle)]
 pub extern "C" fn zaulinte_door_broadcast(place: &mut HeldPlace, condition: u64) -> u64
     ensures acted { place.old.live ≡ 1
@@ -202,7 +204,8 @@ pub extern "C" fn zaulinte_door_queue(place: &mut HeldPlace, condition: u64) -> 
     place.queue(condition)
 }
 
-/// The same, and at 1 reads the priority of the place that a signal would resume.
+/// Returns whether somebody waits on a condition: 1 or 0; at 1 reads the priority of the place that a signal would resume.
+/// Refused: 107, 104, 105.
 #[unsafe(no_mangle)]
 pub extern "C" fn zaulinte_door_first(
     place: &mut HeldPlace,

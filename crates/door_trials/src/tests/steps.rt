@@ -81,6 +81,7 @@ fn steps_hand_over(rt: HostRuntime) {
     let mut keeper = two_places(&rt, rt.alloc());
     let mut one = place_of(&rt, &mut keeper);
     let mut zero = place_of(&rt, &mut keeper);
+    expect_same(&rt, [zero.number(), one.number()], [0, 1]);
     expect_same(&rt, zero.act(Act::TryEnter), 64);
     expect_same(&rt, one.act(Act::TryEnter), 102);
     expect_same(&rt, zero.act(Act::Wait(0, 5)), 64);

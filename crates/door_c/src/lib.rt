@@ -1,8 +1,8 @@
 //! A running door and its places for C: each function that C calls. `bindings/c/zaulinte_door.h` declares them.
 //!
-//! A door and a place are each a word and two pointers of C's, all 0 at first; `alloc` is nothing to C. No function has a
-//! premise: each answers for every number, and if nothing is held. No function waits for another thread, and none wakes
-//! one: an act that releases the monitor answers which place to wake, below 64, or 64 if none is to be woken.
+//! A door and a place are each a word and two pointers of C's, all 0 at first; `alloc` is nothing to C. No function has
+//! a premise: each answers for every number, and if nothing is held. No function waits for another thread, and none
+//! wakes one: an act that releases the monitor answers which place to wake, below 64, or 64 if none is to be woken.
 #![tactic(auto)]
 
 ghost use Rattle.std.specs.Prelude.{◌≡◌, ◌≢◌, ◌<◌, ◌≤◌};
@@ -36,8 +36,8 @@ pub extern "C" fn zaulinte_door_make(
     door.make(alloc, places, conditions, mesa, value)
 }
 
-/// Gives a place out, for a thread of its own: its number, below 64. Refused, in this order: 108 `place` holds one already,
-/// 107 no door is held, 114 all places are taken, 111 an allocation failed.
+/// Gives a place out, for a thread of its own: its number, below 64. Refused, in this order: 108 `place` holds one
+/// already, 107 no door is held, 114 all places are taken, 111 an allocation failed.
 #[unsafe(no_mangle)]
 pub extern "C" fn zaulinte_door_give_out(
     alloc: Global,
@@ -54,8 +54,8 @@ pub extern "C" fn zaulinte_door_give_out(
     door.give_out(alloc, place)
 }
 
-/// Gives a place back to its door: 0, and `place` holds none. Refused: 107 none is held, 103 it isn't outside, 102 another
-/// thread has its slot in hand at this moment.
+/// Gives a place back to its door: 0, and `place` holds none. Refused: 107 none is held, 103 it isn't outside, 102
+/// another thread has its slot in hand at this moment.
 #[unsafe(no_mangle)]
 pub extern "C" fn zaulinte_door_give_back(alloc: Global, place: &mut HeldPlace) -> u64
     ensures given { place.old.live ≡ 1
@@ -65,8 +65,8 @@ pub extern "C" fn zaulinte_door_give_back(alloc: Global, place: &mut HeldPlace) 
     place.give_back(alloc)
 }
 
-/// Closes the door, if all of its places were given back: 0, and `value` is its word. Refused: 107 no door is held, 112 a
-/// place wasn't given back.
+/// Closes the door, if all of its places were given back: 0, and `value` is its word. Refused: 107 no door is held, 112
+/// a place wasn't given back.
 #[unsafe(no_mangle)]
 pub extern "C" fn zaulinte_door_close(alloc: Global, door: &mut HeldDoor, value: &mut u64) -> u64
     ensures closed { door.old.live ≡ 1 → result ≡ 0
@@ -88,8 +88,8 @@ pub extern "C" fn zaulinte_door_try_enter(place: &mut HeldPlace) -> u64
     place.act(Act::TryEnter)
 }
 
-/// The place returns from its wait or its signal, if the monitor is owed to it at this moment: 64, or 102. Refused: 107,
-/// 113 it is not away.
+/// The place returns from its wait or its signal, if the monitor is owed to it at this moment: 64, or 102. Refused:
+/// 107, 113 it is not away.
 #[unsafe(no_mangle)]
 pub extern "C" fn zaulinte_door_try_return(place: &mut HeldPlace) -> u64
     ensures acted { place.old.live ≡ 1
@@ -120,8 +120,8 @@ pub extern "C" fn zaulinte_door_wait(place: &mut HeldPlace, condition: u64, prio
     place.act(Act::Wait(condition, priority))
 }
 
-/// The place signals one of Hoare's conditions: which place to wake, and then this place is away and tries to return once
-/// it is woken; or 64 if nobody waits there, and it is inside still. Refused: 107, 104, 105, 106 a Mesa condition.
+/// The place signals one of Hoare's conditions: which place to wake, and then this place is away and tries to return
+/// once it is woken; or 64 if nobody waits there, and it is inside still. Refused: 107, 104, 105, 106 a Mesa condition.
 #[unsafe(no_mangle)]
 pub extern "C" fn zaulinte_door_signal(place: &mut HeldPlace, condition: u64) -> u64
     ensures acted { place.old.live ≡ 1
@@ -204,8 +204,8 @@ pub extern "C" fn zaulinte_door_queue(place: &mut HeldPlace, condition: u64) -> 
     place.queue(condition)
 }
 
-/// Returns whether somebody waits on a condition: 1 or 0; at 1 reads the priority of the place that a signal would resume.
-/// Refused: 107, 104, 105.
+/// Returns whether somebody waits on a condition: 1 or 0; at 1 reads the priority of the place that a signal would
+/// resume. Refused: 107, 104, 105.
 #[unsafe(no_mangle)]
 pub extern "C" fn zaulinte_door_first(
     place: &mut HeldPlace,

@@ -12,7 +12,8 @@ pub struct Desk {
 }
 
 impl Desk {
-    /// Collects the places that were given back. Closes the door if all of its places are in hand, and returns its word.
+    /// Collects the places that were given back. Closes the door if all of its places are in hand, and returns its
+    /// word.
     pub fn close(&mut self) -> Option<u64>
         ensures closed { IfSome result (λ v. (self.new.keeper ≡ None) × WasClosed self.old.keeper v) }
         ensures kept { IfNone result (IsKept self.old.keeper self.new.keeper) }

@@ -13,8 +13,8 @@ use door_place::keeper::Keeper;
 use hoare_law::event::Sizes;
 use std::alloc::Global;
 
-/// Where C keeps a door: all bytes 0 at first. `live` is 1 while there is one. It isn't `Drop`: a door that it holds has
-/// to be closed.
+/// Where C keeps a door: all bytes 0 at first. `live` is 1 while there is one. It isn't `Drop`: a door that it holds
+/// has to be closed.
 #[repr(C)]
 pub struct HeldDoor {
     live: u64,
@@ -37,8 +37,8 @@ impl HeldDoor {
         unsafe { &mut *(self as *mut HeldDoor as *mut held::Held<Desk>) }
     }
 
-    /// Makes a door of 1 to 64 places and 1 to 8 conditions, the last `mesa` of which are Mesa conditions, with a word of
-    /// the caller's in it. Refused, in this order: `IS_HELD`, `BAD_PLACES`, `BAD_CONDITIONS`, `NO_MEMORY`.
+    /// Makes a door of 1 to 64 places and 1 to 8 conditions, the last `mesa` of which are Mesa conditions, with a word
+    /// of the caller's in it. Refused, in this order: `IS_HELD`, `BAD_PLACES`, `BAD_CONDITIONS`, `NO_MEMORY`.
     pub fn make(
         &mut self,
         alloc: Global,
@@ -73,8 +73,8 @@ impl HeldDoor {
     }
 
     /// Gives a place out, and returns its number, below 64. Refused, in this order: `IS_HELD` if `place` holds one,
-    /// `NOTHING_HELD`, and as `Keeper::give_out`; `NO_MEMORY` also if the place has no room of its own, and then it is given
-    /// back.
+    /// `NOTHING_HELD`, and as `Keeper::give_out`; `NO_MEMORY` also if the place has no room of its own, and then it is
+    /// given back.
     pub fn give_out(&mut self, alloc: Global, place: &mut HeldPlace) -> u64
         ensures held { place.old.live ≡ 1 → (result ≡ 108) × (self.new ≡ self.old) × (place.new ≡ place.old) }
         ensures none { place.old.live ≡ 0 → self.old.live ≡ 0

@@ -1,5 +1,5 @@
-//! The pointers of C's words. They are those of `c_handle` without a type argument, since no type with arguments crosses
-//! to C.
+//! The pointers of C's words. They are those of `c_handle` without a type argument, since no type with arguments
+//! crosses to C.
 ghost use Rattle.std.specs.Prelude.{◌≡◌, ℕ};
 ghost use Rattle.std_alloc.specs.Box.Ownership.{box_owns};
 ghost use Rattle.c_handle.specs.Owned.{owned};

@@ -47,8 +47,8 @@ impl HeldPlace {
         place.act(act)
     }
 
-    /// Gives the place back to its door, and lets go of it. Refused: `NOTHING_HELD`, else as `Place::give_back`, and then
-    /// the place is held as it was.
+    /// Gives the place back to its door, and lets go of it. Refused: `NOTHING_HELD`, else as `Place::give_back`, and
+    /// then the place is held as it was.
     pub fn give_back(&mut self, alloc: Global) -> u64
         ensures given { self.old.live ≡ 1
             → GivenBack self.old.handle.value self.new.live self.new.handle.value result }

@@ -145,8 +145,8 @@ pub data Sets (old : State) (value : ℕ) (new : State) (code : ℕ) : Type 0 wh
       → Sets old value new code
   not_inside : NotInside old → new ≡ old → code ≡ 104 → Sets old value new code
 
--- an attempt to return: the place is inside again, back from its wait or its signal (64); it isn't its turn (102); it is
--- not away (113)
+-- an attempt to return: the place is inside again, back from its wait or its signal (64); it isn't its turn (102); it
+-- is not away (113)
 pub data TriesToReturn (d : StepId) (old new : State) (code : ℕ) : Type 0 where
   returned : (o : PlaceOut Carried) (i : PlaceIn Carried) → old ≡ Away o → new ≡ Inside i → code ≡ 64
       → IsBack calm any d.kinds d.door o i → TriesToReturn d old new code

@@ -62,7 +62,8 @@ fn has_all(outs: &[Out], places: usize) -> bool
 
 impl Keeper {
     /// Makes a door of these sizes: 1 to 64 places and 1 to 8 conditions, the last `sizes.mesa` of which are Mesa
-    /// conditions. A word of the caller's lies in it. Refused, in this order: `BAD_PLACES`, `BAD_CONDITIONS`, `NO_MEMORY`.
+    /// conditions. A word of the caller's lies in it. Refused, in this order: `BAD_PLACES`, `BAD_CONDITIONS`,
+    /// `NO_MEMORY`.
     pub fn make(alloc: Global, sizes: Sizes, value: u64) -> Result<Keeper, u64>
         ensures made { IfOk result (λ k. IsNew sizes value k) }
         ensures refused { IfErr result (λ code. MadeNot sizes code) }

@@ -1,4 +1,5 @@
-//! What all places of a door share: the door, and a slot for each place, into which a place is put when it is given back.
+//! What all places of a door share: the door, and a slot for each place, into which a place is put when it is given
+//! back.
 ghost use Rattle.std.specs.Prelude.{◌≡◌, ◌<◌, All, IfOk, IfErr, IfSome};
 ghost use Rattle.door_frame.specs.Places.{IsOut};
 ghost use Rattle.door_place.specs.States.{any, calm};

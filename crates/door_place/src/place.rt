@@ -15,7 +15,7 @@ use std::marker::Model;
 use std::mem;
 use std::sync::Arc;
 
-/// A place of a door, with its door. It moves between threads. If it is dropped while it is inside it leaves first, and
+/// A place of a door, with its door. If it is dropped while it is inside it leaves first, and
 /// nobody learns which place to wake: give it back instead.
 pub struct Place {
     shared: Arc<Shared>,

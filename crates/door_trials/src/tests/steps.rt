@@ -17,12 +17,7 @@ fn two_places<R: Abort>(rt: &R, alloc: Global) -> Keeper {
     let Ok(keeper) = Keeper::make(alloc, sizes, 7) else {
         panic!(rt; "no door of two places")
     };
-    sent(keeper)
-}
-
-// Returns the value, which may move to another thread.
-fn sent<T: Send>(value: T) -> T {
-    value
+    keeper
 }
 
 // Takes one of its places.
@@ -30,7 +25,7 @@ fn place_of<R: Abort>(rt: &R, keeper: &mut Keeper) -> Place {
     let Ok(place) = keeper.give_out() else {
         panic!(rt; "no place is left")
     };
-    sent(place)
+    place
 }
 
 // What making a door of these sizes answers, or 0.

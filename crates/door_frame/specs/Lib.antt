@@ -5,3 +5,4 @@ pub mod Steps
 pub mod Seats
 pub mod Departures
 pub mod Notices
+pub mod Making

@@ -13,6 +13,7 @@ pub mod parking;
 pub mod place;
 pub mod plays;
 pub mod rule;
+pub mod running;
 pub mod slot;
 pub mod turnstile;
 pub mod view;

@@ -1,8 +1,11 @@
 //! How a door is made, and taken apart.
 ghost use Rattle.std.specs.Prelude.{◌≡◌, ◌<◌, ◌≤◌, ℕ, List, [], false, reverse, length, vec_len, vec_capacity, IfOk};
-ghost use Rattle.std.specs.Prelude.{IfErr, All};
+ghost use Rattle.std.specs.Prelude.{◌⊎◌, IfErr, None, Some, All};
 ghost use Rattle.hoare_law.specs.declared.event.History.{History};
 ghost use Rattle.hoare_law.specs.Priorities.{nobody};
+ghost use Rattle.hoare_law.specs.Sizes.{kinds_of, sizes_of};
+ghost use Rattle.wait_book.specs.Contents.{make_refusal};
+ghost use Rattle.door_frame.specs.Making.{AreParts};
 ghost use Rattle.door_frame.specs.declared.view.View.TheVariants.{Unopened, Places};
 ghost use Rattle.door_frame.specs.Views.{all_know};
 ghost use Rattle.door_frame.specs.Places.{door_of, places_from, HasPlace, IsOut, Closes};
@@ -17,6 +20,23 @@ use hoare_law::data::MonitorData;
 use std::alloc::{AllocError, Global};
 use std::marker::Brand;
 use wait_book::book::Book;
+use wait_book::steps::MakeRefused;
+
+/// What a door that wakes its places is made of, apart from its table.
+pub struct Parts<D> {
+    /// How many places the door has.
+    pub places: usize,
+    /// The data.
+    pub state: D,
+    /// The queues.
+    pub book: Book,
+    /// What each place parks on, the last place's first.
+    pub sleepers: Vec<Sleeper>,
+    /// What wakes each place, the first place's first.
+    pub wakers: Vec<Waker>,
+    /// Room for the places.
+    pub outs: Vec<Outside<D>>,
+}
 
 /// Creates what each of `places` places parks on, the last place's first, and what wakes each, the first place's first.
 pub fn sleepers(alloc: Global, places: usize) -> Result<(Vec<Sleeper>, Vec<Waker>), AllocError>
@@ -32,6 +52,39 @@ pub fn sleepers(alloc: Global, places: usize) -> Result<(Vec<Sleeper>, Vec<Waker
     }
     sleepers.reverse();
     Ok((sleepers, wakers))
+}
+
+/// Allocates what a door that wakes its places is made of, apart from its table. Refuses, in this order, with
+/// `BadPlaces`, `BadConditions`, and `Memory` if an allocation failed. Each refusal returns the data.
+pub fn parts_for<D: MonitorData>(
+    alloc: Global,
+    state: D,
+    places: usize,
+) -> Result<Parts<D>, (D, MakeRefused)>
+    ensures made { IfOk result (λ p. AreParts (kinds_of D.CONDITIONS D.MESA) p) }
+    ensures places { IfOk result (λ p. (p.places ≡ places) × (p.state ≡ state)) }
+    ensures returned { IfErr result (λ e. e.0 ≡ state) }
+    ensures refused { IfErr result (λ e. (make_refusal (sizes_of D.CONDITIONS D.MESA places) ≡ Some e.1)
+        ⊎ ((make_refusal (sizes_of D.CONDITIONS D.MESA places) ≡ None) × (e.1 ≡ MakeRefused.Memory))) }
+{
+    let book = match Book::make(alloc, places, D::CONDITIONS, D::MESA) {
+        Ok(book) => book,
+        Err(refused) => return Err((state, refused)),
+    };
+    let Ok((sleepers, wakers)) = sleepers(alloc, places) else {
+        return Err((state, MakeRefused::Memory));
+    };
+    let Ok(outs) = Vec::with_capacity(alloc, places) else {
+        return Err((state, MakeRefused::Memory));
+    };
+    Ok(Parts {
+        places,
+        state,
+        book,
+        sleepers,
+        wakers,
+        outs,
+    })
 }
 
 /// Creates a table whose slot is empty, its first seat, and the parcel that is to go into the slot. Returns the data if

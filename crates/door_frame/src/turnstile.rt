@@ -1,10 +1,15 @@
 //! What a door does with its words: admit a place by one attempt, poll whether the monitor is owed to a place, let that
 //! place return, hand the monitor off, and record a notice.
-ghost use Rattle.std.specs.Prelude.{◌≡◌, ◌<◌, IfSome, IfNone};
+ghost use Rattle.std.specs.Prelude.{◌≡◌, ◌<◌, ℕ, IfSome, IfNone, IfOk, IfErr, All};
 ghost use Rattle.hoare_law.specs.declared.event.History.{History};
 ghost use Rattle.hoare_law.specs.declared.event.Event.TheVariants as event;
+ghost use Rattle.hoare_law.specs.Events.{opened};
+ghost use Rattle.hoare_law.specs.Growth.{AddsLast};
+ghost use Rattle.hoare_law.specs.Priorities.{nobody, priorities};
+ghost use Rattle.hoare_law.specs.Sizes.{kinds_of, sizes_of};
 ghost use Rattle.wait_book.specs.Contents.{IsPlaceBelow};
-ghost use Rattle.door_frame.specs.Places.{DoorId};
+ghost use Rattle.door_frame.specs.Making.{AreParts};
+ghost use Rattle.door_frame.specs.Places.{DoorId, IsIn, IsOut, HasPlace, Closes, places_from};
 ghost use Rattle.door_frame.specs.Steps.{MayGive, MayNote, due};
 ghost use Rattle.door_frame.specs.Seats.{IsEmptyHanded, IsNewcomer, ComesIn, GoesOut, StaysIn};
 ghost use Rattle.door_frame.specs.Departures.{event_of};
@@ -12,10 +17,14 @@ ghost use Rattle.door_frame.specs.Notices.{event_of_notice};
 
 use crate::departure::Departure;
 use crate::looks::Looks;
+use crate::making::Parts;
 use crate::notice::Notice;
 use crate::parcel::Parcel;
+use crate::place::{Inside, Outside};
 use crate::plays::DoorSeat;
 use hoare_law::data::MonitorData;
+use std::alloc::Global;
+use std::sync::Wait;
 use wait_book::steps::Next;
 
 /// A door, as far as its words go. How an entering thread waits until it is admitted is each door's own.
@@ -109,4 +118,44 @@ pub trait Wakes<D: MonitorData>: Turnstile<D> {
     /// The sleeper that was woken is that of the place that resumes next.
     ghost wakes: { (d : DoorId) (next : Next) (shown : Self.Shown) → Self.is_woken d next shown
         → IsWoken d next (woken shown) };
+}
+
+/// A door that running threads share: how an entering thread waits until it is admitted, and how the door is taken
+/// apart. A `RunningMonitor` requires it.
+pub trait Runs<D: MonitorData>: Wakes<D> {
+    /// Implements `Monitor::enter`.
+    fn enter<R: Wait>(&self, rt: &R, out: Outside<D>) -> Inside<D>
+        requires { IsOut D.rest D.ready (Self.kinds self.now) (Self.id self.now) out }
+        ensures of { IsIn D.rest D.ready (Self.kinds self.now) (Self.id self.now) result }
+        ensures place { result.place ≡ out.place }
+        ensures rest { D.rest result.state (priorities result.front.events) }
+        ensures front { AddsLast out.front (event.Admit out.place result.state) result.front };
+
+    /// Implements `RunningMonitor::close`: takes the door apart, and returns the data.
+    fn close(self, outs: Vec<Outside<D>>) -> D
+        requires of { All (IsOut D.rest D.ready (Self.kinds self) (Self.id self)) outs.items }
+        requires places { (k : ℕ) → k < (Self.id self).places → HasPlace k outs.items }
+        ensures closes { Closes D.rest D.ready (Self.kinds self) (Self.id self) outs.items result }
+        ensures rest { D.rest result nobody };
+
+    /// The data's type fixes the conditions.
+    ghost kinds_are: { (d : Self) → Self.kinds d ≡ kinds_of D.CONDITIONS D.MESA };
+}
+
+/// A door that can be made by the data and a number of places alone. `RunningMonitor::make` requires it.
+pub trait Opens<D: MonitorData>: Runs<D> {
+    /// What else holds of a new door.
+    ghost is_new: { Self → Type 0 };
+
+    /// Creates a door of its parts, opened with the data, and its places, in order. Returns the data if an allocation
+    /// failed.
+    fn open(alloc: Global, parts: Parts<D>) -> Result<(Self, Vec<Outside<D>>), D>
+        requires rest { D.rest parts.state nobody }
+        requires parts { AreParts (kinds_of D.CONDITIONS D.MESA) parts }
+        ensures made { IfOk result (λ r. (Self.id r.0).places ≡ parts.places) }
+        ensures new { IfOk result (λ r. is_new r.0) }
+        ensures of { IfOk result (λ r. All (IsOut D.rest D.ready (Self.kinds r.0) (Self.id r.0)) r.1.items) }
+        ensures places { IfOk result (λ r. r.1.items ≡ places_from (Self.id r.0) 0 parts.places
+            (opened (sizes_of D.CONDITIONS D.MESA parts.places) parts.state)) }
+        ensures returned { IfErr result (λ s. s ≡ parts.state) };
 }

@@ -1,5 +1,5 @@
 -- What a contract sees of a door whose calls are steps.
-use Rattle.std.specs.Prelude.{ℕ, ◌≤◌}
+use Rattle.std.specs.Prelude.{◌≤◌}
 use Rattle.hoare_law.specs.Sizes.{Kinds}
 use Rattle.hoare_law.specs.declared.event.Sizes.{Sizes}
 use Rattle.door_frame.specs.Places.{DoorId}

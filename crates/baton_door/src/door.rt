@@ -1,30 +1,24 @@
-//! The running door: how it is made and closed.
-ghost use Rattle.std.specs.Prelude.{◌≡◌, ◌<◌, ◌≤◌, ◌⊎◌, ℕ, [], IfOk, IfErr, Some, None, All};
+//! The running door, its turnstile, and the turnstile's opening.
+ghost use Rattle.std.specs.Prelude.{◌≡◌, ◌<◌, []};
 ghost use Rattle.hoare_law.specs.Events.{opened};
-ghost use Rattle.hoare_law.specs.Sizes.{kinds_of, sizes_at, sizes_of};
+ghost use Rattle.hoare_law.specs.Sizes.{sizes_at};
 ghost use Rattle.hoare_law.specs.Priorities.{nobody};
-ghost use Rattle.wait_book.specs.Contents.{IsOf, make_refusal};
+ghost use Rattle.wait_book.specs.Contents.{IsOf};
 ghost use Rattle.door_frame.specs.declared.view.View.TheVariants.{Unopened, Places};
 ghost use Rattle.door_frame.specs.Views.{all_know};
-ghost use Rattle.door_frame.specs.Places.{places_from, HasPlace, Closes};
 
 use crate::naps::Naps;
-use crate::place::DoorOut;
-use crate::rule::{BatonWords, DoorKey, DoorTable};
+use crate::rule::{DoorKey, DoorTable};
 use crate::word::{DOOR, FREE, HELD};
 use crossbeam_utils::CachePadded;
-use door_frame::making::{closed, deal, sleepers, vacant};
 use door_frame::parcel::Parcel;
-use door_frame::plays::{Begin, DoorSeat, KindsOf, Open, PickedKinds};
+use door_frame::plays::{Begin, DoorSeat, Open, PickedKinds};
+use door_frame::running::RunningMonitor;
 use door_frame::slot::lay_parcel;
 use door_frame::waking::Waker;
 use hoare_law::data::MonitorData;
-use hoare_law::monitor::Monitor;
-use std::alloc::Global;
 use std::marker::Model;
 use std::sync::atomic::AtomicBool;
-use wait_book::book::Book;
-use wait_book::steps::MakeRefused;
 
 /// A monitor for running threads: it implements `Monitor`. Threads share it by reference, each with its own place.
 ///
@@ -40,8 +34,11 @@ use wait_book::steps::MakeRefused;
 /// outs.push_reserved(door.leave(&rt, inside));
 /// assert_eq!(rt; door.close(outs).value, 42);
 /// ```
+pub type Door<D> = RunningMonitor<BatonTurnstile<D>>;
+
+/// The turnstile of a `Door`: its words, its slot, and what wakes its places.
 #[derive(Drop)]
-pub struct Door<D: MonitorData> {
+pub struct BatonTurnstile<D: MonitorData> {
     /// Eight words, of which the state word is in use, and the slot. The crate's README has a table of the state word's
     /// values and of the threads that change it. The other seven words are padding against false sharing.
     pub(crate) table: DoorTable<D>,
@@ -54,7 +51,7 @@ pub struct Door<D: MonitorData> {
     pub(crate) naps: CachePadded<Naps>,
 }
 
-impl<D: MonitorData> Model for Door<D> {
+impl<D: MonitorData> Model for BatonTurnstile<D> {
     ghost use Rattle.door_frame.specs.Places.{DoorId, door_of};
     ghost use Rattle.std.specs.Prelude.{vec_len};
     ghost use Rattle.baton_door.specs.Rule.{Sized};
@@ -91,70 +88,4 @@ pub(crate) fn open<D: MonitorData, K: DoorKey<D>, J: PickedKinds>(
         .compare_exchange::<Begin>(seat, DOOR, FREE, HELD);
     lay_parcel(table, seat, parcel);
     table.shared.store::<Open<J>>(seat, DOOR, FREE);
-}
-
-impl<D: MonitorData + Send> Door<D> {
-    /// Creates a door of 1 to 64 places and `D::CONDITIONS` conditions, 1 to 8, opened with the data, and its places,
-    /// in order. The last `D::MESA` conditions are Mesa conditions. The caller must prove `rest` of the data with
-    /// nobody waiting. Refuses, in this order, with `BadPlaces`, `BadConditions`, and `Memory` if an allocation of what
-    /// the door will ever need failed. Each refusal returns the data.
-    pub fn make(
-        alloc: Global,
-        state: D,
-        places: usize,
-    ) -> Result<(Door<D>, Vec<DoorOut<D>>), (D, MakeRefused)>
-        requires rest { D.rest state nobody }
-        ensures made { IfOk result (λ r. (make_refusal (sizes_of D.CONDITIONS D.MESA places) ≡ None)
-            × (r.0.places ≡ places)) }
-        ensures of { IfOk result (λ r. All (⟦<Door<D> as Monitor<D>>⟧.is_of r.0) r.1.items) }
-        ensures places { IfOk result (λ r. r.1.items ≡ places_from r.0 0 places
-            (opened (sizes_of D.CONDITIONS D.MESA places) state)) }
-        ensures returned { IfErr result (λ e. e.0 ≡ state) }
-        ensures refused { IfErr result (λ e. (make_refusal (sizes_of D.CONDITIONS D.MESA places) ≡ Some e.1)
-            ⊎ ((make_refusal (sizes_of D.CONDITIONS D.MESA places) ≡ None) × (e.1 ≡ MakeRefused.Memory))) }
-    {
-        let book = match Book::make(alloc, places, D::CONDITIONS, D::MESA) {
-            Ok(book) => book,
-            Err(refused) => return Err((state, refused)),
-        };
-        let Ok((sleepers, wakers)) = sleepers(alloc, places) else {
-            return Err((state, MakeRefused::Memory));
-        };
-        let Ok(outs) = Vec::with_capacity(alloc, places) else {
-            return Err((state, MakeRefused::Memory));
-        };
-        let (table, mut seat, parcel) = match vacant::<D, usize, BatonWords>(
-            alloc, state, book, &[FREE; 8], &places,
-        ) {
-            Ok(made) => made,
-            Err(state) => return Err((state, MakeRefused::Memory)),
-        };
-        open::<D, usize, KindsOf<D>>(&table, &mut seat, parcel);
-        let outs = deal(&table, seat, sleepers, outs, places);
-        let door = Door {
-            table,
-            wakers,
-            is_to_make_way: AtomicBool::new(false),
-            naps: Naps::new(),
-        };
-        Ok((door, outs))
-    }
-
-    /// Takes the door apart. All of its places are handed in, in any order. Returns the data as one legal and lawful
-    /// history left them, at rest with nobody waiting. That history begins with what each place knows, and has no other
-    /// event of any place.
-    pub fn close(self, outs: Vec<DoorOut<D>>) -> D
-        requires of { All (⟦<Door<D> as Monitor<D>>⟧.is_of self) outs.items }
-        requires places { (k : ℕ) → k < self.places → HasPlace k outs.items }
-        ensures closes { Closes D.rest D.ready (kinds_of D.CONDITIONS D.MESA) self outs.items result }
-        ensures rest { D.rest result nobody }
-    {
-        let Door {
-            table,
-            wakers,
-            is_to_make_way: _,
-            naps: _,
-        } = self;
-        closed(table, wakers, outs)
-    }
 }

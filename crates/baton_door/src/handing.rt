@@ -7,7 +7,7 @@ ghost use Rattle.door_frame.specs.Steps.{MayGive};
 ghost use Rattle.door_frame.specs.Places.{IsWoken, sleeper_at};
 ghost use Rattle.door_frame.specs.Seats.{GoesOut, IsBehind};
 
-use crate::door::Door;
+use crate::door::BatonTurnstile;
 use crate::others::{handed, is_leaving, is_to_heed, is_wait};
 use crate::table_steps::lay_down;
 use door_frame::departure::Departure;
@@ -17,7 +17,7 @@ use door_frame::waking::Woken;
 use hoare_law::data::MonitorData;
 use wait_book::steps::Next;
 
-impl<D: MonitorData> Door<D> {
+impl<D: MonitorData> BatonTurnstile<D> {
     /// Gives the parcel back by an event that the call picks.
     #[inline(always)] // a plain leave is short where it knows that nobody goes on
     pub(crate) fn give<J: PickedEvent<D>>(

@@ -4,7 +4,6 @@
 pub mod door;
 mod glance;
 mod handing;
-mod monitor;
 mod naps;
 mod newcomers;
 mod others;
@@ -12,4 +11,5 @@ pub mod place;
 mod rule;
 pub mod step_door;
 mod table_steps;
+mod turnstile;
 mod word;

@@ -7,7 +7,7 @@ ghost use Rattle.hoare_law.specs.Sizes.{kinds_of};
 ghost use Rattle.door_frame.specs.Places.{IsIn, IsOut};
 ghost use Rattle.baton_door.specs.Newcomers.{IsOutside, IsLetIn};
 
-use crate::door::Door;
+use crate::door::BatonTurnstile;
 use crate::place::{DoorIn, DoorOut};
 use crate::table_steps::try_in;
 use crate::word::{DOOR, FREE};
@@ -21,7 +21,7 @@ use std::sync::Wait;
 use std::sync::atomic::Ordering;
 use std::{hint, thread};
 
-impl<D: MonitorData> Door<D> {
+impl<D: MonitorData> BatonTurnstile<D> {
     /// Looks at the word so many times, until it is `FREE`, or until it isn't: whether it was seen so.
     pub(crate) fn sees(&self, free: bool, looks: u32) -> bool {
         for _ in 0..looks {

@@ -10,7 +10,7 @@
 //! Who was handed the monitor by one that left it would mostly come in again before that one does, find what it waited
 //! for gone, and wait again: then each visit costs a hand-over. So it looks a little whether somebody else comes in,
 //! and leaves that one alone for a while.
-use crate::door::Door;
+use crate::door::BatonTurnstile;
 use door_frame::departure::Departure;
 use door_frame::looks::{LOOKS_FOR_OTHERS, ROW, SPINS_FOR_OTHERS, spin};
 use hoare_law::data::MonitorData;
@@ -23,7 +23,7 @@ const BY_WHO_LEFT: u32 = 0;
 /// the one to the other would only be taken for a hand-over.
 const BY_WHO_STAYS: u32 = 1 << 31;
 
-impl<D: MonitorData> Door<D> {
+impl<D: MonitorData> BatonTurnstile<D> {
     /// Calls a newcomer or lets the next make way for one, and leaves others alone.
     #[inline(never)] // apart, so that a plain leave stays small
     pub(crate) fn heed_others(&self, since_handed: u32, waits: bool) {

@@ -7,7 +7,7 @@ use Rattle.hoare_law.specs.declared.event.Event.TheVariants.{Admit, Wait, Signal
 use Rattle.hoare_law.specs.declared.turn.Turn.TheVariants.{Owed, Return}
 use Rattle.hoare_law.specs.Beside.Erasure.{erased}
 use Rattle.hoare_law.specs.Events.{place_of, own, newest, with_event}
-use Rattle.hoare_law.specs.Growth.{Begins, AddsLast, Signals, resumed_one}
+use Rattle.hoare_law.specs.Growth.{Begins, Signals, resumed_one}
 use Rattle.hoare_law.specs.Sizes.{IsHoare, IsMesa, Kinds, sizes_at}
 use Rattle.hoare_law.specs.Lawful.{Rest, Ready, Stands}
 use Rattle.hoare_law.specs.Legal.{Allowed}
@@ -22,19 +22,11 @@ use Rattle.wait_book.specs.Contents.{Contents, IsOf, next_of}
 use Rattle.wait_book.specs.Stepping.{settled}
 use Rattle.wait_book.proofs.WithData.{IsOf-claim}
 use Rattle.door_frame.specs.declared.parcel.Lodged.{Lodged}
-use Rattle.door_frame.specs.Places.{Berth, DoorId, HandsTo, IsBack, IsAway, IsIn, IsOut, IsResumed, IsReturned, berth_at}
+use Rattle.door_frame.specs.Places.{Berth, DoorId, Entered, HandsTo, IsBack, IsAway, IsIn, IsOut, IsResumed, IsReturned, berth_at}
 use Rattle.door_frame.specs.Places.{PlaceIn, PlaceOut, place_in}
 use Rattle.door_frame.specs.Steps.{Sat, Came, awaited, due, due_by, due_from}
 
 module _ {D : Type 0} where
-  -- what an enter says of the place inside
-  pub record Entered (rest : Rest D) (ready : Ready D) (kinds : Kinds) (d : DoorId) (o : PlaceOut D)
-      (i : PlaceIn D) : Type 0 where
-    pub of : IsIn rest ready kinds d i
-    pub place : i.place ≡ o.place
-    pub rests : rest i.state (priorities i.front.events)
-    pub front : AddsLast o.front (Admit o.place i.state) i.front
-
   -- who comes back does so from a wait or from a signal
   data ComesBack (k : ℕ) (event : D → Event D) : Type 0 where
     from_wait : (c : ℕ) → event ≡ (λ s. Resume k c s) → ComesBack k event

@@ -5,11 +5,11 @@ use Rattle.std.specs.Prelude.{Some, ⊤}
 use Rattle.atomic_table.specs.Seated.{TableId}
 use Rattle.hoare_law.specs.declared.event.History.{History}
 use Rattle.hoare_law.specs.Sizes.{IsHoare, IsMesa, Kinds, sizes_at}
-use Rattle.hoare_law.specs.declared.event.Event.TheVariants.{Wait, Signal, Resume, Back}
+use Rattle.hoare_law.specs.declared.event.Event.TheVariants.{Admit, Wait, Signal, Resume, Back}
 use Rattle.hoare_law.specs.declared.turn.Turn.TheVariants.{Held}
 use Rattle.hoare_law.specs.Events.{own, latest_data, with_event}
 use Rattle.hoare_law.specs.Turns.{turn, outside}
-use Rattle.hoare_law.specs.Growth.{Begins, AddsTwo}
+use Rattle.hoare_law.specs.Growth.{Begins, AddsLast, AddsTwo}
 use Rattle.hoare_law.specs.Lawful.{Rest, Ready, Stands}
 use Rattle.hoare_law.specs.Priorities.{priorities, taken}
 use Rattle.hoare_law.specs.Waiting.{Chooses}
@@ -115,6 +115,13 @@ module _ {D : Type 0} where
       pub sized : i.front.sizes ≡ sizes_at kinds door.places
       pub stands : Stands rest ready i.front
       pub is_inside : turn i.front.events ≡ Held i.place
+
+    -- the place o, which was outside, is inside as i
+    pub record Entered (door : DoorId) (o : PlaceOut D) (i : PlaceIn D) : Type 0 where
+      pub of : IsIn door i
+      pub place : i.place ≡ o.place
+      pub rests : rest i.state (priorities i.front.events)
+      pub front : AddsLast o.front (Admit o.place i.state) i.front
 
     -- the place that is away is of the door: it parks where it is woken, and what it knows is legal and lawful, and
     -- ends with its wait or its signal

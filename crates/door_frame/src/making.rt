@@ -61,8 +61,9 @@ pub fn parts_for<D: MonitorData>(
     state: D,
     places: usize,
 ) -> Result<Parts<D>, (D, MakeRefused)>
-    ensures made { IfOk result (λ p. AreParts (kinds_of D.CONDITIONS D.MESA) p) }
-    ensures places { IfOk result (λ p. (p.places ≡ places) × (p.state ≡ state)) }
+    requires rest { D.rest state nobody }
+    ensures made { IfOk result (λ p. AreParts D.rest (kinds_of D.CONDITIONS D.MESA) p) }
+    ensures of { IfOk result (λ p. (p.places ≡ places) × (p.state ≡ state)) }
     ensures returned { IfErr result (λ e. e.0 ≡ state) }
     ensures refused { IfErr result (λ e. (make_refusal (sizes_of D.CONDITIONS D.MESA places) ≡ Some e.1)
         ⊎ ((make_refusal (sizes_of D.CONDITIONS D.MESA places) ≡ None) × (e.1 ≡ MakeRefused.Memory))) }

@@ -3,13 +3,11 @@
 ghost use Rattle.std.specs.Prelude.{◌≡◌, ◌<◌, ℕ, IfSome, IfNone, IfOk, IfErr, All};
 ghost use Rattle.hoare_law.specs.declared.event.History.{History};
 ghost use Rattle.hoare_law.specs.declared.event.Event.TheVariants as event;
-ghost use Rattle.hoare_law.specs.Events.{opened};
-ghost use Rattle.hoare_law.specs.Growth.{AddsLast};
-ghost use Rattle.hoare_law.specs.Priorities.{nobody, priorities};
-ghost use Rattle.hoare_law.specs.Sizes.{kinds_of, sizes_of};
+ghost use Rattle.hoare_law.specs.Priorities.{nobody};
+ghost use Rattle.hoare_law.specs.Sizes.{kinds_of};
 ghost use Rattle.wait_book.specs.Contents.{IsPlaceBelow};
-ghost use Rattle.door_frame.specs.Making.{AreParts};
-ghost use Rattle.door_frame.specs.Places.{DoorId, IsIn, IsOut, HasPlace, Closes, places_from};
+ghost use Rattle.door_frame.specs.Making.{AreParts, IsMadeOf};
+ghost use Rattle.door_frame.specs.Places.{DoorId, Entered, IsOut, HasPlace, Closes};
 ghost use Rattle.door_frame.specs.Steps.{MayGive, MayNote, due};
 ghost use Rattle.door_frame.specs.Seats.{IsEmptyHanded, IsNewcomer, ComesIn, GoesOut, StaysIn};
 ghost use Rattle.door_frame.specs.Departures.{event_of};
@@ -126,10 +124,7 @@ pub trait Runs<D: MonitorData>: Wakes<D> {
     /// Implements `Monitor::enter`.
     fn enter<R: Wait>(&self, rt: &R, out: Outside<D>) -> Inside<D>
         requires { IsOut D.rest D.ready (Self.kinds self.now) (Self.id self.now) out }
-        ensures of { IsIn D.rest D.ready (Self.kinds self.now) (Self.id self.now) result }
-        ensures place { result.place ≡ out.place }
-        ensures rest { D.rest result.state (priorities result.front.events) }
-        ensures front { AddsLast out.front (event.Admit out.place result.state) result.front };
+        ensures { Entered D.rest D.ready (Self.kinds self.now) (Self.id self.now) out result };
 
     /// Implements `RunningMonitor::close`: takes the door apart, and returns the data.
     fn close(self, outs: Vec<Outside<D>>) -> D
@@ -142,20 +137,17 @@ pub trait Runs<D: MonitorData>: Wakes<D> {
     ghost kinds_are: { (d : Self) → Self.kinds d ≡ kinds_of D.CONDITIONS D.MESA };
 }
 
-/// A door that can be made by the data and a number of places alone. `RunningMonitor::make` requires it.
+/// A door that its data and a number of places determine. `RunningMonitor::make` requires it.
 pub trait Opens<D: MonitorData>: Runs<D> {
     /// What else holds of a new door.
-    ghost is_new: { Self → Type 0 };
+    ghost is_new: { Self → Type 0 } = { λ _. Unit {0} };
 
     /// Creates a door of its parts, opened with the data, and its places, in order. Returns the data if an allocation
     /// failed.
     fn open(alloc: Global, parts: Parts<D>) -> Result<(Self, Vec<Outside<D>>), D>
-        requires rest { D.rest parts.state nobody }
-        requires parts { AreParts (kinds_of D.CONDITIONS D.MESA) parts }
-        ensures made { IfOk result (λ r. (Self.id r.0).places ≡ parts.places) }
+        requires { AreParts D.rest (kinds_of D.CONDITIONS D.MESA) parts }
+        ensures made { IfOk result (λ r. IsMadeOf D.rest D.ready (kinds_of D.CONDITIONS D.MESA)
+            parts (Self.id r.0) r.1.items) }
         ensures new { IfOk result (λ r. is_new r.0) }
-        ensures of { IfOk result (λ r. All (IsOut D.rest D.ready (Self.kinds r.0) (Self.id r.0)) r.1.items) }
-        ensures places { IfOk result (λ r. r.1.items ≡ places_from (Self.id r.0) 0 parts.places
-            (opened (sizes_of D.CONDITIONS D.MESA parts.places) parts.state)) }
         ensures returned { IfErr result (λ s. s ≡ parts.state) };
 }

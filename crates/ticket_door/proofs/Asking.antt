@@ -7,8 +7,8 @@ use Rattle.hoare_law.specs.Lawful.{Rest, Ready}
 use Rattle.door_frame.specs.declared.parcel.Lodged.{Lodged}
 use Rattle.hoare_law.specs.Growth.{AddsLast}
 use Rattle.hoare_law.specs.Priorities.{priorities}
-use Rattle.door_frame.specs.Places.{Berth, PlaceOut, PlaceIn, IsOut, IsIn, place_in}
-use Rattle.door_frame.proofs.Arrivals.{Entered, entered}
+use Rattle.door_frame.specs.Places.{Berth, Entered, PlaceOut, PlaceIn, IsOut, IsIn, place_in}
+use Rattle.door_frame.proofs.Arrivals.{entered}
 use Rattle.hoare_law.specs.declared.event.History.{History}
 use Rattle.door_frame.specs.Steps.{Sat, Came}
 use Rattle.door_frame.specs.Views.{asking, is_alone, front_of}

@@ -1,6 +1,6 @@
 use Rattle.std.proofs.Common.{◌<◌, ℕ, sym, subst}
 use Rattle.door_frame.specs.Places.{DoorId, HasPlace}
-use Rattle.baton_door.proofs.door.Door.close.Goals as goal
+use Rattle.baton_door.proofs.turnstile.BatonTurnstileRuns.close.Goals as goal
 
 pub closed-requires-clause-places : goal.closed-requires-clause-places
 closed-requires-clause-places g c =

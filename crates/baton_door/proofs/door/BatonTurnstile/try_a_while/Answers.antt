@@ -1,5 +1,5 @@
 use Rattle.std.proofs.Common.{◌∙◌}
-use Rattle.baton_door.proofs.door.Door.try_a_while.Goals as goal
+use Rattle.baton_door.proofs.door.BatonTurnstile.try_a_while.Goals as goal
 
 pub try_in-requires-clause-outside : goal.try_in-requires-clause-outside
 try_in-requires-clause-outside g c =

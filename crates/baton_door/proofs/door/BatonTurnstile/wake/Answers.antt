@@ -1,7 +1,7 @@
 use Rattle.std.proofs.Common.{◌<◌, length, ap, ◌∙◌, arith}
 use Rattle.std.proofs.lemmas.List.{get_or_default}
 use Rattle.door_frame.specs.Places.{DoorId, sleeper_at}
-use Rattle.baton_door.proofs.door.Door.wake.Goals as goal
+use Rattle.baton_door.proofs.door.BatonTurnstile.wake.Goals as goal
 
 pub returns : goal.returns
 returns g c =

@@ -2,7 +2,7 @@ use Rattle.std.proofs.Common.{◌≡◌, ℕ, true, sym, ◌∙◌, subst}
 use Rattle.hoare_law.specs.Turns.{outside}
 use Rattle.door_frame.proofs.Arrivals.{entered}
 use Rattle.door_frame.proofs.Seats.{away_as, berth_as, took}
-use Rattle.baton_door.proofs.door.Door.enter_later.Goals as goal
+use Rattle.baton_door.proofs.door.BatonTurnstile.enter_later.Goals as goal
 
 pub keep_trying-requires-clause-outside : goal.keep_trying-requires-clause-outside
 keep_trying-requires-clause-outside g c =

@@ -1,7 +1,7 @@
 use Rattle.std.proofs.Common.{subst}
 use Rattle.wait_book.specs.Contents.{IsPlaceBelow}
 use Rattle.door_frame.specs.Steps.{MayGive}
-use Rattle.baton_door.proofs.door.Door.give.Goals as goal
+use Rattle.baton_door.proofs.door.BatonTurnstile.give.Goals as goal
 
 pub give_to-requires-clause-below : goal.give_to-requires-clause-below
 give_to-requires-clause-below g c = subst (IsPlaceBelow c.args.self.now.places) c.in-For.is c.requires.next

@@ -7,7 +7,7 @@ ghost use Rattle.door_frame.specs.Steps.{MayGive, MayNote};
 ghost use Rattle.door_frame.specs.Places.{IsWoken, sleeper_at};
 ghost use Rattle.door_frame.specs.Seats.{GoesOut, IsBehind, StaysIn};
 
-use crate::door::TicketDoor;
+use crate::door::TicketTurnstile;
 use crate::words::{RUNG, SERVING, TURN, bell_of};
 use door_frame::departure::Departure;
 use door_frame::notice::Notice;
@@ -18,7 +18,7 @@ use door_frame::waking::Woken;
 use hoare_law::data::MonitorData;
 use wait_book::steps::Next;
 
-impl<D: MonitorData> TicketDoor<D> {
+impl<D: MonitorData> TicketTurnstile<D> {
     /// Gives the parcel back by an event that the call picks. `departure` is there for the pick alone.
     #[inline(always)] // a plain leave is short where it knows that nobody goes on
     pub(crate) fn give<J: PickedEvent<D>>(

@@ -1,10 +1,10 @@
 //! What the words say at a glance.
-use crate::door::TicketDoor;
+use crate::door::TicketTurnstile;
 use crate::words::{NEXT, RUNG, SERVING, TURN, bell_of};
 use door_frame::glance::{Glance, Holder};
 use hoare_law::data::MonitorData;
 
-impl<D: MonitorData> TicketDoor<D> {
+impl<D: MonitorData> TicketTurnstile<D> {
     /// What the words say now: for who looks why a program hangs. Of two bells that ring one after the other it may see
     /// the first. It needs no place, waits for nobody, and changes nothing. It may be over by the time that it is
     /// answered.

@@ -9,7 +9,7 @@
 //! for nobody. Newcomers come in by their tickets, as ever.
 //!
 //! Who comes back from a yield, and finds that it was missed, knows that the yield was long.
-use crate::door::TicketDoor;
+use crate::door::TicketTurnstile;
 use crate::words::{NEXT, NO_TURN, SERVING, TURN};
 use door_frame::looks::{LATE, LOOKS_FOR_ASKER, NEXT_IN_TURN};
 use hoare_law::data::MonitorData;
@@ -54,7 +54,7 @@ impl Late {
     }
 }
 
-impl<D: MonitorData> TicketDoor<D> {
+impl<D: MonitorData> TicketTurnstile<D> {
     /// Looks so many times whether this turn has come: whether it has. While it is the next, it counts its looks for
     /// the one before.
     pub(crate) fn look_for(&self, turn: u64, looks: u64) -> bool {

@@ -1,27 +1,28 @@
-//! A door with another first ticket.
+//! How a door is opened, also with another first ticket.
 ghost use Rattle.std.specs.Prelude.{◌≡◌, ◌≤◌, ◌<◌, ◌⊎◌, [], false, IfOk, IfErr, None, Some, All};
 ghost use Rattle.hoare_law.specs.Events.{opened};
-ghost use Rattle.hoare_law.specs.Sizes.{sizes_of};
+ghost use Rattle.hoare_law.specs.Sizes.{kinds_of, sizes_of};
 ghost use Rattle.hoare_law.specs.Priorities.{nobody};
 ghost use Rattle.wait_book.specs.Contents.{IsOf, make_refusal};
 ghost use Rattle.door_frame.specs.declared.view.View.TheVariants.{Unopened, Places};
 ghost use Rattle.door_frame.specs.Views.{all_know};
+ghost use Rattle.door_frame.specs.Making.{AreParts, IsMadeOf};
 ghost use Rattle.door_frame.specs.Places.{places_from};
 ghost use Rattle.ticket_door.specs.Rule.{Starts};
 
-use crate::door::TicketDoor;
+use crate::door::{TicketDoor, TicketTurnstile};
 use crate::naps::Naps;
 use crate::place::TicketOut;
 use crate::rule::{Sizes, TicketTable, TicketWords};
 use crate::words::{NEXT, SERVING, served_as, words_for};
-use door_frame::making::{deal, sleepers, vacant};
+use door_frame::making::{Parts, deal, parts_for, vacant};
 use door_frame::parcel::Parcel;
 use door_frame::plays::{Begin, DoorSeat, KindsOf, Open};
+use door_frame::running::RunningMonitor;
 use door_frame::slot::lay_parcel;
 use hoare_law::data::MonitorData;
 use hoare_law::monitor::Monitor;
 use std::alloc::{AllocError, Global};
-use wait_book::book::Book;
 use wait_book::steps::MakeRefused;
 
 /// NEXT is the first ticket, SERVING twice that, with the gate open, and no bell was rung.
@@ -54,6 +55,45 @@ fn open<D: MonitorData>(table: &TicketTable<D>, seat: &mut DoorSeat<D>, parcel: 
     table.shared.load::<Open<KindsOf<D>>>(seat, SERVING);
 }
 
+/// Creates a turnstile of its parts, with this first ticket, opened with the data, and its places, in order. Returns the
+/// data if an allocation failed.
+pub(crate) fn open_at<D: MonitorData>(
+    alloc: Global,
+    parts: Parts<D>,
+    first: u64,
+) -> Result<(TicketTurnstile<D>, Vec<TicketOut<D>>), D>
+    requires { AreParts D.rest (kinds_of D.CONDITIONS D.MESA) parts }
+    ensures made { IfOk result (λ r. IsMadeOf D.rest D.ready (kinds_of D.CONDITIONS D.MESA)
+        parts r.0.door r.1.items) }
+    ensures first { IfOk result (λ r. r.0.first ≡ first) }
+    ensures returned { IfErr result (λ s. s ≡ parts.state) }
+{
+    let Parts {
+        places,
+        state,
+        book,
+        sleepers,
+        wakers,
+        outs,
+    } = parts;
+    let Ok(words) = first_words(alloc, places, first) else {
+        return Err(state);
+    };
+    let sizes = Sizes { places, first };
+    let (table, mut seat, parcel) = vacant::<D, Sizes, TicketWords>(
+        alloc, state, book, &words, &sizes,
+    )?;
+    open(&table, &mut seat, parcel);
+    let outs = deal(&table, seat, sleepers, outs, places);
+    let naps = Naps::new();
+    let turnstile = TicketTurnstile {
+        table,
+        wakers,
+        naps,
+    };
+    Ok((turnstile, outs))
+}
+
 /// `TicketDoor::make`, with this first ticket.
 pub fn make_at<D: MonitorData + Send>(
     alloc: Global,
@@ -71,33 +111,9 @@ pub fn make_at<D: MonitorData + Send>(
     ensures refused { IfErr result (λ e. (make_refusal (sizes_of D.CONDITIONS D.MESA places) ≡ Some e.1)
         ⊎ ((make_refusal (sizes_of D.CONDITIONS D.MESA places) ≡ None) × (e.1 ≡ MakeRefused.Memory))) }
 {
-    let book = match Book::make(alloc, places, D::CONDITIONS, D::MESA) {
-        Ok(book) => book,
-        Err(refused) => return Err((state, refused)),
-    };
-    let Ok((sleepers, wakers)) = sleepers(alloc, places) else {
-        return Err((state, MakeRefused::Memory));
-    };
-    let Ok(outs) = Vec::with_capacity(alloc, places) else {
-        return Err((state, MakeRefused::Memory));
-    };
-    let Ok(words) = first_words(alloc, places, first) else {
-        return Err((state, MakeRefused::Memory));
-    };
-    let sizes = Sizes { places, first };
-    let (table, mut seat, parcel) = match vacant::<D, Sizes, TicketWords>(
-        alloc, state, book, &words, &sizes,
-    ) {
-        Ok(made) => made,
-        Err(state) => return Err((state, MakeRefused::Memory)),
-    };
-    open(&table, &mut seat, parcel);
-    let outs = deal(&table, seat, sleepers, outs, places);
-    let naps = Naps::new();
-    let door = TicketDoor {
-        table,
-        wakers,
-        naps,
-    };
-    Ok((door, outs))
+    let parts = parts_for(alloc, state, places)?;
+    match open_at(alloc, parts, first) {
+        Ok((turnstile, outs)) => Ok((RunningMonitor::new(turnstile), outs)),
+        Err(state) => Err((state, MakeRefused::Memory)),
+    }
 }

@@ -4,14 +4,14 @@ ghost use Rattle.door_frame.specs.Places.{IsOut};
 ghost use Rattle.ticket_door.specs.Meeting.{Meets};
 ghost use Rattle.hoare_law.specs.Sizes.{kinds_of};
 
-use crate::door::TicketDoor;
+use crate::door::TicketTurnstile;
 use crate::place::TicketOut;
 use crate::words::SERVING;
 use door_frame::place::Outside;
 use door_frame::plays::{Deal, Gather, Learn};
 use hoare_law::data::MonitorData;
 
-impl<D: MonitorData> TicketDoor<D> {
+impl<D: MonitorData> TicketTurnstile<D> {
     /// Two places outside meet: afterwards both know one history, which begins with what each of them knew, and in
     /// which each did nothing that it doesn't know of. They come back in the order in which they were handed in.
     pub fn meet(&self, a: TicketOut<D>, b: TicketOut<D>) -> (TicketOut<D>, TicketOut<D>)

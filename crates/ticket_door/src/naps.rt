@@ -9,7 +9,7 @@
 //! So while one newcomer naps, others yield, and its naps tell how long that took: behind a long yield newcomers nap
 //! for many times (`door_frame::yields`). Where nobody naps, newcomers yield only where many in a row were short, and
 //! so often at most; else one naps. There too a long yield shows: who comes back was missed (`late`).
-use crate::door::TicketDoor;
+use crate::door::TicketTurnstile;
 use crate::late::Late;
 use crate::words::{SERVING, SHUT, TURN, mark_of, nap_of};
 use crossbeam_utils::CachePadded;
@@ -102,7 +102,7 @@ impl Naps {
     }
 }
 
-impl<D: MonitorData> TicketDoor<D> {
+impl<D: MonitorData> TicketTurnstile<D> {
     /// A newcomer that is near looks on for a while, longer the nearer it is. Then it yields, or naps where it mayn't.
     pub(crate) fn stand_back<R: Wait>(&self, rt: &R, turn: u64) {
         let ahead = self.turns_ahead(turn).max(1);

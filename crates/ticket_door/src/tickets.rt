@@ -13,7 +13,7 @@ ghost use Rattle.door_frame.specs.Steps.{Came};
 ghost use Rattle.ticket_door.specs.Asked.{IsAsking, IsServed, IsAsked, EntersBy};
 ghost use Rattle.hoare_law.specs.Admissions.{admissions};
 
-use crate::door::TicketDoor;
+use crate::door::TicketTurnstile;
 use crate::place::{Asked, TicketIn, TicketOut};
 use crate::rule::{Ask, Counting, Look};
 use crate::words::{NEXT, SERVING, served_as};
@@ -25,7 +25,7 @@ use hoare_law::data::MonitorData;
 use std::marker::Brand;
 use std::sync::Wait;
 
-impl<D: MonitorData> TicketDoor<D> {
+impl<D: MonitorData> TicketTurnstile<D> {
     /// Draws the next ticket.
     #[inline]
     pub(crate) fn draw<J: Counting>(&self, seat: &mut DoorSeat<D>, place: usize) -> u64

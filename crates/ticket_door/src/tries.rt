@@ -12,13 +12,13 @@ ghost use Rattle.hoare_law.specs.Turns.{outside};
 ghost use Rattle.door_frame.specs.Seats.{IsEmptyHanded};
 ghost use Rattle.ticket_door.specs.Tries.{IsTrying, HasGate, IsLetIn, Reopened};
 
-use crate::door::TicketDoor;
+use crate::door::TicketTurnstile;
 use crate::rule::{Reopen, Shut, Try};
 use crate::words::{NEXT, SERVING, SHUT, served_as};
 use door_frame::plays::DoorSeat;
 use hoare_law::data::MonitorData;
 
-impl<D: MonitorData> TicketDoor<D> {
+impl<D: MonitorData> TicketTurnstile<D> {
     /// Shuts the gate, where this ticket is served and it is open: whether it did.
     #[inline]
     pub(crate) fn shut(&self, seat: &mut DoorSeat<D>, place: usize, ticket: u64) -> bool

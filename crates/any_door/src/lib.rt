@@ -4,7 +4,7 @@
 pub mod door;
 mod glance;
 pub mod kind;
-mod monitor;
+mod turnstile;
 
-pub use door::AnyDoor;
+pub use door::{AnyDoor, AnyTurnstile};
 pub use kind::DoorKind;

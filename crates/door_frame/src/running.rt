@@ -42,6 +42,14 @@ impl<T> RunningMonitor<T> {
         RunningMonitor { turnstile }
     }
 
+    /// Returns the turnstile.
+    pub fn into_turnstile(self) -> T
+        ensures { result ≡ self }
+    {
+        let RunningMonitor { turnstile } = self;
+        turnstile
+    }
+
     /// Creates a monitor of 1 to 64 places and `D::CONDITIONS` conditions, 1 to 8, opened with the data, and its
     /// places, in order. The last `D::MESA` conditions are Mesa conditions. The caller must prove `rest` of the data
     /// with nobody waiting. Refuses, in this order, with `BadPlaces`, `BadConditions`, and `Memory` if an allocation of

@@ -90,7 +90,7 @@ where
 /// On the baton door and on the ticket door.
 pub fn show_on_both<R: Threads + Wait + Print + Sync>(rt: &R, alloc: Global) -> io::Result<()> {
     for kind in DoorKind::BOTH {
-        let made = AnyDoor::make(alloc, kind, Barrier::new(PARTIES), PARTIES as usize);
+        let made = kind.make(alloc, Barrier::new(PARTIES), PARTIES as usize);
         show(rt, name_of(kind), made)?;
     }
     Ok(())

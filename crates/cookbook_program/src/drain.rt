@@ -99,7 +99,7 @@ pub fn show_on_both<R: Threads + Wait + Clock + Print + Sync>(
     alloc: Global,
 ) -> io::Result<()> {
     for kind in DoorKind::BOTH {
-        let made = AnyDoor::make(alloc, kind, Drain::new(), PLACES);
+        let made = kind.make(alloc, Drain::new(), PLACES);
         show(rt, name_of(kind), made)?;
     }
     Ok(())

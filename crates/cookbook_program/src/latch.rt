@@ -85,7 +85,7 @@ pub fn show_on_both<R: Threads + Wait + Clock + Print + Sync>(
     alloc: Global,
 ) -> io::Result<()> {
     for kind in DoorKind::BOTH {
-        let made = AnyDoor::make(alloc, kind, Latch::new(PARTS), THREADS);
+        let made = kind.make(alloc, Latch::new(PARTS), THREADS);
         show(rt, name_of(kind), made)?;
     }
     Ok(())

@@ -103,7 +103,7 @@ pub fn show_on_both<R: Threads + Wait + Clock + Print + Sync>(
     alloc: Global,
 ) -> io::Result<()> {
     for kind in DoorKind::BOTH {
-        let made = AnyDoor::make(alloc, kind, Mailbox::new(), 3);
+        let made = kind.make(alloc, Mailbox::new(), 3);
         show(rt, name_of(kind), made)?;
     }
     Ok(())

@@ -89,7 +89,7 @@ where
 /// On the baton door and on the ticket door.
 pub fn show_on_both<R: Threads + Wait + Print + Sync>(rt: &R, alloc: Global) -> io::Result<()> {
     for kind in DoorKind::BOTH {
-        let made = AnyDoor::make(alloc, kind, Rendezvous::new(), THREADS);
+        let made = kind.make(alloc, Rendezvous::new(), THREADS);
         show(rt, name_of(kind), made)?;
     }
     Ok(())

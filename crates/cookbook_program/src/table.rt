@@ -97,7 +97,7 @@ pub fn show_on_both<R: Threads + Wait + Clock + Print + Sync>(
     alloc: Global,
 ) -> io::Result<()> {
     for kind in DoorKind::BOTH {
-        let made = AnyDoor::make(alloc, kind, Table::new(), SEATS);
+        let made = kind.make(alloc, Table::new(), SEATS);
         show(rt, name_of(kind), made)?;
     }
     Ok(())

@@ -134,7 +134,7 @@ pub fn show_on_both<R: Threads + Wait + Clock + Print + Sync>(
     alloc: Global,
 ) -> io::Result<()> {
     for kind in DoorKind::BOTH {
-        let made = AnyDoor::make(alloc, kind, WorkQueue::new(WORKERS), THREADS);
+        let made = kind.make(alloc, WorkQueue::new(WORKERS), THREADS);
         show(rt, name_of(kind), made)?;
     }
     Ok(())

@@ -1,7 +1,7 @@
 -- A door that was made, and its places.
 use Rattle.std.specs.Prelude.{ℕ, ◌≡◌, List}
 use Rattle.door_frame.specs.Places.{PlaceOut}
-use Rattle.any_door.specs.declared.door.AnyDoor.{AnyDoor}
+use Rattle.any_door.specs.declared.door.AnyTurnstile.{AnyTurnstile}
 use Rattle.any_door.specs.declared.kind.DoorKind.{DoorKind}
 use Rattle.any_door.specs.Doors.{id_of, kind_behind}
 use Rattle.disk_jobs.specs.declared.kind.Kind.{Kind}
@@ -23,7 +23,7 @@ pub record AreOf (kind : Kind) (d : Doors) : Type 0 where
   pub board : kind_behind d.board ≡ door_kind kind
 
 -- the door is of this kind and has n places, and they are its places
-pub record IsMade {D : Type 0} (t : Terms D) (k : Kind) (n : ℕ) (door : AnyDoor D)
+pub record IsMade {D : Type 0} (t : Terms D) (k : Kind) (n : ℕ) (door : AnyTurnstile D)
     (os : List (PlaceOut D)) : Type 0 where
   pub kind : kind_behind door ≡ door_kind k
   pub size : (id_of door).places ≡ n

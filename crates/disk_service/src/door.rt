@@ -40,7 +40,7 @@ pub(crate) fn opened<D: MonitorData + Send + Drop>(
         (id_of r.0) places r.1.items) }
     ensures fault { IfErr result (λ f. f ≡ ServiceFault.Memory) }
 {
-    match AnyDoor::make(alloc, door_kind(kind), state, places) {
+    match door_kind(kind).make(alloc, state, places) {
         Ok(made) => Ok(made),
         Err(_) => Err(ServiceFault::Memory),
     }

@@ -28,7 +28,7 @@ impl<D: MonitorData + Send + Drop> Explored<D> {
         requires { D.rest state nobody }
         ensures { IfOk result (λ r. All (⟦<Explored<D> as Monitor<D>>⟧.is_of r.0) r.1.items) }
     {
-        let Ok((door, outs)) = AnyDoor::make(alloc, kind, state, places) else {
+        let Ok((door, outs)) = kind.make(alloc, state, places) else {
             return Err(AllocError);
         };
         Ok((Explored { door, controller }, outs))

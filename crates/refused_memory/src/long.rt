@@ -6,7 +6,7 @@ use crate::repeated::{Lines, Repeated};
 use crate::rounds::{VISITORS, Visits, all_visit};
 use crate::services::report_of;
 use crate::tickets::take_turns;
-use any_door::{AnyDoor, DoorKind};
+use any_door::DoorKind;
 use baton_door::door::Door;
 use disk_service::{Jobs, Kind, ServiceFault};
 use hoare_script::{ScriptFault, run};
@@ -171,7 +171,7 @@ fn visits_any<R: Threads + Wait + Sync>(
     kind: DoorKind,
     turns: u64,
 ) -> Answer {
-    match AnyDoor::make(alloc, kind, Visits::NONE, VISITORS as usize + 1) {
+    match kind.make(alloc, Visits::NONE, VISITORS as usize + 1) {
         Ok((door, places)) => seen(all_visit(rt, &door, places, turns)),
         Err(_) => Answer::Memory,
     }
@@ -182,7 +182,7 @@ fn cells<R: Threads + Wait + Sync>(rt: &R, alloc: Global, kind: DoorKind, turns:
     let Ok(cell) = MesaBuffer::make(alloc, 1) else {
         return Answer::Memory;
     };
-    match AnyDoor::make(alloc, kind, cell, THREADS) {
+    match kind.make(alloc, cell, THREADS) {
         Ok((door, places)) => seen(all_pass(rt, &door, places, turns)),
         Err(_) => Answer::Memory,
     }

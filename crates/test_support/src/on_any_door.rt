@@ -22,7 +22,7 @@ pub fn made<D: MonitorData + Send + Drop>(
     ensures of { IfSome result (λ r. All (⟦<AnyDoor<D> as Monitor<D>>⟧.is_of r.0) r.1.items) }
     ensures numbered { IfSome result (λ r. IsNumbered (⟦<AnyDoor<D> as Monitor<D>>⟧.place) r.1.items) }
 {
-    match AnyDoor::make(alloc, kind, state, count) {
+    match kind.make(alloc, state, count) {
         Ok(made) => Some(made),
         Err(_refused) => None,
     }

@@ -6,7 +6,7 @@ use crate::tests::awaited::act_all;
 use crate::tests::compared::expect_same;
 use crate::tests::glances::glance_of;
 use crate::tests::rows::stress::{PLACES, agrees, empty_diary, works_or_sweeps};
-use any_door::{AnyDoor, DoorKind};
+use any_door::{AnyDoor, AnyTurnstile, DoorKind};
 use door_frame::glance::{Glance, Holder};
 use door_frame::place::Outside;
 use hoare_law::monitor::Monitor;
@@ -62,9 +62,9 @@ fn asks_behind<R: Wait>(
     ensures b { ⟦<AnyDoor<Tally> as Monitor<Tally>>⟧.is_of door.now result.0.1 }
     ensures places { (result.0.0.place ≡ a.place) × (result.0.1.place ≡ b.place) }
 {
-    match door {
-        AnyDoor::Baton(_) => ((a, b), None),
-        AnyDoor::Ticket(behind) => {
+    match &**door {
+        AnyTurnstile::Baton(_) => ((a, b), None),
+        AnyTurnstile::Ticket(behind) => {
             let asked = behind.ask(a);
             let ticket = asked.ticket();
             let (b, before) = tries_once(rt, door, b);
@@ -82,7 +82,7 @@ fn calls_asks_and_looks<R: Wait + Abort>(
     alloc: Global,
     kind: DoorKind,
 ) -> ((u64, Option<(u64, bool, bool)>, u64), [Glance; 3]) {
-    let Ok((door, mut outs)) = AnyDoor::make(alloc, kind, Tally { value: 0 }, 2) else {
+    let Ok((door, mut outs)) = kind.make(alloc, Tally { value: 0 }, 2) else {
         panic!(rt; "no memory")
     };
     let before = door.glance();

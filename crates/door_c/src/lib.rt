@@ -8,13 +8,15 @@
 ghost use Rattle.std.specs.Prelude.{◌≡◌, ◌≢◌, ◌<◌, ◌≤◌};
 ghost use Rattle.hoare_law.specs.Sizes.{sizes_of};
 ghost use Rattle.door_place.specs.States.{AsksFirst, AsksQueue, Counts, Gets, where_is};
-ghost use Rattle.door_place.specs.declared.act.Act.TheVariants as act;
+ghost use Rattle.door_place.specs.Acts as act;
 ghost use Rattle.door_handle.specs.Desks.{IsKept, WasClosed};
 ghost use Rattle.door_handle.specs.Held.{Acted, GaveHeld, GivenBack, IsSame, Made};
 
 use door_handle::door::HeldDoor;
 use door_handle::place::HeldPlace;
-use door_place::act::Act;
+use door_place::act::{
+    Broadcast, Leave, Notify, Set, Signal, SignalLeave, TryEnter, TryReturn, Wait,
+};
 use std::alloc::Global;
 
 /// Makes a door of 1 to 64 places and 1 to 8 conditions, the last `mesa` of which are Mesa conditions, with the word
@@ -85,7 +87,7 @@ pub extern "C" fn zaulinte_door_try_enter(place: &mut HeldPlace) -> u64
         → Acted act.TryEnter place.old.handle.value place.new.live place.new.handle.value result }
     ensures none { place.old.live ≡ 0 → (result ≡ 107) × (place.new ≡ place.old) }
 {
-    place.act(Act::TryEnter)
+    place.act(TryEnter)
 }
 
 /// The place returns from its wait or its signal, if the monitor is owed to it at this moment: 64, or 102. Refused:
@@ -96,7 +98,7 @@ pub extern "C" fn zaulinte_door_try_return(place: &mut HeldPlace) -> u64
         → Acted act.TryReturn place.old.handle.value place.new.live place.new.handle.value result }
     ensures none { place.old.live ≡ 0 → (result ≡ 107) × (place.new ≡ place.old) }
 {
-    place.act(Act::TryReturn)
+    place.act(TryReturn)
 }
 
 /// The place leaves: which place to wake, or 64. Refused: 107, 104 not inside.
@@ -106,7 +108,7 @@ pub extern "C" fn zaulinte_door_leave(place: &mut HeldPlace) -> u64
         → Acted act.Leave place.old.handle.value place.new.live place.new.handle.value result }
     ensures none { place.old.live ≡ 0 → (result ≡ 107) × (place.new ≡ place.old) }
 {
-    place.act(Act::Leave)
+    place.act(Leave)
 }
 
 /// The place waits on a condition, with a priority: which place to wake, or 64. Once it is woken it tries to return.
@@ -117,7 +119,7 @@ pub extern "C" fn zaulinte_door_wait(place: &mut HeldPlace, condition: u64, prio
         → Acted (act.Wait condition priority) place.old.handle.value place.new.live place.new.handle.value result }
     ensures none { place.old.live ≡ 0 → (result ≡ 107) × (place.new ≡ place.old) }
 {
-    place.act(Act::Wait(condition, priority))
+    place.act(Wait(condition, priority))
 }
 
 /// The place signals one of Hoare's conditions: which place to wake, and then this place is away and tries to return
@@ -128,7 +130,7 @@ pub extern "C" fn zaulinte_door_signal(place: &mut HeldPlace, condition: u64) ->
         → Acted (act.Signal condition) place.old.handle.value place.new.live place.new.handle.value result }
     ensures none { place.old.live ≡ 0 → (result ≡ 107) × (place.new ≡ place.old) }
 {
-    place.act(Act::Signal(condition))
+    place.act(Signal(condition))
 }
 
 /// The place signals one of Hoare's conditions as its last act: which place to wake, or 64. Refused: 107, 104,
@@ -139,7 +141,7 @@ pub extern "C" fn zaulinte_door_signal_leave(place: &mut HeldPlace, condition: u
         → Acted (act.SignalLeave condition) place.old.handle.value place.new.live place.new.handle.value result }
     ensures none { place.old.live ≡ 0 → (result ≡ 107) × (place.new ≡ place.old) }
 {
-    place.act(Act::SignalLeave(condition))
+    place.act(SignalLeave(condition))
 }
 
 /// The place notifies the place that a signal on this Mesa condition would resume: how many it notified. Refused: 107,
@@ -150,7 +152,7 @@ pub extern "C" fn zaulinte_door_notify(place: &mut HeldPlace, condition: u64) ->
         → Acted (act.Notify condition) place.old.handle.value place.new.live place.new.handle.value result }
     ensures none { place.old.live ≡ 0 → (result ≡ 107) × (place.new ≡ place.old) }
 {
-    place.act(Act::Notify(condition))
+    place.act(Notify(condition))
 }
 
 /// The place notifies all that wait on a Mesa condition: how many they were. Refused: 107, 104, 105, 106 one
@@ -161,7 +163,7 @@ pub extern "C" fn zaulinte_door_broadcast(place: &mut HeldPlace, condition: u64)
         → Acted (act.Broadcast condition) place.old.handle.value place.new.live place.new.handle.value result }
     ensures none { place.old.live ≡ 0 → (result ≡ 107) × (place.new ≡ place.old) }
 {
-    place.act(Act::Broadcast(condition))
+    place.act(Broadcast(condition))
 }
 
 /// The place inside writes the word that lies in the monitor: 0. Refused: 107, 104.
@@ -171,7 +173,7 @@ pub extern "C" fn zaulinte_door_set(place: &mut HeldPlace, value: u64) -> u64
         → Acted (act.Set value) place.old.handle.value place.new.live place.new.handle.value result }
     ensures none { place.old.live ≡ 0 → (result ≡ 107) × (place.new ≡ place.old) }
 {
-    place.act(Act::Set(value))
+    place.act(Set(value))
 }
 
 /// Reads the word that the place inside has in hand: 0. Refused: 107, 104.

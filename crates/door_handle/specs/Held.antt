@@ -3,7 +3,7 @@ use Rattle.std.specs.Prelude.{◌≡◌, ◌<◌, ℕ, Option, Some}
 use Rattle.hoare_law.specs.declared.event.Sizes.{Sizes}
 use Rattle.door_place.specs.Places.{Acts, GaveOut, GivesBack, IsNew, KeeperOf, MadeNot, PlaceAt}
 use Rattle.door_place.specs.States.{number_of}
-use Rattle.door_place.specs.declared.act.Act.{Act}
+use Rattle.door_place.specs.Acts.{Deed}
 
 -- a new door is there (0); else there is none as before, for the first reason that applies
 pub data Made (sizes : Sizes) (value live : ℕ) (new : Option KeeperOf) (code : ℕ) : Type 0 where
@@ -16,7 +16,7 @@ pub data GaveHeld (old new : Option KeeperOf) (p : PlaceAt) (code : ℕ) : Type 
       → GaveOut k.outs l.outs p.state → code ≡ number_of p.state → code < 64 → GaveHeld old new p code
 
 -- the place is still held, at its door, and the act was done or refused
-pub record Acted (act : Act) (old : PlaceAt) (live : ℕ) (new : PlaceAt) (code : ℕ) : Type 0 where
+pub record Acted (act : Deed) (old : PlaceAt) (live : ℕ) (new : PlaceAt) (code : ℕ) : Type 0 where
   pub live_is : live ≡ 1
   pub door : new.door ≡ old.door
   pub acts : Acts old.door act old.state new.state code

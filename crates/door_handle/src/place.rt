@@ -35,10 +35,9 @@ impl HeldPlace {
     }
 
     /// Does an act. Refused: `NOTHING_HELD`, else as the act is.
-    #[inline(always)]
-    pub fn act(&mut self, act: Act) -> u64
+    pub fn act<A: Act>(&mut self, act: A) -> u64
         ensures acted { self.old.live ≡ 1
-            → Acted act self.old.handle.value self.new.live self.new.handle.value result }
+            → Acted (A.deed act) self.old.handle.value self.new.live self.new.handle.value result }
         ensures none { self.old.live ≡ 0 → (result ≡ 107) × (self.new ≡ self.old) }
     {
         let Some(place) = self.held().get_mut() else {

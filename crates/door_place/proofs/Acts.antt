@@ -1,5 +1,5 @@
 -- What each act makes of a place's history.
-use Rattle.std.proofs.Common.{◌≡◌, ◌<◌, ◌≤◌, ℕ, Bool, true, false, refl, sym, ap, ◌∙◌, subst, arith}
+use Rattle.std.proofs.Common.{◌≡◌, ◌≤◌, ℕ, Bool, true, false, refl, sym, ap, ◌∙◌, subst, arith}
 use Rattle.std.specs.Prelude.{if◌then◌else◌}
 use mir.Val.{bool_byte}
 use Rattle.hoare_law.specs.declared.event.Event.{Event}
@@ -12,7 +12,7 @@ use Rattle.hoare_law.specs.Growth.{Begins, Exits, passed_on, just_left}
 use Rattle.hoare_law.specs.Growth as growth
 use Rattle.hoare_law.specs.Lawful.{Stands}
 use Rattle.hoare_law.specs.Legal.{IsLegal}
-use Rattle.hoare_law.specs.Sizes.{Kinds, sizes_at}
+use Rattle.hoare_law.specs.Sizes.{sizes_at}
 use Rattle.hoare_law.specs.Turns.{turn}
 use Rattle.hoare_law.proofs.Growth.{Begins-refl, Begins-push}
 use Rattle.hoare_law.proofs.Owed.{owed-in_range}

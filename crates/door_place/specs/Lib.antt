@@ -1,3 +1,4 @@
 pub mod Codes
 pub mod States
+pub mod Acts
 pub mod Places

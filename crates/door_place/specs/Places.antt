@@ -1,5 +1,5 @@
 -- A place with its door, and the keeper of a door.
-use Rattle.std.specs.Prelude.{◌≡◌, ◌⊎◌, ◌<◌, ◌≢◌, ℕ, List, [], ◌∷◌, ◌++◌, All, Some, None}
+use Rattle.std.specs.Prelude.{◌≡◌, ◌<◌, ℕ, List, [], ◌∷◌, ◌++◌, Some, None}
 use Rattle.hoare_law.specs.declared.event.Sizes.{Sizes}
 use Rattle.hoare_law.specs.Events.{opened}
 use Rattle.hoare_law.specs.Sizes.{kinds_of}
@@ -9,29 +9,14 @@ use Rattle.door_frame.specs.Places.{PlaceOut, places_from}
 use Rattle.hoare_law.specs.Growth.{Begins}
 use Rattle.baton_door.specs.StepDoors.{StepId}
 use Rattle.door_place.specs.declared.state.State.{State}
-use Rattle.door_place.specs.declared.act.Act.{Act}
-use Rattle.door_place.specs.declared.act.Act.TheVariants.{TryEnter, TryReturn, Leave, Wait, Signal, SignalLeave, Notify}
-use Rattle.door_place.specs.declared.act.Act.TheVariants.{Broadcast, Set}
-use Rattle.door_place.specs.States.{IsState, TriesToEnter, TriesToReturn, Leaves, Waits, Signals, SignalLeaves, Notifies}
-use Rattle.door_place.specs.States.{Broadcasts, Sets, Carried, NotOutside, front_of, number_of}
+use Rattle.door_place.specs.Acts.{Deed}
+use Rattle.door_place.specs.States.{IsState, Carried, NotOutside, front_of, number_of}
 use Rattle.door_place.specs.declared.state.State.TheVariants.{Outside, Nowhere}
-
--- the act made this of the state, with this code
-abbrev pub Made : StepId → Act → State → State → ℕ → Type 0
-Made d TryEnter old new code = TriesToEnter old new code
-Made d TryReturn old new code = TriesToReturn d old new code
-Made d Leave old new code = Leaves old new code
-Made d (Wait c p) old new code = Waits d old c p new code
-Made d (Signal c) old new code = Signals d old c new code
-Made d (SignalLeave c) old new code = SignalLeaves d old c new code
-Made d (Notify c) old new code = Notifies d old c new code
-Made d (Broadcast c) old new code = Broadcasts d old c new code
-Made d (Set value) old new code = Sets old value new code
 
 -- the act was done or refused: the place is still that of the same door, what it knows is legal and begins with what it
 -- knew
-pub record Acts (d : StepId) (act : Act) (old new : State) (code : ℕ) : Type 0 where
-  pub made : Made d act old new code
+pub record Acts (d : StepId) (act : Deed) (old new : State) (code : ℕ) : Type 0 where
+  pub made : act d old new code
   pub of : IsState d new
   pub number : number_of new ≡ number_of old
   pub front : Begins (front_of old) (front_of new)

@@ -1,24 +1,230 @@
-//! What a place does.
+//! What a place does. Each act is a type of its own, so that the code for an act holds that act alone.
+ghost use Rattle.std.specs.Prelude.{◌≡◌, ◌≤◌};
+ghost use Rattle.baton_door.specs.StepDoors.{StepId};
+ghost use Rattle.door_place.specs.Codes.{code_of};
+ghost use Rattle.door_place.specs.Acts as acts;
 
-/// One act of a place.
+use crate::codes::{
+    self, DONE, NO_CONDITION, NOBODY, NOT_AWAY, NOT_INSIDE, NOT_NOW, NOT_OUTSIDE, WRONG_KIND,
+};
+use crate::state::{Door, Limits, State};
+use door_frame::calls;
+use wait_book::steps::Next;
+
+/// One act of a place, done or refused.
+pub trait Act: Copy {
+    ghost use Rattle.std.specs.Prelude.{◌≡◌};
+    ghost use Rattle.hoare_law.specs.Growth.{Begins};
+    ghost use Rattle.door_place.specs.Acts.{Deed};
+    ghost use Rattle.door_place.specs.States.{IsState, front_of, number_of};
+
+    /// What the act makes of a place's state.
+    ghost deed: { Self → Deed };
+
+    /// Does the act, or refuses it. Returns the new state, and the code.
+    fn make(self, door: &Door, state: State) -> (State, u64)
+        requires { IsState door.now state }
+        ensures made { deed self door.now state result.0 result.1 }
+        ensures of { IsState door.now result.0 }
+        ensures number { number_of result.0 ≡ number_of state }
+        ensures front { Begins (front_of state) (front_of result.0) };
+}
+
+/// The place tries to enter.
 #[derive(Clone, Copy)]
-pub enum Act {
-    /// It tries to enter.
-    TryEnter,
-    /// It tries to return from its wait or its signal.
-    TryReturn,
-    /// It leaves.
-    Leave,
-    /// It waits on a condition, with a priority.
-    Wait(u64, u64),
-    /// It signals one of Hoare's conditions.
-    Signal(u64),
-    /// It signals one of Hoare's conditions as its last act.
-    SignalLeave(u64),
-    /// It notifies the place that a signal on this Mesa condition would resume.
-    Notify(u64),
-    /// It notifies all that wait on a Mesa condition.
-    Broadcast(u64),
-    /// It writes the word that lies in the monitor.
-    Set(u64),
+pub struct TryEnter;
+
+/// The place tries to return from its wait or its signal.
+#[derive(Clone, Copy)]
+pub struct TryReturn;
+
+/// The place leaves.
+#[derive(Clone, Copy)]
+pub struct Leave;
+
+/// The place waits on a condition, with a priority.
+#[derive(Clone, Copy)]
+pub struct Wait(pub u64, pub u64);
+
+/// The place signals one of Hoare's conditions.
+#[derive(Clone, Copy)]
+pub struct Signal(pub u64);
+
+/// The place signals one of Hoare's conditions as its last act.
+#[derive(Clone, Copy)]
+pub struct SignalLeave(pub u64);
+
+/// The place notifies the place that a signal on this Mesa condition would resume.
+#[derive(Clone, Copy)]
+pub struct Notify(pub u64);
+
+/// The place notifies all that wait on a Mesa condition.
+#[derive(Clone, Copy)]
+pub struct Broadcast(pub u64);
+
+/// The place writes the word that lies in the monitor.
+#[derive(Clone, Copy)]
+pub struct Set(pub u64);
+
+/// Returns the code for the place that resumes next.
+#[inline(always)]
+fn code_of(door: &Door, next: Next) -> u64
+    ensures is { result ≡ code_of next }
+    ensures few { door.now.door.places ≤ 64 }
+{
+    let _ = door.sizes();
+    codes::code_of(next)
+}
+
+impl Act for TryEnter {
+    ghost deed = { λ _. acts.TryEnter };
+
+    fn make(self, door: &Door, state: State) -> (State, u64) {
+        let State::Outside(out) = state else {
+            return (state, NOT_OUTSIDE);
+        };
+        match calls::try_enter(door, out) {
+            Ok(inside) => (State::Inside(inside), NOBODY),
+            Err(out) => (State::Outside(out), NOT_NOW),
+        }
+    }
+}
+
+impl Act for TryReturn {
+    ghost deed = { λ _. acts.TryReturn };
+
+    fn make(self, door: &Door, state: State) -> (State, u64) {
+        let State::Away(away) = state else {
+            return (state, NOT_AWAY);
+        };
+        match calls::try_return(door, away) {
+            Ok(inside) => (State::Inside(inside), NOBODY),
+            Err(away) => (State::Away(away), NOT_NOW),
+        }
+    }
+}
+
+impl Act for Leave {
+    ghost deed = { λ _. acts.Leave };
+
+    fn make(self, door: &Door, state: State) -> (State, u64) {
+        let State::Inside(inside) = state else {
+            return (state, NOT_INSIDE);
+        };
+        let (out, next) = calls::leave_to(door, inside);
+        (State::Outside(out), code_of(door, next))
+    }
+}
+
+impl Act for Wait {
+    ghost deed = { λ w. acts.Wait w.0 w.1 };
+
+    fn make(self, door: &Door, state: State) -> (State, u64) {
+        let Wait(condition, priority) = self;
+        let State::Inside(inside) = state else {
+            return (state, NOT_INSIDE);
+        };
+        let limits = Limits::of(door);
+        if condition >= limits.conditions {
+            return (State::Inside(inside), NO_CONDITION);
+        }
+        let (away, next) = calls::begin_wait(door, inside, condition as usize, priority);
+        (State::Away(away), code_of(door, next))
+    }
+}
+
+impl Act for Signal {
+    ghost deed = { λ s. acts.Signal s.0 };
+
+    fn make(self, door: &Door, state: State) -> (State, u64) {
+        let Signal(condition) = self;
+        let State::Inside(inside) = state else {
+            return (state, NOT_INSIDE);
+        };
+        let limits = Limits::of(door);
+        if condition >= limits.conditions {
+            return (State::Inside(inside), NO_CONDITION);
+        }
+        if condition >= limits.hoare {
+            return (State::Inside(inside), WRONG_KIND);
+        }
+        match calls::begin_signal(door, inside, condition as usize) {
+            Ok((away, next)) => (State::Away(away), code_of(door, next)),
+            Err(inside) => (State::Inside(inside), NOBODY),
+        }
+    }
+}
+
+impl Act for SignalLeave {
+    ghost deed = { λ s. acts.SignalLeave s.0 };
+
+    fn make(self, door: &Door, state: State) -> (State, u64) {
+        let SignalLeave(condition) = self;
+        let State::Inside(inside) = state else {
+            return (state, NOT_INSIDE);
+        };
+        let limits = Limits::of(door);
+        if condition >= limits.conditions {
+            return (State::Inside(inside), NO_CONDITION);
+        }
+        if condition >= limits.hoare {
+            return (State::Inside(inside), WRONG_KIND);
+        }
+        let (out, _, next) = calls::signal_leave_to(door, inside, condition as usize);
+        (State::Outside(out), code_of(door, next))
+    }
+}
+
+impl Act for Notify {
+    ghost deed = { λ n. acts.Notify n.0 };
+
+    fn make(self, door: &Door, state: State) -> (State, u64) {
+        let Notify(condition) = self;
+        let State::Inside(mut inside) = state else {
+            return (state, NOT_INSIDE);
+        };
+        let limits = Limits::of(door);
+        if condition >= limits.conditions {
+            return (State::Inside(inside), NO_CONDITION);
+        }
+        if condition < limits.hoare {
+            return (State::Inside(inside), WRONG_KIND);
+        }
+        let notified = calls::notify(door, &mut inside, condition as usize);
+        (State::Inside(inside), u64::from(notified))
+    }
+}
+
+impl Act for Broadcast {
+    ghost deed = { λ b. acts.Broadcast b.0 };
+
+    fn make(self, door: &Door, state: State) -> (State, u64) {
+        let Broadcast(condition) = self;
+        let State::Inside(mut inside) = state else {
+            return (state, NOT_INSIDE);
+        };
+        let limits = Limits::of(door);
+        if condition >= limits.conditions {
+            return (State::Inside(inside), NO_CONDITION);
+        }
+        if condition < limits.hoare {
+            return (State::Inside(inside), WRONG_KIND);
+        }
+        let notified = calls::broadcast(door, &mut inside, condition as usize);
+        (State::Inside(inside), notified as u64)
+    }
+}
+
+impl Act for Set {
+    ghost deed = { λ s. acts.Set s.0 };
+
+    fn make(self, door: &Door, state: State) -> (State, u64) {
+        let Set(value) = self;
+        let State::Inside(mut inside) = state else {
+            return (state, NOT_INSIDE);
+        };
+        let parcel = &mut inside.parcel;
+        parcel.held.lodged.state.value = value;
+        (State::Inside(inside), DONE)
+    }
 }

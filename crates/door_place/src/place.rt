@@ -10,9 +10,9 @@ use crate::act::Act;
 use crate::codes::{DONE, NOBODY, NOT_NOW, NOT_OUTSIDE};
 use crate::shared::Shared;
 use crate::state::{self, Out, State};
+use core::mem;
 use door_frame::calls;
 use std::marker::Model;
-use std::mem;
 use std::sync::Arc;
 
 /// A place of a door, with its door. If it is dropped while it is inside it leaves first, and
@@ -47,7 +47,7 @@ impl Drop for Place {
 }
 
 /// Puts a place that is outside into its slot.
-fn given_back(shared: &Shared, state: State) -> (State, u64)
+fn given_back(state: State, shared: &Shared) -> (State, u64)
     requires { IsState shared.now state }
     ensures gives { GivesBack state result.0 result.1 }
     ensures of { IsState shared.now result.0 }
@@ -76,18 +76,14 @@ impl Place {
     }
 
     /// Does one act, or refuses it. Returns its code.
-    #[inline(always)]
-    pub fn act(&mut self, act: Act) -> u64
+    pub fn act<A: Act>(&mut self, act: A) -> u64
         ensures door { self.new.door ≡ self.old.door }
-        ensures acts { Acts self.old.door act self.old.state self.new.state result }
+        ensures acts { Acts self.old.door (A.deed act) self.old.state self.new.state result }
     {
-        let state = mem::replace(&mut self.state, State::Nowhere);
-        let (state, code) = state::act(self.shared.door(), state, act);
-        let nowhere = mem::replace(&mut self.state, state);
-        let State::Nowhere = nowhere else {
-            unreachable!()
-        };
-        code
+        let door = self.shared.door();
+        mem::replace_with(&mut self.state, (act, door), |state, (act, door)| {
+            act.make(door, state)
+        })
     }
 
     /// Gives the place back to its door: then it isn't here any more. Refused: `NOT_OUTSIDE`, and `NOT_NOW` if another
@@ -96,13 +92,8 @@ impl Place {
         ensures door { self.new.door ≡ self.old.door }
         ensures gives { GivesBack self.old.state self.new.state result }
     {
-        let state = mem::replace(&mut self.state, State::Nowhere);
-        let (state, code) = given_back(&self.shared, state);
-        let nowhere = mem::replace(&mut self.state, state);
-        let State::Nowhere = nowhere else {
-            unreachable!()
-        };
-        code
+        let shared: &Shared = &self.shared;
+        mem::replace_with(&mut self.state, shared, given_back)
     }
 
     /// Returns the place's number if it is outside, and else `NOBODY`.

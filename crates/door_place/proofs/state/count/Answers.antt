@@ -1,4 +1,4 @@
-use Rattle.std.proofs.Common.{arith, refl, ap, sym, ◌∙◌}
+use Rattle.std.proofs.Common.{arith, refl, ap, ◌∙◌}
 use Rattle.std.specs.Prelude.{length}
 use Rattle.door_place.specs.States.{counted, no_condition}
 use Rattle.door_place.proofs.state.count.Goals as goal

@@ -1,4 +1,4 @@
-use Rattle.std.proofs.Common.{arith, refl, ap, sym, ◌∙◌}
+use Rattle.std.proofs.Common.{arith, refl}
 use Rattle.wait_book.proofs.WithData.{none-listed}
 use Rattle.door_place.specs.States.{somebody, nobody, no_condition}
 use Rattle.door_place.proofs.state.queue.Goals as goal

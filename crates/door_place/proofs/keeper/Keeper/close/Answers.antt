@@ -1,8 +1,7 @@
-use Rattle.std.proofs.Common.{◌<◌, ℕ, ap, sym, subst, refl, ◌∙◌, ◌≡◌, List}
+use Rattle.std.proofs.Common.{◌<◌, ℕ, ap, sym, subst, refl, ◌∙◌}
 use Rattle.baton_door.specs.StepDoors.{StepId}
-use Rattle.door_frame.specs.Places.{HasPlace, PlaceOut}
+use Rattle.door_frame.specs.Places.{HasPlace}
 use Rattle.door_place.specs.Places.{KeeperOf}
-use Rattle.door_place.specs.States.{Carried}
 use Rattle.door_place.proofs.keeper.Keeper.close.Goals as goal
 
 pub close-requires-clause-places : goal.close-requires-clause-places

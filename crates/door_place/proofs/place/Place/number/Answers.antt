@@ -1,4 +1,4 @@
-use Rattle.std.proofs.Common.{arith, ap, sym, subst, ◌∙◌}
+use Rattle.std.proofs.Common.{arith, ap, subst, ◌∙◌}
 use Rattle.baton_door.specs.StepDoors.{StepId}
 use Rattle.door_place.specs.Places.{NumberIs, PlaceAt, outside}
 use Rattle.door_place.specs.States.{IsState}

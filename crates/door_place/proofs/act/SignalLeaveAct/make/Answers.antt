@@ -1,7 +1,7 @@
-use Rattle.std.proofs.Common.{arith, refl, ap, sym, ◌∙◌}
+use Rattle.std.proofs.Common.{arith, refl, sym}
 use Rattle.door_place.specs.States.{exits, no_condition, wrong_kind}
 use Rattle.door_place.proofs.Acts.{woken, exit_begins, from_inside}
-use Rattle.door_place.proofs.state.signal_leave.Goals as goal
+use Rattle.door_place.proofs.act.SignalLeaveAct.make.Goals as goal
 
 pub returns-then-condition-limits-clause-made : goal.returns-then-condition-limits-clause-made
 returns-then-condition-limits-clause-made c =
@@ -15,14 +15,14 @@ returns-then-condition-limits-2-clause-made c =
     let hoare = c.of-limits.ensures.hoare in
     wrong_kind c.in-Inside.inside c.in-Inside.is (sym c.in-Inside.is) (omega (arith, c.if-condition-limits.false, most), omega (arith, c.if-condition-limits-2.true, hoare)) refl
 
-pub returns-else-condition-limits-2-clause-made : goal.returns-else-condition-limits-2-clause-made
-returns-else-condition-limits-2-clause-made c =
+pub returns-clause-made : goal.returns-clause-made
+returns-clause-made c =
     let most = c.of-limits.ensures.conditions in
     let hoare = c.of-limits.ensures.hoare in
     let o = c.signal_leave_to-out.ensures in
     exits c.in-Inside.inside _ _ c.in-Inside.is refl (omega (arith, c.if-condition-limits-2.false, hoare)) o.place o.front
     (woken c.args.door.now o.of.sized o.of.stands c.code_of.ensures.few o.next c.code_of.ensures.is)
 
-pub returns-else-condition-limits-2-clause-front : goal.returns-else-condition-limits-2-clause-front
-returns-else-condition-limits-2-clause-front c =
+pub returns-clause-front : goal.returns-clause-front
+returns-clause-front c =
     from_inside c.in-Inside.is (exit_begins c.signal_leave_to-out.ensures.front)

@@ -4,11 +4,11 @@ use Rattle.door_frame.specs.Places.{PlaceIn, berth, place_in, with_state}
 use Rattle.door_frame.proofs.Seats.{front_is}
 use Rattle.door_place.specs.declared.state.State.TheVariants.{Inside}
 use Rattle.door_place.specs.States.{Carried, set}
-use Rattle.door_place.proofs.state.set.Goals as goal
+use Rattle.door_place.proofs.act.SetAct.make.Goals as goal
 
-pub returns-in-Inside-clause-made : goal.returns-in-Inside-clause-made
-returns-in-Inside-clause-made c =
-    let s : Carried = record { value = c.args.value } in
+pub returns-clause-made : goal.returns-clause-made
+returns-clause-made c =
+    let s : Carried = record { value = c.args.self.0 } in
     let z = c.inside.inside.seat.table_id in
     set c.in-Inside.inside c.in-Inside.is
     (ap (λ (f : History Carried). Inside (place_in (berth z z) c.inside.inside.place f s))

@@ -8,7 +8,7 @@
 ghost use Rattle.std.specs.Prelude.{◌≡◌, ◌≢◌, ◌<◌, ◌≤◌};
 ghost use Rattle.hoare_law.specs.Sizes.{sizes_of};
 ghost use Rattle.door_place.specs.States.{AsksFirst, AsksQueue, Counts, Gets, where_is};
-ghost use Rattle.door_place.specs.Acts as act;
+ghost use Rattle.door_place.specs.Deeds as act;
 ghost use Rattle.door_handle.specs.Desks.{IsKept, WasClosed};
 ghost use Rattle.door_handle.specs.Held.{Acted, GaveHeld, GivenBack, IsSame, Made};
 

@@ -3,7 +3,7 @@ use Rattle.std.specs.Prelude.{◌≡◌, ◌<◌, ℕ, Option, Some}
 use Rattle.hoare_law.specs.declared.event.Sizes.{Sizes}
 use Rattle.door_place.specs.Places.{Acts, GaveOut, GivesBack, IsNew, KeeperOf, MadeNot, PlaceAt}
 use Rattle.door_place.specs.States.{number_of}
-use Rattle.door_place.specs.Acts.{Deed}
+use Rattle.door_place.specs.Deeds.{Deed}
 
 -- a new door is there (0); else there is none as before, for the first reason that applies
 pub data Made (sizes : Sizes) (value live : ℕ) (new : Option KeeperOf) (code : ℕ) : Type 0 where

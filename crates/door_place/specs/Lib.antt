@@ -1,4 +1,4 @@
 pub mod Codes
 pub mod States
-pub mod Acts
+pub mod Deeds
 pub mod Places

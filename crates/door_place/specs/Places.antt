@@ -9,7 +9,7 @@ use Rattle.door_frame.specs.Places.{PlaceOut, places_from}
 use Rattle.hoare_law.specs.Growth.{Begins}
 use Rattle.baton_door.specs.StepDoors.{StepId}
 use Rattle.door_place.specs.declared.state.State.{State}
-use Rattle.door_place.specs.Acts.{Deed}
+use Rattle.door_place.specs.Deeds.{Deed}
 use Rattle.door_place.specs.States.{IsState, Carried, NotOutside, front_of, number_of}
 use Rattle.door_place.specs.declared.state.State.TheVariants.{Outside, Nowhere}
 

@@ -2,7 +2,7 @@
 ghost use Rattle.std.specs.Prelude.{◌≡◌, ◌≤◌};
 ghost use Rattle.baton_door.specs.StepDoors.{StepId};
 ghost use Rattle.door_place.specs.Codes.{code_of};
-ghost use Rattle.door_place.specs.Acts as acts;
+ghost use Rattle.door_place.specs.Deeds as deeds;
 
 use crate::codes::{
     self, DONE, NO_CONDITION, NOBODY, NOT_AWAY, NOT_INSIDE, NOT_NOW, NOT_OUTSIDE, WRONG_KIND,
@@ -15,14 +15,14 @@ use wait_book::steps::Next;
 pub trait Act: Copy {
     ghost use Rattle.std.specs.Prelude.{◌≡◌};
     ghost use Rattle.hoare_law.specs.Growth.{Begins};
-    ghost use Rattle.door_place.specs.Acts.{Deed};
+    ghost use Rattle.door_place.specs.Deeds.{Deed};
     ghost use Rattle.door_place.specs.States.{IsState, front_of, number_of};
 
     /// What the act makes of a place's state.
     ghost deed: { Self → Deed };
 
     /// Does the act, or refuses it. Returns the new state, and the code.
-    fn make(self, door: &Door, state: State) -> (State, u64)
+    fn perform(self, door: &Door, state: State) -> (State, u64)
         requires { IsState door.now state }
         ensures made { deed self door.now state result.0 result.1 }
         ensures of { IsState door.now result.0 }
@@ -77,9 +77,9 @@ fn code_of(door: &Door, next: Next) -> u64
 }
 
 impl Act for TryEnter {
-    ghost deed = { λ _. acts.TryEnter };
+    ghost deed = { λ _. deeds.TryEnter };
 
-    fn make(self, door: &Door, state: State) -> (State, u64) {
+    fn perform(self, door: &Door, state: State) -> (State, u64) {
         let State::Outside(out) = state else {
             return (state, NOT_OUTSIDE);
         };
@@ -91,9 +91,9 @@ impl Act for TryEnter {
 }
 
 impl Act for TryReturn {
-    ghost deed = { λ _. acts.TryReturn };
+    ghost deed = { λ _. deeds.TryReturn };
 
-    fn make(self, door: &Door, state: State) -> (State, u64) {
+    fn perform(self, door: &Door, state: State) -> (State, u64) {
         let State::Away(away) = state else {
             return (state, NOT_AWAY);
         };
@@ -105,9 +105,9 @@ impl Act for TryReturn {
 }
 
 impl Act for Leave {
-    ghost deed = { λ _. acts.Leave };
+    ghost deed = { λ _. deeds.Leave };
 
-    fn make(self, door: &Door, state: State) -> (State, u64) {
+    fn perform(self, door: &Door, state: State) -> (State, u64) {
         let State::Inside(inside) = state else {
             return (state, NOT_INSIDE);
         };
@@ -117,9 +117,9 @@ impl Act for Leave {
 }
 
 impl Act for Wait {
-    ghost deed = { λ w. acts.Wait w.0 w.1 };
+    ghost deed = { λ w. deeds.Wait w.0 w.1 };
 
-    fn make(self, door: &Door, state: State) -> (State, u64) {
+    fn perform(self, door: &Door, state: State) -> (State, u64) {
         let Wait(condition, priority) = self;
         let State::Inside(inside) = state else {
             return (state, NOT_INSIDE);
@@ -134,9 +134,9 @@ impl Act for Wait {
 }
 
 impl Act for Signal {
-    ghost deed = { λ s. acts.Signal s.0 };
+    ghost deed = { λ s. deeds.Signal s.0 };
 
-    fn make(self, door: &Door, state: State) -> (State, u64) {
+    fn perform(self, door: &Door, state: State) -> (State, u64) {
         let Signal(condition) = self;
         let State::Inside(inside) = state else {
             return (state, NOT_INSIDE);
@@ -156,9 +156,9 @@ impl Act for Signal {
 }
 
 impl Act for SignalLeave {
-    ghost deed = { λ s. acts.SignalLeave s.0 };
+    ghost deed = { λ s. deeds.SignalLeave s.0 };
 
-    fn make(self, door: &Door, state: State) -> (State, u64) {
+    fn perform(self, door: &Door, state: State) -> (State, u64) {
         let SignalLeave(condition) = self;
         let State::Inside(inside) = state else {
             return (state, NOT_INSIDE);
@@ -176,9 +176,9 @@ impl Act for SignalLeave {
 }
 
 impl Act for Notify {
-    ghost deed = { λ n. acts.Notify n.0 };
+    ghost deed = { λ n. deeds.Notify n.0 };
 
-    fn make(self, door: &Door, state: State) -> (State, u64) {
+    fn perform(self, door: &Door, state: State) -> (State, u64) {
         let Notify(condition) = self;
         let State::Inside(mut inside) = state else {
             return (state, NOT_INSIDE);
@@ -196,9 +196,9 @@ impl Act for Notify {
 }
 
 impl Act for Broadcast {
-    ghost deed = { λ b. acts.Broadcast b.0 };
+    ghost deed = { λ b. deeds.Broadcast b.0 };
 
-    fn make(self, door: &Door, state: State) -> (State, u64) {
+    fn perform(self, door: &Door, state: State) -> (State, u64) {
         let Broadcast(condition) = self;
         let State::Inside(mut inside) = state else {
             return (state, NOT_INSIDE);
@@ -216,9 +216,9 @@ impl Act for Broadcast {
 }
 
 impl Act for Set {
-    ghost deed = { λ s. acts.Set s.0 };
+    ghost deed = { λ s. deeds.Set s.0 };
 
-    fn make(self, door: &Door, state: State) -> (State, u64) {
+    fn perform(self, door: &Door, state: State) -> (State, u64) {
         let Set(value) = self;
         let State::Inside(mut inside) = state else {
             return (state, NOT_INSIDE);

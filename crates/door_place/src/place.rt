@@ -52,14 +52,12 @@ fn given_back(state: State, shared: &Shared) -> (State, u64)
     ensures gives { GivesBack state result.0 result.1 }
     ensures of { IsState shared.now result.0 }
 {
-    match state {
-        State::Outside(out) => match shared.put(out) {
-            Ok(()) => (State::Nowhere, DONE),
-            Err(out) => (State::Outside(out), NOT_NOW),
-        },
-        State::Inside(inside) => (State::Inside(inside), NOT_OUTSIDE),
-        State::Away(away) => (State::Away(away), NOT_OUTSIDE),
-        State::Nowhere => (State::Nowhere, NOT_OUTSIDE),
+    let State::Outside(out) = state else {
+        return (state, NOT_OUTSIDE);
+    };
+    match shared.put(out) {
+        Ok(()) => (State::Nowhere, DONE),
+        Err(out) => (State::Outside(out), NOT_NOW),
     }
 }
 
@@ -82,7 +80,7 @@ impl Place {
     {
         let door = self.shared.door();
         mem::replace_with(&mut self.state, (act, door), |state, (act, door)| {
-            act.make(door, state)
+            act.perform(door, state)
         })
     }
 

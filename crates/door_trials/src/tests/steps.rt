@@ -1,6 +1,8 @@
 //! A door whose calls are steps, through its places as values: what each act answers, on one thread.
 use crate::tests::compared::expect_same;
-use door_place::act::Act;
+use door_place::act::{
+    Broadcast, Leave, Notify, Set, Signal, SignalLeave, TryEnter, TryReturn, Wait,
+};
 use door_place::keeper::Keeper;
 use door_place::place::Place;
 use hoare_law::event::Sizes;
@@ -77,21 +79,21 @@ fn steps_hand_over(rt: HostRuntime) {
     let mut one = place_of(&rt, &mut keeper);
     let mut zero = place_of(&rt, &mut keeper);
     expect_same(&rt, [zero.number(), one.number()], [0, 1]);
-    expect_same(&rt, zero.act(Act::TryEnter), 64);
-    expect_same(&rt, one.act(Act::TryEnter), 102);
-    expect_same(&rt, zero.act(Act::Wait(0, 5)), 64);
-    expect_same(&rt, one.act(Act::TryEnter), 64);
+    expect_same(&rt, zero.act(TryEnter), 64);
+    expect_same(&rt, one.act(TryEnter), 102);
+    expect_same(&rt, zero.act(Wait(0, 5)), 64);
+    expect_same(&rt, one.act(TryEnter), 64);
     expect_same(&rt, asked(&one), [1, 0, 7, 1, 1, 1, 5]);
-    expect_same(&rt, one.act(Act::Set(8)), 0);
-    expect_same(&rt, zero.act(Act::TryReturn), 102);
-    expect_same(&rt, one.act(Act::Signal(0)), 0); // place 0 goes on
-    expect_same(&rt, one.act(Act::TryReturn), 102);
-    expect_same(&rt, zero.act(Act::TryReturn), 64);
+    expect_same(&rt, one.act(Set(8)), 0);
+    expect_same(&rt, zero.act(TryReturn), 102);
+    expect_same(&rt, one.act(Signal(0)), 0); // place 0 goes on
+    expect_same(&rt, one.act(TryReturn), 102);
+    expect_same(&rt, zero.act(TryReturn), 64);
     expect_same(&rt, asked(&zero), [1, 0, 8, 0, 0, 0, 0]);
-    expect_same(&rt, zero.act(Act::Leave), 1); // back to the signaller
-    expect_same(&rt, zero.act(Act::TryEnter), 102);
-    expect_same(&rt, one.act(Act::TryReturn), 64);
-    expect_same(&rt, one.act(Act::SignalLeave(0)), 64);
+    expect_same(&rt, zero.act(Leave), 1); // back to the signaller
+    expect_same(&rt, zero.act(TryEnter), 102);
+    expect_same(&rt, one.act(TryReturn), 64);
+    expect_same(&rt, one.act(SignalLeave(0)), 64);
     expect_same(&rt, asked(&one), [0, 104, 0, 104, 104, 104, 0]);
     closes_with(&rt, keeper, one, zero, 8);
 }
@@ -101,14 +103,14 @@ fn steps_notify(rt: HostRuntime) {
     let mut keeper = two_places(&rt, rt.alloc());
     let mut one = place_of(&rt, &mut keeper);
     let mut zero = place_of(&rt, &mut keeper);
-    expect_same(&rt, zero.act(Act::TryEnter), 64);
-    expect_same(&rt, zero.act(Act::Notify(1)), 0);
-    expect_same(&rt, zero.act(Act::Wait(1, 0)), 64);
-    expect_same(&rt, one.act(Act::TryEnter), 64);
-    expect_same(&rt, one.act(Act::Broadcast(1)), 1);
-    expect_same(&rt, one.act(Act::Leave), 0); // the notified place goes on
-    expect_same(&rt, zero.act(Act::TryReturn), 64);
-    expect_same(&rt, zero.act(Act::Leave), 64);
+    expect_same(&rt, zero.act(TryEnter), 64);
+    expect_same(&rt, zero.act(Notify(1)), 0);
+    expect_same(&rt, zero.act(Wait(1, 0)), 64);
+    expect_same(&rt, one.act(TryEnter), 64);
+    expect_same(&rt, one.act(Broadcast(1)), 1);
+    expect_same(&rt, one.act(Leave), 0); // the notified place goes on
+    expect_same(&rt, zero.act(TryReturn), 64);
+    expect_same(&rt, zero.act(Leave), 64);
     closes_with(&rt, keeper, one, zero, 7);
 }
 
@@ -118,19 +120,19 @@ fn acts_are_refused_in_order(rt: HostRuntime) {
     let mut one = place_of(&rt, &mut keeper);
     let mut zero = place_of(&rt, &mut keeper);
     expect_same(&rt, keeper.give_out().is_err(), true);
-    expect_same(&rt, zero.act(Act::TryReturn), 113);
-    expect_same(&rt, zero.act(Act::Wait(9, 0)), 104);
-    expect_same(&rt, zero.act(Act::TryEnter), 64);
-    expect_same(&rt, zero.act(Act::TryEnter), 103);
-    expect_same(&rt, zero.act(Act::Wait(2, 0)), 105);
-    expect_same(&rt, zero.act(Act::Signal(2)), 105);
-    expect_same(&rt, zero.act(Act::Signal(1)), 106);
-    expect_same(&rt, zero.act(Act::SignalLeave(1)), 106);
-    expect_same(&rt, zero.act(Act::Notify(0)), 106);
-    expect_same(&rt, zero.act(Act::Broadcast(0)), 106);
+    expect_same(&rt, zero.act(TryReturn), 113);
+    expect_same(&rt, zero.act(Wait(9, 0)), 104);
+    expect_same(&rt, zero.act(TryEnter), 64);
+    expect_same(&rt, zero.act(TryEnter), 103);
+    expect_same(&rt, zero.act(Wait(2, 0)), 105);
+    expect_same(&rt, zero.act(Signal(2)), 105);
+    expect_same(&rt, zero.act(Signal(1)), 106);
+    expect_same(&rt, zero.act(SignalLeave(1)), 106);
+    expect_same(&rt, zero.act(Notify(0)), 106);
+    expect_same(&rt, zero.act(Broadcast(0)), 106);
     expect_same(&rt, zero.count(2), 105);
     expect_same(&rt, zero.give_back(), 103);
-    expect_same(&rt, zero.act(Act::Leave), 64);
+    expect_same(&rt, zero.act(Leave), 64);
     expect_same(&rt, one.give_back(), 0);
     one = place_of(&rt, &mut keeper);
     closes_with(&rt, keeper, one, zero, 7);

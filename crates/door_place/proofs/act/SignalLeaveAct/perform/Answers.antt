@@ -1,7 +1,7 @@
 use Rattle.std.proofs.Common.{arith, refl, sym}
-use Rattle.door_place.specs.States.{notified_all, no_condition, wrong_kind}
-use Rattle.door_place.proofs.Acts.{broadcast_begins, from_inside}
-use Rattle.door_place.proofs.act.BroadcastAct.make.Goals as goal
+use Rattle.door_place.specs.States.{exits, no_condition, wrong_kind}
+use Rattle.door_place.proofs.Acts.{woken, exit_begins, from_inside}
+use Rattle.door_place.proofs.act.SignalLeaveAct.perform.Goals as goal
 
 pub returns-then-condition-limits-clause-made : goal.returns-then-condition-limits-clause-made
 returns-then-condition-limits-clause-made c =
@@ -13,15 +13,16 @@ pub returns-then-condition-limits-2-clause-made : goal.returns-then-condition-li
 returns-then-condition-limits-2-clause-made c =
     let most = c.of-limits.ensures.conditions in
     let hoare = c.of-limits.ensures.hoare in
-    wrong_kind c.in-Inside.inside c.in-Inside.is (sym c.in-Inside.is) (omega (arith, c.if-condition-limits-2.true, hoare)) refl
+    wrong_kind c.in-Inside.inside c.in-Inside.is (sym c.in-Inside.is) (omega (arith, c.if-condition-limits.false, most), omega (arith, c.if-condition-limits-2.true, hoare)) refl
 
 pub returns-clause-made : goal.returns-clause-made
 returns-clause-made c =
     let most = c.of-limits.ensures.conditions in
     let hoare = c.of-limits.ensures.hoare in
-    let e = c.broadcast-notified.ensures in
-    notified_all c.in-Inside.inside _ c.in-Inside.is refl (omega (arith, c.if-condition-limits.false, most), omega (arith, c.if-condition-limits-2.false, hoare)) e.place e.data e.front e.told
+    let o = c.signal_leave_to-out.ensures in
+    exits c.in-Inside.inside _ _ c.in-Inside.is refl (omega (arith, c.if-condition-limits-2.false, hoare)) o.place o.front
+    (woken c.args.door.now o.of.sized o.of.stands c.code_of.ensures.few o.next c.code_of.ensures.is)
 
 pub returns-clause-front : goal.returns-clause-front
 returns-clause-front c =
-    from_inside c.in-Inside.is (broadcast_begins c.broadcast-notified.ensures.front)
+    from_inside c.in-Inside.is (exit_begins c.signal_leave_to-out.ensures.front)

@@ -1,7 +1,7 @@
 use Rattle.std.proofs.Common.{refl, ap, sym, ◌∙◌}
 use Rattle.door_place.specs.declared.state.State.TheVariants.{Outside}
 use Rattle.door_place.specs.States.{entered, not_now}
-use Rattle.door_place.proofs.act.TryEnterAct.make.Goals as goal
+use Rattle.door_place.proofs.act.TryEnterAct.perform.Goals as goal
 
 pub returns-in-Ok-clause-made : goal.returns-in-Ok-clause-made
 returns-in-Ok-clause-made c =

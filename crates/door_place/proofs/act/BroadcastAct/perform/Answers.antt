@@ -1,7 +1,7 @@
-use Rattle.std.proofs.Common.{arith, refl, sym, ◌∙◌}
-use Rattle.door_place.specs.States.{notified, no_condition, wrong_kind}
-use Rattle.door_place.proofs.Acts.{bool_code, notify_begins, from_inside}
-use Rattle.door_place.proofs.act.NotifyAct.make.Goals as goal
+use Rattle.std.proofs.Common.{arith, refl, sym}
+use Rattle.door_place.specs.States.{notified_all, no_condition, wrong_kind}
+use Rattle.door_place.proofs.Acts.{broadcast_begins, from_inside}
+use Rattle.door_place.proofs.act.BroadcastAct.perform.Goals as goal
 
 pub returns-then-condition-limits-clause-made : goal.returns-then-condition-limits-clause-made
 returns-then-condition-limits-clause-made c =
@@ -19,10 +19,9 @@ pub returns-clause-made : goal.returns-clause-made
 returns-clause-made c =
     let most = c.of-limits.ensures.conditions in
     let hoare = c.of-limits.ensures.hoare in
-    let e = c.notify-notified.ensures in
-    notified c.in-Inside.inside _ _ c.in-Inside.is refl (omega (arith, c.if-condition-limits.false, most), omega (arith, c.if-condition-limits-2.false, hoare)) e.place e.data e.front
-    (c.from.ensures ∙ bool_code c.notify-notified.result)
+    let e = c.broadcast-notified.ensures in
+    notified_all c.in-Inside.inside _ c.in-Inside.is refl (omega (arith, c.if-condition-limits.false, most), omega (arith, c.if-condition-limits-2.false, hoare)) e.place e.data e.front e.told
 
 pub returns-clause-front : goal.returns-clause-front
 returns-clause-front c =
-    from_inside c.in-Inside.is (notify_begins c.notify-notified.ensures.front)
+    from_inside c.in-Inside.is (broadcast_begins c.broadcast-notified.ensures.front)

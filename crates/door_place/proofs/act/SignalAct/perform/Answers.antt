@@ -2,7 +2,7 @@ use Rattle.std.proofs.Common.{arith, refl, ap, sym, ◌∙◌}
 use Rattle.door_place.specs.declared.state.State.TheVariants.{Inside}
 use Rattle.door_place.specs.States.{signals, nobody, no_condition, wrong_kind}
 use Rattle.door_place.proofs.Acts.{woken, begun, from_inside}
-use Rattle.door_place.proofs.act.SignalAct.make.Goals as goal
+use Rattle.door_place.proofs.act.SignalAct.perform.Goals as goal
 
 pub returns-then-condition-limits-clause-made : goal.returns-then-condition-limits-clause-made
 returns-then-condition-limits-clause-made c =

@@ -1,7 +1,7 @@
 use Rattle.std.proofs.Common.{refl, ap, sym, ◌∙◌}
 use Rattle.door_place.specs.declared.state.State.TheVariants.{Away}
 use Rattle.door_place.specs.States.{returned, not_now}
-use Rattle.door_place.proofs.act.TryReturnAct.make.Goals as goal
+use Rattle.door_place.proofs.act.TryReturnAct.perform.Goals as goal
 
 pub returns-in-Ok-clause-made : goal.returns-in-Ok-clause-made
 returns-in-Ok-clause-made c =

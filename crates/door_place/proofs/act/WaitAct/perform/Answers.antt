@@ -1,7 +1,7 @@
 use Rattle.std.proofs.Common.{arith, refl, sym}
 use Rattle.door_place.specs.States.{waits, no_condition}
 use Rattle.door_place.proofs.Acts.{woken, begun, from_inside}
-use Rattle.door_place.proofs.act.WaitAct.make.Goals as goal
+use Rattle.door_place.proofs.act.WaitAct.perform.Goals as goal
 
 pub returns-then-condition-limits-clause-made : goal.returns-then-condition-limits-clause-made
 returns-then-condition-limits-clause-made c =

@@ -1,7 +1,7 @@
 use Rattle.std.proofs.Common.{refl}
 use Rattle.door_place.specs.States.{left}
 use Rattle.door_place.proofs.Acts.{woken, begun, from_inside}
-use Rattle.door_place.proofs.act.LeaveAct.make.Goals as goal
+use Rattle.door_place.proofs.act.LeaveAct.perform.Goals as goal
 
 pub returns-clause-made : goal.returns-clause-made
 returns-clause-made c =

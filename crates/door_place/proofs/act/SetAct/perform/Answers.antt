@@ -4,7 +4,7 @@ use Rattle.door_frame.specs.Places.{PlaceIn, berth, place_in, with_state}
 use Rattle.door_frame.proofs.Seats.{front_is}
 use Rattle.door_place.specs.declared.state.State.TheVariants.{Inside}
 use Rattle.door_place.specs.States.{Carried, set}
-use Rattle.door_place.proofs.act.SetAct.make.Goals as goal
+use Rattle.door_place.proofs.act.SetAct.perform.Goals as goal
 
 pub returns-clause-made : goal.returns-clause-made
 returns-clause-made c =

@@ -33,7 +33,7 @@ pub enum State {
     Inside(In),
     /// It waits, or has signalled and is to return.
     Away(Away),
-    /// It isn't here: it is in the hand of a call, or was given back.
+    /// It isn't here: it was given back.
     Nowhere,
 }
 

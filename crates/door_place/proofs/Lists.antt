@@ -1,9 +1,12 @@
 -- Which places are among those in hand.
 use Rattle.std.proofs.Common.{◌≡◌, ◌≢◌, ◌<◌, ◌+◌, ◌⊎◌, ◌++◌, ℕ, zero, suc, Bool, true, false, List, [], ◌∷◌, length, slice_index_or}
-use Rattle.std.proofs.Common.{inl, inr, refl, sym, ◌∙◌, subst, arith, eqb, eqb-true, eq-eqb, true≢false}
-use Rattle.door_frame.specs.Places.{HasPlace, PlaceOut}
-use Rattle.door_place.specs.Places.{GaveOut, in_hand, returned}
-use Rattle.door_place.specs.States.{Carried}
+use Rattle.std.proofs.Common.{inl, inr, refl, sym, ap, ◌∙◌, subst, arith, eqb, eqb-true, eq-eqb, true≢false}
+use Rattle.std.proofs.lemmas.List.{append_assoc}
+use Rattle.std.proofs.lemmas.List.Elements.{All-append}
+use Rattle.baton_door.specs.StepDoors.{StepId}
+use Rattle.door_frame.specs.Places.{HasPlace, IsOut, PlaceOut}
+use Rattle.door_place.specs.Places.{GaveOut, HasMore, in_hand, returned}
+use Rattle.door_place.specs.States.{Carried, any, calm}
 use Rattle.door_place.specs.declared.state.State.TheVariants.{Outside}
 
 pub has_at : (k i : ℕ) (os : List (PlaceOut Carried)) (else_one : PlaceOut Carried) → i < length os
@@ -28,3 +31,12 @@ pub gave : {old mid new : List (PlaceOut Carried)} (o : PlaceOut Carried) → (o
     → mid ≡ new ++ o ∷ [] → GaveOut old new (Outside o)
 gave o (inl none) is = returned o refl none
 gave o (inr same) is = in_hand o refl (sym same ∙ is)
+
+-- more than more is more
+pub has_more_then : {d : StepId} {xs ys zs : List (PlaceOut Carried)} → HasMore d xs ys → HasMore d ys zs
+    → HasMore d xs zs
+has_more_then {d = d} {xs = xs} x y = record {
+  more = x.more ++ y.more;
+  of = All-append (IsOut calm any d.kinds d.door) x.more y.more x.of y.of;
+  is = y.is ∙ ap (λ os. os ++ y.more) x.is ∙ append_assoc xs x.more y.more;
+}

@@ -5,12 +5,12 @@ use Rattle.hoare_law.specs.Events.{opened}
 use Rattle.hoare_law.specs.Sizes.{kinds_of}
 use Rattle.wait_book.specs.Contents.{make_refusal}
 use Rattle.wait_book.specs.declared.steps.MakeRefused.TheVariants.{BadPlaces, BadConditions}
-use Rattle.door_frame.specs.Places.{PlaceOut, places_from}
+use Rattle.door_frame.specs.Places.{IsOut, PlaceOut, places_from}
 use Rattle.hoare_law.specs.Growth.{Begins}
 use Rattle.baton_door.specs.StepDoors.{StepId}
 use Rattle.door_place.specs.declared.state.State.{State}
 use Rattle.door_place.specs.Deeds.{Deed}
-use Rattle.door_place.specs.States.{IsState, Carried, NotOutside, front_of, number_of}
+use Rattle.door_place.specs.States.{IsState, Carried, NotOutside, any, calm, front_of, number_of}
 use Rattle.door_place.specs.declared.state.State.TheVariants.{Outside, Nowhere}
 
 -- the act was done or refused: the place is still that of the same door, what it knows is legal and begins with what it
@@ -67,7 +67,14 @@ pub data GaveOut (old new : List (PlaceOut Carried)) (state : State) : Type 0 wh
   in_hand : (o : PlaceOut Carried) → state ≡ Outside o → old ≡ new ++ o ∷ [] → GaveOut old new state
   returned : (o : PlaceOut Carried) → state ≡ Outside o → old ≡ [] → GaveOut old new state
 
--- why it didn't: no memory (111), or all places are taken (114)
-pub data GaveNone (new : List (PlaceOut Carried)) (code : ℕ) : Type 0 where
-  no_memory : code ≡ 111 → GaveNone new code
-  none_left : new ≡ [] → code ≡ 114 → GaveNone new code
+-- why it didn't: all places are taken (114), or no memory (111), in this order; it still has what it had in hand, or,
+-- if it had none, what was given back
+pub data GaveNone (old new : List (PlaceOut Carried)) (code : ℕ) : Type 0 where
+  none_left : old ≡ [] → new ≡ [] → code ≡ 114 → GaveNone old new code
+  no_memory : (old ≡ []) ⊎ (new ≡ old) → new ≢ [] → code ≡ 111 → GaveNone old new code
+
+-- the keeper of the door has more places in hand than it had, each outside, and of this door
+pub record HasMore (d : StepId) (old new : List (PlaceOut Carried)) : Type 0 where
+  pub more : List (PlaceOut Carried)
+  pub of : All (IsOut calm any d.kinds d.door) more
+  pub is : new ≡ old ++ more

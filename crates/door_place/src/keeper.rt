@@ -1,8 +1,8 @@
 //! A door with those of its places that nobody has taken.
-ghost use Rattle.std.specs.Prelude.{◌≡◌, ◌⊎◌, ◌<◌, ◌++◌, [], ℕ, List, IfOk, IfErr, true};
-ghost use Rattle.door_frame.specs.Places.{Closes, HasPlace, PlaceOut};
-ghost use Rattle.door_place.specs.Places.{GaveNone, GaveOut, IsNew, MadeNot};
-ghost use Rattle.door_place.specs.States.{Carried, any, calm};
+ghost use Rattle.std.specs.Prelude.{◌≡◌, ◌⊎◌, ◌<◌, [], ℕ, IfOk, IfErr, true};
+ghost use Rattle.door_frame.specs.Places.{Closes, HasPlace};
+ghost use Rattle.door_place.specs.Places.{GaveNone, GaveOut, HasMore, IsNew, MadeNot};
+ghost use Rattle.door_place.specs.States.{IsState, any, calm};
 
 use crate::codes::{BAD_CONDITIONS, BAD_PLACES, NO_MEMORY, NONE_LEFT};
 use crate::place::Place;
@@ -86,7 +86,7 @@ impl Keeper {
     /// Takes the place with this number in hand, if it was given back.
     fn collect_one(&mut self, number: usize)
         ensures door { self.new.door ≡ self.old.door }
-        ensures outs { (more : List (PlaceOut Carried)) × (self.new.outs ≡ self.old.outs ++ more) }
+        ensures outs { HasMore self.old.door self.old.outs self.new.outs }
     {
         if self.outs.len() == self.outs.capacity() {
             return;
@@ -100,7 +100,7 @@ impl Keeper {
     /// Takes those places in hand that were given back.
     pub fn collect(&mut self)
         ensures door { self.new.door ≡ self.old.door }
-        ensures outs { (more : List (PlaceOut Carried)) × (self.new.outs ≡ self.old.outs ++ more) }
+        ensures outs { HasMore self.old.door self.old.outs self.new.outs }
     {
         let places = self.shared.door().sizes().places;
         for number in 0..places {
@@ -118,21 +118,25 @@ impl Keeper {
         }
     }
 
-    /// Gives a place out, for a thread of its own. Refused: `NO_MEMORY` if an allocation failed, and `NONE_LEFT` if all
-    /// places are taken.
+    /// Gives a place out, for a thread of its own. Refused, in this order: `NONE_LEFT` if all places are taken, and
+    /// `NO_MEMORY` if an allocation failed.
     pub fn give_out(&mut self) -> Result<Place, u64>
         ensures door { self.new.door ≡ self.old.door }
         ensures gave { IfOk result (λ p. (p.door ≡ self.old.door) × GaveOut self.old.outs self.new.outs p.state) }
-        ensures refused { IfErr result (λ code. GaveNone self.new.outs code) }
+        ensures of { IfOk result (λ p. IsState p.door p.state) }
+        ensures refused { IfErr result (λ code. GaveNone self.old.outs self.new.outs code) }
     {
         self.refill();
-        let Ok(shared) = Arc::try_clone(&self.shared) else {
-            return Err(NO_MEMORY);
-        };
         let Some(out) = self.outs.pop() else {
             return Err(NONE_LEFT);
         };
-        Ok(Place::new(shared, out))
+        match Arc::try_clone(&self.shared) {
+            Ok(shared) => Ok(Place::new(shared, out)),
+            Err(_) => {
+                self.outs.push_reserved(out);
+                Err(NO_MEMORY)
+            }
+        }
     }
 
     /// Takes the door apart, if all of its places are in hand. The word is the one that one legal history left, which

@@ -2,7 +2,7 @@
 ghost use Rattle.std.specs.Prelude.{◌≡◌, ◌≢◌, ◌<◌, ◌≤◌, ◌⊎◌};
 ghost use Rattle.hoare_law.specs.Sizes.{sizes_of};
 ghost use Rattle.door_handle.specs.Desks.{IsKept, WasClosed};
-ghost use Rattle.door_handle.specs.Held.{GaveHeld, Made};
+ghost use Rattle.door_handle.specs.Held.{GaveHeld, GaveNothing, Made};
 
 use crate::desk::Desk;
 use crate::handle::DoorHandle;
@@ -79,9 +79,12 @@ impl HeldDoor {
         ensures held { place.old.live ≡ 1 → (result ≡ 108) × (self.new ≡ self.old) × (place.new ≡ place.old) }
         ensures none { place.old.live ≡ 0 → self.old.live ≡ 0
             → (result ≡ 107) × (self.new ≡ self.old) × (place.new ≡ place.old) }
+        ensures live { self.new.live ≡ self.old.live }
         ensures gave { result < 64 → (place.new.live ≡ 1)
             × GaveHeld self.old.handle.value.keeper self.new.handle.value.keeper place.new.handle.value result }
         ensures refused { 64 ≤ result → place.new ≡ place.old }
+        ensures nothing { place.old.live ≡ 0 → self.old.live ≡ 1 → 64 ≤ result
+            → GaveNothing self.old.handle.value.keeper self.new.handle.value.keeper result }
     {
         if place.live != 0 {
             return IS_HELD;

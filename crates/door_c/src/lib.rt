@@ -10,7 +10,7 @@ ghost use Rattle.hoare_law.specs.Sizes.{sizes_of};
 ghost use Rattle.door_place.specs.States.{AsksFirst, AsksQueue, Counts, Gets, where_is};
 ghost use Rattle.door_place.specs.Deeds as act;
 ghost use Rattle.door_handle.specs.Desks.{IsKept, WasClosed};
-ghost use Rattle.door_handle.specs.Held.{Acted, GaveHeld, GivenBack, IsSame, Made};
+ghost use Rattle.door_handle.specs.Held.{Acted, GaveHeld, GaveNothing, GivenBack, IsSame, Made};
 
 use door_handle::door::HeldDoor;
 use door_handle::place::HeldPlace;
@@ -49,9 +49,12 @@ pub extern "C" fn zaulinte_door_give_out(
     ensures held { place.old.live ≡ 1 → (result ≡ 108) × (door.new ≡ door.old) × (place.new ≡ place.old) }
     ensures none { place.old.live ≡ 0 → door.old.live ≡ 0
         → (result ≡ 107) × (door.new ≡ door.old) × (place.new ≡ place.old) }
+    ensures live { door.new.live ≡ door.old.live }
     ensures gave { result < 64 → (place.new.live ≡ 1)
         × GaveHeld door.old.handle.value.keeper door.new.handle.value.keeper place.new.handle.value result }
     ensures refused { 64 ≤ result → place.new ≡ place.old }
+    ensures nothing { place.old.live ≡ 0 → door.old.live ≡ 1 → 64 ≤ result
+        → GaveNothing door.old.handle.value.keeper door.new.handle.value.keeper result }
 {
     door.give_out(alloc, place)
 }

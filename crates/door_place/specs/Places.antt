@@ -1,5 +1,5 @@
 -- A place with its door, and the keeper of a door.
-use Rattle.std.specs.Prelude.{◌≡◌, ◌<◌, ℕ, List, [], ◌∷◌, ◌++◌, Some, None}
+use Rattle.std.specs.Prelude.{◌≡◌, ◌⊎◌, ◌<◌, ◌≢◌, ℕ, List, [], ◌∷◌, ◌++◌, All, Some, None}
 use Rattle.hoare_law.specs.declared.event.Sizes.{Sizes}
 use Rattle.hoare_law.specs.Events.{opened}
 use Rattle.hoare_law.specs.Sizes.{kinds_of}

@@ -11,7 +11,8 @@ loop-out-preserved c =
     let asks = c.loop-out.asks.items in (
       rw c.pop.ensures.rest (All-take (IsUnaskedOut c.args.door.now.door) _ c.loop-out.outs.items inv.0),
       rw c.push_back_reserved.ensures.items
-          (all-and-one (IsUnaskedAsking c.args.door.now) asks c.ask.result inv.1 c.ask.ensures.of),
+          (all-and-one (IsUnaskedAsking c.args.door.now) asks c.ask.result inv.1
+          (subst (λ d. IsUnaskedAsking d c.ask.result) c.deref.ensures c.ask.ensures.of)),
       search rules,
       search rules,
       λ k at. rw c.push_back_reserved.ensures.items

@@ -13,7 +13,8 @@ loop-asked-preserved g c =
       All-tail (IsUnaskedAsking c.args.door.now) c.in-Some.asked c.pop_front.new.self.items
           (subst (All (IsUnaskedAsking c.args.door.now)) c.in-Some.ensures.items inv.0),
       rw c.push_reserved-in-Some.ensures.items
-          (all-and-one (IsUnaskedOut c.args.door.now.door) outs c.give_up.result inv.1 c.give_up.ensures.of),
+          (all-and-one (IsUnaskedOut c.args.door.now.door) outs c.give_up.result inv.1
+          (subst (λ d. IsUnaskedOut d.door c.give_up.result) c.deref-in-Some.ensures c.give_up.ensures.of)),
       search rules,
       search rules,
       λ k at. rw c.push_reserved-in-Some.ensures.items

@@ -1,3 +1,4 @@
+use Rattle.std.proofs.Common.{subst}
 use Rattle.std.specs.Prelude.{All}
 use Rattle.std.proofs.lemmas.List.Elements.{All-take}
 use Rattle.door_trials.proofs.Many.{IsUnaskedOut, all-and-one}
@@ -13,6 +14,8 @@ close-tally-requires-clause-of g c κs =
     rw c.pop-2.ensures.rest (All-take IsOurs _ c.pop.new.self.items one) in
     let first : All IsOurs c.push_reserved.new.self.items =
     rw c.push_reserved.ensures.items
-    (all-and-one IsOurs c.pop-2.new.self.items c.meet-b.result.0 none c.meet-b.ensures.a) in
+    (all-and-one IsOurs c.pop-2.new.self.items c.meet-b.result.0 none
+    (subst (λ d. IsUnaskedOut d.door c.meet-b.result.0) c.deref-7.ensures c.meet-b.ensures.a)) in
     rw c.push_reserved-2.ensures.items
-    (all-and-one IsOurs c.push_reserved.new.self.items c.meet-b.result.1 first c.meet-b.ensures.b)
+    (all-and-one IsOurs c.push_reserved.new.self.items c.meet-b.result.1 first
+    (subst (λ d. IsUnaskedOut d.door c.meet-b.result.1) c.deref-7.ensures c.meet-b.ensures.b))

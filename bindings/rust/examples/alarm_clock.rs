@@ -49,10 +49,7 @@ fn main() {
     };
     let (monitor, mut users) = Monitor::checked(Clock::default(), 6, checks).unwrap();
     let mut ticker = users.pop().unwrap();
-    let sleepers: Vec<_> = users
-        .into_iter()
-        .map(|mut user| thread::spawn(move || wake_me(&mut user, 10)))
-        .collect();
+    let sleepers: Vec<_> = users.into_iter().map(|mut user| thread::spawn(move || wake_me(&mut user, 10))).collect();
     while tick(&mut ticker) < 5 {
         thread::yield_now();
     }

@@ -1,48 +1,72 @@
-//! What a prover does in Rattle, a debug build does here.
-use crate::conditions::Condition;
-use std::marker::PhantomData;
+//! What holds of a monitor's data. A prover shows it in Rattle; a debug build tests it here.
+use crate::conditions::{Condition, NoConditions};
+use core::fmt;
+use core::marker::PhantomData;
 
-/// Who waits, when a check looks.
-pub struct Waiting<C, M> {
+/// Which conditions have waiters, at the moment of a check.
+pub struct Waiting<C, M = NoConditions> {
     pub(crate) counts: [usize; 8],
     pub(crate) firsts: [Option<u64>; 8],
     pub(crate) of: PhantomData<(C, M)>,
 }
 
 impl<C: Condition, M: Condition> Waiting<C, M> {
-    /// How many wait on one of Hoare's conditions.
+    /// Returns how many places wait on one of Hoare's conditions.
     pub fn count(&self, condition: C) -> usize {
         self.counts[condition.index()]
     }
 
-    /// The priority of whom a signal would resume.
+    /// Returns the priority of the place that a signal would resume.
     pub fn first(&self, condition: C) -> Option<u64> {
         self.firsts[condition.index()]
     }
 
-    /// How many wait on a Mesa condition.
+    /// Returns how many places wait on a Mesa condition.
     pub fn count_mesa(&self, condition: M) -> usize {
         self.counts[C::COUNT + condition.index()]
     }
 }
 
-/// What holds of a monitor's data. In a debug build each is tested where Hoare's rules ask for it, and a panic names
-/// the condition or the act behind which it doesn't hold, and poisons the monitor. Nothing is tested in a release
-/// build, of a poisoned monitor, nor by a thread that panics. A check that panics itself poisons as well.
+/// Shows each condition on which places wait, with their number and the least of their priorities.
+impl<C: Condition, M: Condition> fmt::Debug for Waiting<C, M> {
+    fn fmt(&self, f: &mut fmt::Formatter<'_>) -> fmt::Result {
+        let mut map = f.debug_map();
+        for (index, (count, first)) in self.counts.iter().zip(self.firsts).enumerate() {
+            let Some(first) = first else { continue };
+            let names = if index < C::COUNT { C::NAMES.get(index) } else { M::NAMES.get(index - C::COUNT) };
+            match names {
+                Some(name) => map.key(&format_args!("{name}")),
+                None => map.key(&index),
+            };
+            map.value(&format_args!("{count} of least priority {first}"));
+        }
+        map.finish()
+    }
+}
+
+/// What holds of a monitor's data. In a debug build each is tested as Hoare's rules ask; a panic names the condition or
+/// the act by which it fails, and poisons the monitor. Nothing is tested in a release build, in a poisoned monitor, or
+/// by a thread that panics. A check that panics itself poisons as well.
 ///
-/// - `inv`: always, where the monitor is given up.
-/// - `rest`: at a leave and at a wait, with who waits (who begins to wait included). Nobody waits without a cause.
-/// - `ready`: what who is resumed finds, with its condition and priority and who waits still.
-pub struct Checks<T, C, M> {
+/// - `inv` holds always; tested whenever the monitor is released.
+/// - `rest` holds if nobody waits without a cause; tested at a leave and at a wait, with the places that wait (the one
+///   that begins to wait included).
+/// - `ready` holds for a place that a signal resumes; tested with its condition and priority, and the places that wait
+///   still.
+///
+/// Only `rest` finds a forgotten signal, or one on the wrong condition.
+pub struct Checks<T, C, M = NoConditions> {
     /// Holds always.
     pub inv: fn(&T) -> bool,
-    /// Holds whenever the monitor is given up.
+    /// Holds whenever the monitor is released and nobody is resumed.
     pub rest: fn(&T, &Waiting<C, M>) -> bool,
-    /// Holds at a signal, for whom it resumes.
+    /// Holds at a signal, for the place that it resumes.
     pub ready: fn(C, u64, &T, &Waiting<C, M>) -> bool,
 }
 
 impl<T, C, M> Default for Checks<T, C, M> {
+    /// Returns checks that hold always, and find nothing. With this `rest` a forgotten signal isn't found: the waiter
+    /// sleeps for ever, and nothing says so.
     fn default() -> Self {
         Checks { inv: |_| true, rest: |_, _| true, ready: |_, _, _, _| true }
     }

@@ -1,16 +1,19 @@
 //! Conditions by name.
-use std::fmt::Debug;
+use core::fmt::Debug;
 
 /// The conditions of a monitor: an enum of yours, whose values have the indices from 0 to below `COUNT`. The macro
 /// [`conditions!`](crate::conditions!) writes it.
 pub trait Condition: Copy + Debug {
-    /// How many there are.
+    /// The number of conditions.
     const COUNT: usize;
-    /// The number of this one.
+    /// The names, by index, for the messages of [`Checks`](crate::Checks). A condition without a name is shown by its
+    /// index.
+    const NAMES: &'static [&'static str] = &[];
+    /// Returns the index of this condition.
     fn index(self) -> usize;
 }
 
-/// A monitor without Mesa conditions, or without Hoare's.
+/// The conditions of a monitor without Mesa conditions, or without Hoare's.
 #[derive(Clone, Copy, Debug)]
 pub enum NoConditions {}
 
@@ -21,7 +24,7 @@ impl Condition for NoConditions {
     }
 }
 
-/// An enum of conditions.
+/// Writes an enum of conditions.
 ///
 /// ```
 /// use zaulinte::{conditions, Condition};
@@ -39,7 +42,8 @@ macro_rules! conditions {
         $sees enum $name { $($(#[$of_one])* #[allow(missing_docs)] $one),+ }
 
         impl $crate::Condition for $name {
-            const COUNT: usize = [$(stringify!($one)),+].len();
+            const COUNT: usize = Self::NAMES.len();
+            const NAMES: &'static [&'static str] = &[$(stringify!($one)),+];
             fn index(self) -> usize {
                 self as usize
             }

@@ -1,10 +1,12 @@
-//! The two names that the book takes memory by. It gives a piece back by its pointer alone, so how many bytes it has
-//! stands before it.
-use std::alloc::{alloc, dealloc, Layout};
+//! Memory for the archives, under the two names by which they ask for it. They give memory back by its address alone,
+//! so the size is kept in front of each piece.
+use alloc::alloc::{alloc, dealloc, Layout};
+use core::ptr::null_mut;
 
-// Before each piece, which is as aligned.
+/// Bytes in front of each piece, which has the same alignment.
 const HEAD: usize = 16;
 
+/// An allocation: `at` is valid if `is`.
 #[repr(C)]
 pub struct Tried {
     is: bool,
@@ -22,7 +24,7 @@ fn piece(bytes: usize, align: usize) -> Option<*mut u8> {
     if start.is_null() {
         return None;
     }
-    // SAFETY: the head is inside what was taken, and aligned
+    // SAFETY: the head is inside of what was allocated, and aligned
     unsafe {
         start.cast::<usize>().write(bytes);
         Some(start.add(HEAD))
@@ -33,13 +35,13 @@ fn piece(bytes: usize, align: usize) -> Option<*mut u8> {
 extern "C" fn rattle_alloc(bytes: usize, align: usize) -> Tried {
     match piece(bytes, align) {
         Some(at) => Tried { is: true, at },
-        None => Tried { is: false, at: std::ptr::null_mut() },
+        None => Tried { is: false, at: null_mut() },
     }
 }
 
 #[no_mangle]
 unsafe extern "C" fn rattle_dealloc(at: *mut u8) {
-    // SAFETY: the book gives back what it took, whose head `piece` wrote
+    // SAFETY: the archive gives back what it was given, whose head `piece` wrote
     unsafe {
         let start = at.sub(HEAD);
         if let Some(layout) = with_head(start.cast::<usize>().read()) {

@@ -1,277 +1,322 @@
-//! A place inside.
-use crate::book::Book;
+//! A place inside, with its acts.
 use crate::checks::Waiting;
-use crate::conditions::Condition;
-use crate::way::Way;
-use crate::{Inner, NoConditions, Own, Place};
-use std::marker::PhantomData;
-use std::ops::{Deref, DerefMut};
-use std::panic::{catch_unwind, resume_unwind, AssertUnwindSafe};
-use std::sync::atomic::Ordering::Relaxed;
-use std::sync::LockResult;
-use std::thread::panicking;
+use crate::conditions::{Condition, NoConditions};
+use crate::door::Next;
+use crate::monitor::Own;
+use crate::poison::LockResult;
+use crate::{DefaultPort, Place, Port};
+use core::fmt::{self, Debug};
+use core::marker::PhantomData;
+use core::ops::{Deref, DerefMut};
+use core::sync::atomic::Ordering::Relaxed;
 
-/// A place inside, with the data in hand. Where it is dropped the place leaves; in a panic it also poisons the
-/// monitor.
+/// A place inside the monitor: the guard by which the data are used. The place leaves when it is dropped; if the thread
+/// is unwinding from a panic that began inside, that also poisons the monitor.
+///
+/// Two acts at once can't be written, since an act needs the guard alone:
+///
+/// ```compile_fail,E0499
+/// # use zaulinte::{conditions, Monitor};
+/// # conditions! { enum When { Ever } }
+/// let (_monitor, mut places) = Monitor::<u32, When>::new(0, 1).unwrap();
+/// let first = places[0].enter().unwrap();
+/// let second = places[0].enter().unwrap();
+/// drop((first, second));
+/// ```
+///
+/// Nor can a reference to the data be kept over a wait:
+///
+/// ```compile_fail,E0499
+/// # use zaulinte::{conditions, Monitor};
+/// # conditions! { enum When { Ever } }
+/// let (_monitor, mut places) = Monitor::<u32, When>::new(0, 1).unwrap();
+/// let mut inside = places[0].enter().unwrap();
+/// let kept: &mut u32 = &mut inside;
+/// inside.wait(When::Ever, 0).unwrap();
+/// *kept = 1;
+/// ```
+///
+/// A guard stays on its thread:
+///
+/// ```compile_fail,E0277
+/// # use zaulinte::{conditions, Monitor};
+/// # conditions! { enum When { Ever } }
+/// let (_monitor, mut places) = Monitor::<u32, When>::new(0, 1).unwrap();
+/// let inside = places[0].enter().unwrap();
+/// std::thread::scope(|s| { s.spawn(move || drop(inside)); });
+/// ```
 ///
 /// # Panics
-/// An act panics where a condition's index isn't below its enum's `COUNT`, and in a debug build where a check of
-/// [`Checks`](crate::Checks) doesn't hold.
-pub struct Inside<'a, T, C: Condition, M: Condition = NoConditions> {
-    place: &'a mut Place<T, C, M>,
-    panicked: bool, // before it came in
+/// An act panics if a condition's index isn't below its enum's `COUNT`, and in a debug build if a check of
+/// [`Checks`](crate::Checks) fails.
+pub struct Inside<'a, T, C: Condition, M: Condition = NoConditions, P: Port = DefaultPort> {
+    place: &'a mut Place<T, C, M, P>,
+    panicked: bool, // before it entered
     stays: PhantomData<*const ()>,
 }
 
-// SAFETY: shared, it gives the data shared and nothing else
-unsafe impl<T: Send + Sync, C: Condition, M: Condition> Sync for Inside<'_, T, C, M> {}
+// SAFETY: a shared guard lends the data shared, and nothing else
+unsafe impl<T: Send + Sync, C: Condition, M: Condition, P: Port> Sync for Inside<'_, T, C, M, P> {}
 
-// The number of a condition, below its enum's `COUNT`.
+/// Returns the number of a condition, below its enum's `COUNT`.
+#[track_caller]
 fn number_of<X: Condition>(condition: X) -> usize {
     let index = condition.index();
     assert!(index < X::COUNT, "there is no condition {condition:?}");
     index
 }
 
-// The same among all conditions: those of Mesa stand behind Hoare's.
-fn mesa<C: Condition, M: Condition>(condition: M) -> usize {
+/// Returns the number of a Mesa condition among all: they come after Hoare's.
+#[track_caller]
+fn number_of_mesa<C: Condition, M: Condition>(condition: M) -> usize {
     C::COUNT + number_of(condition)
 }
 
-impl<'a, T, C: Condition, M: Condition> Inside<'a, T, C, M> {
-    pub(crate) fn new(place: &'a mut Place<T, C, M>) -> Self {
-        place.inside = true;
-        Inside { place, panicked: panicking(), stays: PhantomData }
+impl<'a, T, C: Condition, M: Condition, P: Port> Inside<'a, T, C, M, P> {
+    pub(crate) fn new(place: &'a mut Place<T, C, M, P>) -> Self {
+        place.is_inside = true;
+        Inside { place, panicked: P::panicking(), stays: PhantomData }
     }
 
-    fn inner(&self) -> &Inner<T, C, M> {
-        &self.place.inner
-    }
-
-    fn own(&mut self) -> &mut Own<T> {
-        // SAFETY: it is inside, and nobody else is
-        unsafe { &mut *self.place.inner.own.get() }
-    }
-
-    // The book, which knows that the place is inside.
-    fn told_book(&mut self) -> &mut Book {
-        let number = self.place.number;
-        let own = self.own();
-        if !own.told {
-            let now = own.book.enter(number);
-            debug_assert_eq!(now, Ok(Some(number)));
-            own.told = true;
-        }
-        &mut own.book
-    }
-
-    fn go_away(&mut self, next: Option<usize>) {
-        let number = self.place.number;
-        let own = self.own();
-        (own.left, own.row) = (false, 0);
-        self.inner().hand_on(next, 0);
-        let slept = self.inner().come_back(number);
-        let own = self.own();
-        own.told = true;
-        self.place.way = match (own.left, slept) {
-            (false, _) => Way::AtOnce,
-            (true, true) => Way::YieldsFirst,
-            (true, false) => Way::LooksFirst,
-        };
-    }
-
-    fn wait_at(&mut self, condition: usize, priority: u64) {
-        let number = self.place.number;
-        let next = self.told_book().wait(number, condition, priority).unwrap_or_else(|why| panic!("{why}"));
-        self.go_away(next);
-    }
-
-    /// Gives the monitor up until a signal on the condition resumes this place: of those that wait the longest
-    /// waiting of least priority. The data are then as the signaller left them. An error where a thread panicked
+    /// Releases the monitor until a signal on the condition resumes this place: of those that wait there, the longest
+    /// waiting of least priority. The data are then as the signaller left them. Returns an error if a thread panicked
     /// inside.
+    #[track_caller]
     pub fn wait(&mut self, condition: C, priority: u64) -> LockResult<()> {
-        self.check_wait(number_of(condition), priority, &condition);
-        self.wait_at(number_of(condition), priority);
+        let number = number_of(condition);
+        self.check_wait(number, priority, &condition);
+        self.wait_at(number, priority);
         self.check_ready(condition, priority);
-        self.inner().or_poisoned(())
+        self.place.inner.or_poisoned(())
     }
 
-    /// Gives the monitor up until a notify or a broadcast called this place and its turn has come. What it waited for
-    /// has to be tested again. An error where a thread panicked inside.
+    /// Releases the monitor until a notify or a broadcast notified this place and its turn has come. The caller has to
+    /// test again what it waited for. Returns an error if a thread panicked inside.
+    #[track_caller]
     pub fn wait_mesa(&mut self, condition: M, priority: u64) -> LockResult<()> {
-        self.check_wait(mesa::<C, M>(condition), priority, &condition);
-        self.wait_at(mesa::<C, M>(condition), priority);
-        self.inner().or_poisoned(())
+        let number = number_of_mesa::<C, M>(condition);
+        self.check_wait(number, priority, &condition);
+        self.wait_at(number, priority);
+        self.place.inner.or_poisoned(())
     }
 
-    /// Hands the monitor to whom it resumes, if somebody waits there, and comes back before any newcomer: whether
-    /// somebody did. An error where a thread panicked inside.
+    /// Hands the monitor to the place that a signal resumes, if any waits there, and returns before any other enters.
+    /// Returns true if a place waited, in an error if a thread panicked inside.
+    #[track_caller]
     pub fn signal(&mut self, condition: C) -> LockResult<bool> {
-        if !self.queue(condition) {
-            return self.inner().or_poisoned(false);
-        }
-        let number = self.place.number;
+        let number = number_of(condition);
         self.check_signal(condition);
-        let next = self.told_book().signal(number, number_of(condition)).unwrap_or_else(|why| panic!("{why}"));
-        self.own().signaller = number;
-        self.go_away(next);
-        self.inner().or_poisoned(true)
+        self.own().signaller = self.place.seat.number();
+        self.place.inner.vacate();
+        let next = self.place.seat.signal(number);
+        if next.is_some() {
+            self.go_away(next);
+        }
+        self.place.inner.occupy();
+        self.place.inner.or_poisoned(next.is_some())
     }
 
-    /// A signal as the last act: whether somebody waited there.
+    /// Signals as the last act. Returns true if a place waited there.
+    #[track_caller]
     pub fn signal_leave(mut self, condition: C) -> bool {
-        if !self.queue(condition) {
+        let number = number_of(condition);
+        if !self.place.seat.queue(number) {
             return false; // it leaves as it is dropped
         }
-        let number = self.place.number;
         self.check_signal(condition);
-        let next = self.told_book().pass(number, number_of(condition)).unwrap_or_else(|why| panic!("{why}"));
-        let own = self.own();
-        (own.signaller, own.left) = (number, true);
-        self.place.inside = false;
-        self.inner().hand_on(next, 0);
+        self.own().signaller = self.place.seat.number();
+        self.goes_outside(|place| place.seat.signal_leave(number));
         true
     }
 
-    /// Calls whom a signal would resume, and stays inside: whether somebody waited there.
+    /// Notifies the place that a signal would resume, and stays inside. Returns true if a place waited there.
+    #[track_caller]
     pub fn notify(&mut self, condition: M) -> bool {
-        let somebody = self.count_mesa(condition) > 0;
-        if somebody {
-            let (number, index) = (self.place.number, mesa::<C, M>(condition));
-            self.told_book().notify(number, index).unwrap_or_else(|why| panic!("{why}"));
-        }
-        somebody
+        self.place.seat.notify(number_of_mesa::<C, M>(condition)) > 0
     }
 
-    /// Calls all that wait there, and stays inside: how many did.
+    /// Notifies all places that wait there, and stays inside. Returns how many did.
+    #[track_caller]
     pub fn broadcast(&mut self, condition: M) -> usize {
-        let count = self.count_mesa(condition);
-        if count > 0 {
-            let (number, index) = (self.place.number, mesa::<C, M>(condition));
-            self.told_book().broadcast(number, index).unwrap_or_else(|why| panic!("{why}"));
-        }
-        count
+        self.place.seat.broadcast(number_of_mesa::<C, M>(condition))
     }
 
-    /// Whether somebody waits on one of Hoare's conditions (Hoare's `queue`).
+    /// Returns true if a place waits on one of Hoare's conditions (Hoare's `queue`).
+    #[track_caller]
     pub fn queue(&mut self, condition: C) -> bool {
-        self.count(condition) > 0
+        self.place.seat.queue(number_of(condition))
     }
 
-    /// How many wait on one of Hoare's conditions.
+    /// Returns how many places wait on one of Hoare's conditions.
+    #[track_caller]
     pub fn count(&mut self, condition: C) -> usize {
-        self.own().book.count(number_of(condition)).unwrap_or_else(|why| panic!("{why}"))
+        self.place.seat.count(number_of(condition))
     }
 
-    /// The priority of whom a signal would resume.
+    /// Returns the priority of the place that a signal would resume.
+    #[track_caller]
     pub fn first(&mut self, condition: C) -> Option<u64> {
-        self.own().book.first(number_of(condition)).unwrap_or_else(|why| panic!("{why}"))
+        self.place.seat.first(number_of(condition))
     }
 
-    /// How many wait on a Mesa condition; who was called doesn't.
+    /// Returns how many places wait on a Mesa condition; a notified place doesn't.
+    #[track_caller]
     pub fn count_mesa(&mut self, condition: M) -> usize {
-        self.own().book.count(mesa::<C, M>(condition)).unwrap_or_else(|why| panic!("{why}"))
+        self.place.seat.count(number_of_mesa::<C, M>(condition))
     }
 
-    /// The priority of whom a notify would call.
+    /// Returns the priority of the place that a notify would notify.
+    #[track_caller]
     pub fn first_mesa(&mut self, condition: M) -> Option<u64> {
-        self.own().book.first(mesa::<C, M>(condition)).unwrap_or_else(|why| panic!("{why}"))
+        self.place.seat.first(number_of_mesa::<C, M>(condition))
     }
 }
 
-// What a debug build tests.
-impl<T, C: Condition, M: Condition> Inside<'_, T, C, M> {
+/// How the acts release the monitor.
+impl<T, C: Condition, M: Condition, P: Port> Inside<'_, T, C, M, P> {
+    fn own(&mut self) -> &mut Own<T> {
+        // SAFETY: this place is inside, and no other is
+        unsafe { &mut *self.place.inner.own.get() }
+    }
+
+    fn wait_at(&mut self, number: usize, priority: u64) {
+        self.place.inner.vacate();
+        let next = self.place.seat.wait(number, priority);
+        self.go_away(next);
+        self.place.inner.occupy();
+    }
+
+    /// After a step by which this place went away: returns once it is back inside.
+    fn go_away(&mut self, next: Next) {
+        let Place { inner, seat, met, .. } = &mut *self.place;
+        inner.parking.go_away(seat, next, met);
+    }
+
+    /// Makes a step by which this place goes outside, and wakes the next thread.
+    fn goes_outside(&mut self, step: impl FnOnce(&mut Place<T, C, M, P>) -> Next) {
+        self.place.inner.vacate();
+        let next = step(self.place);
+        self.place.is_inside = false;
+        let Place { inner, met, .. } = &mut *self.place;
+        inner.parking.wake(next, met);
+    }
+}
+
+/// What a debug build tests as the place leaves, and finds false.
+enum Fault<C, M> {
+    Inv,
+    Rest(Waiting<C, M>),
+}
+
+/// What a debug build tests.
+impl<T, C: Condition, M: Condition, P: Port> Inside<'_, T, C, M, P> {
     fn waiting(&mut self) -> Waiting<C, M> {
-        let book = &mut self.own().book;
         let mut waiting = Waiting { counts: [0; 8], firsts: [None; 8], of: PhantomData };
-        for c in 0..book.conditions() {
-            waiting.counts[c] = book.count(c).unwrap_or(0);
-            waiting.firsts[c] = book.first(c).unwrap_or(None);
+        for number in 0..C::COUNT + M::COUNT {
+            waiting.counts[number] = self.place.seat.count(number);
+            waiting.firsts[number] = self.place.seat.first(number);
         }
         waiting
     }
 
-    // Whether anything is tested.
-    fn tests(&self) -> bool {
-        cfg!(debug_assertions) && !self.inner().poisoned.load(Relaxed) && !panicking()
+    fn is_tested(&self) -> bool {
+        cfg!(debug_assertions) && !self.place.inner.is_poisoned() && !P::panicking()
     }
 
-    fn check_wait(&mut self, index: usize, priority: u64, name: &dyn std::fmt::Debug) {
-        if !self.tests() {
+    #[track_caller]
+    fn check_wait(&mut self, number: usize, priority: u64, condition: &dyn Debug) {
+        if !self.is_tested() {
             return;
         }
-        let (checks, number, mut waiting) = (self.inner().checks, self.place.number, self.waiting());
-        waiting.counts[index] += 1;
-        waiting.firsts[index] = Some(waiting.firsts[index].map_or(priority, |first| first.min(priority)));
-        assert!((checks.inv)(self), "`inv` doesn't hold where place {number} waits on {name:?}");
-        assert!((checks.rest)(self, &waiting), "`rest` doesn't hold where place {number} waits on {name:?}");
+        let (checks, place, mut waiting) = (self.place.inner.checks, self.place.seat.number(), self.waiting());
+        waiting.counts[number] += 1;
+        waiting.firsts[number] = Some(waiting.firsts[number].map_or(priority, |first| first.min(priority)));
+        assert!((checks.inv)(self), "`inv` doesn't hold where place {place} waits on {condition:?}");
+        assert!((checks.rest)(self, &waiting), "`rest` doesn't hold where place {place} waits on {condition:?}");
     }
 
+    #[track_caller]
     fn check_signal(&mut self, condition: C) {
-        if self.tests() {
-            let (checks, number) = (self.inner().checks, self.place.number);
-            assert!((checks.inv)(self), "`inv` doesn't hold where place {number} signals {condition:?}");
+        if self.is_tested() && self.queue(condition) {
+            let (checks, place) = (self.place.inner.checks, self.place.seat.number());
+            assert!((checks.inv)(self), "`inv` doesn't hold where place {place} signals {condition:?}");
         }
     }
 
-    // Who is resumed looks, since the queues stand then as `ready` speaks of them.
+    /// Tests `ready` in the resumed thread: the queues are then as the signal left them.
+    #[track_caller]
     fn check_ready(&mut self, condition: C, priority: u64) {
-        if !self.tests() {
+        if !self.is_tested() {
             return;
         }
-        let (checks, waiting, signaller) = (self.inner().checks, self.waiting(), self.own().signaller);
-        let ready = (checks.ready)(condition, priority, self, &waiting);
-        assert!(ready, "`ready` of {condition:?} doesn't hold at the signal of place {signaller}");
+        let (checks, waiting, signaller) = (self.place.inner.checks, self.waiting(), self.own().signaller);
+        let is_ready = (checks.ready)(condition, priority, self, &waiting);
+        assert!(is_ready, "`ready` of {condition:?} doesn't hold at the signal of place {signaller}");
     }
 
-    // The check that doesn't hold where the place leaves.
-    fn fault_at_leave(&mut self) -> Option<&'static str> {
-        if !self.tests() {
+    fn fault_at_leave(&mut self) -> Option<Fault<C, M>> {
+        if !self.is_tested() {
             return None;
         }
-        let (checks, waiting) = (self.inner().checks, self.waiting());
+        let (checks, waiting) = (self.place.inner.checks, self.waiting());
         if !(checks.inv)(self) {
-            return Some("inv");
+            return Some(Fault::Inv);
         }
-        (!(checks.rest)(self, &waiting)).then_some("rest")
+        (!(checks.rest)(self, &waiting)).then_some(Fault::Rest(waiting))
     }
 }
 
-impl<T, C: Condition, M: Condition> Deref for Inside<'_, T, C, M> {
+impl<T, C: Condition, M: Condition, P: Port> Deref for Inside<'_, T, C, M, P> {
     type Target = T;
     fn deref(&self) -> &T {
-        // SAFETY: it is inside, and nobody else is
+        // SAFETY: this place is inside, and no other is
         unsafe { &(*self.place.inner.own.get()).data }
     }
 }
 
-impl<T, C: Condition, M: Condition> DerefMut for Inside<'_, T, C, M> {
+impl<T, C: Condition, M: Condition, P: Port> DerefMut for Inside<'_, T, C, M, P> {
     fn deref_mut(&mut self) -> &mut T {
         &mut self.own().data
     }
 }
 
-impl<T, C: Condition, M: Condition> Drop for Inside<'_, T, C, M> {
+impl<T: Debug, C: Condition, M: Condition, P: Port> Debug for Inside<'_, T, C, M, P> {
+    fn fmt(&self, f: &mut fmt::Formatter<'_>) -> fmt::Result {
+        f.debug_struct("Inside").field("place", &self.place.seat.number()).field("data", &**self).finish()
+    }
+}
+
+/// Leaves when it is dropped, so also if a check panics; `is_at_fault` then is still true, and poisons.
+struct Leaving<'b, 'a, T, C: Condition, M: Condition, P: Port> {
+    inside: &'b mut Inside<'a, T, C, M, P>,
+    is_at_fault: bool,
+}
+
+impl<T, C: Condition, M: Condition, P: Port> Drop for Leaving<'_, '_, T, C, M, P> {
     fn drop(&mut self) {
-        if !self.place.inside {
-            return; // it passed the monitor on
+        if self.is_at_fault || (P::panicking() && !self.inside.panicked) {
+            self.inside.place.inner.poisoned.store(true, Relaxed);
         }
-        let number = self.place.number;
-        // a check that panics poisons too, and the place leaves all the same
-        let fault = catch_unwind(AssertUnwindSafe(|| self.fault_at_leave()));
-        if !matches!(fault, Ok(None)) || (panicking() && !self.panicked) {
-            self.inner().poisoned.store(true, Relaxed);
+        self.inside.goes_outside(|place| place.seat.leave());
+    }
+}
+
+impl<T, C: Condition, M: Condition, P: Port> Drop for Inside<'_, T, C, M, P> {
+    fn drop(&mut self) {
+        if !self.place.is_inside {
+            return; // it signalled and left
         }
-        let own = self.own();
-        let next = if own.told { own.book.leave(number).unwrap_or(None) } else { None };
-        own.left = true;
-        let row = own.row;
-        self.place.inside = false;
-        self.inner().hand_on(next, row);
+        let place = self.place.seat.number();
+        let mut leaving = Leaving { inside: self, is_at_fault: true };
+        let fault = leaving.inside.fault_at_leave();
+        leaving.is_at_fault = fault.is_some();
+        drop(leaving);
         match fault {
-            Ok(None) => {}
-            Ok(Some(name)) => panic!("`{name}` doesn't hold where place {number} leaves"),
-            Err(of_the_check) => resume_unwind(of_the_check),
+            None => {}
+            Some(Fault::Inv) => panic!("`inv` doesn't hold where place {place} leaves"),
+            Some(Fault::Rest(waiting)) => {
+                panic!("`rest` doesn't hold where place {place} leaves, and there wait: {waiting:?}")
+            }
         }
     }
 }

@@ -1,0 +1,215 @@
+//! A monitor and its places.
+use crate::conditions::{Condition, NoConditions};
+use crate::door::{Door, Seat};
+use crate::parking::Parking;
+use crate::poison::{LockResult, PoisonError};
+use crate::shared::{room_for, Shared};
+use crate::{Checks, DefaultPort, Inside, Port, Refused};
+use alloc::vec::Vec;
+use core::cell::UnsafeCell;
+use core::fmt;
+use core::sync::atomic::{AtomicBool, Ordering::Acquire, Ordering::Relaxed, Ordering::Release};
+
+/// What the place inside alone uses.
+pub(crate) struct Own<T> {
+    pub(crate) data: T,
+    /// The last place that signalled.
+    pub(crate) signaller: usize,
+}
+
+/// What a monitor and its places share.
+pub(crate) struct Inner<T, C, M, P> {
+    _door: Door, // closes with its last owner
+    pub(crate) parking: Parking<P>,
+    pub(crate) poisoned: AtomicBool,
+    /// True while a place is inside, in a debug build.
+    occupied: AtomicBool,
+    pub(crate) checks: Checks<T, C, M>,
+    pub(crate) own: UnsafeCell<Own<T>>,
+}
+
+// SAFETY: the place inside alone touches `own`, so it only moves between threads. Nobody touches `_door` until it is
+// dropped, and its last owner drops it
+unsafe impl<T: Send, C, M, P: Sync> Sync for Inner<T, C, M, P> {}
+
+impl<T, C, M, P> Inner<T, C, M, P> {
+    /// Tests, in a debug build, that the door let in one place alone. This also shows ThreadSanitizer, which doesn't see
+    /// into the archive, the order of the visits.
+    pub(crate) fn occupy(&self) {
+        if cfg!(debug_assertions) {
+            assert!(!self.occupied.swap(true, Acquire), "two places are inside");
+        }
+    }
+
+    /// Undoes `occupy`, before a step that may release the monitor.
+    pub(crate) fn vacate(&self) {
+        if cfg!(debug_assertions) {
+            self.occupied.store(false, Release);
+        }
+    }
+
+    pub(crate) fn is_poisoned(&self) -> bool {
+        self.poisoned.load(Relaxed)
+    }
+
+    /// Returns `answer`, in an error if a thread panicked inside.
+    pub(crate) fn or_poisoned<X>(&self, answer: X) -> LockResult<X> {
+        if self.is_poisoned() {
+            Err(PoisonError::new(answer))
+        } else {
+            Ok(answer)
+        }
+    }
+}
+
+/// A monitor of data `T`, with Hoare's conditions `C` and Mesa conditions `M`, 1 to 8 in all. Threads use it by its
+/// [`Place`]s. They sleep and wake by the port `P`.
+///
+/// If the monitor is dropped while places are left, they keep what they share, and work on.
+pub struct Monitor<T, C, M = NoConditions, P = DefaultPort>(Shared<Inner<T, C, M, P>>);
+
+/// A place: the thread that owns it may enter the monitor. It moves between threads, and can't be copied; each act
+/// needs it alone, so two threads can't be under one place.
+///
+/// A place that is dropped goes back to its monitor. If a guard of it was forgotten (`mem::forget`) the place is inside
+/// for ever: no other enters, and the memory of the proved door and of this place is lost. The data aren't: they are
+/// dropped with the last of the monitor and its places.
+pub struct Place<T, C, M = NoConditions, P = DefaultPort> {
+    pub(crate) seat: Seat, // in front of `inner`, whose door closes only after the place was given back
+    pub(crate) inner: Shared<Inner<T, C, M, P>>,
+    pub(crate) is_inside: bool,
+    pub(crate) met: u32,
+}
+
+#[cfg(feature = "std")]
+impl<T: Send, C: Condition, M: Condition> Monitor<T, C, M> {
+    /// Makes a monitor with its 1 to 64 places, each at the index of its number. Refused: `BadPlaces`, `BadConditions`,
+    /// `NoMemory`.
+    #[allow(clippy::type_complexity)]
+    pub fn new(data: T, places: usize) -> Result<(Self, Vec<Place<T, C, M>>), Refused> {
+        Monitor::checked(data, places, Checks::default())
+    }
+
+    /// Makes a monitor as [`Monitor::new`] does, and a debug build tests `checks`. Refused: `BadPlaces`,
+    /// `BadConditions`, `NoMemory`.
+    #[allow(clippy::type_complexity)]
+    pub fn checked(data: T, places: usize, checks: Checks<T, C, M>) -> Result<(Self, Vec<Place<T, C, M>>), Refused> {
+        Monitor::with_port(data, places, checks, crate::StdPort::default)
+    }
+}
+
+impl<T: Send, C: Condition, M: Condition, P: Port> Monitor<T, C, M, P> {
+    /// Makes a monitor whose threads sleep and wake by a port of yours, with its 1 to 64 places, each at the index of
+    /// its number. `ports` is called once for each place and once more. A debug build tests `checks`. Refused:
+    /// `BadPlaces`, `BadConditions`, `NoMemory`; then the data are dropped.
+    #[allow(clippy::type_complexity)]
+    pub fn with_port(
+        data: T,
+        places: usize,
+        checks: Checks<T, C, M>,
+        ports: impl FnMut() -> P,
+    ) -> Result<(Self, Vec<Place<T, C, M, P>>), Refused> {
+        let mut door = Door::new(places, C::COUNT.saturating_add(M::COUNT), M::COUNT)?;
+        let parking = Parking::new(places, ports)?;
+        let mut all = room_for(places)?;
+        let mut seats = room_for(places)?;
+        for _ in 0..places {
+            seats.push(door.give_out()?);
+        }
+        let (poisoned, occupied) = (AtomicBool::new(false), AtomicBool::new(false));
+        let own = UnsafeCell::new(Own { data, signaller: 0 });
+        let inner = match Shared::try_new(Inner { _door: door, parking, poisoned, occupied, checks, own }) {
+            Ok(inner) => inner,
+            Err(inner) => {
+                drop((seats, inner)); // in this order: the door closes once each place was given back
+                return Err(Refused::NoMemory);
+            }
+        };
+        seats.reverse(); // the door gave the last one out first
+        let place = |seat| Place { seat, inner: inner.clone(), is_inside: false, met: 0 };
+        all.extend(seats.into_iter().map(place));
+        Ok((Monitor(inner), all))
+    }
+
+    /// Returns true if a thread panicked inside.
+    pub fn is_poisoned(&self) -> bool {
+        self.0.is_poisoned()
+    }
+
+    /// Forgets that a thread panicked inside.
+    pub fn clear_poison(&self) {
+        self.0.poisoned.store(false, Relaxed);
+    }
+
+    /// Returns the data, if each place was dropped, in an error if a thread panicked inside. Else returns nothing, and
+    /// the places keep the data.
+    pub fn into_inner(self) -> Option<LockResult<T>> {
+        let Inner { poisoned, own, .. } = self.0.into_inner()?;
+        let data = own.into_inner().data;
+        Some(if poisoned.into_inner() { Err(PoisonError::new(data)) } else { Ok(data) })
+    }
+}
+
+impl<T: Send, C: Condition, M: Condition, P: Port> Place<T, C, M, P> {
+    /// Returns its number, from 0.
+    pub fn number(&self) -> usize {
+        self.seat.number()
+    }
+
+    /// Enters, once the monitor is free: no place is inside, is resumed or notified, or has signalled and is yet to
+    /// return. The thread sleeps until then. Returns the guard, in an error if a thread panicked inside, as
+    /// `Mutex::lock` does.
+    ///
+    /// # Panics
+    /// If the place is inside, since an earlier guard was forgotten (`mem::forget`).
+    #[track_caller]
+    pub fn enter(&mut self) -> LockResult<Inside<'_, T, C, M, P>> {
+        self.must_be_outside();
+        if !self.seat.try_enter() {
+            self.inner.parking.sleep_and_enter(&mut self.seat);
+        }
+        self.entered()
+    }
+
+    /// Enters if the monitor is free at this moment, and returns as [`Place::enter`] does; else returns nothing.
+    ///
+    /// # Panics
+    /// If the place is inside, since an earlier guard was forgotten (`mem::forget`).
+    #[track_caller]
+    pub fn try_enter(&mut self) -> Option<LockResult<Inside<'_, T, C, M, P>>> {
+        self.must_be_outside();
+        self.seat.try_enter().then(|| self.entered())
+    }
+
+    #[track_caller]
+    fn must_be_outside(&self) {
+        assert!(!self.is_inside, "place {} is inside: its guard was forgotten", self.number());
+    }
+
+    fn entered(&mut self) -> LockResult<Inside<'_, T, C, M, P>> {
+        self.inner.occupy();
+        let is_poisoned = self.inner.is_poisoned();
+        let inside = Inside::new(self);
+        if is_poisoned {
+            Err(PoisonError::new(inside))
+        } else {
+            Ok(inside)
+        }
+    }
+}
+
+impl<T, C, M, P: Port> fmt::Debug for Monitor<T, C, M, P> {
+    fn fmt(&self, f: &mut fmt::Formatter<'_>) -> fmt::Result {
+        let mut this = f.debug_struct("Monitor");
+        this.field("places", &self.0.parking.places()).field("is_poisoned", &self.0.is_poisoned());
+        this.finish_non_exhaustive()
+    }
+}
+
+impl<T, C, M, P> fmt::Debug for Place<T, C, M, P> {
+    fn fmt(&self, f: &mut fmt::Formatter<'_>) -> fmt::Result {
+        let mut this = f.debug_struct("Place");
+        this.field("number", &self.seat.number()).field("is_inside", &self.is_inside);
+        this.finish_non_exhaustive()
+    }
+}

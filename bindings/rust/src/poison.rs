@@ -1,0 +1,57 @@
+//! The error of a poisoned monitor: std's, or the same without std.
+
+#[cfg(feature = "std")]
+pub use std::sync::{LockResult, PoisonError};
+
+#[cfg(not(feature = "std"))]
+pub use own::{LockResult, PoisonError};
+
+#[cfg(not(feature = "std"))]
+mod own {
+    use core::fmt;
+
+    /// The error of a monitor inside of which a thread panicked, with what the call would have returned. With the
+    /// feature `std` this is `std::sync::PoisonError`.
+    pub struct PoisonError<X> {
+        returned: X,
+    }
+
+    /// What a call returns that may find the monitor poisoned.
+    pub type LockResult<X> = Result<X, PoisonError<X>>;
+
+    impl<X> PoisonError<X> {
+        /// Creates the error.
+        pub fn new(returned: X) -> Self {
+            PoisonError { returned }
+        }
+
+        /// Returns what the call would have returned.
+        pub fn into_inner(self) -> X {
+            self.returned
+        }
+
+        /// Returns a reference to what the call would have returned.
+        pub fn get_ref(&self) -> &X {
+            &self.returned
+        }
+
+        /// Returns a mutable reference to what the call would have returned.
+        pub fn get_mut(&mut self) -> &mut X {
+            &mut self.returned
+        }
+    }
+
+    impl<X> fmt::Debug for PoisonError<X> {
+        fn fmt(&self, f: &mut fmt::Formatter<'_>) -> fmt::Result {
+            f.debug_struct("PoisonError").finish_non_exhaustive()
+        }
+    }
+
+    impl<X> fmt::Display for PoisonError<X> {
+        fn fmt(&self, f: &mut fmt::Formatter<'_>) -> fmt::Result {
+            f.write_str("poisoned: a thread panicked inside of the monitor")
+        }
+    }
+
+    impl<X> core::error::Error for PoisonError<X> {}
+}

@@ -1,0 +1,79 @@
+//! What a monitor asks of its platform.
+use core::sync::atomic::AtomicU32;
+
+/// How threads sleep on a word and are woken: all that a monitor asks of its platform. [`StdPort`](crate::StdPort) is
+/// the one of std, with the feature `std`. For another platform, a kernel say, write your own, and make the monitor by
+/// [`Monitor::with_port`](crate::Monitor::with_port).
+///
+/// A value of the port stands beside each word on which threads sleep: one word for each place, and one for the threads
+/// that wait to enter. It has what the platform needs there: std's has a mutex and a condition variable; one over
+/// futexes needs nothing.
+///
+/// A port that doesn't wake makes threads sleep for ever. Nothing that a port does lets two places be inside at once.
+/// A port doesn't panic: in [`sleep_while`](Port::sleep_while) of a place that is away, that ends the program.
+///
+/// A port that spins, for threads that each have a processor of their own:
+///
+/// ```
+/// use std::sync::atomic::{AtomicU32, Ordering::SeqCst};
+/// use zaulinte::{conditions, Checks, Monitor, NoConditions, Port};
+/// conditions! { enum When { Ever } }
+///
+/// struct Spin;
+/// impl Port for Spin {
+///     const POLLS: u32 = 0; // `sleep_while` polls itself
+///     fn sleep_while(&self, word: &AtomicU32, is: u32) {
+///         while word.load(SeqCst) == is {
+///             std::hint::spin_loop();
+///         }
+///     }
+///     fn wake_one(&self, _: &AtomicU32) {}
+/// }
+///
+/// let ports = || Spin;
+/// let (_monitor, mut places) = Monitor::<u32, When, NoConditions, Spin>::with_port(0, 2, Checks::default(), ports)?;
+/// *places[0].enter().unwrap() += 1;
+/// assert_eq!(*places[1].enter().unwrap(), 1);
+/// # Ok::<(), zaulinte::Refused>(())
+/// ```
+pub trait Port: Send + Sync {
+    /// How often a place that is away polls its own word before it sleeps, at most. 0 on a single processor.
+    const POLLS: u32 = 500;
+
+    /// Blocks the calling thread while `word` has the value `is`. The test and the falling asleep are one step to
+    /// [`wake_one`](Port::wake_one): a thread doesn't sleep through a change of the word that came before a wake-up.
+    /// May return early.
+    fn sleep_while(&self, word: &AtomicU32, is: u32);
+
+    /// Wakes one of the threads that sleep on `word`, if any does, after the word was changed. Never blocks for long.
+    fn wake_one(&self, word: &AtomicU32);
+
+    /// Lets other threads that are ready have this processor. A courtesy: it may do nothing, as by default.
+    fn yield_now() {}
+
+    /// Returns true if the calling thread is unwinding from a panic: a place that leaves then poisons the monitor, and
+    /// its [`Checks`](crate::Checks) aren't tested. By default false: right if panics end the program.
+    fn panicking() -> bool {
+        false
+    }
+}
+
+/// The port of a monitor that names none: [`StdPort`](crate::StdPort) with the feature `std`.
+#[cfg(feature = "std")]
+pub type DefaultPort = crate::StdPort;
+
+/// The port of a monitor that names none: no such monitor can be made without the feature `std`.
+#[cfg(not(feature = "std"))]
+#[derive(Clone, Copy, Debug)]
+pub enum DefaultPort {}
+
+#[cfg(not(feature = "std"))]
+impl Port for DefaultPort {
+    fn sleep_while(&self, _: &AtomicU32, _: u32) {
+        match *self {}
+    }
+
+    fn wake_one(&self, _: &AtomicU32) {
+        match *self {}
+    }
+}

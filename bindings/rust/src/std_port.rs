@@ -1,0 +1,40 @@
+//! Sleeping by std's mutex and condition variable.
+use crate::Port;
+use core::sync::atomic::{AtomicU32, Ordering::SeqCst};
+use std::sync::{Condvar, Mutex, MutexGuard, PoisonError};
+use std::thread;
+
+/// The port of std: threads sleep on a condition variable.
+#[derive(Debug, Default)]
+pub struct StdPort {
+    lock: Mutex<()>,
+    changed: Condvar,
+}
+
+impl StdPort {
+    fn locked(&self) -> MutexGuard<'_, ()> {
+        self.lock.lock().unwrap_or_else(PoisonError::into_inner)
+    }
+}
+
+impl Port for StdPort {
+    fn sleep_while(&self, word: &AtomicU32, is: u32) {
+        let mut lock = self.locked();
+        while word.load(SeqCst) == is {
+            lock = self.changed.wait(lock).unwrap_or_else(PoisonError::into_inner);
+        }
+    }
+
+    fn wake_one(&self, _: &AtomicU32) {
+        drop(self.locked()); // a thread that tested the word before it was changed is asleep now
+        self.changed.notify_one();
+    }
+
+    fn yield_now() {
+        thread::yield_now();
+    }
+
+    fn panicking() -> bool {
+        thread::panicking()
+    }
+}

@@ -66,6 +66,14 @@ impl<T, C, M, P> Inner<T, C, M, P> {
 /// [`Place`]s. They sleep and wake by the port `P`.
 ///
 /// If the monitor is dropped while places are left, they keep what they share, and work on.
+///
+/// Data that may not move to another thread are refused:
+///
+/// ```compile_fail,E0277
+/// # use zaulinte::{conditions, Monitor};
+/// # conditions! { enum When { Ever } }
+/// let _ = Monitor::<std::rc::Rc<u32>, When>::new(std::rc::Rc::new(0), 1);
+/// ```
 pub struct Monitor<T, C, M = NoConditions, P = DefaultPort>(Shared<Inner<T, C, M, P>>);
 
 /// A place: the thread that owns it may enter the monitor. It moves between threads, and can't be copied; each act

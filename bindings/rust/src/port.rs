@@ -1,8 +1,8 @@
 //! What a monitor asks of its platform.
 use core::sync::atomic::AtomicU32;
 
-/// How threads sleep on a word and are woken: all that a monitor asks of its platform. [`StdPort`](crate::StdPort) is
-/// the one of std, with the feature `std`. For another platform, a kernel say, write your own, and make the monitor by
+/// How threads sleep on a word and are woken: all that a monitor asks of its platform. `StdPort` is the one
+/// of std, with the feature `std`. For another platform, a kernel say, write your own, and make the monitor by
 /// [`Monitor::with_port`](crate::Monitor::with_port).
 ///
 /// A value of the port stands beside each word on which threads sleep: one word for each place, and one for the threads
@@ -58,7 +58,7 @@ pub trait Port: Send + Sync {
     }
 }
 
-/// The port of a monitor that names none: [`StdPort`](crate::StdPort) with the feature `std`.
+/// The port of a monitor that names none: that of std.
 #[cfg(feature = "std")]
 pub type DefaultPort = crate::StdPort;
 

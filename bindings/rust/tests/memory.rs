@@ -1,17 +1,23 @@
-//! What a book takes it gives back, as it took it.
+//! What a book or a monitor allocates it frees, and if an allocation fails it keeps nothing.
 use std::alloc::{GlobalAlloc, Layout, System};
-use std::cell::RefCell;
+use std::cell::{Cell, RefCell};
+use std::rc::Rc;
 use zaulinte::book::Book;
-use zaulinte::Refused;
+use zaulinte::{conditions, Monitor, Refused};
+
+conditions! { enum When { A, B } }
+conditions! { enum Mesa { C } }
 
 thread_local! {
-    // what this thread took and hasn't given back: where, and its layout
+    // what this thread allocated and hasn't freed: its address and layout
     static TAKEN: RefCell<Option<Vec<(usize, Layout)>>> = const { RefCell::new(None) };
+    // how many allocations of this thread succeed before one fails
+    static BEFORE_FAILURE: Cell<Option<usize>> = const { Cell::new(None) };
 }
 
 struct Noted;
 
-// Notes nothing while it notes, nor while nobody wants it.
+// Notes nothing while it notes, nor if no test asks for it.
 fn note(change: impl FnOnce(&mut Vec<(usize, Layout)>)) {
     let _ = TAKEN.try_with(|taken| {
         if let Ok(mut taken) = taken.try_borrow_mut() {
@@ -20,9 +26,19 @@ fn note(change: impl FnOnce(&mut Vec<(usize, Layout)>)) {
     });
 }
 
-// SAFETY: it is the system's
+// Counts an allocation down, and returns true if it is the one that fails.
+fn fails() -> bool {
+    let before = BEFORE_FAILURE.try_with(Cell::get).unwrap_or(None);
+    let _ = BEFORE_FAILURE.try_with(|cell| cell.set(before.and_then(|before| before.checked_sub(1))));
+    before == Some(0)
+}
+
+// SAFETY: it is the system's, or fails
 unsafe impl GlobalAlloc for Noted {
     unsafe fn alloc(&self, layout: Layout) -> *mut u8 {
+        if fails() {
+            return std::ptr::null_mut();
+        }
         let at = unsafe { System.alloc(layout) };
         note(|taken| taken.push((at as usize, layout)));
         at
@@ -31,7 +47,7 @@ unsafe impl GlobalAlloc for Noted {
     unsafe fn dealloc(&self, at: *mut u8, layout: Layout) {
         note(|taken| {
             let place = taken.iter().position(|&piece| piece == (at as usize, layout));
-            taken.swap_remove(place.expect("given back as it was taken"));
+            taken.swap_remove(place.expect("freed as it was allocated"));
         });
         unsafe { System.dealloc(at, layout) }
     }
@@ -40,7 +56,7 @@ unsafe impl GlobalAlloc for Noted {
 #[global_allocator]
 static NOTED: Noted = Noted;
 
-// What an act took and didn't give back.
+// What an act allocated and didn't free.
 fn taken_by(act: impl FnOnce()) -> Vec<(usize, Layout)> {
     TAKEN.with(|taken| *taken.borrow_mut() = Some(Vec::with_capacity(1000)));
     act();
@@ -74,4 +90,91 @@ fn a_book_that_is_used_takes_no_more() {
 fn a_refused_book_keeps_nothing() {
     assert_eq!(taken_by(|| assert!(Book::new(65, 1, 0).is_err())), []);
     assert_eq!(taken_by(|| assert!(Book::new(64, 9, 0).is_err())), []);
+}
+
+type Small = Monitor<u32, When, Mesa>;
+
+#[test]
+fn a_monitor_gives_back_what_it_took() {
+    for places in [1, 2, 9, 64] {
+        assert_eq!(taken_by(|| drop(Small::new(7, places))), []);
+        assert_eq!(taken_by(|| drop(Small::new(7, places).map(|(_monitor, places)| places))), []);
+    }
+    assert_eq!(taken_by(|| assert!(Small::new(7, 65).is_err())), []);
+}
+
+#[test]
+fn places_outlive_their_monitor() {
+    let uses = || {
+        let (monitor, mut places) = Small::new(7, 3).unwrap();
+        drop(monitor);
+        *places[2].enter().unwrap() += 1;
+        drop(places.remove(0));
+        assert_eq!(*places[0].enter().unwrap(), 8);
+    };
+    assert_eq!(taken_by(uses), []);
+}
+
+#[test]
+fn a_monitor_that_is_used_takes_no_more() {
+    let (_monitor, mut places) = Small::new(7, 64).unwrap();
+    let uses = || {
+        for place in &mut places {
+            let mut inside = place.try_enter().unwrap().unwrap();
+            *inside += 1;
+            assert!(!inside.signal(When::A).unwrap() && !inside.notify(Mesa::C) && inside.first(When::B).is_none());
+            assert!(!inside.signal_leave(When::B));
+        }
+    };
+    assert_eq!(taken_by(uses), []);
+}
+
+// A monitor with the allocation after so many refused.
+fn with_failure_after(succeed: usize, places: usize) -> Option<Refused> {
+    BEFORE_FAILURE.with(|before| before.set(Some(succeed)));
+    let made = Small::new(7, places);
+    BEFORE_FAILURE.with(|before| before.set(None));
+    made.err()
+}
+
+#[test]
+fn a_refused_allocation_is_an_error_at_each_request_and_loses_nothing() {
+    for places in [1, 5, 64] {
+        let mut requests = 0;
+        let mut refused = None;
+        while taken_by(|| refused = with_failure_after(requests, places)).is_empty() && refused.is_some() {
+            assert_eq!(refused, Some(Refused::NoMemory));
+            requests += 1;
+        }
+        assert_eq!(refused, None, "request {requests} of {places} places lost memory");
+        assert!(requests > places);
+    }
+}
+
+#[test]
+fn data_of_a_refused_monitor_are_dropped() {
+    struct Dropped(#[allow(dead_code)] Rc<()>);
+    // SAFETY: this test has one thread
+    unsafe impl Send for Dropped {}
+    let data = Rc::new(());
+    assert!(Monitor::<Dropped, When>::new(Dropped(data.clone()), 65).is_err());
+    assert_eq!(Rc::strong_count(&data), 1);
+}
+
+// The bytes that are lost if a guard is forgotten, of a monitor whose data have so many.
+fn lost_by_forgotten_guard(data: usize, places: usize) -> usize {
+    let forgets = || {
+        let (_monitor, mut places) = Monitor::<Vec<u8>, When>::new(vec![0; data], places).unwrap();
+        std::mem::forget(places[0].enter().unwrap());
+    };
+    taken_by(forgets).iter().map(|(_, layout)| layout.size()).sum()
+}
+
+#[test]
+fn a_forgotten_guard_loses_the_door_and_its_place_alone() {
+    let door = taken_by(|| std::mem::forget(Monitor::<Vec<u8>, When>::new(vec![], 1).unwrap()));
+    let all: usize = door.iter().map(|(_, layout)| layout.size()).sum();
+    let lost = lost_by_forgotten_guard(0, 1);
+    assert!(0 < lost && lost < all, "{lost} of {all}");
+    assert_eq!(lost_by_forgotten_guard(1_000_000, 1), lost);
 }

@@ -100,6 +100,83 @@ fn a_forgotten_guard_is_refused() {
     assert!(monitor.into_inner().is_none());
 }
 
+#[test]
+fn what_is_shown_names_the_place_and_the_data() {
+    let (monitor, mut places) = Monitor::<u32, When>::new(7, 2).unwrap();
+    assert_eq!(format!("{monitor:?}"), "Monitor { places: 2, is_poisoned: false, .. }");
+    assert_eq!(format!("{:?}", places[1]), "Place { number: 1, is_inside: false, .. }");
+    assert_eq!(format!("{:?}", places[1].enter().unwrap()), "Inside { place: 1, data: 7 }");
+}
+
+// The file and line where a thread panics.
+fn place_of_panic(act: impl FnOnce()) -> String {
+    thread_local!(static PLACE: std::cell::Cell<String> = const { std::cell::Cell::new(String::new()) });
+    static HOOK: std::sync::Once = std::sync::Once::new();
+    HOOK.call_once(|| {
+        let before = std::panic::take_hook();
+        std::panic::set_hook(Box::new(move |of| {
+            PLACE.set(of.location().map(|at| format!("{}:{}", at.file(), at.line())).unwrap_or_default());
+            before(of);
+        }));
+    });
+    assert!(catch_unwind(AssertUnwindSafe(act)).is_err());
+    PLACE.take()
+}
+
+#[test]
+fn a_panic_names_the_line_of_the_caller() {
+    fn line_of(act: impl FnOnce(Inside<'_, (), Bad, Bad>)) -> String {
+        let (_monitor, mut places) = Monitor::<(), Bad, Bad>::new((), 1).unwrap();
+        place_of_panic(|| act(places[0].enter().unwrap()))
+    }
+    let here = |line: u32| format!("{}:{line}", file!());
+    assert_eq!(line_of(|mut inside| drop(inside.wait(Bad, 0))), here(line!()));
+    assert_eq!(line_of(|mut inside| drop(inside.wait_mesa(Bad, 0))), here(line!()));
+    assert_eq!(line_of(|mut inside| drop(inside.signal(Bad))), here(line!()));
+    assert_eq!(line_of(|inside| assert!(inside.signal_leave(Bad))), here(line!()));
+    assert_eq!(line_of(|mut inside| assert!(inside.notify(Bad))), here(line!()));
+    assert_eq!(line_of(|mut inside| assert!(inside.broadcast(Bad) > 0)), here(line!()));
+    assert_eq!(line_of(|mut inside| assert!(inside.queue(Bad))), here(line!()));
+    let (_monitor, mut places) = Monitor::<u32, When>::new(0, 1).unwrap();
+    std::mem::forget(places[0].enter().unwrap());
+    assert_eq!(place_of_panic(|| drop(places[0].enter())), here(line!()));
+    assert_eq!(place_of_panic(|| drop(places[0].try_enter())), here(line!()));
+}
+
+// A monitor without Mesa conditions names them nowhere.
+fn busy_checks() -> zaulinte::Checks<u32, When> {
+    fn rest(busy: &u32, waiting: &zaulinte::Waiting<When>) -> bool {
+        *busy > 0 || waiting.count(When::Ever) == 0
+    }
+    zaulinte::Checks { rest, ..zaulinte::Checks::default() }
+}
+
+#[cfg(debug_assertions)]
+#[test]
+fn a_check_names_the_line_of_the_caller() {
+    let (monitor, mut places) = Monitor::checked(0, 1, busy_checks()).unwrap();
+    let waits = place_of_panic(|| drop(places[0].enter().unwrap().wait(When::Ever, 0)));
+    assert_eq!(waits, format!("{}:{}", file!(), line!() - 1));
+    assert!(monitor.is_poisoned());
+}
+
+#[cfg(debug_assertions)]
+#[test]
+fn a_forgotten_signal_is_found_at_the_leave_and_names_the_condition() {
+    let (monitor, mut places) = Monitor::checked(1, 2, busy_checks()).unwrap();
+    let (mut there, mut here) = (places.pop().unwrap(), places.pop().unwrap());
+    let waiter = thread::spawn(move || drop(there.enter().unwrap().wait(When::Ever, 7)));
+    while !here.enter().unwrap().queue(When::Ever) {
+        thread::yield_now();
+    }
+    let fault = catch_unwind(AssertUnwindSafe(|| *here.enter().unwrap() = 0)).unwrap_err();
+    let told = "`rest` doesn't hold where place 0 leaves, and there wait: {Ever: 1 of least priority 7}";
+    assert_eq!(message(fault), told);
+    monitor.clear_poison();
+    assert!(here.enter().unwrap().signal_leave(When::Ever));
+    waiter.join().unwrap();
+}
+
 #[cfg(debug_assertions)]
 fn message(of: Box<dyn std::any::Any + Send>) -> String {
     of.downcast_ref::<String>().cloned().unwrap_or_default()

@@ -1,14 +1,32 @@
-//! The stress of `test/stress.c` once more, in Rust. It writes what it logs to the file that ZAULINTE_LOG names, for
-//! `test/judge.c`; the number of calls is ZAULINTE_CALLS.
+//! The stress of `test/stress.c` once more, in Rust: with std by its port, without it by one that spins. It writes what
+//! it logs to the file that ZAULINTE_LOG names, for `test/judge.c`; the number of calls is ZAULINTE_CALLS.
 use std::fmt::Write;
 use std::thread;
-use zaulinte::{conditions, Monitor};
+use zaulinte::{conditions, Checks, Monitor};
 
 conditions! { enum Hoare { A, B, C } }
 conditions! { enum Mesa { D } }
 
 const WORKERS: usize = 8;
 const MESA: usize = 3;
+
+#[cfg(feature = "std")]
+type Port = zaulinte::StdPort;
+
+#[cfg(not(feature = "std"))]
+#[derive(Default)]
+struct Port;
+
+#[cfg(not(feature = "std"))]
+impl zaulinte::Port for Port {
+    fn sleep_while(&self, word: &std::sync::atomic::AtomicU32, is: u32) {
+        while word.load(std::sync::atomic::Ordering::SeqCst) == is {
+            thread::yield_now();
+        }
+    }
+
+    fn wake_one(&self, _: &std::sync::atomic::AtomicU32) {}
+}
 
 #[derive(Default)]
 struct Log {
@@ -27,8 +45,8 @@ impl Log {
     }
 }
 
-type Inside<'a> = zaulinte::Inside<'a, Log, Hoare, Mesa>;
-type Place = zaulinte::Place<Log, Hoare, Mesa>;
+type Inside<'a> = zaulinte::Inside<'a, Log, Hoare, Mesa, Port>;
+type Place = zaulinte::Place<Log, Hoare, Mesa, Port>;
 
 fn draw(seed: &mut u64) -> u64 {
     *seed = seed.wrapping_mul(6364136223846793005).wrapping_add(1442695040888963407);
@@ -155,7 +173,8 @@ fn sweeps(mut place: Place) {
 
 fn main() {
     let calls = std::env::var("ZAULINTE_CALLS").map_or(10_000, |calls| calls.parse().unwrap());
-    let (monitor, mut places) = Monitor::<Log, Hoare, Mesa>::new(Log::default(), WORKERS + 1).unwrap();
+    let (monitor, mut places): (Monitor<Log, Hoare, Mesa, Port>, Vec<Place>) =
+        Monitor::with_port(Log::default(), WORKERS + 1, Checks::default(), Port::default).unwrap();
     let sweeper = places.pop().unwrap();
     let mut threads = vec![thread::spawn(move || sweeps(sweeper))];
     for (k, place) in places.into_iter().enumerate() {

@@ -1,7 +1,7 @@
 //! A place inside, with its acts.
 use crate::checks::Waiting;
 use crate::conditions::{Condition, NoConditions};
-use crate::door::Next;
+use crate::door::{Next, Seat};
 use crate::monitor::Own;
 use crate::poison::LockResult;
 use crate::{DefaultPort, Place, Port};
@@ -125,7 +125,7 @@ impl<'a, T, C: Condition, M: Condition, P: Port> Inside<'a, T, C, M, P> {
         }
         self.check_signal(condition);
         self.own().signaller = self.place.seat.number();
-        self.goes_outside(|place| place.seat.signal_leave(number));
+        self.place.go_outside(|seat| seat.signal_leave(number));
         true
     }
 
@@ -188,17 +188,8 @@ impl<T, C: Condition, M: Condition, P: Port> Inside<'_, T, C, M, P> {
 
     /// After a step by which this place went away: returns once it is back inside.
     fn go_away(&mut self, next: Next) {
-        let Place { inner, seat, met, .. } = &mut *self.place;
-        inner.parking.go_away(seat, next, met);
-    }
-
-    /// Makes a step by which this place goes outside, and wakes the next thread.
-    fn goes_outside(&mut self, step: impl FnOnce(&mut Place<T, C, M, P>) -> Next) {
-        self.place.inner.vacate();
-        let next = step(self.place);
-        self.place.is_inside = false;
-        let Place { inner, met, .. } = &mut *self.place;
-        inner.parking.wake(next, met);
+        let Place { inner, seat, habits, .. } = &mut *self.place;
+        inner.parking.go_away(seat, next, habits);
     }
 }
 
@@ -297,7 +288,7 @@ impl<T, C: Condition, M: Condition, P: Port> Drop for Leaving<'_, '_, T, C, M, P
         if self.is_at_fault || (P::panicking() && !self.inside.panicked) {
             self.inside.place.inner.poisoned.store(true, Relaxed);
         }
-        self.inside.goes_outside(|place| place.seat.leave());
+        self.inside.place.go_outside(Seat::leave);
     }
 }
 

@@ -1,7 +1,7 @@
 //! A monitor and its places.
 use crate::conditions::{Condition, NoConditions};
-use crate::door::{Door, Seat};
-use crate::parking::Parking;
+use crate::door::{Door, Next, Seat};
+use crate::parking::{Habits, Parking};
 use crate::poison::{LockResult, PoisonError};
 use crate::shared::{room_for, Shared};
 use crate::{Checks, DefaultPort, Inside, Port, Refused};
@@ -69,7 +69,7 @@ impl<T, C, M, P> Inner<T, C, M, P> {
 ///
 /// Data that may not move to another thread are refused:
 ///
-/// ```compile_fail,E0277
+/// ```compile_fail,E0599
 /// # use zaulinte::{conditions, Monitor};
 /// # conditions! { enum When { Ever } }
 /// let _ = Monitor::<std::rc::Rc<u32>, When>::new(std::rc::Rc::new(0), 1);
@@ -79,14 +79,13 @@ pub struct Monitor<T, C, M = NoConditions, P = DefaultPort>(Shared<Inner<T, C, M
 /// A place: the thread that owns it may enter the monitor. It moves between threads, and can't be copied; each act
 /// needs it alone, so two threads can't be under one place.
 ///
-/// A place that is dropped goes back to its monitor. If a guard of it was forgotten (`mem::forget`) the place is inside
-/// for ever: no other enters, and the memory of the proved door and of this place is lost. The data aren't: they are
-/// dropped with the last of the monitor and its places.
-pub struct Place<T, C, M = NoConditions, P = DefaultPort> {
+/// A place that is dropped goes back to its monitor. If it is still inside then, since a guard was forgotten
+/// (`mem::forget`), it leaves first. Until then no other place enters.
+pub struct Place<T, C, M = NoConditions, P: Port = DefaultPort> {
     pub(crate) seat: Seat, // in front of `inner`, whose door closes only after the place was given back
     pub(crate) inner: Shared<Inner<T, C, M, P>>,
     pub(crate) is_inside: bool,
-    pub(crate) met: u32,
+    pub(crate) habits: Habits,
 }
 
 #[cfg(feature = "std")]
@@ -134,7 +133,7 @@ impl<T: Send, C: Condition, M: Condition, P: Port> Monitor<T, C, M, P> {
             }
         };
         seats.reverse(); // the door gave the last one out first
-        let place = |seat| Place { seat, inner: inner.clone(), is_inside: false, met: 0 };
+        let place = |seat| Place { seat, inner: inner.clone(), is_inside: false, habits: Habits::default() };
         all.extend(seats.into_iter().map(place));
         Ok((Monitor(inner), all))
     }
@@ -214,7 +213,25 @@ impl<T, C, M, P: Port> fmt::Debug for Monitor<T, C, M, P> {
     }
 }
 
-impl<T, C, M, P> fmt::Debug for Place<T, C, M, P> {
+impl<T, C, M, P: Port> Place<T, C, M, P> {
+    /// Makes a step by which this place goes outside, and wakes the next thread.
+    pub(crate) fn go_outside(&mut self, step: impl FnOnce(&mut Seat) -> Next) {
+        self.inner.vacate();
+        let next = step(&mut self.seat);
+        self.is_inside = false;
+        self.inner.parking.wake(next, &mut self.habits);
+    }
+}
+
+impl<T, C, M, P: Port> Drop for Place<T, C, M, P> {
+    fn drop(&mut self) {
+        if self.is_inside {
+            self.go_outside(Seat::leave);
+        }
+    }
+}
+
+impl<T, C, M, P: Port> fmt::Debug for Place<T, C, M, P> {
     fn fmt(&self, f: &mut fmt::Formatter<'_>) -> fmt::Result {
         let mut this = f.debug_struct("Place");
         this.field("number", &self.seat.number()).field("is_inside", &self.is_inside);

@@ -54,9 +54,9 @@ impl<P: Port> Bell<P> {
         self.port.wake_one(&self.word);
     }
 
-    /// Polls the word at most [`Port::POLLS`] times, until it is `OWED`. Returns true if it is.
-    fn polls(&self) -> bool {
-        (0..P::POLLS).any(|_| {
+    /// Polls the word at most `most` times, until it is `OWED`. Returns true if it is.
+    fn polls(&self, most: u32) -> bool {
+        (0..most).any(|_| {
             core::hint::spin_loop();
             self.word.load(Acquire) == OWED
         })
@@ -69,6 +69,27 @@ impl<P: Port> Bell<P> {
                 self.sleep_while(ASLEEP);
             }
         }
+    }
+}
+
+/// What a place learned of the other threads. Performance only.
+#[derive(Default)]
+pub(crate) struct Habits {
+    /// How often in a row it polled its word and then slept all the same.
+    missed: u32,
+    /// How often it released the monitor while a woken thread wasn't up yet.
+    met: u32,
+}
+
+impl Habits {
+    /// Returns how often to poll. Polling pays if the thread that has the monitor runs at once, and is lost if it waits
+    /// for a processor: so each miss halves the polls of the next time, and every `ROW` misses there are many again.
+    fn polls<P: Port>(&self) -> u32 {
+        P::POLLS >> (self.missed % ROW).min(31)
+    }
+
+    fn learn(&mut self, was_seen: bool) {
+        self.missed = if was_seen { 0 } else { self.missed.wrapping_add(1) };
     }
 }
 
@@ -101,10 +122,10 @@ impl<P: Port> Parking<P> {
     }
 
     /// Wakes the place that a step named; if it named none the monitor is free, and an entering thread may be woken.
-    /// `met` is the count of the place that made the step, for [`ROW`].
-    pub(crate) fn wake(&self, next: Next, met: &mut u32) {
+    /// `habits` are of the place that made the step.
+    pub(crate) fn wake(&self, next: Next, habits: &mut Habits) {
         let Some(place) = next else {
-            return self.wake_entering(met);
+            return self.wake_entering(habits);
         };
         let bell = &self.bells[place];
         if bell.word.swap(OWED, SeqCst) == ASLEEP {
@@ -113,11 +134,11 @@ impl<P: Port> Parking<P> {
     }
 
     #[inline]
-    fn wake_entering(&self, met: &mut u32) {
+    fn wake_entering(&self, habits: &mut Habits) {
         match self.entrance.word.load(SeqCst) {
             NOTHING => {}
             ASLEEP => self.wake_asleep(),
-            _ => self.meets_woken(met),
+            _ => self.meets_woken(habits),
         }
     }
 
@@ -129,9 +150,9 @@ impl<P: Port> Parking<P> {
     }
 
     #[cold]
-    fn meets_woken(&self, met: &mut u32) {
-        *met = (*met + 1) % ROW;
-        if *met == 0 && self.entrance.word.compare_exchange(WOKEN, NOTHING, SeqCst, SeqCst).is_ok() {
+    fn meets_woken(&self, habits: &mut Habits) {
+        habits.met = (habits.met + 1) % ROW;
+        if habits.met == 0 && self.entrance.word.compare_exchange(WOKEN, NOTHING, SeqCst, SeqCst).is_ok() {
             P::yield_now();
         }
     }
@@ -147,11 +168,13 @@ impl<P: Port> Parking<P> {
     }
 
     /// Wakes the next thread after a step by which `seat` went away, and returns inside once the monitor is owed to it.
-    pub(crate) fn go_away(&self, seat: &mut Seat, next: Next, met: &mut u32) {
+    pub(crate) fn go_away(&self, seat: &mut Seat, next: Next, habits: &mut Habits) {
         let ends = EndsIfUnwound;
-        self.wake(next, met);
+        self.wake(next, habits);
         let bell = &self.bells[seat.number()];
-        if !bell.polls() {
+        let was_seen = bell.polls(habits.polls::<P>());
+        habits.learn(was_seen);
+        if !was_seen {
             bell.sleep_until_owed();
         }
         bell.word.store(NOTHING, SeqCst);

@@ -161,20 +161,14 @@ fn data_of_a_refused_monitor_are_dropped() {
     assert_eq!(Rc::strong_count(&data), 1);
 }
 
-// The bytes that are lost if a guard is forgotten, of a monitor whose data have so many.
-fn lost_by_forgotten_guard(data: usize, places: usize) -> usize {
-    let forgets = || {
-        let (_monitor, mut places) = Monitor::<Vec<u8>, When>::new(vec![0; data], places).unwrap();
-        std::mem::forget(places[0].enter().unwrap());
-    };
-    taken_by(forgets).iter().map(|(_, layout)| layout.size()).sum()
-}
-
 #[test]
-fn a_forgotten_guard_loses_the_door_and_its_place_alone() {
-    let door = taken_by(|| std::mem::forget(Monitor::<Vec<u8>, When>::new(vec![], 1).unwrap()));
-    let all: usize = door.iter().map(|(_, layout)| layout.size()).sum();
-    let lost = lost_by_forgotten_guard(0, 1);
-    assert!(0 < lost && lost < all, "{lost} of {all}");
-    assert_eq!(lost_by_forgotten_guard(1_000_000, 1), lost);
+fn a_place_whose_guard_was_forgotten_leaves_as_it_is_dropped_and_loses_nothing() {
+    let forgets = || {
+        let (_monitor, mut places) = Monitor::<Vec<u8>, When>::new(vec![], 2).unwrap();
+        std::mem::forget(places[0].enter().unwrap());
+        assert!(places[1].try_enter().is_none());
+        drop(places.remove(0));
+        places[0].try_enter().unwrap().unwrap().push(1);
+    };
+    assert_eq!(taken_by(forgets), []);
 }

@@ -1,5 +1,5 @@
-//! An alarm clock, after Hoare: who wants to be woken waits with the time of waking for its priority. A tick wakes
-//! one whose time has come, and each that wakes wakes the next.
+//! An alarm clock, after Hoare: a sleeper waits, with its time of waking for a priority. A tick resumes the first sleeper
+//! whose time has come, and each resumed sleeper resumes the next.
 use std::thread;
 use zaulinte::{conditions, Checks, Inside, Monitor, Place};
 
@@ -19,7 +19,7 @@ fn wake_next(mut clock: Inside<'_, Clock, When>) {
     }
 }
 
-// It answers how late it was woken.
+// Returns how late it was resumed, in ticks.
 fn wake_me(user: &mut User, ticks: u64) -> u64 {
     let mut clock = user.enter().unwrap();
     let at = clock.now + ticks;
@@ -32,7 +32,7 @@ fn wake_me(user: &mut User, ticks: u64) -> u64 {
     late
 }
 
-// It answers how many asked so far, and waits for nobody.
+// Never waits. Returns how many sleepers have begun so far.
 fn tick(user: &mut User) -> usize {
     let mut clock = user.enter().unwrap();
     clock.now += 1;

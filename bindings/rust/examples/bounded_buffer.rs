@@ -1,4 +1,4 @@
-//! A bounded buffer, after Hoare: append waits while it is full, take while it is empty.
+//! A bounded buffer, after Hoare: `append` waits if it is full, `take` if it is empty.
 use std::collections::VecDeque;
 use std::thread;
 use zaulinte::{conditions, Checks, Monitor, Place};

@@ -1,5 +1,5 @@
-//! Buffers for several streams, after Hoare: where none is free the stream waits that wants one, and of those that
-//! wait the one that holds the fewest goes first.
+//! Buffers for several streams, after Hoare: a stream waits if no buffer is free, and of the streams that wait the one
+//! that holds the fewest goes first.
 use std::thread;
 use zaulinte::{conditions, Checks, Monitor, Place};
 
@@ -44,7 +44,7 @@ fn main() {
     let (monitor, users) = Monitor::checked(pool, STREAMS, checks).unwrap();
     let works = |mut user: User| {
         for turn in 0..1000 {
-            let wanted = 1 + (turn + user.number()) % 2; // where each of 4 holds one, one is free
+            let wanted = 1 + (turn + user.number()) % 2; // if each of the 4 streams holds one, one is free
             (0..wanted).for_each(|_| acquire(&mut user));
             (0..wanted).for_each(|_| release(&mut user));
         }

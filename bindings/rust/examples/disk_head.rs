@@ -1,5 +1,5 @@
 //! A disk head that sweeps, after Hoare: requests ahead of it wait for this sweep, the others for the way back. A
-//! request for the cylinder under the head waits for the way back, so that such requests can't hold it there.
+//! request for the cylinder under the head waits for the way back: so such requests can't keep the head there.
 use std::thread;
 use zaulinte::{conditions, Checks, Monitor, Place};
 

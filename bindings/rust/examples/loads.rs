@@ -1,4 +1,4 @@
-//! The loads of bench/hoare.rs over this crate, in its form: bench/run compares them. `loads TURNS`.
+//! The loads of bench/hoare.rs over this crate, in the same form: bench/run compares them. `loads TURNS`.
 use std::sync::Mutex;
 use std::thread;
 use std::time::Instant;
@@ -21,7 +21,7 @@ struct Data {
 
 type User = Place<Data, On>;
 
-// Each body gets a place, and the time is shared by all turns.
+// Gives each body a place. Returns the time per visit, in nanoseconds, and the data.
 fn run(all: u64, bodies: Vec<Box<dyn FnOnce(User) + Send>>) -> (f64, Data) {
     let (monitor, places) = Monitor::<Data, On>::new(Data::default(), bodies.len()).unwrap();
     let start = Instant::now();

@@ -1,10 +1,10 @@
-//! A single resource, after Hoare: who acquires it waits while it is busy, by priority; who releases it hands it over.
+//! A single resource, after Hoare: `acquire` waits if it is busy, by priority, and `release` hands it over.
 use std::thread;
 use zaulinte::{conditions, Checks, Monitor, Place};
 
 conditions! { enum When { NotBusy } }
 
-type User = Place<bool, When>; // whether it is busy
+type User = Place<bool, When>; // true if it is busy
 
 fn acquire(user: &mut User, priority: u64) {
     let mut busy = user.enter().unwrap();

@@ -1,24 +1,24 @@
 //! How threads sleep until the monitor is theirs, and why no wake-up is lost.
 //!
 //! The proved door says which place is inside. What is left is to put the other threads to sleep and to wake them, on
-//! words of two kinds. All accesses to these words that the following rests on are sequentially consistent, and so are
-//! the door's to its own state word, which each attempt and each release reads and writes in one step.
+//! words of two kinds. All accesses on which the following rests are sequentially consistent: those to these words, and
+//! the door's to its own state word, of which each releasing step writes that the monitor is free or owed.
 //!
 //! *The word of a place.* A place sleeps there while it is away. A step names the place as the next once for each time
 //! that it is away, and the thread that made the step then swaps `OWED` in. The place changes the word from `NOTHING` to
 //! `ASLEEP` before it sleeps, by a compare-exchange, and sleeps only while it is `ASLEEP`; it writes `NOTHING` again only
-//! after it found `OWED`. If the swap comes after the compare-exchange it finds `ASLEEP` and its thread wakes the place;
+//! after it found `OWED`. If the swap comes after the compare-exchange it finds `ASLEEP`, and its thread wakes the place;
 //! if it comes before, the compare-exchange fails and the place doesn't sleep. Either way the attempt to return that
 //! follows succeeds, since the step came before the swap.
 //!
 //! *The word of the entrance.* All entering threads sleep there. A thread whose attempt failed writes `ASLEEP` and tries
 //! once more. If that fails too, another place had the monitor, or was owed it, at a moment after the write. That place
-//! releases the monitor later, itself or by way of the places that it resumes, and the thread that makes the releasing
-//! step reads this word after it: so it reads `ASLEEP`, or what was written later. If it reads `ASLEEP` it swaps `WOKEN`
-//! in and wakes one thread. The woken thread writes `ASLEEP` again before its next attempt, since others may sleep still.
-//! So while threads sleep here there is one that has yet to act: if the word is `ASLEEP`, a thread that has yet to
-//! release the monitor, or to try to enter; if it is `WOKEN` or `NOTHING`, a woken thread that has yet to write `ASLEEP`.
-//! A thread that enters at once, after it wrote `ASLEEP` for nothing, costs one wake-up of nobody.
+//! releases the monitor later, itself or by way of the places that go on before the monitor is free. The thread whose
+//! step makes it free reads this word after the step: so it reads `ASLEEP`, or what was written later. If it reads
+//! `ASLEEP` it swaps `WOKEN` in and wakes one thread. The woken thread writes `ASLEEP` again before its next attempt,
+//! since others may sleep still. So while threads sleep here, one thread has yet to act: if the word is `ASLEEP`, a
+//! thread that has yet to try to enter, or to make the monitor free; else a thread that has yet to wake one, or a woken
+//! thread that has yet to write `ASLEEP`. (A thread that wrote `ASLEEP` and then entered costs a wake-up of nobody.)
 use crate::door::{Next, Seat};
 use crate::shared::room_for;
 use crate::{Port, Refused};

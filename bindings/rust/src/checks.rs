@@ -54,7 +54,8 @@ impl<C: Condition, M: Condition> fmt::Debug for Waiting<C, M> {
 /// - `ready` holds for a place that a signal resumes; tested with its condition and priority, and the places that wait
 ///   still.
 ///
-/// Only `rest` finds a forgotten signal, or one on the wrong condition.
+/// Only `rest` finds a forgotten signal, or one on the wrong condition. The functions capture nothing: what they compare
+/// with, a limit say, is kept in the data.
 pub struct Checks<T, C, M = NoConditions> {
     /// Holds always.
     pub inv: fn(&T) -> bool,

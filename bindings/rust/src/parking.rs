@@ -30,8 +30,7 @@ const OWED: u32 = 1;
 const ASLEEP: u32 = 2;
 const WOKEN: u32 = 3;
 
-/// How often a place releases the monitor while a woken thread isn't up yet, before it yields: the woken thread may be
-/// queued on the very same processor.
+/// After so many times in a row a place does what its `Habits` otherwise leave out.
 const ROW: u32 = 256;
 
 /// A word on which threads sleep, on a cache line of its own.
@@ -77,13 +76,14 @@ impl<P: Port> Bell<P> {
 pub(crate) struct Habits {
     /// How often in a row it polled its word and then slept all the same.
     missed: u32,
-    /// How often it released the monitor while a woken thread wasn't up yet.
+    /// How often it released the monitor while a woken thread wasn't up yet. Every `ROW` times it yields: the woken thread
+    /// may be queued on the very same processor.
     met: u32,
 }
 
 impl Habits {
     /// Returns how often to poll. Polling pays if the thread that has the monitor runs at once, and is lost if it waits
-    /// for a processor: so each miss halves the polls of the next time, and every `ROW` misses there are many again.
+    /// for a processor. So each miss halves the polls of the next time, and every `ROW` misses it polls in full again.
     fn polls<P: Port>(&self) -> u32 {
         P::POLLS >> (self.missed % ROW).min(31)
     }
@@ -93,12 +93,13 @@ impl Habits {
     }
 }
 
-/// Ends the program if a port panics while the place is away: its caller still has the guard, and may not touch the data.
+/// Ends the program if a thread unwinds while its place is away: the caller still has the guard, and the data are another
+/// place's.
 struct EndsIfUnwound;
 
 impl Drop for EndsIfUnwound {
     fn drop(&mut self) {
-        panic!("a port panicked while its place was away"); // the second panic at once, so the program ends
+        panic!("a thread can't unwind while its place is away"); // the second panic at once ends the program
     }
 }
 

@@ -1,5 +1,5 @@
-//! An alarm clock, after Hoare: a sleeper waits, with its time of waking for a priority. A tick resumes the first sleeper
-//! whose time has come, and each resumed sleeper resumes the next.
+//! An alarm clock, after Hoare: a sleeper waits, with its time of waking for a priority. A tick resumes the first
+//! sleeper whose time has come, and each resumed sleeper resumes the next.
 use std::thread;
 use zaulinte::{conditions, Checks, Inside, Monitor, Place};
 

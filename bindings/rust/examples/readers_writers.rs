@@ -1,8 +1,8 @@
-//! Readers and writers, after Hoare: several readers read at once, a writer writes alone. A waiting writer goes before new
-//! readers, and after a writer all waiting readers go before the next writer.
+//! Readers and writers, after Hoare: several readers read at once, a writer writes alone. A waiting writer goes before
+//! new readers, and after a writer all waiting readers go before the next writer.
 //!
-//! What they read is outside of the monitor, which guards the counts alone. That pays if a read is long. For a short read
-//! keep the data in the monitor: two visits for each read cost much more than the read.
+//! What they read is outside of the monitor, which guards the counts alone. That pays if a read is long. For a short
+//! read keep the data in the monitor: two visits for each read cost much more than the read.
 use std::sync::atomic::{AtomicU64, Ordering::Relaxed};
 use std::thread;
 use zaulinte::{conditions, Checks, Monitor, Place};

@@ -1,5 +1,5 @@
-//! The proved queue book: which place is inside after each step, for one thread at a time (`bindings/c/zaulinte_book.h`).
-//! [`Monitor`](crate::Monitor) doesn't need it.
+//! The proved queue book: which place is inside after each step, for one thread at a time, as
+//! `bindings/c/zaulinte_book.h` has it. [`Monitor`](crate::Monitor) doesn't need it.
 use crate::handle::Handle;
 
 pub use crate::Refused;

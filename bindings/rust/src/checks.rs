@@ -1,5 +1,6 @@
-//! What holds of a monitor's data. A prover shows it in Rattle; a debug build tests it here.
+//! What holds of a monitor's data, and its tests. In Rattle a proof shows it; a debug build tests it here.
 use crate::conditions::{Condition, NoConditions};
+use crate::{Inside, Port};
 use core::fmt;
 use core::marker::PhantomData;
 
@@ -54,8 +55,8 @@ impl<C: Condition, M: Condition> fmt::Debug for Waiting<C, M> {
 /// - `ready` holds for a place that a signal resumes; tested with its condition and priority, and the places that wait
 ///   still.
 ///
-/// Only `rest` finds a forgotten signal, or one on the wrong condition. The functions capture nothing: what they compare
-/// with, a limit say, is kept in the data.
+/// Only `rest` finds a forgotten signal, or one on the wrong condition. The functions capture nothing: what they
+/// compare with, a limit say, is kept in the data.
 pub struct Checks<T, C, M = NoConditions> {
     /// Holds always.
     pub inv: fn(&T) -> bool,
@@ -80,3 +81,67 @@ impl<T, C, M> Clone for Checks<T, C, M> {
 }
 
 impl<T, C, M> Copy for Checks<T, C, M> {}
+
+/// What a debug build tests as the place leaves, and finds false.
+pub(crate) enum Fault<C, M> {
+    Inv,
+    Rest(Waiting<C, M>),
+}
+
+/// The tests of a debug build.
+impl<T, C: Condition, M: Condition, P: Port> Inside<'_, T, C, M, P> {
+    fn waiting(&mut self) -> Waiting<C, M> {
+        let mut waiting = Waiting { counts: [0; 8], firsts: [None; 8], of: PhantomData };
+        for number in 0..C::COUNT + M::COUNT {
+            waiting.counts[number] = self.place.seat.count(number);
+            waiting.firsts[number] = self.place.seat.first(number);
+        }
+        waiting
+    }
+
+    fn is_tested(&self) -> bool {
+        cfg!(debug_assertions) && !self.place.inner.is_poisoned() && !P::panicking()
+    }
+
+    #[track_caller]
+    pub(crate) fn check_wait(&mut self, number: usize, priority: u64, condition: &dyn fmt::Debug) {
+        if !self.is_tested() {
+            return;
+        }
+        let (checks, place, mut waiting) = (self.place.inner.checks, self.place.seat.number(), self.waiting());
+        waiting.counts[number] += 1;
+        waiting.firsts[number] = Some(waiting.firsts[number].map_or(priority, |first| first.min(priority)));
+        assert!((checks.inv)(self), "`inv` doesn't hold where place {place} waits on {condition:?}");
+        assert!((checks.rest)(self, &waiting), "`rest` doesn't hold where place {place} waits on {condition:?}");
+    }
+
+    #[track_caller]
+    pub(crate) fn check_signal(&mut self, condition: C) {
+        if self.is_tested() && self.queue(condition) {
+            let (checks, place) = (self.place.inner.checks, self.place.seat.number());
+            assert!((checks.inv)(self), "`inv` doesn't hold where place {place} signals {condition:?}");
+        }
+    }
+
+    /// Tests `ready` in the resumed thread: the queues are then as the signal left them.
+    #[track_caller]
+    pub(crate) fn check_ready(&mut self, condition: C, priority: u64) {
+        if !self.is_tested() {
+            return;
+        }
+        let (checks, waiting, signaller) = (self.place.inner.checks, self.waiting(), self.own().signaller);
+        let is_ready = (checks.ready)(condition, priority, self, &waiting);
+        assert!(is_ready, "`ready` of {condition:?} doesn't hold at the signal of place {signaller}");
+    }
+
+    pub(crate) fn fault_at_leave(&mut self) -> Option<Fault<C, M>> {
+        if !self.is_tested() {
+            return None;
+        }
+        let (checks, waiting) = (self.place.inner.checks, self.waiting());
+        if !(checks.inv)(self) {
+            return Some(Fault::Inv);
+        }
+        (!(checks.rest)(self, &waiting)).then_some(Fault::Rest(waiting))
+    }
+}

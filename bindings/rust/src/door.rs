@@ -50,7 +50,8 @@ fn has_entered(code: u64) -> bool {
 pub(crate) struct Door(Handle);
 
 impl Door {
-    /// Makes a door whose last `mesa` conditions are Mesa conditions. Refused: `BadPlaces`, `BadConditions`, `NoMemory`.
+    /// Makes a door whose last `mesa` conditions are Mesa conditions. Refused: `BadPlaces`, `BadConditions`,
+    /// `NoMemory`.
     pub(crate) fn new(places: usize, conditions: usize, mesa: usize) -> Result<Door, Refused> {
         let mut door = Door(Handle::EMPTY);
         // SAFETY: the handle is empty

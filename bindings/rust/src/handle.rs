@@ -10,7 +10,7 @@ pub(crate) struct Handle {
     at: *mut c_void,
 }
 
-// SAFETY: a handle may move between threads (the headers say so), and each call of the archive needs it alone, by `&mut`
+// SAFETY: a handle may move between threads (the headers say so), and each call of the archive has it alone: `&mut`
 unsafe impl Send for Handle {}
 // SAFETY: nothing is done with a shared one
 unsafe impl Sync for Handle {}

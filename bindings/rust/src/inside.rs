@@ -1,5 +1,5 @@
 //! A place inside, with its acts.
-use crate::checks::Waiting;
+use crate::checks::Fault;
 use crate::conditions::{Condition, NoConditions};
 use crate::door::{Next, Seat};
 use crate::monitor::Own;
@@ -50,7 +50,7 @@ use core::sync::atomic::Ordering::Relaxed;
 /// An act panics if a condition's index isn't below its enum's `COUNT`, and in a debug build if a check of
 /// [`Checks`](crate::Checks) fails.
 pub struct Inside<'a, T, C: Condition, M: Condition = NoConditions, P: Port = DefaultPort> {
-    place: &'a mut Place<T, C, M, P>,
+    pub(crate) place: &'a mut Place<T, C, M, P>,
     panicked: bool, // before it entered
     stays: PhantomData<*const ()>,
 }
@@ -174,7 +174,7 @@ impl<'a, T, C: Condition, M: Condition, P: Port> Inside<'a, T, C, M, P> {
 
 /// How the acts release the monitor.
 impl<T, C: Condition, M: Condition, P: Port> Inside<'_, T, C, M, P> {
-    fn own(&mut self) -> &mut Own<T> {
+    pub(crate) fn own(&mut self) -> &mut Own<T> {
         // SAFETY: this place is inside, and no other is
         unsafe { &mut *self.place.inner.own.get() }
     }
@@ -190,70 +190,6 @@ impl<T, C: Condition, M: Condition, P: Port> Inside<'_, T, C, M, P> {
     fn go_away(&mut self, next: Next) {
         let Place { inner, seat, habits, .. } = &mut *self.place;
         inner.parking.go_away(seat, next, habits);
-    }
-}
-
-/// What a debug build tests as the place leaves, and finds false.
-enum Fault<C, M> {
-    Inv,
-    Rest(Waiting<C, M>),
-}
-
-/// What a debug build tests.
-impl<T, C: Condition, M: Condition, P: Port> Inside<'_, T, C, M, P> {
-    fn waiting(&mut self) -> Waiting<C, M> {
-        let mut waiting = Waiting { counts: [0; 8], firsts: [None; 8], of: PhantomData };
-        for number in 0..C::COUNT + M::COUNT {
-            waiting.counts[number] = self.place.seat.count(number);
-            waiting.firsts[number] = self.place.seat.first(number);
-        }
-        waiting
-    }
-
-    fn is_tested(&self) -> bool {
-        cfg!(debug_assertions) && !self.place.inner.is_poisoned() && !P::panicking()
-    }
-
-    #[track_caller]
-    fn check_wait(&mut self, number: usize, priority: u64, condition: &dyn Debug) {
-        if !self.is_tested() {
-            return;
-        }
-        let (checks, place, mut waiting) = (self.place.inner.checks, self.place.seat.number(), self.waiting());
-        waiting.counts[number] += 1;
-        waiting.firsts[number] = Some(waiting.firsts[number].map_or(priority, |first| first.min(priority)));
-        assert!((checks.inv)(self), "`inv` doesn't hold where place {place} waits on {condition:?}");
-        assert!((checks.rest)(self, &waiting), "`rest` doesn't hold where place {place} waits on {condition:?}");
-    }
-
-    #[track_caller]
-    fn check_signal(&mut self, condition: C) {
-        if self.is_tested() && self.queue(condition) {
-            let (checks, place) = (self.place.inner.checks, self.place.seat.number());
-            assert!((checks.inv)(self), "`inv` doesn't hold where place {place} signals {condition:?}");
-        }
-    }
-
-    /// Tests `ready` in the resumed thread: the queues are then as the signal left them.
-    #[track_caller]
-    fn check_ready(&mut self, condition: C, priority: u64) {
-        if !self.is_tested() {
-            return;
-        }
-        let (checks, waiting, signaller) = (self.place.inner.checks, self.waiting(), self.own().signaller);
-        let is_ready = (checks.ready)(condition, priority, self, &waiting);
-        assert!(is_ready, "`ready` of {condition:?} doesn't hold at the signal of place {signaller}");
-    }
-
-    fn fault_at_leave(&mut self) -> Option<Fault<C, M>> {
-        if !self.is_tested() {
-            return None;
-        }
-        let (checks, waiting) = (self.place.inner.checks, self.waiting());
-        if !(checks.inv)(self) {
-            return Some(Fault::Inv);
-        }
-        (!(checks.rest)(self, &waiting)).then_some(Fault::Rest(waiting))
     }
 }
 

@@ -33,8 +33,8 @@ pub(crate) struct Inner<T, C, M, P> {
 unsafe impl<T: Send, C, M, P: Sync> Sync for Inner<T, C, M, P> {}
 
 impl<T, C, M, P> Inner<T, C, M, P> {
-    /// Tests, in a debug build, that the door let in one place alone. This also shows ThreadSanitizer, which doesn't see
-    /// into the archive, the order of the visits.
+    /// Tests, in a debug build, that the door let in one place alone. This also shows the order of the visits to
+    /// ThreadSanitizer, which doesn't see into the archive.
     pub(crate) fn occupy(&self) {
         if cfg!(debug_assertions) {
             assert!(!self.occupied.swap(true, Acquire), "two places are inside");

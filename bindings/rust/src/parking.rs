@@ -4,21 +4,22 @@
 //! words of two kinds. All accesses on which the following rests are sequentially consistent: those to these words, and
 //! the door's to its own state word, of which each releasing step writes that the monitor is free or owed.
 //!
-//! *The word of a place.* A place sleeps there while it is away. A step names the place as the next once for each time
-//! that it is away, and the thread that made the step then swaps `OWED` in. The place changes the word from `NOTHING` to
-//! `ASLEEP` before it sleeps, by a compare-exchange, and sleeps only while it is `ASLEEP`; it writes `NOTHING` again only
-//! after it found `OWED`. If the swap comes after the compare-exchange it finds `ASLEEP`, and its thread wakes the place;
-//! if it comes before, the compare-exchange fails and the place doesn't sleep. Either way the attempt to return that
-//! follows succeeds, since the step came before the swap.
+//! *The word of a place.* A place sleeps there while it is away. A step names the place as the next once for each
+//! time that it is away, and the thread that made the step then swaps `OWED` in. The place changes the word from
+//! `NOTHING` to `ASLEEP` before it sleeps, by a compare-exchange, and sleeps only while it is `ASLEEP`; it writes
+//! `NOTHING` again only after it found `OWED`. If the swap comes after the compare-exchange it finds `ASLEEP`, and its
+//! thread wakes the place; if it comes before, the compare-exchange fails and the place doesn't sleep. Either way the
+//! attempt to return that follows succeeds, since the step came before the swap.
 //!
-//! *The word of the entrance.* All entering threads sleep there. A thread whose attempt failed writes `ASLEEP` and tries
-//! once more. If that fails too, another place had the monitor, or was owed it, at a moment after the write. That place
-//! releases the monitor later, itself or by way of the places that go on before the monitor is free. The thread whose
-//! step makes it free reads this word after the step: so it reads `ASLEEP`, or what was written later. If it reads
-//! `ASLEEP` it swaps `WOKEN` in and wakes one thread. The woken thread writes `ASLEEP` again before its next attempt,
-//! since others may sleep still. So while threads sleep here, one thread has yet to act: if the word is `ASLEEP`, a
-//! thread that has yet to try to enter, or to make the monitor free; else a thread that has yet to wake one, or a woken
-//! thread that has yet to write `ASLEEP`. (A thread that wrote `ASLEEP` and then entered costs a wake-up of nobody.)
+//! *The word of the entrance.* All entering threads sleep there. A thread whose attempt failed writes `ASLEEP` and
+//! tries once more. If that fails too, another place had the monitor, or was owed it, at a moment after the write. That
+//! place releases the monitor later, itself or by way of the places that go on before the monitor is free. The thread
+//! whose step makes it free reads this word after the step: so it reads `ASLEEP`, or what was written later. If it
+//! reads `ASLEEP` it swaps `WOKEN` in and wakes one thread. The woken thread writes `ASLEEP` again before its next
+//! attempt, since others may sleep still. So while threads sleep here, one thread has yet to act: if the word is
+//! `ASLEEP`, a thread that has yet to try to enter, or to make the monitor free; else a thread that has yet to wake
+//! one, or a woken thread that has yet to write `ASLEEP`. (A thread that wrote `ASLEEP` and then entered costs a
+//! wake-up of nobody.)
 use crate::door::{Next, Seat};
 use crate::shared::room_for;
 use crate::{Port, Refused};
@@ -76,8 +77,8 @@ impl<P: Port> Bell<P> {
 pub(crate) struct Habits {
     /// How often in a row it polled its word and then slept all the same.
     missed: u32,
-    /// How often it released the monitor while a woken thread wasn't up yet. Every `ROW` times it yields: the woken thread
-    /// may be queued on the very same processor.
+    /// How often it released the monitor while a woken thread wasn't up yet. Every `ROW` times it yields: the woken
+    /// thread may be queued on the very same processor.
     met: u32,
 }
 
@@ -93,8 +94,8 @@ impl Habits {
     }
 }
 
-/// Ends the program if a thread unwinds while its place is away: the caller still has the guard, and the data are another
-/// place's.
+/// Ends the program if a thread unwinds while its place is away: the caller still has the guard, and the data are
+/// another place's.
 struct EndsIfUnwound;
 
 impl Drop for EndsIfUnwound {

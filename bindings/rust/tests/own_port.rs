@@ -1,9 +1,7 @@
 //! Ports of one's own, with std in the crate or without it: one that spins, one that returns early, one that wakes
 //! nobody, one that panics. `cargo test` and `cargo test --no-default-features` run them.
-use std::os::unix::process::ExitStatusExt;
-use std::process::Command;
 use std::sync::atomic::{AtomicU32, Ordering::SeqCst};
-use std::sync::{mpsc, Condvar, Mutex};
+use std::sync::{mpsc, Arc, Condvar, Mutex};
 use std::thread;
 use std::time::Duration;
 use zaulinte::{conditions, Checks, Monitor, NoConditions, Port};
@@ -14,7 +12,7 @@ type Place<P> = zaulinte::Place<Vec<u32>, When, NoConditions, P>;
 const ITEMS: u32 = 2_000;
 const ROOM: usize = 3;
 
-fn monitor_of<P: Port>(places: usize, port: fn() -> P) -> Vec<Place<P>> {
+fn monitor_of<P: Port>(places: usize, port: impl Fn() -> P) -> Vec<Place<P>> {
     Monitor::<Vec<u32>, When, NoConditions, P>::with_port(vec![], places, Checks::default(), port).unwrap().1
 }
 
@@ -49,26 +47,29 @@ impl Port for Early {
     fn wake_one(&self, _: &AtomicU32) {}
 }
 
-// Sleeps by std, and wakes if it `WAKES`.
+// Sleeps by std, counts the threads that fell asleep, and wakes one if it `wakes`.
 #[derive(Default)]
-struct Sleeper<const WAKES: bool> {
+struct Sleeper {
     lock: Mutex<()>,
     changed: Condvar,
+    asleep: Arc<AtomicU32>,
+    wakes: bool,
 }
 
-impl<const WAKES: bool> Port for Sleeper<WAKES> {
+impl Port for Sleeper {
     const POLLS: u32 = 0;
 
     fn sleep_while(&self, word: &AtomicU32, is: u32) {
         let mut lock = self.lock.lock().unwrap();
         while word.load(SeqCst) == is {
+            self.asleep.fetch_add(1, SeqCst);
             lock = self.changed.wait(lock).unwrap();
         }
     }
 
     fn wake_one(&self, _: &AtomicU32) {
         drop(self.lock.lock());
-        if WAKES {
+        if self.wakes {
             self.changed.notify_one();
         }
     }
@@ -114,60 +115,51 @@ fn a_port_that_returns_early_serves() {
 
 #[test]
 fn a_port_that_never_polls_serves() {
-    buffer_is_in_order(Sleeper::<true>::default);
+    buffer_is_in_order(|| Sleeper { wakes: true, ..Sleeper::default() });
 }
 
-// Returns true if a thread gets on within so long; if not it sleeps until the program ends.
-fn gets_on(time: Duration, act: impl FnOnce() + Send + 'static) -> bool {
+// Runs `act` in a thread until it falls asleep, then `wake`. Returns true if `act` ends within `time`; if not its
+// thread sleeps until the program ends.
+fn ends(asleep: &AtomicU32, time: Duration, act: impl FnOnce() + Send + 'static, wake: impl FnOnce()) -> bool {
     let (tells, is_told) = mpsc::channel();
     thread::spawn(move || {
         act();
         let _ = tells.send(());
     });
+    while asleep.load(SeqCst) == 0 {
+        thread::yield_now();
+    }
+    wake();
     is_told.recv_timeout(time).is_ok()
 }
 
-// One thread waits. Another resumes it, once it waits; returns true if the first gets on.
-fn waiter_gets_on<P: Port + 'static>(port: fn() -> P, time: Duration) -> bool {
-    let mut places = monitor_of(2, port);
+// The second place waits and the first resumes it, or the second enters and the first leaves. Returns true if the
+// second gets on within `time`, by a port that wakes if it `wakes`.
+fn gets_on(waits: bool, wakes: bool, time: Duration) -> bool {
+    let asleep = Arc::new(AtomicU32::new(0));
+    let mut places = monitor_of(2, || Sleeper { asleep: asleep.clone(), wakes, ..Sleeper::default() });
     let (mut there, mut here) = (places.pop().unwrap(), places.pop().unwrap());
-    thread::spawn(move || loop {
-        thread::sleep(Duration::from_millis(50)); // the waiter is asleep by then
-        if here.try_enter().is_some_and(|inside| inside.unwrap().signal_leave(When::NotEmpty)) {
-            return;
-        }
-    });
-    gets_on(time, move || there.enter().unwrap().wait(When::NotEmpty, 0).unwrap())
+    if waits {
+        let act = move || there.enter().unwrap().wait(When::NotEmpty, 0).unwrap();
+        return ends(&asleep, time, act, || assert!(here.enter().unwrap().signal_leave(When::NotEmpty)));
+    }
+    let inside = here.enter().unwrap();
+    ends(&asleep, time, move || drop(there.enter().unwrap()), || drop(inside))
 }
 
-// One thread is inside; another enters and sleeps. The first leaves; returns true if the second gets on.
-fn entering_gets_on<P: Port + 'static>(port: fn() -> P, time: Duration) -> bool {
-    let mut places = monitor_of(2, port);
-    let (mut there, mut here) = (places.pop().unwrap(), places.pop().unwrap());
-    let (tells, is_told) = mpsc::channel();
-    thread::spawn(move || {
-        let inside = here.enter().unwrap();
-        tells.send(()).unwrap();
-        thread::sleep(Duration::from_millis(50)); // the other is asleep by then
-        drop(inside);
-    });
-    is_told.recv().unwrap();
-    gets_on(time, move || drop(there.enter().unwrap()))
-}
-
-const SOON: Duration = Duration::from_millis(1_000);
+const SOON: Duration = Duration::from_secs(1);
 const LATE: Duration = Duration::from_secs(60);
 
 #[test]
 fn a_lost_wake_up_of_a_waiter_hangs() {
-    assert!(waiter_gets_on(Sleeper::<true>::default, LATE));
-    assert!(!waiter_gets_on(Sleeper::<false>::default, SOON));
+    assert!(gets_on(true, true, LATE));
+    assert!(!gets_on(true, false, SOON));
 }
 
 #[test]
 fn a_lost_wake_up_of_an_entering_thread_hangs() {
-    assert!(entering_gets_on(Sleeper::<true>::default, LATE));
-    assert!(!entering_gets_on(Sleeper::<false>::default, SOON));
+    assert!(gets_on(false, true, LATE));
+    assert!(!gets_on(false, false, SOON));
 }
 
 #[test]
@@ -208,9 +200,14 @@ fn waits_by_a_port_that_panics() {
     std::process::exit(0);
 }
 
+#[cfg(unix)]
 #[test]
 fn a_port_that_panics_while_its_place_is_away_ends_the_program() {
+    use std::os::unix::process::ExitStatusExt;
     let program = std::env::current_exe().unwrap();
-    let child = Command::new(program).args(["--ignored", "--exact", "waits_by_a_port_that_panics"]).output().unwrap();
+    let child = std::process::Command::new(program)
+        .args(["--ignored", "--exact", "waits_by_a_port_that_panics"])
+        .output()
+        .unwrap();
     assert_eq!(child.status.signal(), Some(6), "{child:?}"); // SIGABRT
 }

@@ -173,7 +173,7 @@ impl<T: Send, C: Condition, M: Condition, P: Port> Place<T, C, M, P> {
     pub fn enter(&mut self) -> LockResult<Inside<'_, T, C, M, P>> {
         self.must_be_outside();
         if !self.seat.try_enter() {
-            self.inner.parking.sleep_and_enter(&mut self.seat);
+            self.inner.parking.enter_later(&mut self.seat);
         }
         self.entered()
     }

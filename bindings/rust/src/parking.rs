@@ -24,6 +24,8 @@ use crate::door::{Next, Seat};
 use crate::shared::room_for;
 use crate::{Port, Refused};
 use alloc::vec::Vec;
+use core::hint::spin_loop;
+use core::iter::successors;
 use core::sync::atomic::{AtomicU32, Ordering::Acquire, Ordering::SeqCst};
 
 const NOTHING: u32 = 0;
@@ -57,7 +59,7 @@ impl<P: Port> Bell<P> {
     /// Polls the word at most `most` times, until it is `OWED`. Returns true if it is.
     fn polls(&self, most: u32) -> bool {
         (0..most).any(|_| {
-            core::hint::spin_loop();
+            spin_loop();
             self.word.load(Acquire) == OWED
         })
     }
@@ -159,9 +161,22 @@ impl<P: Port> Parking<P> {
         }
     }
 
+    /// Tries again and again, each time after twice as many spin hints, up to [`Port::ENTRANCE_POLLS`]. Returns true if
+    /// it entered.
+    fn tries(seat: &mut Seat) -> bool {
+        let hints = successors(Some(1_u32), |hints| hints.checked_mul(2));
+        hints.take_while(|&hints| hints <= P::ENTRANCE_POLLS).any(|hints| {
+            (0..hints).for_each(|_| spin_loop());
+            seat.try_enter()
+        })
+    }
+
     /// Enters, after an attempt that failed: sleeps as long as the monitor isn't free.
     #[cold]
-    pub(crate) fn sleep_and_enter(&self, seat: &mut Seat) {
+    pub(crate) fn enter_later(&self, seat: &mut Seat) {
+        if Self::tries(seat) {
+            return;
+        }
         self.entrance.word.store(ASLEEP, SeqCst);
         while !seat.try_enter() {
             self.entrance.sleep_while(ASLEEP);

@@ -9,6 +9,7 @@ pub mod book;
 mod checks;
 mod conditions;
 mod door;
+mod habits;
 mod handle;
 mod heap;
 mod inside;

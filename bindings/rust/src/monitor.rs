@@ -1,7 +1,8 @@
 //! A monitor and its places.
 use crate::conditions::{Condition, NoConditions};
 use crate::door::{Door, Next, Seat};
-use crate::parking::{Habits, Parking};
+use crate::habits::Habits;
+use crate::parking::Parking;
 use crate::poison::{LockResult, PoisonError};
 use crate::shared::{room_for, Shared};
 use crate::{Checks, DefaultPort, Inside, Port, Refused};
@@ -173,7 +174,7 @@ impl<T: Send, C: Condition, M: Condition, P: Port> Place<T, C, M, P> {
     pub fn enter(&mut self) -> LockResult<Inside<'_, T, C, M, P>> {
         self.must_be_outside();
         if !self.seat.try_enter() {
-            self.inner.parking.enter_later(&mut self.seat);
+            self.inner.parking.enter_later(&mut self.seat, &mut self.habits);
         }
         self.entered()
     }

@@ -21,6 +21,7 @@
 //! one, or a woken thread that has yet to write `ASLEEP`. (A thread that wrote `ASLEEP` and then entered costs a
 //! wake-up of nobody.)
 use crate::door::{Next, Seat};
+use crate::habits::Habits;
 use crate::shared::room_for;
 use crate::{Port, Refused};
 use alloc::vec::Vec;
@@ -32,9 +33,6 @@ const NOTHING: u32 = 0;
 const OWED: u32 = 1;
 const ASLEEP: u32 = 2;
 const WOKEN: u32 = 3;
-
-/// After so many times in a row a place does what its `Habits` otherwise leave out.
-const ROW: u32 = 256;
 
 /// A word on which threads sleep, on a cache line of its own.
 #[repr(align(64))]
@@ -74,26 +72,13 @@ impl<P: Port> Bell<P> {
     }
 }
 
-/// What a place learned of the other threads. Performance only.
-#[derive(Default)]
-pub(crate) struct Habits {
-    /// How often in a row it polled its word and then slept all the same.
-    missed: u32,
-    /// How often it released the monitor while a woken thread wasn't up yet. Every `ROW` times it yields: the woken
-    /// thread may be queued on the very same processor.
-    met: u32,
-}
-
-impl Habits {
-    /// Returns how often to poll. Polling pays if the thread that has the monitor runs at once, and is lost if it waits
-    /// for a processor. So each miss halves the polls of the next time, and every `ROW` misses it polls in full again.
-    fn polls<P: Port>(&self) -> u32 {
-        P::POLLS >> (self.missed % ROW).min(31)
-    }
-
-    fn learn(&mut self, was_seen: bool) {
-        self.missed = if was_seen { 0 } else { self.missed.wrapping_add(1) };
-    }
+/// Tries to enter after 1, 2, 4 .. spin hints, up to `most`. Returns true if the place entered.
+fn tries(seat: &mut Seat, most: u32) -> bool {
+    let hints = successors(Some(1_u32), |hints| hints.checked_mul(2));
+    hints.take_while(|&hints| hints <= most).any(|hints| {
+        (0..hints).for_each(|_| spin_loop());
+        seat.try_enter()
+    })
 }
 
 /// Ends the program if a thread unwinds while its place is away: the caller still has the guard, and the data are
@@ -153,28 +138,18 @@ impl<P: Port> Parking<P> {
         }
     }
 
+    /// Yields now and then, since the woken thread may be queued on the very same processor.
     #[cold]
     fn meets_woken(&self, habits: &mut Habits) {
-        habits.met = (habits.met + 1) % ROW;
-        if habits.met == 0 && self.entrance.word.compare_exchange(WOKEN, NOTHING, SeqCst, SeqCst).is_ok() {
+        if habits.is_to_yield() && self.entrance.word.compare_exchange(WOKEN, NOTHING, SeqCst, SeqCst).is_ok() {
             P::yield_now();
         }
     }
 
-    /// Tries again and again, each time after twice as many spin hints, up to [`Port::ENTRANCE_POLLS`]. Returns true if
-    /// it entered.
-    fn tries(seat: &mut Seat) -> bool {
-        let hints = successors(Some(1_u32), |hints| hints.checked_mul(2));
-        hints.take_while(|&hints| hints <= P::ENTRANCE_POLLS).any(|hints| {
-            (0..hints).for_each(|_| spin_loop());
-            seat.try_enter()
-        })
-    }
-
     /// Enters, after an attempt that failed: sleeps as long as the monitor isn't free.
     #[cold]
-    pub(crate) fn enter_later(&self, seat: &mut Seat) {
-        if Self::tries(seat) {
+    pub(crate) fn enter_later(&self, seat: &mut Seat, habits: &mut Habits) {
+        if habits.at_entrance.poll(P::ENTRANCE_POLLS, |most| tries(seat, most)) {
             return;
         }
         self.entrance.word.store(ASLEEP, SeqCst);
@@ -189,9 +164,7 @@ impl<P: Port> Parking<P> {
         let ends = EndsIfUnwound;
         self.wake(next, habits);
         let bell = &self.bells[seat.number()];
-        let was_seen = bell.polls(habits.polls::<P>());
-        habits.learn(was_seen);
-        if !was_seen {
+        if !habits.at_bell.poll(P::POLLS, |most| bell.polls(most)) {
             bell.sleep_until_owed();
         }
         bell.word.store(NOTHING, SeqCst);

@@ -40,7 +40,8 @@ pub trait Port: Send + Sync {
     /// How often a place that is away polls its own word before it sleeps, at most. 0 on a single processor.
     const POLLS: u32 = 500;
 
-    /// An entering thread whose attempt failed tries again after 1, 2, 4 .. spin hints, up to so many, before it sleeps.
+    /// An entering thread whose attempt failed tries again after 1, 2, 4 .. spin hints, up to so many, before it
+    /// sleeps.
     const ENTRANCE_POLLS: u32 = 0;
 
     /// Blocks the calling thread while `word` has the value `is`. The test and the falling asleep are one step to

@@ -18,7 +18,6 @@ mod parking;
 mod poison;
 mod port;
 mod refused;
-mod shared;
 #[cfg(feature = "std")]
 mod std_port;
 

@@ -4,8 +4,9 @@ use crate::door::{Door, Next, Seat};
 use crate::habits::Habits;
 use crate::parking::Parking;
 use crate::poison::{LockResult, PoisonError};
-use crate::shared::{room_for, Shared};
+use crate::refused::room_for;
 use crate::{Checks, DefaultPort, Inside, Port, Refused};
+use alloc::sync::Arc;
 use alloc::vec::Vec;
 use core::cell::UnsafeCell;
 use core::fmt;
@@ -75,7 +76,7 @@ impl<T, C, M, P> Inner<T, C, M, P> {
 /// # conditions! { enum When { Ever } }
 /// let _ = Monitor::<std::rc::Rc<u32>, When>::new(std::rc::Rc::new(0), 1);
 /// ```
-pub struct Monitor<T, C, M = NoConditions, P = DefaultPort>(Shared<Inner<T, C, M, P>>);
+pub struct Monitor<T, C, M = NoConditions, P = DefaultPort>(Arc<Inner<T, C, M, P>>);
 
 /// A place: the thread that owns it may enter the monitor. It moves between threads, and can't be copied; each act
 /// needs it alone, so two threads can't be under one place.
@@ -84,7 +85,7 @@ pub struct Monitor<T, C, M = NoConditions, P = DefaultPort>(Shared<Inner<T, C, M
 /// (`mem::forget`), it leaves first. Until then no other place enters.
 pub struct Place<T, C, M = NoConditions, P: Port = DefaultPort> {
     pub(crate) seat: Seat, // in front of `inner`, whose door closes only after the place was given back
-    pub(crate) inner: Shared<Inner<T, C, M, P>>,
+    pub(crate) inner: Arc<Inner<T, C, M, P>>,
     pub(crate) is_inside: bool,
     pub(crate) habits: Habits,
 }
@@ -109,7 +110,8 @@ impl<T: Send, C: Condition, M: Condition> Monitor<T, C, M> {
 impl<T: Send, C: Condition, M: Condition, P: Port> Monitor<T, C, M, P> {
     /// Makes a monitor whose threads sleep and wake by a port of yours, with its 1 to 64 places, each at the index of
     /// its number. `ports` is called once for each place and once more. A debug build tests `checks`. Refused:
-    /// `BadPlaces`, `BadConditions`, `NoMemory`; then the data are dropped.
+    /// `BadPlaces`, `BadConditions`, `NoMemory`; then the data are dropped. The last allocation is that of an `Arc`, for
+    /// what the monitor and its places share: if it fails the program ends, as elsewhere in Rust.
     #[allow(clippy::type_complexity)]
     pub fn with_port(
         data: T,
@@ -126,15 +128,9 @@ impl<T: Send, C: Condition, M: Condition, P: Port> Monitor<T, C, M, P> {
         }
         let (poisoned, occupied) = (AtomicBool::new(false), AtomicBool::new(false));
         let own = UnsafeCell::new(Own { data, signaller: 0 });
-        let inner = match Shared::try_new(Inner { _door: door, parking, poisoned, occupied, checks, own }) {
-            Ok(inner) => inner,
-            Err(inner) => {
-                drop((seats, inner)); // in this order: the door closes once each place was given back
-                return Err(Refused::NoMemory);
-            }
-        };
+        let inner = Arc::new(Inner { _door: door, parking, poisoned, occupied, checks, own });
         seats.reverse(); // the door gave the last one out first
-        let place = |seat| Place { seat, inner: inner.clone(), is_inside: false, habits: Habits::default() };
+        let place = |seat| Place { seat, inner: Arc::clone(&inner), is_inside: false, habits: Habits::default() };
         all.extend(seats.into_iter().map(place));
         Ok((Monitor(inner), all))
     }
@@ -152,7 +148,7 @@ impl<T: Send, C: Condition, M: Condition, P: Port> Monitor<T, C, M, P> {
     /// Returns the data, if each place was dropped, in an error if a thread panicked inside. Else returns nothing, and
     /// the places keep the data.
     pub fn into_inner(self) -> Option<LockResult<T>> {
-        let Inner { poisoned, own, .. } = self.0.into_inner()?;
+        let Inner { poisoned, own, .. } = Arc::into_inner(self.0)?;
         let data = own.into_inner().data;
         Some(if poisoned.into_inner() { Err(PoisonError::new(data)) } else { Ok(data) })
     }

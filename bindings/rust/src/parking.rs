@@ -22,7 +22,7 @@
 //! wake-up of nobody.)
 use crate::door::{Next, Seat};
 use crate::habits::Habits;
-use crate::shared::room_for;
+use crate::refused::room_for;
 use crate::{Port, Refused};
 use alloc::vec::Vec;
 use core::hint::spin_loop;

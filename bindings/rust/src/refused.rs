@@ -1,4 +1,5 @@
 //! Refusals.
+use alloc::vec::Vec;
 use core::fmt;
 
 /// Why a call was refused. The call changed nothing then. If several refusals apply, a call returns the one that its
@@ -44,6 +45,13 @@ impl Refused {
             code => unreachable!("the archive returned {code}"),
         }
     }
+}
+
+/// Returns an empty vector with room for `count`. Refused: `NoMemory`.
+pub(crate) fn room_for<X>(count: usize) -> Result<Vec<X>, Refused> {
+    let mut room = Vec::new();
+    room.try_reserve_exact(count).map_err(|_| Refused::NoMemory)?;
+    Ok(room)
 }
 
 impl fmt::Display for Refused {

@@ -129,7 +129,7 @@ fn a_monitor_that_is_used_takes_no_more() {
     assert_eq!(taken_by(uses), []);
 }
 
-// A monitor with the allocation after so many refused.
+// Makes a monitor with the allocation after so many refused.
 fn with_failure_after(succeed: usize, places: usize) -> Option<Refused> {
     BEFORE_FAILURE.with(|before| before.set(Some(succeed)));
     let made = Small::new(7, places);
@@ -137,17 +137,26 @@ fn with_failure_after(succeed: usize, places: usize) -> Option<Refused> {
     made.err()
 }
 
+// How many allocations it takes to make a monitor.
+fn requests(places: usize) -> usize {
+    BEFORE_FAILURE.with(|before| before.set(Some(usize::MAX)));
+    let made = Small::new(7, places);
+    let left = BEFORE_FAILURE.with(|before| before.replace(None));
+    assert!(made.is_ok());
+    usize::MAX - left.unwrap()
+}
+
 #[test]
 fn a_refused_allocation_is_an_error_at_each_request_and_loses_nothing() {
     for places in [1, 5, 64] {
-        let mut requests = 0;
-        let mut refused = None;
-        while taken_by(|| refused = with_failure_after(requests, places)).is_empty() && refused.is_some() {
-            assert_eq!(refused, Some(Refused::NoMemory));
-            requests += 1;
+        let requests = requests(places);
+        assert!(requests > places); // each place has memory of its own
+        for succeed in 0..requests - 1 {
+            // the last is the `Arc`'s, at which the program would end
+            let mut refused = None;
+            assert_eq!(taken_by(|| refused = with_failure_after(succeed, places)), []);
+            assert_eq!(refused, Some(Refused::NoMemory), "request {succeed} of {places} places");
         }
-        assert_eq!(refused, None, "request {requests} of {places} places lost memory");
-        assert!(requests > places);
     }
 }
 

@@ -1,84 +1,182 @@
-/* zaulinte_monitor.h: a running monitor for threads, over the proved book. C11 or C++17.
+/* zaulinte_monitor.h: a running monitor for threads, on the proved door. C11 or C++17.
  *
- * NOT PROVED: zaulinte_monitor.c is plain C (one word, and a bell for each place). Who goes on is asked of the
- * proved book at every step that hands the monitor on. What isn't proved: that threads follow the word, sleep and
- * wake, and that your data are touched inside only.
+ * PROVED: which place enters and which resumes, with any number of threads, and that one place at a time is inside
+ * (zaulinte_door.h). NOT PROVED, tested: this header, zaulinte_monitor.c and the port, which say which thread sleeps
+ * and which it wakes; by a fault in them a thread may sleep for ever, but not enter beside another. The caller touches
+ * the monitor's data inside only.
  *
- * Linux has futexes; elsewhere, or with -DZAULINTE_CONDVAR, POSIX condition variables serve. Compile all that
- * includes this header with the same choice. */
+ * zaulinte_port.h says what the monitor asks of its platform. Compile all that includes this header, and
+ * zaulinte_monitor.c, with the same ZAULINTE_PORT and the same ZAULINTE_CHECKS: else the program doesn't link. */
 #ifndef ZAULINTE_MONITOR_H
 #define ZAULINTE_MONITOR_H
-#include "zaulinte_book.h"
+#include "zaulinte_book.h" /* its codes */
+#include "zaulinte_door.h"
 #include <stdbool.h>
-#if !defined(__linux__) && !defined(ZAULINTE_CONDVAR)
-#define ZAULINTE_CONDVAR
+#include "zaulinte_port.h"
+#if __STDC_HOSTED__
+#include <stdio.h>
+#include <stdlib.h>
+#include <string.h>
 #endif
-#ifdef ZAULINTE_CONDVAR
-#include <pthread.h>
+#ifndef ZAULINTE_BELL_FIELDS
+#define ZAULINTE_BELL_FIELDS
+#endif
+#ifdef __GNUC__
+#define ZAULINTE_CODE __attribute__((warn_unused_result)) uint64_t
+#else
+#define ZAULINTE_CODE uint64_t
 #endif
 #ifdef __cplusplus /* C++ never touches the fields: the same layout with plain words */
-#define ZAULINTE_WORD uint32_t
+#define ZAULINTE_WORD(type) type
 extern "C" {
 #else
 #include <stdalign.h>
 #include <stdatomic.h>
-#define ZAULINTE_WORD _Atomic uint32_t
+#define ZAULINTE_WORD(type) _Atomic type
 #endif
 
-/* A code beside those of the book: `free` while a place is inside or waits. */
-enum { ZAULINTE_IN_USE = 112 };
+/* Codes beside those of zaulinte_book.h. */
+enum {
+    ZAULINTE_IN_USE = 112,    /* `free` while a place is inside, waits or is in a call */
+    ZAULINTE_MISALIGNED = 115 /* a monitor that doesn't lie at a multiple of 64 */
+};
 
 /* What a thread sleeps on. */
 typedef struct zaulinte_bell {
-    alignas(64) ZAULINTE_WORD word;
-    ZAULINTE_WORD way; /* of a place's: how it makes way before it comes in again */
-#ifdef ZAULINTE_CONDVAR
-    pthread_mutex_t lock;
-    pthread_cond_t rung;
-#endif
+    ZAULINTE_WORD(uint32_t) word;
+    ZAULINTE_BELL_FIELDS /* the port's */
 } zaulinte_bell;
 
-/* Start with `static zaulinte_monitor m;`, or all zero at a multiple of 64 (by aligned_alloc and memset, not calloc).
- * Some 4 KB; with condition variables some 8. */
+/* A place, on cache lines of its own. */
+typedef struct zaulinte_place {
+    alignas(64) zaulinte_bell bell; /* its word says where the place is (zaulinte_monitor.c) */
+    zaulinte_door_place handle;
+#ifdef ZAULINTE_CHECKS
+    ZAULINTE_WORD(uintptr_t) thread; /* the thread of a place inside or away, else 0 */
+#endif
+} zaulinte_place;
+
+/* The waiters on each condition, for a check: how many, and the priority of the one that a signal would resume. */
+typedef struct zaulinte_waiting {
+    uint64_t count[8], first[8];
+} zaulinte_waiting;
+
+/* What holds of a monitor's data (`context`). A null pointer holds always.
+ * inv: whenever the monitor is released. rest: at a leave and at a wait; the place that begins to wait is among the
+ * waiters. ready: what a waiter on one of Hoare's conditions finds when it is resumed, and which waiters are left. */
+typedef bool (*zaulinte_inv)(void *context);
+typedef bool (*zaulinte_rest)(void *context, const zaulinte_waiting *waiting);
+typedef bool (*zaulinte_ready)(void *context, uint32_t condition, uint64_t priority, const zaulinte_waiting *waiting);
+
+/* Start with `static zaulinte_monitor m;`, with all zero at a multiple of 64, or by `zaulinte_new`. Some 4 KB; with
+ * condition variables some 8. */
 typedef struct zaulinte_monitor {
-    zaulinte_bell door;     /* 0 free, 1 held, 2 held and newcomers may sleep */
-    zaulinte_book book;     /* this, and the fields from `told` to `away`, are for who has the door alone */
-    ZAULINTE_WORD inside;   /* 1 + the place that is inside, else 0 */
-    ZAULINTE_WORD awaited;  /* whether a newcomer was woken that hasn't got up */
-    bool told;              /* the book was told that the place came in */
-    bool left;              /* who handed the monitor on last left it by that act */
-    uint32_t last, row;     /* the place that came in last, and how often in a row */
-    uint32_t hoare;         /* how many of the conditions are Hoare's */
-    uint64_t away;          /* a bit for each place that waits, as a signaller or on a condition, or was called */
-    zaulinte_bell bell[64]; /* 0 nothing, 1 go on, 2 asleep */
+    alignas(64) zaulinte_bell entrance; /* newcomers sleep on it */
+    ZAULINTE_WORD(uint32_t) places;     /* 0: there is no monitor */
+    zaulinte_door door;
+#ifdef ZAULINTE_CHECKS
+    uint32_t conditions, hoare, signaller; /* the place that signalled last */
+    zaulinte_inv inv;
+    zaulinte_rest rest;
+    zaulinte_ready ready;
+    void *context;
+#endif
+    zaulinte_place place[64];
 } zaulinte_monitor;
 
-/* Sizes as of zaulinte_book_make: a place for each thread that may be in it at once. 0, or 108 to 111. */
-uint64_t zaulinte_make(zaulinte_monitor *m, uint64_t places, uint64_t conditions, uint64_t mesa);
-/* 0; 107 there is none; 112 a place is inside or waits. No other call on it may be under way, one that leaves
- * included: join its threads first. */
-uint64_t zaulinte_free(zaulinte_monitor *m);
+/* zaulinte_make has the choices of the build in its name, so that two choices don't link. */
+#define ZAULINTE_JOINED(name, port) name##port
+#define ZAULINTE_JOIN(name, port) ZAULINTE_JOINED(name, port)
+#ifdef ZAULINTE_CHECKS
+#define zaulinte_make ZAULINTE_JOIN(zaulinte_make_checked_, ZAULINTE_PORT_NAME)
+#else
+#define zaulinte_make ZAULINTE_JOIN(zaulinte_make_, ZAULINTE_PORT_NAME)
+#endif
 
-/* Each answers 0, or a refusal, and then nothing happened. An act: 101 (a place of 64 or more), 104 (any other that
- * isn't inside, where there is no monitor too), 105, 106. `enter`: 101, 103 (the place is inside or waits), 107; that a
- * place waits, or isn't there, or that no monitor is, it finds once the door is open. A place's number belongs to one
- * thread at a time. */
-uint64_t zaulinte_enter(zaulinte_monitor *m, uint32_t place);
-/* The same, without waiting: 102 where the monitor isn't free. */
-uint64_t zaulinte_try_enter(zaulinte_monitor *m, uint32_t place);
-uint64_t zaulinte_leave(zaulinte_monitor *m, uint32_t place);
-uint64_t zaulinte_wait(zaulinte_monitor *m, uint32_t place, uint32_t condition, uint64_t priority);
-/* Hoare's conditions: who is resumed goes on at once. *resumed, the thread's own or NULL, tells whether somebody
- * waited. */
-uint64_t zaulinte_signal(zaulinte_monitor *m, uint32_t place, uint32_t condition, bool *resumed);
-uint64_t zaulinte_signal_leave(zaulinte_monitor *m, uint32_t place, uint32_t condition, bool *resumed);
-/* Mesa conditions: who is called goes on later, and has to test again. *called tells how many were (it may be NULL). */
-uint64_t zaulinte_notify(zaulinte_monitor *m, uint32_t place, uint32_t condition, uint64_t *called);
-uint64_t zaulinte_broadcast(zaulinte_monitor *m, uint32_t place, uint32_t condition, uint64_t *called);
-/* Questions of the place inside: as zaulinte_book_queue, _first and _count, or 104. */
-uint64_t zaulinte_queue(zaulinte_monitor *m, uint32_t place, uint32_t condition);
-uint64_t zaulinte_first(zaulinte_monitor *m, uint32_t place, uint32_t condition, uint64_t *priority);
-uint64_t zaulinte_count(zaulinte_monitor *m, uint32_t place, uint32_t condition, uint64_t *count);
+/* Makes a monitor of 1 to 64 places, one for each thread that may be in it at once, and 1 to 8 conditions, the last
+ * `mesa` of which are Mesa conditions. 0, or 115, 108 to 111. */
+ZAULINTE_CODE zaulinte_make(zaulinte_monitor *m, uint64_t places, uint64_t conditions, uint64_t mesa);
+/* Undoes it. 0; 107 if there is none; 112, and nothing happened, while a place is inside, waits or is in a call. A
+ * thread that begins a call after that isn't held up: join the threads first. */
+ZAULINTE_CODE zaulinte_free(zaulinte_monitor *m);
+
+/* Each call below returns 0, or a refusal, and then nothing happened; `queue` and `first` return 1 or 0.
+ *
+ * A place's number belongs to one thread at a time. 103 is the refusal of a call while another call at the same place
+ * is under way (a wait is, until the place is resumed). A build with ZAULINTE_CHECKS remembers the thread of a place
+ * that is inside or away, and refuses the calls of any other by 103.
+ *
+ * enter: 101 (no such place), 103 (the place is inside or waits), 107 (no monitor). It may block. */
+ZAULINTE_CODE zaulinte_enter(zaulinte_monitor *m, uint32_t place);
+/* The same without blocking: 102 if the monitor isn't free. */
+ZAULINTE_CODE zaulinte_try_enter(zaulinte_monitor *m, uint32_t place);
+/* An act of the place inside: 101 (a place of 64 or more), 103, 104 (the place is outside), 105, 106. */
+ZAULINTE_CODE zaulinte_leave(zaulinte_monitor *m, uint32_t place);
+ZAULINTE_CODE zaulinte_wait(zaulinte_monitor *m, uint32_t place, uint32_t condition, uint64_t priority);
+/* Signals one of Hoare's conditions: the resumed place is inside at once. *resumed, a word of the thread's own or NULL,
+ * is whether a place waited. */
+ZAULINTE_CODE zaulinte_signal(zaulinte_monitor *m, uint32_t place, uint32_t condition, bool *resumed);
+ZAULINTE_CODE zaulinte_signal_leave(zaulinte_monitor *m, uint32_t place, uint32_t condition, bool *resumed);
+/* Notifies on a Mesa condition: a notified place resumes later, and tests again. *called, or NULL, is how many were. */
+ZAULINTE_CODE zaulinte_notify(zaulinte_monitor *m, uint32_t place, uint32_t condition, uint64_t *called);
+ZAULINTE_CODE zaulinte_broadcast(zaulinte_monitor *m, uint32_t place, uint32_t condition, uint64_t *called);
+/* Questions of the place inside: whether a place waits there (a notified one doesn't), 1 or 0; the same, and at 1
+ * *priority is that of the place that a signal would resume; how many wait. */
+ZAULINTE_CODE zaulinte_queue(zaulinte_monitor *m, uint32_t place, uint32_t condition);
+ZAULINTE_CODE zaulinte_first(zaulinte_monitor *m, uint32_t place, uint32_t condition, uint64_t *priority);
+ZAULINTE_CODE zaulinte_count(zaulinte_monitor *m, uint32_t place, uint32_t condition, uint64_t *count);
+
+/* Says what holds of the data. Call it behind `make`, before any thread enters. A build with ZAULINTE_CHECKS tests
+ * it at each wait, signal and leave; if it doesn't hold, the build prints which of the three, place and condition, and
+ * aborts. Another build tests nothing. */
+void zaulinte_check(zaulinte_monitor *m, zaulinte_inv inv, zaulinte_rest rest, zaulinte_ready ready, void *context);
+
+/* Returns the meaning of a code. */
+static inline const char *zaulinte_text(uint64_t code) {
+    switch (code) {
+    case ZAULINTE_DONE: return "done";
+    case ZAULINTE_NO_PLACE: return "there is no such place";
+    case ZAULINTE_NOT_FREE: return "the monitor isn't free";
+    case ZAULINTE_NOT_OUTSIDE: return "the place is inside, or in another call";
+    case ZAULINTE_NOT_INSIDE: return "the place isn't inside";
+    case ZAULINTE_NO_CONDITION: return "there is no such condition";
+    case ZAULINTE_WRONG_KIND: return "the condition is of the other kind";
+    case ZAULINTE_NO_BOOK: return "there is no monitor";
+    case ZAULINTE_IS_MADE: return "there is a monitor already";
+    case ZAULINTE_BAD_PLACES: return "a monitor has 1 to 64 places";
+    case ZAULINTE_BAD_CONDITIONS: return "a monitor has 1 to 8 conditions";
+    case ZAULINTE_NO_MEMORY: return "out of memory";
+    case ZAULINTE_IN_USE: return "a place is inside, waits or is in a call";
+    case ZAULINTE_MISALIGNED: return "the monitor isn't at a multiple of 64";
+    default: return "no code of a monitor";
+    }
+}
+
+#if __STDC_HOSTED__
+/* Tests the code of a call: a refusal prints file, line, call and text, and aborts. */
+#define ZAULINTE_CHECK(call) zaulinte_test((call), #call, __FILE__, __LINE__)
+static inline void zaulinte_test(uint64_t code, const char *call, const char *file, int line) {
+    if (!code) return;
+    fprintf(stderr, "%s:%d: %s: %s (%d)\n", file, line, call, zaulinte_text(code), (int)code);
+    abort();
+}
+/* Makes a monitor in memory of its own. A null pointer, and *code, or NULL, is why: 108 to 111. */
+static inline zaulinte_monitor *zaulinte_new(uint64_t places, uint64_t conditions, uint64_t mesa, uint64_t *code) {
+    void *at = aligned_alloc(64, sizeof(zaulinte_monitor));
+    zaulinte_monitor *m = (zaulinte_monitor *)(at ? memset(at, 0, sizeof *m) : NULL);
+    uint64_t refused = m ? zaulinte_make(m, places, conditions, mesa) : (uint64_t)ZAULINTE_NO_MEMORY;
+    if (code) *code = refused;
+    if (!refused) return m;
+    free(m);
+    return NULL;
+}
+/* Undoes it: 0, or 112, and nothing happened. */
+static inline ZAULINTE_CODE zaulinte_delete(zaulinte_monitor *m) {
+    uint64_t refused = zaulinte_free(m);
+    if (!refused) free(m);
+    return refused;
+}
+#endif
 #ifdef __cplusplus
 }
 #endif

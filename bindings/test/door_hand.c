@@ -1,5 +1,5 @@
 /* The door's calls once more, by hand and not proved, in the place of libdoor_c.a: to see that door.c finds each of
- * the faults that -DWRONG=1 to -DWRONG=21 put in, one at a time. Each call takes one lock. */
+ * the faults that -DWRONG=1 to -DWRONG=22 put in, one at a time. Each call takes one lock. */
 #include "zaulinte_door.h"
 #include <pthread.h>
 #include <stdbool.h>
@@ -23,6 +23,7 @@ typedef struct { waiter at[64]; unsigned many; } list;
 typedef struct {
     uint64_t places, conditions, mesa, value;
     uint64_t has; /* the place that is inside, or to which the monitor is owed, or FREE */
+    uint64_t is_owed, passed_over; /* the latter by fault 22: 1 + the place that a newcomer entered before, or 0 */
     list kept, back, waiting[8], signallers, notified; /* `back`: given back, since `kept` was filled last */
 } hand;
 typedef struct { hand *h; uint64_t number, state; } seat;
@@ -51,11 +52,18 @@ static uint64_t take(list *l) {
     return place;
 }
 static uint64_t take_last(list *l) { return l->at[--l->many].place; }
+static uint64_t owes(hand *h, uint64_t place) {
+    h->is_owed = true;
+    return h->has = place;
+}
 static uint64_t released(hand *h) {
+    uint64_t first = h->passed_over;
+    h->passed_over = 0;
+    if (first) return owes(h, first - 1);
     bool notified = h->notified.many && (IS_WRONG(2) || !h->signallers.many);
-    if (notified) return h->has = take(&h->notified);
+    if (notified) return owes(h, take(&h->notified));
     if (!h->signallers.many) return h->has = FREE;
-    return h->has = IS_WRONG(3) ? take_last(&h->signallers) : take(&h->signallers);
+    return owes(h, IS_WRONG(3) ? take_last(&h->signallers) : take(&h->signallers));
 }
 static uint64_t refused(seat *s) {
     if (!s) return ZAULINTE_DOOR_NOTHING_HELD;
@@ -132,7 +140,10 @@ uint64_t zaulinte_door_try_enter(zaulinte_door_place *place) {
     if (!s) return done(ZAULINTE_DOOR_NOTHING_HELD);
     if (IS_WRONG(11) && s->h->has != FREE) return done(ZAULINTE_DOOR_NOT_NOW);
     if (s->state != OUT) return done(ZAULINTE_DOOR_NOT_OUTSIDE);
-    if (s->h->has != FREE && !IS_WRONG(17)) return done(ZAULINTE_DOOR_NOT_NOW);
+    bool passes = IS_WRONG(22) && s->h->has != FREE && s->h->is_owed;
+    if (s->h->has != FREE && !passes && !IS_WRONG(17)) return done(ZAULINTE_DOOR_NOT_NOW);
+    if (passes) s->h->passed_over = 1 + s->h->has;
+    s->h->is_owed = false;
     s->h->has = s->number, s->state = IN;
     return done(ZAULINTE_DOOR_ENTERED);
 }
@@ -141,6 +152,7 @@ uint64_t zaulinte_door_try_return(zaulinte_door_place *place) {
     if (!s) return done(ZAULINTE_DOOR_NOTHING_HELD);
     if (s->state != AWAY) return done(ZAULINTE_DOOR_NOT_AWAY);
     if (s->h->has != s->number) return done(ZAULINTE_DOOR_NOT_NOW);
+    s->h->is_owed = false;
     s->state = IN;
     return done(ZAULINTE_DOOR_ENTERED);
 }
@@ -166,7 +178,7 @@ uint64_t zaulinte_door_signal(zaulinte_door_place *place, uint64_t c) {
     if (!s->h->waiting[c].many) return done(ZAULINTE_DOOR_NOBODY);
     append(&s->h->signallers, s->number);
     s->state = AWAY;
-    return done(s->h->has = take(&s->h->waiting[c]));
+    return done(owes(s->h, take(&s->h->waiting[c])));
 }
 uint64_t zaulinte_door_signal_leave(zaulinte_door_place *place, uint64_t c) {
     seat *s = held(place->live, place->at);
@@ -174,7 +186,7 @@ uint64_t zaulinte_door_signal_leave(zaulinte_door_place *place, uint64_t c) {
     if (why) return done(why);
     s->state = OUT;
     if (IS_WRONG(12) || !s->h->waiting[c].many) return done(released(s->h));
-    return done(s->h->has = take(&s->h->waiting[c]));
+    return done(owes(s->h, take(&s->h->waiting[c])));
 }
 static uint64_t notifies(zaulinte_door_place *place, uint64_t c, uint64_t most) {
     seat *s = held(place->live, place->at);

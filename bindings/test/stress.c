@@ -1,6 +1,6 @@
 /* Eight threads and a sweeper at one monitor of three of Hoare's conditions and a Mesa condition, with drawn waits,
- * priorities, signals, passes, notifies and broadcasts, and with misuse, which has to be refused. Who is inside
- * writes the log, and judge.c reads it: stress CALLS [SEED] | judge. */
+ * priorities, signals, notifies and broadcasts, and with misuse, which has to be refused. The thread inside writes the
+ * log, and judge.c reads it: stress CALLS [SEED] | judge. */
 #define _GNU_SOURCE
 #include "zaulinte_monitor.h"
 #include <inttypes.h>
@@ -9,7 +9,7 @@
 #include <stdio.h>
 #include <stdlib.h>
 
-enum { WORKERS = 8, PLACES = WORKERS + 1, HOARE = 3, MESA = 3, CONDITIONS = 4 };
+enum { WORKERS = 8, PLACES = WORKERS + 1, SPARE = PLACES, HOARE = 3, MESA = 3, CONDITIONS = 4 };
 enum kind { ADMIT, LEAVE, BACK, RESUME, WAIT, SIGNAL, PASS, NOTIFY, BROADCAST, EMPTY, ASKED };
 static const char *const names[] = {"admit",  "leave",  "back",      "resume", "wait", "signal",
                                     "pass",   "notify", "broadcast", "empty",  "asked"};
@@ -23,16 +23,21 @@ static event *events;
 static size_t many, room;
 static uint64_t data, finished; /* plain: touched inside only */
 
-static void put(enum kind kind, uint32_t place, uint32_t condition, uint64_t number, uint64_t first) {
-    if (many == room) abort();
-    events[many++] = (event){kind, place, condition, number, first, data};
-}
 static void shows(void);
-static void is(uint64_t code, uint64_t wanted) {
-    if (code == wanted) return;
-    fprintf(stderr, "code %" PRIu64 " and not %" PRIu64 "\n", code, wanted);
+static void fails(const char *why) {
+    fprintf(stderr, "%s\n", why);
     shows(); /* for the judge, as far as it came */
     exit(1);
+}
+static void put(enum kind kind, uint32_t place, uint32_t condition, uint64_t number, uint64_t first) {
+    if (many == room) fails("the log is full");
+    events[many++] = (event){kind, place, condition, number, first, data};
+}
+static void is(uint64_t code, uint64_t wanted) {
+    if (code == wanted) return;
+    char why[64];
+    snprintf(why, sizeof why, "code %" PRIu64 " and not %" PRIu64, code, wanted);
+    fails(why);
 }
 static uint64_t draw(uint64_t *seed) {
     *seed = *seed * 6364136223846793005u + 1442695040888963407u;
@@ -74,16 +79,20 @@ static void calls(uint32_t me, bool all) {
     is((all ? zaulinte_broadcast : zaulinte_notify)(&m, me, MESA, &called), 0);
     is(called, all ? count : count > 0);
 }
+/* an act of another thread's place, which is outside, or in a call of that thread: it waits or is about to enter */
+static void acts_for_another(uint32_t other) {
+    uint64_t code = zaulinte_leave(&m, other);
+    is(code, code == ZAULINTE_NOT_OUTSIDE ? code : ZAULINTE_NOT_INSIDE);
+}
 static void misuses(uint32_t me, uint64_t lot) {
-    uint32_t other = (me + 1) % PLACES;
     switch (lot % 9) {
     case 0: is(zaulinte_wait(&m, me, CONDITIONS, 0), ZAULINTE_NO_CONDITION); break;
-    case 1: is(zaulinte_leave(&m, other), ZAULINTE_NOT_INSIDE); break;
+    case 1: acts_for_another((me + 1) % PLACES); break;
     case 2: is(zaulinte_enter(&m, me), ZAULINTE_NOT_OUTSIDE); break;
     case 3: is(zaulinte_signal(&m, me, MESA, NULL), ZAULINTE_WRONG_KIND); break;
     case 4: is(zaulinte_broadcast(&m, me, 0, NULL), ZAULINTE_WRONG_KIND); break;
     case 5: is(zaulinte_wait(&m, UINT32_MAX, 0, 0), ZAULINTE_NO_PLACE); break;
-    case 6: is(zaulinte_try_enter(&m, other), ZAULINTE_NOT_FREE); break;
+    case 6: is(zaulinte_try_enter(&m, SPARE), ZAULINTE_NOT_FREE); break; /* a place that no thread has */
     case 7: is(zaulinte_free(&m), ZAULINTE_IN_USE); break;
     default: is(zaulinte_make(&m, 1, 1, 0), ZAULINTE_IS_MADE);
     }
@@ -132,7 +141,7 @@ static void *sweeps(void *p) {
     return NULL;
 }
 static void shows(void) {
-    printf("sizes %d %d 1\n", PLACES, CONDITIONS);
+    printf("sizes %d %d 1\n", PLACES, CONDITIONS); /* the spare place never enters */
     for (size_t i = 0; i < many; i++) {
         event e = events[i];
         printf("%s %" PRIu32, names[e.kind], e.place);
@@ -149,7 +158,7 @@ int main(int argc, char **argv) {
     events = malloc(room * sizeof *events);
     if (!events) return 2;
     is(zaulinte_enter(&m, 0), ZAULINTE_NO_BOOK);
-    is(zaulinte_make(&m, PLACES, CONDITIONS, 1), 0);
+    is(zaulinte_make(&m, PLACES + 1, CONDITIONS, 1), 0);
     pthread_t ids[PLACES];
     job jobs[PLACES];
     for (uint32_t k = 0; k < PLACES; k++) {

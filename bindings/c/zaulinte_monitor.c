@@ -25,7 +25,7 @@ static uint64_t claim(zaulinte_monitor *m, uint32_t place, uint32_t from) {
     uint32_t is = from;
     if (place >= 64) return ZAULINTE_NO_PLACE;
     if (atomic_compare_exchange_strong(&m->place[place].bell.word, &is, IN_CALL)) {
-        __tsan_release(m);
+        __tsan_release(&m->door);
         return is_own_thread(m, place) ? 0 : ends(m, place, from, ZAULINTE_NOT_OUTSIDE);
     }
     if (is > INSIDE || from == OUTSIDE) return is != ABSENT ? ZAULINTE_NOT_OUTSIDE : m->places ? ZAULINTE_NO_PLACE : ZAULINTE_NO_BOOK;
@@ -40,7 +40,7 @@ static void wake(zaulinte_monitor *m, uint64_t next) {
 
 static bool enters(zaulinte_monitor *m, uint32_t place) {
     if (zaulinte_door_try_enter(at(m, place)) != ZAULINTE_DOOR_ENTERED) return false;
-    __tsan_acquire(m);
+    __tsan_acquire(&m->door);
     remember_thread(m, place);
     return true;
 }
@@ -77,7 +77,7 @@ static void resumes(zaulinte_monitor *m, uint32_t place, uint64_t next) {
         while (!is_rung(mine)) port_sleep_while(mine, ASLEEP);
         atomic_store(&mine->word, IN_CALL);
     } while (zaulinte_door_try_return(at(m, place)) != ZAULINTE_DOOR_ENTERED);
-    __tsan_acquire(m);
+    __tsan_acquire(&m->door);
 }
 uint64_t zaulinte_leave(zaulinte_monitor *m, uint32_t place) {
     uint64_t refused = claim(m, place, INSIDE);

@@ -1,0 +1,127 @@
+/* Two threads under one place, and a third under another one: no call corrupts the monitor, and a call is refused by 103
+ * while the other thread is in a call at that place. one_place [VISITS].
+ *
+ * `visit`: each thread leaves only if it entered, so its counts are exact, and the data are right in every build.
+ * `misuse`: each thread makes drawn calls and ignores their codes. A build without ZAULINTE_CHECKS doesn't tell the
+ * threads apart between their calls, so one may leave for the other: as many visits end as begin, all the same, and the
+ * monitor works and can be freed. A build with ZAULINTE_CHECKS refuses: each thread ends its own visits alone. */
+#define _GNU_SOURCE
+#include "zaulinte_monitor.h"
+#include <inttypes.h>
+#include <pthread.h>
+#include <sched.h>
+
+enum { SHARED, HELPER, PLACES, CONDITION = 0 };
+typedef struct {
+    uint64_t visits, seed, entered, left, refused;
+} thread;
+static zaulinte_monitor m;
+static uint64_t value; /* touched inside only */
+static _Atomic bool is_over, was_refused;
+static pthread_barrier_t start;
+
+static void is(bool held, const char *what) {
+    if (held) return;
+    fprintf(stderr, "one_place: %s\n", what);
+    exit(1);
+}
+static uint64_t draw(thread *t) {
+    t->seed = t->seed * 6364136223846793005u + 1442695040888963407u;
+    return t->seed >> 33;
+}
+/* counts a refusal, which is none of the others' */
+static uint64_t counted(thread *t, uint64_t code) {
+    is(code <= 1 || code == ZAULINTE_NOT_OUTSIDE || code == ZAULINTE_NOT_INSIDE, zaulinte_text(code));
+    if (code != ZAULINTE_NOT_OUTSIDE) return code;
+    was_refused = true;
+    t->refused++;
+    return code;
+}
+
+static void *visits(void *p) {
+    thread *t = p;
+    pthread_barrier_wait(&start);
+    while (t->entered < t->visits || !was_refused) {
+        if (counted(t, zaulinte_enter(&m, SHARED))) continue;
+        t->entered++;
+        value++;
+        if (t->entered % 64 == 0) sched_yield(); /* so that the other thread calls now */
+        ZAULINTE_CHECK(zaulinte_leave(&m, SHARED));
+    }
+    return NULL;
+}
+static void one_call(thread *t) {
+    uint64_t number;
+    bool resumed;
+    switch (draw(t) % 8) {
+    case 0: case 1: t->entered += !counted(t, zaulinte_enter(&m, SHARED)); break;
+    case 2: case 3: t->left += !counted(t, zaulinte_leave(&m, SHARED)); break;
+    case 4: t->left += !counted(t, zaulinte_signal_leave(&m, SHARED, CONDITION, NULL)); break;
+    case 5: counted(t, zaulinte_wait(&m, SHARED, CONDITION, 0)); break;
+    case 6: counted(t, zaulinte_signal(&m, SHARED, CONDITION, &resumed)); break;
+    default: counted(t, zaulinte_count(&m, SHARED, CONDITION, &number));
+    }
+}
+static void *misuses(void *p) {
+    thread *t = p;
+    pthread_barrier_wait(&start);
+    for (uint64_t i = 0; i < t->visits; i++) {
+        one_call(t);
+        if (i % 64 == 0) sched_yield();
+#ifdef ZAULINTE_CHECKS
+        is(t->entered == t->left || t->entered == t->left + 1, "a thread left for the other one");
+#endif
+    }
+#ifdef ZAULINTE_CHECKS
+    while (t->entered > t->left) t->left += !counted(t, zaulinte_leave(&m, SHARED));
+#endif
+    return NULL;
+}
+/* under a place of its own: resumes what waits, and finds no refusal */
+static void *helps(void *unused) {
+    while (!is_over) {
+        bool resumed = true;
+        ZAULINTE_CHECK(zaulinte_enter(&m, HELPER));
+        value++;
+        while (resumed) ZAULINTE_CHECK(zaulinte_signal(&m, HELPER, CONDITION, &resumed));
+        value--;
+        ZAULINTE_CHECK(zaulinte_leave(&m, HELPER));
+        sched_yield();
+    }
+    return unused;
+}
+static pthread_t helper;
+static uint64_t counts(thread *t, uint64_t visited) {
+    is(t[0].entered + t[1].entered == visited, "visits or data were lost");
+    is(t[0].refused + t[1].refused > 0, "no call was refused");
+    return t[0].refused + t[1].refused;
+}
+static void begins(void *(*does)(void *), uint64_t visits, thread *t) {
+    pthread_t ids[2];
+    is_over = was_refused = false;
+    pthread_barrier_init(&start, NULL, 2);
+    ZAULINTE_CHECK(zaulinte_make(&m, PLACES, 1, 0));
+    pthread_create(&helper, NULL, helps, NULL);
+    for (int k = 0; k < 2; k++) t[k] = (thread){visits, 7 + (uint64_t)k, 0, 0, 0};
+    for (int k = 0; k < 2; k++) pthread_create(&ids[k], NULL, does, &t[k]);
+    for (int k = 0; k < 2; k++) pthread_join(ids[k], NULL);
+}
+static void ends(void) {
+    is_over = true;
+    pthread_join(helper, NULL);
+    pthread_barrier_destroy(&start);
+    ZAULINTE_CHECK(zaulinte_free(&m));
+}
+int main(int argc, char **argv) {
+    uint64_t wanted = argc > 1 ? strtoull(argv[1], NULL, 10) : 100000;
+    thread t[2];
+    begins(visits, wanted, t);
+    ends();
+    is(value >= 2 * wanted, "too few visits");
+    printf("%" PRIu64 " visits, %" PRIu64 " refused\n", value, counts(t, value));
+    begins(misuses, wanted, t);
+    uint64_t left = t[0].left + t[1].left, is_inside = t[0].entered + t[1].entered > left;
+    if (is_inside) ZAULINTE_CHECK(zaulinte_leave(&m, SHARED));
+    ends();
+    printf("%" PRIu64 " visits by misuse, %" PRIu64 " refused\n", left + is_inside, counts(t, left + is_inside));
+}

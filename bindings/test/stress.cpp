@@ -1,4 +1,4 @@
-// The stress of stress.c once more, by zaulinte.hpp. What it prints is for judge.c: stress_cpp CALLS [SEED] | judge.
+// The stress of stress.c once more, by zaulinte.hpp. Its output is for judge.c: stress_cpp CALLS [SEED] | judge.
 #include "zaulinte.hpp"
 #include <cstdio>
 #include <cstdlib>
@@ -6,11 +6,12 @@
 #include <thread>
 #include <vector>
 
-enum class on { a, b, c, mesa };
-constexpr unsigned workers = 8, places = workers + 1, all_conditions = 4, hoare = 3;
+ZAULINTE_CONDITIONS(on, a, b, c);
+ZAULINTE_CONDITIONS(called_on, mesa);
+constexpr unsigned workers = 8, places = workers + 1, spare = places, all_conditions = 4, hoare = 3;
 struct event {
     const char *kind;
-    int many; // numbers behind the place
+    int many; // numbers after the place
     std::uint64_t number[5];
 };
 struct log {
@@ -18,7 +19,7 @@ struct log {
     std::uint64_t data = 0;
     unsigned finished = 0;
 };
-using monitor = zaulinte::monitor<log, on, all_conditions, 1>;
+using monitor = zaulinte::monitor<log, on, called_on>;
 
 static std::uint64_t draw(std::uint64_t &seed) {
     seed = seed * 6364136223846793005u + 1442695040888963407u;
@@ -41,12 +42,18 @@ template <class F> static void is_refused(std::uint64_t code, F f) {
     is(was == code);
 }
 static unsigned at(on c) { return static_cast<unsigned>(c); }
-static std::uint64_t asks(monitor::inside &in, unsigned me, on c) {
+static unsigned at(called_on c) { return hoare + static_cast<unsigned>(c); }
+template <class C> static std::uint64_t asks(monitor::inside &in, unsigned me, C c) {
     std::uint64_t many = in.count(c);
     auto first = in.first(c);
     is(first.has_value() == (many > 0) && in.queue(c) == (many > 0));
     put(in, "asked", me, at(c), many, first.value_or(0));
     return many;
+}
+template <class C> static void waits(monitor::inside &in, unsigned me, C c, std::uint64_t priority) {
+    put(in, "wait", me, at(c), priority);
+    in.wait(c, priority);
+    put(in, "resume", me, at(c));
 }
 static void signals(monitor::inside &in, unsigned me, on c) {
     bool was = in.queue(c);
@@ -55,30 +62,30 @@ static void signals(monitor::inside &in, unsigned me, on c) {
     if (was) put(in, "back", me);
 }
 static void calls(monitor::inside &in, unsigned me, bool all) {
-    std::uint64_t many = in.count(on::mesa);
-    if (all && many) put(in, "broadcast", me, at(on::mesa), many);
-    else put(in, many ? "notify" : "empty", me, at(on::mesa));
-    is(all ? in.broadcast(on::mesa) == many : in.notify(on::mesa) == (many > 0));
+    std::uint64_t many = in.count(called_on::mesa);
+    if (all && many) put(in, "broadcast", me, at(called_on::mesa), many);
+    else put(in, many ? "notify" : "empty", me, at(called_on::mesa));
+    is(all ? in.broadcast(called_on::mesa) == many : in.notify(called_on::mesa) == (many > 0));
 }
 static void misuses(monitor &m, monitor::inside &in, unsigned me, std::uint64_t lot) {
     switch (lot % 5) {
-    case 0: is_refused(ZAULINTE_NO_CONDITION, [&] { in.wait(static_cast<on>(9)); }); break;
-    case 1: is_refused(ZAULINTE_WRONG_KIND, [&] { in.signal(on::mesa); }); break;
-    case 2: is_refused(ZAULINTE_WRONG_KIND, [&] { in.broadcast(on::a); }); break;
+    case 0: is_refused(ZAULINTE_NO_CONDITION, [&] { in.wait(static_cast<on>(hoare)); }); break;
+    case 1: is_refused(ZAULINTE_NO_CONDITION, [&] { in.signal(static_cast<on>(hoare)); }); break;
+    case 2: is_refused(ZAULINTE_NO_CONDITION, [&] { in.broadcast(static_cast<called_on>(UINT32_MAX)); }); break;
     case 3: is_refused(ZAULINTE_NOT_OUTSIDE, [&] { (void)m.enter(me); }); break;
-    default: is(!m.try_enter((me + 1) % places));
+    default: is(!m.try_enter(spare)); // a place that no thread has
     }
 }
 static void step(monitor &m, monitor::inside &in, unsigned me, std::uint64_t lot) {
     std::uint64_t waiting = 0;
-    for (unsigned c = 0; c < all_conditions; c++) waiting += asks(in, me, static_cast<on>(c));
-    on c = static_cast<on>(lot / 8 % all_conditions);
+    for (unsigned c = 0; c < hoare; c++) waiting += asks(in, me, static_cast<on>(c));
+    waiting += asks(in, me, called_on::mesa);
+    unsigned c = static_cast<unsigned>(lot / 8 % all_conditions);
     if (lot % 8 < 4 && waiting < workers / 2) {
-        put(in, "wait", me, at(c), lot / 64 % 4);
-        in.wait(c, lot / 64 % 4);
-        put(in, "resume", me, at(c));
-    } else if (c == on::mesa) calls(in, me, lot / 64 % 2);
-    else signals(in, me, c);
+        if (c == hoare) waits(in, me, called_on::mesa, lot / 64 % 4);
+        else waits(in, me, static_cast<on>(c), lot / 64 % 4);
+    } else if (c == hoare) calls(in, me, lot / 64 % 2);
+    else signals(in, me, static_cast<on>(c));
     in->data++;
     if (lot / 1024 % 4 == 0) misuses(m, in, me, lot / 4096);
 }
@@ -128,7 +135,7 @@ static void sweeps(monitor &m, unsigned me) {
 int main(int argc, char **argv) {
     std::uint64_t wanted = argc > 1 ? std::stoull(argv[1]) : 10000, seed = argc > 2 ? std::stoull(argv[2]) : 1;
     is_refused(ZAULINTE_BAD_PLACES, [] { monitor none(65); });
-    monitor m(places);
+    monitor m(places + 1); // and the spare one
     std::vector<std::thread> threads;
     for (unsigned k = 0; k < workers; k++)
         threads.emplace_back([&, k] { works(m, k, wanted / (workers * 10), seed * 1000 + k); });

@@ -1,19 +1,20 @@
-// Readers and writers, after Hoare: readers are in together, a writer alone. Who wants to write goes before new
-// readers, and behind a writer all readers that wait go before the next writer.
+// Readers and writers, after Hoare: readers use the data together, a writer alone. A waiting writer goes before new
+// readers; after a writer all waiting readers go before the next writer. For a short read keep the data in the monitor
+// instead: a read by two visits, as here, costs two (docs/BINDINGS.md).
 #include "zaulinte.hpp"
 #include <cstdio>
 #include <cstdlib>
 #include <thread>
 #include <vector>
 
-enum class may { read, write };
+ZAULINTE_CONDITIONS(may, read, write);
 
 class readers_writers {
     struct counts {
         unsigned readers = 0;
         bool writes = false;
     };
-    zaulinte::monitor<counts, may, 2> m;
+    zaulinte::monitor<counts, may> m;
 
   public:
     explicit readers_writers(unsigned places) : m(places) {}
@@ -22,7 +23,7 @@ class readers_writers {
         auto in = m.enter(place);
         if (in->writes || in.queue(may::write)) in.wait(may::read);
         in->readers++;
-        in.signal_leave(may::read); // the next reader that waits
+        in.signal_leave(may::read); // the next waiting reader
     }
     void end_read(unsigned place) {
         auto in = m.enter(place);
@@ -44,7 +45,7 @@ int main() {
     constexpr unsigned places = 6;
     constexpr long turns = 2000;
     readers_writers lock(places);
-    long left = 0, right = 0; // written together, and so always the same
+    long left = 0, right = 0; // written together, so always the same
     std::vector<std::thread> threads;
     for (unsigned k = 0; k < places; k++) {
         threads.emplace_back([&, k] {

@@ -1,19 +1,22 @@
-/* zaulinte_checks.h: a part of zaulinte_monitor.c: what a build with ZAULINTE_CHECKS tests besides. In another build each
- * function does nothing. NOT PROVED. */
+/* zaulinte_checks.h: the part of zaulinte_monitor.c that only a build with ZAULINTE_CHECKS has: it tells threads apart,
+ * and tests what holds of the data. In another build each function does nothing. NOT PROVED. */
 #ifdef ZAULINTE_CHECKS
 #include <inttypes.h>
 #include <stdio.h>
 #include <stdlib.h>
 
-/* the thread of a place */
+/* The thread of a place that is inside or away. */
 static bool is_own_thread(zaulinte_monitor *m, uint32_t place) {
     uintptr_t thread = atomic_load(&m->place[place].thread);
     return thread == 0 || thread == port_thread();
 }
-static void remember_thread(zaulinte_monitor *m, uint32_t place) { atomic_store(&m->place[place].thread, port_thread()); }
+static void remember_thread(zaulinte_monitor *m, uint32_t place) {
+    atomic_store(&m->place[place].thread, port_thread());
+}
 static void forget_thread(zaulinte_monitor *m, uint32_t place) { atomic_store(&m->place[place].thread, 0); }
 
-/* the data. An assertion is tested by the place inside, before a step that releases the monitor; `ready` after. */
+/* inv and rest are tested by the place inside, before a step that releases the monitor; ready by the place that was
+ * resumed, after its step. */
 static void make_checks(zaulinte_monitor *m, uint64_t conditions, uint64_t mesa) {
     m->conditions = (uint32_t)conditions, m->hoare = (uint32_t)(conditions - mesa);
 }

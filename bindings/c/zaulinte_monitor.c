@@ -1,16 +1,11 @@
-/* A running monitor on the proved door: which thread sleeps, and which one is woken. NOT PROVED, tested. zaulinte_port.h
- * says why no wake-up is lost. */
-#ifdef __cplusplus
-#error "compile zaulinte_monitor.c as C"
-#endif
+/* A running monitor on the proved door: which thread sleeps, and which one is woken. NOT PROVED, tested. Why no wake-up
+ * is lost is said in zaulinte_port.h. */
 #include "zaulinte_monitor.h"
 #define ZAULINTE_PORT_CODE
 #include "zaulinte_port.h"
-#include <stddef.h>
 
 /* A place's word. That of the entrance is ABSENT, or ASLEEP if a newcomer may sleep there. */
-enum { ABSENT, OUTSIDE, INSIDE, IN_CALL, ASLEEP, RUNG };
-enum { NOBODY = ZAULINTE_DOOR_NOBODY };
+enum { ABSENT, OUTSIDE, INSIDE, IN_CALL, ASLEEP, RUNG, NOBODY = ZAULINTE_DOOR_NOBODY };
 static zaulinte_door_place *at(zaulinte_monitor *m, uint32_t place) { return &m->place[place].handle; }
 #include "zaulinte_checks.h"
 
@@ -28,8 +23,9 @@ static uint64_t claim(zaulinte_monitor *m, uint32_t place, uint32_t from) {
         __tsan_release(&m->door);
         return is_own_thread(m, place) ? 0 : ends(m, place, from, ZAULINTE_NOT_OUTSIDE);
     }
-    if (is > INSIDE || from == OUTSIDE) return is != ABSENT ? ZAULINTE_NOT_OUTSIDE : m->places ? ZAULINTE_NO_PLACE : ZAULINTE_NO_BOOK;
-    return ZAULINTE_NOT_INSIDE;
+    if (is >= INSIDE) return ZAULINTE_NOT_OUTSIDE;
+    if (from == INSIDE) return ZAULINTE_NOT_INSIDE;
+    return m->places ? ZAULINTE_NO_PLACE : ZAULINTE_NO_BOOK;
 }
 /* Wakes the thread of the place that has the monitor next; if none has it, one newcomer. */
 static void wake(zaulinte_monitor *m, uint64_t next) {
@@ -44,39 +40,34 @@ static bool enters(zaulinte_monitor *m, uint32_t place) {
     remember_thread(m, place);
     return true;
 }
-uint64_t zaulinte_enter(zaulinte_monitor *m, uint32_t place) {
+static uint64_t enter(zaulinte_monitor *m, uint32_t place, bool blocks) {
     uint64_t refused = claim(m, place, OUTSIDE);
     if (refused) return refused;
     bool is_in = enters(m, place);
-    for (int hints = 1; !is_in && hints <= ZAULINTE_ENTRANCE_POLLS; hints *= 2) {
+    for (int hints = 1; blocks && !is_in && hints <= ZAULINTE_ENTRANCE_POLLS; hints *= 2) {
         for (int i = 0; i < hints; i++) port_relax();
         is_in = enters(m, place);
     }
-    while (!is_in) {
+    while (blocks && !is_in) {
         atomic_store(&m->entrance.word, ASLEEP);
         is_in = enters(m, place);
         if (!is_in) port_sleep_while(&m->entrance, ASLEEP);
     }
-    return ends(m, place, INSIDE, 0);
+    return is_in ? ends(m, place, INSIDE, 0) : ends(m, place, OUTSIDE, ZAULINTE_NOT_FREE);
 }
-uint64_t zaulinte_try_enter(zaulinte_monitor *m, uint32_t place) {
-    uint64_t refused = claim(m, place, OUTSIDE);
-    if (refused) return refused;
-    return enters(m, place) ? ends(m, place, INSIDE, 0) : ends(m, place, OUTSIDE, ZAULINTE_NOT_FREE);
-}
+uint64_t zaulinte_enter(zaulinte_monitor *m, uint32_t place) { return enter(m, place, true); }
+uint64_t zaulinte_try_enter(zaulinte_monitor *m, uint32_t place) { return enter(m, place, false); }
 
 static bool is_rung(zaulinte_bell *b) { return atomic_load(&b->word) == RUNG; }
-/* Wakes the next, and blocks until the place is back. One ring comes for each return, so the outer loop ends at once. */
+/* Wakes the next, and blocks until the place is back. */
 static void resumes(zaulinte_monitor *m, uint32_t place, uint64_t next) {
     zaulinte_bell *mine = &m->place[place].bell;
+    uint32_t is = IN_CALL;
     wake(m, next);
-    do {
-        uint32_t is = IN_CALL;
-        for (int i = 0; i < ZAULINTE_POLLS && !is_rung(mine); i++) port_relax();
-        atomic_compare_exchange_strong(&mine->word, &is, ASLEEP);
-        while (!is_rung(mine)) port_sleep_while(mine, ASLEEP);
-        atomic_store(&mine->word, IN_CALL);
-    } while (zaulinte_door_try_return(at(m, place)) != ZAULINTE_DOOR_ENTERED);
+    for (int i = 0; i < ZAULINTE_POLLS && !is_rung(mine); i++) port_relax();
+    atomic_compare_exchange_strong(&mine->word, &is, ASLEEP);
+    while (!is_rung(mine) || zaulinte_door_try_return(at(m, place)) != ZAULINTE_DOOR_ENTERED)
+        port_sleep_while(mine, ASLEEP);
     __tsan_acquire(&m->door);
 }
 uint64_t zaulinte_leave(zaulinte_monitor *m, uint32_t place) {
@@ -118,28 +109,28 @@ uint64_t zaulinte_signal_leave(zaulinte_monitor *m, uint32_t place, uint32_t con
     return ends(m, place, OUTSIDE, 0);
 }
 
-/* The other calls of the place inside. `tell` returns a number by a pointer, or a refusal. */
+/* Returns a step's number by a pointer, or its refusal. */
 static uint64_t tell(uint64_t number, uint64_t *to) {
     if (number <= NOBODY && to) *to = number;
     return number <= NOBODY ? 0 : number;
 }
-#define INSIDE_ONLY(call) \
+#define BY_PLACE_INSIDE(call) \
     uint64_t refused = claim(m, place, INSIDE); \
     return refused ? refused : ends(m, place, INSIDE, call)
 uint64_t zaulinte_notify(zaulinte_monitor *m, uint32_t place, uint32_t condition, uint64_t *called) {
-    INSIDE_ONLY(tell(zaulinte_door_notify(at(m, place), condition), called));
+    BY_PLACE_INSIDE(tell(zaulinte_door_notify(at(m, place), condition), called));
 }
 uint64_t zaulinte_broadcast(zaulinte_monitor *m, uint32_t place, uint32_t condition, uint64_t *called) {
-    INSIDE_ONLY(tell(zaulinte_door_broadcast(at(m, place), condition), called));
+    BY_PLACE_INSIDE(tell(zaulinte_door_broadcast(at(m, place), condition), called));
 }
 uint64_t zaulinte_count(zaulinte_monitor *m, uint32_t place, uint32_t condition, uint64_t *count) {
-    INSIDE_ONLY(tell(zaulinte_door_count(at(m, place), condition), count));
+    BY_PLACE_INSIDE(tell(zaulinte_door_count(at(m, place), condition), count));
 }
 uint64_t zaulinte_queue(zaulinte_monitor *m, uint32_t place, uint32_t condition) {
-    INSIDE_ONLY(zaulinte_door_queue(at(m, place), condition));
+    BY_PLACE_INSIDE(zaulinte_door_queue(at(m, place), condition));
 }
 uint64_t zaulinte_first(zaulinte_monitor *m, uint32_t place, uint32_t condition, uint64_t *priority) {
-    INSIDE_ONLY(zaulinte_door_first(at(m, place), condition, priority));
+    BY_PLACE_INSIDE(zaulinte_door_first(at(m, place), condition, priority));
 }
 
 /* Gives the places back and closes the door. No call is under way. */
@@ -163,20 +154,19 @@ uint64_t zaulinte_make(zaulinte_monitor *m, uint64_t places, uint64_t conditions
     for (uint32_t k = (uint32_t)places; k-- > 0;) { /* a new door gives out its numbers in this order */
         port_make(&m->place[k].bell);
         if (zaulinte_door_give_out(&m->door, at(m, k)) != k) refused = ZAULINTE_NO_MEMORY;
+        ends(m, k, OUTSIDE, 0);
     }
     if (refused) return undo(m, places, refused);
     make_checks(m, conditions, mesa);
-    for (uint32_t k = 0; k < places; k++) ends(m, k, OUTSIDE, 0);
     m->places = (uint32_t)places;
     return 0;
 }
 uint64_t zaulinte_free(zaulinte_monitor *m) {
     uint32_t places = m->places, claimed = 0;
-    if (places == 0) return ZAULINTE_NO_BOOK;
     for (uint32_t k = 0; k < places; k++) /* so that a call from inside claims no place */
         if (atomic_load(&m->place[k].bell.word) != OUTSIDE) return ZAULINTE_IN_USE;
     while (claimed < places && !claim(m, claimed, OUTSIDE)) claimed++;
-    if (claimed == places) return undo(m, places, 0);
+    if (claimed == places) return places ? undo(m, places, 0) : ZAULINTE_NO_BOOK;
     while (claimed > 0) ends(m, --claimed, OUTSIDE, 0);
     return ZAULINTE_IN_USE;
 }

@@ -5,8 +5,8 @@
  * these and compile zaulinte_monitor.c, and all that includes zaulinte_monitor.h, with -DZAULINTE_PORT='"file.h"'.
  *
  * A port is read twice. First by zaulinte_monitor.h, in C and in C++; there it defines
- *   ZAULINTE_PORT_NAME    a word, which becomes part of the name of zaulinte_make in the object file: a program that was
- *                         compiled with two ports doesn't link;
+ *   ZAULINTE_PORT_NAME    a word, which becomes part of the name of zaulinte_make in the object file: a program that
+ *                         was compiled with two ports doesn't link;
  *   ZAULINTE_BELL_FIELDS  the fields of a bell besides its word, if there are any. A thread sleeps on a bell.
  * Then by zaulinte_monitor.c alone, with ZAULINTE_PORT_CODE defined; there it defines
  *   port_make, port_free  set up and undo the fields of a bell.
@@ -14,28 +14,28 @@
  *                         asleep are one step to `port_wake_one`: if another thread changes the word and then wakes
  *                         one, this thread doesn't sleep through that. It may return early, at any time. A cancelled
  *                         thread sleeps on.
- *   port_wake_one         wakes one thread that sleeps on the bell, if there is one. Never blocks. If interrupt handlers
- *                         leave monitors, it can be called from one.
+ *   port_wake_one         wakes one thread that sleeps on the bell, if there is one. Never blocks. If interrupt
+ *                         handlers leave monitors, it can be called from one.
  * It may define two macros, which have a default below:
  *   port_relax()          tells the processor that this is a loop that polls a word.
  *   port_thread()         returns a number of the calling thread, not 0, that no other living thread has. Only a build
  *                         with ZAULINTE_CHECKS uses it. */
-/* Why no wake-up is lost. Each act of a place is one step of the door (zaulinte_door.h). A step that releases the monitor
- * returns the place that has it next, or that it is free. Each step is a sequentially consistent exchange of a word of
- * the door, and so a full barrier for the words here: the argument rests on that.
+/* Why no wake-up is lost. Each act of a place is one step of the door (zaulinte_door.h). A step that releases the
+ * monitor returns the place that has it next, or that it is free. Each step is a sequentially consistent exchange of
+ * one word of the door, so a full barrier for the words here: the argument rests on that.
  *
- * - A place that is to resume. Its thread sleeps by exchanging ASLEEP for IN_CALL in the place's word; the releasing
- *   thread exchanges RUNG for what the word is, and wakes if that was ASLEEP. So either the sleeper finds RUNG, and
- *   doesn't sleep, or the releasing thread finds ASLEEP and wakes it.
+ * A place that is to resume. Its thread sleeps after it changed the place's word from IN_CALL to ASLEEP. The releasing
+ * thread exchanges the word for RUNG, and wakes if it was ASLEEP. So either the change finds RUNG, and the thread
+ * doesn't sleep, or the exchange finds ASLEEP, and the thread is woken. A place is rung once for each return.
  *
- * - A newcomer, whose first attempt to enter failed. It writes ASLEEP to the entrance's word, tries again, and sleeps if
- *   that fails too. It fails only if a place has the monitor, or is owed it. That place, or one after it, leaves the
- *   monitor free by a step that comes after the attempt, and then its thread reads the word: it finds ASLEEP, unless
- *   another thread that left the monitor free has done so since. The thread that does clears the word and wakes one.
- *   The cleared word hides other sleepers. So the woken newcomer writes ASLEEP again before it tries: if it enters, its
- *   own leaving wakes the next. If none slept yet, each newcomer that was about to finds the word cleared, and writes
- *   and tries again; or finds ASLEEP by yet another newcomer, which is awake, tries after it wrote, and so is the one
- *   of which this argument speaks. */
+ * A newcomer. If its attempt to enter fails, it writes ASLEEP to the entrance's word, tries again, and sleeps only if
+ * that fails too. Then another place has the monitor, or is owed it. The step that later leaves the monitor free comes
+ * after the failed attempt, so after the writing; after that step its thread reads the word. It finds ASLEEP, unless
+ * another such thread has found it before. The thread that finds it clears the word, and wakes one newcomer.
+ *  - The woken newcomer writes ASLEEP again before it tries, since the cleared word hides other sleepers. If it enters,
+ *    its own leaving wakes the next; if it fails, all that was said of the first holds of it.
+ *  - If no newcomer slept yet, those that were about to find that the word has changed, write, and try again. If one
+ *    finds ASLEEP, yet another newcomer wrote that later, is awake, and tries after it: the same holds of that one. */
 #ifndef ZAULINTE_PORT
 #ifdef __linux__
 #define ZAULINTE_PORT "zaulinte_port_futex.h"
@@ -49,6 +49,9 @@
 #endif
 
 #ifdef ZAULINTE_PORT_CODE
+#ifdef __cplusplus
+#error "compile zaulinte_monitor.c as C"
+#endif
 #ifndef ZAULINTE_POLLS
 #define ZAULINTE_POLLS 100 /* how often a thread that is to resume polls its word, a hint apart, before it sleeps */
 #endif

@@ -1,6 +1,5 @@
-/* The answers of the monitor's calls that the stress doesn't ask for: sizes, alignment, an allocation that fails, texts,
- * and threads that are cancelled while they wait. It has rattle_alloc and rattle_dealloc of its own, which fail at
- * will, and count what is kept. */
+/* The codes of the monitor's calls that the stress doesn't ask for: sizes, alignment, an allocation that fails, texts;
+ * and threads that are cancelled while they wait. Its own rattle_alloc fails at will, and counts what is kept. */
 #define _GNU_SOURCE
 #include "zaulinte_monitor.h"
 #include <inttypes.h>

@@ -1,5 +1,5 @@
-/* Two threads under one place, and a third under another one: no call corrupts the monitor, and a call is refused by 103
- * while the other thread is in a call at that place. one_place [VISITS].
+/* Two threads under one place, and a third under another one: no call corrupts the monitor, and a call is refused by
+ * 103 while the other thread is in a call at that place. one_place [VISITS].
  *
  * `visit`: each thread leaves only if it entered, so its counts are exact, and the data are right in every build.
  * `misuse`: each thread makes drawn calls and ignores their codes. A build without ZAULINTE_CHECKS doesn't tell the

@@ -25,9 +25,11 @@ zaulinte::monitor<int, wrong> none{1};
 #endif
 
 template <class E, class = void> struct can_signal : std::false_type {};
-template <class E> struct can_signal<E, std::void_t<decltype(std::declval<inside &>().signal(E{}))>> : std::true_type {};
+template <class E>
+struct can_signal<E, std::void_t<decltype(std::declval<inside &>().signal(E{}))>> : std::true_type {};
 template <class E, class = void> struct can_notify : std::false_type {};
-template <class E> struct can_notify<E, std::void_t<decltype(std::declval<inside &>().notify(E{}))>> : std::true_type {};
+template <class E>
+struct can_notify<E, std::void_t<decltype(std::declval<inside &>().notify(E{}))>> : std::true_type {};
 static_assert(can_signal<store::may>::value && !can_signal<store::is>::value && !can_signal<int>::value);
 static_assert(can_notify<store::is>::value && !can_notify<store::may>::value);
 static_assert(!std::is_copy_constructible_v<inside> && !std::is_copy_constructible_v<monitor>);
@@ -45,7 +47,8 @@ static void refusals() {
     says("zaulinte: a monitor of 65 places: a monitor has 1 to 64 places", ZAULINTE_BAD_PLACES, [] { monitor m(65); });
     monitor m(2);
     zaulinte::place<monitor> moved(m, 1), mine(std::move(moved));
-    says("zaulinte: a place that was moved from: there is no such place", ZAULINTE_NO_PLACE, [&] { (void)moved.enter(); });
+    says("zaulinte: a place that was moved from: there is no such place", ZAULINTE_NO_PLACE,
+         [&] { (void)moved.enter(); });
     says("zaulinte: enter by place 2: there is no such place", ZAULINTE_NO_PLACE, [&] { (void)m.enter(2); });
     auto in = mine.enter();
     says("zaulinte: try_enter by place 1: the place is inside, or in another call", ZAULINTE_NOT_OUTSIDE,
@@ -53,7 +56,8 @@ static void refusals() {
     says("zaulinte: wait by place 1 on condition 2: there is no such condition", ZAULINTE_NO_CONDITION,
          [&] { in.wait(static_cast<store::may>(2)); });
     in.leave();
-    says("zaulinte: signal by place 1: the place isn't inside", ZAULINTE_NOT_INSIDE, [&] { in.signal(store::may::put); });
+    says("zaulinte: signal by place 1: the place isn't inside", ZAULINTE_NOT_INSIDE,
+         [&] { in.signal(store::may::put); });
     says("zaulinte: -> by place 1: the place isn't inside", ZAULINTE_NOT_INSIDE, [&] { in->items++; });
     if (zaulinte_names(store::may{}).name(0) != "take" || zaulinte_names(store::may{}).name(1) != "put") std::exit(1);
 }

@@ -1,5 +1,5 @@
-/* An alarm clock, after Hoare: wake_me waits with the time of waking for its priority; a tick wakes one whose time
- * has come, and each that wakes wakes the next. */
+/* An alarm clock, after Hoare: wake_me waits with the time of waking as its priority; a tick resumes a sleeper whose
+ * time has come, and each that is resumed resumes the next. */
 #include "zaulinte_monitor.h"
 #include <pthread.h>
 #include <sched.h>
@@ -15,25 +15,25 @@ static struct {
 static void signal_due(uint32_t place) {
     uint64_t first;
     if (zaulinte_first(&alarms.m, place, WAKE_UP, &first) == 1 && first <= alarms.now)
-        zaulinte_signal(&alarms.m, place, WAKE_UP, NULL);
+        ZAULINTE_CHECK(zaulinte_signal(&alarms.m, place, WAKE_UP, NULL));
 }
 static uint64_t wake_me(uint32_t place, uint64_t in) {
-    zaulinte_enter(&alarms.m, place);
+    ZAULINTE_CHECK(zaulinte_enter(&alarms.m, place));
     uint64_t at = alarms.now + in;
     alarms.asleep++;
-    if (alarms.now < at) zaulinte_wait(&alarms.m, place, WAKE_UP, at);
+    if (alarms.now < at) ZAULINTE_CHECK(zaulinte_wait(&alarms.m, place, WAKE_UP, at));
     uint64_t late = alarms.now - at;
     alarms.woken++;
     signal_due(place);
-    zaulinte_leave(&alarms.m, place);
+    ZAULINTE_CHECK(zaulinte_leave(&alarms.m, place));
     return late;
 }
 static bool tick(void) { /* false once all have woken */
-    zaulinte_enter(&alarms.m, CLOCK);
+    ZAULINTE_CHECK(zaulinte_enter(&alarms.m, CLOCK));
     if (alarms.asleep == SLEEPERS) alarms.now++;
     signal_due(CLOCK);
     bool more = alarms.woken < SLEEPERS;
-    zaulinte_leave(&alarms.m, CLOCK);
+    ZAULINTE_CHECK(zaulinte_leave(&alarms.m, CLOCK));
     return more;
 }
 static uint64_t late[SLEEPERS];
@@ -46,7 +46,7 @@ int main(void) {
     pthread_t ids[SLEEPERS];
     uint32_t place[SLEEPERS];
     uint64_t all = 0;
-    if (zaulinte_make(&alarms.m, SLEEPERS + 1, 1, 0)) return 2;
+    ZAULINTE_CHECK(zaulinte_make(&alarms.m, SLEEPERS + 1, 1, 0));
     for (uint32_t k = 0; k < SLEEPERS; k++) {
         place[k] = k;
         pthread_create(&ids[k], NULL, sleeps, &place[k]);
@@ -54,5 +54,6 @@ int main(void) {
     while (tick()) sched_yield();
     for (int k = 0; k < SLEEPERS; k++) pthread_join(ids[k], NULL), all += late[k];
     printf("%d woke at their time\n", alarms.woken);
-    return all != 0 || zaulinte_free(&alarms.m);
+    ZAULINTE_CHECK(zaulinte_free(&alarms.m));
+    return all != 0;
 }

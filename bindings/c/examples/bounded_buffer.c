@@ -11,19 +11,19 @@ static struct {
 } buffer;
 
 static void append(uint32_t place, long x) {
-    zaulinte_enter(&buffer.m, place);
-    if (buffer.count == ROOM) zaulinte_wait(&buffer.m, place, NONFULL, 0);
+    ZAULINTE_CHECK(zaulinte_enter(&buffer.m, place));
+    if (buffer.count == ROOM) ZAULINTE_CHECK(zaulinte_wait(&buffer.m, place, NONFULL, 0));
     buffer.item[buffer.last] = x;
     buffer.last = (buffer.last + 1) % ROOM;
     buffer.count++;
-    zaulinte_signal_leave(&buffer.m, place, NONEMPTY, NULL);
+    ZAULINTE_CHECK(zaulinte_signal_leave(&buffer.m, place, NONEMPTY, NULL));
 }
 static long take(uint32_t place) {
-    zaulinte_enter(&buffer.m, place);
-    if (buffer.count == 0) zaulinte_wait(&buffer.m, place, NONEMPTY, 0);
+    ZAULINTE_CHECK(zaulinte_enter(&buffer.m, place));
+    if (buffer.count == 0) ZAULINTE_CHECK(zaulinte_wait(&buffer.m, place, NONEMPTY, 0));
     long x = buffer.item[(buffer.last + ROOM - buffer.count) % ROOM];
     buffer.count--;
-    zaulinte_signal_leave(&buffer.m, place, NONFULL, NULL);
+    ZAULINTE_CHECK(zaulinte_signal_leave(&buffer.m, place, NONFULL, NULL));
     return x;
 }
 static void *produces(void *unused) {
@@ -32,11 +32,12 @@ static void *produces(void *unused) {
 }
 int main(void) {
     pthread_t producer;
-    if (zaulinte_make(&buffer.m, 2, 2, 0)) return 2;
+    ZAULINTE_CHECK(zaulinte_make(&buffer.m, 2, 2, 0));
     pthread_create(&producer, NULL, produces, NULL);
     long in_order = 0;
     for (long i = 1; i <= ITEMS; i++) in_order += take(1) == i;
     pthread_join(producer, NULL);
     printf("%ld items, in order\n", in_order);
-    return in_order != ITEMS || zaulinte_free(&buffer.m);
+    ZAULINTE_CHECK(zaulinte_free(&buffer.m));
+    return in_order != ITEMS;
 }

@@ -1,6 +1,7 @@
 /* Eight threads and a sweeper at one monitor of three of Hoare's conditions and a Mesa condition, with drawn waits,
  * priorities, signals, notifies and broadcasts, and with misuse, which has to be refused. The thread inside writes the
- * log, and judge.c reads it: stress CALLS [SEED] | judge. */
+ * log, and judge.c reads it: stress CALLS [SEED [SECONDS]] | judge. With SECONDS it fails if it takes longer, and shows
+ * the log so far. */
 #define _GNU_SOURCE
 #include "zaulinte_monitor.h"
 #include <inttypes.h>
@@ -8,6 +9,7 @@
 #include <sched.h>
 #include <stdio.h>
 #include <stdlib.h>
+#include <unistd.h>
 
 enum { WORKERS = 8, PLACES = WORKERS + 1, SPARE = PLACES, HOARE = 3, MESA = 3, CONDITIONS = 4 };
 enum kind { ADMIT, LEAVE, BACK, RESUME, WAIT, SIGNAL, PASS, NOTIFY, BROADCAST, EMPTY, ASKED };
@@ -140,6 +142,11 @@ static void *sweeps(void *p) {
     goes(j->me);
     return NULL;
 }
+static void *watches(void *seconds) {
+    sleep(*(unsigned *)seconds);
+    fails("the time is over");
+    return NULL;
+}
 static void shows(void) {
     printf("sizes %d %d 1\n", PLACES, CONDITIONS); /* the spare place never enters */
     for (size_t i = 0; i < many; i++) {
@@ -154,6 +161,9 @@ static void shows(void) {
 }
 int main(int argc, char **argv) {
     uint64_t wanted = argc > 1 ? strtoull(argv[1], NULL, 10) : 10000, seed = argc > 2 ? strtoull(argv[2], NULL, 10) : 1;
+    unsigned seconds = argc > 3 ? (unsigned)strtoul(argv[3], NULL, 10) : 0;
+    pthread_t watch;
+    if (seconds && !pthread_create(&watch, NULL, watches, &seconds)) pthread_detach(watch);
     room = 64 * wanted + 1000000;
     events = malloc(room * sizeof *events);
     if (!events) return 2;

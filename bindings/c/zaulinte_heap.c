@@ -1,6 +1,6 @@
-/* The two names that the book takes memory by, for programs without malloc: out of one array of ZAULINTE_ROOM bytes.
- * What was taken is free again once all of it is. NOT PROVED. A book of 64 places takes some 3 KB; make and free
- * books one at a time, in one thread. */
+/* The two names by which the archives take memory, for programs without malloc: out of one array of ZAULINTE_ROOM bytes.
+ * What was taken is free again once all of it is. NOT PROVED. A monitor of 64 places takes some 6 KB, a book some 3 KB.
+ * It has no lock: one thread at a time makes and frees monitors and books (a monitor's other calls take no memory). */
 #include <stdbool.h>
 #include <stddef.h>
 

@@ -1,9 +1,8 @@
 /* zaulinte_monitor.h: a running monitor for threads, on the proved door. C11 or C++17.
  *
- * PROVED: which place enters and which resumes, with any number of threads, and that one place at a time is inside
- * (zaulinte_door.h). NOT PROVED, tested: this header, zaulinte_monitor.c and the port, which say which thread sleeps
- * and which it wakes; by a fault in them a thread may sleep for ever, but not enter beside another. The caller touches
- * the monitor's data inside only.
+ * PROVED: the steps of the door (zaulinte_door.h), which say which place enters, resumes or is inside. NOT PROVED,
+ * tested: this header, and zaulinte_monitor.c with the port, which put a thread to sleep and wake the one that a step
+ * names. The caller touches the monitor's data inside only.
  *
  * zaulinte_port.h says what the monitor asks of its platform. Compile all that includes this header, and
  * zaulinte_monitor.c, with the same ZAULINTE_PORT and the same ZAULINTE_CHECKS: else the program doesn't link. */
@@ -126,7 +125,7 @@ ZAULINTE_CODE zaulinte_queue(zaulinte_monitor *m, uint32_t place, uint32_t condi
 ZAULINTE_CODE zaulinte_first(zaulinte_monitor *m, uint32_t place, uint32_t condition, uint64_t *priority);
 ZAULINTE_CODE zaulinte_count(zaulinte_monitor *m, uint32_t place, uint32_t condition, uint64_t *count);
 
-/* Says what holds of the data. Call it behind `make`, before any thread enters. A build with ZAULINTE_CHECKS tests
+/* Says what holds of the data. Call it after `make`, before any thread enters. A build with ZAULINTE_CHECKS tests
  * it at each wait, signal and leave; if it doesn't hold, the build prints which of the three, place and condition, and
  * aborts. Another build tests nothing. */
 void zaulinte_check(zaulinte_monitor *m, zaulinte_inv inv, zaulinte_rest rest, zaulinte_ready ready, void *context);

@@ -1,19 +1,9 @@
-/* zaulinte_checks.h: the part of zaulinte_monitor.c that only a build with ZAULINTE_CHECKS has: it tells threads apart,
- * and tests what holds of the data. In another build each function does nothing. NOT PROVED. */
+/* zaulinte_checks.h: the part of zaulinte_monitor.c that tests what holds of the data. It does so in a build with
+ * ZAULINTE_CHECKS alone; in another build each function does nothing. NOT PROVED. */
 #ifdef ZAULINTE_CHECKS
 #include <inttypes.h>
 #include <stdio.h>
 #include <stdlib.h>
-
-/* The thread of a place that is inside or away. */
-static bool is_own_thread(zaulinte_monitor *m, uint32_t place) {
-    uintptr_t thread = atomic_load(&m->place[place].thread);
-    return thread == 0 || thread == port_thread();
-}
-static void remember_thread(zaulinte_monitor *m, uint32_t place) {
-    atomic_store(&m->place[place].thread, port_thread());
-}
-static void forget_thread(zaulinte_monitor *m, uint32_t place) { atomic_store(&m->place[place].thread, 0); }
 
 /* inv and rest are tested by the place inside, before a step that releases the monitor; ready by the place that was
  * resumed, after its step. */
@@ -75,9 +65,6 @@ static void check_ready(zaulinte_monitor *m, uint32_t place, uint32_t c, uint64_
     abort();
 }
 #else
-#define is_own_thread(m, place) true
-#define remember_thread(m, place) ((void)(m))
-#define forget_thread(m, place) ((void)(m))
 #define make_checks(m, conditions, mesa) ((void)(m))
 #define check_leave(m, place) ((void)(m))
 #define check_wait(m, place, condition, priority) ((void)(m))

@@ -4,109 +4,115 @@
 #define ZAULINTE_PORT_CODE
 #include "zaulinte_port.h"
 
-/* A place's word. That of the entrance is ABSENT, or ASLEEP if a newcomer may sleep there. */
-enum { ABSENT, OUTSIDE, INSIDE, IN_CALL, ASLEEP, RUNG, NOBODY = ZAULINTE_DOOR_NOBODY };
+/* A place's bell: AWAKE, ASLEEP, or RUNG. The entrance's: ASLEEP if a newcomer may sleep there, else AWAKE. */
+enum { AWAKE, ASLEEP, RUNG, NOBODY = ZAULINTE_DOOR_NOBODY };
 static zaulinte_door_place *at(zaulinte_monitor *m, uint32_t place) { return &m->place[place].handle; }
 #include "zaulinte_checks.h"
 
-/* Ends a call: the place is OUTSIDE or INSIDE. Returns the code. */
-static uint64_t ends(zaulinte_monitor *m, uint32_t place, uint32_t is, uint64_t code) {
-    if (is == OUTSIDE) forget_thread(m, place);
-    atomic_store_explicit(&m->place[place].bell.word, is, memory_order_release);
+/* Claims a place that is outside for the calling thread. Until `unclaim` only that thread makes steps with it, so two
+ * threads never do at once. */
+static uint64_t claim(zaulinte_monitor *m, uint32_t place) {
+    uint32_t places = m->places;
+    uintptr_t none = 0;
+    if (place >= places) return places || place >= 64 ? ZAULINTE_NO_PLACE : ZAULINTE_NO_BOOK;
+    bool is_claimed = atomic_compare_exchange_strong(&m->place[place].thread, &none, port_thread());
+    return is_claimed ? 0 : ZAULINTE_NOT_OUTSIDE;
+}
+static uint64_t unclaim(zaulinte_monitor *m, uint32_t place, uint64_t code) {
+    atomic_store_explicit(&m->place[place].thread, 0, memory_order_release);
     return code;
 }
-/* Claims a place that is `from` for one call, so that two threads are never in the door's steps with one place. */
-static uint64_t claim(zaulinte_monitor *m, uint32_t place, uint32_t from) {
-    uint32_t is = from;
+/* Returns why the calling thread can't act by the place, or 0: it has claimed it, so the place is inside. */
+static uint64_t may_act(zaulinte_monitor *m, uint32_t place) {
     if (place >= 64) return ZAULINTE_NO_PLACE;
-    if (atomic_compare_exchange_strong(&m->place[place].bell.word, &is, IN_CALL)) {
-        __tsan_release(&m->door);
-        return is_own_thread(m, place) ? 0 : ends(m, place, from, ZAULINTE_NOT_OUTSIDE);
-    }
-    if (is >= INSIDE) return ZAULINTE_NOT_OUTSIDE;
-    if (from == INSIDE) return ZAULINTE_NOT_INSIDE;
-    return m->places ? ZAULINTE_NO_PLACE : ZAULINTE_NO_BOOK;
+    uintptr_t thread = atomic_load_explicit(&m->place[place].thread, memory_order_relaxed);
+    if (thread != port_thread()) return thread ? ZAULINTE_NOT_OUTSIDE : ZAULINTE_NOT_INSIDE;
+    __tsan_release(&m->door);
+    return 0;
 }
 /* Wakes the thread of the place that has the monitor next; if none has it, one newcomer. */
 static void wake(zaulinte_monitor *m, uint64_t next) {
     zaulinte_bell *b = next < NOBODY ? &m->place[next].bell : &m->entrance;
     if (next == NOBODY && atomic_load(&b->word) != ASLEEP) return;
-    if (atomic_exchange(&b->word, next < NOBODY ? RUNG : ABSENT) == ASLEEP) port_wake_one(b);
+    if (atomic_exchange(&b->word, next < NOBODY ? RUNG : AWAKE) == ASLEEP) port_wake_one(b);
 }
 
 static bool enters(zaulinte_monitor *m, uint32_t place) {
     if (zaulinte_door_try_enter(at(m, place)) != ZAULINTE_DOOR_ENTERED) return false;
     __tsan_acquire(&m->door);
-    remember_thread(m, place);
     return true;
 }
-static uint64_t enter(zaulinte_monitor *m, uint32_t place, bool blocks) {
-    uint64_t refused = claim(m, place, OUTSIDE);
+uint64_t zaulinte_enter(zaulinte_monitor *m, uint32_t place) {
+    uint64_t refused = claim(m, place);
     if (refused) return refused;
     bool is_in = enters(m, place);
-    for (int hints = 1; blocks && !is_in && hints <= ZAULINTE_ENTRANCE_POLLS; hints *= 2) {
+    for (int hints = 1; !is_in && hints <= ZAULINTE_ENTRANCE_POLLS; hints *= 2) {
         for (int i = 0; i < hints; i++) port_relax();
         is_in = enters(m, place);
     }
-    while (blocks && !is_in) {
+    while (!is_in) {
         atomic_store(&m->entrance.word, ASLEEP);
         is_in = enters(m, place);
         if (!is_in) port_sleep_while(&m->entrance, ASLEEP);
     }
-    return is_in ? ends(m, place, INSIDE, 0) : ends(m, place, OUTSIDE, ZAULINTE_NOT_FREE);
+    return 0;
 }
-uint64_t zaulinte_enter(zaulinte_monitor *m, uint32_t place) { return enter(m, place, true); }
-uint64_t zaulinte_try_enter(zaulinte_monitor *m, uint32_t place) { return enter(m, place, false); }
+uint64_t zaulinte_try_enter(zaulinte_monitor *m, uint32_t place) {
+    uint64_t refused = claim(m, place);
+    if (refused) return refused;
+    return enters(m, place) ? 0 : unclaim(m, place, ZAULINTE_NOT_FREE);
+}
 
 static bool is_rung(zaulinte_bell *b) { return atomic_load(&b->word) == RUNG; }
 /* Wakes the next, and blocks until the place is back. */
 static void resumes(zaulinte_monitor *m, uint32_t place, uint64_t next) {
     zaulinte_bell *mine = &m->place[place].bell;
-    uint32_t is = IN_CALL;
+    uint32_t is = AWAKE;
     wake(m, next);
     for (int i = 0; i < ZAULINTE_POLLS && !is_rung(mine); i++) port_relax();
     atomic_compare_exchange_strong(&mine->word, &is, ASLEEP);
     while (!is_rung(mine) || zaulinte_door_try_return(at(m, place)) != ZAULINTE_DOOR_ENTERED)
         port_sleep_while(mine, ASLEEP);
     __tsan_acquire(&m->door);
+    atomic_store_explicit(&mine->word, AWAKE, memory_order_relaxed);
 }
 uint64_t zaulinte_leave(zaulinte_monitor *m, uint32_t place) {
-    uint64_t refused = claim(m, place, INSIDE);
+    uint64_t refused = may_act(m, place);
     if (refused) return refused;
     check_leave(m, place);
     wake(m, zaulinte_door_leave(at(m, place)));
-    return ends(m, place, OUTSIDE, 0);
+    return unclaim(m, place, 0);
 }
 uint64_t zaulinte_wait(zaulinte_monitor *m, uint32_t place, uint32_t condition, uint64_t priority) {
-    uint64_t refused = claim(m, place, INSIDE);
+    uint64_t refused = may_act(m, place);
     if (refused) return refused;
     check_wait(m, place, condition, priority);
     uint64_t next = zaulinte_door_wait(at(m, place), condition, priority);
-    if (next > NOBODY) return ends(m, place, INSIDE, next);
+    if (next > NOBODY) return next;
     resumes(m, place, next);
     check_ready(m, place, condition, priority);
-    return ends(m, place, INSIDE, 0);
+    return 0;
 }
 uint64_t zaulinte_signal(zaulinte_monitor *m, uint32_t place, uint32_t condition, bool *resumed) {
-    uint64_t refused = claim(m, place, INSIDE);
+    uint64_t refused = may_act(m, place);
     if (refused) return refused;
     check_signal(m, place, condition);
     uint64_t next = zaulinte_door_signal(at(m, place), condition);
-    if (next > NOBODY) return ends(m, place, INSIDE, next);
+    if (next > NOBODY) return next;
     if (resumed) *resumed = next < NOBODY;
     if (next < NOBODY) resumes(m, place, next);
-    return ends(m, place, INSIDE, 0);
+    return 0;
 }
 uint64_t zaulinte_signal_leave(zaulinte_monitor *m, uint32_t place, uint32_t condition, bool *resumed) {
-    uint64_t refused = claim(m, place, INSIDE);
+    uint64_t refused = may_act(m, place);
     if (refused) return refused;
     bool waited = resumed && zaulinte_door_queue(at(m, place), condition) == 1;
     check_signal_leave(m, place, condition);
     uint64_t next = zaulinte_door_signal_leave(at(m, place), condition);
-    if (next > NOBODY) return ends(m, place, INSIDE, next);
+    if (next > NOBODY) return next;
     if (resumed) *resumed = waited;
     wake(m, next);
-    return ends(m, place, OUTSIDE, 0);
+    return unclaim(m, place, 0);
 }
 
 /* Returns a step's number by a pointer, or its refusal. */
@@ -114,32 +120,34 @@ static uint64_t tell(uint64_t number, uint64_t *to) {
     if (number <= NOBODY && to) *to = number;
     return number <= NOBODY ? 0 : number;
 }
-#define BY_PLACE_INSIDE(call) \
-    uint64_t refused = claim(m, place, INSIDE); \
-    return refused ? refused : ends(m, place, INSIDE, call)
 uint64_t zaulinte_notify(zaulinte_monitor *m, uint32_t place, uint32_t condition, uint64_t *called) {
-    BY_PLACE_INSIDE(tell(zaulinte_door_notify(at(m, place), condition), called));
+    uint64_t refused = may_act(m, place);
+    return refused ? refused : tell(zaulinte_door_notify(at(m, place), condition), called);
 }
 uint64_t zaulinte_broadcast(zaulinte_monitor *m, uint32_t place, uint32_t condition, uint64_t *called) {
-    BY_PLACE_INSIDE(tell(zaulinte_door_broadcast(at(m, place), condition), called));
+    uint64_t refused = may_act(m, place);
+    return refused ? refused : tell(zaulinte_door_broadcast(at(m, place), condition), called);
 }
 uint64_t zaulinte_count(zaulinte_monitor *m, uint32_t place, uint32_t condition, uint64_t *count) {
-    BY_PLACE_INSIDE(tell(zaulinte_door_count(at(m, place), condition), count));
+    uint64_t refused = may_act(m, place);
+    return refused ? refused : tell(zaulinte_door_count(at(m, place), condition), count);
 }
 uint64_t zaulinte_queue(zaulinte_monitor *m, uint32_t place, uint32_t condition) {
-    BY_PLACE_INSIDE(zaulinte_door_queue(at(m, place), condition));
+    uint64_t refused = may_act(m, place);
+    return refused ? refused : zaulinte_door_queue(at(m, place), condition);
 }
 uint64_t zaulinte_first(zaulinte_monitor *m, uint32_t place, uint32_t condition, uint64_t *priority) {
-    BY_PLACE_INSIDE(zaulinte_door_first(at(m, place), condition, priority));
+    uint64_t refused = may_act(m, place);
+    return refused ? refused : zaulinte_door_first(at(m, place), condition, priority);
 }
 
 /* Gives the places back and closes the door. No call is under way. */
-static uint64_t undo(zaulinte_monitor *m, uint64_t places, uint64_t code) {
+static uint64_t undo(zaulinte_monitor *m, uint32_t places, uint64_t code) {
     m->places = 0;
     for (uint32_t k = 0; k < places; k++) {
         zaulinte_door_give_back(at(m, k));
         port_free(&m->place[k].bell);
-        ends(m, k, ABSENT, 0);
+        unclaim(m, k, 0);
     }
     port_free(&m->entrance);
     uint64_t unused, kept = zaulinte_door_close(&m->door, &unused);
@@ -154,9 +162,8 @@ uint64_t zaulinte_make(zaulinte_monitor *m, uint64_t places, uint64_t conditions
     for (uint32_t k = (uint32_t)places; k-- > 0;) { /* a new door gives out its numbers in this order */
         port_make(&m->place[k].bell);
         if (zaulinte_door_give_out(&m->door, at(m, k)) != k) refused = ZAULINTE_NO_MEMORY;
-        ends(m, k, OUTSIDE, 0);
     }
-    if (refused) return undo(m, places, refused);
+    if (refused) return undo(m, (uint32_t)places, refused);
     make_checks(m, conditions, mesa);
     m->places = (uint32_t)places;
     return 0;
@@ -164,9 +171,9 @@ uint64_t zaulinte_make(zaulinte_monitor *m, uint64_t places, uint64_t conditions
 uint64_t zaulinte_free(zaulinte_monitor *m) {
     uint32_t places = m->places, claimed = 0;
     for (uint32_t k = 0; k < places; k++) /* so that a call from inside claims no place */
-        if (atomic_load(&m->place[k].bell.word) != OUTSIDE) return ZAULINTE_IN_USE;
-    while (claimed < places && !claim(m, claimed, OUTSIDE)) claimed++;
+        if (m->place[k].thread) return ZAULINTE_IN_USE;
+    while (claimed < places && !claim(m, claimed)) claimed++;
     if (claimed == places) return places ? undo(m, places, 0) : ZAULINTE_NO_BOOK;
-    while (claimed > 0) ends(m, --claimed, OUTSIDE, 0);
+    while (claimed > 0) unclaim(m, --claimed, 0);
     return ZAULINTE_IN_USE;
 }

@@ -36,7 +36,7 @@ extern "C" {
 
 /* Codes beside those of zaulinte_book.h. */
 enum {
-    ZAULINTE_IN_USE = 112,    /* `free` while a place is inside, waits or is in a call */
+    ZAULINTE_IN_USE = 112,    /* `free` while a thread has a place: it is inside, waits or is about to enter */
     ZAULINTE_MISALIGNED = 115 /* a monitor that doesn't lie at a multiple of 64 */
 };
 
@@ -48,11 +48,9 @@ typedef struct zaulinte_bell {
 
 /* A place, on cache lines of its own. */
 typedef struct zaulinte_place {
-    alignas(64) zaulinte_bell bell; /* its word says where the place is (zaulinte_monitor.c) */
+    alignas(64) zaulinte_bell bell;  /* its thread sleeps on it: 0 awake, 1 asleep, 2 woken */
+    ZAULINTE_WORD(uintptr_t) thread; /* the thread that has the place: from its entering until it has left, else 0 */
     zaulinte_door_place handle;
-#ifdef ZAULINTE_CHECKS
-    ZAULINTE_WORD(uintptr_t) thread; /* the thread of a place inside or away, else 0 */
-#endif
 } zaulinte_place;
 
 /* The waiters on each condition, for a check: how many, and the priority of the one that a signal would resume. */
@@ -95,21 +93,21 @@ typedef struct zaulinte_monitor {
 /* Makes a monitor of 1 to 64 places, one for each thread that may be in it at once, and 1 to 8 conditions, the last
  * `mesa` of which are Mesa conditions. 0, or 115, 108 to 111. */
 ZAULINTE_CODE zaulinte_make(zaulinte_monitor *m, uint64_t places, uint64_t conditions, uint64_t mesa);
-/* Undoes it. 0; 107 if there is none; 112, and nothing happened, while a place is inside, waits or is in a call. A
- * thread that begins a call after that isn't held up: join the threads first. */
+/* Undoes it. 0; 107 if there is none; 112, and nothing happened, while a thread has a place: it is inside, waits, or
+ * is in a call. Join the threads first, so that none begins one after that. */
 ZAULINTE_CODE zaulinte_free(zaulinte_monitor *m);
 
 /* Each call below returns 0, or a refusal, and then nothing happened; `queue` and `first` return 1 or 0.
  *
- * A place's number belongs to one thread at a time. 103 is the refusal of a call while another call at the same place
- * is under way (a wait is, until the place is resumed). A build with ZAULINTE_CHECKS remembers the thread of a place
- * that is inside or away, and refuses the calls of any other by 103.
+ * A place's number belongs to one thread at a time: from its entering until it has left the place is that thread's,
+ * and each call of another thread at the place is refused by 103.
  *
- * enter: 101 (no such place), 103 (the place is inside or waits), 107 (no monitor). It may block. */
+ * enter: 101 (no such place), 103 (it is inside, waits, or is another thread's), 107 (no monitor). It may block. */
 ZAULINTE_CODE zaulinte_enter(zaulinte_monitor *m, uint32_t place);
 /* The same without blocking: 102 if the monitor isn't free. */
 ZAULINTE_CODE zaulinte_try_enter(zaulinte_monitor *m, uint32_t place);
-/* An act of the place inside: 101 (a place of 64 or more), 103, 104 (the place is outside), 105, 106. */
+/* An act of the place inside: 101 (a place of 64 or more), 103 (it is another thread's), 104 (it is outside), 105,
+ * 106. */
 ZAULINTE_CODE zaulinte_leave(zaulinte_monitor *m, uint32_t place);
 ZAULINTE_CODE zaulinte_wait(zaulinte_monitor *m, uint32_t place, uint32_t condition, uint64_t priority);
 /* Signals one of Hoare's conditions: the resumed place is inside at once. *resumed, a word of the thread's own or NULL,
@@ -136,7 +134,7 @@ static inline const char *zaulinte_text(uint64_t code) {
     case ZAULINTE_DONE: return "done";
     case ZAULINTE_NO_PLACE: return "there is no such place";
     case ZAULINTE_NOT_FREE: return "the monitor isn't free";
-    case ZAULINTE_NOT_OUTSIDE: return "the place is inside, or in another call";
+    case ZAULINTE_NOT_OUTSIDE: return "the place is inside, or another thread has it";
     case ZAULINTE_NOT_INSIDE: return "the place isn't inside";
     case ZAULINTE_NO_CONDITION: return "there is no such condition";
     case ZAULINTE_WRONG_KIND: return "the condition is of the other kind";
@@ -145,7 +143,7 @@ static inline const char *zaulinte_text(uint64_t code) {
     case ZAULINTE_BAD_PLACES: return "a monitor has 1 to 64 places";
     case ZAULINTE_BAD_CONDITIONS: return "a monitor has 1 to 8 conditions";
     case ZAULINTE_NO_MEMORY: return "out of memory";
-    case ZAULINTE_IN_USE: return "a place is inside, waits or is in a call";
+    case ZAULINTE_IN_USE: return "a thread has a place: it is inside, or in a call";
     case ZAULINTE_MISALIGNED: return "the monitor isn't at a multiple of 64";
     default: return "no code of a monitor";
     }

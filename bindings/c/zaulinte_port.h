@@ -18,13 +18,12 @@
  *                         handlers leave monitors, it can be called from one.
  * It may define two macros, which have a default below:
  *   port_relax()          tells the processor that this is a loop that polls a word.
- *   port_thread()         returns a number of the calling thread, not 0, that no other living thread has. Only a build
- *                         with ZAULINTE_CHECKS uses it. */
+ *   port_thread()         returns a number of the calling thread, not 0, that no other living thread has. */
 /* Why no wake-up is lost. Each act of a place is one step of the door (zaulinte_door.h). A step that releases the
  * monitor returns the place that has it next, or that it is free. Each step is a sequentially consistent exchange of
  * one word of the door, so a full barrier for the words here: the argument rests on that.
  *
- * A place that is to resume. Its thread sleeps after it changed the place's word from IN_CALL to ASLEEP. The releasing
+ * A place that is to resume. Its thread sleeps after it changed the place's word from AWAKE to ASLEEP. The releasing
  * thread exchanges the word for RUNG, and wakes if it was ASLEEP. So either the change finds RUNG, and the thread
  * doesn't sleep, or the exchange finds ASLEEP, and the thread is woken. A place is rung once for each return.
  *
@@ -67,7 +66,7 @@ static inline void port_relax(void) {
 #endif
 }
 #endif
-#if defined(ZAULINTE_CHECKS) && !defined(port_thread)
+#ifndef port_thread
 static inline uintptr_t port_thread(void) {
     static _Thread_local char mine;
     return (uintptr_t)&mine;

@@ -5,6 +5,8 @@
 
 #else
 
+#define port_thread() 1
+
 static inline void port_make(zaulinte_bell *b) { (void)b; }
 static inline void port_free(zaulinte_bell *b) { (void)b; }
 static inline void port_sleep_while(zaulinte_bell *b, uint32_t is) { (void)b, (void)is; }

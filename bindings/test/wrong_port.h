@@ -20,7 +20,7 @@ static inline void port_sleep_while(zaulinte_bell *b, uint32_t is) {
         return;
     }
     if (atomic_load(&b->word) != is) return;
-    sched_yield();
+    for (int i = 0; i < 100; i++) sched_yield();
     pthread_mutex_lock(&b->lock);
     pthread_cond_wait(&b->rung, &b->lock);
     pthread_mutex_unlock(&b->lock);

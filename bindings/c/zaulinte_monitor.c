@@ -115,30 +115,28 @@ uint64_t zaulinte_signal_leave(zaulinte_monitor *m, uint32_t place, uint32_t con
     return unclaim(m, place, 0);
 }
 
-/* Returns a step's number by a pointer, or its refusal. */
+/* The other calls of the place inside. `tell` returns a step's number by a pointer, or its refusal. */
+#define IF_INSIDE(call) \
+    uint64_t refused = may_act(m, place); \
+    return refused ? refused : (call)
 static uint64_t tell(uint64_t number, uint64_t *to) {
     if (number <= NOBODY && to) *to = number;
     return number <= NOBODY ? 0 : number;
 }
 uint64_t zaulinte_notify(zaulinte_monitor *m, uint32_t place, uint32_t condition, uint64_t *called) {
-    uint64_t refused = may_act(m, place);
-    return refused ? refused : tell(zaulinte_door_notify(at(m, place), condition), called);
+    IF_INSIDE(tell(zaulinte_door_notify(at(m, place), condition), called));
 }
 uint64_t zaulinte_broadcast(zaulinte_monitor *m, uint32_t place, uint32_t condition, uint64_t *called) {
-    uint64_t refused = may_act(m, place);
-    return refused ? refused : tell(zaulinte_door_broadcast(at(m, place), condition), called);
+    IF_INSIDE(tell(zaulinte_door_broadcast(at(m, place), condition), called));
 }
 uint64_t zaulinte_count(zaulinte_monitor *m, uint32_t place, uint32_t condition, uint64_t *count) {
-    uint64_t refused = may_act(m, place);
-    return refused ? refused : tell(zaulinte_door_count(at(m, place), condition), count);
+    IF_INSIDE(tell(zaulinte_door_count(at(m, place), condition), count));
 }
 uint64_t zaulinte_queue(zaulinte_monitor *m, uint32_t place, uint32_t condition) {
-    uint64_t refused = may_act(m, place);
-    return refused ? refused : zaulinte_door_queue(at(m, place), condition);
+    IF_INSIDE(zaulinte_door_queue(at(m, place), condition));
 }
 uint64_t zaulinte_first(zaulinte_monitor *m, uint32_t place, uint32_t condition, uint64_t *priority) {
-    uint64_t refused = may_act(m, place);
-    return refused ? refused : zaulinte_door_first(at(m, place), condition, priority);
+    IF_INSIDE(zaulinte_door_first(at(m, place), condition, priority));
 }
 
 /* Gives the places back and closes the door. No call is under way. */

@@ -1,5 +1,5 @@
 /* What a build with ZAULINTE_CHECKS finds: checks FAULT, for a store of items that a consumer waits for. Each fault but
- * `none` and `thread` ends by an abort, after a line that names the assertion, the place and the condition. */
+ * `none` ends by an abort, after a line that names the assertion, the place and the condition. */
 #include "zaulinte_monitor.h"
 #include <pthread.h>
 #include <sched.h>
@@ -27,20 +27,9 @@ static void *consumes(void *unused) {
     ZAULINTE_CHECK(zaulinte_leave(&m, CONSUMER));
     return unused;
 }
-static void *leaves_for_another(void *code) {
-    *(uint64_t *)code = zaulinte_leave(&m, PRODUCER);
-    return NULL;
-}
 static bool is(const char *fault, const char *name) { return strcmp(fault, name) == 0; }
 /* the place of the producer is inside */
 static void produces(const char *fault) {
-    uint64_t code = 0;
-    pthread_t id;
-    if (is(fault, "thread")) {
-        pthread_create(&id, NULL, leaves_for_another, &code);
-        pthread_join(id, NULL);
-        if (code != ZAULINTE_NOT_OUTSIDE) exit(1);
-    }
     store.items = is(fault, "inv-leave") || is(fault, "inv-signal") ? -1 : !is(fault, "ready");
     if (is(fault, "rest-wait")) ZAULINTE_CHECK(zaulinte_wait(&m, PRODUCER, NONEMPTY, 1));
     if (!is(fault, "rest-leave") && !is(fault, "inv-leave"))

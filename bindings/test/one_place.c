@@ -1,10 +1,9 @@
 /* Two threads under one place, and a third under another one: no call corrupts the monitor, and a call is refused by
- * 103 while the other thread is in a call at that place. one_place [VISITS].
+ * 103 while the other thread has the place, in a call or inside. one_place [VISITS].
  *
- * `visit`: each thread leaves only if it entered, so its counts are exact, and the data are right in every build.
- * `misuse`: each thread makes drawn calls and ignores their codes. A build without ZAULINTE_CHECKS doesn't tell the
- * threads apart between their calls, so one may leave for the other: as many visits end as begin, all the same, and the
- * monitor works and can be freed. A build with ZAULINTE_CHECKS refuses: each thread ends its own visits alone. */
+ * `visits`: each thread leaves only if it entered, and the data are right.
+ * `misuses`: each thread makes drawn calls and ignores their codes: it ends its own visits alone, and the data are
+ * right. */
 #define _GNU_SOURCE
 #include "zaulinte_monitor.h"
 #include <inttypes.h>
@@ -50,31 +49,31 @@ static void *visits(void *p) {
     }
     return NULL;
 }
-static void one_call(thread *t) {
-    uint64_t number;
-    bool resumed;
-    switch (draw(t) % 8) {
-    case 0: case 1: t->entered += !counted(t, zaulinte_enter(&m, SHARED)); break;
-    case 2: case 3: t->left += !counted(t, zaulinte_leave(&m, SHARED)); break;
-    case 4: t->left += !counted(t, zaulinte_signal_leave(&m, SHARED, CONDITION, NULL)); break;
-    case 5: counted(t, zaulinte_wait(&m, SHARED, CONDITION, 0)); break;
-    case 6: counted(t, zaulinte_signal(&m, SHARED, CONDITION, &resumed)); break;
-    default: counted(t, zaulinte_count(&m, SHARED, CONDITION, &number));
+/* a drawn call: `is_inside` is whether the thread entered and hasn't left */
+static void one_call(thread *t, bool is_inside) {
+    uint64_t number, lot = draw(t) % 8;
+    if (lot < 3) {
+        bool entered = !counted(t, zaulinte_enter(&m, SHARED));
+        is(!entered || !is_inside, "a thread entered twice");
+        if (entered) t->entered++, value++;
+        return;
     }
+    uint64_t code = lot == 3   ? zaulinte_leave(&m, SHARED)
+                    : lot == 4 ? zaulinte_signal_leave(&m, SHARED, CONDITION, NULL)
+                    : lot == 5 ? zaulinte_wait(&m, SHARED, CONDITION, 0)
+                    : lot == 6 ? zaulinte_signal(&m, SHARED, CONDITION, NULL)
+                               : zaulinte_count(&m, SHARED, CONDITION, &number);
+    is((counted(t, code) == 0) == is_inside, "a call by another thread's place, or none by its own");
+    t->left += lot < 5 && code == 0;
 }
 static void *misuses(void *p) {
     thread *t = p;
     pthread_barrier_wait(&start);
     for (uint64_t i = 0; i < t->visits; i++) {
-        one_call(t);
+        one_call(t, t->entered > t->left);
         if (i % 64 == 0) sched_yield();
-#ifdef ZAULINTE_CHECKS
-        is(t->entered == t->left || t->entered == t->left + 1, "a thread left for the other one");
-#endif
     }
-#ifdef ZAULINTE_CHECKS
-    while (t->entered > t->left) t->left += !counted(t, zaulinte_leave(&m, SHARED));
-#endif
+    if (t->entered > t->left) ZAULINTE_CHECK(zaulinte_leave(&m, SHARED));
     return NULL;
 }
 /* under a place of its own: resumes what waits, and finds no refusal */
@@ -119,9 +118,8 @@ int main(int argc, char **argv) {
     ends();
     is(value >= 2 * wanted, "too few visits");
     printf("%" PRIu64 " visits, %" PRIu64 " refused\n", value, counts(t, value));
+    value = 0;
     begins(misuses, wanted, t);
-    uint64_t left = t[0].left + t[1].left, is_inside = t[0].entered + t[1].entered > left;
-    if (is_inside) ZAULINTE_CHECK(zaulinte_leave(&m, SHARED));
     ends();
-    printf("%" PRIu64 " visits by misuse, %" PRIu64 " refused\n", left + is_inside, counts(t, left + is_inside));
+    printf("%" PRIu64 " visits by misuse, %" PRIu64 " refused\n", value, counts(t, value));
 }

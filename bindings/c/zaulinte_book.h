@@ -7,7 +7,7 @@
  * and nothing checks:
  *  - `book` points to a zaulinte_book that was all zero at first and that these functions alone wrote: never copy
  *    it;
- *  - one call at a time on one book, in an order that all threads see (by a lock, or by who is inside);
+ *  - one call at a time on one book, in an order that all threads see (by a lock, say);
  *  - no call from a signal handler. */
 #ifndef ZAULINTE_BOOK_H
 #define ZAULINTE_BOOK_H
@@ -22,15 +22,15 @@ typedef struct zaulinte_book {
     void *spare, *at;
 } zaulinte_book;
 
-/* Answers. Each refusal stands behind those that are tested before it. */
+/* Codes. A step tests for 107 first, then for its other refusals in the order of their numbers. */
 enum zaulinte_code {
     ZAULINTE_DONE = 0,
-    ZAULINTE_FREE = 64,           /* nobody is inside */
-    ZAULINTE_NO_PLACE = 101,      /* the place's number is that of none */
-    ZAULINTE_NOT_FREE = 102,      /* a place wants in while another is inside */
-    ZAULINTE_NOT_OUTSIDE = 103,   /* a place wants in that waits */
-    ZAULINTE_NOT_INSIDE = 104,    /* a place acts that isn't inside */
-    ZAULINTE_NO_CONDITION = 105,  /* the condition's number is that of none */
+    ZAULINTE_FREE = 64,           /* no place is inside */
+    ZAULINTE_NO_PLACE = 101,      /* no place has this number */
+    ZAULINTE_NOT_FREE = 102,      /* a place enters while another is inside */
+    ZAULINTE_NOT_OUTSIDE = 103,   /* a place enters that waits */
+    ZAULINTE_NOT_INSIDE = 104,    /* an act of a place that isn't inside */
+    ZAULINTE_NO_CONDITION = 105,  /* no condition has this number */
     ZAULINTE_WRONG_KIND = 106,    /* a signal on a Mesa condition, or a notify or broadcast on one of Hoare's */
     ZAULINTE_NO_BOOK = 107,       /* it was never made, or was freed */
     ZAULINTE_IS_MADE = 108,       /* there is a book already */
@@ -44,10 +44,10 @@ uint64_t zaulinte_book_make(zaulinte_book *book, uint64_t places, uint64_t condi
 /* 0, or 107. Afterwards there is no book. */
 uint64_t zaulinte_book_free(zaulinte_book *book);
 
-/* A step. The answer is the place that is inside after it (below 64), or 64 where nobody is, or a refusal (101 to
- * 107). Whoever is handed the monitor goes on at once: a place whose `wait` or `signal` answered another one is
- * inside again exactly when a later step answers its number. Who waits with the least priority goes first, of equal
- * ones the longest waiting. Signallers come back before those that were called, and these before any newcomer. */
+/* A step. Returns the place that is inside after it (below 64), or 64 if none is, or a refusal (101 to 107). A place
+ * that is handed the monitor is inside at once: a place whose `wait` or `signal` returned another one is inside again
+ * exactly when a later step returns its number. The waiter of least priority goes first, of equal ones the longest
+ * waiting. Signallers return before notified places, and these before any newcomer. */
 uint64_t zaulinte_book_enter(zaulinte_book *book, uint64_t place);
 uint64_t zaulinte_book_leave(zaulinte_book *book, uint64_t place);
 uint64_t zaulinte_book_wait(zaulinte_book *book, uint64_t place, uint64_t condition, uint64_t priority);
@@ -56,14 +56,14 @@ uint64_t zaulinte_book_pass(zaulinte_book *book, uint64_t place, uint64_t condit
 uint64_t zaulinte_book_notify(zaulinte_book *book, uint64_t place, uint64_t condition);
 uint64_t zaulinte_book_broadcast(zaulinte_book *book, uint64_t place, uint64_t condition);
 
-uint64_t zaulinte_book_now(zaulinte_book *book);        /* who is inside, 64, or 107 */
+uint64_t zaulinte_book_now(zaulinte_book *book);        /* the place inside, 64, or 107 */
 uint64_t zaulinte_book_places(zaulinte_book *book);     /* how many places, or 107 */
 uint64_t zaulinte_book_conditions(zaulinte_book *book); /* how many conditions, or 107 */
 /* Whether the place is outside: 1 or 0; or 107, 101. */
 uint64_t zaulinte_book_outside(zaulinte_book *book, uint64_t place);
-/* Whether somebody waits there (a called one doesn't): 1 or 0; or 107, 105. */
+/* Whether a place waits there (a notified one doesn't): 1 or 0; or 107, 105. */
 uint64_t zaulinte_book_queue(zaulinte_book *book, uint64_t condition);
-/* The same, and at 1 *priority is that of whom a signal would resume. Else it stays. */
+/* The same, and at 1 *priority is that of the place that a signal would resume. Else it stays. */
 uint64_t zaulinte_book_first(zaulinte_book *book, uint64_t condition, uint64_t *priority);
 /* 0, and *count is how many wait there; or 107, 105, and it stays. */
 uint64_t zaulinte_book_count(zaulinte_book *book, uint64_t condition, uint64_t *count);

@@ -4,6 +4,7 @@
 #define ZAULINTE_PORT_CODE
 #include "zaulinte_port.h"
 
+const char ZAULINTE_BUILD = 0;
 /* A place's bell: AWAKE, ASLEEP, or RUNG. The entrance's: ASLEEP if a newcomer may sleep there, else AWAKE. */
 enum { AWAKE, ASLEEP, RUNG, NOBODY = ZAULINTE_DOOR_NOBODY };
 static zaulinte_door_place *at(zaulinte_monitor *m, uint32_t place) { return &m->place[place].handle; }

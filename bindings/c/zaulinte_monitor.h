@@ -81,14 +81,19 @@ typedef struct zaulinte_monitor {
     zaulinte_place place[64];
 } zaulinte_monitor;
 
-/* zaulinte_make has the choices of the build in its name, so that two choices don't link. */
+/* Each file that includes this header asks for a symbol that has the choices of the build in its name. */
 #define ZAULINTE_JOINED(name, port) name##port
 #define ZAULINTE_JOIN(name, port) ZAULINTE_JOINED(name, port)
 #ifdef ZAULINTE_CHECKS
-#define zaulinte_make ZAULINTE_JOIN(zaulinte_make_checked_, ZAULINTE_PORT_NAME)
+#define ZAULINTE_BUILD ZAULINTE_JOIN(zaulinte_build_checked_, ZAULINTE_PORT_NAME)
 #else
-#define zaulinte_make ZAULINTE_JOIN(zaulinte_make_, ZAULINTE_PORT_NAME)
+#define ZAULINTE_BUILD ZAULINTE_JOIN(zaulinte_build_, ZAULINTE_PORT_NAME)
 #endif
+extern const char ZAULINTE_BUILD;
+#ifdef __GNUC__
+__attribute__((used))
+#endif
+static const char *const zaulinte_asks_for = &ZAULINTE_BUILD;
 
 /* Makes a monitor of 1 to 64 places, one for each thread that may be in it at once, and 1 to 8 conditions, the last
  * `mesa` of which are Mesa conditions. 0, or 115, 108 to 111. */

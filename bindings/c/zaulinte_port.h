@@ -5,8 +5,8 @@
  * these and compile zaulinte_monitor.c, and all that includes zaulinte_monitor.h, with -DZAULINTE_PORT='"file.h"'.
  *
  * A port is read twice. First by zaulinte_monitor.h, in C and in C++; there it defines
- *   ZAULINTE_PORT_NAME    a word, which becomes part of the name of zaulinte_make in the object file: a program that
- *                         was compiled with two ports doesn't link;
+ *   ZAULINTE_PORT_NAME    a word, which becomes part of a symbol that all these files ask for: a program that was
+ *                         compiled with two ports doesn't link;
  *   ZAULINTE_BELL_FIELDS  the fields of a bell besides its word, if there are any. A thread sleeps on a bell.
  * Then by zaulinte_monitor.c alone, with ZAULINTE_PORT_CODE defined; there it defines
  *   port_make, port_free  set up and undo the fields of a bell.

@@ -56,7 +56,7 @@ static void hands_over(zaulinte_book *b) {
     is("count", zaulinte_book_count(b, 0, &found), 0);
     is("how many", found, 1);
     is("signal", zaulinte_book_signal(b, 1, 0), 0);
-    is("who is held up", zaulinte_book_leave(b, 1), ZAULINTE_NOT_INSIDE);
+    is("a signaller", zaulinte_book_leave(b, 1), ZAULINTE_NOT_INSIDE);
     is("leave", zaulinte_book_leave(b, 0), 1);
     is("now", zaulinte_book_now(b), 1);
     is("pass", zaulinte_book_pass(b, 1, 0), ZAULINTE_FREE);

@@ -28,7 +28,7 @@ static uint64_t may_act(zaulinte_monitor *m, uint32_t place) {
     if (place >= 64) return ZAULINTE_NO_PLACE;
     uintptr_t thread = atomic_load_explicit(&m->place[place].thread, memory_order_relaxed);
     if (thread != port_thread()) return thread ? ZAULINTE_NOT_OUTSIDE : ZAULINTE_NOT_INSIDE;
-    __tsan_release(&m->door);
+    visit_ends(m);
     return 0;
 }
 /* Wakes the thread of the place that has the monitor next; if none has it, one newcomer. */
@@ -40,7 +40,7 @@ static void wake(zaulinte_monitor *m, uint64_t next) {
 
 static bool enters(zaulinte_monitor *m, uint32_t place) {
     if (zaulinte_door_try_enter(at(m, place)) != ZAULINTE_DOOR_ENTERED) return false;
-    __tsan_acquire(&m->door);
+    visit_begins(m);
     return true;
 }
 uint64_t zaulinte_enter(zaulinte_monitor *m, uint32_t place) {
@@ -74,7 +74,7 @@ static void resumes(zaulinte_monitor *m, uint32_t place, uint64_t next) {
     atomic_compare_exchange_strong(&mine->word, &is, ASLEEP);
     while (!is_rung(mine) || zaulinte_door_try_return(at(m, place)) != ZAULINTE_DOOR_ENTERED)
         port_sleep_while(mine, ASLEEP);
-    __tsan_acquire(&m->door);
+    visit_begins(m);
     atomic_store_explicit(&mine->word, AWAKE, memory_order_relaxed);
 }
 uint64_t zaulinte_leave(zaulinte_monitor *m, uint32_t place) {

@@ -73,17 +73,21 @@ static inline uintptr_t port_thread(void) {
 }
 #endif
 
-/* ThreadSanitizer doesn't see into the archive. So it is told that a visit comes after the one before. */
-#ifdef __has_feature
-#if __has_feature(thread_sanitizer) && !defined(__SANITIZE_THREAD__)
-#define __SANITIZE_THREAD__ 1
-#endif
-#endif
+/* ThreadSanitizer doesn't see into the archive: it is shown that a visit comes after the one before. */
 #ifdef __SANITIZE_THREAD__
+#define ZAULINTE_WATCHED
+#elif defined(__has_feature)
+#if __has_feature(thread_sanitizer)
+#define ZAULINTE_WATCHED
+#endif
+#endif
+#ifdef ZAULINTE_WATCHED
 void __tsan_acquire(void *at);
 void __tsan_release(void *at);
+#define visit_begins(m) __tsan_acquire(&(m)->door)
+#define visit_ends(m) __tsan_release(&(m)->door)
 #else
-#define __tsan_acquire(at) ((void)(at))
-#define __tsan_release(at) ((void)(at))
+#define visit_begins(m) ((void)(m))
+#define visit_ends(m) ((void)(m))
 #endif
 #endif

@@ -39,7 +39,7 @@ struct condition_names {
         for (const char *c = all; *c; c++) many += *c == ',';
         return many;
     }
-    // Whether the values are 0, 1, 2 ..: there is no `=`, and no comma behind the last name.
+    // Whether the values are 0, 1, 2 ..: there is no `=`, and no comma after the last name.
     constexpr bool are_plain() const noexcept {
         char last = 0;
         for (const char *c = all; *c; c++) {

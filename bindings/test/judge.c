@@ -1,5 +1,5 @@
-/* Reads the log of a stress, which whoever was inside wrote line by line, and tells whether it is a legal history.
- * It uses nothing of the bindings: what is legal stands here once more, over plain lists.
+/* Reads the log of a stress, which the thread inside wrote line by line, and reports whether it is a legal history.
+ * It uses nothing of the bindings: what is legal is written here once more, over plain lists.
  *
  * The first line is `sizes PLACES CONDITIONS MESA`, the last one `end`. Between them, with the data D of the
  * monitor:

@@ -112,7 +112,7 @@ static void texts(void) {
             IS(zaulinte_text(a) == zaulinte_text(b), a >= 113 && a < ZAULINTE_MISALIGNED && b >= 113);
 }
 
-/* a thread that is cancelled while it waits goes on, and ends where it can: outside */
+/* a thread that is cancelled while it waits resumes all the same, and ends at its next cancellation point, outside */
 static _Atomic bool waits, came_back;
 static void *is_cancelled(void *unused) {
     pthread_setcanceltype(PTHREAD_CANCEL_DEFERRED, NULL);

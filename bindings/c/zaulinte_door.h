@@ -4,7 +4,9 @@
  * PROVED: each function meets its contract in crates/door_c/src/lib.rt, for any number, and for a handle that holds
  * something or nothing. A refused act of a place changes nothing. All that a place knows of its door's history is
  * legal, and the place is outside, inside or away in it. An act that releases the monitor returns the place that has
- * the monitor next, below 64, or 64. A door is closed with the value that one legal history of all places left.
+ * the monitor next, below 64, or 64. A door is closed with the value that one legal history left, which begins with
+ * what each of its places knows, as the keeper has them in hand.
+ * TESTED: that the keeper collects each place that was given back, with what the place knew.
  * Not proved: this header. The caller owes the following, and nothing checks it:
  *  - `door` and `place` point to handles that were all zero at first and that these functions alone wrote. A handle
  *    is never copied. `value` and `priority` point to a word of the caller's;
@@ -23,7 +25,7 @@
 extern "C" {
 #endif
 
-/* The keeper of a door: the door, with the places that nobody has taken. Start with `zaulinte_door door = {0};`. */
+/* The keeper of a door: the door, and in hand the places that weren't given out, or were collected. Start with `zaulinte_door door = {0};`. */
 typedef struct zaulinte_door {
     uint64_t live;
     void *spare, *at;
@@ -50,7 +52,7 @@ enum zaulinte_door_code {
     ZAULINTE_DOOR_BAD_PLACES = 109,    /* none, or over 64 */
     ZAULINTE_DOOR_BAD_CONDITIONS = 110, /* none, over 8, or more Mesa conditions than conditions */
     ZAULINTE_DOOR_NO_MEMORY = 111,     /* an allocation failed */
-    ZAULINTE_DOOR_IN_USE = 112,        /* a place wasn't given back */
+    ZAULINTE_DOOR_IN_USE = 112,        /* a place isn't in the keeper's hand */
     ZAULINTE_DOOR_NOT_AWAY = 113,      /* the place neither waits nor has it signalled */
     ZAULINTE_DOOR_NONE_LEFT = 114      /* all places are taken */
 };
@@ -67,8 +69,10 @@ uint64_t zaulinte_door_give_out(zaulinte_door *door, zaulinte_door_place *place)
 /* Gives the place back: 0, and the handle holds nothing; or 107, 103, 102 (another thread has the place's slot in
  * hand: try again). */
 uint64_t zaulinte_door_give_back(zaulinte_door_place *place);
-/* Closes the door: 0, *value is the word that the last visit left, and the handle holds nothing; or 107, 112 (nothing
- * is lost: try again later). */
+/* Takes those places in hand that were given back: 0; or 107. `give_out` does it too, if no place is in hand. */
+uint64_t zaulinte_door_collect(zaulinte_door *door);
+/* Closes the door, if all of its places are in hand (see `collect`): 0, *value is the word that the last visit left,
+ * and the handle holds nothing; or 107, 112 (nothing is lost: try again later). */
 uint64_t zaulinte_door_close(zaulinte_door *door, uint64_t *value);
 
 /* Enters if the monitor is free at this moment: 64, or 107, 103, 102. */

@@ -149,6 +149,7 @@ static uint64_t undo(zaulinte_monitor *m, uint32_t places, uint64_t code) {
         unclaim(m, k, 0);
     }
     port_free(&m->entrance);
+    zaulinte_door_collect(&m->door);
     uint64_t unused, kept = zaulinte_door_close(&m->door, &unused);
     return kept ? kept : code;
 }

@@ -82,10 +82,15 @@ static void opens(int places, uint64_t conditions, uint64_t mesa, uint64_t value
     IS(zaulinte_door_make(&door, (uint64_t)places, conditions, mesa, value), 0);
     for (int k = places; k-- > 0;) gives_first(k, places);
 }
+/* closes the door, with the places that were given back */
+static uint64_t shuts(zaulinte_door *d, uint64_t *value) {
+    IS(zaulinte_door_collect(d), 0);
+    return zaulinte_door_close(d, value);
+}
 static void closes(int places, uint64_t wanted) {
     uint64_t value = 77;
     for (int k = 0; k < places; k++) IS(gives_back(k), 0);
-    IS(zaulinte_door_close(&door, &value), 0);
+    IS(shuts(&door, &value), 0);
     IS(value, wanted);
     IS(pieces, 0);
     IS(out, 0);
@@ -110,6 +115,7 @@ static void answers_of_no_door(zaulinte_door *d) {
     uint64_t kept = 77;
     zaulinte_door_place unheld = {0, 0, 0};
     IS(zaulinte_door_give_out(d, &unheld), 107);
+    IS(zaulinte_door_collect(d), 107);
     IS(zaulinte_door_close(d, &kept), 107);
     IS(kept, 77);
 }
@@ -167,11 +173,11 @@ static void handles(void) {
     IS(zaulinte_door_give_out(&other, &held), 108);
     IS(zaulinte_door_give_out(&other, &more), 114);
     IS(zaulinte_door_state(&held), 0);
-    IS(zaulinte_door_close(&other, &value), 112);
+    IS(shuts(&other, &value), 112);
     IS(value, 77);
     IS(zaulinte_door_give_back(&held), 0);
     answers_of_no_place(&held);
-    IS(zaulinte_door_close(&other, &value), 0);
+    IS(shuts(&other, &value), 0);
     IS(value, 5);
     answers_of_no_door(&other);
     IS(zaulinte_door_make(&other, 0, 1, 0, 6), 109);
@@ -491,44 +497,47 @@ static void splits(void) {
     }
 }
 
-/* A door isn't closed while a place is out, wherever that is. A place that was given back is given out again. */
+/* A door isn't closed while a place is out, wherever that is, or wasn't collected. A place that was given back is given
+ * out again. */
 static void close_and_again(void) {
     zaulinte_door_place again = {0, 0, 0}, more = {0, 0, 0};
     uint64_t value = 77;
     opens(2, 1, 0, 30);
     IS(gives_back(0), 0);
     answers_of_no_place(&place[0]);
-    IS(zaulinte_door_close(&door, &value), 112);
+    IS(shuts(&door, &value), 112);
     IS(zaulinte_door_give_out(&door, &again), 0); /* 0 is the only number that isn't out */
     IS(zaulinte_door_give_out(&door, &more), 114);
     answers_of_no_place(&more);
     IS(zaulinte_door_try_enter(&again), 64);
-    IS(zaulinte_door_close(&door, &value), 112);
+    IS(shuts(&door, &value), 112);
     IS(zaulinte_door_set(&again, 31), 0);
     IS(zaulinte_door_wait(&again, 0, 0), 64);
-    IS(zaulinte_door_close(&door, &value), 112);
+    IS(shuts(&door, &value), 112);
     IS(enters(1), 64);
     IS(reads(1, &value), 0);
     IS(value, 31);
     IS(writes(1, 32), 0);
     IS(writes(1, 33), 0);
     IS(signals(1, 0), 0);
-    IS(zaulinte_door_close(&door, &value), 112);
+    IS(shuts(&door, &value), 112);
     IS(value, 31);
     IS(zaulinte_door_try_return(&again), 64);
     IS(zaulinte_door_leave(&again), 1);
     IS(zaulinte_door_give_back(&again), 0);
-    IS(zaulinte_door_close(&door, &value), 112);
+    IS(shuts(&door, &value), 112);
     IS(gives_back(1), 103);
     IS(returns(1), 64);
     IS(gives_back(1), 103);
-    IS(zaulinte_door_close(&door, &value), 112);
+    IS(shuts(&door, &value), 112);
     IS(leaves(1), 64);
-    IS(zaulinte_door_close(&door, &value), 112);
+    IS(shuts(&door, &value), 112);
     IS(value, 31);
     IS(gives_back(1), 0);
     IS(gives_back(1), 107);
-    IS(zaulinte_door_close(&door, &value), 0);
+    IS(zaulinte_door_close(&door, &value), 112); /* this place isn't in hand yet */
+    IS(value, 31);
+    IS(shuts(&door, &value), 0);
     IS(value, 33);
     answers_of_no_door(&door);
     answers_of_no_place(&again);
@@ -536,7 +545,7 @@ static void close_and_again(void) {
     /* a door whose close was refused gives places out still */
     IS(zaulinte_door_make(&door, 2, 1, 0, 9), 0);
     gives_first(1, 2);
-    IS(zaulinte_door_close(&door, &value), 112);
+    IS(shuts(&door, &value), 112);
     gives_first(0, 2);
     closes(2, 9);
 }
@@ -628,9 +637,9 @@ static void memory_refused(void) {
     for (int k = 0; k < 4; k++) gives_out(k, 4);
     refuse_all();
     uint64_t value = 77;
-    IS(zaulinte_door_close(&door, &value), 112);
+    IS(shuts(&door, &value), 112);
     IS(gives_back(0), 0);
-    IS(zaulinte_door_close(&door, &value), 112);
+    IS(shuts(&door, &value), 112);
     IS(zaulinte_door_give_out(&door, &place[0]), 111);
     IS(requests > 0, 1);
     refuse_none();

@@ -1,5 +1,5 @@
 /* The door's calls once more, by hand and not proved, in the place of libdoor_c.a: to see that door.c finds each of
- * the faults that -DWRONG=1 to -DWRONG=22 put in, one at a time. Each call takes one lock. */
+ * the faults that -DWRONG=1 to -DWRONG=24 put in, one at a time. Each call takes one lock. */
 #include "zaulinte_door.h"
 #include <pthread.h>
 #include <stdbool.h>
@@ -99,12 +99,21 @@ uint64_t zaulinte_door_make(
     door->live = 1, door->at = h;
     return 0;
 }
+static void collect(hand *h) {
+    while (h->back.many) append(&h->kept, take(&h->back));
+}
+uint64_t zaulinte_door_collect(zaulinte_door *door) {
+    hand *h = held(door->live, door->at);
+    if (!h) return done(ZAULINTE_DOOR_NOTHING_HELD);
+    if (!IS_WRONG(23)) collect(h);
+    return done(0);
+}
 uint64_t zaulinte_door_give_out(zaulinte_door *door, zaulinte_door_place *place) {
     hand *h = held(door->live, door->at);
     if (place->live) return done(IS_WRONG(7) && h && !h->kept.many ? ZAULINTE_DOOR_NONE_LEFT : ZAULINTE_DOOR_IS_HELD);
     if (!h) return done(ZAULINTE_DOOR_NOTHING_HELD);
     if (IS_WRONG(9)) memory(8);
-    if (!h->kept.many) h->kept = h->back, h->back.many = 0;
+    if (!h->kept.many) collect(h);
     seat *s = IS_WRONG(18) ? memory(sizeof *s) : NULL;
     if (IS_WRONG(18) && !s) return done(ZAULINTE_DOOR_NO_MEMORY);
     if (!h->kept.many) return done(ZAULINTE_DOOR_NONE_LEFT);
@@ -129,7 +138,8 @@ uint64_t zaulinte_door_give_back(zaulinte_door_place *place) {
 uint64_t zaulinte_door_close(zaulinte_door *door, uint64_t *value) {
     hand *h = held(door->live, door->at);
     if (!h) return done(ZAULINTE_DOOR_NOTHING_HELD);
-    if (h->kept.many + h->back.many + IS_WRONG(10) < h->places) return done(ZAULINTE_DOOR_IN_USE);
+    if (IS_WRONG(24)) collect(h);
+    if (h->kept.many + IS_WRONG(10) < h->places) return done(ZAULINTE_DOOR_IN_USE);
     *value = h->value;
     rattle_dealloc(h);
     door->live = 0;

@@ -159,7 +159,7 @@ static void signal_and_leave(seat *s, uint64_t condition) {
 }
 static void notify(seat *s, uint64_t condition) { CHECK(zaulinte_door_notify(&s->place, condition) <= 1); }
 
-/* The keeper's lock: `give_out` and `close` under it, `give_back` without it. */
+/* The keeper's lock: `give_out`, `collect` and `close` under it, `give_back` without it. */
 static pthread_mutex_t keeper = PTHREAD_MUTEX_INITIALIZER;
 static _Atomic int is_out[MOST];
 static _Atomic long none_left, not_now;
@@ -169,7 +169,7 @@ static bool takes_place(seat *s, int places) {
     uint64_t value = 77, closed = ZAULINTE_DOOR_IN_USE;
     pthread_mutex_lock(&keeper);
     uint64_t code = zaulinte_door_give_out(&door, &s->place);
-    if (code < 64) closed = zaulinte_door_close(&door, &value);
+    if (code < 64) CHECK(zaulinte_door_collect(&door) == 0), closed = zaulinte_door_close(&door, &value);
     pthread_mutex_unlock(&keeper);
     CHECK(closed == ZAULINTE_DOOR_IN_USE && value == 77);
     if (code == ZAULINTE_DOOR_NONE_LEFT) return false;
@@ -186,7 +186,7 @@ static void gives_place_back(seat *s) {
 }
 static void closes(uint64_t wanted) {
     uint64_t value = 0;
-    CHECK(zaulinte_door_close(&door, &value) == 0);
+    CHECK(zaulinte_door_collect(&door) == 0 && zaulinte_door_close(&door, &value) == 0);
     CHECK(value == wanted);
 }
 typedef struct {

@@ -21,7 +21,7 @@ int main(void) {
     zaulinte_door_set(&signaller, 42);
     zaulinte_door_leave(&signaller);
     zaulinte_door_give_back(&waiter), zaulinte_door_give_back(&signaller);
-    zaulinte_door_close(&door, &value);
+    zaulinte_door_collect(&door), zaulinte_door_close(&door, &value);
     printf("%d\n", (int)value); /* 42 */
     return value != 42;
 }

@@ -7,6 +7,7 @@ extern "C" {
     fn zaulinte_door_make(door: &mut Handle, places: u64, conditions: u64, mesa: u64, value: u64) -> u64;
     fn zaulinte_door_give_out(door: &mut Handle, place: &mut Handle) -> u64;
     fn zaulinte_door_give_back(place: &mut Handle) -> u64;
+    fn zaulinte_door_collect(door: &mut Handle) -> u64;
     fn zaulinte_door_close(door: &mut Handle, value: &mut u64) -> u64;
     fn zaulinte_door_try_enter(place: &mut Handle) -> u64;
     fn zaulinte_door_leave(place: &mut Handle) -> u64;
@@ -78,6 +79,8 @@ impl Door {
 impl Drop for Door {
     fn drop(&mut self) {
         // SAFETY: the archive alone wrote the handle. A refusal leaves the door as it is, and lost
+        unsafe { zaulinte_door_collect(&mut self.0) };
+        // SAFETY: as above
         unsafe { zaulinte_door_close(&mut self.0, &mut 0) };
     }
 }

@@ -9,7 +9,7 @@ ghost use Rattle.std.specs.Prelude.{◌≡◌, ◌≢◌, ◌<◌, ◌≤◌};
 ghost use Rattle.hoare_law.specs.Sizes.{sizes_of};
 ghost use Rattle.door_place.specs.States.{AsksFirst, AsksQueue, Counts, Gets, where_is};
 ghost use Rattle.door_place.specs.Deeds as act;
-ghost use Rattle.door_handle.specs.Desks.{IsKept, WasClosed};
+ghost use Rattle.door_handle.specs.Desks.{Collected, WasClosed};
 ghost use Rattle.door_handle.specs.Held.{Acted, GaveHeld, GaveNothing, GivenBack, IsSame, Made};
 
 use door_handle::door::HeldDoor;
@@ -70,14 +70,24 @@ pub extern "C" fn zaulinte_door_give_back(alloc: Global, place: &mut HeldPlace) 
     place.give_back(alloc)
 }
 
-/// Closes the door, if all of its places were given back: 0, and `value` is its word. Refused: 107 no door is held, 112
-/// a place wasn't given back.
+/// Takes those places in hand that were given back: 0. Refused: 107 no door is held.
+#[unsafe(no_mangle)]
+pub extern "C" fn zaulinte_door_collect(door: &mut HeldDoor) -> u64
+    ensures collected { door.old.live ≡ 1 → (result ≡ 0) × (door.new.live ≡ 1)
+        × Collected door.old.handle.value.keeper door.new.handle.value.keeper }
+    ensures none { door.old.live ≡ 0 → (result ≡ 107) × (door.new ≡ door.old) }
+{
+    door.collect()
+}
+
+/// Closes the door, if all of its places are in hand: 0, and `value` is its word. Refused: 107 no door is held, 112 a
+/// place isn't in hand: it was given out, and not given back and collected.
 #[unsafe(no_mangle)]
 pub extern "C" fn zaulinte_door_close(alloc: Global, door: &mut HeldDoor, value: &mut u64) -> u64
     ensures closed { door.old.live ≡ 1 → result ≡ 0
         → (door.new.live ≡ 0) × WasClosed door.old.handle.value.keeper value.new }
     ensures kept { door.old.live ≡ 1 → result ≢ 0 → (result ≡ 112) × (door.new.live ≡ 1)
-        × IsKept door.old.handle.value.keeper door.new.handle.value.keeper × (value.new ≡ value.old) }
+        × (door.new.handle.value.keeper ≡ door.old.handle.value.keeper) × (value.new ≡ value.old) }
     ensures none { door.old.live ≡ 0 → (result ≡ 107) × (door.new ≡ door.old) × (value.new ≡ value.old) }
 {
     door.close(alloc, value)

@@ -4,15 +4,14 @@ use Rattle.door_frame.specs.Places.{Closes, HasPlace, PlaceOut}
 use Rattle.door_place.specs.Places.{HasMore, KeeperOf, keeper_of}
 use Rattle.door_place.specs.States.{Carried, any, calm}
 
--- The door was closed with this word: one legal history left it, which begins with the front of each place in hand, and
--- all places were in hand, those that were collected last among them.
+-- The door was closed with this word: all of its places were in hand, and one legal history left the word, which begins
+-- with the front of each of them and in which no place did anything else.
 pub data WasClosed (old : Option KeeperOf) (value : ℕ) : Type 0 where
-  closed : (k : KeeperOf) (outs : List (PlaceOut Carried)) → old ≡ Some k → HasMore k.door k.outs outs
-      → ((j : ℕ) → j < k.door.door.places → HasPlace j outs)
-      → Closes calm any k.door.kinds k.door.door outs (record { value = value }) → WasClosed old value
+  closed : (k : KeeperOf) → old ≡ Some k → ((j : ℕ) → j < k.door.door.places → HasPlace j k.outs)
+      → Closes calm any k.door.kinds k.door.door k.outs (record { value = value }) → WasClosed old value
 
 -- The door is still there, perhaps with more places in hand; or there was none.
-pub data IsKept (old new : Option KeeperOf) : Type 0 where
-  no_door : old ≡ None → new ≡ None → IsKept old new
-  kept : (k : KeeperOf) (outs : List (PlaceOut Carried)) → old ≡ Some k → HasMore k.door k.outs outs
-      → new ≡ Some (keeper_of k.door outs) → IsKept old new
+pub data Collected (old new : Option KeeperOf) : Type 0 where
+  no_door : old ≡ None → new ≡ None → Collected old new
+  collected : (k : KeeperOf) (outs : List (PlaceOut Carried)) → old ≡ Some k → HasMore k.door k.outs outs
+      → new ≡ Some (keeper_of k.door outs) → Collected old new

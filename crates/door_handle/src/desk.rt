@@ -1,6 +1,6 @@
 //! The keeper of a door, which can be closed where it lies.
 ghost use Rattle.std.specs.Prelude.{◌≡◌, IfNone, IfSome, None};
-ghost use Rattle.door_handle.specs.Desks.{IsKept, WasClosed};
+ghost use Rattle.door_handle.specs.Desks.{Collected, WasClosed};
 
 use door_place::keeper::Keeper;
 
@@ -12,14 +12,21 @@ pub struct Desk {
 }
 
 impl Desk {
-    /// Collects the places that were given back. Closes the door if all of its places are in hand, and returns its
-    /// word.
+    /// Takes those places in hand that were given back.
+    pub fn collect(&mut self)
+        ensures { Collected self.old.keeper self.new.keeper }
+    {
+        if let Some(keeper) = &mut self.keeper {
+            keeper.collect();
+        }
+    }
+
+    /// Closes the door if all of its places are in hand, and returns its word.
     pub fn close(&mut self) -> Option<u64>
         ensures closed { IfSome result (λ v. (self.new.keeper ≡ None) × WasClosed self.old.keeper v) }
-        ensures kept { IfNone result (IsKept self.old.keeper self.new.keeper) }
+        ensures kept { IfNone result (self.new.keeper ≡ self.old.keeper) }
     {
-        let mut keeper = self.keeper.take()?;
-        keeper.collect();
+        let keeper = self.keeper.take()?;
         match keeper.close() {
             Ok(value) => Some(value),
             Err(keeper) => {

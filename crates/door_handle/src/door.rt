@@ -1,7 +1,7 @@
 //! Where C keeps a door.
 ghost use Rattle.std.specs.Prelude.{◌≡◌, ◌≢◌, ◌<◌, ◌≤◌, ◌⊎◌};
 ghost use Rattle.hoare_law.specs.Sizes.{sizes_of};
-ghost use Rattle.door_handle.specs.Desks.{IsKept, WasClosed};
+ghost use Rattle.door_handle.specs.Desks.{Collected, WasClosed};
 ghost use Rattle.door_handle.specs.Held.{GaveHeld, GaveNothing, Made};
 
 use crate::desk::Desk;
@@ -109,12 +109,25 @@ impl HeldDoor {
         }
     }
 
-    /// Closes the door, if all of its places were given back, and tells its word. Refused: `NOTHING_HELD`, `IN_USE`.
+    /// Takes those places in hand that were given back. Refused: `NOTHING_HELD`.
+    pub fn collect(&mut self) -> u64
+        ensures collected { self.old.live ≡ 1 → (result ≡ 0) × (self.new.live ≡ 1)
+            × Collected self.old.handle.value.keeper self.new.handle.value.keeper }
+        ensures none { self.old.live ≡ 0 → (result ≡ 107) × (self.new ≡ self.old) }
+    {
+        let Some(desk) = self.held().get_mut() else {
+            return NOTHING_HELD;
+        };
+        desk.collect();
+        DONE
+    }
+
+    /// Closes the door, if all of its places are in hand, and tells its word. Refused: `NOTHING_HELD`, `IN_USE`.
     pub fn close(&mut self, alloc: Global, value: &mut u64) -> u64
         ensures closed { self.old.live ≡ 1 → result ≡ 0
             → (self.new.live ≡ 0) × WasClosed self.old.handle.value.keeper value.new }
         ensures kept { self.old.live ≡ 1 → result ≢ 0 → (result ≡ 112) × (self.new.live ≡ 1)
-            × IsKept self.old.handle.value.keeper self.new.handle.value.keeper × (value.new ≡ value.old) }
+            × (self.new.handle.value.keeper ≡ self.old.handle.value.keeper) × (value.new ≡ value.old) }
         ensures none { self.old.live ≡ 0 → (result ≡ 107) × (self.new ≡ self.old) × (value.new ≡ value.old) }
     {
         let Some(desk) = self.held().get_mut() else {

@@ -5,8 +5,9 @@
 #include "zaulinte_port.h"
 
 const char ZAULINTE_BUILD = 0;
-/* A place's bell: AWAKE, ASLEEP, or RUNG. The entrance's: ASLEEP if a newcomer may sleep there, else AWAKE. */
-enum { AWAKE, ASLEEP, RUNG, NOBODY = ZAULINTE_DOOR_NOBODY };
+/* A place's bell: AWAKE, ASLEEP, or rung: RUNG by a thread that comes back, LEFT by one that left the monitor. The
+ * entrance's: ASLEEP if a newcomer may sleep there, else AWAKE. */
+enum { AWAKE, ASLEEP, RUNG, LEFT, NOBODY = ZAULINTE_DOOR_NOBODY };
 static zaulinte_door_place *at(zaulinte_monitor *m, uint32_t place) { return &m->place[place].handle; }
 #include "zaulinte_checks.h"
 
@@ -31,13 +32,19 @@ static uint64_t may_act(zaulinte_monitor *m, uint32_t place) {
     visit_ends(m);
     return 0;
 }
-/* Wakes the thread of the place that has the monitor next; if none has it, one newcomer. */
-static void wake(zaulinte_monitor *m, uint64_t next) {
+/* Wakes the thread of the place that has the monitor next, and rings it by `how`; if none has it, one newcomer. */
+static void wake(zaulinte_monitor *m, uint64_t next, uint32_t how) {
     zaulinte_bell *b = next < NOBODY ? &m->place[next].bell : &m->entrance;
     if (next == NOBODY && atomic_load(&b->word) != ASLEEP) return;
-    if (atomic_exchange(&b->word, next < NOBODY ? RUNG : AWAKE) == ASLEEP) port_wake_one(b);
+    if (atomic_exchange(&b->word, next < NOBODY ? how : AWAKE) == ASLEEP) port_wake_one(b);
 }
 
+/* A place that was handed the monitor by one that left would mostly enter again before that one does, find its condition
+ * false again and wait: each visit would cost a hand-off. So it lets others enter first. */
+static void back_off(zaulinte_place *p) {
+    p->backs_off = false;
+    for (int i = 0; i < ZAULINTE_BACK_OFF; i++) port_relax();
+}
 static bool enters(zaulinte_monitor *m, uint32_t place) {
     if (zaulinte_door_try_enter(at(m, place)) != ZAULINTE_DOOR_ENTERED) return false;
     visit_begins(m);
@@ -46,8 +53,9 @@ static bool enters(zaulinte_monitor *m, uint32_t place) {
 uint64_t zaulinte_enter(zaulinte_monitor *m, uint32_t place) {
     uint64_t refused = claim(m, place);
     if (refused) return refused;
+    if (m->place[place].backs_off) back_off(&m->place[place]);
     bool is_in = enters(m, place);
-    for (int hints = 1; !is_in && hints <= ZAULINTE_ENTRANCE_POLLS; hints *= 2) {
+    for (int hints = 1; !is_in && hints <= ZAULINTE_POLLS; hints *= 2) {
         for (int i = 0; i < hints; i++) port_relax();
         is_in = enters(m, place);
     }
@@ -64,24 +72,24 @@ uint64_t zaulinte_try_enter(zaulinte_monitor *m, uint32_t place) {
     return enters(m, place) ? 0 : unclaim(m, place, ZAULINTE_NOT_FREE);
 }
 
-static bool is_rung(zaulinte_bell *b) { return atomic_load(&b->word) == RUNG; }
+static bool is_rung(zaulinte_bell *b) { return atomic_load(&b->word) >= RUNG; }
 /* Wakes the next, and blocks until the place is back. */
 static void resumes(zaulinte_monitor *m, uint32_t place, uint64_t next) {
     zaulinte_bell *mine = &m->place[place].bell;
     uint32_t is = AWAKE;
-    wake(m, next);
+    wake(m, next, RUNG);
     for (int i = 0; i < ZAULINTE_POLLS && !is_rung(mine); i++) port_relax();
     atomic_compare_exchange_strong(&mine->word, &is, ASLEEP);
     while (!is_rung(mine) || zaulinte_door_try_return(at(m, place)) != ZAULINTE_DOOR_ENTERED)
         port_sleep_while(mine, ASLEEP);
     visit_begins(m);
-    atomic_store_explicit(&mine->word, AWAKE, memory_order_relaxed);
+    m->place[place].backs_off = atomic_exchange_explicit(&mine->word, AWAKE, memory_order_relaxed) == LEFT;
 }
 uint64_t zaulinte_leave(zaulinte_monitor *m, uint32_t place) {
     uint64_t refused = may_act(m, place);
     if (refused) return refused;
     check_leave(m, place);
-    wake(m, zaulinte_door_leave(at(m, place)));
+    wake(m, zaulinte_door_leave(at(m, place)), LEFT);
     return unclaim(m, place, 0);
 }
 uint64_t zaulinte_wait(zaulinte_monitor *m, uint32_t place, uint32_t condition, uint64_t priority) {
@@ -112,7 +120,7 @@ uint64_t zaulinte_signal_leave(zaulinte_monitor *m, uint32_t place, uint32_t con
     uint64_t next = zaulinte_door_signal_leave(at(m, place), condition);
     if (next > NOBODY) return next;
     if (resumed) *resumed = waited;
-    wake(m, next);
+    wake(m, next, LEFT);
     return unclaim(m, place, 0);
 }
 

@@ -51,6 +51,7 @@ typedef struct zaulinte_place {
     alignas(64) zaulinte_bell bell;  /* its thread sleeps on it: 0 awake, 1 asleep, 2 woken */
     ZAULINTE_WORD(uintptr_t) thread; /* the thread that has the place: from its entering until it has left, else 0 */
     zaulinte_door_place handle;
+    bool backs_off; /* it was handed the monitor by a place that left */
 } zaulinte_place;
 
 /* The waiters on each condition, for a check: how many, and the priority of the one that a signal would resume. */

@@ -52,10 +52,10 @@
 #error "compile zaulinte_monitor.c as C"
 #endif
 #ifndef ZAULINTE_POLLS
-#define ZAULINTE_POLLS 100 /* how often a thread that is to resume polls its word, a hint apart, before it sleeps */
+#define ZAULINTE_POLLS 500 /* hints for which a thread polls before it sleeps, at its place's bell or at the entrance */
 #endif
-#ifndef ZAULINTE_ENTRANCE_POLLS
-#define ZAULINTE_ENTRANCE_POLLS 0 /* a newcomer tries after 1, 2, 4 .. hints, up to so many, before it sleeps */
+#ifndef ZAULINTE_BACK_OFF
+#define ZAULINTE_BACK_OFF 128 /* hints for which a place that was handed the monitor by one that left lets others enter */
 #endif
 #ifndef port_relax
 static inline void port_relax(void) {

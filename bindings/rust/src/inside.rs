@@ -188,8 +188,8 @@ impl<T, C: Condition, M: Condition, P: Port> Inside<'_, T, C, M, P> {
 
     /// After a step by which this place went away: returns once it is back inside.
     fn go_away(&mut self, next: Next) {
-        let Place { inner, seat, habits, .. } = &mut *self.place;
-        inner.parking.go_away(seat, next, habits);
+        let Place { inner, seat, backs_off, .. } = &mut *self.place;
+        *backs_off = inner.parking.go_away(seat, next);
     }
 }
 

@@ -9,7 +9,6 @@ pub mod book;
 mod checks;
 mod conditions;
 mod door;
-mod habits;
 mod handle;
 mod heap;
 mod inside;

@@ -1,8 +1,7 @@
 //! A monitor and its places.
 use crate::conditions::{Condition, NoConditions};
 use crate::door::{Door, Next, Seat};
-use crate::habits::Habits;
-use crate::parking::Parking;
+use crate::parking::{back_off, Departure, Parking};
 use crate::poison::{LockResult, PoisonError};
 use crate::refused::room_for;
 use crate::{Checks, DefaultPort, Inside, Port, Refused};
@@ -87,7 +86,8 @@ pub struct Place<T, C, M = NoConditions, P: Port = DefaultPort> {
     pub(crate) seat: Seat, // in front of `inner`, whose door closes only after the place was given back
     pub(crate) inner: Arc<Inner<T, C, M, P>>,
     pub(crate) is_inside: bool,
-    pub(crate) habits: Habits,
+    /// True if the place was handed the monitor by a place that left.
+    pub(crate) backs_off: bool,
 }
 
 #[cfg(feature = "std")]
@@ -130,7 +130,7 @@ impl<T: Send, C: Condition, M: Condition, P: Port> Monitor<T, C, M, P> {
         let own = UnsafeCell::new(Own { data, signaller: 0 });
         let inner = Arc::new(Inner { _door: door, parking, poisoned, occupied, checks, own });
         seats.reverse(); // the door gave the last one out first
-        let place = |seat| Place { seat, inner: Arc::clone(&inner), is_inside: false, habits: Habits::default() };
+        let place = |seat| Place { seat, inner: Arc::clone(&inner), is_inside: false, backs_off: false };
         all.extend(seats.into_iter().map(place));
         Ok((Monitor(inner), all))
     }
@@ -169,8 +169,11 @@ impl<T: Send, C: Condition, M: Condition, P: Port> Place<T, C, M, P> {
     #[track_caller]
     pub fn enter(&mut self) -> LockResult<Inside<'_, T, C, M, P>> {
         self.must_be_outside();
+        if core::mem::take(&mut self.backs_off) {
+            back_off();
+        }
         if !self.seat.try_enter() {
-            self.inner.parking.enter_later(&mut self.seat, &mut self.habits);
+            self.inner.parking.enter_later(&mut self.seat);
         }
         self.entered()
     }
@@ -216,7 +219,7 @@ impl<T, C, M, P: Port> Place<T, C, M, P> {
         self.inner.vacate();
         let next = step(&mut self.seat);
         self.is_inside = false;
-        self.inner.parking.wake(next, &mut self.habits);
+        self.inner.parking.wake(next, Departure::Leaves);
     }
 }
 

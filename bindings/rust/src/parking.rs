@@ -5,23 +5,23 @@
 //! the door's to its own state word, of which each releasing step writes that the monitor is free or owed.
 //!
 //! *The word of a place.* A place sleeps there while it is away. A step names the place as the next once for each
-//! time that it is away, and the thread that made the step then swaps `OWED` in. The place changes the word from
-//! `NOTHING` to `ASLEEP` before it sleeps, by a compare-exchange, and sleeps only while it is `ASLEEP`; it writes
-//! `NOTHING` again only after it found `OWED`. If the swap comes after the compare-exchange it finds `ASLEEP`, and its
-//! thread wakes the place; if it comes before, the compare-exchange fails and the place doesn't sleep. Either way the
-//! attempt to return that follows succeeds, since the step came before the swap.
+//! time that it is away, and the thread that made the step then swaps `OWED` in (`LEFT` if its place left the monitor).
+//! The place changes the word from `NOTHING` to `ASLEEP` before it sleeps, by a compare-exchange, and sleeps only while
+//! it is `ASLEEP`; it writes `NOTHING` again only after it found `OWED` or `LEFT`. If the swap comes after the
+//! compare-exchange it finds `ASLEEP`, and its thread wakes the place; if it comes before, the compare-exchange fails
+//! and the place doesn't sleep. Either way the attempt to return that follows succeeds, since the step came before the
+//! swap.
 //!
 //! *The word of the entrance.* All entering threads sleep there. A thread whose attempt failed writes `ASLEEP` and
 //! tries once more. If that fails too, another place had the monitor, or was owed it, at a moment after the write. That
 //! place releases the monitor later, itself or by way of the places that go on before the monitor is free. The thread
 //! whose step makes it free reads this word after the step: so it reads `ASLEEP`, or what was written later. If it
-//! reads `ASLEEP` it swaps `WOKEN` in and wakes one thread. The woken thread writes `ASLEEP` again before its next
+//! reads `ASLEEP` it swaps `NOTHING` in and wakes one thread. The woken thread writes `ASLEEP` again before its next
 //! attempt, since others may sleep still. So while threads sleep here, one thread has yet to act: if the word is
 //! `ASLEEP`, a thread that has yet to try to enter, or to make the monitor free; else a thread that has yet to wake
 //! one, or a woken thread that has yet to write `ASLEEP`. (A thread that wrote `ASLEEP` and then entered costs a
 //! wake-up of nobody.)
 use crate::door::{Next, Seat};
-use crate::habits::Habits;
 use crate::refused::room_for;
 use crate::{Port, Refused};
 use alloc::vec::Vec;
@@ -32,7 +32,19 @@ use core::sync::atomic::{AtomicU32, Ordering::Acquire, Ordering::SeqCst};
 const NOTHING: u32 = 0;
 const OWED: u32 = 1;
 const ASLEEP: u32 = 2;
-const WOKEN: u32 = 3;
+const LEFT: u32 = 3;
+
+/// The length of a back-off, in spin hints.
+const BACK_OFF: u32 = 128;
+
+/// How a place released the monitor.
+#[derive(Clone, Copy, PartialEq)]
+pub(crate) enum Departure {
+    /// It waits or has signalled, and comes back.
+    GoesAway,
+    /// It left.
+    Leaves,
+}
 
 /// A word on which threads sleep, on a cache line of its own.
 #[repr(align(64))]
@@ -54,15 +66,15 @@ impl<P: Port> Bell<P> {
         self.port.wake_one(&self.word);
     }
 
-    /// Polls the word at most `most` times, until it is `OWED`. Returns true if it is.
+    /// Polls the word at most `most` times, until the monitor is owed to the place. Returns true if it is.
     fn polls(&self, most: u32) -> bool {
         (0..most).any(|_| {
             spin_loop();
-            self.word.load(Acquire) == OWED
+            matches!(self.word.load(Acquire), OWED | LEFT)
         })
     }
 
-    /// Sleeps until the word is `OWED`.
+    /// Sleeps until the monitor is owed to the place.
     fn sleep_until_owed(&self) {
         if self.word.compare_exchange(NOTHING, ASLEEP, SeqCst, SeqCst).is_ok() {
             while self.word.load(SeqCst) == ASLEEP {
@@ -110,46 +122,34 @@ impl<P: Port> Parking<P> {
         self.bells.len()
     }
 
-    /// Wakes the place that a step named; if it named none the monitor is free, and an entering thread may be woken.
-    /// `habits` are of the place that made the step.
-    pub(crate) fn wake(&self, next: Next, habits: &mut Habits) {
+    /// Wakes the place that a step named; if it named none the monitor is free, and an entering thread is woken, if one
+    /// sleeps. `departure` says how the place of that step released the monitor.
+    #[inline]
+    pub(crate) fn wake(&self, next: Next, departure: Departure) {
         let Some(place) = next else {
-            return self.wake_entering(habits);
+            if self.entrance.word.load(SeqCst) == ASLEEP {
+                self.wake_entering();
+            }
+            return;
         };
         let bell = &self.bells[place];
-        if bell.word.swap(OWED, SeqCst) == ASLEEP {
+        let owed = if departure == Departure::Leaves { LEFT } else { OWED };
+        if bell.word.swap(owed, SeqCst) == ASLEEP {
             bell.wake_one();
         }
     }
 
-    #[inline]
-    fn wake_entering(&self, habits: &mut Habits) {
-        match self.entrance.word.load(SeqCst) {
-            NOTHING => {}
-            ASLEEP => self.wake_asleep(),
-            _ => self.meets_woken(habits),
-        }
-    }
-
     #[cold]
-    fn wake_asleep(&self) {
-        if self.entrance.word.swap(WOKEN, SeqCst) == ASLEEP {
+    fn wake_entering(&self) {
+        if self.entrance.word.swap(NOTHING, SeqCst) == ASLEEP {
             self.entrance.wake_one();
-        }
-    }
-
-    /// Yields now and then, since the woken thread may be queued on the very same processor.
-    #[cold]
-    fn meets_woken(&self, habits: &mut Habits) {
-        if habits.is_to_yield() && self.entrance.word.compare_exchange(WOKEN, NOTHING, SeqCst, SeqCst).is_ok() {
-            P::yield_now();
         }
     }
 
     /// Enters, after an attempt that failed: sleeps as long as the monitor isn't free.
     #[cold]
-    pub(crate) fn enter_later(&self, seat: &mut Seat, habits: &mut Habits) {
-        if habits.at_entrance.poll(P::ENTRANCE_POLLS, |most| tries(seat, most)) {
+    pub(crate) fn enter_later(&self, seat: &mut Seat) {
+        if tries(seat, P::POLLS) {
             return;
         }
         self.entrance.word.store(ASLEEP, SeqCst);
@@ -160,15 +160,24 @@ impl<P: Port> Parking<P> {
     }
 
     /// Wakes the next thread after a step by which `seat` went away, and returns inside once the monitor is owed to it.
-    pub(crate) fn go_away(&self, seat: &mut Seat, next: Next, habits: &mut Habits) {
+    /// Returns true if a place that left handed it over.
+    pub(crate) fn go_away(&self, seat: &mut Seat, next: Next) -> bool {
         let ends = EndsIfUnwound;
-        self.wake(next, habits);
+        self.wake(next, Departure::GoesAway);
         let bell = &self.bells[seat.number()];
-        if !habits.at_bell.poll(P::POLLS, |most| bell.polls(most)) {
+        if !bell.polls(P::POLLS) {
             bell.sleep_until_owed();
         }
-        bell.word.store(NOTHING, SeqCst);
+        let has_left = bell.word.swap(NOTHING, SeqCst) == LEFT;
         assert!(seat.try_return(), "place {} was woken and the monitor isn't owed to it", seat.number());
         core::mem::forget(ends);
+        has_left
     }
+}
+
+/// Lets others enter first. A place that was handed the monitor by one that left would mostly enter again before that one
+/// does, find its condition false again and wait: each visit would cost a hand-off.
+#[cold]
+pub(crate) fn back_off() {
+    (0..BACK_OFF).for_each(|_| spin_loop());
 }

@@ -37,12 +37,9 @@ use core::sync::atomic::AtomicU32;
 /// # Ok::<(), zaulinte::Refused>(())
 /// ```
 pub trait Port: Send + Sync {
-    /// How often a place that is away polls its own word before it sleeps, at most. 0 on a single processor.
+    /// For how many spin hints a thread polls before it sleeps: its place's own word if the place is away; an entering
+    /// thread tries again after 1, 2, 4 .. hints, up to so many. 0 on a single processor.
     const POLLS: u32 = 500;
-
-    /// An entering thread whose attempt failed tries again after 1, 2, 4 .. spin hints, up to so many, before it
-    /// sleeps.
-    const ENTRANCE_POLLS: u32 = 0;
 
     /// Blocks the calling thread while `word` has the value `is`. The test and the falling asleep are one step to
     /// [`wake_one`](Port::wake_one): a thread doesn't sleep through a change of the word that came before a wake-up.
@@ -51,9 +48,6 @@ pub trait Port: Send + Sync {
 
     /// Wakes one of the threads that sleep on `word`, if any does, after the word was changed. Never blocks for long.
     fn wake_one(&self, word: &AtomicU32);
-
-    /// Lets other threads that are ready have this processor. A courtesy: it may do nothing, as by default.
-    fn yield_now() {}
 
     /// Returns true if the calling thread is unwinding from a panic: a place that leaves then poisons the monitor, and
     /// its [`Checks`](crate::Checks) aren't tested. By default false: right if panics end the program.

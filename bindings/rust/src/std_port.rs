@@ -30,10 +30,6 @@ impl Port for StdPort {
         self.changed.notify_one();
     }
 
-    fn yield_now() {
-        thread::yield_now();
-    }
-
     fn panicking() -> bool {
         thread::panicking()
     }

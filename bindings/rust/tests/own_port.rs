@@ -38,8 +38,7 @@ impl Port for Spin {
 struct Early;
 
 impl Port for Early {
-    const POLLS: u32 = 1;
-    const ENTRANCE_POLLS: u32 = 64;
+    const POLLS: u32 = 64;
 
     fn sleep_while(&self, _: &AtomicU32, _: u32) {
         thread::yield_now();

@@ -39,8 +39,8 @@ static void wake(zaulinte_monitor *m, uint64_t next, uint32_t how) {
     if (atomic_exchange(&b->word, next < NOBODY ? how : AWAKE) == ASLEEP) port_wake_one(b);
 }
 
-/* A place that was handed the monitor by one that left would mostly enter again before that one does, find its condition
- * false again and wait: each visit would cost a hand-off. So it lets others enter first. */
+/* Lets others enter first. A place to which one that left handed the monitor would mostly enter again before that one
+ * does, find its condition false again and wait: each visit would cost a hand-off. */
 static void back_off(zaulinte_place *p) {
     p->backs_off = false;
     for (int i = 0; i < ZAULINTE_BACK_OFF; i++) port_relax();

@@ -24,8 +24,9 @@
  * one word of the door, so a full barrier for the words here: the argument rests on that.
  *
  * A place that is to resume. Its thread sleeps after it changed the place's word from AWAKE to ASLEEP. The releasing
- * thread exchanges the word for RUNG, and wakes if it was ASLEEP. So either the change finds RUNG, and the thread
- * doesn't sleep, or the exchange finds ASLEEP, and the thread is woken. A place is rung once for each return.
+ * thread exchanges the word for RUNG (LEFT, if its place left), and wakes if it was ASLEEP. So either the change finds
+ * the word rung, and the thread doesn't sleep, or the exchange finds ASLEEP, and the thread is woken. A place is rung
+ * once for each return.
  *
  * A newcomer. If its attempt to enter fails, it writes ASLEEP to the entrance's word, tries again, and sleeps only if
  * that fails too. Then another place has the monitor, or is owed it. The step that later leaves the monitor free comes
@@ -55,7 +56,7 @@
 #define ZAULINTE_POLLS 500 /* hints for which a thread polls before it sleeps, at its place's bell or at the entrance */
 #endif
 #ifndef ZAULINTE_BACK_OFF
-#define ZAULINTE_BACK_OFF 128 /* hints for which a place that was handed the monitor by one that left lets others enter */
+#define ZAULINTE_BACK_OFF 128 /* hints for which a place lets others enter, after one that left handed it the monitor */
 #endif
 #ifndef port_relax
 static inline void port_relax(void) {

@@ -1,2 +1,3 @@
 mod Acts
 mod Lists
+pub mod Sent

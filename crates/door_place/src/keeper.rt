@@ -5,6 +5,7 @@ ghost use Rattle.door_place.specs.Places.{GaveNone, GaveOut, HasMore, IsNew, Mad
 ghost use Rattle.door_place.specs.States.{IsState, any, calm};
 
 use crate::codes::{BAD_CONDITIONS, BAD_PLACES, NO_MEMORY, NONE_LEFT};
+use crate::moves::may_move;
 use crate::place::Place;
 use crate::shared::Shared;
 use crate::state::{Carried, Out};
@@ -78,7 +79,7 @@ impl Keeper {
             return Err(NO_MEMORY);
         };
         match Arc::new(alloc, shared) {
-            Ok(shared) => Ok(Keeper { shared, outs }),
+            Ok(shared) => Ok(may_move(Keeper { shared, outs })),
             Err(_) => Err(NO_MEMORY),
         }
     }

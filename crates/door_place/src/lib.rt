@@ -5,6 +5,7 @@
 pub mod act;
 pub mod codes;
 pub mod keeper;
+mod moves;
 pub mod place;
 pub mod shared;
 pub mod state;

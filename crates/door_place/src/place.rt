@@ -8,6 +8,7 @@ ghost use Rattle.door_place.specs.declared.state.State.TheVariants.{Outside};
 
 use crate::act::Act;
 use crate::codes::{DONE, NOBODY, NOT_NOW, NOT_OUTSIDE};
+use crate::moves::may_move;
 use crate::shared::Shared;
 use crate::state::{self, Out, State};
 use core::mem;
@@ -67,10 +68,10 @@ impl Place {
         requires { IsState (arc_value shared) (Outside out) }
         ensures { result ≡ place_at (arc_value shared) (Outside out) }
     {
-        Place {
+        may_move(Place {
             shared,
             state: State::Outside(out),
-        }
+        })
     }
 
     /// Does one act, or refuses it. Returns its code.

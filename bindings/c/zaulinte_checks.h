@@ -23,12 +23,12 @@ static zaulinte_waiting waiting(zaulinte_monitor *m, uint32_t place) {
 }
 static void test_inv(zaulinte_monitor *m, uint32_t place, const char *act) {
     if (!m->inv || m->inv(m->context)) return;
-    fprintf(stderr, "zaulinte: inv doesn't hold where place %" PRIu32 " %s\n", place, act);
+    fprintf(stderr, "zaulinte: inv doesn't hold when place %" PRIu32 " %s\n", place, act);
     abort();
 }
 static void test_rest(zaulinte_monitor *m, uint32_t place, const char *act, zaulinte_waiting w) {
     if (!m->rest || m->rest(m->context, &w)) return;
-    fprintf(stderr, "zaulinte: rest doesn't hold where place %" PRIu32 " %s\n", place, act);
+    fprintf(stderr, "zaulinte: rest doesn't hold when place %" PRIu32 " %s\n", place, act);
     abort();
 }
 static void check_leave(zaulinte_monitor *m, uint32_t place) {
@@ -60,7 +60,7 @@ static void check_ready(zaulinte_monitor *m, uint32_t place, uint32_t c, uint64_
     if (c >= m->hoare || !m->ready) return;
     zaulinte_waiting w = waiting(m, place);
     if (m->ready(m->context, c, priority, &w)) return;
-    fprintf(stderr, "zaulinte: ready doesn't hold where place %" PRIu32 " signalled condition %" PRIu32
+    fprintf(stderr, "zaulinte: ready doesn't hold when place %" PRIu32 " signalled condition %" PRIu32
             " and place %" PRIu32 " resumes\n", m->signaller, c, place);
     abort();
 }

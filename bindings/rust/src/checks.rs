@@ -111,15 +111,15 @@ impl<T, C: Condition, M: Condition, P: Port> Inside<'_, T, C, M, P> {
         let (checks, place, mut waiting) = (self.place.inner.checks, self.place.seat.number(), self.waiting());
         waiting.counts[number] += 1;
         waiting.firsts[number] = Some(waiting.firsts[number].map_or(priority, |first| first.min(priority)));
-        assert!((checks.inv)(self), "`inv` doesn't hold where place {place} waits on {condition:?}");
-        assert!((checks.rest)(self, &waiting), "`rest` doesn't hold where place {place} waits on {condition:?}");
+        assert!((checks.inv)(self), "`inv` doesn't hold when place {place} waits on {condition:?}");
+        assert!((checks.rest)(self, &waiting), "`rest` doesn't hold when place {place} waits on {condition:?}");
     }
 
     #[track_caller]
     pub(crate) fn check_signal(&mut self, condition: C) {
         if self.is_tested() && self.queue(condition) {
             let (checks, place) = (self.place.inner.checks, self.place.seat.number());
-            assert!((checks.inv)(self), "`inv` doesn't hold where place {place} signals {condition:?}");
+            assert!((checks.inv)(self), "`inv` doesn't hold when place {place} signals {condition:?}");
         }
     }
 

@@ -240,9 +240,9 @@ impl<T, C: Condition, M: Condition, P: Port> Drop for Inside<'_, T, C, M, P> {
         drop(leaving);
         match fault {
             None => {}
-            Some(Fault::Inv) => panic!("`inv` doesn't hold where place {place} leaves"),
+            Some(Fault::Inv) => panic!("`inv` doesn't hold when place {place} leaves"),
             Some(Fault::Rest(waiting)) => {
-                panic!("`rest` doesn't hold where place {place} leaves, and there wait: {waiting:?}")
+                panic!("`rest` doesn't hold when place {place} leaves, and there wait: {waiting:?}")
             }
         }
     }

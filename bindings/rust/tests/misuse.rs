@@ -170,7 +170,7 @@ fn a_forgotten_signal_is_found_at_the_leave_and_names_the_condition() {
         thread::yield_now();
     }
     let fault = catch_unwind(AssertUnwindSafe(|| *here.enter().unwrap() = 0)).unwrap_err();
-    let told = "`rest` doesn't hold where place 0 leaves, and there wait: {Ever: 1 of least priority 7}";
+    let told = "`rest` doesn't hold when place 0 leaves, and there wait: {Ever: 1 of least priority 7}";
     assert_eq!(message(fault), told);
     monitor.clear_poison();
     assert!(here.enter().unwrap().signal_leave(When::Ever));
@@ -196,15 +196,15 @@ fn checks_name_the_condition() {
         monitor.clear_poison();
         message(fault)
     };
-    assert_eq!(at(|inside| **inside = 10), "`inv` doesn't hold where place 0 leaves");
+    assert_eq!(at(|inside| **inside = 10), "`inv` doesn't hold when place 0 leaves");
     // the data stay as they were: 10
-    assert_eq!(at(|inside| drop(inside.wait(When::Ever, 0))), "`inv` doesn't hold where place 0 waits on Ever");
-    assert_eq!(at(|inside| **inside = 11), "`inv` doesn't hold where place 0 leaves");
+    assert_eq!(at(|inside| drop(inside.wait(When::Ever, 0))), "`inv` doesn't hold when place 0 waits on Ever");
+    assert_eq!(at(|inside| **inside = 11), "`inv` doesn't hold when place 0 leaves");
     drop(at(|inside| {
         **inside = 1;
         panic!("mended");
     }));
-    assert_eq!(at(|inside| drop(inside.wait(When::Ever, 0))), "`rest` doesn't hold where place 0 waits on Ever");
+    assert_eq!(at(|inside| drop(inside.wait(When::Ever, 0))), "`rest` doesn't hold when place 0 waits on Ever");
 }
 
 #[cfg(debug_assertions)]

@@ -125,28 +125,18 @@ uint64_t zaulinte_signal_leave(zaulinte_monitor *m, uint32_t place, uint32_t con
 }
 
 /* The other calls of the place inside. `tell` returns a step's number by a pointer, or its refusal. */
-#define IF_INSIDE(call) \
-    uint64_t refused = may_act(m, place); \
-    return refused ? refused : (call)
 static uint64_t tell(uint64_t number, uint64_t *to) {
     if (number <= NOBODY && to) *to = number;
     return number <= NOBODY ? 0 : number;
 }
-uint64_t zaulinte_notify(zaulinte_monitor *m, uint32_t place, uint32_t condition, uint64_t *called) {
-    IF_INSIDE(tell(zaulinte_door_notify(at(m, place), condition), called));
-}
-uint64_t zaulinte_broadcast(zaulinte_monitor *m, uint32_t place, uint32_t condition, uint64_t *called) {
-    IF_INSIDE(tell(zaulinte_door_broadcast(at(m, place), condition), called));
-}
-uint64_t zaulinte_count(zaulinte_monitor *m, uint32_t place, uint32_t condition, uint64_t *count) {
-    IF_INSIDE(tell(zaulinte_door_count(at(m, place), condition), count));
-}
-uint64_t zaulinte_queue(zaulinte_monitor *m, uint32_t place, uint32_t condition) {
-    IF_INSIDE(zaulinte_door_queue(at(m, place), condition));
-}
-uint64_t zaulinte_first(zaulinte_monitor *m, uint32_t place, uint32_t condition, uint64_t *priority) {
-    IF_INSIDE(zaulinte_door_first(at(m, place), condition, priority));
-}
+#define ON zaulinte_monitor *m, uint32_t place, uint32_t condition
+#define IF_INSIDE(step) { uint64_t refused = may_act(m, place); return refused ? refused : (step); }
+uint64_t zaulinte_notify(ON, uint64_t *called) IF_INSIDE(tell(zaulinte_door_notify(at(m, place), condition), called))
+uint64_t zaulinte_broadcast(ON, uint64_t *called)
+    IF_INSIDE(tell(zaulinte_door_broadcast(at(m, place), condition), called))
+uint64_t zaulinte_count(ON, uint64_t *count) IF_INSIDE(tell(zaulinte_door_count(at(m, place), condition), count))
+uint64_t zaulinte_queue(ON) IF_INSIDE(zaulinte_door_queue(at(m, place), condition))
+uint64_t zaulinte_first(ON, uint64_t *priority) IF_INSIDE(zaulinte_door_first(at(m, place), condition, priority))
 
 /* Gives the places back and closes the door. No call is under way. */
 static uint64_t undo(zaulinte_monitor *m, uint32_t places, uint64_t code) {
@@ -177,11 +167,7 @@ uint64_t zaulinte_make(zaulinte_monitor *m, uint64_t places, uint64_t conditions
     return 0;
 }
 uint64_t zaulinte_free(zaulinte_monitor *m) {
-    uint32_t places = m->places, claimed = 0;
-    for (uint32_t k = 0; k < places; k++) /* so that a call from inside claims no place */
+    for (uint32_t k = 0; k < m->places; k++)
         if (m->place[k].thread) return ZAULINTE_IN_USE;
-    while (claimed < places && !claim(m, claimed)) claimed++;
-    if (claimed == places) return places ? undo(m, places, 0) : ZAULINTE_NO_BOOK;
-    while (claimed > 0) unclaim(m, --claimed, 0);
-    return ZAULINTE_IN_USE;
+    return m->places ? undo(m, m->places, 0) : ZAULINTE_NO_BOOK;
 }

@@ -29,3 +29,10 @@ pub admissions-other : {S : Type 0} (h : History S) (e : Event S) → is_admit e
     → admissions (with_event h e).events ≡ admissions h.events
 unfolding with_event
 admissions-other h e other = let p = admissions-push h.events e false other in omega (arith, p)
+
+-- of a history and its later events
+pub admissions-append : {S : Type 0} (h later : List (Event S))
+    → admissions (h ++ later) ≡ admissions h + admissions later
+unfolding admissions
+admissions-append h later =
+    ap length (filter-append is_admit h later) ∙ length-append (filter is_admit h) (filter is_admit later)

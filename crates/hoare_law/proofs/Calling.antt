@@ -65,7 +65,7 @@ module _ {S : Type 0} where
   turn-broadcast f k c s = turn-in f k (Broadcast k c s) refl refl
 
   -- the one inside was called by nobody
-  others_called : (h : History S) (k : ℕ) → IsLegal h → turn h.events ≡ Held k
+  pub others_called : (h : History S) (k : ℕ) → IsLegal h → turn h.events ≡ Held k
       → list_all (λ x. not (k == place_of x)) (called h.events) ≡ true
   others_called h k legal held = list_all-from_All (λ x. not (k == place_of x)) (called h.events)
       (All-weaker (IsCalled h) (λ x. not (k == place_of x) ≡ true) other (called h.events) (All-called h legal))

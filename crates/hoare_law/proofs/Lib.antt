@@ -25,3 +25,11 @@ pub mod Ended
 pub mod Admissions
 pub mod Came
 pub mod Inside
+pub mod Signallers
+pub mod FirstCome
+pub mod PassedOver
+pub mod Resuming
+pub mod Room
+pub mod Visits
+pub mod Between
+pub mod Awaiting

@@ -77,7 +77,7 @@ module _ {S : Type 0} where
       waits_not (λ y. is_signal y ≡ true) x d (λ j c p s on. cc) (ap is_signal (sym same) ∙ r.2))
 
   -- an event of one that waits nowhere, which concerns no other, changes who waits only by its own wait
-  waiting-own : (h : List (Event S)) (e : Event S) (d : ℕ) → ((j : ℕ) → concerns d j e ≡ (place_of e == j))
+  pub waiting-own : (h : List (Event S)) (e : Event S) (d : ℕ) → ((j : ℕ) → concerns d j e ≡ (place_of e == j))
       → list_all (λ x. not (place_of e == place_of x)) (waiting d h) ≡ true
       → waiting d (h ++ e ∷ []) ≡ waiting d h ++ cond (waits_on d e) (e ∷ []) []
   waiting-own h e d own_alone apart = waiting-push d h e
@@ -191,7 +191,7 @@ module _ {S : Type 0} where
   Chooses-chosen c w h is = some_and (λ x. place_of x ≡ w) (chosen c h) is
 
   -- those in order behind the chosen one have other places
-  apart_behind : (c : ℕ) (h : List (Event S)) (x : Event S) → chosen c h ≡ Some x
+  pub apart_behind : (c : ℕ) (h : List (Event S)) (x : Event S) → chosen c h ≡ Some x
       → list_all (λ y. not (place_of x == place_of y)) (behind_first (in_turn h c)) ≡ true
   apart_behind c h x is =
       let short : filter (λ y. place_of x == place_of y) (in_turn h c)
@@ -225,7 +225,7 @@ module _ {S : Type 0} where
   map-behind_first (x ∷ xs) = refl
 
   -- an event that concerns k, which is inside, and w, whom it chooses, takes the chosen one from those that wait
-  in_turn-takes : (h : List (Event S)) (e : Event S) (k c w d : ℕ) → waits_on d e ≡ false
+  pub in_turn-takes : (h : List (Event S)) (e : Event S) (k c w d : ℕ) → waits_on d e ≡ false
       → ((j : ℕ) → concerns d j e ≡ (k == j || w == j)) → turn h ≡ Held k → Chooses c h w
       → in_turn (h ++ e ∷ []) d ≡ cond (d == c) (behind_first (in_turn h d)) (in_turn h d)
   in_turn-takes h e k c w d no_wait both is chooses =

@@ -78,7 +78,8 @@ module _ {S : Type 0} where
             (λ y n. not_least (waiting c h) x y (chosen-least c h x is) n) r.0 r.3,
       )
 
-  only_resume : (f : History S) (e : Event S) (w c : ℕ) → turn f.events ≡ Owed w c → Allowed f e
+  -- it is w's turn to resume: only w does, with the data as they were left
+  pub only_resume : (f : History S) (e : Event S) (w c : ℕ) → turn f.events ≡ Owed w c → Allowed f e
       → e ≡ Resume w c (latest_data f)
   only_resume f (Resume j d s) w c is a =
       let t : Owed j d ≡ Owed w c = sym a.fits.0 ∙ is in
@@ -98,3 +99,18 @@ module _ {S : Type 0} where
   after_handing out f k c w s e a =
       only_resume (with_event f (handing out k c w s)) e w c (turn-handing out f k c w s) a
       ∙ ap (λ t. Resume w c t) (latest_data-push f (handing out k c w s) ∙ data_of-handing out k c w s)
+
+  -- it is k's turn to return: only k does, with the data as they were left
+  pub only_back : (f : History S) (e : Event S) (k : ℕ) → turn f.events ≡ Return k → Allowed f e
+      → e ≡ Back k (latest_data f)
+  only_back f (Back j s) k is a =
+      let t : Return j ≡ Return k = sym a.fits.0 ∙ is in
+      let same : j ≡ k = cc in λ i. Back (same i) (a.fits.1 i)
+  only_back f (Admit j s) k is a = let t : Free ≡ Return k = sym a.fits.0 ∙ is in absurd (cc)
+  only_back f (Wait j d p s) k is a = let t : Held j ≡ Return k = sym a.fits ∙ is in absurd (cc)
+  only_back f (Signal j d v s) k is a = let t : Held j ≡ Return k = sym a.fits.0 ∙ is in absurd (cc)
+  only_back f (Pass j d v s) k is a = let t : Held j ≡ Return k = sym a.fits.0 ∙ is in absurd (cc)
+  only_back f (Leave j s) k is a = let t : Held j ≡ Return k = sym a.fits ∙ is in absurd (cc)
+  only_back f (Notify j d v s) k is a = let t : Held j ≡ Return k = sym a.fits.0 ∙ is in absurd (cc)
+  only_back f (Broadcast j d s) k is a = let t : Held j ≡ Return k = sym a.fits.0 ∙ is in absurd (cc)
+  only_back f (Resume j d s) k is a = let t : Owed j d ≡ Return k = sym a.fits.0 ∙ is in absurd (cc)

@@ -28,7 +28,7 @@ module _ {S : Type 0} where
   own_none k later a = filter-none (λ x. place_of x == k) later a
 
   -- an event behind which its place does nothing is the place's last
-  newest-own_split : (f later : List (Event S)) (x : Event S) (h : List (Event S)) → h ≡ f ++ x ∷ later
+  pub newest-own_split : (f later : List (Event S)) (x : Event S) (h : List (Event S)) → h ≡ f ++ x ∷ later
       → list_all (λ y. not (place_of y == place_of x)) later ≡ true
       → newest (own (place_of x) h) ≡ Some x
   newest-own_split f later x h is a =
@@ -39,7 +39,8 @@ module _ {S : Type 0} where
       ap (own k) is ∙ filter-append (λ y. place_of y == k) f (x ∷ later) ∙ ap (λ l. own k f ++ l) tail in
       ap newest whole ∙ newest-push (own k f) x
 
-  untouched_last : (c k : ℕ) (later : List (Event S)) → list_all (λ y. not (concerns c k y)) later ≡ true
+  -- whom nothing concerns does nothing
+  pub untouched_last : (c k : ℕ) (later : List (Event S)) → list_all (λ y. not (concerns c k y)) later ≡ true
       → list_all (λ y. not (place_of y == k)) later ≡ true
   untouched_last c k [] a = refl
   untouched_last c k (y ∷ later) a =

@@ -9,3 +9,4 @@ pub mod Lawful
 pub mod Growth
 pub mod Beside
 pub mod Admissions
+pub mod Overtaking

@@ -1,18 +1,23 @@
 //! What follows from the rules of legal histories: functions that do nothing, whose contracts are the laws.
-ghost use Rattle.std.specs.Prelude.{◌≡◌, ◌≢◌, ◌≤◌, ◌<◌, ◌++◌, ◌∷◌, ℕ, List, [], All, IsTrue, Some, None, true, false};
+ghost use Rattle.std.specs.Prelude.{◌≡◌, ◌≢◌, ◌≤◌, ◌<◌, ◌+◌, ◌*◌, ◌↔◌, ◌++◌, ◌∷◌, ℕ, List, [], All, IsTrue, Some};
+ghost use Rattle.std.specs.Prelude.{None, true};
+ghost use Rattle.std.specs.Prelude.{false, length, map};
 ghost use Rattle.hoare_law.specs.declared.event.Event.{Event};
 ghost use Rattle.hoare_law.specs.declared.event.History.{History};
-ghost use Rattle.hoare_law.specs.declared.event.Event.TheVariants.{Admit, Signal, Pass, Resume, Back, Notify};
+ghost use Rattle.hoare_law.specs.declared.event.Event.TheVariants.{Admit, Wait, Signal, Pass, Resume, Back, Notify};
 ghost use Rattle.hoare_law.specs.declared.event.Event.TheVariants.{Broadcast};
-ghost use Rattle.hoare_law.specs.declared.turn.Turn.TheVariants.{Free, Held};
+ghost use Rattle.hoare_law.specs.declared.turn.Turn.TheVariants.{Free, Held, Owed, Return};
 ghost use Rattle.hoare_law.specs.Events.{place_of, own, newest, latest_data, with_event};
-ghost use Rattle.hoare_law.specs.Sizes.{IsMesa};
-ghost use Rattle.hoare_law.specs.Waiting.{priority_of, condition_of, waits_on, waiting, chosen};
+ghost use Rattle.hoare_law.specs.Sizes.{IsHoare, IsMesa};
+ghost use Rattle.hoare_law.specs.Waiting.{priority_of, condition_of, waits_on, is_untouched, waiting, chosen};
 ghost use Rattle.hoare_law.specs.Priorities.{in_order};
 ghost use Rattle.hoare_law.specs.Called.{called};
 ghost use Rattle.hoare_law.specs.Turns.{turn, urgent, inside, outside};
 ghost use Rattle.hoare_law.specs.Legal.{Allowed, IsLegal};
-ghost use Rattle.hoare_law.specs.Growth.{Begins};
+ghost use Rattle.hoare_law.specs.Growth.{Begins, AddsTwo};
+ghost use Rattle.hoare_law.specs.Admissions.{admissions};
+ghost use Rattle.hoare_law.specs.Overtaking.{with_events, releases, returned, signals, resumed_called, taken_from};
+ghost use Rattle.hoare_law.specs.Overtaking.{waits_below, waiters_up_to, visits, notifications, waiting_anywhere};
 
 /// After each beginning of a legal history at most one place is inside, where a place is inside by what it did last
 /// itself. Then it is that place's turn, and it isn't outside too ("Monitors", Introduction).
@@ -112,4 +117,160 @@ pub fn legal_grows<S>()
     ensures goes_on { (h : History S) (e : Event S) → IsLegal h → Allowed h e
         → IsLegal (with_event h e) }
     ensures began { (f h : History S) → Begins f h → IsLegal h → IsLegal f }
+{}
+
+/// While a signaller waits, the signallers before it return, in turn, and no other signaller does: so none that signals
+/// later returns before it. (They are other places.) ("Monitors", Interpretation.)
+pub fn signallers_return_in_turn<S>()
+    ensures order { (h : History S) (later : List (Event S)) (before behind : List ℕ) (k : ℕ)
+        → IsLegal (with_events h later) → urgent h.events ≡ before ++ k ∷ behind → own k later ≡ []
+        → (left joined : List ℕ) × (before ≡ returned later ++ left)
+        × (urgent (h.events ++ later) ≡ left ++ k ∷ (behind ++ joined)) }
+    ensures others { (h : List (Event S)) (before behind : List ℕ) (k : ℕ)
+        → urgent h ≡ before ++ k ∷ behind → All (λ j. j ≢ k) (before ++ behind) }
+{}
+
+/// A signaller with n signallers before it returns right after the (n + 1)-th release of the monitor, counted from its
+/// signal, or from any later moment at which a process is inside. There are fewer such releases than places.
+pub fn releases_until_return<S>()
+    ensures at_most { (h : History S) (later : List (Event S)) (before behind : List ℕ) (k : ℕ)
+        → IsLegal (with_events h later) → urgent h.events ≡ before ++ k ∷ behind → own k later ≡ []
+        → releases later ≤ length before + 1 }
+    ensures its_turn { (h : History S) (later : List (Event S)) (before behind : List ℕ) (j k : ℕ)
+        → IsLegal (with_events h later) → urgent h.events ≡ before ++ k ∷ behind → own k later ≡ []
+        → turn h.events ≡ Held j
+        → (turn (h.events ++ later) ≡ Return k) ↔ (releases later ≡ length before + 1) }
+    ensures since_its_signal { (h : History S) (later : List (Event S)) (k c w : ℕ) (s : S)
+        → IsLegal (with_events h (Signal k c w s ∷ later)) → own k later ≡ []
+        → (turn (h.events ++ Signal k c w s ∷ later) ≡ Return k)
+        ↔ (releases later ≡ length (urgent h.events) + 1) }
+    ensures right_after { (h : History S) (k : ℕ) (e : Event S) → turn h.events ≡ Return k → Allowed h e
+        → e ≡ Back k (latest_data h) }
+    ensures in_between { (h : History S) (later : List (Event S)) (k c w : ℕ) (s t : S)
+        → IsLegal (with_events h (Signal k c w s ∷ (later ++ Back k t ∷ []))) → own k later ≡ []
+        → releases later ≡ length (urgent h.events) + 1 }
+    ensures in_all { (h : History S) (later : List (Event S)) (k c w : ℕ) (s : S)
+        → IsLegal (with_events h (Signal k c w s ∷ later)) → own k later ≡ []
+        → releases later < h.sizes.places }
+{}
+
+/// No process is admitted while a signaller or a called process waits.
+pub fn no_admission_meanwhile<S>()
+    ensures signaller { (h : History S) (later : List (Event S)) (before behind : List ℕ) (k : ℕ)
+        → IsLegal (with_events h later) → urgent h.events ≡ before ++ k ∷ behind → own k later ≡ []
+        → admissions later ≡ 0 }
+    ensures called { (h : History S) (later before behind : List (Event S)) (x : Event S)
+        → IsLegal (with_events h later) → called h.events ≡ before ++ x ∷ behind → own (place_of x) later ≡ []
+        → admissions later ≡ 0 }
+{}
+
+/// While a called process waits, the processes called before it resume, in turn, and no other called process does.
+/// (They are other places.)
+pub fn called_resume_in_turn<S>()
+    ensures order { (h : History S) (later before behind : List (Event S)) (x : Event S)
+        → IsLegal (with_events h later) → called h.events ≡ before ++ x ∷ behind → own (place_of x) later ≡ []
+        → (left joined : List (Event S))
+        × (map place_of before ≡ resumed_called h.sizes later ++ map place_of left)
+        × (called (h.events ++ later) ≡ left ++ x ∷ (behind ++ joined)) }
+    ensures others { (h : History S) (before behind : List (Event S)) (x : Event S) → IsLegal h
+        → called h.events ≡ before ++ x ∷ behind → All (λ y. place_of y ≢ place_of x) (before ++ behind) }
+{}
+
+/// A called process with n called before it and m signallers resumes right after the (n + m + 1)-th release of the
+/// monitor, counted from any moment at which a process is inside, and one release later for each signal since. There
+/// are fewer such releases than places and signals since.
+pub fn releases_until_resume<S>()
+    ensures at_most { (h : History S) (later before behind : List (Event S)) (x : Event S)
+        → IsLegal (with_events h later) → called h.events ≡ before ++ x ∷ behind → own (place_of x) later ≡ []
+        → releases later ≤ length before + length (urgent h.events) + signals later + 1 }
+    ensures its_turn { (h : History S) (later before behind : List (Event S)) (x : Event S) (j : ℕ)
+        → IsLegal (with_events h later) → called h.events ≡ before ++ x ∷ behind → own (place_of x) later ≡ []
+        → turn h.events ≡ Held j
+        → (turn (h.events ++ later) ≡ Owed (place_of x) (condition_of x))
+        ↔ (releases later ≡ length before + length (urgent h.events) + signals later + 1) }
+    ensures right_after { (h : History S) (k c : ℕ) (e : Event S) → turn h.events ≡ Owed k c → Allowed h e
+        → e ≡ Resume k c (latest_data h) }
+    ensures in_all { (h : History S) (later before behind : List (Event S)) (x : Event S) (j : ℕ)
+        → IsLegal (with_events h later) → called h.events ≡ before ++ x ∷ behind → own (place_of x) later ≡ []
+        → turn h.events ≡ Held j → releases later < h.sizes.places + signals later }
+{}
+
+/// While a waiter waits on c, with m waiters before it in the order of signals, the waiters taken from c are at most m
+/// and those that began to wait on c with a lesser priority since; it is next exactly when so many were taken. Of equal
+/// priorities the first to wait is the first to be taken ("Monitors", Scheduled waits).
+pub fn waiters_taken_in_turn<S>()
+    ensures exact { (c : ℕ) (h : History S) (later before behind : List (Event S)) (x : Event S)
+        → IsLegal (with_events h later) → in_order priority_of (waiting c h.events) ≡ before ++ x ∷ behind
+        → is_untouched c x later ≡ true
+        → (left joined : List (Event S))
+        × (in_order priority_of (waiting c (h.events ++ later)) ≡ left ++ x ∷ joined)
+        × (length left + taken_from c later ≡ length before + waits_below c (priority_of x) later) }
+    ensures at_most { (c : ℕ) (h : History S) (later before behind : List (Event S)) (x : Event S)
+        → IsLegal (with_events h later) → in_order priority_of (waiting c h.events) ≡ before ++ x ∷ behind
+        → is_untouched c x later ≡ true
+        → taken_from c later ≤ length before + waits_below c (priority_of x) later }
+    ensures its_turn { (c : ℕ) (h : History S) (later before behind : List (Event S)) (x : Event S)
+        → IsLegal (with_events h later) → in_order priority_of (waiting c h.events) ≡ before ++ x ∷ behind
+        → is_untouched c x later ≡ true
+        → (chosen c (h.events ++ later) ≡ Some x)
+        ↔ (taken_from c later ≡ length before + waits_below c (priority_of x) later) }
+    ensures first_come { (c : ℕ) (h longer between shorter : List (Event S)) (x y : Event S)
+        → waiting c h ≡ longer ++ x ∷ (between ++ y ∷ shorter) → priority_of x ≤ priority_of y
+        → chosen c h ≢ Some y }
+    ensures plain { (c : ℕ) (later : List (Event S)) → waits_below c 0 later ≡ 0 }
+{}
+
+/// While a place is inside, the waiters on all conditions, the signallers, the called processes and that place are
+/// different places.
+pub fn all_have_places<S>()
+    ensures { (h : History S) (k : ℕ) → IsLegal h → turn h.events ≡ Held k
+        → length (waiting_anywhere h.events) + length (urgent h.events) + length (called h.events) + 1
+        ≤ h.sizes.places }
+{}
+
+/// From its signal until its return a signaller waits for few visits of others: at most one for each process that waits
+/// on a condition at its signal, and two for each signaller that waits then. So there are at most three less than twice
+/// the places. Each visit is two events and its notifications.
+pub fn few_visits_until_return<S>()
+    ensures visits { (h : History S) (later : List (Event S)) (k c w : ℕ) (s : S)
+        → IsLegal (with_events h (Signal k c w s ∷ later)) → own k later ≡ []
+        → visits later ≤ length (waiting_anywhere h.events) + 2 * length (urgent h.events) }
+    ensures signallers { (h : History S) (k c w : ℕ) (s : S) → IsLegal h → Allowed h (Signal k c w s)
+        → length (urgent h.events) + 2 ≤ h.sizes.places }
+    ensures in_all { (h : History S) (later : List (Event S)) (k c w : ℕ) (s : S)
+        → IsLegal (with_events h (Signal k c w s ∷ later)) → own k later ≡ []
+        → visits later + 3 ≤ 2 * h.sizes.places }
+    ensures events { (h : History S) (later : List (Event S)) (k c w : ℕ) (s : S)
+        → IsLegal (with_events h (Signal k c w s ∷ later))
+        → length later ≤ 2 * visits later + notifications later }
+{}
+
+/// What a caller of `signal` learns by a return after it resumed a waiter. Between its signal and its return the
+/// signallers before it returned, in turn, and no other signaller did; the monitor was released once oftener; no
+/// process was admitted; and few visits began.
+pub fn between_signal_and_return<S>()
+    ensures { (f h : History S) (k c w : ℕ) (s t : S) → IsLegal h
+        → AddsTwo f (Signal k c w s) (Back k t) h
+        → (later : List (Event S)) × (h.events ≡ f.events ++ Signal k c w s ∷ (later ++ Back k t ∷ []))
+        × (own k later ≡ []) × (returned later ≡ urgent f.events)
+        × (releases later ≡ length (urgent f.events) + 1) × (admissions later ≡ 0)
+        × (visits later ≤ length (waiting_anywhere f.events) + 2 * length (urgent f.events))
+        × (visits later + 3 ≤ 2 * f.sizes.places) }
+{}
+
+/// What a caller of `wait` learns when it resumes, on one of Hoare's conditions. Between its wait and its resumption
+/// these waiters were taken from the condition, and no other: each that waited there before it with its priority or a
+/// lesser one, each that came later with a lesser one, and itself.
+pub fn between_wait_and_resume<S>()
+    ensures { (f h : History S) (k c p : ℕ) (s t : S) → IsLegal h
+        → IsHoare h.sizes.conditions h.sizes.mesa c → AddsTwo f (Wait k c p s) (Resume k c t) h
+        → (later : List (Event S)) × (h.events ≡ f.events ++ Wait k c p s ∷ (later ++ Resume k c t ∷ []))
+        × (own k later ≡ [])
+        × (taken_from c later ≡ waiters_up_to c p f.events + waits_below c p later + 1) }
+{}
+
+/// Between two moments as many processes are admitted as `admissions` differ: so a process that is to be the i-th,
+/// counted from 0, waits for exactly i less those already admitted.
+pub fn admissions_add_up<S>()
+    ensures { (h later : List (Event S)) → admissions (h ++ later) ≡ admissions h + admissions later }
 {}

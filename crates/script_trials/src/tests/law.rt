@@ -1,12 +1,18 @@
 //! Tests of waiting lists that are put together, and calls of the laws.
-ghost use Rattle.std.specs.Prelude.{◌≡◌, ◌∷◌, ℕ, List};
+ghost use Rattle.std.specs.Prelude.{◌≡◌, ◌∷◌, ◌++◌, ℕ, List, [], Some, true, ⊤};
 ghost use Rattle.hoare_law.specs.declared.event.Event.{Event};
 ghost use Rattle.hoare_law.specs.declared.event.History.{History};
-ghost use Rattle.hoare_law.specs.declared.event.Event.TheVariants.{Admit, Signal};
-ghost use Rattle.hoare_law.specs.declared.turn.Turn.TheVariants.{Held};
-ghost use Rattle.hoare_law.specs.Events.{with_event};
+ghost use Rattle.hoare_law.specs.declared.event.Event.TheVariants.{Admit, Wait, Signal, Pass, Leave, Resume, Back};
+ghost use Rattle.hoare_law.specs.declared.event.Event.TheVariants.{Notify};
+ghost use Rattle.hoare_law.specs.declared.turn.Turn.TheVariants.{Held, Return};
+ghost use Rattle.hoare_law.specs.Events.{own, with_event};
+ghost use Rattle.hoare_law.specs.Waiting.{priority_of, is_untouched, waiting, chosen};
+ghost use Rattle.hoare_law.specs.Priorities.{in_order};
 ghost use Rattle.hoare_law.specs.Turns.{turn, urgent};
-ghost use Rattle.hoare_law.specs.Legal.{Allowed};
+ghost use Rattle.hoare_law.specs.Legal.{Allowed, IsLegal};
+ghost use Rattle.hoare_law.specs.Sizes.{sizes_of};
+ghost use Rattle.hoare_law.specs.Overtaking.{with_events, releases, returned, signals, resumed_called, taken_from};
+ghost use Rattle.hoare_law.specs.Overtaking.{waits_below, waiters_up_to, visits, notifications, waiting_anywhere};
 
 use hoare_law::laws;
 use hoare_law::waits::{Joined, Nobody, Taken, Waits};
@@ -40,13 +46,61 @@ fn newcomers_come_last<S>()
     laws::newcomers_last::<S>();
 }
 
-// That the calls return is all that a run can show of a law; what they say, the clauses of `newcomers_come_last` are
-// proved by.
+// What the laws of overtaking say if no other process is before: a signaller returns after the first release, and the
+// longest waiter of priority 0 is the next to be taken, whatever processes come.
+fn first_goes_first<S>()
+    ensures signaller { (h : History S) (later : List (Event S)) (k c w : ℕ) (s : S)
+        → IsLegal (with_events h (Signal k c w s ∷ later)) → own k later ≡ [] → urgent h.events ≡ []
+        → releases later ≡ 1 → turn (h.events ++ Signal k c w s ∷ later) ≡ Return k }
+    ensures waiter { (c : ℕ) (h : History S) (later behind : List (Event S)) (x : Event S)
+        → IsLegal (with_events h later) → in_order priority_of (waiting c h.events) ≡ x ∷ behind
+        → priority_of x ≡ 0 → is_untouched c x later ≡ true → chosen c (h.events ++ later) ≡ Some x }
+{
+    laws::releases_until_return::<S>();
+    laws::waiters_taken_in_turn::<S>();
+}
+
+// What the laws of overtaking count, of lists written by hand: after a signal of place 1, which resumes place 2 from
+// condition 0, and after a notify by place 3 on the Mesa condition 1.
+fn counts_by_hand()
+    ensures after_a_signal { let later : List (Event ⊤) = Resume 2 0 tt ∷ Wait 2 0 5 tt ∷ Back 1 tt
+        ∷ Pass 1 0 2 tt ∷ Resume 2 0 tt ∷ Leave 2 tt ∷ [] in
+        (releases later ≡ 2) × (returned later ≡ 1 ∷ []) × (visits later ≡ 3) × (notifications later ≡ 0)
+        × (signals later ≡ 0) × (taken_from 0 later ≡ 1) × (taken_from 1 later ≡ 0) × (waits_below 0 6 later ≡ 1)
+        × (waits_below 0 5 later ≡ 0) × (waits_below 1 6 later ≡ 0) × (resumed_called (sizes_of 2 1 4) later ≡ []) }
+    ensures after_a_notify { let later : List (Event ⊤) = Leave 3 tt ∷ Resume 2 1 tt ∷ Signal 2 0 1 tt
+        ∷ Resume 1 0 tt ∷ Leave 1 tt ∷ Back 2 tt ∷ [] in
+        (releases later ≡ 2) × (resumed_called (sizes_of 2 1 4) later ≡ 2 ∷ [])
+        × (resumed_called (sizes_of 2 0 4) later ≡ []) × (signals later ≡ 1) × (returned later ≡ 2 ∷ [])
+        × (visits later ≡ 3) }
+    ensures waiters { let h : List (Event ⊤) = Wait 0 0 4 tt ∷ Wait 1 1 2 tt ∷ Wait 2 0 3 tt ∷ Notify 3 1 1 tt ∷ [] in
+        (waiting_anywhere h ≡ Wait 0 0 4 tt ∷ Wait 2 0 3 tt ∷ []) × (notifications h ≡ 1)
+        × (waiters_up_to 0 3 h ≡ 1) × (waiters_up_to 0 4 h ≡ 2) × (waiters_up_to 0 2 h ≡ 0)
+        × (waiters_up_to 1 9 h ≡ 0) }
+{}
+
+// A run can show of a law only that its call returns. What the laws say, the clauses of `newcomers_come_last` and
+// `first_goes_first` are proved by.
 #[test]
 fn laws_can_be_called() {
     newcomers_come_last::<u8>();
     laws::one_is_inside::<u8>();
+    laws::signallers_before_called::<u8>();
+    laws::caller_goes_on::<u8>();
+    laws::called_wait_nowhere::<u8>();
+    laws::called_in_turn::<u8>();
     laws::least_is_chosen::<u8>();
     laws::data_as_left::<u8>();
     laws::legal_grows::<u8>();
+    first_goes_first::<u8>();
+    counts_by_hand();
+    laws::signallers_return_in_turn::<u8>();
+    laws::no_admission_meanwhile::<u8>();
+    laws::called_resume_in_turn::<u8>();
+    laws::releases_until_resume::<u8>();
+    laws::all_have_places::<u8>();
+    laws::few_visits_until_return::<u8>();
+    laws::between_signal_and_return::<u8>();
+    laws::between_wait_and_resume::<u8>();
+    laws::admissions_add_up::<u8>();
 }

@@ -1,18 +1,27 @@
--- The seat of a place that asked.
-use Rattle.std.proofs.Common.{◌≡◌, ℕ, ◌+◌, ◌%◌, ◌^◌, true, [], None, refl, sym, ap, ◌∙◌, subst}
+-- A place that asked: its seat, and what its contracts say.
+use Rattle.std.proofs.Common.{◌≡◌, ℕ, ◌+◌, ◌%◌, ◌^◌, ◌==◌, true, List, [], ◌∷◌, ◌++◌, None, refl, sym, ap, ◌∙◌}
+use Rattle.std.proofs.Common.{append-nil, arith, subst}
+use Rattle.std.proofs.lemmas.List.{append_cancel_left}
+use Rattle.std.proofs.lemmas.List.Elements.{filter-append}
+use Rattle.hoare_law.specs.declared.event.Event.{Event}
 use Rattle.hoare_law.specs.declared.event.Event.TheVariants.{Admit}
 use Rattle.hoare_law.specs.Sizes.{Kinds}
-use Rattle.hoare_law.specs.Events.{with_event}
+use Rattle.hoare_law.specs.Events.{own, place_of, with_event}
+use Rattle.hoare_law.proofs.Admissions.{admissions-append}
+use Rattle.hoare_law.proofs.Growth.{Grows-trans}
 use Rattle.hoare_law.specs.Lawful.{Rest, Ready}
 use Rattle.door_frame.specs.declared.parcel.Lodged.{Lodged}
-use Rattle.hoare_law.specs.Growth.{AddsLast}
+use Rattle.hoare_law.specs.Growth.{AddsLast, Begins}
 use Rattle.hoare_law.specs.Priorities.{priorities}
-use Rattle.door_frame.specs.Places.{Berth, Entered, PlaceOut, PlaceIn, IsOut, IsIn, place_in}
+use Rattle.door_frame.specs.Places.{Berth, Entered, PlaceOut, PlaceIn, IsOut, IsIn, IsTold, place_in}
 use Rattle.door_frame.proofs.Arrivals.{entered}
+use Rattle.door_frame.proofs.Departures.{told_out}
 use Rattle.hoare_law.specs.declared.event.History.{History}
 use Rattle.door_frame.specs.Steps.{Sat, Came}
 use Rattle.door_frame.specs.Views.{asking, is_alone, front_of}
-use Rattle.ticket_door.specs.Asked.{TicketDoorId, IsAsking, IsAsked, PlaceAsked, EntersBy, as_out, number_of}
+use Rattle.ticket_door.specs.Asked.{TicketDoorId, IsAsking, IsAsked, PlaceAsked, EntersBy, WaitsBehind, as_out}
+use Rattle.ticket_door.specs.Asked.{number_of}
+use Rattle.ticket_door.specs.Steps.{TakesTicket}
 use Rattle.hoare_law.specs.Admissions.{admissions}
 
 module _ {D : Type 0} where
@@ -33,16 +42,56 @@ module _ {D : Type 0} where
   asking_by m is k f x e =
       e ∙ (λ i. (asking k (sym (asking_front m is k f x e) i) (sym (asking_number m k f x e) i), []))
 
+  -- what is added last to a history that begins with f, and has no other events of its place, is added last to f
+  pub AddsLast-told : {f g h : History D} {e : Event D} → Begins f g
+      → own (place_of e) g.events ≡ own (place_of e) f.events
+      → AddsLast g e h → AddsLast f e h
+  AddsLast-told {f = f} {e = e} begins same adds = record {
+    grows =
+        Grows-trans (record { begins = begins; adds = same ∙ sym (append-nil (own (place_of e) f.events)) }) adds.grows;
+    ends = adds.ends;
+  }
+
+  -- where the place k has no other events, none of the later ones is its own
+  pub own-later : (k : ℕ) (f g : History D) (b : Begins f g) → own k g.events ≡ own k f.events → own k b.later ≡ []
+  own-later k f g b same =
+      append_cancel_left (own k f.events) (own k b.later) []
+      (sym (filter-append (λ e. place_of e == k) f.events b.later) ∙ ap (own k) b.is ∙ same
+      ∙ sym (append-nil (own k f.events)))
+
   module _ (rest : Rest D) (ready : Ready D) (kinds : Kinds) where
-    pub asked_is : (d : TicketDoorId) (o : PlaceOut D) (a : PlaceAsked D) → IsOut rest ready kinds d.door o
-        → a.berth ≡ o.berth → a.place ≡ o.place → a.front ≡ o.front
-        → a.ticket ≡ (d.first + a.number) % 2 ^ 64
-        → IsAsked rest ready kinds d a
-    asked_is d o a out of at front ticket = record {
-      out = subst (IsOut rest ready kinds d.door)
-          (λ i. record { berth = sym of i; place = sym at i; front = sym front i }) out;
-      ticket_is = ticket;
-    }
+    -- what the place o is after it asked, as its contract says it
+    pub record Asks (d : TicketDoorId) (o : PlaceOut D) (a : PlaceAsked D) : Type 0 where
+      pub of : IsAsked rest ready kinds d a
+      pub place : a.place ≡ o.place
+      pub front : IsTold a.front o
+
+    pub asks_as : (d : TicketDoorId) (o : PlaceOut D) (a : PlaceAsked D) {k : ℕ} {g : History D} {x : ℕ} {m : Sat D}
+        → IsOut rest ready kinds d.door o → TakesTicket rest ready d.door.places k o.front g x m → k ≡ o.place
+        → a.berth ≡ o.berth → a.place ≡ o.place → a.front ≡ g → a.number ≡ x → a.ticket ≡ (d.first + x) % 2 ^ 64
+        → Asks d o a
+    asks_as d o a {k = k} {g = g} {x = x} {m = m} out took same of at front number ticket =
+        let t : TakesTicket rest ready d.door.places o.place o.front g x m =
+        subst (λ (j : ℕ). TakesTicket rest ready d.door.places j o.front g x m) same took in
+        let known = t.learns.fits.0 in
+        subst (Asks d o)
+        (λ i. record {
+          berth = sym of i;
+          place = sym at i;
+          front = sym front i;
+          number = sym number i;
+          ticket = a.ticket;
+        })
+        (record {
+          of = record {
+            out = told_out rest ready kinds d.door o.berth o g out.of out t.learns.stands known.0 known.1;
+            ticket_is = ticket;
+            not_yet = t.not_yet;
+            few = t.few;
+          };
+          place = refl;
+          front = record { begins = known.0; own_are = known.1 };
+        })
 
     -- who was let in by its ticket came in its turn
     pub enters_by : (first ticket k number : ℕ) (f h : History D) (x : Lodged D) {m : Sat D}
@@ -57,6 +106,24 @@ module _ {D : Type 0} where
       in_turn = ticket_is ∙ ap (λ n. (first + n) % 2 ^ 64) (sym counted);
     }
 
+    -- and after exactly those with a ticket before it
+    pub waits_behind : (d : TicketDoorId) (a : PlaceAsked D) (x : Lodged D) {m : Sat D}
+        → IsAsked rest ready kinds d a
+        → (c : Came rest ready a.place a.front (Admit a.place) x None m) → admissions c.log.events ≡ a.number
+        → (t : Berth)
+        → WaitsBehind d.door.places a (place_in t a.place (with_event c.log (Admit a.place x.state)) x.state)
+    unfolding with_event
+    waits_behind d a x asked c counted t =
+        let later = c.begins.later in let few = asked.few in
+        let ahead : admissions a.front.events + admissions later ≡ a.number =
+        sym (admissions-append a.front.events later) ∙ ap admissions c.begins.is ∙ counted in record {
+          later = later;
+          is = ap (λ (es : List (Event D)). es ++ Admit a.place x.state ∷ []) (sym c.begins.is);
+          others = own-later a.place a.front c.log c.begins c.own_are;
+          ahead = ahead;
+          few = omega (arith, ahead, few);
+        }
+
     -- what a place that asked finds inside, as its contract says it
     pub record CameIn (d : TicketDoorId) (a : PlaceAsked D) (i : PlaceIn D) : Type 0 where
       pub of : IsIn rest ready kinds d.door i
@@ -64,6 +131,7 @@ module _ {D : Type 0} where
       pub rests : rest i.state (priorities i.front.events)
       pub front : AddsLast a.front (Admit a.place i.state) i.front
       pub in_turn : EntersBy d.first a.ticket i.front
+      pub behind : WaitsBehind d.door.places a i
 
     pub came_in : {d : TicketDoorId} {a b : PlaceAsked D} {i : PlaceIn D} {t : Berth} {x : Lodged D} {m : Sat D}
         → b ≡ a
@@ -79,4 +147,18 @@ module _ {D : Type 0} where
           front = e.front;
           in_turn = enters_by d.first b.ticket b.place b.number b.front i.front x c counted asked.ticket_is
               (ap (λ (j : PlaceIn D). j.front) is);
+          behind = subst (WaitsBehind d.door.places b) (sym is) (waits_behind d b x asked c counted t);
         })
+
+    -- who asked and came in has entered
+    pub entered_by : (d : TicketDoorId) (a : PlaceAsked D) {o : PlaceOut D} {i : PlaceIn D} → a.place ≡ o.place
+        → IsTold a.front o → IsIn rest ready kinds d.door i → i.place ≡ a.place
+        → rest i.state (priorities i.front.events) → AddsLast a.front (Admit a.place i.state) i.front
+        → Entered rest ready kinds d.door o i
+    entered_by d a {o = o} {i = i} at told of place rests front = record {
+      of = of;
+      place = place ∙ at;
+      rests = rests;
+      front = AddsLast-told told.begins told.own_are
+          (subst (λ (k : ℕ). AddsLast a.front (Admit k i.state) i.front) at front);
+    }

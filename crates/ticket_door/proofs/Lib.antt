@@ -2,6 +2,7 @@ pub mod Queue
 pub mod Gate
 pub mod Turns
 pub mod Opening
+pub mod Learning
 pub mod Serving
 pub mod Trying
 pub mod Ringing

@@ -22,8 +22,8 @@ use Rattle.wait_book.specs.declared.steps.Next.TheVariants as next
 use Rattle.wait_book.proofs.Times.{few_once, one_same}
 use Rattle.door_frame.specs.declared.parcel.Lodged.{Lodged}
 use Rattle.door_frame.specs.Rule.{Cells, Tokens, Kept}
-use Rattle.door_frame.specs.Steps.{Sat, Gives, Notes, gives_as, notes_as}
-use Rattle.door_frame.specs.Views.{alone, asking, sole}
+use Rattle.door_frame.specs.Steps.{Sat, Gives, Learns, Notes, gives_as, notes_as}
+use Rattle.door_frame.specs.Views.{alone, asking, knows}
 use Rattle.hoare_law.proofs.Ended.{turn-outside}
 use Rattle.hoare_law.proofs.Entering.{outside-same}
 use Rattle.hoare_law.proofs.Held.{outside-held}
@@ -36,9 +36,10 @@ use Rattle.door_frame.specs.declared.view.Token.{Token}
 use Rattle.door_frame.specs.declared.view.Token.TheVariants as token
 use Rattle.ticket_door.specs.Rule.{Starts, Tells, Gate, ajar, shut, token_in, IsKept, next_at, serving_at, bell_at}
 use Rattle.ticket_door.specs.Rule.{taken, rung}
-use Rattle.ticket_door.specs.Steps.{asks, looks, LooksAt}
+use Rattle.ticket_door.specs.Steps.{asks, looks, LooksAt, TakesTicket}
 use Rattle.hoare_law.proofs.Admissions.{admissions-admit, admissions-other}
 use Rattle.ticket_door.proofs.Gate.{has_ticket, has_none, asks_tokens, asks_kept, serves_kept}
+use Rattle.ticket_door.proofs.Learning.{draws_and_learns}
 use Rattle.ticket_door.proofs.Queue.{Ticket-injective, ticket_range, ticket_first, none_ticket, ticket_else}
 use Rattle.ticket_door.proofs.Queue.{once_more, all_more}
 use Rattle.ticket_door.proofs.Turns.{taken_le, taken_free, free_next, no_admit, held_busy, next_word, next_turn}
@@ -46,6 +47,15 @@ use Rattle.ticket_door.proofs.Turns.{still_outside}
 use Rattle.ticket_door.proofs.Turns.{served_only, even_ajar, open_bit}
 
 module _ {D : Type 0} (first n : ℕ) where
+  -- the queue is shorter than n, if place k isn't in it
+  few_others : {log : History D} {tokens : Tokens} {ws : List ℕ} (k : ℕ) → k < n → (t : Tells first n log tokens ws)
+      → times k t.queue ≡ 0 → length t.queue < n
+  few_others k small t none =
+      let most =
+      few_once (t.queue ++ k ∷ []) n (once_more t.queue k t.once none)
+      (all_more (λ (j : ℕ). j < n) t.queue k small t.below) in
+      let one_more = length-append t.queue (k ∷ []) in omega (arith, most, one_more)
+
   -- NEXT is near who is served: each place asked once, but for the one whose turn it is
   pub near : {log : History D} {tokens : Tokens} {ws : List ℕ} → IsLegal log → log.sizes.places ≡ n
       → (t : Tells first n log tokens ws)
@@ -64,12 +74,9 @@ module _ {D : Type 0} (first n : ℕ) where
           let nobody : taken (turn log.events) ≡ 0 = ap taken free in omega (arith, most, d, nobody)
       by (inr b) =
           let small : b.0 < n = subst (λ (m : ℕ). b.0 < m) places b.1 in
-          let most =
-          few_once (t.queue ++ b.0 ∷ []) n (once_more t.queue b.0 t.once (none_twice b.0 b.2))
-          (all_more (λ (j : ℕ). j < n) t.queue b.0 small t.below) in
-          let one_more = length-append t.queue (b.0 ∷ []) in
+          let most = few_others b.0 small t (none_twice b.0 b.2) in
           let d = t.due in
-          let one_turn = taken_le (turn log.events) in omega (arith, most, one_more, d, one_turn)
+          let one_turn = taken_le (turn log.events) in omega (arith, most, d, one_turn)
 
   -- one more place in the queue
   asked : (log : History D) (tokens : Tokens) (ws : List ℕ) (k : ℕ) → k < n → outside k log.events ≡ true
@@ -195,25 +202,54 @@ module _ {D : Type 0} (first n : ℕ) where
     abbrev K : Cells D → Type 0
     K = Kept (Starts first n) (Tells first n) rest ready kinds n
 
+    -- o is the next ticket, taken as NEXT was r: the log has not admitted it, and admitted all but fewer than n before it
+    abbrev IsNext : History D → Option Token → ℕ → Type 0
+    IsNext log o r =
+        (x : ℕ) × (o ≡ Some (token.Ticket x)) × (r ≡ (first + x) % 2 ^ 64) × (admissions log.events ≤ x)
+        × (x < admissions log.events + n)
+
+    next_is : (log : History D) (tokens : Tokens) (ws : List ℕ) (k : ℕ) → k < n → tokens k ≡ None
+        → (t : Tells first n log tokens ws)
+        → IsNext log (Some (token.Ticket (admissions log.events + length t.queue))) (get_or ws next_at 0)
+    next_is log tokens ws k small none t =
+        let a : ℕ = admissions log.events in
+        let few = few_others k small t (has_none t.gate a t.queue k (sym (t.tokens_are k) ∙ none)) in
+        (a + length t.queue, refl, t.next, omega arith, omega (arith, few))
+
     abbrev Drawn : ℕ → History D → ℕ → Sat D → Type 0
-    Drawn k f r m = (o : Option Token) × (m ≡ (sole k f o, []))
-        × ((x : ℕ) × (o ≡ Some (token.Ticket x)) × (r ≡ (first + x) % 2 ^ 64))
+    Drawn k f r m =
+        (log : History D) × (o : Option Token) × Learns rest ready log (knows k f o ∷ []) m × IsNext log o r
+
+    takes : (k j : ℕ) (f g : History D) (r : ℕ) (m : Sat D) → k ≡ j → f ≡ g → Drawn k f r m
+        → (h : History D) × (x : ℕ) × TakesTicket rest ready n j g h x m × (r ≡ (first + x) % 2 ^ 64)
+    takes k j f g r m place front d = (
+      d.0,
+      d.3.0,
+      record {
+        learns = subst (λ (p : ℕ × (History D × Option Token)). Learns rest ready d.0 (knows p.0 p.1.0 p.1.1 ∷ []) m)
+            (λ i. (place i, (front i, d.3.1 i))) d.2;
+        not_yet = d.3.3;
+        few = d.3.4;
+      },
+      d.3.2,
+    )
 
     pub asks_ok : (slots id k : ℕ) (f : History D) (st : Step (Option (Lodged D))) → outside k f.events ≡ true
-        → Allows K slots id (alone k f, []) next_at (λ r. (r + 1) % 2 ^ 64) (asks first st (alone k f, []))
+        → Allows K slots id (alone k f, []) next_at (λ r. (r + 1) % 2 ^ 64)
+        (asks first n rest ready st (alone k f, []))
     asks_ok slots id k f st out =
-        frame.told_as K slots id (alone k f, []) next_at (λ r. (r + 1) % 2 ^ 64) _ (asks first st (alone k f, []))
-        (λ r m (d : Drawn k f r m) j g is. let q = frame.alone_is k j f g [] [] is in
-        (d.2.0, d.1 ∙ (λ i. (sole (q.0 i) (q.1 i) (d.2.1 i), [])), d.2.2))
-        (frame.draws_ok (Starts first n) (Tells first n) rest ready kinds n slots id k next_at f None []
-        (λ r. (r + 1) % 2 ^ 64) (λ o r. (x : ℕ) × (o ≡ Some (token.Ticket x)) × (r ≡ (first + x) % 2 ^ 64))
+        frame.told_as K slots id (alone k f, []) next_at (λ r. (r + 1) % 2 ^ 64) _
+        (asks first n rest ready st (alone k f, []))
+        (λ r m (d : Drawn k f r m) j g is. let q = frame.alone_is k j f g [] [] is in takes k j f g r m q.0 q.1 d)
+        (draws_and_learns (Starts first n) (Tells first n) rest ready kinds n slots id k next_at f None
+        (λ r. (r + 1) % 2 ^ 64) IsNext
         (λ log tokens ws small same none t. let x : ℕ = admissions log.events + length t.queue in (
           Some (token.Ticket x),
           given_to tokens k (Some (token.Ticket x)),
           given_here tokens k (Some (token.Ticket x)),
           (λ j ne. given_else tokens k (Some (token.Ticket x)) j ne),
           asked log tokens ws k small (outside-same k f log same out) none t,
-          (x, refl, t.next),
+          next_is log tokens ws k small none t,
         )))
 
     abbrev pub Admits : ℕ → ℕ → History D → Tokens → List ℕ → Type 0
@@ -271,12 +307,13 @@ module _ {D : Type 0} (first n : ℕ) where
         same has t hit))
 
     -- the same of a seat with that view
-    pub asks_at : (slots id k : ℕ) (f : History D) (st : Step (Option (Lodged D))) (m : Sat D) (start : ℕ)
-        → m ≡ (alone k f, []) → first ≡ start → outside k f.events ≡ true
-        → Allows K slots id m next_at (λ r. (r + 1) % 2 ^ 64) (asks start st m)
-    asks_at slots id k f st m start is same out =
-        subst (λ (p : Sat D × ℕ). Allows K slots id p.0 next_at (λ r. (r + 1) % 2 ^ 64) (asks p.1 st p.0))
-        (λ i. (sym is i, same i)) (asks_ok slots id k f st out)
+    pub asks_at : (slots id k : ℕ) (f : History D) (st : Step (Option (Lodged D))) (m : Sat D) (start places : ℕ)
+        → m ≡ (alone k f, []) → first ≡ start → n ≡ places → outside k f.events ≡ true
+        → Allows K slots id m next_at (λ r. (r + 1) % 2 ^ 64) (asks start places rest ready st m)
+    asks_at slots id k f st m start places is same sized out =
+        subst (λ (p : Sat D × (ℕ × ℕ)). Allows K slots id p.0 next_at (λ r. (r + 1) % 2 ^ 64)
+        (asks p.1.0 p.1.1 rest ready st p.0))
+        (λ i. (sym is i, (same i, sized i))) (asks_ok slots id k f st out)
 
     pub looks_at : (slots id k x : ℕ) (f : History D) (st : Step (Option (Lodged D))) (m : Sat D) (start : ℕ)
         → m ≡ (asking k f x, []) → first ≡ start → n ≤ 64 → outside k f.events ≡ true

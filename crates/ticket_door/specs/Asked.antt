@@ -1,15 +1,15 @@
 -- A place that asked, as a contract sees it, and when it comes in.
-use Rattle.std.specs.Prelude.{◌≡◌, ℕ, ◌+◌, ◌%◌, ◌^◌, true, List, [], ◌∷◌, Some}
+use Rattle.std.specs.Prelude.{◌≡◌, ℕ, ◌+◌, ◌%◌, ◌^◌, ◌<◌, ◌≤◌, true, List, [], ◌∷◌, ◌++◌, Some}
 use Rattle.atomic_table.specs.Seated.{TableId}
 use Rattle.hoare_law.specs.declared.event.Event.{Event}
 use Rattle.hoare_law.specs.declared.event.Event.TheVariants.{Admit}
 use Rattle.hoare_law.specs.Sizes.{Kinds}
 use Rattle.hoare_law.specs.declared.event.History.{History}
-use Rattle.hoare_law.specs.Events.{with_event}
+use Rattle.hoare_law.specs.Events.{own, with_event}
 use Rattle.hoare_law.specs.Lawful.{Rest, Ready}
 use Rattle.door_frame.specs.declared.view.View.{View}
 use Rattle.door_frame.specs.declared.view.View.TheVariants.{Places}
-use Rattle.door_frame.specs.Places.{Berth, DoorId, PlaceOut, IsOut, door_of, place_out}
+use Rattle.door_frame.specs.Places.{Berth, DoorId, PlaceIn, PlaceOut, IsOut, door_of, place_out}
 use Rattle.door_frame.specs.declared.parcel.Lodged.{Lodged}
 use Rattle.door_frame.specs.Steps.{Sat, Came}
 use Rattle.door_frame.specs.Views.{asking}
@@ -52,10 +52,23 @@ module _ {D : Type 0} where
       → (y : Lodged D) × (c : Came rest ready k f (Admit k) y (Some y) me') × (admissions c.log.events ≡ x)
 
   module _ (rest : Rest D) (ready : Ready D) (kinds : Kinds) where
-    -- it is of the door and outside, and its ticket is of its number
+    -- it is of the door and outside, and its ticket is of its number. In its front, the history that it learned with
+    -- the ticket, that ticket isn't admitted yet, and of the earlier ones fewer than the door has places still wait
     pub record IsAsked (d : TicketDoorId) (a : PlaceAsked D) : Type 0 where
       pub out : IsOut rest ready kinds d.door (as_out a)
       pub ticket_is : a.ticket ≡ (d.first + a.number) % 2 ^ 64
+      pub not_yet : admissions a.front.events ≤ a.number
+      pub few : a.number < admissions a.front.events + d.door.places
+
+  -- the place a, which asked, is inside as i. To the history that it learned with its ticket these later events were
+  -- added, none its own, and then its admission: they admit exactly those still ahead of it, fewer than the door has
+  -- places
+  pub record WaitsBehind (places : ℕ) (a : PlaceAsked D) (i : PlaceIn D) : Type 0 where
+    pub later : List (Event D)
+    pub is : i.front.events ≡ a.front.events ++ later ++ Admit a.place i.state ∷ []
+    pub others : own a.place later ≡ []
+    pub ahead : admissions a.front.events + admissions later ≡ a.number
+    pub few : admissions later < places
 
   -- h ends with an admission, and it is the one that is due to the ticket: the i-th, counted from 0, has the ticket
   -- first + i

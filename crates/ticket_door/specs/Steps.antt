@@ -1,20 +1,29 @@
 -- What each step tells that another door doesn't have: of the step, the seat before, the number found and the seat
 -- after.
-use Rattle.std.specs.Prelude.{◌≡◌, ℕ, ◌+◌, ◌*◌, ◌%◌, ◌^◌, [], Some}
+use Rattle.std.specs.Prelude.{◌≡◌, ℕ, ◌+◌, ◌*◌, ◌%◌, ◌^◌, ◌<◌, ◌≤◌, [], ◌∷◌, Some}
 use Rattle.hoare_law.specs.declared.event.History.{History}
 use Rattle.hoare_law.specs.declared.event.Event.TheVariants.{Admit}
 use Rattle.hoare_law.specs.Lawful.{Rest, Ready}
-use Rattle.door_frame.specs.Steps.{Sat, Told, Comes, ComesWith, due}
-use Rattle.door_frame.specs.Views.{alone, asking, trying}
-use Rattle.door_frame.specs.declared.view.Token.TheVariants.{Gate}
+use Rattle.door_frame.specs.Steps.{Sat, Told, Comes, ComesWith, Learns, due}
+use Rattle.door_frame.specs.Views.{alone, asking, trying, knows}
+use Rattle.door_frame.specs.declared.view.Token.TheVariants.{Ticket, Gate}
 use Rattle.ticket_door.specs.Tries.{Reopened}
 use Rattle.hoare_law.specs.Admissions.{admissions}
 
 module _ {D : Type 0} where
-  -- a place draws a ticket
-  abbrev pub asks : ℕ → Told D
-  asks first st m r m' =
-      (k : ℕ) (f : History D) → m ≡ (alone k f, []) → (x : ℕ) × (m' ≡ (asking k f x, [])) × (r ≡ (first + x) % 2 ^ 64)
+  -- the place k, which knew f, took ticket number x, and learned the history g: there that ticket isn't admitted yet,
+  -- and of the earlier ones fewer than the door has places still wait
+  pub record TakesTicket (rest : Rest D) (ready : Ready D) (places k : ℕ) (f g : History D) (x : ℕ)
+      (me : Sat D) : Type 0 where
+    pub learns : Learns rest ready g (knows k f (Some (Ticket x)) ∷ []) me
+    pub not_yet : admissions g.events ≤ x
+    pub few : x < admissions g.events + places
+
+  -- a place takes the next ticket
+  abbrev pub asks : ℕ → ℕ → Rest D → Ready D → Told D
+  asks first places rest ready st m r m' =
+      (k : ℕ) (f : History D) → m ≡ (alone k f, [])
+      → (g : History D) × (x : ℕ) × TakesTicket rest ready places k f g x m' × (r ≡ (first + x) % 2 ^ 64)
 
   -- a look of the place k with the ticket x: where it is served, k is let in, as number x of all that are
   abbrev pub LooksAt : ℕ → Rest D → Ready D → ℕ → History D → ℕ → Sat D → ℕ → Sat D → Type 0

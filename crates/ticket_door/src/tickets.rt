@@ -7,10 +7,11 @@ ghost use Rattle.hoare_law.specs.Growth.{AddsLast, Exits};
 ghost use Rattle.hoare_law.specs.Sizes.{IsHoare, kinds_of};
 ghost use Rattle.hoare_law.specs.Priorities.{priorities};
 ghost use Rattle.hoare_law.specs.Turns.{outside};
-ghost use Rattle.door_frame.specs.Places.{IsOut, IsIn, Handed};
+ghost use Rattle.door_frame.specs.Places.{IsOut, IsIn, IsTold, Handed};
 ghost use Rattle.door_frame.specs.Seats.{IsEmptyHanded, IsNewcomer};
 ghost use Rattle.door_frame.specs.Steps.{Came};
-ghost use Rattle.ticket_door.specs.Asked.{IsAsking, IsServed, IsAsked, EntersBy};
+ghost use Rattle.ticket_door.specs.Asked.{IsAsking, IsServed, IsAsked, EntersBy, WaitsBehind};
+ghost use Rattle.ticket_door.specs.Steps.{TakesTicket};
 ghost use Rattle.hoare_law.specs.Admissions.{admissions};
 
 use crate::door::TicketTurnstile;
@@ -26,15 +27,17 @@ use std::marker::Brand;
 use std::sync::Wait;
 
 impl<D: MonitorData> TicketTurnstile<D> {
-    /// Draws the next ticket.
+    /// Takes the next ticket. The seat learns all that happened so far.
     #[inline]
     pub(crate) fn draw<J: Counting>(&self, seat: &mut DoorSeat<D>, place: usize) -> u64
         requires table { seat.old.table_id ≡ self.now.door.table }
         requires first { self.now.first ≡ J.first }
+        requires places { self.now.door.places ≡ J.places }
         requires newcomer { IsNewcomer place seat.old.me }
         ensures table { seat.new.table_id ≡ seat.old.table_id }
-        ensures drawn { (f : History D) → IsEmptyHanded place f seat.old.me → (x : ℕ)
-            × IsAsking place f x seat.new.me × (result ≡ (self.now.first + x) % 2 ^ 64) }
+        ensures drawn { (f : History D) → IsEmptyHanded place f seat.old.me → (g : History D) × (x : ℕ)
+            × TakesTicket D.rest D.ready self.now.door.places place f g x seat.new.me
+            × (result ≡ (self.now.first + x) % 2 ^ 64) }
     {
         self.table.shared.fetch_add::<Ask<J>>(seat, NEXT, 1)
     }
@@ -105,13 +108,14 @@ impl<D: MonitorData> TicketTurnstile<D> {
         take_parcel(&self.table, seat)
     }
 
-    /// Draws a ticket. The place is let in by it with `come_in`.
+    /// Takes the next ticket. The place learns all that happened so far. `come_in` enters with the ticket, after
+    /// exactly the threads that had a ticket before it and had not entered: fewer than the door has places.
     #[inline]
     pub fn ask(&self, out: TicketOut<D>) -> Asked<D>
         requires { IsOut D.rest D.ready (kinds_of D.CONDITIONS D.MESA) self.now.door out }
         ensures of { IsAsked D.rest D.ready (kinds_of D.CONDITIONS D.MESA) self.now result }
         ensures place { result.place ≡ out.place }
-        ensures front { result.front ≡ out.front }
+        ensures front { IsTold result.front out }
     {
         let (mut seat, place, sleeper) = out.into_parts();
         let ticket = self.draw::<Brand>(&mut seat, place);
@@ -123,7 +127,8 @@ impl<D: MonitorData> TicketTurnstile<D> {
         }
     }
 
-    /// Comes in, once the ticket is served.
+    /// Enters once the ticket is served: after exactly the threads that had a ticket before it and had not entered when
+    /// it was taken, fewer than the door has places.
     #[inline]
     pub fn come_in<R: Wait>(&self, rt: &R, asked: Asked<D>) -> TicketIn<D>
         requires { IsAsked D.rest D.ready (kinds_of D.CONDITIONS D.MESA) self.now asked }
@@ -132,6 +137,7 @@ impl<D: MonitorData> TicketTurnstile<D> {
         ensures rest { D.rest result.state (priorities result.front.events) }
         ensures front { AddsLast asked.front (event.Admit asked.place result.state) result.front }
         ensures in_turn { EntersBy self.now.first asked.ticket result.front }
+        ensures behind { WaitsBehind self.now.door.places asked result }
     {
         let Asked {
             mut seat,

@@ -37,4 +37,4 @@ returns g c =
     came_in D.rest D.ready (kinds_of D.CONDITIONS D.MESA) c.asked.view_is o
     (berth_as _ c.served-parcel.ensures.table) m.0 m.1
     (c.brought_in.ensures _ m.0) in
-    record { of = r.of; place = r.place; rest = r.rests; front = r.front; in_turn = r.in_turn }
+    record { of = r.of; place = r.place; rest = r.rests; front = r.front; in_turn = r.in_turn; behind = r.behind }

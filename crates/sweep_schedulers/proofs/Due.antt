@@ -109,7 +109,7 @@ none_first qs here (Some p) rises before told other =
     let above : here < slice_index qs 0 = omega (arith, apart, least, told.1) in
     sym (count_by-above here qs rises told.0 above)
 
-before_head : (dir : Direction) (cylmax here : ℕ) (lists : ℕ → List ℕ) → here ≤ cylmax
+pub before_head : (dir : Direction) (cylmax here : ℕ) (lists : ℕ → List ℕ) → here ≤ cylmax
     → All (λ q. here ≤ q) (lists 0) → All (λ q. cylmax - q ≤ here) (lists 1)
     → All (λ q. priority_at cylmax dir here ≤ q) (lists (sweep dir))
 before_head Up cylmax here lists on above below = above

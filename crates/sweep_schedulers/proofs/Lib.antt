@@ -2,4 +2,5 @@ pub mod Lists
 pub mod Due
 pub mod Sweeps
 pub mod Stays
+pub mod Granted
 pub mod Readers

@@ -3,3 +3,4 @@ pub mod HeadTraces
 pub mod ReadersWriters
 pub mod ReadersWritersTraces
 pub mod Stays
+pub mod Sweeps

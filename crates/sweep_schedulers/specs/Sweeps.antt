@@ -1,0 +1,64 @@
+-- How long a request of a disk head waits: what may happen meanwhile, and how many other grants come before its own.
+use Rattle.std.specs.Prelude.{ℕ, zero, suc, ◌+◌, ◌-◌, ◌*◌, ◌<◌, ◌≤◌, ◌==◌, if◌then◌else◌, ◌≡◌, ◌≢◌}
+use Rattle.std.specs.Prelude.{List, [], length, slice_index, count_by}
+use Rattle.hoare_law.specs.Priorities.{joined, taken}
+use Rattle.sweep_schedulers.specs.declared.direction.Direction.{Direction}
+use Rattle.sweep_schedulers.specs.Heads.{Disk, HeadRests, sweep, turned, put, sent, counted, priority_at, cylinder_of}
+
+-- at most m requests wait
+abbrev pub AtMost : ℕ → (ℕ → List ℕ) → Type 0
+AtMost m q = length (q 0) + length (q 1) ≤ m
+
+-- the priority of the first request of the sweep in this direction
+abbrev pub first : Direction → (ℕ → List ℕ) → ℕ
+first dir q = slice_index (q (sweep dir)) 0
+
+-- the same disk, once its drive was put in and handed to the first request of the present sweep: the head is at the
+-- cylinder of that request
+abbrev pub granted_first : {T : Type 0} → Disk T → T → (ℕ → List ℕ) → Disk T
+granted_first d drive q =
+    let found = counted (put d drive) (q 0) (q 1) in
+    let left = taken q (sweep d.direction) in
+    counted (sent found (cylinder_of d.cylmax d.direction (first d.direction q))) (left 0) (left 1)
+
+-- the head keeps its direction if a request waits for the present sweep, and else turns
+pub data GoesOn {T : Type 0} (d : Disk T) (q : ℕ → List ℕ) : Disk T → Type 0 where
+  keeps : q (sweep d.direction) ≢ [] → GoesOn d q d
+  turns : q (sweep d.direction) ≡ [] → GoesOn d q (turned d)
+
+-- A request waits for the sweep in the direction own with priority p, behind k others of that sweep and priority, which
+-- came before it. The first request of the sweep in direction dir, of priority s, is another: it then waits behind j
+pub data IsPassed (own : Direction) (p : ℕ) (dir : Direction) (s : ℕ) : ℕ → ℕ → Type 0 where
+  by_equal : (j : ℕ) → dir ≡ own → s ≡ p → IsPassed own p dir s (suc j) j
+  by_other : (k : ℕ) → (dir ≡ own → s ≢ p) → IsPassed own p dir s k k
+
+-- From this disk and these lists on, while that request waits behind k, and at most m wait at a time, n grants come.
+-- What waits keeps rest, and so does what is granted the drive
+pub data Awaits {T : Type 0} (m : ℕ) (own : Direction) (p : ℕ) : Disk T → (ℕ → List ℕ) → ℕ → ℕ → Type 0 where
+  none : (d : Disk T) (q : ℕ → List ℕ) (k : ℕ) → Awaits m own p d q k 0
+  joins : (d : Disk T) (q : ℕ → List ℕ) (k n c s : ℕ) → HeadRests d (joined q c s 0) (joined q c s 1)
+      → AtMost m (joined q c s) → Awaits m own p d (joined q c s) k n → Awaits m own p d q k n
+  grants : (d e : Disk T) (q : ℕ → List ℕ) (k j n : ℕ) (drive : T) → GoesOn d q e → q (sweep e.direction) ≢ []
+      → IsPassed own p e.direction (first e.direction q) k j
+      → HeadRests (granted_first e drive q) (taken q (sweep e.direction) 0) (taken q (sweep e.direction) 1)
+      → Awaits m own p (granted_first e drive q) (taken q (sweep e.direction)) j n → Awaits m own p d q k (suc n)
+
+-- the lists rest, at most m wait, and with priority p more than k wait for the sweep in the direction own: the one
+-- behind k of them is the request
+pub record IsWaiting {T : Type 0} (m : ℕ) (own : Direction) (p k : ℕ) (d : Disk T) (q : ℕ → List ℕ) : Type 0 where
+  pub rests : HeadRests d (q 0) (q 1)
+  pub few : AtMost m q
+  pub among : k < count_by (λ s. s == p) (q (sweep own))
+
+-- how far the head is on the present sweep: with this priority the cylinder under it would wait
+abbrev pub reached : {T : Type 0} → Disk T → ℕ
+reached d = priority_at d.cylmax d.direction d.headpos
+
+-- at how many cylinders the head may stop before it comes to that of the request: on the present sweep at those
+-- between, and else at those to the end of this sweep and then at those before it on its own
+abbrev pub stops : {T : Type 0} → Disk T → Direction → ℕ → ℕ
+stops d own p = if sweep d.direction == sweep own then p - reached d - 1 else d.cylmax - reached d + p
+
+-- those due where the head stands, at each stop all but the request and those of equal priority before it, and those
+abbrev pub grants_before : {T : Type 0} → ℕ → Disk T → Direction → ℕ → ℕ → ℕ
+grants_before m d own p k = d.stay + stops d own p * (m - suc k) + k

@@ -10,7 +10,7 @@ use Rattle.hoare_law.specs.Priorities.{joined, taken, put_in, behind_first}
 use Rattle.sweep_schedulers.specs.declared.direction.Direction.{Direction}
 use Rattle.sweep_schedulers.specs.declared.direction.Direction.TheVariants.{Up, Down}
 use Rattle.sweep_schedulers.specs.Heads.{Disk, HeadRests, sweep, opposite, turned, priority_at, cylinder_of}
-use Rattle.sweep_schedulers.specs.Sweeps.{AtMost, first, granted_first, GoesOn, keeps, turns, IsPassed, by_equal}
+use Rattle.sweep_schedulers.specs.Sweeps.{AtMost, first, granted_first, KeepsOrTurns, keeps, turns, IsPassed, by_equal}
 use Rattle.sweep_schedulers.specs.Sweeps.{by_other, Awaits, none, joins, grants, IsWaiting, reached, stops, grants_before}
 use Rattle.sweep_schedulers.proofs.Lists.{All-first, count_by-cons, count_by-put_in, count_by-first}
 use Rattle.sweep_schedulers.proofs.Due.{waiting_here-equal, before_head}
@@ -207,7 +207,7 @@ one_turned cylmax come f p stay stay' w k before later =
     omega (arith, more, after)
 
 -- what waits finds the drive out
-is_out : {T : Type 0} (m p k : ℕ) (own : Direction) (d : Disk T) (q : ℕ → List ℕ) → IsWaiting m own p k d q
+pub is_out : {T : Type 0} (m p k : ℕ) (own : Direction) (d : Disk T) (q : ℕ → List ℕ) → IsWaiting m own p k d q
     → d.drive ≡ None
 is_out m p k Up d q is = is.rests.up_busy (λ e. let a = is.among in let z : equals p (q 0) ≡ 0 = rw e refl in
     omega (arith, a, z))
@@ -305,6 +305,19 @@ on_other m p cylmax come f stay stay' dir own differ upto on (by_equal i same is
 on_other m p cylmax come f stay stay' dir own differ upto on (by_other i apart) here later =
     one_on_other cylmax come f p stay stay' (m - suc i) i upto here (later apart) on
 
+-- while it waits a release finds a request, on the sweep on which the head goes on
+pub release_grants : {T : Type 0} (m p k : ℕ) (own : Direction) (d e : Disk T) (q : ℕ → List ℕ)
+    → IsWaiting m own p k d q → KeepsOrTurns d q e → q (sweep e.direction) ≢ []
+release_grants m p k own d e q is (keeps some) = some
+release_grants m p k own d e q is (turns nobody) = by (sweep d.direction == sweep own) refl
+  where
+    waits : q (sweep own) ≢ []
+    waits gone = let w = is.among in let z : equals p (q (sweep own)) ≡ 0 = rw gone refl in omega (arith, w, z)
+
+    by : (t : Bool) → (sweep d.direction == sweep own) ≡ t → q (sweep (opposite d.direction)) ≢ []
+    by true same = λ none_there. waits (rw (sym (same_sweep d.direction own same)) nobody)
+    by false other = rw ((other_sweep d.direction own other).1) waits
+
 module _ {T : Type 0} (m p k j : ℕ) (own : Direction) (d : Disk T) (q : ℕ → List ℕ) (drive : T)
     (is : IsWaiting m own p k d q) where
   -- the head keeps its direction
@@ -387,15 +400,16 @@ granted_within m p own d q is (joins e r i n c s rests few later) =
     let waits : IsWaiting m own p i d (joined q c s) =
     record { rests = rests; few = few; among = among_joined q c s p i (sweep own) is.among } in
     granted_within m p own d (joined q c s) waits later
-granted_within m p own d q is (grants _ _ r i j n drive (keeps some) also passed rests later) =
+granted_within m p own d q is (grants _ _ r i j n drive (keeps some) passed rests later) =
     let f = first d.direction q in
     let on : f ≤ d.cylmax =
     All-first (λ s. s ≤ d.cylmax) (q (sweep d.direction)) some (on_disk d.direction d q is.rests) in
     let waits = still m p i j own d q drive some passed rests is.few is.among on in
     let more = granted_within m p own (granted_first d drive q) (taken q (sweep d.direction)) waits later in
     omega (arith, more, one_kept m p i j own d q drive is some passed rests)
-granted_within m p own d q is (grants _ _ r i j n drive (turns nobody) some passed rests later) =
+granted_within m p own d q is (grants _ _ r i j n drive (turns nobody) passed rests later) =
     let dir = opposite d.direction in
+    let some = release_grants m p i own d (turned d) q is (turns nobody) in
     let on : first dir q ≤ d.cylmax =
     All-first (λ s. s ≤ d.cylmax) (q (sweep dir)) some (on_disk dir d q is.rests) in
     let waits = still m p i j own (turned d) q drive some passed rests is.few is.among on in

@@ -3,4 +3,5 @@ pub mod Due
 pub mod Sweeps
 pub mod Stays
 pub mod Granted
+pub mod Longest
 pub mod Readers

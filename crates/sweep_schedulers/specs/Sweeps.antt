@@ -22,9 +22,9 @@ granted_first d drive q =
     counted (sent found (cylinder_of d.cylmax d.direction (first d.direction q))) (left 0) (left 1)
 
 -- the head keeps its direction if a request waits for the present sweep, and else turns
-pub data GoesOn {T : Type 0} (d : Disk T) (q : ℕ → List ℕ) : Disk T → Type 0 where
-  keeps : q (sweep d.direction) ≢ [] → GoesOn d q d
-  turns : q (sweep d.direction) ≡ [] → GoesOn d q (turned d)
+pub data KeepsOrTurns {T : Type 0} (d : Disk T) (q : ℕ → List ℕ) : Disk T → Type 0 where
+  keeps : q (sweep d.direction) ≢ [] → KeepsOrTurns d q d
+  turns : q (sweep d.direction) ≡ [] → KeepsOrTurns d q (turned d)
 
 -- A request waits for the sweep in the direction own with priority p, behind k others of that sweep and priority, which
 -- came before it. The first request of the sweep in direction dir, of priority s, is another: it then waits behind j
@@ -38,7 +38,7 @@ pub data Awaits {T : Type 0} (m : ℕ) (own : Direction) (p : ℕ) : Disk T → 
   none : (d : Disk T) (q : ℕ → List ℕ) (k : ℕ) → Awaits m own p d q k 0
   joins : (d : Disk T) (q : ℕ → List ℕ) (k n c s : ℕ) → HeadRests d (joined q c s 0) (joined q c s 1)
       → AtMost m (joined q c s) → Awaits m own p d (joined q c s) k n → Awaits m own p d q k n
-  grants : (d e : Disk T) (q : ℕ → List ℕ) (k j n : ℕ) (drive : T) → GoesOn d q e → q (sweep e.direction) ≢ []
+  grants : (d e : Disk T) (q : ℕ → List ℕ) (k j n : ℕ) (drive : T) → KeepsOrTurns d q e
       → IsPassed own p e.direction (first e.direction q) k j
       → HeadRests (granted_first e drive q) (taken q (sweep e.direction) 0) (taken q (sweep e.direction) 1)
       → Awaits m own p (granted_first e drive q) (taken q (sweep e.direction)) j n → Awaits m own p d q k (suc n)

@@ -1,12 +1,14 @@
 //! What follows from the meanings of `rest`: functions that do nothing, whose contracts are the laws.
-ghost use Rattle.std.specs.Prelude.{◌≡◌, ◌+◌, ◌-◌, ◌*◌, ◌<◌, ◌≤◌, ℕ, List, None};
+ghost use Rattle.std.specs.Prelude.{◌≡◌, ◌≢◌, ◌+◌, ◌-◌, ◌*◌, ◌<◌, ◌≤◌, ℕ, List, [], None};
 ghost use Rattle.hoare_law.specs.declared.event.History.{History};
-ghost use Rattle.hoare_law.specs.Priorities.{joined, priorities, taken};
+ghost use Rattle.hoare_law.specs.Priorities.{joined, nobody, priorities, taken};
 ghost use Rattle.sweep_schedulers.specs.declared.direction.Direction.{Direction};
-ghost use Rattle.sweep_schedulers.specs.Heads.{Disk, HeadRests, cylinder_of, priority_at, put, sent, sweep};
+ghost use Rattle.sweep_schedulers.specs.declared.direction.Direction.TheVariants.{Down};
+ghost use Rattle.sweep_schedulers.specs.Heads.{Disk, HeadRests, cylinder_of, due, given_out, idle, priority_at, put};
+ghost use Rattle.sweep_schedulers.specs.Heads.{sent, sweep};
 ghost use Rattle.sweep_schedulers.specs.HeadTraces.{counted_after};
 ghost use Rattle.sweep_schedulers.specs.Stays.{Stays};
-ghost use Rattle.sweep_schedulers.specs.Sweeps.{Awaits, GoesOn, IsWaiting, first, granted_first, grants_before, reached};
+ghost use Rattle.sweep_schedulers.specs.Sweeps.{Awaits, KeepsOrTurns, IsWaiting, first, granted_first, grants_before, reached};
 
 /// While a head stands at a cylinder and keeps its direction, it is granted there as often as its `stay` says at most,
 /// however many ask for that cylinder meanwhile: nobody joins those that wait there for the present sweep, and after n
@@ -19,23 +21,37 @@ pub fn a_head_moves_on<T>()
         → Stays d q e r n → n + e.stay ≡ d.stay }
 {}
 
-/// Each request that waits on a disk head is granted the drive, after at most so many grants, whatever others ask for
-/// meanwhile. `in_time` has the number, of the disk, the request and the m requests that may wait at a time;
-/// `at_its_cylinder` says that it is granted while the head stands at its cylinder in its direction; `at_most` has the
-/// number without the disk's state and the request.
+/// Bounds how long a request waits on a disk head: while it waits, the drive is granted to others at most so many times,
+/// whatever they ask for.
 ///
-/// A step of `Awaits` is what one call does: `joins` a `request` that finds the drive out, and waits; `grants` a
-/// `release`, whose `HandsOn` keeps or turns (`GoesOn`), and the `request` that it resumes, which ends. `as_released`
-/// and `as_requested` say that the disk is that of `HandsOn` and `Requests`.
+/// - `in_time`: at most `grants_before` times, a number of the disk, the request, and m, as many as wait at a time.
+/// - `at_its_cylinder`: fewer times than `stay`, if the head stands at its cylinder and sweeps in its direction.
+/// - `at_most`: at most (2 `cylmax` + 1) (m - 1) times, in any state. A place that releases doesn't wait, so of N places
+///   m is N - 1.
+/// - `longest`: a run that comes to this number, on two cylinders with two that wait.
+/// - `drive_is_out`, `release_grants`: meanwhile the drive is out, and each release grants it to a request.
+///
+/// A step of `Awaits` is one call. `joins` is a `request` that finds the drive out, and waits. `grants` is a `release`,
+/// whose `HandsOn` keeps the direction or turns, with the end of the `request` that it resumes: by `as_released` and
+/// `as_requested` the disk is that of their traces. Other calls change nothing meanwhile, unless a caller puts another
+/// disk in through `state_mut`. Requests of equal priority are resumed in the order in which they came
+/// (`hoare_law::laws::least_is_chosen`), so those that came earlier are all that `IsPassed` counts.
 pub fn a_request_is_granted<T>()
+    ensures drive_is_out { (m p k : ℕ) (own : Direction) (d : Disk T) (q : ℕ → List ℕ) → IsWaiting m own p k d q
+        → d.drive ≡ None }
+    ensures release_grants { (m p k : ℕ) (own : Direction) (d e : Disk T) (q : ℕ → List ℕ)
+        → IsWaiting m own p k d q → KeepsOrTurns d q e → q (sweep e.direction) ≢ [] }
     ensures in_time { (m p k n : ℕ) (own : Direction) (d : Disk T) (q : ℕ → List ℕ) → IsWaiting m own p k d q
         → Awaits m own p d q k n → n ≤ grants_before m d own p k }
     ensures at_its_cylinder { (m p k n : ℕ) (own : Direction) (d : Disk T) (q : ℕ → List ℕ)
         → IsWaiting m own p k d q → own ≡ d.direction → p ≡ reached d → Awaits m own p d q k n → n < d.stay }
     ensures at_most { (m p k n : ℕ) (own : Direction) (d : Disk T) (q : ℕ → List ℕ) → IsWaiting m own p k d q
         → Awaits m own p d q k n → n ≤ (2 * d.cylmax + 1) * (m - 1) }
+    ensures longest { (drive : T) → (let d = due (given_out (idle drive 1)) 1 in
+        let q = joined (joined nobody 0 0) 1 1 in
+        IsWaiting 2 Down 1 0 d q × Awaits 2 Down 1 d q 0 3) }
     ensures as_released { (d e : Disk T) (drive : T) (g h : History (Disk T))
-        → GoesOn d (priorities g.events) e → priorities h.events ≡ taken (priorities g.events) (sweep e.direction)
+        → KeepsOrTurns d (priorities g.events) e → priorities h.events ≡ taken (priorities g.events) (sweep e.direction)
         → (let dest = cylinder_of d.cylmax e.direction (first e.direction (priorities g.events)) in
         counted_after h (sent (counted_after g (put e drive)) dest) ≡ granted_first e drive (priorities g.events)) }
     ensures as_requested { (cylmax dest : ℕ) (dir : Direction) → dest ≤ cylmax

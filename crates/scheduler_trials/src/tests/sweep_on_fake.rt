@@ -1,7 +1,9 @@
 //! The disk head, and the readers and writers, on the fake monitor: what is found after a wait is given beforehand.
-ghost use Rattle.std.specs.Prelude.{◌≡◌};
+ghost use Rattle.std.specs.Prelude.{◌≡◌, ◌≤◌, ℕ, List};
 ghost use Rattle.hoare_law.specs.Priorities.{nobody};
-ghost use Rattle.sweep_schedulers.specs.Heads.{HeadRests};
+ghost use Rattle.sweep_schedulers.specs.declared.direction.Direction.{Direction};
+ghost use Rattle.sweep_schedulers.specs.Heads.{Disk, HeadRests};
+ghost use Rattle.sweep_schedulers.specs.Sweeps.{Awaits, IsWaiting};
 
 use crate::tests::compared::expect_same;
 use crate::tests::fake::{take_data, with_answers};
@@ -17,6 +19,7 @@ use std::alloc::Global;
 use std::process::Abort;
 use std::sync::Wait;
 use sweep_schedulers::head::Head;
+use sweep_schedulers::laws;
 use sweep_schedulers::readers_writers::ReadersWriters;
 use test_support::fake::{Fake, FakeOut};
 
@@ -220,4 +223,19 @@ fn late_too_many_readers(host: HostRuntime) {
     let (fake, out) = with_answers(rt, alloc, ReadersWriters::with(4), []);
     let (other, place) = reads_elsewhere(rt, alloc, &fake, out, 1024);
     is_no_writer(rt, &other, place);
+}
+
+// What a law says of a disk of 200 cylinders on a monitor of 64 places: a request waits for at most 24,738 others.
+fn waits_for_few<T>()
+    ensures { (p k n : ℕ) (own : Direction) (d : Disk T) (q : ℕ → List ℕ) → d.cylmax ≡ 199
+        → IsWaiting 63 own p k d q → Awaits 63 own p d q k n → n ≤ 24738 }
+{
+    laws::a_request_is_granted::<T>();
+}
+
+// That the calls return is all that a run can show of a law; what one says, the clause of `waits_for_few` is proved by.
+#[test]
+fn laws_of_the_head_can_be_called() {
+    waits_for_few::<u8>();
+    laws::a_head_moves_on::<u8>();
 }

@@ -5,3 +5,4 @@ pub mod Stays
 pub mod Granted
 pub mod Longest
 pub mod Readers
+pub mod Rounds

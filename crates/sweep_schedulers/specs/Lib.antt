@@ -4,3 +4,4 @@ pub mod ReadersWriters
 pub mod ReadersWritersTraces
 pub mod Stays
 pub mod Sweeps
+pub mod Rounds

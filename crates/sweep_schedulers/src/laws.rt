@@ -9,6 +9,10 @@ ghost use Rattle.sweep_schedulers.specs.Heads.{sent, sweep};
 ghost use Rattle.sweep_schedulers.specs.HeadTraces.{counted_after};
 ghost use Rattle.sweep_schedulers.specs.Stays.{Stays};
 ghost use Rattle.sweep_schedulers.specs.Sweeps.{Awaits, KeepsOrTurns, IsWaiting, first, granted_first, grants_before, reached};
+ghost use Rattle.std.specs.Prelude.{length, All, false};
+ghost use Rattle.std.specs.List.{sum};
+ghost use Rattle.sweep_schedulers.specs.ReadersWriters.{Shared};
+ghost use Rattle.sweep_schedulers.specs.Rounds.{Moment, Rests, Runs, WriterWaits, ReaderWaits, counted_from, writers_in};
 
 /// While a head stands at a cylinder and keeps its direction, it is granted there as often as its `stay` says at most,
 /// however many ask for that cylinder meanwhile: nobody joins those that wait there for the present sweep, and after n
@@ -56,4 +60,21 @@ pub fn a_request_is_granted<T>()
         counted_after h (sent (counted_after g (put e drive)) dest) ≡ granted_first e drive (priorities g.events)) }
     ensures as_requested { (cylmax dest : ℕ) (dir : Direction) → dest ≤ cylmax
         → cylinder_of cylmax dir (priority_at cylmax dir dest) ≡ dest }
+/// A stream of readers can't keep a writer waiting, and a stream of writers no reader. While a writer waits, reads begin
+/// only in rounds: one as a write ends, of those that wait to read then. With k writers before it, k writes begin
+/// before its own and at most k rounds, with one more where a writer was in when it began to wait; so where readers
+/// were in and it is next, nobody begins. A reader that waits goes on when the first write ends: that of the writer
+/// that was in or else of one writer more. Until then no read begins.
+pub fn readers_go_in_rounds<T>()
+    ensures keeps_rest { (s : Shared T) (r w : ℕ) (m : Moment T) → Rests (counted_from s r w) → Runs s r w m
+        → Rests m }
+    ensures rounds { (s : Shared T) (r w k : ℕ) (m : Moment T) → WriterWaits s r w k m
+        → length m.rounds ≤ m.writes + writers_in s }
+    ensures reads { (s : Shared T) (r w k : ℕ) (m : Moment T) → WriterWaits s r w k m → m.reads ≤ sum m.rounds }
+    ensures at_most { (s : Shared T) (r w k most : ℕ) (m : Moment T) → WriterWaits s r w k m
+        → All (λ n. n ≤ most) m.rounds → m.reads ≤ (k + writers_in s) * most }
+    ensures next { (s : Shared T) (r w : ℕ) (m : Moment T) → WriterWaits s r w 0 m → s.busy ≡ false
+        → (m.reads ≡ 0) × (m.writes ≡ 0) }
+    ensures reader { (s : Shared T) (r w : ℕ) (m : Moment T) → ReaderWaits s r w m
+        → (m.reads ≡ 0) × (m.writes + writers_in s ≡ writers_in m.state) }
 {}

@@ -6,3 +6,4 @@ pub mod Granted
 pub mod Longest
 pub mod Readers
 pub mod Rounds
+pub mod Behind

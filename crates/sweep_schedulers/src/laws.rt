@@ -1,5 +1,7 @@
 //! What follows from the meanings of `rest`: functions that do nothing, whose contracts are the laws.
-ghost use Rattle.std.specs.Prelude.{◌≡◌, ◌≢◌, ◌+◌, ◌-◌, ◌*◌, ◌<◌, ◌≤◌, ℕ, List, [], None};
+ghost use Rattle.std.specs.Prelude.{◌≡◌, ◌≢◌, ◌+◌, ◌-◌, ◌*◌, ◌<◌, ◌≤◌, ◌++◌, ◌∷◌, ℕ, List, [], All, None, false};
+ghost use Rattle.std.specs.Prelude.{length};
+ghost use Rattle.std.specs.List.{sum};
 ghost use Rattle.hoare_law.specs.declared.event.History.{History};
 ghost use Rattle.hoare_law.specs.Priorities.{joined, nobody, priorities, taken};
 ghost use Rattle.sweep_schedulers.specs.declared.direction.Direction.{Direction};
@@ -7,12 +9,10 @@ ghost use Rattle.sweep_schedulers.specs.declared.direction.Direction.TheVariants
 ghost use Rattle.sweep_schedulers.specs.Heads.{Disk, HeadRests, cylinder_of, due, given_out, idle, priority_at, put};
 ghost use Rattle.sweep_schedulers.specs.Heads.{sent, sweep};
 ghost use Rattle.sweep_schedulers.specs.HeadTraces.{counted_after};
-ghost use Rattle.sweep_schedulers.specs.Stays.{Stays};
-ghost use Rattle.sweep_schedulers.specs.Sweeps.{Awaits, KeepsOrTurns, IsWaiting, first, granted_first, grants_before, reached};
-ghost use Rattle.std.specs.Prelude.{length, All, false};
-ghost use Rattle.std.specs.List.{sum};
 ghost use Rattle.sweep_schedulers.specs.ReadersWriters.{Shared};
 ghost use Rattle.sweep_schedulers.specs.Rounds.{Moment, Rests, Runs, WriterWaits, ReaderWaits, counted_from, writers_in};
+ghost use Rattle.sweep_schedulers.specs.Stays.{Stays};
+ghost use Rattle.sweep_schedulers.specs.Sweeps.{Awaits, KeepsOrTurns, IsWaiting, first, granted_first, grants_before, reached};
 
 /// While a head stands at a cylinder and keeps its direction, it is granted there as often as its `stay` says at most,
 /// however many ask for that cylinder meanwhile: nobody joins those that wait there for the present sweep, and after n
@@ -60,21 +60,32 @@ pub fn a_request_is_granted<T>()
         counted_after h (sent (counted_after g (put e drive)) dest) ≡ granted_first e drive (priorities g.events)) }
     ensures as_requested { (cylmax dest : ℕ) (dir : Direction) → dest ≤ cylmax
         → cylinder_of cylmax dir (priority_at cylmax dir dest) ≡ dest }
-/// A stream of readers can't keep a writer waiting, and a stream of writers no reader. While a writer waits, reads begin
-/// only in rounds: one as a write ends, of those that wait to read then. With k writers before it, k writes begin
-/// before its own and at most k rounds, with one more where a writer was in when it began to wait; so where readers
-/// were in and it is next, nobody begins. A reader that waits goes on when the first write ends: that of the writer
-/// that was in or else of one writer more. Until then no read begins.
+{}
+
+/// No stream of readers keeps a writer waiting for ever, and no stream of writers a reader. While a writer waits, reads
+/// begin only in rounds: a round begins when a write ends, and its readers are those that wait then. Only the writers
+/// before it begin, in their order: all of them, once it is next. There is a round for each of them at most, and one more
+/// if a writer was in at first. So with k writers before it and at most `most` readers in a round, at most (k + 1) * most
+/// reads begin, and if it is next while readers are in, none. While a reader waits, no read begins, and no write ends: so
+/// it waits for one write, that of the writer that was in or, if readers were in, of the first that waits to write.
 pub fn readers_go_in_rounds<T>()
-    ensures keeps_rest { (s : Shared T) (r w : ℕ) (m : Moment T) → Rests (counted_from s r w) → Runs s r w m
-        → Rests m }
-    ensures rounds { (s : Shared T) (r w k : ℕ) (m : Moment T) → WriterWaits s r w k m
-        → length m.rounds ≤ m.writes + writers_in s }
-    ensures reads { (s : Shared T) (r w k : ℕ) (m : Moment T) → WriterWaits s r w k m → m.reads ≤ sum m.rounds }
-    ensures at_most { (s : Shared T) (r w k most : ℕ) (m : Moment T) → WriterWaits s r w k m
-        → All (λ n. n ≤ most) m.rounds → m.reads ≤ (k + writers_in s) * most }
-    ensures next { (s : Shared T) (r w : ℕ) (m : Moment T) → WriterWaits s r w 0 m → s.busy ≡ false
-        → (m.reads ≡ 0) × (m.writes ≡ 0) }
-    ensures reader { (s : Shared T) (r w : ℕ) (m : Moment T) → ReaderWaits s r w m
-        → (m.reads ≡ 0) × (m.writes + writers_in s ≡ writers_in m.state) }
+    ensures keeps_rest { (s : Shared T) (r : ℕ) (ws : List ℕ) (m : Moment T) → Rests (counted_from s r ws)
+        → Runs s r ws m → Rests m }
+    ensures in_turn { (s : Shared T) (r : ℕ) (ws : List ℕ) (m : Moment T) → Rests (counted_from s r ws)
+        → Runs s r ws m → (came : List ℕ) × (m.writes ++ m.to_write ≡ ws ++ came) }
+    ensures writes { (s : Shared T) (r w : ℕ) (before behind : List ℕ) (m : Moment T)
+        → WriterWaits s r before w behind m → length m.writes ≤ length before }
+    ensures is_next { (s : Shared T) (r w : ℕ) (before behind others : List ℕ) (m : Moment T)
+        → WriterWaits s r before w behind m → m.to_write ≡ w ∷ others → m.writes ≡ before }
+    ensures rounds { (s : Shared T) (r w : ℕ) (before behind : List ℕ) (m : Moment T)
+        → WriterWaits s r before w behind m → length m.rounds ≤ length m.writes + writers_in s }
+    ensures reads { (s : Shared T) (r w : ℕ) (before behind : List ℕ) (m : Moment T)
+        → WriterWaits s r before w behind m → m.reads ≤ sum m.rounds }
+    ensures at_most { (s : Shared T) (r w most : ℕ) (before behind : List ℕ) (m : Moment T)
+        → WriterWaits s r before w behind m → All (λ n. n ≤ most) m.rounds
+        → m.reads ≤ (length before + writers_in s) * most }
+    ensures beside_readers { (s : Shared T) (r w : ℕ) (behind : List ℕ) (m : Moment T)
+        → WriterWaits s r [] w behind m → s.busy ≡ false → (m.reads ≡ 0) × (m.writes ≡ []) }
+    ensures one_write { (s : Shared T) (r : ℕ) (ws : List ℕ) (m : Moment T) → ReaderWaits s r ws m
+        → (m.reads ≡ 0) × (length m.writes + writers_in s ≡ writers_in m.state) }
 {}

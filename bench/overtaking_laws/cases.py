@@ -117,7 +117,7 @@ def returned(later: Events) -> Tuple[int, ...]:
     return tuple(event.place for event in later if event.kind == 'Back')
 
 
-def resumed(sizes: Sizes, later: Events) -> Tuple[int, ...]:
+def resumed_called(sizes: Sizes, later: Events) -> Tuple[int, ...]:
     """Returns the places of the called processes that resume, in order: the Resume events on Mesa conditions."""
     return tuple(event.place for event in later if event.kind == 'Resume' and sizes.is_mesa(event.condition))
 
@@ -128,13 +128,13 @@ def taken_from(condition: int, later: Events) -> int:
     return len([event for event in on_condition if event.kind in ('Signal', 'Pass', 'Notify')])
 
 
-def undercut(condition: int, priority: int, later: Events) -> int:
+def waits_below(condition: int, priority: int, later: Events) -> int:
     """Counts the Wait events on a condition with a lesser priority."""
     waits = [event for event in later if event.kind == 'Wait' and event.condition == condition]
     return len([wait for wait in waits if wait.priority < priority])
 
 
-def no_greater(condition: int, priority: int, h: History) -> int:
+def waiters_up_to(condition: int, priority: int, h: History) -> int:
     """Counts the waiters on a condition that have this priority or a lesser one."""
     return len([wait for wait in h.waiting[condition] if wait.priority <= priority])
 

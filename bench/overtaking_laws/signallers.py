@@ -116,12 +116,12 @@ class few_visits_until_return:
     finds m waiters on conditions and n signallers."""
 
     @clause(each_signal_held_up)
-    def stays(split: Split, call: Call) -> bool:
+    def visits(split: Split, call: Call) -> bool:
         """At most m + 2n visits since its signal."""
         return visits(call.between) <= len(waiting_anywhere(call.front)) + 2 * len(call.front.urgent)
 
     @wrong(each_signal_held_up)
-    def stays_one_less(split: Split, call: Call) -> bool:
+    def visits_one_less(split: Split, call: Call) -> bool:
         """At most m + 2n - 1 visits since its signal."""
         return visits(call.between) <= len(waiting_anywhere(call.front)) + 2 * len(call.front.urgent) - 1
 

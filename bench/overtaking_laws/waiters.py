@@ -4,8 +4,8 @@ from __future__ import annotations
 
 from overtaking_laws.cases import (Call, Split, Standing, begins_with, clause, each_called, each_called_from_inside,
                                    each_moment, each_moment_inside, each_split, each_wait_and_resume, each_waiter,
-                                   no_greater, places_of, releases, resumed, returned, signals, taken_from, undercut,
-                                   waiting_anywhere, wrong)
+                                   places_of, releases, resumed_called, returned, signals, taken_from, waiters_up_to,
+                                   waiting_anywhere, waits_below, wrong)
 from overtaking_laws.model import Turn, admissions, chosen, in_order
 
 
@@ -29,7 +29,7 @@ class called_resume_in_turn:
     @clause(each_called)
     def order(split: Split, one: Standing) -> bool:
         """The called processes before it resume in turn, no other does, and later ones join behind."""
-        gone = resumed(split.sizes, split.later)
+        gone = resumed_called(split.sizes, split.later)
         left = one.before[len(gone):]
         return (places_of(one.before) == gone + places_of(left)
                 and begins_with(left + (one.itself,) + one.behind, split.whole.called))
@@ -42,12 +42,12 @@ class called_resume_in_turn:
     @wrong(each_called)
     def latest_first(split: Split, one: Standing) -> bool:
         """No called process before it resumes while it waits."""
-        return not set(resumed(split.sizes, split.later)) & set(places_of(one.before))
+        return not set(resumed_called(split.sizes, split.later)) & set(places_of(one.before))
 
     @wrong(each_called)
     def nobody_joins(split: Split, one: Standing) -> bool:
         """The called processes before it resume in turn, and none joins behind."""
-        order_of_all = resumed(split.sizes, split.later) + places_of(split.whole.called)
+        order_of_all = resumed_called(split.sizes, split.later) + places_of(split.whole.called)
         return order_of_all == places_of(one.before + (one.itself,) + one.behind)
 
 
@@ -124,7 +124,7 @@ class waiters_taken_in_turn:
     def equal_priorities_undercut(split: Split, one: Standing) -> bool:
         """Its position afterwards + the waiters taken = its position before + those that came since with its priority
         or a lesser one."""
-        count = undercut(one.itself.condition, one.itself.priority + 1, split.later)
+        count = waits_below(one.itself.condition, one.itself.priority + 1, split.later)
         return position(split, one) + taken(split, one) == len(one.before) + count
 
     @clause(each_waiter)
@@ -156,6 +156,19 @@ class waiters_taken_in_turn:
         return is_chosen == (taken(split, one) + 1 >= len(one.before) + undercuts(split, one))
 
     @clause(each_waiter)
+    def first_come(split: Split, one: Standing) -> bool:
+        """No waiter of its priority or a greater one that began to wait later is chosen."""
+        waits = split.whole.waiting[one.itself.condition]
+        first = chosen(waits)
+        return first.priority < one.itself.priority or waits.index(first) <= waits.index(one.itself)
+
+    @wrong(each_waiter)
+    def first_come_at_any_priority(split: Split, one: Standing) -> bool:
+        """No waiter that began to wait later is chosen."""
+        waits = split.whole.waiting[one.itself.condition]
+        return waits.index(chosen(waits)) <= waits.index(one.itself)
+
+    @clause(each_waiter)
     def plain(split: Split, one: Standing) -> bool:
         """With priority 0, its position afterwards + the waiters taken = its position before: first in, first out."""
         return one.itself.priority > 0 or position(split, one) == len(one.before) - taken(split, one)
@@ -178,7 +191,7 @@ def taken(split: Split, one: Standing) -> int:
 
 def undercuts(split: Split, one: Standing) -> int:
     """Counts the later waits on its condition with a lesser priority than its own."""
-    return undercut(one.itself.condition, one.itself.priority, split.later)
+    return waits_below(one.itself.condition, one.itself.priority, split.later)
 
 
 class between_wait_and_resume:
@@ -197,7 +210,7 @@ class between_wait_and_resume:
     @wrong(each_wait_and_resume)
     def equal_priorities_behind(split: Split, call: Call) -> bool:
         """Waiters taken = waiters before it with a lesser priority + those that undercut it + 1."""
-        lesser = no_greater(call.event.condition, call.event.priority - 1, call.front)
+        lesser = waiters_up_to(call.event.condition, call.event.priority - 1, call.front)
         return taken_between(call) == lesser + came_between(call) + 1
 
     @wrong(each_wait_and_resume)
@@ -213,12 +226,12 @@ def taken_between(call: Call) -> int:
 
 def waited_before(call: Call) -> int:
     """Counts the waiters with its priority or a lesser one on its condition, when it began to wait."""
-    return no_greater(call.event.condition, call.event.priority, call.front)
+    return waiters_up_to(call.event.condition, call.event.priority, call.front)
 
 
 def came_between(call: Call) -> int:
     """Counts the waits on its condition with a lesser priority, until its end."""
-    return undercut(call.event.condition, call.event.priority, call.between)
+    return waits_below(call.event.condition, call.event.priority, call.between)
 
 
 class all_have_places:

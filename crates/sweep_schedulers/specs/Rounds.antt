@@ -2,7 +2,8 @@
 -- One step is one call together with all processes that resume by it: each of them is resumed by the last act of the
 -- process before it, and none enters between. Its data are those of the procedure's trace (ReadersWritersTraces). All
 -- wait with priority 0, so those that wait to write begin in the order in which they came. A refused call of end_read or
--- end_write changes nothing, so it is no step. Not proved: that each history of the monitor is a run of these steps.
+-- end_write changes nothing, so it is no step. Not proved: that each history of a monitor that only these procedures
+-- use is a run of these steps.
 use Rattle.std.specs.Prelude.{ℕ, suc, ◌+◌, ◌-◌, ◌<◌, List, [], ◌∷◌, ◌++◌, length, replicate, if◌then◌else◌, true}
 use Rattle.std.specs.Prelude.{◌≡◌, ◌≢◌, ◌⊎◌, Ok, Err, All}
 use Rattle.sweep_schedulers.specs.declared.readers_writers.ReadPass.{ReadPass}
@@ -90,7 +91,7 @@ pub data Runs {T : Type 0} (s : Shared T) (to_read : ℕ) (to_write : List ℕ) 
   write_ends : (m : Moment T) (value : T) → Runs s to_read to_write m → m.state.busy ≡ true → m.to_read ≡ 0
       → Runs s to_read to_write (writer_resumed m.to_write (record m { state = written m.state value }))
 
--- the place w waits to write, and has waited since these places waited before it, and those behind it
+-- the place w still waits to write: at first these places waited before it and behind it, and it hasn't begun since
 pub record WriterWaits {T : Type 0} (s : Shared T) (to_read : ℕ) (before : List ℕ) (w : ℕ) (behind : List ℕ)
     (m : Moment T) : Type 0 where
   pub rests : Rests (counted_from s to_read (before ++ w ∷ behind))
@@ -98,7 +99,7 @@ pub record WriterWaits {T : Type 0} (s : Shared T) (to_read : ℕ) (before : Lis
   pub runs : Runs s to_read (before ++ w ∷ behind) m
   pub not_yet : All (λ k. k ≢ w) m.writes
 
--- a reader waits that waited from the first: all readers that wait go on in the next round, and there was none
+-- a reader that waited at first still waits: a round takes all readers that wait, and there was none
 pub record ReaderWaits {T : Type 0} (s : Shared T) (to_read : ℕ) (to_write : List ℕ) (m : Moment T) : Type 0 where
   pub rests : Rests (counted_from s to_read to_write)
   pub waited : 0 < to_read

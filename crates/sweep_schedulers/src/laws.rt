@@ -62,12 +62,13 @@ pub fn a_request_is_granted<T>()
         → cylinder_of cylmax dir (priority_at cylmax dir dest) ≡ dest }
 {}
 
-/// No stream of readers keeps a writer waiting for ever, and no stream of writers a reader. While a writer waits, reads
-/// begin only in rounds: a round begins when a write ends, and its readers are those that wait then. Only the writers
-/// before it begin, in their order: all of them, once it is next. There is a round for each of them at most, and one more
-/// if a writer was in at first. So with k writers before it and at most `most` readers in a round, at most (k + 1) * most
-/// reads begin, and if it is next while readers are in, none. While a reader waits, no read begins, and no write ends: so
-/// it waits for one write, that of the writer that was in or, if readers were in, of the first that waits to write.
+/// A writer waits behind the writers before it and their rounds of readers, and a reader behind one write, however many
+/// come meanwhile. While a writer waits, reads begin only in rounds: a round begins when a write ends, and its readers
+/// are those that wait then. Only the writers before it begin, in their order, and once it is next all of them have.
+/// There is at most one round for each, and one more if a writer was in at first. So with k writers before it, and at
+/// most `most` readers in a round, at most (k + 1) * most reads begin; if it is next while readers are in, none. While a
+/// reader waits, no read begins and no write ends: it goes on when the write of the writer that was in ends, or, if
+/// readers were in, that of the first writer that waits.
 pub fn readers_go_in_rounds<T>()
     ensures keeps_rest { (s : Shared T) (r : ℕ) (ws : List ℕ) (m : Moment T) → Rests (counted_from s r ws)
         → Runs s r ws m → Rests m }

@@ -11,7 +11,8 @@ use Rattle.sweep_schedulers.specs.declared.direction.Direction.{Direction}
 use Rattle.sweep_schedulers.specs.declared.direction.Direction.TheVariants.{Up, Down}
 use Rattle.sweep_schedulers.specs.Heads.{Disk, HeadRests, sweep, opposite, turned, priority_at, cylinder_of}
 use Rattle.sweep_schedulers.specs.Sweeps.{AtMost, first, granted_first, KeepsOrTurns, keeps, turns, IsPassed, by_equal}
-use Rattle.sweep_schedulers.specs.Sweeps.{by_other, Awaits, none, joins, grants, IsWaiting, reached, stops, grants_before}
+use Rattle.sweep_schedulers.specs.Sweeps.{by_other, Awaits, none, joins, grants, IsWaiting, reached, stops}
+use Rattle.sweep_schedulers.specs.Sweeps.{grants_before}
 use Rattle.sweep_schedulers.proofs.Lists.{All-first, count_by-cons, count_by-put_in, count_by-first}
 use Rattle.sweep_schedulers.proofs.Due.{waiting_here-equal, before_head}
 
@@ -82,7 +83,8 @@ there : (dir : Direction) (cylmax f : ℕ) → f ≤ cylmax → priority_at cylm
 there Up cylmax f on = refl
 there Down cylmax f on = omega (arith, on)
 
-pub back : (cylmax dest : ℕ) (dir : Direction) → dest ≤ cylmax → cylinder_of cylmax dir (priority_at cylmax dir dest) ≡ dest
+pub back : (cylmax dest : ℕ) (dir : Direction) → dest ≤ cylmax
+    → cylinder_of cylmax dir (priority_at cylmax dir dest) ≡ dest
 back cylmax dest Up on = refl
 back cylmax dest Down on = omega (arith, on)
 

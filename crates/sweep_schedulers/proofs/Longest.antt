@@ -79,14 +79,15 @@ module _ {T : Type 0} (drive : T) where
 
   third_goes : Awaits 2 Down 1 (head_at 0 Up 0) third_waits 0 2
   third_goes =
-      grants (head_at 0 Up 0) (head_at 0 Up 0) third_waits 0 0 1 drive (keeps (λ e. absurd (cc))) (by_other 0 (λ e. absurd (cc)))
+      grants (head_at 0 Up 0) (head_at 0 Up 0) third_waits 0 0 1 drive (keeps (λ e. absurd (cc)))
+      (by_other 0 (λ e. absurd (cc)))
       (at_rest (head_at 1 Up 0) [] (1 ∷ []) (omega arith) refl (waits_alone 1 Up) refl) fourth_joins
 
   third_joins : Awaits 2 Down 1 (head_at 0 Up 0) (taken first_lists 0) 0 2
   third_joins =
       joins (head_at 0 Up 0) (taken first_lists 0) 0 2 0 1
-      (at_rest (head_at 0 Up 0) (1 ∷ []) (1 ∷ []) (omega arith) refl (waits_beside 1 0 (omega arith)) refl) (omega arith)
-      third_goes
+      (at_rest (head_at 0 Up 0) (1 ∷ []) (1 ∷ []) (omega arith) refl (waits_beside 1 0 (omega arith)) refl)
+      (omega arith) third_goes
 
   pub meanwhile : Awaits 2 Down 1 (head_at 0 Up 1) first_lists 0 3
   meanwhile =

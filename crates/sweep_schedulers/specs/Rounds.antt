@@ -1,8 +1,8 @@
 -- How many reads and writes begin before a process that waits: the steps of the procedures from a moment on, counted.
 -- One step is one call together with all processes that resume by it: each of them is resumed by the last act of the
 -- process before it, and none enters between. Its data are those of the procedure's trace (ReadersWritersTraces). All
--- wait with priority 0, so those that wait to write begin in the order in which they came. A refused call of end_read or
--- end_write changes nothing, so it is no step. Not proved: that each history of a monitor that only these procedures
+-- wait with priority 0, so those that wait to write begin in the order in which they came. A refused call of end_read
+-- or end_write changes nothing, so it is no step. Not proved: that each history of a monitor that only these procedures
 -- use is a run of these steps.
 use Rattle.std.specs.Prelude.{ℕ, suc, ◌+◌, ◌-◌, ◌<◌, List, [], ◌∷◌, ◌++◌, length, replicate, if◌then◌else◌, true}
 use Rattle.std.specs.Prelude.{◌≡◌, ◌≢◌, ◌⊎◌, Ok, Err, All}

@@ -10,9 +10,11 @@ ghost use Rattle.sweep_schedulers.specs.Heads.{Disk, HeadRests, cylinder_of, due
 ghost use Rattle.sweep_schedulers.specs.Heads.{sent, sweep};
 ghost use Rattle.sweep_schedulers.specs.HeadTraces.{counted_after};
 ghost use Rattle.sweep_schedulers.specs.ReadersWriters.{Shared};
-ghost use Rattle.sweep_schedulers.specs.Rounds.{Moment, Rests, Runs, WriterWaits, ReaderWaits, counted_from, writers_in};
+ghost use Rattle.sweep_schedulers.specs.Rounds.{Moment, Rests, Runs, WriterWaits, ReaderWaits, counted_from};
+ghost use Rattle.sweep_schedulers.specs.Rounds.{writers_in};
 ghost use Rattle.sweep_schedulers.specs.Stays.{Stays};
-ghost use Rattle.sweep_schedulers.specs.Sweeps.{Awaits, KeepsOrTurns, IsWaiting, first, granted_first, grants_before, reached};
+ghost use Rattle.sweep_schedulers.specs.Sweeps.{Awaits, KeepsOrTurns, IsWaiting, first, granted_first};
+ghost use Rattle.sweep_schedulers.specs.Sweeps.{grants_before, reached};
 
 /// While a head stands at a cylinder and keeps its direction, it is granted there as often as its `stay` says at most,
 /// however many ask for that cylinder meanwhile: nobody joins those that wait there for the present sweep, and after n
@@ -25,13 +27,13 @@ pub fn a_head_moves_on<T>()
         → Stays d q e r n → n + e.stay ≡ d.stay }
 {}
 
-/// Bounds how long a request waits on a disk head: while it waits, the drive is granted to others at most so many times,
-/// whatever they ask for.
+/// Bounds how long a request waits on a disk head: while it waits, the drive is granted to others at most so many
+/// times, whatever they ask for.
 ///
 /// - `in_time`: at most `grants_before` times, a number of the disk, the request, and m, as many as wait at a time.
 /// - `at_its_cylinder`: fewer times than `stay`, if the head stands at its cylinder and sweeps in its direction.
-/// - `at_most`: at most (2 `cylmax` + 1) (m - 1) times, in any state. A place that releases doesn't wait, so of N places
-///   m is N - 1.
+/// - `at_most`: at most (2 `cylmax` + 1) (m - 1) times, in any state. A place that releases doesn't wait, so of N
+///   places m is N - 1.
 /// - `longest`: a run that comes to this number, on two cylinders with two that wait.
 /// - `drive_is_out`, `release_grants`: meanwhile the drive is out, and each release grants it to a request.
 ///
@@ -62,13 +64,16 @@ pub fn a_request_is_granted<T>()
         → cylinder_of cylmax dir (priority_at cylmax dir dest) ≡ dest }
 {}
 
-/// A writer waits behind the writers before it and their rounds of readers, and a reader behind one write, however many
-/// come meanwhile. While a writer waits, reads begin only in rounds: a round begins when a write ends, and its readers
-/// are those that wait then. Only the writers before it begin, in their order, and once it is next all of them have.
-/// There is at most one round for each, and one more if a writer was in at first. So with k writers before it, and at
-/// most `most` readers in a round, at most (k + 1) * most reads begin; if it is next while readers are in, none. While a
-/// reader waits, no read begins and no write ends: it goes on when the write of the writer that was in ends, or, if
-/// readers were in, that of the first writer that waits.
+/// A writer waits for the writers before it and their rounds of readers, and a reader for one write, however many come
+/// meanwhile ("Monitors", Readers and Writers). While a writer waits, reads begin only in rounds: a round begins when a
+/// write ends, and its readers are those that wait then. Only the writers before it begin, in their order.
+///
+/// - `writes`, `is_next`: at most k writes begin, if k writers were before it, and all of them once it is next.
+/// - `rounds`: at most one round for each of these writes, and one more if a writer was in at first.
+/// - `reads`, `at_most`: at most (k + 1) * `most` reads begin, if no round has more than `most` readers.
+/// - `beside_readers`: none begins, if it was next while readers were in.
+/// - `one_write`: while a reader waits, no read begins and no write ends. So it resumes when the write of the writer
+///   that was in ends, or, if readers were in, that of the first writer that waits.
 pub fn readers_go_in_rounds<T>()
     ensures keeps_rest { (s : Shared T) (r : ℕ) (ws : List ℕ) (m : Moment T) → Rests (counted_from s r ws)
         → Runs s r ws m → Rests m }

@@ -55,8 +55,8 @@ fn open<D: MonitorData>(table: &TicketTable<D>, seat: &mut DoorSeat<D>, parcel: 
     table.shared.load::<Open<KindsOf<D>>>(seat, SERVING);
 }
 
-/// Creates a turnstile of its parts, with this first ticket, opened with the data, and its places, in order. Returns the
-/// data if an allocation failed.
+/// Creates a turnstile of its parts, with this first ticket, opened with the data, and its places, in order. Returns
+/// the data if an allocation failed.
 pub(crate) fn open_at<D: MonitorData>(
     alloc: Global,
     parts: Parts<D>,

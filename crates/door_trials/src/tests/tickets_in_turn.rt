@@ -1,15 +1,19 @@
 //! The ticket door on one thread: tickets in turn, past the last number, and places that meet.
-ghost use Rattle.std.specs.Prelude.{◌≡◌};
+ghost use Rattle.std.specs.Prelude.{◌≡◌, ◌<◌, ◌≤◌, ◌+◌};
+ghost use Rattle.hoare_law.specs.Admissions.{admissions};
+ghost use Rattle.hoare_law.specs.Sizes.{kinds_of};
+ghost use Rattle.ticket_door.specs.Asked.{IsAsked, WaitsBehind};
 
 use crate::tests::compared::expect_same;
+use hoare_law::data::MonitorData;
 use hoare_law::monitor::Monitor;
 use std::alloc::Global;
 use std::process::Abort;
 use std::sync::Wait;
-use test_support::tally::{Tally, tries_once};
+use test_support::tally::{Tally, tries_once, write_digit};
 use ticket_door::door::TicketDoor;
 use ticket_door::laws::make_at;
-use ticket_door::place::TicketOut;
+use ticket_door::place::{Asked, TicketIn, TicketOut};
 
 // Place a comes in at once, and leaves with a signal that nobody waits for; it meets b, and b asks and comes in. They
 // come back in this order, with whether a resumed somebody, and b's ticket.
@@ -45,6 +49,7 @@ pub fn three_places<R: Abort>(
     ensures a { ⟦<TicketDoor<Tally> as Monitor<Tally>>⟧.is_of result.0 result.1.0 }
     ensures b { ⟦<TicketDoor<Tally> as Monitor<Tally>>⟧.is_of result.0 result.1.1 }
     ensures c { ⟦<TicketDoor<Tally> as Monitor<Tally>>⟧.is_of result.0 result.1.2 }
+    ensures three { result.0.door.places ≡ 3 }
 {
     let Ok((door, mut outs)) = make_at(alloc, Tally { value: 0 }, 3, first) else {
         panic!(rt; "no memory")
@@ -165,4 +170,59 @@ fn places_meet(rt: HostRuntime) {
     outs.push_reserved(a);
     let tally = door.close(outs);
     expect_same(&rt, (told, tally.value), (false, 5));
+}
+
+// On a door of three places a enters, and writes 1; then b and c take tickets: at most two others are ahead of each.
+fn two_ask_while_one_is_in<R: Wait>(
+    rt: &R,
+    door: &TicketDoor<Tally>,
+    a: TicketOut<Tally>,
+    b: TicketOut<Tally>,
+    c: TicketOut<Tally>,
+) -> (TicketIn<Tally>, (Asked<Tally>, Asked<Tally>))
+    requires a { ⟦<TicketDoor<Tally> as Monitor<Tally>>⟧.is_of door.now a }
+    requires b { ⟦<TicketDoor<Tally> as Monitor<Tally>>⟧.is_of door.now b }
+    requires c { ⟦<TicketDoor<Tally> as Monitor<Tally>>⟧.is_of door.now c }
+    requires three { door.now.door.places ≡ 3 }
+    ensures a { ⟦<TicketDoor<Tally> as Monitor<Tally>>⟧.is_of_in door.now result.0 }
+    ensures b { IsAsked ⟦<Tally as MonitorData>⟧.rest ⟦<Tally as MonitorData>⟧.ready
+        (kinds_of 1 0) door.now result.1.0 }
+    ensures c { IsAsked ⟦<Tally as MonitorData>⟧.rest ⟦<Tally as MonitorData>⟧.ready
+        (kinds_of 1 0) door.now result.1.1 }
+    ensures b_ahead { result.1.0.number ≤ admissions result.1.0.front.events + 2 }
+    ensures c_ahead { result.1.1.number ≤ admissions result.1.1.front.events + 2 }
+{
+    let inside = write_digit(door, door.enter(rt, a), 1);
+    let b = door.ask(b);
+    let c = door.ask(c);
+    (inside, (b, c))
+}
+
+// Enters a door of three places with a ticket: at most two others entered since the ticket was taken.
+fn enters_after_two<R: Wait>(
+    rt: &R,
+    door: &TicketDoor<Tally>,
+    asked: Asked<Tally>,
+) -> TicketIn<Tally>
+    requires of { IsAsked ⟦<Tally as MonitorData>⟧.rest ⟦<Tally as MonitorData>⟧.ready
+        (kinds_of 1 0) door.now asked }
+    requires three { door.now.door.places ≡ 3 }
+    ensures of { ⟦<TicketDoor<Tally> as Monitor<Tally>>⟧.is_of_in door.now result }
+    ensures behind { (behind : WaitsBehind 3 asked result) × (admissions behind.later ≤ 2) }
+{
+    door.come_in(rt, asked)
+}
+
+// While a is inside b and c take tickets: they enter in this order, after a.
+#[test]
+fn two_wait_behind_one(rt: HostRuntime) {
+    let (door, (a, b, c)) = three_places(&rt, rt.alloc(), 0);
+    let (inside, (b, c)) = two_ask_while_one_is_in(&rt, &door, a, b, c);
+    expect_same(&rt, (b.ticket(), c.ticket()), (1, 2));
+    door.give_up(inside);
+    door.give_up(write_digit(&door, enters_after_two(&rt, &door, b), 2));
+    let inside = write_digit(&door, enters_after_two(&rt, &door, c), 3);
+    let written = door.state(&inside).value;
+    door.give_up(inside);
+    expect_same(&rt, written, 123);
 }

@@ -5,6 +5,7 @@ mod compared;
 mod fake;
 mod meanings;
 mod mesa_on_fake;
+mod reader_rounds;
 mod recipes_on_fake;
 mod refusals;
 mod row;

@@ -1,0 +1,23 @@
+//! What the law of the readers' rounds says of two small cases, and a call of it.
+ghost use Rattle.std.specs.Prelude.{◌≡◌, ◌≤◌, ◌∷◌, ℕ, List, [], All, true, false};
+ghost use Rattle.sweep_schedulers.specs.ReadersWriters.{Shared};
+ghost use Rattle.sweep_schedulers.specs.Rounds.{Moment, WriterWaits};
+
+use sweep_schedulers::laws;
+
+// A writer is next while readers are in: nobody overtakes it. A writer is in, and one waits before it: there are two
+// rounds at most.
+fn no_reader_overtakes<T>()
+    ensures no_read { (s : Shared T) (r w : ℕ) (behind : List ℕ) (m : Moment T) → WriterWaits s r [] w behind m
+        → s.busy ≡ false → m.reads ≡ 0 }
+    ensures two_rounds { (s : Shared T) (r w first : ℕ) (behind : List ℕ) (m : Moment T)
+        → WriterWaits s r (first ∷ []) w behind m → s.busy ≡ true → All (λ n. n ≤ 3) m.rounds → m.reads ≤ 6 }
+{
+    laws::readers_go_in_rounds::<T>();
+}
+
+// That the call returns is all that a run can show of a law.
+#[test]
+fn reader_rounds_can_be_called() {
+    no_reader_overtakes::<u8>();
+}

@@ -13,7 +13,8 @@ use Rattle.sweep_schedulers.specs.Rounds.{reader_waits, reader_begins, read_ends
 use Rattle.sweep_schedulers.specs.Rounds.{writer_begins, round_begins, write_ends, writer_resumed, counted_from}
 use Rattle.sweep_schedulers.specs.Rounds.{writers_in, WriterWaits, ReaderWaits}
 use Rattle.sweep_schedulers.proofs.Rounds.{Runs-rests, Runs-in_turn, round_rests, written_ready, a_writer_waits}
-use Rattle.sweep_schedulers.proofs.Rounds.{without_writer, places_wait, not_true}
+use Rattle.sweep_schedulers.proofs.Readers.{not_true}
+use Rattle.sweep_schedulers.proofs.Rounds.{without_writer, places_wait}
 
 -- if w isn't of xs, those of xs stand before w, and it is still among the others
 split_before : (w : ℕ) (xs ys before rest : List ℕ) → All (λ k. k ≢ w) xs → xs ++ ys ≡ before ++ w ∷ rest

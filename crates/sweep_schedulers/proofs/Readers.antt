@@ -16,10 +16,10 @@ pub ReadersRest-writer : {T : Type 0} {s : Shared T} (lists : ℕ → List ℕ) 
 ReadersRest-writer lists r used =
     record { inv = r.inv; writers = λ some. used; readers = λ some. inr (put_in-some (λ n. n) 0 (lists 1)) }
 
-none_below : (n : ℕ) → (0 < n → ⊥) → n ≡ 0
+pub none_below : (n : ℕ) → (0 < n → ⊥) → n ≡ 0
 none_below n none = omega arith
 
-not_true : (b : Bool) → (b ≡ true → ⊥) → b ≡ false
+pub not_true : (b : Bool) → (b ≡ true → ⊥) → b ≡ false
 not_true true other = absurd (other refl)
 not_true false other = refl
 

@@ -7,14 +7,7 @@ use Rattle.sweep_schedulers.specs.ReadersWriters.{written}
 use Rattle.sweep_schedulers.specs.Rounds.{Moment, Rests, HoldsUp, Round, over, admitted, refused, Runs, none}
 use Rattle.sweep_schedulers.specs.Rounds.{reader_waits, reader_begins, read_ends, last_read_ends, writer_waits}
 use Rattle.sweep_schedulers.specs.Rounds.{writer_begins, round_begins, write_ends, writer_resumed, counted_from, plain}
-use Rattle.sweep_schedulers.proofs.Readers.{ReadReady-admitted, ReadersRest-admitted}
-
-pub not_true : (b : Bool) → (b ≡ true → ⊥) → b ≡ false
-not_true true other = absurd (other refl)
-not_true false other = refl
-
-none_below : (n : ℕ) → (0 < n → ⊥) → n ≡ 0
-none_below n nobody = omega arith
+use Rattle.sweep_schedulers.proofs.Readers.{ReadReady-admitted, ReadersRest-admitted, not_true, none_below}
 
 pub some_wait : (n : ℕ) → 0 < n → plain n ≢ []
 some_wait zero some = absurd (omega (arith, some))

@@ -2,6 +2,7 @@ pub mod Lists
 pub mod Due
 pub mod Sweeps
 pub mod Stays
+pub mod Taken
 pub mod Granted
 pub mod Longest
 pub mod Readers

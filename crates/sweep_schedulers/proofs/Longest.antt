@@ -1,12 +1,12 @@
 -- A run in which a request waits as long as it may: on a disk of two cylinders, where two wait at a time.
-use Rattle.std.proofs.Common.{◌≡◌, ◌≢◌, ℕ, ◌≤◌, ◌-◌, List, [], ◌∷◌, None, refl, arith}
+use Rattle.std.proofs.Common.{◌≡◌, ℕ, ◌≤◌, ◌-◌, List, [], ◌∷◌, None, refl, arith}
 use Rattle.std.proofs.lemmas.List.Elements.{All-nil, All-cons}
 use Rattle.std.specs.Prelude.{All}
 use Rattle.hoare_law.specs.Priorities.{joined, nobody, taken}
 use Rattle.sweep_schedulers.specs.declared.direction.Direction.{Direction}
 use Rattle.sweep_schedulers.specs.declared.direction.Direction.TheVariants.{Up, Down}
 use Rattle.sweep_schedulers.specs.Heads.{Disk, HeadRests, OnSweeps, waiting_here}
-use Rattle.sweep_schedulers.specs.Sweeps.{granted_first, keeps, turns, by_other, Awaits, none, joins, grants, IsWaiting}
+use Rattle.sweep_schedulers.specs.Sweeps.{keeps, turns, by_other, Awaits, none, joins, grants, IsWaiting}
 
 one : (P : ℕ → Type 0) (x : ℕ) → P x → All P (x ∷ [])
 one P x h = All-cons P x [] h (All-nil P)

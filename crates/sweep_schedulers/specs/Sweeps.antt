@@ -1,5 +1,5 @@
 -- How long a request of a disk head waits: what may happen meanwhile, and how many other grants come before its own.
-use Rattle.std.specs.Prelude.{ℕ, zero, suc, ◌+◌, ◌-◌, ◌*◌, ◌<◌, ◌≤◌, ◌==◌, if◌then◌else◌, ◌≡◌, ◌≢◌}
+use Rattle.std.specs.Prelude.{ℕ, suc, ◌+◌, ◌-◌, ◌*◌, ◌<◌, ◌≤◌, ◌==◌, if◌then◌else◌, ◌≡◌, ◌≢◌}
 use Rattle.std.specs.Prelude.{List, [], length, slice_index, count_by}
 use Rattle.hoare_law.specs.Priorities.{joined, taken}
 use Rattle.sweep_schedulers.specs.declared.direction.Direction.{Direction}
@@ -27,13 +27,14 @@ pub data KeepsOrTurns {T : Type 0} (d : Disk T) (q : ℕ → List ℕ) : Disk T 
   turns : q (sweep d.direction) ≡ [] → KeepsOrTurns d q (turned d)
 
 -- A request waits for the sweep in the direction own with priority p, behind k others of that sweep and priority, which
--- came before it. The first request of the sweep in direction dir, of priority s, is another: it then waits behind j
+-- came earlier. The first request of the sweep in the direction dir, of priority s, is another one: if that is granted
+-- the drive, the request waits behind j
 pub data IsPassed (own : Direction) (p : ℕ) (dir : Direction) (s : ℕ) : ℕ → ℕ → Type 0 where
   by_equal : (j : ℕ) → dir ≡ own → s ≡ p → IsPassed own p dir s (suc j) j
   by_other : (k : ℕ) → (dir ≡ own → s ≢ p) → IsPassed own p dir s k k
 
--- From this disk and these lists on, while that request waits behind k, and at most m wait at a time, n grants come.
--- What waits keeps rest, and so does what is granted the drive
+-- From this disk and these lists on n grants go to others, while that request waits, behind k at first, and at most m
+-- requests wait at a time. The lists rest after each step
 pub data Awaits {T : Type 0} (m : ℕ) (own : Direction) (p : ℕ) : Disk T → (ℕ → List ℕ) → ℕ → ℕ → Type 0 where
   none : (d : Disk T) (q : ℕ → List ℕ) (k : ℕ) → Awaits m own p d q k 0
   joins : (d : Disk T) (q : ℕ → List ℕ) (k n c s : ℕ) → HeadRests d (joined q c s 0) (joined q c s 1)
@@ -43,22 +44,23 @@ pub data Awaits {T : Type 0} (m : ℕ) (own : Direction) (p : ℕ) : Disk T → 
       → HeadRests (granted_first e drive q) (taken q (sweep e.direction) 0) (taken q (sweep e.direction) 1)
       → Awaits m own p (granted_first e drive q) (taken q (sweep e.direction)) j n → Awaits m own p d q k (suc n)
 
--- the lists rest, at most m wait, and with priority p more than k wait for the sweep in the direction own: the one
--- behind k of them is the request
+-- the lists rest, at most m requests wait, and more than k of them wait with priority p for the sweep in the direction
+-- own: so one of them waits behind k
 pub record IsWaiting {T : Type 0} (m : ℕ) (own : Direction) (p k : ℕ) (d : Disk T) (q : ℕ → List ℕ) : Type 0 where
   pub rests : HeadRests d (q 0) (q 1)
   pub few : AtMost m q
   pub among : k < count_by (λ s. s == p) (q (sweep own))
 
--- how far the head is on the present sweep: with this priority the cylinder under it would wait
+-- how far the head is on the present sweep: the priority of a request there for the cylinder under it
 abbrev pub reached : {T : Type 0} → Disk T → ℕ
 reached d = priority_at d.cylmax d.direction d.headpos
 
--- at how many cylinders the head may stop before it comes to that of the request: on the present sweep at those
--- between, and else at those to the end of this sweep and then at those before it on its own
+-- at how many cylinders the head may stop before it reaches that of the request: those between, if the request waits
+-- for the present sweep, and else those to the end of this sweep and those from there on the way back
 abbrev pub stops : {T : Type 0} → Disk T → Direction → ℕ → ℕ
 stops d own p = if sweep d.direction == sweep own then p - reached d - 1 else d.cylmax - reached d + p
 
--- those due where the head stands, at each stop all but the request and those of equal priority before it, and those
+-- how many grants go to others first: those due where the head stands, at each stop as many as wait but for the
+-- request and the k before it, and those k
 abbrev pub grants_before : {T : Type 0} → ℕ → Disk T → Direction → ℕ → ℕ → ℕ
 grants_before m d own p k = d.stay + stops d own p * (m - suc k) + k

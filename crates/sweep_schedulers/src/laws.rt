@@ -27,8 +27,8 @@ pub fn a_head_moves_on<T>()
         → Stays d q e r n → n + e.stay ≡ d.stay }
 {}
 
-/// Bounds how long a request waits on a disk head: while it waits, the drive is granted to others at most so many
-/// times, whatever they ask for.
+/// Bounds how long a request waits on a disk head ("Monitors", Disk Head Scheduler): while it waits, the drive is
+/// granted to others at most so many times, whatever they ask for.
 ///
 /// - `in_time`: at most `grants_before` times, a number of the disk, the request, and m, as many as wait at a time.
 /// - `at_its_cylinder`: fewer times than `stay`, if the head stands at its cylinder and sweeps in its direction.

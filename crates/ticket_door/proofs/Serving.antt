@@ -202,8 +202,7 @@ module _ {D : Type 0} (first n : ℕ) where
     abbrev K : Cells D → Type 0
     K = Kept (Starts first n) (Tells first n) rest ready kinds n
 
-    -- o is the next ticket, taken as NEXT was r: the log hasn't admitted it, and of those before it has admitted all
-    -- but fewer than n
+    -- o is the next ticket, taken as NEXT was r: the log has not admitted it, and fewer than n are ahead of it
     abbrev IsNext : History D → Option Token → ℕ → Type 0
     IsNext log o r =
         (x : ℕ) × (o ≡ Some (token.Ticket x)) × (r ≡ (first + x) % 2 ^ 64) × (admissions log.events ≤ x)

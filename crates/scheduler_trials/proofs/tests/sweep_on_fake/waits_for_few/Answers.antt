@@ -1,4 +1,4 @@
-use Rattle.std.proofs.Common.{◌≡◌, ℕ, ◌+◌, ◌*◌, ◌≤◌, subst}
+use Rattle.std.proofs.Common.{◌+◌, ◌*◌, ◌≤◌, subst}
 use Rattle.scheduler_trials.proofs.tests.sweep_on_fake.waits_for_few.Goals as goal
 
 pub returns : goal.returns

@@ -122,24 +122,45 @@ fn tickets_past_the_last_number(rt: HostRuntime) {
     }
 }
 
-/// On a door with this first ticket place a asks, b tries, a comes in and out, b tries again, and a asks once more. The
-/// tickets of a, and whether the tries came in.
+/// Place a takes a ticket, b tries, a enters and leaves, b tries again, and a takes one more ticket, enters and leaves.
+/// Returns the places, a's tickets, and whether each try entered.
+fn tries_around<R: Wait>(
+    rt: &R,
+    door: &TicketDoor<Tally>,
+    a: TicketOut<Tally>,
+    b: TicketOut<Tally>,
+) -> (
+    (TicketOut<Tally>, TicketOut<Tally>),
+    ((u64, u64), (bool, bool)),
+)
+    requires a { ⟦<TicketDoor<Tally> as Monitor<Tally>>⟧.is_of door.now a }
+    requires b { ⟦<TicketDoor<Tally> as Monitor<Tally>>⟧.is_of door.now b }
+    ensures a { ⟦<TicketDoor<Tally> as Monitor<Tally>>⟧.is_of door.now result.0.0 }
+    ensures b { ⟦<TicketDoor<Tally> as Monitor<Tally>>⟧.is_of door.now result.0.1 }
+    ensures places { (result.0.0.place ≡ a.place) × (result.0.1.place ≡ b.place) }
+{
+    let a = door.ask(a);
+    let early = a.ticket();
+    let (b, before) = tries_once(rt, door, b);
+    let a = door.give_up(door.come_in(rt, a));
+    let (b, between) = tries_once(rt, door, b);
+    let a = door.ask(a);
+    let late = a.ticket();
+    let a = door.give_up(door.come_in(rt, a));
+    ((a, b), ((early, late), (before, between)))
+}
+
+/// On a door with this first ticket, which is closed: what `tries_around` returns of its two places.
 fn tries_between<R: Wait + Abort>(rt: &R, alloc: Global, first: u64) -> ((u64, u64), (bool, bool)) {
     let Ok((door, mut outs)) = make_at(alloc, Tally { value: 0 }, 2, first) else {
         panic!(rt; "no memory")
     };
     let (b, a) = (outs.pop().unwrap(), outs.pop().unwrap());
-    let a = door.ask(a);
-    let early = a.ticket();
-    let (b, before) = tries_once(rt, &door, b);
-    let a = door.give_up(door.come_in(rt, a));
-    let (b, between) = tries_once(rt, &door, b);
-    let a = door.ask(a);
-    let late = a.ticket();
-    outs.push_reserved(door.give_up(door.come_in(rt, a)));
+    let ((a, b), tried) = tries_around(rt, &door, a, b);
+    outs.push_reserved(a);
     outs.push_reserved(b);
     door.close(outs);
-    ((early, late), (before, between))
+    tried
 }
 
 // Who tries isn't before who asked, and draws the ticket that is served.

@@ -99,12 +99,12 @@ pub fn is_refused<R: Wait + Abort, M: Monitor<Head<Trip>>>(
     ensures place { M.place result ≡ M.place out }
 {
     let out = is_off_disk(rt, m, out, past);
-    let count = second.len();
+    let wanted = second.clone().expect(rt, "memory");
     let (out, released) = Head::release(m, rt, out, second);
     let Err(NotOut { item }) = released else {
         panic!(rt; "two drives are in")
     };
-    expect_same(rt, item.len(), count);
+    expect_same(rt, item.as_slice(), wanted.as_slice());
     out
 }
 

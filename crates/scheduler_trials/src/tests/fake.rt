@@ -217,16 +217,33 @@ fn with_one_item<R: Wait + Abort>(rt: &R, alloc: Global) -> Buffer<u8> {
     on_buffer(rt, alloc, 1, [], &[BufferStep::Appends(5)])
 }
 
-// The first answer is ready, or stands behind one that isn't.
+// The first answer is ready, or stands behind one that isn't: of eight, seven are taken, in order.
 #[test]
 fn an_acquire_goes_on_with_the_first_answer_that_is_ready(host: HostRuntime) {
     let (rt, alloc) = (&host, host.alloc());
     let answers = [Single::with(8)];
     let once = [SingleStep::Takes(8)];
     on_single(rt, alloc, with_item_out(rt, alloc), answers, &once);
-    let answers = [with_item_out(rt, alloc), Single::with(8), Single::with(9)];
-    let twice = [SingleStep::Takes(8), SingleStep::Takes(9)];
-    on_single(rt, alloc, with_item_out(rt, alloc), answers, &twice);
+    let answers = [
+        with_item_out(rt, alloc),
+        Single::with(1),
+        Single::with(2),
+        Single::with(3),
+        Single::with(4),
+        Single::with(5),
+        Single::with(6),
+        Single::with(7),
+    ];
+    let in_order = [
+        SingleStep::Takes(1),
+        SingleStep::Takes(2),
+        SingleStep::Takes(3),
+        SingleStep::Takes(4),
+        SingleStep::Takes(5),
+        SingleStep::Takes(6),
+        SingleStep::Takes(7),
+    ];
+    on_single(rt, alloc, with_item_out(rt, alloc), answers, &in_order);
 }
 
 // Nothing is in before the first release.

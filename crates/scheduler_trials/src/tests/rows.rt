@@ -14,4 +14,5 @@ mod readers_stress;
 pub mod reading;
 mod schedulers;
 mod shared_log;
+mod table;
 mod turns;

@@ -1,0 +1,72 @@
+//! The philosophers' table of the cookbook: of two that wait and can eat, who has the first seat goes on.
+ghost use Rattle.std.specs.Prelude.{◌≡◌, ◌<◌};
+
+use crate::tests::compared::{answered, expect_same};
+use crate::tests::row::run;
+use crate::tests::rows::turns::{Turns, line_up};
+use any_door::DoorKind;
+use cookbook::table::Table;
+use hoare_law::monitor::Monitor;
+use std::process::Abort;
+use std::rt::Clock;
+use std::sync::Wait;
+use test_support::running::count_waiting;
+
+// Eats at the seat, and gets up: how many waited meanwhile. Place 0 eats at once, and gets up when two others wait.
+fn eats<R: Wait + Abort, M: Monitor<Table>>(
+    rt: &R,
+    m: &M,
+    out: M::Out,
+    place: usize,
+    seat: usize,
+    turns: &Turns,
+) -> (M::Out, u64)
+    requires of { M.is_of m.now out }
+    requires seat { seat < 5 }
+    ensures of { M.is_of m.now result.0 }
+    ensures place { M.place result.0 ≡ M.place out }
+{
+    let out = Table::sit_down(m, rt, out, seat);
+    let out = if place == 0 {
+        line_up(rt, m, out, turns, 2)
+    } else {
+        out
+    };
+    let inside = m.enter(rt, out);
+    let waiting = count_waiting(m, &inside);
+    let (out, got_up) = Table::get_up(m, rt, m.leave(rt, inside), seat);
+    expect_same(rt, got_up, Ok(()));
+    (out, waiting as u64)
+}
+
+// While place 0 eats at seat 0, place 1 comes to wait for seat 1, and then place 2 for seat 0: both can eat when it
+// gets up, and one of them alone.
+fn eats_in_turn<R: Wait + Abort + Clock, M: Monitor<Table>>(
+    rt: &R,
+    m: &M,
+    out: M::Out,
+    place: usize,
+    turns: &Turns,
+) -> (M::Out, u64)
+    requires { M.is_of m.now out }
+    ensures of { M.is_of m.now result.0 }
+    ensures place { M.place result.0 ≡ M.place out }
+{
+    turns.await_turn(rt, place);
+    if place == 1 {
+        eats(rt, m, out, place, 1, turns)
+    } else {
+        eats(rt, m, out, place, 0, turns)
+    }
+}
+
+// Place 2 goes on first, though it came later: it has the first seat. Place 1 waits meanwhile.
+#[test]
+fn who_has_the_first_seat_goes_on_first(host: HostRuntime) {
+    let (rt, alloc) = (&host, host.alloc());
+    for kind in DoorKind::BOTH {
+        let turns = Turns::new();
+        let (_, answers) = run!(rt, alloc, kind, Table::new(), 3, eats_in_turn(&turns));
+        answered(rt, kind, answers.as_slice(), &[2, 0, 1]);
+    }
+}

@@ -50,9 +50,17 @@ class Monitor:
             self.inside = None
 
     def outside(self, place):
-        """The place runs on to its next enter or its end."""
+        """The place runs on to its next enter or its end. A try comes in where the monitor is free."""
         try:
-            assert self.threads[place].send(None) == ("enter",)
+            call = self.threads[place].send(None)
+            while call == ("try",):
+                if self.inside is None:
+                    self.hold(place)
+                    self.stepped()
+                    self.answers[place] = True
+                    return
+                call = self.threads[place].send(False)
+            assert call == ("enter",)
             self.asking.add(place)
         except StopIteration as end:
             self.ended.add(place)
@@ -138,6 +146,21 @@ def explore(make, patience=PATIENCE):
         if ended != "ends":
             return f"{ended}, in run {runs}"
     return f"all {runs} orders end, and end right"
+
+
+def drawn(make, seed, most):
+    """The same of so many runs at the most, whose orders are drawn from a seed."""
+    state = seed
+    for runs in range(1, most + 1):
+        order = []
+        asking, ended = run(make, order, PATIENCE)
+        while asking:
+            state = (state * 6364136223846793005 + 1442695040888963407) % 2**64
+            order.append(asking[(state >> 33) % len(asking)])
+            asking, ended = run(make, order, PATIENCE)
+        if ended != "ends":
+            return f"{ended}, in run {runs}"
+    return f"{most} orders end, and end right; the limit of runs is met"
 
 
 def right(results):
@@ -503,16 +526,64 @@ def work_queue():
     return [boss(), worker(), worker()], right
 
 
-def starving():
-    def dance(priority):
-        for _ in range(100):
-            yield ("enter",)
-            if (yield ("first", 0)) == 0:
-                yield ("pass", 0)
-            else:
-                yield ("wait", 0, priority)
+def starving(others):
+    def make():
+        def dance(priority):
+            for _ in range(100):
+                yield ("enter",)
+                if (yield ("first", 0)) == 10:
+                    yield ("signal", 0)
+                else:
+                    yield ("wait", 0, priority)
                 yield ("leave",)
-    return [dance(0), dance(0), dance(1)], right
+
+        def look():
+            yield ("enter",)
+            yield ("leave",)
+        return [dance(10), dance(10)] + [look() for _ in range(others)] + [dance(11)], right
+    return make
+
+
+def tries(always):
+    def make():
+        d = {"value": 0}
+
+        def go():
+            yield ("enter",)
+            waits = always or d["value"] == 0
+            if waits:
+                yield ("wait", 0)
+            yield ("leave",)
+            return 90 if waits else 0
+
+        def opens():
+            yield ("enter",)
+            d["value"] += 1
+            yield ("pass", 0)
+            if (yield ("try",)):
+                d["value"] += 10
+            else:
+                yield ("enter",)
+                d["value"] += 100
+            yield ("leave",)
+            return 0
+        return [go(), opens(), opens()], lambda results: d["value"] == 22 + sum(results.values())
+    return make
+
+
+def digits(threads, visits, wrong, stuck):
+    def make():
+        d = {"text": ""}
+
+        def write(digit):
+            for _ in range(visits):
+                yield ("enter",)
+                if d["text"] == stuck:
+                    yield ("wait", 0)
+                d["text"] += digit
+                yield ("leave",)
+        return [write(digit) for digit in "12345"[:threads]], lambda _: d["text"] != wrong
+    return make
 
 
 def lost():
@@ -535,6 +606,7 @@ PROGRAMS = {
     "visits-4-1": visits(4, 1),
     "permits": permits,
     "signals": signals,
+    "tries": tries(False),
     "single-2": single(2),
     "single-3": single(3),
     "single-4": single(4),
@@ -558,11 +630,17 @@ PROGRAMS = {
     "weak-barrier": weak_barrier,
     "gate": gate,
     "lost-wake": lost_wake,
-    "starving": starving,
+    "starving": starving(0),
+    "starving-6": starving(3),
     "hungry": table([3, 1, 3]),
     "late-alarm": late_alarm,
     "lost": lost,
+    "late-wait": tries(True),
+    "wrong-last": digits(4, 2, "44332211", None),
+    "stuck-last": digits(5, 1, None, "5432"),
 }
+PATIENCES = {"hungry": 16, "starving-6": 4}
+DRAWN = {"drawn": visits(3, 2), "drawn-alarm": late_alarm}
 
 
 def main():
@@ -573,13 +651,14 @@ def main():
                 name, _, rest = line.rstrip("\n").partition(": ")
                 written[name] = rest
     differs = 0
-    for name, program in PROGRAMS.items():
-        found = explore(program, 16 if name == "hungry" else PATIENCE)
+    all_found = {name: explore(program, PATIENCES.get(name, PATIENCE)) for name, program in PROGRAMS.items()}
+    all_found |= {name: drawn(program, 1, 50) for name, program in DRAWN.items()}
+    for name, found in all_found.items():
         said = written.get(name, found)
         differs += said != found
         print(f"{name}: {found}" + ("" if said == found else f" (and explorer_program: {said})"))
     if sys.argv[1:]:
-        print(f"{len(PROGRAMS)} programs, {differs} differ")
+        print(f"{len(all_found)} programs, {differs} differ")
     return differs > 0
 
 

@@ -17,6 +17,8 @@ pub struct Asked<'a> {
     pub word: Option<&'a str>,
     /// The limits.
     pub limits: Limits,
+    /// Whether the script of a bad order is printed too, where all programs are tried.
+    pub with_script: bool,
 }
 
 impl Arguments {
@@ -42,8 +44,11 @@ impl Arguments {
             Some(word) => Some(word.as_str()),
             None => None,
         };
-        let limits = self.limits;
-        Asked { word, limits }
+        Asked {
+            word,
+            limits: self.limits,
+            with_script: false,
+        }
     }
 }
 

@@ -7,6 +7,7 @@ mod asked;
 mod buffer;
 mod clock;
 mod counting;
+mod digits;
 mod draining;
 mod gate;
 mod gathering;
@@ -29,6 +30,7 @@ mod starving;
 mod supper;
 mod tally;
 mod told;
+mod trying;
 mod users;
 mod weak_barrier;
 
@@ -51,7 +53,7 @@ fn tell_tallies<R: Threads + Wait + Clock + Print + Eprint + Copy + Send + 'stat
     }
 }
 
-// Visits alone, signallers that come back, and the first monitor.
+// Visits alone, signallers that come back, tries, and the first monitor.
 fn tell_users<R: Threads + Wait + Clock + Print + Eprint + Copy + Send + 'static>(
     teller: &mut Teller<'_, R>,
 ) {
@@ -61,6 +63,7 @@ fn tell_users<R: Threads + Wait + Clock + Print + Eprint + Copy + Send + 'static
         ("visits-2-5", OfTally::Visits(2, 5)),
         ("visits-4-1", OfTally::Visits(4, 1)),
         ("signals", OfTally::Signals),
+        ("tries", OfTally::Try(false)),
     ];
     tell_tallies(teller, &tallies);
     teller.tell("permits", &users::Workers);
@@ -110,14 +113,21 @@ fn tell_bad<R: Threads + Wait + Clock + Print + Eprint + Copy + Send + 'static>(
 ) {
     let tallies = [
         ("gate", OfTally::Late),
-        ("starving", OfTally::Dance),
+        ("starving", OfTally::Dance(3)),
         ("lost", OfTally::Lost),
     ];
     teller.tell("weak-barrier", &weak_barrier::Weak);
     tell_tallies(teller, &tallies);
     teller.tell("lost-wake", &lost_wake::OneCalled);
     teller.tell("late-alarm", &clock::Clock::Sleepers);
-    tell_tallies(teller, &[("hidden", OfTally::Hidden)]);
+    let tallies = [
+        ("late-wait", OfTally::Try(true)),
+        ("wrong-last", OfTally::WrongLast),
+        ("stuck-last", OfTally::StuckLast),
+        ("hidden", OfTally::Hidden),
+        ("hidden-others", OfTally::HiddenOthers),
+    ];
+    tell_tallies(teller, &tallies);
 }
 
 // Programs of many orders.
@@ -136,7 +146,7 @@ fn tell_long<R: Threads + Wait + Clock + Print + Eprint + Copy + Send + 'static>
     tell_tallies(teller, &tallies);
 }
 
-// A philosopher waits through 16 steps at the most.
+// A philosopher waits through 16 steps at the most, and the last of six threads through 4.
 fn tell_hungry<R: Threads + Wait + Clock + Print + Eprint + Copy + Send + 'static>(
     teller: &mut Teller<'_, R>,
 ) {
@@ -145,6 +155,12 @@ fn tell_hungry<R: Threads + Wait + Clock + Print + Eprint + Copy + Send + 'stati
         ..teller.asked().limits
     };
     teller.tell_within(limits, "hungry", &supper::Supper { meals: 3 });
+    let limits = Limits {
+        patience: 4,
+        ..limits
+    };
+    let dance = Tallied::of(OfTally::Dance(6));
+    teller.tell_with_script(limits, "starving-6", &dance);
 }
 
 // Three threads of two visits, within limits of their own: a run has 6 choices and 12 steps, and there are 90.
@@ -152,7 +168,6 @@ fn tell_limits<R: Threads + Wait + Clock + Print + Eprint + Copy + Send + 'stati
     teller: &mut Teller<'_, R>,
 ) {
     let limits = teller.asked().limits;
-    let orders = Orders::Drawn(1);
     let visits = Tallied::of(OfTally::Visits(3, 2));
     teller.tell_within(Limits { runs: 89, ..limits }, "few-runs", &visits);
     teller.tell_within(
@@ -164,15 +179,20 @@ fn tell_limits<R: Threads + Wait + Clock + Print + Eprint + Copy + Send + 'stati
         &visits,
     );
     teller.tell_within(Limits { depth: 5, ..limits }, "few-choices", &visits);
-    teller.tell_within(
-        Limits {
-            runs: 50,
-            orders,
-            ..limits
-        },
-        "drawn",
-        &visits,
-    );
+}
+
+// Fifty drawn orders, of a program whose orders are all right, and of one of which some are bad, but not the first.
+fn tell_drawn<R: Threads + Wait + Clock + Print + Eprint + Copy + Send + 'static>(
+    teller: &mut Teller<'_, R>,
+) {
+    let limits = Limits {
+        runs: 50,
+        orders: Orders::Drawn(1),
+        ..teller.asked().limits
+    };
+    let visits = Tallied::of(OfTally::Visits(3, 2));
+    teller.tell_within(limits, "drawn", &visits);
+    teller.tell_within(limits, "drawn-alarm", &clock::Clock::Sleepers);
 }
 
 // All of them, in order.
@@ -187,6 +207,7 @@ fn tell_all<R: Threads + Wait + Clock + Print + Eprint + Copy + Send + 'static>(
     tell_long(teller);
     tell_hungry(teller);
     tell_limits(teller);
+    tell_drawn(teller);
 }
 
 fn main(rt: HostRuntime) -> io::Result<()> {

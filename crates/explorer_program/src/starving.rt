@@ -4,22 +4,26 @@ use crate::tally::Tally;
 use hoare_law::monitor::Monitor;
 use std::sync::Wait;
 
-// Resumes a partner of priority 0 if one waits, else waits with this priority.
+// The priority with which two threads wait for each other.
+const PARTNER: u64 = 10;
+
+// Resumes a partner if one waits, and is held up until it leaves; else waits with this priority.
 fn turn<R: Wait, M: Monitor<Tally>>(rt: &R, m: &M, out: M::Out, priority: u64) -> M::Out
     requires { M.is_of m.now out }
     ensures { M.is_of m.now result }
 {
-    let inside = m.enter(rt, out);
-    if m.first(&inside, 0) == Some(0) {
-        let (out, _resumed) = m.signal_leave(rt, inside, 0);
-        return out;
+    let mut inside = m.enter(rt, out);
+    if m.first(&inside, 0) == Some(PARTNER) {
+        let (back, _resumed) = m.signal(rt, inside, 0);
+        inside = back;
+    } else {
+        inside = m.wait(rt, inside, 0, priority);
     }
-    let inside = m.wait(rt, inside, 0, priority);
     m.leave(rt, inside)
 }
 
-/// Turns a hundred times.
-pub fn turn_on<R: Wait, M: Monitor<Tally>>(rt: &R, m: &M, out: M::Out, priority: u64) -> M::Out
+// Turns a hundred times.
+fn turn_on<R: Wait, M: Monitor<Tally>>(rt: &R, m: &M, out: M::Out, priority: u64) -> M::Out
     requires { M.is_of m.now out }
     ensures { M.is_of m.now result }
 {
@@ -28,4 +32,24 @@ pub fn turn_on<R: Wait, M: Monitor<Tally>>(rt: &R, m: &M, out: M::Out, priority:
         out = turn(rt, m, out, priority);
     }
     out
+}
+
+/// Of so many threads the first two turn as partners, and the last with a lesser urgency; the others come in once.
+pub fn dance<R: Wait, M: Monitor<Tally>>(
+    rt: &R,
+    m: &M,
+    out: M::Out,
+    number: usize,
+    threads: usize,
+) -> M::Out
+    requires { M.is_of m.now out }
+    ensures { M.is_of m.now result }
+{
+    if number < 2 {
+        return turn_on(rt, m, out, PARTNER);
+    }
+    if number.saturating_add(1) == threads {
+        return turn_on(rt, m, out, PARTNER + 1);
+    }
+    m.leave(rt, m.enter(rt, out))
 }

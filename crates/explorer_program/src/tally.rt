@@ -1,11 +1,14 @@
 //! Programs over a number of which nothing is asked: what the threads of each do stands in a file of its own.
 
+use crate::answers::sum_of;
 use crate::counting::visit;
+use crate::digits::{LAST_OF_FOUR, ONE_LEFT_OF_FIVE, write_digits};
 use crate::gate::pass_or_open;
-use crate::hidden::visit_again;
+use crate::hidden::{visit_again, visit_by_turns};
 use crate::lost::add_late;
 use crate::signals::pair_up;
-use crate::starving::turn_on;
+use crate::starving::dance;
+use crate::trying::{is_tried, try_or_ask};
 use hoare_law::monitor::Monitor;
 use hoare_law::unasked::Unasked;
 use order_explorer::{Explored, Place, Program};
@@ -25,15 +28,24 @@ pub enum OfTally {
     Signals,
     /// Places 0 and 1 pass a gate that place 2 opens.
     Late,
-    /// Places 0 and 1 dance, and place 2 waits to.
-    Dance,
+    /// Of so many, places 0 and 1 dance, the last waits to, and the others come in once.
+    Dance(usize),
     /// Two add 1 each, in two visits.
     Lost,
     /// Three come in, the first twice in each second run.
     Hidden,
+    /// Of three two come in, in each second run others.
+    HiddenOthers,
+    /// Three of which two try to come in. The third waits where nobody came before it, or always.
+    Try(bool),
+    /// Four come in twice: their last order is wrong.
+    WrongLast,
+    /// Five come in once: in their last order, the last waits.
+    StuckLast,
 }
 
-/// A program over a tally: what its threads do, and how many runs the first of them was in, which only `Hidden` counts.
+/// A program over a tally: what its threads do, and how many runs the first of them was in, which only `Hidden` and
+/// `HiddenOthers` count.
 #[derive(Drop)]
 pub struct Tallied {
     acts: OfTally,
@@ -71,19 +83,27 @@ fn acts<R: Wait, M: Monitor<Tally>>(
         OfTally::Visits(_, visits) => (visit(rt, m, out, visits), 0),
         OfTally::Signals => (pair_up(rt, m, out), 0),
         OfTally::Late => (pass_or_open(rt, m, out, number), 0),
-        OfTally::Dance => (turn_on(rt, m, out, u64::from(number == 2)), 0),
+        OfTally::Dance(threads) => (dance(rt, m, out, number, threads), 0),
         OfTally::Lost => add_late(rt, m, out),
         OfTally::Hidden => (visit_again(rt, m, out, number, &program.runs), 0),
+        OfTally::HiddenOthers => (visit_by_turns(rt, m, out, number, &program.runs), 0),
+        OfTally::Try(always) => try_or_ask(rt, m, out, number, always),
+        OfTally::WrongLast => (write_digits(rt, m, out, 2, number, None), 0),
+        OfTally::StuckLast => (
+            write_digits(rt, m, out, 1, number, Some(ONE_LEFT_OF_FIVE)),
+            0,
+        ),
     }
 }
 
 impl Program<Tally, Explored<Tally>> for Tallied {
     fn threads(&self) -> usize {
         match self.acts {
-            OfTally::Visits(threads, _) => threads,
-            OfTally::Signals => 4,
-            OfTally::Late | OfTally::Dance | OfTally::Hidden => 3,
+            OfTally::Visits(threads, _) | OfTally::Dance(threads) => threads,
             OfTally::Lost => 2,
+            OfTally::Late | OfTally::Hidden | OfTally::HiddenOthers | OfTally::Try(_) => 3,
+            OfTally::Signals | OfTally::WrongLast => 4,
+            OfTally::StuckLast => 5,
         }
     }
 
@@ -104,14 +124,17 @@ impl Program<Tally, Explored<Tally>> for Tallied {
         acts(rt, m, out, number, self)
     }
 
-    fn is_right(&self, left: &Tally, _answers: &[u64]) -> bool {
+    fn is_right(&self, left: &Tally, answers: &[u64]) -> bool {
         match self.acts {
             OfTally::Visits(threads, visits) => {
                 left.value == (threads as u64).wrapping_mul(u64::from(visits))
             }
             OfTally::Signals => left.value == 110,
-            OfTally::Late | OfTally::Dance | OfTally::Hidden => true,
+            OfTally::Late | OfTally::Dance(_) | OfTally::StuckLast => true,
+            OfTally::Hidden | OfTally::HiddenOthers => true,
             OfTally::Lost => left.value == 2,
+            OfTally::Try(_) => is_tried(left.value, sum_of(answers)),
+            OfTally::WrongLast => left.value != LAST_OF_FOUR,
         }
     }
 }

@@ -60,6 +60,16 @@ impl<'a, R: Threads + Wait + Clock + Print + Eprint + Copy + Send + 'static> Tel
         }
     }
 
+    /// The same, and prints the script of its bad order too.
+    pub fn tell_with_script<
+        D: MonitorData + Send + Drop + 'static,
+        P: Program<D, Explored<D>> + Clone + 'static,
+    >(&mut self, limits: Limits, name: &str, program: &P) {
+        self.asked.with_script = true;
+        self.tell_within(limits, name, program);
+        self.asked.with_script = false;
+    }
+
     /// Whether all was told.
     pub fn end(self) -> io::Result<()> {
         self.told
@@ -125,6 +135,7 @@ fn tell_on_both<
 >(rt: R, alloc: Global, asked: &Asked<'_>, name: &str, program: &P) -> io::Result<()> {
     let (baton, micros) = outcome_in_time(rt, alloc, asked.limits, program)?;
     tell_second(rt, alloc, asked.limits, name, baton.words.as_str(), program)?;
+    tell_script(&rt, asked, baton.script.as_str())?;
     tell_time(&rt, asked, micros)?;
     tell_again(rt, alloc, asked.limits, &baton, program)
 }
@@ -164,6 +175,14 @@ fn tell_both<R: Print>(rt: &R, name: &str, baton: &str, ticket: &str) -> io::Res
     }
     print!(rt; "{name}, by a baton: {baton}")?;
     print!(rt; "{name}, by tickets: {ticket}")
+}
+
+// Prints the script of the bad order, where that is asked for.
+fn tell_script<R: Print>(rt: &R, asked: &Asked<'_>, script: &str) -> io::Result<()> {
+    if asked.with_script {
+        return print!(rt; "{script}");
+    }
+    Ok(())
 }
 
 // Prints how long it took, where that is asked for.

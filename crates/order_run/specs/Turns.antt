@@ -1,5 +1,6 @@
 -- How the choices of a run give those of the next: as an odometer turns.
-use Rattle.std.specs.Prelude.{ℕ, List, ◌≡◌, ◌<◌, ◌≤◌, ◌+◌, length, slice_index_or, slice_set, take}
+use Rattle.std.specs.Prelude.{ℕ, List, Option, None, ◌≡◌, ◌<◌, ◌≤◌, ◌+◌, count_ones, length, slice_index_or, slice_set}
+use Rattle.std.specs.Prelude.{take}
 use Rattle.order_run.specs.declared.choices.Choice.{Choice}
 
 -- the choices from the i-th on have no place left to let in
@@ -20,3 +21,8 @@ pub record IsTurned (old new : List Choice) : Type 0 where
   pub has_left : last.taken + 1 < last.count
   pub others_last : AreLast (n + 1) old
   pub now : new ≡ take (n + 1) (slice_set old n (turned last))
+
+-- a new choice counts all that ask, and lets in the first of them where none is drawn
+pub record IsNew (asking : ℕ) (drawn : Option ℕ) (c : Choice) : Type 0 where
+  pub counts_all : c.count ≡ count_ones asking
+  pub from_first : drawn ≡ None → c.taken ≡ 0

@@ -1,6 +1,6 @@
 //! The choices of a run: which of those that want in is let in next.
-ghost use Rattle.std.specs.Prelude.{◌≡◌, None, MatchBool};
-ghost use Rattle.order_run.specs.Turns.{AreLast, IsTurned};
+ghost use Rattle.std.specs.Prelude.{◌≡◌, ◌<◌, ◌≤◌, ◌++◌, ◌∷◌, [], IfOk, None, MatchBool, length, slice_index_or};
+ghost use Rattle.order_run.specs.Turns.{AreLast, IsNew, IsTurned};
 
 use crate::schedule::{Ending, Limit};
 use std::alloc::{AllocError, Global};
@@ -99,7 +99,10 @@ impl Choices {
 
     // Which of so many is let in where nothing is given: the first, so that the first order is a fair one; or a drawn
     // one.
-    fn pick(&mut self, count: u64) -> u64 {
+    fn pick(&mut self, count: u64) -> u64
+        ensures first { self.old.drawn ≡ None → result ≡ 0 }
+        ensures all { self.new.all ≡ self.old.all }
+    {
         let Some(state) = self.drawn else {
             return 0;
         };
@@ -110,8 +113,15 @@ impl Choices {
         (state >> 33) % count.max(1)
     }
 
-    // The choice at hand: the given one, if others didn't ask when it was given, or a new one.
-    fn at_hand(&mut self, asking: u64) -> Result<Choice, Ending> {
+    // The choice at hand: the given one, if the same places asked when it was given, or a new one, which is kept.
+    fn at_hand(&mut self, asking: u64) -> Result<Choice, Ending>
+        ensures same { IfOk result (λ c. c.asking ≡ asking) }
+        ensures given { self.old.next < length self.old.all.items
+            → IfOk result (λ c. c ≡ slice_index_or self.old.all.items self.old.next c) }
+        ensures made { length self.old.all.items ≤ self.old.next → IfOk result (IsNew asking self.old.drawn) }
+        ensures kept { length self.old.all.items ≤ self.old.next
+            → IfOk result (λ c. self.new.all.items ≡ self.old.all.items ++ c ∷ []) }
+    {
         if let Some(given) = self.all.get(self.next) {
             if given.asking != asking {
                 return Err(Ending::Differs);

@@ -86,13 +86,13 @@ fn add_step(text: &mut String, step: Step) -> Result<(), AllocError> {
     }
 }
 
-// Adds a line that says where a thread stands, if it hasn't ended.
+// Adds a line that says where a thread stands that isn't inside, if it hasn't ended.
 fn add_standing(text: &mut String, place: usize, standing: Standing) -> Result<(), AllocError> {
     match standing {
         Standing::Ready => writeln!(text, "thread {place} hasn't begun"),
         Standing::Outside => writeln!(text, "thread {place} is outside"),
         Standing::Asks => writeln!(text, "thread {place} wants in"),
-        Standing::Inside => writeln!(text, "thread {place} is inside, or a signaller"),
+        Standing::Inside => writeln!(text, "thread {place} is a signaller, and held up"),
         Standing::Waits(condition, step) => {
             writeln!(
                 text,
@@ -125,7 +125,11 @@ impl Schedule {
     pub fn left(&self, alloc: Global) -> Result<String, AllocError> {
         let mut text = String::new(alloc);
         for place in 0..self.standings.len() {
-            add_standing(&mut text, place, self.standings[place])?;
+            if self.inside == Some(place) {
+                writeln!(text, "thread {place} is inside")?;
+            } else {
+                add_standing(&mut text, place, self.standings[place])?;
+            }
         }
         Ok(text)
     }

@@ -1,6 +1,7 @@
 //! What scripts are drawn as, and how they end.
 mod charts;
 mod faults;
+mod large;
 mod svgs;
 
 use crate::tests::compared::expect_same;

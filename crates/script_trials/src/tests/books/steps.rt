@@ -35,6 +35,28 @@ fn make_takes_the_most(rt: HostRuntime) -> Result<(), Fail> {
     Ok(())
 }
 
+// A book with so many places is made, whatever numbers of conditions it has.
+fn takes_places<R: Abort + AllocGlobal>(rt: &R, places: usize) {
+    for conditions in 1..=8 {
+        let hoare = made(rt, places, conditions, 0);
+        expect_same(
+            rt,
+            (hoare.places(), hoare.conditions()),
+            (places, conditions),
+        );
+        let mesa = made(rt, places, conditions, conditions);
+        expect_same(rt, (mesa.places(), mesa.conditions()), (places, conditions));
+    }
+}
+
+// Each number of places is taken with each number of conditions: an answer of `Memory` fails.
+#[test]
+fn make_takes_all_sizes(rt: HostRuntime) {
+    for places in 1..=64 {
+        takes_places(&rt, places);
+    }
+}
+
 // What a step is answered.
 type Answer = Result<Next, StepRefused>;
 

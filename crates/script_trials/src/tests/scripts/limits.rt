@@ -3,6 +3,7 @@ use super::failures::breaks;
 use super::is_told;
 use crate::tests::repeated::repeated;
 use hoare_script::ScriptFault;
+use std::panic::Expect;
 use std::process::Abort;
 
 // Runs a script that is answered nothing.
@@ -22,6 +23,26 @@ fn header_limits(rt: HostRuntime) {
     check(&rt, b"monitor 0 1", Err(ScriptFault::BadHeader(1)));
     check(&rt, b"monitor 1 9", Err(ScriptFault::BadHeader(1)));
     check(&rt, b"monitor 1 0", Err(ScriptFault::BadHeader(1)));
+}
+
+// A script of so many places, whose last one enters.
+fn enters<R: Abort + AllocGlobal>(rt: &R, places: u64, conditions: u64) {
+    let last = places.saturating_sub(1);
+    let script = format!(in rt.alloc(); "monitor {places} {conditions}\nenter {last}\n").expect(
+        rt,
+        "memory for a script",
+    );
+    let answer = format!(in rt.alloc(); "enter {last} -> {last}\n").expect(rt, "memory for a text");
+    is_told(rt, script.as_bytes(), Ok(()), answer.as_bytes());
+}
+
+// Each number of places is taken: an answer of `Memory` fails.
+#[test]
+fn header_sizes(rt: HostRuntime) {
+    for places in 1..=64 {
+        enters(&rt, places, 1);
+        enters(&rt, places, 8);
+    }
 }
 
 #[test]

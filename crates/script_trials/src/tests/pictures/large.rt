@@ -1,0 +1,85 @@
+//! Pictures of each number of places, and of 64 lanes with 254 rows. What is drawn there is worked out from the
+//! measures in the README of `script_picture`, with the shapes of the picture that was worked out by hand.
+mod chart;
+mod svg;
+
+use super::drawn_whole;
+use crate::tests::compared::expect_same;
+use script_picture::picture::Form;
+use std::alloc::AllocError;
+use std::panic::Expect;
+use std::process::Abort;
+
+// The place that signals all others.
+const SIGNALLER: u64 = 31;
+
+// The row in which a place enters, which waits then: the places before it take two rows each. 127 rows later it is
+// resumed, and leaves in the row after that.
+fn entry(place: u64) -> u64 {
+    let before = if place < SIGNALLER {
+        place
+    } else {
+        place.saturating_sub(1)
+    };
+    before.saturating_mul(2)
+}
+
+// All places but the signaller enter and wait, in rows 0 to 125.
+fn add_waits(script: &mut String) -> Result<(), AllocError> {
+    for place in 0..64u64 {
+        if place != SIGNALLER {
+            writeln!(script, "enter {place}\nwait {place} 0 100")?;
+        }
+    }
+    Ok(())
+}
+
+// The signaller, which entered in row 126, resumes each of them, which leaves at once, in rows 127 to 252.
+fn add_signals(script: &mut String) -> Result<(), AllocError> {
+    for place in 0..64u64 {
+        if place != SIGNALLER {
+            writeln!(script, "signal {SIGNALLER} 0\nleave {place}")?;
+        }
+    }
+    Ok(())
+}
+
+// The whole script. Priorities are equal, so that the waiters resume by rising places.
+fn add_script(script: &mut String) -> Result<(), AllocError> {
+    script.push_str("monitor 64 1\n")?;
+    add_waits(script)?;
+    writeln!(script, "enter {SIGNALLER}")?;
+    add_signals(script)?;
+    writeln!(script, "leave {SIGNALLER}")
+}
+
+// The script, as a text.
+fn script<R: Abort + AllocGlobal>(rt: &R) -> String {
+    let mut script = String::new(rt.alloc());
+    add_script(&mut script).expect(rt, "memory for a script");
+    script
+}
+
+// A script of a header alone is drawn as this line, as all places are idle; and as an SVG.
+fn is_drawn_idle<R: Abort + AllocGlobal>(rt: &R, places: u64, conditions: u64) {
+    let script = format!(in rt.alloc(); "monitor {places} {conditions}").expect(
+        rt,
+        "memory for a script",
+    );
+    let chart = format!(in rt.alloc(); "{script}    ({places} idle)\n").expect(
+        rt,
+        "memory for a text",
+    );
+    let text = drawn_whole(rt, script.as_bytes(), Form::Text);
+    expect_same(rt, text.as_slice(), chart.as_bytes());
+    let _ = drawn_whole(rt, script.as_bytes(), Form::Svg);
+}
+
+// Each number of places is drawn: an answer of `Memory` fails.
+#[test]
+fn each_number_of_places(rt: HostRuntime) {
+    for places in 1..=64u64 {
+        is_drawn_idle(&rt, places, 1);
+        is_drawn_idle(&rt, places, 8);
+    }
+}

@@ -1,0 +1,262 @@
+//! The SVG of the script. The longest step has 13 letters and a box of 7 letters is 68 wide, one of 8 letters 76: the
+//! first box begins at 20 + 13 * 8 + 24 = 148, each of the first ten lanes takes 68 + 44, and each further one 76 + 44.
+//! So the last box ends at 7,704, remarks begin at 7,720, and with 7 letters the picture is 7,796 wide. 254 rows of 28
+//! end at 64 + 254 * 28 = 7,176.
+use super::{SIGNALLER, entry, script};
+use crate::tests::compared::expect_same;
+use crate::tests::pictures::{drawn_whole, times};
+use script_picture::picture::Form;
+use std::alloc::AllocError;
+use std::panic::Expect;
+
+// The left side of a place's boxes.
+fn left(place: u64) -> u64 {
+    if place < 10 {
+        return place.saturating_mul(112).saturating_add(148);
+    }
+    place
+        .saturating_sub(10)
+        .saturating_mul(120)
+        .saturating_add(1_268)
+}
+
+// The width of a place's boxes.
+fn width(place: u64) -> u64 {
+    if place < 10 { 68 } else { 76 }
+}
+
+// The right side of a place's boxes.
+fn right(place: u64) -> u64 {
+    left(place).saturating_add(width(place))
+}
+
+// The middle of a place's lane.
+fn middle(place: u64) -> u64 {
+    left(place).saturating_add(width(place) / 2)
+}
+
+// The upper edge of a row.
+fn top(row: u64) -> u64 {
+    row.saturating_mul(28).saturating_add(64)
+}
+
+// A row's band, if its number is even, its step, and the answer of a step after which the monitor is free.
+fn add_row(text: &mut String, row: u64, step: &str) -> Result<(), AllocError> {
+    let top = top(row);
+    let line = top.saturating_add(18);
+    if row % 2 == 0 {
+        text.push_str("<rect class=\"band\" x=\"8\"")?;
+        writeln!(text, " y=\"{top}\" width=\"7780\" height=\"28\" rx=\"4\"/>")?;
+    }
+    writeln!(
+        text,
+        "<text class=\"step\" x=\"20\" y=\"{line}\">{step}</text>"
+    )?;
+    if !step.starts_with("wait") && step != "leave 31" {
+        return Ok(());
+    }
+    writeln!(
+        text,
+        "<text class=\"step\" x=\"7720\" y=\"{line}\">-> free</text>"
+    )
+}
+
+// All rows, of the lines of the script behind its header.
+fn add_rows(text: &mut String, script: &str) -> Result<(), AllocError> {
+    for (row, step) in script.lines().skip(1).enumerate() {
+        add_row(text, row as u64, step)?;
+    }
+    Ok(())
+}
+
+// The name of each place over its lane.
+fn add_lanes(text: &mut String) -> Result<(), AllocError> {
+    for place in 0..64u64 {
+        let middle = middle(place);
+        write!(
+            text,
+            "<text class=\"head\" x=\"{middle}\" y=\"42\">place {place}</text>"
+        )?;
+        writeln!(text, "<path class=\"lane\" d=\"M{middle} 64V7176\"/>")?;
+    }
+    Ok(())
+}
+
+// Where a box stands: in the lane of a place, beside so many rows from one on.
+#[derive(Clone, Copy)]
+struct Area {
+    place: u64,
+    row: u64,
+    rows: u64,
+}
+
+impl Area {
+    // The upper side.
+    fn top(self) -> u64 {
+        top(self.row).saturating_add(3)
+    }
+
+    // A rectangle of a class, of this width.
+    fn add(self, text: &mut String, class: &str, width: u64) -> Result<(), AllocError> {
+        let (left, top) = (left(self.place), self.top());
+        let height = self.rows.saturating_mul(28).saturating_sub(6);
+        write!(text, "<rect class=\"{class}\" x=\"{left}\" y=\"{top}\"")?;
+        writeln!(text, " width=\"{width}\" height=\"{height}\" rx=\"4\"/>")
+    }
+
+    // A box of a class, with its text.
+    fn add_box(
+        self,
+        text: &mut String,
+        class: &str,
+        shade: &str,
+        label: &str,
+    ) -> Result<(), AllocError> {
+        self.add(text, class, width(self.place))?;
+        let (middle, line) = (middle(self.place), self.top().saturating_add(15));
+        writeln!(
+            text,
+            "<text class=\"{shade}\" x=\"{middle}\" y=\"{line}\">{label}</text>"
+        )
+    }
+}
+
+// The box of a place that is inside, beside one row.
+fn add_inside(text: &mut String, place: u64, row: u64) -> Result<(), AllocError> {
+    let area = Area {
+        place,
+        row,
+        rows: 1,
+    };
+    area.add_box(text, "inside", "light", "inside")
+}
+
+// The boxes of a place that waits: it is inside, waits beside 126 rows, and is inside again.
+fn add_waiter(text: &mut String, place: u64) -> Result<(), AllocError> {
+    let entry = entry(place);
+    add_inside(text, place, entry)?;
+    let waits = Area {
+        place,
+        row: entry.saturating_add(1),
+        rows: 126,
+    };
+    waits.add_box(text, "waits", "dark", "c0 p100")?;
+    add_inside(text, place, entry.saturating_add(127))
+}
+
+// The box of the signaller beside the row of a signal.
+fn add_signalling(text: &mut String, row: u64) -> Result<(), AllocError> {
+    let area = Area {
+        place: SIGNALLER,
+        row,
+        rows: 1,
+    };
+    area.add(text, "blank", 76)?;
+    area.add(text, "half", 38)?;
+    area.add_box(text, "signals", "dark", "signals")
+}
+
+// The boxes of the signaller: it is inside from row 126 on, and signals in each second row.
+fn add_signaller(text: &mut String) -> Result<(), AllocError> {
+    add_inside(text, SIGNALLER, 126)?;
+    for signal in 0..63u64 {
+        let row = signal.saturating_mul(2).saturating_add(127);
+        add_signalling(text, row)?;
+        add_inside(text, SIGNALLER, row.saturating_add(1))?;
+    }
+    Ok(())
+}
+
+// The boxes of all places.
+fn add_boxes(text: &mut String) -> Result<(), AllocError> {
+    for place in 0..64u64 {
+        if place == SIGNALLER {
+            add_signaller(text)?;
+        } else {
+            add_waiter(text, place)?;
+        }
+    }
+    Ok(())
+}
+
+// An arrow along the middle of a row, over its white edge: its head is 8 long.
+fn add_arrow(text: &mut String, class: &str, y: u64, from: u64, to: u64) -> Result<(), AllocError> {
+    let (begin, neck, back) = if from < to {
+        (from.saturating_add(4), to.saturating_sub(8), "-9")
+    } else {
+        (from.saturating_sub(4), to.saturating_add(8), "9")
+    };
+    write!(text, "<path class=\"edge\" d=\"M{begin} {y}H{neck}\"/>")?;
+    write!(text, "<path class=\"{class}\" d=\"M{from} {y}H{neck}\"/>")?;
+    writeln!(text, "<path d=\"M{to} {y}l{back}-5v10z\"/>")
+}
+
+// The signal that resumes a place, between the sides of two boxes, and the return from where it left.
+fn add_hand_overs(text: &mut String, place: u64) -> Result<(), AllocError> {
+    let (side, facing) = if place < SIGNALLER {
+        (left(SIGNALLER), right(place))
+    } else {
+        (right(SIGNALLER), left(place))
+    };
+    let y = top(entry(place).saturating_add(127)).saturating_add(14);
+    add_arrow(text, "arrow", y, side, facing)?;
+    let (middle, below) = (middle(place), y.saturating_add(28));
+    writeln!(text, "<circle cx=\"{middle}\" cy=\"{below}\" r=\"4\"/>")?;
+    add_arrow(text, "arrow back", below, middle, side)
+}
+
+// The arrows of all rows.
+fn add_arrows(text: &mut String) -> Result<(), AllocError> {
+    for place in 0..64u64 {
+        if place != SIGNALLER {
+            add_hand_overs(text, place)?;
+        }
+    }
+    Ok(())
+}
+
+// All that is drawn of steps, lanes, boxes and hand-overs, in its order.
+fn add_all(text: &mut String, script: &str) -> Result<(), AllocError> {
+    add_rows(text, script)?;
+    add_lanes(text)?;
+    add_boxes(text)?;
+    add_arrows(text)
+}
+
+// What stands before the first band, and what stands from there on.
+fn cut(picture: &[u8]) -> (&[u8], &[u8]) {
+    for at in 0..picture.len() {
+        if picture[at..].starts_with(b"<rect class=\"band\"") {
+            return (&picture[..at], &picture[at..]);
+        }
+    }
+    (picture, b"")
+}
+
+// How often each shape stands before all of these, and behind them, in the legend. The page and the header are before
+// them. The legend has three boxes, of which the half-filled one is three rectangles, two arrows, and a text in each
+// box and beside each of the five.
+const OTHERS: &[(&str, usize, usize)] = &[
+    ("<rect", 1, 5),
+    ("<text", 1, 8),
+    ("<path", 0, 6),
+    ("<circle", 0, 0),
+];
+
+#[test]
+fn sixty_four_lanes_as_svg(rt: HostRuntime) {
+    let script = script(&rt);
+    let mut shapes = String::new(rt.alloc());
+    add_all(&mut shapes, script.as_str()).expect(&rt, "memory for a text");
+    let picture = drawn_whole(&rt, script.as_bytes(), Form::Svg);
+    let (head, body) = cut(picture.as_slice());
+    let legend = body.strip_prefix(shapes.as_bytes());
+    expect_same(&rt, legend.is_some(), true);
+    let legend = legend.unwrap_or(b"");
+    let size = b" width=\"7796\" height=\"7280\" ";
+    expect_same(&rt, times(head, size), 1);
+    for (part, before, behind) in OTHERS {
+        let found = (times(head, part.as_bytes()), times(legend, part.as_bytes()));
+        expect_same(&rt, (*part, found), (*part, (*before, *behind)));
+    }
+}

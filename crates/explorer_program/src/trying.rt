@@ -4,10 +4,10 @@
 //! through if it waits, and comes in once more: by a try, or by asking where the try fails. A try is no choice. It
 //! fails only behind a signal that resumed place 0, which has the monitor then: at most one does.
 //!
-//! The orders, counted by hand: where place 0 comes in first, it waits. Either of the two lets it through, tries in
-//! vain, and asks; so both want in, and either may come first: 2 times 2 orders. Where one of the two comes in first, in
-//! 2 ways, it comes in again at once, by its try, and ends; so two want in, the other one and place 0, and either may
-//! come first: 2 times 2 orders. These are 8.
+//! The orders, counted by hand: if place 0 enters first, it waits. Either of the two others lets it through, tries in
+//! vain, and asks; so both want in, and either may enter first: 2 times 2 orders. If one of the two enters first, in 2
+//! ways, it enters again at once, by its try, and ends; so place 0 and the other one want in, and either may enter
+//! first: 2 times 2 orders. These are 8.
 //!
 //! Where place 0 waits even behind both, nobody lets it through. Place 0 comes in first in the first 4 runs; the fifth
 //! order is 1, 2, 0.

@@ -3,7 +3,6 @@ use Rattle.std.specs.Prelude.{ℕ, suc, ◌<◌, ◌≤◌, nat_lt, nat_le, ◌&
 use Rattle.std.specs.Prelude.{Option, Some, None}
 use Rattle.disk_jobs.specs.declared.jobs.BadJobs.{BadJobs}
 use Rattle.disk_jobs.specs.declared.jobs.BadJobs.TheVariants.{BadWorkers, TooMany, OffDisk}
-use Rattle.disk_jobs.specs.declared.jobs.TheConstants.{MOST_JOBS, MOST_WORKERS}
 
 -- the last cylinder of the disk, the number of workers, and the cylinder of each job
 pub record JobList : Type 0 where
@@ -19,8 +18,8 @@ with_job j c = job_list j.cylmax j.workers (j.cylinders ++ c ∷ [])
 
 pub record IsInLimits (j : JobList) : Type 0 where
   pub some : 0 < j.workers
-  pub few : j.workers ≤ MOST_WORKERS
-  pub room : length j.cylinders ≤ MOST_JOBS
+  pub few : j.workers ≤ 16
+  pub room : length j.cylinders ≤ 4096
 
 -- the first job from number i on whose cylinder is past the last one
 abbrev pub off_disk : ℕ → ℕ → List ℕ → Option ℕ
@@ -34,6 +33,6 @@ refused_at (Some i) = Some (OffDisk i)
 -- why there can't be such jobs, the first reason that applies
 unfoldable pub refusal_of : JobList → Option BadJobs
 refusal_of j =
-    if not (nat_lt 0 j.workers && nat_le j.workers MOST_WORKERS) then Some BadWorkers
-    else (if nat_lt MOST_JOBS (length j.cylinders) then Some TooMany
+    if not (nat_lt 0 j.workers && nat_le j.workers 16) then Some BadWorkers
+    else (if nat_lt 4096 (length j.cylinders) then Some TooMany
     else refused_at (off_disk j.cylmax 0 j.cylinders))

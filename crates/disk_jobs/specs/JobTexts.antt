@@ -2,12 +2,10 @@
 use Rattle.std.specs.Prelude.{ℕ, ◌+◌, nat_lt, nat_le, ◌&&◌, if◌then◌else◌, List, [], ◌∷◌, length, Option, Some, None}
 use Rattle.std.specs.Prelude.{Result, Ok, Err, codes}
 use Rattle.std.specs.List.{slice_split}
-use Rattle.line_text.specs.declared.line.TheConstants.{LONGEST_LINE}
 use Rattle.line_text.specs.Forms.{one_number, two_numbers}
 use Rattle.line_text.specs.Line.{is_newline}
 use Rattle.disk_jobs.specs.declared.fault.ServiceFault.{ServiceFault}
 use Rattle.disk_jobs.specs.declared.fault.ServiceFault.TheVariants.{BadLine, NoHeader, ReadFault}
-use Rattle.disk_jobs.specs.declared.jobs.TheConstants.{MOST_JOBS, MOST_WORKERS}
 use Rattle.disk_jobs.specs.JobLists.{JobList, job_list, with_job}
 
 -- the jobs so far, or a fault
@@ -18,14 +16,14 @@ Outcome = Result JobList ServiceFault
 abbrev pub header_line : ℕ → Option (ℕ × ℕ) → Outcome
 header_line i None = Err (BadLine i)
 header_line i (Some n) =
-    if nat_le n.0 65535 && (nat_lt 0 n.1 && nat_le n.1 MOST_WORKERS) then Ok (job_list n.0 n.1 [])
+    if nat_le n.0 65535 && (nat_lt 0 n.1 && nat_le n.1 16) then Ok (job_list n.0 n.1 [])
     else Err (BadLine i)
 
 -- line i, which is to be `read C`
 abbrev pub job_line : JobList → ℕ → Option ℕ → Outcome
 job_line j i None = Err (BadLine i)
 job_line j i (Some c) =
-    if nat_le c j.cylmax && nat_lt (length j.cylinders) MOST_JOBS then Ok (with_job j c)
+    if nat_le c j.cylmax && nat_lt (length j.cylinders) 4096 then Ok (with_job j c)
     else Err (BadLine i)
 
 -- line i: the header where there are no jobs yet, else a job
@@ -55,9 +53,9 @@ at_cut s i last = Err ReadFault
 abbrev pub told_lines : Ending → Option JobList → ℕ → List (List ℕ) → Outcome
 told_lines e s i [] = Err NoHeader
 told_lines e s i (last ∷ []) =
-    if nat_lt LONGEST_LINE (length last) then Err (BadLine i) else e s i last
+    if nat_lt 256 (length last) then Err (BadLine i) else e s i last
 told_lines e s i (line ∷ next ∷ lines) =
-    if nat_lt LONGEST_LINE (length line) then Err (BadLine i)
+    if nat_lt 256 (length line) then Err (BadLine i)
     else then_on (one_line s i line) (λ j. told_lines e (Some j) (i + 1) (next ∷ lines))
 
 -- from line i on

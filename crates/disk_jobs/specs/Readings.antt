@@ -1,7 +1,6 @@
 -- What reading a job file answers, and what it leaves of the text.
 use Rattle.std.specs.Prelude.{ℕ, ◌≡◌, ◌<◌, ◌⊎◌, ◌+◌, ◌-◌, List, [], ◌++◌, length, drop, Option, Some, None, Result, Ok}
 use Rattle.std.specs.Prelude.{Err}
-use Rattle.line_text.specs.declared.line.TheConstants.{LONGEST_LINE}
 use Rattle.line_text.specs.Line.{after_lines}
 use Rattle.disk_jobs.specs.declared.fault.ServiceFault.{ServiceFault}
 use Rattle.disk_jobs.specs.declared.fault.ServiceFault.TheVariants as faults
@@ -22,7 +21,7 @@ EndsInJob text left =
 -- line i was read and its end, or as much of it as there may be and one byte more
 abbrev pub BehindLine : ℕ → List ℕ → List ℕ → Type 0
 BehindLine i text left =
-    (left ≡ after_lines i text) ⊎ (left ≡ drop (LONGEST_LINE + 1) (after_lines (i - 1) text))
+    (left ≡ after_lines i text) ⊎ (left ≡ drop (257) (after_lines (i - 1) text))
 
 -- what is answered of a text, of which left is left
 abbrev pub Gives : List ℕ → List ℕ → Outcome → Type 0

@@ -61,7 +61,7 @@ fn is_in_order(cylinders: &[u16], lines: &[Done]) -> bool
 
 // The sum of the blocks.
 fn sum_of(lines: &[Done]) -> u64
-    requires { length lines.now ≤ MOST_JOBS }
+    requires { length lines.now ≤ 4096 }
     ensures { result ≡ sum_of lines.now }
 {
     let mut sum = 0u64;

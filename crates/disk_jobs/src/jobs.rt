@@ -115,7 +115,7 @@ impl Jobs {
     pub fn workers(&self) -> u32
         ensures value { result ≡ self.now.workers }
         ensures some { 0 < result }
-        ensures limit { result ≤ MOST_WORKERS }
+        ensures limit { result ≤ 16 }
     {
         self.workers
     }
@@ -123,7 +123,7 @@ impl Jobs {
     /// How many jobs there are: at most 4,096.
     pub fn len(&self) -> usize
         ensures value { result ≡ length self.now.cylinders }
-        ensures limit { result ≤ MOST_JOBS }
+        ensures limit { result ≤ 4096 }
     {
         self.cylinders.len()
     }
@@ -131,7 +131,7 @@ impl Jobs {
     // No jobs yet.
     pub(crate) fn none(alloc: Global, cylmax: u16, workers: u32) -> Jobs
         requires some { 0 < workers }
-        requires limit { workers ≤ MOST_WORKERS }
+        requires limit { workers ≤ 16 }
         ensures { result ≡ job_list cylmax workers [] }
     {
         Jobs {
@@ -143,7 +143,7 @@ impl Jobs {
 
     // One job more, if memory allows.
     pub(crate) fn push(&mut self, cylinder: u16) -> Result<(), AllocError>
-        requires room { length self.old.cylinders < MOST_JOBS }
+        requires room { length self.old.cylinders < 4096 }
         requires on_disk { cylinder ≤ self.old.cylmax }
         ensures { IfOk result (λ _. self.new ≡ with_job self.old cylinder) }
     {

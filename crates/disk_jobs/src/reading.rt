@@ -42,7 +42,7 @@ pub fn read_jobs_watched<R: Read>(
 ) -> Result<Jobs, ServiceFault>
     ensures known { ReadsFrom R.remaining reader.old reader.new (λ text left.
         Gives text left result) }
-    ensures counts { HasRead reader.old reader.new (MOST_LINES * 257) (MOST_LINES * 257) }
+    ensures counts { HasRead reader.old reader.new (4098 * 257) (4098 * 257) }
     ensures read_fault { has_read_failed reader.new
         ≡ (has_read_failed reader.old || is_read_fault result) }
     ensures same_reader { reader_name reader.new ≡ reader_name reader.old }
@@ -79,7 +79,7 @@ fn read_lines<R: Read>(
     ensures told { ReadsFrom R.remaining reader.old reader.new (λ text left.
         GivesTo text left jobs.new result) }
     ensures some { OnOk result (jobs.new ≢ None) }
-    ensures counts { HasRead reader.old reader.new (MOST_LINES * 257) (MOST_LINES * 257) }
+    ensures counts { HasRead reader.old reader.new (4098 * 257) (4098 * 257) }
     ensures read_fault { has_read_failed reader.new
         ≡ (has_read_failed reader.old || is_read_fault result) }
     ensures same_reader { reader_name reader.new ≡ reader_name reader.old }

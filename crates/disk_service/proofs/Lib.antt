@@ -1,2 +1,6 @@
 pub mod Seats
+pub mod Making
+pub mod EachJob
 pub mod Sleeping
+pub mod Borrowing
+pub mod Handing

@@ -2,4 +2,7 @@ pub mod Doors
 pub mod Desks
 pub mod Runs
 pub mod Made
+pub mod EachJob
 pub mod Sleeps
+pub mod Borrows
+pub mod Handing

@@ -1,8 +1,9 @@
 -- How often a worker has asked the alarm clock to be woken, beside how many jobs it has done.
-use Rattle.std.specs.Prelude.{ℕ, ◌+◌, ◌≤◌, ◌≡◌, Option, Some, None, Result, Ok, Err}
+use Rattle.std.specs.Prelude.{ℕ, ◌+◌, ◌≡◌, Result, Ok, Err}
 use Rattle.hoare_law.specs.declared.event.History.{History}
 use Rattle.timed_schedulers.specs.declared.alarm.TooFar.{TooFar}
 use Rattle.timed_schedulers.specs.AlarmTraces.{Wakes}
+use Rattle.disk_service.specs.EachJob.{ForEach}
 
 -- once, where it was woken
 abbrev pub woken : Result ℕ TooFar → ℕ
@@ -16,12 +17,5 @@ pub data Sleeps (k : ℕ) (f : History ℕ) : ℕ → History ℕ → Type 0 whe
       → Sleeps k f m h
 
 -- place k, whose front was f and is h, has slept for a tick at least once for each job that came to those done before
-pub record SleepsForEach (k : ℕ) (f h : History ℕ) (before after : ℕ) : Type 0 where
-  pub times : ℕ
-  pub sleeps : Sleeps k f times h
-  pub enough : after ≤ before + times
-
--- how many jobs are done by one that may have been done
-abbrev pub jobs_in : {T : Type 0} → Option T → ℕ
-jobs_in (Some done) = 1
-jobs_in None = 0
+abbrev pub SleepsForEach : ℕ → History ℕ → History ℕ → ℕ → ℕ → Type 0
+SleepsForEach k f h before after = ForEach (Sleeps k) f h before after

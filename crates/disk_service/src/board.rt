@@ -22,6 +22,7 @@ pub(crate) fn write<R: Wait>(
     ensures of { IsSeat doors.now result.0 }
     ensures number { result.0.number ≡ seat.number }
     ensures clock { result.0.clock ≡ seat.clock }
+    ensures pool { result.0.pool ≡ seat.pool }
 {
     let mut seat = seat;
     let (place, written) = write_on(&doors.board, rt, seat.board, more, last);

@@ -1,6 +1,8 @@
 //! What the caller's thread does while others run.
-ghost use Rattle.std.specs.Prelude.{◌≡◌};
+ghost use Rattle.std.specs.Prelude.{◌≡◌, length};
+ghost use Rattle.plain_schedulers.specs.BufferTraces.{Appends};
 ghost use Rattle.disk_service.specs.Doors.{IsSeat};
+ghost use Rattle.disk_service.specs.Handing.{HandsOut, first_jobs, stops, whole};
 
 use crate::board::write;
 use crate::data::Item;
@@ -15,6 +17,7 @@ pub(crate) fn hand_out<R: Wait>(rt: &R, doors: &Doors, jobs: &Jobs, seat: Seat) 
     requires { IsSeat doors.now seat }
     ensures of { IsSeat doors.now result }
     ensures number { result.number ≡ seat.number }
+    ensures handed { HandsOut seat.number seat.items.front (whole jobs.now) result.items.front }
 {
     let seat = hand_on_jobs(rt, doors, jobs, seat);
     stop_workers(rt, doors, seat, jobs.workers())
@@ -25,6 +28,8 @@ fn hand_on_jobs<R: Wait>(rt: &R, doors: &Doors, jobs: &Jobs, seat: Seat) -> Seat
     requires { IsSeat doors.now seat }
     ensures of { IsSeat doors.now result }
     ensures number { result.number ≡ seat.number }
+    ensures handed { HandsOut seat.number seat.items.front
+        (first_jobs (length jobs.now.cylinders)) result.items.front }
 {
     let mut seat = seat;
     for job in 0..jobs.len() {
@@ -38,6 +43,7 @@ pub(crate) fn stop_workers<R: Wait>(rt: &R, doors: &Doors, seat: Seat, workers: 
     requires { IsSeat doors.now seat }
     ensures of { IsSeat doors.now result }
     ensures number { result.number ≡ seat.number }
+    ensures handed { HandsOut seat.number seat.items.front (stops workers) result.items.front }
 {
     let mut seat = seat;
     for _ in 0..workers {
@@ -51,6 +57,7 @@ fn append<R: Wait>(rt: &R, doors: &Doors, seat: Seat, item: Item) -> Seat
     requires { IsSeat doors.now seat }
     ensures of { IsSeat doors.now result }
     ensures number { result.number ≡ seat.number }
+    ensures appended { Appends seat.number item seat.items.front result.items.front }
 {
     let mut seat = seat;
     seat.items = Buffer::append(&doors.items, rt, seat.items, item);

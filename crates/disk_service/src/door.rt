@@ -4,7 +4,7 @@ ghost use Rattle.hoare_law.specs.Priorities.{nobody};
 ghost use Rattle.hoare_law.specs.Sizes.{kinds_of};
 ghost use Rattle.any_door.specs.Doors.{id_of, kind_behind};
 ghost use Rattle.disk_service.specs.Doors.{AreFirst, terms};
-ghost use Rattle.disk_service.specs.Made.{door_kind};
+ghost use Rattle.disk_service.specs.Made.{AreNew, door_kind};
 
 use any_door::{AnyDoor, DoorKind};
 use disk_jobs::fault::ServiceFault;
@@ -38,6 +38,7 @@ pub(crate) fn opened<D: MonitorData + Send + Drop>(
     ensures size { IfOk result (λ r. (id_of r.0).places ≡ places) }
     ensures places { IfOk result (λ r. AreFirst (terms D.rest D.ready (kinds_of D.CONDITIONS D.MESA))
         (id_of r.0) places r.1.items) }
+    ensures opening { IfOk result (λ r. AreNew state places r.1.items) }
     ensures fault { IfErr result (λ f. f ≡ ServiceFault.Memory) }
 {
     match door_kind(kind).make(alloc, state, places) {

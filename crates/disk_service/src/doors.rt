@@ -1,6 +1,7 @@
 //! The six doors of the service.
 ghost use Rattle.std.specs.Prelude.{◌≡◌, ◌+◌, ◌≤◌, IfOk, IfErr};
-ghost use Rattle.disk_service.specs.Made.{AreOf, IsMade};
+ghost use Rattle.disk_service.specs.Made.{AreOf, AreOpened, IsMade, blank_board, free_buffers, idle_disk, no_items};
+ghost use Rattle.disk_service.specs.Made.{no_totals, start_time};
 ghost use Rattle.disk_service.specs.Doors.{AreSized, AreThere, board_terms, clock_terms, head_terms, items_terms};
 ghost use Rattle.disk_service.specs.Doors.{pool_terms, totals_terms};
 
@@ -50,6 +51,7 @@ impl Doors {
         ensures kind { IfOk result (λ r. AreOf kind r.0) }
         ensures size { IfOk result (λ r. AreSized r.0 count) }
         ensures places { IfOk result (λ r. AreThere r.0 count r.1) }
+        ensures opening { IfOk result (λ r. AreOpened jobs.now count r.1) }
         ensures fault { IfErr result (λ f. f ≡ ServiceFault.Memory) }
     {
         let (items, clock, pool) = first_doors(alloc, kind, jobs, count)?;
@@ -106,9 +108,10 @@ fn first_doors(
     jobs: &Jobs,
     count: usize,
 ) -> Result<(Made<Buffer<Item>>, Made<Alarm>, Made<Pool>), ServiceFault>
-    ensures items { IfOk result (λ r. IsMade items_terms kind count r.0.0 r.0.1.items) }
-    ensures clock { IfOk result (λ r. IsMade clock_terms kind count r.1.0 r.1.1.items) }
-    ensures pool { IfOk result (λ r. IsMade pool_terms kind count r.2.0 r.2.1.items) }
+    ensures items { IfOk result (λ r. IsMade items_terms no_items kind count r.0.0 r.0.1.items) }
+    ensures clock { IfOk result (λ r. IsMade clock_terms start_time kind count r.1.0 r.1.1.items) }
+    ensures pool { IfOk result (λ r. IsMade pool_terms (free_buffers jobs.now.workers) kind count
+        r.2.0 r.2.1.items) }
     ensures fault { IfErr result (λ f. f ≡ ServiceFault.Memory) }
 {
     let items = items_door(alloc, kind, count)?;
@@ -119,7 +122,7 @@ fn first_doors(
 
 // The door of the jobs that wait for a worker, and its places.
 fn items_door(alloc: Global, kind: Kind, count: usize) -> Result<Made<Buffer<Item>>, ServiceFault>
-    ensures made { IfOk result (λ r. IsMade items_terms kind count r.0 r.1.items) }
+    ensures made { IfOk result (λ r. IsMade items_terms no_items kind count r.0 r.1.items) }
     ensures fault { IfErr result (λ f. f ≡ ServiceFault.Memory) }
 {
     match Buffer::make(alloc, CELLS) {
@@ -135,7 +138,8 @@ fn pool_door(
     jobs: &Jobs,
     count: usize,
 ) -> Result<Made<Pool>, ServiceFault>
-    ensures made { IfOk result (λ r. IsMade pool_terms kind count r.0 r.1.items) }
+    ensures made { IfOk result (λ r. IsMade pool_terms (free_buffers jobs.now.workers) kind count
+        r.0 r.1.items) }
     ensures fault { IfErr result (λ f. f ≡ ServiceFault.Memory) }
 {
     let workers = jobs.workers();
@@ -159,9 +163,10 @@ fn other_doors(
     ),
     ServiceFault,
 >
-    ensures head { IfOk result (λ r. IsMade head_terms kind count r.0.0 r.0.1.items) }
-    ensures totals { IfOk result (λ r. IsMade totals_terms kind count r.1.0 r.1.1.items) }
-    ensures board { IfOk result (λ r. IsMade board_terms kind count r.2.0 r.2.1.items) }
+    ensures head { IfOk result (λ r. IsMade head_terms (idle_disk cylmax) kind count r.0.0
+        r.0.1.items) }
+    ensures totals { IfOk result (λ r. IsMade totals_terms no_totals kind count r.1.0 r.1.1.items) }
+    ensures board { IfOk result (λ r. IsMade board_terms blank_board kind count r.2.0 r.2.1.items) }
     ensures fault { IfErr result (λ f. f ≡ ServiceFault.Memory) }
 {
     let disk = Head::with(Drive, cylmax);

@@ -12,6 +12,8 @@ mod places;
 pub mod running;
 mod seat;
 pub mod serving;
+#[cfg(test)]
+mod tests;
 mod threads;
 mod worker;
 

@@ -48,7 +48,7 @@ pub fn run_watched<T: Threads + Wait + Sync, R: Read, W: Write>(
     ensures served { ReadsFrom R.remaining reader.old reader.new (λ text left.
         Serves text left (W.contents (writer_inside writer.old))
         (W.contents (writer_inside writer.new)) result) }
-    ensures counts { HasRead reader.old reader.new (MOST_LINES * 257) (MOST_LINES * 257) }
+    ensures counts { HasRead reader.old reader.new (4098 * 257) (4098 * 257) }
     ensures read_fault { has_read_failed reader.new
         ≡ (has_read_failed reader.old || is_read_fault result) }
     ensures write_fault { has_write_failed writer.new

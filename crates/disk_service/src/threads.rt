@@ -1,7 +1,8 @@
 //! The threads of the service: a clock, the workers, and the caller's own.
-ghost use Rattle.std.specs.Prelude.{◌≡◌, ◌+◌, ◌≤◌, IfOk, IfErr, IfSome};
+ghost use Rattle.std.specs.Prelude.{◌≡◌, ◌+◌, ◌≤◌, length, IfOk, IfErr, IfSome};
 ghost use Rattle.disk_service.specs.Doors.{AreThere, IsSeat};
 ghost use Rattle.disk_service.specs.Desks.{IsReady, IsStaffed};
+ghost use Rattle.disk_service.specs.Handing.{HandsBy, StartsBy};
 ghost use Rattle.disk_jobs.specs.Faults.{IsOfService};
 ghost use Rattle.disk_service.specs.declared.doors.Doors.{Doors};
 
@@ -49,6 +50,7 @@ impl Desk {
     fn take_back(&mut self, seat: Seat, kept: Vec<Done>) -> Result<(), ServiceFault>
         ensures places { IfOk result (λ _. (d : Doors) → AreThere d seat.number self.old.places
             → IsSeat d seat → AreThere d (seat.number + 1) self.new.places) }
+        ensures rooms { self.new.rooms ≡ self.old.rooms }
         ensures fault { IfErr result (λ f. f ≡ ServiceFault.Memory) }
     {
         let added = add_results(&mut self.results, kept);
@@ -135,6 +137,7 @@ fn with_clock<'s, 'e, R: Threads + Wait + Sync, G: Gate + Sync>(
     requires { IsReady doors.now jobs.now.workers desk.old }
     ensures places { IfOk result (λ _. AreThere doors.now (jobs.now.workers + 2) desk.new.places) }
     ensures fault { IfErr result IsOfService }
+    ensures started { StartsBy (length desk.new.rooms.items) result }
 {
     let workers = jobs.workers();
     let mine = desk.places.take_seat(workers + 1);
@@ -208,6 +211,8 @@ fn with_workers<'s, 'e, R: Threads + Wait + Sync, G: Gate + Sync>(
     ensures number { result.0.number ≡ mine.number }
     ensures places { IfOk result.1 (λ _. AreThere doors.now left desk.new.places) }
     ensures fault { IfErr result.1 IsOfService }
+    ensures handed { HandsBy jobs.now (length desk.new.rooms.items) mine.number mine.items.front
+        result.0.items.front result.1 }
 {
     if left == 0 {
         return (hand_out(rt, doors, jobs, mine), Ok(()));

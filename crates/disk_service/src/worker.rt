@@ -1,7 +1,9 @@
 //! What a worker does.
 ghost use Rattle.std.specs.Prelude.{◌≡◌, ◌+◌, ◌≤◌, vec_len};
 ghost use Rattle.disk_service.specs.Doors.{IsSeat};
-ghost use Rattle.disk_service.specs.Sleeps.{SleepsForEach, jobs_in};
+ghost use Rattle.disk_service.specs.Borrows.{BorrowsForEach};
+ghost use Rattle.disk_service.specs.EachJob.{jobs_in};
+ghost use Rattle.disk_service.specs.Sleeps.{SleepsForEach};
 
 use crate::board::write;
 use crate::data::{Drive, Item, Totals};
@@ -20,7 +22,7 @@ use timed_schedulers::pool::Pool;
 
 /// Does jobs until it is told to stop, and keeps what is done, for which there is room. The seat comes back. A refusal
 /// skips what depends on it: then that job isn't among those that are done. For each that is, the worker has slept for
-/// a tick.
+/// a tick, and has taken a buffer from the pool and given it back.
 pub(crate) fn work<R: Wait, G: Gate>(
     rt: &R,
     gate: &G,
@@ -33,6 +35,8 @@ pub(crate) fn work<R: Wait, G: Gate>(
     ensures of { IsSeat doors.now result.0 }
     ensures number { result.0.number ≡ seat.number }
     ensures sleeps { SleepsForEach seat.number seat.clock.front result.0.clock.front
+        (vec_len room) (vec_len result.1) }
+    ensures borrows { BorrowsForEach seat.number seat.number seat.pool.front result.0.pool.front
         (vec_len room) (vec_len result.1) }
 {
     let mut seat = seat;
@@ -76,6 +80,8 @@ fn do_job<R: Wait, G: Gate>(
     ensures number { result.number ≡ seat.number }
     ensures sleeps { SleepsForEach seat.number seat.clock.front result.clock.front
         (vec_len kept.old) (vec_len kept.new) }
+    ensures borrows { BorrowsForEach seat.number seat.number seat.pool.front result.pool.front
+        (vec_len kept.old) (vec_len kept.new) }
 {
     gate.begin(job as usize);
     let seat = do_listed_job(rt, jobs, doors, seat, job, kept);
@@ -96,6 +102,8 @@ fn do_listed_job<R: Wait>(
     ensures of { IsSeat doors.now result }
     ensures number { result.number ≡ seat.number }
     ensures sleeps { SleepsForEach seat.number seat.clock.front result.clock.front
+        (vec_len kept.old) (vec_len kept.new) }
+    ensures borrows { BorrowsForEach seat.number seat.number seat.pool.front result.pool.front
         (vec_len kept.old) (vec_len kept.new) }
 {
     let Some(cylinder) = jobs.cylinders().get(job as usize) else {
@@ -128,6 +136,8 @@ fn serve_job<R: Wait>(
     ensures number { result.0.number ≡ seat.number }
     ensures sleeps { SleepsForEach seat.number seat.clock.front result.0.clock.front
         0 (jobs_in result.1) }
+    ensures borrows { BorrowsForEach seat.number seat.number seat.pool.front result.0.pool.front
+        0 (jobs_in result.1) }
 {
     let (seat, read) = read_into_buffer(rt, doors, seat, job, cylinder);
     let Some(done) = read else {
@@ -156,6 +166,8 @@ fn read_into_buffer<R: Wait>(
     ensures of { IsSeat doors.now result.0 }
     ensures number { result.0.number ≡ seat.number }
     ensures sleeps { SleepsForEach seat.number seat.clock.front result.0.clock.front
+        0 (jobs_in result.1) }
+    ensures borrows { BorrowsForEach seat.number seat.number seat.pool.front result.0.pool.front
         0 (jobs_in result.1) }
 {
     let mut seat = seat;
@@ -187,6 +199,8 @@ fn use_buffer<R: Wait, P: Monitor<Pool>, H: Monitor<Head<Drive>>, C: Monitor<Ala
     ensures head_place { H.place result.0.1 ≡ H.place places.1 }
     ensures clock_place { C.place result.0.2 ≡ C.place places.2 }
     ensures sleeps { SleepsForEach (C.place places.2) (C.front places.2) (C.front result.0.2)
+        0 (jobs_in result.1) }
+    ensures borrows { BorrowsForEach (P.place places.0) stream (P.front places.0) (P.front result.0.0)
         0 (jobs_in result.1) }
 {
     let (at_pool, at_head, at_clock) = places;
@@ -243,6 +257,7 @@ fn add_to_totals<R: Wait>(rt: &R, doors: &Doors, seat: Seat, done: Done) -> (Sea
     ensures of { IsSeat doors.now result.0 }
     ensures number { result.0.number ≡ seat.number }
     ensures clock { result.0.clock ≡ seat.clock }
+    ensures pool { result.0.pool ≡ seat.pool }
 {
     let mut seat = seat;
     let (place, added) = add_to(&doors.totals, rt, seat.totals, done);

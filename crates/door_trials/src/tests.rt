@@ -5,6 +5,7 @@ mod compared;
 mod doors_alone;
 mod either_kind;
 mod glances;
+mod judged;
 mod many_tickets;
 mod row;
 mod rows;

@@ -143,6 +143,11 @@ pub list_all-at : {X : Type 0} (p : X → Bool) (xs : List X) (x : X) (ys : List
 list_all-at p [] x ys a = (both_true _ _ a).0
 list_all-at p (z ∷ xs) x ys a = list_all-at p xs x ys (both_true _ _ a).1
 
+-- what holds of all elements of a list holds of each
+pub All-at : {X : Type 0} (P : X → Type 0) (xs : List X) (x : X) (ys : List X) → All P (xs ++ x ∷ ys) → P x
+All-at P [] x ys a = All-head P x ys a
+All-at P (z ∷ xs) x ys a = All-at P xs x ys (All-tail P z (xs ++ x ∷ ys) a)
+
 -- equal tests find the same
 pub find-same : {X : Type 0} (p q : X → Bool) (xs : List X) → ((x : X) → p x ≡ q x) → find p xs ≡ find q xs
 find-same p q [] same = refl

@@ -3,16 +3,12 @@ use Rattle.std.proofs.Common.{◌≡◌, ◌≢◌, ◌==◌, ◌<◌, ◌≤◌
 use Rattle.std.proofs.Common.{cond, Some, refl, ap, sym, ◌∙◌, subst, arith, eq-eqb, append_assoc}
 use Rattle.std.specs.Prelude.{All}
 use Rattle.std.specs.List.{filter}
-use Rattle.std.proofs.lemmas.List.Elements.{All-head, All-tail}
 use Rattle.hoare_law.specs.declared.event.Event.{Event}
 use Rattle.hoare_law.specs.Events.{place_of}
 use Rattle.hoare_law.specs.Waiting.{priority_of, waiting, chosen}
+use Rattle.hoare_law.proofs.Filters.{All-at}
 use Rattle.hoare_law.proofs.Rules.{chosen-longest}
 use Rattle.hoare_law.proofs.Waiters.{waiting-once}
-
-All-at : {X : Type 0} (P : X → Type 0) (us vs : List X) (x : X) → All P (us ++ x ∷ vs) → P x
-All-at P [] vs x all = All-head P x vs all
-All-at P (u ∷ us) vs x all = All-at P us vs x (All-tail P u (us ++ x ∷ vs) all)
 
 module _ {X : Type 0} (test : X → Bool) where
   more_pass : (z : X) (xs : List X) → length (filter test xs) ≤ length (filter test (z ∷ xs))
@@ -64,6 +60,6 @@ first_come {S = S} c h longer between shorter x y is low chosen_is =
     let b = stands_before test longer between shorter r.0 r.1 x y (sym is ∙ r.2) (eq-eqb (place_of y) (place_of y) refl)
     once in
     let greater : priority_of y < priority_of x =
-    All-at (λ z. priority_of y < priority_of z) b.0 b.1 x
+    All-at (λ z. priority_of y < priority_of z) b.0 x b.1
     (subst (λ (l : List (Event S)). All (λ z. priority_of y < priority_of z) l) b.2 r.3) in
     omega (arith, greater, low)

@@ -26,7 +26,7 @@ use Rattle.hoare_law.specs.Legal.{Allowed, IsLegal}
 use Rattle.hoare_law.specs.Overtaking.{is_release, releases, is_back, returned, signals, resumes_called, resumed_called}
 use Rattle.hoare_law.proofs.Tests.{both_true, eq_swap, list_all-filter}
 use Rattle.hoare_law.proofs.Filters.{HasLast, nothing, pushed, has_last, filter-all, filter-none, filter-filter}
-use Rattle.hoare_law.proofs.Filters.{list_all-filter_none, list_all-from_All, list_all-at, All-find}
+use Rattle.hoare_law.proofs.Filters.{list_all-filter_none, list_all-from_All, list_all-at, All-at, All-find}
 use Rattle.hoare_law.proofs.Sorted.{in_order-filter, length-in_order}
 use Rattle.hoare_law.proofs.Called.{called-push}
 use Rattle.hoare_law.proofs.Turns.{turn-push}
@@ -48,10 +48,6 @@ All-from_list_all p [] a = All-nil (λ x. p x ≡ true)
 All-from_list_all p (x ∷ xs) a =
     let b : (p x ≡ true) × (list_all p xs ≡ true) = both_true _ _ a in
     All-cons (λ y. p y ≡ true) x xs b.0 (All-from_list_all p xs b.1)
-
-All-at : {X : Type 0} (P : X → Type 0) (xs : List X) (x : X) (ys : List X) → All P (xs ++ x ∷ ys) → P x
-All-at P [] x ys a = All-head P x ys a
-All-at P (z ∷ xs) x ys a = All-at P xs x ys (All-tail P z (xs ++ x ∷ ys) a)
 
 pub length-filter_le : {X : Type 0} (p : X → Bool) (xs : List X) → length (filter p xs) ≤ length xs
 length-filter_le p [] = omega arith

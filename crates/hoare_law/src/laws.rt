@@ -19,8 +19,8 @@ ghost use Rattle.hoare_law.specs.Admissions.{admissions};
 ghost use Rattle.hoare_law.specs.Overtaking.{with_events, releases, returned, signals, resumed_called, taken_from};
 ghost use Rattle.hoare_law.specs.Overtaking.{waits_below, waiters_up_to, visits, notifications, waiting_anywhere};
 
-/// After each beginning of a legal history at most one place is inside, where a place is inside by what it did last
-/// itself. Then it is that place's turn, and it isn't outside too ("Monitors", Introduction).
+/// After each beginning of a legal history at most one place is inside, by the place's own last event. Then it is that
+/// place's turn, and the place isn't outside too ("Monitors", Introduction).
 pub fn one_is_inside<S>()
     ensures one { (h : History S) (f later : List (Event S)) (j k : ℕ) → IsLegal h
         → h.events ≡ f ++ later → inside j f ≡ true → inside k f ≡ true → j ≡ k }
@@ -30,7 +30,7 @@ pub fn one_is_inside<S>()
     ensures not_outside { (h : List (Event S)) (k : ℕ) → turn h ≡ Held k → outside k h ≡ false }
 {}
 
-/// Behind a signal the resumed process goes on at once: no third process comes between, and it finds the data as the
+/// After a signal the resumed process continues at once: no third process comes between, and it finds the data as the
 /// signaller left them ("Monitors", Introduction).
 pub fn nothing_intervenes<S>()
     ensures signal { (h : History S) (k c w : ℕ) (s : S) (e : Event S)
@@ -39,7 +39,7 @@ pub fn nothing_intervenes<S>()
         → Allowed (with_event h (Pass k c w s)) e → e ≡ Resume w c s }
 {}
 
-/// A newcomer comes in only where no signaller waits to return ("Monitors", Interpretation), and nobody is called.
+/// A process enters only if no signaller waits to return ("Monitors", Interpretation), and no process is called.
 pub fn newcomers_last<S>()
     ensures signallers { (h : History S) (k : ℕ) (s : S) → Allowed h (Admit k s)
         → urgent h.events ≡ [] }
@@ -47,7 +47,8 @@ pub fn newcomers_last<S>()
         → called h.events ≡ [] }
 {}
 
-/// A called process goes on only where no signaller waits to return, and of the called the one called first goes first.
+/// A called process resumes only if no signaller waits to return, and the called processes resume in the order of their
+/// calls.
 pub fn signallers_before_called<S>()
     ensures signallers { (h : History S) (k c : ℕ) (s : S) → IsLegal h
         → IsMesa h.sizes.conditions h.sizes.mesa c → Allowed h (Resume k c s) → urgent h.events ≡ [] }
@@ -57,7 +58,7 @@ pub fn signallers_before_called<S>()
         × (place_of x ≡ k) × (condition_of x ≡ c) }
 {}
 
-/// A call leaves its caller inside with the data as they are: the next event is its own.
+/// After a notify or a broadcast the next event is one of the caller's place.
 pub fn caller_goes_on<S>()
     ensures notify { (h : History S) (k c w : ℕ) (s : S) (e : Event S)
         → Allowed (with_event h (Notify k c w s)) e → place_of e ≡ k }
@@ -65,8 +66,8 @@ pub fn caller_goes_on<S>()
         → Allowed (with_event h (Broadcast k c s)) e → place_of e ≡ k }
 {}
 
-/// Who is called waits nowhere: it is a wait on a Mesa condition, its place's last event, and no list of waiting ones
-/// has its place.
+/// A called process waits nowhere: its entry is a wait on a Mesa condition and its place's last event, and no list of
+/// waiters has its place.
 pub fn called_wait_nowhere<S>()
     ensures { (h : History S) → IsLegal h → All (λ x.
         (newest (own (place_of x) h.events) ≡ Some x)
@@ -75,8 +76,8 @@ pub fn called_wait_nowhere<S>()
         × ((d : ℕ) → All (λ y. place_of x ≢ place_of y) (waiting d h.events))) (called h.events) }
 {}
 
-/// After a notify the one that a signal would have resumed is the last of those called, and after a broadcast all that
-/// waited on the condition are, in the order in which signals would have resumed them.
+/// A notify adds the waiter that a signal would have resumed to the end of the called processes. A broadcast adds all
+/// waiters on the condition, in the order in which signals would have resumed them.
 pub fn called_in_turn<S>()
     ensures notify { (h : History S) (k c w : ℕ) (s : S) → IsLegal h → Allowed h (Notify k c w s)
         → (x : Event S) × (chosen c h.events ≡ Some x) × (place_of x ≡ w)
@@ -86,15 +87,15 @@ pub fn called_in_turn<S>()
         ≡ called h.events ++ in_order priority_of (waiting c h.events) }
 {}
 
-/// Who is admitted was outside, and nobody was inside ("Monitors", Introduction).
+/// An admitted process was outside, and no process was inside ("Monitors", Introduction).
 pub fn admitted_from_outside<S>()
     ensures outside { (h : History S) (k : ℕ) (s : S) → Allowed h (Admit k s)
         → outside k h.events ≡ true }
     ensures free { (h : History S) (k : ℕ) (s : S) → Allowed h (Admit k s) → turn h.events ≡ Free }
 {}
 
-/// A signal resumes a process of the least priority, and among equal ones that which waits longest ("Monitors",
-/// Scheduled waits); it finds nobody only where nobody waits.
+/// A signal resumes a waiter of least priority, and the longest waiting among equal priorities ("Monitors", Scheduled
+/// waits); it finds no waiter only if no process waits.
 pub fn least_is_chosen<S>()
     ensures least { (c : ℕ) (h : List (Event S)) (x : Event S) → chosen c h ≡ Some x
         → All (λ y. priority_of x ≤ priority_of y) (waiting c h) }
@@ -104,7 +105,7 @@ pub fn least_is_chosen<S>()
     ensures nobody { (c : ℕ) (h : List (Event S)) → chosen c h ≡ None → waiting c h ≡ [] }
 {}
 
-/// Whoever comes in, goes on or returns finds the data as the last process left them ("Monitors", Introduction).
+/// A process that enters, resumes or returns finds the data as the last process left them ("Monitors", Introduction).
 pub fn data_as_left<S>()
     ensures admitted { (h : History S) (k : ℕ) (s : S) → Allowed h (Admit k s) → s ≡ latest_data h }
     ensures resumed { (h : History S) (k c : ℕ) (s : S) → Allowed h (Resume k c s)
@@ -112,7 +113,7 @@ pub fn data_as_left<S>()
     ensures back { (h : History S) (k : ℕ) (s : S) → Allowed h (Back k s) → s ≡ latest_data h }
 {}
 
-/// A legal history goes on by an event that is allowed after it, and what it begins with is legal.
+/// A legal history with one more event that is allowed after it is legal, and so is each beginning of a legal history.
 pub fn legal_grows<S>()
     ensures goes_on { (h : History S) (e : Event S) → IsLegal h → Allowed h e
         → IsLegal (with_event h e) }

@@ -5,11 +5,9 @@ use Rattle.std.specs.Prelude.{Option, Some, None, Result, Ok, Err, IsOkAnd, ⊤}
 use Rattle.std.specs.List.{slice_split}
 use Rattle.std.specs.Option.{IsSomeAnd}
 use Rattle.std.specs.Io.KnownBytes.{Appends}
-use Rattle.line_text.specs.declared.line.TheConstants.{LONGEST_LINE}
 use Rattle.line_text.specs.Line.{after_lines, is_newline}
 use Rattle.line_text.specs.Streams.{AppendsPrefix}
 use Rattle.wait_book.specs.Contents.{Contents, IsOf, make_refusal}
-use Rattle.hoare_script.specs.declared.runs.TheConstants.{MOST_BYTES}
 use Rattle.hoare_script.specs.declared.fault.ScriptFault.{ScriptFault}
 use Rattle.hoare_script.specs.declared.fault.ScriptFault.TheVariants as faults
 use Rattle.hoare_script.specs.Lines.{header_of, sizes_in}
@@ -57,10 +55,10 @@ Writes text left old new (Err f) = Whole (told at_end text) old new (Some f)
 abbrev pub Leaves : List ℕ → List ℕ → Verdict → Type 0
 Leaves text left (Ok u) = left ≡ []
 Leaves text left (Err faults.NoHeader) = left ≡ []
-Leaves text left (Err faults.TooMuch) = left ≡ drop (MOST_BYTES + 1) text
+Leaves text left (Err faults.TooMuch) = left ≡ drop (1048577) text
 -- of its line the byte that is too many is the last
 Leaves text left (Err (faults.LineTooLong i)) =
-    left ≡ drop (LONGEST_LINE + 1) (after_lines (i - 1) text)
+    left ≡ drop (257) (after_lines (i - 1) text)
 -- its line and the end of it are read
 Leaves text left (Err (faults.BadLine i)) = left ≡ after_lines i text
 Leaves text left (Err (faults.BadHeader i)) = left ≡ after_lines i text

@@ -4,11 +4,9 @@ use Rattle.std.specs.Prelude.{Some, None, Result, Ok, Err}
 use Rattle.std.specs.List.{slice_split}
 use Rattle.hoare_law.specs.declared.event.History.{History}
 use Rattle.hoare_law.specs.Events.{opened}
-use Rattle.line_text.specs.declared.line.TheConstants.{LONGEST_LINE}
 use Rattle.line_text.specs.Line.{is_newline}
 use Rattle.wait_book.specs.declared.steps.MakeRefused.{MakeRefused}
 use Rattle.wait_book.specs.Contents.{make_refusal}
-use Rattle.hoare_script.specs.declared.runs.TheConstants.{MOST_BYTES}
 use Rattle.hoare_script.specs.declared.fault.ScriptFault.{ScriptFault}
 use Rattle.hoare_script.specs.declared.fault.ScriptFault.TheVariants as faults
 use Rattle.hoare_script.specs.declared.lines.Header.{Header}
@@ -77,10 +75,10 @@ at_cut s i last = stop faults.ReadFault
 abbrev pub told_lines : Ending → Bool → State → ℕ → List (List ℕ) → Told
 told_lines e over s i [] = done
 told_lines e over s i (last ∷ []) =
-    if nat_lt LONGEST_LINE (length last) then stop (faults.LineTooLong i)
+    if nat_lt 256 (length last) then stop (faults.LineTooLong i)
     else (if over then stop faults.TooMuch else e s i last)
 told_lines e over s i (line ∷ next ∷ lines) =
-    if nat_lt LONGEST_LINE (length line) then stop (faults.LineTooLong i)
+    if nat_lt 256 (length line) then stop (faults.LineTooLong i)
     else then_on (one_line s i line) (λ t. told_lines e over t (i + 1) (next ∷ lines))
 
 -- from line i on, with room for this number of bytes
@@ -90,4 +88,4 @@ told_from e s i room text =
 
 -- what a script writes, and its fault
 abbrev pub told : Ending → List ℕ → Told
-told e text = told_from e Start 1 MOST_BYTES text
+told e text = told_from e Start 1 1048576 text

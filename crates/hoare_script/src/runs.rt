@@ -2,7 +2,6 @@
 ghost use Rattle.std.specs.Prelude.{◌≡◌, ◌≢◌, ◌≤◌, ◌==◌, ◌+◌, ◌||◌, if◌then◌else◌, [], length, false, IsOkAnd};
 ghost use Rattle.std.specs.Prelude.{MatchResult, None, Some, Ok, Err, OnOk, ◌⊎◌};
 ghost use Rattle.hoare_law.specs.declared.event.History.{History};
-ghost use Rattle.line_text.specs.declared.line.TheConstants.{LONGEST_LINE};
 ghost use Rattle.line_text.specs.Streams.{HasRead, Reads, ReadsFrom, has_read_failed, has_write_failed, reader_name};
 ghost use Rattle.line_text.specs.Streams.{writer_inside, writer_name};
 ghost use Rattle.wait_book.specs.Contents.{IsOf};
@@ -58,7 +57,7 @@ pub fn run_watched<R: Read, W: Write>(
         (W.contents (writer_inside writer.new)) result) }
     ensures read { ReadsFrom R.remaining reader.old reader.new (λ text left.
         Leaves text left result) }
-    ensures counts { HasRead reader.old reader.new (MOST_BYTES + 1) (MOST_BYTES + 1) }
+    ensures counts { HasRead reader.old reader.new 1048577 1048577 }
     ensures read_fault { has_read_failed reader.new
         ≡ (has_read_failed reader.old || is_read_fault result) }
     ensures write_fault { has_write_failed writer.new
@@ -81,7 +80,7 @@ fn answer_lines<R: Read, W: Write>(
     ensures told { ReadsFrom R.remaining reader.old reader.new (λ text left.
         Tells text left (W.contents (writer_inside writer.old))
         (W.contents (writer_inside writer.new)) result) }
-    ensures counts { HasRead reader.old reader.new (MOST_BYTES + 1) (MOST_BYTES + 1) }
+    ensures counts { HasRead reader.old reader.new 1048577 1048577 }
     ensures read_fault { has_read_failed reader.new
         ≡ (has_read_failed reader.old || is_read_fault result) }
     ensures write_fault { has_write_failed writer.new
@@ -131,7 +130,7 @@ fn one_line<W: Write>(
     number: u64,
     line: &[u8],
 ) -> Result<(), ScriptFault>
-    requires { length line.now ≤ LONGEST_LINE }
+    requires { length line.now ≤ 256 }
     ensures of { (s : State) → IsAt opened.old s → Follows (one_line s number line.now)
         (W.contents (writer_inside writer.old)) (W.contents (writer_inside writer.new)) opened.new
         result }
@@ -181,7 +180,7 @@ fn command_line<W: Write>(
     number: u64,
     line: &[u8],
 ) -> Result<(), ScriptFault>
-    requires { length line.now ≤ LONGEST_LINE }
+    requires { length line.now ≤ 256 }
     ensures of { (h : History (Unit {0})) → IsOf opened.old h →
         Follows (command_line h number line.now (command_of line.now))
         (W.contents (writer_inside writer.old)) (W.contents (writer_inside writer.new))

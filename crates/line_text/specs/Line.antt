@@ -3,7 +3,6 @@ use Rattle.std.specs.Prelude.{ℕ, zero, suc, ◌≡◌, ◌≢◌, ◌<◌, ◌
 use Rattle.std.specs.Prelude.{Result, Ok, Err}
 use Rattle.std.specs.List.{All}
 use Rattle.std.specs.Io.BufRead.{drop_through}
-use Rattle.line_text.specs.declared.line.TheConstants.{LONGEST_LINE}
 use Rattle.line_text.specs.declared.line.Ended.{Ended}
 use Rattle.line_text.specs.declared.line.Ended.TheVariants.{Line, Last}
 use Rattle.line_text.specs.declared.line.LineFault.{LineFault}
@@ -33,7 +32,7 @@ abbrev pub IsLineFor : ℕ → List ℕ → Result Ended LineFault → Type 0
 IsLineFor room l (Ok Line) = length l < room
 IsLineFor room l (Ok Last) = length l ≤ room
 IsLineFor room l (Err faults.Failed) = length l ≤ room
-IsLineFor room l (Err faults.TooLong) = (length l ≡ LONGEST_LINE) × (LONGEST_LINE < room)
+IsLineFor room l (Err faults.TooLong) = (length l ≡ 256) × (256 < room)
 IsLineFor room l (Err faults.TooMuch) = length l ≡ room
 
 -- no line was read, since a read failed

@@ -46,7 +46,7 @@ pub fn read_line<R: Read>(
 ) -> Result<Ended, LineFault>
     ensures known { ReadsFrom R.remaining reader.old reader.new (ReadsLine line.new.items result) }
     ensures fits { IsLineFor room line.new.items result }
-    ensures short { length line.new.items ≤ LONGEST_LINE }
+    ensures short { length line.new.items ≤ 256 }
     ensures within { length line.new.items ≤ room }
     ensures one { NoNewline line.new.items }
     ensures counts { let n = length line.new.items + 1 in HasRead reader.old reader.new n n }

@@ -85,8 +85,10 @@ fn does_service<R: Threads + Wait + Sync>(rt: &R, alloc: Global, name: &[u8]) ->
         return Some(runs(rt, alloc, named_kind(kind)?));
     }
     match name {
-        b"serve" => Some(serves(rt, alloc, Kind::Baton)),
-        b"serve_tickets" => Some(serves(rt, alloc, Kind::Ticket)),
+        b"serve 2" => Some(serves(rt, alloc, Kind::Baton, 2)),
+        b"serve 16" => Some(serves(rt, alloc, Kind::Baton, 16)),
+        b"serve_tickets 2" => Some(serves(rt, alloc, Kind::Ticket, 2)),
+        b"serve_tickets 16" => Some(serves(rt, alloc, Kind::Ticket, 16)),
         _ => None,
     }
 }

@@ -35,10 +35,10 @@ fn refused(fault: ServiceFault, clean: bool) -> Answer {
     }
 }
 
-// The jobs of the file.
-fn jobs(alloc: Global) -> Result<Option<Jobs>, AllocError> {
+// The jobs of the file, for so many workers.
+fn jobs(alloc: Global, workers: u32) -> Result<Option<Jobs>, AllocError> {
     let cylinders = Vec::from_array(alloc, CYLINDERS)?;
-    Ok(Jobs::make(400, 2, cylinders).ok())
+    Ok(Jobs::make(400, workers, cylinders).ok())
 }
 
 /// The report of these jobs, done on doors of this kind.
@@ -54,9 +54,9 @@ pub fn report_of<R: Threads + Wait + Sync>(
     }
 }
 
-/// Has three jobs done, on doors of this kind.
-pub fn serves<R: Threads + Wait + Sync>(rt: &R, alloc: Global, kind: Kind) -> Answer {
-    let Ok(Some(jobs)) = jobs(alloc) else {
+/// Has three jobs done by so many workers, on doors of this kind.
+pub fn serves<R: Threads + Wait + Sync>(rt: &R, alloc: Global, kind: Kind, workers: u32) -> Answer {
+    let Ok(Some(jobs)) = jobs(alloc, workers) else {
         return Answer::Unprepared;
     };
     match report_of(rt, alloc, kind, &jobs) {

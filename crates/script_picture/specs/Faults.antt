@@ -7,7 +7,6 @@ use Rattle.hoare_script.specs.declared.lines.Command.{Command}
 use Rattle.hoare_script.specs.Runs as script
 use Rattle.script_picture.specs.declared.fault.PictureFault.{PictureFault}
 use Rattle.script_picture.specs.declared.fault.PictureFault.TheVariants.{Script, TooTall}
-use Rattle.script_picture.specs.declared.frame.TheConstants.{MOST_ROWS}
 use Rattle.script_picture.specs.declared.picture.Form.{Form}
 use Rattle.script_picture.specs.declared.picture.Form.TheVariants.{Svg, Text}
 
@@ -34,7 +33,7 @@ is_header_fault _ = false
 
 -- this number of rows has no room in the form
 abbrev pub is_without_room : Form → ℕ → Bool
-is_without_room Svg n = nat_lt MOST_ROWS n
+is_without_room Svg n = nat_lt 1164 n
 is_without_room Text n = false
 
 abbrev pub is_too_tall : {X : Type 0} → Result X PictureFault → Bool

@@ -13,7 +13,7 @@ use Rattle.hoare_law.specs.Called.{called}
 use Rattle.hoare_law.specs.Turns.{urgent, turn, outside}
 use Rattle.hoare_law.specs.Priorities.{in_order}
 use Rattle.hoare_law.specs.Legal.{IsLegal}
-use Rattle.wait_book.specs.declared.book.TheConstants.{MOST_CONDITIONS, MOST_PLACES}
+use Rattle.wait_book.specs.declared.book.TheConstants.{MOST_CONDITIONS}
 use Rattle.wait_book.specs.declared.waiter.Waiter.{Waiter}
 use Rattle.wait_book.specs.declared.steps.Next.{Next}
 use Rattle.wait_book.specs.declared.steps.Next.TheVariants as next
@@ -102,7 +102,7 @@ IsPlaceBelow n (next.Held k) = k < n
 -- the first refusal of these sizes, if memory is there
 abbrev pub make_refusal : Sizes → Option MakeRefused
 make_refusal n =
-    if nat_le 1 n.places && nat_le n.places MOST_PLACES then
-    (if nat_le 1 n.conditions && (nat_le n.conditions MOST_CONDITIONS && nat_le n.mesa n.conditions) then None else Some
+    if nat_le 1 n.places && nat_le n.places 64 then
+    (if nat_le 1 n.conditions && (nat_le n.conditions 8 && nat_le n.mesa n.conditions) then None else Some
     BadConditions)
     else Some BadPlaces

@@ -5,7 +5,7 @@ use Rattle.hoare_law.specs.declared.turn.Turn.{Turn}
 use Rattle.hoare_law.specs.declared.turn.Turn.TheVariants.{Free, Held, Owed, Return}
 use Rattle.hoare_law.specs.Sizes.{IsMesa}
 use Rattle.hoare_law.specs.Priorities.{in_order}
-use Rattle.wait_book.specs.declared.book.TheConstants.{MOST_CONDITIONS, MOST_PLACES}
+use Rattle.wait_book.specs.declared.book.TheConstants.{MOST_CONDITIONS}
 use Rattle.wait_book.specs.declared.chains.TheConstants.{CALLED, SIGNALLERS}
 use Rattle.wait_book.specs.declared.waiter.Waiter.{Waiter}
 use Rattle.wait_book.specs.declared.book.Book.TheInside.{Inside}
@@ -66,9 +66,9 @@ IsTurnBeside (u ∷ us) ws m (Return k) = u ≡ k
 -- that a signal can reach everybody who waits), and whoever was called waited on a Mesa condition
 pub record IsSound (b : Contents) : Type 0 where
   pub some_places : 0 < b.sizes.places
-  pub few_places : b.sizes.places ≤ MOST_PLACES
+  pub few_places : b.sizes.places ≤ 64
   pub some_conditions : 0 < b.sizes.conditions
-  pub few_conditions : b.sizes.conditions ≤ MOST_CONDITIONS
+  pub few_conditions : b.sizes.conditions ≤ 8
   pub few_mesa : b.sizes.mesa ≤ b.sizes.conditions
   pub waiters_fit : b.sizes.places ≤ b.room_to_wait
   pub signallers_fit : b.sizes.places ≤ b.room_to_signal

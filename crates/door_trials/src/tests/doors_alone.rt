@@ -1,4 +1,4 @@
-//! Each door on one thread: what `make` refuses, and each call once.
+//! Each door on one thread: what `make` refuses, and each call once at each number of places.
 ghost use Rattle.std.specs.Prelude.{◌≡◌, vec_len, All};
 ghost use Rattle.test_support.specs.Numbered.{IsNumbered};
 
@@ -12,7 +12,7 @@ use std::alloc::Global;
 use std::process::Abort;
 use std::sync::Wait;
 use test_support::tally::{Tally, calls_all};
-use test_support::{on_baton_door, on_ticket_door};
+use test_support::{on_any_door, on_baton_door, on_ticket_door};
 use ticket_door::door::TicketDoor;
 use wait_book::steps::MakeRefused;
 
@@ -111,12 +111,14 @@ fn acts<R: Wait + Abort, M: Monitor<Tally>>(
     }
 }
 
-/// The row on a door of this kind, by its own type: the number that it is closed with.
-pub fn left_by<R: Wait + Abort>(rt: &R, alloc: Global, kind: DoorKind, row: AloneRow) -> u64 {
-    let places = match row {
-        AloneRow::OnePlaceCallsAll => 1,
-        AloneRow::WhoTriesComesInWhereItIsFree => 2,
-    };
+// Does the row on a door of this kind, by its own type. Returns the number that the door is closed with.
+fn left_by<R: Wait + Abort>(
+    rt: &R,
+    alloc: Global,
+    kind: DoorKind,
+    places: usize,
+    row: AloneRow,
+) -> u64 {
     let data = Tally { value: 0 };
     match kind {
         DoorKind::Baton => {
@@ -136,10 +138,43 @@ pub fn left_by<R: Wait + Abort>(rt: &R, alloc: Global, kind: DoorKind, row: Alon
     }
 }
 
+// Does the row on an `AnyDoor` of this kind. Returns the number that the door is closed with.
+fn left_by_any<R: Wait + Abort>(
+    rt: &R,
+    alloc: Global,
+    kind: DoorKind,
+    places: usize,
+    row: AloneRow,
+) -> u64 {
+    let Some((door, outs)) = on_any_door::made(alloc, kind, Tally { value: 0 }, places) else {
+        panic!(rt; "no door was made")
+    };
+    let outs = acts(rt, &door, outs, row);
+    on_any_door::closed(door, outs).value
+}
+
+/// Does the row on a door of this kind at each number of places from `least` to 64, by its own type and as an
+/// `AnyDoor`. Fails the test if one of them isn't made, or isn't closed with the wanted number.
+pub fn leave_at_all_sizes<R: Wait + Abort>(
+    rt: &R,
+    alloc: Global,
+    kind: DoorKind,
+    least: usize,
+    row: AloneRow,
+    wanted: u64,
+) {
+    for places in least..=64 {
+        let left = [
+            left_by(rt, alloc, kind, places, row),
+            left_by_any(rt, alloc, kind, places, row),
+        ];
+        expect_same(rt, (kind, places, left), (kind, places, [wanted; 2]));
+    }
+}
+
 #[test]
 fn one_place_calls_all(rt: HostRuntime) {
     for kind in DoorKind::BOTH {
-        let left = left_by(&rt, rt.alloc(), kind, AloneRow::OnePlaceCallsAll);
-        expect_same(&rt, (kind, left), (kind, 42));
+        leave_at_all_sizes(&rt, rt.alloc(), kind, 1, AloneRow::OnePlaceCallsAll, 42);
     }
 }

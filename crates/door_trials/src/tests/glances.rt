@@ -4,15 +4,20 @@ ghost use Rattle.std.specs.Prelude.{◌≡◌};
 use crate::tests::awaited::{await_sign, watch};
 use crate::tests::compared::{expect_same, reads_as};
 use crate::tests::tickets_in_turn::three_places;
+use any_door::{AnyDoor, DoorKind};
 use baton_door::door::Door;
+use door_frame::calls::begin_wait;
 use door_frame::glance::{Glance, Holder};
+use door_frame::place::Outside;
 use hoare_law::monitor::Monitor;
+use std::alloc::Global;
 use std::process::Abort;
 use std::rt::Clock;
 use std::sync::Wait;
 use std::sync::atomic::{AtomicBool, Ordering};
 use std::thread;
 use std::time::Duration;
+use test_support::on_any_door::made;
 use test_support::tally::Tally;
 use ticket_door::door::TicketDoor;
 use ticket_door::place::TicketOut;
@@ -140,6 +145,43 @@ fn ask_and_come_in<R: Wait + Abort>(
 fn who_asked_wants_in(rt: HostRuntime) {
     let (door, (a, b, c)) = three_places(&rt, rt.alloc(), 0);
     ask_and_come_in(&rt, &door, a, b, c);
+}
+
+// `last` begins to wait, and `other` hands the monitor off to it. Returns the glance before `last` resumes.
+fn glance_while_owed<R: Wait>(
+    rt: &R,
+    door: &AnyDoor<Tally>,
+    last: Outside<Tally>,
+    other: Outside<Tally>,
+) -> Glance
+    requires last { ⟦<AnyDoor<Tally> as Monitor<Tally>>⟧.is_of door.now last }
+    requires other { ⟦<AnyDoor<Tally> as Monitor<Tally>>⟧.is_of door.now other }
+{
+    let (_away, _next) = begin_wait(&**door, door.enter(rt, last), 0, 0);
+    let (_out, _resumed) = door.signal_leave(rt, door.enter(rt, other), 0);
+    door.glance()
+}
+
+// Returns the glance while place 63 of 64 is owed the monitor.
+fn last_is_owed<R: Wait + Abort>(rt: &R, alloc: Global, kind: DoorKind) -> Glance {
+    let Some((door, mut outs)) = made(alloc, kind, Tally { value: 0 }, 64) else {
+        panic!(rt; "no door was made")
+    };
+    let Some(last) = outs.pop() else {
+        panic!(rt; "no place")
+    };
+    let Some(other) = outs.pop() else {
+        panic!(rt; "one place")
+    };
+    glance_while_owed(rt, &door, last, other)
+}
+
+#[test]
+fn place_sixty_three_is_owed(rt: HostRuntime) {
+    for kind in DoorKind::BOTH {
+        let seen = last_is_owed(&rt, rt.alloc(), kind);
+        expect_same(&rt, (kind, seen), (kind, glance_of(Holder::Owed(63), 0)));
+    }
 }
 
 #[test]

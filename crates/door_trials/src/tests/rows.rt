@@ -1,4 +1,5 @@
 //! Rows of tests on threads: each is written over any monitor, and run on each door.
+mod ends;
 mod full;
 mod naps;
 pub mod stress;

@@ -1,17 +1,23 @@
-//! A row of tests on a door of either kind: it is made, each place acts by its number, and it is closed.
+//! A row of tests on a door, of either kind or by its own type: it is made, each place acts by its number, and it is
+//! closed.
 ghost use Rattle.std.specs.Prelude.{◌≡◌, vec_len, All};
 ghost use Rattle.hoare_law.specs.Priorities.{nobody};
 ghost use Rattle.any_door.specs.Doors.{id_of};
 ghost use Rattle.test_support.specs.Numbered.{IsNumbered};
 
 use any_door::{AnyDoor, DoorKind};
+use baton_door::door::Door;
 use hoare_law::data::MonitorData;
 use hoare_law::monitor::Monitor;
 use std::alloc::Global;
 use std::process::Abort;
-use test_support::on_any_door;
+use test_support::{on_any_door, on_baton_door, on_ticket_door};
+use ticket_door::door::TicketDoor;
 
-/// A door of this kind with the data, and this many places, in order. Where it is refused the test fails.
+/// The first ticket of a ticket door that is made by its own type: the third one after it is 0.
+const FIRST_TICKET: u64 = u64::MAX - 2;
+
+/// A door of this kind with the data, and this many places, in order. If it is refused the test fails.
 pub fn door<D: MonitorData + Send + Drop, R: Abort>(
     rt: &R,
     alloc: Global,
@@ -30,12 +36,48 @@ pub fn door<D: MonitorData + Send + Drop, R: Abort>(
     made
 }
 
-/// The row on a door of this kind, which is made with these data and this many places: the data that were left, and
-/// what the places answered. Each place acts by the function named last, which is over any monitor; it gets the
-/// runtime, the door, the place, its number and what stands in the brackets. (A macro, since a closure is of one type.)
-macro_rules! run {
-    ($rt:ident, $alloc:ident, $kind:ident, $state:expr, $count:expr, $acts:ident($($row:expr),*)) => {{
-        let (door, outs) = $crate::tests::row::door($rt, $alloc, $kind, $state, $count);
+/// A baton door with the data, and this many places, in order. If it is refused the test fails.
+pub fn baton<D: MonitorData + Send + Drop, R: Abort>(
+    rt: &R,
+    alloc: Global,
+    state: D,
+    count: usize,
+) -> (Door<D>, Vec<<Door<D> as Monitor<D>>::Out>)
+    requires { D.rest state nobody }
+    ensures count { vec_len result.1 ≡ result.0.places }
+    ensures of { All (⟦<Door<D> as Monitor<D>>⟧.is_of result.0) result.1.items }
+    ensures numbered { IsNumbered (⟦<Door<D> as Monitor<D>>⟧.place) result.1.items }
+{
+    let Some(made) = on_baton_door::made(alloc, state, count) else {
+        panic!(rt; "no door was made")
+    };
+    made
+}
+
+/// A ticket door with the data, and this many places, in order, whose tickets soon begin again at 0. If it is
+/// refused the test fails.
+pub fn ticket<D: MonitorData + Send + Drop, R: Abort>(
+    rt: &R,
+    alloc: Global,
+    state: D,
+    count: usize,
+) -> (TicketDoor<D>, Vec<<TicketDoor<D> as Monitor<D>>::Out>)
+    requires { D.rest state nobody }
+    ensures count { vec_len result.1 ≡ result.0.door.places }
+    ensures of { All (⟦<TicketDoor<D> as Monitor<D>>⟧.is_of result.0) result.1.items }
+    ensures numbered { IsNumbered (⟦<TicketDoor<D> as Monitor<D>>⟧.place) result.1.items }
+{
+    let Some(made) = on_ticket_door::made(alloc, FIRST_TICKET, state, count) else {
+        panic!(rt; "no door was made")
+    };
+    made
+}
+
+/// The row on this door, with these places, which is then closed: the data that were left, and what the places
+/// answered.
+macro_rules! run_on {
+    ($rt:ident, $alloc:ident, $made:expr, $on:ident, $acts:ident($($row:expr),*)) => {{
+        let (door, outs) = $made;
         let (outs, answers) = $crate::tests::awaited::act_all(
             $rt,
             $alloc,
@@ -43,8 +85,47 @@ macro_rules! run {
             outs,
             &|place| { $acts($rt, &door, place.1, place.0 $(, $row)*) },
         );
-        (test_support::on_any_door::closed(door, outs), answers)
+        (test_support::$on::closed(door, outs), answers)
     }};
 }
 
+/// The row on an `AnyDoor` of this kind, which is made with these data and this many places: the data that were left,
+/// and what the places answered. Each place acts by the function named last, which is over any monitor; it gets the
+/// runtime, the door, the place, its number and what stands in the brackets. (A macro, since a closure is of one type.)
+macro_rules! run {
+    ($rt:ident, $alloc:ident, $kind:ident, $state:expr, $count:expr, $acts:ident($($row:expr),*)) => {
+        $crate::tests::row::run_on!(
+            $rt,
+            $alloc,
+            $crate::tests::row::door($rt, $alloc, $kind, $state, $count),
+            on_any_door,
+            $acts($($row),*)
+        )
+    };
+}
+
+/// The same on a door of this kind by its own type: a `Door`, or a `TicketDoor`.
+macro_rules! run_by_type {
+    ($rt:ident, $alloc:ident, $kind:ident, $state:expr, $count:expr, $acts:ident($($row:expr),*)) => {
+        match $kind {
+            any_door::DoorKind::Baton => $crate::tests::row::run_on!(
+                $rt,
+                $alloc,
+                $crate::tests::row::baton($rt, $alloc, $state, $count),
+                on_baton_door,
+                $acts($($row),*)
+            ),
+            any_door::DoorKind::Ticket => $crate::tests::row::run_on!(
+                $rt,
+                $alloc,
+                $crate::tests::row::ticket($rt, $alloc, $state, $count),
+                on_ticket_door,
+                $acts($($row),*)
+            ),
+        }
+    };
+}
+
 pub(crate) use run;
+pub(crate) use run_by_type;
+pub(crate) use run_on;

@@ -1,23 +1,43 @@
-//! How many workers are at work at once, by what `begin` sees: four jobs at a time wait until all four have begun. A
-//! service with fewer workers at work, or with one thread for all jobs, can't do it.
+//! How many workers are at work at once, by what `begin` sees: each job waits until as many have begun with it as there
+//! are workers. A service with fewer workers at work, or with one thread for all jobs, can't do it.
+ghost use Rattle.std.specs.Prelude.{◌<◌};
+
 use crate::tests::compared::expect_same;
-use disk_service::{Gate, Jobs, Report, ServiceFault, serve, serve_tickets};
+use disk_service::{Gate, Jobs, Kind, Report, ServiceFault, serve, serve_tickets};
 use std::alloc::{AllocError, Global};
 use std::process::Abort;
+use std::sync::Wait;
 use std::sync::atomic::{AtomicBool, AtomicUsize, Ordering};
 use std::test::Fail;
 use std::thread;
+use std::thread::Threads;
 
-const WORKERS: usize = 4;
+// How many workers do how many jobs.
+#[derive(Clone, Copy)]
+struct Size {
+    workers: u32,
+    jobs: usize,
+    ghost some: { 0 < workers },
+}
 
-const JOBS: usize = 12;
+const FOUR: Size = Size {
+    workers: 4,
+    jobs: 12,
+};
 
-// How often one that has begun looks for the others of its four, with a yield each time.
+// As many workers as there may be, each with as many jobs.
+const SIXTEEN: Size = Size {
+    workers: 16,
+    jobs: 256,
+};
+
+// How often one that has begun looks for the others that begin with it, with a yield each time.
 const TURNS: u32 = 10_000_000;
 
 // What is seen of the jobs.
 #[derive(Drop)]
 struct AtOnce {
+    size: Size,
     turns: u32,
     // How often each job has begun, and ended after it had begun once.
     begins: Vec<AtomicUsize>,
@@ -45,9 +65,9 @@ struct Seen {
 }
 
 // A count for each job.
-fn counts(alloc: Global) -> Result<Vec<AtomicUsize>, AllocError> {
+fn counts(alloc: Global, jobs: usize) -> Result<Vec<AtomicUsize>, AllocError> {
     let mut counts = Vec::new(alloc);
-    for _ in 0..JOBS {
+    for _ in 0..jobs {
         counts.push(AtomicUsize::new(0))?;
     }
     Ok(counts)
@@ -68,11 +88,12 @@ fn note(counts: &[AtomicUsize], job: usize) {
 }
 
 impl AtOnce {
-    fn of(alloc: Global, turns: u32) -> Result<AtOnce, AllocError> {
+    fn of(alloc: Global, size: Size, turns: u32) -> Result<AtOnce, AllocError> {
         Ok(AtOnce {
+            size,
             turns,
-            begins: counts(alloc)?,
-            ends: counts(alloc)?,
+            begins: counts(alloc, size.jobs)?,
+            ends: counts(alloc, size.jobs)?,
             begun: AtomicUsize::new(0),
             before_an_end: AtomicUsize::new(0),
             ended: AtomicUsize::new(0),
@@ -89,7 +110,7 @@ impl AtOnce {
             before_an_end: self.before_an_end.load(Ordering::SeqCst),
             ended: self.ended.load(Ordering::SeqCst),
             most_at_work: self.most_at_work.load(Ordering::SeqCst),
-            gave_up: self.gave_up.load(Ordering::SeqCst),
+            gave_up: self.has_given_up(),
         }
     }
 
@@ -104,13 +125,23 @@ impl AtOnce {
         note(&self.begins, job);
         self.begun.fetch_add(1, Ordering::SeqCst);
     }
+
+    // Whether this job and all that begin with it have begun.
+    fn have_begun(&self, job: usize) -> bool {
+        let workers = self.size.workers as usize;
+        self.begun.load(Ordering::SeqCst) / workers > job / workers
+    }
+
+    fn has_given_up(&self) -> bool {
+        self.gave_up.load(Ordering::SeqCst)
+    }
 }
 
 impl Gate for AtOnce {
     fn begin(&self, job: usize) {
         self.count(job);
         for _ in 0..self.turns {
-            if self.begun.load(Ordering::SeqCst) / WORKERS > job / WORKERS {
+            if self.have_begun(job) || self.has_given_up() {
                 return;
             }
             thread::yield_now();
@@ -127,64 +158,84 @@ impl Gate for AtOnce {
     }
 }
 
-// As many jobs for four workers.
-fn some_jobs(alloc: Global) -> Result<Jobs, Fail> {
-    match Jobs::make(100, WORKERS as u32, vec![in alloc; 3u16; JOBS]?) {
+// As many jobs for as many workers.
+fn some_jobs(alloc: Global, size: Size) -> Result<Jobs, Fail> {
+    match Jobs::make(100, size.workers, vec![in alloc; 3u16; size.jobs]?) {
         Ok(jobs) => Ok(jobs),
         Err(_) => Err(Fail::from("no jobs")),
     }
 }
 
-// Four different jobs had begun before the first ended, each job began once and ended once after that, and never were
-// more than four at work.
+// As many different jobs had begun before the first ended as there are workers, each job began once and ended once
+// after that, and never were more at work.
 fn assert_at_once<R: Abort>(rt: &R, answer: Result<Report, ServiceFault>, gate: &AtOnce) {
     let Ok(report) = answer else {
         panic!(rt; "no report")
     };
-    expect_same(rt, report.lines.len(), JOBS);
+    let (workers, jobs) = (gate.size.workers as usize, gate.size.jobs);
+    expect_same(rt, report.lines.len(), jobs);
     let wanted = Seen {
-        begun_once: JOBS,
-        ended_once: JOBS,
-        before_an_end: WORKERS,
-        ended: JOBS,
-        most_at_work: WORKERS,
+        begun_once: jobs,
+        ended_once: jobs,
+        before_an_end: workers,
+        ended: jobs,
+        most_at_work: workers,
         gave_up: false,
     };
     expect_same(rt, gate.seen(), wanted);
 }
 
-#[test]
-fn four_at_once(rt: HostRuntime) -> Result<(), Fail> {
-    let jobs = some_jobs(rt.alloc())?;
-    let gate = AtOnce::of(rt.alloc(), TURNS)?;
-    let answer = serve(&rt, rt.alloc(), &jobs, &gate);
-    assert_at_once(&rt, answer, &gate);
+// Has these jobs done on doors of this kind.
+fn assert_served<R: Threads + Wait + Abort + Sync>(
+    rt: &R,
+    alloc: Global,
+    kind: Kind,
+    size: Size,
+) -> Result<(), Fail> {
+    let jobs = some_jobs(alloc, size)?;
+    let gate = AtOnce::of(alloc, size, TURNS)?;
+    let answer = match kind {
+        Kind::Baton => serve(rt, alloc, &jobs, &gate),
+        Kind::Ticket => serve_tickets(rt, alloc, &jobs, &gate),
+    };
+    assert_at_once(rt, answer, &gate);
     Ok(())
 }
 
 #[test]
+fn four_at_once(rt: HostRuntime) -> Result<(), Fail> {
+    assert_served(&rt, rt.alloc(), Kind::Baton, FOUR)
+}
+
+#[test]
 fn four_at_once_by_ticket(rt: HostRuntime) -> Result<(), Fail> {
-    let jobs = some_jobs(rt.alloc())?;
-    let gate = AtOnce::of(rt.alloc(), TURNS)?;
-    let answer = serve_tickets(&rt, rt.alloc(), &jobs, &gate);
-    assert_at_once(&rt, answer, &gate);
-    Ok(())
+    assert_served(&rt, rt.alloc(), Kind::Ticket, FOUR)
+}
+
+#[test]
+fn sixteen_at_once(rt: HostRuntime) -> Result<(), Fail> {
+    assert_served(&rt, rt.alloc(), Kind::Baton, SIXTEEN)
+}
+
+#[test]
+fn sixteen_at_once_by_ticket(rt: HostRuntime) -> Result<(), Fail> {
+    assert_served(&rt, rt.alloc(), Kind::Ticket, SIXTEEN)
 }
 
 // One thread that does all jobs, one after another, is seen. (With fewer turns, since a yield may take milliseconds
 // beside other work.)
 #[test]
 fn one_at_a_time_is_seen(rt: HostRuntime) -> Result<(), Fail> {
-    let gate = AtOnce::of(rt.alloc(), 100)?;
-    for job in 0..JOBS {
+    let gate = AtOnce::of(rt.alloc(), FOUR, 100)?;
+    for job in 0..FOUR.jobs {
         gate.begin(job);
         gate.end(job);
     }
     let wanted = Seen {
-        begun_once: JOBS,
-        ended_once: JOBS,
+        begun_once: FOUR.jobs,
+        ended_once: FOUR.jobs,
         before_an_end: 1,
-        ended: JOBS,
+        ended: FOUR.jobs,
         most_at_work: 1,
         gave_up: true,
     };

@@ -1,4 +1,4 @@
-use Rattle.std.proofs.Common.{arith, rules}
+use Rattle.std.proofs.Common.{◌≡◌, ◌+◌, ◌-◌, length, arith, rules}
 use Rattle.disk_service.proofs.Seats.{staffed-at}
 use Rattle.disk_service.proofs.threads.+with_workers.Goals as goal
 
@@ -17,3 +17,14 @@ start_worker-requires-clause-seat g t c =
     let some = c.if-left-eq0.false in
     let seat = c.take_out-seat.ensures.seat c.args.doors.now (staffed-at c.args.left _ (omega arith) c.requires.desk) in
     search rules
+
+pub returns-in_default-clause-handed : goal.returns-in_default-clause-handed
+returns-in_default-clause-handed g t c =
+    let some = c.if-left-eq0.false in
+    let workers = c.workers.ensures.value in
+    let staffed =
+    c.take_out-seat.ensures.left c.args.doors.now (staffed-at c.args.left _ (omega arith) c.requires.desk) in
+    let rooms = staffed.rooms in
+    let started : c.workers.result - c.args.left
+    ≡ c.args.jobs.now.workers - (length c.take_out-seat.new.self.rooms.items + 1) = omega arith in
+    rw started at c.stop_workers-mine.ensures.handed

@@ -1,10 +1,19 @@
 use Rattle.std.proofs.Common.{arith, refl}
-use Rattle.disk_service.proofs.Sleeping.{not-asleep, SleepsForEach-fewer}
+use Rattle.disk_service.specs.Sleeps.{never}
+use Rattle.disk_service.specs.Borrows.{not_once}
+use Rattle.disk_service.proofs.EachJob.{for-none, for-fewer}
 use Rattle.disk_service.proofs.worker.do_listed_job.Goals as goal
 
 pub returns-in_default-clause-sleeps : goal.returns-in_default-clause-sleeps
-returns-in_default-clause-sleeps g c = not-asleep _ _ _ _ (omega arith)
+returns-in_default-clause-sleeps g c = for-none _ _ _ _ never (omega arith)
+
+pub returns-in_default-clause-borrows : goal.returns-in_default-clause-borrows
+returns-in_default-clause-borrows g c = for-none _ _ _ _ not_once (omega arith)
 
 pub returns-clause-sleeps : goal.returns-clause-sleeps
 returns-clause-sleeps g c =
-    SleepsForEach-fewer _ _ _ _ 0 _ _ _ c.serve_job-seat.ensures.sleeps refl (omega (arith, c.keep.ensures))
+    for-fewer _ _ _ _ 0 _ _ _ c.serve_job-seat.ensures.sleeps refl (omega (arith, c.keep.ensures))
+
+pub returns-clause-borrows : goal.returns-clause-borrows
+returns-clause-borrows g c =
+    for-fewer _ _ _ _ 0 _ _ _ c.serve_job-seat.ensures.borrows refl (omega (arith, c.keep.ensures))

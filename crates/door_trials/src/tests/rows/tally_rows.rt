@@ -28,6 +28,7 @@ enum TallyRow<'a> {
     TwoThousandAdditions,
     SignallersReturnInOrder,
     EachSignalResumes,
+    /// So does its signaller until it is back.
     WhoWaitsSleepsUntilItIsWoken,
     /// Place 1 comes in after the sign.
     ANewcomerComesInOnceNobodyIsInside(&'a AtomicBool),

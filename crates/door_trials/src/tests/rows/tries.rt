@@ -4,7 +4,7 @@ ghost use Rattle.test_support.specs.Numbered.{IsNumbered};
 
 use crate::tests::awaited::{await_sign, watch};
 use crate::tests::compared::expect_same;
-use crate::tests::doors_alone::{AloneRow, left_by};
+use crate::tests::doors_alone::{AloneRow, leave_at_all_sizes};
 use any_door::DoorKind;
 use hoare_law::monitor::Monitor;
 use std::process::Abort;
@@ -84,14 +84,9 @@ pub fn both_try<R: Wait + Abort, M: Monitor<Tally>>(rt: &R, m: &M, outs: Vec<M::
 
 #[test]
 fn who_tries_comes_in_where_it_is_free(rt: HostRuntime) {
+    let row = AloneRow::WhoTriesComesInWhereItIsFree;
     for kind in DoorKind::BOTH {
-        let left = left_by(
-            &rt,
-            rt.alloc(),
-            kind,
-            AloneRow::WhoTriesComesInWhereItIsFree,
-        );
-        expect_same(&rt, (kind, left), (kind, 123));
+        leave_at_all_sizes(&rt, rt.alloc(), kind, 2, row, 123);
     }
 }
 

@@ -1,4 +1,5 @@
-//! What no contract says: that who is resumed wakes, that it slept till then, and that a newcomer comes in.
+//! What no contract says: that a waiter that is resumed wakes, that it slept till then, as does a signaller until it is
+//! back, and that a newcomer comes in.
 ghost use Rattle.std.specs.Prelude.{◌≡◌};
 
 use crate::tests::awaited::{await_sign, watch};
@@ -11,8 +12,11 @@ use std::thread;
 use std::time::{CpuClock, Duration};
 use test_support::tally::{Tally, write_digit};
 
-/// Who sleeps in a wait takes fewer milliseconds of the processor's time for it.
+/// A place that sleeps in a call takes fewer milliseconds of the processor's time for it.
 const AWAKE: u64 = 30;
+
+/// For how many milliseconds the other place makes it sleep.
+const ASLEEP: u64 = 300;
 
 // What this thread has spent of the processor's time, in milliseconds.
 fn spent<R: Abort + CpuClock>(rt: &R) -> u64 {
@@ -22,12 +26,19 @@ fn spent<R: Abort + CpuClock>(rt: &R) -> u64 {
     u64::try_from(time.as_millis()).unwrap_or(u64::MAX)
 }
 
+// Returns 0 if this thread slept since it had spent so much, and else how many milliseconds it has spent since.
+fn awake_since<R: Abort + CpuClock>(rt: &R, before: u64) -> u64 {
+    let took = spent(rt).saturating_sub(before);
+    if took < AWAKE { 0 } else { took }
+}
+
 fn pause<R: Clock>(rt: &R, millis: u64) {
     thread::sleep(rt, Duration::from_millis(millis));
 }
 
-/// Place 0 waits and writes 1: it answers 0 where it slept meanwhile, and else how many milliseconds of the processor's
-/// time the wait took. Place 1 lets it wait for a while, signals, and writes 2 when it is back.
+/// Place 0 waits, writes 1, and stays inside for a while. Place 1 lets it wait for as long, signals, and writes 2 when
+/// it is back. Each answers 0 if it slept in its call, and else how many milliseconds of the processor's time the call
+/// took.
 pub fn waits_long<R: Wait + Abort + Clock + CpuClock, M: Monitor<Tally>>(
     rt: &R,
     m: &M,
@@ -40,17 +51,19 @@ pub fn waits_long<R: Wait + Abort + Clock + CpuClock, M: Monitor<Tally>>(
 {
     if place > 0 {
         let out = m.leave(rt, watch(rt, m, out, 0, 1));
-        pause(rt, 300);
-        let (inside, _resumed) = m.signal(rt, m.enter(rt, out), 0);
-        return (m.leave(rt, write_digit(m, inside, 2)), 0);
+        pause(rt, ASLEEP);
+        let inside = m.enter(rt, out);
+        let before = spent(rt);
+        let (inside, _resumed) = m.signal(rt, inside, 0);
+        let awake = awake_since(rt, before);
+        return (m.leave(rt, write_digit(m, inside, 2)), awake);
     }
     let inside = m.enter(rt, out);
     let before = spent(rt);
     let inside = m.wait(rt, inside, 0, 0);
-    let after = spent(rt);
-    let inside = write_digit(m, inside, 1);
-    let took = after.saturating_sub(before);
-    (m.leave(rt, inside), if took < AWAKE { 0 } else { took })
+    let awake = awake_since(rt, before);
+    pause(rt, ASLEEP);
+    (m.leave(rt, write_digit(m, inside, 1)), awake)
 }
 
 /// Place 0 comes in, gives a sign, stays inside for a while and writes 1. Place 1 comes in after the sign, and writes

@@ -5,7 +5,7 @@ ghost use Rattle.hoare_law.specs.Priorities.{nobody};
 ghost use Rattle.sweep_schedulers.specs.Heads.{HeadRests};
 
 use crate::tests::compared::{all_answered, expect_same};
-use crate::tests::row::run;
+use crate::tests::row::{run, run_by_type};
 use crate::tests::rows::drive::{Trip, goes, hands_on};
 use crate::tests::rows::head_stay::{ASKING, asks_or_counts};
 use crate::tests::rows::head_stress::{CYLMAX, Line, PLACES, is_a_sweep, travels};
@@ -225,5 +225,18 @@ fn a_disk_head_on_each_door(host: HostRuntime) {
             all_answered(rt, kind, answers.as_slice(), places);
         }
         is_a_sweep(rt, log);
+    }
+}
+
+#[test]
+fn a_disk_head_by_each_doors_type(host: HostRuntime) {
+    let (rt, alloc) = (&host, host.alloc());
+    for kind in DoorKind::BOTH {
+        let turns = Turns::new();
+        let row = HeadRow::ByPlan(alloc, &turns, &SWEEP_ORDER);
+        let (cylmax, places) = setting(row);
+        let head = disk(alloc, cylmax);
+        let (_, answers) = run_by_type!(rt, alloc, kind, head, places, acts(row));
+        all_answered(rt, kind, answers.as_slice(), places);
     }
 }

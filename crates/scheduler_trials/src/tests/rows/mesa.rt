@@ -3,7 +3,7 @@ ghost use Rattle.std.specs.Prelude.{◌≡◌};
 ghost use Rattle.plain_schedulers.specs.Buffers.{BufferHolds};
 
 use crate::tests::compared::expect_same;
-use crate::tests::row::run;
+use crate::tests::row::{run, run_by_type};
 use crate::tests::rows::turns::{Turns, line_up};
 use any_door::DoorKind;
 use hoare_law::monitor::Monitor;
@@ -171,6 +171,19 @@ fn who_is_called_tests_again_on_each_door(host: HostRuntime) {
             let (_, answers) = run!(rt, alloc, kind, buffer, places, acts(row));
             holds(rt, kind, row, answers.as_slice());
         }
+    }
+}
+
+#[test]
+fn who_is_called_tests_again_by_each_doors_type(host: HostRuntime) {
+    let (rt, alloc) = (&host, host.alloc());
+    for kind in DoorKind::BOTH {
+        let turns = Turns::new();
+        let row = MesaRow::WhoIsCalledTestsAgain(&turns);
+        let (cells, places) = setting(row);
+        let buffer = with_cells(rt, alloc, cells);
+        let (_, answers) = run_by_type!(rt, alloc, kind, buffer, places, acts(row));
+        holds(rt, kind, row, answers.as_slice());
     }
 }
 

@@ -3,7 +3,7 @@ ghost use Rattle.std.specs.Prelude.{◌≡◌};
 
 use crate::tests::compared::{all_answered, expect_same, reads_as};
 use crate::tests::fake::with_answers;
-use crate::tests::row::run;
+use crate::tests::row::{run, run_by_type};
 use crate::tests::rows::late_reader::reads_or_writes_late;
 use crate::tests::rows::readers_stress::{Line, PLACES, is_read_and_written, reads_or_writes_on};
 use crate::tests::rows::reading::{
@@ -261,5 +261,19 @@ fn readers_and_writers_on_each_door(host: HostRuntime) {
             holds(rt, kind, row, shared.into_value());
         }
         is_read_and_written(rt, log);
+    }
+}
+
+#[test]
+fn readers_and_writers_by_each_doors_type(host: HostRuntime) {
+    let (rt, alloc) = (&host, host.alloc());
+    for kind in DoorKind::BOTH {
+        let turns = Turns::new();
+        let row = ReadersRow::ReadersAndWriters(alloc, &turns);
+        let (value, places) = setting(row);
+        let data = ReadersWriters::with(value);
+        let (shared, answers) = run_by_type!(rt, alloc, kind, data, places, acts(row));
+        all_answered(rt, kind, answers.as_slice(), places);
+        holds(rt, kind, row, shared.into_value());
     }
 }

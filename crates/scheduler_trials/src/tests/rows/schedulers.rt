@@ -4,7 +4,7 @@ ghost use Rattle.std.specs.Prelude.{◌≡◌};
 use crate::tests::awaited::{await_sign, watch};
 use crate::tests::compared::{answered, expect_same};
 use crate::tests::fake::with_cells;
-use crate::tests::row::run;
+use crate::tests::row::{run, run_by_type};
 use any_door::DoorKind;
 use hoare_law::monitor::Monitor;
 use plain_schedulers::buffer::{Buffer, BufferRefused};
@@ -124,6 +124,28 @@ fn items_come_out_in_order_on_each_door(host: HostRuntime) {
             let (_, answers) = run!(rt, alloc, kind, buffer, 2, appends_or_removes(items));
             answered(rt, kind, answers.as_slice(), &[0, items]);
         }
+    }
+}
+
+#[test]
+fn an_item_is_lent_by_each_doors_type(host: HostRuntime) {
+    let (rt, alloc) = (&host, host.alloc());
+    for kind in DoorKind::BOTH {
+        let sign = AtomicBool::new(false);
+        let single = Single::with(7u64);
+        let (_, answers) = run_by_type!(rt, alloc, kind, single, 2, lends_or_borrows(&sign));
+        answered(rt, kind, answers.as_slice(), &[7, 7]);
+    }
+}
+
+#[test]
+fn items_come_out_in_order_by_each_doors_type(host: HostRuntime) {
+    let (rt, alloc) = (&host, host.alloc());
+    let items = 4;
+    for kind in DoorKind::BOTH {
+        let buffer = with_cells(rt, alloc, 1);
+        let (_, answers) = run_by_type!(rt, alloc, kind, buffer, 2, appends_or_removes(items));
+        answered(rt, kind, answers.as_slice(), &[0, items]);
     }
 }
 

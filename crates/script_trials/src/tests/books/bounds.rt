@@ -8,11 +8,11 @@ use wait_book::steps::{Next, Step, StepRefused};
 
 const PLACES: u64 = 64;
 
-// All places but the first come in and wait, on all eight conditions.
+// All places but the first come in and wait, on all eight conditions, each before all that wait there.
 fn fill(book: &mut Book) -> Result<(), StepRefused> {
     for place in 1..PLACES {
         book.try_step(Step::Enter(place))?;
-        book.try_step(Step::Wait(place, place % 8, place))?;
+        book.try_step(Step::Wait(place, place % 8, u64::MAX - place))?;
     }
     Ok(())
 }

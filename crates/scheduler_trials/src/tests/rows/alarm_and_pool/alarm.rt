@@ -2,7 +2,7 @@
 ghost use Rattle.std.specs.Prelude.{◌≡◌};
 
 use crate::tests::compared::{answered, expect_same};
-use crate::tests::row::run;
+use crate::tests::row::{run, run_by_type};
 use crate::tests::rows::alarm_stress::{Line, SLEEPERS, is_a_clock, sleeps_or_ticks_on};
 use crate::tests::rows::shared_log::Log;
 use crate::tests::rows::turns::watch;
@@ -158,5 +158,16 @@ fn an_alarm_clock_on_each_door(host: HostRuntime) {
             answered(rt, kind, answers.as_slice(), wanted(row));
         }
         is_a_clock(rt, log);
+    }
+}
+
+#[test]
+fn an_alarm_clock_by_each_doors_type(host: HostRuntime) {
+    let (rt, alloc) = (&host, host.alloc());
+    let row = AlarmRow::SleepersWakeAtTheirSettings;
+    let (time, places) = setting(row);
+    for kind in DoorKind::BOTH {
+        let (_, answers) = run_by_type!(rt, alloc, kind, Alarm::at(time), places, acts(row));
+        answered(rt, kind, answers.as_slice(), wanted(row));
     }
 }

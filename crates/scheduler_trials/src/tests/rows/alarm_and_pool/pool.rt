@@ -4,7 +4,7 @@ ghost use Rattle.hoare_law.specs.Priorities.{nobody};
 ghost use Rattle.timed_schedulers.specs.Pools.{PoolRests};
 
 use crate::tests::compared::{answered, expect_same};
-use crate::tests::row::run;
+use crate::tests::row::{run, run_by_type};
 use crate::tests::rows::pool_stress::{BUFFERS, Line, STREAMS, is_a_pool, uses_or_takes_all};
 use crate::tests::rows::shared_log::Log;
 use crate::tests::rows::turns::{Turns, line_up};
@@ -214,6 +214,19 @@ fn a_pool_on_each_door(host: HostRuntime) {
             answered(rt, kind, answers.as_slice(), wanted(row));
         }
         is_a_pool(rt, log);
+    }
+}
+
+#[test]
+fn a_pool_by_each_doors_type(host: HostRuntime) {
+    let (rt, alloc) = (&host, host.alloc());
+    for kind in DoorKind::BOTH {
+        let turns = Turns::new();
+        let row = PoolRow::WhoHoldsTheFewestBuffersGoesOnFirst(&turns);
+        let (buffers, streams, places) = setting(row);
+        let pool = with_buffers(rt, alloc, buffers, streams);
+        let (_, answers) = run_by_type!(rt, alloc, kind, pool, places, acts(row));
+        answered(rt, kind, answers.as_slice(), wanted(row));
     }
 }
 

@@ -1,0 +1,225 @@
+//! A worker's acts in order: at each call of its gate another thread looks behind the doors. That what is done is kept
+//! before `end` no look finds: reviewed only.
+ghost use Rattle.disk_service.specs.Doors.{AreThere, IsSeat};
+
+use crate::caller::{close_board, hand_out};
+use crate::clock::tick_on;
+use crate::data::Drive;
+use crate::doors::Doors;
+use crate::gate::Gate;
+use crate::places::Places;
+use crate::seat::Seat;
+use crate::worker::work;
+use disk_jobs::done::Done;
+use disk_jobs::jobs::Jobs;
+use disk_jobs::kind::Kind;
+use plain_schedulers::single::Single;
+use std::alloc::Global;
+use std::process::Abort;
+use std::sync::{Barrier, Mutex, Wait};
+use std::test::Fail;
+use std::thread;
+use std::thread::Threads;
+use sweep_schedulers::head::Head;
+use sweep_schedulers::readers_writers::ReadersWriters;
+use timed_schedulers::pool::{GiveRefused, Pool};
+
+// A call of the gate, with its job.
+#[derive(Clone, Copy, Debug, PartialEq, Eq)]
+enum Call {
+    Begin(usize),
+    End(usize),
+}
+
+// How often the gate is called, of three jobs.
+const CALLS: usize = 6;
+
+// What lies behind the doors: how many jobs the totals count, how many the board has, and whether both the buffer and
+// the drive are in.
+#[derive(Clone, Copy, Debug, PartialEq, Eq)]
+struct Found {
+    counted: u64,
+    noted: u32,
+    are_in: bool,
+}
+
+// What lies behind these doors. The seat comes back. (A buffer that is in can't be given back, and while the drive is
+// in none can be put in.)
+fn found_behind<R: Wait>(rt: &R, doors: &Doors, seat: Seat) -> (Seat, Found)
+    requires { IsSeat doors.now seat }
+    ensures { IsSeat doors.now result.0 }
+{
+    let mut seat = seat;
+    let (place, totals) = Single::acquire(&doors.totals, rt, seat.totals);
+    let (place, _released) = Single::release(&doors.totals, rt, place, totals);
+    seat.totals = place;
+    let (place, board) = ReadersWriters::start_write(&doors.board, rt, seat.board);
+    let (place, _ended) = ReadersWriters::end_write(&doors.board, rt, place, board);
+    seat.board = place;
+    let (place, given) = Pool::give(&doors.pool, rt, seat.pool, 0, 0);
+    seat.pool = place;
+    let (place, put) = Head::release(&doors.head, rt, seat.head, Drive);
+    seat.head = place;
+    let found = Found {
+        counted: totals.jobs,
+        noted: board.done,
+        are_in: given == Err(GiveRefused::NotHeld) && put.is_err(),
+    };
+    (seat, found)
+}
+
+// A gate that waits at each of its calls until the watcher has looked behind the doors.
+#[derive(Drop)]
+struct Watched<'a, R: Wait> {
+    rt: &'a R,
+    call: Mutex<Call>,
+    meeting: Barrier,
+}
+
+impl<R: Wait> Watched<'_, R> {
+    // Says which call it is in, and waits for the look.
+    fn await_look(&self, call: Call) {
+        *self.call.lock(self.rt) = call;
+        self.meeting.wait(self.rt);
+        self.meeting.wait(self.rt);
+    }
+}
+
+impl<R: Wait> Gate for Watched<'_, R> {
+    fn begin(&self, job: usize) {
+        self.await_look(Call::Begin(job));
+    }
+
+    fn end(&self, job: usize) {
+        self.await_look(Call::End(job));
+    }
+}
+
+// What the watcher finds at each call of the gate.
+fn found_at_calls<R: Wait>(
+    rt: &R,
+    alloc: Global,
+    gate: &Watched<'_, R>,
+    doors: &Doors,
+    seat: Seat,
+) -> Vec<(Call, Found)>
+    requires { IsSeat doors.now seat }
+{
+    let mut seat = seat;
+    let mut calls = Vec::new(alloc);
+    for _ in 0..CALLS {
+        gate.meeting.wait(rt);
+        let call = *gate.call.lock(rt);
+        let (back, found) = found_behind(rt, doors, seat);
+        seat = back;
+        let _noted = calls.push((call, found));
+        gate.meeting.wait(rt);
+    }
+    calls
+}
+
+// What a worker brings of the jobs, which it hands itself. At last it closes the board.
+fn done_by<R: Wait, G: Gate>(
+    rt: &R,
+    alloc: Global,
+    gate: &G,
+    jobs: &Jobs,
+    doors: &Doors,
+    seat: Seat,
+) -> Vec<Done>
+    requires { IsSeat doors.now seat }
+{
+    let seat = hand_out(rt, doors, jobs, seat);
+    let (seat, kept) = work(rt, gate, jobs, doors, seat, Vec::new(alloc));
+    close_board(rt, doors, seat);
+    kept
+}
+
+// What the watcher finds, and what the worker brings.
+fn work_watched<R: Threads + Wait + Sync>(
+    rt: &R,
+    alloc: Global,
+    jobs: &Jobs,
+    doors: &Doors,
+    watcher: Seat,
+    worker: Seat,
+) -> (Vec<(Call, Found)>, Vec<Done>)
+    requires watcher { IsSeat doors.now watcher }
+    requires worker { IsSeat doors.now worker }
+{
+    let gate = Watched {
+        rt,
+        call: Mutex::new(Call::Begin(0)),
+        meeting: Barrier::new(2),
+    };
+    thread::join(
+        rt,
+        || found_at_calls(rt, alloc, &gate, doors, watcher),
+        || done_by(rt, alloc, &gate, jobs, doors, worker),
+    )
+}
+
+// With a clock beside them.
+fn work_in_time<R: Threads + Wait + Sync>(
+    rt: &R,
+    alloc: Global,
+    jobs: &Jobs,
+    doors: &Doors,
+    places: Places,
+) -> (Vec<(Call, Found)>, Vec<Done>)
+    requires { AreThere doors.now 3 places }
+{
+    let mut places = places;
+    let watcher = places.take_seat(2);
+    let clock = places.take_seat(1);
+    let worker = places.take_seat(0);
+    let (_clock, seen) = thread::join(
+        rt,
+        || tick_on(rt, doors, clock),
+        || -> (Vec<(Call, Found)>, Vec<Done>)
+            requires watcher { IsSeat doors.now watcher }
+            requires worker { IsSeat doors.now worker }
+        { work_watched(rt, alloc, jobs, doors, watcher, worker) },
+    );
+    seen
+}
+
+// What is to be found where so many jobs are done, and nothing is out.
+fn after(done: u32) -> Found {
+    Found {
+        counted: u64::from(done),
+        noted: done,
+        are_in: true,
+    }
+}
+
+// At each call all is done of the jobs before it, and at its end of the job itself.
+fn assert_in_order<R: Abort>(rt: &R, calls: &[(Call, Found)], kept: &[Done]) {
+    let wanted: [(Call, Found); CALLS] = [
+        (Call::Begin(0), after(0)),
+        (Call::End(0), after(1)),
+        (Call::Begin(1), after(1)),
+        (Call::End(1), after(2)),
+        (Call::Begin(2), after(2)),
+        (Call::End(2), after(3)),
+    ];
+    assert_eq!(rt; calls, wanted.as_slice());
+    let jobs = [Done::of(0, 7), Done::of(1, 300), Done::of(2, 3)];
+    assert_eq!(rt; kept, jobs.as_slice());
+}
+
+#[test]
+fn acts_in_order(rt: HostRuntime) -> Result<(), Fail> {
+    let alloc = rt.alloc();
+    let Ok(jobs) = Jobs::make(400, 1, vec![in alloc; 7, 300, 3]?) else {
+        return Err(Fail::from("no jobs"));
+    };
+    for kind in [Kind::Baton, Kind::Ticket] {
+        let Ok((doors, places)) = Doors::open(alloc, kind, &jobs, 3) else {
+            return Err(Fail::from("no doors"));
+        };
+        let (calls, kept) = work_in_time(&rt, alloc, &jobs, &doors, places);
+        assert_in_order(&rt, calls.as_slice(), kept.as_slice());
+    }
+    Ok(())
+}

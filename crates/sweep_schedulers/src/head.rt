@@ -114,6 +114,27 @@ impl<T: Drop> Head<T> {
         }
     }
 
+    /// A disk of the cylinders 0 to `cylmax` with the head at `headpos`, sweeping in `direction`. No grant is counted
+    /// as due there.
+    pub fn standing(drive: Option<T>, headpos: u16, direction: Direction, cylmax: u16) -> Head<T>
+        requires { headpos ≤ cylmax }
+        ensures { result ≡ record {
+          drive = drive;
+          headpos = headpos;
+          direction = direction;
+          cylmax = cylmax;
+          stay = 0;
+        } }
+    {
+        Head {
+            drive,
+            headpos,
+            direction,
+            cylmax,
+            stay: 0,
+        }
+    }
+
     /// How many grants are still due at the cylinder under the head, while the drive is out: so many requests wait for
     /// it and the present sweep, and no other joins them. While the drive is in the number says nothing.
     pub fn stay(&self) -> usize
@@ -122,8 +143,16 @@ impl<T: Drop> Head<T> {
         self.stay
     }
 
-    // The last cylinder.
-    fn cylmax(&self) -> u16
+    /// Returns the cylinder under the head.
+    pub fn headpos(&self) -> u16
+        ensures at { result ≡ self.now.headpos }
+        ensures on_disk { result ≤ self.now.cylmax }
+    {
+        self.headpos
+    }
+
+    /// Returns the last cylinder.
+    pub fn cylmax(&self) -> u16
         ensures { result ≡ self.now.cylmax }
     {
         self.cylmax
@@ -136,22 +165,23 @@ impl<T: Drop> Head<T> {
         self.headpos == dest
     }
 
-    // Whether the drive is out.
-    fn is_busy(&self) -> bool
+    /// Returns true if the drive is out.
+    pub fn is_busy(&self) -> bool
         ensures { IsTrue result ↔ (self.now.drive ≡ None) }
     {
         self.drive.is_none()
     }
 
-    // The condition of the present sweep.
-    fn sweep(&self) -> usize
+    /// Returns the condition of the present sweep: `UPSWEEP` or `DOWNSWEEP`.
+    pub fn sweep(&self) -> usize
         ensures { result ≡ sweep self.now.direction }
     {
         self.direction.sweep()
     }
 
-    // The sweep that reaches a cylinder, and the priority with which a request for it waits there.
-    fn stop_at(&self, dest: u16) -> (usize, u64)
+    /// Returns where a request for `dest` waits while the drive is out: the condition of the sweep that reaches `dest`
+    /// from where the head is, and the priority there. For the cylinder under the head it is the other sweep.
+    pub fn stop_at(&self, dest: u16) -> (usize, u64)
         requires { dest ≤ self.now.cylmax }
         ensures sweep { result.0 ≡ sweep (toward dest self.now) }
         ensures priority { result.1 ≡ priority_at self.now.cylmax (toward dest self.now) dest }
@@ -164,16 +194,16 @@ impl<T: Drop> Head<T> {
         }
     }
 
-    // Takes the drive out.
-    fn take(&mut self) -> Option<T>
+    /// Takes the drive out: returns it, or `None` if it was out already.
+    pub fn take(&mut self) -> Option<T>
         ensures drive { result ≡ self.old.drive }
         ensures after { self.new ≡ given_out self.old }
     {
         self.drive.take()
     }
 
-    // Puts the head at a cylinder.
-    fn go(&mut self, dest: u16)
+    /// Puts the head at cylinder `dest`. The requests that wait, and the grants counted as due, are left as they are.
+    pub fn go(&mut self, dest: u16)
         requires { dest ≤ self.old.cylmax }
         ensures { self.new ≡ moved self.old dest }
     {
@@ -230,15 +260,15 @@ impl<T: Drop> Head<T> {
         }
     }
 
-    // Puts a drive in.
-    fn put(&mut self, drive: T)
+    /// Puts a drive in, in place of any that is in.
+    pub fn put(&mut self, drive: T)
         ensures { self.new ≡ put self.old drive }
     {
         self.drive = Some(drive);
     }
 
-    // Sweeps the other way.
-    fn turn(&mut self)
+    /// Turns the head: it sweeps the other way from now on.
+    pub fn turn(&mut self)
         ensures { self.new ≡ turned self.old }
     {
         self.direction = self.direction.opposite();

@@ -11,6 +11,7 @@
  *  - no call from a signal handler. */
 #ifndef ZAULINTE_BOOK_H
 #define ZAULINTE_BOOK_H
+#include "zaulinte_version.h"
 #include <stdint.h>
 #ifdef __cplusplus
 extern "C" {

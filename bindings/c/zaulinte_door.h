@@ -17,9 +17,10 @@
  *    returns (see `wait`);
  *  - `rattle_alloc` and `rattle_dealloc` may be called by several threads at once (zaulinte_malloc.c, and not
  *    zaulinte_heap.c): `give_back` frees memory in the thread that calls it;
- *  - no call from a signal handler. */
+ *  - no call from a signal handler (a kernel's interrupt handler may act by a place of its own: docs/KERNEL.md). */
 #ifndef ZAULINTE_DOOR_H
 #define ZAULINTE_DOOR_H
+#include "zaulinte_version.h"
 #include <stdint.h>
 #ifdef __cplusplus
 extern "C" {

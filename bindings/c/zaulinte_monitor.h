@@ -10,6 +10,7 @@
 #define ZAULINTE_MONITOR_H
 #include "zaulinte_book.h" /* its codes */
 #include "zaulinte_door.h"
+#include "zaulinte_head.h" /* its codes, for zaulinte_text */
 #include <stdbool.h>
 #include "zaulinte_port.h"
 #if __STDC_HOSTED__
@@ -110,7 +111,8 @@ ZAULINTE_CODE zaulinte_free(zaulinte_monitor *m);
  *
  * enter: 101 (no such place), 103 (it is inside, waits, or is another thread's), 107 (no monitor). It may block. */
 ZAULINTE_CODE zaulinte_enter(zaulinte_monitor *m, uint32_t place);
-/* The same without blocking: 102 if the monitor isn't free. */
+/* The same without blocking: 102 if the monitor isn't free. docs/KERNEL.md says which calls an interrupt handler of a
+ * kernel may make. */
 ZAULINTE_CODE zaulinte_try_enter(zaulinte_monitor *m, uint32_t place);
 /* An act of the place inside: 101 (a place of 64 or more), 103 (it is another thread's), 104 (it is outside), 105,
  * 106. */
@@ -151,6 +153,10 @@ static inline const char *zaulinte_text(uint64_t code) {
     case ZAULINTE_NO_MEMORY: return "out of memory";
     case ZAULINTE_IN_USE: return "a thread has a place: it is inside, or in a call";
     case ZAULINTE_MISALIGNED: return "the monitor isn't at a multiple of 64";
+    case ZAULINTE_HEAD_OFF_DISK: return "the cylinder is past the last one";
+    case ZAULINTE_HEAD_IS_OUT: return "the drive is out already";
+    case ZAULINTE_HEAD_NOT_OUT: return "the drive isn't out";
+    case ZAULINTE_HEAD_NO_ANSWER: return "whether a request waits is 1 or 0";
     default: return "no code of a monitor";
     }
 }

@@ -1,8 +1,9 @@
 /* zaulinte_port.h: what the running monitor asks of its platform, and the choice of a port. NOT PROVED.
  *
  * A port is one header. Three are here, in files of their own: zaulinte_port_futex.h (Linux), zaulinte_port_condvar.h
- * (POSIX threads) and zaulinte_port_poll.h (no thread sleeps). For another platform, a kernel say, write a header like
- * these and compile zaulinte_monitor.c, and all that includes zaulinte_monitor.h, with -DZAULINTE_PORT='"file.h"'.
+ * (POSIX threads) and zaulinte_port_poll.h (no thread sleeps). For another platform write a header like these (a
+ * kernel's is ../kernel/kernel_port.h) and compile zaulinte_monitor.c, and all that includes zaulinte_monitor.h, with
+ * -DZAULINTE_PORT='"file.h"'.
  *
  * A port is read twice. First by zaulinte_monitor.h, in C and in C++; there it defines
  *   ZAULINTE_PORT_NAME    a word, which becomes part of a symbol that all these files ask for: a program that was
@@ -20,8 +21,8 @@
  *   port_relax()          tells the processor that this is a loop that polls a word.
  *   port_thread()         returns a number of the calling thread, not 0, that no other living thread has. */
 /* Why no wake-up is lost. Each act of a place is one step of the door (zaulinte_door.h). A step that releases the
- * monitor returns the place that has it next, or that it is free. Each step is a sequentially consistent exchange of
- * one word of the door, so a full barrier for the words here: the argument rests on that.
+ * monitor returns the place that has it next, or that it is free. Each step is a sequentially consistent operation on
+ * one word of the door, and so is each operation on a word that is named here: the argument rests on their one order.
  *
  * A place that is to resume. Its thread sleeps after it changed the place's word from AWAKE to ASLEEP. The releasing
  * thread exchanges the word for RUNG (LEFT, if its place left), and wakes if it was ASLEEP. So either the change finds
@@ -36,6 +37,7 @@
  *    its own leaving wakes the next; if it fails, all that was said of the first holds of it.
  *  - If no newcomer slept yet, those that were about to find that the word has changed, write, and try again. If one
  *    finds ASLEEP, yet another newcomer wrote that later, is awake, and tries after it: the same holds of that one. */
+#include "zaulinte_version.h" /* an installed one has the choices of the library */
 #ifndef ZAULINTE_PORT
 #ifdef __linux__
 #define ZAULINTE_PORT "zaulinte_port_futex.h"

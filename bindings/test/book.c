@@ -99,6 +99,15 @@ static void refuses_in_order(zaulinte_book *b) {
     is("count", zaulinte_book_count(b, UINT64_MAX, &kept), ZAULINTE_NO_CONDITION);
     is("what stood there", kept, 77);
 }
+/* each number of places with each number of conditions */
+static void makes_each_size(zaulinte_book *b) {
+    for (uint64_t size = 0; size < 64 * 8; size++) {
+        uint64_t places = size / 8 + 1, conditions = size % 8 + 1;
+        is("make each size", zaulinte_book_make(b, places, conditions, conditions / 2), 0);
+        is("the places of each size", zaulinte_book_places(b), places);
+        is("free each size", zaulinte_book_free(b), 0);
+    }
+}
 int main(void) {
     zaulinte_book b = {0, 0, 0};
     makes_in_order(&b);
@@ -109,5 +118,6 @@ int main(void) {
     answers_where_no_book_is(&b);
     is("make again", zaulinte_book_make(&b, 64, 8, 0), 0);
     is("free again", zaulinte_book_free(&b), 0);
+    makes_each_size(&b);
     return failed;
 }

@@ -2,7 +2,7 @@
  * and beside a mutex. Nanoseconds of the thread's CPU time, the least of 15 batches. No test: it only prints.
  *
  *   gcc -std=c11 -O2 -pthread -Ibindings/c bindings/test/door_visit.c bindings/c/zaulinte_malloc.c \
- *       crates/door_c/out/libdoor_c.a -o visit && ./visit */
+ *       bindings/lib/x86_64-linux/libzaulinte.a -o visit && ./visit */
 #define _GNU_SOURCE
 #include "zaulinte_door.h"
 #include <pthread.h>

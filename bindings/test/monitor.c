@@ -107,9 +107,9 @@ static void memory(void) {
     IS(kept, 0);
 }
 static void texts(void) {
-    for (uint64_t a = ZAULINTE_NO_PLACE; a <= ZAULINTE_MISALIGNED; a++)
+    for (uint64_t a = ZAULINTE_NO_PLACE; a <= ZAULINTE_HEAD_NO_ANSWER; a++)
         for (uint64_t b = ZAULINTE_NO_PLACE; b < a; b++)
-            IS(zaulinte_text(a) == zaulinte_text(b), a >= 113 && a < ZAULINTE_MISALIGNED && b >= 113);
+            IS(zaulinte_text(a) == zaulinte_text(b), a == ZAULINTE_DOOR_NONE_LEFT && b == ZAULINTE_DOOR_NOT_AWAY);
 }
 
 /* a thread that is cancelled while it waits resumes all the same, and ends at its next cancellation point, outside */

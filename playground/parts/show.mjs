@@ -1,0 +1,274 @@
+// One run of a script on the page: a sentence on the step, the data with rest and ready, the lists, and the lanes.
+import { NOBODY, all, is_refused } from "./book.mjs";
+import { ROW, mark, picture } from "./picture.mjs";
+import { data_after, owed } from "./schedulers.mjs";
+import { answer_text } from "./script.mjs";
+import { capital, describe } from "./words.mjs";
+
+const HEAD_LINE = 34; // the height of the line over the lanes, in pixels
+const GLIDE = 620; // how long a place takes to its new list, in milliseconds
+
+// Creates an element. Of its attributes `on..` are listeners; false and null ones are left out.
+export function make(tag, attributes = {}, ...inner) {
+    const made = document.createElement(tag);
+    for (const [name, value] of Object.entries(attributes)) {
+        if (name.startsWith("on")) made.addEventListener(name.slice(2), value);
+        else if (value !== false && value !== null) made.setAttribute(name, value === true ? "" : value);
+    }
+    made.append(...inner);
+    return made;
+}
+
+const is_calm = () => matchMedia("(prefers-reduced-motion: reduce)").matches;
+const plural = (n, what) => `${n} ${what}${n === 1 ? "" : "s"}`;
+
+// Returns how an example names places and conditions, by their numbers.
+export function names_of(labels, scheduler) {
+    const place = (at) => labels?.places?.[at] ?? `place ${at}`;
+    const named = scheduler?.conditions;
+    const condition = (at) => (named?.[at] ? named[at] : `condition ${at}`);
+    const chip = (at) => labels?.chips?.[at] ?? labels?.places?.[at] ?? `${at}`;
+    return { place, condition, chip };
+}
+
+const LEGEND = [
+    ["inside", "inside"], ["waits", "waits: condition, priority"], ["signals", "signalled, waits to return"],
+    ["called", "called: notified; 1 resumes first"], ["on", "a waiter resumes"], ["back", "a signaller returns"],
+    ["calls", "a notification"],
+];
+
+// Returns the places that were refused an enter because the monitor wasn't free, and did nothing since.
+function refused_at_enter(answers) {
+    const found = new Set();
+    for (const { name, words, code } of answers.filter((it) => !["queue", "first"].includes(it.name))) {
+        const place = Number(words[0]);
+        if (!is_refused(code)) found.delete(place);
+        else if (name === "enter" && code === 102) found.add(place);
+    }
+    return [...found];
+}
+
+// Returns one clause, with a mark and a word that say if it holds.
+function clause_item({ text, is_true }) {
+    const sign = make("span", { class: "sign", "aria-hidden": "true" }, is_true ? "✓" : "✗");
+    const word = make("b", {}, is_true ? "true" : "false");
+    return make("li", { class: is_true ? "holds" : "fails" }, sign, `${text}: `, word);
+}
+
+export class Show {
+    // `go(at)` is called to show another step. `under` has the elements put under the left and the right column.
+    constructor({ title, controls, go, under }) {
+        this.go = go;
+        this.banner = make("div", { class: "banner" });
+        this.data = make("div", { class: "data" });
+        this.stage = make("div", { class: "stage" });
+        this.steps = make("ol", { class: "steps", "aria-label": "Steps and answers" });
+        this.lanes = make("div", { class: "lanes" });
+        this.heads = make("div", { class: "heads", "aria-hidden": "true" });
+        const corner = make("div", { class: "corner", "aria-hidden": "true" }, "step", make("span", {}, "answer"));
+        this.scroll = make("div", { class: "card chart" }, corner, this.heads, this.steps, this.lanes);
+        const spans = LEGEND.map(([kind, text]) => make("span", { class: `l-${kind}` }, text));
+        const legend = make("p", { class: "legend", "aria-hidden": "true" }, ...spans);
+        const first = make("div", {}, this.banner, ...controls, this.data, this.stage);
+        const left = make("div", { class: "column" }, first, ...under[0]);
+        const right = make("div", { class: "column" }, make("div", {}, this.scroll, legend), ...under[1]);
+        const heading = make("h2", { class: title ? "run-title" : "unseen" }, title ?? "The monitor");
+        this.section = make("section", { class: "run", "aria-label": title ?? "The monitor" }, heading, left, right);
+        this.chips = new Map();
+    }
+
+    // Takes a run and its example's labels, notes and data: the lists, the steps and the lanes are made anew.
+    take(ran, { labels, notes, data, scheduler } = {}) {
+        this.ran = ran;
+        this.names = names_of(labels, scheduler);
+        this.notes = notes;
+        this.scheduler = scheduler;
+        this.values = scheduler && data_after(data);
+        this.banner.classList.toggle("has-notes", Boolean(notes));
+        this.data.hidden = !scheduler;
+        this.chips.clear();
+        this.stage.replaceChildren();
+        this.steps.replaceChildren(...ran.answers.map((it, at) => this.step_item(it, at)));
+        if (!ran.state(0)) this.show_nothing();
+        else this.build();
+    }
+
+    step_item(it, at) {
+        const text = answer_text(it);
+        const kind = `answer${is_refused(it.code) ? " refused" : ""}`;
+        const parts = [["n", `${at + 1}`], ["call", it.text], [kind, `→ ${text}`]];
+        const spans = parts.map(([name, inner]) => make("span", { class: name }, inner));
+        const label = `Step ${at + 1}: ${it.text}, answer ${text}`;
+        const go = () => this.go(at + 1);
+        return make("li", {}, make("button", { type: "button", "aria-label": label, onclick: go }, ...spans));
+    }
+
+    show_nothing() {
+        const { name, expected } = this.ran.fault;
+        const text = name === "NoHeader"
+            ? "No monitor yet. A script begins with “monitor P C”: choose an example, or “New monitor” below."
+            : `The first line isn’t taken: expected ${expected}.`;
+        this.banner.replaceChildren(make("p", { class: "said fault" }, text));
+    }
+
+    build() {
+        const { answers, sizes } = this.ran;
+        const states = all(answers.length + 1).map((at) => this.ran.state(at));
+        const { svg, lanes, width } = picture(states, sizes);
+        const head = ({ place, middle }) => make("span", { style: `left:${middle}px` }, `place ${place}`);
+        this.columns = lanes;
+        this.heads.style.width = `${width}px`;
+        this.heads.replaceChildren(...lanes.map(head));
+        if (answers.length > 0) this.lanes.innerHTML = svg;
+        else this.lanes.replaceChildren(make("p", { class: "hint none" }, "No step yet. Choose a call, or write one."));
+        this.build_stage();
+    }
+
+    build_stage() {
+        const { sizes } = this.ran;
+        const list = (label) => make("ul", { class: "chips", "aria-label": label });
+        const zone = (kind, head, chips) =>
+            make("div", { class: `zone ${kind}-zone` }, make("h3", {}, ...[head].flat()), chips);
+        const kind_of = (text) => make("span", { class: "kind" }, text);
+        const name = (at) => this.names.condition(at);
+        this.zones = {
+            outside: list("Outside"), refused: list("Refused: the monitor wasn’t free"), inside: list("Inside"),
+            signallers: list("Waiting signallers, in order"), called: list("Notified, in order"),
+            conditions: all(sizes.conditions).map((at) => list(`Waiting on ${name(at)}, in order`)),
+        };
+        const z = this.zones;
+        const notified = () => zone("called", ["Notified, resume next ", kind_of("(in order)")], z.called);
+        const called = sizes.mesa === 0 ? [] : [notified()];
+        const signallers = zone("signallers", ["Signallers, return first ", kind_of("(in order)")], z.signallers);
+        const next = make("div", { class: `next${called.length === 0 ? " alone" : ""}` }, signallers, ...called);
+        const kind = (at) => kind_of(at >= sizes.conditions - sizes.mesa ? "(Mesa)" : "(Hoare)");
+        const conditions = z.conditions.map((it, at) => zone("condition", [`Waiting on ${name(at)} `, kind(at)], it));
+        const outside = [zone("outside-places", "Outside", z.outside), zone("refused", "Refused at enter", z.refused)];
+        const below = make("div", { class: "conditions" }, ...conditions);
+        const monitor = make("div", { class: "monitor" }, zone("inside", "Inside", z.inside), next, below);
+        this.stage.append(make("div", { class: "outside" }, ...outside), monitor);
+    }
+
+    chip(place, kind, more = "") {
+        if (!this.chips.has(place)) this.chips.set(place, make("li", { "data-place": place }));
+        const chip = this.chips.get(place);
+        chip.className = `chip ${kind}`;
+        const text = this.names.chip(place);
+        const label = kind === "inside" && text === `${place}` ? `place ${text}` : text;
+        chip.replaceChildren(label, ...(more === "" ? [] : [make("small", {}, more)]));
+        return chip;
+    }
+
+    // Shows the state after `at` steps. Returns the sentence on it.
+    show(at, is_moved) {
+        const state = this.ran.state(at);
+        for (const [i, it] of [...this.steps.children].entries()) {
+            it.classList.toggle("later", i >= at);
+            if (i === at - 1) it.firstChild.setAttribute("aria-current", "step");
+            else it.firstChild.removeAttribute("aria-current");
+        }
+        if (!state) return "";
+        mark(this.lanes.querySelector("svg"), at);
+        const on_page = [...this.chips].filter(([, it]) => it.isConnected);
+        const old = new Map(on_page.map(([place, it]) => [place, it.getBoundingClientRect()]));
+        this.fill(state, refused_at_enter(this.ran.answers.slice(0, at)).filter((it) => state.outside.includes(it)));
+        if (this.scheduler) this.show_data(at, state);
+        const said = this.tell(at, state);
+        if (is_moved && !is_calm()) this.glide(old);
+        return said;
+    }
+
+    fill(state, refused) {
+        const put = (into, chips, empty) =>
+            into.replaceChildren(...(chips.length > 0 ? chips : [make("li", { class: "empty" }, empty)]));
+        const z = this.zones;
+        const outside = state.outside.filter((it) => !refused.includes(it));
+        put(z.outside, outside.map((it) => this.chip(it, "out")), "none");
+        put(z.refused, refused.map((it) => this.chip(it, "refused")), "none");
+        put(z.inside, state.inside === NOBODY ? [] : [this.chip(state.inside, "inside")], "none: the monitor is free");
+        put(z.signallers, state.signallers.map((it) => this.chip(it, "signals")), "none");
+        put(z.called, state.called.map((it) => this.chip(it, "called")), "none");
+        for (const [at, { waiting }] of state.conditions.entries()) {
+            put(z.conditions[at], waiting.map((it) => this.chip(it.place, "waits", `p${it.priority}`)), "none");
+        }
+    }
+
+    // Shows the data, and what of rest and ready the step owes.
+    show_data(at, state) {
+        const { ran, scheduler, names } = this;
+        const data = this.values[at];
+        const before = at > 0 ? ran.state(at - 1) : null;
+        const { text, clauses, awaited } = owed(scheduler, data, ran.answers[at - 1], before, state, names);
+        const list = clauses.length > 0 ? [make("ul", { class: "clauses" }, ...clauses.map(clause_item))] : [];
+        const awaits = awaited?.map((it) => ({ ...it, text: `what the notified wait for: ${it.text}` })) ?? [];
+        const more = awaits.length > 0 ? [make("ul", { class: "clauses awaited" }, ...awaits.map(clause_item))] : [];
+        const values = make("p", { class: "values" }, make("b", {}, "Data: "), scheduler.show(data));
+        this.data.replaceChildren(values, make("p", { class: "owed" }, text), ...list, ...more);
+    }
+
+    // Moves each place from the list where it was.
+    glide(old) {
+        for (const [place, chip] of this.chips) {
+            const from = old.get(place);
+            if (!from || !chip.isConnected) continue;
+            const to = chip.getBoundingClientRect();
+            const [x, y] = [from.left - to.left, from.top - to.top];
+            if (Math.abs(x) + Math.abs(y) < 2) continue;
+            chip.style.zIndex = 3;
+            const bend = `translate(${x * 0.4 + (y > 0 ? 26 : -26)}px, ${y * 0.5}px)`;
+            const start = { transform: `translate(${x}px, ${y}px)` };
+            const path = [start, { transform: bend, offset: 0.55 }, { transform: "none" }];
+            const moved = chip.animate(path, { duration: GLIDE, easing: "cubic-bezier(.3,.1,.25,1)" });
+            moved.onfinish = () => (chip.style.zIndex = "");
+        }
+    }
+
+    // Says what the step did. Returns that as one line.
+    tell(at, state) {
+        const { ran, names } = this;
+        const count = make("p", { class: "at" }, at === 0 ? "At the opening" : `Step ${at} of ${ran.answers.length}`);
+        if (at === 0) return this.tell_opening(count);
+        const answer = ran.answers[at - 1];
+        const { said, why, is_refused: is_no } = describe(answer, ran.state(at - 1), state, names);
+        const note = this.notes?.[at - 1];
+        const told = make("span", { class: `answer${is_no ? " refused" : ""}` }, ` → ${answer_text(answer)}`);
+        const end = `The script ends here: line ${ran.fault?.line} isn’t taken.`;
+        const ends = ran.fault && at === ran.answers.length ? [end] : [];
+        this.banner.replaceChildren(
+            count, make("p", { class: "step" }, answer.text, told),
+            make("p", { class: "said" }, said), make("p", { class: "why" }, why),
+            ...(note ? [make("p", { class: "note" }, note)] : []),
+            ...ends.map((it) => make("p", { class: "fault" }, it)),
+        );
+        return `${answer.text}: ${said}${note ? ` ${note}` : ""}`;
+    }
+
+    tell_opening(count) {
+        const { places, conditions, mesa } = this.ran.sizes;
+        const last = mesa === 1 ? "is a Mesa condition" : `${mesa} are Mesa conditions`;
+        const which = mesa === 0 ? "" : `, of which the last ${last}`;
+        const sizes = `${plural(places, "place")} and ${plural(conditions, "condition")}${which}`;
+        const said = `A monitor with ${sizes}. No place is inside.`;
+        const header = make("p", { class: "step" }, this.ran.text.split("\n")[0]);
+        this.banner.replaceChildren(count, header, make("p", { class: "said" }, said));
+        return said;
+    }
+
+    // Scrolls the row of a step, and the lane of the place inside, into view in their own box.
+    follow(at) {
+        const state = this.ran.state(at);
+        if (!state) return;
+        const { scrollTop, scrollLeft, clientHeight, clientWidth } = this.scroll;
+        const top = Math.max(0, (at - 1) * ROW);
+        const is_seen = top >= scrollTop && top + 2.5 * ROW <= scrollTop + clientHeight - HEAD_LINE;
+        const lane = this.columns.find((it) => it.place === state.inside);
+        const wide = clientWidth - this.steps.offsetWidth;
+        const is_at_left = lane && lane.middle - lane.half < scrollLeft;
+        const is_beside = is_at_left || (lane && lane.middle + lane.half > scrollLeft + wide);
+        if (is_seen && !is_beside) return;
+        this.scroll.scrollTo({
+            top: is_seen ? scrollTop : top - clientHeight / 3, left: is_beside ? lane.middle - wide / 2 : scrollLeft,
+            behavior: is_calm() ? "auto" : "smooth",
+        });
+    }
+}

@@ -3,6 +3,9 @@
 #include <stddef.h>
 #include <stdlib.h>
 
+#ifdef __cplusplus
+#error "compile zaulinte_malloc.c as C"
+#endif
 struct tried {
     bool is;
     void *at;

@@ -59,11 +59,11 @@ impl<C: Condition, M: Condition> fmt::Debug for Waiting<C, M> {
 /// compare with, a limit say, is kept in the data.
 pub struct Checks<T, C, M = NoConditions> {
     /// Holds always.
-    pub inv: fn(&T) -> bool,
+    pub inv: fn(data: &T) -> bool,
     /// Holds whenever the monitor is released and nobody is resumed.
-    pub rest: fn(&T, &Waiting<C, M>) -> bool,
+    pub rest: fn(data: &T, waiting: &Waiting<C, M>) -> bool,
     /// Holds at a signal, for the place that it resumes.
-    pub ready: fn(C, u64, &T, &Waiting<C, M>) -> bool,
+    pub ready: fn(condition: C, priority: u64, data: &T, waiting: &Waiting<C, M>) -> bool,
 }
 
 impl<T, C, M> Default for Checks<T, C, M> {

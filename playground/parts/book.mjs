@@ -105,12 +105,12 @@ export function answer_all(module, sizes, commands) {
     return module.with_book(sizes, (book) => commands.map((it) => answer(book, it)));
 }
 
-// Returns the book's answer to each command, if that command is the next one after `done`.
+// Returns each command with the book's answer to it, if that command is the next one after `done`.
 export function try_each(module, sizes, done, commands) {
     const tried = (command) =>
         module.with_book(sizes, (book) => {
             replay(book, done);
-            return book.step(command);
+            return answer(book, command);
         }).value;
     return commands.map(tried);
 }

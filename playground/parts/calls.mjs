@@ -1,12 +1,17 @@
-// The calls that a visitor can choose as the next step: a button for each call of the chosen place. A call that would
-// be refused has a button that is off and says its refusal. Each is tried on a book of its own.
-import { NOBODY, all, is_refused, try_each } from "./book.mjs";
+// The calls that a visitor can choose as the next step: a button for each call of the chosen place, and for each
+// question. A call that would be refused has a button that is off and says its refusal. Each is tried on a book of its
+// own.
+import { NOBODY, STEPS, all, is_refused, try_each } from "./book.mjs";
 import { make } from "./show.mjs";
-import { REFUSALS } from "./script.mjs";
+import { REFUSALS, answer_text } from "./script.mjs";
 
 const MOST_PRIORITY = 2n ** 64n - 1n;
-const ON_CONDITION = ["wait", "signal", "pass", "notify", "broadcast"];
+const ON_CONDITION = ["signal", "pass", "notify", "broadcast"];
+const QUESTIONS = ["queue", "first"];
 const $ = (id) => document.getElementById(id);
+
+const is_priority = (text) => /^(0|[1-9][0-9]*)$/.test(text) && BigInt(text) <= MOST_PRIORITY;
+const condition_of = ({ name, words }) => (name in STEPS ? words[1] : words[0]) ?? null;
 
 export class Calls {
     // `act(line)` is called to do a call.
@@ -49,13 +54,16 @@ export class Calls {
     show_buttons() {
         const { sizes, answers } = this.ran;
         const actor = this.chosen;
-        const last = (name) => (name === "wait" ? [this.priority] : []);
-        const on = (condition) => (name) => ({ name, words: [actor, condition, ...last(name)] });
+        const calls_on = (at) => [
+            { name: "wait", words: [actor, at, this.priority] },
+            ...ON_CONDITION.map((name) => ({ name, words: [actor, at] })),
+            ...QUESTIONS.map((name) => ({ name, words: [at] })),
+        ];
         const first = [{ name: "enter", words: [actor] }, { name: "leave", words: [actor] }];
-        const rows = [first, ...all(sizes.conditions).map((condition) => ON_CONDITION.map(on(condition)))];
-        const codes = try_each(this.module, sizes, answers.slice(0, this.at), rows.flat()).values();
-        const answered = (it) => ({ ...it, code: codes.next().value });
-        $("buttons").replaceChildren(...rows.map((row, at) => this.row(row.map(answered), at - 1)));
+        const rows = [first, ...all(sizes.conditions).map(calls_on)];
+        const answered = try_each(this.module, sizes, answers.slice(0, this.at), rows.flat()).values();
+        this.fields = [];
+        $("buttons").replaceChildren(...rows.map((row, at) => this.row(row.map(() => answered.next().value), at - 1)));
     }
 
     // A row of buttons; `condition` is -1 for the calls on none.
@@ -64,44 +72,68 @@ export class Calls {
         const name = condition < 0 ? "Enter and leave" : `On ${this.names.condition(condition)}`;
         const kind = condition >= sizes.conditions - sizes.mesa ? " (Mesa)" : "";
         const head = condition < 0 ? [] : [make("span", { class: "of", "aria-hidden": "true" }, name + kind)];
-        const buttons = calls.map((it) => this.button(it));
-        const priority = condition < 0 ? [] : [this.priority_field(condition)];
-        const [wait, ...others] = buttons;
-        const inner = condition < 0 ? buttons : [wait, ...priority, ...others];
-        return make("div", { class: "call-row", role: "group", "aria-label": name + kind }, ...head, ...inner);
+        const [wait, ...others] = calls.map((it) => this.button(it));
+        const priority = condition < 0 ? [] : [this.priority_field(condition, wait)];
+        return make("div", { class: "call-row", role: "group", "aria-label": name + kind },
+            ...head, wait, ...priority, ...others);
     }
 
-    button({ name, words, code }) {
-        const text = [name, ...words].join(" ");
+    button(it) {
+        const { name, code } = it;
         const is_no = is_refused(code);
-        const refusal = REFUSALS[code - 100];
-        const answer = is_no ? `refused ${code - 100}: ${refusal}` : code === NOBODY ? "free" : `${code}`;
-        const say = () => this.say(`${text} would be answered ${answer}.`, is_no);
-        const label = is_no ? `${name}: ${answer}` : text;
-        return make(
-            "button",
-            {
-                type: "button", "data-call": name, "data-condition": words[1] ?? null, "aria-disabled": is_no && "true",
-                "aria-label": label, title: is_no && refusal, onfocus: say, onmouseenter: say,
-                onclick: () => (is_no ? say() : this.act(text)),
-            },
-            name, ...(is_no ? [make("small", {}, `refused ${code - 100}`)] : []),
-        );
+        const answer = is_no ? `refused ${code - 100}: ${REFUSALS[code - 100]}` : answer_text(it);
+        const line = () => [name, ...it.words.with(-1, name === "wait" ? this.priority : it.words.at(-1))].join(" ");
+        const hint = () => this.hint(`${line()} would be answered ${answer}.`, is_no);
+        const refuse = () => this.say(`${line()} would be answered ${answer}.`, true);
+        const does = { onfocus: hint, onmouseenter: hint, onclick: () => (is_no ? refuse() : this.act(line())) };
+        const data = { "data-call": name, "data-condition": condition_of(it) };
+        const says = is_no
+            ? { "aria-disabled": "true", "aria-label": `${name}: ${answer}` }
+            : { "aria-label": line(), "aria-description": `answer ${answer}` };
+        const small = is_no ? [make("small", {}, `refused ${code - 100}`)] : [];
+        return make("button", { type: "button", ...data, ...says, ...does }, name, ...small);
     }
 
-    priority_field(condition) {
-        const take = ({ target: { value } }) => {
-            if (/^(0|[1-9][0-9]*)$/.test(value) && BigInt(value) <= MOST_PRIORITY) this.priority = value;
-        };
+    // The field of the priority of a wait, which `wait` does; so does Enter in the field. All such fields have one
+    // value.
+    priority_field(condition, wait) {
         const label = `Priority of a wait on ${this.names.condition(condition)}`;
-        const field = { inputmode: "numeric", value: this.priority, "aria-label": label, maxlength: 20 };
-        const input = make("input", { ...field, oninput: take, onchange: () => this.show_buttons() });
+        const attributes = { inputmode: "numeric", value: this.priority, "aria-label": label, maxlength: 20 };
+        const oninput = ({ target }) => this.take_priority(target);
+        const onkeydown = (it) => {
+            if (it.key !== "Enter") return;
+            it.preventDefault(); // the button that gets the focus isn't meant
+            if (is_priority(input.value)) wait.click();
+        };
+        const input = make("input", { ...attributes, oninput, onkeydown });
+        this.fields.push({ input, wait });
         return make("label", { class: "priority" }, "priority", input);
     }
 
+    take_priority(target) {
+        const is_good = is_priority(target.value);
+        target.setAttribute("aria-invalid", !is_good);
+        this.say(is_good ? "" : `A priority is a number from 0 to ${MOST_PRIORITY}, without a 0 before it.`, true);
+        if (!is_good) return;
+        this.priority = target.value;
+        for (const { input, wait } of this.fields) {
+            if (input !== target) input.value = this.priority;
+            if (wait.ariaDisabled !== "true") wait.ariaLabel = wait.ariaLabel.replace(/[0-9]+$/, this.priority);
+        }
+    }
+
+    // Says what came of a visitor's act; a screen reader says it too.
     say(text, is_no = false) {
+        $("call-hint").textContent = "";
         $("call-message").textContent = text;
         $("call-message").classList.toggle("refused", is_no);
+    }
+
+    // Shows what a button would be answered. A screen reader has it with the button's name.
+    hint(text, is_no) {
+        $("call-message").textContent = "";
+        $("call-hint").textContent = text;
+        $("call-hint").classList.toggle("refused", is_no);
     }
 
     // Moves the focus to the first button that is on: the one that had it is gone.

@@ -234,12 +234,14 @@ enter 1 | | Reader 1 calls end_read.
 pass 1 1 | readers=0 | It was the last reader. No writer waits.`),
 };
 
-// The same story under both rules: at the broadcast the condition is true, and it is false when place 1 resumes.
+// The same story under both rules. At the broadcast, and at the notify, the condition is true; it is false when place 1
+// resumes.
 const BESIDE_MESA = {
     id: "mesa", title: "Hoare beside Mesa", scheduler: SCHEDULERS.SINGLE,
     about:
-        "Two processes wait for one item. Hoare: a signal resumes one of them, at once, and the item is in. " +
-        "Mesa: a broadcast notifies both, and the item is gone when the second resumes.",
+        "Two processes wait for one item. Hoare: a signal resumes a waiter at once, and the waiter finds the item " +
+        "in. Mesa: a notified waiter resumes later. After the broadcast another waiter has taken the item by then; " +
+        "after the notify the notifier itself has. Each waiter has to test again.",
     hoare_title: "With a Hoare condition",
     ...told(`
 monitor 4 1 | item=out
@@ -252,8 +254,10 @@ signal 2 0 | item=in | It puts the item in, and signals. Place 0 is inside at on
 enter 3 | | Place 3 can’t enter: the monitor isn’t free.
 leave 0 | item=out | Place 0 takes the item out. An “if” around its wait is enough. Place 2 returns.
 leave 2 | | Place 1 still waits, and the cause of its wait still holds: the item is out.
-enter 3 | | Place 3 enters, and finds the item out.
-leave 3`),
+enter 0 | | Place 0 brings the item back.
+signal 0 0 | item=in | It puts the item in, and signals. Place 1 is inside at once, and finds the item in.
+leave 1 | item=out | Place 1 takes the item out. Place 0 returns.
+wait 0 0 0 | | Place 0 needs the item again. It is out, so place 0 waits.`),
     twin: {
         title: "With a Mesa condition", scheduler: SCHEDULERS.MESA_SINGLE,
         ...told(`
@@ -270,7 +274,12 @@ enter 3 | | Place 3 can’t enter: the notified resume first. With POSIX or Java
 leave 0 | item=out | Place 0 takes the item out, and place 1 resumes. What it was notified of was true then, and is
     false now. If it had tested with “if”, it would take an item that is gone.
 wait 1 0 0 | | Its wait is in a loop: it tests again, and waits again.
-enter 3 | | Place 3 enters, and finds the item out.`),
+enter 0 | | Place 0 brings the item back.
+notify 0 0 | item=in | It puts the item in, and notifies place 1. What place 1 waits for is true now, but place 0 stays
+    inside.
+leave 0 | item=out | Place 0 needs the item again, and takes it out before it leaves. Place 1 resumes, and what it waits
+    for is false again.
+wait 1 0 0 | | It waits again. Hoare’s signal would have given it the item.`),
     },
 };
 

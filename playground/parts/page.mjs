@@ -3,14 +3,15 @@ import { load } from "./book.mjs";
 import { Calls } from "./calls.mjs";
 import { EXAMPLES, GROUPS } from "./examples.mjs";
 import { MODULE, RECORD } from "./module.mjs";
-import { REFUSALS, run } from "./script.mjs";
+import { address_of, read_address } from "./link.mjs";
+import { REFUSALS, lines_of, run } from "./script.mjs";
 import { Show, make } from "./show.mjs";
 
 const PLAY_PAUSE = 1500; // between two steps that are played, in milliseconds
 const HASH_PAUSE = 250; // after the last step, before the address is written, in milliseconds
 const FIRST_STEP = 4; // of the first example, which a visitor sees first
 const $ = (id) => document.getElementById(id);
-const example_of = (text) => EXAMPLES.find((it) => it.script === text.trim());
+const example_of = (text) => EXAMPLES.find((it) => it.script === lines_of(text).join("\n"));
 
 class Page {
     constructor(module) {
@@ -20,44 +21,70 @@ class Page {
         this.at = 0;
         this.timer = null;
         this.kept = [$("calls"), $("script")];
+        this.controls = this.make_controls();
         $("loading").remove();
         $("run").hidden = false;
         $("examples").append(...GROUPS.map((it) => this.group(it)));
         for (const [n, text] of Object.entries(REFUSALS)) {
             $("refusals").append(make("dt", {}, `refused ${n}`), make("dd", {}, text));
         }
-        $("text").addEventListener("input", () => this.take($("text").value, Infinity, { is_written: true }));
+        $("text").addEventListener("focus", () => (this.is_noted = false));
+        $("text").addEventListener("input", () => this.write());
         $("undo").addEventListener("click", () => this.undo());
         $("new").addEventListener("click", () => this.begin());
         $("share").addEventListener("click", () => this.share());
         addEventListener("keydown", (it) => this.key(it));
-        addEventListener("hashchange", () => location.hash !== this.hash && this.read_hash());
+        addEventListener("hashchange", () => this.follow_link());
         this.read_hash();
     }
 
     group({ title, examples }) {
         const button = ({ id, title: name, script }) =>
-            make("button", { type: "button", "data-id": id, onclick: () => this.take(script, 0) }, name);
+            make("button", { type: "button", "data-id": id, onclick: () => this.replace(script) }, name);
         const tabs = make("div", { class: "tabs", role: "group", "aria-label": title }, ...examples.map(button));
         return make("div", { class: "group" }, make("h2", {}, title), tabs);
     }
 
     // Takes a script and a step from the address, else the first example.
     read_hash() {
-        const said = new URLSearchParams(location.hash.slice(1));
-        const example = EXAMPLES.find((it) => it.id === said.get("e"));
-        const at = Number(said.get("at") ?? 0) || 0;
-        if (said.has("s")) this.take(said.get("s").replaceAll(";", "\n").replaceAll("_", " "), at);
+        const { id, text, at } = read_address(location.hash) ?? {};
+        const example = EXAMPLES.find((it) => it.id === id);
+        if (text !== undefined) this.take(text, at);
         else this.take((example ?? EXAMPLES[0]).script, example ? at : FIRST_STEP);
+    }
+
+    // Takes a new address that names a script. One that names a part of the page has only moved the visitor there.
+    follow_link() {
+        if (location.hash === this.hash) return;
+        if (!read_address(location.hash)) return this.write_hash();
+        this.note();
+        this.read_hash();
     }
 
     // Writes both into the address, soon: a browser takes only some 200 such changes in ten seconds.
     write_hash() {
-        const line = this.text.trim().replaceAll(" ", "_").replaceAll("\n", ";");
-        const script = encodeURIComponent(line).replaceAll("%3B", ";");
-        this.hash = `#${this.example ? `e=${this.example.id}` : `s=${script}`}&at=${this.at}`;
+        this.hash = address_of({ id: this.example?.id, text: this.text, at: this.at });
         clearTimeout(this.writing);
         this.writing = setTimeout(() => history.replaceState(null, "", this.hash), HASH_PAUSE);
+    }
+
+    // Notes the script and the step, for Undo.
+    note() {
+        this.undos.push({ text: this.text, at: this.at });
+        $("undo").setAttribute("aria-disabled", "false");
+    }
+
+    // Takes another script in place of the present one, which Undo brings back.
+    replace(text) {
+        this.note();
+        this.take(text, 0);
+    }
+
+    // Takes what the visitor writes. Undo brings back what was there when the field got the focus.
+    write() {
+        if (!this.is_noted) this.note();
+        this.is_noted = true;
+        this.take($("text").value, Infinity, { is_written: true });
     }
 
     // Takes a script, and shows it after `at` steps. `is_written`: the visitor writes it, so its field stays as it is.
@@ -67,7 +94,7 @@ class Page {
         this.example = example_of(text);
         if (!is_written) $("text").value = text;
         const { twin } = this.example ?? {};
-        this.runs = [run(this.module, text), ...(twin ? [run(this.module, twin.script)] : [])];
+        this.runs = [run(this.module, text, this.runs?.[0]), ...(twin ? [run(this.module, twin.script)] : [])];
         const { fault } = this.runs[0];
         $("fault").textContent = fault ? `${fault.name}, line ${fault.line}: expected ${fault.expected}.` : "";
         $("text").setAttribute("aria-invalid", fault ? "true" : "false");
@@ -75,7 +102,12 @@ class Page {
             it.setAttribute("aria-pressed", it.dataset.id === this.example?.id);
         }
         this.show_about(this.example);
-        this.build_shows(twin);
+        if (this.shows?.length !== this.runs.length) this.lay_out(twin);
+        for (const [i, it] of [this.example, twin].slice(0, this.runs.length).entries()) {
+            this.shows[i].take(this.runs[i], it);
+        }
+        this.calls.take(this.runs[0], this.shows[0].names);
+        this.range.max = this.last();
         this.go(at, false);
     }
 
@@ -85,27 +117,25 @@ class Page {
         $("about").replaceChildren(example?.about ?? "Your own script.", make("span", { class: "from" }, from));
     }
 
-    build_shows(twin) {
+    // Lays the page out for one monitor, or for two beside each other. What has the focus keeps it.
+    lay_out(twin) {
+        const { kept, controls } = this;
+        const [focused, { scrollTop }] = [document.activeElement, $("text")];
         const go = (at) => this.go(at);
-        const { example } = this;
-        const examples = [example, twin];
-        const titles = twin ? [example.hoare_title, twin.title] : [null];
-        const [calls, script] = this.kept;
-        const controls = this.make_controls();
-        $("calls-title").textContent = twin ? "Your call, in the first monitor" : "Your call";
-        this.shows = this.runs.map((ran, at) => {
-            const under = twin ? [[], [this.kept[at]]] : [[calls], [script]];
-            const show = new Show({ title: titles[at], controls: twin ? [] : [controls], go, under });
-            show.take(ran, { labels: example?.labels, ...examples[at] });
-            return show;
-        });
-        $("runs").replaceChildren(...(twin ? [controls] : []), ...this.shows.map((it) => it.section));
+        const none = { controls: [], under: [[], []], go };
+        const one = { controls: [controls], under: kept.map((it) => [it]), go };
+        const shows = twin ? [this.example.hoare_title, twin.title].map((title) => ({ ...none, title })) : [one];
+        this.shows = shows.map((it) => new Show(it));
+        const sections = this.shows.map((it) => it.section);
+        $("runs").replaceChildren(...(twin ? [controls, ...sections, ...kept] : sections));
         $("runs").classList.toggle("two", Boolean(twin));
-        this.calls.take(this.runs[0], this.shows[0].names);
+        $("calls-title").textContent = twin ? "Your call, in the first monitor" : "Your call";
+        focused?.focus({ preventScroll: true });
+        $("text").scrollTop = scrollTop;
     }
 
     last() {
-        return this.runs[0].answers.length;
+        return Math.max(...this.runs.map((it) => it.answers.length));
     }
 
     make_controls() {
@@ -116,10 +146,10 @@ class Page {
         const play = () => (this.timer ? this.stop() : this.start());
         this.play = make("button", { type: "button", class: "play", "data-control": "play", onclick: play }, "▶ Play");
         const slide = (it) => this.go(Number(it.target.value));
-        const range = { type: "range", min: 0, max: this.last(), step: 1 };
+        const range = { type: "range", min: 0, step: 1 };
         this.range = make("input", { ...range, "aria-label": "Step", oninput: slide });
         this.ends = [
-            button("begin", "To the opening", "⇤", () => 0),
+            button("begin", "To the start", "⇤", () => 0),
             button("back", "One step back", "◀", () => this.at - 1),
             button("on", "One step on", "▶", () => this.at + 1),
             button("end", "To the end", "⇥", () => this.last()),
@@ -159,7 +189,7 @@ class Page {
     stop() {
         clearInterval(this.timer);
         this.timer = null;
-        if (this.play) this.play.textContent = "▶ Play";
+        this.play.textContent = "▶ Play";
     }
 
     key(it) {
@@ -173,28 +203,26 @@ class Page {
     // Does a call now. The steps after this one are dropped.
     act(line) {
         const { text, at } = this;
-        const dropped = this.last() - at;
-        this.undos.push({ text, at });
-        this.take([...text.trim().split("\n").slice(0, at + 1), line].join("\n"), at);
+        const dropped = this.runs[0].answers.length - at;
+        this.note();
+        this.take([...lines_of(text).slice(0, at + 1), line].join("\n"), at);
         this.go(at + 1);
-        $("undo").disabled = false;
         this.calls.focus();
         const steps = dropped === 1 ? "1 later step was" : `${dropped} later steps were`;
         if (dropped > 0) this.calls.say(`${steps} dropped. Undo brings them back.`);
     }
 
     undo() {
+        if (this.undos.length === 0) return;
         const { text, at } = this.undos.pop();
         this.take(text, at);
-        $("undo").disabled = this.undos.length === 0;
+        $("undo").setAttribute("aria-disabled", this.undos.length === 0);
     }
 
     begin() {
         const value = (id) => $(id).value.trim() || "0";
-        this.undos.push({ text: this.text, at: this.at });
-        $("undo").disabled = false;
         const mesa = value("new-mesa");
-        this.take(`monitor ${value("new-places")} ${value("new-conditions")}${mesa === "0" ? "" : ` ${mesa}`}\n`, 0);
+        this.replace(`monitor ${value("new-places")} ${value("new-conditions")}${mesa === "0" ? "" : ` ${mesa}`}\n`);
         $("shared").textContent = $("fault").textContent ? "" : "A new monitor: choose its calls, or write them.";
     }
 

@@ -102,7 +102,8 @@ export function drawn(states, { places, mesa }, left, top) {
     return { lanes, shapes: [dashes, calls, ...order].flat() };
 }
 
-// Returns { svg, lanes, width } for the page: `drawn` with bands under the rows, and marks that `mark` moves.
+// Returns { svg, lanes, width } for the page: `drawn` with bands under the rows, and marks that `mark` moves. The veil
+// over the rows to come lies under the texts, so that these stay legible.
 export function picture(states, sizes) {
     const { lanes, shapes } = drawn(states, sizes, 12, 0);
     const rows = states.length - 1;
@@ -113,18 +114,20 @@ export function picture(states, sizes) {
     const bands = [...Array(rows).keys()].filter((row) => row % 2 === 0).map(band);
     const name =
         `A chart of ${rows} rows, one for each step, and ${lanes.length} lanes, one for each place that enters. ` +
-        "The list of steps before it says the same in words.";
+        "The list of steps before it has each call with its answer.";
     const size = `width="${width}" height="${height}" viewBox="0 0 ${width} ${height}" preserveAspectRatio="xMinYMin"`;
-    const marks =
-        `<rect class="here" x="1" y="-99" width="${width - 2}" height="${ROW}" rx="4"/>` +
-        `<rect class="future" x="0" y="${height}" width="4000" height="${height}"/>`;
+    const veil = `<rect class="future" x="0" y="${height}" width="4000" height="${height}"/>`;
+    const here = `<rect class="here" x="1" y="-99" width="${width - 2}" height="${ROW}" rx="4"/>`;
+    const is_text = (it) => it.startsWith("<text");
+    const inner = [...bands, ...shapes.filter((it) => !is_text(it)), veil, ...shapes.filter(is_text), here];
     const tag = `<svg xmlns="http://www.w3.org/2000/svg" ${size} role="img" aria-label="${name}">`;
-    return { svg: `${tag}${bands.join("")}${shapes.join("")}${marks}</svg>`, lanes, width };
+    return { svg: `${tag}${inner.join("")}</svg>`, lanes, width };
 }
 
 // Marks the row of the last step that was done, and veils the rows after it.
 export function mark(svg, at) {
     if (!svg) return;
+    for (const it of svg.querySelectorAll("text")) it.classList.toggle("later", it.getAttribute("y") > at * ROW);
     svg.querySelector(".here").setAttribute("y", at === 0 ? -99 : (at - 1) * ROW);
     svg.querySelector(".future").setAttribute("y", at * ROW);
 }

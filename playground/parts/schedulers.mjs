@@ -164,7 +164,7 @@ function next_finds(before, { inside }, place) {
 export function owed(scheduler, data, answer, before, after, { place, condition }) {
     const q = after.conditions.map((it) => it.waiting.map(({ priority }) => Number(priority)));
     const held = (clauses, p) => clauses.map(({ text, is_true }) => ({ text, is_true: is_true(data, q, p) }));
-    if (!answer) return { text: "At the opening rest holds, with nobody waiting.", clauses: held(scheduler.rest) };
+    if (!answer) return { text: "At the start rest holds, and no place waits:", clauses: held(scheduler.rest) };
     const { name, code, words: [first, second] } = answer;
     const nothing = (text) => ({ text, clauses: [] });
     if (is_refused(code)) return nothing("A refused call owes nothing.");

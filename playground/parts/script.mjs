@@ -54,10 +54,16 @@ function expected(line) {
     return "enter, wait, signal, pass, leave, notify, broadcast, queue or first, and its numbers";
 }
 
+// Returns the fault of a line that has too many bytes, or null.
+function too_long(text, line) {
+    const bytes = new TextEncoder().encode(text).length;
+    return bytes > MOST_BYTES ? { name: "LineTooLong", line, expected: `at most ${MOST_BYTES} bytes` } : null;
+}
+
 // Returns the fault of a line after the first, or null.
 function fault_of(text, line, command) {
-    const bytes = new TextEncoder().encode(text).length;
-    if (bytes > MOST_BYTES) return { name: "LineTooLong", line, expected: `at most ${MOST_BYTES} bytes` };
+    const fault = too_long(text, line);
+    if (fault) return fault;
     if (!command) return { name: "BadLine", line, expected: expected(text) };
     if (line > MOST_STEPS + 1) {
         return { name: "TooLong", line, expected: `at most ${MOST_STEPS} steps, which is a limit of this page` };
@@ -65,16 +71,25 @@ function fault_of(text, line, command) {
     return null;
 }
 
+// Returns the lines of a text. What follows the last line end is a line if it isn't empty.
+export function lines_of(text) {
+    const lines = text.split("\n");
+    return lines.at(-1) === "" ? lines.slice(0, -1) : lines;
+}
+
+// Returns the fault of the first line, or null.
+function fault_of_header(header, sizes) {
+    if (header === undefined) return { name: "NoHeader", line: 1, expected: "“monitor P C” in the first line" };
+    return too_long(header, 1) ?? (sizes ? null : { name: "BadHeader", line: 1, expected: HEADER });
+}
+
 // Returns a script: { sizes, commands: [{ name, words, line, text }], fault }. `fault` is null or
 // { name, line, expected }; the commands end before it.
 export function parse(text) {
-    const [header, ...lines] = text.replace(/\r/g, "").replace(/\s+$/, "").split("\n");
-    if (header === "") {
-        const fault = { name: "NoHeader", line: 1, expected: "“monitor P C” in the first line" };
-        return { sizes: null, commands: [], fault };
-    }
-    const sizes = parse_header(header);
-    if (!sizes) return { sizes, commands: [], fault: { name: "BadHeader", line: 1, expected: HEADER } };
+    const [header, ...lines] = lines_of(text);
+    const sizes = parse_header(header ?? "");
+    const first_fault = fault_of_header(header, sizes);
+    if (first_fault) return { sizes: null, commands: [], fault: first_fault };
     const commands = [];
     for (const [at, it] of lines.entries()) {
         const command = parse_command(it);
@@ -93,9 +108,17 @@ export function answer_text({ name, code, priority }) {
     return code === NOBODY ? "free" : `${code}`;
 }
 
+// Returns how many of the first steps are those of the run `last` too, or -1 if its monitor is another one.
+function count_shared(last, text, answers) {
+    if (lines_of(last?.text ?? "")[0] !== lines_of(text)[0]) return -1;
+    const differing = answers.findIndex((it, at) => it.text !== last.answers[at]?.text);
+    return differing < 0 ? answers.length : differing;
+}
+
 // Runs a script. Returns what `parse` does, with `answers`, and `state(at)`, the state after `at` steps (null if there
-// is no monitor). The sizes are numbers then.
-export function run(module, text) {
+// is no monitor). The sizes are numbers then. `is_large` is true if the page has no place or no condition left for its
+// experiments: then there are answers, and no states. The states of the run `last` that this one shares are kept.
+export function run(module, text, last = null) {
     const script = parse(text);
     const nothing = { ...script, text, answers: [], state: () => null };
     if (!script.sizes) return nothing;
@@ -103,14 +126,13 @@ export function run(module, text) {
     if (code !== 0) return { ...nothing, fault: { name: "BadHeader", line: 1, expected: HEADER } };
     const sizes = Object.fromEntries(Object.entries(script.sizes).map(([name, it]) => [name, Number(it)]));
     if (sizes.places > MOST_PLACES || sizes.conditions > MOST_CONDITIONS) {
-        const most = `at most ${MOST_PLACES} places and ${MOST_CONDITIONS} conditions`;
-        const wanted = `${most}: this page keeps one of each for its experiments`;
-        return { ...nothing, answers, fault: { name: "TooLarge", line: 1, expected: wanted } };
+        return { ...nothing, sizes, answers, is_large: true };
     }
-    const kept = new Map();
+    const shared = count_shared(last, text, answers);
+    const kept = new Map([...(last?.kept ?? [])].filter(([at]) => at <= shared));
     const state = (at) => {
         if (!kept.has(at)) kept.set(at, look(module, sizes, answers.slice(0, at)));
         return kept.get(at);
     };
-    return { ...script, sizes, text, answers, state };
+    return { ...script, sizes, text, answers, state, kept };
 }

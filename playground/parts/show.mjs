@@ -1,5 +1,5 @@
 // One run of a script on the page: a sentence on the step, the data with rest and ready, the lists, and the lanes.
-import { NOBODY, all, is_refused } from "./book.mjs";
+import { MOST_CONDITIONS, MOST_PLACES, NOBODY, all, is_refused } from "./book.mjs";
 import { ROW, mark, picture } from "./picture.mjs";
 import { data_after, owed } from "./schedulers.mjs";
 import { answer_text } from "./script.mjs";
@@ -46,6 +46,13 @@ function refused_at_enter(answers) {
         else if (name === "enter" && code === 102) found.add(place);
     }
     return [...found];
+}
+
+// Returns what a step owes as one line: its text, how many of its clauses are true, and those that are false.
+function owed_line(text, clauses) {
+    if (clauses.length === 0) return text;
+    const fails = clauses.filter((it) => !it.is_true).map((it) => ` False: ${it.text}.`);
+    return `${text} ${clauses.length - fails.length} of ${plural(clauses.length, "clause")} true.${fails.join("")}`;
 }
 
 // Returns one clause, with a mark and a word that say if it holds.
@@ -103,12 +110,21 @@ export class Show {
         return make("li", {}, make("button", { type: "button", "aria-label": label, onclick: go }, ...spans));
     }
 
+    // Shows why there are no lists and no lanes.
     show_nothing() {
-        const { name, expected } = this.ran.fault;
-        const text = name === "NoHeader"
-            ? "No monitor yet. A script begins with “monitor P C”: choose an example, or “New monitor” below."
-            : `The first line isn’t taken: expected ${expected}.`;
-        this.banner.replaceChildren(make("p", { class: "said fault" }, text));
+        const { fault, is_large } = this.ran;
+        const none = "No monitor yet. A script begins with “monitor P C”: choose an example, or “New monitor” below.";
+        const large =
+            `The steps have the book’s answers. Lists and lanes are drawn for at most ${MOST_PLACES} places and ` +
+            `${MOST_CONDITIONS} conditions: the page keeps one of each for its experiments.`;
+        const kind = is_large ? "said" : "said fault";
+        const text = is_large ? large
+            : fault.name === "NoHeader" ? none : `The first line isn’t taken: expected ${fault.expected}.`;
+        this.columns = [];
+        this.data.hidden = true;
+        this.heads.replaceChildren();
+        this.lanes.replaceChildren();
+        this.banner.replaceChildren(make("p", { class: kind }, text));
     }
 
     build() {
@@ -126,7 +142,7 @@ export class Show {
 
     build_stage() {
         const { sizes } = this.ran;
-        const list = (label) => make("ul", { class: "chips", "aria-label": label });
+        const list = (label) => make("ul", { class: "chips", role: "list", "aria-label": label });
         const zone = (kind, head, chips) =>
             make("div", { class: `zone ${kind}-zone` }, make("h3", {}, ...[head].flat()), chips);
         const kind_of = (text) => make("span", { class: "kind" }, text);
@@ -149,17 +165,21 @@ export class Show {
         this.stage.append(make("div", { class: "outside" }, ...outside), monitor);
     }
 
-    chip(place, kind, more = "") {
+    // Returns the chip of a place. It shows a short name, and `p` before a priority; a screen reader has both in words.
+    chip(place, kind, priority = null) {
         if (!this.chips.has(place)) this.chips.set(place, make("li", { "data-place": place }));
         const chip = this.chips.get(place);
         chip.className = `chip ${kind}`;
         const text = this.names.chip(place);
         const label = kind === "inside" && text === `${place}` ? `place ${text}` : text;
-        chip.replaceChildren(label, ...(more === "" ? [] : [make("small", {}, more)]));
+        const full = text === `${place}` ? `place ${text}` : text;
+        const spoken = make("span", { class: "unseen" }, priority === null ? full : `${full}, priority ${priority}`);
+        const more = priority === null ? [] : [make("small", { "aria-hidden": "true" }, `p${priority}`)];
+        chip.replaceChildren(spoken, make("span", { class: "name", "aria-hidden": "true" }, label), ...more);
         return chip;
     }
 
-    // Shows the state after `at` steps. Returns the sentence on it.
+    // Shows the state after `at` steps. Returns the sentences on it.
     show(at, is_moved) {
         const state = this.ran.state(at);
         for (const [i, it] of [...this.steps.children].entries()) {
@@ -167,15 +187,14 @@ export class Show {
             if (i === at - 1) it.firstChild.setAttribute("aria-current", "step");
             else it.firstChild.removeAttribute("aria-current");
         }
-        if (!state) return "";
+        if (!state) return at > 0 ? `${this.steps.children[at - 1].textContent}.` : "";
         mark(this.lanes.querySelector("svg"), at);
         const on_page = [...this.chips].filter(([, it]) => it.isConnected);
         const old = new Map(on_page.map(([place, it]) => [place, it.getBoundingClientRect()]));
         this.fill(state, refused_at_enter(this.ran.answers.slice(0, at)).filter((it) => state.outside.includes(it)));
-        if (this.scheduler) this.show_data(at, state);
-        const said = this.tell(at, state);
+        const said = [this.tell(at, state), ...(this.scheduler ? [this.show_data(at, state)] : [])];
         if (is_moved && !is_calm()) this.glide(old);
-        return said;
+        return said.join(" ");
     }
 
     fill(state, refused) {
@@ -189,11 +208,11 @@ export class Show {
         put(z.signallers, state.signallers.map((it) => this.chip(it, "signals")), "none");
         put(z.called, state.called.map((it) => this.chip(it, "called")), "none");
         for (const [at, { waiting }] of state.conditions.entries()) {
-            put(z.conditions[at], waiting.map((it) => this.chip(it.place, "waits", `p${it.priority}`)), "none");
+            put(z.conditions[at], waiting.map((it) => this.chip(it.place, "waits", it.priority)), "none");
         }
     }
 
-    // Shows the data, and what of rest and ready the step owes.
+    // Shows the data, and what of rest and ready the step owes. Returns that as one line.
     show_data(at, state) {
         const { ran, scheduler, names } = this;
         const data = this.values[at];
@@ -204,6 +223,7 @@ export class Show {
         const more = awaits.length > 0 ? [make("ul", { class: "clauses awaited" }, ...awaits.map(clause_item))] : [];
         const values = make("p", { class: "values" }, make("b", {}, "Data: "), scheduler.show(data));
         this.data.replaceChildren(values, make("p", { class: "owed" }, text), ...list, ...more);
+        return owed_line(text, [...clauses, ...awaits]);
     }
 
     // Moves each place from the list where it was.
@@ -226,7 +246,7 @@ export class Show {
     // Says what the step did. Returns that as one line.
     tell(at, state) {
         const { ran, names } = this;
-        const count = make("p", { class: "at" }, at === 0 ? "At the opening" : `Step ${at} of ${ran.answers.length}`);
+        const count = make("p", { class: "at" }, at === 0 ? "At the start" : `Step ${at} of ${ran.answers.length}`);
         if (at === 0) return this.tell_opening(count);
         const answer = ran.answers[at - 1];
         const { said, why, is_refused: is_no } = describe(answer, ran.state(at - 1), state, names);

@@ -1,15 +1,18 @@
 // usage: node access.mjs PAGE.html
 // The page for a keyboard, a screen reader, a narrow screen and a dark one, in a headless Chromium: names and roles of
-// its accessibility tree, the order of the focus, the live regions, widths, and the contrast of its texts.
-import { resolve } from "node:path";
+// its accessibility tree, the order of the focus, the live regions, widths, targets, and contrast.
 import { Checks } from "./checks.mjs";
-import { open_browser, pause } from "./driver.mjs";
+import { pause } from "./driver.mjs";
+import { KEYS, open_page } from "./page.mjs";
 
-const url = `file://${resolve(process.argv[2])}`;
-const browser = await open_browser();
+const browser = await open_page(process.argv[2]);
+const { url, focus } = browser;
 const checks = new Checks();
-const [TAB, ENTER, SPACE] = ["\uE004", "\uE007", " "];
-const LEAST_CONTRAST = 4.5; // WCAG 2.2, 1.4.3
+const LEAST_CONTRAST = 4.5; // of texts: WCAG 2.2, 1.4.3
+const LEAST_OF_EDGES = 3; // of what shows a control, and the focus: 1.4.11
+const LEAST_TARGET = 24; // pixels: 2.5.8
+const FINGER = 44; // pixels: 2.5.5
+const WIDTHS = [320, 390, 800, 1280];
 
 async function show(hash, { width = 1280, height = 900, scheme = "light" } = {}) {
     const features = Object.entries({ "prefers-color-scheme": scheme, "prefers-reduced-motion": "reduce" });
@@ -20,11 +23,14 @@ async function show(hash, { width = 1280, height = 900, scheme = "light" } = {})
     await pause(300);
 }
 
-// Returns the nodes of the accessibility tree that a screen reader meets: { role, name, ... its properties }.
+// Returns the nodes of the accessibility tree that a screen reader meets: { role, name, description, ... properties }.
 async function nodes() {
     const tree = await browser.cdp("Accessibility.getFullAXTree", {});
     const properties = (it) => Object.fromEntries((it.properties ?? []).map(({ name, value }) => [name, value.value]));
-    const node = (it) => ({ ...properties(it), role: it.role.value, name: it.name?.value ?? "" });
+    const text = (it) => it?.value ?? "";
+    const node = (it) => ({
+        ...properties(it), role: it.role.value, name: text(it.name), description: text(it.description),
+    });
     return tree.nodes.filter((it) => !it.ignored).map(node);
 }
 
@@ -64,7 +70,10 @@ async function check_controls() {
     checks.same(text, "step 4 of 6", "the slider's text"); // which this tree leaves out
     checks.same(names(found, "radio"), ["place 0", "place 1"], "the places to choose");
     checks.same(names(found.filter((it) => it.checked === "true"), "radio"), ["place 0"], "the chosen place");
-    check_named(found, "button", ["To the opening", "One step back", "▶ Play", "One step on", "To the end", "wait 0 0 0"]);
+    const moves = ["To the start", "One step back", "▶ Play", "One step on", "To the end"];
+    check_named(found, "button", [...moves, "wait 0 0 0", "queue 0", "first 0"]);
+    const described = buttons.filter((it) => it.description !== "").map((it) => `${it.name}: ${it.description}`);
+    checks.is(described.includes("wait 0 0 0: answer 1"), `what the buttons answer: ${described}`);
     const off = names(buttons.filter((it) => it.disabled), "button");
     checks.is(off.includes("enter: refused 2: the monitor isn’t free"), `the refused calls: ${off}`);
     checks.is(names(found, "button").includes("Step 4: signal 1 0, answer 0"), "a step");
@@ -72,7 +81,22 @@ async function check_controls() {
     checks.is(picture?.startsWith("A chart of 6 rows, one for each step, and 2 lanes"), `the picture: ${picture}`);
 }
 
-// The live region says each step, and nothing else does.
+// A place's chip has its name and its priority in words, once.
+async function check_chips() {
+    await show("#e=priorities&at=7");
+    const found = await nodes();
+    const texts = names(found, "StaticText");
+    const places = texts.filter((it) => /^(place )?[0-9](, priority [0-9]+)?$/.test(it)).slice(0, 5);
+    const waiting = ["place 2, priority 3", "place 0, priority 5", "place 1, priority 5"];
+    checks.same(places, ["place 4", "place 3", ...waiting], "the places in words");
+    checks.is(!texts.includes("p5"), "a short priority in the tree");
+    await show("#e=disk&at=13");
+    const named = names(await nodes(), "StaticText").filter((it) => / to [0-9]+, priority/.test(it));
+    checks.is(named.includes("1 to 70, priority 70"), `named places in words: ${named}`);
+}
+
+// The live region says each step with what it owes, and nothing else does. The answers that the buttons would have are
+// said with the buttons, and not once more.
 async function check_live() {
     await show("#e=single&at=7");
     await browser.run("document.querySelector('[data-control=on]').click()");
@@ -81,8 +105,17 @@ async function check_live() {
     const text = await browser.run("return document.getElementById('live').textContent");
     const wanted =
         "pass 0 0: Place 0 hands the monitor to place 1, which waited on nonbusy. It has the least priority; of " +
-        "equal ones the longest waiting is first. It puts the item in, and signals as its last act.";
+        "equal ones the longest waiting is first. It puts the item in, and signals as its last act. Place 0 signals, " +
+        "and owes ready of nonbusy to place 1: 1 of 1 clause true.";
     checks.same(text, wanted, "the live region");
+    await focus('#buttons button[data-call="enter"]');
+    const said = await browser.run(`
+        return ['call-hint', 'call-message'].map((it) => document.getElementById(it).textContent)`);
+    checks.same(said, ["enter 1 would be answered refused 2: the monitor isn’t free.", ""], "a button with the focus");
+    await show("#e=mesa&at=9");
+    const beside = await browser.run("return document.getElementById('live').textContent");
+    checks.is(beside.endsWith("1 of 2 clauses true. False: what the notified wait for: the item is in."), beside);
+    await show("#e=single&at=8");
     const current = await browser.run(`
         return [...document.querySelectorAll('[aria-current]')].map((it) => it.ariaLabel + ' ' + it.ariaCurrent)`);
     checks.same(current, ["Step 8: pass 0 0, answer 1 step"], "the present step");
@@ -104,9 +137,9 @@ const FOCUS = `
 // Tab goes through all controls, in the order of the page; each is seen and has a ring.
 async function check_focus() {
     await show("#e=hand-off&at=4");
-    await browser.keys([TAB]);
+    await browser.keys([KEYS.tab]);
     const first = await browser.run(FOCUS);
-    checks.same([first.name, first.is_seen], ["To the monitor", true], "the first stop");
+    checks.same([first.name, first.is_seen, first.ring], ["To the monitor", true, true], "the first stop");
     const stops = [first];
     for (let stop = await tabbed(); stop.n > 0 && stop.tag !== "BODY" && stops.length < 200; stop = await tabbed()) {
         stops.push(stop);
@@ -123,36 +156,35 @@ async function check_focus() {
 }
 
 async function tabbed() {
-    await browser.keys([TAB]);
+    await browser.keys([KEYS.tab]);
     return browser.run(FOCUS);
 }
 
 // Buttons work by Enter and Space, and the focus isn't lost when they are made anew.
 async function check_keyboard() {
     await show("#e=hand-off&at=4");
-    const focus = (what) => browser.run("document.querySelector(arguments[0]).focus()", what);
     const at = () => browser.run("return document.getElementById('live').textContent.split(':')[0]");
     await focus("[data-control=on]");
-    await browser.keys([ENTER]);
+    await browser.keys([KEYS.enter]);
     checks.same(await at(), "leave 0", "Enter");
-    await browser.keys([SPACE]);
+    await browser.keys([KEYS.space]);
     checks.same(await at(), "leave 1", "Space");
-    await browser.keys([SPACE]);
+    await browser.keys([KEYS.space]);
     const kept = await browser.run("return document.activeElement.dataset.control");
     checks.same([await at(), kept], ["leave 1", "on"], "at the end the focus stays");
     await focus('#buttons [data-call="enter"]');
-    await browser.keys([ENTER]);
+    await browser.keys([KEYS.enter]);
     const moved = await browser.run("return document.activeElement.dataset.call");
     checks.same([await at(), moved], ["enter 1", "leave"], "a call by Enter");
     await focus("#places input:checked");
-    await browser.keys(["\uE014"]);
+    await browser.keys([KEYS.right]);
     const chosen = await browser.run(`
         return [document.activeElement.value, document.querySelector('#places :checked').value]`);
     checks.same(chosen, ["0", "0"], "another place by an arrow key: from the last to the first");
 }
 
 // How wide each example is at each of its steps, and which texts are cut there.
-const WIDTHS = `
+const WIDE = `
     const texts = 'button, .chip, .said, .note, td, .values, .owed, .clauses li, h1, h2, h3, p, dd';
     const is_wide = (it) => it.scrollWidth > it.clientWidth + 1 && it.clientWidth > 0;
     const is_text = (it) => !it.closest('.chart, .unseen, .skip');
@@ -171,17 +203,58 @@ const WIDTHS = `
 
 // No sideways scroll of the page, and no text that is cut.
 async function check_widths() {
-    for (const width of [360, 390, 800, 1280]) await check_width(width);
+    for (const width of WIDTHS) await check_width(width);
 }
 
 async function check_width(width) {
     await show("", { width });
-    const widths = await browser.run(WIDTHS);
+    const widths = await browser.run(WIDE);
     for (const [id, ...found] of widths) checks.same(found, [`${width},0`], `${id} at ${width} pixels`);
 }
 
-// The least contrast of the texts on the page. A text's ground is the nearest opaque colour behind it.
-const CONTRAST = `
+// The controls with their sizes: [name, width, height]. A label is its control's target; a link in a sentence is none.
+const TARGETS = `
+    const all = [...document.querySelectorAll('button, input, textarea, summary')];
+    const size = (it) => {
+        const { width, height } = (it.closest('label') ?? it).getBoundingClientRect();
+        return [it.ariaLabel ?? it.textContent.trim() ?? it.id, Math.round(width), Math.round(height)];
+    };
+    const of = (is_step) => all.filter((it) => Boolean(it.closest('.steps')) === is_step).map(size);
+    return [of(false), of(true)];`;
+
+// On a narrow screen each control is large enough for a finger; a row of the steps is as high as its row of the lanes.
+async function check_targets() {
+    for (const [hash, width] of ["#e=mesa&at=9", "#e=both-kinds&at=4"].flatMap((it) => [[it, 320], [it, 1280]])) {
+        await show(hash, { width });
+        const [controls, steps] = await browser.run(TARGETS);
+        const least = width === 320 ? FINGER : LEAST_TARGET;
+        const small = (found, most) => found.filter(([, wide, high]) => wide < most || high < most);
+        const found = [small(controls, least), small(steps, LEAST_TARGET)];
+        checks.same(found, [[], []], `${hash} at ${width}: small targets`);
+        checks.is(controls.length > 20 && steps.length > 5, `${hash}: ${controls.length} and ${steps.length} targets`);
+    }
+}
+
+// On a narrow screen the controls of two monitors stay in sight, and what has the focus isn't under them.
+async function check_sticky() {
+    await show("#e=mesa&at=9", { width: 390 });
+    await browser.run("document.querySelectorAll('.run')[1].querySelector('.stage').scrollIntoView()");
+    const top = await browser.run("return document.querySelector('.controls').getBoundingClientRect().top");
+    checks.same(top, 0, "the controls beside the second monitor");
+    await focus(".steps button");
+    for (const back of [true, false]) {
+        await browser.run("window.scrollTo(0, document.body.scrollHeight)");
+        await focus(back ? '.run .steps li:nth-child(3) button' : '#buttons button');
+        const over = await browser.run(`
+            const { left, top } = document.activeElement.getBoundingClientRect();
+            return document.activeElement.contains(document.elementFromPoint(left + 5, top + 5));`);
+        checks.is(over, "the focus isn't under the controls");
+    }
+}
+
+// The contrast of the texts on the page. A text's ground is the nearest opaque colour behind it; in a row of the lanes
+// that is yet to come, its box under the veil.
+const RATIO = `
     const rgb = (it) => it.match(/[0-9.]+/g).map(Number);
     const linear = (it) => (it /= 255) <= 0.04045 ? it / 12.92 : ((it + 0.055) / 1.055) ** 2.4;
     const light = ([r, g, b]) => 0.2126 * linear(r) + 0.7152 * linear(g) + 0.0722 * linear(b);
@@ -195,13 +268,26 @@ const CONTRAST = `
     const ratio = (a, b) => {
         const [x, y] = [light(a), light(b)].sort((m, n) => n - m);
         return (x + 0.05) / (y + 0.05);
+    };`;
+const CONTRAST = `${RATIO}
+    const veiled = (it, box) => {
+        const veil = it.ownerSVGElement.querySelector('.future');
+        const [r, g, b, a] = rgb(getComputedStyle(veil).fill);
+        const is_later = it.getBBox().y >= veil.getBBox().y;
+        return is_later ? rgb(box).slice(0, 3).map((n, i) => a * [r, g, b][i] + (1 - a) * n) : rgb(box);
     };
     const of_text = (it) => {
         const style = getComputedStyle(it);
         if (!it.closest('svg')) return ratio(rgb(style.color), ground(it));
-        const box = it.previousElementSibling;
-        const fill = getComputedStyle(box.classList.contains('signals') ? box.previousElementSibling : box).fill;
-        return ratio(rgb(style.fill), rgb(fill));
+        const [x, y] = [Number(it.getAttribute('x')), Number(it.getAttribute('y'))];
+        const has = ({ left, right, top, bottom }, [m, n]) => left <= m && m <= right && top <= n && n <= bottom;
+        const edges = (box) => {
+            const [left, top, wide, high] = ['x', 'y', 'width', 'height'].map((name) => Number(box.getAttribute(name)));
+            return { left, top, right: left + wide, bottom: top + high };
+        };
+        const boxes = [...it.ownerSVGElement.querySelectorAll('.inside, .waits, .called, .half')];
+        const [box] = boxes.filter((box) => has(edges(box), [x, y])); // of a signaller its darker half
+        return ratio(rgb(style.fill), veiled(it, getComputedStyle(box).fill));
     };
     const walker = document.createTreeWalker(document.body, NodeFilter.SHOW_TEXT);
     const found = [];
@@ -224,7 +310,35 @@ async function check_contrast() {
     }
 }
 
-const all = [check_outline, check_controls, check_live, check_focus, check_keyboard, check_widths, check_contrast];
-for (const check of all) await check();
+// The contrast of the controls' edges with their ground and of the ring around the focus, those that are less.
+const EDGES = `${RATIO}
+    const is_on = (it) => it.ariaDisabled !== 'true' && it.getClientRects().length > 0;
+    const fields = '.priority input, .new input, textarea, .places label, .tabs button, .controls button, .new button';
+    const all = [...document.querySelectorAll(fields + ', #buttons button')].filter(is_on);
+    const edge = (it) => ratio(rgb(getComputedStyle(it).borderTopColor), ground(it.parentElement));
+    const ring = (it) => {
+        it.focus();
+        return ratio(rgb(getComputedStyle(it).outlineColor), ground(it.parentElement));
+    };
+    const name = (it) => (it.id || it.textContent || it.ariaLabel).slice(0, 30);
+    const focused = all.filter((it) => it.tagName !== 'LABEL');
+    const edges = all.map((it) => [edge(it), 'edge of ' + name(it)]);
+    const found = [...edges, ...focused.map((it) => [ring(it), 'ring of ' + name(it)])];
+    return { count: found.length, low: found.filter(([it]) => it < arguments[0]) };`;
+
+async function check_edges() {
+    const shown = ["#e=mesa&at=9", "#e=both-kinds&at=4"];
+    for (const [hash, scheme] of shown.flatMap((it) => [[it, "light"], [it, "dark"]])) {
+        await show(hash, { scheme });
+        await browser.keys([KEYS.tab]); // so that the focus has its ring
+        const { count, low } = await browser.run(EDGES, LEAST_OF_EDGES);
+        checks.is(count > 40, `${hash}, ${scheme}: ${count} edges`);
+        checks.same(low, [], `${hash}, ${scheme}: edges and rings`);
+    }
+}
+
+const named = [check_outline, check_controls, check_chips, check_live, check_focus, check_keyboard];
+const seen = [check_widths, check_targets, check_sticky, check_contrast, check_edges];
+for (const check of [...named, ...seen]) await check();
 await browser.close();
-checks.end("names, focus, widths and contrast");
+checks.end("names, focus, widths, targets and contrast");

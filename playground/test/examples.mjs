@@ -25,6 +25,7 @@ function all_owed({ scheduler, labels }, ran, data) {
     return steps.map((at) => owed(scheduler, values[at], ran.answers[at - 1], before(at), ran.state(at), names));
 }
 
+const IN = { text: "the item is in", is_true: true };
 const is_kept = (found) => found.every(({ clauses }) => clauses.every((it) => it.is_true));
 
 // An example's script has no fault, no line is refused but the ones meant to be, and each line has its note.
@@ -80,8 +81,16 @@ function check_mesa() {
     checks.is(is_kept(found), "mesa: what is owed");
     const shown = found.map((it, at) => [ran.answers[at - 1]?.text, it.awaited?.[0].is_true]);
     const awaited = shown.filter(([, it]) => it !== undefined);
-    checks.same(awaited, [["broadcast 2 0", true], ["leave 2", true], ["leave 0", false]], "mesa: what is awaited");
-    checks.is(run(module, example.script).state(6).inside === 0, "hoare: place 0 is inside after the signal");
+    const wanted = [["broadcast 2 0", true], ["leave 2", true], ["leave 0", false], ["notify 0 0", true]];
+    checks.same(awaited, [...wanted, ["leave 0", false]], "mesa: what is awaited");
+    const hoare = run(module, example.script);
+    const insides = hoare.answers.map((it, at) => [it.text, hoare.state(at + 1).inside]);
+    const signals = insides.filter(([it]) => it.startsWith("signal"));
+    checks.same(signals, [["signal 2 0", 0], ["signal 0 0", 1]], "hoare: the waiter is inside after each signal");
+    const owes = all_owed(example, hoare, example.data);
+    const at_signals = owes.filter((_, at) => hoare.answers[at - 1]?.name === "signal");
+    checks.same(at_signals.map((it) => it.clauses), [[IN], [IN]], "hoare: ready is owed at each signal");
+    checks.is(is_kept(owes), "hoare: what is owed");
 }
 
 // The sentences of one script with every kind of step.

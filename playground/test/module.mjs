@@ -1,8 +1,9 @@
 // usage: node --experimental-wasm-memory64 module.mjs MODULE.wasm
-// The module, and what the page reads off it, without a browser: its imports, the worked rows of scripts, faults, and
-// the states beside a monitor of plain lists that is written here.
+// The module, and what the page reads off it, without a browser: its imports, the worked rows of scripts, faults,
+// links, and the states beside a monitor of plain lists that is written here.
 import { readFileSync } from "node:fs";
 import { NOBODY, answer_all, load, look } from "../parts/book.mjs";
+import { address_of, read_address } from "../parts/link.mjs";
 import { answer_text, run } from "../parts/script.mjs";
 import { Checks } from "./checks.mjs";
 import { Plain } from "./plain.mjs";
@@ -29,18 +30,60 @@ function check_row(row) {
     checks.same(fault ? `${fault.name}, line ${fault.line}` : undefined, row.fault, `row ${row.name}: fault`);
 }
 
+// A run after another one has the states that it has alone, whatever the two share.
+function check_shared() {
+    const [first, ...others] = [
+        "monitor 3 1\nenter 0\nwait 0 0 0\nenter 1\nsignal 1 0", "monitor 3 1\nenter 0\nwait 0 0 1\nenter 2",
+        "monitor 3 1\nenter 0\nwait 0 0 1", "monitor 3 2\nenter 0\nwait 0 0 1\nenter 2", "", "monitor 3 1\nenter 0",
+    ];
+    let last = run(module, first);
+    for (const text of [...others, first]) {
+        const states = (it) => [...Array(it.answers.length + 1).keys()].map(it.state);
+        states(last);
+        const [after, alone] = [run(module, text, last), run(module, text)];
+        checks.same(states(after), states(alone), `the states of ${JSON.stringify(text)} after another run`);
+        last = after;
+    }
+}
+
 function check_faults() {
     const fault = (text) => run(module, text).fault?.name;
     const headers = ["65 8", "0 1", "1 9", "1 0", "2 1 2", "1", "1  1", "01 1"];
     headers.forEach((it) => checks.same(fault(`monitor ${it}`), "BadHeader", `monitor ${it}`));
     const words = ["enter  0", "enter 00", "enter -1", "Enter 0", "enter 0 ", "wait 0 0", "monitor 1 1", "", "of 0"];
     words.forEach((it) => checks.same(fault(`monitor 1 1\n${it}\nleave 0`), "BadLine", `"${it}"`));
-    const limits = { "64 1": "TooLarge", "1 8": "TooLarge", "63 7": undefined };
-    Object.entries(limits).forEach(([it, wanted]) => checks.same(fault(`monitor ${it}`), wanted, `monitor ${it}`));
-    checks.same([fault(""), fault("enter 0")], ["NoHeader", "BadHeader"], "no header");
-    checks.same(run(module, `monitor 1 1\nenter ${"1".repeat(251)}`).fault?.name, "LineTooLong", "257 bytes");
+    const limits = { "64 1": true, "1 8": true, "64 8": true, "63 7": undefined };
+    for (const [it, is_large] of Object.entries(limits)) {
+        const ran = run(module, `monitor ${it}`);
+        checks.same([ran.fault, ran.answers, ran.is_large], [null, [], is_large], `monitor ${it}`);
+    }
+    checks.same([fault(""), fault("enter 0"), fault("\n")], ["NoHeader", "BadHeader", "BadHeader"], "no header");
+    const ends = ["enter 0\n", "enter 0\n\n", "enter 0 ", "enter 0\n ", "enter 0\r\n", "\tenter 0"];
+    const of_ends = ends.map((it) => fault(`monitor 1 1\n${it}`));
+    checks.same(of_ends, [undefined, ...Array(5).fill("BadLine")], "what may follow a line");
+    const line_fault = (text) => [fault(text), run(module, text).fault?.line];
+    checks.same(line_fault(`monitor 1 1\n${"e".repeat(257)}`), ["LineTooLong", 2], "257 letters");
+    checks.same(line_fault(`monitor 1 1\n${"e".repeat(256)}`), ["BadLine", 2], "256 letters");
+    checks.same(line_fault("m".repeat(257)), ["LineTooLong", 1], "257 letters in the first line");
+    checks.same(line_fault("m".repeat(256)), ["BadHeader", 1], "256 letters in the first line");
+    checks.same(line_fault(`monitor 1 1\nenter 0\n${"é".repeat(129)}`), ["LineTooLong", 3], "258 bytes");
     checks.same(run(module, `monitor 1 1${"\nenter 0".repeat(401)}`).fault?.name, "TooLong", "401 steps");
     checks.same(run(module, `monitor 1 1${"\nenter 0".repeat(400)}`).fault, null, "400 steps");
+}
+
+// A link is the script and the step that it was made of; what isn't well formed is none.
+function check_links() {
+    const scripts = ["monitor 2 1\nenter 0", "monitor 1 1\n_;%5F\nenter_0;leave 0", "a&at=3#e=f\n=\u00e9+", "x\n\ny "];
+    for (const text of scripts) {
+        const hash = address_of({ text: `${text}\n`, at: 1 });
+        checks.same(read_address(hash), { text, at: 1 }, `the link of ${JSON.stringify(text)}`);
+        checks.is(/^[!-~]+$/.test(hash), `the letters of ${hash}`);
+    }
+    checks.same(address_of({ text: "monitor 2 1\nenter 0\n", at: 1 }), "#s=monitor_2_1;enter_0&at=1", "a link");
+    checks.same(address_of({ id: "disk", text: "", at: 20 }), "#e=disk&at=20", "an example's link");
+    const steps = { "1.5": 1, "-2.5": -2, "1e3": 1000, x: 0, "": 0 };
+    for (const [it, at] of Object.entries(steps)) checks.same(read_address(`#e=a&at=${it}`).at, at, `the step ${it}`);
+    checks.same(["", "#", "#proof", "#at=3", "#s=%", "#s=%E9"].map(read_address), Array(6).fill(null), "no links");
 }
 
 let seed = 1;
@@ -76,6 +119,8 @@ function check_drawn(script) {
 
 check_interface();
 ROWS.forEach(check_row);
+check_shared();
 check_faults();
+check_links();
 for (let script = 0; script < SCRIPTS; script += 1) check_drawn(script);
 checks.end(`the module, ${ROWS.length} worked rows, ${SCRIPTS * STEPS} states beside plain lists`);

@@ -2,7 +2,7 @@
 import { readFileSync } from "node:fs";
 
 const FOLDER = new URL("../../crates/script_trials/src/tests/scripts/", import.meta.url);
-const TOO_LARGE = "sixty_three_priorities"; // it has 64 places and 8 conditions, and the page keeps one of each
+const MADE = "sixty_three_priorities"; // its lines are made there by loops, and here
 
 // Returns the text of a literal of Rattle: "\n" is the end of a line, and a backslash before one joins two lines.
 const literal = (text) => text.replace(/\\\n\s*/g, "").replaceAll("\\n", "\n");
@@ -25,11 +25,21 @@ function row_of_script(name, body) {
 
 function rows_of(file) {
     const tests = readFileSync(new URL(file, FOLDER), "utf8").split("#[test]\n").slice(1);
-    const named = tests.map((it) => [it.match(/fn (\w+)/)[1], it]).filter(([name]) => name !== TOO_LARGE);
+    const named = tests.map((it) => [it.match(/fn (\w+)/)[1], it]).filter(([name]) => name !== MADE);
     return named.map(([name, body]) => (body.includes("let script") ? row_of_script : row_of_rows)(name, body));
 }
 
-export const ROWS = [...rows_of("rows.rt"), ...rows_of("mesa_rows.rt")];
+// Places 0 to 62 wait with the priorities 62 to 0, and place 63 resumes them from 62 down to 0. The page has answers of
+// so large a monitor, and no lists.
+function most_priorities() {
+    const places = [...Array(63).keys()];
+    const waits = places.flatMap((it) => [[`enter ${it}`, `${it}`], [`wait ${it} 0 ${62 - it}`, "free"]]);
+    const signals = places.reverse().flatMap((it) => [["signal 63 0", `${it}`], [`leave ${it}`, "63"]]);
+    const steps = [...waits, ["enter 63", "63"], ...signals, ["leave 63", "free"]];
+    return { name: MADE, header: "monitor 64 8", steps, is_large: true };
+}
+
+export const ROWS = [...rows_of("rows.rt"), ...rows_of("mesa_rows.rt"), most_priorities()];
 
 export const text_of = ({ header, steps, last }) =>
     [header, ...steps.map(([line]) => line), ...(last ? [last] : [])].join("\n");

@@ -9,7 +9,7 @@ import sys
 HERE = pathlib.Path(__file__).parent
 PARTS = HERE / 'parts'
 EXAMPLES = HERE.parent / 'examples'
-ORDER = ['book', 'script', 'words', 'schedulers', 'examples', 'picture', 'link', 'show', 'calls', 'page']
+ORDER = ['book', 'script', 'words', 'scenes', 'schedulers', 'examples', 'picture', 'link', 'show', 'calls', 'page']
 COLUMNS = 112
 
 

@@ -248,7 +248,8 @@ function show_fault(fault) {
     const notice = $("loading") ?? document.querySelector(".top").appendChild(make("p", { class: "notice" }));
     notice.className = "notice bad";
     notice.textContent = fault instanceof WebAssembly.CompileError
-        ? "This browser has no WebAssembly with a 64-bit memory (Memory64), which the book needs. Chromium 156 has it."
+        ? "This browser has no WebAssembly with a 64-bit memory (Memory64), which the book needs. Chromium 156 and " +
+            "Firefox 153 have it."
         : `The page has a fault: ${fault.message}`;
 }
 

@@ -1,9 +1,11 @@
 // What the monitors of the examples state of their data: `rest` and `ready`, in the words of the specs of
 // crates/plain_schedulers, timed_schedulers and sweep_schedulers. Each clause is a sentence and a test of it. A test
 // reads the example's data, the waiting priorities `q` of each condition, the least first, and for `ready` the
-// priority `p` of the resumed place, which is no longer among them.
+// priority `p` of the resumed place, which is no longer among them. `show` says the data in words, `draw` draws them,
+// and `caption` says what the drawing has that the words don't.
 
-import { NOBODY, STEPS, is_refused } from "./book.mjs";
+import { NOBODY, STEPS, all, is_refused } from "./book.mjs";
+import { cells, line } from "./scenes.mjs";
 import { capital } from "./words.mjs";
 
 const clause = (text, is_true) => ({ text, is_true });
@@ -14,6 +16,7 @@ const SINGLE = {
     crate: "plain_schedulers", type: "Single", paper: "Introduction",
     conditions: ["nonbusy"],
     show: ({ item }) => `the item is ${item}`,
+    draw: ({ item }) => cells([[item === "in", item === "in" ? "the item" : "out"]]),
     rest: [clause("if a process waits for the item, the item is out", (d, q) => !waits(q[0]) || d.item === "out")],
     ready: [[clause("the item is in", (d) => d.item === "in")]],
 };
@@ -25,7 +28,8 @@ const NO_ROOM = clause("if a process waits for room, no cell is free", (d, q) =>
 const BUFFER = {
     crate: "plain_schedulers", type: "Buffer", paper: "Example: Bounded Buffer",
     conditions: ["nonempty", "nonfull"],
-    show: ({ items, cells }) => `items: ${items}, cells: ${cells}`,
+    show: (d) => `items: ${d.items}, cells: ${d.cells}`,
+    draw: (d) => cells(all(d.cells).map((at) => [at < d.items, at < d.items ? "an item" : "free"])),
     rest: [FITS, NO_ITEM, NO_ROOM],
     ready: [
         [
@@ -48,6 +52,8 @@ const ALARM = {
     crate: "timed_schedulers", type: "Alarm", paper: "Scheduled Waits",
     conditions: ["wakeup"],
     show: ({ time }) => `time: ${time}`,
+    draw: ({ time }, q) => line(3, { at: time, way: 0 }, q[0]),
+    caption: "A dot is a sleeper, at the time when it is due.",
     rest: [clause("each waiting process is due later than now", (d, q) => every_from(d.time + 1, q[0]))],
     ready: [[
         clause("the resumed process is due now or later", (d, q, p) => d.time <= p),
@@ -63,6 +69,7 @@ const POOL = {
     crate: "timed_schedulers", type: "Pool", paper: "Further Examples: Buffer Allocation",
     conditions: ["nonfree"],
     show: ({ b0, b1 }) => `buffer 0: ${owner(b0)}, buffer 1: ${owner(b1)}`,
+    draw: ({ b0, b1 }) => cells([b0, b1].map((it) => [it !== "free", owner(it)])),
     rest: [OWNED, clause("if a stream waits for a buffer, none is free", (d, q) => !waits(q[0]) || free(d) === 0)],
     ready: [[
         OWNED,
@@ -100,6 +107,11 @@ const HEAD = {
     crate: "sweep_schedulers", type: "Head", paper: "Disk Head Scheduler",
     conditions: ["upsweep", "downsweep"],
     show: ({ drive, head, sweep, due }) => `drive: ${drive}, head at ${head}, sweeps ${sweep}, due here: ${due}`,
+    draw: (d, q) => {
+        const [up, down] = q.map((list, sweep) => list.map((p) => cylinder(d, sweep, p)));
+        return line(d.last, { at: d.head, way: d.sweep === "up" ? 1 : -1 }, up, down);
+    },
+    caption: "A dot is a waiting request: for the upsweep above the line, for the downsweep below it.",
     rest: [
         ON_DISK,
         clause("if a request waits, the drive is out", (d, q) => !q.some(waits) || d.drive === "out"),
@@ -118,6 +130,10 @@ const READERS = {
     crate: "sweep_schedulers", type: "ReadersWriters", paper: "Readers and Writers",
     conditions: ["oktoread", "oktowrite"],
     show: ({ readers, writer }) => `readers in: ${readers}, writer: ${writer}`,
+    draw: ({ readers, writer }) => {
+        const list = readers === 0 ? [[false, "no reader"]] : all(readers).map(() => [true, "a reader"]);
+        return cells([[writer === "in", writer === "in" ? "the writer" : "no writer"], ...list]);
+    },
     rest: [
         ALONE,
         clause("if a process waits to write, a reader or a writer is in",
@@ -158,11 +174,15 @@ function next_finds(before, { inside }, place) {
     return ` ${capital(place(inside))}, which was notified, finds it and tests its condition again.`;
 }
 
+// Returns the waiting priorities of each condition, the least first.
+export const waiting_priorities = ({ conditions }) =>
+    conditions.map((it) => it.waiting.map(({ priority }) => Number(priority)));
+
 // Returns what a step owes or finds: { text, clauses: [{ text, is_true }], awaited }, with the clauses as they are
 // after the step. `awaited` is what a notified place waits for, at the notify and when it resumes. `names` has `place`
 // and `condition`.
 export function owed(scheduler, data, answer, before, after, { place, condition }) {
-    const q = after.conditions.map((it) => it.waiting.map(({ priority }) => Number(priority)));
+    const q = waiting_priorities(after);
     const held = (clauses, p) => clauses.map(({ text, is_true }) => ({ text, is_true: is_true(data, q, p) }));
     if (!answer) return { text: "At the start rest holds, and no place waits:", clauses: held(scheduler.rest) };
     const { name, code, words: [first, second] } = answer;

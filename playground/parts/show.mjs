@@ -1,7 +1,8 @@
 // One run of a script on the page: a sentence on the step, the data with rest and ready, the lists, and the lanes.
 import { MOST_CONDITIONS, MOST_PLACES, NOBODY, all, is_refused } from "./book.mjs";
 import { ROW, mark, picture } from "./picture.mjs";
-import { data_after, owed } from "./schedulers.mjs";
+import { HIGH, WIDE } from "./scenes.mjs";
+import { data_after, owed, waiting_priorities } from "./schedulers.mjs";
 import { answer_text } from "./script.mjs";
 import { capital, describe } from "./words.mjs";
 
@@ -60,6 +61,15 @@ function clause_item({ text, is_true }) {
     const sign = make("span", { class: "sign", "aria-hidden": "true" }, is_true ? "✓" : "✗");
     const word = make("b", {}, is_true ? "true" : "false");
     return make("li", { class: is_true ? "holds" : "fails" }, sign, `${text}: `, word);
+}
+
+// Returns the picture of a scheduler's data. The words before it say the same.
+function scene({ draw, caption }, data, state) {
+    const figure = make("figure", { class: "scene", "aria-hidden": "true" });
+    const size = `viewBox="0 0 ${WIDE} ${HIGH}" width="${WIDE}" height="${HIGH}"`;
+    figure.innerHTML = `<svg xmlns="http://www.w3.org/2000/svg" ${size}>${draw(data, waiting_priorities(state))}</svg>`;
+    figure.append(...(caption ? [make("figcaption", {}, caption)] : []));
+    return figure;
 }
 
 export class Show {
@@ -222,7 +232,8 @@ export class Show {
         const awaits = awaited?.map((it) => ({ ...it, text: `what the notified wait for: ${it.text}` })) ?? [];
         const more = awaits.length > 0 ? [make("ul", { class: "clauses awaited" }, ...awaits.map(clause_item))] : [];
         const values = make("p", { class: "values" }, make("b", {}, "Data: "), scheduler.show(data));
-        this.data.replaceChildren(values, make("p", { class: "owed" }, text), ...list, ...more);
+        const picture = scene(scheduler, data, state);
+        this.data.replaceChildren(values, picture, make("p", { class: "owed" }, text), ...list, ...more);
         return owed_line(text, [...clauses, ...awaits]);
     }
 

@@ -278,7 +278,7 @@ const CONTRAST = `${RATIO}
     };
     const of_text = (it) => {
         const style = getComputedStyle(it);
-        if (!it.closest('svg')) return ratio(rgb(style.color), ground(it));
+        if (!it.closest('.lanes')) return ratio(rgb(it.closest('svg') ? style.fill : style.color), ground(it));
         const [x, y] = [Number(it.getAttribute('x')), Number(it.getAttribute('y'))];
         const has = ({ left, right, top, bottom }, [m, n]) => left <= m && m <= right && top <= n && n <= bottom;
         const edges = (box) => {
@@ -301,7 +301,8 @@ const CONTRAST = `${RATIO}
     return { texts: found.length, least: found[0], low: found.filter(([it]) => it < arguments[0]) };`;
 
 async function check_contrast() {
-    const shown = ["#e=mesa&at=9", "#e=both-kinds&at=9", "#e=every-step&at=22", "#s=monitor_1&at=0"];
+    const own = ["#e=both-kinds&at=9", "#e=every-step&at=22", "#s=monitor_1&at=0"];
+    const shown = ["#e=mesa&at=9", "#e=disk&at=12", "#e=pool&at=10", ...own];
     for (const [hash, scheme] of shown.flatMap((it) => [[it, "light"], [it, "dark"]])) {
         await show(hash, { scheme });
         const { texts, low } = await browser.run(CONTRAST, LEAST_CONTRAST);

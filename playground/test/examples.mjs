@@ -1,7 +1,7 @@
 // usage: node --experimental-wasm-memory64 examples.mjs MODULE.wasm
-// The examples: each is taken to its end. Those of the schedulers are what the procedures make (procedures.mjs), and
-// rest and ready hold wherever they are owed. At a Mesa condition what was true at the broadcast is false when the
-// second process resumes.
+// The examples: each is taken to its end. Those of the schedulers are what the procedures make (procedures.mjs), rest
+// and ready hold wherever they are owed, and the pictures are of the data. At a Mesa condition what was true at the
+// broadcast, and at the notify, is false when the waiter resumes.
 import { readFileSync } from "node:fs";
 import { NOBODY, load } from "../parts/book.mjs";
 import { EXAMPLES } from "../parts/examples.mjs";
@@ -70,6 +70,45 @@ function check_procedures({ id, script, data }) {
     checks.same(data_after(data), values, `${id}: its data`);
 }
 
+const shapes = (drawing, kind) => drawing.split("<").filter((it) => it.includes(`class="${kind}"`));
+const numbers = (list, name) => list.map((it) => Number(it.match(new RegExp(`${name}="?([0-9.]+)`))[1]));
+
+// How many full and free cells a drawing of the data has to have.
+const CELLS = {
+    single: (d) => (d.item === "in" ? [1, 0] : [0, 1]),
+    buffer: (d) => [d.items, d.cells - d.items],
+    pool: (d) => [[d.b0, d.b1].filter((it) => it !== "free").length, [d.b0, d.b1].filter((it) => it === "free").length],
+    readers: (d) => [d.readers + (d.writer === "in"), (d.readers === 0) + (d.writer === "out")],
+};
+
+// Where the pointer of a drawing has to be, and the dots above and below its line, in the data's own numbers.
+const LINES = {
+    alarm: (d, [due]) => [3, d.time, due, []],
+    disk: (d, [up, down]) => [100, d.head, up, down.map((it) => 100 - it)],
+};
+
+// The data's picture at each step.
+function check_scenes({ id, data, scheduler }, ran) {
+    for (const [at, d] of data_after(data).entries()) {
+        const q = ran.state(at).conditions.map((it) => it.waiting.map(({ priority }) => Number(priority)));
+        const drawing = scheduler.draw(d, q);
+        const cells = [shapes(drawing, "full").length, shapes(drawing, "gap").length];
+        if (CELLS[id]) checks.same(cells, CELLS[id](d), `${id}, step ${at}: the cells`);
+        const line = LINES[id]?.(d, q);
+        if (line) checks.same(read_line(drawing, line[0]), line, `${id}, step ${at}: its line`);
+    }
+}
+
+// Returns what a drawn line shows: its end, its pointer, and the dots above and below it.
+function read_line(drawing, most) {
+    const value = (x) => Math.round(((x - 14) / 272) * most);
+    const dots = shapes(drawing, "due");
+    const heights = numbers(dots, "cy");
+    const side = (is_above) => numbers(dots, "cx").filter((_, n) => heights[n] < 28 === is_above).map(value);
+    const [pointer] = shapes(drawing, "pointer").map((it) => value(Number(it.match(/d="M([0-9.]+) /)[1])));
+    return [Number(drawing.match(/>([0-9]+)<\/text>$/)[1]), pointer, side(true), side(false)];
+}
+
 // What the notified wait for, at the steps that show it.
 function check_mesa() {
     const example = EXAMPLES.find((it) => it.twin);
@@ -118,6 +157,7 @@ checks.same(schedulers.map(([it]) => it.id), SCHEDULERS, "the schedulers");
 for (const [example, ran] of schedulers) {
     check_scheduler(example, ran);
     check_clauses(example, ran);
+    check_scenes(example, ran);
     check_procedures(example);
 }
 check_mesa();

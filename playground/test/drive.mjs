@@ -151,7 +151,9 @@ async function check_mesa() {
     checks.same(beside, [["", 0], ["1", 1]], "Hoare beside Mesa");
     await go("#e=single&at=8");
     const owed = "Place 0 signals, and owes ready of nonbusy to place 1:";
-    checks.same((await read()).data, `Data: the item is in${owed}✓the item is in: true`, "data");
+    checks.same((await read()).data, `Data: the item is in ${owed} ✓the item is in: true`, "data");
+    const cells = await page.run("return [...document.querySelectorAll('.scene text')].map((it) => it.textContent)");
+    checks.same(cells, ["the item"], "the picture of the data");
 }
 
 async function check_play() {

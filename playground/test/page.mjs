@@ -21,7 +21,8 @@ const READ = `
         outside: places('.outside-places-zone'), refused: places('.refused-zone'), inside: places('.inside-zone'),
         signallers: places('.signallers-zone'), called: places('.called-zone'),
         waiting: all('.condition-zone', main).map((zone) => all('.chip', zone).map(waiter)),
-        message: text('call-message'), live: text('live'), data: main.querySelector('.data').textContent,
+        message: text('call-message'), live: text('live'),
+        data: all('.data > :not(figure)', main).map((it) => it.textContent).join(' '),
         focus: document.activeElement.id || document.activeElement.dataset.call || document.activeElement.tagName,
         shared: text('shared'), text: document.getElementById('text').value,
     };`;

@@ -155,7 +155,7 @@ const MESA_SINGLE = {
 
 export const SCHEDULERS = { SINGLE, MESA_SINGLE, BUFFER, ALARM, POOL, HEAD, READERS };
 
-// Returns the data at the opening and after each step, of an example's notes: "item=in" sets one of them.
+// Returns the data at the start and after each step, of an example's notes: "item=in" sets one of them.
 export function data_after(notes) {
     const value_of = (name, word) => (/^[0-9]+$/.test(word) && !/^b[0-9]$/.test(name) ? Number(word) : word);
     const states = [];

@@ -258,7 +258,7 @@ export class Show {
     tell(at, state) {
         const { ran, names } = this;
         const count = make("p", { class: "at" }, at === 0 ? "At the start" : `Step ${at} of ${ran.answers.length}`);
-        if (at === 0) return this.tell_opening(count);
+        if (at === 0) return this.tell_start(count);
         const answer = ran.answers[at - 1];
         const { said, why, is_refused: is_no } = describe(answer, ran.state(at - 1), state, names);
         const note = this.notes?.[at - 1];
@@ -274,7 +274,7 @@ export class Show {
         return `${answer.text}: ${said}${note ? ` ${note}` : ""}`;
     }
 
-    tell_opening(count) {
+    tell_start(count) {
         const { places, conditions, mesa } = this.ran.sizes;
         const last = mesa === 1 ? "is a Mesa condition" : `${mesa} are Mesa conditions`;
         const which = mesa === 0 ? "" : `, of which the last ${last}`;

@@ -48,8 +48,11 @@ async function check_outline() {
     checks.same([levels[0], levels.filter((it) => it === 1).length], [1, 1], "one first heading");
     checks.is(levels.every((it, at) => at === 0 || it <= levels[at - 1] + 1), `levels of headings: ${levels}`);
     const groups = ["Short scripts", "Hoare’s six schedulers", "Steps; the arrow keys, Home and End move too"];
-    check_named(found, "group", [...groups, "Which process calls?", "Enter and leave", "On condition 0"]);
+    const calls = ["Which process calls?", "Enter and leave", "On condition 0"];
+    check_named(found, "group", [...groups, ...calls, "A new monitor"]);
     const waiting = ["Waiting signallers, in order", "Waiting on condition 0, in order"];
+    check_named(found, "textbox", ["The script", "Priority of a wait on condition 0"]);
+    check_named(found, "spinbutton", ["places", "conditions", "of them Mesa"]);
     check_named(found, "list", ["Inside", "Outside", ...waiting]);
 }
 
@@ -216,8 +219,9 @@ async function check_width(width) {
 const TARGETS = `
     const all = [...document.querySelectorAll('button, input, textarea, summary')];
     const size = (it) => {
-        const { width, height } = (it.closest('label') ?? it).getBoundingClientRect();
-        return [it.ariaLabel ?? it.textContent.trim() ?? it.id, Math.round(width), Math.round(height)];
+        const target = it.closest('label') ?? it;
+        const { width, height } = target.getBoundingClientRect();
+        return [it.ariaLabel || target.textContent.trim() || it.id, Math.round(width), Math.round(height)];
     };
     const of = (is_step) => all.filter((it) => Boolean(it.closest('.steps')) === is_step).map(size);
     return [of(false), of(true)];`;
@@ -241,14 +245,14 @@ async function check_sticky() {
     await browser.run("document.querySelectorAll('.run')[1].querySelector('.stage').scrollIntoView()");
     const top = await browser.run("return document.querySelector('.controls').getBoundingClientRect().top");
     checks.same(top, 0, "the controls beside the second monitor");
-    await focus(".steps button");
-    for (const back of [true, false]) {
-        await browser.run("window.scrollTo(0, document.body.scrollHeight)");
-        await focus(back ? '.run .steps li:nth-child(3) button' : '#buttons button');
-        const over = await browser.run(`
-            const { left, top } = document.activeElement.getBoundingClientRect();
-            return document.activeElement.contains(document.elementFromPoint(left + 5, top + 5));`);
-        checks.is(over, "the focus isn't under the controls");
+    for (const what of [".run .steps li:nth-child(3) button", "#buttons button"]) {
+        const is_seen = await browser.run(`
+            const it = document.querySelector(arguments[0]);
+            window.scrollBy(0, it.getBoundingClientRect().top - 30); // under the controls
+            it.focus();
+            const { left, top } = it.getBoundingClientRect();
+            return it.contains(document.elementFromPoint(left + 5, top + 5));`, what);
+        checks.is(is_seen, `${what} has the focus, under the controls`);
     }
 }
 

@@ -16,7 +16,7 @@ const module = await load(readFileSync(process.argv[2]));
 const checks = new Checks();
 const SCHEDULERS = ["single", "buffer", "alarm", "pool", "disk", "readers"];
 
-// Returns what each step of an example owes, from the opening on, with the data that its notes say.
+// Returns what each step of an example owes, from the start on, with the data that its notes say.
 function all_owed({ scheduler, labels }, ran, data) {
     const names = names_of(labels, scheduler);
     const values = data_after(data);

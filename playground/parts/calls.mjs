@@ -34,6 +34,7 @@ export class Calls {
         $("places").querySelectorAll("label").forEach((it) => it.remove());
         $("buttons").replaceChildren();
         this.say("");
+        $("places").hidden = !state;
         if (!state) return;
         const kept = state.outside.includes(this.chosen) ? this.chosen : (state.outside[0] ?? 0);
         this.chosen = place ?? (state.inside === NOBODY ? kept : state.inside);

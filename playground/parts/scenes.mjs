@@ -16,8 +16,8 @@ export function cells(list) {
     const cell = ([is_full, text], at) => {
         const x = 2 + (width + gap) * at;
         const kind = is_full ? "full" : "gap";
-        const box = `<rect class="${kind}" x="${x}" y="10" width="${width}" height="${height}" rx="5"/>`;
-        return box + word(text, x + width / 2, 29);
+        const box = `<rect class="${kind}" x="${x}" y="17" width="${width}" height="${height}" rx="5"/>`;
+        return box + word(text, x + width / 2, 36);
     };
     return list.map(cell).join("");
 }

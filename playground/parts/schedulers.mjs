@@ -53,7 +53,7 @@ const ALARM = {
     conditions: ["wakeup"],
     show: ({ time }) => `time: ${time}`,
     draw: ({ time }, q) => line(3, { at: time, way: 0 }, q[0]),
-    caption: "A dot is a sleeper, at the time when it is due.",
+    caption: "The bar is the clock; a dot is a sleeper, at the time when it is due.",
     rest: [clause("each waiting process is due later than now", (d, q) => every_from(d.time + 1, q[0]))],
     ready: [[
         clause("the resumed process is due now or later", (d, q, p) => d.time <= p),
@@ -111,7 +111,9 @@ const HEAD = {
         const [up, down] = q.map((list, sweep) => list.map((p) => cylinder(d, sweep, p)));
         return line(d.last, { at: d.head, way: d.sweep === "up" ? 1 : -1 }, up, down);
     },
-    caption: "A dot is a waiting request: for the upsweep above the line, for the downsweep below it.",
+    caption:
+        "The arrow is the head; a dot is a waiting request, above the line for the upsweep, below it for the " +
+        "downsweep.",
     rest: [
         ON_DISK,
         clause("if a request waits, the drive is out", (d, q) => !q.some(waits) || d.drive === "out"),

@@ -13,7 +13,7 @@ use plain_schedulers::buffer::Buffer;
 use std::sync::Wait;
 
 /// Hands the numbers of the jobs on, in order, and then tells all workers to stop. The seat comes back.
-pub(crate) fn hand_out<R: Wait>(rt: &R, doors: &Doors, jobs: &Jobs, seat: Seat) -> Seat
+pub fn hand_out<R: Wait>(rt: &R, doors: &Doors, jobs: &Jobs, seat: Seat) -> Seat
     requires { IsSeat doors.now seat }
     ensures of { IsSeat doors.now result }
     ensures number { result.number ≡ seat.number }
@@ -65,7 +65,7 @@ fn append<R: Wait>(rt: &R, doors: &Doors, seat: Seat, item: Item) -> Seat
 }
 
 /// Closes the board: where that is refused it is tried again. The seat comes back.
-pub(crate) fn close_board<R: Wait>(rt: &R, doors: &Doors, seat: Seat) -> Seat
+pub fn close_board<R: Wait>(rt: &R, doors: &Doors, seat: Seat) -> Seat
     requires { IsSeat doors.now seat }
     ensures of { IsSeat doors.now result }
     ensures number { result.number ≡ seat.number }

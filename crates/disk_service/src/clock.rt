@@ -9,7 +9,7 @@ use std::sync::Wait;
 use timed_schedulers::alarm::Alarm;
 
 /// Ticks until the board is closed. The seat comes back.
-pub(crate) fn tick_on<R: Wait>(rt: &R, doors: &Doors, seat: Seat) -> Seat
+pub fn tick_on<R: Wait>(rt: &R, doors: &Doors, seat: Seat) -> Seat
     requires { IsSeat doors.now seat }
     ensures of { IsSeat doors.now result }
     ensures number { result.number ≡ seat.number }

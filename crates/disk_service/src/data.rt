@@ -3,7 +3,7 @@ use disk_jobs::done::Done;
 
 /// What the buffer brings to a worker.
 #[derive(Clone, Copy, Debug, PartialEq, Eq)]
-pub(crate) enum Item {
+pub enum Item {
     /// The number of a job.
     Job(u32),
     /// There are no more jobs for this worker.
@@ -12,7 +12,7 @@ pub(crate) enum Item {
 
 /// The drive of the simulated disk.
 #[derive(Drop)]
-pub(crate) struct Drive;
+pub struct Drive;
 
 impl Drive {
     /// Reads the block on the cylinder under the head, for a job.
@@ -23,7 +23,7 @@ impl Drive {
 
 /// How many jobs were done, and the sum of their blocks.
 #[derive(Clone, Copy, Debug, PartialEq, Eq)]
-pub(crate) struct Totals {
+pub struct Totals {
     /// How many jobs were done.
     pub jobs: u64,
     /// The sum of their blocks.
@@ -44,7 +44,7 @@ impl Totals {
 
 /// What all may read: how many jobs were done, and whether no more will be.
 #[derive(Clone, Copy, Debug, PartialEq, Eq)]
-pub(crate) struct Board {
+pub struct Board {
     /// How many jobs were done.
     pub done: u32,
     /// Whether no more will be.

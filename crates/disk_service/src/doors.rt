@@ -25,7 +25,7 @@ const CELLS: usize = 4;
 
 /// The doors of the service, one for each scheduler.
 #[derive(Drop)]
-pub(crate) struct Doors {
+pub struct Doors {
     /// The jobs that wait for a worker.
     pub items: AnyDoor<Buffer<Item>>,
     /// The time.
@@ -42,7 +42,7 @@ pub(crate) struct Doors {
 
 impl Doors {
     /// Doors for these jobs with this number of places each, and the places, in order.
-    pub(crate) fn open(
+    pub fn open(
         alloc: Global,
         kind: Kind,
         jobs: &Jobs,

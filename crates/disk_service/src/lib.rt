@@ -2,20 +2,20 @@
 #![tactic(auto)]
 
 mod board;
-mod caller;
-mod clock;
-mod data;
 mod door;
-mod doors;
 pub mod gate;
-mod places;
 pub mod running;
-mod seat;
 pub mod serving;
-#[cfg(test)]
-mod tests;
 mod threads;
-mod worker;
+
+// The service's parts: public for its tests, which stand in `service_trials`.
+pub mod caller;
+pub mod clock;
+pub mod data;
+pub mod doors;
+pub mod places;
+pub mod seat;
+pub mod worker;
 
 pub use disk_jobs::{
     BadJobs, Done, Jobs, Kind, Report, ServiceFault, gather, kind_of, read_jobs, read_jobs_watched,

@@ -19,7 +19,7 @@ use timed_schedulers::pool::Pool;
 
 /// The places of each door that no thread has: place 0, 1, .. in order.
 #[derive(Drop)]
-pub(crate) struct Places {
+pub struct Places {
     /// At the door of the jobs that wait for a worker.
     pub items: Vec<Outside<Buffer<Item>>>,
     /// At the door of the time.
@@ -64,7 +64,7 @@ fn put_last<D: MonitorData>(
 
 impl Places {
     /// The last seat that nobody has: its number is how many are left then.
-    pub(crate) fn take_seat(&mut self, number: u32) -> Seat
+    pub fn take_seat(&mut self, number: u32) -> Seat
         requires { (d : Doors) × AreThere d (number + 1) self.old }
         ensures number { result.number ≡ number }
         ensures seat { (d : Doors) → AreThere d (number + 1) self.old → IsSeat d result }

@@ -18,7 +18,7 @@ use timed_schedulers::pool::Pool;
 /// A place at each door, all of one number. Each thread has a seat, and the stream that it takes buffers for has that
 /// number too.
 #[derive(Drop)]
-pub(crate) struct Seat {
+pub struct Seat {
     /// The number of each of its places. The workers have the numbers from 0 on, then come the clock and the caller.
     pub number: u32,
     /// Its place at the door of the jobs that wait for a worker.

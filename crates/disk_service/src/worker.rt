@@ -23,7 +23,7 @@ use timed_schedulers::pool::Pool;
 /// Does jobs until it is told to stop, and keeps what is done, for which there is room. The seat comes back. A refusal
 /// skips what depends on it: then that job isn't among those that are done. For each that is, the worker has slept for
 /// a tick, and has taken a buffer from the pool and given it back.
-pub(crate) fn work<R: Wait, G: Gate>(
+pub fn work<R: Wait, G: Gate>(
     rt: &R,
     gate: &G,
     jobs: &Jobs,

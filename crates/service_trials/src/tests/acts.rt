@@ -1,18 +1,18 @@
 //! A worker's acts in order: at each call of its gate another thread looks behind the doors. That what is done is kept
 //! before `end` no look finds: reviewed only.
+ghost use Rattle.std.specs.Prelude.{◌≡◌};
 ghost use Rattle.disk_service.specs.Doors.{AreThere, IsSeat};
 
-use crate::caller::{close_board, hand_out};
-use crate::clock::tick_on;
-use crate::data::Drive;
-use crate::doors::Doors;
-use crate::gate::Gate;
-use crate::places::Places;
-use crate::seat::Seat;
-use crate::worker::work;
-use disk_jobs::done::Done;
-use disk_jobs::jobs::Jobs;
-use disk_jobs::kind::Kind;
+use crate::tests::compared::expect_same;
+use disk_service::caller::{close_board, hand_out};
+use disk_service::clock::tick_on;
+use disk_service::data::{Board, Drive, Totals};
+use disk_service::doors::Doors;
+use disk_service::places::Places;
+use disk_service::seat::Seat;
+use disk_service::worker::work;
+use disk_service::{Done, Gate, Jobs, Kind};
+use hoare_law::monitor::Monitor;
 use plain_schedulers::single::Single;
 use std::alloc::Global;
 use std::process::Abort;
@@ -43,6 +43,32 @@ struct Found {
     are_in: bool,
 }
 
+// What the totals of this monitor say.
+fn totals_of<R: Wait, M: Monitor<Single<Totals>>>(m: &M, rt: &R, out: M::Out) -> (M::Out, Totals)
+    requires { M.is_of m.now out }
+    ensures of { M.is_of m.now result.0 }
+    ensures place { M.place result.0 ≡ M.place out }
+{
+    let (out, totals) = Single::acquire(m, rt, out);
+    let (out, _released) = Single::release(m, rt, out, totals);
+    (out, totals)
+}
+
+// What the board of this monitor says.
+fn board_of<R: Wait, M: Monitor<ReadersWriters<Board>>>(
+    m: &M,
+    rt: &R,
+    out: M::Out,
+) -> (M::Out, Board)
+    requires { M.is_of m.now out }
+    ensures of { M.is_of m.now result.0 }
+    ensures place { M.place result.0 ≡ M.place out }
+{
+    let (out, board) = ReadersWriters::start_write(m, rt, out);
+    let (out, _ended) = ReadersWriters::end_write(m, rt, out, board);
+    (out, board)
+}
+
 // What lies behind these doors. The seat comes back. (A buffer that is in can't be given back, and while the drive is
 // in none can be put in.)
 fn found_behind<R: Wait>(rt: &R, doors: &Doors, seat: Seat) -> (Seat, Found)
@@ -50,11 +76,9 @@ fn found_behind<R: Wait>(rt: &R, doors: &Doors, seat: Seat) -> (Seat, Found)
     ensures { IsSeat doors.now result.0 }
 {
     let mut seat = seat;
-    let (place, totals) = Single::acquire(&doors.totals, rt, seat.totals);
-    let (place, _released) = Single::release(&doors.totals, rt, place, totals);
+    let (place, totals) = totals_of(&doors.totals, rt, seat.totals);
     seat.totals = place;
-    let (place, board) = ReadersWriters::start_write(&doors.board, rt, seat.board);
-    let (place, _ended) = ReadersWriters::end_write(&doors.board, rt, place, board);
+    let (place, board) = board_of(&doors.board, rt, seat.board);
     seat.board = place;
     let (place, given) = Pool::give(&doors.pool, rt, seat.pool, 0, 0);
     seat.pool = place;
@@ -94,7 +118,6 @@ impl<R: Wait> Gate for Watched<'_, R> {
         self.await_look(Call::End(job));
     }
 }
-
 // What the watcher finds at each call of the gate.
 fn found_at_calls<R: Wait>(
     rt: &R,
@@ -203,9 +226,9 @@ fn assert_in_order<R: Abort>(rt: &R, calls: &[(Call, Found)], kept: &[Done]) {
         (Call::Begin(2), after(2)),
         (Call::End(2), after(3)),
     ];
-    assert_eq!(rt; calls, wanted.as_slice());
+    expect_same(rt, calls, wanted.as_slice());
     let jobs = [Done::of(0, 7), Done::of(1, 300), Done::of(2, 3)];
-    assert_eq!(rt; kept, jobs.as_slice());
+    expect_same(rt, kept, jobs.as_slice());
 }
 
 #[test]

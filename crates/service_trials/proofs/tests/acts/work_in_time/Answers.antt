@@ -1,5 +1,5 @@
 use Rattle.std.proofs.Common.{rules}
-use Rattle.disk_service.proofs.tests.work_in_time.Goals as goal
+use Rattle.service_trials.proofs.tests.acts.work_in_time.Goals as goal
 
 pub take_seat-clock-requires : goal.take_seat-clock-requires
 take_seat-clock-requires g c = (c.args.doors.now, c.take_seat-watcher.ensures.left _ c.requires)

@@ -1,5 +1,5 @@
 use Rattle.disk_service.specs.Doors.{IsSeat}
-use Rattle.disk_service.proofs.tests.found_at_calls.Given as goal
+use Rattle.service_trials.proofs.tests.acts.found_at_calls.Given as goal
 
 -- the seat stays one of these doors
 abbrev pub invariant-loop : goal.invariant-loop

@@ -6,6 +6,7 @@ mod law;
 mod lines;
 mod numbers;
 mod past;
+mod patterns;
 mod pictures;
 mod repeated;
 mod scripts;

@@ -5,6 +5,8 @@ mod large;
 mod svgs;
 
 use crate::tests::compared::expect_same;
+use crate::tests::patterns::Part::Number;
+use crate::tests::patterns::add_filled;
 use script_picture::fault::PictureFault;
 use script_picture::picture::{Form, draw_script};
 use std::alloc::{AllocError, Global};
@@ -58,9 +60,10 @@ fn times(text: &[u8], part: &[u8]) -> usize {
 
 // All of 64 places come in and wait, with the greatest priority or with 7.
 fn add_waits(script: &mut String, greatest: bool) -> Result<(), AllocError> {
-    for place in 0..64u32 {
+    for place in 0..64u64 {
         let priority = if greatest || place == 0 { u64::MAX } else { 7 };
-        writeln!(script, "enter {place}\nwait {place} 0 {priority}")?;
+        let parts = [Number(place), Number(place), Number(priority)];
+        add_filled(script, "enter #\nwait # 0 #\n", &parts)?;
     }
     Ok(())
 }

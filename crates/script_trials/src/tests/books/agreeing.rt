@@ -101,14 +101,18 @@ impl Three {
         Ok(self.plain.step(step) == answer && self.book.step(step) == told)
     }
 
+    // Whether the table and the book say that these wait on a condition, in this order.
+    fn have_waiting(&self, condition: usize, waits: &[Wait]) -> bool {
+        stand(&self.plain, Group::On(condition as u64), waits)
+            && self.book.has_waiting(condition, waits)
+    }
+
     fn agree_on(&self, condition: usize) -> Result<bool, AllocError> {
         let by_time = self.past.waiting(condition)?;
         let waits = in_order(self.past.alloc, by_time.as_slice())?;
-        Ok(
-            chosen(by_time.as_slice()) == waits.first().copied()
-                && stand(&self.plain, Group::On(condition as u64), waits.as_slice())
-                && self.book.has_waiting(condition, waits.as_slice()),
-        )
+        let same_first = chosen(by_time.as_slice()) == waits.first().copied();
+        let same_waits = self.have_waiting(condition, waits.as_slice());
+        Ok(same_first && same_waits)
     }
 
     fn agree_on_all(&self) -> Result<bool, AllocError> {
@@ -120,12 +124,15 @@ impl Three {
         Ok(true)
     }
 
+    // Whether all three say the same of a place.
+    fn agree_on_place(&self, place: u64) -> bool {
+        let outside = self.past.outside(place as usize);
+        self.plain.outside(place) == outside && self.book.outside(place as usize) == outside
+    }
+
     fn agree_outside(&self) -> bool {
         for place in 0..self.past.places {
-            let outside = self.past.outside(place as usize);
-            if self.plain.outside(place) != outside
-                || self.book.outside(place as usize) != outside
-            {
+            if !self.agree_on_place(place) {
                 return false;
             }
         }
@@ -140,28 +147,30 @@ impl Three {
         count(&mut tally.several_called, called.len() > 1);
         let beside = !called.is_empty() && !signallers.is_empty();
         count(&mut tally.beside_signallers, beside);
-        Ok(
-            stand_signalling(&self.plain, signallers.as_slice())
-                && stand(&self.plain, Group::Called, called.as_slice()),
-        )
+        let same_signallers = stand_signalling(&self.plain, signallers.as_slice());
+        let same_called = stand(&self.plain, Group::Called, called.as_slice());
+        Ok(same_signallers && same_called)
     }
 
     fn agree(&self, tally: &mut Tally) -> Result<bool, AllocError> {
         let now = self.past.now()?;
-        Ok(
-            self.plain.now() == now
-                && self.book.now() == now
-                && self.agree_outside()
-                && self.agree_on_all()?
-                && self.agree_to_come(tally)?,
-        )
+        let same_turn = self.plain.now() == now && self.book.now() == now;
+        let same_waits = self.agree_on_all()?;
+        let same_to_come = self.agree_to_come(tally)?;
+        Ok(same_turn && same_waits && same_to_come && self.agree_outside())
     }
 
     // A place that is outside, if there is one.
     fn newcomer(&self, lot: u64) -> Option<u64> {
-        let first = lot % self.past.places.max(1);
-        let mut places = (first..self.past.places).chain(0..first);
-        places.find(|place| self.plain.outside(*place))
+        let places = self.past.places.max(1);
+        let first = lot % places;
+        for further in 0..places {
+            let place = first.wrapping_add(further) % places;
+            if self.plain.outside(place) {
+                return Some(place);
+            }
+        }
+        None
     }
 
     // A step of any place, mostly refused.
@@ -204,16 +213,24 @@ impl Three {
     }
 }
 
+// What a place did before the last that it did, of these events.
+fn last_but_one(events: &[Event], place: usize) -> Option<Event> {
+    let (mut last, mut before) = (None, None);
+    for event in events {
+        if event.place() == place {
+            before = last;
+            last = Some(*event);
+        }
+    }
+    before
+}
+
 // How often a place that was called, and waited again at once, went on again by a call.
 fn calls_again(past: &Past) -> usize {
     let mut found = 0usize;
     for at in 0..past.events.len() {
         let event = past.events[at];
-        let mut own = past.events[..at]
-            .iter()
-            .rev()
-            .filter(|other| other.place() == event.place());
-        let before = own.nth(1).copied();
+        let before = last_but_one(&past.events[..at], event.place());
         if past.is_called_back(Some(event)) && past.is_called_back(before) {
             found = found.saturating_add(1);
         }

@@ -39,13 +39,6 @@ fn empty(book: &mut Book) -> Result<(), StepRefused> {
     Ok(())
 }
 
-// Fills a book and empties it: what waits for nobody, in all its kinds.
-fn whole_run(book: &mut Book) -> Result<(), StepRefused> {
-    fill(book)?;
-    call_all(book)?;
-    empty(book)
-}
-
 // How many wait on all conditions.
 fn waiting(book: &Book) -> usize {
     let mut count: usize = 0;
@@ -55,14 +48,11 @@ fn waiting(book: &Book) -> usize {
     count
 }
 
-// After a whole run nobody is inside and nobody waits.
+// A book is filled and emptied: what waits for nobody, in all its kinds. In the end nobody is inside and nobody waits.
 #[test]
 fn steps_end_in_time(rt: HostRuntime) {
     let mut book = made(&rt, 64, 8, 4);
-    let end = whole_run(&mut book);
-    expect_same(
-        &rt,
-        (end, book.now(), waiting(&book)),
-        (Ok(()), Next::Free, 0),
-    );
+    let ends = [fill(&mut book), call_all(&mut book), empty(&mut book)];
+    let found = (ends, book.now(), waiting(&book));
+    expect_same(&rt, found, ([Ok(()); 3], Next::Free, 0));
 }

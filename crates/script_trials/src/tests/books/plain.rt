@@ -60,8 +60,11 @@ impl Plain {
 
     // How many go on before a place of their group.
     fn before(&self, at: Where) -> usize {
-        let places = self.standing().iter();
-        places.filter(|one| is_before(**one, at)).count()
+        let mut count: usize = 0;
+        for one in self.standing() {
+            count = count.saturating_add(is_before(*one, at) as usize);
+        }
+        count
     }
 
     fn put(&mut self, place: usize, at: Where) {
@@ -92,8 +95,11 @@ impl Plain {
 
     /// How many wait in a group.
     pub fn count(&self, group: Group) -> usize {
-        let places = self.standing().iter();
-        places.filter(|at| at.is_in(group)).count()
+        let mut count: usize = 0;
+        for at in self.standing() {
+            count = count.saturating_add(at.is_in(group) as usize);
+        }
+        count
     }
 
     /// The least and the greatest priority on a condition.
@@ -226,6 +232,13 @@ impl Plain {
         Ok(())
     }
 
+    fn leave(&mut self, place: u64) -> Result<(), StepRefused> {
+        let place = self.holder(place)?;
+        self.put(place, Where::Outside);
+        self.give_up();
+        Ok(())
+    }
+
     fn do_step(&mut self, step: Step) -> Result<(), StepRefused> {
         match step {
             Step::Enter(place) => self.enter(place),
@@ -234,12 +247,7 @@ impl Plain {
             Step::Pass(place, condition) => self.pass(place, condition),
             Step::Notify(place, condition) => self.notify(place, condition),
             Step::Broadcast(place, condition) => self.broadcast(place, condition),
-            Step::Leave(place) => {
-                let place = self.holder(place)?;
-                self.put(place, Where::Outside);
-                self.give_up();
-                Ok(())
-            }
+            Step::Leave(place) => self.leave(place),
         }
     }
 

@@ -151,10 +151,11 @@ pub fn turn(alloc: Global, events: &[Event]) -> Result<Turn, AllocError> {
 
 /// A place did nothing yet, or last left or passed.
 pub fn outside(place: usize, events: &[Event]) -> bool {
-    for event in events.iter().rev() {
+    let mut is_outside = true;
+    for event in events {
         if event.place() == place {
-            return matches!(event, Event::Leave(_) | Event::Pass(_, _, _));
+            is_outside = matches!(event, Event::Leave(_) | Event::Pass(_, _, _));
         }
     }
-    true
+    is_outside
 }

@@ -5,6 +5,8 @@ mod svg;
 
 use super::drawn_whole;
 use crate::tests::compared::expect_same;
+use crate::tests::patterns::Part::Number;
+use crate::tests::patterns::add_filled;
 use script_picture::picture::Form;
 use std::alloc::AllocError;
 use std::panic::Expect;
@@ -28,7 +30,8 @@ fn entry(place: u64) -> u64 {
 fn add_waits(script: &mut String) -> Result<(), AllocError> {
     for place in 0..64u64 {
         if place != SIGNALLER {
-            writeln!(script, "enter {place}\nwait {place} 0 100")?;
+            let place = Number(place);
+            add_filled(script, "enter #\nwait # 0 100\n", &[place, place])?;
         }
     }
     Ok(())
@@ -38,7 +41,8 @@ fn add_waits(script: &mut String) -> Result<(), AllocError> {
 fn add_signals(script: &mut String) -> Result<(), AllocError> {
     for place in 0..64u64 {
         if place != SIGNALLER {
-            writeln!(script, "signal {SIGNALLER} 0\nleave {place}")?;
+            let parts = [Number(SIGNALLER), Number(place)];
+            add_filled(script, "signal # 0\nleave #\n", &parts)?;
         }
     }
     Ok(())
@@ -48,9 +52,9 @@ fn add_signals(script: &mut String) -> Result<(), AllocError> {
 fn add_script(script: &mut String) -> Result<(), AllocError> {
     script.push_str("monitor 64 1\n")?;
     add_waits(script)?;
-    writeln!(script, "enter {SIGNALLER}")?;
+    add_filled(script, "enter #\n", &[Number(SIGNALLER)])?;
     add_signals(script)?;
-    writeln!(script, "leave {SIGNALLER}")
+    add_filled(script, "leave #\n", &[Number(SIGNALLER)])
 }
 
 // The script, as a text.

@@ -19,31 +19,40 @@ enum Line {
     First(u64),
 }
 
-// Adds a word and the numbers behind it.
-fn add_words(to: &mut String, word: &str, numbers: &[u64]) -> Result<(), AllocError> {
-    to.push_str(word)?;
-    for number in numbers {
-        write!(to, " {number}")?;
-    }
-    Ok(())
+// A word, and up to three numbers behind it.
+#[derive(Clone, Copy)]
+struct Words {
+    word: &'static str,
+    numbers: [Option<u64>; 3],
 }
 
-fn spell(to: &mut String, line: Line) -> Result<(), AllocError> {
-    match line {
-        Line::Do(Step::Enter(place)) => add_words(to, "enter", &[place]),
-        Line::Do(Step::Wait(place, condition, priority)) => {
-            add_words(to, "wait", &[place, condition, priority])
+fn words_of(line: Line) -> Words {
+    let (word, numbers) = match line {
+        Line::Do(Step::Enter(place)) => ("enter", [Some(place), None, None]),
+        Line::Do(Step::Wait(place, on, priority)) => (
+            "wait",
+            [Some(place), Some(on), Some(priority)],
+        ),
+        Line::Do(Step::Signal(place, on)) => ("signal", [Some(place), Some(on), None]),
+        Line::Do(Step::Pass(place, on)) => ("pass", [Some(place), Some(on), None]),
+        Line::Do(Step::Leave(place)) => ("leave", [Some(place), None, None]),
+        Line::Do(Step::Notify(place, on)) => ("notify", [Some(place), Some(on), None]),
+        Line::Do(Step::Broadcast(place, on)) => ("broadcast", [Some(place), Some(on), None]),
+        Line::Queue(condition) => ("queue", [Some(condition), None, None]),
+        Line::First(condition) => ("first", [Some(condition), None, None]),
+    };
+    Words { word, numbers }
+}
+
+// Adds a word and the numbers behind it.
+fn add_words(to: &mut String, words: &Words) -> Result<(), AllocError> {
+    to.push_str(words.word)?;
+    for number in words.numbers {
+        if let Some(number) = number {
+            write!(to, " {number}")?;
         }
-        Line::Do(Step::Signal(place, condition)) => add_words(to, "signal", &[place, condition]),
-        Line::Do(Step::Pass(place, condition)) => add_words(to, "pass", &[place, condition]),
-        Line::Do(Step::Leave(place)) => add_words(to, "leave", &[place]),
-        Line::Do(Step::Notify(place, condition)) => add_words(to, "notify", &[place, condition]),
-        Line::Do(Step::Broadcast(place, condition)) => {
-            add_words(to, "broadcast", &[place, condition])
-        }
-        Line::Queue(condition) => add_words(to, "queue", &[condition]),
-        Line::First(condition) => add_words(to, "first", &[condition]),
     }
+    Ok(())
 }
 
 fn number_of(refused: StepRefused) -> u8 {
@@ -89,7 +98,7 @@ fn answer_queue(past: &Past, to: &mut String, condition: u64) -> Result<(), Allo
 
 // Does what a line asks, and writes the answer to it.
 fn answer(past: &mut Past, to: &mut String, line: Line) -> Result<(), AllocError> {
-    spell(to, line)?;
+    add_words(to, &words_of(line))?;
     if let Some(refused) = refusal(past, line)? {
         return writeln!(to, " -> refused {}", number_of(refused));
     }
@@ -102,9 +111,16 @@ fn answer(past: &mut Past, to: &mut String, line: Line) -> Result<(), AllocError
 
 // A place that is outside, if there is one.
 fn newcomer(past: &Past, lot: u64) -> Option<u64> {
-    let nth = (lot / 8 % 3) as usize;
-    let mut outside = (0..past.places).filter(|place| past.outside(*place as usize));
-    outside.nth(nth)
+    let mut left = lot / 8 % 3;
+    for place in 0..past.places {
+        if past.outside(place as usize) {
+            if left == 0 {
+                return Some(place);
+            }
+            left = left.saturating_sub(1);
+        }
+    }
+    None
 }
 
 // Whether the condition suits a notify and a broadcast: unless the line is to be strange, a Mesa condition.
@@ -147,11 +163,11 @@ fn drawn(past: &Past, lot: u64) -> Result<Line, AllocError> {
 
 // How often somebody was resumed, or went on after a call.
 fn resumptions(past: &Past) -> usize {
-    let returns = past
-        .events
-        .iter()
-        .filter(|event| matches!(**event, Event::Resume(_, _)));
-    returns.count()
+    let mut count: usize = 0;
+    for event in past.events.as_slice() {
+        count = count.saturating_add(matches!(event, Event::Resume(_, _)) as usize);
+    }
+    count
 }
 
 // The monitor of the script with this number, with so many Mesa conditions.
@@ -165,10 +181,16 @@ fn past_of(alloc: Global, number: u64, mesa: u64) -> Past {
 }
 
 fn spell_header(to: &mut String, past: &Past) -> Result<(), AllocError> {
-    match past.mesa {
-        0 => add_words(to, "monitor", &[past.places, past.conditions]),
-        mesa => add_words(to, "monitor", &[past.places, past.conditions, mesa]),
-    }
+    let mesa = if past.mesa == 0 {
+        None
+    } else {
+        Some(past.mesa)
+    };
+    let words = Words {
+        word: "monitor",
+        numbers: [Some(past.places), Some(past.conditions), mesa],
+    };
+    add_words(to, &words)
 }
 
 // Draws the lines of a script, with an answer to each.
@@ -184,7 +206,7 @@ fn draw(
     for _ in 0..LINES {
         seed = next_number(seed);
         let line = drawn(past, seed / 65536)?;
-        spell(script, line)?;
+        add_words(script, &words_of(line))?;
         script.push_str("\n")?;
         answer(past, answers, line)?;
     }

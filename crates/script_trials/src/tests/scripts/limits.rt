@@ -11,18 +11,32 @@ fn check<R: Abort + AllocGlobal>(rt: &R, script: &[u8], wanted: Result<(), Scrip
     is_told(rt, script, wanted, b"");
 }
 
+// A script, and how it ends.
+type Ended = (&'static [u8], Result<(), ScriptFault>);
+
+// Runs scripts that are answered nothing.
+fn check_all<R: Abort + AllocGlobal>(rt: &R, scripts: &[Ended]) {
+    for (script, wanted) in scripts {
+        check(rt, *script, *wanted);
+    }
+}
+
 #[test]
 fn empty_script(rt: HostRuntime) {
     check(&rt, b"", Err(ScriptFault::NoHeader));
 }
 
+const HEADERS: &[Ended] = &[
+    (b"monitor 64 8", Ok(())),
+    (b"monitor 65 8", Err(ScriptFault::BadHeader(1))),
+    (b"monitor 0 1", Err(ScriptFault::BadHeader(1))),
+    (b"monitor 1 9", Err(ScriptFault::BadHeader(1))),
+    (b"monitor 1 0", Err(ScriptFault::BadHeader(1))),
+];
+
 #[test]
 fn header_limits(rt: HostRuntime) {
-    check(&rt, b"monitor 64 8", Ok(()));
-    check(&rt, b"monitor 65 8", Err(ScriptFault::BadHeader(1)));
-    check(&rt, b"monitor 0 1", Err(ScriptFault::BadHeader(1)));
-    check(&rt, b"monitor 1 9", Err(ScriptFault::BadHeader(1)));
-    check(&rt, b"monitor 1 0", Err(ScriptFault::BadHeader(1)));
+    check_all(&rt, HEADERS);
 }
 
 // A script of so many places, whose last one enters.
@@ -45,41 +59,33 @@ fn header_sizes(rt: HostRuntime) {
     }
 }
 
+const MESA_HEADERS: &[Ended] = &[
+    (b"monitor 1 1 0", Ok(())),
+    (b"monitor 64 8 8", Ok(())),
+    (b"monitor 1 1 2", Err(ScriptFault::BadHeader(1))),
+    (b"monitor 64 8 9", Err(ScriptFault::BadHeader(1))),
+    (b"monitor 1 1 01", Err(ScriptFault::BadHeader(1))),
+    (b"monitor 1 1 0 0", Err(ScriptFault::BadHeader(1))),
+];
+
 #[test]
 fn mesa_limits(rt: HostRuntime) {
-    check(&rt, b"monitor 1 1 0", Ok(()));
-    check(&rt, b"monitor 64 8 8", Ok(()));
-    check(&rt, b"monitor 1 1 2", Err(ScriptFault::BadHeader(1)));
-    check(&rt, b"monitor 64 8 9", Err(ScriptFault::BadHeader(1)));
-    check(&rt, b"monitor 1 1 01", Err(ScriptFault::BadHeader(1)));
-    check(&rt, b"monitor 1 1 0 0", Err(ScriptFault::BadHeader(1)));
+    check_all(&rt, MESA_HEADERS);
 }
 
 // A second header, an empty line, a second space, a leading 0 and the byte 255 spell nothing.
+const BAD_LINES: &[Ended] = &[
+    (b"\n", Err(ScriptFault::BadHeader(1))),
+    (b"monitor 1 1\nmonitor 1 1\n", Err(ScriptFault::BadLine(2))),
+    (b"monitor 1 1\n\n", Err(ScriptFault::BadLine(2))),
+    (b"monitor 1 1\nenter  0\n", Err(ScriptFault::BadLine(2))),
+    (b"monitor 1 1\nenter 00\n", Err(ScriptFault::BadLine(2))),
+    (b"monitor 1 1\nenter \xff\n", Err(ScriptFault::BadLine(2))),
+];
+
 #[test]
 fn bad_lines(rt: HostRuntime) {
-    check(&rt, b"\n", Err(ScriptFault::BadHeader(1)));
-    check(
-        &rt,
-        b"monitor 1 1\nmonitor 1 1\n",
-        Err(ScriptFault::BadLine(2)),
-    );
-    check(&rt, b"monitor 1 1\n\n", Err(ScriptFault::BadLine(2)));
-    check(
-        &rt,
-        b"monitor 1 1\nenter  0\n",
-        Err(ScriptFault::BadLine(2)),
-    );
-    check(
-        &rt,
-        b"monitor 1 1\nenter 00\n",
-        Err(ScriptFault::BadLine(2)),
-    );
-    check(
-        &rt,
-        b"monitor 1 1\nenter \xff\n",
-        Err(ScriptFault::BadLine(2)),
-    );
+    check_all(&rt, BAD_LINES);
 }
 
 #[test]

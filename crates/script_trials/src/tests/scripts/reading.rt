@@ -21,23 +21,31 @@ fn check<R: Abort + AllocGlobal>(
     expect_same(rt, (result, rest), (wanted, left));
 }
 
+const BAD_HEADER: Result<(), ScriptFault> = Err(ScriptFault::BadHeader(1));
+
+const BAD_LINE: Result<(), ScriptFault> = Err(ScriptFault::BadLine(3));
+
+// Texts, how each ends, and what is left of it.
+const TEXTS: &[(&[u8], Result<(), ScriptFault>, &[u8])] = &[
+    (b"", Err(ScriptFault::NoHeader), b""),
+    (b"monitor 1 1\nenter 0\n", Ok(()), b""),
+    (b"monitor 1 1\nenter 0", Ok(()), b""),
+    (b"monitor 1\nenter 0\n", BAD_HEADER, b"enter 0\n"),
+    (b"monitor 1 9\n\n", BAD_HEADER, b"\n"),
+    (b"monitor 1 9", BAD_HEADER, b""),
+    (
+        b"monitor 1 1\nenter 0\nx\nleave 0\n",
+        BAD_LINE,
+        b"leave 0\n",
+    ),
+    (b"monitor 1 1\nenter 0\nx", BAD_LINE, b""),
+];
+
 #[test]
 fn bytes_left_behind_a_verdict(rt: HostRuntime) {
-    let header = Err(ScriptFault::BadHeader(1));
-    let line = Err(ScriptFault::BadLine(3));
-    check(&rt, b"", Err(ScriptFault::NoHeader), b"");
-    check(&rt, b"monitor 1 1\nenter 0\n", Ok(()), b"");
-    check(&rt, b"monitor 1 1\nenter 0", Ok(()), b"");
-    check(&rt, b"monitor 1\nenter 0\n", header, b"enter 0\n");
-    check(&rt, b"monitor 1 9\n\n", header, b"\n");
-    check(&rt, b"monitor 1 9", header, b"");
-    check(
-        &rt,
-        b"monitor 1 1\nenter 0\nx\nleave 0\n",
-        line,
-        b"leave 0\n",
-    );
-    check(&rt, b"monitor 1 1\nenter 0\nx", line, b"");
+    for (text, wanted, left) in TEXTS {
+        check(&rt, *text, *wanted, *left);
+    }
 }
 
 // Runs a script that is watched: its end, the reads that were made, and the bytes that they gave.

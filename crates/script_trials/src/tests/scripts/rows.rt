@@ -1,5 +1,7 @@
 //! Each row is a line with its answer, as it is written.
 use super::is_told;
+use crate::tests::patterns::Part::Number;
+use crate::tests::patterns::add_filled;
 use hoare_script::ScriptFault;
 use std::alloc::AllocError;
 use std::panic::Expect;
@@ -153,14 +155,14 @@ pass 1 0 -> free
     check(&rt, "monitor 2 1", rows);
 }
 
+const WAITS: &str = "enter # -> #\nwait # 0 # -> free\n";
+
 // Places 0 to 62 come in and wait with priorities 62 to 0, and place 63 comes in.
 fn add_waiters(rows: &mut String) -> Result<(), AllocError> {
     for place in 0..63u64 {
-        let priority = 62 - place;
-        writeln!(
-            rows,
-            "enter {place} -> {place}\nwait {place} 0 {priority} -> free"
-        )?;
+        let priority = Number(62 - place);
+        let place = Number(place);
+        add_filled(rows, WAITS, &[place, place, place, priority])?;
     }
     rows.push_str("enter 63 -> 63\n")
 }
@@ -168,7 +170,8 @@ fn add_waiters(rows: &mut String) -> Result<(), AllocError> {
 // Place 63 resumes places 62 to 0, each of which leaves, and leaves itself.
 fn add_resumptions(rows: &mut String) -> Result<(), AllocError> {
     for place in (0..63u64).rev() {
-        writeln!(rows, "signal 63 0 -> {place}\nleave {place} -> 63")?;
+        let place = Number(place);
+        add_filled(rows, "signal 63 0 -> #\nleave # -> 63\n", &[place, place])?;
     }
     rows.push_str("leave 63 -> free\n")
 }

@@ -3,6 +3,8 @@
 //! and in the last one stand the lanes of places 60 to 63.
 use super::{SIGNALLER, script};
 use crate::tests::compared::expect_same;
+use crate::tests::patterns::Part::{Number, Word};
+use crate::tests::patterns::add_filled;
 use crate::tests::pictures::drawn_whole;
 use script_picture::picture::Form;
 use std::alloc::AllocError;
@@ -35,9 +37,18 @@ leave 31         .         .         .         .         -> free
 ";
 
 // A step in the room of the longest one, before the first of the four lanes.
-fn add_step(text: &mut String, word: &str, place: u64, rest: &str) -> Result<(), AllocError> {
+fn add_step<'a>(
+    text: &mut String,
+    word: &'a str,
+    place: u64,
+    rest: &'a str,
+) -> Result<(), AllocError> {
     let after = if place < 10 { " " } else { "" };
-    write!(text, "{word} {place}{rest}{after}")
+    add_filled(
+        text,
+        "# ###",
+        &[Word(word), Number(place), Word(rest), Word(after)],
+    )
 }
 
 // Rows 0 to 117: the places below 60 enter and wait, and the four are outside.

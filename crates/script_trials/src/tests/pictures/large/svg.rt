@@ -4,6 +4,8 @@
 //! end at 64 + 254 * 28 = 7,176.
 use super::{SIGNALLER, entry, script};
 use crate::tests::compared::expect_same;
+use crate::tests::patterns::Part::{Number, Word};
+use crate::tests::patterns::add_filled;
 use crate::tests::pictures::{drawn_whole, times};
 use script_picture::picture::Form;
 use std::alloc::AllocError;
@@ -40,25 +42,22 @@ fn top(row: u64) -> u64 {
     row.saturating_mul(28).saturating_add(64)
 }
 
+const BAND: &str = "<rect class=\"band\" x=\"8\" y=\"#\" width=\"7780\" height=\"28\" rx=\"4\"/>\n";
+
+const STEP: &str = "<text class=\"step\" x=\"#\" y=\"#\">#</text>\n";
+
 // A row's band, if its number is even, its step, and the answer of a step after which the monitor is free.
 fn add_row(text: &mut String, row: u64, step: &str) -> Result<(), AllocError> {
     let top = top(row);
     let line = top.saturating_add(18);
     if row % 2 == 0 {
-        text.push_str("<rect class=\"band\" x=\"8\"")?;
-        writeln!(text, " y=\"{top}\" width=\"7780\" height=\"28\" rx=\"4\"/>")?;
+        add_filled(text, BAND, &[Number(top)])?;
     }
-    writeln!(
-        text,
-        "<text class=\"step\" x=\"20\" y=\"{line}\">{step}</text>"
-    )?;
+    add_filled(text, STEP, &[Number(20), Number(line), Word(step)])?;
     if !step.starts_with("wait") && step != "leave 31" {
         return Ok(());
     }
-    writeln!(
-        text,
-        "<text class=\"step\" x=\"7720\" y=\"{line}\">-> free</text>"
-    )
+    add_filled(text, STEP, &[Number(7_720), Number(line), Word("-> free")])
 }
 
 // All rows, of the lines of the script behind its header.
@@ -69,15 +68,14 @@ fn add_rows(text: &mut String, script: &str) -> Result<(), AllocError> {
     Ok(())
 }
 
+const LANE: &str =
+    "<text class=\"head\" x=\"#\" y=\"42\">place #</text><path class=\"lane\" d=\"M# 64V7176\"/>\n";
+
 // The name of each place over its lane.
 fn add_lanes(text: &mut String) -> Result<(), AllocError> {
     for place in 0..64u64 {
-        let middle = middle(place);
-        write!(
-            text,
-            "<text class=\"head\" x=\"{middle}\" y=\"42\">place {place}</text>"
-        )?;
-        writeln!(text, "<path class=\"lane\" d=\"M{middle} 64V7176\"/>")?;
+        let middle = Number(middle(place));
+        add_filled(text, LANE, &[middle, Number(place), middle])?;
     }
     Ok(())
 }
@@ -90,6 +88,10 @@ struct Area {
     rows: u64,
 }
 
+const AREA: &str = "<rect class=\"#\" x=\"#\" y=\"#\" width=\"#\" height=\"#\" rx=\"4\"/>\n";
+
+const LABEL: &str = "<text class=\"#\" x=\"#\" y=\"#\">#</text>\n";
+
 impl Area {
     // The upper side.
     fn top(self) -> u64 {
@@ -98,26 +100,24 @@ impl Area {
 
     // A rectangle of a class, of this width.
     fn add(self, text: &mut String, class: &str, width: u64) -> Result<(), AllocError> {
-        let (left, top) = (left(self.place), self.top());
-        let height = self.rows.saturating_mul(28).saturating_sub(6);
-        write!(text, "<rect class=\"{class}\" x=\"{left}\" y=\"{top}\"")?;
-        writeln!(text, " width=\"{width}\" height=\"{height}\" rx=\"4\"/>")
+        let (left, top) = (Number(left(self.place)), Number(self.top()));
+        let height = Number(self.rows.saturating_mul(28).saturating_sub(6));
+        let parts = [Word(class), left, top, Number(width), height];
+        add_filled(text, AREA, &parts)
     }
 
     // A box of a class, with its text.
-    fn add_box(
+    fn add_box<'a>(
         self,
         text: &mut String,
         class: &str,
-        shade: &str,
-        label: &str,
+        shade: &'a str,
+        label: &'a str,
     ) -> Result<(), AllocError> {
         self.add(text, class, width(self.place))?;
-        let (middle, line) = (middle(self.place), self.top().saturating_add(15));
-        writeln!(
-            text,
-            "<text class=\"{shade}\" x=\"{middle}\" y=\"{line}\">{label}</text>"
-        )
+        let middle = Number(middle(self.place));
+        let line = Number(self.top().saturating_add(15));
+        add_filled(text, LABEL, &[Word(shade), middle, line, Word(label)])
     }
 }
 
@@ -179,6 +179,10 @@ fn add_boxes(text: &mut String) -> Result<(), AllocError> {
     Ok(())
 }
 
+const SHAFT: &str = "<path class=\"#\" d=\"M# #H#\"/>";
+
+const TIP: &str = "<path d=\"M# #l#-5v10z\"/>\n";
+
 // An arrow along the middle of a row, over its white edge: its head is 8 long.
 fn add_arrow(text: &mut String, class: &str, y: u64, from: u64, to: u64) -> Result<(), AllocError> {
     let (begin, neck, back) = if from < to {
@@ -186,10 +190,13 @@ fn add_arrow(text: &mut String, class: &str, y: u64, from: u64, to: u64) -> Resu
     } else {
         (from.saturating_sub(4), to.saturating_add(8), "9")
     };
-    write!(text, "<path class=\"edge\" d=\"M{begin} {y}H{neck}\"/>")?;
-    write!(text, "<path class=\"{class}\" d=\"M{from} {y}H{neck}\"/>")?;
-    writeln!(text, "<path d=\"M{to} {y}l{back}-5v10z\"/>")
+    let (y, neck) = (Number(y), Number(neck));
+    add_filled(text, SHAFT, &[Word("edge"), Number(begin), y, neck])?;
+    add_filled(text, SHAFT, &[Word(class), Number(from), y, neck])?;
+    add_filled(text, TIP, &[Number(to), y, Word(back)])
 }
+
+const DOT: &str = "<circle cx=\"#\" cy=\"#\" r=\"4\"/>\n";
 
 // The signal that resumes a place, between the sides of two boxes, and the return from where it left.
 fn add_hand_overs(text: &mut String, place: u64) -> Result<(), AllocError> {
@@ -201,7 +208,7 @@ fn add_hand_overs(text: &mut String, place: u64) -> Result<(), AllocError> {
     let y = top(entry(place).saturating_add(127)).saturating_add(14);
     add_arrow(text, "arrow", y, side, facing)?;
     let (middle, below) = (middle(place), y.saturating_add(28));
-    writeln!(text, "<circle cx=\"{middle}\" cy=\"{below}\" r=\"4\"/>")?;
+    add_filled(text, DOT, &[Number(middle), Number(below)])?;
     add_arrow(text, "arrow back", below, middle, side)
 }
 

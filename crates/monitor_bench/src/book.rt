@@ -11,6 +11,11 @@ fn each(spent: Duration, count: u64) -> u128 {
     spent.as_nanos() / u128::from(count.max(1))
 }
 
+// Prints a figure.
+fn tell_nanos<R: Print>(rt: &R, name: &str, nanos: u128) -> io::Result<()> {
+    println!(rt; "{name} {nanos} ns")
+}
+
 // The three figures of a full book.
 fn measure_full<R: Print + Clock>(rt: &R, book: &mut Book, rounds: u64) -> io::Result<()> {
     let load = Load {
@@ -21,13 +26,16 @@ fn measure_full<R: Print + Clock>(rt: &R, book: &mut Book, rounds: u64) -> io::R
     let plain = come_and_go(rt, book, rounds)?;
     let spent = spend(rt, book, load, rounds)?;
     let steps = rounds.saturating_mul(63);
-    let (waits, signals) = (
-        each(spent.waits, spent.resumed),
-        each(spent.signals, spent.resumed),
-    );
-    println!(rt; "book_enter_leave {} ns", each(plain, steps))?;
-    println!(rt; "book_enter_wait {waits} ns")?;
-    println!(rt; "book_signal_leave {signals} ns")
+    let waits = each(spent.waits, spent.resumed);
+    let signals = each(spent.signals, spent.resumed);
+    tell_nanos(rt, "book_enter_leave", each(plain, steps))?;
+    tell_nanos(rt, "book_enter_wait", waits)?;
+    tell_nanos(rt, "book_signal_leave", signals)
+}
+
+// Prints a figure of a number of places that wait.
+fn tell_of<R: Print>(rt: &R, name: &str, waiters: u64, nanos: u128) -> io::Result<()> {
+    println!(rt; "{name}_{waiters} {nanos} ns")
 }
 
 // The two figures of a number of places that wait on one condition with priorities in this order.
@@ -44,13 +52,14 @@ fn measure_order<R: Print + Clock>(
         order,
     };
     let spent = spend(rt, book, load, rounds.saturating_mul(63) / waiters.max(1))?;
-    let (waits, signals) = (
-        each(spent.waits, spent.resumed),
+    let (waits_name, signals_name) = order.names();
+    tell_of(rt, waits_name, waiters, each(spent.waits, spent.resumed))?;
+    tell_of(
+        rt,
+        signals_name,
+        waiters,
         each(spent.signals, spent.resumed),
-    );
-    let name = order.name();
-    println!(rt; "book_enter_wait_{name}_{waiters} {waits} ns")?;
-    println!(rt; "book_signal_leave_{name}_{waiters} {signals} ns")
+    )
 }
 
 // The figures of an order, with few, some and all places waiting.
@@ -72,7 +81,7 @@ fn measure_orders<R: Print + Clock>(rt: &R, book: &mut Book, rounds: u64) -> io:
         measure_each(rt, book, order, rounds)?;
     }
     let looks = each(look_at_clock(rt, rounds)?, rounds);
-    println!(rt; "clock {looks} ns")?;
+    tell_nanos(rt, "clock", looks)?;
     println!(rt; "size {} bytes", size_of::<Book>())
 }
 
@@ -91,12 +100,12 @@ fn measure_call<R: Print + Clock>(
 // The figures of notifies and broadcasts, on a book whose conditions are Mesa conditions.
 fn measure_calls<R: Print + Clock>(rt: &R, book: &mut Book, rounds: u64) -> io::Result<()> {
     let notify = measure_call(rt, book, Call::Notify, 63, rounds)?;
-    println!(rt; "book_notify {notify} ns")?;
+    tell_nanos(rt, "book_notify", notify)?;
     for waiters in [1, 8, 63] {
         let broadcast = measure_call(rt, book, Call::Broadcast, waiters, rounds)?;
-        println!(rt; "book_broadcast_{waiters} {broadcast} ns")?;
+        tell_of(rt, "book_broadcast", waiters, broadcast)?;
         let count = measure_call(rt, book, Call::Count, waiters, rounds)?;
-        println!(rt; "book_count_{waiters} {count} ns")?;
+        tell_of(rt, "book_count", waiters, count)?;
     }
     Ok(())
 }

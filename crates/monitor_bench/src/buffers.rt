@@ -60,7 +60,7 @@ fn in_turn<R: Clock + Threads + Wait + Sync>(
     for conditions in IN_TURN {
         match conditions {
             Conditions::Hoare => {
-                let spent = buffer_row(rt, alloc, kind, places, BufferLoad::Shared(items))?;
+                let spent = buffer_row(rt, alloc, kind, places, BufferLoad::Shared, items)?;
                 hoare = hoare.saturating_add(spent);
             }
             Conditions::Mesa => {
@@ -80,7 +80,7 @@ pub fn measure<R: Print + Eprint + Clock + Threads + Wait + Sync>(
     turns: u64,
 ) -> anyhow::Result<()> {
     let items = turns / 100;
-    buffer_row(rt, alloc, kind, 2, BufferLoad::Shared(items))?;
+    buffer_row(rt, alloc, kind, 2, BufferLoad::Shared, items)?;
     let spent = in_turn(rt, alloc, kind, 2, items)?;
     let all = items.saturating_mul(ROWS);
     tell(rt, "buffer_1_1", spent.hoare, all)?;

@@ -180,26 +180,27 @@ where
 /// What the threads of a disk do.
 #[derive(Clone, Copy)]
 pub enum DiskLoad {
-    /// One of them takes the drive to the next cylinder and puts it in again, this many times.
-    Alone(u64),
-    /// This many releases of the drive are measured, at cylinder 1, each as the first of an upsweep on which all but
-    /// two of them wait.
-    Sweeping(u64),
+    /// One of them takes the drive to the next cylinder and puts it in again.
+    Alone,
+    /// Releases of the drive are measured, at cylinder 1, each as the first of an upsweep on which all but two of them
+    /// wait.
+    Sweeping,
 }
 
-/// The threads of a disk do their load: how long that took.
+/// The threads of a disk do their load, this many times: how long that took.
 pub fn work_disk<R: Threads + Wait + Clock + Sync, M: SharedDisk>(
     rt: &R,
     m: &M,
     places: Vec<M::Out>,
     load: DiskLoad,
+    turns: u64,
 ) -> anyhow::Result<Duration>
 where
     M::Lists: Send,
     requires { All (M.is_of m.now) places.items }
 {
     match load {
-        DiskLoad::Alone(turns) => request_release(rt, m, last_place(m, places)?, turns),
-        DiskLoad::Sweeping(turns) => sweep_many(rt, m, places, turns),
+        DiskLoad::Alone => request_release(rt, m, last_place(m, places)?, turns),
+        DiskLoad::Sweeping => sweep_many(rt, m, places, turns),
     }
 }

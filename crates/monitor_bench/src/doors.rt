@@ -2,7 +2,7 @@
 //! roles in the order in which they come.
 ghost use Rattle.std.specs.Prelude.{All};
 
-use crate::fairness::{Counted, Others, count_others};
+use crate::fairness::{Others, count_others};
 use crate::mixed::{Mixed, mix};
 use crate::opening::last_place;
 use crate::procedures::append_remove;
@@ -52,32 +52,26 @@ impl SharedMixed for Door<Mixed> {}
 
 impl SharedMixed for TicketDoor<Mixed> {}
 
-/// The same of who was let in.
-pub trait SharedCount: Monitor<Counted> + Sync {}
-
-impl SharedCount for Door<Counted> {}
-
-impl SharedCount for TicketDoor<Counted> {}
-
 /// What the threads of a counter with one condition do.
 #[derive(Clone, Copy)]
 pub enum CounterLoad {
-    /// One of them comes in, adds one and goes out, this many times.
-    Alone(u64),
+    /// One of them comes in, adds one and goes out.
+    Alone,
     /// All do so.
-    Contended(u64),
-    /// This many wait, this many times, and one more signals them.
-    Waiting(u64, u64),
-    /// One of two tries to come in, this many times, where this is found.
-    Tried(Found, u64),
+    Contended,
+    /// This many wait, and one more signals them.
+    Waiting(u64),
+    /// One of two tries to come in, where this is found.
+    Tried(Found),
 }
 
-/// The threads of a counter with one condition do their load: how long that took.
+/// The threads of a counter with one condition do their load, this many times: how long that took.
 pub fn count_with<R: Threads + Wait + Clock + Sync, M: OneShared>(
     rt: &R,
     m: &M,
     places: Vec<M::Out>,
     load: CounterLoad,
+    turns: u64,
 ) -> anyhow::Result<Duration>
 where
     M::Lists: Send,
@@ -85,10 +79,10 @@ where
 {
     let start = Instant::now(rt)?;
     match load {
-        CounterLoad::Alone(turns) => alone(rt, m, places, turns)?,
-        CounterLoad::Contended(turns) => contended(rt, m, places, turns)?,
-        CounterLoad::Waiting(waiters, turns) => waiting(rt, m, places, waiters, turns)?,
-        CounterLoad::Tried(found, turns) => return tried(rt, m, places, found, turns),
+        CounterLoad::Alone => alone(rt, m, places, turns)?,
+        CounterLoad::Contended => contended(rt, m, places, turns)?,
+        CounterLoad::Waiting(waiters) => waiting(rt, m, places, waiters, turns)?,
+        CounterLoad::Tried(found) => return tried(rt, m, places, found, turns),
     }
     Ok(start.elapsed(rt)?)
 }
@@ -96,18 +90,19 @@ where
 /// What the threads of a counter with eight conditions do.
 #[derive(Clone, Copy)]
 pub enum WideLoad {
-    /// One of them comes in, adds one and goes out, this many times.
-    Alone(u64),
-    /// A chain of signallers, this many times over.
-    Chained(u64),
+    /// One of them comes in, adds one and goes out.
+    Alone,
+    /// A chain of signallers.
+    Chained,
 }
 
-/// The threads of a counter with eight conditions do their load: how long that took.
+/// The threads of a counter with eight conditions do their load, this many times: how long that took.
 pub fn count_widely<R: Threads + Wait + Clock + Sync, M: EightShared>(
     rt: &R,
     m: &M,
     places: Vec<M::Out>,
     load: WideLoad,
+    turns: u64,
 ) -> io::Result<Duration>
 where
     M::Lists: Send,
@@ -115,8 +110,8 @@ where
 {
     let start = Instant::now(rt)?;
     match load {
-        WideLoad::Alone(turns) => alone(rt, m, places, turns)?,
-        WideLoad::Chained(turns) => chained(rt, m, places, turns)?,
+        WideLoad::Alone => alone(rt, m, places, turns)?,
+        WideLoad::Chained => chained(rt, m, places, turns)?,
     }
     start.elapsed(rt)
 }
@@ -248,26 +243,27 @@ where
 /// What the threads of a buffer do.
 #[derive(Clone, Copy)]
 pub enum BufferLoad {
-    /// Half of them append, the others remove, each this many times.
-    Shared(u64),
-    /// One of them appends and removes in turn, this many times.
-    Alone(u64),
+    /// Half of them append, the others remove.
+    Shared,
+    /// One of them appends and removes in turn.
+    Alone,
 }
 
-/// The threads of a buffer do their load: how long that took.
+/// The threads of a buffer do their load, each this many times: how long that took.
 pub fn work_buffer<R: Threads + Wait + Clock + Sync, M: SharedBuffer>(
     rt: &R,
     m: &M,
     places: Vec<M::Out>,
     load: BufferLoad,
+    turns: u64,
 ) -> anyhow::Result<Duration>
 where
     M::Lists: Send,
     requires { All (M.is_of m.now) places.items }
 {
     match load {
-        BufferLoad::Shared(turns) => Ok(buffered(rt, m, places, turns)?),
-        BufferLoad::Alone(turns) => append_remove(rt, m, last_place(m, places)?, turns),
+        BufferLoad::Shared => Ok(buffered(rt, m, places, turns)?),
+        BufferLoad::Alone => append_remove(rt, m, last_place(m, places)?, turns),
     }
 }
 
@@ -296,7 +292,7 @@ where
 }
 
 /// Threads that come in and go out, each `turns` times: what each met.
-pub fn met<R: Threads + Wait + Sync, M: SharedCount>(
+pub fn met<R: Threads + Wait + Sync, M: OneShared>(
     rt: &R,
     m: &M,
     places: Vec<M::Out>,

@@ -1,25 +1,9 @@
 //! How many others are let in while a place asks to be: eight threads that come in and go out, each as soon as it is
 //! out again.
+use crate::tries::Counter;
 use hoare_law::monitor::Monitor;
-use hoare_law::unasked::Unasked;
 use std::io;
 use std::sync::Wait;
-
-/// How many were let in.
-#[derive(Drop)]
-pub struct LetIn {
-    count: u64,
-}
-
-/// Their monitor's data.
-pub type Counted = Unasked<LetIn, 1>;
-
-/// Nobody was let in yet.
-pub fn uncounted() -> Counted {
-    Unasked {
-        value: LetIn { count: 0 },
-    }
-}
 
 /// What places met between one visit and the next.
 #[derive(Clone, Copy, Drop)]
@@ -76,7 +60,7 @@ impl Others {
 }
 
 /// Comes in and goes out, `turns` times: what the place met. The data count those that were let in.
-pub fn count_others<R: Wait, M: Monitor<Counted>>(rt: &R, m: &M, out: M::Out, turns: u64) -> Others
+pub fn count_others<R: Wait, M: Monitor<Counter>>(rt: &R, m: &M, out: M::Out, turns: u64) -> Others
     requires { M.is_of m.now out }
 {
     let mut out = out;
@@ -85,9 +69,9 @@ pub fn count_others<R: Wait, M: Monitor<Counted>>(rt: &R, m: &M, out: M::Out, tu
     for _ in 0..turns {
         let mut inside = m.enter(rt, out);
         let data = M::state_mut(&mut inside, m);
-        let before = data.value.count;
+        let before = data.value;
         let after = before.wrapping_add(1);
-        data.value.count = after;
+        data.value = after;
         out = m.leave(rt, inside);
         if let Some(last) = last {
             others = others.after(before.wrapping_sub(last));

@@ -10,7 +10,7 @@ use wait_book::steps::{Next, Step};
 const SIGNALLER: u64 = 63;
 
 /// How the priorities come, one after another.
-#[derive(Clone, Copy, Debug, PartialEq, Eq)]
+#[derive(Clone, Copy)]
 pub enum Order {
     /// All are one.
     Equal,
@@ -21,12 +21,12 @@ pub enum Order {
 }
 
 impl Order {
-    /// The name of the order.
-    pub fn name(self) -> &'static str {
+    /// The names of its two figures: of the waits, and of the signals.
+    pub fn names(self) -> (&'static str, &'static str) {
         match self {
-            Order::Equal => "equal",
-            Order::Rising => "rising",
-            Order::Falling => "falling",
+            Order::Equal => ("book_enter_wait_equal", "book_signal_leave_equal"),
+            Order::Rising => ("book_enter_wait_rising", "book_signal_leave_rising"),
+            Order::Falling => ("book_enter_wait_falling", "book_signal_leave_falling"),
         }
     }
 
@@ -150,7 +150,7 @@ pub fn look_at_clock<R: Clock>(rt: &R, rounds: u64) -> io::Result<Duration> {
 }
 
 /// How those that wait are called.
-#[derive(Clone, Copy, PartialEq, Eq)]
+#[derive(Clone, Copy)]
 pub enum Call {
     /// One by one.
     Notify,

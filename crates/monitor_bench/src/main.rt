@@ -11,25 +11,22 @@ mod buffers;
 mod disks;
 mod doors;
 mod fairness;
+mod lists;
 mod loads;
 mod mesa;
 mod mixed;
 mod opening;
 mod procedures;
 mod rows;
-mod schedulers;
 mod sleepers;
 mod tries;
 mod turns;
 
 use crate::asked::{Measured, USAGE, asked, show};
-use crate::doors::{BufferLoad, CounterLoad, WideLoad};
 use crate::fairness::all_met;
-use crate::mesa::measure_mesa;
-use crate::mixed::WORKERS;
+use crate::lists::{MONITOR, SCHEDULERS};
 use crate::opening::DoorKind;
-use crate::rows::{buffer_row, counter_row, mixed_row, others_row, wide_row};
-use crate::tries::measure_tries;
+use crate::rows::{measure_rows, others_row};
 use std::alloc::Global;
 use std::process::ExitCode;
 use std::rt::Clock;
@@ -51,63 +48,6 @@ fn tell<R: Print + Eprint>(rt: &R, name: &str, spent: Duration, count: u64) -> i
     println!(rt; "{name} {}.{:02} ns", one / 100, one % 100)
 }
 
-// Places that come in and go out.
-fn measure_visits<R: Print + Eprint + Clock + Threads + Wait + Sync>(
-    rt: &R,
-    alloc: Global,
-    kind: DoorKind,
-    turns: u64,
-) -> anyhow::Result<()> {
-    let spent = counter_row(rt, alloc, kind, 1, CounterLoad::Alone(turns))?;
-    tell(rt, "enter_leave", spent, turns)?;
-    let tenth = turns / 10;
-    for (name, count) in [
-        ("enter_leave_2", 2),
-        ("enter_leave_4", 4),
-        ("enter_leave_8", 8),
-    ] {
-        let spent = counter_row(rt, alloc, kind, count, CounterLoad::Contended(tenth))?;
-        tell(rt, name, spent, tenth.saturating_mul(count as u64))?;
-    }
-    Ok(())
-}
-
-// Places that hand over to each other.
-fn measure_exchanges<R: Print + Eprint + Clock + Threads + Wait + Sync>(
-    rt: &R,
-    alloc: Global,
-    kind: DoorKind,
-    turns: u64,
-) -> anyhow::Result<()> {
-    let hundredth = turns / 100;
-    let spent = counter_row(rt, alloc, kind, 2, CounterLoad::Waiting(1, hundredth))?;
-    tell(rt, "hand_over", spent, hundredth)?;
-    let spent = buffer_row(rt, alloc, kind, 2, BufferLoad::Shared(hundredth))?;
-    tell(rt, "buffer_1_1", spent, hundredth)?;
-    let spent = buffer_row(rt, alloc, kind, 8, BufferLoad::Shared(hundredth))?;
-    tell(rt, "buffer_4_4", spent, hundredth.saturating_mul(4))?;
-    Ok(())
-}
-
-// Many places that wait.
-fn measure_crowds<R: Print + Eprint + Clock + Threads + Wait + Sync>(
-    rt: &R,
-    alloc: Global,
-    kind: DoorKind,
-    turns: u64,
-) -> anyhow::Result<()> {
-    let thousandth = turns / 1000;
-    let spent = counter_row(rt, alloc, kind, 17, CounterLoad::Waiting(16, thousandth))?;
-    tell(rt, "waiting_16", spent, thousandth.saturating_mul(16))?;
-    let spent = wide_row(rt, alloc, kind, 9, WideLoad::Chained(thousandth))?;
-    tell(rt, "chain_8", spent, thousandth.saturating_mul(8))?;
-    let spent = mixed_row(rt, alloc, kind, 9, thousandth)?;
-    tell(rt, "mixed_9", spent, thousandth.saturating_mul(WORKERS))?;
-    let spent = wide_row(rt, alloc, kind, 64, WideLoad::Alone(turns))?;
-    tell(rt, "wide_enter_leave", spent, turns)?;
-    Ok(())
-}
-
 // How many others are let in before one of eight places.
 fn measure_others<R: Print + Threads + Wait + Sync>(
     rt: &R,
@@ -126,11 +66,7 @@ fn measure<R: Print + Eprint + Clock + Threads + Wait + Sync>(
     kind: DoorKind,
     turns: u64,
 ) -> anyhow::Result<()> {
-    measure_visits(rt, alloc, kind, turns)?;
-    measure_exchanges(rt, alloc, kind, turns)?;
-    measure_crowds(rt, alloc, kind, turns)?;
-    measure_mesa(rt, alloc, kind, turns)?;
-    measure_tries(rt, alloc, kind, turns)?;
+    measure_rows(rt, alloc, kind, MONITOR, turns)?;
     measure_others(rt, alloc, kind, turns)?;
     Ok(())
 }
@@ -150,7 +86,7 @@ fn main(rt: HostRuntime) -> anyhow::Result<ExitCode> {
     };
     match asked {
         Measured::Monitor(kind) => measure(&rt, alloc, kind, turns)?,
-        Measured::Schedulers(kind) => schedulers::measure(&rt, alloc, kind, turns)?,
+        Measured::Schedulers(kind) => measure_rows(&rt, alloc, kind, SCHEDULERS, turns)?,
         Measured::Buffers(kind) => buffers::measure(&rt, alloc, kind, turns)?,
         Measured::Book => book::measure(&rt, alloc, false, turns)?,
         Measured::BookOrders => book::measure(&rt, alloc, true, turns)?,

@@ -1,13 +1,9 @@
-//! A bounded buffer with Mesa conditions, over any monitor: what its threads do, how long that took, and its rows.
+//! A bounded buffer with Mesa conditions, over any monitor: what its threads do, and how long that took.
 ghost use Rattle.std.specs.Prelude.{All};
 
-use crate::opening::DoorKind;
-use crate::rows::mesa_row;
-use crate::tell;
 use baton_door::door::Door;
 use hoare_law::monitor::Monitor;
 use plain_schedulers::buffer::mesa::MesaBuffer;
-use std::alloc::Global;
 use std::rt::Clock;
 use std::sync::Wait;
 use std::sync::atomic::{AtomicU64, Ordering};
@@ -75,18 +71,4 @@ where
         },
     )?;
     start.elapsed(rt)
-}
-
-/// The rows of the buffer with Mesa conditions: prints a line for each.
-pub fn measure_mesa<R: Print + Eprint + Clock + Threads + Wait + Sync>(
-    rt: &R,
-    alloc: Global,
-    kind: DoorKind,
-    turns: u64,
-) -> io::Result<()> {
-    let hundredth = turns / 100;
-    let spent = mesa_row(rt, alloc, kind, 2, hundredth)?;
-    tell(rt, "mesa_buffer_1_1", spent, hundredth)?;
-    let spent = mesa_row(rt, alloc, kind, 8, hundredth)?;
-    tell(rt, "mesa_buffer_4_4", spent, hundredth.saturating_mul(4))
 }

@@ -7,12 +7,14 @@ use crate::disks::{DiskLoad, work_disk};
 use crate::doors::{
     BufferLoad, CounterLoad, WideLoad, count_widely, count_with, met, mixed, work_buffer,
 };
-use crate::fairness::{Others, uncounted};
+use crate::fairness::Others;
+use crate::lists::{Load, Row};
 use crate::mesa::mesa_buffered;
 use crate::mixed::unvisited;
 use crate::opening::{DoorKind, baton, no_memory, ticket};
 use crate::procedures::{CYLINDERS, Visit, acquire_release, read_or_write, take_give};
 use crate::sleepers::{AlarmLoad, work_alarm};
+use crate::tell;
 use anyhow::Context;
 use hoare_law::data::MonitorData;
 use hoare_law::unasked::Unasked;
@@ -57,13 +59,19 @@ fn counter<const N: usize>() -> Unasked<u64, N> {
 fn ring(alloc: Global) -> io::Result<Buffer<u64>>
     ensures { IfOk result (λ b. ⟦<Buffer<u64> as MonitorData>⟧.rest b nobody) }
 {
-    Buffer::make(alloc, RING).map_err(|_refusal| no_memory())
+    match Buffer::make(alloc, RING) {
+        Ok(buffer) => Ok(buffer),
+        Err(_refusal) => Err(no_memory()),
+    }
 }
 
 fn mesa_ring(alloc: Global) -> io::Result<MesaBuffer<u64>>
     ensures { IfOk result (λ b. ⟦<MesaBuffer<u64> as MonitorData>⟧.rest b nobody) }
 {
-    MesaBuffer::make(alloc, RING).map_err(|_refusal| no_memory())
+    match MesaBuffer::make(alloc, RING) {
+        Ok(buffer) => Ok(buffer),
+        Err(_refusal) => Err(no_memory()),
+    }
 }
 
 // A pool of this number of buffers, for one stream.
@@ -73,26 +81,28 @@ fn pool(alloc: Global, buffers: u32) -> anyhow::Result<Pool>
     Pool::make(alloc, buffers, 1).context("a pool")
 }
 
-/// A counter with one condition.
-pub fn counter_row<R: Clock + Threads + Wait + Sync>(
+// A counter with one condition.
+fn counter_row<R: Clock + Threads + Wait + Sync>(
     rt: &R,
     alloc: Global,
     kind: DoorKind,
     count: usize,
     load: CounterLoad,
+    turns: u64,
 ) -> anyhow::Result<Duration> {
-    on_places!(kind, rt, alloc, counter(), count, count_with(load))
+    on_places!(kind, rt, alloc, counter(), count, count_with(load, turns))
 }
 
-/// The same with eight conditions.
-pub fn wide_row<R: Clock + Threads + Wait + Sync>(
+// The same with eight conditions.
+fn wide_row<R: Clock + Threads + Wait + Sync>(
     rt: &R,
     alloc: Global,
     kind: DoorKind,
     count: usize,
     load: WideLoad,
+    turns: u64,
 ) -> io::Result<Duration> {
-    on_places!(kind, rt, alloc, counter(), count, count_widely(load))
+    on_places!(kind, rt, alloc, counter(), count, count_widely(load, turns))
 }
 
 /// A buffer.
@@ -102,8 +112,16 @@ pub fn buffer_row<R: Clock + Threads + Wait + Sync>(
     kind: DoorKind,
     count: usize,
     load: BufferLoad,
+    turns: u64,
 ) -> anyhow::Result<Duration> {
-    on_places!(kind, rt, alloc, ring(alloc)?, count, work_buffer(load))
+    on_places!(
+        kind,
+        rt,
+        alloc,
+        ring(alloc)?,
+        count,
+        work_buffer(load, turns)
+    )
 }
 
 /// A buffer with Mesa conditions.
@@ -124,8 +142,8 @@ pub fn mesa_row<R: Clock + Threads + Wait + Sync>(
     )
 }
 
-/// Visits of all kinds.
-pub fn mixed_row<R: Clock + Threads + Wait + Sync>(
+// Visits of all kinds.
+fn mixed_row<R: Clock + Threads + Wait + Sync>(
     rt: &R,
     alloc: Global,
     kind: DoorKind,
@@ -143,11 +161,11 @@ pub fn others_row<R: Threads + Wait + Sync>(
     count: usize,
     turns: u64,
 ) -> io::Result<Vec<Others>> {
-    on_places!(kind, rt, alloc, uncounted(), count, met(turns))
+    on_places!(kind, rt, alloc, counter(), count, met(turns))
 }
 
-/// A single item.
-pub fn single_row<R: Clock + Wait>(
+// A single item.
+fn single_row<R: Clock + Wait>(
     rt: &R,
     alloc: Global,
     kind: DoorKind,
@@ -156,8 +174,8 @@ pub fn single_row<R: Clock + Wait>(
     on_places!(kind, rt, alloc, Single::with(0), 1, acquire_release(turns))
 }
 
-/// A pool of this number of buffers, of which this many are kept.
-pub fn pool_row<R: Clock + Wait>(
+// A pool of this number of buffers, of which this many are kept.
+fn pool_row<R: Clock + Wait>(
     rt: &R,
     alloc: Global,
     kind: DoorKind,
@@ -174,24 +192,33 @@ pub fn pool_row<R: Clock + Wait>(
     )
 }
 
-/// An alarm clock.
-pub fn alarm_row<R: Clock + Threads + Wait + Sync>(
+// An alarm clock.
+fn alarm_row<R: Clock + Threads + Wait + Sync>(
     rt: &R,
     alloc: Global,
     kind: DoorKind,
     count: usize,
     load: AlarmLoad,
+    turns: u64,
 ) -> anyhow::Result<Duration> {
-    on_places!(kind, rt, alloc, Alarm::at(0), count, work_alarm(load))
+    on_places!(
+        kind,
+        rt,
+        alloc,
+        Alarm::at(0),
+        count,
+        work_alarm(load, turns)
+    )
 }
 
-/// A disk head.
-pub fn disk_row<R: Clock + Threads + Wait + Sync>(
+// A disk head.
+fn disk_row<R: Clock + Threads + Wait + Sync>(
     rt: &R,
     alloc: Global,
     kind: DoorKind,
     count: usize,
     load: DiskLoad,
+    turns: u64,
 ) -> anyhow::Result<Duration> {
     on_places!(
         kind,
@@ -199,12 +226,12 @@ pub fn disk_row<R: Clock + Threads + Wait + Sync>(
         alloc,
         Head::with(0, CYLINDERS - 1),
         count,
-        work_disk(load)
+        work_disk(load, turns)
     )
 }
 
-/// Readers and writers.
-pub fn readers_row<R: Eprint + Clock + Wait>(
+// Readers and writers.
+fn readers_row<R: Eprint + Clock + Wait>(
     rt: &R,
     alloc: Global,
     kind: DoorKind,
@@ -219,4 +246,43 @@ pub fn readers_row<R: Eprint + Clock + Wait>(
         1,
         read_or_write(visit, turns)
     )
+}
+
+// How long a row takes, at this number of turns.
+fn time_of<R: Eprint + Clock + Threads + Wait + Sync>(
+    rt: &R,
+    alloc: Global,
+    kind: DoorKind,
+    row: Row,
+    turns: u64,
+) -> anyhow::Result<Duration> {
+    let count = row.places;
+    match row.load {
+        Load::Counter(load) => counter_row(rt, alloc, kind, count, load, turns),
+        Load::Wide(load) => Ok(wide_row(rt, alloc, kind, count, load, turns)?),
+        Load::Buffer(load) => buffer_row(rt, alloc, kind, count, load, turns),
+        Load::MesaBuffer => Ok(mesa_row(rt, alloc, kind, count, turns)?),
+        Load::Mixed => Ok(mixed_row(rt, alloc, kind, count, turns)?),
+        Load::Single => single_row(rt, alloc, kind, turns),
+        Load::Pool(buffers, kept) => pool_row(rt, alloc, kind, (buffers, kept), turns),
+        Load::Alarm(load) => alarm_row(rt, alloc, kind, count, load, turns),
+        Load::Disk(load) => disk_row(rt, alloc, kind, count, load, turns),
+        Load::Readers(visit) => readers_row(rt, alloc, kind, visit, turns),
+    }
+}
+
+/// Takes these rows: prints a line for each, with what one act of it took.
+pub fn measure_rows<R: Print + Eprint + Clock + Threads + Wait + Sync>(
+    rt: &R,
+    alloc: Global,
+    kind: DoorKind,
+    rows: &[Row],
+    turns: u64,
+) -> anyhow::Result<()> {
+    for row in rows {
+        let turns = turns / row.part.max(1);
+        let spent = time_of(rt, alloc, kind, *row, turns).context(row.name)?;
+        tell(rt, row.name, spent, turns.saturating_mul(row.acts))?;
+    }
+    Ok(())
 }

@@ -155,30 +155,31 @@ where
 /// What the threads of an alarm clock do.
 #[derive(Clone, Copy)]
 pub enum AlarmLoad {
-    /// One of them sets the next time, this many times.
-    Ticking(u64),
-    /// One of them asks for a sleep of no tick, which returns at once, this many times.
-    WakingAtOnce(u64),
-    /// All but the last to come sleep until the next tick, this many times, and the last ticks.
-    Sleeping(u64),
+    /// One of them sets the next time.
+    Ticking,
+    /// One of them asks for a sleep of no tick, which returns at once.
+    WakingAtOnce,
+    /// All but the last to come sleep until the next tick, and the last ticks.
+    Sleeping,
 }
 
-/// The threads of an alarm clock do their load: how long that took.
+/// The threads of an alarm clock do their load, this many times: how long that took.
 pub fn work_alarm<R: Threads + Wait + Clock + Sync, M: SharedAlarm>(
     rt: &R,
     m: &M,
     places: Vec<M::Out>,
     load: AlarmLoad,
+    turns: u64,
 ) -> anyhow::Result<Duration>
 where
     M::Lists: Send,
     requires { All (M.is_of m.now) places.items }
 {
     let sleepers = places.len().saturating_sub(1) as u64;
-    let (call, turns) = match load {
-        AlarmLoad::Ticking(turns) => (AlarmCall::Tick, turns),
-        AlarmLoad::WakingAtOnce(turns) => (AlarmCall::WakeAtOnce, turns),
-        AlarmLoad::Sleeping(turns) => return sleep_and_tick(rt, m, places, sleepers, turns),
+    let call = match load {
+        AlarmLoad::Ticking => AlarmCall::Tick,
+        AlarmLoad::WakingAtOnce => AlarmCall::WakeAtOnce,
+        AlarmLoad::Sleeping => return sleep_and_tick(rt, m, places, sleepers, turns),
     };
     call_alarm(rt, m, last_place(m, places)?, call, turns)
 }

@@ -1,16 +1,11 @@
 //! A try to come in, over any monitor: where nobody is inside, and where another place is.
 ghost use Rattle.std.specs.Prelude.{All};
 
-use crate::doors::CounterLoad;
-use crate::opening::{DoorKind, no_memory};
-use crate::rows::counter_row;
-use crate::tell;
+use crate::opening::no_memory;
 use hoare_law::monitor::Monitor;
 use hoare_law::unasked::Unasked;
-use std::alloc::Global;
 use std::rt::Clock;
 use std::sync::Wait;
-use std::thread::Threads;
 use std::time::{Duration, Instant};
 
 /// The data: a counter with one condition.
@@ -96,18 +91,4 @@ pub fn tried<R: Wait + Clock, M: Monitor<Counter>>(
     let spent = start.elapsed(rt)?;
     anyhow::ensure!(as_found, "a try was answered wrongly");
     Ok(spent)
-}
-
-/// The rows of the tries: prints a line for each.
-pub fn measure_tries<R: Print + Eprint + Clock + Threads + Wait + Sync>(
-    rt: &R,
-    alloc: Global,
-    kind: DoorKind,
-    turns: u64,
-) -> anyhow::Result<()> {
-    let spent = counter_row(rt, alloc, kind, 2, CounterLoad::Tried(Found::Free, turns))?;
-    tell(rt, "try_enter", spent, turns)?;
-    let spent = counter_row(rt, alloc, kind, 2, CounterLoad::Tried(Found::Held, turns))?;
-    tell(rt, "try_enter_no", spent, turns)?;
-    Ok(())
 }

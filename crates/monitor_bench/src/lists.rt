@@ -1,0 +1,121 @@
+//! The lists of rows: of each its name, what is measured, at how many places, and for how many acts its time stands.
+
+use crate::disks::DiskLoad;
+use crate::doors::{BufferLoad, CounterLoad, WideLoad};
+use crate::mixed::WORKERS;
+use crate::procedures::Visit;
+use crate::sleepers::AlarmLoad;
+use crate::tries::Found;
+use timed_schedulers::pool::MOST_BUFFERS;
+
+/// What is measured.
+#[derive(Clone, Copy)]
+pub enum Load {
+    /// A counter with one condition.
+    Counter(CounterLoad),
+    /// The same with eight conditions.
+    Wide(WideLoad),
+    /// A buffer.
+    Buffer(BufferLoad),
+    /// A buffer with Mesa conditions, which threads share.
+    MesaBuffer,
+    /// Visits of all kinds.
+    Mixed,
+    /// A single item.
+    Single,
+    /// A pool of this number of buffers, of which this many are kept.
+    Pool(u32, u32),
+    /// An alarm clock.
+    Alarm(AlarmLoad),
+    /// A disk head.
+    Disk(DiskLoad),
+    /// Readers and writers.
+    Readers(Visit),
+}
+
+/// A row.
+#[derive(Clone, Copy)]
+pub struct Row {
+    /// Its name.
+    pub name: &'static str,
+    /// How many places its door has.
+    pub places: usize,
+    /// What is measured there.
+    pub load: Load,
+    /// Which part of the turns that are asked for are taken: all, a tenth and so on.
+    pub part: u64,
+    /// How many acts a turn is. The figure is of one act.
+    pub acts: u64,
+}
+
+macro_rules! row {
+    ($name:literal, $places:expr, $load:expr, $part:expr, $acts:expr) => {
+        Row {
+            name: $name,
+            places: $places,
+            load: $load,
+            part: $part,
+            acts: $acts,
+        }
+    };
+}
+
+const ALONE: Load = Load::Counter(CounterLoad::Alone);
+
+const CONTENDED: Load = Load::Counter(CounterLoad::Contended);
+
+const HANDED_OVER: Load = Load::Counter(CounterLoad::Waiting(1));
+
+const CROWDED: Load = Load::Counter(CounterLoad::Waiting(16));
+
+const TRIED_FREE: Load = Load::Counter(CounterLoad::Tried(Found::Free));
+
+const TRIED_HELD: Load = Load::Counter(CounterLoad::Tried(Found::Held));
+
+const SHARED: Load = Load::Buffer(BufferLoad::Shared);
+
+const FULL_POOL: Load = Load::Pool(MOST_BUFFERS, 0);
+
+const LAST_OF_POOL: Load = Load::Pool(MOST_BUFFERS, MOST_BUFFERS - 1);
+
+const SLEEPING: Load = Load::Alarm(AlarmLoad::Sleeping);
+
+/// The rows of the monitor itself: places that come in and go out, that hand over to each other, many that wait, and
+/// tries.
+pub const MONITOR: &[Row] = &[
+    row!("enter_leave", 1, ALONE, 1, 1),
+    row!("enter_leave_2", 2, CONTENDED, 10, 2),
+    row!("enter_leave_4", 4, CONTENDED, 10, 4),
+    row!("enter_leave_8", 8, CONTENDED, 10, 8),
+    row!("hand_over", 2, HANDED_OVER, 100, 1),
+    row!("buffer_1_1", 2, SHARED, 100, 1),
+    row!("buffer_4_4", 8, SHARED, 100, 4),
+    row!("waiting_16", 17, CROWDED, 1000, 16),
+    row!("chain_8", 9, Load::Wide(WideLoad::Chained), 1000, 8),
+    row!("mixed_9", 9, Load::Mixed, 1000, WORKERS),
+    row!("wide_enter_leave", 64, Load::Wide(WideLoad::Alone), 1, 1),
+    row!("mesa_buffer_1_1", 2, Load::MesaBuffer, 100, 1),
+    row!("mesa_buffer_4_4", 8, Load::MesaBuffer, 100, 4),
+    row!("try_enter", 2, TRIED_FREE, 1, 1),
+    row!("try_enter_no", 2, TRIED_HELD, 1, 1),
+];
+
+/// The rows of the schedulers: what their procedures take where nobody waits, what a sleep of one tick takes, and what
+/// a release does while others wait. One figure stands for a pair of procedures that undo each other.
+pub const SCHEDULERS: &[Row] = &[
+    row!("enter_leave", 1, ALONE, 1, 1),
+    row!("acquire_release", 1, Load::Single, 1, 1),
+    row!("append_remove", 1, Load::Buffer(BufferLoad::Alone), 1, 1),
+    row!("take_give_1", 1, Load::Pool(1, 0), 1, 1),
+    row!("take_give_1024", 1, FULL_POOL, 1, 1),
+    row!("take_give_last", 1, LAST_OF_POOL, 1, 1),
+    row!("tick", 1, Load::Alarm(AlarmLoad::Ticking), 1, 1),
+    row!("wakeme_0", 1, Load::Alarm(AlarmLoad::WakingAtOnce), 1, 1),
+    row!("wakeme_tick_1", 2, SLEEPING, 100, 1),
+    row!("wakeme_tick_60", 61, SLEEPING, 1000, 60),
+    row!("request_release", 1, Load::Disk(DiskLoad::Alone), 1, 1),
+    row!("start_end_read", 1, Load::Readers(Visit::Read), 1, 1),
+    row!("start_end_write", 1, Load::Readers(Visit::Write), 1, 1),
+    row!("release_1", 3, Load::Disk(DiskLoad::Sweeping), 1000, 1),
+    row!("release_60", 62, Load::Disk(DiskLoad::Sweeping), 1000, 1),
+];

@@ -37,7 +37,8 @@ mod weak_barrier;
 use crate::asked::Arguments;
 use crate::tally::{OfTally, Tallied};
 use crate::told::Teller;
-use order_explorer::{Limits, Orders};
+use hoare_law::data::MonitorData;
+use order_explorer::{Explored, Limits, Orders, Program};
 use std::io;
 use std::rt::Clock;
 use std::sync::Wait;
@@ -50,6 +51,17 @@ fn tell_tallies<R: Threads + Wait + Clock + Print + Eprint + Copy + Send + 'stat
 ) {
     for (name, acts) in programs {
         teller.tell(*name, &Tallied::of(*acts));
+    }
+}
+
+// Programs over one kind of data, each under its name. (A call at a kind of data is dear to check: one serves them all.)
+fn tell_each<
+    R: Threads + Wait + Clock + Print + Eprint + Copy + Send + 'static,
+    D: MonitorData + Send + Drop + 'static,
+    P: Program<D, Explored<D>> + Clone + 'static,
+>(teller: &mut Teller<'_, R>, programs: &[(&str, P)]) {
+    for (name, program) in programs {
+        teller.tell(*name, program);
     }
 }
 
@@ -73,11 +85,17 @@ fn tell_users<R: Threads + Wait + Clock + Print + Eprint + Copy + Send + 'static
 fn tell_plain<R: Threads + Wait + Clock + Print + Eprint + Copy + Send + 'static>(
     teller: &mut Teller<'_, R>,
 ) {
-    teller.tell("single-2", &single::Items { threads: 2 });
-    teller.tell("single-3", &single::Items { threads: 3 });
-    teller.tell("single-4", &single::Items { threads: 4 });
-    teller.tell("buffer-1", &buffer::OneCell { rounds: 1 });
-    teller.tell("buffer-2", &buffer::OneCell { rounds: 2 });
+    let singles = [
+        ("single-2", single::Items { threads: 2 }),
+        ("single-3", single::Items { threads: 3 }),
+        ("single-4", single::Items { threads: 4 }),
+    ];
+    tell_each(teller, &singles);
+    let buffers = [
+        ("buffer-1", buffer::OneCell { rounds: 1 }),
+        ("buffer-2", buffer::OneCell { rounds: 2 }),
+    ];
+    tell_each(teller, &buffers);
     teller.tell("mesa-buffer", &mesa::MesaCell);
 }
 
@@ -86,12 +104,21 @@ fn tell_others<R: Threads + Wait + Clock + Print + Eprint + Copy + Send + 'stati
     teller: &mut Teller<'_, R>,
 ) {
     teller.tell("alarm", &clock::Clock::Tickers);
-    teller.tell("pool-2", &pool::Streams { threads: 2 });
-    teller.tell("pool-3", &pool::Streams { threads: 3 });
-    teller.tell("head-2", &head::Requests { threads: 2 });
-    teller.tell("head-3", &head::Requests { threads: 3 });
-    teller.tell("readers-3", &readers::Readers { threads: 3 });
-    teller.tell("readers-4", &readers::Readers { threads: 4 });
+    let pools = [
+        ("pool-2", pool::Streams { threads: 2 }),
+        ("pool-3", pool::Streams { threads: 3 }),
+    ];
+    tell_each(teller, &pools);
+    let heads = [
+        ("head-2", head::Requests { threads: 2 }),
+        ("head-3", head::Requests { threads: 3 }),
+    ];
+    tell_each(teller, &heads);
+    let readers = [
+        ("readers-3", readers::Readers { threads: 3 }),
+        ("readers-4", readers::Readers { threads: 4 }),
+    ];
+    tell_each(teller, &readers);
 }
 
 // The recipes of the cookbook.
@@ -169,16 +196,19 @@ fn tell_limits<R: Threads + Wait + Clock + Print + Eprint + Copy + Send + 'stati
 ) {
     let limits = teller.asked().limits;
     let visits = Tallied::of(OfTally::Visits(3, 2));
-    teller.tell_within(Limits { runs: 89, ..limits }, "few-runs", &visits);
-    teller.tell_within(
-        Limits {
-            steps: 11,
-            ..limits
-        },
-        "few-steps",
-        &visits,
-    );
-    teller.tell_within(Limits { depth: 5, ..limits }, "few-choices", &visits);
+    for (name, limits) in [
+        ("few-runs", Limits { runs: 89, ..limits }),
+        (
+            "few-steps",
+            Limits {
+                steps: 11,
+                ..limits
+            },
+        ),
+        ("few-choices", Limits { depth: 5, ..limits }),
+    ] {
+        teller.tell_within(limits, name, &visits);
+    }
 }
 
 // Fifty drawn orders, of a program whose orders are all right, and of one of which some are bad, but not the first.

@@ -1,7 +1,7 @@
 //! What is said of a call.
 
 /// How a call ended.
-#[derive(Clone, Copy, Debug, PartialEq, Eq)]
+#[derive(Clone, Copy)]
 pub enum Answer {
     /// As it does where there is memory.
     Made,

@@ -3,12 +3,13 @@ ghost use Rattle.std.specs.Prelude.{◌≡◌};
 
 use crate::tests::awaited::{await_sign, watch};
 use crate::tests::compared::{expect_same, reads_as};
-use crate::tests::tickets_in_turn::three_places;
+use crate::tests::tickets_in_turn::{comes_and_goes, three_places};
 use any_door::{AnyDoor, DoorKind};
 use baton_door::door::Door;
 use door_frame::calls::begin_wait;
 use door_frame::glance::{Glance, Holder};
 use door_frame::place::Outside;
+use hoare_law::data::MonitorData;
 use hoare_law::monitor::Monitor;
 use std::alloc::Global;
 use std::process::Abort;
@@ -119,25 +120,25 @@ pub fn sees_a_newcomer<R: Wait + Abort + Clock, M: Glanced>(
 }
 
 // The first that asked is served, and the others want in.
-fn ask_and_come_in<R: Wait + Abort>(
+fn ask_and_come_in<D: MonitorData + Send, R: Wait + Abort>(
     rt: &R,
-    door: &TicketDoor<Tally>,
-    a: TicketOut<Tally>,
-    b: TicketOut<Tally>,
-    c: TicketOut<Tally>,
+    door: &TicketDoor<D>,
+    a: TicketOut<D>,
+    b: TicketOut<D>,
+    c: TicketOut<D>,
 )
-    requires a { ⟦<TicketDoor<Tally> as Monitor<Tally>>⟧.is_of door.now a }
-    requires b { ⟦<TicketDoor<Tally> as Monitor<Tally>>⟧.is_of door.now b }
-    requires c { ⟦<TicketDoor<Tally> as Monitor<Tally>>⟧.is_of door.now c }
+    requires a { ⟦<TicketDoor<D> as Monitor<D>>⟧.is_of door.now a }
+    requires b { ⟦<TicketDoor<D> as Monitor<D>>⟧.is_of door.now b }
+    requires c { ⟦<TicketDoor<D> as Monitor<D>>⟧.is_of door.now c }
 {
     let a = door.ask(a);
     expect_same(rt, door.glance(), glance_of(Holder::Somebody, 0));
     let (b, c) = (door.ask(b), door.ask(c));
     expect_same(rt, door.glance(), glance_of(Holder::Somebody, 2));
-    let a = door.give_up(door.come_in(rt, a));
+    comes_and_goes(rt, door, a);
     expect_same(rt, door.glance(), glance_of(Holder::Somebody, 1));
-    let b = door.give_up(door.come_in(rt, b));
-    let c = door.give_up(door.come_in(rt, c));
+    comes_and_goes(rt, door, b);
+    comes_and_goes(rt, door, c);
     expect_same(rt, door.glance(), glance_of(Holder::Nobody, 0));
 }
 

@@ -73,46 +73,130 @@ fn asked(place: &Place) -> [u64; 7] {
     ]
 }
 
+// What a place does, or is asked, by its call of that name.
+#[derive(Clone, Copy)]
+enum Call {
+    TryEnter,
+    TryReturn,
+    Leave,
+    Wait(u64, u64),
+    Signal(u64),
+    SignalLeave(u64),
+    Notify(u64),
+    Broadcast(u64),
+    Set(u64),
+    Count(u64),
+    GiveBack,
+}
+
+// Makes the call. Returns the code that the place answers.
+fn code_of(place: &mut Place, call: Call) -> u64 {
+    match call {
+        Call::TryEnter => place.act(TryEnter),
+        Call::TryReturn => place.act(TryReturn),
+        Call::Leave => place.act(Leave),
+        Call::Wait(condition, priority) => place.act(Wait(condition, priority)),
+        Call::Signal(condition) => place.act(Signal(condition)),
+        Call::SignalLeave(condition) => place.act(SignalLeave(condition)),
+        Call::Notify(condition) => place.act(Notify(condition)),
+        Call::Broadcast(condition) => place.act(Broadcast(condition)),
+        Call::Set(value) => place.act(Set(value)),
+        Call::Count(condition) => place.count(condition),
+        Call::GiveBack => place.give_back(),
+    }
+}
+
+// A step: the number of the place, its call, and the code that it has to answer.
+type Step = (usize, Call, u64);
+
+// Both places make their calls, in this order. (Each act by itself takes the checker some seconds where it is written.)
+fn walk<R: Abort>(rt: &R, zero: &mut Place, one: &mut Place, steps: &[Step]) {
+    for (at, (number, call, wanted)) in steps.iter().enumerate() {
+        let code = if *number == 0 {
+            code_of(zero, *call)
+        } else {
+            code_of(one, *call)
+        };
+        expect_same(rt, (at, code), (at, *wanted));
+    }
+}
+
+// Place 0 waits, and place 1 enters.
+const WAITS: [Step; 4] = [
+    (0, Call::TryEnter, 64),
+    (1, Call::TryEnter, 102),
+    (0, Call::Wait(0, 5), 64),
+    (1, Call::TryEnter, 64),
+];
+
+// Place 1 sets the word, and signals.
+const SIGNALS: [Step; 5] = [
+    (1, Call::Set(8), 0),
+    (0, Call::TryReturn, 102),
+    (1, Call::Signal(0), 0), // place 0 goes on
+    (1, Call::TryReturn, 102),
+    (0, Call::TryReturn, 64),
+];
+
+// Place 0 leaves, and the signaller is back.
+const LEAVES: [Step; 4] = [
+    (0, Call::Leave, 1), // back to the signaller
+    (0, Call::TryEnter, 102),
+    (1, Call::TryReturn, 64),
+    (1, Call::SignalLeave(0), 64),
+];
+
 #[test]
 fn steps_hand_over(rt: HostRuntime) {
     let mut keeper = two_places(&rt, rt.alloc());
     let mut one = place_of(&rt, &mut keeper);
     let mut zero = place_of(&rt, &mut keeper);
     expect_same(&rt, [zero.number(), one.number()], [0, 1]);
-    expect_same(&rt, zero.act(TryEnter), 64);
-    expect_same(&rt, one.act(TryEnter), 102);
-    expect_same(&rt, zero.act(Wait(0, 5)), 64);
-    expect_same(&rt, one.act(TryEnter), 64);
+    walk(&rt, &mut zero, &mut one, &WAITS);
     expect_same(&rt, asked(&one), [1, 0, 7, 1, 1, 1, 5]);
-    expect_same(&rt, one.act(Set(8)), 0);
-    expect_same(&rt, zero.act(TryReturn), 102);
-    expect_same(&rt, one.act(Signal(0)), 0); // place 0 goes on
-    expect_same(&rt, one.act(TryReturn), 102);
-    expect_same(&rt, zero.act(TryReturn), 64);
+    walk(&rt, &mut zero, &mut one, &SIGNALS);
     expect_same(&rt, asked(&zero), [1, 0, 8, 0, 0, 0, 0]);
-    expect_same(&rt, zero.act(Leave), 1); // back to the signaller
-    expect_same(&rt, zero.act(TryEnter), 102);
-    expect_same(&rt, one.act(TryReturn), 64);
-    expect_same(&rt, one.act(SignalLeave(0)), 64);
+    walk(&rt, &mut zero, &mut one, &LEAVES);
     expect_same(&rt, asked(&one), [0, 104, 0, 104, 104, 104, 0]);
     closes_with(&rt, keeper, one, zero, 8);
 }
+
+const NOTIFIES: [Step; 8] = [
+    (0, Call::TryEnter, 64),
+    (0, Call::Notify(1), 0),
+    (0, Call::Wait(1, 0), 64),
+    (1, Call::TryEnter, 64),
+    (1, Call::Broadcast(1), 1),
+    (1, Call::Leave, 0), // the notified place goes on
+    (0, Call::TryReturn, 64),
+    (0, Call::Leave, 64),
+];
 
 #[test]
 fn steps_notify(rt: HostRuntime) {
     let mut keeper = two_places(&rt, rt.alloc());
     let mut one = place_of(&rt, &mut keeper);
     let mut zero = place_of(&rt, &mut keeper);
-    expect_same(&rt, zero.act(TryEnter), 64);
-    expect_same(&rt, zero.act(Notify(1)), 0);
-    expect_same(&rt, zero.act(Wait(1, 0)), 64);
-    expect_same(&rt, one.act(TryEnter), 64);
-    expect_same(&rt, one.act(Broadcast(1)), 1);
-    expect_same(&rt, one.act(Leave), 0); // the notified place goes on
-    expect_same(&rt, zero.act(TryReturn), 64);
-    expect_same(&rt, zero.act(Leave), 64);
+    walk(&rt, &mut zero, &mut one, &NOTIFIES);
     closes_with(&rt, keeper, one, zero, 7);
 }
+
+const REFUSED: [Step; 14] = [
+    (0, Call::TryReturn, 113),
+    (0, Call::Wait(9, 0), 104),
+    (0, Call::TryEnter, 64),
+    (0, Call::TryEnter, 103),
+    (0, Call::Wait(2, 0), 105),
+    (0, Call::Signal(2), 105),
+    (0, Call::Signal(1), 106),
+    (0, Call::SignalLeave(1), 106),
+    (0, Call::Notify(0), 106),
+    (0, Call::Broadcast(0), 106),
+    (0, Call::Count(2), 105),
+    (0, Call::GiveBack, 103),
+    (0, Call::Leave, 64),
+    (1, Call::GiveBack, 0),
+];
 
 #[test]
 fn acts_are_refused_in_order(rt: HostRuntime) {
@@ -120,20 +204,7 @@ fn acts_are_refused_in_order(rt: HostRuntime) {
     let mut one = place_of(&rt, &mut keeper);
     let mut zero = place_of(&rt, &mut keeper);
     expect_same(&rt, keeper.give_out().is_err(), true);
-    expect_same(&rt, zero.act(TryReturn), 113);
-    expect_same(&rt, zero.act(Wait(9, 0)), 104);
-    expect_same(&rt, zero.act(TryEnter), 64);
-    expect_same(&rt, zero.act(TryEnter), 103);
-    expect_same(&rt, zero.act(Wait(2, 0)), 105);
-    expect_same(&rt, zero.act(Signal(2)), 105);
-    expect_same(&rt, zero.act(Signal(1)), 106);
-    expect_same(&rt, zero.act(SignalLeave(1)), 106);
-    expect_same(&rt, zero.act(Notify(0)), 106);
-    expect_same(&rt, zero.act(Broadcast(0)), 106);
-    expect_same(&rt, zero.count(2), 105);
-    expect_same(&rt, zero.give_back(), 103);
-    expect_same(&rt, zero.act(Leave), 64);
-    expect_same(&rt, one.give_back(), 0);
+    walk(&rt, &mut zero, &mut one, &REFUSED);
     one = place_of(&rt, &mut keeper);
     closes_with(&rt, keeper, one, zero, 7);
 }

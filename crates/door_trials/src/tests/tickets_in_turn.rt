@@ -15,6 +15,99 @@ use ticket_door::door::TicketDoor;
 use ticket_door::laws::make_at;
 use ticket_door::place::{Asked, TicketIn, TicketOut};
 
+/// The place takes a ticket. Returns it with its ticket. (What the places do at any data takes the checker less time than
+/// each of these calls does at a tally.)
+pub fn asks<D: MonitorData + Send>(door: &TicketDoor<D>, out: TicketOut<D>) -> (Asked<D>, u64)
+    requires { ⟦<TicketDoor<D> as Monitor<D>>⟧.is_of door.now out }
+    ensures of { IsAsked D.rest D.ready (kinds_of D.CONDITIONS D.MESA) door.now result.0 }
+    ensures place { result.0.place ≡ out.place }
+{
+    let asked = door.ask(out);
+    let ticket = asked.ticket();
+    (asked, ticket)
+}
+
+/// The place enters with its ticket, and leaves.
+pub fn comes_and_goes<D: MonitorData + Send, R: Wait>(
+    rt: &R,
+    door: &TicketDoor<D>,
+    asked: Asked<D>,
+) -> TicketOut<D>
+    requires { IsAsked D.rest D.ready (kinds_of D.CONDITIONS D.MESA) door.now asked }
+    ensures of { ⟦<TicketDoor<D> as Monitor<D>>⟧.is_of door.now result }
+    ensures place { result.place ≡ asked.place }
+{
+    door.give_up(door.come_in(rt, asked))
+}
+
+// Place b meets a, takes a ticket, enters with it and leaves. They come back in this order, with b's ticket.
+fn meets_and_visits<D: MonitorData + Send, R: Wait>(
+    rt: &R,
+    door: &TicketDoor<D>,
+    a: TicketOut<D>,
+    b: TicketOut<D>,
+) -> ((TicketOut<D>, TicketOut<D>), u64)
+    requires a { ⟦<TicketDoor<D> as Monitor<D>>⟧.is_of door.now a }
+    requires b { ⟦<TicketDoor<D> as Monitor<D>>⟧.is_of door.now b }
+    ensures a { ⟦<TicketDoor<D> as Monitor<D>>⟧.is_of door.now result.0.0 }
+    ensures b { ⟦<TicketDoor<D> as Monitor<D>>⟧.is_of door.now result.0.1 }
+    ensures places { (result.0.0.place ≡ a.place) × (result.0.1.place ≡ b.place) }
+{
+    let (b, a) = door.meet(b, a);
+    let (b, ticket) = asks(door, b);
+    ((a, comes_and_goes(rt, door, b)), ticket)
+}
+
+// Three places take tickets, in the order c, a, b. They come back in this order, with their tickets.
+fn three_take_tickets<D: MonitorData + Send>(
+    door: &TicketDoor<D>,
+    c: TicketOut<D>,
+    a: TicketOut<D>,
+    b: TicketOut<D>,
+) -> ((Asked<D>, Asked<D>, Asked<D>), (u64, u64, u64))
+    requires c { ⟦<TicketDoor<D> as Monitor<D>>⟧.is_of door.now c }
+    requires a { ⟦<TicketDoor<D> as Monitor<D>>⟧.is_of door.now a }
+    requires b { ⟦<TicketDoor<D> as Monitor<D>>⟧.is_of door.now b }
+    ensures c { IsAsked D.rest D.ready (kinds_of D.CONDITIONS D.MESA) door.now result.0.0 }
+    ensures a { IsAsked D.rest D.ready (kinds_of D.CONDITIONS D.MESA) door.now result.0.1 }
+    ensures b { IsAsked D.rest D.ready (kinds_of D.CONDITIONS D.MESA) door.now result.0.2 }
+{
+    let (c, of_c) = asks(door, c);
+    let (a, of_a) = asks(door, a);
+    let (b, of_b) = asks(door, b);
+    ((c, a, b), (of_c, of_a, of_b))
+}
+
+// Appends the digit to the tally, and leaves. Returns the place, and the tally.
+fn write_and_leave(
+    door: &TicketDoor<Tally>,
+    inside: TicketIn<Tally>,
+    digit: u64,
+) -> (TicketOut<Tally>, u64)
+    requires { ⟦<TicketDoor<Tally> as Monitor<Tally>>⟧.is_of_in door.now inside }
+    ensures of { ⟦<TicketDoor<Tally> as Monitor<Tally>>⟧.is_of door.now result.0 }
+    ensures place { result.0.place ≡ inside.place }
+{
+    let inside = write_digit(door, inside, digit);
+    let written = door.state(&inside).value;
+    (door.give_up(inside), written)
+}
+
+/// Enters with the ticket, appends the digit to the tally, and leaves. Returns the place, and the tally.
+pub fn enter_and_write<R: Wait>(
+    rt: &R,
+    door: &TicketDoor<Tally>,
+    asked: Asked<Tally>,
+    digit: u64,
+) -> (TicketOut<Tally>, u64)
+    requires { IsAsked ⟦<Tally as MonitorData>⟧.rest ⟦<Tally as MonitorData>⟧.ready
+        (kinds_of 1 0) door.now asked }
+    ensures of { ⟦<TicketDoor<Tally> as Monitor<Tally>>⟧.is_of door.now result.0 }
+    ensures place { result.0.place ≡ asked.place }
+{
+    write_and_leave(door, door.come_in(rt, asked), digit)
+}
+
 // Place a comes in at once, and leaves with a signal that nobody waits for; it meets b, and b asks and comes in. They
 // come back in this order, with whether a resumed somebody, and b's ticket.
 fn hands_up_and_meets<R: Wait>(
@@ -30,11 +123,8 @@ fn hands_up_and_meets<R: Wait>(
     ensures places { (result.0.0.place ≡ a.place) × (result.0.1.place ≡ b.place) }
 {
     let (a, told) = door.hand_up(door.enter(rt, a), 0);
-    let (b, a) = door.meet(b, a);
-    let b = door.ask(b);
-    let ticket = b.ticket();
-    let b = door.give_up(door.come_in(rt, b));
-    ((a, b), (told, ticket))
+    let (places, ticket) = meets_and_visits(rt, door, a, b);
+    (places, (told, ticket))
 }
 
 /// A door with this first ticket, and its three places.
@@ -62,30 +152,25 @@ pub fn three_places<R: Abort>(
     (door, (a, b, c))
 }
 
-/// On a door with this first ticket three places ask, in the order c, a, b, and come in by their tickets; c leaves
-/// seven as the number. Then a hands up to nobody, and meets b, which asks once more. The tickets of those that asked,
-/// whether a resumed somebody, and the number that c finds when it comes back.
+/// On a door with this first ticket three places ask, in the order c, a, b, and come in by their tickets; c writes
+/// seven. Then a hands up to nobody, and meets b, which asks once more; at last c asks again, and writes seven once
+/// more. The tickets of those that asked before, whether a resumed somebody, and what c has written then.
 fn three_ask<R: Wait + Abort>(rt: &R, alloc: Global, first: u64) -> ([u64; 4], bool, u64) {
     let (door, (a, b, c)) = three_places(rt, alloc, first);
-    let (c, a, b) = (door.ask(c), door.ask(a), door.ask(b));
-    let tickets = (c.ticket(), a.ticket(), b.ticket());
-    let mut inside = door.come_in(rt, c);
-    TicketDoor::state_mut(&mut inside, &door).value = 7;
-    let c = door.give_up(inside);
-    let a = door.give_up(door.come_in(rt, a));
-    let b = door.give_up(door.come_in(rt, b));
-    let ((a, b), (told, last)) = hands_up_and_meets(rt, &door, a, b);
-    let tickets = [tickets.0, tickets.1, tickets.2, last];
-    let inside = door.come_in(rt, door.ask(c));
-    let found = door.state(&inside).value;
-    let c = door.give_up(inside);
-    (tickets, told, found)
+    let ((c, a, b), tickets) = three_take_tickets(&door, c, a, b);
+    let (c, _seven) = enter_and_write(rt, &door, c, 7);
+    let a = comes_and_goes(rt, &door, a);
+    let b = comes_and_goes(rt, &door, b);
+    let (_places, (told, last)) = hands_up_and_meets(rt, &door, a, b);
+    let (c, _ticket) = asks(&door, c);
+    let (_c, written) = enter_and_write(rt, &door, c, 7);
+    ([tickets.0, tickets.1, tickets.2, last], told, written)
 }
 
 #[test]
 fn tickets_in_turn(rt: HostRuntime) {
     let asked = three_ask(&rt, rt.alloc(), 0);
-    expect_same(&rt, asked, ([0, 1, 2, 4], false, 7));
+    expect_same(&rt, asked, ([0, 1, 2, 4], false, 77));
 }
 
 // A first ticket may be any number, odd ones too: `make_at` refuses none.
@@ -99,7 +184,7 @@ fn a_first_ticket_may_be_any_number(rt: HostRuntime) {
             first.wrapping_add(2),
             first.wrapping_add(4),
         ];
-        expect_same(&rt, asked, (tickets, false, 7));
+        expect_same(&rt, asked, (tickets, false, 77));
     }
 }
 
@@ -118,7 +203,7 @@ fn tickets_past_the_last_number(rt: HostRuntime) {
         ),
     ] {
         let asked = three_ask(&rt, rt.alloc(), first);
-        expect_same(&rt, asked, (tickets, false, 7));
+        expect_same(&rt, asked, (tickets, false, 77));
     }
 }
 
@@ -139,14 +224,12 @@ fn tries_around<R: Wait>(
     ensures b { ⟦<TicketDoor<Tally> as Monitor<Tally>>⟧.is_of door.now result.0.1 }
     ensures places { (result.0.0.place ≡ a.place) × (result.0.1.place ≡ b.place) }
 {
-    let a = door.ask(a);
-    let early = a.ticket();
+    let (a, early) = asks(door, a);
     let (b, before) = tries_once(rt, door, b);
-    let a = door.give_up(door.come_in(rt, a));
+    let a = comes_and_goes(rt, door, a);
     let (b, between) = tries_once(rt, door, b);
-    let a = door.ask(a);
-    let late = a.ticket();
-    let a = door.give_up(door.come_in(rt, a));
+    let (a, late) = asks(door, a);
+    let a = comes_and_goes(rt, door, a);
     ((a, b), ((early, late), (before, between)))
 }
 
@@ -193,30 +276,29 @@ fn places_meet(rt: HostRuntime) {
     expect_same(&rt, (told, tally.value), (false, 5));
 }
 
-// On a door of three places a enters, and writes 1; then b and c take tickets: at most two others are ahead of each.
-fn two_ask_while_one_is_in<R: Wait>(
+// On a door of three places a enters; then b and c take tickets: at most two others are ahead of each. They come back
+// with b's ticket and c's.
+fn two_ask_while_one_is_in<D: MonitorData + Send, R: Wait>(
     rt: &R,
-    door: &TicketDoor<Tally>,
-    a: TicketOut<Tally>,
-    b: TicketOut<Tally>,
-    c: TicketOut<Tally>,
-) -> (TicketIn<Tally>, (Asked<Tally>, Asked<Tally>))
-    requires a { ⟦<TicketDoor<Tally> as Monitor<Tally>>⟧.is_of door.now a }
-    requires b { ⟦<TicketDoor<Tally> as Monitor<Tally>>⟧.is_of door.now b }
-    requires c { ⟦<TicketDoor<Tally> as Monitor<Tally>>⟧.is_of door.now c }
+    door: &TicketDoor<D>,
+    a: TicketOut<D>,
+    b: TicketOut<D>,
+    c: TicketOut<D>,
+) -> (TicketIn<D>, (Asked<D>, Asked<D>), (u64, u64))
+    requires a { ⟦<TicketDoor<D> as Monitor<D>>⟧.is_of door.now a }
+    requires b { ⟦<TicketDoor<D> as Monitor<D>>⟧.is_of door.now b }
+    requires c { ⟦<TicketDoor<D> as Monitor<D>>⟧.is_of door.now c }
     requires three { door.now.door.places ≡ 3 }
-    ensures a { ⟦<TicketDoor<Tally> as Monitor<Tally>>⟧.is_of_in door.now result.0 }
-    ensures b { IsAsked ⟦<Tally as MonitorData>⟧.rest ⟦<Tally as MonitorData>⟧.ready
-        (kinds_of 1 0) door.now result.1.0 }
-    ensures c { IsAsked ⟦<Tally as MonitorData>⟧.rest ⟦<Tally as MonitorData>⟧.ready
-        (kinds_of 1 0) door.now result.1.1 }
+    ensures a { ⟦<TicketDoor<D> as Monitor<D>>⟧.is_of_in door.now result.0 }
+    ensures b { IsAsked D.rest D.ready (kinds_of D.CONDITIONS D.MESA) door.now result.1.0 }
+    ensures c { IsAsked D.rest D.ready (kinds_of D.CONDITIONS D.MESA) door.now result.1.1 }
     ensures b_ahead { result.1.0.number ≤ admissions result.1.0.front.events + 2 }
     ensures c_ahead { result.1.1.number ≤ admissions result.1.1.front.events + 2 }
 {
-    let inside = write_digit(door, door.enter(rt, a), 1);
-    let b = door.ask(b);
-    let c = door.ask(c);
-    (inside, (b, c))
+    let inside = door.enter(rt, a);
+    let (b, of_b) = asks(door, b);
+    let (c, of_c) = asks(door, c);
+    (inside, (b, c), (of_b, of_c))
 }
 
 // Enters a door of three places with a ticket: at most two others entered since the ticket was taken.
@@ -238,12 +320,10 @@ fn enters_after_two<R: Wait>(
 #[test]
 fn two_wait_behind_one(rt: HostRuntime) {
     let (door, (a, b, c)) = three_places(&rt, rt.alloc(), 0);
-    let (inside, (b, c)) = two_ask_while_one_is_in(&rt, &door, a, b, c);
-    expect_same(&rt, (b.ticket(), c.ticket()), (1, 2));
-    door.give_up(inside);
-    door.give_up(write_digit(&door, enters_after_two(&rt, &door, b), 2));
-    let inside = write_digit(&door, enters_after_two(&rt, &door, c), 3);
-    let written = door.state(&inside).value;
-    door.give_up(inside);
+    let (inside, (b, c), tickets) = two_ask_while_one_is_in(&rt, &door, a, b, c);
+    expect_same(&rt, tickets, (1, 2));
+    write_and_leave(&door, inside, 1);
+    write_and_leave(&door, enters_after_two(&rt, &door, b), 2);
+    let (_c, written) = write_and_leave(&door, enters_after_two(&rt, &door, c), 3);
     expect_same(&rt, written, 123);
 }

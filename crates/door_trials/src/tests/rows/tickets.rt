@@ -3,6 +3,7 @@ ghost use Rattle.std.specs.Prelude.{◌≡◌};
 
 use crate::tests::awaited::{act_all, watch};
 use crate::tests::compared::expect_same;
+use crate::tests::tickets_in_turn::{asks, enter_and_write};
 use hoare_law::monitor::Monitor;
 use std::process::Abort;
 use std::rt::Clock;
@@ -40,14 +41,12 @@ fn asks_and_looks_late<R: Wait + Abort + Clock>(
     ensures place { result.0.place ≡ out.place }
 {
     await_asked(rt, asked, place);
-    let asking = door.ask(out);
-    let ticket = asking.ticket();
+    let (asking, ticket) = asks(door, out);
     asked.store(place.saturating_add(1), Ordering::SeqCst);
     let others = 2u64.saturating_sub(place as u64);
     thread::sleep(rt, Duration::from_millis(50 * others));
-    let inside = door.come_in(rt, asking);
-    let inside = write_digit(door, inside, ticket.wrapping_add(1));
-    (door.give_up(inside), ticket)
+    let (out, _tally) = enter_and_write(rt, door, asking, ticket.wrapping_add(1));
+    (out, ticket)
 }
 
 // Comes in and gives up.

@@ -5,12 +5,17 @@ ghost use Rattle.hoare_law.specs.Priorities.{nobody};
 ghost use Rattle.any_door.specs.Doors.{id_of};
 ghost use Rattle.test_support.specs.Numbered.{IsNumbered};
 
+use crate::tests::awaited::act_all;
 use any_door::{AnyDoor, DoorKind};
 use baton_door::door::Door;
+use baton_door::place::DoorOut;
 use hoare_law::data::MonitorData;
 use hoare_law::monitor::Monitor;
 use std::alloc::Global;
 use std::process::Abort;
+use std::rt::Clock;
+use std::sync::Wait;
+use std::thread::Threads;
 use test_support::{on_any_door, on_baton_door, on_ticket_door};
 use ticket_door::door::TicketDoor;
 
@@ -73,59 +78,81 @@ pub fn ticket<D: MonitorData + Send + Drop, R: Abort>(
     made
 }
 
-/// The row on this door, with these places, which is then closed: the data that were left, and what the places
-/// answered.
+/// What the places of a row do, by their numbers, on any monitor that has a door's places. (In a method of a trait the
+/// checker lets nobody hand on a monitor whose places are of a type that isn't known.)
+pub trait Row<D: MonitorData + Send>: Sync {
+    /// One place acts, and gives itself back with its answer.
+    fn act<R: Wait + Abort + Clock, M: Monitor<D, Out = DoorOut<D>>>(
+        &self,
+        rt: &R,
+        m: &M,
+        out: DoorOut<D>,
+        place: usize,
+    ) -> (DoorOut<D>, u64)
+        requires { M.is_of m.now out }
+        ensures of { M.is_of m.now result.0 }
+        ensures place { M.place result.0 ≡ M.place out };
+}
+
+// The row on this door, with these places, which is then closed: the data that were left, and what the places answered.
+// (A macro, since a closure that goes to a thread is of one type of door.)
 macro_rules! run_on {
-    ($rt:ident, $alloc:ident, $made:expr, $on:ident, $acts:ident($($row:expr),*)) => {{
+    ($rt:ident, $alloc:ident, $made:expr, $on:ident, $row:ident) => {{
         let (door, outs) = $made;
-        let (outs, answers) = $crate::tests::awaited::act_all(
+        let (outs, answers) = act_all(
             $rt,
             $alloc,
             &door,
             outs,
-            &|place| { $acts($rt, &door, place.1, place.0 $(, $row)*) },
+            &|place| { $row.act($rt, &door, place.1, place.0) },
         );
-        (test_support::$on::closed(door, outs), answers)
+        ($on::closed(door, outs), answers)
     }};
 }
 
 /// The row on an `AnyDoor` of this kind, which is made with these data and this many places: the data that were left,
-/// and what the places answered. Each place acts by the function named last, which is over any monitor; it gets the
-/// runtime, the door, the place, its number and what stands in the brackets. (A macro, since a closure is of one type.)
-macro_rules! run {
-    ($rt:ident, $alloc:ident, $kind:ident, $state:expr, $count:expr, $acts:ident($($row:expr),*)) => {
-        $crate::tests::row::run_on!(
-            $rt,
-            $alloc,
-            $crate::tests::row::door($rt, $alloc, $kind, $state, $count),
-            on_any_door,
-            $acts($($row),*)
-        )
-    };
+/// and what the places answered.
+pub fn run<D: MonitorData + Send + Drop, P: Row<D>, R: Threads + Wait + Abort + Clock + Sync>(
+    rt: &R,
+    alloc: Global,
+    kind: DoorKind,
+    state: D,
+    count: usize,
+    row: &P,
+) -> (D, Vec<u64>)
+    requires { D.rest state nobody }
+{
+    run_on!(
+        rt,
+        alloc,
+        door(rt, alloc, kind, state, count),
+        on_any_door,
+        row
+    )
 }
 
 /// The same on a door of this kind by its own type: a `Door`, or a `TicketDoor`.
-macro_rules! run_by_type {
-    ($rt:ident, $alloc:ident, $kind:ident, $state:expr, $count:expr, $acts:ident($($row:expr),*)) => {
-        match $kind {
-            any_door::DoorKind::Baton => $crate::tests::row::run_on!(
-                $rt,
-                $alloc,
-                $crate::tests::row::baton($rt, $alloc, $state, $count),
-                on_baton_door,
-                $acts($($row),*)
-            ),
-            any_door::DoorKind::Ticket => $crate::tests::row::run_on!(
-                $rt,
-                $alloc,
-                $crate::tests::row::ticket($rt, $alloc, $state, $count),
-                on_ticket_door,
-                $acts($($row),*)
-            ),
-        }
-    };
+pub fn run_by_type<
+    D: MonitorData + Send + Drop,
+    P: Row<D>,
+    R: Threads + Wait + Abort + Clock + Sync,
+>(rt: &R, alloc: Global, kind: DoorKind, state: D, count: usize, row: &P) -> (D, Vec<u64>)
+    requires { D.rest state nobody }
+{
+    match kind {
+        DoorKind::Baton => run_on!(
+            rt,
+            alloc,
+            baton(rt, alloc, state, count),
+            on_baton_door,
+            row
+        ),
+        DoorKind::Ticket => run_on!(
+            rt,
+            alloc,
+            ticket(rt, alloc, state, count),
+            on_ticket_door,
+            row
+        ),
+    }
 }
-
-pub(crate) use run;
-pub(crate) use run_by_type;
-pub(crate) use run_on;

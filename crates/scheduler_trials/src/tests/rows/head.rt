@@ -5,13 +5,14 @@ ghost use Rattle.hoare_law.specs.Priorities.{nobody};
 ghost use Rattle.sweep_schedulers.specs.Heads.{HeadRests};
 
 use crate::tests::compared::{all_answered, expect_same};
-use crate::tests::row::{run, run_by_type};
+use crate::tests::row::{Row, run, run_by_type};
 use crate::tests::rows::drive::{Trip, goes, hands_on};
 use crate::tests::rows::head_stay::{ASKING, asks_or_counts};
 use crate::tests::rows::head_stress::{CYLMAX, Line, PLACES, is_a_sweep, travels};
 use crate::tests::rows::shared_log::Log;
 use crate::tests::rows::turns::{Turns, line_up};
 use any_door::DoorKind;
+use baton_door::place::DoorOut;
 use hoare_law::monitor::Monitor;
 use std::alloc::Global;
 use std::process::Abort;
@@ -161,24 +162,26 @@ enum HeadRow<'a> {
     TheDriveGoesBySweeps(&'a Log<Line>),
 }
 
-// Each place does what the row says.
-fn acts<R: Wait + Abort + Clock, M: Monitor<Head<Trip>>>(
-    rt: &R,
-    m: &M,
-    out: M::Out,
-    place: usize,
-    row: HeadRow<'_>,
-) -> (M::Out, u64)
-    requires { M.is_of m.now out }
-    ensures of { M.is_of m.now result.0 }
-    ensures place { M.place result.0 ≡ M.place out }
-{
-    match row {
-        HeadRow::ByPlan(alloc, turns, plan) => {
-            leads_or_follows(rt, m, out, place, alloc, turns, plan)
+impl Row<Head<Trip>> for HeadRow<'_> {
+    // Each place does what the row says.
+    fn act<R: Wait + Abort + Clock, M: Monitor<Head<Trip>, Out = DoorOut<Head<Trip>>>>(
+        &self,
+        rt: &R,
+        m: &M,
+        out: DoorOut<Head<Trip>>,
+        place: usize,
+    ) -> (DoorOut<Head<Trip>>, u64)
+        requires { M.is_of m.now out }
+        ensures of { M.is_of m.now result.0 }
+        ensures place { M.place result.0 ≡ M.place out }
+    {
+        match *self {
+            HeadRow::ByPlan(alloc, turns, plan) => {
+                leads_or_follows(rt, m, out, place, alloc, turns, plan)
+            }
+            HeadRow::StayCountsGrants(turns) => (asks_or_counts(rt, m, out, place, turns), 0),
+            HeadRow::TheDriveGoesBySweeps(log) => travels(rt, m, out, place, log),
         }
-        HeadRow::StayCountsGrants(turns) => (asks_or_counts(rt, m, out, place, turns), 0),
-        HeadRow::TheDriveGoesBySweeps(log) => travels(rt, m, out, place, log),
     }
 }
 
@@ -221,7 +224,7 @@ fn a_disk_head_on_each_door(host: HostRuntime) {
         ] {
             let (cylmax, places) = setting(row);
             let head = disk(alloc, cylmax);
-            let (_, answers) = run!(rt, alloc, kind, head, places, acts(row));
+            let (_, answers) = run(rt, alloc, kind, head, places, &row);
             all_answered(rt, kind, answers.as_slice(), places);
         }
         is_a_sweep(rt, log);
@@ -236,7 +239,7 @@ fn a_disk_head_by_each_doors_type(host: HostRuntime) {
         let row = HeadRow::ByPlan(alloc, &turns, &SWEEP_ORDER);
         let (cylmax, places) = setting(row);
         let head = disk(alloc, cylmax);
-        let (_, answers) = run_by_type!(rt, alloc, kind, head, places, acts(row));
+        let (_, answers) = run_by_type(rt, alloc, kind, head, places, &row);
         all_answered(rt, kind, answers.as_slice(), places);
     }
 }

@@ -3,9 +3,10 @@ ghost use Rattle.std.specs.Prelude.{◌≡◌};
 ghost use Rattle.plain_schedulers.specs.Buffers.{BufferHolds};
 
 use crate::tests::compared::expect_same;
-use crate::tests::row::{run, run_by_type};
+use crate::tests::row::{Row, run, run_by_type};
 use crate::tests::rows::turns::{Turns, line_up};
 use any_door::DoorKind;
+use baton_door::place::DoorOut;
 use hoare_law::monitor::Monitor;
 use plain_schedulers::buffer::mesa::MesaBuffer;
 use plain_schedulers::buffer::{BufferRefused, NONEMPTY, NONFULL};
@@ -115,21 +116,23 @@ enum MesaRow<'a> {
     NoItemIsLostBetweenCalledPlaces,
 }
 
-// Each place does what the row says.
-fn acts<R: Wait + Abort + Clock, M: Monitor<MesaBuffer<u64>>>(
-    rt: &R,
-    m: &M,
-    out: M::Out,
-    place: usize,
-    row: MesaRow<'_>,
-) -> (M::Out, u64)
-    requires { M.is_of m.now out }
-    ensures of { M.is_of m.now result.0 }
-    ensures place { M.place result.0 ≡ M.place out }
-{
-    match row {
-        MesaRow::WhoIsCalledTestsAgain(turns) => calls_or_removes(rt, m, out, place, turns),
-        MesaRow::NoItemIsLostBetweenCalledPlaces => trades(rt, m, out, place, 300),
+impl Row<MesaBuffer<u64>> for MesaRow<'_> {
+    // Each place does what the row says.
+    fn act<R: Wait + Abort + Clock, M: Monitor<MesaBuffer<u64>, Out = DoorOut<MesaBuffer<u64>>>>(
+        &self,
+        rt: &R,
+        m: &M,
+        out: DoorOut<MesaBuffer<u64>>,
+        place: usize,
+    ) -> (DoorOut<MesaBuffer<u64>>, u64)
+        requires { M.is_of m.now out }
+        ensures of { M.is_of m.now result.0 }
+        ensures place { M.place result.0 ≡ M.place out }
+    {
+        match *self {
+            MesaRow::WhoIsCalledTestsAgain(turns) => calls_or_removes(rt, m, out, place, turns),
+            MesaRow::NoItemIsLostBetweenCalledPlaces => trades(rt, m, out, place, 300),
+        }
     }
 }
 
@@ -168,7 +171,7 @@ fn who_is_called_tests_again_on_each_door(host: HostRuntime) {
         ] {
             let (cells, places) = setting(row);
             let buffer = with_cells(rt, alloc, cells);
-            let (_, answers) = run!(rt, alloc, kind, buffer, places, acts(row));
+            let (_, answers) = run(rt, alloc, kind, buffer, places, &row);
             holds(rt, kind, row, answers.as_slice());
         }
     }
@@ -182,7 +185,7 @@ fn who_is_called_tests_again_by_each_doors_type(host: HostRuntime) {
         let row = MesaRow::WhoIsCalledTestsAgain(&turns);
         let (cells, places) = setting(row);
         let buffer = with_cells(rt, alloc, cells);
-        let (_, answers) = run_by_type!(rt, alloc, kind, buffer, places, acts(row));
+        let (_, answers) = run_by_type(rt, alloc, kind, buffer, places, &row);
         holds(rt, kind, row, answers.as_slice());
     }
 }

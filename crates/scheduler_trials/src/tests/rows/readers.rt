@@ -3,7 +3,7 @@ ghost use Rattle.std.specs.Prelude.{◌≡◌};
 
 use crate::tests::compared::{all_answered, expect_same, reads_as};
 use crate::tests::fake::with_answers;
-use crate::tests::row::{run, run_by_type};
+use crate::tests::row::{Row, run, run_by_type};
 use crate::tests::rows::late_reader::reads_or_writes_late;
 use crate::tests::rows::readers_stress::{Line, PLACES, is_read_and_written, reads_or_writes_on};
 use crate::tests::rows::reading::{
@@ -13,6 +13,7 @@ use crate::tests::rows::reading::{
 use crate::tests::rows::shared_log::Log;
 use crate::tests::rows::turns::{Turns, line_up};
 use any_door::DoorKind;
+use baton_door::place::DoorOut;
 use hoare_law::monitor::Monitor;
 use std::alloc::Global;
 use std::process::Abort;
@@ -195,26 +196,30 @@ enum ReadersRow<'a> {
     NoReaderIsInBesideAWriter(&'a Log<Line>),
 }
 
-// Each place does what the row says.
-fn acts<R: Wait + Abort + Clock, M: Monitor<Shared>>(
-    rt: &R,
-    m: &M,
-    out: M::Out,
-    place: usize,
-    row: ReadersRow<'_>,
-) -> (M::Out, u64)
-    requires { M.is_of m.now out }
-    ensures of { M.is_of m.now result.0 }
-    ensures place { M.place result.0 ≡ M.place out }
-{
-    match row {
-        ReadersRow::ReadersAndWriters(alloc, turns) => reads_or_writes(
-            rt, m, out, place, alloc, turns,
-        ),
-        ReadersRow::WriterBeforeLateReader(turns, ended) => {
-            reads_or_writes_late(rt, m, out, place, turns, ended)
+impl Row<Shared> for ReadersRow<'_> {
+    // Each place does what the row says.
+    fn act<R: Wait + Abort + Clock, M: Monitor<Shared, Out = DoorOut<Shared>>>(
+        &self,
+        rt: &R,
+        m: &M,
+        out: DoorOut<Shared>,
+        place: usize,
+    ) -> (DoorOut<Shared>, u64)
+        requires { M.is_of m.now out }
+        ensures of { M.is_of m.now result.0 }
+        ensures place { M.place result.0 ≡ M.place out }
+    {
+        match *self {
+            ReadersRow::ReadersAndWriters(alloc, turns) => reads_or_writes(
+                rt, m, out, place, alloc, turns,
+            ),
+            ReadersRow::WriterBeforeLateReader(turns, ended) => {
+                reads_or_writes_late(rt, m, out, place, turns, ended)
+            }
+            ReadersRow::NoReaderIsInBesideAWriter(log) => reads_or_writes_on(
+                rt, m, out, place, log,
+            ),
         }
-        ReadersRow::NoReaderIsInBesideAWriter(log) => reads_or_writes_on(rt, m, out, place, log),
     }
 }
 
@@ -256,7 +261,7 @@ fn readers_and_writers_on_each_door(host: HostRuntime) {
         ] {
             let (value, places) = setting(row);
             let data = ReadersWriters::with(value);
-            let (shared, answers) = run!(rt, alloc, kind, data, places, acts(row));
+            let (shared, answers) = run(rt, alloc, kind, data, places, &row);
             all_answered(rt, kind, answers.as_slice(), places);
             holds(rt, kind, row, shared.into_value());
         }
@@ -272,7 +277,7 @@ fn readers_and_writers_by_each_doors_type(host: HostRuntime) {
         let row = ReadersRow::ReadersAndWriters(alloc, &turns);
         let (value, places) = setting(row);
         let data = ReadersWriters::with(value);
-        let (shared, answers) = run_by_type!(rt, alloc, kind, data, places, acts(row));
+        let (shared, answers) = run_by_type(rt, alloc, kind, data, places, &row);
         all_answered(rt, kind, answers.as_slice(), places);
         holds(rt, kind, row, shared.into_value());
     }

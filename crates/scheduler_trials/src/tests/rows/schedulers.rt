@@ -4,8 +4,9 @@ ghost use Rattle.std.specs.Prelude.{◌≡◌};
 use crate::tests::awaited::{await_sign, watch};
 use crate::tests::compared::{answered, expect_same};
 use crate::tests::fake::with_cells;
-use crate::tests::row::{run, run_by_type};
+use crate::tests::row::{Row, run, run_by_type};
 use any_door::DoorKind;
+use baton_door::place::DoorOut;
 use hoare_law::monitor::Monitor;
 use plain_schedulers::buffer::{Buffer, BufferRefused};
 use plain_schedulers::single::{NotOut, Single};
@@ -58,22 +59,27 @@ fn borrows<R: Wait + Abort + Clock, M: Monitor<Single<u64>>>(
     (out, item)
 }
 
-// Place 0 lends the item, and place 1 borrows it.
-fn lends_or_borrows<R: Wait + Abort + Clock, M: Monitor<Single<u64>>>(
-    rt: &R,
-    m: &M,
-    out: M::Out,
-    place: usize,
-    sign: &AtomicBool,
-) -> (M::Out, u64)
-    requires { M.is_of m.now out }
-    ensures of { M.is_of m.now result.0 }
-    ensures place { M.place result.0 ≡ M.place out }
-{
-    if place == 0 {
-        lends(rt, m, out, sign)
-    } else {
-        borrows(rt, m, out, sign)
+/// An item is lent, with this sign: place 0 lends it, and place 1 borrows it.
+#[derive(Drop)]
+struct Lending<'a>(&'a AtomicBool);
+
+impl Row<Single<u64>> for Lending<'_> {
+    fn act<R: Wait + Abort + Clock, M: Monitor<Single<u64>, Out = DoorOut<Single<u64>>>>(
+        &self,
+        rt: &R,
+        m: &M,
+        out: DoorOut<Single<u64>>,
+        place: usize,
+    ) -> (DoorOut<Single<u64>>, u64)
+        requires { M.is_of m.now out }
+        ensures of { M.is_of m.now result.0 }
+        ensures place { M.place result.0 ≡ M.place out }
+    {
+        if place == 0 {
+            lends(rt, m, out, self.0)
+        } else {
+            borrows(rt, m, out, self.0)
+        }
     }
 }
 
@@ -104,13 +110,33 @@ fn appends_or_removes<R: Wait, M: Monitor<Buffer<u64>>>(
     (out, in_turn)
 }
 
+/// So many items go through a buffer.
+#[derive(Drop)]
+struct Filling(u64);
+
+impl Row<Buffer<u64>> for Filling {
+    fn act<R: Wait + Abort + Clock, M: Monitor<Buffer<u64>, Out = DoorOut<Buffer<u64>>>>(
+        &self,
+        rt: &R,
+        m: &M,
+        out: DoorOut<Buffer<u64>>,
+        place: usize,
+    ) -> (DoorOut<Buffer<u64>>, u64)
+        requires { M.is_of m.now out }
+        ensures of { M.is_of m.now result.0 }
+        ensures place { M.place result.0 ≡ M.place out }
+    {
+        appends_or_removes(rt, m, out, place, self.0)
+    }
+}
+
 #[test]
 fn an_item_is_lent_on_each_door(host: HostRuntime) {
     let (rt, alloc) = (&host, host.alloc());
     for kind in DoorKind::BOTH {
         let sign = AtomicBool::new(false);
         let single = Single::with(7u64);
-        let (_, answers) = run!(rt, alloc, kind, single, 2, lends_or_borrows(&sign));
+        let (_, answers) = run(rt, alloc, kind, single, 2, &Lending(&sign));
         answered(rt, kind, answers.as_slice(), &[7, 7]);
     }
 }
@@ -121,7 +147,7 @@ fn items_come_out_in_order_on_each_door(host: HostRuntime) {
     for kind in DoorKind::BOTH {
         for (cells, items) in [(1, 4), (4096, 5000)] {
             let buffer = with_cells(rt, alloc, cells);
-            let (_, answers) = run!(rt, alloc, kind, buffer, 2, appends_or_removes(items));
+            let (_, answers) = run(rt, alloc, kind, buffer, 2, &Filling(items));
             answered(rt, kind, answers.as_slice(), &[0, items]);
         }
     }
@@ -133,7 +159,7 @@ fn an_item_is_lent_by_each_doors_type(host: HostRuntime) {
     for kind in DoorKind::BOTH {
         let sign = AtomicBool::new(false);
         let single = Single::with(7u64);
-        let (_, answers) = run_by_type!(rt, alloc, kind, single, 2, lends_or_borrows(&sign));
+        let (_, answers) = run_by_type(rt, alloc, kind, single, 2, &Lending(&sign));
         answered(rt, kind, answers.as_slice(), &[7, 7]);
     }
 }
@@ -144,7 +170,7 @@ fn items_come_out_in_order_by_each_doors_type(host: HostRuntime) {
     let items = 4;
     for kind in DoorKind::BOTH {
         let buffer = with_cells(rt, alloc, 1);
-        let (_, answers) = run_by_type!(rt, alloc, kind, buffer, 2, appends_or_removes(items));
+        let (_, answers) = run_by_type(rt, alloc, kind, buffer, 2, &Filling(items));
         answered(rt, kind, answers.as_slice(), &[0, items]);
     }
 }

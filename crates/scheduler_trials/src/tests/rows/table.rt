@@ -2,9 +2,10 @@
 ghost use Rattle.std.specs.Prelude.{◌≡◌, ◌<◌};
 
 use crate::tests::compared::{answered, expect_same};
-use crate::tests::row::run;
+use crate::tests::row::{Row, run};
 use crate::tests::rows::turns::{Turns, line_up};
 use any_door::DoorKind;
+use baton_door::place::DoorOut;
 use cookbook::table::Table;
 use hoare_law::monitor::Monitor;
 use std::process::Abort;
@@ -39,24 +40,26 @@ fn eats<R: Wait + Abort, M: Monitor<Table>>(
     (out, waiting as u64)
 }
 
-// While place 0 eats at seat 0, place 1 comes to wait for seat 1, and then place 2 for seat 0: both can eat when it
-// gets up, and one of them alone.
-fn eats_in_turn<R: Wait + Abort + Clock, M: Monitor<Table>>(
-    rt: &R,
-    m: &M,
-    out: M::Out,
-    place: usize,
-    turns: &Turns,
-) -> (M::Out, u64)
-    requires { M.is_of m.now out }
-    ensures of { M.is_of m.now result.0 }
-    ensures place { M.place result.0 ≡ M.place out }
-{
-    turns.await_turn(rt, place);
-    if place == 1 {
-        eats(rt, m, out, place, 1, turns)
-    } else {
-        eats(rt, m, out, place, 0, turns)
+/// In the turns: while place 0 eats at seat 0, place 1 comes to wait for seat 1, and then place 2 for seat 0. Both can
+/// eat when it gets up, and one of them alone.
+#[derive(Drop)]
+struct Dinner<'a>(&'a Turns);
+
+impl Row<Table> for Dinner<'_> {
+    fn act<R: Wait + Abort + Clock, M: Monitor<Table, Out = DoorOut<Table>>>(
+        &self,
+        rt: &R,
+        m: &M,
+        out: DoorOut<Table>,
+        place: usize,
+    ) -> (DoorOut<Table>, u64)
+        requires { M.is_of m.now out }
+        ensures of { M.is_of m.now result.0 }
+        ensures place { M.place result.0 ≡ M.place out }
+    {
+        self.0.await_turn(rt, place);
+        let seat = if place == 1 { 1 } else { 0 };
+        eats(rt, m, out, place, seat, self.0)
     }
 }
 
@@ -66,7 +69,7 @@ fn who_has_the_first_seat_goes_on_first(host: HostRuntime) {
     let (rt, alloc) = (&host, host.alloc());
     for kind in DoorKind::BOTH {
         let turns = Turns::new();
-        let (_, answers) = run!(rt, alloc, kind, Table::new(), 3, eats_in_turn(&turns));
+        let (_, answers) = run(rt, alloc, kind, Table::new(), 3, &Dinner(&turns));
         answered(rt, kind, answers.as_slice(), &[2, 0, 1]);
     }
 }

@@ -2,13 +2,15 @@
 ghost use Rattle.std.specs.Prelude.{◌≡◌};
 
 use crate::tests::compared::{answered, expect_same};
-use crate::tests::row::{run, run_by_type};
+use crate::tests::row::{Row, run, run_by_type};
 use crate::tests::rows::alarm_stress::{Line, SLEEPERS, is_a_clock, sleeps_or_ticks_on};
 use crate::tests::rows::shared_log::Log;
 use crate::tests::rows::turns::watch;
 use any_door::DoorKind;
+use baton_door::place::DoorOut;
 use hoare_law::monitor::Monitor;
 use std::process::Abort;
+use std::rt::Clock;
 use std::sync::Wait;
 use timed_schedulers::alarm::{Alarm, ClockFull, TooFar};
 
@@ -106,22 +108,26 @@ enum AlarmRow<'a> {
     AllThatAreDueWakeAtTheirTime(&'a Log<Line>),
 }
 
-// Each place does what the row says.
-fn acts<R: Wait + Abort, M: Monitor<Alarm>>(
-    rt: &R,
-    m: &M,
-    out: M::Out,
-    place: usize,
-    row: AlarmRow<'_>,
-) -> (M::Out, u64)
-    requires { M.is_of m.now out }
-    ensures of { M.is_of m.now result.0 }
-    ensures place { M.place result.0 ≡ M.place out }
-{
-    match row {
-        AlarmRow::SleepersWakeAtTheirSettings => sleeps_or_ticks(rt, m, out, place),
-        AlarmRow::AClockEndsAtItsLastTime => ends_the_clock(rt, m, out),
-        AlarmRow::AllThatAreDueWakeAtTheirTime(log) => sleeps_or_ticks_on(rt, m, out, place, log),
+impl Row<Alarm> for AlarmRow<'_> {
+    // Each place does what the row says.
+    fn act<R: Wait + Abort + Clock, M: Monitor<Alarm, Out = DoorOut<Alarm>>>(
+        &self,
+        rt: &R,
+        m: &M,
+        out: DoorOut<Alarm>,
+        place: usize,
+    ) -> (DoorOut<Alarm>, u64)
+        requires { M.is_of m.now out }
+        ensures of { M.is_of m.now result.0 }
+        ensures place { M.place result.0 ≡ M.place out }
+    {
+        match *self {
+            AlarmRow::SleepersWakeAtTheirSettings => sleeps_or_ticks(rt, m, out, place),
+            AlarmRow::AClockEndsAtItsLastTime => ends_the_clock(rt, m, out),
+            AlarmRow::AllThatAreDueWakeAtTheirTime(log) => sleeps_or_ticks_on(
+                rt, m, out, place, log,
+            ),
+        }
     }
 }
 
@@ -154,7 +160,7 @@ fn an_alarm_clock_on_each_door(host: HostRuntime) {
             AlarmRow::AllThatAreDueWakeAtTheirTime(&log),
         ] {
             let (time, places) = setting(row);
-            let (_, answers) = run!(rt, alloc, kind, Alarm::at(time), places, acts(row));
+            let (_, answers) = run(rt, alloc, kind, Alarm::at(time), places, &row);
             answered(rt, kind, answers.as_slice(), wanted(row));
         }
         is_a_clock(rt, log);
@@ -167,7 +173,7 @@ fn an_alarm_clock_by_each_doors_type(host: HostRuntime) {
     let row = AlarmRow::SleepersWakeAtTheirSettings;
     let (time, places) = setting(row);
     for kind in DoorKind::BOTH {
-        let (_, answers) = run_by_type!(rt, alloc, kind, Alarm::at(time), places, acts(row));
+        let (_, answers) = run_by_type(rt, alloc, kind, Alarm::at(time), places, &row);
         answered(rt, kind, answers.as_slice(), wanted(row));
     }
 }

@@ -4,11 +4,12 @@ ghost use Rattle.hoare_law.specs.Priorities.{nobody};
 ghost use Rattle.timed_schedulers.specs.Pools.{PoolRests};
 
 use crate::tests::compared::{answered, expect_same};
-use crate::tests::row::{run, run_by_type};
+use crate::tests::row::{Row, run, run_by_type};
 use crate::tests::rows::pool_stress::{BUFFERS, Line, STREAMS, is_a_pool, uses_or_takes_all};
 use crate::tests::rows::shared_log::Log;
 use crate::tests::rows::turns::{Turns, line_up};
 use any_door::DoorKind;
+use baton_door::place::DoorOut;
 use hoare_law::monitor::Monitor;
 use std::alloc::Global;
 use std::process::Abort;
@@ -162,23 +163,25 @@ enum PoolRow<'a> {
     ABufferHasOneHolder(&'a Log<Line>),
 }
 
-// Each place does what the row says.
-fn acts<R: Wait + Abort + Clock, M: Monitor<Pool>>(
-    rt: &R,
-    m: &M,
-    out: M::Out,
-    place: usize,
-    row: PoolRow<'_>,
-) -> (M::Out, u64)
-    requires { M.is_of m.now out }
-    ensures of { M.is_of m.now result.0 }
-    ensures place { M.place result.0 ≡ M.place out }
-{
-    match row {
-        PoolRow::WhoHoldsTheFewestBuffersGoesOnFirst(turns) => lends_or_borrows(
-            rt, m, out, place, turns,
-        ),
-        PoolRow::ABufferHasOneHolder(log) => uses_or_takes_all(rt, m, out, place, log),
+impl Row<Pool> for PoolRow<'_> {
+    // Each place does what the row says.
+    fn act<R: Wait + Abort + Clock, M: Monitor<Pool, Out = DoorOut<Pool>>>(
+        &self,
+        rt: &R,
+        m: &M,
+        out: DoorOut<Pool>,
+        place: usize,
+    ) -> (DoorOut<Pool>, u64)
+        requires { M.is_of m.now out }
+        ensures of { M.is_of m.now result.0 }
+        ensures place { M.place result.0 ≡ M.place out }
+    {
+        match *self {
+            PoolRow::WhoHoldsTheFewestBuffersGoesOnFirst(turns) => lends_or_borrows(
+                rt, m, out, place, turns,
+            ),
+            PoolRow::ABufferHasOneHolder(log) => uses_or_takes_all(rt, m, out, place, log),
+        }
     }
 }
 
@@ -210,7 +213,7 @@ fn a_pool_on_each_door(host: HostRuntime) {
         ] {
             let (buffers, streams, places) = setting(row);
             let pool = with_buffers(rt, alloc, buffers, streams);
-            let (_, answers) = run!(rt, alloc, kind, pool, places, acts(row));
+            let (_, answers) = run(rt, alloc, kind, pool, places, &row);
             answered(rt, kind, answers.as_slice(), wanted(row));
         }
         is_a_pool(rt, log);
@@ -225,7 +228,7 @@ fn a_pool_by_each_doors_type(host: HostRuntime) {
         let row = PoolRow::WhoHoldsTheFewestBuffersGoesOnFirst(&turns);
         let (buffers, streams, places) = setting(row);
         let pool = with_buffers(rt, alloc, buffers, streams);
-        let (_, answers) = run_by_type!(rt, alloc, kind, pool, places, acts(row));
+        let (_, answers) = run_by_type(rt, alloc, kind, pool, places, &row);
         answered(rt, kind, answers.as_slice(), wanted(row));
     }
 }

@@ -14,6 +14,7 @@ import { ROWS, text_of } from "./rows.mjs";
 const [file, program] = process.argv.slice(2);
 const module = await load(readFileSync(file));
 const checks = new Checks();
+const large = []; // the first lines of scripts without lanes
 const TOP = 64; // of the first row, in script_picture
 const CHARACTER = 8;
 const BESIDE = 44; // of the steps' and the lanes' edges: 20 before the steps and 24 after them
@@ -27,8 +28,13 @@ function shapes_of(svg) {
     return from < 0 ? [] : lines.slice(from, legend);
 }
 
+// Compares the lanes of a script. If its monitor is too large for the page's experiments, the page draws none.
 function check(text, svg, what) {
     const ran = run(module, text);
+    if (ran.is_large) {
+        large.push(text.split("\n")[0]);
+        return;
+    }
     const commands = ran.commands.slice(0, ran.answers.length);
     const longest = Math.max(text.split("\n")[0].length, ...commands.map((it) => it.text.length));
     const states = [...Array(ran.answers.length + 1).keys()].map((at) => ran.state(at));
@@ -45,6 +51,7 @@ if (program) {
     for (const text of [...scripts, ...rows]) {
         check(text, execFileSync(program, { input: `${text}\n`, encoding: "utf8" }), text.replaceAll("\n", "; "));
     }
+    checks.same(large, ["monitor 64 8"], "the monitors without lanes");
 }
 const which = program ? "the examples and rows" : "the folder examples alone, since picture_program isn't built";
 checks.end(`lanes beside those of script_picture, of ${which}`);

@@ -12,11 +12,11 @@ ghost use Rattle.any_door.specs.Doors.{id_of};
 
 use crate::door::AnyTurnstile;
 use door_frame::departure::Departure;
-use door_frame::looks::Looks;
 use door_frame::notice::Notice;
 use door_frame::parcel::Parcel;
 use door_frame::place::{Inside, Outside};
 use door_frame::plays::DoorSeat;
+use door_frame::polling::Polling;
 use door_frame::turnstile::{Runs, Turnstile, Wakes};
 use door_frame::waking::Woken;
 use hoare_law::data::MonitorData;
@@ -32,10 +32,10 @@ impl<D: MonitorData> Turnstile<D> for AnyTurnstile<D> {
 
     ghost is_woken = { IsWoken };
 
-    fn looks(&self) -> Looks {
+    fn polling(&self) -> Polling {
         match self {
-            AnyTurnstile::Baton(door) => door.looks(),
-            AnyTurnstile::Ticket(door) => door.looks(),
+            AnyTurnstile::Baton(door) => door.polling(),
+            AnyTurnstile::Ticket(door) => door.polling(),
         }
     }
 

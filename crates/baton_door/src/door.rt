@@ -7,7 +7,7 @@ ghost use Rattle.wait_book.specs.Contents.{IsOf};
 ghost use Rattle.door_frame.specs.declared.view.View.TheVariants.{Unopened, Places};
 ghost use Rattle.door_frame.specs.Views.{all_know};
 
-use crate::naps::Naps;
+use crate::parked::Parked;
 use crate::rule::{DoorKey, DoorTable};
 use crate::word::{DOOR, FREE, HELD};
 use crossbeam_utils::CachePadded;
@@ -48,7 +48,7 @@ pub struct BatonTurnstile<D: MonitorData> {
     /// read.
     pub(crate) is_to_make_way: AtomicBool,
     /// The entering threads that are parked.
-    pub(crate) naps: CachePadded<Naps>,
+    pub(crate) parked: CachePadded<Parked>,
 }
 
 impl<D: MonitorData> Model for BatonTurnstile<D> {

@@ -5,15 +5,16 @@ use door_frame::glance::{Glance, Holder};
 use hoare_law::data::MonitorData;
 
 impl<D: MonitorData> BatonTurnstile<D> {
-    /// What the word says now, and how many newcomers nap: for who looks why a program hangs. It needs no place, waits
-    /// for nobody, and changes nothing. It may be over by the time that it is answered.
+    /// Returns what the state word says now, and how many entering threads are parked: to find out why a program hangs.
+    /// It needs no place, never blocks, and changes nothing. Other threads may have changed the word by the time that
+    /// it returns.
     pub fn glance(&self) -> Glance {
         let holder = match self.table.shared.peek(DOOR) {
             FREE => Holder::Nobody,
             HELD => Holder::Somebody,
             owed => Holder::Owed((owed - 2) as usize),
         };
-        let newcomers = self.naps.count();
+        let newcomers = self.parked.count();
         Glance { holder, newcomers }
     }
 }

@@ -8,7 +8,7 @@ ghost use Rattle.door_frame.specs.Places.{IsWoken, sleeper_at};
 ghost use Rattle.door_frame.specs.Seats.{GoesOut, IsBehind};
 
 use crate::door::BatonTurnstile;
-use crate::others::{handed, is_leaving, is_to_heed, is_wait};
+use crate::leaving::{handed, is_leaving, is_to_help, is_wait};
 use crate::table_steps::lay_down;
 use door_frame::departure::Departure;
 use door_frame::parcel::Parcel;
@@ -49,8 +49,8 @@ impl<D: MonitorData> BatonTurnstile<D> {
                     since_handed.wrapping_add(1),
                     next,
                 );
-                if is_to_heed(since_handed, departure) {
-                    self.heed_others(since_handed, is_wait(departure));
+                if is_to_help(since_handed, departure) {
+                    self.help_others(since_handed, is_wait(departure));
                 }
                 None
             }

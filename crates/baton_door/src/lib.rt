@@ -4,9 +4,9 @@
 pub mod door;
 mod glance;
 mod handing;
-mod naps;
+mod leaving;
 mod newcomers;
-mod others;
+mod parked;
 pub mod place;
 mod rule;
 pub mod step_door;

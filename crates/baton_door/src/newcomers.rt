@@ -1,4 +1,4 @@
-//! How newcomers come in.
+//! How a thread enters, if the monitor isn't free at once: it polls and attempts, then yields or parks.
 ghost use Rattle.std.specs.Prelude.{◌≡◌, true, false};
 ghost use Rattle.hoare_law.specs.declared.event.Event.TheVariants as event;
 ghost use Rattle.hoare_law.specs.Growth.{AddsLast};
@@ -13,7 +13,6 @@ use crate::table_steps::try_in;
 use crate::word::{DOOR, FREE};
 use crossbeam_utils::Backoff;
 use door_frame::calls::brought_in;
-use door_frame::looks::{NEWCOMER_LOOKS, SPINS, TRIES};
 use door_frame::plays::DoorSeat;
 use door_frame::slot::take_parcel;
 use hoare_law::data::MonitorData;
@@ -21,10 +20,18 @@ use std::sync::Wait;
 use std::sync::atomic::Ordering;
 use std::{hint, thread};
 
+/// The number of polls of the state word before an attempt, a spin hint apart: half a microsecond. Meanwhile the thread
+/// occupies a core, which the thread that resumes may need.
+const POLLS: u32 = 100;
+
+/// The number of rounds of polls and an attempt, each followed by a longer pause, before a thread yields and parks. If
+/// it tried these rounds again after each yield, four threads that enter and leave took 3 to 4 times as long.
+const ROUNDS: u32 = 8;
+
 impl<D: MonitorData> BatonTurnstile<D> {
-    /// Looks at the word so many times, until it is `FREE`, or until it isn't: whether it was seen so.
-    pub(crate) fn sees(&self, free: bool, looks: u32) -> bool {
-        for _ in 0..looks {
+    /// Polls the state word at most `polls` times, until (word == `FREE`) == `free`. Returns true if it was seen so.
+    pub(crate) fn sees(&self, free: bool, polls: u32) -> bool {
+        for _ in 0..polls {
             if (self.table.shared.peek(DOOR) == FREE) == free {
                 return true;
             }
@@ -33,8 +40,7 @@ impl<D: MonitorData> BatonTurnstile<D> {
         false
     }
 
-    /// Tries a while, whenever the word is seen to be `FREE`. Between the tries it spins longer and longer, and then
-    /// gives its core away where that is short: whether the place is in.
+    /// Attempts to enter for a while, each time the state word is seen to be `FREE`. Returns true if the place is in.
     fn try_a_while(&self, seat: &mut DoorSeat<D>) -> bool
         requires table { seat.old.table_id ≡ self.now.table }
         requires outside { IsOutside seat.old.me }
@@ -43,27 +49,23 @@ impl<D: MonitorData> BatonTurnstile<D> {
         ensures let_in { result ≡ true → IsLetIn D.rest D.ready seat.old.me seat.new.me }
     {
         let backoff = Backoff::new();
-        for tries in 0..TRIES {
-            if self.sees(true, NEWCOMER_LOOKS) && try_in(&self.table, seat) {
+        for _ in 0..ROUNDS {
+            if self.sees(true, POLLS) && try_in(&self.table, seat) {
                 return true;
             }
-            if tries < SPINS {
-                backoff.spin();
-            } else if !self.naps.gives_core() {
-                return false;
-            }
+            backoff.spin();
         }
         false
     }
 
-    /// Gives the core away, since who comes in next is to make way. Then nobody is.
+    /// Yields, since the next thread to enter is to make way.
     #[inline(never)] // apart, so that an enter stays small
     pub(crate) fn make_way(&self) {
         self.is_to_make_way.store(false, Ordering::Relaxed);
         thread::yield_now();
     }
 
-    /// Tries until the place is in, and naps where it tried a while for nothing.
+    /// Attempts to enter until the place is in. After each while of attempts it yields if yields are short, and parks.
     #[inline(never)] // apart, so that an enter stays small
     fn keep_trying<R: Wait>(&self, rt: &R, seat: &mut DoorSeat<D>)
         requires table { seat.old.table_id ≡ self.now.table }
@@ -75,12 +77,13 @@ impl<D: MonitorData> BatonTurnstile<D> {
             if self.try_a_while(seat) {
                 return;
             }
-            self.nap(rt);
+            self.parked.yield_if_short();
+            self.park(rt);
         }
         unreachable!()
     }
 
-    /// Comes in, once a try lets it.
+    /// Enters, once an attempt succeeds.
     #[inline] // else the place comes back through memory, which each visit clears
     pub(crate) fn enter_later<R: Wait>(&self, rt: &R, out: DoorOut<D>) -> DoorIn<D>
         requires { IsOut D.rest D.ready (kinds_of D.CONDITIONS D.MESA) self.now out }
@@ -95,12 +98,12 @@ impl<D: MonitorData> BatonTurnstile<D> {
         brought_in(seat, place, sleeper, parcel)
     }
 
-    /// A nap, unless the monitor is free by now.
-    fn nap<R: Wait>(&self, rt: &R) {
-        let before = self.naps.lie_down();
+    /// Parks, unless the monitor is free by now.
+    fn park<R: Wait>(&self, rt: &R) {
+        let before = self.parked.register();
         if self.table.shared.peek(DOOR) != FREE {
-            self.naps.sleep(rt, before);
+            self.parked.park(rt, before);
         }
-        self.naps.get_up();
+        self.parked.deregister();
     }
 }

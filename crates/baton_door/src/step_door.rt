@@ -19,12 +19,12 @@ use crate::rule::{BatonWords, DoorTable};
 use crate::table_steps;
 use crate::word::{DOOR, FREE, owed};
 use door_frame::departure::Departure;
-use door_frame::looks::{BATON_LOOKS, Looks};
 use door_frame::making::{closed_as, deal_by_caller, vacant};
 use door_frame::notice::Notice;
 use door_frame::parcel::Parcel;
 use door_frame::place::Outside;
 use door_frame::plays::{DoorSeat, PickedEvent};
+use door_frame::polling::{BATON_POLLING, Polling};
 use door_frame::turnstile::Turnstile;
 use door_frame::waking::ByCaller;
 use hoare_law::data::MonitorData;
@@ -151,8 +151,8 @@ impl<D: MonitorData> Turnstile<D> for StepDoor<D> {
     /// The door wakes nobody, so the result shows nothing.
     ghost is_woken = { λ d next shown. ⊤ };
 
-    fn looks(&self) -> Looks {
-        BATON_LOOKS
+    fn polling(&self) -> Polling {
+        BATON_POLLING
     }
 
     #[inline]

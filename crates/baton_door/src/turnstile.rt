@@ -11,18 +11,18 @@ ghost use Rattle.door_frame.specs.Departures.{event_of};
 ghost use Rattle.door_frame.specs.Notices.{event_of_notice};
 
 use crate::door::{BatonTurnstile, open};
-use crate::naps::Naps;
+use crate::parked::Parked;
 use crate::place::{DoorIn, DoorOut};
 use crate::rule::BatonWords;
 use crate::table_steps;
 use crate::word::{DOOR, FREE, owed};
 use door_frame::calls;
 use door_frame::departure::Departure;
-use door_frame::looks::{BATON_LOOKS, Looks};
 use door_frame::making::{Parts, closed, deal, vacant};
 use door_frame::notice::Notice;
 use door_frame::parcel::Parcel;
 use door_frame::plays::{DoorSeat, KindsOf};
+use door_frame::polling::{BATON_POLLING, Polling};
 use door_frame::turnstile::{Opens, Runs, Turnstile, Wakes};
 use door_frame::waking::Woken;
 use hoare_law::data::MonitorData;
@@ -41,8 +41,8 @@ impl<D: MonitorData> Turnstile<D> for BatonTurnstile<D> {
 
     ghost is_woken = { IsWoken };
 
-    fn looks(&self) -> Looks {
-        BATON_LOOKS
+    fn polling(&self) -> Polling {
+        BATON_POLLING
     }
 
     /// Tries once to enter. Returns `None` if the compare-exchange doesn't find `FREE`.
@@ -131,7 +131,7 @@ impl<D: MonitorData> Runs<D> for BatonTurnstile<D> {
             table,
             wakers,
             is_to_make_way: _,
-            naps: _,
+            parked: _,
         } = self;
         closed(table, wakers, outs)
     }
@@ -164,7 +164,7 @@ impl<D: MonitorData> Opens<D> for BatonTurnstile<D> {
             table,
             wakers,
             is_to_make_way: AtomicBool::new(false),
-            naps: Naps::new(),
+            parked: Parked::new(),
         };
         Ok((turnstile, outs))
     }

@@ -205,20 +205,19 @@ pub fn try_return<D: MonitorData, T: Turnstile<D>, S: Parking>(
     }
 }
 
-/// Does the second half of `Monitor::wait` and of `Monitor::signal` at a door that wakes its places: polls at most
-/// `looks` times, then parks until the monitor is owed to the place.
+/// Does the second half of `Monitor::wait` and of `Monitor::signal` at a door that wakes its places: polls for a while,
+/// then parks until the monitor is owed to the place.
 #[inline]
 fn come_back<D: MonitorData, T: Wakes<D>, R: Wait>(
     door: &T,
     rt: &R,
     away: Away<D>,
-    looks: u32,
 ) -> Inside<D>
     requires { IsAway D.rest D.ready (T.kinds door.now) (T.id door.now) away }
     ensures { IsBack D.rest D.ready (T.kinds door.now) (T.id door.now) away result }
 {
     let (mut seat, place, sleeper) = away.into_parts();
-    let parcel = claim(door, rt, &mut seat, place, &sleeper, looks);
+    let parcel = claim(door, rt, &mut seat, place, &sleeper);
     brought_back(seat, place, sleeper, parcel)
 }
 
@@ -244,7 +243,7 @@ pub fn wait<D: MonitorData, T: Wakes<D>, R: Wait>(
         (event.Resume inside.place condition result.state) result.front }
 {
     let (away, _) = begin_wait(door, inside, condition, priority);
-    come_back(door, rt, away, door.looks().waiter)
+    come_back(door, rt, away)
 }
 
 /// Implements `Monitor::signal`, at a door that wakes its places.
@@ -267,7 +266,7 @@ pub fn signal<D: MonitorData, T: Wakes<D>, R: Wait>(
         inside.front result.0.front result.1 }
 {
     match begin_signal(door, inside, condition) {
-        Ok((away, _)) => (come_back(door, rt, away, door.looks().signaller), true),
+        Ok((away, _)) => (come_back(door, rt, away), true),
         Err(inside) => (inside, false),
     }
 }

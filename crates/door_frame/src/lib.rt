@@ -5,13 +5,13 @@
 pub mod calls;
 pub mod departure;
 pub mod glance;
-pub mod looks;
 pub mod making;
 pub mod notice;
 pub mod parcel;
 pub mod parking;
 pub mod place;
 pub mod plays;
+pub mod polling;
 pub mod rule;
 pub mod running;
 pub mod slot;

@@ -16,35 +16,35 @@ ghost use Rattle.door_frame.specs.Places.{sleeper_at};
 ghost use Rattle.door_frame.specs.Steps.{due};
 ghost use Rattle.door_frame.specs.Seats.{IsEmptyHanded, ComesIn};
 
-use crate::looks::spin;
 use crate::parcel::Parcel;
 use crate::plays::DoorSeat;
+use crate::polling::pause;
 use crate::turnstile::{Turnstile, Wakes};
 use crate::waking::Sleeper;
 use hoare_law::data::MonitorData;
 use std::sync::Wait;
 
-/// Polls at most `looks` times, `spins` spin hints apart, until the monitor is owed to `place`.
-fn look_for_turn<D: MonitorData, T: Turnstile<D>>(door: &T, place: usize, looks: u32, spins: u32)
+/// Polls for a while until the monitor is owed to `place`.
+fn poll_for_turn<D: MonitorData, T: Turnstile<D>>(door: &T, place: usize)
     requires { place < (T.id door.now).places }
 {
-    for _ in 0..looks {
+    let polling = door.polling();
+    for _ in 0..polling.polls {
         if door.is_owed(place) {
             return;
         }
-        spin(spins);
+        pause(polling.pauses);
     }
 }
 
-/// Blocks until the monitor is owed to `place`, enters and takes the parcel. Polls `looks` times, then tests and parks
-/// in turn.
+/// Blocks until the monitor is owed to `place`, enters and takes the parcel. Polls for a while, then tests and parks in
+/// turn.
 pub fn claim<D: MonitorData, T: Wakes<D>, R: Wait>(
     door: &T,
     rt: &R,
     seat: &mut DoorSeat<D>,
     place: usize,
     sleeper: &Sleeper,
-    looks: u32,
 ) -> Parcel<D>
     requires table { seat.old.table_id ≡ (T.id door.now).table }
     requires small { place < (T.id door.now).places }
@@ -53,7 +53,7 @@ pub fn claim<D: MonitorData, T: Wakes<D>, R: Wait>(
     ensures table { seat.new.table_id ≡ seat.old.table_id }
     ensures came { ComesIn D.rest D.ready place (due place) seat.old.me result seat.new.me }
 {
-    look_for_turn(door, place, looks, door.looks().spins);
+    poll_for_turn(door, place);
     for _ in rt.forever() {
         if let Some(parcel) = door.try_claim(seat, place) {
             return parcel;

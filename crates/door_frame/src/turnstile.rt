@@ -14,12 +14,12 @@ ghost use Rattle.door_frame.specs.Departures.{event_of};
 ghost use Rattle.door_frame.specs.Notices.{event_of_notice};
 
 use crate::departure::Departure;
-use crate::looks::Looks;
 use crate::making::Parts;
 use crate::notice::Notice;
 use crate::parcel::Parcel;
 use crate::place::{Inside, Outside};
 use crate::plays::DoorSeat;
+use crate::polling::Polling;
 use hoare_law::data::MonitorData;
 use std::alloc::Global;
 use std::sync::Wait;
@@ -45,7 +45,7 @@ pub trait Turnstile<D: MonitorData> {
 
     /// Returns how often a place polls whether the monitor is owed to it, before it parks. Performance only; not part
     /// of the contract.
-    fn looks(&self) -> Looks;
+    fn polling(&self) -> Polling;
 
     /// Admits the place if it may enter at this moment, and takes the parcel; else the seat is unchanged. Never blocks.
     fn try_admit(&self, seat: &mut DoorSeat<D>, place: usize) -> Option<Parcel<D>>

@@ -55,9 +55,8 @@ impl<D: MonitorData> TicketTurnstile<D> {
         ensures away { GoesOut place J.event seat.old.me parcel.state seat.new.me }
     {
         lay_parcel(&self.table, seat, parcel);
-        let turn = self.table.shared.fetch_add::<Give<J>>(seat, SERVING, TURN);
-        self.call_next();
-        self.let_one_ask(turn);
+        self.table.shared.fetch_add::<Give<J>>(seat, SERVING, TURN);
+        self.wake_next();
     }
 
     /// Gives the parcel to who goes on, rings that place's bell, and wakes it.

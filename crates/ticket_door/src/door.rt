@@ -1,6 +1,6 @@
 //! The running door, and its turnstile.
 
-use crate::naps::Naps;
+use crate::parked::Parked;
 use crate::rule::TicketTable;
 use crossbeam_utils::CachePadded;
 use door_frame::running::RunningMonitor;
@@ -29,12 +29,12 @@ pub type TicketDoor<D> = RunningMonitor<TicketTurnstile<D>>;
 #[derive(Drop)]
 pub struct TicketTurnstile<D: MonitorData> {
     /// What its words say, and who changes them to what, is a table of the crate's README. Each has a line of the cache
-    /// of its own. A newcomer that naps sleeps on the word behind a bell, which stays 0.
+    /// of its own. An entering thread parks on the word behind a bell, which stays 0.
     pub(crate) table: TicketTable<D>,
     /// What wakes each place, in order.
     pub(crate) wakers: Vec<Waker>,
-    /// Who among the newcomers naps.
-    pub(crate) naps: CachePadded<Naps>,
+    /// The entering threads that are parked.
+    pub(crate) parked: CachePadded<Parked>,
 }
 
 impl<D: MonitorData> Model for TicketTurnstile<D> {

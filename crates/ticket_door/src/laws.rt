@@ -11,7 +11,7 @@ ghost use Rattle.door_frame.specs.Places.{places_from};
 ghost use Rattle.ticket_door.specs.Rule.{Starts};
 
 use crate::door::{TicketDoor, TicketTurnstile};
-use crate::naps::Naps;
+use crate::parked::Parked;
 use crate::place::TicketOut;
 use crate::rule::{Sizes, TicketTable, TicketWords};
 use crate::words::{NEXT, SERVING, served_as, words_for};
@@ -85,11 +85,11 @@ pub(crate) fn open_at<D: MonitorData>(
     )?;
     open(&table, &mut seat, parcel);
     let outs = deal(&table, seat, sleepers, outs, places);
-    let naps = Naps::new();
+    let parked = Parked::new();
     let turnstile = TicketTurnstile {
         table,
         wakers,
-        naps,
+        parked,
     };
     Ok((turnstile, outs))
 }

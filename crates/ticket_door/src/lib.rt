@@ -4,10 +4,9 @@
 mod bells;
 pub mod door;
 mod glance;
-mod late;
 pub mod laws;
 mod meeting;
-mod naps;
+mod parked;
 pub mod place;
 mod rule;
 mod tickets;

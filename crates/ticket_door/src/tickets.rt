@@ -56,7 +56,7 @@ impl<D: MonitorData> TicketTurnstile<D> {
         self.table.shared.load::<Look<J>>(seat, SERVING) == served_as(ticket)
     }
 
-    /// Looks until the ticket is served. Between the looks it yields or naps.
+    /// Polls until the ticket is served; yields or parks between polls.
     #[inline(never)]
     fn keep_looking<J: Counting, R: Wait>(
         &self,
@@ -77,7 +77,7 @@ impl<D: MonitorData> TicketTurnstile<D> {
             if self.is_served::<J>(seat, place, ticket) {
                 return;
             }
-            self.stand_back(rt, turn);
+            self.wait_for(rt, turn);
         }
         unreachable!()
     }

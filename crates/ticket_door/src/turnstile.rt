@@ -16,11 +16,11 @@ use crate::place::{TicketIn, TicketOut};
 use crate::rule::Hear;
 use crate::words::{NEXT, RUNG, SERVING, SILENT, bell_of, served_as};
 use door_frame::departure::Departure;
-use door_frame::looks::{Looks, TICKET_LOOKS};
 use door_frame::making::{Parts, closed};
 use door_frame::notice::Notice;
 use door_frame::parcel::Parcel;
 use door_frame::plays::DoorSeat;
+use door_frame::polling::{Polling, TICKET_POLLING};
 use door_frame::slot::take_parcel;
 use door_frame::turnstile::{Opens, Runs, Turnstile, Wakes};
 use door_frame::waking::Woken;
@@ -39,8 +39,8 @@ impl<D: MonitorData> Turnstile<D> for TicketTurnstile<D> {
 
     ghost is_woken = { IsWoken };
 
-    fn looks(&self) -> Looks {
-        TICKET_LOOKS
+    fn polling(&self) -> Polling {
+        TICKET_POLLING
     }
 
     /// It shuts the gate where both words have one ticket, tries that ticket, and opens the gate again. "No" where
@@ -136,7 +136,7 @@ impl<D: MonitorData> Runs<D> for TicketTurnstile<D> {
         let TicketTurnstile {
             table,
             wakers,
-            naps: _,
+            parked: _,
         } = self;
         closed(table, wakers, outs)
     }

@@ -26,9 +26,6 @@ pub(crate) const TURN: u64 = 2;
 /// What SERVING has more while the gate is shut.
 pub(crate) const SHUT: u64 = 1;
 
-/// What SERVING is of no ticket while the gate is open.
-pub(crate) const NO_TURN: u64 = SHUT;
-
 /// SERVING while this ticket is served and the gate is open.
 #[inline]
 pub(crate) fn served_as(ticket: u64) -> u64
@@ -54,16 +51,17 @@ pub(crate) fn words_for(places: usize) -> usize
     BELLS + LINE * places
 }
 
-/// The mark of a turn among those whose newcomers nap. No two that wait have the same: a door has 64 places at most.
+/// Returns the mark of a turn in the set of turns whose threads are parked. No two turns that are waited for have the
+/// same mark: a door has 64 places at most.
 #[inline]
 pub(crate) fn mark_of(turn: u64) -> u64 {
     1 << (turn / TURN % 64)
 }
 
-/// The word that a turn's newcomer naps on: one that stays 0, behind a bell. No two that wait have the same, but where
-/// the numbers wrap; then a call may reach the other one.
+/// Returns the word that the thread with a turn parks on: one that stays 0, behind a bell. No two turns that are waited
+/// for have the same word, unless the numbers wrap; then a wake-up may reach the other thread.
 #[inline]
-pub(crate) fn nap_of(turn: u64, places: usize) -> usize
+pub(crate) fn parking_word_of(turn: u64, places: usize) -> usize
     requires some { 0 < places }
     requires most { places ≤ 64 }
     ensures { result < bell_at places }

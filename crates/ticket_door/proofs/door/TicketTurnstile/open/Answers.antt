@@ -7,8 +7,8 @@ use Rattle.ticket_door.proofs.Serving.{gives_open_at}
 use Rattle.ticket_door.proofs.door.TicketTurnstile.open.Goals as goal
 use Rattle.hoare_law.specs.Sizes.{kinds_of}
 
-pub fetch_add-turn-requires : goal.fetch_add-turn-requires
-fetch_add-turn-requires g c =
+pub fetch_add-requires : goal.fetch_add-requires
+fetch_add-requires g c =
     let e = c.requires.event in
     let D = g.D.MonitorData in
     let t = c.self.inside.table.shared in
@@ -23,5 +23,5 @@ fetch_add-turn-requires g c =
 
 pub returns-clause-away : goal.returns-clause-away
 returns-clause-away g c = λ f is.
-    c.fetch_add-turn.ensures.2 c.args.place f c.args.parcel
+    c.fetch_add.ensures.2 c.args.place f c.args.parcel
     (c.lay_parcel.ensures.laid ∙ laid_down c.args.parcel refl is)

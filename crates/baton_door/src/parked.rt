@@ -1,0 +1,86 @@
+//! Parking of entering threads, and their wake-up.
+//!
+//! An entering thread that has tried for a while parks until it is woken, for at most `PARK_MICROS`; then it tries
+//! again. Nothing promised depends on the wake-up. If one is lost because it came before the park, or is never sent,
+//! the thread sleeps for the rest of that time and no more: it is outside, holds nothing, and reads the state word
+//! itself when it wakes.
+//!
+//! A wake-up is a system call and takes longer than a visit: `leaving` decides which thread sends one.
+use crossbeam_utils::CachePadded;
+use door_frame::yields::{PARK_MICROS, Yields};
+use std::sync::Wait;
+use std::sync::atomic::{AtomicU64, Ordering};
+use std::time::Duration;
+
+/// The entering threads of a door that are parked. Performance only; not part of any contract.
+#[derive(Drop)]
+pub(crate) struct Parked {
+    /// The number of parked threads.
+    threads: AtomicU64,
+    /// The number of wake-ups sent, modulo 2^64. Entering threads park on this word.
+    wakes: AtomicU64,
+    /// What `wakes` was when a thread last stopped being parked.
+    answered: AtomicU64,
+    /// What is known of yields.
+    yields: Yields,
+}
+
+impl Parked {
+    /// Creates the record with no parked thread, on a cache line of its own.
+    pub(crate) fn new() -> CachePadded<Parked> {
+        CachePadded::new(Parked {
+            threads: AtomicU64::new(0),
+            wakes: AtomicU64::new(0),
+            answered: AtomicU64::new(0),
+            yields: Yields::new(),
+        })
+    }
+
+    /// Registers the caller. Returns the number of wake-ups sent before.
+    pub(crate) fn register(&self) -> u64 {
+        self.threads.fetch_add(1, Ordering::SeqCst);
+        self.wakes.load(Ordering::SeqCst)
+    }
+
+    /// Parks the caller unless a wake-up was sent since `before`.
+    pub(crate) fn park<R: Wait>(&self, rt: &R, before: u64) {
+        let low = (before % (1 << 32)) as u32;
+        self.wakes.park_timeout(rt, low, Duration::from_micros(PARK_MICROS));
+        self.yields.count_park();
+    }
+
+    /// Removes the caller.
+    pub(crate) fn deregister(&self) {
+        self.threads.fetch_sub(1, Ordering::SeqCst);
+        let wakes = self.wakes.load(Ordering::SeqCst);
+        self.answered.store(wakes, Ordering::Relaxed);
+    }
+
+    /// Yields if another thread is parked and no yield was long recently.
+    pub(crate) fn yield_if_short(&self) {
+        if !self.is_empty() {
+            self.yields.try_yield();
+        }
+    }
+
+    /// Returns the number of parked threads.
+    pub(crate) fn count(&self) -> u64 {
+        self.threads.load(Ordering::Relaxed)
+    }
+
+    /// Returns true if no thread is parked.
+    pub(crate) fn is_empty(&self) -> bool {
+        self.threads.load(Ordering::SeqCst) == 0
+    }
+
+    /// Wakes one parked thread.
+    pub(crate) fn wake_one(&self) {
+        self.wakes.fetch_add(1, Ordering::SeqCst);
+        self.wakes.wake_one();
+    }
+
+    /// Returns true if a wake-up was sent and no thread has stopped being parked since.
+    pub(crate) fn has_unanswered_wake(&self) -> bool {
+        self.wakes.load(Ordering::Relaxed) != self.answered.load(Ordering::Relaxed)
+    }
+}

@@ -18,19 +18,18 @@ use std::sync::atomic::{AtomicU64, Ordering};
 use std::time::Duration;
 use std::{hint, thread};
 
-/// The number of polls by the thread with the next ticket, before it yields or parks. A thread with n tickets to go
-/// polls an n-th as often. In a replica nine threads that wait and signal took 1.4 times as long with 4,000 polls, and
-/// buffers 1.3 times with 300.
+/// The number of polls by the thread with the next ticket, before it yields or parks. A thread polls half as often for
+/// each further ticket before its own. If only the next three polled, eight threads that enter and leave took half the
+/// time, but up to 150 others came between two visits of a thread, not 17. In a replica nine threads that wait and
+/// signal took 1.4 times as long with 4,000 polls, and buffers 1.3 times with 300.
 const POLLS_AS_NEXT: u64 = 1000;
 
-/// A thread with more tickets to go than this yields or parks at once. If all polled, longer the nearer they are,
-/// buffers between eight threads took 1.4 to 2 times as long.
-const NEAR: u64 = 3;
+/// The number of short yields in a row, each while a thread was parked, after which threads also yield while none is.
+const SHORT_YIELDS: u64 = 64;
 
-/// The number of short timed yields in a row after which threads also yield while none is parked, and the number of
-/// such yields after each further one. Without them four threads that enter and leave on four idle cores took 12 times
-/// as long, buffers between eight threads 1.7 times.
-const TRUST: u64 = 256;
+/// The number of yields that are then allowed while no thread is parked. Without them four threads that enter and leave
+/// on four idle cores took 12 times as long, and buffers between eight threads 1.7 times.
+const UNTIMED_YIELDS: u64 = 1024;
 
 /// The entering threads of a door that are parked. Performance only; not part of any contract.
 #[derive(Drop)]
@@ -42,7 +41,7 @@ pub(crate) struct Parked {
     missed: AtomicU64,
     /// What is known of yields.
     yields: Yields,
-    /// The number of short timed yields in a row, at most `TRUST`.
+    /// The number of short yields in a row, at most `SHORT_YIELDS`.
     short: AtomicU64,
     /// The number of yields that are allowed while no thread is parked.
     untimed: AtomicU64,
@@ -96,10 +95,10 @@ impl Parked {
     /// Records a short yield during which a thread was parked.
     fn trust(&self) {
         let short = self.short.load(Ordering::Relaxed);
-        if short < TRUST {
+        if short < SHORT_YIELDS {
             self.short.store(short + 1, Ordering::Relaxed);
         } else {
-            self.untimed.store(TRUST, Ordering::Relaxed);
+            self.untimed.store(UNTIMED_YIELDS, Ordering::Relaxed);
         }
     }
 
@@ -111,13 +110,13 @@ impl Parked {
 }
 
 impl<D: MonitorData> TicketTurnstile<D> {
-    /// Polls for a while whether `turn` has come, if it is near. Then yields, or parks.
+    /// Polls for a while whether `turn` has come, longer the nearer it is. Then yields, or parks.
     pub(crate) fn wait_for<R: Wait>(&self, rt: &R, turn: u64) {
-        let ahead = self.turns_ahead(turn).max(1);
-        if ahead <= NEAR && self.poll_for(turn, POLLS_AS_NEXT / ahead) {
+        let further = self.turns_ahead(turn).saturating_sub(1).min(63);
+        if self.poll_for(turn, POLLS_AS_NEXT >> further) {
             return;
         }
-        if ahead == 1 {
+        if further == 0 {
             self.parked.missed.store(turn.wrapping_sub(TURN), Ordering::Relaxed);
         }
         if !self.parked.try_yield(turn) {

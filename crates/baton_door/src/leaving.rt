@@ -68,7 +68,11 @@ pub(crate) fn is_to_help(since_handed: u32, departure: Departure) -> bool {
 
 /// Returns the initial `since_handed` after a hand-off; `leaves` is true if the thread that hands off leaves by it.
 pub(crate) fn handed(leaves: bool) -> u32 {
-    if leaves { AFTER_LEAVE } else { AFTER_WAIT_OR_SIGNAL }
+    if leaves {
+        AFTER_LEAVE
+    } else {
+        AFTER_WAIT_OR_SIGNAL
+    }
 }
 
 /// Returns true if `departure` waits on a condition.

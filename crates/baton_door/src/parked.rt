@@ -45,7 +45,8 @@ impl Parked {
     /// Parks the caller unless a wake-up was sent since `before`.
     pub(crate) fn park<R: Wait>(&self, rt: &R, before: u64) {
         let low = (before % (1 << 32)) as u32;
-        self.wakes.park_timeout(rt, low, Duration::from_micros(PARK_MICROS));
+        self.wakes
+            .park_timeout(rt, low, Duration::from_micros(PARK_MICROS));
         self.yields.count_park();
     }
 

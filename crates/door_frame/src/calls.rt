@@ -208,11 +208,7 @@ pub fn try_return<D: MonitorData, T: Turnstile<D>, S: Parking>(
 /// Does the second half of `Monitor::wait` and of `Monitor::signal` at a door that wakes its places: polls for a while,
 /// then parks until the monitor is owed to the place.
 #[inline]
-fn come_back<D: MonitorData, T: Wakes<D>, R: Wait>(
-    door: &T,
-    rt: &R,
-    away: Away<D>,
-) -> Inside<D>
+fn come_back<D: MonitorData, T: Wakes<D>, R: Wait>(door: &T, rt: &R, away: Away<D>) -> Inside<D>
     requires { IsAway D.rest D.ready (T.kinds door.now) (T.id door.now) away }
     ensures { IsBack D.rest D.ready (T.kinds door.now) (T.id door.now) away result }
 {

@@ -117,7 +117,9 @@ impl<D: MonitorData> TicketTurnstile<D> {
             return;
         }
         if further == 0 {
-            self.parked.missed.store(turn.wrapping_sub(TURN), Ordering::Relaxed);
+            self.parked
+                .missed
+                .store(turn.wrapping_sub(TURN), Ordering::Relaxed);
         }
         if !self.parked.try_yield(turn) {
             self.park(rt, turn);

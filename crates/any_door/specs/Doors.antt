@@ -1,15 +1,15 @@
 -- A door of either kind.
 use Rattle.door_frame.specs.Places.{DoorId}
-use Rattle.any_door.specs.declared.door.AnyTurnstile.{AnyTurnstile}
-use Rattle.any_door.specs.declared.door.AnyTurnstile.TheVariants.{Baton, Ticket}
+use Rattle.any_door.specs.declared.door.RawAnyDoor.{RawAnyDoor}
+use Rattle.any_door.specs.declared.door.RawAnyDoor.TheVariants.{Baton, Ticket}
 use Rattle.any_door.specs.declared.kind.DoorKind.{DoorKind}
 
 -- the id of the door behind it: its table and its number of places
-abbrev pub id_of : {D : Type 0} → AnyTurnstile D → DoorId
+abbrev pub id_of : {D : Type 0} → RawAnyDoor D → DoorId
 id_of (Baton d) = d
 id_of (Ticket d) = d.door
 
 -- the kind of the door behind it
-abbrev pub kind_behind : {D : Type 0} → AnyTurnstile D → DoorKind
+abbrev pub kind_behind : {D : Type 0} → RawAnyDoor D → DoorKind
 kind_behind (Baton _) = DoorKind.Baton
 kind_behind (Ticket _) = DoorKind.Ticket

@@ -8,13 +8,13 @@ ghost use Rattle.door_frame.specs.Places.{places_from};
 ghost use Rattle.any_door.specs.Doors.{id_of, kind_behind};
 
 use crate::kind::DoorKind;
-use baton_door::door::{BatonTurnstile, Door};
+use baton_door::door::{Door, RawBatonDoor};
 use door_frame::place::Outside;
 use door_frame::running::RunningMonitor;
 use hoare_law::data::MonitorData;
 use hoare_law::monitor::Monitor;
 use std::alloc::Global;
-use ticket_door::door::{TicketDoor, TicketTurnstile};
+use ticket_door::door::{RawTicketDoor, TicketDoor};
 use wait_book::steps::MakeRefused;
 
 /// A monitor for running threads, on a door of either kind: it implements `Monitor`. Where the kind is known, `Door` or
@@ -28,15 +28,15 @@ use wait_book::steps::MakeRefused;
 /// outs.push_reserved(door.leave(&rt, inside));
 /// assert_eq!(rt; door.close(outs).value, 42);
 /// ```
-pub type AnyDoor<D> = RunningMonitor<AnyTurnstile<D>>;
+pub type AnyDoor<D> = RunningMonitor<RawAnyDoor<D>>;
 
 /// The turnstile of an `AnyDoor`.
 #[derive(Drop)]
-pub enum AnyTurnstile<D: MonitorData> {
+pub enum RawAnyDoor<D: MonitorData> {
     /// A door of one word.
-    Baton(BatonTurnstile<D>),
+    Baton(RawBatonDoor<D>),
     /// A door of tickets and bells.
-    Ticket(TicketTurnstile<D>),
+    Ticket(RawTicketDoor<D>),
 }
 
 impl DoorKind {
@@ -64,13 +64,13 @@ impl DoorKind {
         match self {
             DoorKind::Baton => {
                 let (door, outs) = Door::make(alloc, state, places)?;
-                let turnstile = AnyTurnstile::Baton(door.into_turnstile());
-                Ok((RunningMonitor::new(turnstile), outs))
+                let raw_monitor = RawAnyDoor::Baton(door.into_raw());
+                Ok((RunningMonitor::new(raw_monitor), outs))
             }
             DoorKind::Ticket => {
                 let (door, outs) = TicketDoor::make(alloc, state, places)?;
-                let turnstile = AnyTurnstile::Ticket(door.into_turnstile());
-                Ok((RunningMonitor::new(turnstile), outs))
+                let raw_monitor = RawAnyDoor::Ticket(door.into_raw());
+                Ok((RunningMonitor::new(raw_monitor), outs))
             }
         }
     }

@@ -2,9 +2,9 @@
 #![tactic(auto)]
 
 pub mod door;
-mod glance;
 pub mod kind;
-mod turnstile;
+mod raw_monitor;
+mod status;
 
-pub use door::{AnyDoor, AnyTurnstile};
+pub use door::{AnyDoor, RawAnyDoor};
 pub use kind::DoorKind;

@@ -18,13 +18,13 @@ use Rattle.hoare_law.specs.Turns.{turn, outside, urgent, IsGivenUp}
 use Rattle.hoare_law.proofs.Entering.{outside-same}
 use Rattle.wait_book.specs.declared.steps.Next.{Next}
 use Rattle.wait_book.specs.Contents.{IsOf}
-use Rattle.door_frame.specs.declared.parcel.Lodged.{Lodged}
-use Rattle.door_frame.specs.declared.view.View.TheVariants.{Unopened, Opening}
-use Rattle.door_frame.specs.Rule.{Cells, Tokens, Kept}
-use Rattle.door_frame.specs.Steps.{Sat, Gives, Notes, begins, opens, gives_as, notes_as, due}
+use Rattle.door_frame.specs.declared.parcel.Guarded.{Guarded}
+use Rattle.door_frame.specs.declared.view.SeatView.TheVariants.{Unopened, Opening}
+use Rattle.door_frame.specs.Rule.{Cells, Tokens, TableInvariant}
+use Rattle.door_frame.specs.Steps.{SeatState, Gives, Notes, begins, opens, gives_as, notes_as, due}
 use Rattle.door_frame.specs.Views.{alone}
 use Rattle.door_frame.proofs.Steps as frame
-use Rattle.baton_door.specs.Rule.{Starts, Tells, word_of}
+use Rattle.baton_door.specs.Rule.{Initial, WordsFit, word_of}
 use Rattle.baton_door.specs.Steps.{ComesAt, comes, admits, claims}
 use Rattle.baton_door.specs.Words.{word_of_next}
 use Rattle.baton_door.proofs.Words.{word_of-next, word_of-free, word_of-due}
@@ -43,7 +43,7 @@ written : (ws : List ℕ) (w : ℕ) → length ws ≡ 8 → get_or (set ws 0 w) 
 written ws w wide = get_or-set_same ws 0 w 0 (omega (arith, wide))
 
 -- the word is held once the first seat has the slot
-begun : (ws : List ℕ) → Starts false ws → Starts true (set ws 0 (taken_at 0 (get_or ws 0 0)))
+begun : (ws : List ℕ) → Initial false ws → Initial true (set ws 0 (taken_at 0 (get_or ws 0 0)))
 begun ws b = record {
   words_are = length-set ws 0 (taken_at 0 (get_or ws 0 0)) ∙ b.words_are;
   word = written ws (taken_at 0 (get_or ws 0 0)) b.words_are ∙ taken_at-hit 0 (get_or ws 0 0) b.word;
@@ -51,8 +51,8 @@ begun ws b = record {
 
 module _ {D : Type 0} where
   -- and free where nothing happened yet
-  opened_tells : (kinds : Kinds) (n : ℕ) (s : D) (ws : List ℕ) → Starts true ws
-      → Tells (opened (sizes_at kinds n) s) (λ _. None) (set ws 0 0)
+  opened_tells : (kinds : Kinds) (n : ℕ) (s : D) (ws : List ℕ) → Initial true ws
+      → WordsFit (opened (sizes_at kinds n) s) (λ _. None) (set ws 0 0)
   unfolding turn urgent called
   opened_tells kinds n s ws b = record {
     words_are = length-set ws 0 0 ∙ b.words_are;
@@ -62,8 +62,8 @@ module _ {D : Type 0} where
 
   -- the word is set to what the turn after is
   rewritten : (f h : History D) (tokens : Tokens) (ws : List ℕ) (w : ℕ) → word_of (turn h.events) ≡ w
-      → Tells f tokens ws
-      → Tells h tokens (set ws 0 w)
+      → WordsFit f tokens ws
+      → WordsFit h tokens (set ws 0 w)
   rewritten f h tokens ws w is t = record {
     words_are = length-set ws 0 w ∙ t.words_are;
     word = written ws w t.words_are ∙ sym is;
@@ -72,23 +72,25 @@ module _ {D : Type 0} where
 
   module _ (rest : Rest D) (ready : Ready D) (kinds : Kinds) (n : ℕ) where
     abbrev K : Cells D → Type 0
-    K = Kept Starts Tells rest ready kinds n
+    K = TableInvariant Initial WordsFit rest ready kinds n
 
     -- the two opening steps
-    pub begins_at : (slots id : ℕ) (m : Sat D) → m ≡ (Unopened n, [])
+    pub begins_at : (slots id : ℕ) (m : SeatState D) → m ≡ (Unopened n, [])
         → Allows K slots id m 0 (taken_at 0) (begins (step slots 0 0 1 none) m)
     begins_at slots id m is =
-        frame.begins_at Starts Tells rest ready kinds n slots id 0 (taken_at 0) (step slots 0 0 1 none) m is begun
+        frame.begins_at Initial WordsFit rest ready kinds n slots id 0 (taken_at 0) (step slots 0 0 1 none) m is begun
 
-    pub opens_at : (slots id : ℕ) (x : Lodged D) (m : Sat D) → m ≡ (Opening n, (0, Some x) ∷ []) → rest x.state nobody
+    pub opens_at : (slots id : ℕ) (x : Guarded D) (m : SeatState D) → m ≡ (Opening n, (0, Some x) ∷ [])
+        → rest x.state nobody
         → IsOf x.book (opened (sizes_at kinds n) tt)
         → Allows K slots id m 0 (λ _. 0) (λ _. opens kinds (step slots 0 0 0 none) m 0)
     opens_at slots id x m is at_rest book =
-        frame.opens_at Starts Tells rest ready kinds n slots id 0 (λ _. 0) x (step slots 0 0 0 none) m is at_rest book
+        frame.opens_at Initial WordsFit rest ready kinds n slots id 0 (λ _. 0) x (step slots 0 0 0 none) m is at_rest
+        book
         (λ ws b. opened_tells kinds n x.state ws b)
 
     -- the same where the step picks kinds that are the door's
-    pub opens_as : (picked : Kinds) → picked ≡ kinds → (slots id : ℕ) (x : Lodged D) (m : Sat D)
+    pub opens_as : (picked : Kinds) → picked ≡ kinds → (slots id : ℕ) (x : Guarded D) (m : SeatState D)
         → m ≡ (Opening n, (0, Some x) ∷ []) → rest x.state nobody → IsOf x.book (opened (sizes_at picked n) tt)
         → Allows K slots id m 0 (λ _. 0) (λ _. opens picked (step slots 0 0 0 none) m 0)
     opens_as picked same slots id x m is at_rest book =
@@ -96,7 +98,7 @@ module _ {D : Type 0} where
         (opens_at slots id x m is at_rest (subst (λ (z : Kinds). IsOf x.book (opened (sizes_at z n) tt)) same book))
 
     -- k comes in by the event where the word is as expected
-    comes_at : (slots id k expected : ℕ) (f : History D) (event : ℕ → History D → D → Event D) (m : Sat D)
+    comes_at : (slots id k expected : ℕ) (f : History D) (event : ℕ → History D → D → Event D) (m : SeatState D)
         → m ≡ (alone k f, [])
         → ((log : History D) → Stands rest ready log → k < log.sizes.places → own k log.events ≡ own k f.events
         → word_of (turn log.events) ≡ expected
@@ -104,25 +106,26 @@ module _ {D : Type 0} where
         → Allows K slots id m 0 (taken_at expected) (comes rest ready event (step slots 0 expected 1 none) m)
     comes_at slots id k expected f event m at enters =
         subst
-        (λ (p : Sat D). Allows K slots id p 0 (taken_at expected)
+        (λ (p : SeatState D). Allows K slots id p 0 (taken_at expected)
         (comes rest ready event (step slots 0 expected 1 none) p))
         (sym at)
         (frame.told_as K slots id me 0 (taken_at expected) _ (comes rest ready event (step slots 0 expected 1 none) me)
         (λ r m' c j g is.
         let q = frame.alone_is k j f g [] [] is in
         subst (λ (p : ℕ × History D). ComesAt expected rest ready event p.0 p.1 me r m') (λ i. (q.0 i, q.1 i)) c)
-        (frame.comes_ok Starts Tells rest ready kinds n slots id k 0 f None None (event k f) (taken_at expected)
+        (frame.comes_ok Initial WordsFit rest ready kinds n slots id k 0 f None None (event k f) (taken_at expected)
         (λ r. r ≡ expected) (λ log. Unit {0})
         (λ r. ℕ_discrete r expected)
         (λ log tokens ws small t miss. taken_at-miss expected (get_or ws 0 0) miss) brings))
       where
-        me : Sat D
+        me : SeatState D
         me = (alone k f, [])
 
         brings : (log : History D) (tokens : Tokens) (ws : List ℕ) → Stands rest ready log → log.sizes.places ≡ n
             → k < n
-            → own k log.events ≡ own k f.events → tokens k ≡ None → Tells log tokens ws → get_or ws 0 0 ≡ expected
-            → frame.BringsIn Starts Tells rest ready kinds k 0 None (taken_at expected) (λ log. Unit {0}) log tokens ws
+            → own k log.events ≡ own k f.events → tokens k ≡ None → WordsFit log tokens ws → get_or ws 0 0 ≡ expected
+            → frame.BringsIn Initial WordsFit rest ready kinds k 0 None (taken_at expected) (λ log. Unit {0}) log
+            tokens ws
             (event k f (latest_data log))
         brings log tokens ws stands places small same no_token t hit =
             let e = enters log stands (subst (λ (m : ℕ). k < m) (sym places) small) same (sym t.word ∙ hit) in
@@ -133,12 +136,13 @@ module _ {D : Type 0} where
               tokens' = tokens;
               token_now = no_token;
               others = λ j ne. refl;
-              tells = subst (λ (w : ℕ). Tells h tokens (set ws 0 w)) (sym (taken_at-hit expected (get_or ws 0 0) hit))
+              tells = subst (λ (w : ℕ). WordsFit h tokens (set ws 0 w)) (sym (taken_at-hit expected (get_or ws 0 0)
+                  hit))
                   (rewritten log h tokens ws 1 (ap word_of e.1.inside) t);
             }
 
     -- a newcomer where it is nobody's turn
-    pub admits_at : (slots id k : ℕ) (f : History D) (m : Sat D) → m ≡ (alone k f, []) → outside k f.events ≡ true
+    pub admits_at : (slots id k : ℕ) (f : History D) (m : SeatState D) → m ≡ (alone k f, []) → outside k f.events ≡ true
         → Allows K slots id m 0 (taken_at 0) (admits rest ready (step slots 0 0 1 none) m)
     admits_at slots id k f m is out = comes_at slots id k 0 f (λ j g. Admit j) m is
         (λ log stands below same w.
@@ -148,7 +152,7 @@ module _ {D : Type 0} where
         ))
 
     -- a place to which the monitor is owed
-    pub claims_at : (slots id k : ℕ) (f : History D) (m : Sat D) (w : ℕ) → m ≡ (alone k f, []) → w ≡ k + 2
+    pub claims_at : (slots id k : ℕ) (f : History D) (m : SeatState D) (w : ℕ) → m ≡ (alone k f, []) → w ≡ k + 2
         → Allows K slots id m 0 (taken_at w) (claims rest ready (step slots 0 w 1 none) m)
     claims_at slots id k f m w is mine = comes_at slots id k w f due m is
         (λ log stands below same t.
@@ -156,23 +160,25 @@ module _ {D : Type 0} where
         (frame.given_up_due k (turn log.events) due_to, frame.enters_due rest ready k log f stands same due_to))
 
     -- who is inside writes who goes on
-    pub gives_at : (slots id k : ℕ) (f : History D) (x : Lodged D) (who : Next) (event : D → Event D)
-        (m : Sat D) (w : ℕ)
+    pub gives_at : (slots id k : ℕ) (f : History D) (x : Guarded D) (who : Next) (event : D → Event D)
+        (m : SeatState D) (w : ℕ)
         → m ≡ (alone k f, (0, Some x) ∷ []) → Gives rest ready event k f x who → w ≡ word_of_next who
         → Allows K slots id m 0 (λ _. w) (λ _. gives_as event (step slots 0 w 0 none) m w)
     gives_at slots id k f x who event m w is p word =
-        subst (λ (q : Sat D). Allows K slots id q 0 (λ _. w) (λ _. gives_as event (step slots 0 w 0 none) q w)) (sym is)
-        (frame.gives_ok Starts Tells rest ready kinds n slots id k 0 (λ _. w) f x who event (step slots 0 w 0 none) p
+        subst (λ (q : SeatState D). Allows K slots id q 0 (λ _. w) (λ _. gives_as event (step slots 0 w 0 none) q w))
+        (sym is)
+        (frame.gives_ok Initial WordsFit rest ready kinds n slots id k 0 (λ _. w) f x who event (step slots 0 w 0 none)
+        p
         (λ tokens ws places small t.
         let h : History D = with_event f (event x.state) in
         rewritten f h tokens ws w (sym (word_of-next (turn h.events)) ∙ ap word_of_next (sym p.next_is) ∙ sym word) t))
 
     -- who is inside calls others: the word stays
-    pub notes_at : (slots id k : ℕ) (f : History D) (event : History D → Event D) (m : Sat D)
+    pub notes_at : (slots id k : ℕ) (f : History D) (event : History D → Event D) (m : SeatState D)
         → m ≡ (alone k f, (0, None) ∷ [])
         → Notes rest ready (event f) k f → Allows K slots id m 0 (λ r. r) (notes_as event (step slots 0 0 0 none) m)
     notes_at slots id k f event m is p =
-        frame.notes_at Starts Tells rest ready kinds n slots id k 0 f event (step slots 0 0 0 none) m is p
+        frame.notes_at Initial WordsFit rest ready kinds n slots id k 0 f event (step slots 0 0 0 none) m is p
         (λ tokens ws t. record {
           words_are = t.words_are;
           word = t.word ∙ ap word_of (p.inside ∙ sym p.stays);

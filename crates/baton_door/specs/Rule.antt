@@ -15,12 +15,12 @@ word_of (Return k) = k + 2
 
 -- the words before the door opens: free, and held once the first seat has the slot. Nobody uses the last seven, which
 -- keep most other data off the first one's line of the cache
-pub record Starts (begun : Bool) (words : List ℕ) : Type 0 where
+pub record Initial (begun : Bool) (words : List ℕ) : Type 0 where
   pub words_are : length words ≡ 8
   pub word : slice_index words 0 ≡ (if begun then 1 else 0)
 
 -- the word says whose turn it is
-pub record Tells {D : Type 0} (log : History D) (tokens : Tokens) (words : List ℕ) : Type 0 where
+pub record WordsFit {D : Type 0} (log : History D) (tokens : Tokens) (words : List ℕ) : Type 0 where
   pub words_are : length words ≡ 8
   pub word : slice_index words 0 ≡ word_of (turn log.events)
   pub no_tokens : (k : ℕ) → tokens k ≡ None

@@ -5,21 +5,22 @@ use Rattle.hoare_law.specs.declared.event.Event.{Event}
 use Rattle.hoare_law.specs.declared.event.History.{History}
 use Rattle.hoare_law.specs.declared.event.Event.TheVariants.{Admit}
 use Rattle.hoare_law.specs.Lawful.{Rest, Ready}
-use Rattle.door_frame.specs.Steps.{Sat, Told, Comes, due}
+use Rattle.door_frame.specs.Steps.{SeatState, StepContract, EntryStep, due}
 use Rattle.door_frame.specs.Views.{alone}
 
 module _ {D : Type 0} where
   -- where the number is found that was expected, the place comes in by the event and takes the slot; else nothing
   -- happened
-  abbrev pub ComesAt : ℕ → Rest D → Ready D → (ℕ → History D → D → Event D) → ℕ → History D → Sat D → ℕ → Sat D → Type 0
-  ComesAt expected rest ready event k f = Comes rest ready (λ r. r ≡ expected) (λ log. Unit {0}) k f (event k f)
+  abbrev pub ComesAt : ℕ → Rest D → Ready D → (ℕ → History D → D → Event D) → ℕ → History D → SeatState D → ℕ
+      → SeatState D → Type 0
+  ComesAt expected rest ready event k f = EntryStep rest ready (λ r. r ≡ expected) (λ log. Unit {0}) k f (event k f)
 
-  abbrev pub comes : Rest D → Ready D → (ℕ → History D → D → Event D) → Told D
+  abbrev pub comes : Rest D → Ready D → (ℕ → History D → D → Event D) → StepContract D
   comes rest ready event st m r m' =
       (k : ℕ) (f : History D) → m ≡ (alone k f, []) → ComesAt st.first rest ready event k f m r m'
 
-  abbrev pub admits : Rest D → Ready D → Told D
+  abbrev pub admits : Rest D → Ready D → StepContract D
   admits rest ready = comes rest ready (λ k f. Admit k)
 
-  abbrev pub claims : Rest D → Ready D → Told D
+  abbrev pub claims : Rest D → Ready D → StepContract D
   claims rest ready = comes rest ready due

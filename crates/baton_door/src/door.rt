@@ -4,7 +4,7 @@ ghost use Rattle.hoare_law.specs.Events.{opened};
 ghost use Rattle.hoare_law.specs.Sizes.{sizes_at};
 ghost use Rattle.hoare_law.specs.Priorities.{nobody};
 ghost use Rattle.wait_book.specs.Contents.{IsOf};
-ghost use Rattle.door_frame.specs.declared.view.View.TheVariants.{Unopened, Places};
+ghost use Rattle.door_frame.specs.declared.view.SeatView.TheVariants.{Unopened, Places};
 ghost use Rattle.door_frame.specs.Views.{all_know};
 
 use crate::parked::Parked;
@@ -12,9 +12,9 @@ use crate::rule::{DoorKey, DoorTable};
 use crate::word::{DOOR, FREE, HELD};
 use crossbeam_utils::CachePadded;
 use door_frame::parcel::Parcel;
-use door_frame::plays::{Begin, DoorSeat, Open, PickedKinds};
 use door_frame::running::RunningMonitor;
-use door_frame::slot::lay_parcel;
+use door_frame::seat_steps::{Begin, DoorSeat, Open, PickedKinds};
+use door_frame::slot::put_parcel;
 use door_frame::waking::Waker;
 use hoare_law::data::MonitorData;
 use std::marker::Model;
@@ -34,11 +34,11 @@ use std::sync::atomic::AtomicBool;
 /// outs.push_reserved(door.leave(&rt, inside));
 /// assert_eq!(rt; door.close(outs).value, 42);
 /// ```
-pub type Door<D> = RunningMonitor<BatonTurnstile<D>>;
+pub type Door<D> = RunningMonitor<RawBatonDoor<D>>;
 
 /// The turnstile of a `Door`: its words, its slot, and what wakes its places.
 #[derive(Drop)]
-pub struct BatonTurnstile<D: MonitorData> {
+pub struct RawBatonDoor<D: MonitorData> {
     /// Eight words, of which the state word is in use, and the slot. The crate's README has a table of the state word's
     /// values and of the threads that change it. The other seven words are padding against false sharing.
     pub(crate) table: DoorTable<D>,
@@ -51,7 +51,7 @@ pub struct BatonTurnstile<D: MonitorData> {
     pub(crate) parked: CachePadded<Parked>,
 }
 
-impl<D: MonitorData> Model for BatonTurnstile<D> {
+impl<D: MonitorData> Model for RawBatonDoor<D> {
     ghost use Rattle.door_frame.specs.Places.{DoorId, door_of};
     ghost use Rattle.std.specs.Prelude.{vec_len};
     ghost use Rattle.baton_door.specs.Rule.{Sized};
@@ -86,6 +86,6 @@ pub(crate) fn open<D: MonitorData, K: DoorKey<D>, J: PickedKinds>(
     table
         .shared
         .compare_exchange::<Begin>(seat, DOOR, FREE, HELD);
-    lay_parcel(table, seat, parcel);
+    put_parcel(table, seat, parcel);
     table.shared.store::<Open<J>>(seat, DOOR, FREE);
 }

@@ -5,19 +5,19 @@ ghost use Rattle.wait_book.specs.Contents.{IsPlaceBelow};
 ghost use Rattle.wait_book.specs.declared.steps.Next.TheVariants.{For};
 ghost use Rattle.door_frame.specs.Steps.{MayGive};
 ghost use Rattle.door_frame.specs.Places.{IsWoken, sleeper_at};
-ghost use Rattle.door_frame.specs.Seats.{GoesOut, IsBehind};
+ghost use Rattle.door_frame.specs.Seats.{GoesOut, HasReleased};
 
-use crate::door::BatonTurnstile;
+use crate::door::RawBatonDoor;
 use crate::leaving::{handed, is_leaving, is_to_help, is_wait};
-use crate::table_steps::lay_down;
+use crate::table_steps::put_and_write;
 use door_frame::departure::Departure;
 use door_frame::parcel::Parcel;
-use door_frame::plays::{DoorSeat, PickedEvent};
+use door_frame::seat_steps::{DoorSeat, PickedEvent};
 use door_frame::waking::Woken;
 use hoare_law::data::MonitorData;
 use wait_book::steps::Next;
 
-impl<D: MonitorData> BatonTurnstile<D> {
+impl<D: MonitorData> RawBatonDoor<D> {
     /// Gives the parcel back by an event that the call picks.
     #[inline(always)] // a plain leave is short where it knows that nobody goes on
     pub(crate) fn give<J: PickedEvent<D>>(
@@ -41,7 +41,7 @@ impl<D: MonitorData> BatonTurnstile<D> {
             }
             Next::Free | Next::Held(_) => {
                 let since_handed = parcel.held.since_handed;
-                lay_down::<D, usize, J>(
+                put_and_write::<D, usize, J>(
                     &self.table,
                     seat,
                     parcel,
@@ -75,14 +75,14 @@ impl<D: MonitorData> BatonTurnstile<D> {
         ensures woken { result ≡ sleeper_at self.now resumed }
     {
         let (table, next) = (&self.table, Next::For(resumed));
-        lay_down::<D, usize, J>(table, seat, parcel, place, handed(leaves), next);
+        put_and_write::<D, usize, J>(table, seat, parcel, place, handed(leaves), next);
         self.wake(seat, resumed)
     }
 
     /// Wakes a place, or lets its next sleep return at once.
     fn wake(&self, seat: &DoorSeat<D>, place: usize) -> Woken
         requires below { place < self.now.places }
-        requires given_up { IsBehind seat.now.me }
+        requires given_up { HasReleased seat.now.me }
         ensures { result ≡ sleeper_at self.now place }
     {
         self.wakers[place].wake(seat)

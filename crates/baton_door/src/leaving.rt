@@ -11,7 +11,7 @@
 //! *Backing off.* If T leaves by handing the monitor to W, W usually enters again before T does, finds its condition
 //! false and waits: every visit then costs a hand-off. So W, as it leaves, polls briefly for another thread to enter;
 //! if one does, W spins for a while before it competes again.
-use crate::door::BatonTurnstile;
+use crate::door::RawBatonDoor;
 use door_frame::departure::Departure;
 use door_frame::polling::pause;
 use hoare_law::data::MonitorData;
@@ -33,7 +33,7 @@ const AFTER_LEAVE: u32 = 0;
 /// count that ran from one to the other would only be mistaken for a hand-off.
 const AFTER_WAIT_OR_SIGNAL: u32 = 1 << 31;
 
-impl<D: MonitorData> BatonTurnstile<D> {
+impl<D: MonitorData> RawBatonDoor<D> {
     /// Wakes a parked entering thread, or makes the next thread to enter yield. Backs off if this thread was handed the
     /// monitor by one that left, and doesn't wait now.
     #[inline(never)] // apart, so that a plain leave stays small

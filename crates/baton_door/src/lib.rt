@@ -2,14 +2,14 @@
 #![tactic(auto)]
 
 pub mod door;
-mod glance;
 mod handing;
 mod leaving;
 mod newcomers;
 mod parked;
 pub mod place;
+mod raw_monitor;
 mod rule;
+mod status;
 pub mod step_door;
 mod table_steps;
-mod turnstile;
 mod word;

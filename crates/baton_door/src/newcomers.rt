@@ -5,15 +5,15 @@ ghost use Rattle.hoare_law.specs.Growth.{AddsLast};
 ghost use Rattle.hoare_law.specs.Priorities.{priorities};
 ghost use Rattle.hoare_law.specs.Sizes.{kinds_of};
 ghost use Rattle.door_frame.specs.Places.{IsIn, IsOut};
-ghost use Rattle.baton_door.specs.Newcomers.{IsOutside, IsLetIn};
+ghost use Rattle.baton_door.specs.Newcomers.{IsOutside, IsAdmitted};
 
-use crate::door::BatonTurnstile;
+use crate::door::RawBatonDoor;
 use crate::place::{DoorIn, DoorOut};
 use crate::table_steps::try_in;
 use crate::word::{DOOR, FREE};
 use crossbeam_utils::Backoff;
-use door_frame::calls::brought_in;
-use door_frame::plays::DoorSeat;
+use door_frame::calls::enter_with;
+use door_frame::seat_steps::DoorSeat;
 use door_frame::slot::take_parcel;
 use hoare_law::data::MonitorData;
 use std::sync::Wait;
@@ -28,7 +28,7 @@ const POLLS: u32 = 100;
 /// it tried these rounds again after each yield, four threads that enter and leave took 3 to 4 times as long.
 const ROUNDS: u32 = 8;
 
-impl<D: MonitorData> BatonTurnstile<D> {
+impl<D: MonitorData> RawBatonDoor<D> {
     /// Polls the state word at most `polls` times, until (word == `FREE`) == `free`. Returns true if it was seen so.
     pub(crate) fn sees(&self, free: bool, polls: u32) -> bool {
         for _ in 0..polls {
@@ -46,7 +46,7 @@ impl<D: MonitorData> BatonTurnstile<D> {
         requires outside { IsOutside seat.old.me }
         ensures table { seat.new.table_id ≡ seat.old.table_id }
         ensures turned_away { result ≡ false → seat.new.me ≡ seat.old.me }
-        ensures let_in { result ≡ true → IsLetIn D.rest D.ready seat.old.me seat.new.me }
+        ensures let_in { result ≡ true → IsAdmitted D.rest D.ready seat.old.me seat.new.me }
     {
         let backoff = Backoff::new();
         for _ in 0..ROUNDS {
@@ -71,7 +71,7 @@ impl<D: MonitorData> BatonTurnstile<D> {
         requires table { seat.old.table_id ≡ self.now.table }
         requires outside { IsOutside seat.old.me }
         ensures table { seat.new.table_id ≡ seat.old.table_id }
-        ensures let_in { IsLetIn D.rest D.ready seat.old.me seat.new.me }
+        ensures let_in { IsAdmitted D.rest D.ready seat.old.me seat.new.me }
     {
         for _ in rt.forever() {
             if self.try_a_while(seat) {
@@ -95,7 +95,7 @@ impl<D: MonitorData> BatonTurnstile<D> {
         let (mut seat, place, sleeper) = out.into_parts();
         self.keep_trying(rt, &mut seat);
         let parcel = take_parcel(&self.table, &mut seat);
-        brought_in(seat, place, sleeper, parcel)
+        enter_with(seat, place, sleeper, parcel)
     }
 
     /// Parks, unless the monitor is free by now.

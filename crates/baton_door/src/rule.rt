@@ -1,12 +1,12 @@
 //! The rule of the door's table, and what the door's own steps prove.
-ghost use Rattle.baton_door.specs.Rule.{Starts, Tells};
+ghost use Rattle.baton_door.specs.Rule.{Initial, WordsFit};
 ghost use Rattle.baton_door.specs.Steps.{admits, claims};
 
 use atomic_table::Play;
 use door_frame::parcel::Parcel;
 use door_frame::rule;
 use door_frame::rule::Words;
-use door_frame::view::View;
+use door_frame::view::SeatView;
 use hoare_law::data::MonitorData;
 use hoare_law::event::Sizes;
 
@@ -48,9 +48,9 @@ impl<D, K: DoorKey<D>> Words<D, K> for BatonWords {
 
     ghost kinds = { λ k. K.kinds k };
 
-    ghost starts = { λ k. Starts };
+    ghost starts = { λ k. Initial };
 
-    ghost tells = { λ k. Tells };
+    ghost tells = { λ k. WordsFit };
 }
 
 /// The table of a door: one word in use, the state word, and one slot.
@@ -59,13 +59,13 @@ pub(crate) type DoorTable<D, K = usize> = rule::DoorTable<D, K, BatonWords>;
 /// A place enters if the state word is `FREE`.
 pub(crate) struct Admit;
 
-impl<D: MonitorData> Play<Option<Parcel<D>>, View<D>> for Admit {
+impl<D: MonitorData> Play<Option<Parcel<D>>, SeatView<D>> for Admit {
     ghost then = { admits D.rest D.ready };
 }
 
 /// A place returns if the state word owes it the monitor.
 pub(crate) struct Claim;
 
-impl<D: MonitorData> Play<Option<Parcel<D>>, View<D>> for Claim {
+impl<D: MonitorData> Play<Option<Parcel<D>>, SeatView<D>> for Claim {
     ghost then = { claims D.rest D.ready };
 }

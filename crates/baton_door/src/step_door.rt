@@ -23,9 +23,9 @@ use door_frame::making::{closed_as, deal_by_caller, vacant};
 use door_frame::notice::Notice;
 use door_frame::parcel::Parcel;
 use door_frame::place::Outside;
-use door_frame::plays::{DoorSeat, PickedEvent};
 use door_frame::polling::{BATON_POLLING, Polling};
-use door_frame::turnstile::Turnstile;
+use door_frame::raw_monitor::RawMonitor;
+use door_frame::seat_steps::{DoorSeat, PickedEvent};
 use door_frame::waking::ByCaller;
 use hoare_law::data::MonitorData;
 use hoare_law::event::Sizes;
@@ -122,7 +122,7 @@ impl<D: MonitorData> StepDoor<D> {
 
     /// Puts the parcel back and writes that `next` resumes, by an event that the call picks. `departure` only serves
     /// that pick.
-    #[inline(always)] // as `table_steps::lay_down` is
+    #[inline(always)] // as `table_steps::put_and_write` is
     fn give<J: PickedEvent<D>>(
         &self,
         seat: &mut DoorSeat<D>,
@@ -137,11 +137,11 @@ impl<D: MonitorData> StepDoor<D> {
         ensures table { seat.new.table_id ≡ seat.old.table_id }
         ensures away { GoesOut place J.event seat.old.me parcel.state seat.new.me }
     {
-        table_steps::lay_down::<D, Sizes, J>(&self.table, seat, parcel, place, 1, next)
+        table_steps::put_and_write::<D, Sizes, J>(&self.table, seat, parcel, place, 1, next)
     }
 }
 
-impl<D: MonitorData> Turnstile<D> for StepDoor<D> {
+impl<D: MonitorData> RawMonitor<D> for StepDoor<D> {
     ghost id = { λ d. d.door };
 
     ghost kinds = { λ d. d.kinds };
@@ -171,7 +171,7 @@ impl<D: MonitorData> Turnstile<D> for StepDoor<D> {
     }
 
     #[inline(always)] // as `give` is
-    fn hand_on(
+    fn release(
         &self,
         seat: &mut DoorSeat<D>,
         parcel: Parcel<D>,

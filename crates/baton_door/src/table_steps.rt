@@ -4,15 +4,15 @@ ghost use Rattle.hoare_law.specs.declared.event.History.{History};
 ghost use Rattle.hoare_law.specs.declared.event.Event.TheVariants as event;
 ghost use Rattle.wait_book.specs.Contents.{IsPlaceBelow};
 ghost use Rattle.door_frame.specs.Steps.{MayGive, MayNote, due};
-ghost use Rattle.door_frame.specs.Seats.{IsEmptyHanded, IsBehind, IsNewcomer, ComesIn, GoesOut, StaysIn};
-ghost use Rattle.baton_door.specs.Newcomers.{IsOutside, IsLetIn};
+ghost use Rattle.door_frame.specs.Seats.{IsEmptyHanded, HasReleased, IsEntering, EntersWith, GoesOut, StaysIn};
+ghost use Rattle.baton_door.specs.Newcomers.{IsOutside, IsAdmitted};
 
 use crate::rule::{Admit, Claim, DoorKey, DoorTable};
 use crate::word::{DOOR, FREE, HELD, owed, word_of_next};
 use door_frame::notice::Notice;
 use door_frame::parcel::Parcel;
-use door_frame::plays::{DoorSeat, Give, Note, PickedEvent, PickedNotice};
-use door_frame::slot::{lay_parcel, take_parcel};
+use door_frame::seat_steps::{DoorSeat, Give, Note, PickedEvent, PickedNotice};
+use door_frame::slot::{put_parcel, take_parcel};
 use hoare_law::data::MonitorData;
 use wait_book::steps::Next;
 
@@ -27,7 +27,7 @@ pub(crate) fn try_in<D: MonitorData, K: DoorKey<D>>(
     requires outside { IsOutside seat.old.me }
     ensures table { seat.new.table_id ≡ seat.old.table_id }
     ensures turned_away { result ≡ false → seat.new.me ≡ seat.old.me }
-    ensures let_in { result ≡ true → IsLetIn D.rest D.ready seat.old.me seat.new.me }
+    ensures let_in { result ≡ true → IsAdmitted D.rest D.ready seat.old.me seat.new.me }
 {
     table
         .shared
@@ -45,9 +45,9 @@ pub(crate) fn try_admit<D: MonitorData, K: DoorKey<D>>(
 ) -> Option<Parcel<D>>
     requires table { seat.old.table_id ≡ table.now.shared.table_id }
     requires wide { table.now.shared.table_id.words ≡ 8 }
-    requires outside { IsNewcomer place seat.old.me }
+    requires outside { IsEntering place seat.old.me }
     ensures table { seat.new.table_id ≡ seat.old.table_id }
-    ensures came { IfSome result (λ parcel. ComesIn D.rest D.ready place (λ f. event.Admit place)
+    ensures came { IfSome result (λ parcel. EntersWith D.rest D.ready place (λ f. event.Admit place)
         seat.old.me parcel seat.new.me) }
     ensures same { IfNone result (seat.new.me ≡ seat.old.me) }
 {
@@ -70,7 +70,7 @@ pub(crate) fn try_claim<D: MonitorData, K: DoorKey<D>>(
     requires small { place < 64 }
     requires away { (f : History D) × IsEmptyHanded place f seat.old.me }
     ensures table { seat.new.table_id ≡ seat.old.table_id }
-    ensures came { IfSome result (λ parcel. ComesIn D.rest D.ready place (due place)
+    ensures came { IfSome result (λ parcel. EntersWith D.rest D.ready place (due place)
         seat.old.me parcel seat.new.me) }
     ensures same { IfNone result (seat.new.me ≡ seat.old.me) }
 {
@@ -87,7 +87,7 @@ pub(crate) fn try_claim<D: MonitorData, K: DoorKey<D>>(
 
 /// Puts the parcel back by an event that the call picks, and then writes into the state word that `next` resumes.
 #[inline(always)] // a plain leave is short if it knows that nobody resumes
-pub(crate) fn lay_down<D: MonitorData, K: DoorKey<D>, J: PickedEvent<D>>(
+pub(crate) fn put_and_write<D: MonitorData, K: DoorKey<D>, J: PickedEvent<D>>(
     table: &DoorTable<D, K>,
     seat: &mut DoorSeat<D>,
     mut parcel: Parcel<D>,
@@ -101,10 +101,10 @@ pub(crate) fn lay_down<D: MonitorData, K: DoorKey<D>, J: PickedEvent<D>>(
     requires event { MayGive D.rest D.ready J.event place seat.old.me parcel next }
     ensures table { seat.new.table_id ≡ seat.old.table_id }
     ensures away { GoesOut place J.event seat.old.me parcel.state seat.new.me }
-    ensures behind { IsBehind seat.new.me }
+    ensures behind { HasReleased seat.new.me }
 {
     parcel.held.since_handed = since_handed;
-    lay_parcel(table, seat, parcel);
+    put_parcel(table, seat, parcel);
     table
         .shared
         .store::<Give<J>>(seat, DOOR, word_of_next(next));

@@ -2,7 +2,7 @@
 use Rattle.std.specs.Prelude.{ℕ, ◌+◌, ◌/◌, ◌<◌, ◌≡◌, List, [], slice_index_or, Option, Some, false}
 use Rattle.hoare_law.specs.declared.event.History.{History}
 use Rattle.door_frame.specs.Places.{PlaceOut}
-use Rattle.any_door.specs.declared.door.AnyTurnstile.{AnyTurnstile}
+use Rattle.any_door.specs.declared.door.RawAnyDoor.{RawAnyDoor}
 use Rattle.any_door.specs.declared.kind.DoorKind.{DoorKind}
 use Rattle.any_door.specs.Doors.{id_of, kind_behind}
 use Rattle.plain_schedulers.specs.Buffers.{Buffered, empty}
@@ -43,7 +43,7 @@ pub record AreNew {D : Type 0} (s : D) (n : ℕ) (os : List (PlaceOut D)) : Type
   pub each : (k : ℕ) (d : PlaceOut D) → k < n → IsNew s (slice_index_or os k d).front
 
 -- the door is of this kind, was opened with these data and has n places, and they are its places
-pub record IsMade {D : Type 0} (t : Terms D) (s : D) (k : Kind) (n : ℕ) (door : AnyTurnstile D)
+pub record IsMade {D : Type 0} (t : Terms D) (s : D) (k : Kind) (n : ℕ) (door : RawAnyDoor D)
     (os : List (PlaceOut D)) : Type 0 where
   pub kind : kind_behind door ≡ door_kind k
   pub size : (id_of door).places ≡ n

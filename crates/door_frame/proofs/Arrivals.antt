@@ -21,10 +21,11 @@ use Rattle.wait_book.specs.declared.steps.Next.TheVariants.{For}
 use Rattle.wait_book.specs.Contents.{Contents, IsOf, next_of}
 use Rattle.wait_book.specs.Stepping.{settled}
 use Rattle.wait_book.proofs.WithData.{IsOf-claim}
-use Rattle.door_frame.specs.declared.parcel.Lodged.{Lodged}
-use Rattle.door_frame.specs.Places.{Berth, DoorId, Entered, HandsTo, IsBack, IsAway, IsIn, IsOut, IsResumed, IsReturned, berth_at}
+use Rattle.door_frame.specs.declared.parcel.Guarded.{Guarded}
+use Rattle.door_frame.specs.Places.{PlaceId, DoorId, Entered, HandsTo, IsBack, IsAway, IsIn, IsOut, IsResumed}
+use Rattle.door_frame.specs.Places.{IsReturned, place_id_at}
 use Rattle.door_frame.specs.Places.{PlaceIn, PlaceOut, place_in}
-use Rattle.door_frame.specs.Steps.{Sat, Came, awaited, due, due_by, due_from}
+use Rattle.door_frame.specs.Steps.{SeatState, EnteredBy, awaited, due, due_by, due_from}
 
 module _ {D : Type 0} where
   -- who comes back does so from a wait or from a signal
@@ -76,15 +77,15 @@ module _ {D : Type 0} where
 
   module _ {rest : Rest D} {ready : Ready D} where
     -- the same of the data as the box lends them
-    pub came_as : {k : ℕ} {f : History D} {event : D → Event D} {y z : Lodged D} {m : Sat D} → z ≡ y
-        → Came rest ready k f event y None m
-        → Came rest ready k f event z None m
+    pub came_as : {k : ℕ} {f : History D} {event : D → Event D} {y z : Guarded D} {m : SeatState D} → z ≡ y
+        → EnteredBy rest ready k f event y None m
+        → EnteredBy rest ready k f event z None m
     came_as {k = k} {f = f} {event = event} {m = m} same c =
-        subst (λ (x : Lodged D). Came rest ready k f event x None m) (sym same) c
+        subst (λ (x : Guarded D). EnteredBy rest ready k f event x None m) (sym same) c
 
     module _ {kinds : Kinds} {d : DoorId} where
       -- who came in is inside, by its front
-      is_in : (t : Berth) (k : ℕ) (f log : History D) (e : Event D) (s : D) → t ≡ berth_at d k
+      is_in : (t : PlaceId) (k : ℕ) (f log : History D) (e : Event D) (s : D) → t ≡ place_id_at d k
           → f.sizes ≡ sizes_at kinds d.places
           → Begins f log → Stands rest ready (with_event log e) → is_inside e ≡ true → place_of e ≡ k
           → IsIn rest ready kinds d (place_in t k (with_event log e) s)
@@ -96,17 +97,17 @@ module _ {D : Type 0} where
             is_inside = turn-in log k e brings mine;
           }
 
-      pub entered : {k : ℕ} {x : Lodged D} {m : Sat D} (o : PlaceOut D) (t : Berth) (i : PlaceIn D)
+      pub entered : {k : ℕ} {x : Guarded D} {m : SeatState D} (o : PlaceOut D) (t : PlaceId) (i : PlaceIn D)
           → IsOut rest ready kinds d o
-          → t ≡ o.berth → k ≡ o.place → (c : Came rest ready k o.front (Admit k) x None m)
+          → t ≡ o.place_id → k ≡ o.place → (c : EnteredBy rest ready k o.front (Admit k) x None m)
           → i ≡ place_in t k (with_event c.log (Admit k x.state)) x.state → Entered rest ready kinds d o i
       entered {k = k} {x = x} {m = m} o t i out table place =
           subst
-          (λ (j : ℕ). (c : Came rest ready j o.front (Admit j) x None m)
+          (λ (j : ℕ). (c : EnteredBy rest ready j o.front (Admit j) x None m)
           → i ≡ place_in t j (with_event c.log (Admit j x.state)) x.state
           → Entered rest ready kinds d o i) (sym place) at
         where
-          at : (c : Came rest ready o.place o.front (Admit o.place) x None m)
+          at : (c : EnteredBy rest ready o.place o.front (Admit o.place) x None m)
               → i ≡ place_in t o.place (with_event c.log (Admit o.place x.state)) x.state
               → Entered rest ready kinds d o i
           at c is =
@@ -119,17 +120,17 @@ module _ {D : Type 0} where
               })
 
       -- a place that was away is inside again: it returned from its last event
-      pub came_back : {k : ℕ} {y : Lodged D} {m : Sat D} (o : PlaceOut D) (t : Berth) (j : PlaceIn D)
+      pub came_back : {k : ℕ} {y : Guarded D} {m : SeatState D} (o : PlaceOut D) (t : PlaceId) (j : PlaceIn D)
           → IsAway rest ready kinds d o
-          → t ≡ o.berth → k ≡ o.place → (b : Came rest ready k o.front (due k o.front) y None m)
+          → t ≡ o.place_id → k ≡ o.place → (b : EnteredBy rest ready k o.front (due k o.front) y None m)
           → j ≡ place_in t k (with_event b.log (due k o.front y.state)) y.state → IsBack rest ready kinds d o j
-      came_back {k = k} {y = y} {m = m} o t j gone berth place =
+      came_back {k = k} {y = y} {m = m} o t j gone place_id place =
           subst
-          (λ (i : ℕ). (b : Came rest ready i o.front (due i o.front) y None m)
+          (λ (i : ℕ). (b : EnteredBy rest ready i o.front (due i o.front) y None m)
           → j ≡ place_in t i (with_event b.log (due i o.front y.state)) y.state
           → IsBack rest ready kinds d o j) (sym place) at
         where
-          at : (b : Came rest ready o.place o.front (due o.place o.front) y None m)
+          at : (b : EnteredBy rest ready o.place o.front (due o.place o.front) y None m)
               → j ≡ place_in t o.place (with_event b.log (due o.place o.front y.state)) y.state
               → IsBack rest ready kinds d o j
           at b is =
@@ -139,7 +140,7 @@ module _ {D : Type 0} where
               let sized : (P : Sizes → Type 0) → P (sizes_at kinds d.places) → P log.sizes =
               λ P asked. subst P (sym gone.sized ∙ b.begins.sizes) asked in
               subst (IsBack rest ready kinds d o) (sym is) (record {
-                of = is_in t n o.front log (due n o.front y.state) y.state (berth ∙ gone.of) gone.sized b.begins
+                of = is_in t n o.front log (due n o.front y.state) y.state (place_id ∙ gone.of) gone.sized b.begins
                     b.stands (due_inside n last y.state) (due_mine n last y.state);
                 place = refl;
                 resumed = λ f c p s was.

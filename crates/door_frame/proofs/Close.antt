@@ -14,12 +14,12 @@ use Rattle.hoare_law.specs.Priorities.{nobody}
 use Rattle.hoare_law.specs.Turns.{turn, outside}
 use Rattle.hoare_law.proofs.Ended.{AllOutside, turn-ended, rest-ended}
 use Rattle.hoare_law.proofs.Entering.{outside-same}
-use Rattle.door_frame.specs.declared.parcel.Lodged.{Lodged}
-use Rattle.door_frame.specs.declared.view.Knowledge.{Knowledge}
-use Rattle.door_frame.specs.declared.view.View.{View}
-use Rattle.door_frame.specs.declared.view.View.TheVariants.{Places}
+use Rattle.door_frame.specs.declared.parcel.Guarded.{Guarded}
+use Rattle.door_frame.specs.declared.view.PlaceView.{PlaceView}
+use Rattle.door_frame.specs.declared.view.SeatView.{SeatView}
+use Rattle.door_frame.specs.declared.view.SeatView.TheVariants.{Places}
 use Rattle.door_frame.specs.Places.{DoorId, PlaceOut, HasPlace, IsTold, IsOut, Closes}
-use Rattle.door_frame.specs.Rule.{Tokens, Agrees, Kept}
+use Rattle.door_frame.specs.Rule.{Tokens, Agrees, TableInvariant}
 use Rattle.door_frame.specs.Views.{knows, alone, Each, both_places, no_places}
 use Rattle.door_frame.proofs.Steps.{running, joins_ok, given_up_free}
 
@@ -30,7 +30,7 @@ All-mid P (a ∷ l) x ys h = All-mid P l x ys (All-tail P a ((l ++ x ∷ []) ++ 
 
 module _ {D : Type 0} where
   -- what the seats of these places know
-  abbrev pub known_to : List (PlaceOut D) → List (Knowledge D)
+  abbrev pub known_to : List (PlaceOut D) → List (PlaceView D)
   known_to [] = []
   known_to (o ∷ os) = knows o.place o.front None ∷ known_to os
 
@@ -43,11 +43,11 @@ module _ {D : Type 0} where
 
   -- what is found in the slot at the end
   pub record Ends (rest : Rest D) (ready : Ready D) (kinds : Kinds) (d : DoorId) (os : List (PlaceOut D))
-      (x : Lodged D) : Type 0 where
+      (x : Guarded D) : Type 0 where
     pub closes : Closes rest ready kinds d os x.state
     pub rests : rest x.state nobody
 
-  module _ (Starts : Bool → List ℕ → Type 0) (Tells : History D → Tokens → List ℕ → Type 0) (rest : Rest D)
+  module _ (Initial : Bool → List ℕ → Type 0) (WordsFit : History D → Tokens → List ℕ → Type 0) (rest : Rest D)
       (ready : Ready D)
       (kinds : Kinds) (d : DoorId) where
     abbrev Of : PlaceOut D → Type 0
@@ -64,14 +64,14 @@ module _ {D : Type 0} where
         outside_at k log owner tokens id os (All-tail Of o os outs) agree.1 at
 
     -- the slot is at home, with what one legal and lawful history left
-    ends : (id : ℕ) (v : View D) (os : List (PlaceOut D)) (ws : List ℕ) (xs : List (Option (Lodged D)))
+    ends : (id : ℕ) (v : SeatView D) (os : List (PlaceOut D)) (ws : List ℕ) (xs : List (Option (Guarded D)))
         → v ≡ Places (known_to os) → All Of os
         → ((k : ℕ) → k < d.places → HasPlace k os)
-        → Final (Seen (Kept Starts Tells rest ready kinds d.places) id v) ws xs
-        → (x : Lodged D) × (get_elem? xs 0 ≡ some (Some x)) × Ends rest ready kinds d os x
+        → Final (Seen (TableInvariant Initial WordsFit rest ready kinds d.places) id v) ws xs
+        → (x : Guarded D) × (get_elem? xs 0 ≡ some (Some x)) × Ends rest ready kinds d os x
     ends id v os ws xs is outs all fin =
         let at : get_elem? fin.0.views id ≡ some (Places (known_to os)) = fin.1.1 ∙ ap (λ u. some u) is in
-        let r = running Starts Tells rest ready kinds d.places fin.0 fin.1.0 id (known_to os) at in
+        let r = running Initial WordsFit rest ready kinds d.places fin.0 fin.1.0 id (known_to os) at in
         let agree = r.fronts id (Places (known_to os)) at in
         let out : AllOutside r.log =
         λ k small. outside_at k r.log r.owner r.tokens id os outs agree
@@ -92,13 +92,14 @@ module _ {D : Type 0} where
         )
 
     -- the same of all that were handed in, once the last is joined
-    pub ends_all : {id : ℕ} {v : View D} (ws : List ℕ) (xs : List (Option (Lodged D))) {os front : List (PlaceOut D)}
+    pub ends_all : {id : ℕ} {v : SeatView D} (ws : List ℕ) (xs : List (Option (Guarded D))) {os front : List (PlaceOut
+        D)}
         (back : List (PlaceOut D))
         → os ≡ front ++ back → front ≡ [] → v ≡ Places (known_to back) → All Of os
         → ((k : ℕ) → k < d.places → HasPlace k os)
-        → Final (Seen (Kept Starts Tells rest ready kinds d.places) id v) ws xs → {x : Option (Lodged D)}
+        → Final (Seen (TableInvariant Initial WordsFit rest ready kinds d.places) id v) ws xs → {x : Option (Guarded D)}
         → get_elem? xs 0 ≡ some x
-        → (l : Lodged D) × (x ≡ Some l) × Ends rest ready kinds d os l
+        → (l : Guarded D) × (x ≡ Some l) × Ends rest ready kinds d os l
     ends_all {id = id} {v = v} ws xs {os = os} back split empty is outs all fin got =
         let same : os ≡ back = split ∙ ap (λ (l : List (PlaceOut D)). l ++ back) empty in
         let here : v ≡ Places (known_to os) = is ∙ ap (λ (l : List (PlaceOut D)). Places (known_to l)) (sym same) in
@@ -106,20 +107,23 @@ module _ {D : Type 0} where
         (r.0, some-injective _ _ (sym got ∙ r.1), r.2)
 
     -- the seat of one place is joined to that of some
-    pub joins_one : (id : ℕ) (v : View D) (other : ℕ) (w : View D) (os : List (PlaceOut D)) (k : ℕ) (f : History D)
+    pub joins_one : (id : ℕ) (v : SeatView D) (other : ℕ) (w : SeatView D) (os : List (PlaceOut D)) (k : ℕ) (f :
+        History D)
         → v ≡ Places (known_to os)
-        → w ≡ alone k f → Joins (Kept Starts Tells rest ready kinds d.places) id v other w (both_places v w) no_places
+        → w ≡ alone k f → Joins (TableInvariant Initial WordsFit rest ready kinds d.places) id v other w (both_places v
+        w) no_places
     joins_one id v other w os k f is lone =
         subst
-        (λ (p : View D × View D). Joins (Kept Starts Tells rest ready kinds d.places) id p.0 other p.1
+        (λ (p : SeatView D × SeatView D). Joins (TableInvariant Initial WordsFit rest ready kinds d.places) id p.0
+        other p.1
         (both_places p.0 p.1) no_places)
         (λ i. (sym is i, sym lone i))
-        (joins_ok Starts Tells rest ready kinds d.places id (known_to os) other (knows k f None ∷ []))
+        (joins_ok Initial WordsFit rest ready kinds d.places id (known_to os) other (knows k f None ∷ []))
 
   -- what was found in the slot is what the call gives back
   pub ends_at : {rest : Rest D} {ready : Ready D} {kinds : Kinds} {d : DoorId} {os : List (PlaceOut D)}
-      {l x : Lodged D} {s : D}
+      {l x : Guarded D} {s : D}
       → Ends rest ready kinds d os l → Some l ≡ Some x → x.state ≡ s → Closes rest ready kinds d os s × rest s nobody
   ends_at {rest = rest} {ready = ready} {kinds = kinds} {d = d} {os = os} {l = l} {x = x} {s = s} e found is =
-      let same : l.state ≡ s = ap (λ (o : Option (Lodged D)). (unwrap_or o l).state) found ∙ is in
+      let same : l.state ≡ s = ap (λ (o : Option (Guarded D)). (unwrap_or o l).state) found ∙ is in
       subst (λ (t : D). Closes rest ready kinds d os t × rest t nobody) same (e.closes, e.rests)

@@ -31,12 +31,12 @@ use Rattle.wait_book.specs.Contents.{Contents, IsOf, next_of}
 use Rattle.wait_book.specs.Stepping.{after_pass, after_signal}
 use Rattle.wait_book.proofs.Histories.{after_handing}
 use Rattle.wait_book.proofs.WithData.{next-history, turn-history, IsOf-event, IsOf-handing}
-use Rattle.door_frame.specs.declared.parcel.Lodged.{Lodged}
+use Rattle.door_frame.specs.declared.parcel.Guarded.{Guarded}
 use Rattle.door_frame.specs.declared.departure.Departure.TheVariants as departure
 use Rattle.door_frame.specs.Departures.{place_for, event_of}
-use Rattle.door_frame.specs.Places.{Berth, DoorId, IsOut, IsAway, PlaceOut, PlaceIn, Handed, HandsTo, Released, waits}
-use Rattle.door_frame.specs.Places.{signalled, berth_at, place_in, place_out}
-use Rattle.door_frame.specs.Steps.{Sat, Gives, MayGive}
+use Rattle.door_frame.specs.Places.{PlaceId, DoorId, IsOut, IsAway, PlaceOut, PlaceIn, Handed, HandsTo, Released, waits}
+use Rattle.door_frame.specs.Places.{signalled, place_id_at, place_in, place_out}
+use Rattle.door_frame.specs.Steps.{SeatState, Gives, MayGive}
 use Rattle.door_frame.proofs.Inside.{Holds}
 
 held_next : (t : Turn) (j : ℕ) → next_of t ≡ next.Held j → t ≡ Held j
@@ -51,7 +51,7 @@ module _ {D : Type 0} where
   out-handing false k c w s = refl
 
   -- nobody is inside after the place gave the monitor up
-  pub gives_gone : (rest : Rest D) (ready : Ready D) (event : D → Event D) (k : ℕ) (f : History D) (x : Lodged D)
+  pub gives_gone : (rest : Rest D) (ready : Ready D) (event : D → Event D) (k : ℕ) (f : History D) (x : Guarded D)
       (who : Next) (j : ℕ)
       → Gives rest ready event k f x who → who ≡ next.Held j → ⊥
   gives_gone rest ready event k f x who j p is =
@@ -101,9 +101,9 @@ module _ {D : Type 0} where
     pub front : Exits i.place c i.state i.front o.front true
 
   -- who learns the history stays outside
-  pub told_out : (rest : Rest D) (ready : Ready D) (kinds : Kinds) (d : DoorId) (t : Berth) (o : PlaceOut D)
+  pub told_out : (rest : Rest D) (ready : Ready D) (kinds : Kinds) (d : DoorId) (t : PlaceId) (o : PlaceOut D)
       (h : History D)
-      → t ≡ berth_at d o.place
+      → t ≡ place_id_at d o.place
       → IsOut rest ready kinds d o → Stands rest ready h → Begins o.front h
       → own o.place h.events ≡ own o.place o.front.events
       → IsOut rest ready kinds d (place_out t o.place h)
@@ -115,8 +115,8 @@ module _ {D : Type 0} where
     is_outside = outside-same o.place o.front h same out.is_outside;
   }
 
-  module _ {rest : Rest D} {ready : Ready D} {kinds : Kinds} {d : DoorId} {i : PlaceIn D} {t : Berth} {k : ℕ}
-      {f : History D} {me : Sat D} {x : Lodged D} where
+  module _ {rest : Rest D} {ready : Ready D} {kinds : Kinds} {d : DoorId} {i : PlaceIn D} {t : PlaceId} {k : ℕ}
+      {f : History D} {me : SeatState D} {x : Guarded D} where
     -- what is asked of the place of the contract is asked of its parts
     asked_here : (P : PlaceIn D → Type 0) → Holds rest ready kinds d i t k f me x → P i → P (place_in t k f x.state)
     asked_here P h asked = subst P (sym h.seen) asked
@@ -227,7 +227,7 @@ module _ {D : Type 0} where
         (IsOf-handing out b f k c r.chosen_one x.state r.is book) is)
 
     -- the place outside after an event by which it goes out
-    went_out : (e : Event D) (z : Berth) (o : PlaceOut D) → Holds rest ready kinds d i t k f me x → place_of e ≡ k
+    went_out : (e : Event D) (z : PlaceId) (o : PlaceOut D) → Holds rest ready kinds d i t k f me x → place_of e ≡ k
         → is_out (Some e) ≡ true
         → Allowed f e → Owes rest ready f.events e → z ≡ t → o ≡ place_out z k (with_event f e)
         → Left rest ready kinds d k (with_event f e) o
@@ -247,7 +247,7 @@ module _ {D : Type 0} where
         })
 
     -- which place resumes next after the event
-    next_after : (e : Event D) (b : Contents) (who : Next) (z : Berth) (o : PlaceOut D)
+    next_after : (e : Event D) (b : Contents) (who : Next) (z : PlaceId) (o : PlaceOut D)
         → Holds rest ready kinds d i t k f me x
         → IsOf b (erased (with_event f e)) → who ≡ next_of b.turn → o ≡ place_out z k (with_event f e)
         → who ≡ next_of (turn o.front.events)
@@ -255,20 +255,20 @@ module _ {D : Type 0} where
         next-history b (with_event f e) who book answered
         ∙ ap (λ (p : PlaceOut D). next_of (turn p.front.events)) (sym is)
 
-    pub next_leave : (b : Contents) (who : Next) (z : Berth) (o : PlaceOut D) → Holds rest ready kinds d i t k f me x
+    pub next_leave : (b : Contents) (who : Next) (z : PlaceId) (o : PlaceOut D) → Holds rest ready kinds d i t k f me x
         → IsOf b (with_event (erased f) (Leave k tt)) → who ≡ next_of b.turn
         → o ≡ place_out z k (with_event f (Leave k x.state)) → who ≡ next_of (turn o.front.events)
     next_leave b who z o h book answered is =
         next_after (Leave k x.state) b who z o h (IsOf-event b f (Leave k x.state) book) answered is
 
-    pub next_wait : (c p : ℕ) (b : Contents) (who : Next) (z : Berth) (o : PlaceOut D)
+    pub next_wait : (c p : ℕ) (b : Contents) (who : Next) (z : PlaceId) (o : PlaceOut D)
         → Holds rest ready kinds d i t k f me x
         → IsOf b (with_event (erased f) (Wait k c p tt)) → who ≡ next_of b.turn
         → o ≡ place_out z k (with_event f (Wait k c p x.state)) → who ≡ next_of (turn o.front.events)
     next_wait c p b who z o h book answered is =
         next_after (Wait k c p x.state) b who z o h (IsOf-event b f (Wait k c p x.state) book) answered is
 
-    pub next_handing : (out : Bool) (c : ℕ) (b : Contents) (who : Next) (z : Berth) (o : PlaceOut D)
+    pub next_handing : (out : Bool) (c : ℕ) (b : Contents) (who : Next) (z : PlaceId) (o : PlaceOut D)
         → Holds rest ready kinds d i t k f me x → priorities i.front.events c ≢ []
         → IsOf b (after_handing out (erased f) k c (chosen c (erased f).events)) → who ≡ next_of b.turn
         → o ≡ place_out z k (with_event f (handing out k c (place_for who) x.state))
@@ -280,7 +280,7 @@ module _ {D : Type 0} where
         (IsOf-handing out b f k c r.chosen_one x.state r.is book)) answered is
 
     -- the place after an event by which it is away
-    went_off : (e : Event D) (z : Berth) (o : PlaceOut D) → Holds rest ready kinds d i t k f me x
+    went_off : (e : Event D) (z : PlaceId) (o : PlaceOut D) → Holds rest ready kinds d i t k f me x
         → Allowed f e → Owes rest ready f.events e → Released k (with_event f e) → z ≡ t
         → o ≡ place_out z k (with_event f e)
         → Departs rest ready kinds d k (with_event f e) o
@@ -299,7 +299,7 @@ module _ {D : Type 0} where
           front = refl;
         })
 
-    pub waited : (c p : ℕ) (z : Berth) (o : PlaceOut D) → Holds rest ready kinds d i t k f me x
+    pub waited : (c p : ℕ) (z : PlaceId) (o : PlaceOut D) → Holds rest ready kinds d i t k f me x
         → c < kinds.conditions → rest i.state (joined (priorities i.front.events) c p) → z ≡ t
         → o ≡ place_out z k (with_event f (Wait k c p x.state))
         → Departs rest ready kinds d i.place (with_event i.front (Wait i.place c p i.state)) o
@@ -312,7 +312,7 @@ module _ {D : Type 0} where
         (asked_here (λ j. rest j.state (joined (priorities j.front.events) c p)) h asked))
         (waits f c p x.state refl) same is)
 
-    pub handed_over : (c : ℕ) (b : Contents) (who : Next) (z : Berth) (o : PlaceOut D)
+    pub handed_over : (c : ℕ) (b : Contents) (who : Next) (z : PlaceId) (o : PlaceOut D)
         → Holds rest ready kinds d i t k f me x → IsHoare kinds.conditions kinds.mesa c
         → priorities i.front.events c ≢ [] → Handed ready c i
         → IsOf b (after_signal (erased f) k c (chosen c (erased f).events)) → who ≡ next_of b.turn
@@ -336,7 +336,7 @@ module _ {D : Type 0} where
               (record { goes_on = w; is_chosen = chooses c f who r; front = out.front });
         }
 
-    pub left : (z : Berth) (o : PlaceOut D) → Holds rest ready kinds d i t k f me x
+    pub left : (z : PlaceId) (o : PlaceOut D) → Holds rest ready kinds d i t k f me x
         → rest i.state (priorities i.front.events) → z ≡ t
         → o ≡ place_out z k (with_event f (Leave k x.state))
         → Left rest ready kinds d i.place (with_event i.front (Leave i.place i.state)) o
@@ -345,7 +345,7 @@ module _ {D : Type 0} where
         (went_out (Leave k x.state) z o h refl refl (Allowed-leave f k x.state h.within.stands.legal h.within.is_inside)
         (owes_leave h asked) same is)
 
-    pub passed : (c : ℕ) (b : Contents) (who : Next) (z : Berth) (o : PlaceOut D)
+    pub passed : (c : ℕ) (b : Contents) (who : Next) (z : PlaceId) (o : PlaceOut D)
         → Holds rest ready kinds d i t k f me x → IsHoare kinds.conditions kinds.mesa c
         → priorities i.front.events c ≢ [] → Handed ready c i
         → IsOf b (after_pass (erased f) k c (chosen c (erased f).events)) → who ≡ next_of b.turn

@@ -10,42 +10,42 @@ use Rattle.hoare_law.specs.Priorities.{priorities}
 use Rattle.hoare_law.proofs.Waiters.{held-in_range}
 use Rattle.wait_book.specs.Contents.{Contents, IsOf, priorities_on}
 use Rattle.wait_book.proofs.WithData.{turn-history, priorities_on-history}
-use Rattle.door_frame.specs.declared.parcel.Boxed.{Boxed}
-use Rattle.door_frame.specs.declared.parcel.Lodged.{Lodged}
-use Rattle.door_frame.specs.Places.{Berth, DoorId, PlaceIn, IsIn, place_in, sleeper_at}
+use Rattle.door_frame.specs.declared.parcel.ParcelBox.{ParcelBox}
+use Rattle.door_frame.specs.declared.parcel.Guarded.{Guarded}
+use Rattle.door_frame.specs.Places.{PlaceId, DoorId, PlaceIn, IsIn, place_in, sleeper_at}
 use Rattle.door_frame.specs.Seats.{IsInside}
-use Rattle.door_frame.specs.Steps.{Sat}
+use Rattle.door_frame.specs.Steps.{SeatState}
 use Rattle.door_frame.specs.Views.{alone}
 use Rattle.door_frame.proofs.Parcels.{unpacked}
 
 module _ {D : Type 0} where
   -- the place k, with the seat me, front f and the parcel x in hand, is the i of the contract
-  pub record Holds (rest : Rest D) (ready : Ready D) (kinds : Kinds) (d : DoorId) (i : PlaceIn D) (t : Berth) (k : ℕ)
-      (f : History D) (me : Sat D) (x : Lodged D) : Type 0 where
+  pub record Holds (rest : Rest D) (ready : Ready D) (kinds : Kinds) (d : DoorId) (i : PlaceIn D) (t : PlaceId) (k : ℕ)
+      (f : History D) (me : SeatState D) (x : Guarded D) : Type 0 where
     pub seen : place_in t k f x.state ≡ i
     pub within : IsIn rest ready kinds d (place_in t k f x.state)
     pub book : IsOf x.book (erased f)
     pub me_is : me ≡ (alone k f, (0, None) ∷ [])
 
-  module _ {rest : Rest D} {ready : Ready D} {kinds : Kinds} {d : DoorId} {i : PlaceIn D} {t : Berth} {k : ℕ}
-      {f : History D} {me : Sat D} where
-    pub holds : {x y : Lodged D} → x ≡ y → place_in t k f y.state ≡ i → IsInside k f me y.book
+  module _ {rest : Rest D} {ready : Ready D} {kinds : Kinds} {d : DoorId} {i : PlaceIn D} {t : PlaceId} {k : ℕ}
+      {f : History D} {me : SeatState D} where
+    pub holds : {x y : Guarded D} → x ≡ y → place_in t k f y.state ≡ i → IsInside k f me y.book
         → IsIn rest ready kinds d i → Holds rest ready kinds d i t k f me x
     holds same view inv of =
-        let seen = ap (λ (w : Lodged D). place_in t k f w.state) same ∙ view in record {
+        let seen = ap (λ (w : Guarded D). place_in t k f w.state) same ∙ view in record {
           seen = seen;
           within = subst (IsIn rest ready kinds d) (sym seen) of;
-          book = subst (λ (w : Lodged D). IsOf w.book (erased f)) (sym same) inv.1;
+          book = subst (λ (w : Guarded D). IsOf w.book (erased f)) (sym same) inv.1;
           me_is = inv.0;
         }
 
     -- the same of a place taken apart, once its box is looked into
-    pub holds_unpacked : {now held : Boxed D} {y : Lodged D} → now ≡ held → held.lodged ≡ y
+    pub holds_unpacked : {now held : ParcelBox D} {y : Guarded D} → now ≡ held → held.guarded ≡ y
         → record { parts : place_in t k f y.state ≡ i; seat : IsInside k f me y.book } → IsIn rest ready kinds d i
-        → Holds rest ready kinds d i t k f me now.lodged
+        → Holds rest ready kinds d i t k f me now.guarded
     holds_unpacked found is apart of = holds (unpacked found is) apart.parts apart.seat of
 
-    module _ {x : Lodged D} where
+    module _ {x : Guarded D} where
       -- the book says so too
       pub turn_in_hand : Holds rest ready kinds d i t k f me x → x.book.turn ≡ Held k
       turn_in_hand h = turn-history x.book f h.book ∙ h.within.is_inside
@@ -62,15 +62,15 @@ module _ {D : Type 0} where
 
       -- it sleeps where it is woken
       pub sleeps : Holds rest ready kinds d i t k f me x → t.sleeper ≡ sleeper_at d k
-      sleeps h = ap (λ (b : Berth). b.sleeper) h.within.of
+      sleeps h = ap (λ (b : PlaceId). b.sleeper) h.within.of
 
   -- the book that a call is lent is of the front
-  pub book_in_hand : {k : ℕ} {f : History D} {me : Sat D} {b c : Contents} → b ≡ c → IsInside k f me c
+  pub book_in_hand : {k : ℕ} {f : History D} {me : SeatState D} {b c : Contents} → b ≡ c → IsInside k f me c
       → IsOf b (erased f)
   book_in_hand {f = f} same inv = subst (λ (a : Contents). IsOf a (erased f)) (sym same) inv.1
 
   -- so its priorities are those of the contract
-  pub listed_in_hand : {t : Berth} {k : ℕ} {f : History D} {s : D} {i : PlaceIn D} {me : Sat D} {b c : Contents}
+  pub listed_in_hand : {t : PlaceId} {k : ℕ} {f : History D} {s : D} {i : PlaceIn D} {me : SeatState D} {b c : Contents}
       → b ≡ c → IsInside k f me c
       → place_in t k f s ≡ i → priorities_on b ≡ priorities i.front.events
   listed_in_hand {f = f} {b = b} same inv view =

@@ -28,10 +28,10 @@ use Rattle.wait_book.specs.Stepping.{after_notify, after_broadcast}
 use Rattle.wait_book.proofs.WithData.{IsOf-notify, IsOf-broadcast}
 use Rattle.door_frame.specs.declared.notice.Notice.{Notice}
 use Rattle.door_frame.specs.declared.notice.Notice.TheVariants.{Notify, Broadcast}
-use Rattle.door_frame.specs.declared.parcel.Lodged.{Lodged}
+use Rattle.door_frame.specs.declared.parcel.Guarded.{Guarded}
 use Rattle.door_frame.specs.Notices.{chosen_place, event_of_notice, called_on, after_notice, Noted}
-use Rattle.door_frame.specs.Places.{Berth, DoorId, IsIn, PlaceIn, place_in}
-use Rattle.door_frame.specs.Steps.{Sat, Notes}
+use Rattle.door_frame.specs.Places.{PlaceId, DoorId, IsIn, PlaceIn, place_in}
+use Rattle.door_frame.specs.Steps.{SeatState, Notes}
 use Rattle.door_frame.proofs.Departures.{sized_here}
 use Rattle.door_frame.specs.Views.{alone, is_alone, front_of}
 use Rattle.door_frame.proofs.Inside.{Holds}
@@ -94,7 +94,7 @@ module _ {D : Type 0} where
       ap (λ (h : History D). priorities h.events) n.front ∙ listed-broadcast i.front i.place c i.state of.is_inside,
     )
 
-    module _ {t : Berth} {k : ℕ} {f : History D} {me : Sat D} {x : Lodged D} where
+    module _ {t : PlaceId} {k : ℕ} {f : History D} {me : SeatState D} {x : Guarded D} where
       some_listed : (c : ℕ) → Holds rest ready kinds d i t k f me x → priorities i.front.events c ≢ []
           → priorities f.events c ≢ []
       some_listed c h some = subst (λ (v : PlaceIn D). priorities v.front.events c ≢ []) (sym h.seen) some
@@ -162,7 +162,7 @@ module _ {D : Type 0} where
       book_noticed (Broadcast c) b h some o = book_all_called c b h some o
 
       -- and the place inside is what the call says
-      pub noted : (notice : Notice) {z : Berth} {s : D} {me' : Sat D} (is : is_alone me'.0 ≡ true)
+      pub noted : (notice : Notice) {z : PlaceId} {s : D} {me' : SeatState D} (is : is_alone me'.0 ≡ true)
           → Holds rest ready kinds d i t k f me x → Notes rest ready (event_of_notice k notice x.state f) k f
           → z ≡ t → s ≡ x.state → me' ≡ (alone k (with_event f (event_of_notice k notice x.state f)), (0, None) ∷ [])
           → Noted rest ready kinds d i notice (place_in z k (front_of me'.0 is) s)

@@ -9,9 +9,9 @@ use Rattle.hoare_law.specs.Sizes.{Kinds, sizes_at, sizes_of}
 use Rattle.hoare_law.specs.Lawful.{Rest, Ready}
 use Rattle.hoare_law.specs.Priorities.{nobody}
 use Rattle.hoare_law.proofs.Opening.{Stands-opened, outside-opened}
-use Rattle.door_frame.specs.declared.view.View.TheVariants.{Places}
+use Rattle.door_frame.specs.declared.view.SeatView.TheVariants.{Places}
 use Rattle.door_frame.specs.Places.{DoorId, PlaceOut, IsOut, door_of, places_from}
-use Rattle.door_frame.specs.Steps.{Sat}
+use Rattle.door_frame.specs.Steps.{SeatState}
 use Rattle.door_frame.specs.Views.{all_know}
 
 module _ {D : Type 0} (rest : Rest D) (ready : Ready D) (kinds : Kinds) (d : DoorId) (s : D) where
@@ -40,12 +40,12 @@ module _ {D : Type 0} (rest : Rest D) (ready : Ready D) (kinds : Kinds) (d : Doo
 -- the table's number of places, n, is the p that was asked for
 module _ {D : Type 0} {n p : ℕ} (same : n ≡ p) where
   -- the seat stands for as many places
-  pub stands_for : {me : Sat D} (h : History D) → me ≡ (Places (all_know 0 n h), [])
+  pub stands_for : {me : SeatState D} (h : History D) → me ≡ (Places (all_know 0 n h), [])
       → me ≡ (Places (all_know 0 p h), [])
   stands_for h is = is ∙ ap (λ (m : ℕ). (Places (all_know 0 m h), [])) same
 
   -- what is dealt out are the places of the door, opened with the data that were given
-  pub dealt : (conditions mesa : ℕ) (table : TableId) {wakers sleepers : List TableId} {s given : D} {me : Sat D}
+  pub dealt : (conditions mesa : ℕ) (table : TableId) {wakers sleepers : List TableId} {s given : D} {me : SeatState D}
       {os : List (PlaceOut D)} → wakers ≡ sleepers
       → me ≡ (Places (all_know 0 n (opened (sizes_of conditions mesa n) s)), [])
       → ((f : History D) → me ≡ (Places (all_know 0 p f), []) → os ≡ places_from (door_of table p sleepers) 0 p f)

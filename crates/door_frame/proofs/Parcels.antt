@@ -1,15 +1,15 @@
 -- What lies in the box of a parcel, and a parcel in its slot.
 use Rattle.std.proofs.Common.{◌≡◌, Some, [], ◌∷◌, ap, ◌∙◌}
-use Rattle.door_frame.specs.declared.parcel.Lodged.{Lodged}
-use Rattle.door_frame.specs.declared.parcel.Boxed.{Boxed}
-use Rattle.door_frame.specs.Steps.{Sat}
+use Rattle.door_frame.specs.declared.parcel.Guarded.{Guarded}
+use Rattle.door_frame.specs.declared.parcel.ParcelBox.{ParcelBox}
+use Rattle.door_frame.specs.Steps.{SeatState}
 
 -- what a look into the box finds is what the parcel is
-pub unpacked : {D : Type 0} {now held : Boxed D} {x : Lodged D} → now ≡ held → held.lodged ≡ x → now.lodged ≡ x
-unpacked {D} found is = ap (λ (n : Boxed D). n.lodged) found ∙ is
+pub unpacked : {D : Type 0} {now held : ParcelBox D} {x : Guarded D} → now ≡ held → held.guarded ≡ x → now.guarded ≡ x
+unpacked {D} found is = ap (λ (n : ParcelBox D). n.guarded) found ∙ is
 
 -- who lays down what is x has x in the slot, and its view stays
-pub laid_down : {D : Type 0} {m before : Sat D} {laid : Lodged D} (x : Lodged D) → laid ≡ x → m ≡ before
-    → ◌≡◌ {A = Sat D} (m.0, (0, Some laid) ∷ []) (before.0, (0, Some x) ∷ [])
+pub laid_down : {D : Type 0} {m before : SeatState D} {laid : Guarded D} (x : Guarded D) → laid ≡ x → m ≡ before
+    → ◌≡◌ {A = SeatState D} (m.0, (0, Some laid) ∷ []) (before.0, (0, Some x) ∷ [])
 laid_down {D} {m} x same is =
-    ap (λ (y : Lodged D). (m.0, (0, Some y) ∷ [])) same ∙ ap (λ (o : Sat D). (o.0, (0, Some x) ∷ [])) is
+    ap (λ (y : Guarded D). (m.0, (0, Some y) ∷ [])) same ∙ ap (λ (o : SeatState D). (o.0, (0, Some x) ∷ [])) is

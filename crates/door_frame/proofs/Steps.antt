@@ -32,13 +32,14 @@ use Rattle.hoare_law.proofs.Waiters.{return-in_range}
 use Rattle.hoare_law.proofs.Opening.{turn-opened, Stands-opened}
 use Rattle.wait_book.specs.Contents.{IsOf}
 use Rattle.wait_book.specs.declared.steps.Next.{Next}
-use Rattle.door_frame.specs.declared.parcel.Lodged.{Lodged}
-use Rattle.door_frame.specs.declared.view.Knowledge.{Knowledge}
+use Rattle.door_frame.specs.declared.parcel.Guarded.{Guarded}
+use Rattle.door_frame.specs.declared.view.PlaceView.{PlaceView}
 use Rattle.door_frame.specs.declared.view.Token.{Token}
-use Rattle.door_frame.specs.declared.view.View.{View}
-use Rattle.door_frame.specs.declared.view.View.TheVariants.{Unopened, Opening, Places}
-use Rattle.door_frame.specs.Rule.{Tokens, Cells, Agrees, Lies, Running, Kept, raw, lent, runs}
-use Rattle.door_frame.specs.Steps.{Sat, due, due_by, begins, opens, gives_as, Gives, notes_as, Notes, ComesWith, Known}
+use Rattle.door_frame.specs.declared.view.SeatView.{SeatView}
+use Rattle.door_frame.specs.declared.view.SeatView.TheVariants.{Unopened, Opening, Places}
+use Rattle.door_frame.specs.Rule.{Tokens, Cells, Agrees, Lies, OpenInvariant, TableInvariant, raw, lent, runs}
+use Rattle.door_frame.specs.Steps.{SeatState, due, due_by, begins, opens, gives_as, Gives, notes_as, Notes}
+use Rattle.door_frame.specs.Steps.{EntryStepWith, Known}
 use Rattle.door_frame.specs.Steps.{Learns, learns}
 use Rattle.door_frame.specs.Views.{knows, sole, alone, all_know, Each, EachOf, Without, Apart, ApartOf, knowing}
 use Rattle.door_frame.specs.Views.{places_behind, first_place, no_places}
@@ -47,7 +48,7 @@ use Rattle.door_frame.proofs.Views.{handed_here, handed_else, each_map, each_wit
 use Rattle.door_frame.proofs.Views.{all_know_apart, apart-append}
 
 abbrev Homes : Type 0 → Type 0
-Homes D = List (maybe.Option (Option (Lodged D)))
+Homes D = List (maybe.Option (Option (Guarded D)))
 
 -- the place k is owed the monitor, or returns to it
 pub data IsDue (k : ℕ) (t : Turn) : Type 0 where
@@ -71,12 +72,12 @@ told_as holds slots id me i f Then Other as_ ok s kept wide at small =
 
 module _ {D : Type 0} where
   -- what the first home holds, or d
-  abbrev lodged_or : Lodged D → List (ℕ × Option (Lodged D)) → Lodged D
+  abbrev lodged_or : Guarded D → List (ℕ × Option (Guarded D)) → Guarded D
   lodged_or d ((m, Some y) ∷ ys) = y
   lodged_or d _ = d
 
   -- a place that did nothing still fits where the log grows
-  grows : (n : ℕ) (log : History D) (owner : ℕ → ℕ) (tokens tokens' : Tokens) (j : ℕ) (e : Event D) (t : Knowledge D)
+  grows : (n : ℕ) (log : History D) (owner : ℕ → ℕ) (tokens tokens' : Tokens) (j : ℕ) (e : Event D) (t : PlaceView D)
       → place_of e ≢ t.place → tokens' t.place ≡ tokens t.place
       → Agrees n log owner tokens j t → Agrees n (with_event log e) owner tokens' j t
   unfolding with_event
@@ -89,41 +90,41 @@ module _ {D : Type 0} where
     token_is = same ∙ h.token_is;
   }
 
-  reowned : (n : ℕ) (log : History D) (owner owner' : ℕ → ℕ) (tokens : Tokens) (j j' : ℕ) (t : Knowledge D)
+  reowned : (n : ℕ) (log : History D) (owner owner' : ℕ → ℕ) (tokens : Tokens) (j j' : ℕ) (t : PlaceView D)
       → owner' t.place ≡ j' → Agrees n log owner tokens j t → Agrees n log owner' tokens j' t
   reowned n log owner owner' tokens j j' t o h =
       record { below = h.below; owned = o; begins = h.begins; own_are = h.own_are; token_is = h.token_is }
 
-  retokened : (n : ℕ) (log : History D) (owner : ℕ → ℕ) (tokens tokens' : Tokens) (j : ℕ) (t : Knowledge D)
+  retokened : (n : ℕ) (log : History D) (owner : ℕ → ℕ) (tokens tokens' : Tokens) (j : ℕ) (t : PlaceView D)
       → tokens' t.place ≡ tokens t.place → Agrees n log owner tokens j t
       → Agrees n log owner tokens' j t
   retokened n log owner tokens tokens' j t same h =
       record { below = h.below; owned = h.owned; begins = h.begins; own_are = h.own_are; token_is = same ∙ h.token_is }
 
   -- the place of a seat of one place, what it knows and its token
-  abbrev pub acting : View D → ℕ
+  abbrev pub acting : SeatView D → ℕ
   acting (Places (t ∷ ts)) = t.place
   acting _ = 0
 
-  abbrev pub front_or : History D → View D → History D
+  abbrev pub front_or : History D → SeatView D → History D
   front_or d (Places (t ∷ ts)) = t.front
   front_or d _ = d
 
-  abbrev pub token_or : Option Token → View D → Option Token
+  abbrev pub token_or : Option Token → SeatView D → Option Token
   token_or d (Places (t ∷ ts)) = t.token
   token_or d _ = d
 
-  pub sole_is : (k j : ℕ) (f g : History D) (o p : Option Token) (c d : List (ℕ × Option (Lodged D)))
-      → ◌≡◌ {A = Sat D} (sole k f o, c) (sole j g p, d) → (k ≡ j) × (f ≡ g) × (o ≡ p) × (c ≡ d)
+  pub sole_is : (k j : ℕ) (f g : History D) (o p : Option Token) (c d : List (ℕ × Option (Guarded D)))
+      → ◌≡◌ {A = SeatState D} (sole k f o, c) (sole j g p, d) → (k ≡ j) × (f ≡ g) × (o ≡ p) × (c ≡ d)
   sole_is k j f g o p c d e = (
-    ap (λ (m : Sat D). acting m.0) e,
-    ap (λ (m : Sat D). front_or f m.0) e,
-    ap (λ (m : Sat D). token_or o m.0) e,
-    ap (λ (m : Sat D). m.1) e,
+    ap (λ (m : SeatState D). acting m.0) e,
+    ap (λ (m : SeatState D). front_or f m.0) e,
+    ap (λ (m : SeatState D). token_or o m.0) e,
+    ap (λ (m : SeatState D). m.1) e,
   )
 
-  pub alone_is : (k j : ℕ) (f g : History D) (c d : List (ℕ × Option (Lodged D)))
-      → ◌≡◌ {A = Sat D} (alone k f, c) (alone j g, d) → (k ≡ j) × (f ≡ g) × (c ≡ d)
+  pub alone_is : (k j : ℕ) (f g : History D) (c d : List (ℕ × Option (Guarded D)))
+      → ◌≡◌ {A = SeatState D} (alone k f, c) (alone j g, d) → (k ≡ j) × (f ≡ g) × (c ≡ d)
   alone_is k j f g c d e = let s = sole_is k j f g None None c d e in (s.0, s.1, s.3)
 
   sizes_kept : (n : Sizes) (log : History D) (e : Event D) → log.sizes ≡ n → (with_event log e).sizes ≡ n
@@ -170,41 +171,42 @@ module _ {D : Type 0} (rest : Rest D) (ready : Ready D) where
             inside = turn-push h.events (Back k s);
           })
 
-module _ {D : Type 0} (Starts : Bool → List ℕ → Type 0) (Tells : History D → Tokens → List ℕ → Type 0) (rest : Rest D)
+module _ {D : Type 0} (Initial : Bool → List ℕ → Type 0) (WordsFit : History D → Tokens → List ℕ
+    → Type 0) (rest : Rest D)
     (ready : Ready D) (kinds : Kinds) where
   abbrev R : ℕ → Cells D → Type 0
-  R = Running Starts Tells rest ready kinds
+  R = OpenInvariant Initial WordsFit rest ready kinds
 
   abbrev K : ℕ → Cells D → Type 0
-  K = Kept Starts Tells rest ready kinds
+  K = TableInvariant Initial WordsFit rest ready kinds
 
   -- a seat that stands for places steps on an open door
-  pub running : (n : ℕ) (s : Cells D) → K n s → (id : ℕ) (ts : List (Knowledge D))
+  pub running : (n : ℕ) (s : Cells D) → K n s → (id : ℕ) (ts : List (PlaceView D))
       → get_elem? s.views id ≡ some (Places ts) → R n s
   running n s (runs r) id ts at = r
   running n s (raw b h e) id ts at =
       let other : Unopened n ≡ Places ts =
-      only (Unopened n) (Places ts) id (ap (λ (x : List (View D)). get_elem? x id) (sym e) ∙ at) in
+      only (Unopened n) (Places ts) id (ap (λ (x : List (SeatView D)). get_elem? x id) (sym e) ∙ at) in
       absurd (cc)
   running n s (lent b h e) id ts at =
       let other : Opening n ≡ Places ts =
-      only (Opening n) (Places ts) id (ap (λ (x : List (View D)). get_elem? x id) (sym e) ∙ at) in
+      only (Opening n) (Places ts) id (ap (λ (x : List (SeatView D)). get_elem? x id) (sym e) ∙ at) in
       absurd (cc)
 
   -- the views where the seat id of the place k has another front and another token, and all else fits as before
   agree_all : (n : ℕ) (s : Cells D) (r : R n s) (id k : ℕ) (f g h : History D) (o o' : Option Token) (tokens' : Tokens)
       → get_elem? s.views id ≡ some (sole k f o)
       → Agrees n h r.owner tokens' id (knows k g o')
-      → ((j : ℕ) (t : Knowledge D) → t.place ≢ k → Agrees n r.log r.owner r.tokens j t → Agrees n h r.owner tokens' j t)
-      → (j : ℕ) (v : View D) → get_elem? (set s.views id (sole k g o')) j ≡ some v
+      → ((j : ℕ) (t : PlaceView D) → t.place ≢ k → Agrees n r.log r.owner r.tokens j t → Agrees n h r.owner tokens' j t)
+      → (j : ℕ) (v : SeatView D) → get_elem? (set s.views id (sole k g o')) j ≡ some v
       → EachOf (Agrees n h r.owner tokens' j) v
-  agree_all n s r id k f g h o o' tokens' at here else_ j v got = let w : View D = sole k g o' in ⊎_elim
-      (λ (t : (j ≡ id) × (w ≡ v)). subst (λ (z : ℕ × View D). EachOf (Agrees n h r.owner tokens' z.0) z.1)
+  agree_all n s r id k f g h o o' tokens' at here else_ j v got = let w : SeatView D = sole k g o' in ⊎_elim
+      (λ (t : (j ≡ id) × (w ≡ v)). subst (λ (z : ℕ × SeatView D). EachOf (Agrees n h r.owner tokens' z.0) z.1)
       (λ i. (sym t.0 i, t.1 i)) (here, tt))
       (λ (t : (j ≢ id) × (get_elem? s.views j ≡ some v)). kept_all v t.0 (r.fronts j v t.1))
       (at_set s.views id j w v got)
     where
-      kept_all : (u : View D) → j ≢ id → EachOf (Agrees n r.log r.owner r.tokens j) u
+      kept_all : (u : SeatView D) → j ≢ id → EachOf (Agrees n r.log r.owner r.tokens j) u
           → EachOf (Agrees n h r.owner tokens' j) u
       kept_all (Places ts) ne q0 = each_map (Agrees n r.log r.owner r.tokens j) (Agrees n h r.owner tokens' j)
           (λ u q. else_ j u (λ (same : u.place ≡ k). ne (sym q.owned
@@ -213,7 +215,7 @@ module _ {D : Type 0} (Starts : Bool → List ℕ → Type 0) (Tells : History D
       kept_all (Opening m) ne q0 = q0
 
   -- a seat of one place has it once
-  apart_sole : (n : ℕ) (s : Cells D) (r : R n s) (id k : ℕ) (g : History D) (o : Option Token) (j : ℕ) (v : View D)
+  apart_sole : (n : ℕ) (s : Cells D) (r : R n s) (id k : ℕ) (g : History D) (o : Option Token) (j : ℕ) (v : SeatView D)
       → get_elem? (set s.views id (sole k g o)) j ≡ some v → ApartOf v
   apart_sole n s r id k g o j v got = ⊎_elim
       (λ (t : (j ≡ id) × (sole k g o ≡ v)). subst ApartOf t.1 (tt, tt))
@@ -225,8 +227,8 @@ module _ {D : Type 0} (Starts : Bool → List ℕ → Type 0) (Tells : History D
       (e : Event D) (words' : List ℕ) (homes' : Homes D)
       → get_elem? s.views id ≡ some (sole k f o) → place_of e ≡ k → Allowed r.log e → Owes rest ready r.log.events e
       → length homes' ≡ 1 → tokens' k ≡ o' → ((j : ℕ) → j ≢ k → tokens' j ≡ r.tokens j)
-      → Tells (with_event r.log e) tokens' words'
-      → (IsGivenUp (turn (with_event r.log e).events) → (x : Lodged D) × (get_elem? homes' 0 ≡ some (some (Some x)))
+      → WordsFit (with_event r.log e) tokens' words'
+      → (IsGivenUp (turn (with_event r.log e).events) → (x : Guarded D) × (get_elem? homes' 0 ≡ some (some (Some x)))
       × Lies (with_event r.log e) x)
       → ((j : ℕ) → turn (with_event r.log e).events ≡ Held j → get_elem? homes' 0 ≡ some none)
       → R n record { words = words'; homes = homes'; views = set s.views id (sole k (with_event r.log e) o') }
@@ -250,11 +252,11 @@ module _ {D : Type 0} (Starts : Bool → List ℕ → Type 0) (Tells : History D
       }
 
   -- the place k has another token, and the log and the slots in hand stay
-  pub draws_ok : (n slots id k i : ℕ) (f : History D) (o : Option Token) (c : List (ℕ × Option (Lodged D))) (g : ℕ → ℕ)
+  pub draws_ok : (n slots id k i : ℕ) (f : History D) (o : Option Token) (c : List (ℕ × Option (Guarded D))) (g : ℕ → ℕ)
       (Then : Option Token → ℕ → Type 0)
       → ((log : History D) (tokens : Tokens) (ws : List ℕ) → k < n → own k log.events ≡ own k f.events → tokens k ≡ o
-      → Tells log tokens ws → (o' : Option Token) × (tokens' : Tokens) × (tokens' k ≡ o')
-      × ((j : ℕ) → j ≢ k → tokens' j ≡ tokens j) × Tells log tokens' (set ws i (g (get_or ws i 0))) × Then o'
+      → WordsFit log tokens ws → (o' : Option Token) × (tokens' : Tokens) × (tokens' k ≡ o')
+      × ((j : ℕ) → j ≢ k → tokens' j ≡ tokens j) × WordsFit log tokens' (set ws i (g (get_or ws i 0))) × Then o'
       (get_or ws i 0))
       → Allows (K n) slots id (sole k f o, c) i g (λ r m'. (o' : Option Token) × (m' ≡ (sole k f o', c)) × Then o' r)
   draws_ok n slots id k i f o c g Then step_ s kept wide at small =
@@ -288,10 +290,10 @@ module _ {D : Type 0} (Starts : Bool → List ℕ → Type 0) (Tells : History D
       )
 
   -- a step that changes no word and no view
-  unmoved : (n : ℕ) (s : Cells D) (i id : ℕ) (v : View D) (c : List (ℕ × Option (Lodged D)))
+  unmoved : (n : ℕ) (s : Cells D) (i id : ℕ) (v : SeatView D) (c : List (ℕ × Option (Guarded D)))
       → get_elem? s.views id ≡ some v → K n s → K n (stepped s i (get_or s.words i 0) id c v keeps)
   unmoved n s i id v c at kept =
-      subst (λ (z : List ℕ × List (View D)). K n record { words = z.0; homes = s.homes; views = z.1 })
+      subst (λ (z : List ℕ × List (SeatView D)). K n record { words = z.0; homes = s.homes; views = z.1 })
       (λ j. (sym (set-get_or s.words i 0) j, sym (set_again s.views id v at) j)) kept
 
   -- the event, of the data d, brings k in, who then has the token p; the word i becomes g of what it was
@@ -304,26 +306,26 @@ module _ {D : Type 0} (Starts : Bool → List ℕ → Type 0) (Tells : History D
     pub tokens' : Tokens
     pub token_now : tokens' k ≡ p
     pub others : (j : ℕ) → j ≢ k → tokens' j ≡ tokens j
-    pub tells : Tells (with_event log e) tokens' (set ws i (g (get_or ws i 0)))
+    pub tells : WordsFit (with_event log e) tokens' (set ws i (g (get_or ws i 0)))
 
   -- k, which knew f, comes in where the word is a hit, and takes the slot
   pub comes_ok : (n slots id k i : ℕ) (f : History D) (o p : Option Token) (event : D → Event D) (g : ℕ → ℕ)
       (Hit : ℕ → Type 0) (Also : History D → Type 0)
       → ((x : ℕ) → Dec (Hit x))
-      → ((log : History D) (tokens : Tokens) (ws : List ℕ) → k < n → Tells log tokens ws → (Hit (get_or ws i 0) → ⊥)
+      → ((log : History D) (tokens : Tokens) (ws : List ℕ) → k < n → WordsFit log tokens ws → (Hit (get_or ws i 0) → ⊥)
       → g (get_or ws i 0) ≡ get_or ws i 0)
       → ((log : History D) (tokens : Tokens) (ws : List ℕ) → Stands rest ready log → log.sizes.places ≡ n → k < n
-      → own k log.events ≡ own k f.events → tokens k ≡ o → Tells log tokens ws
+      → own k log.events ≡ own k f.events → tokens k ≡ o → WordsFit log tokens ws
       → Hit (get_or ws i 0) → BringsIn k i p g Also log tokens ws (event (latest_data log)))
       → Allows (K n) slots id (sole k f o, []) i g
-      (λ r m'. ComesWith rest ready p Hit Also k f event (sole k f o, []) r m')
+      (λ r m'. EntryStepWith rest ready p Hit Also k f event (sole k f o, []) r m')
   comes_ok n slots id k i f o p event g Hit Also test missed brings s kept wide at small =
       let r = running n s kept id (knows k f o ∷ []) at in let x : ℕ = get_or s.words i 0 in
-      let v : View D = sole k f o in
+      let v : SeatView D = sole k f o in
       let deep = r.one_slot in let fit = (r.fronts id v at).0 in dite (test x)
       (λ hit. let b0 = brings r.log r.tokens s.words r.stands (ap (λ (m : Sizes). m.places) r.sized) fit.below
-      fit.own_are fit.token_is r.tells hit in let home = r.home b0.given_up in let l : Lodged D = home.0 in
-      let e : Event D = event l.state in let h : History D = with_event r.log e in let w : View D = sole k h p in
+      fit.own_are fit.token_is r.tells hit in let home = r.home b0.given_up in let l : Guarded D = home.0 in
+      let e : Event D = event l.state in let h : History D = with_event r.log e in let w : SeatView D = sole k h p in
       let b : BringsIn k i p g Also r.log r.tokens s.words e =
       subst (λ (d : D). BringsIn k i p g Also r.log r.tokens s.words (event d)) (sym home.2.latest) b0 in
       let enters = b.enters in (
@@ -359,32 +361,32 @@ module _ {D : Type 0} (Starts : Bool → List ℕ → Type 0) (Tells : History D
         ((λ _. refl), λ hit. absurd (miss hit)),
       ))
     where
-      not_given_up : (l : Lodged D) (h : History D) → turn h.events ≡ Held k → IsGivenUp (turn h.events)
-          → (x : Lodged D) × (get_elem? (set s.homes 0 none) 0 ≡ some (some (Some x))) × Lies h x
+      not_given_up : (l : Guarded D) (h : History D) → turn h.events ≡ Held k → IsGivenUp (turn h.events)
+          → (x : Guarded D) × (get_elem? (set s.homes 0 none) 0 ≡ some (some (Some x))) × Lies h x
       not_given_up l h held up = absurd (subst IsGivenUp held up)
 
-  lies_of : (f : History D) (e : Event D) (x : Lodged D) → data_of e ≡ x.state → IsOf x.book (erased (with_event f e))
+  lies_of : (f : History D) (e : Event D) (x : Guarded D) → data_of e ≡ x.state → IsOf x.book (erased (with_event f e))
       → Lies (with_event f e) x
   lies_of f e x same book = record { latest = sym (latest_data-push f e ∙ same); book = book }
 
-  pub gives_ok : (n slots id k i : ℕ) (g : ℕ → ℕ) (f : History D) (x : Lodged D) (next : Next) (event : D → Event D)
-      (st : Step (Option (Lodged D)))
+  pub gives_ok : (n slots id k i : ℕ) (g : ℕ → ℕ) (f : History D) (x : Guarded D) (next : Next) (event : D → Event D)
+      (st : Step (Option (Guarded D)))
       → Gives rest ready event k f x next
-      → ((tokens : Tokens) (ws : List ℕ) → f.sizes.places ≡ n → k < n → Tells f tokens ws
-      → Tells (with_event f (event x.state)) tokens (set ws i (g (get_or ws i 0))))
+      → ((tokens : Tokens) (ws : List ℕ) → f.sizes.places ≡ n → k < n → WordsFit f tokens ws
+      → WordsFit (with_event f (event x.state)) tokens (set ws i (g (get_or ws i 0))))
       → Allows (K n) slots id (alone k f, (0, Some x) ∷ []) i g
       (λ r m'. gives_as event st (alone k f, (0, Some x) ∷ []) r m')
   gives_ok n slots id k i g f x next event st p tells s kept wide at small =
       let r = running n s kept id (knows k f None ∷ []) at in
       let deep = r.one_slot in let fit = (r.fronts id (alone k f) at).0 in let e : Event D = event x.state in
       let same : r.log ≡ f = still_held k f r.log r.stands.legal p.inside fit.begins fit.own_are in
-      let w : View D = alone k (with_event r.log e) in
+      let w : SeatView D = alone k (with_event r.log e) in
       let ws' : List ℕ = set s.words i (g (get_or s.words i 0)) in
-      let told : Tells (with_event r.log e) r.tokens ws' =
-      subst (λ (h : History D). Tells (with_event h e) r.tokens ws') (sym same)
+      let told : WordsFit (with_event r.log e) r.tokens ws' =
+      subst (λ (h : History D). WordsFit (with_event h e) r.tokens ws') (sym same)
       (tells r.tokens s.words (ap (λ (h : History D). h.sizes.places) (sym same)
       ∙ ap (λ (m : Sizes). m.places) r.sized) fit.below
-      (subst (λ (h : History D). Tells h r.tokens s.words) same r.tells)) in
+      (subst (λ (h : History D). WordsFit h r.tokens s.words) same r.tells)) in
       let lies : Lies (with_event r.log e) x =
       subst (λ (h : History D). Lies (with_event h e) x) (sym same) (lies_of f e x p.same_data p.book) in
       let gone : IsGivenUp (turn (with_event r.log e).events) =
@@ -405,22 +407,22 @@ module _ {D : Type 0} (Starts : Bool → List ℕ → Type 0) (Tells : History D
       )
 
   -- who is inside goes on by the event and keeps the slot, and no word changes
-  notes_ok : (n slots id k i : ℕ) (f : History D) (event : History D → Event D) (st : Step (Option (Lodged D)))
+  notes_ok : (n slots id k i : ℕ) (f : History D) (event : History D → Event D) (st : Step (Option (Guarded D)))
       → Notes rest ready (event f) k f
-      → ((tokens : Tokens) (ws : List ℕ) → Tells f tokens ws → Tells (with_event f (event f)) tokens ws)
+      → ((tokens : Tokens) (ws : List ℕ) → WordsFit f tokens ws → WordsFit (with_event f (event f)) tokens ws)
       → Allows (K n) slots id (alone k f, (0, None) ∷ []) i (λ r. r) (notes_as event st (alone k f, (0, None) ∷ []))
   notes_ok n slots id k i f event st p tells s kept wide at small =
       let r = running n s kept id (knows k f None ∷ []) at in
       let fit = (r.fronts id (alone k f) at).0 in
       let e : Event D = event f in
-      let w : View D = alone k (with_event r.log e) in
+      let w : SeatView D = alone k (with_event r.log e) in
       let same : r.log ≡ f = still_held k f r.log r.stands.legal p.inside fit.begins fit.own_are in
       let out : get_elem? s.homes 0 ≡ some none = r.out k (ap (λ (h : History D). turn h.events) same ∙ p.inside) in
       let stays : turn (with_event r.log e).events ≡ Held k =
       subst (λ (h : History D). turn (with_event h e).events ≡ Held k) (sym same) p.stays in
-      let told : Tells (with_event r.log e) r.tokens s.words =
-      subst (λ (h : History D). Tells (with_event h e) r.tokens s.words) (sym same)
-      (tells r.tokens s.words (subst (λ (h : History D). Tells h r.tokens s.words) same r.tells)) in
+      let told : WordsFit (with_event r.log e) r.tokens s.words =
+      subst (λ (h : History D). WordsFit (with_event h e) r.tokens s.words) (sym same)
+      (tells r.tokens s.words (subst (λ (h : History D). WordsFit h r.tokens s.words) same r.tells)) in
       let now : R n record { words = s.words; homes = s.homes; views = set s.views id w } =
       adds n s r id k f None None r.tokens e s.words s.homes at p.mine
       (subst (λ (h : History D). Allowed h e) (sym same) p.allowed)
@@ -436,35 +438,35 @@ module _ {D : Type 0} (Starts : Bool → List ℕ → Type 0) (Tells : History D
       )
 
   pub notes_at : (n slots id k i : ℕ) (f : History D) (event : History D → Event D)
-      (st : Step (Option (Lodged D))) (m : Sat D)
+      (st : Step (Option (Guarded D))) (m : SeatState D)
       → m ≡ (alone k f, (0, None) ∷ []) → Notes rest ready (event f) k f
-      → ((tokens : Tokens) (ws : List ℕ) → Tells f tokens ws → Tells (with_event f (event f)) tokens ws)
+      → ((tokens : Tokens) (ws : List ℕ) → WordsFit f tokens ws → WordsFit (with_event f (event f)) tokens ws)
       → Allows (K n) slots id m i (λ r. r) (notes_as event st m)
   notes_at n slots id k i f event st m is p tells =
-      subst (λ (q : Sat D). Allows (K n) slots id q i (λ r. r) (notes_as event st q)) (sym is)
+      subst (λ (q : SeatState D). Allows (K n) slots id q i (λ r. r) (notes_as event st q)) (sym is)
       (notes_ok n slots id k i f event st p tells)
 
-  pub begins_ok : (n slots id i : ℕ) (g : ℕ → ℕ) (st : Step (Option (Lodged D)))
-      → ((ws : List ℕ) → Starts false ws → Starts true (set ws i (g (get_or ws i 0))))
+  pub begins_ok : (n slots id i : ℕ) (g : ℕ → ℕ) (st : Step (Option (Guarded D)))
+      → ((ws : List ℕ) → Initial false ws → Initial true (set ws i (g (get_or ws i 0))))
       → Allows (K n) slots id (Unopened n, []) i g (begins st (Unopened n, []))
   begins_ok n slots id i g st starts s (raw b h e) wide at small =
       let at' : get_elem? (Unopened n ∷ []) id ≡ some (Unopened n) =
-      ap (λ (x : List (View D)). get_elem? x id) (sym e) ∙ at in (
+      ap (λ (x : List (SeatView D)). get_elem? x id) (sym e) ∙ at in (
         Opening n,
         takes 0 None,
         ap (λ (x : Homes D). get_elem? x 0) h,
         lent (starts s.words b) (ap (λ (x : Homes D). set x 0 none) h)
-            (ap (λ (x : List (View D)). set x id (Opening n)) e
+            (ap (λ (x : List (SeatView D)). set x id (Opening n)) e
             ∙ set_only (Unopened n) (Opening n) (Unopened n) id at'),
         λ m is. λ j. (Opening (count (is j)), (0, None) ∷ []),
       )
     where
-      count : View D → ℕ
+      count : SeatView D → ℕ
       count (Unopened m) = m
       count _ = 0
   begins_ok n slots id i g st starts s (lent b h e) wide at small =
       let other : Opening n ≡ Unopened n = only (Opening n)
-      (Unopened n) id (ap (λ (x : List (View D)). get_elem? x id) (sym e) ∙ at) in absurd (cc)
+      (Unopened n) id (ap (λ (x : List (SeatView D)). get_elem? x id) (sym e) ∙ at) in absurd (cc)
   begins_ok n slots id i g st starts s (runs r) wide at small = absurd (r.fronts id (Unopened n) at)
 
   all_agree : (n : ℕ) (h : History D) (count k : ℕ) → k + count ≤ n
@@ -476,8 +478,8 @@ module _ {D : Type 0} (Starts : Bool → List ℕ → Type 0) (Tells : History D
   )
 
   -- the door as it opens
-  opens_running : (n : ℕ) (x : Lodged D) (ws : List ℕ) → Stands rest ready (opened (sizes_at kinds n) x.state)
-      → IsOf x.book (opened (sizes_at kinds n) tt) → Tells (opened (sizes_at kinds n) x.state)
+  opens_running : (n : ℕ) (x : Guarded D) (ws : List ℕ) → Stands rest ready (opened (sizes_at kinds n) x.state)
+      → IsOf x.book (opened (sizes_at kinds n) tt) → WordsFit (opened (sizes_at kinds n) x.state)
       (λ _. None) ws → R n
       (record {
         words = ws;
@@ -492,7 +494,7 @@ module _ {D : Type 0} (Starts : Bool → List ℕ → Type 0) (Tells : History D
     one_slot = refl;
     sized = refl;
     fronts =
-        λ j v got. subst (λ (z : ℕ × View D). EachOf
+        λ j v got. subst (λ (z : ℕ × SeatView D). EachOf
         (Agrees n (opened (sizes_at kinds n) x.state) (λ _. 0) (λ _. None) z.0) z.1)
         (λ i. (
           sym (only_at (Places (all_know 0 n (opened (sizes_at kinds n) x.state))) v j got) i,
@@ -507,26 +509,26 @@ module _ {D : Type 0} (Starts : Bool → List ℕ → Type 0) (Tells : History D
     out = λ k held. let no : Free ≡ Held k = sym (turn-opened (sizes_at kinds n) x.state) ∙ held in absurd (cc);
   }
 
-  pub opens_ok : (n slots id i : ℕ) (g : ℕ → ℕ) (x : Lodged D) (st : Step (Option (Lodged D)))
+  pub opens_ok : (n slots id i : ℕ) (g : ℕ → ℕ) (x : Guarded D) (st : Step (Option (Guarded D)))
       → Stands rest ready (opened (sizes_at kinds n) x.state) → IsOf x.book (opened (sizes_at kinds n) tt)
-      → ((ws : List ℕ) → Starts true ws → Tells (opened (sizes_at kinds n) x.state) (λ _. None)
+      → ((ws : List ℕ) → Initial true ws → WordsFit (opened (sizes_at kinds n) x.state) (λ _. None)
       (set ws i (g (get_or ws i 0))))
       → Allows (K n) slots id (Opening n, (0, Some x) ∷ []) i g
       (λ r m'. opens kinds st (Opening n, (0, Some x) ∷ []) r m')
   opens_ok n slots id i g x st stands book tells s (raw b h e) wide at small =
       let other : Unopened n ≡ Opening n = only (Unopened n)
-      (Opening n) id (ap (λ (y : List (View D)). get_elem? y id) (sym e) ∙ at) in absurd (cc)
+      (Opening n) id (ap (λ (y : List (SeatView D)). get_elem? y id) (sym e) ∙ at) in absurd (cc)
   opens_ok n slots id i g x st stands book tells s (runs r) wide at small = absurd (r.fronts id (Opening n) at)
   opens_ok n slots id i g x st stands book tells s (lent b h e) wide at small =
       let at' : get_elem? (Opening n ∷ []) id ≡ some (Opening n) =
-      ap (λ (y : List (View D)). get_elem? y id) (sym e) ∙ at in
+      ap (λ (y : List (SeatView D)). get_elem? y id) (sym e) ∙ at in
       let o : History D = opened (sizes_at kinds n) x.state in
-      let w : View D = Places (all_know 0 n o) in let ws' : List ℕ = set s.words i (g (get_or s.words i 0)) in
+      let w : SeatView D = Places (all_know 0 n o) in let ws' : List ℕ = set s.words i (g (get_or s.words i 0)) in
       let s' : Cells D = record { words = ws'; homes = some (Some x) ∷ []; views = w ∷ [] } in
       let now : stepped s i (g (get_or s.words i 0)) id ((0, Some x) ∷ []) w gives ≡ s' = λ j. record {
         words = ws';
         homes = ap (λ (y : Homes D). set y 0 (some (Some x))) h j;
-        views = (ap (λ (y : List (View D)). set y id w) e ∙ set_only (Opening n) w (Opening n) id at') j;
+        views = (ap (λ (y : List (SeatView D)). set y id w) e ∙ set_only (Opening n) w (Opening n) id at') j;
       } in (
         w,
         gives,
@@ -535,42 +537,45 @@ module _ {D : Type 0} (Starts : Bool → List ℕ → Type 0) (Tells : History D
         λ m y is. told m y is,
       )
     where
-      count : View D → ℕ
+      count : SeatView D → ℕ
       count (Opening m) = m
       count _ = 0
 
-      told : (m : ℕ) (y : Lodged D) → ◌≡◌ {A = Sat D} (Opening n, (0, Some x) ∷ []) (Opening m, (0, Some y) ∷ [])
-          → ◌≡◌ {A = Sat D} (Places (all_know 0 n (opened (sizes_at kinds n) x.state)), [])
+      told : (m : ℕ) (y : Guarded D) → ◌≡◌ {A = SeatState D} (Opening n, (0, Some x) ∷ []) (Opening m, (0, Some y) ∷ [])
+          → ◌≡◌ {A = SeatState D} (Places (all_know 0 n (opened (sizes_at kinds n) x.state)), [])
           (Places (all_know 0 m (opened (sizes_at kinds m) y.state)), [])
       told m y is =
-          let a : n ≡ m = ap (λ (z : Sat D). count z.0) is in let b_ : x ≡ y = ap (λ (z : Sat D). lodged_or x z.1) is in
+          let a : n ≡ m = ap (λ (z : SeatState D). count z.0) is in let b_ : x ≡ y = ap (λ (z : SeatState D). lodged_or
+          x z.1) is in
           λ i. (Places (all_know 0 (a i) (opened (sizes_at kinds (a i)) (b_ i).state)), [])
 
   -- the first seat takes the empty slot, by a step of any kind that begins the words
-  pub begins_at : (n slots id i : ℕ) (g : ℕ → ℕ) (st : Step (Option (Lodged D))) (m : Sat D) → m ≡ (Unopened n, [])
-      → ((ws : List ℕ) → Starts false ws → Starts true (set ws i (g (get_or ws i 0))))
+  pub begins_at : (n slots id i : ℕ) (g : ℕ → ℕ) (st : Step (Option (Guarded D))) (m : SeatState D)
+      → m ≡ (Unopened n, [])
+      → ((ws : List ℕ) → Initial false ws → Initial true (set ws i (g (get_or ws i 0))))
       → Allows (K n) slots id m i g (begins st m)
   begins_at n slots id i g st m is starts =
-      subst (λ (p : Sat D). Allows (K n) slots id p i g (begins st p)) (sym is) (begins_ok n slots id i g st starts)
+      subst (λ (p : SeatState D). Allows (K n) slots id p i g (begins st p)) (sym is) (begins_ok n slots id i g st
+      starts)
 
   -- and gives it back with the data, by one that opens them
-  pub opens_at : (n slots id i : ℕ) (g : ℕ → ℕ) (x : Lodged D) (st : Step (Option (Lodged D))) (m : Sat D)
+  pub opens_at : (n slots id i : ℕ) (g : ℕ → ℕ) (x : Guarded D) (st : Step (Option (Guarded D))) (m : SeatState D)
       → m ≡ (Opening n, (0, Some x) ∷ [])
       → rest x.state nobody → IsOf x.book (opened (sizes_at kinds n) tt)
-      → ((ws : List ℕ) → Starts true ws → Tells (opened (sizes_at kinds n) x.state) (λ _. None)
+      → ((ws : List ℕ) → Initial true ws → WordsFit (opened (sizes_at kinds n) x.state) (λ _. None)
       (set ws i (g (get_or ws i 0))))
       → Allows (K n) slots id m i g (opens kinds st m)
   opens_at n slots id i g x st m is at_rest book tells =
-      subst (λ (p : Sat D). Allows (K n) slots id p i g (opens kinds st p)) (sym is)
+      subst (λ (p : SeatState D). Allows (K n) slots id p i g (opens kinds st p)) (sym is)
       (opens_ok n slots id i g x st (Stands-opened rest ready (sizes_at kinds n) x.state at_rest) book tells)
 
   -- what a seat knows agrees with the log, and no place stands there twice
-  abbrev Fits : ℕ → History D → (ℕ → ℕ) → Tokens → ℕ → View D → Type 0
+  abbrev Fits : ℕ → History D → (ℕ → ℕ) → Tokens → ℕ → SeatView D → Type 0
   Fits n log owner tokens j v = EachOf (Agrees n log owner tokens j) v × ApartOf v
 
   -- the rule, with other views of the same log
-  views_to : (n : ℕ) (s : Cells D) (r : R n s) (owner' : ℕ → ℕ) (views' : List (View D))
-      → ((j : ℕ) (v : View D) → get_elem? views' j ≡ some v → Fits n r.log owner' r.tokens j v)
+  views_to : (n : ℕ) (s : Cells D) (r : R n s) (owner' : ℕ → ℕ) (views' : List (SeatView D))
+      → ((j : ℕ) (v : SeatView D) → get_elem? views' j ≡ some v → Fits n r.log owner' r.tokens j v)
       → R n record { words = s.words; homes = s.homes; views = views' }
   views_to n s r owner' views' fit = record {
     log = r.log;
@@ -586,8 +591,8 @@ module _ {D : Type 0} (Starts : Bool → List ℕ → Type 0) (Tells : History D
     out = r.out;
   }
 
-  map_all : (n : ℕ) (log : History D) (owner owner' : ℕ → ℕ) (tokens : Tokens) (j : ℕ) (v : View D)
-      → ((t : Knowledge D) → Agrees n log owner tokens j t → owner' t.place ≡ j)
+  map_all : (n : ℕ) (log : History D) (owner owner' : ℕ → ℕ) (tokens : Tokens) (j : ℕ) (v : SeatView D)
+      → ((t : PlaceView D) → Agrees n log owner tokens j t → owner' t.place ≡ j)
       → EachOf (Agrees n log owner tokens j) v → EachOf (Agrees n log owner' tokens j) v
   map_all n log owner owner' tokens j (Places ts) f h =
       each_map (Agrees n log owner tokens j) (Agrees n log owner' tokens j)
@@ -595,15 +600,15 @@ module _ {D : Type 0} (Starts : Bool → List ℕ → Type 0) (Tells : History D
   map_all n log owner owner' tokens j (Unopened m) f h = h
   map_all n log owner owner' tokens j (Opening m) f h = h
 
-  pub splits_ok : (n id k : ℕ) (f : History D) (ts : List (Knowledge D)) → Without k ts
+  pub splits_ok : (n id k : ℕ) (f : History D) (ts : List (PlaceView D)) → Without k ts
       → Splits (K n) id (Places (knows k f None ∷ ts)) (Places ts) (alone k f)
   splits_ok n id k f ts apart s kept at =
-      let r = running n s kept id (knows k f None ∷ ts) at in let v : View D = Places (knows k f None ∷ ts) in
+      let r = running n s kept id (knows k f None ∷ ts) at in let v : SeatView D = Places (knows k f None ∷ ts) in
       let fit = r.fronts id v at in
       let new : ℕ = length (set s.views id (Places ts)) in let owner' : ℕ → ℕ = given_to r.owner k new in
       runs (views_to n s r owner' (set s.views id (Places ts) ++ alone k f ∷ []) (λ j u got. ⊎_elim
       (λ (here : get_elem? (set s.views id (Places ts)) j ≡ some u). ⊎_elim
-      (λ (t : (j ≡ id) × (Places ts ≡ u)). subst (λ (z : ℕ × View D). Fits n r.log owner' r.tokens z.0 z.1)
+      (λ (t : (j ≡ id) × (Places ts ≡ u)). subst (λ (z : ℕ × SeatView D). Fits n r.log owner' r.tokens z.0 z.1)
       (λ i. (sym t.0 i, t.1 i)) (
         each_with (λ x. x.place ≢ k) (Agrees n r.log r.owner r.tokens id) (Agrees n r.log owner' r.tokens id)
             (λ x ne h. reowned n r.log r.owner owner' r.tokens id id x
@@ -618,7 +623,7 @@ module _ {D : Type 0} (Starts : Bool → List ℕ → Type 0) (Tells : History D
         r.apart j u t.1,
       ))
       (at_set s.views id j (Places ts) u here))
-      (λ (t : (j ≡ new) × (alone k f ≡ u)). subst (λ (z : ℕ × View D). Fits n r.log owner' r.tokens z.0 z.1)
+      (λ (t : (j ≡ new) × (alone k f ≡ u)). subst (λ (z : ℕ × SeatView D). Fits n r.log owner' r.tokens z.0 z.1)
       (λ i. (sym t.0 i, t.1 i)) (
         (reowned n r.log r.owner owner' r.tokens id new (knows k f None) (given_here r.owner k new) fit.0, tt),
         (tt, tt),
@@ -632,17 +637,17 @@ module _ {D : Type 0} (Starts : Bool → List ℕ → Type 0) (Tells : History D
   deals_ok n id k zero f more = absurd (omega arith)
   deals_ok n id k (suc m) f more = splits_ok n id k f (all_know (suc k) m f) (without k (suc k) m f (omega arith))
 
-  pub joins_ok : (n id : ℕ) (ts : List (Knowledge D)) (other : ℕ) (us : List (Knowledge D))
+  pub joins_ok : (n id : ℕ) (ts : List (PlaceView D)) (other : ℕ) (us : List (PlaceView D))
       → Joins (K n) id (Places ts) other (Places us) (Places (us ++ ts)) no_places
   joins_ok n id ts other us s kept at apart there =
-      let r = running n s kept id ts at in let v : View D = Places ts in let w : View D = Places us in
-      let both : View D = Places (us ++ ts) in
+      let r = running n s kept id ts at in let v : SeatView D = Places ts in let w : SeatView D = Places us in
+      let both : SeatView D = Places (us ++ ts) in
       let fit = r.fronts id v at in let owner' : ℕ → ℕ = handed r.owner other id in
       let was : get_elem? s.views other ≡ some w = sym (set_else s.views id other both apart) ∙ there in
       runs (views_to n s r owner' (set (set s.views id both) other no_places) (λ j u got. ⊎_elim
       (λ (t : (j ≡ other) × (no_places ≡ u)). subst (Fits n r.log owner' r.tokens j) t.1 (tt, tt))
       (λ (t : (j ≢ other) × (get_elem? (set s.views id both) j ≡ some u)). ⊎_elim
-      (λ (q : (j ≡ id) × (both ≡ u)). subst (λ (z : ℕ × View D). Fits n r.log owner' r.tokens z.0 z.1)
+      (λ (q : (j ≡ id) × (both ≡ u)). subst (λ (z : ℕ × SeatView D). Fits n r.log owner' r.tokens z.0 z.1)
       (λ i. (sym q.0 i, q.1 i)) (
         each-append (Agrees n r.log owner' r.tokens id) us ts
             (each_map (Agrees n r.log r.owner r.tokens other) (Agrees n r.log owner' r.tokens id)
@@ -668,7 +673,7 @@ module _ {D : Type 0} (Starts : Bool → List ℕ → Type 0) (Tells : History D
       (at_set s.views id j both u t.1))
       (at_set (set s.views id both) other j no_places u got)))
 
-  knowing_agree : (n : ℕ) (log : History D) (owner : ℕ → ℕ) (tokens : Tokens) (j : ℕ) (ts : List (Knowledge D))
+  knowing_agree : (n : ℕ) (log : History D) (owner : ℕ → ℕ) (tokens : Tokens) (j : ℕ) (ts : List (PlaceView D))
       → Each (Agrees n log owner tokens j) ts
       → Each (Agrees n log owner tokens j) (knowing log ts)
   knowing_agree n log owner tokens j [] h = tt
@@ -677,49 +682,50 @@ module _ {D : Type 0} (Starts : Bool → List ℕ → Type 0) (Tells : History D
     knowing_agree n log owner tokens j ts h.1,
   )
 
-  knowing_without : (k : ℕ) (log : History D) (ts : List (Knowledge D)) → Without k ts → Without k (knowing log ts)
+  knowing_without : (k : ℕ) (log : History D) (ts : List (PlaceView D)) → Without k ts → Without k (knowing log ts)
   knowing_without k log [] h = tt
   knowing_without k log (t ∷ ts) h = (h.0, knowing_without k log ts h.1)
 
-  knowing_apart : (log : History D) (ts : List (Knowledge D)) → Apart ts → Apart (knowing log ts)
+  knowing_apart : (log : History D) (ts : List (PlaceView D)) → Apart ts → Apart (knowing log ts)
   knowing_apart log [] h = tt
   knowing_apart log (t ∷ ts) h = (knowing_without t.place log ts h.0, knowing_apart log ts h.1)
 
   -- a load by which the places of a seat come to know the whole log
-  pub learns_at : (n slots id : ℕ) (ts : List (Knowledge D)) (st : Step (Option (Lodged D))) (m : Sat D)
+  pub learns_at : (n slots id : ℕ) (ts : List (PlaceView D)) (st : Step (Option (Guarded D))) (m : SeatState D)
       → m ≡ (Places ts, []) → Allows (K n) slots id m 0 (λ r. r) (learns rest ready st m)
   learns_at n slots id ts st m is =
-      subst (λ (p : Sat D). Allows (K n) slots id p 0 (λ r. r) (learns rest ready st p)) (sym is) step_
+      subst (λ (p : SeatState D). Allows (K n) slots id p 0 (λ r. r) (learns rest ready st p)) (sym is) step_
     where
-      stands_of : View D → List (Knowledge D)
+      stands_of : SeatView D → List (PlaceView D)
       stands_of (Places us) = us
       stands_of _ = []
 
       step_ : Allows (K n) slots id (Places ts, []) 0 (λ r. r) (learns rest ready st (Places ts, []))
-      step_ s kept wide at small = let r = running n s kept id ts at in let w : View D = Places (knowing r.log ts) in (
-        w,
-        keeps,
-        tt,
-        subst (λ (ws : List ℕ). K n record { words = ws; homes = s.homes; views = set s.views id w })
-            (sym (set-get_or s.words 0 0)) (runs (views_to n s r r.owner (set s.views id w)
-            (λ j u got. ⊎_elim
-            (λ (t : (j ≡ id) × (w ≡ u)). subst (λ (z : ℕ × View D). Fits n r.log r.owner r.tokens z.0 z.1)
-            (λ i. (sym t.0 i, t.1 i)) (
-              knowing_agree n r.log r.owner r.tokens id ts (r.fronts id (Places ts) at),
-              knowing_apart r.log ts (r.apart id (Places ts) at),
-            ))
-            (λ (t : (j ≢ id) × (get_elem? s.views j ≡ some u)). (r.fronts j u t.1, r.apart j u t.1))
-            (at_set s.views id j w u got)))),
-        λ us same. (
-          r.log,
-          subst (λ (vs : List (Knowledge D)). Learns rest ready r.log vs (w, []))
-              (ap (λ (m : Sat D). stands_of m.0) same)
-              (record {
-                me_is = refl;
-                stands = r.stands;
-                fits = each_map (Agrees n r.log r.owner r.tokens id) (Known r.log) (λ t h. (h.begins, h.own_are)) ts
-                    (r.fronts id (Places ts) at);
-                apart = r.apart id (Places ts) at;
-              }),
-        ),
-      )
+      step_ s kept wide at small = let r = running n s kept id ts at in let w : SeatView D = Places (knowing r.log ts)
+          in (
+            w,
+            keeps,
+            tt,
+            subst (λ (ws : List ℕ). K n record { words = ws; homes = s.homes; views = set s.views id w })
+                (sym (set-get_or s.words 0 0)) (runs (views_to n s r r.owner (set s.views id w)
+                (λ j u got. ⊎_elim
+                (λ (t : (j ≡ id) × (w ≡ u)). subst (λ (z : ℕ × SeatView D). Fits n r.log r.owner r.tokens z.0 z.1)
+                (λ i. (sym t.0 i, t.1 i)) (
+                  knowing_agree n r.log r.owner r.tokens id ts (r.fronts id (Places ts) at),
+                  knowing_apart r.log ts (r.apart id (Places ts) at),
+                ))
+                (λ (t : (j ≢ id) × (get_elem? s.views j ≡ some u)). (r.fronts j u t.1, r.apart j u t.1))
+                (at_set s.views id j w u got)))),
+            λ us same. (
+              r.log,
+              subst (λ (vs : List (PlaceView D)). Learns rest ready r.log vs (w, []))
+                  (ap (λ (m : SeatState D). stands_of m.0) same)
+                  (record {
+                    me_is = refl;
+                    stands = r.stands;
+                    fits = each_map (Agrees n r.log r.owner r.tokens id) (Known r.log) (λ t h. (h.begins, h.own_are)) ts
+                        (r.fronts id (Places ts) at);
+                    apart = r.apart id (Places ts) at;
+                  }),
+            ),
+          )

@@ -9,9 +9,9 @@ use Rattle.std.proofs.lemmas.List.{get_or-reverse}
 use mathlib.Core.Option.{some, some-injective, some-ne-none}
 use lib.ListN.{get_elem?}
 use Rattle.hoare_law.specs.declared.event.History.{History}
-use Rattle.door_frame.specs.declared.view.Knowledge.{Knowledge}
-use Rattle.door_frame.specs.declared.view.View.{View}
-use Rattle.door_frame.specs.Places.{Berth, DoorId, PlaceOut, berth_at, place_out, places_from}
+use Rattle.door_frame.specs.declared.view.PlaceView.{PlaceView}
+use Rattle.door_frame.specs.declared.view.SeatView.{SeatView}
+use Rattle.door_frame.specs.Places.{PlaceId, DoorId, PlaceOut, place_id_at, place_out, places_from}
 use Rattle.door_frame.specs.Views.{knows, alone, is_alone, front_of, all_know, Each, Without, Apart}
 
 -- the only element
@@ -69,17 +69,17 @@ nth_reversed {A = A} xs new given x d k are many =
     ∙ get_or-append_seam new x given d
 
 module _ {D : Type 0} where
-  pub each_map : (P Q : Knowledge D → Type 0) → ((t : Knowledge D) → P t → Q t) → (v : List (Knowledge D)) → Each P v
+  pub each_map : (P Q : PlaceView D → Type 0) → ((t : PlaceView D) → P t → Q t) → (v : List (PlaceView D)) → Each P v
       → Each Q v
   each_map P Q f [] h = tt
   each_map P Q f (t ∷ ts) h = (f t h.0, each_map P Q f ts h.1)
 
-  pub each_with : (P Q R : Knowledge D → Type 0) → ((t : Knowledge D) → P t → Q t → R t) → (v : List (Knowledge D))
+  pub each_with : (P Q R : PlaceView D → Type 0) → ((t : PlaceView D) → P t → Q t → R t) → (v : List (PlaceView D))
       → Each P v → Each Q v → Each R v
   each_with P Q R f [] g h = tt
   each_with P Q R f (t ∷ ts) g h = (f t g.0 h.0, each_with P Q R f ts g.1 h.1)
 
-  pub each-append : (P : Knowledge D → Type 0) (v w : List (Knowledge D)) → Each P v → Each P w → Each P (v ++ w)
+  pub each-append : (P : PlaceView D → Type 0) (v w : List (PlaceView D)) → Each P v → Each P w → Each P (v ++ w)
   each-append P [] w g h = h
   each-append P (t ∷ ts) w g h = (g.0, each-append P ts w g.1 h)
 
@@ -91,7 +91,7 @@ module _ {D : Type 0} where
   all_know_apart k zero f = tt
   all_know_apart k (suc m) f = (without k (suc k) m f (omega arith), all_know_apart (suc k) m f)
 
-  pub apart-append : (us ts : List (Knowledge D)) → Apart us → Apart ts → Each (λ u. Without u.place ts) us
+  pub apart-append : (us ts : List (PlaceView D)) → Apart us → Apart ts → Each (λ u. Without u.place ts) us
       → Apart (us ++ ts)
   apart-append [] ts a b c = b
   apart-append (u ∷ us) ts a b c = (each-append (λ t. t.place ≢ u.place) us ts a.0 c.0, apart-append us ts a.1 b c.1)
@@ -104,24 +104,26 @@ module _ {D : Type 0} where
       let a : suc k ≡ k + 1 = omega arith in let b : m ≡ suc m - 1 = omega arith in (refl, λ i. all_know (a i) (b i) f)
 
   pub places_more : (d : DoorId) (k n : ℕ) (f : History D)
-      → places_from d k (n + 1) f ≡ places_from d k n f ++ place_out (berth_at d (k + n)) (k + n) f ∷ []
+      → places_from d k (n + 1) f ≡ places_from d k n f ++ place_out (place_id_at d (k + n)) (k + n) f ∷ []
   places_more d k zero f =
-      let a : k ≡ k + 0 = omega arith in ap (λ (m : ℕ). place_out (berth_at d m) m f ∷ []) a
+      let a : k ≡ k + 0 = omega arith in ap (λ (m : ℕ). place_out (place_id_at d m) m f ∷ []) a
   places_more d k (suc n) f =
       let a : suc n + 1 ≡ suc (n + 1) = omega arith in let b : suc k + n ≡ k + suc n = omega arith in
       ap (λ (m : ℕ). places_from d k m f) a
-      ∙ ap (λ (l : List (PlaceOut D)). place_out (berth_at d k) k f ∷ l)
-      (places_more d (suc k) n f ∙ ap (λ (m : ℕ). places_from d (suc k) n f ++ place_out (berth_at d m) m f ∷ []) b)
+      ∙ ap (λ (l : List (PlaceOut D)). place_out (place_id_at d k) k f ∷ l)
+      (places_more d (suc k) n f ∙ ap (λ (m : ℕ). places_from d (suc k) n f ++ place_out (place_id_at d m) m f ∷ []) b)
 
   -- one more place, which sleeps where it is woken
-  pub places_and : (d : DoorId) (k : ℕ) (b : Berth) (f : History D) → b ≡ berth_at d k
+  pub places_and : (d : DoorId) (k : ℕ) (b : PlaceId) (f : History D) → b ≡ place_id_at d k
       → places_from d 0 k f ++ place_out b k f ∷ [] ≡ places_from d 0 (k + 1) f
   places_and d k b f is =
       let same : k ≡ 0 + k = omega arith in
-      ap (λ (c : Berth). places_from d 0 k f ++ place_out c k f ∷ []) is
-      ∙ ap (λ (j : ℕ). places_from d 0 k f ++ place_out (berth_at d j) j f ∷ []) same
+      ap (λ (c : PlaceId). places_from d 0 k f ++ place_out c k f ∷ []) is
+      ∙ ap (λ (j : ℕ). places_from d 0 k f ++ place_out (place_id_at d j) j f ∷ []) same
       ∙ sym (places_more d 0 k f)
 
   -- what is known of one place's seat
-  pub front_of-alone : (v : View D) (is : is_alone v ≡ true) (k : ℕ) (f : History D) → v ≡ alone k f → front_of v is ≡ f
-  front_of-alone v is k f e = subst (λ (w : View D). (a : is_alone w ≡ true) → front_of w a ≡ f) (sym e) (λ a. refl) is
+  pub front_of-alone : (v : SeatView D) (is : is_alone v ≡ true) (k : ℕ) (f : History D) → v ≡ alone k f
+      → front_of v is ≡ f
+  front_of-alone v is k f e = subst (λ (w : SeatView D). (a : is_alone w ≡ true)
+      → front_of w a ≡ f) (sym e) (λ a. refl) is

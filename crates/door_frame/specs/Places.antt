@@ -30,16 +30,16 @@ abbrev pub sleeper_at : DoorId → ℕ → TableId
 sleeper_at d k = slice_index_or d.sleepers k d.table
 
 -- what a place has of its door: the table, and what it sleeps on
-pub record Berth : Type 0 where
+pub record PlaceId : Type 0 where
   pub table : TableId
   pub sleeper : TableId
 
-abbrev pub berth : TableId → TableId → Berth
-berth z w = record { table = z; sleeper = w }
+abbrev pub place_id : TableId → TableId → PlaceId
+place_id z w = record { table = z; sleeper = w }
 
 -- the berth of place k: what wakes place k wakes who sleeps there
-abbrev pub berth_at : DoorId → ℕ → Berth
-berth_at d k = berth d.table (sleeper_at d k)
+abbrev pub place_id_at : DoorId → ℕ → PlaceId
+place_id_at d k = place_id d.table (sleeper_at d k)
 
 -- who goes on was woken
 abbrev pub IsWoken : DoorId → Next → Option TableId → Type 0
@@ -48,26 +48,26 @@ IsWoken d _ woken = ⊤
 
 -- a place outside, with its front
 pub record PlaceOut (D : Type 0) : Type 0 where
-  pub berth : Berth
+  pub place_id : PlaceId
   pub place : ℕ
   pub front : History D
 
 -- a place inside, with the data in hand
 pub record PlaceIn (D : Type 0) : Type 0 where
-  pub berth : Berth
+  pub place_id : PlaceId
   pub place : ℕ
   pub front : History D
   pub state : D
 
 module _ {D : Type 0} where
-  abbrev pub place_out : Berth → ℕ → History D → PlaceOut D
-  place_out b k f = record { berth = b; place = k; front = f }
+  abbrev pub place_out : PlaceId → ℕ → History D → PlaceOut D
+  place_out b k f = record { place_id = b; place = k; front = f }
 
-  abbrev pub place_in : Berth → ℕ → History D → D → PlaceIn D
-  place_in b k f s = record { berth = b; place = k; front = f; state = s }
+  abbrev pub place_in : PlaceId → ℕ → History D → D → PlaceIn D
+  place_in b k f s = record { place_id = b; place = k; front = f; state = s }
 
   abbrev pub with_state : PlaceIn D → D → PlaceIn D
-  with_state i s = place_in i.berth i.place i.front s
+  with_state i s = place_in i.place_id i.place i.front s
 
   -- who is inside has made ready what is owed to the first that waits on c
   abbrev pub Handed : Ready D → ℕ → PlaceIn D → Type 0
@@ -76,7 +76,7 @@ module _ {D : Type 0} where
   -- the places k, .., k + n - 1 of the door, with one front
   abbrev pub places_from : DoorId → ℕ → ℕ → History D → List (PlaceOut D)
   places_from d k zero f = []
-  places_from d k (suc n) f = place_out (berth_at d k) k f ∷ places_from d (suc k) n f
+  places_from d k (suc n) f = place_out (place_id_at d k) k f ∷ places_from d (suc k) n f
 
   -- place k is among them
   abbrev pub HasPlace : ℕ → List (PlaceOut D) → Type 0
@@ -103,7 +103,7 @@ module _ {D : Type 0} where
     -- the place outside is of the door: it sleeps where it is woken, and what it knows is legal and lawful, and has it
     -- outside
     pub record IsOut (door : DoorId) (o : PlaceOut D) : Type 0 where
-      pub of : o.berth ≡ berth_at door o.place
+      pub of : o.place_id ≡ place_id_at door o.place
       pub sized : o.front.sizes ≡ sizes_at kinds door.places
       pub below : o.place < door.places
       pub stands : Stands rest ready o.front
@@ -111,7 +111,7 @@ module _ {D : Type 0} where
 
     -- the same of a place inside
     pub record IsIn (door : DoorId) (i : PlaceIn D) : Type 0 where
-      pub of : i.berth ≡ berth_at door i.place
+      pub of : i.place_id ≡ place_id_at door i.place
       pub sized : i.front.sizes ≡ sizes_at kinds door.places
       pub stands : Stands rest ready i.front
       pub is_inside : turn i.front.events ≡ Held i.place
@@ -126,7 +126,7 @@ module _ {D : Type 0} where
     -- the place that is away is of the door: it parks where it is woken, and what it knows is legal and lawful, and
     -- ends with its wait or its signal
     pub record IsAway (door : DoorId) (o : PlaceOut D) : Type 0 where
-      pub of : o.berth ≡ berth_at door o.place
+      pub of : o.place_id ≡ place_id_at door o.place
       pub sized : o.front.sizes ≡ sizes_at kinds door.places
       pub below : o.place < door.places
       pub stands : Stands rest ready o.front

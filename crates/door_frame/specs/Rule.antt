@@ -13,16 +13,16 @@ use Rattle.hoare_law.specs.Growth.{Begins}
 use Rattle.hoare_law.specs.Lawful.{Rest, Ready, Stands}
 use Rattle.hoare_law.specs.Turns.{turn, IsGivenUp}
 use Rattle.wait_book.specs.Contents.{IsOf}
-use Rattle.door_frame.specs.declared.parcel.Lodged.{Lodged}
-use Rattle.door_frame.specs.declared.view.Knowledge.{Knowledge}
+use Rattle.door_frame.specs.declared.parcel.Guarded.{Guarded}
+use Rattle.door_frame.specs.declared.view.PlaceView.{PlaceView}
 use Rattle.door_frame.specs.declared.view.Token.{Token}
-use Rattle.door_frame.specs.declared.view.View.{View}
-use Rattle.door_frame.specs.declared.view.View.TheVariants.{Unopened, Opening}
+use Rattle.door_frame.specs.declared.view.SeatView.{SeatView}
+use Rattle.door_frame.specs.declared.view.SeatView.TheVariants.{Unopened, Opening}
 use Rattle.door_frame.specs.Views.{EachOf, ApartOf}
 
 -- a door's words, slot and views
 abbrev pub Cells : Type 0 → Type 0
-Cells D = State (Option (Lodged D)) (View D)
+Cells D = State (Option (Guarded D)) (SeatView D)
 
 -- which token each place has
 abbrev pub Tokens : Type 0
@@ -31,7 +31,7 @@ Tokens = ℕ → Option Token
 module _ {D : Type 0} where
   -- a place of the seat: the log begins with its front, and has no other events of it
   pub record Agrees (n : ℕ) (log : History D) (owner : ℕ → ℕ) (tokens : Tokens) (seat : ℕ)
-      (t : Knowledge D) : Type 0 where
+      (t : PlaceView D) : Type 0 where
     pub below : t.place < n
     pub owned : owner t.place ≡ seat
     pub begins : Begins t.front log
@@ -39,36 +39,36 @@ module _ {D : Type 0} where
     pub token_is : tokens t.place ≡ t.token
 
   -- what lies in the slot is what the history left
-  pub record Lies (h : History D) (x : Lodged D) : Type 0 where
+  pub record Lies (h : History D) (x : Guarded D) : Type 0 where
     pub latest : x.state ≡ latest_data h
     pub book : IsOf x.book (erased h)
 
   -- Of the words: Starts is what they are before the door opens (and by then whether the first seat has the slot),
   -- Tells what they say of the log and the tokens of an open door
-  module _ (Starts : Bool → List ℕ → Type 0) (Tells : History D → Tokens → List ℕ → Type 0) (rest : Rest D)
+  module _ (Initial : Bool → List ℕ → Type 0) (WordsFit : History D → Tokens → List ℕ → Type 0) (rest : Rest D)
       (ready : Ready D) (kinds : Kinds) where
     -- the door is open
-    pub record Running (n : ℕ) (s : Cells D) : Type 0 where
+    pub record OpenInvariant (n : ℕ) (s : Cells D) : Type 0 where
       pub log : History D
       pub owner : ℕ → ℕ
       pub tokens : Tokens
       pub one_slot : length s.homes ≡ 1
       pub sized : log.sizes ≡ sizes_at kinds n
       -- 1. what each place knows is a beginning of the log, which has no other events of it
-      pub fronts : (j : ℕ) (v : View D) → get_elem? s.views j ≡ some v → EachOf (Agrees n log owner tokens j) v
+      pub fronts : (j : ℕ) (v : SeatView D) → get_elem? s.views j ≡ some v → EachOf (Agrees n log owner tokens j) v
       -- and no seat has a place twice
-      pub apart : (j : ℕ) (v : View D) → get_elem? s.views j ≡ some v → ApartOf v
+      pub apart : (j : ℕ) (v : SeatView D) → get_elem? s.views j ≡ some v → ApartOf v
       -- 2. the log is legal and lawful
       pub stands : Stands rest ready log
       -- 3. what the words say of the log and of the tokens
-      pub tells : Tells log tokens s.words
+      pub tells : WordsFit log tokens s.words
       -- 4. where nobody is inside, the slot is at home, with what the log left
       pub home : IsGivenUp (turn log.events)
-          → (x : Lodged D) × (get_elem? s.homes 0 ≡ some (some (Some x))) × Lies log x
+          → (x : Guarded D) × (get_elem? s.homes 0 ≡ some (some (Some x))) × Lies log x
       -- and where somebody is inside, it is out
       pub out : (k : ℕ) → turn log.events ≡ Held k → get_elem? s.homes 0 ≡ some none
 
-    pub data Kept (n : ℕ) (s : Cells D) : Type 0 where
-      raw : Starts false s.words → s.homes ≡ some None ∷ [] → s.views ≡ Unopened n ∷ [] → Kept n s
-      lent : Starts true s.words → s.homes ≡ none ∷ [] → s.views ≡ Opening n ∷ [] → Kept n s
-      runs : Running n s → Kept n s
+    pub data TableInvariant (n : ℕ) (s : Cells D) : Type 0 where
+      raw : Initial false s.words → s.homes ≡ some None ∷ [] → s.views ≡ Unopened n ∷ [] → TableInvariant n s
+      lent : Initial true s.words → s.homes ≡ none ∷ [] → s.views ≡ Opening n ∷ [] → TableInvariant n s
+      runs : OpenInvariant n s → TableInvariant n s

@@ -7,36 +7,39 @@ use Rattle.hoare_law.specs.Beside.Erasure.{erased}
 use Rattle.hoare_law.specs.Lawful.{Rest, Ready}
 use Rattle.hoare_law.specs.Turns.{turn, IsGivenUp, outside}
 use Rattle.wait_book.specs.Contents.{Contents, IsOf}
-use Rattle.door_frame.specs.declared.parcel.Lodged.{Lodged}
-use Rattle.door_frame.specs.Steps.{Sat, Came}
+use Rattle.door_frame.specs.declared.parcel.Guarded.{Guarded}
+use Rattle.door_frame.specs.Steps.{SeatState, EnteredBy}
 use Rattle.door_frame.specs.Views.{alone}
 
 module _ {D : Type 0} where
   -- the seat of the place k, which knows f, without the slot
-  abbrev pub IsEmptyHanded : ℕ → History D → Sat D → Type 0
+  abbrev pub IsEmptyHanded : ℕ → History D → SeatState D → Type 0
   IsEmptyHanded k f me = me ≡ (alone k f, [])
 
   -- the same with the slot, empty: the book in hand is of f
-  abbrev pub IsInside : ℕ → History D → Sat D → Contents → Type 0
+  abbrev pub IsInside : ℕ → History D → SeatState D → Contents → Type 0
   IsInside k f me b = (me ≡ (alone k f, (0, None) ∷ [])) × IsOf b (erased f)
 
   -- the seat of a place that has given the monitor up, as it knows
-  abbrev pub IsBehind : Sat D → Type 0
-  IsBehind me = (k : ℕ) × (f : History D) × IsEmptyHanded k f me × IsGivenUp (turn f.events)
+  abbrev pub HasReleased : SeatState D → Type 0
+  HasReleased me = (k : ℕ) × (f : History D) × IsEmptyHanded k f me × IsGivenUp (turn f.events)
 
   -- the seat of the place k, which is outside
-  abbrev pub IsNewcomer : ℕ → Sat D → Type 0
-  IsNewcomer k me = (f : History D) × IsEmptyHanded k f me × (outside k f.events ≡ true)
+  abbrev pub IsEntering : ℕ → SeatState D → Type 0
+  IsEntering k me = (f : History D) × IsEmptyHanded k f me × (outside k f.events ≡ true)
 
   -- the seat of the place k, then outside or owed the monitor, came in by the event of its front, and took x
-  abbrev pub ComesIn : Rest D → Ready D → ℕ → (History D → D → Event D) → Sat D → Lodged D → Sat D → Type 0
-  ComesIn rest ready k event me x me' = (f : History D) → IsEmptyHanded k f me → Came rest ready k f (event f) x None me'
+  abbrev pub EntersWith : Rest D → Ready D → ℕ → (History D → D → Event D) → SeatState D → Guarded D → SeatState D
+      → Type 0
+  EntersWith rest ready k event me x me' = (f : History D) → IsEmptyHanded k f me
+      → EnteredBy rest ready k f (event f) x None me'
 
   -- the seat of the place k, then inside, stayed inside by the event
-  abbrev pub StaysIn : ℕ → (History D → Event D) → Sat D → Sat D → Type 0
+  abbrev pub StaysIn : ℕ → (History D → Event D) → SeatState D → SeatState D → Type 0
   StaysIn k event me me' = (f : History D) → me ≡ (alone k f, (0, None) ∷ [])
       → me' ≡ (alone k (with_event f (event f)), (0, None) ∷ [])
 
   -- the seat of the place k, then inside, gave up the data s by the event
-  abbrev pub GoesOut : ℕ → (D → Event D) → Sat D → D → Sat D → Type 0
-  GoesOut k event me s me' = (f : History D) → me ≡ (alone k f, (0, None) ∷ []) → IsEmptyHanded k (with_event f (event s)) me'
+  abbrev pub GoesOut : ℕ → (D → Event D) → SeatState D → D → SeatState D → Type 0
+  GoesOut k event me s me' = (f : History D) → me ≡ (alone k f, (0, None) ∷ [])
+      → IsEmptyHanded k (with_event f (event s)) me'

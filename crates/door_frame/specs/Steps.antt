@@ -13,20 +13,20 @@ use Rattle.hoare_law.specs.Lawful.{Rest, Ready, Owes, Stands}
 use Rattle.hoare_law.specs.Legal.{Allowed}
 use Rattle.hoare_law.specs.Turns.{turn, IsGivenUp}
 use Rattle.wait_book.specs.Contents.{IsOf, next_of}
-use Rattle.door_frame.specs.declared.parcel.Lodged.{Lodged}
+use Rattle.door_frame.specs.declared.parcel.Guarded.{Guarded}
 use Rattle.door_frame.specs.declared.view.Token.{Token}
-use Rattle.door_frame.specs.declared.view.View.{View}
-use Rattle.door_frame.specs.declared.view.View.TheVariants.{Unopened, Opening, Places}
+use Rattle.door_frame.specs.declared.view.SeatView.{SeatView}
+use Rattle.door_frame.specs.declared.view.SeatView.TheVariants.{Unopened, Opening, Places}
 use Rattle.wait_book.specs.declared.steps.Next.{Next}
 use Rattle.door_frame.specs.Views.{alone, sole, all_know, knowing, Each, Apart}
-use Rattle.door_frame.specs.declared.view.Knowledge.{Knowledge}
+use Rattle.door_frame.specs.declared.view.PlaceView.{PlaceView}
 
 -- a seat: its view, and the slot if it has it
-abbrev pub Sat : Type 0 → Type 0
-Sat D = Me (Option (Lodged D)) (View D)
+abbrev pub SeatState : Type 0 → Type 0
+SeatState D = Me (Option (Guarded D)) (SeatView D)
 
-abbrev pub Told : Type 0 → Type 1
-Told D = Step (Option (Lodged D)) → Sat D → ℕ → Sat D → Type 0
+abbrev pub StepContract : Type 0 → Type 1
+StepContract D = Step (Option (Guarded D)) → SeatState D → ℕ → SeatState D → Type 0
 
 module _ {D : Type 0} where
   -- the condition on which a place waits that did this last, if it does
@@ -45,22 +45,22 @@ module _ {D : Type 0} where
   abbrev pub due : ℕ → History D → D → Event D
   due k f s = due_by k (newest (own k f.events)) s
 
-  abbrev pub begins : Told D
+  abbrev pub begins : StepContract D
   begins st m r m' = (n : ℕ) → m.0 ≡ Unopened n → m' ≡ (Opening n, (0, None) ∷ [])
 
-  abbrev pub opens : Kinds → Told D
+  abbrev pub opens : Kinds → StepContract D
   opens kinds st m r m' =
-      (n : ℕ) (x : Lodged D) → m ≡ (Opening n, (0, Some x) ∷ [])
+      (n : ℕ) (x : Guarded D) → m ≡ (Opening n, (0, Some x) ∷ [])
       → m' ≡ (Places (all_know 0 n (opened (sizes_at kinds n) x.state)), [])
 
   -- the event that the holder picked, of the data in the slot
-  abbrev pub gives_as : (D → Event D) → Told D
+  abbrev pub gives_as : (D → Event D) → StepContract D
   gives_as event st m r m' =
-      (k : ℕ) (f : History D) (x : Lodged D) → m ≡ (alone k f, (0, Some x) ∷ [])
+      (k : ℕ) (f : History D) (x : Guarded D) → m ≡ (alone k f, (0, Some x) ∷ [])
       → m' ≡ (alone k (with_event f (event x.state)), [])
 
   -- the place k, inside with f, may give the slot back with x in it by the event, after which next goes on
-  pub record Gives (rest : Rest D) (ready : Ready D) (event : D → Event D) (k : ℕ) (f : History D) (x : Lodged D)
+  pub record Gives (rest : Rest D) (ready : Ready D) (event : D → Event D) (k : ℕ) (f : History D) (x : Guarded D)
       (next : Next) : Type 0 where
     pub inside : turn f.events ≡ Held k
     pub mine : place_of (event x.state) ≡ k
@@ -72,12 +72,12 @@ module _ {D : Type 0} where
     pub next_is : next ≡ next_of (turn (with_event f (event x.state)).events)
 
   -- the seat is that of the place k, inside with some f, which may do so
-  abbrev pub MayGive : Rest D → Ready D → (D → Event D) → ℕ → Sat D → Lodged D → Next → Type 0
+  abbrev pub MayGive : Rest D → Ready D → (D → Event D) → ℕ → SeatState D → Guarded D → Next → Type 0
   MayGive rest ready event k me x next =
       (f : History D) × (me ≡ (alone k f, (0, None) ∷ [])) × Gives rest ready event k f x next
 
   -- the event that the holder picked, of what it knew: it stays inside, with the slot in hand
-  abbrev pub notes_as : (History D → Event D) → Told D
+  abbrev pub notes_as : (History D → Event D) → StepContract D
   notes_as event st m r m' = (k : ℕ) (f : History D) → m ≡ (alone k f, (0, None) ∷ [])
       → m' ≡ (alone k (with_event f (event f)), (0, None) ∷ [])
 
@@ -90,12 +90,12 @@ module _ {D : Type 0} where
     pub stays : turn (with_event f e).events ≡ Held k
 
   -- the seat is that of the place k, inside with some f, which may do so
-  abbrev pub MayNote : Rest D → Ready D → (History D → Event D) → ℕ → Sat D → Type 0
+  abbrev pub MayNote : Rest D → Ready D → (History D → Event D) → ℕ → SeatState D → Type 0
   MayNote rest ready event k me = (f : History D) × (me ≡ (alone k f, (0, None) ∷ [])) × Notes rest ready (event f) k f
 
   -- the place k, which knew f, came in by the event and found x; it has the token t, and the slot that it holds has o
-  pub record CameWith (rest : Rest D) (ready : Ready D) (t : Option Token) (k : ℕ) (f : History D)
-      (event : D → Event D) (x : Lodged D) (o : Option (Lodged D)) (me : Sat D) : Type 0 where
+  pub record EnteredWith (rest : Rest D) (ready : Ready D) (t : Option Token) (k : ℕ) (f : History D)
+      (event : D → Event D) (x : Guarded D) (o : Option (Guarded D)) (me : SeatState D) : Type 0 where
     pub log : History D
     pub me_is : me ≡ (sole k (with_event log (event x.state)) t, (0, o) ∷ [])
     pub begins : Begins f log
@@ -104,34 +104,36 @@ module _ {D : Type 0} where
     pub book : IsOf x.book (erased log)
 
   -- the same where it has no token
-  abbrev pub Came : Rest D → Ready D → ℕ → History D → (D → Event D) → Lodged D → Option (Lodged D) → Sat D → Type 0
-  Came rest ready = CameWith rest ready None
+  abbrev pub EnteredBy : Rest D → Ready D → ℕ → History D → (D → Event D) → Guarded D → Option (Guarded D)
+      → SeatState D → Type 0
+  EnteredBy rest ready = EnteredWith rest ready None
 
   -- what a step tells that may bring the place k in: where the number found is a hit, k comes in by the event and takes
   -- the slot, with the token t, and of the log before holds what Also says; else nothing happened
-  abbrev pub ComesWith : Rest D → Ready D → Option Token → (ℕ → Type 0) → (History D → Type 0) → ℕ → History D
-      → (D → Event D) → Sat D → ℕ → Sat D → Type 0
-  ComesWith rest ready t Hit Also k f event m r m' =
+  abbrev pub EntryStepWith : Rest D → Ready D → Option Token → (ℕ → Type 0) → (History D → Type 0) → ℕ → History D
+      → (D → Event D) → SeatState D → ℕ → SeatState D → Type 0
+  EntryStepWith rest ready t Hit Also k f event m r m' =
       ((Hit r → ⊥) → m' ≡ m)
-      × (Hit r → (x : Lodged D) × (c : CameWith rest ready t k f event x (Some x) m') × Also c.log)
+      × (Hit r → (x : Guarded D) × (c : EnteredWith rest ready t k f event x (Some x) m') × Also c.log)
 
   -- the same where it then has none
-  abbrev pub Comes : Rest D → Ready D → (ℕ → Type 0) → (History D → Type 0) → ℕ → History D → (D → Event D) → Sat D → ℕ
-      → Sat D → Type 0
-  Comes rest ready = ComesWith rest ready None
+  abbrev pub EntryStep : Rest D → Ready D → (ℕ → Type 0) → (History D → Type 0) → ℕ → History D → (D → Event D)
+      → SeatState D → ℕ
+      → SeatState D → Type 0
+  EntryStep rest ready = EntryStepWith rest ready None
 
   -- the history begins with what the place knew, and has no other events of it
-  abbrev pub Known : History D → Knowledge D → Type 0
+  abbrev pub Known : History D → PlaceView D → Type 0
   Known log t = Begins t.front log × (own t.place log.events ≡ own t.place t.front.events)
 
   -- the places of a seat know the whole history
-  pub record Learns (rest : Rest D) (ready : Ready D) (log : History D) (ts : List (Knowledge D))
-      (me : Sat D) : Type 0 where
+  pub record Learns (rest : Rest D) (ready : Ready D) (log : History D) (ts : List (PlaceView D))
+      (me : SeatState D) : Type 0 where
     pub me_is : me ≡ (Places (knowing log ts), [])
     pub stands : Stands rest ready log
     pub fits : Each (Known log) ts
     pub apart : Apart ts
 
-  abbrev pub learns : Rest D → Ready D → Told D
+  abbrev pub learns : Rest D → Ready D → StepContract D
   learns rest ready st m r m' =
-      (ts : List (Knowledge D)) → m ≡ (Places ts, []) → (log : History D) × Learns rest ready log ts m'
+      (ts : List (PlaceView D)) → m ≡ (Places ts, []) → (log : History D) × Learns rest ready log ts m'

@@ -10,16 +10,16 @@ ghost use Rattle.hoare_law.specs.declared.turn.Turn.TheVariants as turns;
 ghost use Rattle.hoare_law.specs.Turns.{turn};
 ghost use Rattle.wait_book.specs.Contents.{IsOf, next_of, priorities_on};
 ghost use Rattle.door_frame.specs.Notices.{IsCounted, Noted, after_notice, called_on};
-ghost use Rattle.door_frame.specs.Places.{IsOut, IsIn, IsAway, IsBack, Handed, HandsTo, berth, place_in};
-ghost use Rattle.door_frame.specs.Steps.{Came, due};
+ghost use Rattle.door_frame.specs.Places.{IsOut, IsIn, IsAway, IsBack, Handed, HandsTo, place_id, place_in};
+ghost use Rattle.door_frame.specs.Steps.{EnteredBy, due};
 
 use crate::departure::Departure;
 use crate::notice::Notice;
 use crate::parcel::Parcel;
 use crate::parking::claim;
 use crate::place::{Away, Inside, Outside};
-use crate::plays::DoorSeat;
-use crate::turnstile::{Turnstile, Wakes};
+use crate::raw_monitor::{RawMonitor, Wakes};
+use crate::seat_steps::DoorSeat;
 use crate::waking::Parking;
 use hoare_law::data::MonitorData;
 use std::sync::Wait;
@@ -28,46 +28,46 @@ use wait_book::steps::Next;
 
 /// Makes a place inside of the parts of a place that was just admitted, and enters it in the queue book.
 #[inline]
-pub fn brought_in<D: MonitorData, S: Parking>(
+pub fn enter_with<D: MonitorData, S: Parking>(
     seat: DoorSeat<D>,
     place: usize,
     sleeper: S,
     mut parcel: Parcel<D>,
 ) -> Inside<D, S>
     requires came { (f : History D)
-        × Came D.rest D.ready place f (event.Admit place) parcel None seat.me }
+        × EnteredBy D.rest D.ready place f (event.Admit place) parcel None seat.me }
     ensures { (f : History D)
-        (c : Came D.rest D.ready place f (event.Admit place) parcel None seat.me)
-        → result ≡ place_in (berth seat.table_id (S.at seat.table_id sleeper)) place
+        (c : EnteredBy D.rest D.ready place f (event.Admit place) parcel None seat.me)
+        → result ≡ place_in (place_id seat.table_id (S.at seat.table_id sleeper)) place
         (with_event c.log (event.Admit place parcel.state)) parcel.state }
 {
-    parcel.held.lodged.book.admit(place);
+    parcel.held.guarded.book.admit(place);
     Inside::of_parts(seat, place, sleeper, parcel)
 }
 
 /// Makes a place inside of the parts of a place that just returned from a wait or a signal, and records its return in
 /// the queue book.
 #[inline]
-fn brought_back<D: MonitorData, S: Parking>(
+fn return_with<D: MonitorData, S: Parking>(
     seat: DoorSeat<D>,
     place: usize,
     sleeper: S,
     mut parcel: Parcel<D>,
 ) -> Inside<D, S>
     requires came { (f : History D)
-        × Came D.rest D.ready place f (due place f) parcel None seat.me }
-    ensures { (f : History D) (c : Came D.rest D.ready place f (due place f) parcel None seat.me)
-        → result ≡ place_in (berth seat.table_id (S.at seat.table_id sleeper)) place
+        × EnteredBy D.rest D.ready place f (due place f) parcel None seat.me }
+    ensures { (f : History D) (c : EnteredBy D.rest D.ready place f (due place f) parcel None seat.me)
+        → result ≡ place_in (place_id seat.table_id (S.at seat.table_id sleeper)) place
         (with_event c.log (due place f parcel.state)) parcel.state }
 {
-    parcel.held.lodged.book.claim(place);
+    parcel.held.guarded.book.claim(place);
     Inside::of_parts(seat, place, sleeper, parcel)
 }
 
 /// Implements `Monitor::try_enter`: enters if the door admits the place at this moment, else returns the place
 /// unchanged.
 #[inline]
-pub fn try_enter<D: MonitorData, T: Turnstile<D>, S: Parking>(
+pub fn try_enter<D: MonitorData, T: RawMonitor<D>, S: Parking>(
     door: &T,
     out: Outside<D, S>,
 ) -> Result<Inside<D, S>, Outside<D, S>>
@@ -82,7 +82,7 @@ pub fn try_enter<D: MonitorData, T: Turnstile<D>, S: Parking>(
 {
     let (mut seat, place, sleeper) = out.into_parts();
     match door.try_admit(&mut seat, place) {
-        Some(parcel) => Ok(brought_in(seat, place, sleeper, parcel)),
+        Some(parcel) => Ok(enter_with(seat, place, sleeper, parcel)),
         None => Err(Outside::of_parts(seat, place, sleeper)),
     }
 }
@@ -90,7 +90,7 @@ pub fn try_enter<D: MonitorData, T: Turnstile<D>, S: Parking>(
 /// Leaves as `Monitor::leave` does, and also returns which place resumes next. If the door doesn't wake its places, the
 /// caller wakes that place.
 #[inline(always)] // as `leave` is
-pub fn leave_to<D: MonitorData, T: Turnstile<D>, S: Parking>(
+pub fn leave_to<D: MonitorData, T: RawMonitor<D>, S: Parking>(
     door: &T,
     inside: Inside<D, S>,
 ) -> (Outside<D, S>, Next)
@@ -103,14 +103,14 @@ pub fn leave_to<D: MonitorData, T: Turnstile<D>, S: Parking>(
     ensures next { result.1 ≡ next_of (turn result.0.front.events) }
 {
     let (mut seat, place, sleeper, mut parcel) = inside.into_parts();
-    let next = parcel.held.lodged.book.leave(place);
-    door.hand_on(&mut seat, parcel, place, Departure::Leave, next);
+    let next = parcel.held.guarded.book.leave(place);
+    door.release(&mut seat, parcel, place, Departure::Leave, next);
     (Outside::of_parts(seat, place, sleeper), next)
 }
 
 /// Implements `Monitor::leave`.
-#[inline(always)] // else an inlined `hand_on` of the door is called
-pub fn leave<D: MonitorData, T: Turnstile<D>, S: Parking>(
+#[inline(always)] // else an inlined `release` of the door is called
+pub fn leave<D: MonitorData, T: RawMonitor<D>, S: Parking>(
     door: &T,
     inside: Inside<D, S>,
 ) -> Outside<D, S>
@@ -127,7 +127,7 @@ pub fn leave<D: MonitorData, T: Turnstile<D>, S: Parking>(
 /// Does the first half of `Monitor::wait`: releases the monitor. The place is then away, and returns by `try_return`.
 /// Also returns which place resumes next. If the door doesn't wake its places, the caller wakes that place.
 #[inline]
-pub fn begin_wait<D: MonitorData, T: Turnstile<D>, S: Parking>(
+pub fn begin_wait<D: MonitorData, T: RawMonitor<D>, S: Parking>(
     door: &T,
     inside: Inside<D, S>,
     condition: usize,
@@ -144,8 +144,8 @@ pub fn begin_wait<D: MonitorData, T: Turnstile<D>, S: Parking>(
     ensures next { result.1 ≡ next_of (turn result.0.front.events) }
 {
     let (mut seat, place, sleeper, mut parcel) = inside.into_parts();
-    let next = parcel.held.lodged.book.wait(place, condition, priority);
-    door.hand_on(
+    let next = parcel.held.guarded.book.wait(place, condition, priority);
+    door.release(
         &mut seat,
         parcel,
         place,
@@ -159,7 +159,7 @@ pub fn begin_wait<D: MonitorData, T: Turnstile<D>, S: Parking>(
 /// that signals is then away, and returns by `try_return`; also returns which place resumes next. If the door doesn't
 /// wake its places, the caller wakes that place. If no place waits there, returns the place inside, unchanged.
 #[inline]
-pub fn begin_signal<D: MonitorData, T: Turnstile<D>, S: Parking>(
+pub fn begin_signal<D: MonitorData, T: RawMonitor<D>, S: Parking>(
     door: &T,
     inside: Inside<D, S>,
     condition: usize,
@@ -181,15 +181,15 @@ pub fn begin_signal<D: MonitorData, T: Turnstile<D>, S: Parking>(
         return Err(inside);
     }
     let (mut seat, place, sleeper, mut parcel) = inside.into_parts();
-    let next = parcel.held.lodged.book.signal(place, condition);
-    door.hand_on(&mut seat, parcel, place, Departure::Signal(condition), next);
+    let next = parcel.held.guarded.book.signal(place, condition);
+    door.release(&mut seat, parcel, place, Departure::Signal(condition), next);
     Ok((Away::of_parts(seat, place, sleeper), next))
 }
 
 /// Does the second half of `Monitor::wait` and of `Monitor::signal` if the monitor is owed to the place at this moment:
 /// the place is inside again. Else returns the place unchanged. Never blocks.
 #[inline]
-pub fn try_return<D: MonitorData, T: Turnstile<D>, S: Parking>(
+pub fn try_return<D: MonitorData, T: RawMonitor<D>, S: Parking>(
     door: &T,
     away: Away<D, S>,
 ) -> Result<Inside<D, S>, Away<D, S>>
@@ -200,7 +200,7 @@ pub fn try_return<D: MonitorData, T: Turnstile<D>, S: Parking>(
 {
     let (mut seat, place, sleeper) = away.into_parts();
     match door.try_claim(&mut seat, place) {
-        Some(parcel) => Ok(brought_back(seat, place, sleeper, parcel)),
+        Some(parcel) => Ok(return_with(seat, place, sleeper, parcel)),
         None => Err(Away::of_parts(seat, place, sleeper)),
     }
 }
@@ -214,7 +214,7 @@ fn come_back<D: MonitorData, T: Wakes<D>, R: Wait>(door: &T, rt: &R, away: Away<
 {
     let (mut seat, place, sleeper) = away.into_parts();
     let parcel = claim(door, rt, &mut seat, place, &sleeper);
-    brought_back(seat, place, sleeper, parcel)
+    return_with(seat, place, sleeper, parcel)
 }
 
 /// Implements `Monitor::wait`, at a door that wakes its places.
@@ -270,7 +270,7 @@ pub fn signal<D: MonitorData, T: Wakes<D>, R: Wait>(
 /// Signals and leaves as `Monitor::signal_leave` does, and also returns which place resumes next. If the door doesn't
 /// wake its places, the caller wakes that place.
 #[inline(always)] // as `signal_leave` is
-pub fn signal_leave_to<D: MonitorData, T: Turnstile<D>, S: Parking>(
+pub fn signal_leave_to<D: MonitorData, T: RawMonitor<D>, S: Parking>(
     door: &T,
     inside: Inside<D, S>,
     condition: usize,
@@ -292,14 +292,14 @@ pub fn signal_leave_to<D: MonitorData, T: Turnstile<D>, S: Parking>(
         return (out, false, next);
     }
     let (mut seat, place, sleeper, mut parcel) = inside.into_parts();
-    let next = parcel.held.lodged.book.pass(place, condition);
-    door.hand_on(&mut seat, parcel, place, Departure::Pass(condition), next);
+    let next = parcel.held.guarded.book.pass(place, condition);
+    door.release(&mut seat, parcel, place, Departure::Pass(condition), next);
     (Outside::of_parts(seat, place, sleeper), true, next)
 }
 
 /// Implements `Monitor::signal_leave`.
 #[inline(always)] // as `leave` is, which it calls if nobody waits
-pub fn signal_leave<D: MonitorData, T: Turnstile<D>, S: Parking>(
+pub fn signal_leave<D: MonitorData, T: RawMonitor<D>, S: Parking>(
     door: &T,
     inside: Inside<D, S>,
     condition: usize,
@@ -337,7 +337,7 @@ fn book_calls(book: &mut Book, place: usize, notice: Notice) -> usize
 /// Notifies the waiters that `notice` names, of whom there is at least one. Returns how many it notified (specified of
 /// a broadcast only).
 #[inline]
-fn call<D: MonitorData, T: Turnstile<D>, S: Parking>(
+fn call<D: MonitorData, T: RawMonitor<D>, S: Parking>(
     door: &T,
     inside: &mut Inside<D, S>,
     notice: Notice,
@@ -352,11 +352,11 @@ fn call<D: MonitorData, T: Turnstile<D>, S: Parking>(
     let place = inside.place;
     door.note(&mut inside.seat, &inside.parcel, place, notice);
     let parcel = &mut inside.parcel;
-    book_calls(&mut parcel.held.lodged.book, place, notice)
+    book_calls(&mut parcel.held.guarded.book, place, notice)
 }
 
 /// Implements `Monitor::notify`.
-pub fn notify<D: MonitorData, T: Turnstile<D>, S: Parking>(
+pub fn notify<D: MonitorData, T: RawMonitor<D>, S: Parking>(
     door: &T,
     inside: &mut Inside<D, S>,
     condition: usize,
@@ -380,7 +380,7 @@ pub fn notify<D: MonitorData, T: Turnstile<D>, S: Parking>(
 }
 
 /// Implements `Monitor::broadcast`.
-pub fn broadcast<D: MonitorData, T: Turnstile<D>, S: Parking>(
+pub fn broadcast<D: MonitorData, T: RawMonitor<D>, S: Parking>(
     door: &T,
     inside: &mut Inside<D, S>,
     condition: usize,

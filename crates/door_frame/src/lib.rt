@@ -4,18 +4,18 @@
 
 pub mod calls;
 pub mod departure;
-pub mod glance;
 pub mod making;
 pub mod notice;
 pub mod parcel;
 pub mod parking;
 pub mod place;
-pub mod plays;
 pub mod polling;
+pub mod raw_monitor;
 pub mod rule;
 pub mod running;
+pub mod seat_steps;
 pub mod slot;
-pub mod turnstile;
+pub mod status;
 pub mod view;
 pub mod waking;
 pub mod yields;

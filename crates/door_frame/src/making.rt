@@ -6,14 +6,14 @@ ghost use Rattle.hoare_law.specs.Priorities.{nobody};
 ghost use Rattle.hoare_law.specs.Sizes.{kinds_of, sizes_of};
 ghost use Rattle.wait_book.specs.Contents.{make_refusal};
 ghost use Rattle.door_frame.specs.Making.{AreParts};
-ghost use Rattle.door_frame.specs.declared.view.View.TheVariants.{Unopened, Places};
+ghost use Rattle.door_frame.specs.declared.view.SeatView.TheVariants.{Unopened, Places};
 ghost use Rattle.door_frame.specs.Views.{all_know};
 ghost use Rattle.door_frame.specs.Places.{door_of, places_from, HasPlace, IsOut, Closes};
 
 use crate::parcel::Parcel;
 use crate::place::Outside;
-use crate::plays::{Deal, DoorSeat, Gather};
 use crate::rule::{DoorTable, Words};
+use crate::seat_steps::{DoorSeat, MergePlaces, SplitFirst};
 use crate::waking::{ByCaller, Parking, Sleeper, Waker};
 use atomic_table::Table;
 use hoare_law::data::MonitorData;
@@ -129,7 +129,7 @@ pub fn deal<D: MonitorData, K, W: Words<D, K>>(
         → result.items ≡ places_from (door_of table.now.shared.table_id places (reverse sleepers.items)) 0 places f }
 {
     for place in 0..places {
-        let cut = table.shared.split_seat::<Deal>(&mut seat);
+        let cut = table.shared.split_seat::<SplitFirst>(&mut seat);
         let sleeper = sleepers.pop().unwrap();
         outs.push_reserved(Outside::of_parts(cut, place, sleeper));
     }
@@ -151,7 +151,7 @@ pub fn deal_by_caller<D: MonitorData, K, W: Words<D, K>>(
         → result.items ≡ places_from (door_of table.now.shared.table_id places []) 0 places f }
 {
     for place in 0..places {
-        let cut = table.shared.split_seat::<Deal>(&mut seat);
+        let cut = table.shared.split_seat::<SplitFirst>(&mut seat);
         outs.push_reserved(Outside::of_parts(cut, place, ByCaller));
     }
     outs
@@ -194,7 +194,7 @@ pub fn closed_as<D: MonitorData, K, W: Words<D, K>, S: Parking + Drop, V: Drop, 
     let (mut seat, _, _) = first.into_parts();
     while let Some(out) = outs.pop() {
         let (other, _, _) = out.into_parts();
-        table.shared.join_seat::<Gather>(&mut seat, other);
+        table.shared.join_seat::<MergePlaces>(&mut seat, other);
     }
     let mut closed = table.close_with(seat);
     let parcel = closed.take(0).unwrap();

@@ -4,7 +4,7 @@
 //! that releases the monitor sets it; only the place itself clears it.
 //!
 //! - The place tests its word before each park (`claim`).
-//! - The releasing thread first writes the word, then unparks the place (`Turnstile::hand_on`, `Waker::wake`).
+//! - The releasing thread first writes the word, then unparks the place (`RawMonitor::release`, `Waker::wake`).
 //! - A parker holds one permit: if the place is awake when it is unparked, its next park returns at once.
 //!
 //! A test after the write finds the monitor owed. If the test comes before the write, the unpark comes after the test:
@@ -14,18 +14,18 @@ ghost use Rattle.std.specs.Prelude.{◌≡◌, ◌<◌};
 ghost use Rattle.hoare_law.specs.declared.event.History.{History};
 ghost use Rattle.door_frame.specs.Places.{sleeper_at};
 ghost use Rattle.door_frame.specs.Steps.{due};
-ghost use Rattle.door_frame.specs.Seats.{IsEmptyHanded, ComesIn};
+ghost use Rattle.door_frame.specs.Seats.{IsEmptyHanded, EntersWith};
 
 use crate::parcel::Parcel;
-use crate::plays::DoorSeat;
 use crate::polling::pause;
-use crate::turnstile::{Turnstile, Wakes};
+use crate::raw_monitor::{RawMonitor, Wakes};
+use crate::seat_steps::DoorSeat;
 use crate::waking::Sleeper;
 use hoare_law::data::MonitorData;
 use std::sync::Wait;
 
 /// Polls for a while until the monitor is owed to `place`.
-fn poll_for_turn<D: MonitorData, T: Turnstile<D>>(door: &T, place: usize)
+fn poll_for_turn<D: MonitorData, T: RawMonitor<D>>(door: &T, place: usize)
     requires { place < (T.id door.now).places }
 {
     let polling = door.polling();
@@ -51,7 +51,7 @@ pub fn claim<D: MonitorData, T: Wakes<D>, R: Wait>(
     requires sleeper { sleeper.now ≡ sleeper_at (T.id door.now) place }
     requires away { (f : History D) × IsEmptyHanded place f seat.old.me }
     ensures table { seat.new.table_id ≡ seat.old.table_id }
-    ensures came { ComesIn D.rest D.ready place (due place) seat.old.me result seat.new.me }
+    ensures came { EntersWith D.rest D.ready place (due place) seat.old.me result seat.new.me }
 {
     poll_for_turn(door, place);
     for _ in rt.forever() {

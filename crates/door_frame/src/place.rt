@@ -3,7 +3,7 @@ ghost use Rattle.std.specs.Prelude.{◌≡◌, true};
 ghost use Rattle.door_frame.specs.Views.{is_alone};
 
 use crate::parcel::Parcel;
-use crate::plays::DoorSeat;
+use crate::seat_steps::DoorSeat;
 use crate::waking::{Parking, Sleeper};
 use std::marker::Model;
 use wait_book::book::Book;
@@ -19,13 +19,13 @@ pub struct Outside<D, S: Parking = Sleeper> {
 }
 
 impl<D, S: Parking> Model for Outside<D, S> {
-    ghost use Rattle.door_frame.specs.Places.{PlaceOut, berth, place_out};
+    ghost use Rattle.door_frame.specs.Places.{PlaceOut, place_id, place_out};
     ghost use Rattle.door_frame.specs.Views.{front_of};
     ghost use Rattle.door_frame.specs.Seats.{IsEmptyHanded};
 
     ghost Value = { PlaceOut D };
 
-    ghost view = { λ o. place_out (berth o.seat.table_id (S.at o.seat.table_id o.sleeper)) o.place
+    ghost view = { λ o. place_out (place_id o.seat.table_id (S.at o.seat.table_id o.sleeper)) o.place
         (front_of o.seat.me.0 o.alone) };
 
     ghost invariant = { λ o. IsEmptyHanded o.place (front_of o.seat.me.0 o.alone) o.seat.me };
@@ -34,7 +34,7 @@ impl<D, S: Parking> Model for Outside<D, S> {
 impl<D, S: Parking> Outside<D, S> {
     ghost use Rattle.hoare_law.specs.declared.event.History.{History};
     ghost use Rattle.std.specs.Prelude.{◌≡◌, true};
-    ghost use Rattle.door_frame.specs.Places.{berth, place_out};
+    ghost use Rattle.door_frame.specs.Places.{place_id, place_out};
     ghost use Rattle.door_frame.specs.Seats.{IsEmptyHanded};
     ghost use Rattle.door_frame.specs.Views.{is_alone, front_of};
 
@@ -43,7 +43,7 @@ impl<D, S: Parking> Outside<D, S> {
     pub fn of_parts(seat: DoorSeat<D>, place: usize, sleeper: S) -> Outside<D, S>
         requires { (f : History D) × IsEmptyHanded place f seat.me }
         ensures { (f : History D) → IsEmptyHanded place f seat.me
-            → result ≡ place_out (berth seat.table_id (S.at seat.table_id sleeper)) place f }
+            → result ≡ place_out (place_id seat.table_id (S.at seat.table_id sleeper)) place f }
     {
         Outside {
             seat,
@@ -62,7 +62,7 @@ impl<D, S: Parking> Outside<D, S> {
     /// Takes the place apart: its seat, its number, and what it parks on.
     #[inline]
     pub fn into_parts(self) -> (DoorSeat<D>, usize, S)
-        ensures { (berth result.0.table_id (S.at result.0.table_id result.2) ≡ self.berth) × (result.1 ≡ self.place)
+        ensures { (place_id result.0.table_id (S.at result.0.table_id result.2) ≡ self.place_id) × (result.1 ≡ self.place)
             × IsEmptyHanded self.place self.front result.0.me }
     {
         let Outside {
@@ -92,7 +92,7 @@ impl<D, S: Parking> Model for Away<D, S> {
 impl<D, S: Parking> Away<D, S> {
     ghost use Rattle.hoare_law.specs.declared.event.History.{History};
     ghost use Rattle.std.specs.Prelude.{◌≡◌};
-    ghost use Rattle.door_frame.specs.Places.{berth, place_out};
+    ghost use Rattle.door_frame.specs.Places.{place_id, place_out};
     ghost use Rattle.door_frame.specs.Seats.{IsEmptyHanded};
 
     /// Creates a place that waits or has signalled, of its parts.
@@ -100,7 +100,7 @@ impl<D, S: Parking> Away<D, S> {
     pub(crate) fn of_parts(seat: DoorSeat<D>, place: usize, sleeper: S) -> Away<D, S>
         requires { (f : History D) × IsEmptyHanded place f seat.me }
         ensures { (f : History D) → IsEmptyHanded place f seat.me
-            → result ≡ place_out (berth seat.table_id (S.at seat.table_id sleeper)) place f }
+            → result ≡ place_out (place_id seat.table_id (S.at seat.table_id sleeper)) place f }
     {
         Away {
             spot: Outside::of_parts(seat, place, sleeper),
@@ -110,7 +110,7 @@ impl<D, S: Parking> Away<D, S> {
     /// Takes the place apart: its seat, its number, and what it parks on.
     #[inline]
     pub(crate) fn into_parts(self) -> (DoorSeat<D>, usize, S)
-        ensures { (berth result.0.table_id (S.at result.0.table_id result.2) ≡ self.berth)
+        ensures { (place_id result.0.table_id (S.at result.0.table_id result.2) ≡ self.place_id)
             × (result.1 ≡ self.place) × IsEmptyHanded self.place self.front result.0.me }
     {
         let Away { spot } = self;
@@ -131,13 +131,13 @@ pub struct Inside<D, S: Parking = Sleeper> {
 }
 
 impl<D, S: Parking> Model for Inside<D, S> {
-    ghost use Rattle.door_frame.specs.Places.{PlaceIn, berth, place_in};
+    ghost use Rattle.door_frame.specs.Places.{PlaceIn, place_id, place_in};
     ghost use Rattle.door_frame.specs.Views.{front_of};
     ghost use Rattle.door_frame.specs.Seats.{IsInside};
 
     ghost Value = { PlaceIn D };
 
-    ghost view = { λ i. place_in (berth i.seat.table_id (S.at i.seat.table_id i.sleeper)) i.place
+    ghost view = { λ i. place_in (place_id i.seat.table_id (S.at i.seat.table_id i.sleeper)) i.place
         (front_of i.seat.me.0 i.alone) i.parcel.state };
 
     ghost invariant = { λ i. IsInside i.place
@@ -151,7 +151,7 @@ impl<D, S: Parking> Inside<D, S> {
     ghost use Rattle.hoare_law.specs.Priorities.{priorities};
     ghost use Rattle.hoare_law.specs.Waiting.{waiting, chosen, priority_of};
     ghost use Rattle.wait_book.specs.Contents.{priorities_on};
-    ghost use Rattle.door_frame.specs.Places.{berth, place_in};
+    ghost use Rattle.door_frame.specs.Places.{place_id, place_in};
     ghost use Rattle.door_frame.specs.Seats.{IsInside};
 
     /// Creates a place inside of its parts.
@@ -164,7 +164,7 @@ impl<D, S: Parking> Inside<D, S> {
     ) -> Inside<D, S>
         requires { (f : History D) × IsInside place f seat.me parcel.book }
         ensures { (f : History D) → IsInside place f seat.me parcel.book
-            → result ≡ place_in (berth seat.table_id (S.at seat.table_id sleeper)) place f parcel.state }
+            → result ≡ place_in (place_id seat.table_id (S.at seat.table_id sleeper)) place f parcel.state }
     {
         Inside {
             seat,
@@ -177,7 +177,7 @@ impl<D, S: Parking> Inside<D, S> {
     /// Takes the place apart: its seat, its number, what it parks on, and the parcel.
     #[inline]
     pub(crate) fn into_parts(self) -> (DoorSeat<D>, usize, S, Parcel<D>)
-        ensures parts { place_in (berth result.0.table_id (S.at result.0.table_id result.2))
+        ensures parts { place_in (place_id result.0.table_id (S.at result.0.table_id result.2))
             result.1 self.front result.3.state
             ≡ self }
         ensures seat { IsInside result.1 self.front result.0.me result.3.book }
@@ -222,6 +222,6 @@ impl<D, S: Parking> Inside<D, S> {
     pub fn state(&self) -> &D
         ensures { result.now ≡ self.now.state }
     {
-        &self.parcel.held.lodged.state
+        &self.parcel.held.guarded.state
     }
 }

@@ -1,9 +1,9 @@
 //! The rule of a door's table.
-ghost use Rattle.door_frame.specs.Rule.{Kept};
+ghost use Rattle.door_frame.specs.Rule.{TableInvariant};
 ghost use Rattle.door_frame.specs.Views.{unopened};
 
 use crate::parcel::Parcel;
-use crate::view::View;
+use crate::view::SeatView;
 use atomic_table::{Table, TableRule};
 use hoare_law::data::MonitorData;
 use std::alloc::Global;
@@ -34,12 +34,12 @@ pub struct Rule<W> {
     of: PhantomData<W>,
 }
 
-impl<D: MonitorData, K, W: Words<D, K>> TableRule<Option<Parcel<D>>, View<D>, K> for Rule<W> {
-    ghost holds = { λ key. Kept (W.starts key) (W.tells key)
+impl<D: MonitorData, K, W: Words<D, K>> TableRule<Option<Parcel<D>>, SeatView<D>, K> for Rule<W> {
+    ghost holds = { λ key. TableInvariant (W.starts key) (W.tells key)
         D.rest D.ready (W.kinds key) (W.places key) };
 
     ghost first = { λ key. unopened (W.places key) };
 }
 
 /// The table of a door. It has one slot.
-pub type DoorTable<D, K, W> = Table<Option<Parcel<D>>, View<D>, K, Rule<W>, Global>;
+pub type DoorTable<D, K, W> = Table<Option<Parcel<D>>, SeatView<D>, K, Rule<W>, Global>;

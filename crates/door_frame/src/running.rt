@@ -9,7 +9,7 @@ ghost use Rattle.door_frame.specs.Places.{places_from, HasPlace, Closes};
 use crate::calls;
 use crate::making::parts_for;
 use crate::place::{Inside, Outside};
-use crate::turnstile::{Opens, Runs};
+use crate::raw_monitor::{Opens, Runs};
 use hoare_law::data::MonitorData;
 use hoare_law::monitor::Monitor;
 use std::alloc::Global;
@@ -23,31 +23,31 @@ use wait_book::steps::MakeRefused;
 /// reference, each with its own place. It has the calls of its turnstile too. A contract sees the turnstile.
 #[derive(Drop)]
 pub struct RunningMonitor<T> {
-    turnstile: T,
+    raw_monitor: T,
 }
 
 impl<T> Model for RunningMonitor<T> {
     ghost Value = { T };
 
-    ghost view = { λ m. m.turnstile };
+    ghost view = { λ m. m.raw_monitor };
 }
 
 impl<T> RunningMonitor<T> {
     ghost use Rattle.std.specs.Prelude.{◌≡◌};
 
     /// Creates the monitor over a turnstile.
-    pub fn new(turnstile: T) -> RunningMonitor<T>
-        ensures { result ≡ turnstile }
+    pub fn new(raw_monitor: T) -> RunningMonitor<T>
+        ensures { result ≡ raw_monitor }
     {
-        RunningMonitor { turnstile }
+        RunningMonitor { raw_monitor }
     }
 
     /// Returns the turnstile.
-    pub fn into_turnstile(self) -> T
+    pub fn into_raw(self) -> T
         ensures { result ≡ self }
     {
-        let RunningMonitor { turnstile } = self;
-        turnstile
+        let RunningMonitor { raw_monitor } = self;
+        raw_monitor
     }
 
     /// Creates a monitor of 1 to 64 places and `D::CONDITIONS` conditions, 1 to 8, opened with the data, and its
@@ -74,7 +74,7 @@ impl<T> RunningMonitor<T> {
     {
         let parts = parts_for(alloc, state, places)?;
         match T::open(alloc, parts) {
-            Ok((turnstile, outs)) => Ok((RunningMonitor { turnstile }, outs)),
+            Ok((raw_monitor, outs)) => Ok((RunningMonitor { raw_monitor }, outs)),
             Err(state) => Err((state, MakeRefused::Memory)),
         }
     }
@@ -90,8 +90,8 @@ impl<T> RunningMonitor<T> {
         ensures closes { Closes D.rest D.ready (T.kinds self) (T.id self) outs.items result }
         ensures rest { D.rest result nobody }
     {
-        let RunningMonitor { turnstile } = self;
-        turnstile.close(outs)
+        let RunningMonitor { raw_monitor } = self;
+        raw_monitor.close(outs)
     }
 }
 
@@ -104,7 +104,7 @@ impl<T> Deref for RunningMonitor<T> {
 
     #[inline]
     fn deref(&self) -> &T {
-        &self.turnstile
+        &self.raw_monitor
     }
 }
 
@@ -141,17 +141,17 @@ impl<D: MonitorData + Send, T: Runs<D>> Monitor<D> for RunningMonitor<T> {
 
     #[inline]
     fn enter<R: Wait>(&self, rt: &R, out: Outside<D>) -> Inside<D> {
-        self.turnstile.enter(rt, out)
+        self.raw_monitor.enter(rt, out)
     }
 
     #[inline]
     fn try_enter(&self, out: Outside<D>) -> Result<Inside<D>, Outside<D>> {
-        calls::try_enter(&self.turnstile, out)
+        calls::try_enter(&self.raw_monitor, out)
     }
 
     #[inline(always)] // as `calls::leave` is
     fn leave<R: Wait>(&self, rt: &R, inside: Inside<D>) -> Outside<D> {
-        calls::leave(&self.turnstile, inside)
+        calls::leave(&self.raw_monitor, inside)
     }
 
     fn wait<R: Wait>(
@@ -161,11 +161,11 @@ impl<D: MonitorData + Send, T: Runs<D>> Monitor<D> for RunningMonitor<T> {
         condition: usize,
         priority: u64,
     ) -> Inside<D> {
-        calls::wait(&self.turnstile, rt, inside, condition, priority)
+        calls::wait(&self.raw_monitor, rt, inside, condition, priority)
     }
 
     fn signal<R: Wait>(&self, rt: &R, inside: Inside<D>, condition: usize) -> (Inside<D>, bool) {
-        calls::signal(&self.turnstile, rt, inside, condition)
+        calls::signal(&self.raw_monitor, rt, inside, condition)
     }
 
     #[inline(always)] // as `calls::signal_leave` is: if nobody waits it is a plain leave
@@ -175,15 +175,15 @@ impl<D: MonitorData + Send, T: Runs<D>> Monitor<D> for RunningMonitor<T> {
         inside: Inside<D>,
         condition: usize,
     ) -> (Outside<D>, bool) {
-        calls::signal_leave(&self.turnstile, inside, condition)
+        calls::signal_leave(&self.raw_monitor, inside, condition)
     }
 
     fn notify(&self, inside: &mut Inside<D>, condition: usize) -> bool {
-        calls::notify(&self.turnstile, inside, condition)
+        calls::notify(&self.raw_monitor, inside, condition)
     }
 
     fn broadcast(&self, inside: &mut Inside<D>, condition: usize) -> usize {
-        calls::broadcast(&self.turnstile, inside, condition)
+        calls::broadcast(&self.raw_monitor, inside, condition)
     }
 
     fn state<'a>(&self, inside: &'a Inside<D>) -> &'a D {
@@ -192,7 +192,7 @@ impl<D: MonitorData + Send, T: Runs<D>> Monitor<D> for RunningMonitor<T> {
 
     fn state_mut<'a>(inside: &'a mut Inside<D>, monitor: &Self) -> &'a mut D {
         let parcel = &mut inside.parcel;
-        &mut parcel.held.lodged.state
+        &mut parcel.held.guarded.state
     }
 
     fn lists<'a>(&self, inside: &'a Inside<D>) -> &'a Book {

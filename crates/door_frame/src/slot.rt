@@ -1,11 +1,11 @@
 //! The slot in the hand of the place that is inside.
 ghost use Rattle.std.specs.Prelude.{◌≡◌, [], ◌∷◌, None, Some};
-ghost use Rattle.door_frame.specs.declared.view.View.{View};
-ghost use Rattle.door_frame.specs.declared.parcel.Lodged.{Lodged};
+ghost use Rattle.door_frame.specs.declared.view.SeatView.{SeatView};
+ghost use Rattle.door_frame.specs.declared.parcel.Guarded.{Guarded};
 
 use crate::parcel::Parcel;
-use crate::plays::DoorSeat;
 use crate::rule::{DoorTable, Words};
+use crate::seat_steps::DoorSeat;
 use hoare_law::data::MonitorData;
 
 /// Who came in takes what lies in the slot.
@@ -15,7 +15,7 @@ pub fn take_parcel<D: MonitorData, K, W: Words<D, K>>(
     seat: &mut DoorSeat<D>,
 ) -> Parcel<D>
     requires table { seat.old.table_id ≡ table.now.shared.table_id }
-    requires full { (v : View D) × (x : Lodged D) × (seat.old.me ≡ (v, (0, Some x) ∷ [])) }
+    requires full { (v : SeatView D) × (x : Guarded D) × (seat.old.me ≡ (v, (0, Some x) ∷ [])) }
     ensures table { seat.new.table_id ≡ seat.old.table_id }
     ensures taken { seat.old.me ≡ (seat.old.me.0, (0, Some result) ∷ []) }
     ensures empty { seat.new.me ≡ (seat.old.me.0, (0, None) ∷ []) }
@@ -25,13 +25,13 @@ pub fn take_parcel<D: MonitorData, K, W: Words<D, K>>(
 
 /// Who goes lays it back.
 #[inline]
-pub fn lay_parcel<D: MonitorData, K, W: Words<D, K>>(
+pub fn put_parcel<D: MonitorData, K, W: Words<D, K>>(
     table: &DoorTable<D, K, W>,
     seat: &mut DoorSeat<D>,
     parcel: Parcel<D>,
 )
     requires table { seat.old.table_id ≡ table.now.shared.table_id }
-    requires empty { (v : View D) × (seat.old.me ≡ (v, (0, None) ∷ [])) }
+    requires empty { (v : SeatView D) × (seat.old.me ≡ (v, (0, None) ∷ [])) }
     ensures table { seat.new.table_id ≡ seat.old.table_id }
     ensures laid { seat.new.me ≡ (seat.old.me.0, (0, Some parcel) ∷ []) }
 {

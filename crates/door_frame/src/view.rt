@@ -11,7 +11,7 @@ pub enum Token {
 }
 
 /// A place, with its front (the history that it knows) and its token, if it has one.
-pub struct Knowledge<D> {
+pub struct PlaceView<D> {
     /// The place's number.
     pub place: usize,
     /// The history that it knows: a beginning of the log.
@@ -21,11 +21,11 @@ pub struct Knowledge<D> {
 }
 
 /// What a seat knows.
-pub enum View<D> {
+pub enum SeatView<D> {
     /// The first seat, while the slot is still empty: the door is to have this number of places.
     Unopened(usize),
     /// The first seat, with the slot in hand.
     Opening(usize),
     /// The places that a seat stands for.
-    Places(LinkedList<Knowledge<D>>),
+    Places(LinkedList<PlaceView<D>>),
 }

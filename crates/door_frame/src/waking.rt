@@ -1,9 +1,9 @@
 //! What a place parks on, what wakes it, and what shows that it was woken.
 ghost use Rattle.std.specs.Prelude.{◌≡◌, true, IfOk};
 ghost use Rattle.crossbeam_utils.specs.Token.{parker_view};
-ghost use Rattle.door_frame.specs.Seats.{IsBehind};
+ghost use Rattle.door_frame.specs.Seats.{HasReleased};
 
-use crate::plays::DoorSeat;
+use crate::seat_steps::DoorSeat;
 use crossbeam_utils::rule::{Outcome, Protocol};
 use crossbeam_utils::sync::parker::{Pass, RuledParker, RuledUnparker};
 use std::alloc::{AllocError, Global};
@@ -125,7 +125,7 @@ impl Waker {
     /// woken before that finds nothing, and parks again.
     #[inline]
     pub fn wake<D>(&self, seat: &DoorSeat<D>) -> Woken
-        requires given_up { IsBehind seat.now.me }
+        requires given_up { HasReleased seat.now.me }
         ensures { result ≡ self.now }
     {
         let mut pass = self.unparker.pass();

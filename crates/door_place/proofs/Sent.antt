@@ -73,14 +73,14 @@ Door = door.the_row Word (data_ghosts u64 (number 1))
 door_sync : IsSync Door
 door_sync = doors.the_sync Word (data_ghosts u64 (number 1)) word_send
 
-abbrev Kept : RattleType
-Kept = option.the_row returned.the_row
+abbrev TableInvariant : RattleType
+TableInvariant = option.the_row returned.the_row
 
 abbrev Slot : RattleType
-Slot = slot.the_row Kept Door (option_ghosts returned.the_row Door returned_ghosts no_dict)
+Slot = slot.the_row TableInvariant Door (option_ghosts returned.the_row Door returned_ghosts no_dict)
 
 slot_sync : IsSync Slot
-slot_sync = slots.the_sync Kept Door (option_ghosts returned.the_row Door returned_ghosts no_dict)
+slot_sync = slots.the_sync TableInvariant Door (option_ghosts returned.the_row Door returned_ghosts no_dict)
     (options.the_send returned.the_row returns.the_send) (options.the_sync returned.the_row returned_sync)
 
 shared_sync : IsSync shared.the_row

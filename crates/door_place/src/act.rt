@@ -224,7 +224,7 @@ impl Act for Set {
             return (state, NOT_INSIDE);
         };
         let parcel = &mut inside.parcel;
-        parcel.held.lodged.state.value = value;
+        parcel.held.guarded.state.value = value;
         (State::Inside(inside), DONE)
     }
 }

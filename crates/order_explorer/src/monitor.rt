@@ -107,7 +107,7 @@ impl<D: MonitorData + Send> Monitor<D> for Explored<D> {
 
     fn state_mut<'a>(inside: &'a mut Inside<D>, monitor: &Self) -> &'a mut D {
         let parcel = &mut inside.parcel;
-        &mut parcel.held.lodged.state
+        &mut parcel.held.guarded.state
     }
 
     fn lists<'a>(&self, inside: &'a Inside<D>) -> &'a Book {

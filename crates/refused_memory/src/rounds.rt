@@ -80,7 +80,7 @@ pub trait SharedVisits: Monitor<Visits> + Sync {
 
 impl SharedVisits for Door<Visits> {
     fn newcomers(&self) -> u64 {
-        self.glance().newcomers
+        self.status().newcomers
     }
 
     fn pass_on<R: Wait>(&self, rt: &R, inside: Inside<Visits>, condition: usize) -> Outside<Visits>
@@ -94,7 +94,7 @@ impl SharedVisits for Door<Visits> {
 
 impl SharedVisits for TicketDoor<Visits> {
     fn newcomers(&self) -> u64 {
-        self.glance().newcomers
+        self.status().newcomers
     }
 
     fn pass_on<R: Wait>(&self, _rt: &R, inside: Inside<Visits>, condition: usize) -> Outside<Visits>
@@ -108,7 +108,7 @@ impl SharedVisits for TicketDoor<Visits> {
 
 impl SharedVisits for AnyDoor<Visits> {
     fn newcomers(&self) -> u64 {
-        self.glance().newcomers
+        self.status().newcomers
     }
 
     fn pass_on<R: Wait>(&self, rt: &R, inside: Inside<Visits>, condition: usize) -> Outside<Visits>

@@ -7,7 +7,7 @@ use hoare_law::waits::Waits;
 #[derive(Clone, Copy, Debug, PartialEq, Eq)]
 pub enum Act {
     /// It came in from outside.
-    ComesIn,
+    EntersWith,
     /// It goes on after a wait on this condition.
     GoesOn(usize),
     /// It is back after a signal.

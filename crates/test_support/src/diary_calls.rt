@@ -37,7 +37,7 @@ pub fn enter<R: Wait, M: Monitor<Diary>>(rt: &R, m: &M, out: M::Out, place: usiz
     ensures place { M.place_in result ≡ M.place out }
 {
     let inside = m.enter(rt, out);
-    found(m, inside, place, Act::ComesIn)
+    found(m, inside, place, Act::EntersWith)
 }
 
 /// Goes out.

@@ -132,7 +132,7 @@ impl Past {
     /// Whether the line is that of a newcomer.
     fn admits(&self, next: Line) -> bool {
         match self.places.get(next.place) {
-            Some(known) => known.is_outside() && matches!(next.act, Act::ComesIn),
+            Some(known) => known.is_outside() && matches!(next.act, Act::EntersWith),
             None => false,
         }
     }

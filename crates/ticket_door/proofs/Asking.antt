@@ -10,14 +10,14 @@ use Rattle.hoare_law.specs.Events.{own, place_of, with_event}
 use Rattle.hoare_law.proofs.Admissions.{admissions-append}
 use Rattle.hoare_law.proofs.Growth.{Grows-trans}
 use Rattle.hoare_law.specs.Lawful.{Rest, Ready}
-use Rattle.door_frame.specs.declared.parcel.Lodged.{Lodged}
+use Rattle.door_frame.specs.declared.parcel.Guarded.{Guarded}
 use Rattle.hoare_law.specs.Growth.{AddsLast, Begins}
 use Rattle.hoare_law.specs.Priorities.{priorities}
-use Rattle.door_frame.specs.Places.{Berth, Entered, PlaceOut, PlaceIn, IsOut, IsIn, IsTold, place_in}
+use Rattle.door_frame.specs.Places.{PlaceId, Entered, PlaceOut, PlaceIn, IsOut, IsIn, IsTold, place_in}
 use Rattle.door_frame.proofs.Arrivals.{entered}
 use Rattle.door_frame.proofs.Departures.{told_out}
 use Rattle.hoare_law.specs.declared.event.History.{History}
-use Rattle.door_frame.specs.Steps.{Sat, Came}
+use Rattle.door_frame.specs.Steps.{SeatState, EnteredBy}
 use Rattle.door_frame.specs.Views.{asking, is_alone, front_of}
 use Rattle.ticket_door.specs.Asked.{TicketDoorId, IsAsking, IsAsked, PlaceAsked, EntersBy, WaitsBehind, as_out}
 use Rattle.ticket_door.specs.Asked.{number_of}
@@ -25,19 +25,19 @@ use Rattle.ticket_door.specs.Steps.{TakesTicket}
 use Rattle.hoare_law.specs.Admissions.{admissions}
 
 module _ {D : Type 0} where
-  pub asking_alone : (m : Sat D) (k : ℕ) (f : History D) (x : ℕ) → IsAsking k f x m → is_alone m.0 ≡ true
-  asking_alone m k f x e = ap (λ (z : Sat D). is_alone z.0) e
+  pub asking_alone : (m : SeatState D) (k : ℕ) (f : History D) (x : ℕ) → IsAsking k f x m → is_alone m.0 ≡ true
+  asking_alone m k f x e = ap (λ (z : SeatState D). is_alone z.0) e
 
-  pub asking_front : (m : Sat D) (is : is_alone m.0 ≡ true) (k : ℕ) (f : History D) (x : ℕ) → IsAsking k f x m
+  pub asking_front : (m : SeatState D) (is : is_alone m.0 ≡ true) (k : ℕ) (f : History D) (x : ℕ) → IsAsking k f x m
       → front_of m.0 is ≡ f
   asking_front m is k f x e =
-      subst (λ (w : Sat D). (a : is_alone w.0 ≡ true) → front_of w.0 a ≡ f) (sym e) (λ a. refl) is
+      subst (λ (w : SeatState D). (a : is_alone w.0 ≡ true) → front_of w.0 a ≡ f) (sym e) (λ a. refl) is
 
-  pub asking_number : (m : Sat D) (k : ℕ) (f : History D) (x : ℕ) → IsAsking k f x m → number_of m.0 ≡ x
-  asking_number m k f x e = ap (λ (z : Sat D). number_of z.0) e
+  pub asking_number : (m : SeatState D) (k : ℕ) (f : History D) (x : ℕ) → IsAsking k f x m → number_of m.0 ≡ x
+  asking_number m k f x e = ap (λ (z : SeatState D). number_of z.0) e
 
   -- by its own front and number
-  pub asking_by : (m : Sat D) (is : is_alone m.0 ≡ true) (k : ℕ) (f : History D) (x : ℕ) → IsAsking k f x m
+  pub asking_by : (m : SeatState D) (is : is_alone m.0 ≡ true) (k : ℕ) (f : History D) (x : ℕ) → IsAsking k f x m
       → IsAsking k (front_of m.0 is) (number_of m.0) m
   asking_by m is k f x e =
       e ∙ (λ i. (asking k (sym (asking_front m is k f x e) i) (sym (asking_number m k f x e) i), []))
@@ -66,9 +66,10 @@ module _ {D : Type 0} where
       pub place : a.place ≡ o.place
       pub front : IsTold a.front o
 
-    pub asks_as : (d : TicketDoorId) (o : PlaceOut D) (a : PlaceAsked D) {k : ℕ} {g : History D} {x : ℕ} {m : Sat D}
+    pub asks_as : (d : TicketDoorId) (o : PlaceOut D) (a : PlaceAsked D) {k : ℕ} {g : History D} {x : ℕ} {m : SeatState
+        D}
         → IsOut rest ready kinds d.door o → TakesTicket rest ready d.door.places k o.front g x m → k ≡ o.place
-        → a.berth ≡ o.berth → a.place ≡ o.place → a.front ≡ g → a.number ≡ x → a.ticket ≡ (d.first + x) % 2 ^ 64
+        → a.place_id ≡ o.place_id → a.place ≡ o.place → a.front ≡ g → a.number ≡ x → a.ticket ≡ (d.first + x) % 2 ^ 64
         → Asks d o a
     asks_as d o a {k = k} {g = g} {x = x} {m = m} out took same of at front number ticket =
         let t : TakesTicket rest ready d.door.places o.place o.front g x m =
@@ -76,7 +77,7 @@ module _ {D : Type 0} where
         let known = t.learns.fits.0 in
         subst (Asks d o)
         (λ i. record {
-          berth = sym of i;
+          place_id = sym of i;
           place = sym at i;
           front = sym front i;
           number = sym number i;
@@ -84,7 +85,7 @@ module _ {D : Type 0} where
         })
         (record {
           of = record {
-            out = told_out rest ready kinds d.door o.berth o g out.of out t.learns.stands known.0 known.1;
+            out = told_out rest ready kinds d.door o.place_id o g out.of out t.learns.stands known.0 known.1;
             ticket_is = ticket;
             not_yet = t.not_yet;
             few = t.few;
@@ -94,8 +95,8 @@ module _ {D : Type 0} where
         })
 
     -- who was let in by its ticket came in its turn
-    pub enters_by : (first ticket k number : ℕ) (f h : History D) (x : Lodged D) {m : Sat D}
-        (c : Came rest ready k f (Admit k) x None m)
+    pub enters_by : (first ticket k number : ℕ) (f h : History D) (x : Guarded D) {m : SeatState D}
+        (c : EnteredBy rest ready k f (Admit k) x None m)
         → admissions c.log.events ≡ number
         → ticket ≡ (first + number) % 2 ^ 64 → h ≡ with_event c.log (Admit k x.state) → EntersBy first ticket h
     enters_by first ticket k number f h x c counted ticket_is is = record {
@@ -107,10 +108,10 @@ module _ {D : Type 0} where
     }
 
     -- and after exactly those with a ticket before it
-    pub waits_behind : (d : TicketDoorId) (a : PlaceAsked D) (x : Lodged D) {m : Sat D}
+    pub waits_behind : (d : TicketDoorId) (a : PlaceAsked D) (x : Guarded D) {m : SeatState D}
         → IsAsked rest ready kinds d a
-        → (c : Came rest ready a.place a.front (Admit a.place) x None m) → admissions c.log.events ≡ a.number
-        → (t : Berth)
+        → (c : EnteredBy rest ready a.place a.front (Admit a.place) x None m) → admissions c.log.events ≡ a.number
+        → (t : PlaceId)
         → WaitsBehind d.door.places a (place_in t a.place (with_event c.log (Admit a.place x.state)) x.state)
     unfolding with_event
     waits_behind d a x asked c counted t =
@@ -133,9 +134,11 @@ module _ {D : Type 0} where
       pub in_turn : EntersBy d.first a.ticket i.front
       pub behind : WaitsBehind d.door.places a i
 
-    pub came_in : {d : TicketDoorId} {a b : PlaceAsked D} {i : PlaceIn D} {t : Berth} {x : Lodged D} {m : Sat D}
+    pub came_in : {d : TicketDoorId} {a b : PlaceAsked D} {i : PlaceIn D} {t : PlaceId} {x : Guarded D} {m : SeatState
+        D}
         → b ≡ a
-        → IsAsked rest ready kinds d b → t ≡ b.berth → (c : Came rest ready b.place b.front (Admit b.place) x None m)
+        → IsAsked rest ready kinds d b → t ≡ b.place_id → (c : EnteredBy rest ready b.place b.front (Admit b.place) x
+        None m)
         → admissions c.log.events ≡ b.number → i ≡ place_in t b.place (with_event c.log (Admit b.place x.state)) x.state
         → CameIn d a i
     came_in {d = d} {b = b} {i = i} {t = t} {x = x} same asked table c counted is =

@@ -11,9 +11,9 @@ use Rattle.hoare_law.specs.Events.{own}
 use Rattle.hoare_law.specs.Lawful.{Rest, Ready}
 use Rattle.hoare_law.proofs.Growth.{Begins-refl}
 use Rattle.door_frame.specs.declared.view.Token.{Token}
-use Rattle.door_frame.specs.declared.view.View.{View}
-use Rattle.door_frame.specs.declared.view.View.TheVariants.{Unopened, Opening, Places}
-use Rattle.door_frame.specs.Rule.{Tokens, Agrees, Kept, runs}
+use Rattle.door_frame.specs.declared.view.SeatView.{SeatView}
+use Rattle.door_frame.specs.declared.view.SeatView.TheVariants.{Unopened, Opening, Places}
+use Rattle.door_frame.specs.Rule.{Tokens, Agrees, TableInvariant, runs}
 use Rattle.door_frame.specs.Steps.{Learns}
 use Rattle.door_frame.specs.Views.{knows, sole, EachOf, ApartOf}
 use Rattle.door_frame.proofs.Views.{each_map}
@@ -21,7 +21,7 @@ use Rattle.door_frame.proofs.Steps.{running}
 
 module _ {D : Type 0} where
   -- the places of another seat keep their tokens
-  keep_tokens : (n : ℕ) (log : History D) (owner : ℕ → ℕ) (tokens tokens' : Tokens) (id j k : ℕ) (v : View D)
+  keep_tokens : (n : ℕ) (log : History D) (owner : ℕ → ℕ) (tokens tokens' : Tokens) (id j k : ℕ) (v : SeatView D)
       → owner k ≡ id → j ≢ id → ((i : ℕ) → i ≢ k → tokens' i ≡ tokens i)
       → EachOf (Agrees n log owner tokens j) v → EachOf (Agrees n log owner tokens' j) v
   keep_tokens n log owner tokens tokens' id j k (Places ts) mine other same h =
@@ -36,22 +36,23 @@ module _ {D : Type 0} where
   keep_tokens n log owner tokens tokens' id j k (Unopened m) mine other same h = h
   keep_tokens n log owner tokens tokens' id j k (Opening m) mine other same h = h
 
-module _ {D : Type 0} (Starts : Bool → List ℕ → Type 0) (Tells : History D → Tokens → List ℕ → Type 0) (rest : Rest D)
+module _ {D : Type 0} (Initial : Bool → List ℕ → Type 0) (WordsFit : History D → Tokens → List ℕ
+    → Type 0) (rest : Rest D)
     (ready : Ready D) (kinds : Kinds) where
   -- `draws_ok` of the frame, where the place also learns the log
   pub draws_and_learns : (n slots id k i : ℕ) (f : History D) (o : Option Token) (g : ℕ → ℕ)
       (Then : History D → Option Token → ℕ → Type 0)
       → ((log : History D) (tokens : Tokens) (ws : List ℕ) → k < n → own k log.events ≡ own k f.events → tokens k ≡ o
-      → Tells log tokens ws → (o' : Option Token) × (tokens' : Tokens) × (tokens' k ≡ o')
-      × ((j : ℕ) → j ≢ k → tokens' j ≡ tokens j) × Tells log tokens' (set ws i (g (get_or ws i 0)))
+      → WordsFit log tokens ws → (o' : Option Token) × (tokens' : Tokens) × (tokens' k ≡ o')
+      × ((j : ℕ) → j ≢ k → tokens' j ≡ tokens j) × WordsFit log tokens' (set ws i (g (get_or ws i 0)))
       × Then log o' (get_or ws i 0))
-      → Allows (Kept Starts Tells rest ready kinds n) slots id (sole k f o, []) i g
+      → Allows (TableInvariant Initial WordsFit rest ready kinds n) slots id (sole k f o, []) i g
       (λ r m'. (log : History D) × (o' : Option Token) × Learns rest ready log (knows k f o' ∷ []) m' × Then log o' r)
   draws_and_learns n slots id k i f o g Then step_ s kept wide at small =
-      let r = running Starts Tells rest ready kinds n s kept id (knows k f o ∷ []) at in
+      let r = running Initial WordsFit rest ready kinds n s kept id (knows k f o ∷ []) at in
       let fit = (r.fronts id (sole k f o) at).0 in
       let d = step_ r.log r.tokens s.words fit.below fit.own_are fit.token_is r.tells in
-      let w : View D = sole k r.log d.0 in (
+      let w : SeatView D = sole k r.log d.0 in (
         w,
         keeps,
         tt,
@@ -62,7 +63,7 @@ module _ {D : Type 0} (Starts : Bool → List ℕ → Type 0) (Tells : History D
           one_slot = r.one_slot;
           sized = r.sized;
           fronts = λ j v got. ⊎_elim
-              (λ (t : (j ≡ id) × (w ≡ v)). subst (λ (z : ℕ × View D). EachOf (Agrees n r.log r.owner d.1 z.0) z.1)
+              (λ (t : (j ≡ id) × (w ≡ v)). subst (λ (z : ℕ × SeatView D). EachOf (Agrees n r.log r.owner d.1 z.0) z.1)
               (λ i. (sym t.0 i, t.1 i)) (
                 record {
                   below = fit.below;

@@ -14,17 +14,17 @@ use Rattle.hoare_law.specs.Lawful.{Rest, Ready}
 use Rattle.hoare_law.specs.Priorities.{nobody}
 use Rattle.hoare_law.specs.Turns.{turn, urgent}
 use Rattle.wait_book.specs.Contents.{IsOf}
-use Rattle.door_frame.specs.declared.parcel.Lodged.{Lodged}
-use Rattle.door_frame.specs.declared.view.View.TheVariants.{Unopened, Opening}
-use Rattle.door_frame.specs.Rule.{Kept}
-use Rattle.door_frame.specs.Steps.{Sat, begins, opens}
+use Rattle.door_frame.specs.declared.parcel.Guarded.{Guarded}
+use Rattle.door_frame.specs.declared.view.SeatView.TheVariants.{Unopened, Opening}
+use Rattle.door_frame.specs.Rule.{TableInvariant}
+use Rattle.door_frame.specs.Steps.{SeatState, begins, opens}
 use Rattle.door_frame.proofs.Steps as frame
-use Rattle.ticket_door.specs.Rule.{Starts, Tells, ajar, next_at, serving_at, bell_at}
+use Rattle.ticket_door.specs.Rule.{Initial, WordsFit, ajar, next_at, serving_at, bell_at}
 
 module _ {D : Type 0} (first n : ℕ) where
   -- nobody asked and nobody is served
-  opened_tells : (kinds : Kinds) (s : D) (ws : List ℕ) → Starts first n true ws
-      → Tells first n (opened (sizes_at kinds n) s) (λ _. None) ws
+  opened_tells : (kinds : Kinds) (s : D) (ws : List ℕ) → Initial first n true ws
+      → WordsFit first n (opened (sizes_at kinds n) s) (λ _. None) ws
   unfolding turn admissions urgent called
   opened_tells kinds s ws st = record {
     words_are = st.words_are;
@@ -44,32 +44,33 @@ module _ {D : Type 0} (first n : ℕ) where
   }
 
   module _ (rest : Rest D) (ready : Ready D) (kinds : Kinds) where
-    begun : (ws : List ℕ) → Starts first n false ws → Starts first n true ws
+    begun : (ws : List ℕ) → Initial first n false ws → Initial first n true ws
     begun ws st = record { words_are = st.words_are; next = st.next; serving = st.serving; bells = st.bells }
 
-    pub begins_at : (slots id : ℕ) (m : Sat D) → m ≡ (Unopened n, [])
-        → Allows (Kept (Starts first n) (Tells first n) rest ready kinds n) slots id m serving_at (λ r. r)
+    pub begins_at : (slots id : ℕ) (m : SeatState D) → m ≡ (Unopened n, [])
+        → Allows (TableInvariant (Initial first n) (WordsFit first n) rest ready kinds n) slots id m serving_at (λ r. r)
         (begins (step slots serving_at 0 0 none) m)
     begins_at slots id m is =
-        frame.begins_at (Starts first n) (Tells first n) rest ready kinds n slots id serving_at (λ r. r)
+        frame.begins_at (Initial first n) (WordsFit first n) rest ready kinds n slots id serving_at (λ r. r)
         (step slots serving_at 0 0 none) m is
-        (λ ws st. subst (Starts first n true) (sym (set-get_or ws serving_at 0)) (begun ws st))
+        (λ ws st. subst (Initial first n true) (sym (set-get_or ws serving_at 0)) (begun ws st))
 
-    pub opens_at : (slots id : ℕ) (x : Lodged D) (m : Sat D) → m ≡ (Opening n, (0, Some x) ∷ []) → rest x.state nobody
+    pub opens_at : (slots id : ℕ) (x : Guarded D) (m : SeatState D) → m ≡ (Opening n, (0, Some x) ∷ [])
+        → rest x.state nobody
         → IsOf x.book (opened (sizes_at kinds n) tt)
-        → Allows (Kept (Starts first n) (Tells first n) rest ready kinds n) slots id m serving_at (λ r. r)
+        → Allows (TableInvariant (Initial first n) (WordsFit first n) rest ready kinds n) slots id m serving_at (λ r. r)
         (opens kinds (step slots serving_at 0 0 none) m)
     opens_at slots id x m is at_rest book =
-        frame.opens_at (Starts first n) (Tells first n) rest ready kinds n slots id serving_at (λ r. r) x
+        frame.opens_at (Initial first n) (WordsFit first n) rest ready kinds n slots id serving_at (λ r. r) x
         (step slots serving_at 0 0 none) m is at_rest book
-        (λ ws st. subst (Tells first n (opened (sizes_at kinds n) x.state) (λ _. None))
+        (λ ws st. subst (WordsFit first n (opened (sizes_at kinds n) x.state) (λ _. None))
         (sym (set-get_or ws serving_at 0)) (opened_tells kinds x.state ws st))
 
 -- the words before the door opens
 pub started : (first n : ℕ) (ws : List ℕ) → first < 2 ^ 64
     → ws ≡ set (set (replicate (8 * n + 16) 0) next_at first) serving_at ((2 * first) % 2 ^ 64)
-    → Starts first n false ws
-started first n ws small is = subst (Starts first n false) (sym is) (record {
+    → Initial first n false ws
+started first n ws small is = subst (Initial first n false) (sym is) (record {
   words_are = long;
   next = get_or-set_other (set zeros next_at first) serving_at next_at served 0 (λ e. omega (arith, e))
       ∙ get_or-set_same zeros next_at first 0 (omega (arith, wide)) ∙ same;

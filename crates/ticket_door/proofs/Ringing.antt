@@ -16,13 +16,13 @@ use Rattle.hoare_law.specs.Turns.{turn, outside}
 use Rattle.hoare_law.proofs.Held.{outside-held}
 use Rattle.wait_book.specs.Contents.{times}
 use Rattle.wait_book.specs.declared.steps.Next.TheVariants as next
-use Rattle.door_frame.specs.declared.parcel.Lodged.{Lodged}
-use Rattle.door_frame.specs.Rule.{Cells, Tokens, Kept}
-use Rattle.door_frame.specs.Steps.{Sat, Gives, gives_as, due}
+use Rattle.door_frame.specs.declared.parcel.Guarded.{Guarded}
+use Rattle.door_frame.specs.Rule.{Cells, Tokens, TableInvariant}
+use Rattle.door_frame.specs.Steps.{SeatState, Gives, gives_as, due}
 use Rattle.door_frame.specs.Views.{alone}
 use Rattle.door_frame.proofs.Steps as frame
 use Rattle.hoare_law.specs.Admissions.{admissions}
-use Rattle.ticket_door.specs.Rule.{Starts, Tells, token_in, IsKept, next_at, serving_at, bell_at, taken, rung}
+use Rattle.ticket_door.specs.Rule.{Initial, WordsFit, token_in, IsKept, next_at, serving_at, bell_at, taken, rung}
 use Rattle.ticket_door.specs.Steps.{hears, HearsAt}
 use Rattle.hoare_law.proofs.Admissions.{admissions-other}
 use Rattle.ticket_door.proofs.Turns.{for_next, rings_due, rung_else, rung_due, no_admit, held_busy, due_busy}
@@ -33,8 +33,8 @@ module _ {D : Type 0} (first n : ℕ) where
   rewritten : (f h : History D) (tokens : Tokens) (ws : List ℕ) (k y : ℕ) → k < n → taken (turn f.events) ≡ 1
       → taken (turn h.events) ≡ 1 → admissions h.events ≡ admissions f.events
       → rung (turn h.events) k ≡ y → ((j : ℕ) → j ≢ k → rung (turn h.events) j ≡ rung (turn f.events) j)
-      → (t : Tells first n f tokens ws) → ((j : ℕ) → 0 < times j t.queue → outside j h.events ≡ true)
-      → Tells first n h tokens (set ws (bell_at k) y)
+      → (t : WordsFit first n f tokens ws) → ((j : ℕ) → 0 < times j t.queue → outside j h.events ≡ true)
+      → WordsFit first n h tokens (set ws (bell_at k) y)
   rewritten f h tokens ws k y small before after same here else_ t out = let wide = t.words_are in record {
     words_are = length-set ws (bell_at k) y ∙ wide;
     queue = t.queue;
@@ -58,16 +58,16 @@ module _ {D : Type 0} (first n : ℕ) where
 
   module _ (rest : Rest D) (ready : Ready D) (kinds : Kinds) where
     abbrev K : Cells D → Type 0
-    K = Kept (Starts first n) (Tells first n) rest ready kinds n
+    K = TableInvariant (Initial first n) (WordsFit first n) rest ready kinds n
 
     -- who gives the monitor up where j is owed it rings j's bell
-    pub gives_ring : (slots id k j : ℕ) (f : History D) (x : Lodged D) (event : D → Event D)
-        (st : Step (Option (Lodged D)))
+    pub gives_ring : (slots id k j : ℕ) (f : History D) (x : Guarded D) (event : D → Event D)
+        (st : Step (Option (Guarded D)))
         → j < n → Gives rest ready event k f x (next.For j)
         → Allows K slots id (alone k f, (0, Some x) ∷ []) (bell_at j) (λ _. 1)
         (gives_as event st (alone k f, (0, Some x) ∷ []))
     gives_ring slots id k j f x event st small p =
-        frame.gives_ok (Starts first n) (Tells first n) rest ready kinds n slots id k (bell_at j) (λ _. 1) f x
+        frame.gives_ok (Initial first n) (WordsFit first n) rest ready kinds n slots id k (bell_at j) (λ _. 1) f x
         (next.For j) event st p
         (λ tokens ws places below t. let h : History D = with_event f (event x.state) in
         let r = rings_due j (turn h.events) (for_next (turn h.events) j (sym p.next_is)) in
@@ -76,13 +76,14 @@ module _ {D : Type 0} (first n : ℕ) where
         (λ i ne. r.else_ i ne ∙ sym (ap (λ (u : Turn). rung u i) p.inside)) t
         (still_outside f (event x.state) k t.queue p.mine (outside-held f.events k p.inside) t.are_outside))
 
-    pub hears_ok : (slots id k : ℕ) (f : History D) (st : Step (Option (Lodged D)))
+    pub hears_ok : (slots id k : ℕ) (f : History D) (st : Step (Option (Guarded D)))
         → Allows K slots id (alone k f, []) (bell_at k) (λ _. 0) (hears rest ready st (alone k f, []))
     hears_ok slots id k f st =
         frame.told_as K slots id (alone k f, []) (bell_at k) (λ _. 0) _ (hears rest ready st (alone k f, []))
         (λ r m c j g is. let q = frame.alone_is k j f g [] [] is in
         subst (λ (p : ℕ × History D). HearsAt rest ready p.0 p.1 (alone k f, []) r m) (λ i. (q.0 i, q.1 i)) c)
-        (frame.comes_ok (Starts first n) (Tells first n) rest ready kinds n slots id k (bell_at k) f None None (due k f)
+        (frame.comes_ok (Initial first n) (WordsFit first n) rest ready kinds n slots id k (bell_at k) f None None (due
+        k f)
         (λ _. 0) (λ r. r ≡ 1) (λ log. Unit {0})
         (λ r. ℕ_discrete r 1)
         (λ log tokens ws small t miss. let b = t.bells k small in
@@ -108,19 +109,23 @@ module _ {D : Type 0} (first n : ℕ) where
         }))
 
     -- the same of a seat with that view, and a word that is the bell's
-    pub gives_ring_at : (slots id k j : ℕ) (f : History D) (x : Lodged D) (event : D → Event D) (bell : ℕ) (m : Sat D)
+    pub gives_ring_at : (slots id k j : ℕ) (f : History D) (x : Guarded D) (event : D
+        → Event D) (bell : ℕ) (m : SeatState D)
         → j < n
         → m ≡ (alone k f, (0, Some x) ∷ []) → Gives rest ready event k f x (next.For j) → bell ≡ bell_at j
         → Allows K slots id m bell (λ _. 1) (λ _. gives_as event (step slots bell 1 0 none) m 1)
     gives_ring_at slots id k j f x event bell m small is p here =
         subst
-        (λ (q : Sat D × ℕ). Allows K slots id q.0 q.1 (λ _. 1) (λ _. gives_as event (step slots q.1 1 0 none) q.0 1))
+        (λ (q : SeatState D × ℕ). Allows K slots id q.0 q.1 (λ _. 1) (λ _. gives_as event (step slots q.1 1 0 none) q.0
+        1))
         (λ i. (sym is i, sym here i))
         (gives_ring slots id k j f x event (step slots (bell_at j) 1 0 none) small p)
 
-    pub hears_at : (slots id k : ℕ) (f : History D) (bell : ℕ) (m : Sat D) → m ≡ (alone k f, []) → bell ≡ bell_at k
+    pub hears_at : (slots id k : ℕ) (f : History D) (bell : ℕ) (m : SeatState D) → m ≡ (alone k f, [])
+        → bell ≡ bell_at k
         → Allows K slots id m bell (λ _. 0) (hears rest ready (step slots bell 0 0 none) m)
     hears_at slots id k f bell m is here =
-        subst (λ (q : Sat D × ℕ). Allows K slots id q.0 q.1 (λ _. 0) (hears rest ready (step slots q.1 0 0 none) q.0))
+        subst (λ (q : SeatState D × ℕ). Allows K slots id q.0 q.1 (λ _. 0) (hears rest ready (step slots q.1 0 0 none)
+        q.0))
         (λ i. (sym is i, sym here i))
         (hears_ok slots id k f (step slots (bell_at k) 0 0 none))

@@ -20,9 +20,9 @@ use Rattle.hoare_law.specs.Turns.{turn, outside}
 use Rattle.wait_book.specs.Contents.{times}
 use Rattle.wait_book.specs.declared.steps.Next.TheVariants as next
 use Rattle.wait_book.proofs.Times.{few_once, one_same}
-use Rattle.door_frame.specs.declared.parcel.Lodged.{Lodged}
-use Rattle.door_frame.specs.Rule.{Cells, Tokens, Kept}
-use Rattle.door_frame.specs.Steps.{Sat, Gives, Learns, Notes, gives_as, notes_as}
+use Rattle.door_frame.specs.declared.parcel.Guarded.{Guarded}
+use Rattle.door_frame.specs.Rule.{Cells, Tokens, TableInvariant}
+use Rattle.door_frame.specs.Steps.{SeatState, Gives, Learns, Notes, gives_as, notes_as}
 use Rattle.door_frame.specs.Views.{alone, asking, knows}
 use Rattle.hoare_law.proofs.Ended.{turn-outside}
 use Rattle.hoare_law.proofs.Entering.{outside-same}
@@ -34,7 +34,7 @@ use Rattle.hoare_law.specs.Admissions.{admissions}
 use Rattle.ticket_door.specs.Queue.{ticket_in}
 use Rattle.door_frame.specs.declared.view.Token.{Token}
 use Rattle.door_frame.specs.declared.view.Token.TheVariants as token
-use Rattle.ticket_door.specs.Rule.{Starts, Tells, Gate, ajar, shut, token_in, IsKept, next_at, serving_at, bell_at}
+use Rattle.ticket_door.specs.Rule.{Initial, WordsFit, Gate, ajar, shut, token_in, IsKept, next_at, serving_at, bell_at}
 use Rattle.ticket_door.specs.Rule.{taken, rung}
 use Rattle.ticket_door.specs.Steps.{asks, looks, LooksAt, TakesTicket}
 use Rattle.hoare_law.proofs.Admissions.{admissions-admit, admissions-other}
@@ -48,7 +48,7 @@ use Rattle.ticket_door.proofs.Turns.{served_only, even_ajar, open_bit}
 
 module _ {D : Type 0} (first n : ℕ) where
   -- the queue is shorter than n, if place k isn't in it
-  few_others : {log : History D} {tokens : Tokens} {ws : List ℕ} (k : ℕ) → k < n → (t : Tells first n log tokens ws)
+  few_others : {log : History D} {tokens : Tokens} {ws : List ℕ} (k : ℕ) → k < n → (t : WordsFit first n log tokens ws)
       → times k t.queue ≡ 0 → length t.queue < n
   few_others k small t none =
       let most =
@@ -58,7 +58,7 @@ module _ {D : Type 0} (first n : ℕ) where
 
   -- NEXT is near who is served: each place asked once, but for the one whose turn it is
   pub near : {log : History D} {tokens : Tokens} {ws : List ℕ} → IsLegal log → log.sizes.places ≡ n
-      → (t : Tells first n log tokens ws)
+      → (t : WordsFit first n log tokens ws)
       → admissions log.events + length t.queue ≤ t.served + n
   near {log = log} legal places t = by (turn-outside log legal)
     where
@@ -80,8 +80,8 @@ module _ {D : Type 0} (first n : ℕ) where
 
   -- one more place in the queue
   asked : (log : History D) (tokens : Tokens) (ws : List ℕ) (k : ℕ) → k < n → outside k log.events ≡ true
-      → tokens k ≡ None → (t : Tells first n log tokens ws)
-      → Tells first n log (given_to tokens k (Some (token.Ticket (admissions log.events + length t.queue))))
+      → tokens k ≡ None → (t : WordsFit first n log tokens ws)
+      → WordsFit first n log (given_to tokens k (Some (token.Ticket (admissions log.events + length t.queue))))
       (set ws next_at ((get_or ws next_at 0 + 1) % 2 ^ 64))
   asked log tokens ws k small out none t =
       let a : ℕ = admissions log.events in let q : List ℕ = t.queue in let x : ℕ = a + length q in
@@ -108,9 +108,10 @@ module _ {D : Type 0} (first n : ℕ) where
 
   -- the first of the queue is let in
   looked : (log : History D) (tokens : Tokens) (ws : List ℕ) (k : ℕ) (rest : List ℕ) (s : D)
-      → (t : Tells first n log tokens ws) → t.gate ≡ ajar → t.queue ≡ k ∷ rest → turn log.events ≡ Free
+      → (t : WordsFit first n log tokens ws) → t.gate ≡ ajar → t.queue ≡ k ∷ rest → turn log.events ≡ Free
       → turn (with_event log (Admit k s)).events ≡ Held k
-      → Tells first n (with_event log (Admit k s)) (given_to tokens k None) (set ws serving_at (get_or ws serving_at 0))
+      → WordsFit first n (with_event log (Admit k s)) (given_to tokens k None) (set ws serving_at (get_or ws serving_at
+      0))
   unfolding with_event
   looked log tokens ws k rest s t is_ajar is free held =
       let a : ℕ = admissions log.events in
@@ -121,7 +122,7 @@ module _ {D : Type 0} (first n : ℕ) where
       let after : taken (turn h.events) ≡ 1 = ap taken held in
       let asks_too : (j : ℕ) → 0 < times j rest → 0 < times j t.queue = λ j some.
       subst (λ (q : List ℕ). 0 < times j q) (sym is) (omega (arith, some)) in
-      subst (Tells first n h (given_to tokens k None)) (sym (set-get_or ws serving_at 0)) (record {
+      subst (WordsFit first n h (given_to tokens k None)) (sym (set-get_or ws serving_at 0)) (record {
         words_are = t.words_are;
         queue = rest;
         once = λ j. let once = subst (λ (q : List ℕ). times j q ≤ 1) is (t.once j) in omega (arith, once);
@@ -150,8 +151,8 @@ module _ {D : Type 0} (first n : ℕ) where
   next_served : (f : History D) (e : Event D) (tokens : Tokens) (ws : List ℕ) (k : ℕ) → place_of e ≡ k
       → turn f.events ≡ Held k
       → turn (with_event f e).events ≡ Free
-      → admissions (with_event f e).events ≡ admissions f.events → Tells first n f tokens ws
-      → Tells first n (with_event f e) tokens (set ws serving_at ((get_or ws serving_at 0 + 2) % 2 ^ 64))
+      → admissions (with_event f e).events ≡ admissions f.events → WordsFit first n f tokens ws
+      → WordsFit first n (with_event f e) tokens (set ws serving_at ((get_or ws serving_at 0 + 2) % 2 ^ 64))
   next_served f e tokens ws k mine held free same t =
       let wide = t.words_are in let before : taken (turn f.events) ≡ 1 = ap taken held in
       let after : taken (turn (with_event f e).events) ≡ 0 = ap taken free in record {
@@ -179,8 +180,8 @@ module _ {D : Type 0} (first n : ℕ) where
   stayed : (f : History D) (e : Event D) (tokens : Tokens) (ws : List ℕ) (k : ℕ) → place_of e ≡ k
       → turn f.events ≡ Held k
       → turn (with_event f e).events ≡ Held k
-      → admissions (with_event f e).events ≡ admissions f.events → Tells first n f tokens ws
-      → Tells first n (with_event f e) tokens ws
+      → admissions (with_event f e).events ≡ admissions f.events → WordsFit first n f tokens ws
+      → WordsFit first n (with_event f e) tokens ws
   stayed f e tokens ws k mine held stays same t =
       let turns : turn f.events ≡ turn (with_event f e).events = held ∙ sym stays in record {
         words_are = t.words_are;
@@ -200,7 +201,7 @@ module _ {D : Type 0} (first n : ℕ) where
 
   module _ (rest : Rest D) (ready : Ready D) (kinds : Kinds) where
     abbrev K : Cells D → Type 0
-    K = Kept (Starts first n) (Tells first n) rest ready kinds n
+    K = TableInvariant (Initial first n) (WordsFit first n) rest ready kinds n
 
     -- o is the next ticket, taken as NEXT was r: the log has not admitted it, and fewer than n are ahead of it
     abbrev IsNext : History D → Option Token → ℕ → Type 0
@@ -209,18 +210,18 @@ module _ {D : Type 0} (first n : ℕ) where
         × (x < admissions log.events + n)
 
     next_is : (log : History D) (tokens : Tokens) (ws : List ℕ) (k : ℕ) → k < n → tokens k ≡ None
-        → (t : Tells first n log tokens ws)
+        → (t : WordsFit first n log tokens ws)
         → IsNext log (Some (token.Ticket (admissions log.events + length t.queue))) (get_or ws next_at 0)
     next_is log tokens ws k small none t =
         let a : ℕ = admissions log.events in
         let few = few_others k small t (has_none t.gate a t.queue k (sym (t.tokens_are k) ∙ none)) in
         (a + length t.queue, refl, t.next, omega arith, omega (arith, few))
 
-    abbrev Drawn : ℕ → History D → ℕ → Sat D → Type 0
+    abbrev Drawn : ℕ → History D → ℕ → SeatState D → Type 0
     Drawn k f r m =
         (log : History D) × (o : Option Token) × Learns rest ready log (knows k f o ∷ []) m × IsNext log o r
 
-    takes : (k j : ℕ) (f g : History D) (r : ℕ) (m : Sat D) → k ≡ j → f ≡ g → Drawn k f r m
+    takes : (k j : ℕ) (f g : History D) (r : ℕ) (m : SeatState D) → k ≡ j → f ≡ g → Drawn k f r m
         → (h : History D) × (x : ℕ) × TakesTicket rest ready n j g h x m × (r ≡ (first + x) % 2 ^ 64)
     takes k j f g r m place front d = (
       d.0,
@@ -234,14 +235,14 @@ module _ {D : Type 0} (first n : ℕ) where
       d.3.2,
     )
 
-    pub asks_ok : (slots id k : ℕ) (f : History D) (st : Step (Option (Lodged D))) → outside k f.events ≡ true
+    pub asks_ok : (slots id k : ℕ) (f : History D) (st : Step (Option (Guarded D))) → outside k f.events ≡ true
         → Allows K slots id (alone k f, []) next_at (λ r. (r + 1) % 2 ^ 64)
         (asks first n rest ready st (alone k f, []))
     asks_ok slots id k f st out =
         frame.told_as K slots id (alone k f, []) next_at (λ r. (r + 1) % 2 ^ 64) _
         (asks first n rest ready st (alone k f, []))
         (λ r m (d : Drawn k f r m) j g is. let q = frame.alone_is k j f g [] [] is in takes k j f g r m q.0 q.1 d)
-        (draws_and_learns (Starts first n) (Tells first n) rest ready kinds n slots id k next_at f None
+        (draws_and_learns (Initial first n) (WordsFit first n) rest ready kinds n slots id k next_at f None
         (λ r. (r + 1) % 2 ^ 64) IsNext
         (λ log tokens ws small same none t. let x : ℕ = admissions log.events + length t.queue in (
           Some (token.Ticket x),
@@ -254,12 +255,12 @@ module _ {D : Type 0} (first n : ℕ) where
 
     abbrev pub Admits : ℕ → ℕ → History D → Tokens → List ℕ → Type 0
     Admits k x log tokens ws =
-        frame.BringsIn (Starts first n) (Tells first n) rest ready kinds k serving_at None (λ r. r)
+        frame.BringsIn (Initial first n) (WordsFit first n) rest ready kinds k serving_at None (λ r. r)
         (λ h. admissions h.events ≡ x) log tokens ws (Admit k (latest_data log))
 
     brings : (k x : ℕ) (f log : History D) (tokens : Tokens) (ws : List ℕ) → n ≤ 64 → outside k f.events ≡ true
         → Stands rest ready log → log.sizes.places ≡ n → k < n
-        → own k log.events ≡ own k f.events → tokens k ≡ Some (token.Ticket x) → Tells first n log tokens ws
+        → own k log.events ≡ own k f.events → tokens k ≡ Some (token.Ticket x) → WordsFit first n log tokens ws
         → get_or ws serving_at 0 ≡ (2 * (first + x)) % 2 ^ 64 → Admits k x log tokens ws
     brings k x f log tokens ws few out stands places small same has t hit =
         let a : ℕ = admissions log.events in
@@ -289,7 +290,7 @@ module _ {D : Type 0} (first n : ℕ) where
           tells = looked log tokens ws k firsts.0 (latest_data log) t is_ajar firsts.1 free e.inside;
         }
 
-    pub looks_ok : (slots id k x : ℕ) (f : History D) (st : Step (Option (Lodged D))) → n ≤ 64
+    pub looks_ok : (slots id k x : ℕ) (f : History D) (st : Step (Option (Guarded D))) → n ≤ 64
         → outside k f.events ≡ true → Allows K slots id (asking k f x, []) serving_at (λ r. r)
         (looks first rest ready st (asking k f x, []))
     looks_ok slots id k x f st few out =
@@ -298,7 +299,7 @@ module _ {D : Type 0} (first n : ℕ) where
         let same : x ≡ y = Ticket-injective x y q.2 in
         subst (λ (p : ℕ × (History D × ℕ)). LooksAt first rest ready p.0 p.1.0 p.1.1 (asking k f x, []) r m)
         (λ i. (q.0 i, (q.1 i, same i))) c)
-        (frame.comes_ok (Starts first n) (Tells first n) rest ready kinds n slots id k serving_at f
+        (frame.comes_ok (Initial first n) (WordsFit first n) rest ready kinds n slots id k serving_at f
         (Some (token.Ticket x)) None (Admit k) (λ r. r) (λ r. r ≡ (2 * (first + x)) % 2 ^ 64)
         (λ log. admissions log.events ≡ x)
         (λ r. ℕ_discrete r ((2 * (first + x)) % 2 ^ 64))
@@ -307,50 +308,51 @@ module _ {D : Type 0} (first n : ℕ) where
         same has t hit))
 
     -- the same of a seat with that view
-    pub asks_at : (slots id k : ℕ) (f : History D) (st : Step (Option (Lodged D))) (m : Sat D) (start places : ℕ)
+    pub asks_at : (slots id k : ℕ) (f : History D) (st : Step (Option (Guarded D))) (m : SeatState D) (start places : ℕ)
         → m ≡ (alone k f, []) → first ≡ start → n ≡ places → outside k f.events ≡ true
         → Allows K slots id m next_at (λ r. (r + 1) % 2 ^ 64) (asks start places rest ready st m)
     asks_at slots id k f st m start places is same sized out =
-        subst (λ (p : Sat D × (ℕ × ℕ)). Allows K slots id p.0 next_at (λ r. (r + 1) % 2 ^ 64)
+        subst (λ (p : SeatState D × (ℕ × ℕ)). Allows K slots id p.0 next_at (λ r. (r + 1) % 2 ^ 64)
         (asks p.1.0 p.1.1 rest ready st p.0))
         (λ i. (sym is i, (same i, sized i))) (asks_ok slots id k f st out)
 
-    pub looks_at : (slots id k x : ℕ) (f : History D) (st : Step (Option (Lodged D))) (m : Sat D) (start : ℕ)
+    pub looks_at : (slots id k x : ℕ) (f : History D) (st : Step (Option (Guarded D))) (m : SeatState D) (start : ℕ)
         → m ≡ (asking k f x, []) → first ≡ start → n ≤ 64 → outside k f.events ≡ true
         → Allows K slots id m serving_at (λ r. r) (looks start rest ready st m)
     looks_at slots id k x f st m start is same few out =
-        subst (λ (p : Sat D × ℕ). Allows K slots id p.0 serving_at (λ r. r) (looks p.1 rest ready st p.0))
+        subst (λ (p : SeatState D × ℕ). Allows K slots id p.0 serving_at (λ r. r) (looks p.1 rest ready st p.0))
         (λ i. (sym is i, same i))
         (looks_ok slots id k x f st few out)
 
     -- who gives the monitor up where nobody is owed it opens to the next
-    pub gives_open : (slots id k : ℕ) (f : History D) (x : Lodged D) (event : D → Event D)
-        (st : Step (Option (Lodged D)))
+    pub gives_open : (slots id k : ℕ) (f : History D) (x : Guarded D) (event : D → Event D)
+        (st : Step (Option (Guarded D)))
         → Gives rest ready event k f x next.Free
         → Allows K slots id (alone k f, (0, Some x) ∷ []) serving_at (λ r. (r + 2) % 2 ^ 64)
         (gives_as event st (alone k f, (0, Some x) ∷ []))
     gives_open slots id k f x event st p =
-        frame.gives_ok (Starts first n) (Tells first n) rest ready kinds n slots id k serving_at
+        frame.gives_ok (Initial first n) (WordsFit first n) rest ready kinds n slots id k serving_at
         (λ r. (r + 2) % 2 ^ 64) f x next.Free event st p
         (λ tokens ws places small t. next_served f (event x.state) tokens ws k p.mine p.inside
         (free_next _ (sym p.next_is))
         (admissions-other f (event x.state) (no_admit f (event x.state) p.allowed (held_busy k _ p.inside))) t)
 
     -- the same of a seat with that view
-    pub gives_open_at : (slots id k : ℕ) (f : History D) (x : Lodged D) (event : D → Event D)
-        (st : Step (Option (Lodged D))) (m : Sat D)
+    pub gives_open_at : (slots id k : ℕ) (f : History D) (x : Guarded D) (event : D → Event D)
+        (st : Step (Option (Guarded D))) (m : SeatState D)
         → m ≡ (alone k f, (0, Some x) ∷ []) → Gives rest ready event k f x next.Free
         → Allows K slots id m serving_at (λ r. (r + 2) % 2 ^ 64) (gives_as event st m)
     gives_open_at slots id k f x event st m is p =
-        subst (λ (q : Sat D). Allows K slots id q serving_at (λ r. (r + 2) % 2 ^ 64) (gives_as event st q)) (sym is)
+        subst (λ (q : SeatState D). Allows K slots id q serving_at (λ r. (r + 2) % 2 ^ 64) (gives_as event st q)) (sym
+        is)
         (gives_open slots id k f x event st p)
 
     -- who is inside calls others: a look at SERVING
     pub notes_at : (slots id k : ℕ) (f : History D) (event : History D → Event D)
-        (st : Step (Option (Lodged D))) (m : Sat D)
+        (st : Step (Option (Guarded D))) (m : SeatState D)
         → m ≡ (alone k f, (0, None) ∷ []) → Notes rest ready (event f) k f
         → Allows K slots id m serving_at (λ r. r) (notes_as event st m)
     notes_at slots id k f event st m is p =
-        frame.notes_at (Starts first n) (Tells first n) rest ready kinds n slots id k serving_at f event st m is p
+        frame.notes_at (Initial first n) (WordsFit first n) rest ready kinds n slots id k serving_at f event st m is p
         (λ tokens ws t. stayed f (event f) tokens ws k p.mine p.inside p.stays
         (admissions-other f (event f) (no_admit f (event f) p.allowed (held_busy k _ p.inside))) t)

@@ -22,17 +22,17 @@ use Rattle.hoare_law.specs.Admissions.{admissions}
 use Rattle.hoare_law.proofs.Admissions.{admissions-admit}
 use Rattle.hoare_law.proofs.Entering.{outside-same}
 use Rattle.wait_book.proofs.Times.{few_once}
-use Rattle.door_frame.specs.declared.parcel.Lodged.{Lodged}
+use Rattle.door_frame.specs.declared.parcel.Guarded.{Guarded}
 use Rattle.door_frame.specs.declared.view.Token.{Token}
 use Rattle.door_frame.specs.declared.view.Token.TheVariants as token
-use Rattle.door_frame.specs.Rule.{Cells, Tokens, Kept}
-use Rattle.door_frame.specs.Steps.{Sat, Came, CameWith}
+use Rattle.door_frame.specs.Rule.{Cells, Tokens, TableInvariant}
+use Rattle.door_frame.specs.Steps.{SeatState, EnteredBy, EnteredWith}
 use Rattle.door_frame.specs.Views.{alone, trying, sole}
 use Rattle.door_frame.proofs.Steps as frame
 use Rattle.door_frame.proofs.Views.{given_to, given_here, given_else}
-use Rattle.ticket_door.specs.Rule.{Starts, Tells, Gate, ajar, shut_by, shut, token_in, Shut, IsKept, next_at}
+use Rattle.ticket_door.specs.Rule.{Initial, WordsFit, Gate, ajar, shut_by, shut, token_in, CloseGate, IsKept, next_at}
 use Rattle.ticket_door.specs.Rule.{serving_at, bell_at, taken, rung}
-use Rattle.ticket_door.specs.Tries.{IsTrying, HasGate, IsLetIn, Reopened}
+use Rattle.ticket_door.specs.Tries.{IsTrying, HasGate, IsAdmitted, Reopened}
 use Rattle.ticket_door.specs.Steps.{shuts, tries, TriesAt, reopens}
 use Rattle.ticket_door.proofs.Gate.{has_none, has_gate, shuts_tokens, reopens_tokens}
 use Rattle.ticket_door.proofs.Turns.{taken_le, taken_free, next_word, even_ajar, open_bit, shut_word, open_word}
@@ -85,9 +85,9 @@ still first since served admitted waiting busy t begins due few most word next =
 module _ {D : Type 0} (first n : ℕ) where
   -- k has the gate
   gate_shut : (log : History D) (tokens : Tokens) (ws : List ℕ) (k v : ℕ) → tokens k ≡ None
-      → (t : Tells first n log tokens ws)
+      → (t : WordsFit first n log tokens ws)
       → t.gate ≡ ajar → get_or ws serving_at 0 ≡ v
-      → Tells first n log (given_to tokens k (Some (token.Gate v))) (set ws serving_at (v + 1))
+      → WordsFit first n log (given_to tokens k (Some (token.Gate v))) (set ws serving_at (v + 1))
   gate_shut log tokens ws k v free t is_ajar found =
       let a : ℕ = admissions log.events in
       let wide = t.words_are in
@@ -122,14 +122,14 @@ module _ {D : Type 0} (first n : ℕ) where
 
   -- k has it no longer
   gate_open : (log : History D) (tokens : Tokens) (ws : List ℕ) (k v : ℕ) → tokens k ≡ Some (token.Gate v)
-      → Tells first n log tokens ws
-      → Tells first n log (given_to tokens k None)
+      → WordsFit first n log tokens ws
+      → WordsFit first n log (given_to tokens k None)
       (set ws serving_at ((get_or ws serving_at 0 + (2 ^ 64 - 1)) % 2 ^ 64))
   gate_open log tokens ws k v has t =
       let a : ℕ = admissions log.events in
       let wide = t.words_are in
       let by : t.gate ≡ shut_by k v = has_gate t.gate a t.queue k v (sym (t.tokens_are k) ∙ has) in
-      let kept : Shut first k v t.served a t.queue = subst (IsKept first t.served a t.queue) by t.kept in record {
+      let kept : CloseGate first k v t.served a t.queue = subst (IsKept first t.served a t.queue) by t.kept in record {
         words_are = length-set ws serving_at _ ∙ wide;
         queue = t.queue;
         once = t.once;
@@ -153,11 +153,11 @@ module _ {D : Type 0} (first n : ℕ) where
 
   -- who has the gate is let in: it draws the ticket that is served
   tried : (log : History D) (tokens : Tokens) (ws : List ℕ) (k v w : ℕ) (s : D)
-      → (t : Tells first n log tokens ws) → (by : t.gate ≡ shut_by k v)
-      → (kept : Shut first k v t.served (admissions log.events) t.queue)
+      → (t : WordsFit first n log tokens ws) → (by : t.gate ≡ shut_by k v)
+      → (kept : CloseGate first k v t.served (admissions log.events) t.queue)
       → IsStill kept.since t.served (admissions log.events) (length t.queue) → get_or ws next_at 0 ≡ w
       → turn log.events ≡ Free → turn (with_event log (Admit k s)).events ≡ Held k
-      → Tells first n (with_event log (Admit k s)) tokens (set ws next_at ((w + 1) % 2 ^ 64))
+      → WordsFit first n (with_event log (Admit k s)) tokens (set ws next_at ((w + 1) % 2 ^ 64))
   tried log tokens ws k v w s t by kept is found free held =
       let a : ℕ = admissions log.events in
       let h : History D = with_event log (Admit k s) in let more = admissions-admit log k s in
@@ -202,13 +202,13 @@ module _ {D : Type 0} (first n : ℕ) where
 
   module _ (rest : Rest D) (ready : Ready D) (kinds : Kinds) where
     abbrev K : Cells D → Type 0
-    K = Kept (Starts first n) (Tells first n) rest ready kinds n
+    K = TableInvariant (Initial first n) (WordsFit first n) rest ready kinds n
 
     -- what the word that is found says of the token then
     abbrev IsShutAt : ℕ → Option Token → ℕ → Type 0
     IsShutAt v o r = ((r ≡ v → ⊥) → o ≡ None) × (r ≡ v → o ≡ Some (token.Gate v))
 
-    abbrev ShutAt : ℕ → ℕ → History D → ℕ → Sat D → Type 0
+    abbrev ShutAt : ℕ → ℕ → History D → ℕ → SeatState D → Type 0
     ShutAt v k f r m = (o : Option Token) × (m ≡ (sole k f o, [])) × IsShutAt v o r
 
     shuts_ok : (slots id k v b : ℕ) (f : History D) → v ≡ (2 * b) % 2 ^ 64
@@ -221,7 +221,7 @@ module _ {D : Type 0} (first n : ℕ) where
           (λ miss. d.1 ∙ (λ i. (sole k f (d.2.0 miss i), []))),
           λ hit. d.1 ∙ (λ i. (sole (q.0 i) (q.1 i) (d.2.1 hit i), [])),
         ))
-        (frame.draws_ok (Starts first n) (Tells first n) rest ready kinds n slots id k serving_at f None []
+        (frame.draws_ok (Initial first n) (WordsFit first n) rest ready kinds n slots id k serving_at f None []
         (changed v (v + 1)) (IsShutAt v)
         (λ log tokens ws small same free t. dite (ℕ_discrete (get_or ws serving_at 0) v)
         (λ hit. let o : Option Token = Some (token.Gate v) in
@@ -230,7 +230,7 @@ module _ {D : Type 0} (first n : ℕ) where
           given_to tokens k o,
           given_here tokens k o,
           (λ j ne. given_else tokens k o j ne),
-          subst (λ (w : ℕ). Tells first n log (given_to tokens k o) (set ws serving_at w))
+          subst (λ (w : ℕ). WordsFit first n log (given_to tokens k o) (set ws serving_at w))
               (sym (changed-hit v (v + 1) (get_or ws serving_at 0) hit))
               (gate_shut log tokens ws k v free t is_ajar hit),
           ((λ miss. absurd (miss hit)), λ _. refl),
@@ -240,36 +240,36 @@ module _ {D : Type 0} (first n : ℕ) where
           tokens,
           free,
           (λ j ne. refl),
-          subst (λ (w : ℕ). Tells first n log tokens (set ws serving_at w))
+          subst (λ (w : ℕ). WordsFit first n log tokens (set ws serving_at w))
               (sym (changed-miss v (v + 1) (get_or ws serving_at 0) miss))
-              (subst (Tells first n log tokens) (sym (set-get_or ws serving_at 0)) t),
+              (subst (WordsFit first n log tokens) (sym (set-get_or ws serving_at 0)) t),
           ((λ _. refl), λ hit. absurd (miss hit)),
         ))))
 
     -- a seat with that view, and the words that the call has
-    pub shuts_at : (slots id k v u b : ℕ) (f : History D) (m : Sat D) → m ≡ (alone k f, []) → v ≡ (2 * b) % 2 ^ 64
+    pub shuts_at : (slots id k v u b : ℕ) (f : History D) (m : SeatState D) → m ≡ (alone k f, []) → v ≡ (2 * b) % 2 ^ 64
         → u ≡ v + 1
         → Allows K slots id m serving_at (changed v u) (shuts (step slots serving_at v u none) m)
     shuts_at slots id k v u b f m is even more =
         subst
-        (λ (p : Sat D × ℕ). Allows K slots id p.0 serving_at (changed v p.1)
+        (λ (p : SeatState D × ℕ). Allows K slots id p.0 serving_at (changed v p.1)
         (shuts (step slots serving_at v p.1 none) p.0))
         (λ i. (sym is i, sym more i)) (shuts_ok slots id k v b f even)
 
     abbrev TriesIn : ℕ → ℕ → History D → Tokens → List ℕ → Type 0
     TriesIn k w log tokens ws =
-        frame.BringsIn (Starts first n) (Tells first n) rest ready kinds k next_at (tokens k)
+        frame.BringsIn (Initial first n) (WordsFit first n) rest ready kinds k next_at (tokens k)
         (changed w ((w + 1) % 2 ^ 64)) (λ h. Unit {0}) log tokens ws (Admit k (latest_data log))
 
     brings : (k v w : ℕ) (f log : History D) (tokens : Tokens) (ws : List ℕ) → n ≤ 64 → outside k f.events ≡ true
         → v ≡ (2 * w) % 2 ^ 64
         → Stands rest ready log → log.sizes.places ≡ n → k < n
-        → own k log.events ≡ own k f.events → tokens k ≡ Some (token.Gate v) → Tells first n log tokens ws
+        → own k log.events ≡ own k f.events → tokens k ≡ Some (token.Gate v) → WordsFit first n log tokens ws
         → get_or ws next_at 0 ≡ w → TriesIn k w log tokens ws
     brings k v w f log tokens ws few out word stands places small same has t hit =
         let a : ℕ = admissions log.events in
         let by : t.gate ≡ shut_by k v = has_gate t.gate a t.queue k v (sym (t.tokens_are k) ∙ has) in
-        let kept : Shut first k v t.served a t.queue = subst (IsKept first t.served a t.queue) by t.kept in
+        let kept : CloseGate first k v t.served a t.queue = subst (IsKept first t.served a t.queue) by t.kept in
         let most = few_once t.queue n t.once t.below in
         let is : IsStill kept.since t.served a (length t.queue) =
         still first kept.since t.served a (length t.queue) (taken (turn log.events)) w kept.begins t.due kept.few
@@ -289,7 +289,7 @@ module _ {D : Type 0} (first n : ℕ) where
           token_now = refl;
           others = λ j ne. refl;
           tells =
-              subst (λ (u : ℕ). Tells first n (with_event log (Admit k (latest_data log))) tokens (set ws next_at u))
+              subst (λ (u : ℕ). WordsFit first n (with_event log (Admit k (latest_data log))) tokens (set ws next_at u))
               (sym (changed-hit w ((w + 1) % 2 ^ 64) (get_or ws next_at 0) hit))
               (tried log tokens ws k v w (latest_data log) t by kept is hit free e.inside);
         }
@@ -305,29 +305,29 @@ module _ {D : Type 0} (first n : ℕ) where
         let same : v ≡ y = gate_is v y q.2 in
         subst (λ (p : ℕ × (History D × ℕ)). TriesAt w rest ready p.0 p.1.0 p.1.1 (trying k f v, []) r m)
         (λ i. (q.0 i, (q.1 i, same i))) c)
-        (frame.comes_ok (Starts first n) (Tells first n) rest ready kinds n slots id k next_at f o o (Admit k)
+        (frame.comes_ok (Initial first n) (WordsFit first n) rest ready kinds n slots id k next_at f o o (Admit k)
         (changed w ((w + 1) % 2 ^ 64)) (λ r. r ≡ w) (λ log. Unit {0}) (λ r. ℕ_discrete r w)
         (λ log tokens ws small t miss. changed-miss w ((w + 1) % 2 ^ 64) (get_or ws next_at 0) miss)
         (λ log tokens ws stands places small same has t hit.
         subst
-        (λ (p : Option Token). frame.BringsIn (Starts first n) (Tells first n) rest ready kinds k next_at p
+        (λ (p : Option Token). frame.BringsIn (Initial first n) (WordsFit first n) rest ready kinds k next_at p
         (changed w ((w + 1) % 2 ^ 64)) (λ h. Unit {0}) log tokens ws (Admit k (latest_data log))) has
         (brings k v w f log tokens ws few out word stands places small same has t hit)))
 
-    pub tries_at : (slots id k v w u : ℕ) (f : History D) (m : Sat D) → m ≡ (trying k f v, []) → n ≤ 64
+    pub tries_at : (slots id k v w u : ℕ) (f : History D) (m : SeatState D) → m ≡ (trying k f v, []) → n ≤ 64
         → outside k f.events ≡ true
         → v ≡ (2 * w) % 2 ^ 64 → u ≡ (w + 1) % 2 ^ 64
         → Allows K slots id m next_at (changed w u) (tries rest ready (step slots next_at w u none) m)
     tries_at slots id k v w u f m is few out word more =
         subst
-        (λ (p : Sat D × ℕ). Allows K slots id p.0 next_at (changed w p.1)
+        (λ (p : SeatState D × ℕ). Allows K slots id p.0 next_at (changed w p.1)
         (tries rest ready (step slots next_at w p.1 none) p.0))
         (λ i. (sym is i, sym more i)) (tries_ok slots id k v w f few out word)
 
-    abbrev Opened : ℕ → History D → List (ℕ × Option (Lodged D)) → ℕ → Sat D → Type 0
+    abbrev Opened : ℕ → History D → List (ℕ × Option (Guarded D)) → ℕ → SeatState D → Type 0
     Opened k f c r m = (o : Option Token) × (m ≡ (sole k f o, c)) × (o ≡ None)
 
-    reopens_ok : (slots id k v : ℕ) (f : History D) (c : List (ℕ × Option (Lodged D))) (st : Step (Option (Lodged D)))
+    reopens_ok : (slots id k v : ℕ) (f : History D) (c : List (ℕ × Option (Guarded D))) (st : Step (Option (Guarded D)))
         → Allows K slots id (trying k f v, c) serving_at (λ r. (r + (2 ^ 64 - 1)) % 2 ^ 64)
         (reopens st (trying k f v, c))
     reopens_ok slots id k v f c st =
@@ -336,7 +336,7 @@ module _ {D : Type 0} (first n : ℕ) where
         (reopens st (trying k f v, c))
         (λ r m (d : Opened k f c r m) j g y e is. let q = frame.sole_is k j f g o (Some (token.Gate y)) c e is in
         d.1 ∙ (λ i. (sole (q.0 i) (q.1 i) (d.2 i), q.3 i)))
-        (frame.draws_ok (Starts first n) (Tells first n) rest ready kinds n slots id k serving_at f o c
+        (frame.draws_ok (Initial first n) (WordsFit first n) rest ready kinds n slots id k serving_at f o c
         (λ r. (r + (2 ^ 64 - 1)) % 2 ^ 64) (λ p r. p ≡ None)
         (λ log tokens ws small same has t. (
           None,
@@ -347,26 +347,28 @@ module _ {D : Type 0} (first n : ℕ) where
           refl,
         )))
 
-    pub reopens_at : (slots id k v : ℕ) (f : History D) (c : List (ℕ × Option (Lodged D)))
-        (st : Step (Option (Lodged D))) (m : Sat D)
+    pub reopens_at : (slots id k v : ℕ) (f : History D) (c : List (ℕ × Option (Guarded D)))
+        (st : Step (Option (Guarded D))) (m : SeatState D)
         → m ≡ (trying k f v, c)
         → Allows K slots id m serving_at (λ r. (r + (2 ^ 64 - 1)) % 2 ^ 64) (reopens st m)
     reopens_at slots id k v f c st m is =
-        subst (λ (p : Sat D). Allows K slots id p serving_at (λ r. (r + (2 ^ 64 - 1)) % 2 ^ 64) (reopens st p)) (sym is)
+        subst (λ (p : SeatState D). Allows K slots id p serving_at (λ r. (r + (2 ^ 64 - 1)) % 2 ^ 64) (reopens st p))
+        (sym is)
         (reopens_ok slots id k v f c st)
 
-module _ {D : Type 0} {rest : Rest D} {ready : Ready D} {k v : ℕ} {m m' : Sat D} where
+module _ {D : Type 0} {rest : Rest D} {ready : Ready D} {k v : ℕ} {m m' : SeatState D} where
   -- who tried still has the gate, let in or not
   pub still_has : (let_in : Bool) (f : History D) → IsTrying k f v m → (let_in ≡ false → m' ≡ m)
-      → (let_in ≡ true → IsLetIn rest ready k v m m')
+      → (let_in ≡ true → IsAdmitted rest ready k v m m')
       → HasGate m'
   still_has false f is missed hit = (k, f, v, [], missed refl ∙ is)
   still_has true f is missed hit = let t = hit refl f is in (k, _, v, _, t.1.me_is)
 
   -- who was let in has no token, once the gate is open
-  pub came_by : {f : History D} {x : Lodged D} → CameWith rest ready (Some (token.Gate v)) k f (Admit k) x (Some x) m
+  pub came_by : {f : History D} {x : Guarded D} → EnteredWith rest ready (Some (token.Gate v)) k f (Admit k) x (Some x)
+      m
       → Reopened m m'
-      → Came rest ready k f (Admit k) x (Some x) m'
+      → EnteredBy rest ready k f (Admit k) x (Some x) m'
   came_by {x = x} c reopened = record {
     log = c.log;
     me_is = reopened k (with_event c.log (Admit k x.state)) v ((0, Some x) ∷ []) c.me_is;

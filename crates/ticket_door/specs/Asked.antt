@@ -7,11 +7,11 @@ use Rattle.hoare_law.specs.Sizes.{Kinds}
 use Rattle.hoare_law.specs.declared.event.History.{History}
 use Rattle.hoare_law.specs.Events.{own, with_event}
 use Rattle.hoare_law.specs.Lawful.{Rest, Ready}
-use Rattle.door_frame.specs.declared.view.View.{View}
-use Rattle.door_frame.specs.declared.view.View.TheVariants.{Places}
-use Rattle.door_frame.specs.Places.{Berth, DoorId, PlaceIn, PlaceOut, IsOut, door_of, place_out}
-use Rattle.door_frame.specs.declared.parcel.Lodged.{Lodged}
-use Rattle.door_frame.specs.Steps.{Sat, Came}
+use Rattle.door_frame.specs.declared.view.SeatView.{SeatView}
+use Rattle.door_frame.specs.declared.view.SeatView.TheVariants.{Places}
+use Rattle.door_frame.specs.Places.{PlaceId, DoorId, PlaceIn, PlaceOut, IsOut, door_of, place_out}
+use Rattle.door_frame.specs.declared.parcel.Guarded.{Guarded}
+use Rattle.door_frame.specs.Steps.{SeatState, EnteredBy}
 use Rattle.door_frame.specs.Views.{asking}
 use Rattle.hoare_law.specs.Admissions.{is_admit, admissions}
 use Rattle.ticket_door.specs.declared.rule.Sizes.{Sizes}
@@ -28,28 +28,28 @@ ticket_door z key ws = record { door = door_of z key.places ws; first = key.firs
 -- a place that asked: number counts the tickets from 0, and ticket is that number with the first ticket added, modulo
 -- 2^64
 pub record PlaceAsked (D : Type 0) : Type 0 where
-  pub berth : Berth
+  pub place_id : PlaceId
   pub place : ℕ
   pub front : History D
   pub number : ℕ
   pub ticket : ℕ
 
 module _ {D : Type 0} where
-  abbrev pub number_of : View D → ℕ
+  abbrev pub number_of : SeatView D → ℕ
   number_of (Places (t ∷ ts)) = ticket_number t.token
   number_of _ = 0
 
-  abbrev pub IsAsking : ℕ → History D → ℕ → Sat D → Type 0
+  abbrev pub IsAsking : ℕ → History D → ℕ → SeatState D → Type 0
   IsAsking k f x me = me ≡ (asking k f x, [])
 
   abbrev pub as_out : PlaceAsked D → PlaceOut D
-  as_out a = place_out a.berth a.place a.front
+  as_out a = place_out a.place_id a.place a.front
 
   -- it was let in by its ticket, as number x of all that are, and the slot with what lies in it is its own
-  abbrev pub IsServed : Rest D → Ready D → ℕ → Sat D → Sat D → Type 0
+  abbrev pub IsServed : Rest D → Ready D → ℕ → SeatState D → SeatState D → Type 0
   IsServed rest ready k me me' =
       (f : History D) (x : ℕ) → IsAsking k f x me
-      → (y : Lodged D) × (c : Came rest ready k f (Admit k) y (Some y) me') × (admissions c.log.events ≡ x)
+      → (y : Guarded D) × (c : EnteredBy rest ready k f (Admit k) y (Some y) me') × (admissions c.log.events ≡ x)
 
   module _ (rest : Rest D) (ready : Ready D) (kinds : Kinds) where
     -- it is of the door and outside, and its ticket is of its number. In its front, the history that it learned with

@@ -50,7 +50,7 @@ token_in ajar a queue j = ticket_in a queue j
 token_in (shut_by k v) a queue j = if j == k then Some (token.Gate v) else ticket_in a queue j
 
 -- since the place k shut the gate nobody else was let in: so at most one turn ended, and k didn't ask
-pub record Shut (first k v served admitted : ℕ) (queue : List ℕ) : Type 0 where
+pub record CloseGate (first k v served admitted : ℕ) (queue : List ℕ) : Type 0 where
   pub since : ℕ
   pub word : v ≡ (2 * (first + since)) % 2 ^ 64
   pub begins : since ≤ served
@@ -59,10 +59,10 @@ pub record Shut (first k v served admitted : ℕ) (queue : List ℕ) : Type 0 wh
 
 abbrev pub IsKept : ℕ → ℕ → ℕ → List ℕ → Gate → Type 0
 IsKept first served admitted queue ajar = Unit {0}
-IsKept first served admitted queue (shut_by k v) = Shut first k v served admitted queue
+IsKept first served admitted queue (shut_by k v) = CloseGate first k v served admitted queue
 
 -- before the door opens
-pub record Starts (first n : ℕ) (begun : Bool) (words : List ℕ) : Type 0 where
+pub record Initial (first n : ℕ) (begun : Bool) (words : List ℕ) : Type 0 where
   pub words_are : length words ≡ 8 * n + 16
   pub next : slice_index words next_at ≡ first % 2 ^ 64
   pub serving : slice_index words serving_at ≡ (2 * first) % 2 ^ 64
@@ -70,7 +70,7 @@ pub record Starts (first n : ℕ) (begun : Bool) (words : List ℕ) : Type 0 whe
 
 -- of a door with n places whose first ticket is `first`. Tickets are counted from 0; NEXT has them with `first` added,
 -- modulo 2^64, and SERVING twice that, modulo 2^64, so that it has a bit for the gate
-pub record Tells {D : Type 0} (first n : ℕ) (log : History D) (tokens : Tokens) (words : List ℕ) : Type 0 where
+pub record WordsFit {D : Type 0} (first n : ℕ) (log : History D) (tokens : Tokens) (words : List ℕ) : Type 0 where
   pub words_are : length words ≡ 8 * n + 16
   -- who asked, in the order of tickets: from the number of those let in on, each once, and all outside. So NEXT is at
   -- most n ahead of who is served (`near` of proofs/Serving), whether by who asked or by who tries

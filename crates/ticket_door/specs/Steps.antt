@@ -4,7 +4,7 @@ use Rattle.std.specs.Prelude.{◌≡◌, ℕ, ◌+◌, ◌*◌, ◌%◌, ◌^◌
 use Rattle.hoare_law.specs.declared.event.History.{History}
 use Rattle.hoare_law.specs.declared.event.Event.TheVariants.{Admit}
 use Rattle.hoare_law.specs.Lawful.{Rest, Ready}
-use Rattle.door_frame.specs.Steps.{Sat, Told, Comes, ComesWith, Learns, due}
+use Rattle.door_frame.specs.Steps.{SeatState, StepContract, EntryStep, EntryStepWith, Learns, due}
 use Rattle.door_frame.specs.Views.{alone, asking, trying, knows}
 use Rattle.door_frame.specs.declared.view.Token.TheVariants.{Ticket, Gate}
 use Rattle.ticket_door.specs.Tries.{Reopened}
@@ -14,48 +14,48 @@ module _ {D : Type 0} where
   -- the place k, which knew f, took ticket number x, and learned the history g: there that ticket isn't admitted yet,
   -- and of the earlier ones fewer than the door has places still wait
   pub record TakesTicket (rest : Rest D) (ready : Ready D) (places k : ℕ) (f g : History D) (x : ℕ)
-      (me : Sat D) : Type 0 where
+      (me : SeatState D) : Type 0 where
     pub learns : Learns rest ready g (knows k f (Some (Ticket x)) ∷ []) me
     pub not_yet : admissions g.events ≤ x
     pub few : x < admissions g.events + places
 
   -- a place takes the next ticket
-  abbrev pub asks : ℕ → ℕ → Rest D → Ready D → Told D
+  abbrev pub asks : ℕ → ℕ → Rest D → Ready D → StepContract D
   asks first places rest ready st m r m' =
       (k : ℕ) (f : History D) → m ≡ (alone k f, [])
       → (g : History D) × (x : ℕ) × TakesTicket rest ready places k f g x m' × (r ≡ (first + x) % 2 ^ 64)
 
   -- a look of the place k with the ticket x: where it is served, k is let in, as number x of all that are
-  abbrev pub LooksAt : ℕ → Rest D → Ready D → ℕ → History D → ℕ → Sat D → ℕ → Sat D → Type 0
+  abbrev pub LooksAt : ℕ → Rest D → Ready D → ℕ → History D → ℕ → SeatState D → ℕ → SeatState D → Type 0
   LooksAt first rest ready k f x =
-      Comes rest ready (λ r. r ≡ (2 * (first + x)) % 2 ^ 64) (λ log. admissions log.events ≡ x) k f (Admit k)
+      EntryStep rest ready (λ r. r ≡ (2 * (first + x)) % 2 ^ 64) (λ log. admissions log.events ≡ x) k f (Admit k)
 
-  abbrev pub looks : ℕ → Rest D → Ready D → Told D
+  abbrev pub looks : ℕ → Rest D → Ready D → StepContract D
   looks first rest ready st m r m' =
       (k : ℕ) (f : History D) (x : ℕ) → m ≡ (asking k f x, []) → LooksAt first rest ready k f x m r m'
 
   -- a place shuts the gate, where SERVING is v
-  abbrev pub ShutsAt : ℕ → ℕ → History D → Sat D → ℕ → Sat D → Type 0
+  abbrev pub ShutsAt : ℕ → ℕ → History D → SeatState D → ℕ → SeatState D → Type 0
   ShutsAt v k f m r m' = ((r ≡ v → ⊥) → m' ≡ m) × (r ≡ v → m' ≡ (trying k f v, []))
 
-  abbrev pub shuts : Told D
+  abbrev pub shuts : StepContract D
   shuts st m r m' = (k : ℕ) (f : History D) → m ≡ (alone k f, []) → ShutsAt st.first k f m r m'
 
   -- the place k, which shut it there, is let in, where NEXT is w
-  abbrev pub TriesAt : ℕ → Rest D → Ready D → ℕ → History D → ℕ → Sat D → ℕ → Sat D → Type 0
-  TriesAt w rest ready k f v = ComesWith rest ready (Some (Gate v)) (λ r. r ≡ w) (λ log. Unit {0}) k f (Admit k)
+  abbrev pub TriesAt : ℕ → Rest D → Ready D → ℕ → History D → ℕ → SeatState D → ℕ → SeatState D → Type 0
+  TriesAt w rest ready k f v = EntryStepWith rest ready (Some (Gate v)) (λ r. r ≡ w) (λ log. Unit {0}) k f (Admit k)
 
-  abbrev pub tries : Rest D → Ready D → Told D
+  abbrev pub tries : Rest D → Ready D → StepContract D
   tries rest ready st m r m' =
       (k : ℕ) (f : History D) (v : ℕ) → m ≡ (trying k f v, []) → TriesAt st.first rest ready k f v m r m'
 
   -- it opens the gate again
-  abbrev pub reopens : Told D
+  abbrev pub reopens : StepContract D
   reopens st m r m' = Reopened m m'
 
   -- a place hears its bell
-  abbrev pub HearsAt : Rest D → Ready D → ℕ → History D → Sat D → ℕ → Sat D → Type 0
-  HearsAt rest ready k f = Comes rest ready (λ r. r ≡ 1) (λ log. Unit {0}) k f (due k f)
+  abbrev pub HearsAt : Rest D → Ready D → ℕ → History D → SeatState D → ℕ → SeatState D → Type 0
+  HearsAt rest ready k f = EntryStep rest ready (λ r. r ≡ 1) (λ log. Unit {0}) k f (due k f)
 
-  abbrev pub hears : Rest D → Ready D → Told D
+  abbrev pub hears : Rest D → Ready D → StepContract D
   hears rest ready st m r m' = (k : ℕ) (f : History D) → m ≡ (alone k f, []) → HearsAt rest ready k f m r m'

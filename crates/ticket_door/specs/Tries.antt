@@ -3,27 +3,28 @@ use Rattle.std.specs.Prelude.{◌≡◌, ℕ, List, [], Option, Some}
 use Rattle.hoare_law.specs.declared.event.History.{History}
 use Rattle.hoare_law.specs.declared.event.Event.TheVariants.{Admit}
 use Rattle.hoare_law.specs.Lawful.{Rest, Ready}
-use Rattle.door_frame.specs.declared.parcel.Lodged.{Lodged}
+use Rattle.door_frame.specs.declared.parcel.Guarded.{Guarded}
 use Rattle.door_frame.specs.declared.view.Token.TheVariants.{Gate}
-use Rattle.door_frame.specs.Steps.{Sat, CameWith}
+use Rattle.door_frame.specs.Steps.{SeatState, EnteredWith}
 use Rattle.door_frame.specs.Views.{alone, trying}
 
 module _ {D : Type 0} where
   -- the seat of the place k, which knows f, and shut the gate where SERVING was v
-  abbrev pub IsTrying : ℕ → History D → ℕ → Sat D → Type 0
+  abbrev pub IsTrying : ℕ → History D → ℕ → SeatState D → Type 0
   IsTrying k f v me = me ≡ (trying k f v, [])
 
   -- the seat of some place that shut it, and may be in
-  abbrev pub HasGate : Sat D → Type 0
-  HasGate me = (k : ℕ) × (f : History D) × (v : ℕ) × (c : List (ℕ × Option (Lodged D))) × (me ≡ (trying k f v, c))
+  abbrev pub HasGate : SeatState D → Type 0
+  HasGate me = (k : ℕ) × (f : History D) × (v : ℕ) × (c : List (ℕ × Option (Guarded D))) × (me ≡ (trying k f v, c))
 
   -- it was let in, and has the slot with what lies in it, and the gate still
-  abbrev pub IsLetIn : Rest D → Ready D → ℕ → ℕ → Sat D → Sat D → Type 0
-  IsLetIn rest ready k v me me' =
+  abbrev pub IsAdmitted : Rest D → Ready D → ℕ → ℕ → SeatState D → SeatState D → Type 0
+  IsAdmitted rest ready k v me me' =
       (f : History D) → IsTrying k f v me
-      → (x : Lodged D) × CameWith rest ready (Some (Gate v)) k f (Admit k) x (Some x) me'
+      → (x : Guarded D) × EnteredWith rest ready (Some (Gate v)) k f (Admit k) x (Some x) me'
 
   -- it has the gate no longer, and all else as before
-  abbrev pub Reopened : Sat D → Sat D → Type 0
+  abbrev pub Reopened : SeatState D → SeatState D → Type 0
   Reopened me me' =
-      (k : ℕ) (f : History D) (v : ℕ) (c : List (ℕ × Option (Lodged D))) → me ≡ (trying k f v, c) → me' ≡ (alone k f, c)
+      (k : ℕ) (f : History D) (v : ℕ) (c : List (ℕ × Option (Guarded D))) → me ≡ (trying k f v, c)
+      → me' ≡ (alone k f, c)

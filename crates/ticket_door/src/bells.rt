@@ -5,20 +5,20 @@ ghost use Rattle.wait_book.specs.Contents.{IsPlaceBelow};
 ghost use Rattle.wait_book.specs.declared.steps.Next.TheVariants.{For, Free};
 ghost use Rattle.door_frame.specs.Steps.{MayGive, MayNote};
 ghost use Rattle.door_frame.specs.Places.{IsWoken, sleeper_at};
-ghost use Rattle.door_frame.specs.Seats.{GoesOut, IsBehind, StaysIn};
+ghost use Rattle.door_frame.specs.Seats.{GoesOut, HasReleased, StaysIn};
 
-use crate::door::TicketTurnstile;
+use crate::door::RawTicketDoor;
 use crate::words::{RUNG, SERVING, TURN, bell_of};
 use door_frame::departure::Departure;
 use door_frame::notice::Notice;
 use door_frame::parcel::Parcel;
-use door_frame::plays::{DoorSeat, Give, Note, PickedEvent, PickedNotice};
-use door_frame::slot::lay_parcel;
+use door_frame::seat_steps::{DoorSeat, Give, Note, PickedEvent, PickedNotice};
+use door_frame::slot::put_parcel;
 use door_frame::waking::Woken;
 use hoare_law::data::MonitorData;
 use wait_book::steps::Next;
 
-impl<D: MonitorData> TicketTurnstile<D> {
+impl<D: MonitorData> RawTicketDoor<D> {
     /// Gives the parcel back by an event that the call picks. `departure` is there for the pick alone.
     #[inline(always)] // a plain leave is short where it knows that nobody goes on
     pub(crate) fn give<J: PickedEvent<D>>(
@@ -54,7 +54,7 @@ impl<D: MonitorData> TicketTurnstile<D> {
         ensures table { seat.new.table_id ≡ seat.old.table_id }
         ensures away { GoesOut place J.event seat.old.me parcel.state seat.new.me }
     {
-        lay_parcel(&self.table, seat, parcel);
+        put_parcel(&self.table, seat, parcel);
         self.table.shared.fetch_add::<Give<J>>(seat, SERVING, TURN);
         self.wake_next();
     }
@@ -75,7 +75,7 @@ impl<D: MonitorData> TicketTurnstile<D> {
         ensures away { GoesOut place J.event seat.old.me parcel.state seat.new.me }
         ensures woken { result ≡ sleeper_at self.now.door resumed }
     {
-        lay_parcel(&self.table, seat, parcel);
+        put_parcel(&self.table, seat, parcel);
         self.table
             .shared
             .store::<Give<J>>(seat, bell_of(resumed), RUNG);
@@ -103,7 +103,7 @@ impl<D: MonitorData> TicketTurnstile<D> {
     /// Wakes a place, or lets its next sleep return at once.
     fn wake(&self, seat: &DoorSeat<D>, place: usize) -> Woken
         requires below { place < self.now.door.places }
-        requires given_up { IsBehind seat.now.me }
+        requires given_up { HasReleased seat.now.me }
         ensures { result ≡ sleeper_at self.now.door place }
     {
         self.wakers[place].wake(seat)

@@ -23,11 +23,11 @@ use std::marker::Model;
 /// outs.push_reserved(door.give_up(inside)); // waits for nobody
 /// assert_eq!(rt; door.close(outs).value, 42);
 /// ```
-pub type TicketDoor<D> = RunningMonitor<TicketTurnstile<D>>;
+pub type TicketDoor<D> = RunningMonitor<RawTicketDoor<D>>;
 
 /// The turnstile of a `TicketDoor`: its words, its slot, and what wakes its places. Its calls are the door's too.
 #[derive(Drop)]
-pub struct TicketTurnstile<D: MonitorData> {
+pub struct RawTicketDoor<D: MonitorData> {
     /// What its words say, and who changes them to what, is a table of the crate's README. Each has a line of the cache
     /// of its own. An entering thread parks on the word behind a bell, which stays 0.
     pub(crate) table: TicketTable<D>,
@@ -37,7 +37,7 @@ pub struct TicketTurnstile<D: MonitorData> {
     pub(crate) parked: CachePadded<Parked>,
 }
 
-impl<D: MonitorData> Model for TicketTurnstile<D> {
+impl<D: MonitorData> Model for RawTicketDoor<D> {
     ghost use Rattle.std.specs.Prelude.{vec_len};
     ghost use Rattle.ticket_door.specs.Asked.{TicketDoorId, ticket_door};
     ghost use Rattle.ticket_door.specs.Rule.{Sized};

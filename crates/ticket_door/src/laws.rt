@@ -4,22 +4,22 @@ ghost use Rattle.hoare_law.specs.Events.{opened};
 ghost use Rattle.hoare_law.specs.Sizes.{kinds_of, sizes_of};
 ghost use Rattle.hoare_law.specs.Priorities.{nobody};
 ghost use Rattle.wait_book.specs.Contents.{IsOf, make_refusal};
-ghost use Rattle.door_frame.specs.declared.view.View.TheVariants.{Unopened, Places};
+ghost use Rattle.door_frame.specs.declared.view.SeatView.TheVariants.{Unopened, Places};
 ghost use Rattle.door_frame.specs.Views.{all_know};
 ghost use Rattle.door_frame.specs.Making.{AreParts, IsMadeOf};
 ghost use Rattle.door_frame.specs.Places.{places_from};
-ghost use Rattle.ticket_door.specs.Rule.{Starts};
+ghost use Rattle.ticket_door.specs.Rule.{Initial};
 
-use crate::door::{TicketDoor, TicketTurnstile};
+use crate::door::{RawTicketDoor, TicketDoor};
 use crate::parked::Parked;
 use crate::place::TicketOut;
 use crate::rule::{Sizes, TicketTable, TicketWords};
 use crate::words::{NEXT, SERVING, served_as, words_for};
 use door_frame::making::{Parts, deal, parts_for, vacant};
 use door_frame::parcel::Parcel;
-use door_frame::plays::{Begin, DoorSeat, KindsOf, Open};
 use door_frame::running::RunningMonitor;
-use door_frame::slot::lay_parcel;
+use door_frame::seat_steps::{Begin, DoorSeat, KindsOf, Open};
+use door_frame::slot::put_parcel;
 use hoare_law::data::MonitorData;
 use hoare_law::monitor::Monitor;
 use std::alloc::{AllocError, Global};
@@ -28,7 +28,7 @@ use wait_book::steps::MakeRefused;
 /// NEXT is the first ticket, SERVING twice that, with the gate open, and no bell was rung.
 fn first_words(alloc: Global, places: usize, first: u64) -> Result<Vec<u64>, AllocError>
     requires { places ≤ 64 }
-    ensures { IfOk result (λ w. Starts first places false w.items) }
+    ensures { IfOk result (λ w. Initial first places false w.items) }
 {
     let mut words = vec![in alloc; 0; words_for(places)]?;
     words[NEXT] = first;
@@ -51,7 +51,7 @@ fn open<D: MonitorData>(table: &TicketTable<D>, seat: &mut DoorSeat<D>, parcel: 
     ) }
 {
     table.shared.load::<Begin>(seat, SERVING);
-    lay_parcel(table, seat, parcel);
+    put_parcel(table, seat, parcel);
     table.shared.load::<Open<KindsOf<D>>>(seat, SERVING);
 }
 
@@ -61,7 +61,7 @@ pub(crate) fn open_at<D: MonitorData>(
     alloc: Global,
     parts: Parts<D>,
     first: u64,
-) -> Result<(TicketTurnstile<D>, Vec<TicketOut<D>>), D>
+) -> Result<(RawTicketDoor<D>, Vec<TicketOut<D>>), D>
     requires { AreParts D.rest (kinds_of D.CONDITIONS D.MESA) parts }
     ensures made { IfOk result (λ r. IsMadeOf D.rest D.ready (kinds_of D.CONDITIONS D.MESA)
         parts r.0.door r.1.items) }
@@ -86,12 +86,12 @@ pub(crate) fn open_at<D: MonitorData>(
     open(&table, &mut seat, parcel);
     let outs = deal(&table, seat, sleepers, outs, places);
     let parked = Parked::new();
-    let turnstile = TicketTurnstile {
+    let raw_monitor = RawTicketDoor {
         table,
         wakers,
         parked,
     };
-    Ok((turnstile, outs))
+    Ok((raw_monitor, outs))
 }
 
 /// `TicketDoor::make`, with this first ticket.
@@ -113,7 +113,7 @@ pub fn make_at<D: MonitorData + Send>(
 {
     let parts = parts_for(alloc, state, places)?;
     match open_at(alloc, parts, first) {
-        Ok((turnstile, outs)) => Ok((RunningMonitor::new(turnstile), outs)),
+        Ok((raw_monitor, outs)) => Ok((RunningMonitor::new(raw_monitor), outs)),
         Err(state) => Err((state, MakeRefused::Memory)),
     }
 }

@@ -3,13 +3,13 @@
 
 mod bells;
 pub mod door;
-mod glance;
 pub mod laws;
 mod meeting;
 mod parked;
 pub mod place;
+mod raw_monitor;
 mod rule;
+mod status;
 mod tickets;
 mod tries;
-mod turnstile;
 mod words;

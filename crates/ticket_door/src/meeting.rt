@@ -4,14 +4,14 @@ ghost use Rattle.door_frame.specs.Places.{IsOut};
 ghost use Rattle.ticket_door.specs.Meeting.{Meets};
 ghost use Rattle.hoare_law.specs.Sizes.{kinds_of};
 
-use crate::door::TicketTurnstile;
+use crate::door::RawTicketDoor;
 use crate::place::TicketOut;
 use crate::words::SERVING;
 use door_frame::place::Outside;
-use door_frame::plays::{Deal, Gather, Learn};
+use door_frame::seat_steps::{Learn, MergePlaces, SplitFirst};
 use hoare_law::data::MonitorData;
 
-impl<D: MonitorData> TicketTurnstile<D> {
+impl<D: MonitorData> RawTicketDoor<D> {
     /// Two places outside meet: afterwards both know one history, which begins with what each of them knew, and in
     /// which each did nothing that it doesn't know of. They come back in the order in which they were handed in.
     pub fn meet(&self, a: TicketOut<D>, b: TicketOut<D>) -> (TicketOut<D>, TicketOut<D>)
@@ -25,9 +25,9 @@ impl<D: MonitorData> TicketTurnstile<D> {
         let table = &self.table;
         let (mut seat, place, sleeper) = a.into_parts();
         let (other, other_place, other_sleeper) = b.into_parts();
-        table.shared.join_seat::<Gather>(&mut seat, other);
+        table.shared.join_seat::<MergePlaces>(&mut seat, other);
         table.shared.load::<Learn>(&mut seat, SERVING);
-        let cut = table.shared.split_seat::<Deal>(&mut seat);
+        let cut = table.shared.split_seat::<SplitFirst>(&mut seat);
         (
             Outside::of_parts(seat, place, sleeper),
             Outside::of_parts(cut, other_place, other_sleeper),

@@ -8,7 +8,7 @@
 //! While cores are idle a yield is short, and a park with its wake-up is long, and delays all tickets after it; if all
 //! cores are busy a yield may take a time slice. So a thread yields if yields are known to be short (`Yields`): also
 //! while no thread is parked, after a row of short yields, until a thread comes back from a yield too late for its turn.
-use crate::door::TicketTurnstile;
+use crate::door::RawTicketDoor;
 use crate::words::{SERVING, SHUT, TURN, mark_of, parking_word_of};
 use crossbeam_utils::CachePadded;
 use door_frame::yields::{PARK_MICROS, Yielded, Yields};
@@ -109,7 +109,7 @@ impl Parked {
     }
 }
 
-impl<D: MonitorData> TicketTurnstile<D> {
+impl<D: MonitorData> RawTicketDoor<D> {
     /// Polls for a while whether `turn` has come, longer the nearer it is. Then yields, or parks.
     pub(crate) fn wait_for<R: Wait>(&self, rt: &R, turn: u64) {
         let further = self.turns_ahead(turn).saturating_sub(1).min(63);

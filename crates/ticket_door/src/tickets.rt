@@ -8,38 +8,38 @@ ghost use Rattle.hoare_law.specs.Sizes.{IsHoare, kinds_of};
 ghost use Rattle.hoare_law.specs.Priorities.{priorities};
 ghost use Rattle.hoare_law.specs.Turns.{outside};
 ghost use Rattle.door_frame.specs.Places.{IsOut, IsIn, IsTold, Handed};
-ghost use Rattle.door_frame.specs.Seats.{IsEmptyHanded, IsNewcomer};
-ghost use Rattle.door_frame.specs.Steps.{Came};
+ghost use Rattle.door_frame.specs.Seats.{IsEmptyHanded, IsEntering};
+ghost use Rattle.door_frame.specs.Steps.{EnteredBy};
 ghost use Rattle.ticket_door.specs.Asked.{IsAsking, IsServed, IsAsked, EntersBy, WaitsBehind};
 ghost use Rattle.ticket_door.specs.Steps.{TakesTicket};
 ghost use Rattle.hoare_law.specs.Admissions.{admissions};
 
-use crate::door::TicketTurnstile;
+use crate::door::RawTicketDoor;
 use crate::place::{Asked, TicketIn, TicketOut};
-use crate::rule::{Ask, Counting, Look};
+use crate::rule::{Counting, PollTicket, TakeTicket};
 use crate::words::{NEXT, SERVING, served_as};
-use door_frame::calls::{self, brought_in};
+use door_frame::calls::{self, enter_with};
 use door_frame::parcel::Parcel;
-use door_frame::plays::DoorSeat;
+use door_frame::seat_steps::DoorSeat;
 use door_frame::slot::take_parcel;
 use hoare_law::data::MonitorData;
 use std::marker::Brand;
 use std::sync::Wait;
 
-impl<D: MonitorData> TicketTurnstile<D> {
+impl<D: MonitorData> RawTicketDoor<D> {
     /// Takes the next ticket. The seat learns all that happened so far.
     #[inline]
     pub(crate) fn draw<J: Counting>(&self, seat: &mut DoorSeat<D>, place: usize) -> u64
         requires table { seat.old.table_id ≡ self.now.door.table }
         requires first { self.now.first ≡ J.first }
         requires places { self.now.door.places ≡ J.places }
-        requires newcomer { IsNewcomer place seat.old.me }
+        requires newcomer { IsEntering place seat.old.me }
         ensures table { seat.new.table_id ≡ seat.old.table_id }
         ensures drawn { (f : History D) → IsEmptyHanded place f seat.old.me → (g : History D) × (x : ℕ)
             × TakesTicket D.rest D.ready self.now.door.places place f g x seat.new.me
             × (result ≡ (self.now.first + x) % 2 ^ 64) }
     {
-        self.table.shared.fetch_add::<Ask<J>>(seat, NEXT, 1)
+        self.table.shared.fetch_add::<TakeTicket<J>>(seat, NEXT, 1)
     }
 
     /// Whether the ticket is served: then the place is let in.
@@ -53,7 +53,7 @@ impl<D: MonitorData> TicketTurnstile<D> {
         ensures missed { result ≡ false → seat.new.me ≡ seat.old.me }
         ensures let_in { result ≡ true → IsServed D.rest D.ready place seat.old.me seat.new.me }
     {
-        self.table.shared.load::<Look<J>>(seat, SERVING) == served_as(ticket)
+        self.table.shared.load::<PollTicket<J>>(seat, SERVING) == served_as(ticket)
     }
 
     /// Polls until the ticket is served; yields or parks between polls.
@@ -98,7 +98,7 @@ impl<D: MonitorData> TicketTurnstile<D> {
             ≡ (self.now.first + x) % 2 ^ 64) × (outside place f.events ≡ true) }
         ensures table { seat.new.table_id ≡ seat.old.table_id }
         ensures came { (f : History D) (x : ℕ) → IsAsking place f x seat.old.me
-            → (c : Came D.rest D.ready place f (event.Admit place) result None seat.new.me)
+            → (c : EnteredBy D.rest D.ready place f (event.Admit place) result None seat.new.me)
             × (admissions c.log.events ≡ x) }
     {
         if self.is_served::<J>(seat, place, ticket) {
@@ -146,7 +146,7 @@ impl<D: MonitorData> TicketTurnstile<D> {
             ticket,
         } = asked;
         let parcel = self.served::<Brand, R>(rt, &mut seat, place, ticket);
-        brought_in(seat, place, sleeper, parcel)
+        enter_with(seat, place, sleeper, parcel)
     }
 
     /// `leave`, which waits for nobody.

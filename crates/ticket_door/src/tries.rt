@@ -10,15 +10,15 @@ ghost use Rattle.std.specs.Prelude.{◌≡◌, ◌*◌, ◌%◌, ◌^◌, true, 
 ghost use Rattle.hoare_law.specs.declared.event.History.{History};
 ghost use Rattle.hoare_law.specs.Turns.{outside};
 ghost use Rattle.door_frame.specs.Seats.{IsEmptyHanded};
-ghost use Rattle.ticket_door.specs.Tries.{IsTrying, HasGate, IsLetIn, Reopened};
+ghost use Rattle.ticket_door.specs.Tries.{IsTrying, HasGate, IsAdmitted, Reopened};
 
-use crate::door::TicketTurnstile;
-use crate::rule::{Reopen, Shut, Try};
+use crate::door::RawTicketDoor;
+use crate::rule::{AdmitTry, CloseGate, OpenGate};
 use crate::words::{NEXT, SERVING, SHUT, served_as};
-use door_frame::plays::DoorSeat;
+use door_frame::seat_steps::DoorSeat;
 use hoare_law::data::MonitorData;
 
-impl<D: MonitorData> TicketTurnstile<D> {
+impl<D: MonitorData> RawTicketDoor<D> {
     /// Shuts the gate, where this ticket is served and it is open: whether it did.
     #[inline]
     pub(crate) fn shut(&self, seat: &mut DoorSeat<D>, place: usize, ticket: u64) -> bool
@@ -32,7 +32,7 @@ impl<D: MonitorData> TicketTurnstile<D> {
         let turn = served_as(ticket);
         self.table
             .shared
-            .compare_exchange::<Shut>(seat, SERVING, turn, turn + SHUT)
+            .compare_exchange::<CloseGate>(seat, SERVING, turn, turn + SHUT)
             == turn
     }
 
@@ -45,11 +45,11 @@ impl<D: MonitorData> TicketTurnstile<D> {
         ensures table { seat.new.table_id ≡ seat.old.table_id }
         ensures missed { result ≡ false → seat.new.me ≡ seat.old.me }
         ensures let_in { result ≡ true
-            → IsLetIn D.rest D.ready place ((2 * ticket) % 2 ^ 64) seat.old.me seat.new.me }
+            → IsAdmitted D.rest D.ready place ((2 * ticket) % 2 ^ 64) seat.old.me seat.new.me }
     {
         self.table
             .shared
-            .compare_exchange::<Try>(seat, NEXT, ticket, ticket.wrapping_add(1))
+            .compare_exchange::<AdmitTry>(seat, NEXT, ticket, ticket.wrapping_add(1))
             == ticket
     }
 
@@ -61,6 +61,6 @@ impl<D: MonitorData> TicketTurnstile<D> {
         ensures table { seat.new.table_id ≡ seat.old.table_id }
         ensures opened { Reopened seat.old.me seat.new.me }
     {
-        self.table.shared.fetch_sub::<Reopen>(seat, SERVING, SHUT);
+        self.table.shared.fetch_sub::<OpenGate>(seat, SERVING, SHUT);
     }
 }

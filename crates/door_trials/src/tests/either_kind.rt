@@ -6,9 +6,9 @@ use crate::tests::awaited::act_all;
 use crate::tests::compared::expect_same;
 use crate::tests::glances::glance_of;
 use crate::tests::rows::stress::{PLACES, agrees, empty_diary, works_or_sweeps};
-use any_door::{AnyDoor, AnyTurnstile, DoorKind};
-use door_frame::glance::{Glance, Holder};
+use any_door::{AnyDoor, DoorKind, RawAnyDoor};
 use door_frame::place::Outside;
+use door_frame::status::{Holder, Status};
 use hoare_law::monitor::Monitor;
 use std::alloc::Global;
 use std::process::Abort;
@@ -63,8 +63,8 @@ fn asks_behind<R: Wait>(
     ensures places { (result.0.0.place ≡ a.place) × (result.0.1.place ≡ b.place) }
 {
     match &**door {
-        AnyTurnstile::Baton(_) => ((a, b), None),
-        AnyTurnstile::Ticket(behind) => {
+        RawAnyDoor::Baton(_) => ((a, b), None),
+        RawAnyDoor::Ticket(behind) => {
             let asked = behind.ask(a);
             let ticket = asked.ticket();
             let (b, before) = tries_once(rt, door, b);
@@ -81,19 +81,19 @@ fn calls_asks_and_looks<R: Wait + Abort>(
     rt: &R,
     alloc: Global,
     kind: DoorKind,
-) -> ((u64, Option<(u64, bool, bool)>, u64), [Glance; 3]) {
+) -> ((u64, Option<(u64, bool, bool)>, u64), [Status; 3]) {
     let Ok((door, mut outs)) = kind.make(alloc, Tally { value: 0 }, 2) else {
         panic!(rt; "no memory")
     };
-    let before = door.glance();
+    let before = door.status();
     let (b, a) = (outs.pop().unwrap(), outs.pop().unwrap());
     let (a, answer) = calls_all(rt, &door, a);
     let ((a, b), behind) = asks_behind(rt, &door, a, b);
     let inside = door.enter(rt, a);
-    let between = door.glance();
+    let between = door.status();
     outs.push_reserved(door.leave(rt, inside));
     outs.push_reserved(b);
-    let seen = [before, between, door.glance()];
+    let seen = [before, between, door.status()];
     ((answer, behind, door.close(outs).value), seen)
 }
 

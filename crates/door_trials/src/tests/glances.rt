@@ -7,8 +7,8 @@ use crate::tests::tickets_in_turn::{comes_and_goes, three_places};
 use any_door::{AnyDoor, DoorKind};
 use baton_door::door::Door;
 use door_frame::calls::begin_wait;
-use door_frame::glance::{Glance, Holder};
 use door_frame::place::Outside;
+use door_frame::status::{Holder, Status};
 use hoare_law::data::MonitorData;
 use hoare_law::monitor::Monitor;
 use std::alloc::Global;
@@ -32,24 +32,24 @@ const STAY: u64 = 3;
 /// A door whose words a test looks at.
 pub trait Glanced: Monitor<Tally> {
     /// What its words say.
-    fn seen(&self) -> Glance;
+    fn seen(&self) -> Status;
 }
 
 impl Glanced for Door<Tally> {
-    fn seen(&self) -> Glance {
-        self.glance()
+    fn seen(&self) -> Status {
+        self.status()
     }
 }
 
 impl Glanced for TicketDoor<Tally> {
-    fn seen(&self) -> Glance {
-        self.glance()
+    fn seen(&self) -> Status {
+        self.status()
     }
 }
 
 /// What the words say of this holder, with so many newcomers.
-pub fn glance_of(holder: Holder, newcomers: u64) -> Glance {
-    Glance { holder, newcomers }
+pub fn glance_of(holder: Holder, newcomers: u64) -> Status {
+    Status { holder, newcomers }
 }
 
 // Comes in once another waits, hands the monitor to it, and looks: whether the words say so.
@@ -132,14 +132,14 @@ fn ask_and_come_in<D: MonitorData + Send, R: Wait + Abort>(
     requires c { ⟦<TicketDoor<D> as Monitor<D>>⟧.is_of door.now c }
 {
     let a = door.ask(a);
-    expect_same(rt, door.glance(), glance_of(Holder::Somebody, 0));
+    expect_same(rt, door.status(), glance_of(Holder::Somebody, 0));
     let (b, c) = (door.ask(b), door.ask(c));
-    expect_same(rt, door.glance(), glance_of(Holder::Somebody, 2));
+    expect_same(rt, door.status(), glance_of(Holder::Somebody, 2));
     comes_and_goes(rt, door, a);
-    expect_same(rt, door.glance(), glance_of(Holder::Somebody, 1));
+    expect_same(rt, door.status(), glance_of(Holder::Somebody, 1));
     comes_and_goes(rt, door, b);
     comes_and_goes(rt, door, c);
-    expect_same(rt, door.glance(), glance_of(Holder::Nobody, 0));
+    expect_same(rt, door.status(), glance_of(Holder::Nobody, 0));
 }
 
 #[test]
@@ -154,17 +154,17 @@ fn glance_while_owed<R: Wait>(
     door: &AnyDoor<Tally>,
     last: Outside<Tally>,
     other: Outside<Tally>,
-) -> Glance
+) -> Status
     requires last { ⟦<AnyDoor<Tally> as Monitor<Tally>>⟧.is_of door.now last }
     requires other { ⟦<AnyDoor<Tally> as Monitor<Tally>>⟧.is_of door.now other }
 {
     let (_away, _next) = begin_wait(&**door, door.enter(rt, last), 0, 0);
     let (_out, _resumed) = door.signal_leave(rt, door.enter(rt, other), 0);
-    door.glance()
+    door.status()
 }
 
 // Returns the glance while place 63 of 64 is owed the monitor.
-fn last_is_owed<R: Wait + Abort>(rt: &R, alloc: Global, kind: DoorKind) -> Glance {
+fn last_is_owed<R: Wait + Abort>(rt: &R, alloc: Global, kind: DoorKind) -> Status {
     let Some((door, mut outs)) = made(alloc, kind, Tally { value: 0 }, 64) else {
         panic!(rt; "no door was made")
     };

@@ -11,13 +11,13 @@ type Written = (usize, Act, u64);
 
 /// A history that keeps all rules, of six places that wait on one of Hoare's conditions and on a Mesa condition.
 const LAWFUL: [Written; 46] = [
-    (0, Act::ComesIn, 0),
+    (0, Act::EntersWith, 0),
     (0, Act::Waits(0, 5), 1),
-    (2, Act::ComesIn, 1),
+    (2, Act::EntersWith, 1),
     (2, Act::Waits(0, 3), 3),
-    (1, Act::ComesIn, 3),
+    (1, Act::EntersWith, 3),
     (1, Act::Waits(0, 3), 5),
-    (3, Act::ComesIn, 5),
+    (3, Act::EntersWith, 5),
     (3, Act::Signals(0), 7),
     (2, Act::GoesOn(0), 7), // the least priority, for longer than 1
     (2, Act::Signals(0), 9),
@@ -29,11 +29,11 @@ const LAWFUL: [Written; 46] = [
     (3, Act::Passes(1), 15), // nobody waits there
     (2, Act::IsBack, 15),
     (2, Act::Waits(2, 4), 17),
-    (3, Act::ComesIn, 17),
+    (3, Act::EntersWith, 17),
     (3, Act::Waits(2, 0), 19),
-    (4, Act::ComesIn, 19),
+    (4, Act::EntersWith, 19),
     (4, Act::Waits(2, 4), 21),
-    (1, Act::ComesIn, 21),
+    (1, Act::EntersWith, 21),
     (1, Act::Notifies(2), 23),
     (1, Act::HasNotified(true), 23), // place 3
     (1, Act::Broadcasts(2), 25),
@@ -55,7 +55,7 @@ const LAWFUL: [Written; 46] = [
     (4, Act::Passes(0), 41),
     (2, Act::GoesOn(0), 41),
     (2, Act::Leaves, 43),
-    (5, Act::ComesIn, 43),
+    (5, Act::EntersWith, 43),
     (5, Act::Leaves, 45),
 ];
 
@@ -63,23 +63,23 @@ const LAWFUL: [Written; 46] = [
 const UNLAWFUL: [(usize, Written); 38] = [
     // the first process enters, has one of the places, and finds the stamp 0
     (0, (0, Act::Leaves, 0)),
-    (0, (9, Act::ComesIn, 0)),
-    (0, (0, Act::ComesIn, 1)),
+    (0, (9, Act::EntersWith, 0)),
+    (0, (0, Act::EntersWith, 1)),
     // the process inside, and no other, does something next
     (1, (1, Act::Waits(0, 5), 1)),
-    (1, (0, Act::ComesIn, 0)),
+    (1, (0, Act::EntersWith, 0)),
     // the next process finds the stamp that was left
-    (2, (2, Act::ComesIn, 0)),
+    (2, (2, Act::EntersWith, 0)),
     // nobody signalled and nobody is notified: a process from outside enters
-    (2, (0, Act::ComesIn, 1)),
+    (2, (0, Act::EntersWith, 1)),
     (2, (0, Act::GoesOn(0), 1)),
     (2, (1, Act::IsBack, 1)),
-    (18, (0, Act::ComesIn, 17)),
+    (18, (0, Act::EntersWith, 17)),
     // the resumed waiter has the least priority, waits for the longest, and on this condition
     (8, (0, Act::GoesOn(0), 7)),
     (8, (1, Act::GoesOn(0), 7)),
     (8, (2, Act::GoesOn(1), 7)),
-    (8, (2, Act::ComesIn, 7)),
+    (8, (2, Act::EntersWith, 7)),
     (8, (3, Act::HearsNobody, 7)),
     (36, (1, Act::GoesOn(1), 35)),
     // nobody waits on the condition: the signaller stays inside
@@ -88,9 +88,9 @@ const UNLAWFUL: [(usize, Written); 38] = [
     (14, (0, Act::GoesOn(0), 13)),
     // the first that signalled is back before all others
     (12, (2, Act::IsBack, 11)),
-    (12, (3, Act::ComesIn, 11)),
-    (12, (4, Act::ComesIn, 11)),
-    (16, (4, Act::ComesIn, 15)),
+    (12, (3, Act::EntersWith, 11)),
+    (12, (4, Act::EntersWith, 11)),
+    (16, (4, Act::EntersWith, 15)),
     (32, (3, Act::GoesOn(2), 31)),
     // a waiter on the condition of a pass goes on before those notified
     (36, (2, Act::GoesOn(2), 35)),
@@ -106,9 +106,9 @@ const UNLAWFUL: [(usize, Written); 38] = [
     // those notified go on in the order of their calls, before a process from outside
     (34, (2, Act::GoesOn(2), 33)),
     (34, (3, Act::GoesOn(3), 33)),
-    (34, (5, Act::ComesIn, 33)),
+    (34, (5, Act::EntersWith, 33)),
     (38, (4, Act::GoesOn(2), 37)),
-    (40, (5, Act::ComesIn, 39)),
+    (40, (5, Act::EntersWith, 39)),
     (44, (4, Act::GoesOn(2), 43)),
 ];
 

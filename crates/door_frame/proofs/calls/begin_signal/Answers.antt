@@ -10,24 +10,24 @@ pub signal-next-requires-clause-inside : goal.signal-next-requires-clause-inside
 signal-next-requires-clause-inside g c =
     turn_in_hand (holds_unpacked c.deref_mut.ensures.value c.parcel.view_is c.into_parts-seat.ensures c.requires.of)
 
-pub hand_on-requires-clause-event : goal.hand_on-requires-clause-event
-hand_on-requires-clause-event g c =
+pub release-requires-clause-event : goal.release-requires-clause-event
+release-requires-clause-event g c =
     let h = holds_unpacked c.deref_mut.ensures.value c.parcel.view_is c.into_parts-seat.ensures c.requires.of in
     let some = (c.if-not-queue.ensures.lists).0 refl in
     gives_handing false _ _ _ h c.requires.hoare some (c.requires.ready some)
     (c.signal-next.ensures.of (erased c.args.inside.front) h.book) c.signal-next.ensures.next
 
 pub of_parts-requires : goal.of_parts-requires
-of_parts-requires g c = (_, c.hand_on.ensures.away _ c.into_parts-seat.ensures.seat.0)
+of_parts-requires g c = (_, c.release.ensures.away _ c.into_parts-seat.ensures.seat.0)
 
 pub returns : goal.returns
 returns g c =
     let h = holds_unpacked c.deref_mut.ensures.value c.parcel.view_is c.into_parts-seat.ensures c.requires.of in
     let some = (c.if-not-queue.ensures.lists).0 refl in
     let book = c.signal-next.ensures.of (erased c.args.inside.front) h.book in
-    let is = c.of_parts.ensures _ (c.hand_on.ensures.away _ h.me_is) in
+    let is = c.of_parts.ensures _ (c.release.ensures.away _ h.me_is) in
     let o = handed_over c.args.condition _ _ _ _ h c.requires.hoare some (c.requires.ready some) book
-    c.signal-next.ensures.next (berth_on g.S.Parking.at _ c.hand_on.ensures.table) is in
+    c.signal-next.ensures.next (berth_on g.S.Parking.at _ c.release.ensures.table) is in
     record {
       of = o.of;
       place = o.place;

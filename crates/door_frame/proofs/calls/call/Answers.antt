@@ -1,6 +1,6 @@
 use Rattle.std.proofs.Common.{ap, refl, subst}
 use Rattle.hoare_law.specs.Beside.Erasure.{erased}
-use Rattle.door_frame.specs.declared.parcel.Lodged.{Lodged}
+use Rattle.door_frame.specs.declared.parcel.Guarded.{Guarded}
 use Rattle.door_frame.specs.Notices.{IsCounted, called_on}
 use Rattle.door_frame.specs.Seats.{IsInside}
 use Rattle.door_frame.specs.Views.{front_of}
@@ -29,7 +29,7 @@ invariant_of-inside g c =
     let h = holds refl c.inside.view_is c.inside.invariant c.requires.of in
     let now = c.note.ensures.stays _ c.inside.invariant.0 in
     let same = unpacked c.deref_mut.ensures.value c.parcel.view_is in
-    let book = book_in_hand (ap (λ (w : Lodged g.row.D.Denot). w.book) same) c.inside.invariant in
+    let book = book_in_hand (ap (λ (w : Guarded g.row.D.Denot). w.book) same) c.inside.invariant in
     at_front (λ h. IsInside c.inside.inside.place h c.note.new.seat.me c.book_calls.new.book) _ _ _ _ _ now
     (now, book_noticed c.args.notice _ h c.requires.some (c.book_calls.ensures.of (erased f) book))
 
@@ -40,8 +40,8 @@ returns g c =
     let notes = notes_notice c.args.notice h c.requires.mesa c.requires.some in
     record {
       noted = noted c.args.notice _ h notes (berth_on g.S.Parking.at _ c.note.ensures.table)
-          (ap (λ (w : Lodged g.row.D.Denot). w.state) same) (c.note.ensures.stays _ c.inside.invariant.0);
+          (ap (λ (w : Guarded g.row.D.Denot). w.state) same) (c.note.ensures.stays _ c.inside.invariant.0);
       told = subst (λ q. IsCounted c.args.notice (q (called_on c.args.notice)) c.book_calls.result)
-          (listed_in_hand (ap (λ (w : Lodged g.row.D.Denot). w.book) same) c.inside.invariant c.inside.view_is)
+          (listed_in_hand (ap (λ (w : Guarded g.row.D.Denot). w.book) same) c.inside.invariant c.inside.view_is)
           c.book_calls.ensures.told;
     }

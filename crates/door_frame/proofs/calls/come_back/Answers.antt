@@ -1,5 +1,5 @@
 use Rattle.std.proofs.Common.{◌∙◌, ◌<◌, ℕ, sym, ap, subst}
-use Rattle.door_frame.specs.Places.{Berth, sleeper_at}
+use Rattle.door_frame.specs.Places.{PlaceId, sleeper_at}
 use Rattle.door_frame.proofs.Arrivals.{came_back}
 use Rattle.door_frame.proofs.Seats.{away_as, berth_as}
 use Rattle.door_frame.proofs.calls.come_back.Goals as goal
@@ -7,20 +7,20 @@ use Rattle.door_frame.proofs.calls.come_back.Goals as goal
 pub claim-parcel-requires-clause-small : goal.claim-parcel-requires-clause-small
 claim-parcel-requires-clause-small g c =
     let parts = c.into_parts-seat.ensures in
-    subst (λ (k : ℕ). k < (g.T.Turnstile.id c.args.door.now).places) (sym parts.1) c.requires.below
+    subst (λ (k : ℕ). k < (g.T.RawMonitor.id c.args.door.now).places) (sym parts.1) c.requires.below
 
 pub claim-parcel-requires-clause-sleeper : goal.claim-parcel-requires-clause-sleeper
 claim-parcel-requires-clause-sleeper g c =
     let parts = c.into_parts-seat.ensures in
-    ap (λ (b : Berth). b.sleeper) (parts.0 ∙ c.requires.of)
-    ∙ ap (λ (k : ℕ). sleeper_at (g.T.Turnstile.id c.args.door.now) k) (sym parts.1)
+    ap (λ (b : PlaceId). b.sleeper) (parts.0 ∙ c.requires.of)
+    ∙ ap (λ (k : ℕ). sleeper_at (g.T.RawMonitor.id c.args.door.now) k) (sym parts.1)
 
 pub claim-parcel-requires-clause-away : goal.claim-parcel-requires-clause-away
 claim-parcel-requires-clause-away g c =
     let parts = c.into_parts-seat.ensures in (c.args.away.front, away_as parts.1 parts.2)
 
-pub brought_back-requires : goal.brought_back-requires
-brought_back-requires g c =
+pub return_with-requires : goal.return_with-requires
+return_with-requires g c =
     let parts = c.into_parts-seat.ensures in
     record { came = (c.args.away.front, c.claim-parcel.ensures.came c.args.away.front (away_as parts.1 parts.2)) }
 
@@ -29,4 +29,4 @@ returns g c =
     let parts = c.into_parts-seat.ensures in
     let came = c.claim-parcel.ensures.came c.args.away.front (away_as parts.1 parts.2) in
     came_back c.args.away _ _ c.requires (berth_as _ c.claim-parcel.ensures.table ∙ parts.0) parts.1 came
-    (c.brought_back.ensures _ came)
+    (c.return_with.ensures _ came)

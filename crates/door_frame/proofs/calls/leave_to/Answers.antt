@@ -8,20 +8,20 @@ pub leave-next-requires : goal.leave-next-requires
 leave-next-requires g c =
     turn_in_hand (holds_unpacked c.deref_mut.ensures.value c.parcel.view_is c.into_parts-seat.ensures c.requires.of)
 
-pub hand_on-requires-clause-event : goal.hand_on-requires-clause-event
-hand_on-requires-clause-event g c =
+pub release-requires-clause-event : goal.release-requires-clause-event
+release-requires-clause-event g c =
     let h = holds_unpacked c.deref_mut.ensures.value c.parcel.view_is c.into_parts-seat.ensures c.requires.of in
     gives_leave _ _ h c.requires.rest (c.leave-next.ensures.of (erased c.args.inside.front) h.book)
     c.leave-next.ensures.next
 
 pub of_parts-requires : goal.of_parts-requires
-of_parts-requires g c = (_, c.hand_on.ensures.away _ c.into_parts-seat.ensures.seat.0)
+of_parts-requires g c = (_, c.release.ensures.away _ c.into_parts-seat.ensures.seat.0)
 
 pub returns : goal.returns
 returns g c =
     let h = holds_unpacked c.deref_mut.ensures.value c.parcel.view_is c.into_parts-seat.ensures c.requires.of in
-    let is = c.of_parts.ensures _ (c.hand_on.ensures.away _ h.me_is) in
-    let o = left _ _ h c.requires.rest (berth_on g.S.Parking.at _ c.hand_on.ensures.table) is in
+    let is = c.of_parts.ensures _ (c.release.ensures.away _ h.me_is) in
+    let o = left _ _ h c.requires.rest (berth_on g.S.Parking.at _ c.release.ensures.table) is in
     record {
       of = o.of;
       place = o.place;

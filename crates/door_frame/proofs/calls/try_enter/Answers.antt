@@ -13,8 +13,8 @@ try_admit-requires-clause-outside g c =
 
 -- where it came in
 
-pub brought_in-requires : goal.brought_in-requires
-brought_in-requires g c =
+pub enter_with-requires : goal.enter_with-requires
+enter_with-requires g c =
     let parts = c.into_parts-seat.ensures in
     record { came = (c.args.out.front, c.in-Some.ensures.came c.args.out.front (away_as parts.1 parts.2)) }
 
@@ -24,7 +24,7 @@ returns-in-Some g c =
     let came = c.in-Some.ensures.came c.args.out.front (away_as parts.1 parts.2) in
     let e =
     entered c.args.out _ _ c.requires (berth_on g.S.Parking.at _ c.in-Some.ensures.table ∙ parts.0) parts.1 came
-    (c.brought_in.ensures _ came) in
+    (c.enter_with.ensures _ came) in
     record { of = e.of; place = e.place; rest = e.rests; front = e.front; same = tt }
 
 -- where it didn't

@@ -10,8 +10,8 @@ try_claim-requires-clause-away g c =
 
 -- where it came back
 
-pub brought_back-requires : goal.brought_back-requires
-brought_back-requires g c =
+pub return_with-requires : goal.return_with-requires
+return_with-requires g c =
     let parts = c.into_parts-seat.ensures in
     record { came = (c.args.away.front, c.in-Some.ensures.came c.args.away.front (away_as parts.1 parts.2)) }
 
@@ -20,8 +20,9 @@ returns-in-Some g c =
     let parts = c.into_parts-seat.ensures in
     let came = c.in-Some.ensures.came c.args.away.front (away_as parts.1 parts.2) in
     record {
-      back = came_back c.args.away _ _ c.requires (berth_on g.S.Parking.at _ c.in-Some.ensures.table ∙ parts.0) parts.1 came
-          (c.brought_back.ensures _ came);
+      back = came_back c.args.away _ _ c.requires (berth_on g.S.Parking.at _ c.in-Some.ensures.table ∙ parts.0) parts.1
+          came
+          (c.return_with.ensures _ came);
       same = tt;
     }
 

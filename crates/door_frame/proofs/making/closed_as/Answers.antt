@@ -1,10 +1,10 @@
 use Rattle.std.proofs.Common.{rules, arith, ◌≡◌, ℕ, ◌-◌, List, ◌∷◌, ◌++◌, [], take, Some, IsSome, refl, sym, ap, ◌∙◌}
 use Rattle.std.proofs.Common.{subst, append-nil, append_assoc}
 use Rattle.std.specs.Prelude.{All}
-use Rattle.door_frame.specs.declared.parcel.Lodged.{Lodged}
-use Rattle.door_frame.specs.declared.view.View.TheVariants.{Places}
-use Rattle.door_frame.specs.Places.{Berth, DoorId, HasPlace, PlaceOut, IsOut, door_of}
-use Rattle.door_frame.specs.Steps.{Sat}
+use Rattle.door_frame.specs.declared.parcel.Guarded.{Guarded}
+use Rattle.door_frame.specs.declared.view.SeatView.TheVariants.{Places}
+use Rattle.door_frame.specs.Places.{PlaceId, DoorId, HasPlace, PlaceOut, IsOut, door_of}
+use Rattle.door_frame.specs.Steps.{SeatState}
 use Rattle.door_frame.specs.Views.{both_places}
 use Rattle.door_frame.proofs.Close.{All-mid, Ends, ends_all, ends_at, joins_one, known_to}
 use Rattle.door_frame.proofs.making.closed_as.Given.{Over}
@@ -21,7 +21,7 @@ loop-out-init g c =
     let mine =
     All-mid P c.pop.new.self.items o []
     (subst (All P) (c.in-Some.ensures.items ∙ sym (append-nil _)) c.requires.of) in (
-      ap (λ (b : Berth). b.table) (c.into_parts-seat.ensures.0 ∙ mine.of),
+      ap (λ (b : PlaceId). b.table) (c.into_parts-seat.ensures.0 ∙ mine.of),
       (o ∷ [], c.in-Some.ensures.items, c.into_parts-seat.ensures.2),
     )
 
@@ -40,12 +40,12 @@ join_seat-requires g c =
     inv.1.1 ∙ ap (λ (l : List (PlaceOut g.row.D.Denot)). l ++ inv.1.0) c.in-Some-pop.ensures.items in
     let mine = All-mid P left o inv.1.0 (subst (All P) items c.requires.of) in (
       search rules,
-      ap (λ (b : Berth). b.table) (c.into_parts-other.ensures.0 ∙ mine.of),
-      ap (λ (m : Sat g.row.D.Denot). m.1) c.into_parts-other.ensures.2,
+      ap (λ (b : PlaceId). b.table) (c.into_parts-other.ensures.0 ∙ mine.of),
+      ap (λ (m : SeatState g.row.D.Denot). m.1) c.into_parts-other.ensures.2,
       search rules,
       joins_one (W.starts q) (W.tells q) D.rest D.ready (W.kinds q) d _ _ _ _ inv.1.0 o.place o.front
-          (ap (λ (m : Sat g.row.D.Denot). m.0) inv.1.2)
-          (ap (λ (m : Sat g.row.D.Denot). m.0) c.into_parts-other.ensures.2),
+          (ap (λ (m : SeatState g.row.D.Denot). m.0) inv.1.2)
+          (ap (λ (m : SeatState g.row.D.Denot). m.0) c.into_parts-other.ensures.2),
     )
 
 pub loop-out-preserved : goal.loop-out-preserved
@@ -71,7 +71,7 @@ unreachable-requires g c =
 
 -- what is taken from the slot at the end
 ended : (g : Over) (c : After-take g) → let D = g.D.MonitorData in let t = c.args.table.shared in
-    (l : Lodged g.row.D.Denot) × (c.take.result ≡ Some l)
+    (l : Guarded g.row.D.Denot) × (c.take.result ≡ Some l)
     × Ends D.rest D.ready (g.W.Words.kinds t.key)
     (door_of t.table_id (g.W.Words.places t.key) g.J.PickedSleepers.sleepers) c.args.outs.items l
 ended g c =
@@ -79,7 +79,7 @@ ended g c =
     let p = c.in_default-pop.ensures in
     let q = c.args.table.shared.key in
     ends_all (g.W.Words.starts q) (g.W.Words.tells q) _ _ _ _ _ _ inv.1.0 inv.1.1
-    (none_left _ _ _ p.items p.cases.0 p.rest) (ap (λ (m : Sat g.row.D.Denot). m.0) inv.1.2) c.requires.of
+    (none_left _ _ _ p.items p.cases.0 p.rest) (ap (λ (m : SeatState g.row.D.Denot). m.0) inv.1.2) c.requires.of
     c.requires.places c.close_with-closed.ensures.values.2 c.take.ensures.value
 
 pub unwrap-parcel-requires : goal.unwrap-parcel-requires

@@ -1,5 +1,5 @@
 use Rattle.std.proofs.Common.{◌≡◌, List, [], ◌++◌, vec_len}
-use Rattle.door_frame.specs.declared.view.View.TheVariants.{Places}
+use Rattle.door_frame.specs.declared.view.SeatView.TheVariants.{Places}
 use Rattle.door_frame.specs.Places.{PlaceOut}
 use Rattle.door_frame.proofs.Close.{known_to}
 use Rattle.door_frame.proofs.making.closed_as.Given as goal

@@ -3,11 +3,11 @@ use Rattle.std.proofs.Common.{◌∙◌, subst, append_assoc}
 use Rattle.std.proofs.Common.{arith}
 use Rattle.atomic_table.specs.Seated.{TableId}
 use Rattle.atomic_table.specs.Table.{Splits}
-use Rattle.door_frame.specs.declared.view.View.{View}
-use Rattle.door_frame.specs.declared.view.View.TheVariants.{Places}
-use Rattle.door_frame.specs.Places.{berth, berth_at, door_of, place_out}
-use Rattle.door_frame.specs.Rule.{Kept}
-use Rattle.door_frame.specs.Steps.{Sat}
+use Rattle.door_frame.specs.declared.view.SeatView.{SeatView}
+use Rattle.door_frame.specs.declared.view.SeatView.TheVariants.{Places}
+use Rattle.door_frame.specs.Places.{place_id, place_id_at, door_of, place_out}
+use Rattle.door_frame.specs.Rule.{TableInvariant}
+use Rattle.door_frame.specs.Steps.{SeatState}
 use Rattle.door_frame.specs.Views.{all_know, places_behind, first_place}
 use Rattle.door_frame.proofs.Steps.{deals_ok}
 use Rattle.door_frame.proofs.Seats.{cut_off}
@@ -21,11 +21,11 @@ split_seat-cut-requires g c =
     let D = g.D.MonitorData in
     let W = g.W.Words in
     let q = c.args.table.now.shared.key in
-    let K = Kept (W.starts q) (W.tells q) D.rest D.ready (W.kinds q) (W.places q) in (
+    let K = TableInvariant (W.starts q) (W.tells q) D.rest D.ready (W.kinds q) (W.places q) in (
       search rules,
       search rules,
-      subst (λ (v : View g.row.D.Denot). Splits K c.loop-place.seat.id v (places_behind v) (first_place v))
-          (sym (ap (λ (m : Sat g.row.D.Denot). m.0) me))
+      subst (λ (v : SeatView g.row.D.Denot). Splits K c.loop-place.seat.id v (places_behind v) (first_place v))
+          (sym (ap (λ (m : SeatState g.row.D.Denot). m.0) me))
           (deals_ok (W.starts q) (W.tells q) D.rest D.ready (W.kinds q) _ _ c.loop-place.place
           (c.args.places - c.loop-place.place) all.0
           (omega (arith, c.loop-place-test.true))),
@@ -55,8 +55,8 @@ loop-place-preserved g c =
     let are : c.args.sleepers.items ≡ left ++ w ∷ given =
     inv.5.1 ∙ ap (λ (l : List TableId). l ++ given) last ∙ append_assoc left (w ∷ []) given in
     let d = door_of z c.args.places (reverse c.args.sleepers.items) in
-    let woken : berth c.split_seat-cut.result.table_id w ≡ berth_at d k =
-    (λ i. berth (table i) (sym (nth_reversed c.args.sleepers.items left given w z k are inv.5.2) i)) in (
+    let woken : place_id c.split_seat-cut.result.table_id w ≡ place_id_at d k =
+    (λ i. place_id (table i) (sym (nth_reversed c.args.sleepers.items left given w z k are inv.5.2) i)) in (
       c.split_seat-cut.ensures.0 ∙ inv.0,
       (λ f is.
           let m = inv.1 f is in
@@ -66,7 +66,7 @@ loop-place-preserved g c =
             cut.1 ∙ ap (λ (n : ℕ). (Places (all_know (k + 1) n f), [])) less,
             c.push_reserved.ensures.items
                 ∙ ap (λ o. c.loop-place.outs.items ++ o ∷ []) (c.of_parts.ensures f cut.0)
-                ∙ ap (λ os. os ++ place_out (berth c.split_seat-cut.result.table_id w) k f ∷ []) m.1
+                ∙ ap (λ os. os ++ place_out (place_id c.split_seat-cut.result.table_id w) k f ∷ []) m.1
                 ∙ places_and d k _ f woken,
           )),
       search rules,

@@ -1,7 +1,7 @@
 use Rattle.std.proofs.Common.{◌≡◌, ◌+◌, ◌-◌, ◌≤◌, List, [], ◌++◌, length, reverse, vec_len, vec_capacity}
 use Rattle.atomic_table.specs.Seated.{TableId}
 use Rattle.hoare_law.specs.declared.event.History.{History}
-use Rattle.door_frame.specs.declared.view.View.TheVariants.{Places}
+use Rattle.door_frame.specs.declared.view.SeatView.TheVariants.{Places}
 use Rattle.door_frame.specs.Places.{door_of, places_from}
 use Rattle.door_frame.specs.Views.{all_know}
 use Rattle.door_frame.proofs.making.deal.Given as goal

@@ -1,10 +1,10 @@
 use Rattle.std.proofs.Common.{rules, ◌≡◌, ◌+◌, ◌-◌, ◌∷◌, [], ◌++◌, sym, ap, ◌∙◌, subst, arith, ℕ}
 use Rattle.atomic_table.specs.Table.{Splits}
-use Rattle.door_frame.specs.declared.view.View.{View}
-use Rattle.door_frame.specs.declared.view.View.TheVariants.{Places}
-use Rattle.door_frame.specs.Places.{berth, berth_at, door_of, place_out}
-use Rattle.door_frame.specs.Rule.{Kept}
-use Rattle.door_frame.specs.Steps.{Sat}
+use Rattle.door_frame.specs.declared.view.SeatView.{SeatView}
+use Rattle.door_frame.specs.declared.view.SeatView.TheVariants.{Places}
+use Rattle.door_frame.specs.Places.{place_id, place_id_at, door_of, place_out}
+use Rattle.door_frame.specs.Rule.{TableInvariant}
+use Rattle.door_frame.specs.Steps.{SeatState}
 use Rattle.door_frame.specs.Views.{all_know, places_behind, first_place}
 use Rattle.door_frame.proofs.Steps.{deals_ok}
 use Rattle.door_frame.proofs.Seats.{cut_off}
@@ -18,11 +18,11 @@ split_seat-cut-requires g c =
     let D = g.D.MonitorData in
     let W = g.W.Words in
     let q = c.args.table.now.shared.key in
-    let K = Kept (W.starts q) (W.tells q) D.rest D.ready (W.kinds q) (W.places q) in (
+    let K = TableInvariant (W.starts q) (W.tells q) D.rest D.ready (W.kinds q) (W.places q) in (
       search rules,
       search rules,
-      subst (λ (v : View g.row.D.Denot). Splits K c.loop-place.seat.id v (places_behind v) (first_place v))
-          (sym (ap (λ (m : Sat g.row.D.Denot). m.0) me))
+      subst (λ (v : SeatView g.row.D.Denot). Splits K c.loop-place.seat.id v (places_behind v) (first_place v))
+          (sym (ap (λ (m : SeatState g.row.D.Denot). m.0) me))
           (deals_ok (W.starts q) (W.tells q) D.rest D.ready (W.kinds q) _ _ c.loop-place.place
           (c.args.places - c.loop-place.place) all.0
           (omega (arith, c.loop-place-test.true))),
@@ -47,7 +47,7 @@ loop-place-preserved g c =
     let table : c.split_seat-cut.result.table_id ≡ z = c.split_seat-cut.ensures.3 ∙ inv.0 in
     let y = c.split_seat-cut.result.table_id in
     let d = door_of z c.args.places [] in
-    let here : berth y y ≡ berth_at d k = (λ i. berth (table i) (table i)) in (
+    let here : place_id y y ≡ place_id_at d k = (λ i. place_id (table i) (table i)) in (
       c.split_seat-cut.ensures.0 ∙ inv.0,
       (λ f is.
           let m = inv.1 f is in
@@ -57,7 +57,7 @@ loop-place-preserved g c =
             cut.1 ∙ ap (λ (n : ℕ). (Places (all_know (k + 1) n f), [])) less,
             c.push_reserved.ensures.items
                 ∙ ap (λ o. c.loop-place.outs.items ++ o ∷ []) (c.of_parts.ensures f cut.0)
-                ∙ ap (λ os. os ++ place_out (berth y y) k f ∷ []) m.1
+                ∙ ap (λ os. os ++ place_out (place_id y y) k f ∷ []) m.1
                 ∙ places_and d k _ f here,
           )),
       search rules,

@@ -1,6 +1,6 @@
 use Rattle.std.proofs.Common.{◌≡◌, ◌-◌, ◌≤◌, [], vec_len, vec_capacity}
 use Rattle.hoare_law.specs.declared.event.History.{History}
-use Rattle.door_frame.specs.declared.view.View.TheVariants.{Places}
+use Rattle.door_frame.specs.declared.view.SeatView.TheVariants.{Places}
 use Rattle.door_frame.specs.Places.{door_of, places_from}
 use Rattle.door_frame.specs.Views.{all_know}
 use Rattle.door_frame.proofs.making.deal_by_caller.Given as goal

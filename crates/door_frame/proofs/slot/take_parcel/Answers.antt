@@ -1,12 +1,12 @@
 use Rattle.std.proofs.Common.{rules, ap, sym, ◌∙◌, subst, Some, None, IsSome, refl}
-use Rattle.door_frame.specs.Steps.{Sat}
+use Rattle.door_frame.specs.Steps.{SeatState}
 use Rattle.door_frame.proofs.Seats.{one_slot, slot_has, slot_is, slot_now}
 use Rattle.door_frame.proofs.slot.take_parcel.Goals as goal
 
 pub exchange-requires : goal.exchange-requires
 exchange-requires g c =
     let full = c.requires.full in
-    (search rules, (Some full.1, one_slot _ _ (ap (λ (m : Sat g.row.D.Denot). m.1) full.2)))
+    (search rules, (Some full.1, one_slot _ _ (ap (λ (m : SeatState g.row.D.Denot). m.1) full.2)))
 
 pub unwrap-requires : goal.unwrap-requires
 unwrap-requires g c =

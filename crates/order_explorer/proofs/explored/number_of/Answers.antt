@@ -13,4 +13,4 @@ returns-clause-same g c =
     let parts = c.into_parts-seat.ensures in
     let f = c.args.out.front in
     c.of_parts.ensures f (away_as parts.1 parts.2) ∙ (ap (λ z. place_out z c.into_parts-seat.result.1 f) parts.0
-    ∙ ap (λ k. place_out c.args.out.berth k f) parts.1)
+    ∙ ap (λ k. place_out c.args.out.place_id k f) parts.1)

@@ -1,5 +1,5 @@
 use Rattle.std.proofs.Common.{rules, refl, ap, ◌∙◌}
-use Rattle.door_frame.specs.Steps.{Sat}
+use Rattle.door_frame.specs.Steps.{SeatState}
 use Rattle.door_frame.proofs.Parcels.{laid_down}
 use Rattle.ticket_door.proofs.Opening.{begins_at, opens_at}
 use Rattle.ticket_door.proofs.laws.open.Goals as goal
@@ -15,15 +15,19 @@ load-requires g c =
           (kinds_of D.CONDITIONS D.MESA) _ _ _ c.requires.seat,
     )
 
-pub lay_parcel-requires-clause-empty : goal.lay_parcel-requires-clause-empty
-lay_parcel-requires-clause-empty g c = (_, c.load.ensures.2 _ (ap (λ (m : Sat g.row.D.Denot). m.0) c.requires.seat))
+pub put_parcel-requires-clause-empty : goal.put_parcel-requires-clause-empty
+put_parcel-requires-clause-empty g c = (
+  _,
+  c.load.ensures.2 _ (ap (λ (m : SeatState g.row.D.Denot). m.0)
+      c.requires.seat),
+)
 
 pub load-requires-2 : goal.load-requires-2
 load-requires-2 g c =
     let D = g.D.MonitorData in
     let key = c.args.table.now.shared.key in
-    let begun = c.load.ensures.2 _ (ap (λ (m : Sat g.row.D.Denot). m.0) c.requires.seat) in
-    let laid = c.lay_parcel.ensures.laid ∙ laid_down c.args.parcel refl begun in (
+    let begun = c.load.ensures.2 _ (ap (λ (m : SeatState g.row.D.Denot). m.0) c.requires.seat) in
+    let laid = c.put_parcel.ensures.laid ∙ laid_down c.args.parcel refl begun in (
       search rules,
       search rules,
       opens_at key.first key.places D.rest D.ready
@@ -32,6 +36,6 @@ load-requires-2 g c =
 
 pub returns-clause-opened : goal.returns-clause-opened
 returns-clause-opened g c =
-    let begun = c.load.ensures.2 _ (ap (λ (m : Sat g.row.D.Denot). m.0) c.requires.seat) in
-    let laid = c.lay_parcel.ensures.laid ∙ laid_down c.args.parcel refl begun in
+    let begun = c.load.ensures.2 _ (ap (λ (m : SeatState g.row.D.Denot). m.0) c.requires.seat) in
+    let laid = c.put_parcel.ensures.laid ∙ laid_down c.args.parcel refl begun in
     c.load-2.ensures.2 _ c.args.parcel laid

@@ -4,7 +4,7 @@ use Rattle.hoare_law.specs.Events.{opened}
 use Rattle.hoare_law.specs.Sizes.{kinds_of, sizes_of}
 use Rattle.hoare_law.specs.declared.event.Sizes.{Sizes}
 use Rattle.wait_book.specs.Contents.{Contents, IsOf}
-use Rattle.door_frame.specs.declared.view.View.TheVariants.{Places}
+use Rattle.door_frame.specs.declared.view.SeatView.TheVariants.{Places}
 use Rattle.door_frame.specs.Views.{all_know}
 use Rattle.door_frame.proofs.Opened.{made_outside, stands_for, dealt}
 use Rattle.baton_door.proofs.step_door.StepDoor.make.Goals as goal

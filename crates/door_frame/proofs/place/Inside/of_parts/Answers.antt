@@ -1,5 +1,5 @@
 use Rattle.std.proofs.Common.{ap}
-use Rattle.door_frame.specs.Places.{berth, place_in}
+use Rattle.door_frame.specs.Places.{place_id, place_in}
 use Rattle.door_frame.specs.Seats.{IsInside}
 use Rattle.door_frame.proofs.Seats.{at_front, front_is, is_alone-seat}
 use Rattle.door_frame.proofs.place.Inside.of_parts.Goals as goal
@@ -15,5 +15,6 @@ invariant_of-result-2 g c =
 
 pub returns : goal.returns
 returns g c = λ f is.
-    ap (λ h. place_in (berth c.args.seat.table_id (g.S.Parking.at c.args.seat.table_id c.args.sleeper)) c.args.place h c.args.parcel.state)
+    ap (λ h. place_in (place_id c.args.seat.table_id (g.S.Parking.at c.args.seat.table_id c.args.sleeper)) c.args.place
+    h c.args.parcel.state)
     (front_is _ _ _ _ _ is.0)

@@ -4,5 +4,5 @@ use Rattle.door_frame.proofs.running.RunningMonitor.close.Goals as goal
 
 pub close-requires-clause-places : goal.close-requires-clause-places
 close-requires-clause-places g c =
-    subst (λ d. (k : ℕ) → k < (g.T.Turnstile.id d).places → HasPlace k c.args.outs.items) (sym c.self.view_is)
+    subst (λ d. (k : ℕ) → k < (g.T.RawMonitor.id d).places → HasPlace k c.args.outs.items) (sym c.self.view_is)
     c.requires.places

@@ -1,5 +1,0 @@
-use Rattle.door_frame.specs.Departures.{event_of}
-use Rattle.baton_door.proofs.step_door.StepDoorTurnstile.hand_on.Given as goal
-
-abbrev pub ghosts-give : goal.ghosts-give
-ghosts-give g a = record { event = event_of a.place a.departure a.next }

@@ -1,0 +1,171 @@
+//! The turnstile of a baton door.
+ghost use Rattle.std.specs.Prelude.{◌≡◌, ◌<◌, ℕ, IfOk, IfErr, All};
+ghost use Rattle.hoare_law.specs.Priorities.{nobody};
+ghost use Rattle.hoare_law.specs.Sizes.{kinds_of};
+ghost use Rattle.wait_book.specs.Contents.{IsPlaceBelow};
+ghost use Rattle.door_frame.specs.Making.{AreParts, IsMadeOf};
+ghost use Rattle.door_frame.specs.Steps.{MayGive, MayNote};
+ghost use Rattle.door_frame.specs.Places.{Closes, Entered, HasPlace, IsOut, IsWoken};
+ghost use Rattle.door_frame.specs.Seats.{GoesOut, StaysIn};
+ghost use Rattle.door_frame.specs.Departures.{event_of};
+ghost use Rattle.door_frame.specs.Notices.{event_of_notice};
+
+use crate::door::{RawBatonDoor, open};
+use crate::parked::Parked;
+use crate::place::{DoorIn, DoorOut};
+use crate::rule::BatonWords;
+use crate::table_steps;
+use crate::word::{DOOR, FREE, owed};
+use door_frame::calls;
+use door_frame::departure::Departure;
+use door_frame::making::{Parts, closed, deal, vacant};
+use door_frame::notice::Notice;
+use door_frame::parcel::Parcel;
+use door_frame::polling::{BATON_POLLING, Polling};
+use door_frame::raw_monitor::{Opens, RawMonitor, Runs, Wakes};
+use door_frame::seat_steps::{DoorSeat, KindsOf};
+use door_frame::waking::Woken;
+use hoare_law::data::MonitorData;
+use std::alloc::Global;
+use std::marker::Brand;
+use std::sync::Wait;
+use std::sync::atomic::{AtomicBool, Ordering};
+use wait_book::steps::Next;
+
+impl<D: MonitorData> RawMonitor<D> for RawBatonDoor<D> {
+    ghost id = { λ d. d };
+
+    ghost kinds = { λ d. kinds_of D.CONDITIONS D.MESA };
+
+    type Shown = Option<Woken>;
+
+    ghost is_woken = { IsWoken };
+
+    fn polling(&self) -> Polling {
+        BATON_POLLING
+    }
+
+    /// Tries once to enter. Returns `None` if the compare-exchange doesn't find `FREE`.
+    #[inline]
+    fn try_admit(&self, seat: &mut DoorSeat<D>, place: usize) -> Option<Parcel<D>> {
+        table_steps::try_admit(&self.table, seat, place)
+    }
+
+    #[inline]
+    fn is_owed(&self, place: usize) -> bool {
+        self.table.shared.peek(DOOR) == owed(place)
+    }
+
+    /// Tries once to return. Returns `None` if the compare-exchange doesn't find the monitor owed to the place.
+    #[inline]
+    fn try_claim(&self, seat: &mut DoorSeat<D>, place: usize) -> Option<Parcel<D>> {
+        table_steps::try_claim(&self.table, seat, place)
+    }
+
+    #[inline(always)] // as `give` is, which it calls
+    fn release(
+        &self,
+        seat: &mut DoorSeat<D>,
+        parcel: Parcel<D>,
+        place: usize,
+        departure: Departure,
+        next: Next,
+    ) -> Option<Woken>
+        requires table { seat.old.table_id ≡ self.now.table }
+        requires next { IsPlaceBelow self.now.places next }
+        requires event { MayGive D.rest D.ready (event_of place departure next) place
+            seat.old.me parcel next }
+        ensures table { seat.new.table_id ≡ seat.old.table_id }
+        ensures away { GoesOut place (event_of place departure next)
+            seat.old.me parcel.state seat.new.me }
+        ensures woken { IsWoken self.now next result }
+    {
+        self.give::<Brand>(seat, parcel, place, departure, next)
+    }
+
+    #[inline]
+    fn note(&self, seat: &mut DoorSeat<D>, parcel: &Parcel<D>, place: usize, notice: Notice)
+        requires table { seat.old.table_id ≡ self.now.table }
+        requires event { MayNote D.rest D.ready (event_of_notice place notice parcel.now.state)
+            place seat.old.me }
+        ensures table { seat.new.table_id ≡ seat.old.table_id }
+        ensures stays { StaysIn place (event_of_notice place notice parcel.now.state)
+            seat.old.me seat.new.me }
+    {
+        table_steps::tell::<D, usize, Brand>(&self.table, seat, parcel, place, notice);
+    }
+}
+
+impl<D: MonitorData> Wakes<D> for RawBatonDoor<D> {
+    ghost woken = { λ w. w };
+
+    ghost wakes = { λ d next w is. is };
+}
+
+impl<D: MonitorData> Runs<D> for RawBatonDoor<D> {
+    ghost use Rattle.std.specs.Prelude.{refl};
+
+    /// Tries once to enter, as `try_enter` does, and then keeps trying. The first attempt isn't inside a function that
+    /// may block: after a call to one the compiler checks whether it returned.
+    #[inline]
+    fn enter<R: Wait>(&self, rt: &R, out: DoorOut<D>) -> DoorIn<D>
+        requires { IsOut D.rest D.ready (kinds_of D.CONDITIONS D.MESA) self.now out }
+        ensures { Entered D.rest D.ready (kinds_of D.CONDITIONS D.MESA) self.now out result }
+    {
+        if self.is_to_make_way.load(Ordering::Relaxed) {
+            self.make_way();
+        }
+        match calls::try_enter(self, out) {
+            Ok(inside) => inside,
+            Err(out) => self.enter_later(rt, out),
+        }
+    }
+
+    fn close(self, outs: Vec<DoorOut<D>>) -> D
+        requires of { All (IsOut D.rest D.ready (kinds_of D.CONDITIONS D.MESA) self) outs.items }
+        requires places { (k : ℕ) → k < self.places → HasPlace k outs.items }
+        ensures closes { Closes D.rest D.ready (kinds_of D.CONDITIONS D.MESA) self outs.items result }
+        ensures rest { D.rest result nobody }
+    {
+        let RawBatonDoor {
+            table,
+            wakers,
+            is_to_make_way: _,
+            parked: _,
+        } = self;
+        closed(table, wakers, outs)
+    }
+
+    ghost kinds_are = { λ d. refl };
+}
+
+impl<D: MonitorData> Opens<D> for RawBatonDoor<D> {
+    fn open(alloc: Global, parts: Parts<D>) -> Result<(RawBatonDoor<D>, Vec<DoorOut<D>>), D>
+        requires { AreParts D.rest (kinds_of D.CONDITIONS D.MESA) parts }
+        ensures made { IfOk result (λ r. IsMadeOf D.rest D.ready (kinds_of D.CONDITIONS D.MESA)
+            parts r.0 r.1.items) }
+        ensures new { IfOk result (λ r. Unit {0}) }
+        ensures returned { IfErr result (λ s. s ≡ parts.state) }
+    {
+        let Parts {
+            places,
+            state,
+            book,
+            sleepers,
+            wakers,
+            outs,
+        } = parts;
+        let (table, mut seat, parcel) = vacant::<D, usize, BatonWords>(
+            alloc, state, book, &[FREE; 8], &places,
+        )?;
+        open::<D, usize, KindsOf<D>>(&table, &mut seat, parcel);
+        let outs = deal(&table, seat, sleepers, outs, places);
+        let raw_monitor = RawBatonDoor {
+            table,
+            wakers,
+            is_to_make_way: AtomicBool::new(false),
+            parked: Parked::new(),
+        };
+        Ok((raw_monitor, outs))
+    }
+}

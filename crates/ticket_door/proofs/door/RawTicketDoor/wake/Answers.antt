@@ -1,0 +1,16 @@
+use Rattle.std.proofs.Common.{◌<◌, length, ap, ◌∙◌, arith}
+use Rattle.std.proofs.lemmas.List.{get_or_default}
+use Rattle.door_frame.specs.Places.{sleeper_at}
+use Rattle.ticket_door.specs.Asked.{TicketDoorId}
+use Rattle.ticket_door.proofs.door.RawTicketDoor.wake.Goals as goal
+
+pub returns : goal.returns
+returns g c =
+    let wakers = c.self.inside.wakers in
+    let places = ap (λ (d : TicketDoorId). d.door.places) c.self.view_is in
+    let each = c.self.invariant.each_wakes in
+    let counted = wakers.ok.0 in
+    let below = c.requires.below in
+    let there : c.args.place < length wakers.items = omega (arith, places, each, counted, below) in
+    c.wake.ensures ∙ c.index.ensures ∙ get_or_default wakers.items c.args.place _ _ there
+    ∙ ap (λ (d : TicketDoorId). sleeper_at d.door c.args.place) c.self.view_is

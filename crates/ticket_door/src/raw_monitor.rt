@@ -1,0 +1,162 @@
+//! The turnstile of a ticket door.
+ghost use Rattle.std.specs.Prelude.{◌≡◌, ◌<◌, ℕ, IfOk, IfErr, All};
+ghost use Rattle.hoare_law.specs.Priorities.{nobody};
+ghost use Rattle.hoare_law.specs.Sizes.{kinds_of};
+ghost use Rattle.wait_book.specs.Contents.{IsPlaceBelow};
+ghost use Rattle.door_frame.specs.Making.{AreParts, IsMadeOf};
+ghost use Rattle.door_frame.specs.Steps.{MayGive, MayNote};
+ghost use Rattle.door_frame.specs.Places.{Closes, Entered, HasPlace, IsOut, IsWoken};
+ghost use Rattle.door_frame.specs.Seats.{GoesOut, StaysIn};
+ghost use Rattle.door_frame.specs.Departures.{event_of};
+ghost use Rattle.door_frame.specs.Notices.{event_of_notice};
+
+use crate::door::RawTicketDoor;
+use crate::laws::open_at;
+use crate::place::{TicketIn, TicketOut};
+use crate::rule::TakeBell;
+use crate::words::{NEXT, RUNG, SERVING, SILENT, bell_of, served_as};
+use door_frame::departure::Departure;
+use door_frame::making::{Parts, closed};
+use door_frame::notice::Notice;
+use door_frame::parcel::Parcel;
+use door_frame::polling::{Polling, TICKET_POLLING};
+use door_frame::raw_monitor::{Opens, RawMonitor, Runs, Wakes};
+use door_frame::seat_steps::DoorSeat;
+use door_frame::slot::take_parcel;
+use door_frame::waking::Woken;
+use hoare_law::data::MonitorData;
+use std::alloc::Global;
+use std::marker::Brand;
+use std::sync::Wait;
+use wait_book::steps::Next;
+
+impl<D: MonitorData> RawMonitor<D> for RawTicketDoor<D> {
+    ghost id = { λ d. d.door };
+
+    ghost kinds = { λ d. kinds_of D.CONDITIONS D.MESA };
+
+    type Shown = Option<Woken>;
+
+    ghost is_woken = { IsWoken };
+
+    fn polling(&self) -> Polling {
+        TICKET_POLLING
+    }
+
+    /// It shuts the gate where both words have one ticket, tries that ticket, and opens the gate again. "No" where
+    /// somebody has the monitor or asked, and also where another place tries, or a word changes between the looks.
+    fn try_admit(&self, seat: &mut DoorSeat<D>, place: usize) -> Option<Parcel<D>> {
+        let table = &self.table;
+        let ticket = table.shared.peek(NEXT);
+        if table.shared.peek(SERVING) != served_as(ticket) || !self.shut(seat, place, ticket) {
+            return None;
+        }
+        let let_in = self.try_in(seat, place, ticket);
+        self.reopen(seat);
+        if !let_in {
+            return None;
+        }
+        Some(take_parcel(table, seat))
+    }
+
+    #[inline]
+    fn is_owed(&self, place: usize) -> bool {
+        self.table.shared.peek(bell_of(place)) == RUNG
+    }
+
+    /// One test of the place's bell: "no" where it wasn't rung.
+    #[inline]
+    fn try_claim(&self, seat: &mut DoorSeat<D>, place: usize) -> Option<Parcel<D>> {
+        let table = &self.table;
+        let bell = bell_of(place);
+        if table.shared.swap::<TakeBell>(seat, bell, SILENT) == RUNG {
+            return Some(take_parcel(table, seat));
+        }
+        None
+    }
+
+    #[inline(always)] // as `give` is, which it calls
+    fn release(
+        &self,
+        seat: &mut DoorSeat<D>,
+        parcel: Parcel<D>,
+        place: usize,
+        departure: Departure,
+        next: Next,
+    ) -> Option<Woken>
+        requires table { seat.old.table_id ≡ self.now.door.table }
+        requires next { IsPlaceBelow self.now.door.places next }
+        requires event { MayGive D.rest D.ready (event_of place departure next) place
+            seat.old.me parcel next }
+        ensures table { seat.new.table_id ≡ seat.old.table_id }
+        ensures away { GoesOut place (event_of place departure next)
+            seat.old.me parcel.state seat.new.me }
+        ensures woken { IsWoken self.now.door next result }
+    {
+        self.give::<Brand>(seat, parcel, place, departure, next)
+    }
+
+    #[inline]
+    fn note(&self, seat: &mut DoorSeat<D>, parcel: &Parcel<D>, place: usize, notice: Notice)
+        requires table { seat.old.table_id ≡ self.now.door.table }
+        requires event { MayNote D.rest D.ready (event_of_notice place notice parcel.now.state)
+            place seat.old.me }
+        ensures table { seat.new.table_id ≡ seat.old.table_id }
+        ensures stays { StaysIn place (event_of_notice place notice parcel.now.state)
+            seat.old.me seat.new.me }
+    {
+        self.tell::<Brand>(seat, parcel, place, notice);
+    }
+}
+
+impl<D: MonitorData> Wakes<D> for RawTicketDoor<D> {
+    ghost woken = { λ w. w };
+
+    ghost wakes = { λ d next w is. is };
+}
+
+impl<D: MonitorData> Runs<D> for RawTicketDoor<D> {
+    ghost use Rattle.std.specs.Prelude.{refl};
+
+    #[inline]
+    fn enter<R: Wait>(&self, rt: &R, out: TicketOut<D>) -> TicketIn<D>
+        requires { IsOut D.rest D.ready (kinds_of D.CONDITIONS D.MESA) self.now.door out }
+        ensures { Entered D.rest D.ready (kinds_of D.CONDITIONS D.MESA) self.now.door out result }
+    {
+        let asked = self.ask(out);
+        self.come_in(rt, asked)
+    }
+
+    fn close(self, outs: Vec<TicketOut<D>>) -> D
+        requires of { All (IsOut D.rest D.ready (kinds_of D.CONDITIONS D.MESA) self.door) outs.items }
+        requires places { (k : ℕ) → k < self.door.places → HasPlace k outs.items }
+        ensures closes { Closes D.rest D.ready (kinds_of D.CONDITIONS D.MESA) self.door outs.items result }
+        ensures rest { D.rest result nobody }
+    {
+        let RawTicketDoor {
+            table,
+            wakers,
+            parked: _,
+        } = self;
+        closed(table, wakers, outs)
+    }
+
+    ghost kinds_are = { λ d. refl };
+}
+
+impl<D: MonitorData> Opens<D> for RawTicketDoor<D> {
+    ghost use Rattle.std.specs.Prelude.{◌≡◌};
+
+    /// The first ticket is 0.
+    ghost is_new = { λ d. d.first ≡ 0 };
+
+    fn open(alloc: Global, parts: Parts<D>) -> Result<(RawTicketDoor<D>, Vec<TicketOut<D>>), D>
+        requires { AreParts D.rest (kinds_of D.CONDITIONS D.MESA) parts }
+        ensures made { IfOk result (λ r. IsMadeOf D.rest D.ready (kinds_of D.CONDITIONS D.MESA)
+            parts r.0.door r.1.items) }
+        ensures new { IfOk result (λ r. r.0.first ≡ 0) }
+        ensures returned { IfErr result (λ s. s ≡ parts.state) }
+    {
+        open_at(alloc, parts, 0)
+    }
+}

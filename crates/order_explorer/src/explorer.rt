@@ -5,17 +5,17 @@ ghost use Rattle.hoare_law.specs.Sizes.{kinds_of};
 ghost use Rattle.door_frame.specs.Places.{IsOut};
 ghost use Rattle.any_door.specs.Doors.{id_of};
 
+use crate::choices::{Choices, Orders};
 use crate::controller::Controller;
 use crate::explored::{Explored, number_of};
 use crate::parsed::order_of;
 use crate::program::Program;
+use crate::run_state::RunState;
+use crate::schedule::{Ending, Limit, Schedule};
 use any_door::{AnyDoor, DoorKind};
 use door_frame::place::Outside;
 use hoare_law::data::MonitorData;
 use hoare_law::monitor::Monitor;
-use order_run::choices::{Choices, Orders};
-use order_run::scene::Scene;
-use order_run::schedule::{Ending, Limit, Schedule};
 use std::alloc::{AllocError, Global};
 use std::sync::{Arc, Wait};
 use std::thread;
@@ -163,8 +163,8 @@ fn look<R: Wait, D: MonitorData + Send + Drop, P: Program<D, Explored<D>>>(
     let door = &explored.door;
     let mut inside = door.enter(rt, desk);
     let right = {
-        let scene = explored.controller.scene.lock(rt);
-        program.is_right(door.state(&inside), scene.answers())
+        let state = explored.controller.state.lock(rt);
+        program.is_right(door.state(&inside), state.answers())
     };
     let Some(fresh) = program.open(alloc) else {
         return (door.leave(rt, inside), None);
@@ -230,7 +230,7 @@ fn controller_of<D: MonitorData>(
 ) -> Result<Controller, AllocError> {
     let choices = Choices::none(alloc, limits.depth, limits.orders, given)?;
     let kinds = (D::CONDITIONS, D::MESA);
-    let scene = Scene::make(
+    let state = RunState::make(
         alloc,
         threads,
         kinds,
@@ -238,7 +238,7 @@ fn controller_of<D: MonitorData>(
         limits.patience,
         choices,
     )?;
-    Controller::make(alloc, threads, limits.steps, scene)
+    Controller::make(alloc, threads, limits.steps, state)
 }
 
 // The place of who looks, and those of the threads.

@@ -1,11 +1,11 @@
 //! The calls of a monitor, each told to the controller.
 
+use crate::event_log::Note;
 use crate::explored::{Explored, number_of};
+use crate::run_state::Act;
 use door_frame::place::{Inside, Outside};
 use hoare_law::data::MonitorData;
 use hoare_law::monitor::Monitor;
-use order_run::notes::Note;
-use order_run::scene::Act;
 use std::sync::Wait;
 use wait_book::book::Book;
 

@@ -34,7 +34,7 @@ pub enum Limit {
 
 /// Where a thread stands.
 #[derive(Clone, Copy, Debug, PartialEq, Eq)]
-pub enum Standing {
+pub enum ThreadState {
     /// It hasn't begun.
     Ready,
     /// It does something outside the monitor.
@@ -65,7 +65,7 @@ pub struct Schedule {
     /// The steps of the monitor.
     pub steps: Vec<Step>,
     /// Where each thread stands at its end.
-    pub standings: Vec<Standing>,
+    pub standings: Vec<ThreadState>,
     /// How it ended.
     pub ending: Ending,
 }
@@ -87,19 +87,19 @@ fn add_step(text: &mut String, step: Step) -> Result<(), AllocError> {
 }
 
 // Adds a line that says where a thread stands that isn't inside, if it hasn't ended.
-fn add_standing(text: &mut String, place: usize, standing: Standing) -> Result<(), AllocError> {
+fn add_standing(text: &mut String, place: usize, standing: ThreadState) -> Result<(), AllocError> {
     match standing {
-        Standing::Ready => writeln!(text, "thread {place} hasn't begun"),
-        Standing::Outside => writeln!(text, "thread {place} is outside"),
-        Standing::Asks => writeln!(text, "thread {place} wants in"),
-        Standing::Inside => writeln!(text, "thread {place} is a signaller, and held up"),
-        Standing::Waits(condition, step) => {
+        ThreadState::Ready => writeln!(text, "thread {place} hasn't begun"),
+        ThreadState::Outside => writeln!(text, "thread {place} is outside"),
+        ThreadState::Asks => writeln!(text, "thread {place} wants in"),
+        ThreadState::Inside => writeln!(text, "thread {place} is a signaller, and held up"),
+        ThreadState::Waits(condition, step) => {
             writeln!(
                 text,
                 "thread {place} waits on condition {condition} since step {step}"
             )
         }
-        Standing::Ended => Ok(()),
+        ThreadState::Ended => Ok(()),
     }
 }
 

@@ -2,11 +2,11 @@
 
 ghost use Rattle.std.specs.Prelude.{◌≡◌, ◌↔◌, ◌<◌, ℕ, All, IsTrue, None, Some, length, slice_set};
 ghost use Rattle.wait_book.specs.Contents.{next_of};
-ghost use Rattle.order_run.specs.Scenes.{EndsAtRest, held_by};
+ghost use Rattle.order_explorer.specs.RunStates.{EndsAtRest, held_by};
 
 use crate::choices::Choices;
-use crate::notes::Note;
-use crate::schedule::{Ending, Limit, Schedule, Standing};
+use crate::event_log::Note;
+use crate::schedule::{Ending, Limit, Schedule, ThreadState};
 use std::alloc::{AllocError, Global};
 use std::mem;
 use wait_book::book::Book;
@@ -27,12 +27,12 @@ pub enum Act {
 
 /// What lies under the controller's lock.
 #[derive(Drop)]
-pub struct Scene {
+pub struct RunState {
     book: Book,
     threads: usize,
     conditions: usize,
     mesa: usize,
-    standings: Vec<Standing>,
+    standings: Vec<ThreadState>,
     answers: Vec<u64>,
     steps: Vec<Step>,
     patience: usize,
@@ -44,25 +44,25 @@ pub struct Scene {
 }
 
 // No run is under way: each thread has ended.
-fn none_under_way(alloc: Global, threads: usize) -> Result<Vec<Standing>, AllocError> {
+fn none_under_way(alloc: Global, threads: usize) -> Result<Vec<ThreadState>, AllocError> {
     let mut standings = Vec::with_capacity(alloc, threads)?;
     for _ in 0..threads {
-        standings.push(Standing::Ended)?;
+        standings.push(ThreadState::Ended)?;
     }
     Ok(standings)
 }
 
 // Whether each thread has ended.
-fn all_ended(standings: &[Standing]) -> bool
-    ensures { IsTrue result ↔ All (λ s. s ≡ Standing.Ended) standings.now }
+fn all_ended(standings: &[ThreadState]) -> bool
+    ensures { IsTrue result ↔ All (λ s. s ≡ ThreadState.Ended) standings.now }
 {
     standings
         .iter()
-        .all(|standing| *standing == Standing::Ended)
+        .all(|standing| *standing == ThreadState::Ended)
 }
 
 // How a run ends where nobody wants in and nobody is inside.
-fn ending_at_rest(standings: &[Standing]) -> Ending
+fn ending_at_rest(standings: &[ThreadState]) -> Ending
     ensures { EndsAtRest standings.now result }
 {
     if all_ended(standings) {
@@ -81,8 +81,8 @@ fn no_answers(alloc: Global, threads: usize) -> Result<Vec<u64>, AllocError> {
     Ok(answers)
 }
 
-impl Scene {
-    /// A scene before its first run.
+impl RunState {
+    /// The state before the first run.
     pub fn make(
         alloc: Global,
         threads: usize,
@@ -90,12 +90,12 @@ impl Scene {
         steps: usize,
         patience: usize,
         choices: Choices,
-    ) -> Result<Scene, AllocError> {
+    ) -> Result<RunState, AllocError> {
         let (conditions, mesa) = kinds;
         let Ok(book) = Book::make(alloc, threads, conditions, mesa) else {
             return Err(AllocError);
         };
-        Ok(Scene {
+        Ok(RunState {
             book,
             threads,
             conditions,
@@ -115,7 +115,7 @@ impl Scene {
     /// A run begins. All threads have ended the one before it, so nobody is inside and nobody waits.
     pub fn start(&mut self) {
         for place in 0..self.standings.len() {
-            self.set(place, Standing::Ready);
+            self.set(place, ThreadState::Ready);
         }
         self.steps.clear();
         self.run = self.run.saturating_add(1);
@@ -176,7 +176,7 @@ impl Scene {
     }
 
     // The place stands so.
-    fn set(&mut self, place: usize, standing: Standing)
+    fn set(&mut self, place: usize, standing: ThreadState)
         ensures set { place < length self.old.standings.items
             → self.new.standings.items ≡ slice_set self.old.standings.items place standing }
         ensures book { self.new.book ≡ self.old.book }
@@ -194,7 +194,7 @@ impl Scene {
     }
 
     // The first place that stands so.
-    fn first_that(&self, standing: Standing) -> Option<usize> {
+    fn first_that(&self, standing: ThreadState) -> Option<usize> {
         for place in 0..self.standings.len() {
             if self.standings[place] == standing {
                 return Some(place);
@@ -207,7 +207,7 @@ impl Scene {
     fn asking(&self) -> u64 {
         let mut asking = 0u64;
         for place in 0..self.standings.len().min(64) {
-            if self.standings[place] == Standing::Asks {
+            if self.standings[place] == ThreadState::Asks {
                 asking |= 1u64 << place;
             }
         }
@@ -218,7 +218,7 @@ impl Scene {
     fn starved(&self) -> Option<usize> {
         let count = self.steps.len();
         for place in 0..self.standings.len() {
-            if let Standing::Waits(_, since) = self.standings[place] {
+            if let ThreadState::Waits(_, since) = self.standings[place] {
                 if count.saturating_sub(since) > self.patience {
                     return Some(place);
                 }
@@ -236,7 +236,7 @@ impl Scene {
             Ok(next) => {
                 self.steps.push_reserved(step);
                 if let Next::Held(place) = next {
-                    self.set(place, Standing::Inside);
+                    self.set(place, ThreadState::Inside);
                 }
             }
             Err(_) => self.end(Ending::Refused),
@@ -262,8 +262,8 @@ impl Scene {
 
     // The same where the monitor is free.
     fn go_on_free(&mut self) {
-        if let Some(place) = self.first_that(Standing::Ready) {
-            self.set(place, Standing::Outside);
+        if let Some(place) = self.first_that(ThreadState::Ready) {
+            self.set(place, ThreadState::Outside);
             self.turn = Some(place);
             return;
         }
@@ -283,7 +283,7 @@ impl Scene {
 
     /// A place wants in.
     pub fn ask(&mut self, place: usize) {
-        self.set(place, Standing::Asks);
+        self.set(place, ThreadState::Asks);
         self.go_on();
     }
 
@@ -296,12 +296,12 @@ impl Scene {
     // A thread has ended, and answers this.
     fn note_end(&mut self, place: usize, answer: u64)
         ensures { place < length self.old.standings.items
-            → self.new.standings.items ≡ slice_set self.old.standings.items place Standing.Ended }
+            → self.new.standings.items ≡ slice_set self.old.standings.items place ThreadState.Ended }
     {
         if place < self.answers.len() {
             self.answers[place] = answer;
         }
-        self.set(place, Standing::Ended);
+        self.set(place, ThreadState::Ended);
     }
 
     /// What was noted before: a place came in by a try, or the process inside called others. With no note there was no
@@ -334,7 +334,7 @@ impl Scene {
         match act {
             Act::Wait(condition, priority) => {
                 let since = self.steps.len();
-                self.set(place, Standing::Waits(condition, since));
+                self.set(place, ThreadState::Waits(condition, since));
                 self.step(Step::Wait(number, condition as u64, priority));
                 self.go_on();
             }
@@ -343,11 +343,11 @@ impl Scene {
                 self.go_on();
             }
             Act::Pass(condition) => {
-                self.set(place, Standing::Outside);
+                self.set(place, ThreadState::Outside);
                 self.step(Step::Pass(number, condition as u64));
             }
             Act::Leave => {
-                self.set(place, Standing::Outside);
+                self.set(place, ThreadState::Outside);
                 self.step(Step::Leave(number));
             }
         }

@@ -2,10 +2,10 @@
 use Rattle.std.specs.Prelude.{ℕ, List, ◌≡◌, All, Option, Some, None}
 use Rattle.wait_book.specs.declared.steps.Next.{Next}
 use Rattle.wait_book.specs.declared.steps.Next.TheVariants.{Held}
-use Rattle.order_run.specs.declared.schedule.Ending.{Ending}
-use Rattle.order_run.specs.declared.schedule.Ending.TheVariants.{AllEnded, Stuck}
-use Rattle.order_run.specs.declared.schedule.Standing.{Standing}
-use Rattle.order_run.specs.declared.schedule.Standing.TheVariants.{Ended}
+use Rattle.order_explorer.specs.declared.schedule.Ending.{Ending}
+use Rattle.order_explorer.specs.declared.schedule.Ending.TheVariants.{AllEnded, Stuck}
+use Rattle.order_explorer.specs.declared.schedule.ThreadState.{ThreadState}
+use Rattle.order_explorer.specs.declared.schedule.ThreadState.TheVariants.{Ended}
 
 -- who is inside
 abbrev pub held_by : Next → Option ℕ
@@ -13,6 +13,6 @@ held_by (Held k) = Some k
 held_by _ = None
 
 -- how a run ends where nobody is inside and nobody wants in: all threads ended, or it is stuck
-pub data EndsAtRest (standings : List Standing) : Ending → Type 0 where
+pub data EndsAtRest (standings : List ThreadState) : Ending → Type 0 where
   all_ended : All (λ s. s ≡ Ended) standings → EndsAtRest standings AllEnded
   is_stuck : (All (λ s. s ≡ Ended) standings → ⊥) → EndsAtRest standings Stuck

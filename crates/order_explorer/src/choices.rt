@@ -1,6 +1,6 @@
 //! The choices of a run: which of those that want in is let in next.
 ghost use Rattle.std.specs.Prelude.{◌≡◌, ◌<◌, ◌≤◌, ◌++◌, ◌∷◌, [], IfOk, None, MatchBool, length, slice_index_or};
-ghost use Rattle.order_run.specs.Turns.{AreLast, IsNew, IsTurned};
+ghost use Rattle.order_explorer.specs.Turns.{AreLast, IsNew, IsTurned};
 
 use crate::schedule::{Ending, Limit};
 use std::alloc::{AllocError, Global};

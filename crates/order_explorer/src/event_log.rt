@@ -17,7 +17,7 @@ pub enum Note {
 
 /// Notes of the one process that runs, in order. The room for all is made beforehand.
 #[derive(Drop)]
-pub struct Notes {
+pub struct EventLog {
     words: Vec<AtomicU64>,
     count: AtomicU64,
 }
@@ -41,14 +41,14 @@ fn note_of(word: u64) -> Note {
     }
 }
 
-impl Notes {
+impl EventLog {
     /// No notes, with room for so many.
-    pub fn none(alloc: Global, most: usize) -> Result<Notes, AllocError> {
+    pub fn none(alloc: Global, most: usize) -> Result<EventLog, AllocError> {
         let mut words = Vec::with_capacity(alloc, most)?;
         for _ in 0..most {
             words.push(AtomicU64::new(0))?;
         }
-        Ok(Notes {
+        Ok(EventLog {
             words,
             count: AtomicU64::new(0),
         })

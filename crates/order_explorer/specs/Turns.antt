@@ -1,7 +1,7 @@
 -- How the choices of a run give those of the next: as an odometer turns.
 use Rattle.std.specs.Prelude.{ℕ, List, Option, None, ◌≡◌, ◌<◌, ◌≤◌, ◌+◌, count_ones, length, slice_index_or, slice_set}
 use Rattle.std.specs.Prelude.{take}
-use Rattle.order_run.specs.declared.choices.Choice.{Choice}
+use Rattle.order_explorer.specs.declared.choices.Choice.{Choice}
 
 -- the choices from the i-th on have no place left to let in
 abbrev pub AreLast : ℕ → List Choice → Type 0

@@ -1,6 +1,6 @@
 use Rattle.std.proofs.Common.{◌≡◌, ◌≤◌, length}
-use Rattle.order_run.specs.Turns.{AreLast}
-use Rattle.order_run.proofs.choices.turn_last.Given as goal
+use Rattle.order_explorer.specs.Turns.{AreLast}
+use Rattle.order_explorer.proofs.choices.turn_last.Given as goal
 
 -- the choices behind those that are left have no place left
 abbrev pub invariant-loop-left : goal.invariant-loop-left

@@ -1,6 +1,6 @@
 use Rattle.std.proofs.Common.{rules}
-use Rattle.order_run.specs.Scenes.{all_ended, is_stuck}
-use Rattle.order_run.proofs.scene.ending_at_rest.Goals as goal
+use Rattle.order_explorer.specs.RunStates.{all_ended, is_stuck}
+use Rattle.order_explorer.proofs.run_state.ending_at_rest.Goals as goal
 
 pub returns-then-all_ended : goal.returns-then-all_ended
 returns-then-all_ended g = all_ended (search rules)

@@ -1,0 +1,2 @@
+pub mod RunStates
+pub mod Turns

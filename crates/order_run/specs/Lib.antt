@@ -1,2 +1,0 @@
-pub mod Scenes
-pub mod Turns

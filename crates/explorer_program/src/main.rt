@@ -3,40 +3,39 @@
 #![tactic(auto)]
 
 mod answers;
-mod asked;
+mod arguments;
+mod barrier;
 mod buffer;
 mod clock;
 mod counting;
 mod digits;
-mod draining;
+mod drain;
 mod gate;
-mod gathering;
 mod head;
-mod hidden;
+mod hidden_state;
 mod jobs;
-mod letters;
-mod lost;
+mod latch;
+mod lost_update;
 mod lost_wake;
+mod mailbox;
 mod mesa;
 mod mesa_gate;
 mod outcome;
-mod pairs;
 mod pool;
 mod readers;
+mod rendezvous;
+mod report;
 mod signals;
 mod single;
-mod starting;
 mod starving;
-mod supper;
+mod table;
 mod tally;
-mod told;
 mod trying;
-mod users;
 mod weak_barrier;
 
-use crate::asked::Arguments;
+use crate::arguments::Arguments;
+use crate::report::Teller;
 use crate::tally::{OfTally, Tallied};
-use crate::told::Teller;
 use hoare_law::data::MonitorData;
 use order_explorer::{Explored, Limits, Orders, Program};
 use std::io;
@@ -54,7 +53,8 @@ fn tell_tallies<R: Threads + Wait + Clock + Print + Eprint + Copy + Send + 'stat
     }
 }
 
-// Programs over one kind of data, each under its name. (A call at a kind of data is dear to check: one serves them all.)
+// Programs over one kind of data, each under its name. (A call at a kind of data takes long to check: one is enough for
+// all of them.)
 fn tell_each<
     R: Threads + Wait + Clock + Print + Eprint + Copy + Send + 'static,
     D: MonitorData + Send + Drop + 'static,
@@ -65,7 +65,7 @@ fn tell_each<
     }
 }
 
-// Visits alone, signallers that come back, tries, and the first monitor.
+// Visits alone, signallers that return, and attempts to enter.
 fn tell_users<R: Threads + Wait + Clock + Print + Eprint + Copy + Send + 'static>(
     teller: &mut Teller<'_, R>,
 ) {
@@ -78,7 +78,6 @@ fn tell_users<R: Threads + Wait + Clock + Print + Eprint + Copy + Send + 'static
         ("tries", OfTally::Try(false)),
     ];
     tell_tallies(teller, &tallies);
-    teller.tell("permits", &users::Workers);
 }
 
 // The single item, and both buffers.
@@ -125,12 +124,12 @@ fn tell_others<R: Threads + Wait + Clock + Print + Eprint + Copy + Send + 'stati
 fn tell_recipes<R: Threads + Wait + Clock + Print + Eprint + Copy + Send + 'static>(
     teller: &mut Teller<'_, R>,
 ) {
-    teller.tell("barrier", &gathering::Gathering);
-    teller.tell("drain", &draining::Draining);
-    teller.tell("latch", &starting::Starting);
-    teller.tell("mailbox", &letters::Letters);
-    teller.tell("rendezvous", &pairs::Pairs);
-    teller.tell("table", &supper::Supper { meals: 1 });
+    teller.tell("barrier", &barrier::Gathering);
+    teller.tell("drain", &drain::Draining);
+    teller.tell("latch", &latch::Starting);
+    teller.tell("mailbox", &mailbox::Letters);
+    teller.tell("rendezvous", &rendezvous::Pairs);
+    teller.tell("table", &table::Supper { meals: 1 });
     teller.tell("work-queue", &jobs::Jobs);
 }
 
@@ -181,7 +180,7 @@ fn tell_hungry<R: Threads + Wait + Clock + Print + Eprint + Copy + Send + 'stati
         patience: 16,
         ..teller.asked().limits
     };
-    teller.tell_within(limits, "hungry", &supper::Supper { meals: 3 });
+    teller.tell_within(limits, "hungry", &table::Supper { meals: 3 });
     let limits = Limits {
         patience: 4,
         ..limits

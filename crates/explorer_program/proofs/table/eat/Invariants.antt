@@ -1,4 +1,4 @@
-use Rattle.explorer_program.proofs.supper.eat.Given as goal
+use Rattle.explorer_program.proofs.table.eat.Given as goal
 
 -- the place stays one of the monitor's
 abbrev pub invariant-loop : goal.invariant-loop

@@ -1,6 +1,6 @@
 //! What is printed of explorations.
 
-use crate::asked::Asked;
+use crate::arguments::Asked;
 use crate::outcome::Outcome;
 use hoare_law::data::MonitorData;
 use order_explorer::{DoorKind, Explored, Limits, Program, explore, explore_again};

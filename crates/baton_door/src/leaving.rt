@@ -21,16 +21,17 @@ use std::sync::atomic::Ordering;
 /// a chain of eight signallers took 2.2 times as long, and a visit alone 0.85 times.
 const VISITS_IN_A_ROW: u32 = 256;
 
-/// The length of a back-off in spin hints: half a microsecond, less than a hand-off takes. Before it a thread polls a
-/// quarter as often for another thread to enter. Without backing off a buffer between two threads took 2.4 times as
-/// long, with half of these hints 1.4 times.
+/// The length of a back-off in spin hints: half a microsecond, less than a hand-off takes. Before it a thread polls at
+/// most as often for another thread to enter. Without backing off a buffer between two threads took 2.4 times as long,
+/// with half of these hints 1.4 times.
 const BACK_OFF: u32 = 128;
 
 /// The initial `since_handed` after a hand-off by a thread that left.
 const AFTER_LEAVE: u32 = 0;
 
-/// The initial `since_handed` after a hand-off by a thread that comes back. Both are multiples of `VISITS_IN_A_ROW`; a
-/// count that ran from one to the other would only be mistaken for a hand-off.
+/// The initial `since_handed` after a hand-off by a thread that waits, or signals and returns. Both initial numbers are
+/// multiples of `VISITS_IN_A_ROW`. After 2^31 visits in a row the count reaches the other number, and one leave is
+/// mistaken for the first after a hand-off: it wakes a thread or backs off once too often.
 const AFTER_WAIT_OR_SIGNAL: u32 = 1 << 31;
 
 impl<D: MonitorData> RawBatonDoor<D> {
@@ -40,7 +41,7 @@ impl<D: MonitorData> RawBatonDoor<D> {
     pub(crate) fn help_others(&self, since_handed: u32, waits: bool) {
         let was_handed = since_handed == AFTER_LEAVE || since_handed == AFTER_WAIT_OR_SIGNAL;
         self.wake_or_make_way(was_handed || waits);
-        if since_handed == AFTER_LEAVE && !waits && self.sees(false, BACK_OFF / 4) {
+        if since_handed == AFTER_LEAVE && !waits && self.sees(false, BACK_OFF) {
             pause(BACK_OFF);
         }
     }

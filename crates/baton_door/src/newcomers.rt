@@ -1,4 +1,5 @@
-//! How a thread enters, if the monitor isn't free at once: it polls and attempts, then yields or parks.
+//! How a thread enters if the monitor isn't free at once: it polls and attempts for a while, yields if yields are
+//! short, parks, and begins again.
 ghost use Rattle.std.specs.Prelude.{◌≡◌, true, false};
 ghost use Rattle.hoare_law.specs.declared.event.Event.TheVariants as event;
 ghost use Rattle.hoare_law.specs.Growth.{AddsLast};

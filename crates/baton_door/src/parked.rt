@@ -1,11 +1,11 @@
 //! Parking of entering threads, and their wake-up.
 //!
-//! An entering thread that has tried for a while parks until it is woken, for at most `PARK_MICROS`; then it tries
-//! again. Nothing promised depends on the wake-up. If one is lost because it came before the park, or is never sent,
-//! the thread sleeps for the rest of that time and no more: it is outside, holds nothing, and reads the state word
-//! itself when it wakes.
+//! An entering thread that has attempted for a while parks until it is woken, for at most `PARK_MICROS`; then it
+//! attempts again. Nothing promised depends on the wake-up. If none is sent, or another thread takes it, the thread
+//! sleeps for the rest of that time and no more: it is outside, holds nothing, and reads the state word itself when it
+//! wakes.
 //!
-//! A wake-up is a system call and takes longer than a visit: `leaving` decides which thread sends one.
+//! A wake-up is a system call and takes longer than a visit: `leaving` decides when a thread sends one.
 use crossbeam_utils::CachePadded;
 use door_frame::yields::{PARK_MICROS, Yields};
 use std::sync::Wait;
@@ -19,7 +19,8 @@ pub(crate) struct Parked {
     threads: AtomicU64,
     /// The number of wake-ups sent, modulo 2^64. Entering threads park on this word.
     wakes: AtomicU64,
-    /// What `wakes` was when a thread last stopped being parked.
+    /// What `wakes` was when a thread last stopped being parked. A late store may put back an older number: then threads
+    /// may make way without need.
     answered: AtomicU64,
     /// What is known of yields.
     yields: Yields,
@@ -42,12 +43,14 @@ impl Parked {
         self.wakes.load(Ordering::SeqCst)
     }
 
-    /// Parks the caller unless a wake-up was sent since `before`.
+    /// Parks the caller unless a wake-up was sent since `before`. Records whether the park ran out.
     pub(crate) fn park<R: Wait>(&self, rt: &R, before: u64) {
         let low = (before % (1 << 32)) as u32;
         self.wakes
             .park_timeout(rt, low, Duration::from_micros(PARK_MICROS));
-        self.yields.count_park();
+        if self.wakes.load(Ordering::Relaxed) == before {
+            self.yields.count_expired();
+        }
     }
 
     /// Removes the caller.

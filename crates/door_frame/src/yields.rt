@@ -1,28 +1,28 @@
-//! When an entering thread yields, and when it parks instead.
+//! When an entering thread may yield.
 //!
 //! A yield is short if the threads that share the core soon stop. If one of them runs to the end of its time slice, the
 //! yield takes milliseconds. The door has no clock, but a park of an entering thread ends after `PARK_MICROS` at most:
-//! while one entering thread is parked, the parks that end during a yield of another one tell how long it took. After a
-//! long yield entering threads park for a while.
-//!
-//! Beside busy threads, with yields alone, a link of a chain of eight signallers took 1.6 milliseconds, with parks 0.2
-//! to 0.3. On idle cores, with parks alone, nine threads that wait and signal took 1.4 to 2.2 times as long.
+//! while other entering threads are parked, the parks that run out during a yield tell how long it took. After a long
+//! yield entering threads park without yielding for a while.
 use std::sync::atomic::{AtomicU64, Ordering};
 use std::thread;
 
 /// The longest park of an entering thread, in microseconds. Linux adds some 50 if the program doesn't ask for less.
 pub const PARK_MICROS: u64 = 100;
 
-/// A yield was long if at least this many parks ended while it lasted: 2.4 milliseconds if each ran out.
+/// A yield was long if at least this many parks ran out while it lasted: 2.4 milliseconds with one thread parked, and
+/// less with more of them.
 const LONG_YIELD: u64 = 16;
 
-/// The number of times that entering threads park after a long yield, before one of them yields again.
+/// The number of times that entering threads don't yield after a long yield. Beside busy threads, with yields alone, a
+/// link of a chain of eight signallers took 1.6 milliseconds, with parks 0.2 to 0.6. On idle cores, with parks alone,
+/// nine threads that wait and signal took 1.4 to 2.2 times as long.
 const PARKS_AFTER_LONG: u64 = 8192;
 
 /// What came of an attempt to yield.
 #[derive(Clone, Copy, PartialEq, Eq)]
 pub enum Yielded {
-    /// The thread didn't yield, since a yield was long recently: it is to park.
+    /// The thread didn't yield, since a yield was long recently.
     No,
     /// It yielded, and that wasn't seen to be long.
     Short,
@@ -30,12 +30,13 @@ pub enum Yielded {
     Long,
 }
 
-/// What the entering threads of a door know of yields. Performance only; not part of any contract.
+/// What the entering threads of a door know of yields. Performance only; not part of any contract: threads that write a
+/// number at the same time may lose each other's changes, and then yield or park a few times more.
 #[derive(Drop)]
 pub struct Yields {
-    /// The number of parks that ended, modulo 2^64.
-    parks: AtomicU64,
-    /// The number of times that entering threads are still to park since a yield was long.
+    /// The number of parks that ran out, modulo 2^64.
+    expired: AtomicU64,
+    /// The number of times that entering threads still don't yield, since a yield was long.
     to_park: AtomicU64,
 }
 
@@ -43,14 +44,14 @@ impl Yields {
     /// Creates the record: no yield was long.
     pub fn new() -> Yields {
         Yields {
-            parks: AtomicU64::new(0),
+            expired: AtomicU64::new(0),
             to_park: AtomicU64::new(0),
         }
     }
 
-    /// Records that a park ended.
-    pub fn count_park(&self) {
-        self.parks.fetch_add(1, Ordering::Relaxed);
+    /// Records that a park ran out.
+    pub fn count_expired(&self) {
+        self.expired.fetch_add(1, Ordering::Relaxed);
     }
 
     /// Yields, unless a yield was long recently. For a thread that sees another entering thread parked.
@@ -60,10 +61,10 @@ impl Yields {
             self.to_park.store(to_park - 1, Ordering::Relaxed);
             return Yielded::No;
         }
-        let before = self.parks.load(Ordering::Relaxed);
+        let before = self.expired.load(Ordering::Relaxed);
         thread::yield_now();
-        let parks = self.parks.load(Ordering::Relaxed).wrapping_sub(before);
-        if parks < LONG_YIELD {
+        let expired = self.expired.load(Ordering::Relaxed).wrapping_sub(before);
+        if expired < LONG_YIELD {
             return Yielded::Short;
         }
         self.to_park.store(PARKS_AFTER_LONG, Ordering::Relaxed);

@@ -4,12 +4,12 @@ use Rattle.any_door.specs.declared.door.RawAnyDoor.{RawAnyDoor}
 use Rattle.any_door.specs.declared.door.RawAnyDoor.TheVariants.{Baton, Ticket}
 use Rattle.any_door.specs.declared.kind.DoorKind.{DoorKind}
 
--- the id of the door behind it: its table and its number of places
+-- the id of the door of this raw monitor: its table, its number of places, and what they park on
 abbrev pub id_of : {D : Type 0} → RawAnyDoor D → DoorId
 id_of (Baton d) = d
 id_of (Ticket d) = d.door
 
--- the kind of the door behind it
+-- the kind of the door of this raw monitor
 abbrev pub kind_behind : {D : Type 0} → RawAnyDoor D → DoorKind
 kind_behind (Baton _) = DoorKind.Baton
 kind_behind (Ticket _) = DoorKind.Ticket

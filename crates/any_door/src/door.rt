@@ -1,4 +1,4 @@
-//! A door of either kind, its turnstile, and how it is made.
+//! A door of either kind, its raw monitor, and how it is made.
 ghost use Rattle.std.specs.Prelude.{◌≡◌, ◌⊎◌, IfOk, IfErr, None, Some, All};
 ghost use Rattle.hoare_law.specs.Events.{opened};
 ghost use Rattle.hoare_law.specs.Sizes.{sizes_of};
@@ -17,7 +17,7 @@ use std::alloc::Global;
 use ticket_door::door::{RawTicketDoor, TicketDoor};
 use wait_book::steps::MakeRefused;
 
-/// A monitor for running threads, on a door of either kind: it implements `Monitor`. Where the kind is known, `Door` or
+/// A monitor for running threads, on a door of either kind: it implements `Monitor`. If the kind is known, `Door` or
 /// `TicketDoor` does the same with one test less in each call.
 ///
 /// ```rust
@@ -30,12 +30,12 @@ use wait_book::steps::MakeRefused;
 /// ```
 pub type AnyDoor<D> = RunningMonitor<RawAnyDoor<D>>;
 
-/// The turnstile of an `AnyDoor`.
+/// The raw monitor of an `AnyDoor`.
 #[derive(Drop)]
 pub enum RawAnyDoor<D: MonitorData> {
-    /// A door of one word.
+    /// The raw monitor of a baton door, which has one state word.
     Baton(RawBatonDoor<D>),
-    /// A door of tickets and bells.
+    /// The raw monitor of a ticket door, which has tickets and bells.
     Ticket(RawTicketDoor<D>),
 }
 

@@ -1,15 +1,15 @@
 //! The kinds of doors.
 
-/// The kinds of doors.
+/// The kind of a door: how it admits entering threads.
 #[derive(Clone, Copy, Debug, PartialEq, Eq)]
 pub enum DoorKind {
-    /// `baton_door`'s: one word, and newcomers come in as they can.
+    /// The kind of `baton_door`, with one state word: the order among entering threads is not specified.
     Baton,
-    /// `ticket_door`'s: newcomers come in by their tickets.
+    /// The kind of `ticket_door`: entering threads are admitted in ticket order.
     Ticket,
 }
 
 impl DoorKind {
-    /// Each kind once.
+    /// Both kinds, each once.
     pub const BOTH: [DoorKind; 2] = [DoorKind::Baton, DoorKind::Ticket];
 }

@@ -1,4 +1,4 @@
-//! A door of either kind, which is chosen where it is made.
+//! A door of either kind. The kind is chosen when the door is made.
 #![tactic(auto)]
 
 pub mod door;

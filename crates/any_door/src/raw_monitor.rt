@@ -1,4 +1,4 @@
-//! The turnstile of a door of either kind.
+//! The raw monitor of a door of either kind.
 ghost use Rattle.std.specs.Prelude.{◌≡◌, ◌<◌, ℕ, All};
 ghost use Rattle.hoare_law.specs.Priorities.{nobody};
 ghost use Rattle.hoare_law.specs.Sizes.{kinds_of};

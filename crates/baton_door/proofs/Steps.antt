@@ -1,4 +1,4 @@
--- Each step on the door's word keeps the rule.
+-- Each step on the state word keeps the rule.
 use Rattle.std.proofs.Common.{◌≡◌, ◌≢◌, ℕ, ◌+◌, ◌<◌, eqb, true, false, List, [], ◌∷◌, get_or, set, length, length-set}
 use Rattle.std.proofs.Common.{get_or-set_same, Some, None, refl, sym, ap, ◌∙◌}
 use Rattle.std.proofs.Common.{subst, arith, eq-eqb, ne_eqb}
@@ -29,7 +29,7 @@ use Rattle.baton_door.specs.Steps.{ComesAt, comes, admits, claims}
 use Rattle.baton_door.specs.Words.{word_of_next}
 use Rattle.baton_door.proofs.Words.{word_of-next, word_of-free, word_of-due}
 
--- the word after an exchange for 1 that expects a number
+-- the word x after a compare-exchange that expects a number and writes 1
 abbrev pub taken_at : ℕ → ℕ → ℕ
 taken_at expected x = either (eqb x expected) 1 x
 
@@ -42,7 +42,7 @@ taken_at-miss expected x miss = ap (λ b. either b 1 x) (ne_eqb x expected miss)
 written : (ws : List ℕ) (w : ℕ) → length ws ≡ 8 → get_or (set ws 0 w) 0 0 ≡ w
 written ws w wide = get_or-set_same ws 0 w 0 (omega (arith, wide))
 
--- the word is held once the first seat has the slot
+-- the state word is held once the first seat has the slot
 begun : (ws : List ℕ) → Initial false ws → Initial true (set ws 0 (taken_at 0 (get_or ws 0 0)))
 begun ws b = record {
   words_are = length-set ws 0 (taken_at 0 (get_or ws 0 0)) ∙ b.words_are;
@@ -50,7 +50,7 @@ begun ws b = record {
 }
 
 module _ {D : Type 0} where
-  -- and free where nothing happened yet
+  -- the state word is free when the door has just been opened
   opened_tells : (kinds : Kinds) (n : ℕ) (s : D) (ws : List ℕ) → Initial true ws
       → WordsFit (opened (sizes_at kinds n) s) (λ _. None) (set ws 0 0)
   unfolding turn urgent called
@@ -60,7 +60,7 @@ module _ {D : Type 0} where
     no_tokens = λ k. refl;
   }
 
-  -- the word is set to what the turn after is
+  -- the words fit the history h once the state word is set to the one for the turn after h
   rewritten : (f h : History D) (tokens : Tokens) (ws : List ℕ) (w : ℕ) → word_of (turn h.events) ≡ w
       → WordsFit f tokens ws
       → WordsFit h tokens (set ws 0 w)
@@ -89,7 +89,7 @@ module _ {D : Type 0} where
         book
         (λ ws b. opened_tells kinds n x.state ws b)
 
-    -- the same where the step picks kinds that are the door's
+    -- the second opening step, if it picks kinds that are equal to those of the door
     pub opens_as : (picked : Kinds) → picked ≡ kinds → (slots id : ℕ) (x : Guarded D) (m : SeatState D)
         → m ≡ (Opening n, (0, Some x) ∷ []) → rest x.state nobody → IsOf x.book (opened (sizes_at picked n) tt)
         → Allows K slots id m 0 (λ _. 0) (λ _. opens picked (step slots 0 0 0 none) m 0)
@@ -97,7 +97,7 @@ module _ {D : Type 0} where
         subst (λ (z : Kinds). Allows K slots id m 0 (λ _. 0) (λ _. opens z (step slots 0 0 0 none) m 0)) (sym same)
         (opens_at slots id x m is at_rest (subst (λ (z : Kinds). IsOf x.book (opened (sizes_at z n) tt)) same book))
 
-    -- k comes in by the event where the word is as expected
+    -- place k enters by the event if the state word is as expected
     comes_at : (slots id k expected : ℕ) (f : History D) (event : ℕ → History D → D → Event D) (m : SeatState D)
         → m ≡ (alone k f, [])
         → ((log : History D) → Stands rest ready log → k < log.sizes.places → own k log.events ≡ own k f.events
@@ -141,7 +141,7 @@ module _ {D : Type 0} where
                   (rewritten log h tokens ws 1 (ap word_of e.1.inside) t);
             }
 
-    -- a newcomer where it is nobody's turn
+    -- a place that is outside enters if it is the turn of no place
     pub admits_at : (slots id k : ℕ) (f : History D) (m : SeatState D) → m ≡ (alone k f, []) → outside k f.events ≡ true
         → Allows K slots id m 0 (taken_at 0) (admits rest ready (step slots 0 0 1 none) m)
     admits_at slots id k f m is out = comes_at slots id k 0 f (λ j g. Admit j) m is
@@ -151,7 +151,7 @@ module _ {D : Type 0} where
           frame.enters_admit rest ready k log below free (outside-same k f log same out),
         ))
 
-    -- a place to which the monitor is owed
+    -- a place returns if the monitor is owed to it
     pub claims_at : (slots id k : ℕ) (f : History D) (m : SeatState D) (w : ℕ) → m ≡ (alone k f, []) → w ≡ k + 2
         → Allows K slots id m 0 (taken_at w) (claims rest ready (step slots 0 w 1 none) m)
     claims_at slots id k f m w is mine = comes_at slots id k w f due m is
@@ -159,7 +159,7 @@ module _ {D : Type 0} where
         let due_to = word_of-due (turn log.events) k (t ∙ mine) in
         (frame.given_up_due k (turn log.events) due_to, frame.enters_due rest ready k log f stands same due_to))
 
-    -- who is inside writes who goes on
+    -- the place inside releases the monitor and writes which place is next, or none
     pub gives_at : (slots id k : ℕ) (f : History D) (x : Guarded D) (who : Next) (event : D → Event D)
         (m : SeatState D) (w : ℕ)
         → m ≡ (alone k f, (0, Some x) ∷ []) → Gives rest ready event k f x who → w ≡ word_of_next who
@@ -173,7 +173,7 @@ module _ {D : Type 0} where
         let h : History D = with_event f (event x.state) in
         rewritten f h tokens ws w (sym (word_of-next (turn h.events)) ∙ ap word_of_next (sym p.next_is) ∙ sym word) t))
 
-    -- who is inside calls others: the word stays
+    -- the place inside notifies others: the state word stays the same
     pub notes_at : (slots id k : ℕ) (f : History D) (event : History D → Event D) (m : SeatState D)
         → m ≡ (alone k f, (0, None) ∷ [])
         → Notes rest ready (event f) k f → Allows K slots id m 0 (λ r. r) (notes_as event (step slots 0 0 0 none) m)

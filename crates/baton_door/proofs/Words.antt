@@ -1,4 +1,4 @@
--- The door's word, and whose turn it is.
+-- The state word, and whose turn it is.
 use Rattle.std.proofs.Common.{◌≡◌, ℕ, ◌+◌, refl, arith, ap}
 use Rattle.hoare_law.specs.declared.turn.Turn.{Turn}
 use Rattle.hoare_law.specs.declared.turn.Turn.TheVariants.{Free, Held, Owed, Return}
@@ -13,14 +13,14 @@ word_of-next (Held k) = refl
 word_of-next (Owed k c) = refl
 word_of-next (Return k) = refl
 
--- the word 0 is nobody's turn
+-- if the state word is 0, it is the turn of no place
 pub word_of-free : (t : Turn) → word_of t ≡ 0 → t ≡ Free
 word_of-free Free e = refl
 word_of-free (Held k) e = absurd (omega arith)
 word_of-free (Owed k c) e = absurd (omega arith)
 word_of-free (Return k) e = absurd (omega arith)
 
--- the word 2 + k owes place k the monitor
+-- if the state word is k + 2, the monitor is owed to place k or returns to it
 pub word_of-due : (t : Turn) (k : ℕ) → word_of t ≡ k + 2 → IsDue k t
 word_of-due Free k e = absurd (omega arith)
 word_of-due (Held j) k e = absurd (omega arith)

@@ -1,4 +1,4 @@
--- How a newcomer comes in.
+-- How a place that is outside enters.
 use Rattle.std.specs.Prelude.{ℕ, Some}
 use Rattle.hoare_law.specs.declared.event.History.{History}
 use Rattle.hoare_law.specs.declared.event.Event.TheVariants.{Admit}
@@ -12,7 +12,7 @@ module _ {D : Type 0} where
   abbrev pub IsOutside : SeatState D → Type 0
   IsOutside me = (k : ℕ) × IsEntering k me
 
-  -- it was let in, and the slot with what lies in it is its own
+  -- the place of the seat me was admitted: its seat me' has the slot, with the contents x
   abbrev pub IsAdmitted : Rest D → Ready D → SeatState D → SeatState D → Type 0
   IsAdmitted rest ready me me' =
       (k : ℕ) (f : History D) → IsEmptyHanded k f me → (x : Guarded D)

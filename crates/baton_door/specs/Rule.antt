@@ -1,4 +1,4 @@
--- What the door's word says.
+-- What the state word says.
 use Rattle.std.specs.Prelude.{◌≡◌, ◌<◌, ◌≤◌, ℕ, ◌+◌, Bool, if◌then◌else◌, List, None, slice_index, length}
 use Rattle.hoare_law.specs.declared.event.History.{History}
 use Rattle.hoare_law.specs.declared.turn.Turn.{Turn}
@@ -6,26 +6,26 @@ use Rattle.hoare_law.specs.declared.turn.Turn.TheVariants.{Free, Held, Owed, Ret
 use Rattle.hoare_law.specs.Turns.{turn}
 use Rattle.door_frame.specs.Rule.{Tokens}
 
--- the door's word, by whose turn it is: 0 free, 1 held, 2 + k owed to place k
+-- the state word for each turn: 0 free, 1 held, k + 2 owed to place k or returning to it
 abbrev pub word_of : Turn → ℕ
 word_of Free = 0
 word_of (Held k) = 1
 word_of (Owed k c) = k + 2
 word_of (Return k) = k + 2
 
--- the words before the door opens: free, and held once the first seat has the slot. Nobody uses the last seven, which
--- keep most other data off the first one's line of the cache
+-- the words before the door opens: the state word is free, or held once the first seat has the slot (begun). The other
+-- seven words are unused: padding against false sharing
 pub record Initial (begun : Bool) (words : List ℕ) : Type 0 where
   pub words_are : length words ≡ 8
   pub word : slice_index words 0 ≡ (if begun then 1 else 0)
 
--- the word says whose turn it is
+-- the state word says whose turn it is after the log; no place has a token
 pub record WordsFit {D : Type 0} (log : History D) (tokens : Tokens) (words : List ℕ) : Type 0 where
   pub words_are : length words ≡ 8
   pub word : slice_index words 0 ≡ word_of (turn log.events)
   pub no_tokens : (k : ℕ) → tokens k ≡ None
 
--- the door's sizes: how many words and slots its table has, how many places there are, and how many wakers
+-- the sizes of a door: the numbers of words and slots of its table, of places, and of wakers
 pub record Sized (words slots places wakers : ℕ) : Type 0 where
   pub words_are : words ≡ 8
   pub slots_are : slots ≡ 1

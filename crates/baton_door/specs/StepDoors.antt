@@ -4,7 +4,7 @@ use Rattle.hoare_law.specs.Sizes.{Kinds}
 use Rattle.hoare_law.specs.declared.event.Sizes.{Sizes}
 use Rattle.door_frame.specs.Places.{DoorId}
 
--- the door's table and places, and its conditions
+-- the id of a door (its table and places), and the numbers of its conditions
 pub record StepId : Type 0 where
   pub door : DoorId
   pub kinds : Kinds
@@ -12,7 +12,7 @@ pub record StepId : Type 0 where
 abbrev pub step_id : DoorId → Kinds → StepId
 step_id door kinds = record { door = door; kinds = kinds }
 
--- there are at most 8 conditions, and no more Mesa conditions than that
+-- there are at most 8 conditions, and the Mesa conditions are not more than the conditions
 pub record AreSizes (sizes : Sizes) : Type 0 where
   pub conditions : sizes.conditions ≤ 8
   pub mesa : sizes.mesa ≤ sizes.conditions

@@ -1,5 +1,5 @@
--- What each step tells that another door doesn't have: of the step, the seat before, the number found and the seat
--- after.
+-- The contracts of the steps that other doors don't have: each relates the step, the seat before, the number found and
+-- the seat after.
 use Rattle.std.specs.Prelude.{◌≡◌, ℕ, []}
 use Rattle.hoare_law.specs.declared.event.Event.{Event}
 use Rattle.hoare_law.specs.declared.event.History.{History}
@@ -9,8 +9,8 @@ use Rattle.door_frame.specs.Steps.{SeatState, StepContract, EntryStep, due}
 use Rattle.door_frame.specs.Views.{alone}
 
 module _ {D : Type 0} where
-  -- where the number is found that was expected, the place comes in by the event and takes the slot; else nothing
-  -- happened
+  -- if the step found the expected number, the place k enters by the event and takes the slot; else the seat is
+  -- unchanged
   abbrev pub ComesAt : ℕ → Rest D → Ready D → (ℕ → History D → D → Event D) → ℕ → History D → SeatState D → ℕ
       → SeatState D → Type 0
   ComesAt expected rest ready event k f = EntryStep rest ready (λ r. r ≡ expected) (λ log. Unit {0}) k f (event k f)

@@ -1,4 +1,4 @@
-//! The running door, its turnstile, and the turnstile's opening.
+//! A door for running threads, its raw monitor, and the two steps that open a baton door.
 ghost use Rattle.std.specs.Prelude.{◌≡◌, ◌<◌, []};
 ghost use Rattle.hoare_law.specs.Events.{opened};
 ghost use Rattle.hoare_law.specs.Sizes.{sizes_at};
@@ -36,18 +36,18 @@ use std::sync::atomic::AtomicBool;
 /// ```
 pub type Door<D> = RunningMonitor<RawBatonDoor<D>>;
 
-/// The turnstile of a `Door`: its words, its slot, and what wakes its places.
+/// The raw monitor of a `Door`: its words, its slot, and what wakes its places.
 #[derive(Drop)]
 pub struct RawBatonDoor<D: MonitorData> {
     /// Eight words, of which the state word is in use, and the slot. The crate's README has a table of the state word's
     /// values and of the threads that change it. The other seven words are padding against false sharing.
     pub(crate) table: DoorTable<D>,
-    /// What wakes each place, in order.
+    /// What wakes each place: that of place k is at index k.
     pub(crate) wakers: Vec<Waker>,
     /// True if the next thread to enter is to yield first. Seldom written, so it shares a cache line with what is only
     /// read.
     pub(crate) is_to_make_way: AtomicBool,
-    /// The entering threads that are parked.
+    /// The record of parked entering threads, on a cache line of its own.
     pub(crate) parked: CachePadded<Parked>,
 }
 
@@ -64,7 +64,8 @@ impl<D: MonitorData> Model for RawBatonDoor<D> {
         d.table.shared.key (vec_len d.wakers) };
 }
 
-/// Opens the door: the first seat takes the empty slot, and puts it back with the data.
+/// Opens the door of `table`: `seat`, its first seat, takes the empty slot, and puts it back with `parcel`. `seat` is
+/// then the seat of all places, and each knows that the door was opened with the data.
 pub(crate) fn open<D: MonitorData, K: DoorKey<D>, J: PickedKinds>(
     table: &DoorTable<D, K>,
     seat: &mut DoorSeat<D>,

@@ -1,5 +1,6 @@
-//! Who gives the monitor up writes the word, and wakes who goes on then. Why so no wake is lost stands at
-//! `door_frame::parking`: the word of each place is the door's one.
+//! How the monitor of a `Door` is released: the releasing thread first writes the state word, then wakes the place that
+//! resumes. `door_frame::parking` argues why no wake-up is lost: what it calls the word of a place is here, for each
+//! place, the one state word.
 ghost use Rattle.std.specs.Prelude.{◌≡◌, ◌<◌};
 ghost use Rattle.wait_book.specs.Contents.{IsPlaceBelow};
 ghost use Rattle.wait_book.specs.declared.steps.Next.TheVariants.{For};
@@ -18,8 +19,9 @@ use hoare_law::data::MonitorData;
 use wait_book::steps::Next;
 
 impl<D: MonitorData> RawBatonDoor<D> {
-    /// Gives the parcel back by an event that the call picks.
-    #[inline(always)] // a plain leave is short where it knows that nobody goes on
+    /// Puts `parcel` back by an event that the call picks, and writes into the state word that `next` resumes. If that
+    /// is a place, wakes it and returns what shows that; else may help other threads, and returns `None`.
+    #[inline(always)] // a plain leave is short if it knows that nobody resumes
     pub(crate) fn give<J: PickedEvent<D>>(
         &self,
         seat: &mut DoorSeat<D>,
@@ -57,7 +59,8 @@ impl<D: MonitorData> RawBatonDoor<D> {
         }
     }
 
-    /// Gives the parcel to who goes on, and wakes that place.
+    /// Hands the monitor off to the place `resumed`, with `parcel` back in the slot, and wakes that place. `leaves` is
+    /// true if the place that hands off is outside then.
     #[inline(never)] // apart, so that a plain leave stays small
     fn give_to<J: PickedEvent<D>>(
         &self,
@@ -79,7 +82,8 @@ impl<D: MonitorData> RawBatonDoor<D> {
         self.wake(seat, resumed)
     }
 
-    /// Wakes a place, or lets its next sleep return at once.
+    /// Unparks `place`: ends its park, or lets its next park return at once. The caller has released the monitor.
+    /// Returns what shows that the place was woken.
     fn wake(&self, seat: &DoorSeat<D>, place: usize) -> Woken
         requires below { place < self.now.places }
         requires given_up { HasReleased seat.now.me }

@@ -1,4 +1,4 @@
-//! The running monitor: one word, one slot, and sleeping places. Its history stands in the proofs alone.
+//! The running monitor: one state word, one slot, and places that park. Its history is ghost: it exists only in proofs.
 #![tactic(auto)]
 
 pub mod door;

@@ -1,4 +1,4 @@
-//! The turnstile of a baton door.
+//! The raw monitor of a baton door.
 ghost use Rattle.std.specs.Prelude.{◌≡◌, ◌<◌, ℕ, IfOk, IfErr, All};
 ghost use Rattle.hoare_law.specs.Priorities.{nobody};
 ghost use Rattle.hoare_law.specs.Sizes.{kinds_of};
@@ -62,7 +62,7 @@ impl<D: MonitorData> RawMonitor<D> for RawBatonDoor<D> {
         table_steps::try_claim(&self.table, seat, place)
     }
 
-    #[inline(always)] // as `give` is, which it calls
+    #[inline(always)] // as `give`, which it calls, is
     fn release(
         &self,
         seat: &mut DoorSeat<D>,
@@ -105,8 +105,9 @@ impl<D: MonitorData> Wakes<D> for RawBatonDoor<D> {
 impl<D: MonitorData> Runs<D> for RawBatonDoor<D> {
     ghost use Rattle.std.specs.Prelude.{refl};
 
-    /// Tries once to enter, as `try_enter` does, and then keeps trying. The first attempt isn't inside a function that
-    /// may block: after a call to one the compiler checks whether it returned.
+    /// Enters. Yields first if a leaving thread asked for it. Then tries once to enter, as `try_enter` does, and keeps
+    /// trying if that fails. The first attempt isn't inside a function that may block: after a call to such a function
+    /// the compiler checks whether it returned.
     #[inline]
     fn enter<R: Wait>(&self, rt: &R, out: DoorOut<D>) -> DoorIn<D>
         requires { IsOut D.rest D.ready (kinds_of D.CONDITIONS D.MESA) self.now out }

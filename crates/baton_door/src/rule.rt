@@ -15,10 +15,10 @@ pub trait DoorKey<D> {
     ghost use Rattle.std.specs.Prelude.{ℕ};
     ghost use Rattle.hoare_law.specs.Sizes.{Kinds};
 
-    /// How many places the door has.
+    /// The number of places of the door.
     ghost places: { Self → ℕ };
 
-    /// How many conditions the door has, and how many of them are Mesa conditions.
+    /// The number of conditions of the door, and the number of Mesa conditions among them.
     ghost kinds: { Self → Kinds };
 }
 
@@ -40,7 +40,7 @@ impl<D> DoorKey<D> for Sizes {
     ghost kinds = { λ s. kinds_of s.conditions s.mesa };
 }
 
-/// What the state word says.
+/// The meaning of the words of a baton door: the state word says whose turn it is.
 pub struct BatonWords;
 
 impl<D, K: DoorKey<D>> Words<D, K> for BatonWords {
@@ -56,14 +56,14 @@ impl<D, K: DoorKey<D>> Words<D, K> for BatonWords {
 /// The table of a door: one word in use, the state word, and one slot.
 pub(crate) type DoorTable<D, K = usize> = rule::DoorTable<D, K, BatonWords>;
 
-/// A place enters if the state word is `FREE`.
+/// The step by which a place enters if the state word is `FREE`.
 pub(crate) struct Admit;
 
 impl<D: MonitorData> Play<Option<Parcel<D>>, SeatView<D>> for Admit {
     ghost then = { admits D.rest D.ready };
 }
 
-/// A place returns if the state word owes it the monitor.
+/// The step by which a place returns if the monitor is owed to it.
 pub(crate) struct Claim;
 
 impl<D: MonitorData> Play<Option<Parcel<D>>, SeatView<D>> for Claim {

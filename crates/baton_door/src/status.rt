@@ -1,4 +1,4 @@
-//! What the word says at a glance.
+//! What the state word of a door says now.
 use crate::door::RawBatonDoor;
 use crate::word::{DOOR, FREE, HELD};
 use door_frame::status::{Holder, Status};
@@ -6,8 +6,8 @@ use hoare_law::data::MonitorData;
 
 impl<D: MonitorData> RawBatonDoor<D> {
     /// Returns what the state word says now, and how many entering threads are parked: to find out why a program hangs.
-    /// It needs no place, never blocks, and changes nothing. Other threads may have changed the word by the time that
-    /// it returns.
+    /// The two are loaded one after the other, not as an atomic snapshot, and other threads may have changed them by
+    /// the time that it returns. It needs no place, never blocks, and changes nothing.
     pub fn status(&self) -> Status {
         let holder = match self.table.shared.peek(DOOR) {
             FREE => Holder::Nobody,

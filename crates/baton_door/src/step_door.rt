@@ -107,9 +107,9 @@ impl<D: MonitorData> StepDoor<D> {
         self.sizes
     }
 
-    /// Takes the door apart. All of its places are handed in, in any order. Returns the data as one legal and lawful
-    /// history left them, at rest with nobody waiting. That history begins with what each place knows, and has no other
-    /// event of any place.
+    /// Takes the door apart and returns the data. `outs` are all of its places, in any order. One legal and lawful
+    /// history left the data, at rest with nobody waiting. It begins with the front of each place (what the place
+    /// knows), and has no event of a place that isn't in the front of that place.
     pub fn close(self, outs: Vec<Outside<D, ByCaller>>) -> D
         requires of { All (IsOut D.rest D.ready self.kinds self.door) outs.items }
         requires places { (k : ℕ) → k < self.door.places → HasPlace k outs.items }
@@ -120,8 +120,8 @@ impl<D: MonitorData> StepDoor<D> {
         closed_as::<D, Sizes, BatonWords, ByCaller, (), Brand>(table, (), outs)
     }
 
-    /// Puts the parcel back and writes that `next` resumes, by an event that the call picks. `departure` only serves
-    /// that pick.
+    /// Puts `parcel` back by an event that the call picks, and writes into the state word that `next` resumes.
+    /// `departure` only serves that pick.
     #[inline(always)] // as `table_steps::put_and_write` is
     fn give<J: PickedEvent<D>>(
         &self,
@@ -148,7 +148,7 @@ impl<D: MonitorData> RawMonitor<D> for StepDoor<D> {
 
     type Shown = ();
 
-    /// The door wakes nobody, so the result shows nothing.
+    /// The door wakes no place, so what `release` returns shows nothing.
     ghost is_woken = { λ d next shown. ⊤ };
 
     fn polling(&self) -> Polling {
@@ -170,7 +170,7 @@ impl<D: MonitorData> RawMonitor<D> for StepDoor<D> {
         table_steps::try_claim(&self.table, seat, place)
     }
 
-    #[inline(always)] // as `give` is
+    #[inline(always)] // as `give`, which it calls, is
     fn release(
         &self,
         seat: &mut DoorSeat<D>,

@@ -1,4 +1,4 @@
-//! What a baton door does with its state word, by its table alone. No function here blocks, or wakes a thread.
+//! The steps on the state word of a baton door, which need its table alone. No function here blocks or wakes a thread.
 ghost use Rattle.std.specs.Prelude.{◌≡◌, ◌<◌, true, false, IfSome, IfNone};
 ghost use Rattle.hoare_law.specs.declared.event.History.{History};
 ghost use Rattle.hoare_law.specs.declared.event.Event.TheVariants as event;
@@ -85,7 +85,8 @@ pub(crate) fn try_claim<D: MonitorData, K: DoorKey<D>>(
     None
 }
 
-/// Puts the parcel back by an event that the call picks, and then writes into the state word that `next` resumes.
+/// Puts `parcel` back by an event that the call picks, with `since_handed` in it, and then writes into the state word
+/// that `next` resumes.
 #[inline(always)] // a plain leave is short if it knows that nobody resumes
 pub(crate) fn put_and_write<D: MonitorData, K: DoorKey<D>, J: PickedEvent<D>>(
     table: &DoorTable<D, K>,
@@ -110,7 +111,7 @@ pub(crate) fn put_and_write<D: MonitorData, K: DoorKey<D>, J: PickedEvent<D>>(
         .store::<Give<J>>(seat, DOOR, word_of_next(next));
 }
 
-/// Adds an event that the call picks to the door's history, by one load of the state word. The value found isn't used.
+/// Adds an event that the call picks to the door's history, by one load of the state word. The loaded value isn't used.
 /// `parcel` and `notice` only serve that pick.
 #[inline]
 pub(crate) fn tell<D: MonitorData, K: DoorKey<D>, J: PickedNotice<D>>(

@@ -1,20 +1,20 @@
-//! The door's word: whose turn it is.
+//! The state word of a baton door: whose turn it is.
 ghost use Rattle.std.specs.Prelude.{◌≡◌, ◌<◌, ◌+◌};
 ghost use Rattle.wait_book.specs.Contents.{IsPlaceBelow};
 ghost use Rattle.baton_door.specs.Words.{word_of_next};
 
 use wait_book::steps::Next;
 
-/// Where the word stands in the table.
+/// The index of the state word among the words of the table.
 pub(crate) const DOOR: usize = 0;
 
-/// Nobody is inside, and nobody is owed the monitor.
+/// The state word if no place is inside and the monitor is owed to none.
 pub(crate) const FREE: u64 = 0;
 
-/// A place is inside.
+/// The state word if a place is inside.
 pub(crate) const HELD: u64 = 1;
 
-/// The monitor is owed to the place.
+/// Returns the state word if the monitor is owed to `place`, which is below 64: `place + 2`.
 #[inline]
 pub(crate) fn owed(place: usize) -> u64
     requires { place < 64 }
@@ -23,7 +23,8 @@ pub(crate) fn owed(place: usize) -> u64
     place as u64 + 2
 }
 
-/// The word for who goes on.
+/// Returns the state word for `next`: `FREE` if no place is next, `owed(k)` if place k resumes, `HELD` if a place stays
+/// inside.
 #[inline]
 pub(crate) fn word_of_next(next: Next) -> u64
     requires { IsPlaceBelow 64 next }

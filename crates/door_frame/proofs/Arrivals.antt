@@ -1,4 +1,4 @@
--- A place comes in: from outside, from a wait or from a signal.
+-- A place enters from outside, or returns from a wait or a signal.
 use Rattle.std.proofs.Common.{◌≡◌, ℕ, true, Option, Some, None, refl, ap, sym, ◌∙◌, subst}
 use Rattle.hoare_law.specs.declared.event.Sizes.{Sizes}
 use Rattle.hoare_law.specs.declared.event.Event.{Event}
@@ -28,7 +28,7 @@ use Rattle.door_frame.specs.Places.{PlaceIn, PlaceOut, place_in}
 use Rattle.door_frame.specs.Steps.{SeatState, EnteredBy, awaited, due, due_by, due_from}
 
 module _ {D : Type 0} where
-  -- who comes back does so from a wait or from a signal
+  -- a place returns from a wait or from a signal
   data ComesBack (k : ℕ) (event : D → Event D) : Type 0 where
     from_wait : (c : ℕ) → event ≡ (λ s. Resume k c s) → ComesBack k event
     from_signal : event ≡ (λ s. Back k s) → ComesBack k event
@@ -45,7 +45,7 @@ module _ {D : Type 0} where
   comes_back k None = from_signal refl
   comes_back k (Some c) = from_wait c refl
 
-  -- the book says that it is its turn, and is of the history afterwards
+  -- the place k resumes next, and the book, once settled, is of the history afterwards
   pub record IsDue (k : ℕ) (h : History D) (event : D → Event D) (b : Contents) (s : D) : Type 0 where
     pub turn_is : next_of (turn h.events) ≡ For k
     pub settles : IsOf b (settled (erased h)) → IsOf b (erased (with_event h (event s)))
@@ -68,7 +68,7 @@ module _ {D : Type 0} where
   pub is_due_by : (k : ℕ) (h f : History D) (b : Contents) (s : D) → Allowed h (due k f s) → IsDue k h (due k f) b s
   is_due_by k h f b s may = is_due k h (due k f) b s (comes_back k (awaited (newest (own k f.events)))) may
 
-  -- by an event of its own a place is due as that event says: who waited is to be resumed, who signalled to return
+  -- the event by which a place returns depends on its own last event: a Resume after a wait, a Back after a signal
   due_own : (f : History D) (k : ℕ) (e : Event D) (s : D) → place_of e ≡ k
       → due k (with_event f e) s ≡ due_by k (Some e) s
   unfolding with_event
@@ -76,7 +76,7 @@ module _ {D : Type 0} where
       ap (λ o. due_by k o s) (ap newest (own-last k f.events e mine) ∙ newest-push (own k f.events) e)
 
   module _ {rest : Rest D} {ready : Ready D} where
-    -- the same of the data as the box lends them
+    -- EnteredBy holds of the data as the box lends them
     pub came_as : {k : ℕ} {f : History D} {event : D → Event D} {y z : Guarded D} {m : SeatState D} → z ≡ y
         → EnteredBy rest ready k f event y None m
         → EnteredBy rest ready k f event z None m
@@ -84,7 +84,7 @@ module _ {D : Type 0} where
         subst (λ (x : Guarded D). EnteredBy rest ready k f event x None m) (sym same) c
 
     module _ {kinds : Kinds} {d : DoorId} where
-      -- who came in is inside, by its front
+      -- a place that entered is inside, by its front
       is_in : (t : PlaceId) (k : ℕ) (f log : History D) (e : Event D) (s : D) → t ≡ place_id_at d k
           → f.sizes ≡ sizes_at kinds d.places
           → Begins f log → Stands rest ready (with_event log e) → is_inside e ≡ true → place_of e ≡ k

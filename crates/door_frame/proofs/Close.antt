@@ -1,4 +1,4 @@
--- All places handed in: the log is the history that the door ends with.
+-- If all places are handed in, the log is the history that the door ends with.
 use Rattle.std.proofs.Common.{◌≡◌, inl, inr, ℕ, ◌<◌, Bool, true, List, [], ◌∷◌, ◌++◌, Option, Some, None, unwrap_or}
 use Rattle.std.proofs.Common.{sym, ap, ◌∙◌, subst}
 use Rattle.std.specs.Prelude.{All}
@@ -23,7 +23,7 @@ use Rattle.door_frame.specs.Rule.{Tokens, Agrees, TableInvariant}
 use Rattle.door_frame.specs.Views.{knows, alone, Each, both_places, no_places}
 use Rattle.door_frame.proofs.Steps.{running, joins_ok, given_up_free}
 
--- an element in the midst
+-- an element in the middle of a list
 pub All-mid : {A : Type 0} (P : A → Type 0) (xs : List A) (x : A) (ys : List A) → All P ((xs ++ x ∷ []) ++ ys) → P x
 All-mid P [] x ys h = All-head P x ys h
 All-mid P (a ∷ l) x ys h = All-mid P l x ys (All-tail P a ((l ++ x ∷ []) ++ ys) h)
@@ -91,7 +91,7 @@ module _ {D : Type 0} where
           },
         )
 
-    -- the same of all that were handed in, once the last is joined
+    -- the same of all places that were handed in, once the last seat is joined
     pub ends_all : {id : ℕ} {v : SeatView D} (ws : List ℕ) (xs : List (Option (Guarded D))) {os front : List (PlaceOut
         D)}
         (back : List (PlaceOut D))
@@ -106,7 +106,7 @@ module _ {D : Type 0} where
         let r = ends id v os ws xs here outs all fin in
         (r.0, some-injective _ _ (sym got ∙ r.1), r.2)
 
-    -- the seat of one place is joined to that of some
+    -- the seat of one place is joined to the seat of the places os
     pub joins_one : (id : ℕ) (v : SeatView D) (other : ℕ) (w : SeatView D) (os : List (PlaceOut D)) (k : ℕ) (f :
         History D)
         → v ≡ Places (known_to os)
@@ -120,7 +120,7 @@ module _ {D : Type 0} where
         (λ i. (sym is i, sym lone i))
         (joins_ok Initial WordsFit rest ready kinds d.places id (known_to os) other (knows k f None ∷ []))
 
-  -- what was found in the slot is what the call gives back
+  -- what was found in the slot is what the call returns
   pub ends_at : {rest : Rest D} {ready : Ready D} {kinds : Kinds} {d : DoorId} {os : List (PlaceOut D)}
       {l x : Guarded D} {s : D}
       → Ends rest ready kinds d os l → Some l ≡ Some x → x.state ≡ s → Closes rest ready kinds d os s × rest s nobody

@@ -1,4 +1,4 @@
--- Who is inside gives the monitor up: a wait, a leave, a signal or a pass.
+-- The place inside releases the monitor: by a wait, a leave, a signal or a pass.
 use Rattle.std.proofs.Common.{◌≡◌, ◌≢◌, ℕ, ◌<◌, Bool, true, false, [], Some, refl, ap, sym, ◌∙◌, subst}
 use Rattle.hoare_law.specs.declared.event.Sizes.{Sizes}
 use Rattle.hoare_law.specs.declared.event.Event.{Event}
@@ -50,14 +50,14 @@ module _ {D : Type 0} where
   out-handing true k c w s = refl
   out-handing false k c w s = refl
 
-  -- nobody is inside after the place gave the monitor up
+  -- nobody is inside after the place released the monitor
   pub gives_gone : (rest : Rest D) (ready : Ready D) (event : D → Event D) (k : ℕ) (f : History D) (x : Guarded D)
       (who : Next) (j : ℕ)
       → Gives rest ready event k f x who → who ≡ next.Held j → ⊥
   gives_gone rest ready event k f x who j p is =
       subst IsGivenUp (held_next (turn (with_event f (event x.state)).events) j (sym p.next_is ∙ is)) p.given_up
 
-  -- of those that wait on c, the one that is chosen goes on
+  -- the waiter that is chosen on c resumes next
   pub record Resumes (c : ℕ) (f : History D) (who : Next) : Type 0 where
     pub chosen_one : Event D
     pub is : chosen c f.events ≡ Some chosen_one
@@ -72,35 +72,35 @@ module _ {D : Type 0} where
       → place_for who ≡ w
   handed_to h w c b who o is answered = ap place_for (answered ∙ ap next_of (turn-history b h o ∙ is))
 
-  -- what a call that gave the monitor up for good says of the place outside
+  -- what a call by which a place left ensures of that place, then outside
   pub record Left (rest : Rest D) (ready : Ready D) (kinds : Kinds) (d : DoorId) (k : ℕ) (h : History D)
       (o : PlaceOut D) : Type 0 where
     pub of : IsOut rest ready kinds d o
     pub place : o.place ≡ k
     pub front : o.front ≡ h
 
-  -- what a call by which a place is away says of that place
+  -- what a call by which a place is away ensures of that place
   pub record Departs (rest : Rest D) (ready : Ready D) (kinds : Kinds) (d : DoorId) (k : ℕ) (h : History D)
       (o : PlaceOut D) : Type 0 where
     pub of : IsAway rest ready kinds d o
     pub place : o.place ≡ k
     pub front : o.front ≡ h
 
-  -- what a signal that resumed a waiter says of the place that is away
+  -- what a signal that resumed a waiter ensures of the place that is away
   pub record Signalled (rest : Rest D) (ready : Ready D) (kinds : Kinds) (d : DoorId) (i : PlaceIn D) (c : ℕ)
       (o : PlaceOut D) : Type 0 where
     pub of : IsAway rest ready kinds d o
     pub place : o.place ≡ i.place
     pub front : HandsTo c i o.front
 
-  -- what a pass says of the place outside
+  -- what a pass ensures of the place outside
   pub record Passed (rest : Rest D) (ready : Ready D) (kinds : Kinds) (d : DoorId) (i : PlaceIn D) (c : ℕ)
       (o : PlaceOut D) : Type 0 where
     pub of : IsOut rest ready kinds d o
     pub place : o.place ≡ i.place
     pub front : Exits i.place c i.state i.front o.front true
 
-  -- who learns the history stays outside
+  -- a place outside that learns the history stays outside
   pub told_out : (rest : Rest D) (ready : Ready D) (kinds : Kinds) (d : DoorId) (t : PlaceId) (o : PlaceOut D)
       (h : History D)
       → t ≡ place_id_at d o.place
@@ -117,7 +117,7 @@ module _ {D : Type 0} where
 
   module _ {rest : Rest D} {ready : Ready D} {kinds : Kinds} {d : DoorId} {i : PlaceIn D} {t : PlaceId} {k : ℕ}
       {f : History D} {me : SeatState D} {x : Guarded D} where
-    -- what is asked of the place of the contract is asked of its parts
+    -- what is required of the contract's place holds of its parts
     asked_here : (P : PlaceIn D → Type 0) → Holds rest ready kinds d i t k f me x → P i → P (place_in t k f x.state)
     asked_here P h asked = subst P (sym h.seen) asked
 
@@ -129,7 +129,7 @@ module _ {D : Type 0} where
         → P f.sizes
     sized_here P h asked = subst P (sym h.within.sized) asked
 
-    -- an event that is allowed and paid gives the monitor up
+    -- by an event that is allowed and meets what it owes, the place may release the monitor
     may_give : (event : D → Event D) (b : Contents) (who : Next) → Holds rest ready kinds d i t k f me x
         → place_of (event x.state) ≡ k → data_of (event x.state) ≡ x.state → is_inside (event x.state) ≡ false
         → Allowed f (event x.state) → Owes rest ready f.events (event x.state)
@@ -182,7 +182,7 @@ module _ {D : Type 0} where
         → (e : Event D) × (chosen c f.events ≡ Some e)
     some_here c h some = chosen-some c f.events (asked_here (λ j. priorities j.front.events c ≢ []) h some)
 
-    -- it hands the monitor over: by a pass where it goes out, else by a signal
+    -- the place hands the monitor off: by a pass if it leaves, else by a signal
     pub resumes_handing : (out : Bool) (c : ℕ) (b : Contents) (who : Next) → Holds rest ready kinds d i t k f me x
         → priorities i.front.events c ≢ []
         → IsOf b (after_handing out (erased f) k c (chosen c (erased f).events)) → who ≡ next_of b.turn
@@ -226,7 +226,7 @@ module _ {D : Type 0} where
         (owes_handing out c r.chosen_one h r.is asked)
         (IsOf-handing out b f k c r.chosen_one x.state r.is book) is)
 
-    -- the place outside after an event by which it goes out
+    -- the place outside after an event by which it leaves
     went_out : (e : Event D) (z : PlaceId) (o : PlaceOut D) → Holds rest ready kinds d i t k f me x → place_of e ≡ k
         → is_out (Some e) ≡ true
         → Allowed f e → Owes rest ready f.events e → z ≡ t → o ≡ place_out z k (with_event f e)

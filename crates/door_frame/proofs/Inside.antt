@@ -1,4 +1,4 @@
--- What a call knows of the place inside that it is handed.
+-- What a call knows of the place inside that is passed to it.
 use Rattle.std.proofs.Common.{◌≡◌, ◌<◌, ℕ, [], ◌∷◌, None, sym, ap, ◌∙◌, subst}
 use Rattle.hoare_law.specs.declared.event.Sizes.{Sizes}
 use Rattle.hoare_law.specs.declared.event.History.{History}
@@ -39,18 +39,18 @@ module _ {D : Type 0} where
           me_is = inv.0;
         }
 
-    -- the same of a place taken apart, once its box is looked into
+    -- the same of a place taken apart, once its box is unpacked
     pub holds_unpacked : {now held : ParcelBox D} {y : Guarded D} → now ≡ held → held.guarded ≡ y
         → record { parts : place_in t k f y.state ≡ i; seat : IsInside k f me y.book } → IsIn rest ready kinds d i
         → Holds rest ready kinds d i t k f me now.guarded
     holds_unpacked found is apart of = holds (unpacked found is) apart.parts apart.seat of
 
     module _ {x : Guarded D} where
-      -- the book says so too
+      -- the book in hand has the place k inside too
       pub turn_in_hand : Holds rest ready kinds d i t k f me x → x.book.turn ≡ Held k
       turn_in_hand h = turn-history x.book f h.book ∙ h.within.is_inside
 
-      -- and has the door's sizes
+      -- the book in hand has the door's sizes
       pub sized_in_hand : (P : Sizes → Type 0) → Holds rest ready kinds d i t k f me x → P (sizes_at kinds d.places)
           → P x.book.sizes
       sized_in_hand P h asked = subst P (sym h.within.sized ∙ h.book.sizes) asked
@@ -60,7 +60,7 @@ module _ {D : Type 0} where
           subst (λ (n : Sizes). k < n.places) h.within.sized
           (held-in_range f k h.within.stands.legal h.within.is_inside)
 
-      -- it sleeps where it is woken
+      -- the place parks where it is woken
       pub sleeps : Holds rest ready kinds d i t k f me x → t.sleeper ≡ sleeper_at d k
       sleeps h = ap (λ (b : PlaceId). b.sleeper) h.within.of
 
@@ -69,7 +69,7 @@ module _ {D : Type 0} where
       → IsOf b (erased f)
   book_in_hand {f = f} same inv = subst (λ (a : Contents). IsOf a (erased f)) (sym same) inv.1
 
-  -- so its priorities are those of the contract
+  -- so the book's priorities are those of the contract
   pub listed_in_hand : {t : PlaceId} {k : ℕ} {f : History D} {s : D} {i : PlaceIn D} {me : SeatState D} {b c : Contents}
       → b ≡ c → IsInside k f me c
       → place_in t k f s ≡ i → priorities_on b ≡ priorities i.front.events

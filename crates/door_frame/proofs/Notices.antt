@@ -1,4 +1,4 @@
--- Who is inside calls those that wait on a Mesa condition: that it may, and what its front then says.
+-- The place inside notifies the waiters on a Mesa condition: that it may, and its front afterwards.
 use Rattle.std.proofs.Common.{◌≡◌, ◌≢◌, ℕ, true, cond, ◌==◌, List, [], ◌∷◌, Option, Some, None, unwrap_or, refl, ap}
 use Rattle.std.proofs.Common.{sym, ◌∙◌, subst, eq-eqb, ne_eqb}
 use Rattle.std.specs.Option.{option_map}
@@ -37,7 +37,7 @@ use Rattle.door_frame.specs.Views.{alone, is_alone, front_of}
 use Rattle.door_frame.proofs.Inside.{Holds}
 use Rattle.door_frame.proofs.Seats.{at_front}
 
--- lists that change on c alone, and there only where somebody waits, are the same where nobody does
+-- lists that change only on c, and only if a place waits there, are the same if nobody does
 unchanged : (change : List ℕ → List ℕ) (q : ℕ → List ℕ) (c d : ℕ) → change [] ≡ [] → q c ≡ []
     → q d ≡ cond (d == c) (change (q d)) (q d)
 unchanged change q c d stays none = dite (ℕ_discrete d c)
@@ -71,7 +71,7 @@ module _ {D : Type 0} where
   listed-broadcast f k c s held = priorities-broadcast f.events k c s held
 
   module _ {rest : Rest D} {ready : Ready D} {kinds : Kinds} {d : DoorId} {i : PlaceIn D} where
-    -- so after a notify where somebody waits
+    -- the front and the lists after a notify on a condition with a waiter
     pub notified : (c : ℕ) {j : PlaceIn D} → IsIn rest ready kinds d i → priorities i.front.events c ≢ []
         → Noted rest ready kinds d i (Notify c) j
         → Notifies i.place c i.state i.front j.front true
@@ -84,7 +84,7 @@ module _ {D : Type 0} where
               ∙ listed-notify i.front i.place c w i.state of.is_inside chooses,
         )
 
-    -- and after a broadcast
+    -- the front and the lists after a broadcast on a condition with a waiter
     pub all_called : (c : ℕ) {j : PlaceIn D} → IsIn rest ready kinds d i → priorities i.front.events c ≢ []
         → Noted rest ready kinds d i (Broadcast c) j
         → Broadcasts i.place c i.state i.front j.front
@@ -133,7 +133,7 @@ module _ {D : Type 0} where
             stays = turn-broadcast f k c x.state;
           }
 
-      -- it may call
+      -- the place may notify
       pub notes_notice : (notice : Notice) → Holds rest ready kinds d i t k f me x
           → IsMesa kinds.conditions kinds.mesa (called_on notice) → priorities i.front.events (called_on notice) ≢ []
           → Notes rest ready (event_of_notice k notice x.state f) k f
@@ -161,7 +161,7 @@ module _ {D : Type 0} where
       book_noticed (Notify c) b h some o = book_notified c b h some o
       book_noticed (Broadcast c) b h some o = book_all_called c b h some o
 
-      -- and the place inside is what the call says
+      -- and the place inside is as the call ensures
       pub noted : (notice : Notice) {z : PlaceId} {s : D} {me' : SeatState D} (is : is_alone me'.0 ≡ true)
           → Holds rest ready kinds d i t k f me x → Notes rest ready (event_of_notice k notice x.state f) k f
           → z ≡ t → s ≡ x.state → me' ≡ (alone k (with_event f (event_of_notice k notice x.state f)), (0, None) ∷ [])

@@ -15,7 +15,7 @@ use Rattle.door_frame.specs.Steps.{SeatState}
 use Rattle.door_frame.specs.Views.{all_know}
 
 module _ {D : Type 0} (rest : Rest D) (ready : Ready D) (kinds : Kinds) (d : DoorId) (s : D) where
-  -- each of the first places is outside
+  -- each of the m places from k on is outside
   outside_from : (k m : ℕ) → k + m ≤ d.places → rest s nobody
       → All (IsOut rest ready kinds d) (places_from d k m (opened (sizes_at kinds d.places) s))
   outside_from k zero fits at_rest = All-nil (IsOut rest ready kinds d)
@@ -29,7 +29,7 @@ module _ {D : Type 0} (rest : Rest D) (ready : Ready D) (kinds : Kinds) (d : Doo
       })
       (outside_from (suc k) m (omega arith) at_rest)
 
-  -- so are all that a door is made with
+  -- all places that a door is made with are outside
   pub made_outside : {p : ℕ} {os : List (PlaceOut D)} → d.places ≡ p
       → os ≡ places_from d 0 p (opened (sizes_at kinds p) s) → rest s nobody → All (IsOut rest ready kinds d) os
   made_outside same are at_rest =
@@ -37,14 +37,14 @@ module _ {D : Type 0} (rest : Rest D) (ready : Ready D) (kinds : Kinds) (d : Doo
       (sym (are ∙ (λ i. places_from d 0 (sym same i) (opened (sizes_at kinds (sym same i)) s))))
       (outside_from 0 d.places (omega arith) at_rest)
 
--- the table's number of places, n, is the p that was asked for
+-- the table's number of places, n, is the requested p
 module _ {D : Type 0} {n p : ℕ} (same : n ≡ p) where
-  -- the seat stands for as many places
+  -- the seat represents p places
   pub stands_for : {me : SeatState D} (h : History D) → me ≡ (Places (all_know 0 n h), [])
       → me ≡ (Places (all_know 0 p h), [])
   stands_for h is = is ∙ ap (λ (m : ℕ). (Places (all_know 0 m h), [])) same
 
-  -- what is dealt out are the places of the door, opened with the data that were given
+  -- the places that were dealt are those of the door, opened with the given data
   pub dealt : (conditions mesa : ℕ) (table : TableId) {wakers sleepers : List TableId} {s given : D} {me : SeatState D}
       {os : List (PlaceOut D)} → wakers ≡ sleepers
       → me ≡ (Places (all_know 0 n (opened (sizes_of conditions mesa n) s)), [])

@@ -6,7 +6,7 @@ use Rattle.hoare_law.specs.declared.event.History.{History}
 use Rattle.door_frame.specs.Places.{DoorId, PlaceOut, places_from, HasPlace}
 
 module _ {D : Type 0} where
-  -- they are n
+  -- there are n places
   pub length-places : (z : DoorId) (k n : ℕ) (f : History D) → length (places_from z k n f) ≡ n
   length-places z k zero f = refl
   length-places z k (suc n) f = ap suc (length-places z (suc k) n f)
@@ -18,14 +18,14 @@ module _ {D : Type 0} where
   nth-places z k (suc n) f zero d l = omega arith
   nth-places z k (suc n) f (suc j) d l = nth-places z (suc k) n f j d (omega arith) ∙ omega arith
 
-  -- a place that stands somewhere in the list is there
+  -- if element j of the list is place k, place k is in the list
   pub has_nth : (os : List (PlaceOut D)) (j k : ℕ) → j < length os
       → ((d : PlaceOut D) → (slice_index_or os j d).place ≡ k) → HasPlace k os
   has_nth [] j k l is = absurd (omega arith)
   has_nth (o ∷ os) zero k l is = inl (is o)
   has_nth (o ∷ os) (suc j) k l is = inr (has_nth os j k (omega arith) is)
 
-  -- the places from one on are all there
+  -- all of the n places that begin with `from` are in the list
   pub has-all : (k : ℕ) (z : DoorId) (from n : ℕ) (f : History D) → from ≤ k → k < from + n
       → HasPlace k (places_from z from n f)
   has-all k z from n f le lt =

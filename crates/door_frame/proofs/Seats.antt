@@ -1,4 +1,4 @@
--- What a seat holds, step upon step.
+-- What a seat holds after each step.
 use Rattle.std.proofs.Common.{◌≡◌, ◌<◌, ℕ, ◌+◌, ◌-◌, true, List, [], ◌∷◌, Option, Some, None, unwrap_or, sym, ap, ◌∙◌}
 use Rattle.std.proofs.Common.{subst}
 use Rattle.atomic_table.specs.Table.{rest}
@@ -19,11 +19,11 @@ use Rattle.door_frame.proofs.Views.{dealt, front_of-alone}
 pub one_slot : {S : Type 0} (l : List (ℕ × S)) (x : ℕ × S) → l ≡ x ∷ [] → l ≡ x ∷ rest l
 one_slot {S = S} l x e = e ∙ ap (λ (z : List (ℕ × S)). x ∷ rest z) (sym e)
 
--- a berth at the same table
+-- place ids with equal tables and the same sleeper are equal
 pub berth_as : (w : TableId) {y z : TableId} → y ≡ z → place_id y w ≡ place_id z w
 berth_as w same = ap (λ (z : TableId). place_id z w) same
 
--- the same with what a place of that table sleeps on
+-- the same if what the place parks on depends on the table
 pub berth_on : {X : Type 0} (at : TableId → X → TableId) (s : X) {y z : TableId} → y ≡ z
     → place_id y (at y s) ≡ place_id z (at z s)
 berth_on at s same = ap (λ (z : TableId). place_id z (at z s)) same
@@ -33,7 +33,7 @@ module _ {D : Type 0} where
   slot_or d [] = d
   slot_or d (x ∷ xs) = x.1
 
-  -- the only slot of a seat, with something else in it
+  -- the only slot of a seat, with other contents
   pub slot_now : {v : SeatView D} {m n : SeatState D} (o p : Option (Guarded D)) → m ≡ (v, (0, o) ∷ [])
       → n ≡ (m.0, (0, p) ∷ rest m.1)
       → n ≡ (m.0, (0, p) ∷ [])
@@ -49,7 +49,7 @@ module _ {D : Type 0} where
   slot_is o p is same = is ∙ (λ i. ((sym is i).0, (0, same i) ∷ []))
 
   module _ (calm : Rest D) (ready : Ready D) where
-    -- who came in takes what lies in the slot
+    -- a place that entered takes the contents of the slot
     pub took_also : {k : ℕ} {f : History D} {event : D → Event D} {x y : Guarded D} {m n : SeatState D}
         (Also : History D → Type 0)
         (c : EnteredBy calm ready k f event x (Some x) m) → Also c.log → m ≡ (m.0, (0, Some y) ∷ [])
@@ -84,7 +84,7 @@ module _ {D : Type 0} where
       → m ≡ (alone k f, c) → front_of m.0 is ≡ f
   front_is m is k f c e = front_of-alone m.0 is k f (ap (λ (z : SeatState D). z.0) e)
 
-  -- a seat stands by its own front
+  -- the seat of one place, by its own front
   pub has_front : (m : SeatState D) (is : is_alone m.0 ≡ true) (k : ℕ) (f : History D) (c : List (ℕ
       × Option (Guarded D)))
       → m ≡ (alone k f, c) → m ≡ (alone k (front_of m.0 is), c)
@@ -96,7 +96,7 @@ module _ {D : Type 0} where
       → m ≡ (alone k f, c) → P f → P (front_of m.0 is)
   at_front P m is k f c e p = subst P (sym (front_is m is k f c e)) p
 
-  -- the seat of the first of some places is cut off
+  -- the seat of the first of some places is split off
   pub cut_off : (k m : ℕ) (f : History D) {me cut left : SeatState D} → 0 < m → me ≡ (Places (all_know k m f), [])
       → cut ≡ (first_place me.0, []) → left ≡ (places_behind me.0, me.1)
       → (cut ≡ (alone k f, [])) × (left ≡ (Places (all_know (k + 1) (m - 1) f), []))

@@ -1,4 +1,4 @@
--- The log, the fronts and the slot: each step keeps what the rule says of them, given what it does to the words.
+-- The log, the fronts and the slot: each step keeps what the rule requires of them, given what it does to the words.
 use Rattle.std.proofs.Common.{◌≡◌, ◌≢◌, ⊎_elim, ℕ, zero, suc, ◌+◌, ◌<◌, ◌≤◌, Bool, true, false, cond, List, [], ◌∷◌}
 use Rattle.std.proofs.Common.{◌++◌, length, get_or, set, Option, Some, None, sym, refl}
 use Rattle.std.proofs.Common.{ap, ◌∙◌, subst, arith, length-set, ne_eqb, append-nil}
@@ -50,7 +50,7 @@ use Rattle.door_frame.proofs.Views.{all_know_apart, apart-append}
 abbrev Homes : Type 0 → Type 0
 Homes D = List (maybe.Option (Option (Guarded D)))
 
--- the place k is owed the monitor, or returns to it
+-- the place k is owed the monitor, or is to return to it
 pub data IsDue (k : ℕ) (t : Turn) : Type 0 where
   owed : (c : ℕ) → t ≡ Owed k c → IsDue k t
   returning : t ≡ Return k → IsDue k t
@@ -62,7 +62,7 @@ pub given_up_due : (k : ℕ) (t : Turn) → IsDue k t → IsGivenUp t
 given_up_due k t (owed c is) = subst IsGivenUp (sym is) tt
 given_up_due k t (returning is) = subst IsGivenUp (sym is) tt
 
--- what a step tells may be told in other words
+-- a step meets another contract if its own implies that one
 pub told_as : {S V : Type 0} (holds : State S V → Type 0) (slots id : ℕ) (me : Me S V) (i : ℕ) (f : ℕ → ℕ)
     (Then Other : ℕ → Me S V → Type 0)
     → ((r : ℕ) (m : Me S V) → Then r m → Other r m) → Allows holds slots id me i f Then
@@ -71,12 +71,12 @@ told_as holds slots id me i f Then Other as_ ok s kept wide at small =
     let t = ok s kept wide at small in (t.0, t.1, t.2, t.3, as_ _ _ t.4)
 
 module _ {D : Type 0} where
-  -- what the first home holds, or d
+  -- the contents of the first slot in hand, or d
   abbrev lodged_or : Guarded D → List (ℕ × Option (Guarded D)) → Guarded D
   lodged_or d ((m, Some y) ∷ ys) = y
   lodged_or d _ = d
 
-  -- a place that did nothing still fits where the log grows
+  -- a place still agrees with the log after an event of another place
   grows : (n : ℕ) (log : History D) (owner : ℕ → ℕ) (tokens tokens' : Tokens) (j : ℕ) (e : Event D) (t : PlaceView D)
       → place_of e ≢ t.place → tokens' t.place ≡ tokens t.place
       → Agrees n log owner tokens j t → Agrees n (with_event log e) owner tokens' j t
@@ -132,7 +132,7 @@ module _ {D : Type 0} where
   sizes_kept n log e is = is
 
 module _ {D : Type 0} (rest : Rest D) (ready : Ready D) where
-  -- who may be brought in by which event, so far as the words don't matter
+  -- the place k may enter by the event e, as far as the words don't matter
   pub record Enters (k : ℕ) (h : History D) (e : Event D) : Type 0 where
     pub allowed : Allowed h e
     pub owes : Owes rest ready h.events e
@@ -180,7 +180,7 @@ module _ {D : Type 0} (Initial : Bool → List ℕ → Type 0) (WordsFit : Histo
   abbrev K : ℕ → Cells D → Type 0
   K = TableInvariant Initial WordsFit rest ready kinds
 
-  -- a seat that stands for places steps on an open door
+  -- if a seat represents places, the door is open
   pub running : (n : ℕ) (s : Cells D) → K n s → (id : ℕ) (ts : List (PlaceView D))
       → get_elem? s.views id ≡ some (Places ts) → R n s
   running n s (runs r) id ts at = r
@@ -193,7 +193,7 @@ module _ {D : Type 0} (Initial : Bool → List ℕ → Type 0) (WordsFit : Histo
       only (Opening n) (Places ts) id (ap (λ (x : List (SeatView D)). get_elem? x id) (sym e) ∙ at) in
       absurd (cc)
 
-  -- the views where the seat id of the place k has another front and another token, and all else fits as before
+  -- the views if the seat `id` of the place k has another front and another token, and all else agrees as before
   agree_all : (n : ℕ) (s : Cells D) (r : R n s) (id k : ℕ) (f g h : History D) (o o' : Option Token) (tokens' : Tokens)
       → get_elem? s.views id ≡ some (sole k f o)
       → Agrees n h r.owner tokens' id (knows k g o')
@@ -214,7 +214,7 @@ module _ {D : Type 0} (Initial : Bool → List ℕ → Type 0) (WordsFit : Histo
       kept_all (Unopened m) ne q0 = q0
       kept_all (Opening m) ne q0 = q0
 
-  -- a seat of one place has it once
+  -- no seat has a place twice if the seat `id` now has one place
   apart_sole : (n : ℕ) (s : Cells D) (r : R n s) (id k : ℕ) (g : History D) (o : Option Token) (j : ℕ) (v : SeatView D)
       → get_elem? (set s.views id (sole k g o)) j ≡ some v → ApartOf v
   apart_sole n s r id k g o j v got = ⊎_elim
@@ -222,7 +222,7 @@ module _ {D : Type 0} (Initial : Bool → List ℕ → Type 0) (WordsFit : Histo
       (λ (t : (j ≢ id) × (get_elem? s.views j ≡ some v)). r.apart j v t.1)
       (at_set s.views id j (sole k g o) v got)
 
-  -- one event more, of the place k
+  -- one more event, of the place k
   adds : (n : ℕ) (s : Cells D) (r : R n s) (id k : ℕ) (f : History D) (o o' : Option Token) (tokens' : Tokens)
       (e : Event D) (words' : List ℕ) (homes' : Homes D)
       → get_elem? s.views id ≡ some (sole k f o) → place_of e ≡ k → Allowed r.log e → Owes rest ready r.log.events e
@@ -251,7 +251,7 @@ module _ {D : Type 0} (Initial : Bool → List ℕ → Type 0) (WordsFit : Histo
         out = out;
       }
 
-  -- the place k has another token, and the log and the slots in hand stay
+  -- the place k has another token, and the log and the slots in hand are unchanged
   pub draws_ok : (n slots id k i : ℕ) (f : History D) (o : Option Token) (c : List (ℕ × Option (Guarded D))) (g : ℕ → ℕ)
       (Then : Option Token → ℕ → Type 0)
       → ((log : History D) (tokens : Tokens) (ws : List ℕ) → k < n → own k log.events ≡ own k f.events → tokens k ≡ o
@@ -296,7 +296,7 @@ module _ {D : Type 0} (Initial : Bool → List ℕ → Type 0) (WordsFit : Histo
       subst (λ (z : List ℕ × List (SeatView D)). K n record { words = z.0; homes = s.homes; views = z.1 })
       (λ j. (sym (set-get_or s.words i 0) j, sym (set_again s.views id v at) j)) kept
 
-  -- the event, of the data d, brings k in, who then has the token p; the word i becomes g of what it was
+  -- by the event e the place k enters, which then has the token p; the word i becomes g of what it was
   pub record BringsIn (k i : ℕ) (p : Option Token) (g : ℕ → ℕ) (Also : History D → Type 0) (log : History D)
       (tokens : Tokens)
       (ws : List ℕ) (e : Event D) : Type 0 where
@@ -308,7 +308,7 @@ module _ {D : Type 0} (Initial : Bool → List ℕ → Type 0) (WordsFit : Histo
     pub others : (j : ℕ) → j ≢ k → tokens' j ≡ tokens j
     pub tells : WordsFit (with_event log e) tokens' (set ws i (g (get_or ws i 0)))
 
-  -- k, which knew f, comes in where the word is a hit, and takes the slot
+  -- the place k, which knew f, enters if the word is a hit, and takes the slot
   pub comes_ok : (n slots id k i : ℕ) (f : History D) (o p : Option Token) (event : D → Event D) (g : ℕ → ℕ)
       (Hit : ℕ → Type 0) (Also : History D → Type 0)
       → ((x : ℕ) → Dec (Hit x))
@@ -406,7 +406,7 @@ module _ {D : Type 0} (Initial : Bool → List ℕ → Type 0) (WordsFit : Histo
             λ i. (alone (q.0 i) (with_event ((same ∙ q.1) i) (event (is' i).state)), []),
       )
 
-  -- who is inside goes on by the event and keeps the slot, and no word changes
+  -- the place inside does the event and keeps the slot, and no word changes
   notes_ok : (n slots id k i : ℕ) (f : History D) (event : History D → Event D) (st : Step (Option (Guarded D)))
       → Notes rest ready (event f) k f
       → ((tokens : Tokens) (ws : List ℕ) → WordsFit f tokens ws → WordsFit (with_event f (event f)) tokens ws)
@@ -549,7 +549,7 @@ module _ {D : Type 0} (Initial : Bool → List ℕ → Type 0) (WordsFit : Histo
           x z.1) is in
           λ i. (Places (all_know 0 (a i) (opened (sizes_at kinds (a i)) (b_ i).state)), [])
 
-  -- the first seat takes the empty slot, by a step of any kind that begins the words
+  -- the first seat takes the empty slot, by any step that takes the words from Initial false to Initial true
   pub begins_at : (n slots id i : ℕ) (g : ℕ → ℕ) (st : Step (Option (Guarded D))) (m : SeatState D)
       → m ≡ (Unopened n, [])
       → ((ws : List ℕ) → Initial false ws → Initial true (set ws i (g (get_or ws i 0))))
@@ -558,7 +558,7 @@ module _ {D : Type 0} (Initial : Bool → List ℕ → Type 0) (WordsFit : Histo
       subst (λ (p : SeatState D). Allows (K n) slots id p i g (begins st p)) (sym is) (begins_ok n slots id i g st
       starts)
 
-  -- and gives it back with the data, by one that opens them
+  -- the first seat puts the slot back with the data, by any step after which the words fit the opened door
   pub opens_at : (n slots id i : ℕ) (g : ℕ → ℕ) (x : Guarded D) (st : Step (Option (Guarded D))) (m : SeatState D)
       → m ≡ (Opening n, (0, Some x) ∷ [])
       → rest x.state nobody → IsOf x.book (opened (sizes_at kinds n) tt)
@@ -569,7 +569,7 @@ module _ {D : Type 0} (Initial : Bool → List ℕ → Type 0) (WordsFit : Histo
       subst (λ (p : SeatState D). Allows (K n) slots id p i g (opens kinds st p)) (sym is)
       (opens_ok n slots id i g x st (Stands-opened rest ready (sizes_at kinds n) x.state at_rest) book tells)
 
-  -- what a seat knows agrees with the log, and no place stands there twice
+  -- what a seat knows agrees with the log, and no place is in it twice
   abbrev Fits : ℕ → History D → (ℕ → ℕ) → Tokens → ℕ → SeatView D → Type 0
   Fits n log owner tokens j v = EachOf (Agrees n log owner tokens j) v × ApartOf v
 
@@ -630,7 +630,7 @@ module _ {D : Type 0} (Initial : Bool → List ℕ → Type 0) (WordsFit : Histo
       ))
       (at_end (set s.views id (Places ts)) (alone k f) u j got)))
 
-  -- the first place is cut off
+  -- the first place is split off
   pub deals_ok : (n id k m : ℕ) (f : History D) → 0 < m
       → Splits (K n) id (Places (all_know k m f)) (places_behind (Places (all_know k m f)))
       (first_place (Places (all_know k m f)))
@@ -690,7 +690,7 @@ module _ {D : Type 0} (Initial : Bool → List ℕ → Type 0) (WordsFit : Histo
   knowing_apart log [] h = tt
   knowing_apart log (t ∷ ts) h = (knowing_without t.place log ts h.0, knowing_apart log ts h.1)
 
-  -- a load by which the places of a seat come to know the whole log
+  -- a load by which the places of a seat learn the whole log
   pub learns_at : (n slots id : ℕ) (ts : List (PlaceView D)) (st : Step (Option (Guarded D))) (m : SeatState D)
       → m ≡ (Places ts, []) → Allows (K n) slots id m 0 (λ r. r) (learns rest ready st m)
   learns_at n slots id ts st m is =

@@ -1,4 +1,4 @@
--- Lists of places, and where a seat's view stands among all views.
+-- Lists of places, and the position of a seat's view among all views.
 use Rattle.std.proofs.Common.{◌≡◌, ◌≢◌, ◌⊎◌, inl, inr, ⊎_elim, ℕ, zero, suc, ◌+◌, ◌-◌, ◌<◌, true, eqb, cond, List, []}
 use Rattle.std.proofs.Common.{◌∷◌, ◌++◌, length, set, take, drop, None, refl, sym, ap, ◌∙◌}
 use Rattle.std.proofs.Common.{subst, arith, eq-eqb, ne_eqb}
@@ -37,7 +37,7 @@ at_end (x ∷ xs) a b (suc j) e =
     ⊎_elim (λ (t : get_elem? xs j ≡ some b). inl t) (λ (t : (j ≡ length xs) × (a ≡ b)). inr (omega (arith, t.0), t.1))
     (at_end xs a b j e)
 
--- the owners (or the tokens), with the place k now at the seat to
+-- the owners (or the tokens), with the place k now at the seat (or with the token) `to`
 abbrev pub given_to : {A : Type 0} → (ℕ → A) → ℕ → A → ℕ → A
 given_to owner k to i = cond (eqb i k) to (owner i)
 
@@ -47,7 +47,7 @@ given_here owner k to = ap (λ b. cond b to (owner k)) (eq-eqb k k refl)
 pub given_else : {A : Type 0} (owner : ℕ → A) (k : ℕ) (to : A) (i : ℕ) → i ≢ k → given_to owner k to i ≡ owner i
 given_else owner k to i n = ap (λ b. cond b to (owner i)) (ne_eqb i k n)
 
--- the owners, with all of the seat other at the seat to
+-- the owners, with all places of the seat `other` now at the seat `to`
 abbrev pub handed : (ℕ → ℕ) → ℕ → ℕ → ℕ → ℕ
 handed owner other to i = cond (eqb (owner i) other) to (owner i)
 
@@ -57,7 +57,7 @@ handed_here owner other to i e = ap (λ b. cond b to (owner i)) (eq-eqb (owner i
 pub handed_else : (owner : ℕ → ℕ) (other to i : ℕ) → owner i ≢ other → handed owner other to i ≡ owner i
 handed_else owner other to i n = ap (λ b. cond b to (owner i)) (ne_eqb (owner i) other n)
 
--- the last of a list, with those that were taken before it, stands in the list turned round where it was counted
+-- the element of a list with k elements after it is element k of the reversed list
 pub nth_reversed : {A : Type 0} (xs new given : List A) (x d : A) (k : ℕ) → xs ≡ new ++ x ∷ given → length given ≡ k
     → slice_index_or (reverse xs) k d ≡ x
 nth_reversed {A = A} xs new given x d k are many =
@@ -113,7 +113,7 @@ module _ {D : Type 0} where
       ∙ ap (λ (l : List (PlaceOut D)). place_out (place_id_at d k) k f ∷ l)
       (places_more d (suc k) n f ∙ ap (λ (m : ℕ). places_from d (suc k) n f ++ place_out (place_id_at d m) m f ∷ []) b)
 
-  -- one more place, which sleeps where it is woken
+  -- one more place, which parks where it is woken
   pub places_and : (d : DoorId) (k : ℕ) (b : PlaceId) (f : History D) → b ≡ place_id_at d k
       → places_from d 0 k f ++ place_out b k f ∷ [] ≡ places_from d 0 (k + 1) f
   places_and d k b f is =
@@ -122,7 +122,7 @@ module _ {D : Type 0} where
       ∙ ap (λ (j : ℕ). places_from d 0 k f ++ place_out (place_id_at d j) j f ∷ []) same
       ∙ sym (places_more d 0 k f)
 
-  -- what is known of one place's seat
+  -- the front of the seat of one place
   pub front_of-alone : (v : SeatView D) (is : is_alone v ≡ true) (k : ℕ) (f : History D) → v ≡ alone k f
       → front_of v is ≡ f
   front_of-alone v is k f e = subst (λ (w : SeatView D). (a : is_alone w ≡ true)

@@ -1,4 +1,4 @@
--- By which event a place gives the monitor up.
+-- The event by which a place releases the monitor.
 use Rattle.std.specs.Prelude.{ℕ}
 use Rattle.hoare_law.specs.declared.event.Event.{Event}
 use Rattle.hoare_law.specs.declared.event.Event.TheVariants as event
@@ -7,12 +7,12 @@ use Rattle.wait_book.specs.declared.steps.Next.TheVariants.{For}
 use Rattle.door_frame.specs.declared.departure.Departure.{Departure}
 use Rattle.door_frame.specs.declared.departure.Departure.TheVariants.{Wait, Signal, Pass, Leave}
 
--- the place that goes on, if one does
+-- the place that resumes next, if there is one; else 0
 abbrev pub place_for : Next → ℕ
 place_for (For k) = k
 place_for _ = 0
 
--- the event of the place k, after which next goes on, of the data
+-- the event of the place k, after which next resumes, as a function of the data
 abbrev pub event_of : {D : Type 0} → ℕ → Departure → Next → D → Event D
 event_of k (Wait c p) next s = event.Wait k c p s
 event_of k (Signal c) next s = event.Signal k c (place_for next) s

@@ -1,4 +1,4 @@
--- By which event a place inside calls those that wait on a Mesa condition, and what that makes of it.
+-- The event by which a place inside notifies the waiters on a Mesa condition, and that place afterwards.
 use Rattle.std.specs.Prelude.{◌≡◌, ℕ, List, length, unwrap_or}
 use Rattle.std.specs.Option.{option_map}
 use Rattle.hoare_law.specs.declared.event.Event.{Event}
@@ -13,31 +13,31 @@ use Rattle.door_frame.specs.declared.notice.Notice.{Notice}
 use Rattle.door_frame.specs.declared.notice.Notice.TheVariants.{Notify, Broadcast}
 use Rattle.door_frame.specs.Places.{DoorId, PlaceIn, IsIn}
 
--- the place of the one that is chosen on c, if somebody waits there
+-- the place of the waiter that is chosen on c, if there is one; else 0
 abbrev pub chosen_place : {D : Type 0} → ℕ → List (Event D) → ℕ
 chosen_place c h = unwrap_or (option_map place_of (chosen c h)) 0
 
--- the event of the place k, with the data s in hand, where it knew f
+-- the event of the place k, which has the data s in hand and knew f
 abbrev pub event_of_notice : {D : Type 0} → ℕ → Notice → D → History D → Event D
 event_of_notice k (Notify c) s f = event.Notify k c (chosen_place c f.events) s
 event_of_notice k (Broadcast c) s f = event.Broadcast k c s
 
--- the condition on which those wait that it calls
+-- the condition whose waiters it notifies
 abbrev pub called_on : Notice → ℕ
 called_on (Notify c) = c
 called_on (Broadcast c) = c
 
--- the history of a book whose place k did so
+-- the history of a book after this notice of the place k
 abbrev pub after_notice : History (Unit {0}) → ℕ → Notice → History (Unit {0})
 after_notice h k (Notify c) = after_notify h k c (chosen c h.events)
 after_notice h k (Broadcast c) = after_broadcast h k c (waiting c h.events)
 
--- a broadcast is told how many waited, with these priorities
+-- for a broadcast, n is the number of waiters, whose priorities are q; for a notify, n is not specified
 abbrev pub IsCounted : Notice → List ℕ → ℕ → Type 0
 IsCounted (Notify c) q n = Unit {0}
 IsCounted (Broadcast c) q n = n ≡ length q
 
--- the place inside is j, and was i: it did so, with the data as they were
+-- the place inside was i and is now j: it did this notice, and the data are unchanged
 pub record Noted {D : Type 0} (rest : Rest D) (ready : Ready D) (kinds : Kinds) (d : DoorId) (i : PlaceIn D)
     (notice : Notice) (j : PlaceIn D) : Type 0 where
   pub of : IsIn rest ready kinds d j

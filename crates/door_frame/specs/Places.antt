@@ -16,7 +16,7 @@ use Rattle.hoare_law.specs.Waiting.{Chooses}
 use Rattle.wait_book.specs.declared.steps.Next.{Next}
 use Rattle.wait_book.specs.declared.steps.Next.TheVariants.{For}
 
--- a door: its table, how many places it has, and what they sleep on, in their order
+-- a door: its table, how many places it has, and what they park on, in their order
 pub record DoorId : Type 0 where
   pub table : TableId
   pub places : ℕ
@@ -25,11 +25,11 @@ pub record DoorId : Type 0 where
 abbrev pub door_of : TableId → ℕ → List TableId → DoorId
 door_of z n ws = record { table = z; places = n; sleepers = ws }
 
--- what place k of the door sleeps on (if there is no such place, what nobody sleeps on: the table)
+-- what place k of the door parks on (if there is no such place, the table, on which nobody parks)
 abbrev pub sleeper_at : DoorId → ℕ → TableId
 sleeper_at d k = slice_index_or d.sleepers k d.table
 
--- what a place has of its door: the table, and what it sleeps on
+-- what a place has of its door: the table, and what the place parks on
 pub record PlaceId : Type 0 where
   pub table : TableId
   pub sleeper : TableId
@@ -37,11 +37,11 @@ pub record PlaceId : Type 0 where
 abbrev pub place_id : TableId → TableId → PlaceId
 place_id z w = record { table = z; sleeper = w }
 
--- the berth of place k: what wakes place k wakes who sleeps there
+-- the place id of place k: what wakes place k wakes the thread that parks on this sleeper
 abbrev pub place_id_at : DoorId → ℕ → PlaceId
 place_id_at d k = place_id d.table (sleeper_at d k)
 
--- who goes on was woken
+-- the place that resumes next, if there is one, was woken
 abbrev pub IsWoken : DoorId → Next → Option TableId → Type 0
 IsWoken d (For k) woken = woken ≡ Some (sleeper_at d k)
 IsWoken d _ woken = ⊤
@@ -69,7 +69,7 @@ module _ {D : Type 0} where
   abbrev pub with_state : PlaceIn D → D → PlaceIn D
   with_state i s = place_in i.place_id i.place i.front s
 
-  -- who is inside has made ready what is owed to the first that waits on c
+  -- ready holds for the first waiter on c, of the data of the place inside and of the lists without that waiter
   abbrev pub Handed : Ready D → ℕ → PlaceIn D → Type 0
   Handed ready c i = ready c (slice_index (priorities i.front.events c) 0) i.state (taken (priorities i.front.events) c)
 
@@ -78,7 +78,7 @@ module _ {D : Type 0} where
   places_from d k zero f = []
   places_from d k (suc n) f = place_out (place_id_at d k) k f ∷ places_from d (suc k) n f
 
-  -- place k is among them
+  -- place k is in the list
   abbrev pub HasPlace : ℕ → List (PlaceOut D) → Type 0
   HasPlace k [] = ⊥
   HasPlace k (o ∷ os) = (o.place ≡ k) ⊎ HasPlace k os
@@ -100,7 +100,7 @@ module _ {D : Type 0} where
     signalled : (f : History D) (c w : ℕ) (s : D) → g ≡ with_event f (Signal k c w s) → Released k g
 
   module _ (rest : Rest D) (ready : Ready D) (kinds : Kinds) where
-    -- the place outside is of the door: it sleeps where it is woken, and what it knows is legal and lawful, and has it
+    -- the place outside is of the door: it parks where it is woken, and what it knows is legal and lawful, and has it
     -- outside
     pub record IsOut (door : DoorId) (o : PlaceOut D) : Type 0 where
       pub of : o.place_id ≡ place_id_at door o.place
@@ -109,7 +109,8 @@ module _ {D : Type 0} where
       pub stands : Stands rest ready o.front
       pub is_outside : outside o.place o.front.events ≡ true
 
-    -- the same of a place inside
+    -- the place inside is of the door: it parks where it is woken, and what it knows is legal and lawful, and has it
+    -- inside
     pub record IsIn (door : DoorId) (i : PlaceIn D) : Type 0 where
       pub of : i.place_id ≡ place_id_at door i.place
       pub sized : i.front.sizes ≡ sizes_at kinds door.places

@@ -1,5 +1,5 @@
--- What the rule of every door says: of the log, of what each seat knows, and of the slot. What its words say is each
--- door's own.
+-- The rule of every door: what holds of the log, of what each seat knows, and of the slot. What a door's words mean is
+-- each door's own.
 use Rattle.std.specs.Prelude.{◌≡◌, ℕ, ◌<◌, Bool, true, false, List, [], ◌∷◌, Option, Some, None, length}
 use mathlib.Core.Option.{some, none}
 use lib.ListN.{get_elem?}
@@ -29,7 +29,7 @@ abbrev pub Tokens : Type 0
 Tokens = ℕ → Option Token
 
 module _ {D : Type 0} where
-  -- a place of the seat: the log begins with its front, and has no other events of it
+  -- a place t of the seat: the log begins with the front of t, and has no other events of that place
   pub record Agrees (n : ℕ) (log : History D) (owner : ℕ → ℕ) (tokens : Tokens) (seat : ℕ)
       (t : PlaceView D) : Type 0 where
     pub below : t.place < n
@@ -38,13 +38,13 @@ module _ {D : Type 0} where
     pub own_are : own t.place log.events ≡ own t.place t.front.events
     pub token_is : tokens t.place ≡ t.token
 
-  -- what lies in the slot is what the history left
+  -- the contents x of the slot are what the history left
   pub record Lies (h : History D) (x : Guarded D) : Type 0 where
     pub latest : x.state ≡ latest_data h
     pub book : IsOf x.book (erased h)
 
-  -- Of the words: Starts is what they are before the door opens (and by then whether the first seat has the slot),
-  -- Tells what they say of the log and the tokens of an open door
+  -- Of the words: Initial is what they are before the door opens (true if the first seat has the slot by then),
+  -- WordsFit is that they fit the log and the tokens of an open door
   module _ (Initial : Bool → List ℕ → Type 0) (WordsFit : History D → Tokens → List ℕ → Type 0) (rest : Rest D)
       (ready : Ready D) (kinds : Kinds) where
     -- the door is open
@@ -60,12 +60,12 @@ module _ {D : Type 0} where
       pub apart : (j : ℕ) (v : SeatView D) → get_elem? s.views j ≡ some v → ApartOf v
       -- 2. the log is legal and lawful
       pub stands : Stands rest ready log
-      -- 3. what the words say of the log and of the tokens
+      -- 3. the words fit the log and the tokens
       pub tells : WordsFit log tokens s.words
-      -- 4. where nobody is inside, the slot is at home, with what the log left
+      -- 4. if nobody is inside, the slot is at home, with what the log left
       pub home : IsGivenUp (turn log.events)
           → (x : Guarded D) × (get_elem? s.homes 0 ≡ some (some (Some x))) × Lies log x
-      -- and where somebody is inside, it is out
+      -- and if a place is inside, the slot is out
       pub out : (k : ℕ) → turn log.events ≡ Held k → get_elem? s.homes 0 ≡ some none
 
     pub data TableInvariant (n : ℕ) (s : Cells D) : Type 0 where

@@ -1,4 +1,4 @@
--- How a seat stands for a place outside or inside.
+-- How a seat represents a place outside or inside.
 use Rattle.std.specs.Prelude.{◌≡◌, ℕ, true, [], ◌∷◌, None}
 use Rattle.hoare_law.specs.declared.event.Event.{Event}
 use Rattle.hoare_law.specs.declared.event.History.{History}
@@ -16,11 +16,11 @@ module _ {D : Type 0} where
   abbrev pub IsEmptyHanded : ℕ → History D → SeatState D → Type 0
   IsEmptyHanded k f me = me ≡ (alone k f, [])
 
-  -- the same with the slot, empty: the book in hand is of f
+  -- the seat of the place k, which knows f, with the slot in hand, empty: the book in hand is of f
   abbrev pub IsInside : ℕ → History D → SeatState D → Contents → Type 0
   IsInside k f me b = (me ≡ (alone k f, (0, None) ∷ [])) × IsOf b (erased f)
 
-  -- the seat of a place that has given the monitor up, as it knows
+  -- the seat of a place that has released the monitor, by its front
   abbrev pub HasReleased : SeatState D → Type 0
   HasReleased me = (k : ℕ) × (f : History D) × IsEmptyHanded k f me × IsGivenUp (turn f.events)
 
@@ -28,18 +28,19 @@ module _ {D : Type 0} where
   abbrev pub IsEntering : ℕ → SeatState D → Type 0
   IsEntering k me = (f : History D) × IsEmptyHanded k f me × (outside k f.events ≡ true)
 
-  -- the seat of the place k, then outside or owed the monitor, came in by the event of its front, and took x
+  -- the place k, which was outside or owed the monitor, entered by the event of its front, and took x: its seat was me
+  -- and is now me'
   abbrev pub EntersWith : Rest D → Ready D → ℕ → (History D → D → Event D) → SeatState D → Guarded D → SeatState D
       → Type 0
   EntersWith rest ready k event me x me' = (f : History D) → IsEmptyHanded k f me
       → EnteredBy rest ready k f (event f) x None me'
 
-  -- the seat of the place k, then inside, stayed inside by the event
+  -- the place k, which was inside, stayed inside by the event: its seat was me and is now me'
   abbrev pub StaysIn : ℕ → (History D → Event D) → SeatState D → SeatState D → Type 0
   StaysIn k event me me' = (f : History D) → me ≡ (alone k f, (0, None) ∷ [])
       → me' ≡ (alone k (with_event f (event f)), (0, None) ∷ [])
 
-  -- the seat of the place k, then inside, gave up the data s by the event
+  -- the place k, which was inside, released the data s by the event: its seat was me and is now me'
   abbrev pub GoesOut : ℕ → (D → Event D) → SeatState D → D → SeatState D → Type 0
   GoesOut k event me s me' = (f : History D) → me ≡ (alone k f, (0, None) ∷ [])
       → IsEmptyHanded k (with_event f (event s)) me'

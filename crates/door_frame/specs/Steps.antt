@@ -1,4 +1,4 @@
--- What each step tells: of the step, the seat before, the number found and the seat after.
+-- The contract of each step: of the step, the seat before, the number found and the seat after.
 use Rattle.std.specs.Prelude.{◌≡◌, ℕ, List, [], ◌∷◌, Option, Some, None}
 use Rattle.atomic_table.specs.Table.{Me, Step}
 use Rattle.hoare_law.specs.declared.event.Event.{Event}
@@ -29,12 +29,12 @@ abbrev pub StepContract : Type 0 → Type 1
 StepContract D = Step (Option (Guarded D)) → SeatState D → ℕ → SeatState D → Type 0
 
 module _ {D : Type 0} where
-  -- the condition on which a place waits that did this last, if it does
+  -- the condition on which a place waits whose last event is this, if it waits
   abbrev pub awaited : Option (Event D) → Option ℕ
   awaited (Some (Wait j c p x)) = Some c
   awaited _ = None
 
-  -- how a place comes back: from its wait on a condition, or else from a signal
+  -- the event by which the place k returns: from its wait on a condition, or else from a signal
   abbrev pub due_from : ℕ → Option ℕ → D → Event D
   due_from k (Some c) s = Resume k c s
   due_from k None s = Back k s
@@ -53,13 +53,13 @@ module _ {D : Type 0} where
       (n : ℕ) (x : Guarded D) → m ≡ (Opening n, (0, Some x) ∷ [])
       → m' ≡ (Places (all_know 0 n (opened (sizes_at kinds n) x.state)), [])
 
-  -- the event that the holder picked, of the data in the slot
+  -- the place inside puts the slot back, by the event that the holder picked, of the data in the slot
   abbrev pub gives_as : (D → Event D) → StepContract D
   gives_as event st m r m' =
       (k : ℕ) (f : History D) (x : Guarded D) → m ≡ (alone k f, (0, Some x) ∷ [])
       → m' ≡ (alone k (with_event f (event x.state)), [])
 
-  -- the place k, inside with f, may give the slot back with x in it by the event, after which next goes on
+  -- the place k, inside with f, may put the slot back, with x in it, by the event, after which next resumes
   pub record Gives (rest : Rest D) (ready : Ready D) (event : D → Event D) (k : ℕ) (f : History D) (x : Guarded D)
       (next : Next) : Type 0 where
     pub inside : turn f.events ≡ Held k
@@ -71,17 +71,17 @@ module _ {D : Type 0} where
     pub book : IsOf x.book (erased (with_event f (event x.state)))
     pub next_is : next ≡ next_of (turn (with_event f (event x.state)).events)
 
-  -- the seat is that of the place k, inside with some f, which may do so
+  -- the seat is that of the place k, inside with some f, which may put the slot back by the event
   abbrev pub MayGive : Rest D → Ready D → (D → Event D) → ℕ → SeatState D → Guarded D → Next → Type 0
   MayGive rest ready event k me x next =
       (f : History D) × (me ≡ (alone k f, (0, None) ∷ [])) × Gives rest ready event k f x next
 
-  -- the event that the holder picked, of what it knew: it stays inside, with the slot in hand
+  -- the place inside stays inside, with the slot in hand, by the event that the holder picked, of what it knew
   abbrev pub notes_as : (History D → Event D) → StepContract D
   notes_as event st m r m' = (k : ℕ) (f : History D) → m ≡ (alone k f, (0, None) ∷ [])
       → m' ≡ (alone k (with_event f (event f)), (0, None) ∷ [])
 
-  -- the place k, inside with f, may go on by the event and stays inside
+  -- the place k, inside with f, may do the event e, and stays inside
   pub record Notes (rest : Rest D) (ready : Ready D) (e : Event D) (k : ℕ) (f : History D) : Type 0 where
     pub inside : turn f.events ≡ Held k
     pub mine : place_of e ≡ k
@@ -89,11 +89,11 @@ module _ {D : Type 0} where
     pub owes : Owes rest ready f.events e
     pub stays : turn (with_event f e).events ≡ Held k
 
-  -- the seat is that of the place k, inside with some f, which may do so
+  -- the seat is that of the place k, inside with some f, which may do the event and stay inside
   abbrev pub MayNote : Rest D → Ready D → (History D → Event D) → ℕ → SeatState D → Type 0
   MayNote rest ready event k me = (f : History D) × (me ≡ (alone k f, (0, None) ∷ [])) × Notes rest ready (event f) k f
 
-  -- the place k, which knew f, came in by the event and found x; it has the token t, and the slot that it holds has o
+  -- the place k, which knew f, entered by the event and found x; it has the token t, and the slot in its hand has o
   pub record EnteredWith (rest : Rest D) (ready : Ready D) (t : Option Token) (k : ℕ) (f : History D)
       (event : D → Event D) (x : Guarded D) (o : Option (Guarded D)) (me : SeatState D) : Type 0 where
     pub log : History D
@@ -103,26 +103,26 @@ module _ {D : Type 0} where
     pub stands : Stands rest ready (with_event log (event x.state))
     pub book : IsOf x.book (erased log)
 
-  -- the same where it has no token
+  -- the same of a place without a token
   abbrev pub EnteredBy : Rest D → Ready D → ℕ → History D → (D → Event D) → Guarded D → Option (Guarded D)
       → SeatState D → Type 0
   EnteredBy rest ready = EnteredWith rest ready None
 
-  -- what a step tells that may bring the place k in: where the number found is a hit, k comes in by the event and takes
-  -- the slot, with the token t, and of the log before holds what Also says; else nothing happened
+  -- the contract of a step by which the place k may enter: if the number found is a hit, k enters by the event and
+  -- takes the slot, with the token t, and Also holds of the log before; else nothing happened
   abbrev pub EntryStepWith : Rest D → Ready D → Option Token → (ℕ → Type 0) → (History D → Type 0) → ℕ → History D
       → (D → Event D) → SeatState D → ℕ → SeatState D → Type 0
   EntryStepWith rest ready t Hit Also k f event m r m' =
       ((Hit r → ⊥) → m' ≡ m)
       × (Hit r → (x : Guarded D) × (c : EnteredWith rest ready t k f event x (Some x) m') × Also c.log)
 
-  -- the same where it then has none
+  -- the same of a place that then has no token
   abbrev pub EntryStep : Rest D → Ready D → (ℕ → Type 0) → (History D → Type 0) → ℕ → History D → (D → Event D)
       → SeatState D → ℕ
       → SeatState D → Type 0
   EntryStep rest ready = EntryStepWith rest ready None
 
-  -- the history begins with what the place knew, and has no other events of it
+  -- the history begins with what the place t knew, and has no other events of it
   abbrev pub Known : History D → PlaceView D → Type 0
   Known log t = Begins t.front log × (own t.place log.events ≡ own t.place t.front.events)
 

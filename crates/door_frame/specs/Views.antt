@@ -1,4 +1,5 @@
--- What a seat knows: before the door opens how many places it is to have, then the places that it stands for.
+-- What a seat knows: before the door opens, how many places the door is to have; then the places that the seat
+-- represents.
 use Rattle.std.specs.Prelude.{◌≡◌, ◌≢◌, ℕ, zero, suc, Bool, true, false, List, [], ◌∷◌, ◌++◌, take, drop, Option, Some}
 use Rattle.std.specs.Prelude.{None}
 use Rattle.std.proofs.Common.{true≢false, sym}
@@ -13,19 +14,19 @@ module _ {D : Type 0} where
   abbrev pub knows : ℕ → History D → Option Token → PlaceView D
   knows k f o = record { place = k; front = f; token = o }
 
-  -- the view of the seat of one place, with what token it has
+  -- the view of the seat of one place, with its token, if it has one
   abbrev pub sole : ℕ → History D → Option Token → SeatView D
   sole k f o = Places (knows k f o ∷ [])
 
-  -- of one place that has none
+  -- the view of the seat of one place without a token
   abbrev pub alone : ℕ → History D → SeatView D
   alone k f = sole k f None
 
-  -- of one place that asked
+  -- the view of the seat of one place that is queued, with the ticket x
   abbrev pub asking : ℕ → History D → ℕ → SeatView D
   asking k f x = sole k f (Some (Ticket x))
 
-  -- of one place that tries, and shut the gate where its word was v
+  -- the view of the seat of one place that attempts to enter, and shut the gate when its word was v
   abbrev pub trying : ℕ → History D → ℕ → SeatView D
   trying k f v = sole k f (Some (Gate v))
 
@@ -62,7 +63,7 @@ module _ {D : Type 0} where
   first_place (Places ts) = Places (take 1 ts)
   first_place v = v
 
-  -- the places of another seat before those of this one
+  -- the places of the second seat before those of the first
   abbrev pub both_places : SeatView D → SeatView D → SeatView D
   both_places (Places ts) (Places us) = Places (us ++ ts)
   both_places v w = v
@@ -75,7 +76,7 @@ module _ {D : Type 0} where
   abbrev pub Without : ℕ → List (PlaceView D) → Type 0
   Without k = Each (λ t. t.place ≢ k)
 
-  -- no place stands there twice
+  -- no place is in the list twice
   abbrev pub Apart : List (PlaceView D) → Type 0
   Apart [] = Unit {0}
   Apart (t ∷ ts) = Without t.place ts × Apart ts
@@ -90,7 +91,7 @@ module _ {D : Type 0} where
   knowing h [] = []
   knowing h (t ∷ ts) = knows t.place h t.token ∷ knowing h ts
 
-  -- the seat stands for places, and each of them is as P says
+  -- the seat represents places, and P holds of each of them
   abbrev pub EachOf : (PlaceView D → Type 0) → SeatView D → Type 0
   EachOf P (Places ts) = Each P ts
   EachOf P (Unopened n) = ⊥

@@ -1,4 +1,4 @@
-//! The calls of a monitor, on any door, and the halves of which they are made.
+//! The calls of a monitor, on any door, and the halves that they are made of.
 ghost use Rattle.std.specs.Prelude.{◌≡◌, ◌≢◌, ◌<◌, ◌↔◌, ℕ, [], length, true, false, IsTrue, None, IfOk, IfErr};
 ghost use Rattle.hoare_law.specs.declared.event.History.{History};
 ghost use Rattle.hoare_law.specs.declared.event.Event.TheVariants as event;
@@ -26,7 +26,8 @@ use std::sync::Wait;
 use wait_book::book::Book;
 use wait_book::steps::Next;
 
-/// Makes a place inside of the parts of a place that was just admitted, and enters it in the queue book.
+/// Creates a place inside from the parts of a place that the door just admitted, and records the admission in the queue
+/// book.
 #[inline]
 pub fn enter_with<D: MonitorData, S: Parking>(
     seat: DoorSeat<D>,
@@ -45,8 +46,8 @@ pub fn enter_with<D: MonitorData, S: Parking>(
     Inside::of_parts(seat, place, sleeper, parcel)
 }
 
-/// Makes a place inside of the parts of a place that just returned from a wait or a signal, and records its return in
-/// the queue book.
+/// Creates a place inside from the parts of a place that just returned from a wait or a signal, and records the return
+/// in the queue book.
 #[inline]
 fn return_with<D: MonitorData, S: Parking>(
     seat: DoorSeat<D>,
@@ -109,7 +110,7 @@ pub fn leave_to<D: MonitorData, T: RawMonitor<D>, S: Parking>(
 }
 
 /// Implements `Monitor::leave`.
-#[inline(always)] // else an inlined `release` of the door is called
+#[inline(always)] // else a call remains, although the door's `release` is inlined
 pub fn leave<D: MonitorData, T: RawMonitor<D>, S: Parking>(
     door: &T,
     inside: Inside<D, S>,
@@ -155,9 +156,9 @@ pub fn begin_wait<D: MonitorData, T: RawMonitor<D>, S: Parking>(
     (Away::of_parts(seat, place, sleeper), next)
 }
 
-/// Does the first half of `Monitor::signal`. If a place waits on `condition`, hands the monitor off to it: the place
-/// that signals is then away, and returns by `try_return`; also returns which place resumes next. If the door doesn't
-/// wake its places, the caller wakes that place. If no place waits there, returns the place inside, unchanged.
+/// Does the first half of `Monitor::signal`. If a place waits on `condition`, hands the monitor off to it: the
+/// signalling place is then away, and returns by `try_return`; the result also shows which place resumes next. If the
+/// door doesn't wake its places, the caller wakes that place. If no place waits there, returns `inside` unchanged.
 #[inline]
 pub fn begin_signal<D: MonitorData, T: RawMonitor<D>, S: Parking>(
     door: &T,
@@ -298,7 +299,7 @@ pub fn signal_leave_to<D: MonitorData, T: RawMonitor<D>, S: Parking>(
 }
 
 /// Implements `Monitor::signal_leave`.
-#[inline(always)] // as `leave` is, which it calls if nobody waits
+#[inline(always)] // as `leave` is: if nobody waits this is a plain leave
 pub fn signal_leave<D: MonitorData, T: RawMonitor<D>, S: Parking>(
     door: &T,
     inside: Inside<D, S>,
@@ -319,7 +320,8 @@ pub fn signal_leave<D: MonitorData, T: RawMonitor<D>, S: Parking>(
     (out, told)
 }
 
-/// Records `notice` of `place` in the queue book. Returns how many waiters it notified (specified of a broadcast only).
+/// Records `notice` of `place` in the queue book. Returns how many waiters it notified (specified for a broadcast
+/// only).
 #[inline]
 fn book_calls(book: &mut Book, place: usize, notice: Notice) -> usize
     requires inside { book.old.turn ≡ turns.Held place }
@@ -334,8 +336,8 @@ fn book_calls(book: &mut Book, place: usize, notice: Notice) -> usize
     }
 }
 
-/// Notifies the waiters that `notice` names, of whom there is at least one. Returns how many it notified (specified of
-/// a broadcast only).
+/// Notifies the waiters that `notice` names; there is at least one. Returns how many it notified (specified for a
+/// broadcast only).
 #[inline]
 fn call<D: MonitorData, T: RawMonitor<D>, S: Parking>(
     door: &T,

@@ -1,14 +1,14 @@
-//! How a place gives the monitor up.
+//! How a place releases the monitor.
 
-/// What a place inside does last.
+/// The act by which a place inside releases the monitor.
 #[derive(Clone, Copy)]
 pub enum Departure {
-    /// It waits on a condition, with a priority.
+    /// Waits on this condition, with this priority.
     Wait(usize, u64),
-    /// It signals a condition on which somebody waits, and will be back.
+    /// Signals this condition, on which a place waits, and returns later.
     Signal(usize),
-    /// The same as its last act.
+    /// Signals this condition, on which a place waits, and leaves.
     Pass(usize),
-    /// It goes out, and signals nothing.
+    /// Leaves, and signals no condition.
     Leave,
 }

@@ -1,5 +1,5 @@
-//! What both running monitors stand on: one history, the places' fronts, and the slot with data and queues. Nothing
-//! here speaks of a word.
+//! What all running doors are built on: one history, the places' fronts, and the slot with data and queues. Which words
+//! a door has, and what they mean, is each door's own.
 #![tactic(auto)]
 
 pub mod calls;

@@ -89,8 +89,8 @@ pub fn parts_for<D: MonitorData>(
 }
 
 /// Creates a table whose slot is empty, its first seat, and the parcel that is to go into the slot. Returns the data if
-/// an allocation failed: that is why the slot is empty at first, and the door's own two opening steps take it and put
-/// it back with the parcel.
+/// an allocation failed. That is why the slot is empty at first: the door's own two opening steps take the slot, and
+/// put it back with the parcel.
 pub fn vacant<D: MonitorData, K, W: Words<D, K>>(
     alloc: Global,
     state: D,
@@ -113,7 +113,7 @@ pub fn vacant<D: MonitorData, K, W: Words<D, K>>(
     }
 }
 
-/// Creates the places of a door that wakes them, each with what it parks on, from a seat that stands for all of them.
+/// Creates the places of a door that wakes them, each with what it parks on, from a seat that represents all of them.
 pub fn deal<D: MonitorData, K, W: Words<D, K>>(
     table: &DoorTable<D, K, W>,
     mut seat: DoorSeat<D>,
@@ -136,7 +136,7 @@ pub fn deal<D: MonitorData, K, W: Words<D, K>>(
     outs
 }
 
-/// Creates the places of a door that wakes none of them, from a seat that stands for all of them.
+/// Creates the places of a door that wakes none of them, from a seat that represents all of them.
 pub fn deal_by_caller<D: MonitorData, K, W: Words<D, K>>(
     table: &DoorTable<D, K, W>,
     mut seat: DoorSeat<D>,
@@ -202,7 +202,7 @@ pub fn closed_as<D: MonitorData, K, W: Words<D, K>, S: Parking + Drop, V: Drop, 
     parcel.into_data()
 }
 
-/// Takes the table of a door that wakes its places apart. All places are handed in, in any order. Returns the data that
+/// Takes apart the table of a door that wakes its places. All places are handed in, in any order. Returns the data that
 /// one legal and lawful history left, at rest with nobody waiting.
 pub fn closed<D: MonitorData, K, W: Words<D, K>>(
     table: DoorTable<D, K, W>,

@@ -1,10 +1,10 @@
-//! How a place inside calls those that wait on a Mesa condition.
+//! How a place inside notifies the waiters on a Mesa condition.
 
-/// Whom a place inside calls. It stays inside.
+/// Which waiters a place inside notifies. That place stays inside.
 #[derive(Clone, Copy)]
 pub enum Notice {
-    /// The one that a signal on this condition would resume.
+    /// The waiter that a signal on this condition would resume.
     Notify(usize),
-    /// All that wait on this condition.
+    /// All waiters on this condition.
     Broadcast(usize),
 }

@@ -24,7 +24,8 @@ use crate::waking::Sleeper;
 use hoare_law::data::MonitorData;
 use std::sync::Wait;
 
-/// Polls for a while until the monitor is owed to `place`.
+/// Polls until the monitor is owed to `place`, at most `polls` times, `pauses` spin hints apart
+/// (`RawMonitor::polling`).
 fn poll_for_turn<D: MonitorData, T: RawMonitor<D>>(door: &T, place: usize)
     requires { place < (T.id door.now).places }
 {

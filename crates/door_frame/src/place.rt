@@ -9,7 +9,8 @@ use std::marker::Model;
 use wait_book::book::Book;
 
 /// A place outside, which may enter. It moves between threads and can't be copied. A place that is dropped is lost, and
-/// its door can't be closed any more. A contract sees its berth, its number and its front.
+/// its door can't be closed any more. A contract sees its place id (the door's table, and what the place parks on), its
+/// number and its front.
 #[derive(Drop)]
 pub struct Outside<D, S: Parking = Sleeper> {
     seat: DoorSeat<D>,
@@ -38,7 +39,7 @@ impl<D, S: Parking> Outside<D, S> {
     ghost use Rattle.door_frame.specs.Seats.{IsEmptyHanded};
     ghost use Rattle.door_frame.specs.Views.{is_alone, front_of};
 
-    /// Creates a place outside of its parts. Only a door on this frame can call it: nothing else has a seat.
+    /// Creates a place outside from its parts. Only a door on this frame can call it: nothing else has a seat.
     #[inline]
     pub fn of_parts(seat: DoorSeat<D>, place: usize, sleeper: S) -> Outside<D, S>
         requires { (f : History D) × IsEmptyHanded place f seat.me }
@@ -62,8 +63,8 @@ impl<D, S: Parking> Outside<D, S> {
     /// Takes the place apart: its seat, its number, and what it parks on.
     #[inline]
     pub fn into_parts(self) -> (DoorSeat<D>, usize, S)
-        ensures { (place_id result.0.table_id (S.at result.0.table_id result.2) ≡ self.place_id) × (result.1 ≡ self.place)
-            × IsEmptyHanded self.place self.front result.0.me }
+        ensures { (place_id result.0.table_id (S.at result.0.table_id result.2) ≡ self.place_id)
+            × (result.1 ≡ self.place) × IsEmptyHanded self.place self.front result.0.me }
     {
         let Outside {
             seat,
@@ -75,7 +76,7 @@ impl<D, S: Parking> Outside<D, S> {
 }
 
 /// A place that waits on a condition or has signalled: it released the monitor, and returns once the monitor is owed to
-/// it. A contract sees its berth, its number and its front.
+/// it. A contract sees its place id (the door's table, and what the place parks on), its number and its front.
 #[derive(Drop)]
 pub struct Away<D, S: Parking = Sleeper> {
     spot: Outside<D, S>,
@@ -95,7 +96,7 @@ impl<D, S: Parking> Away<D, S> {
     ghost use Rattle.door_frame.specs.Places.{place_id, place_out};
     ghost use Rattle.door_frame.specs.Seats.{IsEmptyHanded};
 
-    /// Creates a place that waits or has signalled, of its parts.
+    /// Creates a place that waits or has signalled, from its parts.
     #[inline]
     pub(crate) fn of_parts(seat: DoorSeat<D>, place: usize, sleeper: S) -> Away<D, S>
         requires { (f : History D) × IsEmptyHanded place f seat.me }
@@ -118,8 +119,8 @@ impl<D, S: Parking> Away<D, S> {
     }
 }
 
-/// A place inside, with the data in hand. It can't be dropped: it has to leave. A contract sees its berth, its number,
-/// its front and the data.
+/// A place inside, with the data in hand. It can't be dropped: it has to leave. A contract sees its place id (the
+/// door's table, and what the place parks on), its number, its front and the data.
 pub struct Inside<D, S: Parking = Sleeper> {
     pub(crate) seat: DoorSeat<D>,
     pub(crate) place: usize,
@@ -154,7 +155,7 @@ impl<D, S: Parking> Inside<D, S> {
     ghost use Rattle.door_frame.specs.Places.{place_id, place_in};
     ghost use Rattle.door_frame.specs.Seats.{IsInside};
 
-    /// Creates a place inside of its parts.
+    /// Creates a place inside from its parts.
     #[inline]
     pub(crate) fn of_parts(
         seat: DoorSeat<D>,

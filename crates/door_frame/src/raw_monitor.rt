@@ -25,7 +25,7 @@ use std::alloc::Global;
 use std::sync::Wait;
 use wait_book::steps::Next;
 
-/// A door, as far as its words go. How an entering thread waits until it is admitted is each door's own.
+/// What a door does with its words. How an entering thread waits until it is admitted is each door's own.
 pub trait RawMonitor<D: MonitorData> {
     ghost use Rattle.hoare_law.specs.Sizes.{Kinds};
     ghost use Rattle.wait_book.specs.declared.steps.Next.{Next};
@@ -39,7 +39,7 @@ pub trait RawMonitor<D: MonitorData> {
     /// The type of what `release` returns.
     type Shown: Drop;
 
-    /// What a value that `release` returned shows of the place that resumes next. A door that wakes its places
+    /// What a value that `release` returned shows about the place that resumes next. A door that wakes its places
     /// implements `Wakes` too.
     ghost is_woken: { DoorId → Next → Self.Shown → Type 0 };
 
@@ -56,8 +56,8 @@ pub trait RawMonitor<D: MonitorData> {
             seat.old.me parcel seat.new.me) }
         ensures same { IfNone result (seat.new.me ≡ seat.old.me) };
 
-    /// Polls the place's word once. Returns true if the monitor is owed to the place. Not specified: a `try_claim`
-    /// follows.
+    /// Polls the place's word once. Returns true if the monitor is owed to the place. The result is not specified: a
+    /// `try_claim` follows.
     fn is_owed(&self, place: usize) -> bool
         requires { place < (id self.now).places };
 
@@ -110,7 +110,7 @@ pub trait Wakes<D: MonitorData>: RawMonitor<D> {
     ghost use Rattle.wait_book.specs.declared.steps.Next.{Next};
     ghost use Rattle.door_frame.specs.Places.{DoorId, IsWoken};
 
-    /// The sleeper that was woken, if any, by what `release` returned.
+    /// The sleeper that was woken, if any, as the value that `release` returned shows.
     ghost woken: { Self.Shown → Option TableId };
 
     /// The sleeper that was woken is that of the place that resumes next.
@@ -142,7 +142,7 @@ pub trait Opens<D: MonitorData>: Runs<D> {
     /// What else holds of a new door.
     ghost is_new: { Self → Type 0 } = { λ _. Unit {0} };
 
-    /// Creates a door of its parts, opened with the data, and its places, in order. Returns the data if an allocation
+    /// Creates a door from its parts, opened with the data, and its places, in order. Returns the data if an allocation
     /// failed.
     fn open(alloc: Global, parts: Parts<D>) -> Result<(Self, Vec<Outside<D>>), D>
         requires { AreParts D.rest (kinds_of D.CONDITIONS D.MESA) parts }

@@ -9,7 +9,7 @@ use hoare_law::data::MonitorData;
 use std::alloc::Global;
 use std::marker::PhantomData;
 
-/// What the words of a door say, by its key.
+/// What the words of a door mean, as its key determines.
 pub trait Words<D, K> {
     ghost use Rattle.std.specs.Prelude.{ℕ, Bool, List};
     ghost use Rattle.hoare_law.specs.declared.event.History.{History};
@@ -19,13 +19,13 @@ pub trait Words<D, K> {
     /// How many places the door has.
     ghost places: { K → ℕ };
 
-    /// How many conditions it has, of each kind.
+    /// How many conditions the door has, of each kind.
     ghost kinds: { K → Kinds };
 
-    /// The words before the door opens, and by then whether the first seat has the slot.
+    /// Holds of the words before the door opens. The flag is true if the first seat has the slot by then.
     ghost starts: { K → Bool → List ℕ → Type 0 };
 
-    /// What they say of the log, and of which place has which token.
+    /// Holds if the words of an open door fit the log, and which place has which token.
     ghost tells: { K → History D → Tokens → List ℕ → Type 0 };
 }
 

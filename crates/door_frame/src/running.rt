@@ -1,4 +1,4 @@
-//! A monitor for running threads, over the turnstile of any door: the calls of `Monitor`, written once.
+//! A monitor for running threads, over the raw monitor of any door: the calls of `Monitor`, written once.
 ghost use Rattle.std.specs.Prelude.{◌≡◌, ◌<◌, ◌⊎◌, ℕ, IfOk, IfErr, None, Some, All};
 ghost use Rattle.hoare_law.specs.Events.{opened};
 ghost use Rattle.hoare_law.specs.Priorities.{nobody};
@@ -19,8 +19,8 @@ use std::sync::Wait;
 use wait_book::book::Book;
 use wait_book::steps::MakeRefused;
 
-/// A monitor for running threads, over a turnstile of the type `T`: it implements `Monitor`. Threads share it by
-/// reference, each with its own place. It has the calls of its turnstile too. A contract sees the turnstile.
+/// A monitor for running threads, over a raw monitor of the type `T`: it implements `Monitor`. Threads share it by
+/// reference, each with its own place. It has the calls of its raw monitor too. A contract sees the raw monitor.
 #[derive(Drop)]
 pub struct RunningMonitor<T> {
     raw_monitor: T,
@@ -35,14 +35,14 @@ impl<T> Model for RunningMonitor<T> {
 impl<T> RunningMonitor<T> {
     ghost use Rattle.std.specs.Prelude.{◌≡◌};
 
-    /// Creates the monitor over a turnstile.
+    /// Creates the monitor over a raw monitor.
     pub fn new(raw_monitor: T) -> RunningMonitor<T>
         ensures { result ≡ raw_monitor }
     {
         RunningMonitor { raw_monitor }
     }
 
-    /// Returns the turnstile.
+    /// Returns the raw monitor.
     pub fn into_raw(self) -> T
         ensures { result ≡ self }
     {

@@ -1,4 +1,4 @@
-//! What the steps tell that every door has.
+//! The contracts of the steps that every door has.
 ghost use Rattle.door_frame.specs.Views.{places_behind, first_place, both_places, no_places};
 ghost use Rattle.door_frame.specs.Steps.{begins, opens, gives_as, notes_as, learns};
 
@@ -8,7 +8,7 @@ use atomic_table::{Join, Play, Seat, Split};
 use hoare_law::data::MonitorData;
 use std::marker::{Brand, PhantomData};
 
-/// What a thread steps with.
+/// The seat by which a thread does steps on a door's table.
 pub type DoorSeat<D> = Seat<Option<Parcel<D>>, SeatView<D>>;
 
 /// The first seat takes the empty slot.
@@ -43,7 +43,7 @@ impl<D: MonitorData> PickedKinds for KindsOf<D> {
     ghost kinds = { kinds_of D.CONDITIONS D.MESA };
 }
 
-/// The first seat gives the slot back with the data: the door is open.
+/// The first seat puts the slot back with the data: the door is open.
 pub struct Open<J> {
     of: PhantomData<J>,
 }
@@ -52,11 +52,11 @@ impl<D: MonitorData, J: PickedKinds> Play<Option<Parcel<D>>, SeatView<D>> for Op
     ghost then = { opens J.kinds };
 }
 
-/// The event of a step that gives the slot back, from the data in it. Each call picks it.
+/// The event of a step that puts the slot back, as a function of the data in the slot. Each call picks it.
 pub trait PickedEvent<D> {
     ghost use Rattle.hoare_law.specs.declared.event.Event.{Event};
 
-    /// The event, of the data in the slot.
+    /// Maps the data in the slot to the event.
     ghost event: { D → Event D };
 }
 
@@ -66,7 +66,7 @@ impl<D> PickedEvent<D> for Brand {
     ghost event = { λ s. Leave 0 s };
 }
 
-/// The place inside gives the slot back.
+/// The place inside puts the slot back.
 pub struct Give<J> {
     of: PhantomData<J>,
 }
@@ -75,12 +75,12 @@ impl<D, J: PickedEvent<D>> Play<Option<Parcel<D>>, SeatView<D>> for Give<J> {
     ghost then = { gives_as J.event };
 }
 
-/// The event of a step by which a place stays inside, from what it knew. Each call picks it.
+/// The event of a step by which a place stays inside, as a function of the history that it knew. Each call picks it.
 pub trait PickedNotice<D> {
     ghost use Rattle.hoare_law.specs.declared.event.Event.{Event};
     ghost use Rattle.hoare_law.specs.declared.event.History.{History};
 
-    /// The event, of what the place knew.
+    /// Maps the history that the place knew to the event.
     ghost event: { History D → Event D };
 }
 
@@ -90,7 +90,7 @@ impl<D> PickedNotice<D> for Brand {
     ghost event = { λ f. Leave 0 f.opening };
 }
 
-/// The place inside calls others, and stays inside.
+/// The place inside notifies waiters, and stays inside.
 pub struct Note<J> {
     of: PhantomData<J>,
 }
@@ -99,14 +99,14 @@ impl<D, J: PickedNotice<D>> Play<Option<Parcel<D>>, SeatView<D>> for Note<J> {
     ghost then = { notes_as J.event };
 }
 
-/// The places of a seat come to know the whole history.
+/// The places of a seat learn the whole history.
 pub struct Learn;
 
 impl<D: MonitorData> Play<Option<Parcel<D>>, SeatView<D>> for Learn {
     ghost then = { learns D.rest D.ready };
 }
 
-/// Cuts off the first place.
+/// Splits off the first place of a seat.
 pub struct SplitFirst;
 
 impl<D> Split<SeatView<D>> for SplitFirst {
@@ -115,7 +115,7 @@ impl<D> Split<SeatView<D>> for SplitFirst {
     ghost right = { first_place };
 }
 
-/// Puts the places of two seats together.
+/// Merges the places of two seats into one of them.
 pub struct MergePlaces;
 
 impl<D> Join<SeatView<D>> for MergePlaces {

@@ -1,4 +1,4 @@
-//! The slot in the hand of the place that is inside.
+//! How a seat that has the slot in hand, as that of the place inside, takes the parcel from it and puts it back.
 ghost use Rattle.std.specs.Prelude.{◌≡◌, [], ◌∷◌, None, Some};
 ghost use Rattle.door_frame.specs.declared.view.SeatView.{SeatView};
 ghost use Rattle.door_frame.specs.declared.parcel.Guarded.{Guarded};
@@ -8,7 +8,7 @@ use crate::rule::{DoorTable, Words};
 use crate::seat_steps::DoorSeat;
 use hoare_law::data::MonitorData;
 
-/// Who came in takes what lies in the slot.
+/// Takes the parcel from the slot, which `seat` has in hand. The caller has just entered.
 #[inline]
 pub fn take_parcel<D: MonitorData, K, W: Words<D, K>>(
     table: &DoorTable<D, K, W>,
@@ -23,7 +23,8 @@ pub fn take_parcel<D: MonitorData, K, W: Words<D, K>>(
     table.shared.exchange(seat, 0, None).unwrap()
 }
 
-/// Who goes lays it back.
+/// Puts `parcel` into the empty slot, which `seat` has in hand, before the caller releases the monitor or opens the
+/// door.
 #[inline]
 pub fn put_parcel<D: MonitorData, K, W: Words<D, K>>(
     table: &DoorTable<D, K, W>,

@@ -1,25 +1,25 @@
-//! What a door's words say at a glance, for who looks why a program hangs.
+//! What a door's words show of its state: to find out why a program hangs.
 use std::fmt::{self, Display, Formatter, Write};
 
-/// Who has the monitor, as far as a door's words say.
+/// Which place has the monitor, as far as a door's words show.
 #[derive(Clone, Copy, Debug, PartialEq, Eq)]
 pub enum Holder {
-    /// Nobody is inside, and nobody is owed the monitor.
+    /// No place is inside, and the monitor is owed to none.
     Nobody,
-    /// A place is inside, or is just coming in. The words don't say which.
+    /// A place is inside, or is just entering. The words don't show which of the two.
     Somebody,
-    /// The monitor was handed to this place, which hasn't gone on yet.
+    /// The monitor was handed off to this place, which hasn't resumed yet.
     Owed(usize),
 }
 
-/// What a door's words say at a glance. They are looked at one after the other, while others change them: it may be
-/// over by the time that it is answered, and no clause speaks of it.
+/// What a door's words showed. They are loaded one after the other while other threads may change them, so this is no
+/// atomic snapshot, and it may be out of date when it is returned. Not specified.
 #[derive(Clone, Copy, Debug, PartialEq, Eq)]
 pub struct Status {
-    /// Who has the monitor.
+    /// Which place has the monitor.
     pub holder: Holder,
-    /// How many newcomers are seen to want in: on a ticket door those that asked and aren't served, on a baton door
-    /// those that nap.
+    /// The number of entering threads that were seen: on a ticket door those with a ticket that isn't served yet, on a
+    /// baton door those that are parked.
     pub newcomers: u64,
 }
 

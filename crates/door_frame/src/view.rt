@@ -1,12 +1,13 @@
-//! What a seat of a door's table knows. No value of these types is ever made.
+//! What a seat of a door's table knows. No value of these types is ever created.
 use hoare_law::event::History;
 use std::collections::LinkedList;
 
-/// What a place has of the door before it is in.
+/// What an entering place has of the door before it is inside.
 pub enum Token {
-    /// The ticket that it drew: it asked, and isn't in yet. Tickets are counted from 0 here and never wrap.
+    /// The ticket that the place took: it is queued, and isn't inside yet. Tickets are counted from 0 here and never
+    /// wrap.
     Ticket(u64),
-    /// The gate, which it shut where the word had this number: it tries to come in.
+    /// The gate, which the place shut when the word had this value: it attempts to enter.
     Gate(u64),
 }
 
@@ -14,18 +15,18 @@ pub enum Token {
 pub struct PlaceView<D> {
     /// The place's number.
     pub place: usize,
-    /// The history that it knows: a beginning of the log.
+    /// The history that the place knows: a beginning of the log.
     pub front: History<D>,
-    /// What it has of the door, as long as it asks or tries and isn't in.
+    /// What the place has of the door, as long as it is queued or attempts to enter and isn't inside.
     pub token: Option<Token>,
 }
 
 /// What a seat knows.
 pub enum SeatView<D> {
-    /// The first seat, while the slot is still empty: the door is to have this number of places.
+    /// The first seat, before it takes the empty slot. The door is to have this number of places.
     Unopened(usize),
-    /// The first seat, with the slot in hand.
+    /// The first seat, with the slot in hand. The door is to have this number of places.
     Opening(usize),
-    /// The places that a seat stands for.
+    /// The places that a seat represents.
     Places(LinkedList<PlaceView<D>>),
 }

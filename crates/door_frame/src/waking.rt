@@ -11,7 +11,7 @@ use std::marker::Model;
 use std::sync::Wait;
 
 /// The protocol of a parker's token, which requires nothing. The thread that has a pass to the token knows whether it
-/// gave one.
+/// gave a token.
 pub struct Waking;
 
 impl Protocol<bool, bool> for Waking {
@@ -40,12 +40,12 @@ impl Outcome<bool, bool> for Takes {
 pub trait Parking {
     ghost use Rattle.atomic_table.specs.Seated.{TableId};
 
-    /// Identifies it, for a place of the door with this table. Of a place that no door wakes it is the table itself, on
-    /// which no thread parks.
+    /// Identifies what a place of the door with this table parks on. If no door wakes the place, it is the table
+    /// itself, on which no thread parks.
     ghost at: { TableId → Self → TableId };
 }
 
-/// What one place parks on. A contract sees which it is.
+/// What one place parks on. A contract sees which sleeper it is.
 #[derive(Drop)]
 pub struct Sleeper {
     parker: RuledParker<bool, Waking>,
@@ -72,7 +72,7 @@ impl Parking for ByCaller {
     ghost at = { λ z _. z };
 }
 
-/// What wakes the place that parks on one sleeper. A contract sees on which.
+/// What wakes the place that parks on one sleeper. A contract sees which sleeper.
 #[derive(Drop)]
 pub struct Waker {
     unparker: RuledUnparker<bool, Waking>,
@@ -87,7 +87,7 @@ impl Model for Waker {
     ghost view = { λ w. (arc_value w.unparker.state).shared.table_id };
 }
 
-/// Shows that the place that parks on one sleeper was woken. A contract sees on which.
+/// Shows that the place that parks on one sleeper was woken. A contract sees which sleeper.
 #[derive(Drop)]
 pub struct Woken {
     pass: Pass<bool>,
@@ -103,7 +103,7 @@ impl Model for Woken {
 }
 
 impl Sleeper {
-    /// Creates a sleeper, and what wakes the place that parks on it.
+    /// Creates a sleeper, and what wakes the place that parks on it. Fails if an allocation failed.
     pub fn new(alloc: Global) -> Result<(Sleeper, Waker), AllocError>
         ensures { IfOk result (λ r. r.1 ≡ r.0) }
     {
@@ -112,7 +112,7 @@ impl Sleeper {
         Ok((Sleeper { parker }, Waker { unparker }))
     }
 
-    /// Parks until it is woken. Returns at once if it was woken since it parked last.
+    /// Parks the caller until the place is woken. Returns at once if the place was woken since its last park.
     #[inline]
     pub fn sleep<R: Wait>(&self, rt: &R) {
         let mut pass = self.parker.unparker().pass();

@@ -1,4 +1,4 @@
-//! Long runs and short ones of all that takes no memory once it is made. `bench/counted-memory` holds that both make as
+//! Long runs and short ones of all that takes no memory once it is made. `tests/counted-memory` holds that both make as
 //! many requests.
 use crate::answer::Answer;
 use crate::cells::{THREADS, all_pass};

@@ -1,5 +1,5 @@
-//! Makes what standard input names, a line each, and says whether there was memory for it. `bench/refused-memory` runs
-//! it with each request for memory refused in turn, and `bench/counted-memory` counts the requests of long runs and of
+//! Makes what standard input names, a line each, and says whether there was memory for it. `tests/refused-memory` runs
+//! it with each request for memory refused in turn, and `tests/counted-memory` counts the requests of long runs and of
 //! short ones.
 #![tactic(auto)]
 

@@ -1,5 +1,5 @@
 //! Every call of a monitor, over and over, by threads that share it. No call takes memory: a long run makes as many
-//! requests as a short one, which `bench/counted-memory` counts.
+//! requests as a short one, which `tests/counted-memory` counts.
 ghost use Rattle.std.specs.Prelude.{◌<◌, All};
 
 use any_door::AnyDoor;
@@ -68,7 +68,7 @@ impl MonitorData for Visits {
 
 /// A monitor of visits that threads share.
 pub trait SharedVisits: Monitor<Visits> + Sync {
-    /// How many newcomers are seen to want in, at a glance.
+    /// The number of entering threads that `status` reports.
     fn newcomers(&self) -> u64;
 
     /// `signal_leave`, by the call that waits for nobody where the door has one.
@@ -188,7 +188,7 @@ fn visit<R: Wait, M: SharedVisits>(rt: &R, m: &M, out: M::Out, lot: u64) -> M::O
     m.leave(rt, inside)
 }
 
-// This number of visits, with a glance before each, and a note that they are over.
+// Makes this number of visits, with a `status` before each, and notes that they are over.
 fn visit_many<R: Wait, M: SharedVisits>(rt: &R, m: &M, out: M::Out, me: u64, turns: u64)
     requires { M.is_of m.now out }
 {

@@ -1,4 +1,4 @@
--- A place that asked: its seat, and what its contracts say.
+-- A place with a ticket: its seat, and the clauses of its contracts.
 use Rattle.std.proofs.Common.{◌≡◌, ℕ, ◌+◌, ◌%◌, ◌^◌, ◌==◌, true, List, [], ◌∷◌, ◌++◌, None, refl, sym, ap, ◌∙◌}
 use Rattle.std.proofs.Common.{append-nil, arith, subst}
 use Rattle.std.proofs.lemmas.List.{append_cancel_left}
@@ -42,7 +42,7 @@ module _ {D : Type 0} where
   asking_by m is k f x e =
       e ∙ (λ i. (asking k (sym (asking_front m is k f x e) i) (sym (asking_number m k f x e) i), []))
 
-  -- what is added last to a history that begins with f, and has no other events of its place, is added last to f
+  -- if g begins with f, and has no other events of e's place, an e added last to g is added last to f
   pub AddsLast-told : {f g h : History D} {e : Event D} → Begins f g
       → own (place_of e) g.events ≡ own (place_of e) f.events
       → AddsLast g e h → AddsLast f e h
@@ -52,7 +52,7 @@ module _ {D : Type 0} where
     ends = adds.ends;
   }
 
-  -- where the place k has no other events, none of the later ones is its own
+  -- if the place k has no other events in g, none of the later events is its own
   pub own-later : (k : ℕ) (f g : History D) (b : Begins f g) → own k g.events ≡ own k f.events → own k b.later ≡ []
   own-later k f g b same =
       append_cancel_left (own k f.events) (own k b.later) []
@@ -60,7 +60,7 @@ module _ {D : Type 0} where
       ∙ sym (append-nil (own k f.events)))
 
   module _ (rest : Rest D) (ready : Ready D) (kinds : Kinds) where
-    -- what the place o is after it asked, as its contract says it
+    -- what `ask` ensures of the place o with its ticket
     pub record Asks (d : TicketDoorId) (o : PlaceOut D) (a : PlaceAsked D) : Type 0 where
       pub of : IsAsked rest ready kinds d a
       pub place : a.place ≡ o.place
@@ -94,7 +94,7 @@ module _ {D : Type 0} where
           front = record { begins = known.0; own_are = known.1 };
         })
 
-    -- who was let in by its ticket came in its turn
+    -- a place that was admitted by its ticket entered in its turn
     pub enters_by : (first ticket k number : ℕ) (f h : History D) (x : Guarded D) {m : SeatState D}
         (c : EnteredBy rest ready k f (Admit k) x None m)
         → admissions c.log.events ≡ number
@@ -107,7 +107,7 @@ module _ {D : Type 0} where
       in_turn = ticket_is ∙ ap (λ n. (first + n) % 2 ^ 64) (sym counted);
     }
 
-    -- and after exactly those with a ticket before it
+    -- and it entered after exactly the places with a ticket before it
     pub waits_behind : (d : TicketDoorId) (a : PlaceAsked D) (x : Guarded D) {m : SeatState D}
         → IsAsked rest ready kinds d a
         → (c : EnteredBy rest ready a.place a.front (Admit a.place) x None m) → admissions c.log.events ≡ a.number
@@ -125,7 +125,7 @@ module _ {D : Type 0} where
           few = omega (arith, ahead, few);
         }
 
-    -- what a place that asked finds inside, as its contract says it
+    -- what `come_in` ensures of a place with a ticket
     pub record CameIn (d : TicketDoorId) (a : PlaceAsked D) (i : PlaceIn D) : Type 0 where
       pub of : IsIn rest ready kinds d.door i
       pub place : i.place ≡ a.place
@@ -153,7 +153,7 @@ module _ {D : Type 0} where
           behind = subst (WaitsBehind d.door.places b) (sym is) (waits_behind d b x asked c counted t);
         })
 
-    -- who asked and came in has entered
+    -- a place that asked and came in has entered
     pub entered_by : (d : TicketDoorId) (a : PlaceAsked D) {o : PlaceOut D} {i : PlaceIn D} → a.place ≡ o.place
         → IsTold a.front o → IsIn rest ready kinds d.door i → i.place ≡ a.place
         → rest i.state (priorities i.front.events) → AddsLast a.front (Admit a.place i.state) i.front

@@ -1,4 +1,4 @@
--- Who has the gate, and what the tokens are then.
+-- The holder of the gate, and the tokens then.
 use Rattle.std.proofs.Common.{◌≡◌, ◌≢◌, ℕ, ◌+◌, eqb, cond, List, [], ◌∷◌, ◌++◌, length, Option, Some, None, sym}
 use Rattle.std.proofs.Common.{ap, ◌∙◌, subst, arith, eq-eqb, ne_eqb}
 use mathlib.Core.Logic.{dite}
@@ -13,14 +13,14 @@ use Rattle.ticket_door.specs.Queue.{ticket_in}
 use Rattle.ticket_door.specs.Rule.{Gate, ajar, shut_by, token_in, IsKept}
 use Rattle.ticket_door.proofs.Queue.{None≢Some, ticket_only, ticket_none, none_ticket, ticket_last, ticket_kept}
 
--- who shut the gate has it
+-- the place that shut the gate has it
 pub gate_here : (i v a : ℕ) (q : List ℕ) (k : ℕ) → k ≡ i → token_in (shut_by i v) a q k ≡ Some (token.Gate v)
 gate_here i v a q k e = ap (λ b. cond b (Some (token.Gate v)) (ticket_in a q k)) (eq-eqb k i e)
 
 pub gate_else : (i v a : ℕ) (q : List ℕ) (k : ℕ) → k ≢ i → token_in (shut_by i v) a q k ≡ ticket_in a q k
 gate_else i v a q k n = ap (λ b. cond b (Some (token.Gate v)) (ticket_in a q k)) (ne_eqb k i n)
 
--- who has a ticket has it by the queue
+-- a place with a ticket has it by the queue
 pub has_ticket : (g : Gate) (a : ℕ) (q : List ℕ) (k x : ℕ) → token_in g a q k ≡ Some (token.Ticket x)
     → ticket_in a q k ≡ Some (token.Ticket x)
 has_ticket ajar a q k x e = e
@@ -31,17 +31,17 @@ has_ticket (shut_by i v) a q k x e = dite (ℕ_discrete k i)
     absurd (cc))
     (λ ne. sym (gate_else i v a q k ne) ∙ e)
 
--- who has nothing didn't shut the gate
+-- a place without a token didn't shut the gate
 pub not_shut : (i v a : ℕ) (q : List ℕ) (k : ℕ) → token_in (shut_by i v) a q k ≡ None → k ≢ i
 not_shut i v a q k e same = None≢Some (token.Gate v) (sym e ∙ gate_here i v a q k same)
 
--- and didn't ask
+-- and isn't in the queue
 pub has_none : (g : Gate) (a : ℕ) (q : List ℕ) (k : ℕ) → token_in g a q k ≡ None → times k q ≡ 0
 has_none ajar a q k e = ticket_none a q k e
 has_none (shut_by i v) a q k e =
     ticket_none a q k (sym (gate_else i v a q k (not_shut i v a q k e)) ∙ e)
 
--- who has the gate shut it
+-- the place that has the gate shut it
 pub has_gate : (g : Gate) (a : ℕ) (q : List ℕ) (k v : ℕ) → token_in g a q k ≡ Some (token.Gate v) → g ≡ shut_by k v
 has_gate ajar a q k v e = absurd (ticket_only a q k v e)
 has_gate (shut_by i w) a q k v e = dite (ℕ_discrete k i)
@@ -58,14 +58,14 @@ has_gate (shut_by i w) a q k v e = dite (ℕ_discrete k i)
     gate_number : ◌≡◌ {A = Option Token} (Some (token.Gate w)) (Some (token.Gate v)) → w ≡ v
     gate_number is = ap number is
 
--- who asks draws the next ticket, whoever has the gate
+-- a place that asks takes the next ticket, whatever place has the gate
 asks_here : (g : Gate) (a : ℕ) (q : List ℕ) (k : ℕ) → token_in g a q k ≡ None
     → token_in g a (q ++ k ∷ []) k ≡ Some (token.Ticket (a + length q))
 asks_here ajar a q k e = ticket_last a q k (ticket_none a q k e)
 asks_here (shut_by i v) a q k e =
     gate_else i v a (q ++ k ∷ []) k (not_shut i v a q k e) ∙ ticket_last a q k (has_none (shut_by i v) a q k e)
 
--- and the others keep what they have
+-- and the other places keep what they have
 asks_else : (g : Gate) (a : ℕ) (q : List ℕ) (k j : ℕ) → j ≢ k → token_in g a (q ++ k ∷ []) j ≡ token_in g a q j
 asks_else ajar a q k j ne = ticket_kept a q k j ne
 asks_else (shut_by i v) a q k j ne =
@@ -96,7 +96,7 @@ asks_kept (shut_by i v) first served a q k e h = record {
       let apart = h.apart in omega (arith, times-append i q (k ∷ []), apart, away);
 }
 
--- one turn more ended
+-- one more turn ended
 pub serves_kept : (g : Gate) (first served a : ℕ) (q : List ℕ) → IsKept first served a q g
     → IsKept first (served + 1) a q g
 serves_kept ajar first served a q h = tt
@@ -108,13 +108,13 @@ serves_kept (shut_by i v) first served a q h = record {
   apart = h.apart;
 }
 
--- who shuts the gate has it
+-- the place that shuts the gate has it
 pub shuts_tokens : (a : ℕ) (q : List ℕ) (k v : ℕ) (tokens : Tokens) → ((j : ℕ) → tokens j ≡ ticket_in a q j)
     → (j : ℕ)
     → given_to tokens k (Some (token.Gate v)) j ≡ token_in (shut_by k v) a q j
 shuts_tokens a q k v tokens are j = ap (λ (o : Option Token). cond (eqb j k) (Some (token.Gate v)) o) (are j)
 
--- and who opens it again has nothing
+-- and when it opens the gate again, it has nothing
 pub reopens_tokens : (a : ℕ) (q : List ℕ) (k v : ℕ) (tokens : Tokens)
     → ((j : ℕ) → tokens j ≡ token_in (shut_by k v) a q j)
     → times k q ≡ 0 → (j : ℕ) → given_to tokens k None j ≡ ticket_in a q j

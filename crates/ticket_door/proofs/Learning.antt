@@ -39,7 +39,7 @@ module _ {D : Type 0} where
 module _ {D : Type 0} (Initial : Bool → List ℕ → Type 0) (WordsFit : History D → Tokens → List ℕ
     → Type 0) (rest : Rest D)
     (ready : Ready D) (kinds : Kinds) where
-  -- `draws_ok` of the frame, where the place also learns the log
+  -- `draws_ok` of the frame, for a place that also learns the log
   pub draws_and_learns : (n slots id k i : ℕ) (f : History D) (o : Option Token) (g : ℕ → ℕ)
       (Then : History D → Option Token → ℕ → Type 0)
       → ((log : History D) (tokens : Tokens) (ws : List ℕ) → k < n → own k log.events ≡ own k f.events → tokens k ≡ o

@@ -13,7 +13,7 @@ use Rattle.door_frame.proofs.Departures.{told_out}
 use Rattle.ticket_door.specs.Meeting.{Meets}
 
 module _ {D : Type 0} where
-  -- what the seat of both stands for
+  -- the place views of the seat that has both places
   abbrev pub both_of : PlaceOut D → PlaceOut D → List (PlaceView D)
   both_of a b = knows b.place b.front None ∷ knows a.place a.front None ∷ []
 
@@ -22,7 +22,7 @@ module _ {D : Type 0} where
       → both ≡ (both_places m.0 n.0, m.1) → both ≡ (Places (both_of a b), [])
   joined a b p q is = is ∙ (λ i. (both_places (p i).0 (q i).0, (p i).1))
 
-  -- the seat of a is left, and that of b is cut off
+  -- the split leaves the seat of a, and cuts off that of b
   pub went_first : (a b : PlaceOut D) {rest : Rest D} {ready : Ready D} {h : History D} {k : ℕ} {m n : SeatState D}
       → k ≡ a.place
       → Learns rest ready h (both_of a b) m → n ≡ (places_behind m.0, m.1) → IsEmptyHanded k h n
@@ -38,7 +38,7 @@ module _ {D : Type 0} where
   told_by : (h : History D) (o : PlaceOut D) → Known h (knows o.place o.front None) → IsTold h o
   told_by h o k = record { begins = k.0; own_are = k.1 }
 
-  -- the place that was o, and learnt h
+  -- r is the place o after it learned h
   pub record Learnt (rest : Rest D) (ready : Ready D) (kinds : Kinds) (d : DoorId) (o : PlaceOut D) (h : History D)
       (r : PlaceOut D) : Type 0 where
     pub of : IsOut rest ready kinds d r

@@ -1,4 +1,4 @@
--- The first seat opens the door, by two looks at SERVING.
+-- The first seat opens the door, by two loads of SERVING.
 use Rattle.std.proofs.Common.{◌≡◌, ℕ, ◌+◌, ◌*◌, ◌<◌, ◌%◌, ◌^◌, true, false, List, [], ◌∷◌, set, length, length-set}
 use Rattle.std.proofs.Common.{get_or-set_same, Some, None, refl, sym, ap, ◌∙◌, subst, arith}
 use mathlib.Core.Option.{none}
@@ -22,7 +22,7 @@ use Rattle.door_frame.proofs.Steps as frame
 use Rattle.ticket_door.specs.Rule.{Initial, WordsFit, ajar, next_at, serving_at, bell_at}
 
 module _ {D : Type 0} (first n : ℕ) where
-  -- nobody asked and nobody is served
+  -- no place has a ticket, and none is served
   opened_tells : (kinds : Kinds) (s : D) (ws : List ℕ) → Initial first n true ws
       → WordsFit first n (opened (sizes_at kinds n) s) (λ _. None) ws
   unfolding turn admissions urgent called

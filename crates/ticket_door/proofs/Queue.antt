@@ -1,4 +1,4 @@
--- Tickets of the places that asked.
+-- Tickets of the places in the queue.
 use Rattle.std.proofs.Common.{◌≡◌, ◌≢◌, ℕ, suc, ◌+◌, ◌<◌, ◌≤◌, eqb, cond, List, [], ◌∷◌, ◌++◌, length, Option, Some}
 use Rattle.std.proofs.Common.{None, refl, sym, ap, ◌∙◌, subst, arith}
 use Rattle.std.proofs.Common.{eq-eqb, ne_eqb}
@@ -30,7 +30,7 @@ ticket_range a (j ∷ q) k x e = dite (ℕ_discrete k j)
     (λ ne. let r = ticket_range (suc a) q k x (sym (ticket_else a k j q ne) ∙ e) in
     (omega (arith, r.0), omega (arith, r.1)))
 
--- nobody in the queue has the gate
+-- the queue gives no place the gate
 pub ticket_only : (a : ℕ) (q : List ℕ) (k v : ℕ) → ticket_in a q k ≢ Some (Gate v)
 ticket_only a [] k v e = None≢Some (Gate v) e
 ticket_only a (j ∷ q) k v e = dite (ℕ_discrete k j)
@@ -38,14 +38,14 @@ ticket_only a (j ∷ q) k v e = dite (ℕ_discrete k j)
     cc)
     (λ ne. ticket_only (suc a) q k v (sym (ticket_else a k j q ne) ∙ e))
 
--- who has the first ticket stands first
+-- the place with the first ticket is first in the queue
 pub ticket_first : (a : ℕ) (q : List ℕ) (k : ℕ) → ticket_in a q k ≡ Some (Ticket a) → (rest : List ℕ) × (q ≡ k ∷ rest)
 ticket_first a [] k e = absurd (None≢Some (Ticket a) e)
 ticket_first a (j ∷ q) k e = dite (ℕ_discrete k j)
     (λ same. (q, λ i. sym same i ∷ q))
     (λ ne. let r = ticket_range (suc a) q k a (sym (ticket_else a k j q ne) ∙ e) in absurd (omega (arith, r.0)))
 
--- who has no ticket doesn't knows there
+-- a place without a ticket isn't in the queue
 pub ticket_none : (a : ℕ) (q : List ℕ) (k : ℕ) → ticket_in a q k ≡ None → times k q ≡ 0
 ticket_none a [] k e = refl
 ticket_none a (j ∷ q) k e = dite (ℕ_discrete k j)
@@ -59,7 +59,7 @@ none_ticket a (j ∷ q) k z = dite (ℕ_discrete k j)
     (λ same. absurd (omega (arith, z, subst (λ (i : ℕ). one k i ≡ 1) same (one_same k))))
     (λ ne. ticket_else a k j q ne ∙ none_ticket (suc a) q k (omega (arith, z)))
 
--- who asks stands last
+-- a place that asks is last in the queue
 pub ticket_last : (a : ℕ) (q : List ℕ) (k : ℕ) → times k q ≡ 0
     → ticket_in a (q ++ k ∷ []) k ≡ Some (Ticket (a + length q))
 ticket_last a [] k z = ticket_here a k k [] refl ∙ ap (λ (n : ℕ). Some (Ticket n)) (omega arith)
@@ -68,7 +68,7 @@ ticket_last a (j ∷ q) k z = dite (ℕ_discrete k j)
     (λ ne. ticket_else a k j (q ++ k ∷ []) ne ∙ ticket_last (suc a) q k (omega (arith, z))
     ∙ ap (λ (n : ℕ). Some (Ticket n)) (omega arith))
 
--- and the others keep theirs
+-- and the other places keep their tickets
 pub ticket_kept : (a : ℕ) (q : List ℕ) (k j : ℕ) → j ≢ k → ticket_in a (q ++ k ∷ []) j ≡ ticket_in a q j
 ticket_kept a [] k j ne = ticket_else a j k [] ne
 ticket_kept a (i ∷ q) k j ne = ap (λ (o : Option Token). cond (eqb j i) (Some (Ticket a)) o)

@@ -1,4 +1,4 @@
--- The pass "bells": who hands over rings, and who is rung comes back.
+-- Bells: a place that hands the monitor off rings a bell, and the place whose bell is rung returns.
 use Rattle.std.proofs.Common.{◌≡◌, ◌≢◌, ℕ, ◌+◌, ◌<◌, ◌%◌, ◌^◌, true, List, [], ◌∷◌, get_or, set, length, length-set}
 use Rattle.std.proofs.Common.{get_or-set_same, Option, Some, None, refl, sym, ap, ◌∙◌, subst, arith}
 use Rattle.std.proofs.lemmas.List.{get_or-set_other}
@@ -29,7 +29,7 @@ use Rattle.ticket_door.proofs.Turns.{for_next, rings_due, rung_else, rung_due, n
 use Rattle.ticket_door.proofs.Turns.{due_inside, still_outside}
 
 module _ {D : Type 0} (first n : ℕ) where
-  -- a bell has another number, where the turn is somebody's before and after
+  -- a bell has another number, and it is somebody's turn before and after
   rewritten : (f h : History D) (tokens : Tokens) (ws : List ℕ) (k y : ℕ) → k < n → taken (turn f.events) ≡ 1
       → taken (turn h.events) ≡ 1 → admissions h.events ≡ admissions f.events
       → rung (turn h.events) k ≡ y → ((j : ℕ) → j ≢ k → rung (turn h.events) j ≡ rung (turn f.events) j)
@@ -60,7 +60,7 @@ module _ {D : Type 0} (first n : ℕ) where
     abbrev K : Cells D → Type 0
     K = TableInvariant (Initial first n) (WordsFit first n) rest ready kinds n
 
-    -- who gives the monitor up where j is owed it rings j's bell
+    -- a place that releases the monitor to the place j rings j's bell
     pub gives_ring : (slots id k j : ℕ) (f : History D) (x : Guarded D) (event : D → Event D)
         (st : Step (Option (Guarded D)))
         → j < n → Gives rest ready event k f x (next.For j)

@@ -1,4 +1,4 @@
--- The pass "tickets": who asks draws the next ticket, who is served comes in, and who opens serves the next.
+-- Tickets: a place that asks takes the next ticket, a served place enters, and a place that opens serves the next.
 use Rattle.std.proofs.Common.{◌≡◌, ℕ, suc, ◌+◌, ◌*◌, ◌<◌, ◌≤◌, ◌%◌, ◌^◌, true, List, [], ◌∷◌, ◌++◌, get_or, set, length}
 use Rattle.std.proofs.Common.{◌≢◌, ◌⊎◌, inl, inr, false, true≢false, length-set, length-append}
 use Rattle.std.proofs.Common.{get_or-set_same, Option, Some, None, refl, sym, ap, ◌∙◌, subst, arith}
@@ -56,7 +56,7 @@ module _ {D : Type 0} (first n : ℕ) where
       (all_more (λ (j : ℕ). j < n) t.queue k small t.below) in
       let one_more = length-append t.queue (k ∷ []) in omega (arith, most, one_more)
 
-  -- NEXT is near who is served: each place asked once, but for the one whose turn it is
+  -- NEXT is near the served ticket: each place is in the queue at most once, and the place whose turn it is isn't in it
   pub near : {log : History D} {tokens : Tokens} {ws : List ℕ} → IsLegal log → log.sizes.places ≡ n
       → (t : WordsFit first n log tokens ws)
       → admissions log.events + length t.queue ≤ t.served + n
@@ -106,7 +106,7 @@ module _ {D : Type 0} (first n : ℕ) where
         bells = λ j b. get_or-set_other ws next_at (bell_at j) _ 0 (λ e. omega (arith, e)) ∙ t.bells j b;
       }
 
-  -- the first of the queue is let in
+  -- the first of the queue is admitted
   looked : (log : History D) (tokens : Tokens) (ws : List ℕ) (k : ℕ) (rest : List ℕ) (s : D)
       → (t : WordsFit first n log tokens ws) → t.gate ≡ ajar → t.queue ≡ k ∷ rest → turn log.events ≡ Free
       → turn (with_event log (Admit k s)).events ≡ Held k
@@ -147,7 +147,7 @@ module _ {D : Type 0} (first n : ℕ) where
         bells = λ j b. t.bells j b ∙ (ap (λ (u : Turn). rung u j) free ∙ sym (ap (λ (u : Turn). rung u j) held));
       })
 
-  -- the next is served
+  -- the next ticket is served
   next_served : (f : History D) (e : Event D) (tokens : Tokens) (ws : List ℕ) (k : ℕ) → place_of e ≡ k
       → turn f.events ≡ Held k
       → turn (with_event f e).events ≡ Free
@@ -203,7 +203,7 @@ module _ {D : Type 0} (first n : ℕ) where
     abbrev K : Cells D → Type 0
     K = TableInvariant (Initial first n) (WordsFit first n) rest ready kinds n
 
-    -- o is the next ticket, taken as NEXT was r: the log has not admitted it, and fewer than n are ahead of it
+    -- o is the next ticket, taken when NEXT was r: the log has not admitted it, and fewer than n are ahead of it
     abbrev IsNext : History D → Option Token → ℕ → Type 0
     IsNext log o r =
         (x : ℕ) × (o ≡ Some (token.Ticket x)) × (r ≡ (first + x) % 2 ^ 64) × (admissions log.events ≤ x)
@@ -324,7 +324,7 @@ module _ {D : Type 0} (first n : ℕ) where
         (λ i. (sym is i, same i))
         (looks_ok slots id k x f st few out)
 
-    -- who gives the monitor up where nobody is owed it opens to the next
+    -- a place that releases the monitor, if no place resumes, opens it to the next ticket
     pub gives_open : (slots id k : ℕ) (f : History D) (x : Guarded D) (event : D → Event D)
         (st : Step (Option (Guarded D)))
         → Gives rest ready event k f x next.Free
@@ -347,7 +347,7 @@ module _ {D : Type 0} (first n : ℕ) where
         is)
         (gives_open slots id k f x event st p)
 
-    -- who is inside calls others: a look at SERVING
+    -- the place inside notifies others, by a load of SERVING
     pub notes_at : (slots id k : ℕ) (f : History D) (event : History D → Event D)
         (st : Step (Option (Guarded D))) (m : SeatState D)
         → m ≡ (alone k f, (0, None) ∷ []) → Notes rest ready (event f) k f

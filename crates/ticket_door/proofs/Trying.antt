@@ -1,4 +1,4 @@
--- A place tries: it shuts the gate, is let in where nobody asked, and opens the gate again.
+-- A place tries to enter: it shuts the gate, is admitted if no place has a ticket, and opens the gate again.
 use Rattle.std.proofs.Common.{◌≡◌, ◌≢◌, ℕ, ◌+◌, ◌-◌, ◌*◌, ◌<◌, ◌≤◌, ◌%◌, ◌^◌, eqb, true, List, [], ◌∷◌, set}
 use Rattle.std.proofs.Common.{get_or, length, length-set, get_or-set_same, Option, Some, None, refl, sym, ap, ◌∙◌}
 use Rattle.std.proofs.Common.{subst, arith, eq-eqb, ne_eqb, Bool, false}
@@ -37,7 +37,7 @@ use Rattle.ticket_door.specs.Steps.{shuts, tries, TriesAt, reopens}
 use Rattle.ticket_door.proofs.Gate.{has_none, has_gate, shuts_tokens, reopens_tokens}
 use Rattle.ticket_door.proofs.Turns.{taken_le, taken_free, next_word, even_ajar, open_bit, shut_word, open_word}
 
--- a word after an exchange that expects v
+-- a word after a compare-exchange that expects v
 abbrev pub changed : ℕ → ℕ → ℕ → ℕ
 changed v new x = either (eqb x v) new x
 
@@ -47,7 +47,7 @@ changed-hit v new x hit = ap (λ b. either b new x) (eq-eqb x v hit)
 changed-miss : (v new x : ℕ) → x ≢ v → changed v new x ≡ x
 changed-miss v new x miss = ap (λ b. either b new x) (ne_eqb x v miss)
 
--- who has the number of a gate
+-- the number of the gate that a token has, else d
 abbrev gate_number : ℕ → Option Token → ℕ
 gate_number d (Some (token.Gate v)) = v
 gate_number d _ = d
@@ -55,7 +55,7 @@ gate_number d _ = d
 gate_is : (v w : ℕ) → ◌≡◌ {A = Option Token} (Some (token.Gate v)) (Some (token.Gate w)) → v ≡ w
 gate_is v w e = ap (gate_number v) e
 
--- where NEXT has the ticket that was served when the gate was shut, nobody asked and no turn began since
+-- if NEXT is the ticket that was served when the gate was shut, no place has a ticket, and no turn began since
 record IsStill (since served admitted waiting : ℕ) : Type 0 where
   pub here : admitted ≡ since
   pub now : served ≡ since
@@ -120,7 +120,7 @@ module _ {D : Type 0} (first n : ℕ) where
         bells = λ j b. get_or-set_other ws serving_at (bell_at j) _ 0 (λ e. omega (arith, e)) ∙ t.bells j b;
       }
 
-  -- k has it no longer
+  -- k no longer has the gate
   gate_open : (log : History D) (tokens : Tokens) (ws : List ℕ) (k v : ℕ) → tokens k ≡ Some (token.Gate v)
       → WordsFit first n log tokens ws
       → WordsFit first n log (given_to tokens k None)
@@ -151,7 +151,7 @@ module _ {D : Type 0} (first n : ℕ) where
         bells = λ j b. get_or-set_other ws serving_at (bell_at j) _ 0 (λ e. omega (arith, e)) ∙ t.bells j b;
       }
 
-  -- who has the gate is let in: it draws the ticket that is served
+  -- the place that has the gate is admitted: it takes the ticket that is served
   tried : (log : History D) (tokens : Tokens) (ws : List ℕ) (k v w : ℕ) (s : D)
       → (t : WordsFit first n log tokens ws) → (by : t.gate ≡ shut_by k v)
       → (kept : CloseGate first k v t.served (admissions log.events) t.queue)
@@ -204,7 +204,7 @@ module _ {D : Type 0} (first n : ℕ) where
     abbrev K : Cells D → Type 0
     K = TableInvariant (Initial first n) (WordsFit first n) rest ready kinds n
 
-    -- what the word that is found says of the token then
+    -- what the value found says of the token then
     abbrev IsShutAt : ℕ → Option Token → ℕ → Type 0
     IsShutAt v o r = ((r ≡ v → ⊥) → o ≡ None) × (r ≡ v → o ≡ Some (token.Gate v))
 
@@ -357,14 +357,14 @@ module _ {D : Type 0} (first n : ℕ) where
         (reopens_ok slots id k v f c st)
 
 module _ {D : Type 0} {rest : Rest D} {ready : Ready D} {k v : ℕ} {m m' : SeatState D} where
-  -- who tried still has the gate, let in or not
+  -- a place that tried still has the gate, admitted or not
   pub still_has : (let_in : Bool) (f : History D) → IsTrying k f v m → (let_in ≡ false → m' ≡ m)
       → (let_in ≡ true → IsAdmitted rest ready k v m m')
       → HasGate m'
   still_has false f is missed hit = (k, f, v, [], missed refl ∙ is)
   still_has true f is missed hit = let t = hit refl f is in (k, _, v, _, t.1.me_is)
 
-  -- who was let in has no token, once the gate is open
+  -- an admitted place has no token, once the gate is open
   pub came_by : {f : History D} {x : Guarded D} → EnteredWith rest ready (Some (token.Gate v)) k f (Admit k) x (Some x)
       m
       → Reopened m m'

@@ -1,4 +1,4 @@
--- Whose turn it is, and what SERVING and the bells have of it.
+-- Whose turn it is, and what SERVING and the bells are then.
 use Rattle.std.proofs.Common.{◌≡◌, ◌≢◌, ℕ, ◌+◌, ◌-◌, ◌*◌, ◌<◌, ◌≤◌, ◌%◌, ◌^◌, true, false, List, refl, sym, ap, ◌∙◌}
 use Rattle.std.proofs.Common.{subst, arith, ne_eqb, true≢false}
 use mathlib.Core.Logic.{dite}
@@ -41,7 +41,7 @@ free_next (Held k) e = absurd (cc)
 free_next (Owed k c) e = absurd (cc)
 free_next (Return k) e = absurd (cc)
 
--- the bell of who is owed the monitor is the one that rings
+-- if the place j is due, its bell is rung, and no other is
 pub record Rings (j : ℕ) (t : Turn) : Type 0 where
   pub busy : taken t ≡ 1
   pub here : rung t j ≡ 1
@@ -68,14 +68,14 @@ bell_else j k n =
 bell_due : (j k : ℕ) → one j k ≡ 1 → j ≡ k
 bell_due j k e = dite (ℕ_discrete j k) (λ same. same) (λ ne. absurd (omega (arith, one_apart j k (ne_eqb j k ne), e)))
 
--- a bell that doesn't ring is silent
+-- a bell that isn't rung is silent
 pub rung_else : (t : Turn) (k : ℕ) → rung t k ≢ 1 → rung t k ≡ 0
 rung_else Free k n = refl
 rung_else (Held j) k n = refl
 rung_else (Owed j c) k n = bell_else j k n
 rung_else (Return j) k n = bell_else j k n
 
--- who hears its bell is due
+-- a place whose bell is rung is due
 pub rung_due : (t : Turn) (k : ℕ) → rung t k ≡ 1 → IsDue k t
 rung_due Free k e = absurd (omega (arith, e))
 rung_due (Held j) k e = absurd (omega (arith, e))
@@ -91,7 +91,7 @@ pub due_inside : {D : Type 0} (h : History D) (k : ℕ) → IsLegal h → IsDue 
 due_inside h k legal (owed c is) = outside-owed h k c legal is
 due_inside h k legal (returning is) = outside-returning h.events k is
 
--- who asked is outside still where a place acts that isn't
+-- the places with a ticket are still outside after an event of a place that wasn't outside
 pub still_outside : {D : Type 0} (f : History D) (e : Event D) (k : ℕ) (q : List ℕ) → place_of e ≡ k
     → outside k f.events ≡ false → ((j : ℕ) → 0 < times j q → outside j f.events ≡ true) → (j : ℕ) → 0 < times j q
     → outside j (with_event f e).events ≡ true
@@ -101,7 +101,7 @@ still_outside f e k q mine inside out j some =
     true≢false (sym (out j some) ∙ ap (λ i. outside i f.events) (sym same ∙ mine) ∙ inside) in
     outside-other j f.events e apart ∙ out j some
 
--- nobody is admitted where the turn isn't free
+-- nobody is admitted if the turn isn't free
 pub no_admit : {D : Type 0} (f : History D) (e : Event D) → Allowed f e → turn f.events ≢ Free → is_admit e ≡ false
 no_admit f (Admit k s) may busy = absurd (busy may.fits.0)
 no_admit f (Wait k c p s) may busy = refl
@@ -128,7 +128,7 @@ next_turn first x b =
     mod-add-mod (2 * (first + x) + b) (2 ^ 64) 2
     ∙ ap (λ n. n % 2 ^ 64) (let same : 2 * (first + x) + b + 2 ≡ 2 * (first + (x + 1)) + b = omega arith in same)
 
--- a ticket not far ahead of who is served has the word of who is served only if it is it
+-- if a ticket not far ahead of the served ticket has the same value of SERVING, it is the served ticket
 pub served_only : (first served x : ℕ) → served ≤ x → x < served + 66
     → (2 * (first + served)) % 2 ^ 64 ≡ (2 * (first + x)) % 2 ^ 64
     → served ≡ x
@@ -142,7 +142,7 @@ pub even_ajar : (a b : ℕ) (g : Gate) → (2 * a + shut g) % 2 ^ 64 ≡ (2 * b)
 even_ajar a b ajar e = refl
 even_ajar a b (shut_by k v) e = absurd (omega (arith, e))
 
--- the gate's bit is set, and taken off again
+-- the gate's bit is set, and cleared again
 pub shut_word : (a : ℕ) → (2 * a) % 2 ^ 64 + 1 ≡ (2 * a + 1) % 2 ^ 64
 shut_word a = omega arith
 

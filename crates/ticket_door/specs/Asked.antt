@@ -1,4 +1,4 @@
--- A place that asked, as a contract sees it, and when it comes in.
+-- A place with a ticket, as a contract sees it, and when it enters.
 use Rattle.std.specs.Prelude.{◌≡◌, ℕ, ◌+◌, ◌%◌, ◌^◌, ◌<◌, ◌≤◌, true, List, [], ◌∷◌, ◌++◌, Some}
 use Rattle.atomic_table.specs.Seated.{TableId}
 use Rattle.hoare_law.specs.declared.event.Event.{Event}
@@ -25,7 +25,7 @@ pub record TicketDoorId : Type 0 where
 abbrev pub ticket_door : TableId → Sizes → List TableId → TicketDoorId
 ticket_door z key ws = record { door = door_of z key.places ws; first = key.first }
 
--- a place that asked: number counts the tickets from 0, and ticket is that number with the first ticket added, modulo
+-- a place with a ticket: `number` counts the tickets from 0, and `ticket` is `number` plus the first ticket, modulo
 -- 2^64
 pub record PlaceAsked (D : Type 0) : Type 0 where
   pub place_id : PlaceId
@@ -45,24 +45,25 @@ module _ {D : Type 0} where
   abbrev pub as_out : PlaceAsked D → PlaceOut D
   as_out a = place_out a.place_id a.place a.front
 
-  -- it was let in by its ticket, as number x of all that are, and the slot with what lies in it is its own
+  -- the place k was admitted by its ticket, as admission x, counted from 0, and has the slot with its contents
   abbrev pub IsServed : Rest D → Ready D → ℕ → SeatState D → SeatState D → Type 0
   IsServed rest ready k me me' =
       (f : History D) (x : ℕ) → IsAsking k f x me
       → (y : Guarded D) × (c : EnteredBy rest ready k f (Admit k) y (Some y) me') × (admissions c.log.events ≡ x)
 
   module _ (rest : Rest D) (ready : Ready D) (kinds : Kinds) where
-    -- it is of the door and outside, and its ticket is of its number. In its front, the history that it learned with
-    -- the ticket, that ticket isn't admitted yet, and of the earlier ones fewer than the door has places still wait
+    -- the place is of the door and outside, and its ticket fits its number. In its front, the history that it learned
+    -- with the ticket, that ticket isn't admitted yet, and fewer of the earlier tickets still wait than the door has
+    -- places
     pub record IsAsked (d : TicketDoorId) (a : PlaceAsked D) : Type 0 where
       pub out : IsOut rest ready kinds d.door (as_out a)
       pub ticket_is : a.ticket ≡ (d.first + a.number) % 2 ^ 64
       pub not_yet : admissions a.front.events ≤ a.number
       pub few : a.number < admissions a.front.events + d.door.places
 
-  -- the place a, which asked, is inside as i. To the history that it learned with its ticket these later events were
-  -- added, none its own, and then its admission: they admit exactly those still ahead of it, fewer than the door has
-  -- places
+  -- the place a, which had a ticket, is inside as i. To the history that it learned with the ticket, `later` was added,
+  -- with no event of a, and then its admission. `later` admits exactly the tickets still ahead of it, which are fewer
+  -- than the door has places
   pub record WaitsBehind (places : ℕ) (a : PlaceAsked D) (i : PlaceIn D) : Type 0 where
     pub later : List (Event D)
     pub is : i.front.events ≡ a.front.events ++ later ++ Admit a.place i.state ∷ []
@@ -70,8 +71,8 @@ module _ {D : Type 0} where
     pub ahead : admissions a.front.events + admissions later ≡ a.number
     pub few : admissions later < places
 
-  -- h ends with an admission, and it is the one that is due to the ticket: the i-th, counted from 0, has the ticket
-  -- first + i
+  -- h ends with an admission, the one that is due to the ticket: admission i, counted from 0, has the ticket first + i,
+  -- modulo 2^64
   pub record EntersBy (first ticket : ℕ) (h : History D) : Type 0 where
     pub before : History D
     pub event : Event D

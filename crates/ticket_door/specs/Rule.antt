@@ -12,7 +12,7 @@ use Rattle.door_frame.specs.Rule.{Tokens}
 use Rattle.hoare_law.specs.Admissions.{admissions}
 use Rattle.ticket_door.specs.Queue.{ticket_in}
 
--- where each word stands: one to a line of the cache
+-- the index of each word: each has a cache line of its own
 abbrev pub next_at : ℕ
 next_at = 8
 
@@ -22,34 +22,35 @@ serving_at = 0
 abbrev pub bell_at : ℕ → ℕ
 bell_at k = 8 * k + 16
 
--- 1 where it is somebody's turn, else 0
+-- 1 if it is somebody's turn, else 0
 abbrev pub taken : Turn → ℕ
 taken Free = 0
 taken _ = 1
 
--- the bell of place k, by whose turn it is: 1 where the monitor is owed to k, or returns to it
+-- the bell of place k, given the turn: 1 if the monitor is owed to k, or returns to it, else 0
 abbrev pub rung : Turn → ℕ → ℕ
 rung Free k = 0
 rung (Held j) k = 0
 rung (Owed j c) k = one j k
 rung (Return j) k = one j k
 
--- who has the gate: nobody, so that newcomers come in, or the place k, which tries, and shut it where SERVING was v
+-- the holder of the gate: nobody, so that polls admit entering threads; or the place k, which tries, and shut it when
+-- SERVING was v
 pub data Gate : Type 0 where
   ajar : Gate
   shut_by : ℕ → ℕ → Gate
 
--- what SERVING has more while it is shut
+-- what is added to SERVING while the gate is shut
 abbrev pub shut : Gate → ℕ
 shut ajar = 0
 shut (shut_by k v) = 1
 
--- the token of place j: who shut the gate has it, and the others have their tickets
+-- the token of place j: the gate if it shut the gate, else its ticket, if it has one
 abbrev pub token_in : Gate → ℕ → List ℕ → ℕ → Option Token
 token_in ajar a queue j = ticket_in a queue j
 token_in (shut_by k v) a queue j = if j == k then Some (token.Gate v) else ticket_in a queue j
 
--- since the place k shut the gate nobody else was let in: so at most one turn ended, and k didn't ask
+-- no other place was admitted since the place k shut the gate: so at most one turn ended. And k has no ticket
 pub record CloseGate (first k v served admitted : ℕ) (queue : List ℕ) : Type 0 where
   pub since : ℕ
   pub word : v ≡ (2 * (first + since)) % 2 ^ 64
@@ -61,35 +62,36 @@ abbrev pub IsKept : ℕ → ℕ → ℕ → List ℕ → Gate → Type 0
 IsKept first served admitted queue ajar = Unit {0}
 IsKept first served admitted queue (shut_by k v) = CloseGate first k v served admitted queue
 
--- before the door opens
+-- the words before the door opens
 pub record Initial (first n : ℕ) (begun : Bool) (words : List ℕ) : Type 0 where
   pub words_are : length words ≡ 8 * n + 16
   pub next : slice_index words next_at ≡ first % 2 ^ 64
   pub serving : slice_index words serving_at ≡ (2 * first) % 2 ^ 64
   pub bells : (k : ℕ) → k < n → slice_index words (bell_at k) ≡ 0
 
--- of a door with n places whose first ticket is `first`. Tickets are counted from 0; NEXT has them with `first` added,
--- modulo 2^64, and SERVING twice that, modulo 2^64, so that it has a bit for the gate
+-- the words of a door with n places whose first ticket is `first`. Tickets are counted from 0; NEXT has a ticket's
+-- number plus `first`, modulo 2^64, and SERVING twice that, modulo 2^64, so that it has a bit for the gate
 pub record WordsFit {D : Type 0} (first n : ℕ) (log : History D) (tokens : Tokens) (words : List ℕ) : Type 0 where
   pub words_are : length words ≡ 8 * n + 16
-  -- who asked, in the order of tickets: from the number of those let in on, each once, and all outside. So NEXT is at
-  -- most n ahead of who is served (`near` of proofs/Serving), whether by who asked or by who tries
+  -- the places with a ticket, in ticket order, from the number of admissions on: each is in the queue at most once, and
+  -- is outside. So NEXT is at most n ahead of the ticket that is served (`near` of proofs/Serving), counting `ask` and
+  -- `try_enter`
   pub queue : List ℕ
   pub once : (k : ℕ) → times k queue ≤ 1
   pub below : (k : ℕ) → 0 < times k queue → k < n
   pub are_outside : (k : ℕ) → 0 < times k queue → outside k log.events ≡ true
-  -- who has the gate
+  -- the holder of the gate
   pub gate : Gate
   pub tokens_are : (k : ℕ) → tokens k ≡ token_in gate (admissions log.events) queue k
   pub next : slice_index words next_at ≡ (first + (admissions log.events + length queue)) % 2 ^ 64
-  -- how often the monitor was opened to newcomers: as often as one was let in, but for the turn that lasts
+  -- how often the monitor was opened to entering threads: the number of admissions, less one while a turn lasts
   pub served : ℕ
   pub due : served + taken (turn log.events) ≡ admissions log.events
   pub serving : slice_index words serving_at ≡ (2 * (first + served) + shut gate) % 2 ^ 64
   pub kept : IsKept first served (admissions log.events) queue gate
   pub bells : (k : ℕ) → k < n → slice_index words (bell_at k) ≡ rung (turn log.events) k
 
--- the door's sizes: how many words and slots its table has, how many places there are, and how many wakers
+-- the door's sizes: the number of words and slots of its table, of its places, and of their wakers
 pub record Sized (words slots places wakers : ℕ) : Type 0 where
   pub words_are : words ≡ 8 * places + 16
   pub slots_are : slots ≡ 1

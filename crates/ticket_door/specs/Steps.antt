@@ -1,4 +1,4 @@
--- What each step tells that another door doesn't have: of the step, the seat before, the number found and the seat
+-- The contracts of the steps that only this door has: of the step, the seat before, the number found and the seat
 -- after.
 use Rattle.std.specs.Prelude.{◌≡◌, ℕ, ◌+◌, ◌*◌, ◌%◌, ◌^◌, ◌<◌, ◌≤◌, [], ◌∷◌, Some}
 use Rattle.hoare_law.specs.declared.event.History.{History}
@@ -12,7 +12,7 @@ use Rattle.hoare_law.specs.Admissions.{admissions}
 
 module _ {D : Type 0} where
   -- the place k, which knew f, took ticket number x, and learned the history g: there that ticket isn't admitted yet,
-  -- and of the earlier ones fewer than the door has places still wait
+  -- and fewer of the earlier tickets still wait than the door has places
   pub record TakesTicket (rest : Rest D) (ready : Ready D) (places k : ℕ) (f g : History D) (x : ℕ)
       (me : SeatState D) : Type 0 where
     pub learns : Learns rest ready g (knows k f (Some (Ticket x)) ∷ []) me
@@ -25,7 +25,7 @@ module _ {D : Type 0} where
       (k : ℕ) (f : History D) → m ≡ (alone k f, [])
       → (g : History D) × (x : ℕ) × TakesTicket rest ready places k f g x m' × (r ≡ (first + x) % 2 ^ 64)
 
-  -- a look of the place k with the ticket x: where it is served, k is let in, as number x of all that are
+  -- a poll by the place k with the ticket x: if it is served, k is admitted, as admission x, counted from 0
   abbrev pub LooksAt : ℕ → Rest D → Ready D → ℕ → History D → ℕ → SeatState D → ℕ → SeatState D → Type 0
   LooksAt first rest ready k f x =
       EntryStep rest ready (λ r. r ≡ (2 * (first + x)) % 2 ^ 64) (λ log. admissions log.events ≡ x) k f (Admit k)
@@ -34,14 +34,14 @@ module _ {D : Type 0} where
   looks first rest ready st m r m' =
       (k : ℕ) (f : History D) (x : ℕ) → m ≡ (asking k f x, []) → LooksAt first rest ready k f x m r m'
 
-  -- a place shuts the gate, where SERVING is v
+  -- a place shuts the gate if SERVING is v
   abbrev pub ShutsAt : ℕ → ℕ → History D → SeatState D → ℕ → SeatState D → Type 0
   ShutsAt v k f m r m' = ((r ≡ v → ⊥) → m' ≡ m) × (r ≡ v → m' ≡ (trying k f v, []))
 
   abbrev pub shuts : StepContract D
   shuts st m r m' = (k : ℕ) (f : History D) → m ≡ (alone k f, []) → ShutsAt st.first k f m r m'
 
-  -- the place k, which shut it there, is let in, where NEXT is w
+  -- the place k, which shut the gate when SERVING was v, is admitted if NEXT is w
   abbrev pub TriesAt : ℕ → Rest D → Ready D → ℕ → History D → ℕ → SeatState D → ℕ → SeatState D → Type 0
   TriesAt w rest ready k f v = EntryStepWith rest ready (Some (Gate v)) (λ r. r ≡ w) (λ log. Unit {0}) k f (Admit k)
 
@@ -49,11 +49,11 @@ module _ {D : Type 0} where
   tries rest ready st m r m' =
       (k : ℕ) (f : History D) (v : ℕ) → m ≡ (trying k f v, []) → TriesAt st.first rest ready k f v m r m'
 
-  -- it opens the gate again
+  -- the place that shut the gate opens it again
   abbrev pub reopens : StepContract D
   reopens st m r m' = Reopened m m'
 
-  -- a place hears its bell
+  -- a place takes its bell
   abbrev pub HearsAt : Rest D → Ready D → ℕ → History D → SeatState D → ℕ → SeatState D → Type 0
   HearsAt rest ready k f = EntryStep rest ready (λ r. r ≡ 1) (λ log. Unit {0}) k f (due k f)
 

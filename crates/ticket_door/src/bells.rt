@@ -1,5 +1,6 @@
-//! Who gives the monitor up opens the door to newcomers, or rings a bell and wakes who goes on then. Why so no wake is
-//! lost stands at `door_frame::parking`: the word of each place is its bell.
+//! Releasing the monitor. The releasing thread serves the next ticket; or it rings the bell of the place that resumes,
+//! and wakes that place. `door_frame::parking` has the reason why no wake-up is lost: the word of each place is its
+//! bell.
 ghost use Rattle.std.specs.Prelude.{◌≡◌, ◌<◌};
 ghost use Rattle.wait_book.specs.Contents.{IsPlaceBelow};
 ghost use Rattle.wait_book.specs.declared.steps.Next.TheVariants.{For, Free};
@@ -19,8 +20,10 @@ use hoare_law::data::MonitorData;
 use wait_book::steps::Next;
 
 impl<D: MonitorData> RawTicketDoor<D> {
-    /// Gives the parcel back by an event that the call picks. `departure` is there for the pick alone.
-    #[inline(always)] // a plain leave is short where it knows that nobody goes on
+    /// Puts the parcel back and releases the monitor, by the event that `J` picks: to the next ticket if `next` is
+    /// `Free`, else to the place that resumes. The result shows which place was woken, if any. `departure` is there
+    /// only for the pick.
+    #[inline(always)] // a plain leave is short if the compiler sees that no place resumes
     pub(crate) fn give<J: PickedEvent<D>>(
         &self,
         seat: &mut DoorSeat<D>,
@@ -46,7 +49,7 @@ impl<D: MonitorData> RawTicketDoor<D> {
         }
     }
 
-    /// Gives the parcel back where nobody goes on: the next ticket is served.
+    /// Puts the parcel back if no place resumes: the next ticket is served, and its thread is woken if it is parked.
     #[inline(always)] // as `give` is, which calls it
     fn open<J: PickedEvent<D>>(&self, seat: &mut DoorSeat<D>, parcel: Parcel<D>, place: usize)
         requires table { seat.old.table_id ≡ self.now.door.table }
@@ -59,7 +62,7 @@ impl<D: MonitorData> RawTicketDoor<D> {
         self.wake_next();
     }
 
-    /// Gives the parcel to who goes on, rings that place's bell, and wakes it.
+    /// Puts the parcel back for the place `resumed`, rings that place's bell, and wakes it.
     #[inline(never)] // apart, so that a plain leave stays small
     fn ring<J: PickedEvent<D>>(
         &self,
@@ -82,8 +85,8 @@ impl<D: MonitorData> RawTicketDoor<D> {
         self.wake(seat, resumed)
     }
 
-    /// A look at the word by which the place inside comes to know of an event that the call picks. What is found isn't
-    /// looked at. `parcel` and `notice` are there for the pick alone.
+    /// Adds the event that `J` picks to the door's history, by one load of SERVING, for the place inside. The value
+    /// found isn't used. `parcel` and `notice` are there only for the pick.
     #[inline]
     pub(crate) fn tell<J: PickedNotice<D>>(
         &self,
@@ -100,7 +103,7 @@ impl<D: MonitorData> RawTicketDoor<D> {
         self.table.shared.load::<Note<J>>(seat, SERVING);
     }
 
-    /// Wakes a place, or lets its next sleep return at once.
+    /// Wakes `place`, or lets its next park return at once. The caller has released the monitor.
     fn wake(&self, seat: &DoorSeat<D>, place: usize) -> Woken
         requires below { place < self.now.door.places }
         requires given_up { HasReleased seat.now.me }

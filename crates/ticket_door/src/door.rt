@@ -1,4 +1,4 @@
-//! The running door, and its turnstile.
+//! The ticket door for running threads, and its raw monitor.
 
 use crate::parked::Parked;
 use crate::rule::TicketTable;
@@ -8,30 +8,31 @@ use door_frame::waking::Waker;
 use hoare_law::data::MonitorData;
 use std::marker::Model;
 
-/// A monitor for running threads, in which newcomers come in by the order of their tickets: it implements `Monitor`.
-/// Threads share it by reference, each with its own place.
+/// A monitor for running threads, which enter in the order of their tickets. It implements `Monitor`. Threads share it
+/// by reference, each with its own place.
 ///
-/// After `make` no call takes memory. A door can be dropped where its data can, and then its data are dropped too;
-/// `close` gives them back.
+/// No call after `make` allocates memory. A door can be dropped if its data can; the data are then dropped too. `close`
+/// returns them.
 ///
 /// ```rust
 /// let data = Unasked::<u64, 1> { value: 41 };
 /// let (door, mut outs) = TicketDoor::make(alloc, data, 2).map_err(|(_, refused)| refused)?;
-/// let asked = door.ask(outs.pop().unwrap()); // waits for nobody
+/// let asked = door.ask(outs.pop().unwrap()); // non-blocking
 /// let mut inside = door.come_in(&rt, asked);
 /// TicketDoor::state_mut(&mut inside, &door).value = 42;
-/// outs.push_reserved(door.give_up(inside)); // waits for nobody
+/// outs.push_reserved(door.give_up(inside)); // non-blocking
 /// assert_eq!(rt; door.close(outs).value, 42);
 /// ```
 pub type TicketDoor<D> = RunningMonitor<RawTicketDoor<D>>;
 
-/// The turnstile of a `TicketDoor`: its words, its slot, and what wakes its places. Its calls are the door's too.
+/// The raw monitor of a `TicketDoor`: its words, its slot, and what wakes its places. A `TicketDoor` has its calls too.
 #[derive(Drop)]
 pub struct RawTicketDoor<D: MonitorData> {
-    /// What its words say, and who changes them to what, is a table of the crate's README. Each has a line of the cache
-    /// of its own. An entering thread parks on the word behind a bell, which stays 0.
+    /// The words and the slot. The crate's README has a table of what each word says, and which thread changes it to
+    /// what. Each of these words has a cache line of its own. An entering thread parks on the word next to a bell,
+    /// which stays 0.
     pub(crate) table: TicketTable<D>,
-    /// What wakes each place, in order.
+    /// What wakes each place, in the order of the places.
     pub(crate) wakers: Vec<Waker>,
     /// The entering threads that are parked.
     pub(crate) parked: CachePadded<Parked>,

@@ -1,4 +1,4 @@
-//! How a door is opened, also with another first ticket.
+//! How a door is opened, with 0 or another first ticket.
 ghost use Rattle.std.specs.Prelude.{◌≡◌, ◌≤◌, ◌<◌, ◌⊎◌, [], false, IfOk, IfErr, None, Some, All};
 ghost use Rattle.hoare_law.specs.Events.{opened};
 ghost use Rattle.hoare_law.specs.Sizes.{kinds_of, sizes_of};
@@ -25,7 +25,8 @@ use hoare_law::monitor::Monitor;
 use std::alloc::{AllocError, Global};
 use wait_book::steps::MakeRefused;
 
-/// NEXT is the first ticket, SERVING twice that, with the gate open, and no bell was rung.
+/// Returns the words of a new door: NEXT is `first`, SERVING is twice that, modulo 2^64, with the gate open, and no
+/// bell is rung. Fails if the allocation failed.
 fn first_words(alloc: Global, places: usize, first: u64) -> Result<Vec<u64>, AllocError>
     requires { places ≤ 64 }
     ensures { IfOk result (λ w. Initial first places false w.items) }
@@ -36,7 +37,8 @@ fn first_words(alloc: Global, places: usize, first: u64) -> Result<Vec<u64>, All
     Ok(words)
 }
 
-/// The door opens: the first seat takes the empty slot, and gives it back with the data. Both steps are looks.
+/// Opens the door: `seat`, the first, takes the empty slot, and returns it with the data. Both steps are loads of
+/// SERVING.
 fn open<D: MonitorData>(table: &TicketTable<D>, seat: &mut DoorSeat<D>, parcel: Parcel<D>)
     requires table { (seat.old.table_id ≡ table.now.shared.table_id)
         × (0 < table.now.shared.table_id.words) }
@@ -55,8 +57,8 @@ fn open<D: MonitorData>(table: &TicketTable<D>, seat: &mut DoorSeat<D>, parcel: 
     table.shared.load::<Open<KindsOf<D>>>(seat, SERVING);
 }
 
-/// Creates a turnstile of its parts, with this first ticket, opened with the data, and its places, in order. Returns
-/// the data if an allocation failed.
+/// Creates a raw monitor from `parts`, with `first` as its first ticket and opened with the data, and its places, in
+/// order. Returns the data if an allocation failed.
 pub(crate) fn open_at<D: MonitorData>(
     alloc: Global,
     parts: Parts<D>,
@@ -94,7 +96,8 @@ pub(crate) fn open_at<D: MonitorData>(
     Ok((raw_monitor, outs))
 }
 
-/// `TicketDoor::make`, with this first ticket.
+/// Creates a door as `TicketDoor::make` does, but with `first` as its first ticket, and its places, in order. Refuses
+/// as `make` does, and then returns `state` too.
 pub fn make_at<D: MonitorData + Send>(
     alloc: Global,
     state: D,

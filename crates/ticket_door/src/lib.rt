@@ -1,4 +1,5 @@
-//! The running monitor by tickets and bells. Its history stands in the proofs alone.
+//! A monitor for running threads: they enter by ticket, and return when their bell rings. Its history is ghost: it
+//! exists only in proofs.
 #![tactic(auto)]
 
 mod bells;

@@ -1,4 +1,4 @@
-//! Two places meet.
+//! A meeting of two places outside.
 ghost use Rattle.std.specs.Prelude.{◌≡◌};
 ghost use Rattle.door_frame.specs.Places.{IsOut};
 ghost use Rattle.ticket_door.specs.Meeting.{Meets};
@@ -12,8 +12,8 @@ use door_frame::seat_steps::{Learn, MergePlaces, SplitFirst};
 use hoare_law::data::MonitorData;
 
 impl<D: MonitorData> RawTicketDoor<D> {
-    /// Two places outside meet: afterwards both know one history, which begins with what each of them knew, and in
-    /// which each did nothing that it doesn't know of. They come back in the order in which they were handed in.
+    /// Lets `a` and `b`, two places outside, meet, and returns them in this order. Afterwards both know one history. It
+    /// begins with what each of them knew, and has no further event of either.
     pub fn meet(&self, a: TicketOut<D>, b: TicketOut<D>) -> (TicketOut<D>, TicketOut<D>)
         requires a { IsOut D.rest D.ready (kinds_of D.CONDITIONS D.MESA) self.now.door a }
         requires b { IsOut D.rest D.ready (kinds_of D.CONDITIONS D.MESA) self.now.door b }

@@ -1,4 +1,4 @@
-//! The turnstile of a ticket door.
+//! The raw monitor of a ticket door.
 ghost use Rattle.std.specs.Prelude.{◌≡◌, ◌<◌, ℕ, IfOk, IfErr, All};
 ghost use Rattle.hoare_law.specs.Priorities.{nobody};
 ghost use Rattle.hoare_law.specs.Sizes.{kinds_of};
@@ -43,8 +43,9 @@ impl<D: MonitorData> RawMonitor<D> for RawTicketDoor<D> {
         TICKET_POLLING
     }
 
-    /// It shuts the gate where both words have one ticket, tries that ticket, and opens the gate again. "No" where
-    /// somebody has the monitor or asked, and also where another place tries, or a word changes between the looks.
+    /// Shuts the gate if NEXT and SERVING have the same ticket, tries to take that ticket, and opens the gate again.
+    /// Returns `None` if a place has the monitor or a ticket, and also if another place tries, or a word changes
+    /// between the polls.
     fn try_admit(&self, seat: &mut DoorSeat<D>, place: usize) -> Option<Parcel<D>> {
         let table = &self.table;
         let ticket = table.shared.peek(NEXT);
@@ -64,7 +65,7 @@ impl<D: MonitorData> RawMonitor<D> for RawTicketDoor<D> {
         self.table.shared.peek(bell_of(place)) == RUNG
     }
 
-    /// One test of the place's bell: "no" where it wasn't rung.
+    /// Swaps the bell of `place` to `SILENT`, once. Returns `None` if it wasn't rung.
     #[inline]
     fn try_claim(&self, seat: &mut DoorSeat<D>, place: usize) -> Option<Parcel<D>> {
         let table = &self.table;

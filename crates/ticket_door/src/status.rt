@@ -1,13 +1,13 @@
-//! What the words say at a glance.
+//! What the door's words say now.
 use crate::door::RawTicketDoor;
 use crate::words::{NEXT, RUNG, SERVING, TURN, bell_of};
 use door_frame::status::{Holder, Status};
 use hoare_law::data::MonitorData;
 
 impl<D: MonitorData> RawTicketDoor<D> {
-    /// What the words say now: for who looks why a program hangs. Of two bells that ring one after the other it may see
-    /// the first. It needs no place, waits for nobody, and changes nothing. It may be over by the time that it is
-    /// answered.
+    /// Returns what the words say now, to find out why a program hangs. The words are loaded one after the other, so
+    /// the result is no atomic snapshot: if two bells ring one after the other, it may report the first. It may be out
+    /// of date when it is returned. Needs no place, never blocks, and changes nothing.
     pub fn status(&self) -> Status {
         let serving = self.table.shared.peek(SERVING);
         let next = self.table.shared.peek(NEXT).wrapping_mul(TURN);
@@ -21,7 +21,7 @@ impl<D: MonitorData> RawTicketDoor<D> {
         Status { holder, newcomers }
     }
 
-    /// The first place whose bell rings.
+    /// Returns the first place whose bell is rung, or `None`.
     fn first_rung(&self) -> Option<usize> {
         for place in 0..self.wakers.len() {
             if self.table.shared.peek(bell_of(place)) == RUNG {

@@ -1,4 +1,4 @@
-//! Newcomers: they draw a ticket, and come in when it is served.
+//! Entering by ticket. A thread takes the next ticket, and enters when it is served.
 ghost use Rattle.std.specs.Prelude.{◌≡◌, ◌≢◌, ◌<◌, ◌↔◌, ℕ, ◌+◌, ◌%◌, ◌^◌, [], true, false, IsTrue, None};
 ghost use Rattle.hoare_law.specs.Events.{with_event};
 ghost use Rattle.hoare_law.specs.declared.event.History.{History};
@@ -27,7 +27,7 @@ use std::marker::Brand;
 use std::sync::Wait;
 
 impl<D: MonitorData> RawTicketDoor<D> {
-    /// Takes the next ticket. The seat learns all that happened so far.
+    /// Takes the next ticket and returns it. The seat learns all that happened so far.
     #[inline]
     pub(crate) fn draw<J: Counting>(&self, seat: &mut DoorSeat<D>, place: usize) -> u64
         requires table { seat.old.table_id ≡ self.now.door.table }
@@ -42,7 +42,7 @@ impl<D: MonitorData> RawTicketDoor<D> {
         self.table.shared.fetch_add::<TakeTicket<J>>(seat, NEXT, 1)
     }
 
-    /// Whether the ticket is served: then the place is let in.
+    /// Loads SERVING once. Returns true if `ticket` is served: the place is then admitted.
     #[inline]
     fn is_served<J: Counting>(&self, seat: &mut DoorSeat<D>, place: usize, ticket: u64) -> bool
         requires table { seat.old.table_id ≡ self.now.door.table }
@@ -56,7 +56,7 @@ impl<D: MonitorData> RawTicketDoor<D> {
         self.table.shared.load::<PollTicket<J>>(seat, SERVING) == served_as(ticket)
     }
 
-    /// Polls until the ticket is served; yields or parks between polls.
+    /// Polls until `ticket` is served: the place is then admitted. Yields or parks between polls.
     #[inline(never)]
     fn keep_looking<J: Counting, R: Wait>(
         &self,
@@ -82,8 +82,8 @@ impl<D: MonitorData> RawTicketDoor<D> {
         unreachable!()
     }
 
-    /// Looks until the ticket is served, and takes the parcel. The first look stands alone: it is short enough to be
-    /// inlined.
+    /// Waits until `ticket` is served, then takes the parcel. The first poll is kept apart: it is short enough to
+    /// inline.
     #[inline]
     pub(crate) fn served<J: Counting, R: Wait>(
         &self,
@@ -149,7 +149,7 @@ impl<D: MonitorData> RawTicketDoor<D> {
         enter_with(seat, place, sleeper, parcel)
     }
 
-    /// `leave`, which waits for nobody.
+    /// Leaves the monitor, as `leave` does. Non-blocking; needs no `Wait`.
     pub fn give_up(&self, inside: TicketIn<D>) -> TicketOut<D>
         requires of { IsIn D.rest D.ready (kinds_of D.CONDITIONS D.MESA) self.now.door inside }
         requires rest { D.rest inside.state (priorities inside.front.events) }
@@ -161,7 +161,8 @@ impl<D: MonitorData> RawTicketDoor<D> {
         calls::leave(self, inside)
     }
 
-    /// `signal_leave`, which waits for nobody.
+    /// Signals `condition` and leaves, as `signal_leave` does. Returns true if a waiter was resumed. Non-blocking;
+    /// needs no `Wait`.
     pub fn hand_up(&self, inside: TicketIn<D>, condition: usize) -> (TicketOut<D>, bool)
         requires of { IsIn D.rest D.ready (kinds_of D.CONDITIONS D.MESA) self.now.door inside }
         requires hoare { IsHoare D.CONDITIONS D.MESA condition }

@@ -1,11 +1,11 @@
-//! A newcomer that only tries: it shuts the gate, is in where nobody asked and nobody has the monitor, and opens the
+//! One attempt to enter: the place shuts the gate, is admitted if no place has a ticket or the monitor, and opens the
 //! gate again.
 //!
-//! NEXT and SERVING are two words, and between a look at the one and a step on the other any number of turns may
-//! pass. So the place shuts the gate first: while SERVING is odd no look lets a newcomer in, and nobody else can shut
-//! it. From then on at most one turn ends, and at most as many tickets are drawn as there are places. So where NEXT
-//! still has the ticket that was served when the gate was shut, nobody asked, and no turn had begun. No ticket is
-//! passed over: the place that comes in has drawn that one.
+//! NEXT and SERVING are two words, and any number of turns may pass between a poll of one and a step on the other. So
+//! the place shuts the gate first: while SERVING is odd, no poll admits an entering thread, and no other place can shut
+//! the gate. From then on at most one turn ends, and at most as many tickets are taken as there are places. So if NEXT
+//! is still the ticket that was served when the gate was shut, no place has a ticket, and no turn has begun since. No
+//! ticket is passed over: the admitted place has taken that ticket.
 ghost use Rattle.std.specs.Prelude.{◌≡◌, ◌*◌, ◌%◌, ◌^◌, true, false};
 ghost use Rattle.hoare_law.specs.declared.event.History.{History};
 ghost use Rattle.hoare_law.specs.Turns.{outside};
@@ -19,7 +19,7 @@ use door_frame::seat_steps::DoorSeat;
 use hoare_law::data::MonitorData;
 
 impl<D: MonitorData> RawTicketDoor<D> {
-    /// Shuts the gate, where this ticket is served and it is open: whether it did.
+    /// Shuts the gate if it is open and `ticket` is served. Returns true on success.
     #[inline]
     pub(crate) fn shut(&self, seat: &mut DoorSeat<D>, place: usize, ticket: u64) -> bool
         requires table { seat.old.table_id ≡ self.now.door.table }
@@ -36,7 +36,8 @@ impl<D: MonitorData> RawTicketDoor<D> {
             == turn
     }
 
-    /// Who shut the gate is in, where this ticket, which was served then, is the next to be drawn: whether it is.
+    /// Admits the place, which shut the gate while `ticket` was served, if `ticket` is the next to be taken. Returns
+    /// true on success.
     #[inline]
     pub(crate) fn try_in(&self, seat: &mut DoorSeat<D>, place: usize, ticket: u64) -> bool
         requires table { seat.old.table_id ≡ self.now.door.table }

@@ -1,32 +1,32 @@
-//! Where the door's words stand in the table: one to a line of the cache.
+//! The door's words: their indices in the table, each on a cache line of its own, and their values.
 ghost use Rattle.std.specs.Prelude.{◌≡◌, ◌<◌, ◌≤◌, ◌*◌, ◌%◌, ◌^◌};
 ghost use Rattle.ticket_door.specs.Rule.{bell_at};
 
-// How many words a line of the cache has.
+// The number of words in a cache line.
 const LINE: usize = 8;
 
-// Where the bells begin.
+// The index of the first bell.
 const BELLS: usize = 2 * LINE;
 
-/// Which ticket is served, and whether the gate is shut.
+/// The index of SERVING: twice the ticket that is served, modulo 2^64, plus `SHUT` while the gate is shut.
 pub(crate) const SERVING: usize = 0;
 
-/// The next ticket to be drawn.
+/// The index of NEXT: the next ticket to be taken.
 pub(crate) const NEXT: usize = LINE;
 
-/// A bell that was rung.
+/// The value of a bell that is rung.
 pub(crate) const RUNG: u64 = 1;
 
-/// A bell that wasn't, or was heard.
+/// The value of a bell that wasn't rung, or that its place took since.
 pub(crate) const SILENT: u64 = 0;
 
-/// What is added to SERVING where the next ticket is served.
+/// What is added to SERVING to serve the next ticket.
 pub(crate) const TURN: u64 = 2;
 
-/// What SERVING has more while the gate is shut.
+/// What is added to SERVING while the gate is shut.
 pub(crate) const SHUT: u64 = 1;
 
-/// SERVING while this ticket is served and the gate is open.
+/// Returns the value of SERVING while `ticket` is served and the gate is open.
 #[inline]
 pub(crate) fn served_as(ticket: u64) -> u64
     ensures { result ≡ (2 * ticket) % 2 ^ 64 }
@@ -34,7 +34,7 @@ pub(crate) fn served_as(ticket: u64) -> u64
     ticket.wrapping_mul(TURN)
 }
 
-/// The bell of a place.
+/// Returns the index of the bell of `place`.
 #[inline]
 pub(crate) fn bell_of(place: usize) -> usize
     requires { place < 64 }
@@ -43,7 +43,7 @@ pub(crate) fn bell_of(place: usize) -> usize
     BELLS + LINE * place
 }
 
-/// How many words a door of this many places has: up to where one more bell would stand.
+/// Returns the number of words of a door with `places` places: the index that one more bell would have.
 pub(crate) fn words_for(places: usize) -> usize
     requires { places ≤ 64 }
     ensures { result ≡ bell_at places }
@@ -51,15 +51,15 @@ pub(crate) fn words_for(places: usize) -> usize
     BELLS + LINE * places
 }
 
-/// Returns the mark of a turn in the set of turns whose threads are parked. No two turns that are waited for have the
-/// same mark: a door has 64 places at most.
+/// Returns the mark of `turn` in the set of turns whose threads are parked. No two turns that are waited for have the
+/// same mark: a door has at most 64 places.
 #[inline]
 pub(crate) fn mark_of(turn: u64) -> u64 {
     1 << (turn / TURN % 64)
 }
 
-/// Returns the word that the thread with a turn parks on: one that stays 0, behind a bell. No two turns that are waited
-/// for have the same word, unless the numbers wrap; then a wake-up may reach the other thread.
+/// Returns the index of the word that the thread with `turn` parks on: the word next to a bell, which stays 0. No two
+/// turns that are waited for have the same word, unless the numbers wrap; then a wake-up may reach the other thread.
 #[inline]
 pub(crate) fn parking_word_of(turn: u64, places: usize) -> usize
     requires some { 0 < places }

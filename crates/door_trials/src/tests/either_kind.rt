@@ -4,8 +4,8 @@ ghost use Rattle.std.specs.Prelude.{◌≡◌};
 
 use crate::tests::awaited::act_all;
 use crate::tests::compared::expect_same;
-use crate::tests::glances::glance_of;
 use crate::tests::rows::stress::{PLACES, agrees, empty_diary, works_or_sweeps};
+use crate::tests::statuses::status_of;
 use any_door::{AnyDoor, DoorKind, RawAnyDoor};
 use door_frame::place::Outside;
 use door_frame::status::{Holder, Status};
@@ -111,7 +111,7 @@ fn the_door_of_its_kind_answers(rt: HostRuntime) {
 
 #[test]
 fn nobody_or_somebody_is_inside(rt: HostRuntime) {
-    let (nobody, somebody) = (glance_of(Holder::Nobody, 0), glance_of(Holder::Somebody, 0));
+    let (nobody, somebody) = (status_of(Holder::Nobody, 0), status_of(Holder::Somebody, 0));
     for kind in [DoorKind::Baton, DoorKind::Ticket] {
         let (_, seen) = calls_asks_and_looks(&rt, rt.alloc(), kind);
         expect_same(&rt, seen, [nobody, somebody, nobody]);

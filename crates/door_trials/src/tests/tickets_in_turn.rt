@@ -15,8 +15,8 @@ use ticket_door::door::TicketDoor;
 use ticket_door::laws::make_at;
 use ticket_door::place::{Asked, TicketIn, TicketOut};
 
-/// The place takes a ticket. Returns it with its ticket. (What the places do at any data takes the checker less time than
-/// each of these calls does at a tally.)
+/// Takes a ticket. Returns the place, and its ticket. (These functions are over any data: that takes the checker less
+/// time than each of these calls at a tally.)
 pub fn asks<D: MonitorData + Send>(door: &TicketDoor<D>, out: TicketOut<D>) -> (Asked<D>, u64)
     requires { ⟦<TicketDoor<D> as Monitor<D>>⟧.is_of door.now out }
     ensures of { IsAsked D.rest D.ready (kinds_of D.CONDITIONS D.MESA) door.now result.0 }

@@ -231,8 +231,8 @@ fn assert_in_order<R: Abort>(rt: &R, calls: &[(Call, Found)], kept: &[Done]) {
     expect_same(rt, kept, jobs.as_slice());
 }
 
-// What the watcher finds and the worker brings, on doors of this kind. (The doors are dropped in a function of their own:
-// in the test, where more is dropped beside them, that takes the checker a minute.)
+// Returns what the watcher finds and the worker brings, on doors of this kind. (The doors are dropped in a function of
+// their own: in the test, where more is dropped beside them, that takes the checker a minute.)
 fn watched_on<R: Threads + Wait + Sync>(
     rt: &R,
     alloc: Global,

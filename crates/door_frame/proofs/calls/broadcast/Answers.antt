@@ -4,7 +4,7 @@ use Rattle.wait_book.proofs.WithData.{none-listed}
 use Rattle.door_frame.proofs.Notices.{emptied_none, all_called}
 use Rattle.door_frame.proofs.calls.broadcast.Goals as goal
 
--- where nobody waits
+-- if nobody waits
 
 pub returns-then-not-queue-clause-lists : goal.returns-then-not-queue-clause-lists
 returns-then-not-queue-clause-lists g c = emptied_none _ _ (none-listed _ c.if-not-queue.ensures.lists)
@@ -15,7 +15,7 @@ returns-then-not-queue-clause-told g c = sym (ap length (none-listed _ c.if-not-
 pub returns-then-not-queue-clause-front : goal.returns-then-not-queue-clause-front
 returns-then-not-queue-clause-front g c = none_called (none-listed _ c.if-not-queue.ensures.front) refl
 
--- where somebody does
+-- if a place waits
 
 pub returns : goal.returns
 returns g c =

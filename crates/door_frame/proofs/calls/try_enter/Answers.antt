@@ -11,7 +11,7 @@ try_admit-requires-clause-outside g c =
     let outside = subst (λ (k : ℕ). outside k c.args.out.front.events ≡ true) (sym parts.1) c.requires.is_outside in
     (c.args.out.front, away_as parts.1 parts.2, outside)
 
--- where it came in
+-- if the place entered
 
 pub enter_with-requires : goal.enter_with-requires
 enter_with-requires g c =
@@ -27,7 +27,7 @@ returns-in-Some g c =
     (c.enter_with.ensures _ came) in
     record { of = e.of; place = e.place; rest = e.rests; front = e.front; same = tt }
 
--- where it didn't
+-- if the place didn't enter
 
 pub of_parts-requires : goal.of_parts-requires
 of_parts-requires g c =

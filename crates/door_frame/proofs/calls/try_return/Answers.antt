@@ -8,7 +8,7 @@ pub try_claim-requires-clause-away : goal.try_claim-requires-clause-away
 try_claim-requires-clause-away g c =
     let parts = c.into_parts-seat.ensures in (c.args.away.front, away_as parts.1 parts.2)
 
--- where it came back
+-- if the place returned
 
 pub return_with-requires : goal.return_with-requires
 return_with-requires g c =
@@ -26,7 +26,7 @@ returns-in-Some g c =
       same = tt;
     }
 
--- where it didn't
+-- if the place didn't return
 
 pub of_parts-requires : goal.of_parts-requires
 of_parts-requires g c =

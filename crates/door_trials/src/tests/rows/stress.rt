@@ -23,7 +23,7 @@ const WORKERS: usize = 8;
 /// How many places a diary's monitor has.
 pub const PLACES: usize = WORKERS + 1;
 
-/// So often the whole test is done, each time with other numbers. (`bench/soak --visits` sets these three to more.)
+/// So often the whole test is done, each time with other numbers. (`tests/soak --visits` sets these three to more.)
 const DAYS: u64 = 1;
 
 const ROUNDS: u64 = 300;

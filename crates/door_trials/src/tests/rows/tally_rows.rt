@@ -2,15 +2,15 @@
 ghost use Rattle.std.specs.Prelude.{◌≡◌};
 
 use crate::tests::compared::expect_same;
-use crate::tests::glances::{Glanced, sees_a_newcomer, waits_or_hands_over};
 use crate::tests::row::run;
-use crate::tests::rows::naps::{Signs, VISITORS, VISITS, stays_or_comes, visits_or_spins};
+use crate::tests::rows::parks::{Signs, VISITORS, VISITS, stays_or_comes, visits_or_spins};
 use crate::tests::rows::tally::{
     adds_thousand, resumes_by_each_signal, signals_on, writes_or_adds,
 };
 use crate::tests::rows::tries::{adds_on, waits_or_tries};
 use crate::tests::rows::wakes::{comes_late, waits_long};
-use crate::tests::rows::{naps, tries};
+use crate::tests::rows::{parks, tries};
+use crate::tests::statuses::{ShowsStatus, sees_a_newcomer, waits_or_hands_over};
 use any_door::DoorKind;
 use hoare_law::monitor::Monitor;
 use std::process::Abort;
@@ -45,7 +45,7 @@ enum TallyRow<'a> {
 }
 
 // Each place does what the row says.
-fn acts<R: Wait + Abort + Clock + CpuClock, M: Glanced>(
+fn acts<R: Wait + Abort + Clock + CpuClock, M: ShowsStatus>(
     rt: &R,
     m: &M,
     out: M::Out,
@@ -94,10 +94,10 @@ fn wanted(row: TallyRow<'_>) -> (u64, &'static [u64]) {
         ),
         TallyRow::WhoIsHandedTheMonitorIsSeen => (0, &[0, 1]),
         TallyRow::ANewcomerIsSeen(_) => (0, &[1, 0]),
-        TallyRow::ANewcomerThatNobodyCallsComesIn(_) => (2 * naps::ROUNDS, &[0, 0]),
+        TallyRow::ANewcomerThatNobodyCallsComesIn(_) => (2 * parks::ROUNDS, &[0, 0]),
         TallyRow::EightComeInBesideEightBusyThreads(_) => (
             VISITORS as u64 * VISITS,
-            &[0; naps::PLACES],
+            &[0; parks::PLACES],
         ),
     }
 }

@@ -30,7 +30,7 @@ store-requires g c =
           _ below laid e.2 c.bell_of.ensures,
     )
 
--- the bell is rung before
+-- the bell is rung before the place is woken
 
 pub wake-requires-clause-given_up : goal.wake-requires-clause-given_up
 wake-requires-clause-given_up g c = let e = c.requires.event in (

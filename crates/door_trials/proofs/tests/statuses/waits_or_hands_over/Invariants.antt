@@ -1,5 +1,5 @@
 use Rattle.std.specs.Prelude.{◌≡◌}
-use Rattle.door_trials.proofs.tests.rows.naps.visit_on.Given as goal
+use Rattle.door_trials.proofs.tests.statuses.waits_or_hands_over.Given as goal
 
 -- the place stays one of the monitor's, and keeps its number
 abbrev pub invariant-loop : goal.invariant-loop

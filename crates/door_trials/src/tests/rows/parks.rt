@@ -1,4 +1,4 @@
-//! Newcomers nap: one that nobody calls comes in, and many come in beside threads that keep the processors busy.
+//! Parked entering threads: a thread that no other thread wakes enters, and many threads enter beside busy threads.
 ghost use Rattle.std.specs.Prelude.{◌≡◌};
 
 use crate::tests::awaited::await_sign;
@@ -11,23 +11,24 @@ use std::time::Duration;
 use std::{hint, thread};
 use test_support::tally::{Tally, add_one};
 
-/// How often a newcomer comes late. With a door's limit of 25 seconds it may take a tenth of a second each time.
+/// The number of times that place 1 enters while place 0 is inside. The row's limit of 25 seconds allows an eighth of a
+/// second for each.
 pub const ROUNDS: u64 = 200;
 
-/// For how many milliseconds the other stays inside. A newcomer looks for a tenth of one, and naps for two tenths at a
-/// time.
+/// How long place 0 stays inside, in milliseconds. An entering thread polls for less than a tenth of a millisecond, and
+/// then parks for some 0.15 milliseconds at a time.
 const STAY: u64 = 3;
 
-/// How many places visit, beside as many that keep a processor busy.
+/// The number of places that visit. As many others keep a processor busy.
 pub const VISITORS: usize = 8;
 
-/// How many places that makes.
+/// The number of places: those that visit, and those that keep a processor busy.
 pub const PLACES: usize = 2 * VISITORS;
 
-/// How often each of them comes in.
+/// The number of visits of each place that visits.
 pub const VISITS: u64 = 2000;
 
-/// How two places tell each other that they are inside, and that they were.
+/// The signs that two places give each other: place 0 is inside; place 1 was inside.
 #[derive(Drop)]
 pub struct Signs {
     is_inside: AtomicBool,
@@ -35,7 +36,7 @@ pub struct Signs {
 }
 
 impl Signs {
-    /// Nobody was inside yet.
+    /// Creates the signs, none of which is given.
     pub fn new() -> Signs {
         Signs {
             is_inside: AtomicBool::new(false),
@@ -44,8 +45,8 @@ impl Signs {
     }
 }
 
-// Comes in and gives a sign, stays inside for many naps, adds one and leaves. A baton door calls nobody then; a ticket
-// door calls the next in turn, if it naps. It doesn't come again before the other was inside.
+// Enters and gives a sign, stays inside for the length of many parks, adds one and leaves. A baton door wakes no thread
+// then; a ticket door wakes the thread with the next ticket, if it is parked. Returns once the other place was inside.
 fn stays_long<R: Wait + Abort + Clock, M: Monitor<Tally>>(
     rt: &R,
     m: &M,
@@ -64,7 +65,7 @@ fn stays_long<R: Wait + Abort + Clock, M: Monitor<Tally>>(
     out
 }
 
-// Comes in while the other is inside, adds one and leaves.
+// Enters while the other place is inside, adds one and leaves.
 fn comes_uncalled<R: Wait + Abort + Clock, M: Monitor<Tally>>(
     rt: &R,
     m: &M,
@@ -82,7 +83,7 @@ fn comes_uncalled<R: Wait + Abort + Clock, M: Monitor<Tally>>(
     out
 }
 
-/// Place 0 stays inside, and place 1 comes meanwhile, again and again.
+/// Runs the rounds of one of two places: place 0 stays inside, and place 1 enters meanwhile.
 pub fn stays_or_comes<R: Wait + Abort + Clock, M: Monitor<Tally>>(
     rt: &R,
     m: &M,
@@ -105,7 +106,7 @@ pub fn stays_or_comes<R: Wait + Abort + Clock, M: Monitor<Tally>>(
     (out, 0)
 }
 
-// Keeps a processor busy until all visitors have gone.
+// Keeps a processor busy until all places that visit are done.
 fn spin_until_gone(gone: &AtomicUsize) {
     for _ in 0..u64::MAX {
         if gone.load(Ordering::SeqCst) == VISITORS {
@@ -115,7 +116,7 @@ fn spin_until_gone(gone: &AtomicUsize) {
     }
 }
 
-// Comes in, adds one and leaves, again and again.
+// Enters, adds one and leaves, `VISITS` times.
 fn visit_on<R: Wait, M: Monitor<Tally>>(rt: &R, m: &M, out: M::Out) -> M::Out
     requires { M.is_of m.now out }
     ensures of { M.is_of m.now result }
@@ -129,7 +130,7 @@ fn visit_on<R: Wait, M: Monitor<Tally>>(rt: &R, m: &M, out: M::Out) -> M::Out
     out
 }
 
-/// The first places visit, and the others keep a processor busy meanwhile.
+/// Runs one place: the first `VISITORS` visit, and the others keep a processor busy meanwhile.
 pub fn visits_or_spins<R: Wait, M: Monitor<Tally>>(
     rt: &R,
     m: &M,

@@ -1,4 +1,4 @@
-//! What the words of a door say at a glance.
+//! `status` of both doors, with entering threads queued and with a place that is owed the monitor.
 ghost use Rattle.std.specs.Prelude.{◌≡◌};
 
 use crate::tests::awaited::{await_sign, watch};
@@ -30,30 +30,30 @@ const ROUNDS: u64 = 20;
 const STAY: u64 = 3;
 
 /// A door whose words a test looks at.
-pub trait Glanced: Monitor<Tally> {
+pub trait ShowsStatus: Monitor<Tally> {
     /// What its words say.
     fn seen(&self) -> Status;
 }
 
-impl Glanced for Door<Tally> {
+impl ShowsStatus for Door<Tally> {
     fn seen(&self) -> Status {
         self.status()
     }
 }
 
-impl Glanced for TicketDoor<Tally> {
+impl ShowsStatus for TicketDoor<Tally> {
     fn seen(&self) -> Status {
         self.status()
     }
 }
 
 /// What the words say of this holder, with so many newcomers.
-pub fn glance_of(holder: Holder, newcomers: u64) -> Status {
+pub fn status_of(holder: Holder, newcomers: u64) -> Status {
     Status { holder, newcomers }
 }
 
 // Comes in once another waits, hands the monitor to it, and looks: whether the words say so.
-fn hands_over<R: Wait + Abort + Clock, M: Glanced>(rt: &R, m: &M, out: M::Out) -> (M::Out, bool)
+fn hands_over<R: Wait + Abort + Clock, M: ShowsStatus>(rt: &R, m: &M, out: M::Out) -> (M::Out, bool)
     requires { M.is_of m.now out }
     ensures of { M.is_of m.now result.0 }
     ensures place { M.place result.0 ≡ M.place out }
@@ -66,7 +66,7 @@ fn hands_over<R: Wait + Abort + Clock, M: Glanced>(rt: &R, m: &M, out: M::Out) -
 
 /// Place 0 waits, again and again. Place 1 hands the monitor to it each time: it answers 1 where the words said so in
 /// one of the rounds.
-pub fn waits_or_hands_over<R: Wait + Abort + Clock, M: Glanced>(
+pub fn waits_or_hands_over<R: Wait + Abort + Clock, M: ShowsStatus>(
     rt: &R,
     m: &M,
     out: M::Out,
@@ -91,7 +91,7 @@ pub fn waits_or_hands_over<R: Wait + Abort + Clock, M: Glanced>(
 }
 
 /// Place 0 stays inside until a newcomer is seen, and answers 1. Place 1 comes once 0 is inside.
-pub fn sees_a_newcomer<R: Wait + Abort + Clock, M: Glanced>(
+pub fn sees_a_newcomer<R: Wait + Abort + Clock, M: ShowsStatus>(
     rt: &R,
     m: &M,
     out: M::Out,
@@ -132,14 +132,14 @@ fn ask_and_come_in<D: MonitorData + Send, R: Wait + Abort>(
     requires c { ⟦<TicketDoor<D> as Monitor<D>>⟧.is_of door.now c }
 {
     let a = door.ask(a);
-    expect_same(rt, door.status(), glance_of(Holder::Somebody, 0));
+    expect_same(rt, door.status(), status_of(Holder::Somebody, 0));
     let (b, c) = (door.ask(b), door.ask(c));
-    expect_same(rt, door.status(), glance_of(Holder::Somebody, 2));
+    expect_same(rt, door.status(), status_of(Holder::Somebody, 2));
     comes_and_goes(rt, door, a);
-    expect_same(rt, door.status(), glance_of(Holder::Somebody, 1));
+    expect_same(rt, door.status(), status_of(Holder::Somebody, 1));
     comes_and_goes(rt, door, b);
     comes_and_goes(rt, door, c);
-    expect_same(rt, door.status(), glance_of(Holder::Nobody, 0));
+    expect_same(rt, door.status(), status_of(Holder::Nobody, 0));
 }
 
 #[test]
@@ -148,8 +148,8 @@ fn who_asked_wants_in(rt: HostRuntime) {
     ask_and_come_in(&rt, &door, a, b, c);
 }
 
-// `last` begins to wait, and `other` hands the monitor off to it. Returns the glance before `last` resumes.
-fn glance_while_owed<R: Wait>(
+// `last` begins to wait, and `other` hands the monitor off to it. Returns the status before `last` resumes.
+fn status_while_owed<R: Wait>(
     rt: &R,
     door: &AnyDoor<Tally>,
     last: Outside<Tally>,
@@ -163,7 +163,7 @@ fn glance_while_owed<R: Wait>(
     door.status()
 }
 
-// Returns the glance while place 63 of 64 is owed the monitor.
+// Returns the status while place 63 of 64 is owed the monitor.
 fn last_is_owed<R: Wait + Abort>(rt: &R, alloc: Global, kind: DoorKind) -> Status {
     let Some((door, mut outs)) = made(alloc, kind, Tally { value: 0 }, 64) else {
         panic!(rt; "no door was made")
@@ -174,19 +174,19 @@ fn last_is_owed<R: Wait + Abort>(rt: &R, alloc: Global, kind: DoorKind) -> Statu
     let Some(other) = outs.pop() else {
         panic!(rt; "one place")
     };
-    glance_while_owed(rt, &door, last, other)
+    status_while_owed(rt, &door, last, other)
 }
 
 #[test]
 fn place_sixty_three_is_owed(rt: HostRuntime) {
     for kind in DoorKind::BOTH {
         let seen = last_is_owed(&rt, rt.alloc(), kind);
-        expect_same(&rt, (kind, seen), (kind, glance_of(Holder::Owed(63), 0)));
+        expect_same(&rt, (kind, seen), (kind, status_of(Holder::Owed(63), 0)));
     }
 }
 
 #[test]
-fn glances_read_plainly(host: HostRuntime) {
+fn statuses_read_plainly(host: HostRuntime) {
     let (rt, alloc) = (&host, host.alloc());
     for (holder, newcomers, wanted) in [
         (Holder::Nobody, 0, "nobody inside, 0 waiting to come in"),
@@ -197,6 +197,6 @@ fn glances_read_plainly(host: HostRuntime) {
             "handed to place 63, 2 waiting to come in",
         ),
     ] {
-        reads_as(rt, alloc, &glance_of(holder, newcomers), wanted);
+        reads_as(rt, alloc, &status_of(holder, newcomers), wanted);
     }
 }

@@ -1,5 +1,5 @@
 use Rattle.std.specs.Prelude.{◌≡◌}
-use Rattle.door_trials.proofs.tests.glances.waits_or_hands_over.Given as goal
+use Rattle.door_trials.proofs.tests.rows.parks.stays_or_comes.Given as goal
 
 -- the place stays one of the monitor's, and keeps its number
 abbrev pub invariant-loop : goal.invariant-loop

@@ -43,14 +43,12 @@ impl Parked {
         self.wakes.load(Ordering::SeqCst)
     }
 
-    /// Parks the caller unless a wake-up was sent since `before`. Records whether the park ran out.
+    /// Parks the caller unless a wake-up was sent since `before`.
     pub(crate) fn park<R: Wait>(&self, rt: &R, before: u64) {
         let low = (before % (1 << 32)) as u32;
         self.wakes
             .park_timeout(rt, low, Duration::from_micros(PARK_MICROS));
-        if self.wakes.load(Ordering::Relaxed) == before {
-            self.yields.count_expired();
-        }
+        self.yields.count_park();
     }
 
     /// Removes the caller.

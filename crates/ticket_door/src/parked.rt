@@ -158,9 +158,7 @@ impl<D: MonitorData> RawTicketDoor<D> {
             self.table
                 .shared
                 .park_timeout(rt, word, 0, Duration::from_micros(PARK_MICROS));
-            if self.turns_ahead(turn) > 0 {
-                self.parked.yields.count_expired();
-            }
+            self.parked.yields.count_park();
         }
         self.parked.turns.fetch_and(!mark, Ordering::SeqCst);
     }

@@ -1,4 +1,4 @@
-/* The loads of bench/ over zaulinte_monitor: bench/run compares them with those over bench/hoare.c. */
+/* The loads of bench/ over zaulinte_monitor: bench/run compares them with those over bench/peers/hoare.c. */
 #define _GNU_SOURCE
 #include "zaulinte_monitor.h"
 #include <pthread.h>
@@ -49,4 +49,4 @@ static int all_wait(monitor *m, int me) {
     return all;
 }
 
-#include "../../bench/loads_body.c"
+#include "../../bench/peers/loads_body.c"

@@ -1,4 +1,4 @@
-//! The loads of bench/hoare.rs over this crate, in the same form: bench/run compares them. `loads TURNS`.
+//! The loads of bench/peers/hoare.rs over this crate, in the same form: bench/run compares them. `loads TURNS`.
 use std::sync::Mutex;
 use std::thread;
 use std::time::Instant;

@@ -2,7 +2,7 @@
    for a line of the cache from one core to another, for a wake by the system and for a yield. Then a plain ticket lock,
    for the order by tickets alone.
 
-     gcc -O2 -pthread -o build/floors floors.c && build/floors [TURNS]
+     gcc -O2 -pthread -o build/floors peers/floors.c && build/floors [TURNS]
      build/floors --mutex [TURNS]     the mutex alone, as a row of bench/run */
 #define _GNU_SOURCE
 #include <linux/futex.h>

@@ -1,7 +1,7 @@
 // What an uncontended visit is made of: the steps of an enter and leave at the baton door, rebuilt on plain memory and added one
 // by one. Prints the least nanoseconds of nine rounds for each sum of steps.
 //
-//   gcc -O2 -o build/visit_parts visit_parts.c && build/visit_parts
+//   gcc -O2 -o build/visit_parts peers/visit_parts.c && build/visit_parts
 #include <stdint.h>
 #include <stdio.h>
 #include <stdlib.h>

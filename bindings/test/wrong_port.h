@@ -1,4 +1,4 @@
-/* Ports with a fault, for bench/bindings: condition variables by which a wake-up is lost. -DWRONG=1: nobody is woken.
+/* Ports with a fault, for tests/bindings: condition variables by which a wake-up is lost. -DWRONG=1: nobody is woken.
  * -DWRONG=2: the word is tested before the lock is taken, with a pause between, so that a wake-up may come in between.
  * The stress hangs with each, and ends with -DWRONG=0. */
 #ifndef ZAULINTE_PORT_CODE

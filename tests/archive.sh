@@ -1,4 +1,4 @@
-# Read by the scripts beside it, in which `top` is the repository: where the archive of a crate is.
+# Read by tests/bindings and bench/run, in which `top` is the repository: where the archive of a crate is.
 
 # find_archive CRATE FOLDER: sets `found` to the archive that `rt lib` has made in the crate, or makes; if there is
 # none, to the crate's part of the archive that bindings/lib has for this machine, taken out into FOLDER; else to nothing

@@ -9,7 +9,7 @@ import re
 import subprocess
 import time
 
-from .edits import edit_of, planted, read, write
+from .edits import edit_of, planted, write
 
 LEFT_OUT = ('out',)
 FAULT = 'no test failed with'

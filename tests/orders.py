@@ -2,10 +2,11 @@
 """Counts the orders of small monitor programs, apart from crates/order_explorer.
 
     tests/orders.py            a line for each program: how many orders end, or in which run the first bad one comes
-    tests/orders.py STDOUT..   the same, and compares them with what explorer_program and first_orders wrote into these files
+    tests/orders.py STDOUT..   the same, and compares them with what explorer_program and first_orders wrote into these
 
-A program is a list of threads, each a generator over shared data that yields its calls. Whenever the monitor is free and nobody is
-owed it, each of those that want in is let in, in a run of its own: first the next behind who came in last, round the places."""
+A program is a list of threads, each a generator over shared data that yields its calls. Whenever the monitor is free
+and nobody is owed it, each of those that want in is let in, in a run of its own: first the next behind who came in
+last, round the places."""
 
 import sys
 

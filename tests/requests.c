@@ -1,5 +1,6 @@
-// Counts the requests for memory of a program that runs with it (LD_PRELOAD): each malloc and realloc adds a line with its
-// size to the file that REQUESTS names. The request whose number REFUSE says, counted from 1, is refused, and its line says so.
+// Counts the requests for memory of a program that runs with it (LD_PRELOAD): each malloc and realloc adds a line with
+// its size to the file that REQUESTS names. The request whose number REFUSE says, counted from 1, is refused, and its
+// line says so.
 #define _GNU_SOURCE
 #include <dlfcn.h>
 #include <fcntl.h>

@@ -1,5 +1,5 @@
 //! What can go wrong with a job file or a service.
-ghost use Rattle.std.specs.Prelude.{◌≡◌};
+ghost use Rattle.std.specs.Prelude.{◌≡◌, ◌↔◌, IsNone};
 ghost use Rattle.disk_jobs.specs.Faults.{status_of};
 
 use thiserror::Error;
@@ -39,6 +39,23 @@ impl ServiceFault {
         match self {
             ServiceFault::BadLine(_) | ServiceFault::NoHeader => 2,
             _ => 3,
+        }
+    }
+    /// Returns what was expected instead, to show it beside the line at fault. Returns `None` if the input isn't at
+    /// fault.
+    pub fn expected(&self) -> Option<&'static str>
+        ensures { IsNone result ↔ (status_of self.now ≡ 3) }
+    {
+        match self {
+            ServiceFault::NoHeader => Some("'disk M W' in the first line; there is none"),
+            ServiceFault::BadLine(1) => {
+                Some("'disk M W': M 0 to 65535, W 1 to 16, in a line of at most 256 bytes")
+            }
+            ServiceFault::BadLine(2..=4_097) => {
+                Some("'read C': C 0 to the M of the first line (one space between, no leading 0)")
+            }
+            ServiceFault::BadLine(_) => Some("at most 4096 jobs"),
+            _ => None,
         }
     }
 }

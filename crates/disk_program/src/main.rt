@@ -14,6 +14,7 @@ ghost use Rattle.disk_program.specs.Statuses.{status_after};
 
 use crate::no_report::NoReport;
 use disk_service::{Kind, ServiceFault, kind_of, run};
+use line_text::last_line::{LineKeeper, explain};
 use std::alloc::Global;
 use std::io::{BufReader, BufWriter, Read, Write};
 use std::process::ExitCode;
@@ -22,17 +23,29 @@ use std::thread::Threads;
 use std::{env, io};
 
 fn main(rt: HostRuntime) -> ExitCode {
-    let end = match asked_kind(&rt) {
-        Ok(kind) => {
-            let end = serve_streams(&rt, rt.alloc(), kind, rt.stdin(), rt.stdout());
-            end.map_err(NoReport::Fault)
-        }
-        Err(no_report) => Err(no_report),
-    };
-    tell(&rt, end)
+    match asked_kind(&rt) {
+        Ok(kind) => serve_input(&rt, kind),
+        Err(no_report) => report(&rt, Err(no_report)),
+    }
 }
 
-// The kind that the program's arguments name. An argument that is no text is as wrong as any other.
+// Serves standard input, and prints the line of a fault on standard error.
+fn serve_input(rt: &HostRuntime, kind: Kind) -> ExitCode {
+    let Ok(ahead) = BufReader::with_capacity(rt.alloc(), 65_536, rt.stdin()) else {
+        return report(rt, Err(NoReport::Fault(ServiceFault::Memory)));
+    };
+    let mut reader = LineKeeper::new(ahead);
+    let end = serve_streams(rt, rt.alloc(), kind, &mut reader, rt.stdout());
+    let code = report(rt, end.map_err(NoReport::Fault));
+    if let Err(fault) = end
+        && let Some(expected) = fault.expected()
+    {
+        explain(rt, reader.last_line(), expected);
+    }
+    code
+}
+
+// Returns the kind that the program's arguments name. An argument that isn't UTF-8 is refused as any other wrong one.
 fn asked_kind(rt: &HostRuntime) -> Result<Kind, NoReport> {
     let mut words = match env::args(rt) {
         Ok(words) => words,
@@ -48,33 +61,30 @@ fn asked_kind(rt: &HostRuntime) -> Result<Kind, NoReport> {
     }
 }
 
-// The kind that these arguments name.
+// Returns the kind that these arguments name.
 fn named_kind(words: &[String]) -> Result<Kind, NoReport>
     ensures { result ≡ ok_or (kind_of_words (map string_bytes words.now)) Usage }
 {
     kind_of(words).ok_or(NoReport::Usage)
 }
 
-// Reads and writes ahead, so that a byte or a line isn't a call of the system.
-fn serve_streams<R: Threads + Wait + Sync, I: Read + Drop, O: Write + Drop>(
+// Serves from one stream to another. It writes ahead, so that a line isn't a system call.
+fn serve_streams<R: Threads + Wait + Sync, I: Read, O: Write + Drop>(
     rt: &R,
     alloc: Global,
     kind: Kind,
-    input: I,
+    reader: &mut I,
     output: O,
 ) -> Result<(), ServiceFault> {
-    let Ok(mut reader) = BufReader::with_capacity(alloc, 65_536, input) else {
-        return Err(ServiceFault::Memory);
-    };
     let Ok(mut writer) = BufWriter::with_capacity(alloc, 65_536, output) else {
         return Err(ServiceFault::Memory);
     };
-    run(rt, alloc, kind, &mut reader, &mut writer)?;
+    run(rt, alloc, kind, reader, &mut writer)?;
     writer.flush().map_err(|_| ServiceFault::WriteFault)
 }
 
-// The exit code, with a line on standard error where there is no report.
-fn tell<R: Eprint>(rt: &R, end: Result<(), NoReport>) -> ExitCode
+// Returns the exit code. If there is no report, it prints a line on standard error that says why.
+fn report<R: Eprint>(rt: &R, end: Result<(), NoReport>) -> ExitCode
     ensures { exit_status result ≡ status_after end }
 {
     match end {

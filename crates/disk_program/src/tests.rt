@@ -1,7 +1,7 @@
-//! What stands on standard error where there is no report.
+//! The text on standard error if there is no report, and which arguments are refused.
 
 use crate::no_report::NoReport;
-use crate::{named_kind, tell};
+use crate::{named_kind, report};
 use disk_service::{Kind, ServiceFault};
 use std::cell::RefCell;
 use std::fmt::Display;
@@ -52,7 +52,7 @@ fn ends_with_one_line_and_a_status(rt: HostRuntime) {
         let kept = Kept {
             bytes: RefCell::new(Vec::new(rt.alloc())),
         };
-        let code = tell(&kept, end);
+        let code = report(&kept, end);
         let Kept { bytes } = kept;
         let bytes = bytes.into_inner();
         assert!(rt; code == ExitCode::from(status), "{line}");

@@ -1,7 +1,8 @@
 //! What can go wrong with a script.
-ghost use Rattle.std.specs.Prelude.{◌≡◌};
+ghost use Rattle.std.specs.Prelude.{◌≡◌, ◌↔◌, IsNone};
 ghost use Rattle.hoare_script.specs.Runs.{status_of};
 
+use line_text::words::first_word;
 use thiserror::Error;
 
 /// Why a script ends early. A fault stands at a byte of the input, and the earliest is answered. Lines are counted from
@@ -44,5 +45,37 @@ impl ScriptFault {
             ScriptFault::ReadFault | ScriptFault::WriteFault | ScriptFault::Memory => 3,
             _ => 2,
         }
+    }
+    /// Returns what was expected instead, to show it beside `line`, the line at fault. Returns `None` if a read, a write
+    /// or memory failed: then no line is at fault.
+    pub fn expected(&self, line: &[u8]) -> Option<&'static str>
+        ensures { IsNone result ↔ (status_of self.now ≡ 3) }
+    {
+        match self {
+            ScriptFault::NoHeader => Some("'monitor P C' in the first line; there is none"),
+            ScriptFault::BadHeader(_) => {
+                Some("'monitor P C' or 'monitor P C M': P 1 to 64, C 1 to 8, M 0 to C")
+            }
+            ScriptFault::BadLine(_) => Some(expected_step(line)),
+            ScriptFault::LineTooLong(_) => Some("at most 256 bytes"),
+            ScriptFault::TooMuch => Some("at most 1048576 bytes in all"),
+            ScriptFault::ReadFault | ScriptFault::WriteFault | ScriptFault::Memory => None,
+        }
+    }
+}
+
+// Returns the form of a step that begins with the first word of `line`, or the words that steps begin with.
+fn expected_step(line: &[u8]) -> &'static str {
+    let (word, _rest) = first_word(line);
+    match word {
+        b"enter" | b"leave" => "'enter K' or 'leave K' (one space between, no leading 0)",
+        b"wait" => "'wait K C P' (one space between two, no leading 0)",
+        b"signal" | b"pass" => "'signal K C' or 'pass K C' (one space between two, no leading 0)",
+        b"notify" | b"broadcast" => {
+            "'notify K C' or 'broadcast K C' (one space between two, no leading 0)"
+        }
+        b"queue" | b"first" => "'queue C' or 'first C' (one space between, no leading 0)",
+        b"monitor" => "a step: only the first line is a 'monitor'",
+        _ => "enter, wait, signal, pass, leave, notify, broadcast, queue or first, and its numbers",
     }
 }

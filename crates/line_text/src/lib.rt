@@ -3,6 +3,7 @@
 #![tactic(auto)]
 
 pub mod forms;
+pub mod last_line;
 pub mod line;
 pub mod reader;
 pub mod text;

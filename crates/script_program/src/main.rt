@@ -11,25 +11,29 @@ ghost use Rattle.script_program.specs.Statuses.{status_after};
 
 use crate::not_answered::NotAnswered;
 use hoare_script::{ScriptFault, run};
+use line_text::last_line::{LineKeeper, explain};
 use std::io::BufReader;
 use std::process::ExitCode;
 
+// Reads ahead, so that a byte isn't a system call. Each answer is one write, made before the next line is read.
 fn main(rt: HostRuntime) -> ExitCode {
-    let end = answer_input(&rt);
-    tell(&rt, end)
-}
-
-// Reads ahead, so that a byte isn't a call of the system; each answer is one write, and so is there before the next
-// line is waited for.
-fn answer_input(rt: &HostRuntime) -> Result<(), ScriptFault> {
-    let Ok(mut reader) = BufReader::with_capacity(rt.alloc(), 65_536, rt.stdin()) else {
-        return Err(ScriptFault::Memory);
+    let Ok(ahead) = BufReader::with_capacity(rt.alloc(), 65_536, rt.stdin()) else {
+        return report(&rt, Err(ScriptFault::Memory));
     };
-    run(rt.alloc(), &mut reader, &mut rt.stdout())
+    let mut reader = LineKeeper::new(ahead);
+    let end = run(rt.alloc(), &mut reader, &mut rt.stdout());
+    let code = report(&rt, end);
+    let line = reader.last_line();
+    if let Err(fault) = end
+        && let Some(expected) = fault.expected(line.bytes())
+    {
+        explain(&rt, line, expected);
+    }
+    code
 }
 
-// The exit code, with a line on standard error where there is a fault.
-fn tell<R: Eprint>(rt: &R, end: Result<(), ScriptFault>) -> ExitCode
+// Returns the exit code, and prints the line of a fault on standard error.
+fn report<R: Eprint>(rt: &R, end: Result<(), ScriptFault>) -> ExitCode
     ensures { exit_status result ≡ status_after end }
 {
     match end {

@@ -1,10 +1,10 @@
-//! What the program says where a script has a fault.
+//! The line that the program prints for a fault.
 
 use hoare_script::ScriptFault;
 use std::fmt;
 use std::fmt::{Display, Formatter, Write};
 
-/// Why not all lines were answered. Its text is the line on standard error.
+/// The fault by which not all lines were answered. Its text is the line on standard error.
 #[derive(Clone, Copy, Debug, PartialEq, Eq)]
 pub struct NotAnswered(pub ScriptFault);
 

@@ -1,4 +1,4 @@
-//! What stands on standard error where a script has a fault.
+//! The text of a fault on standard error.
 
 use crate::not_answered::NotAnswered;
 use hoare_script::ScriptFault;

@@ -1,4 +1,4 @@
-//! The book of one monitor: who is inside, who waits, who signalled and who was called.
+//! The book of one monitor: the place inside, the waiters, the waiting signallers and the notified processes.
 mod stepping;
 mod waits;
 
@@ -10,17 +10,19 @@ use hoare_law::turn::Turn;
 use std::alloc::Global;
 use std::marker::Model;
 
-/// The most places that a book has.
+/// The largest number of places that a book may have.
 pub const MOST_PLACES: usize = 64;
 
-/// The most conditions that a book has.
+/// The largest number of conditions that a book may have, Mesa conditions included.
 pub const MOST_CONDITIONS: usize = 8;
 
-/// The queues of one monitor: who waits on each condition, who waits as a signaller, who was called, and whose turn it
-/// is ("Monitors", Introduction, Interpretation and Scheduled Waits). It is for one thread, and holds no data.
+/// The queues of one monitor: the waiters on each condition, the waiting signallers, the notified processes (names say
+/// *called*), and whose turn it is ("Monitors", Introduction, Interpretation and Scheduled Waits). It is for one
+/// thread, and holds no data.
 ///
-/// A clause of a call that changes it reads: for every history that the book was of, it is afterwards of that history
-/// with the call's event. `sizes` says that the call kept the places, the conditions and the memory that `make` took.
+/// Clause `of` of a call that changes the book reads: for every history that the book was of, it is afterwards of that
+/// history with the call's event. Clause `sizes` says that the call kept the numbers of places and conditions, and the
+/// memory that `make` took. What a call requires, its caller must prove.
 ///
 /// ```rust
 /// let mut book = Book::make(alloc, 2, 1, 0)?; // 2 places, 1 condition, none of it a Mesa condition
@@ -68,9 +70,11 @@ impl Book {
     ghost use Rattle.wait_book.specs.Stepping.{IsSettled, after_broadcast, after_notify, after_pass, after_signal};
     ghost use Rattle.wait_book.specs.Stepping.{after_step, refusal_of, settled};
 
-    /// A book of 1 to 64 places and 1 to 8 conditions, of which the last `mesa` are Mesa conditions, where nothing
-    /// happened yet. Refused, in this order: `BadPlaces`, `BadConditions`, and `Memory` where the room for all places
-    /// to wait, to be waiting signallers or to be called can't be had.
+    /// Creates a book of 1 to 64 places and 1 to 8 conditions, of which the last `mesa` are Mesa conditions. Its
+    /// history has no event. Allocates a node for each place, so that all can wait, be signallers or be notified.
+    ///
+    /// Refuses, in this order, with `BadPlaces`, `BadConditions` (also if `mesa` is over `conditions`), and `Memory` if
+    /// the allocation failed or came with room for more than 256 nodes.
     pub fn make(
         alloc: Global,
         places: usize,
@@ -106,7 +110,7 @@ impl Book {
         })
     }
 
-    /// How many places it has: 1 to 64.
+    /// Returns the number of places: 1 to 64.
     pub fn places(&self) -> usize
         ensures is { result ≡ self.now.sizes.places }
         ensures some { 1 ≤ result }
@@ -115,7 +119,7 @@ impl Book {
         self.sizes.places
     }
 
-    /// How many conditions it has, Mesa conditions included: 1 to 8.
+    /// Returns the number of conditions, Mesa conditions included: 1 to 8.
     pub fn conditions(&self) -> usize
         ensures is { result ≡ self.now.sizes.conditions }
         ensures some { 1 ≤ result }
@@ -124,7 +128,8 @@ impl Book {
         self.sizes.conditions
     }
 
-    /// Who goes on.
+    /// Returns whose turn it is: `Held` of the place inside, `For` of the place to which the monitor is owed (a waiter
+    /// that was resumed or notified, or a signaller that returns), or `Free`.
     pub fn now(&self) -> Next
         ensures turn { result ≡ next_of self.now.turn }
         ensures of { (h : History (Unit {0})) → IsOf self.now h
@@ -139,7 +144,8 @@ impl Book {
         }
     }
 
-    /// Whether a place is outside: not inside, not waiting on a condition, no waiting signaller and not called.
+    /// Returns true if `place` is outside: not inside, not waiting on a condition, not a waiting signaller, not
+    /// notified, and not owed the monitor.
     pub fn outside(&self, place: usize) -> bool
         requires { place < self.now.sizes.places }
         ensures nowhere { result ≡ (times_in place self.now == 0) }
@@ -152,7 +158,7 @@ impl Book {
         !is_in_hand(self.turn, self.sizes.conditions - self.sizes.mesa, place)
     }
 
-    /// Whether somebody waits on a condition (Hoare's `queue`).
+    /// Returns true if a process waits on `condition` (Hoare's `queue`).
     pub fn queue(&self, condition: usize) -> bool
         requires { condition < self.now.sizes.conditions }
         ensures lists { IsTrue result ↔ (priorities_on self.now condition ≢ []) }
@@ -162,7 +168,8 @@ impl Book {
         self.first(condition).is_some()
     }
 
-    /// The priority of the process that a signal on a condition would resume, if somebody waits there.
+    /// Returns the priority of the first waiter on `condition` (least priority, then longest wait), which a signal
+    /// would resume. Returns `None` if no process waits there.
     pub fn first(&self, condition: usize) -> Option<u64>
         requires { condition < self.now.sizes.conditions }
         ensures lists { MatchOption result
@@ -175,8 +182,8 @@ impl Book {
         first_priority(&self.chains, condition)
     }
 
-    /// The number of a place among those that were called and haven't gone on yet: 1 of the one that goes on first, and
-    /// 0 of a place that isn't among them.
+    /// Returns the number of `place` among the processes that were notified and haven't resumed yet: 1 if it resumes
+    /// first, 0 if it isn't among them.
     pub fn number_called(&self, place: usize) -> usize
         ensures of { (h : History (Unit {0})) → IsOf self.now h
             → result ≡ number_called h.events place }
@@ -185,7 +192,7 @@ impl Book {
         number_called(&self.chains, place)
     }
 
-    /// A newcomer comes in, where the monitor is free and its place is outside.
+    /// Admits `place`, which is then inside. Requires that the monitor is free and the place is outside.
     pub fn admit(&mut self, place: usize)
         requires free { self.old.turn ≡ turns.Free }
         requires place { place < self.old.sizes.places }
@@ -199,8 +206,9 @@ impl Book {
         self.turn = Turn::Held(place); // free before
     }
 
-    /// The place that is handed the monitor goes on: it returns from a wait, by a signal or a call, or from a signal.
-    #[inline(always)] // as `settle` is, which calls it
+    /// Lets `place` resume, which is then inside: it returns from a wait, after a signal or a notification, or from its
+    /// own signal. Requires that the monitor is owed to the place.
+    #[inline(always)] // as `settle`, which calls it, is
     pub fn claim(&mut self, place: usize)
         requires { next_of self.old.turn ≡ Next.For place }
         ensures inside { self.new.turn ≡ turns.Held place }
@@ -215,8 +223,9 @@ impl Book {
         self.turn = Turn::Held(place); // owed before
     }
 
-    /// The place inside waits on a condition with a priority. The longest waiting signaller goes on, else the first
-    /// that was called, or nobody.
+    /// Lets `place`, which is inside, wait on `condition`. Among waiters the least `priority` is resumed first, and of
+    /// equal priorities the longest wait. Returns which place resumes next: `For` of the longest waiting signaller,
+    /// else `For` of the first notified process, else `Free`.
     pub fn wait(&mut self, place: usize, condition: usize, priority: u64) -> Next
         requires inside { self.old.turn ≡ turns.Held place }
         requires condition { condition < self.old.sizes.conditions }
@@ -234,7 +243,8 @@ impl Book {
         self.now()
     }
 
-    /// The place inside goes out. The longest waiting signaller goes on, else the first that was called, or nobody.
+    /// Lets `place`, which is inside, leave. Returns which place resumes next: `For` of the longest waiting signaller,
+    /// else `For` of the first notified process, else `Free`.
     pub fn leave(&mut self, place: usize) -> Next
         requires { self.old.turn ≡ turns.Held place }
         ensures of { (h : History (Unit {0})) → IsOf self.old h
@@ -249,8 +259,9 @@ impl Book {
         self.now()
     }
 
-    /// The place inside signals one of Hoare's conditions: the longest waiting of least priority is handed the monitor,
-    /// and the place is held up as a signaller. Where nobody waits, nothing changes.
+    /// Lets `place`, which is inside, signal `condition`, one of Hoare's. The monitor is handed to the first waiter
+    /// (least priority, then longest wait), and `place` is held up as a signaller. Returns `For` of that waiter. If no
+    /// process waits there, changes nothing and returns `Held(place)`.
     pub fn signal(&mut self, place: usize, condition: usize) -> Next
         requires inside { self.old.turn ≡ turns.Held place }
         requires hoare { IsHoare self.old.sizes.conditions self.old.sizes.mesa condition }
@@ -274,8 +285,9 @@ impl Book {
         self.now()
     }
 
-    /// The place inside signals one of Hoare's conditions as its last act: who is resumed is handed the monitor, and
-    /// the place is outside. Where nobody waits, it leaves.
+    /// Lets `place`, which is inside, signal `condition`, one of Hoare's, as its last act. The monitor is handed to the
+    /// first waiter (least priority, then longest wait), and `place` is outside. Returns `For` of that waiter. If no
+    /// process waits there, does what `leave` does.
     pub fn pass(&mut self, place: usize, condition: usize) -> Next
         requires inside { self.old.turn ≡ turns.Held place }
         requires hoare { IsHoare self.old.sizes.conditions self.old.sizes.mesa condition }
@@ -297,8 +309,8 @@ impl Book {
         self.now()
     }
 
-    /// The place inside calls the process that a signal on a Mesa condition would resume, and stays inside. True
-    /// exactly where somebody waits there; where nobody does, nothing changes.
+    /// Notifies the first waiter (least priority, then longest wait) on `condition`, a Mesa condition. `place` stays
+    /// inside. Returns true if a process waits there; else changes nothing and returns false.
     #[inline(never)] // apart, so that `try_step` stays small
     pub fn notify(&mut self, place: usize, condition: usize) -> bool
         requires inside { self.old.turn ≡ turns.Held place }
@@ -315,8 +327,8 @@ impl Book {
         self.chains.call_first(condition)
     }
 
-    /// The place inside calls all that wait on a Mesa condition, in the order in which signals would resume them, stays
-    /// inside, and is told how many they are.
+    /// Notifies all waiters on `condition`, a Mesa condition, in the order in which signals would resume them. `place`
+    /// stays inside. Returns the number of these waiters.
     #[inline(never)] // apart, so that `try_step` stays small
     pub fn broadcast(&mut self, place: usize, condition: usize) -> usize
         requires inside { self.old.turn ≡ turns.Held place }

@@ -1,5 +1,5 @@
-//! The chains of a book: who waits on each condition, who waits as a signaller, and who was called. The nodes of all
-//! chains lie in one slab, and each holds the key of the next one.
+//! The chains of a book: the waiters on each condition, the waiting signallers, and the notified processes. The nodes
+//! of all chains are in one slab, and each holds the key of the next node.
 ghost use Rattle.std.specs.Prelude.{◌≡◌, ◌<◌, ◌≤◌, ◌==◌, ℕ, [], ◌++◌, List, Option, Some, None, is_some};
 ghost use Rattle.std.specs.Prelude.{if◌then◌else◌, not, IfOk, IfSome, MatchOption};
 ghost use Rattle.std.specs.List.Sorted.{IsNonDecreasing};
@@ -18,19 +18,20 @@ use slab::Slab;
 use std::alloc::{AllocError, Global};
 use std::marker::Model;
 
-/// The number of the signallers' chain, behind those of the conditions.
+/// The index of the signallers' chain: it follows the chains of the conditions.
 pub(crate) const SIGNALLERS: usize = MOST_CONDITIONS;
 
-/// The number of the chain of those that were called, behind the signallers'.
+/// The index of the chain of the notified: it follows the signallers' chain.
 pub(crate) const CALLED: usize = MOST_CONDITIONS + 1;
 
-/// The most nodes for which there may be room: their keys fit a byte.
+/// The largest number of nodes for which the slab may have room, so that each key fits a byte.
 const MOST_KEYS: usize = 256;
 
-/// How many chains there are: one for each condition, the signallers' and that of those called.
+/// The number of chains: one for each possible condition, the signallers' and that of the notified.
 pub(crate) const CHAINS: usize = MOST_CONDITIONS + 2;
 
-/// One that stands in a chain: the key of its node, its place, and the condition and the priority of its wait.
+/// An entry of a chain: the key of its node, its place, and the condition and the priority of its wait. In the
+/// signallers' chain the condition is that of the signal, and the priority is 0.
 #[derive(Clone, Copy)]
 pub(crate) struct Link {
     pub(crate) key: u8,
@@ -39,8 +40,9 @@ pub(crate) struct Link {
     pub(crate) priority: u64,
 }
 
-// One that stands in a chain, with the key of the next one's node. All that fits a byte is one, here and in a chain, so
-// that a step writes few lines of the cache. Fields lie in this order: with the widest first, a node has 16 bytes.
+// An entry of a chain as the slab stores it, with the key of the next node. What fits a byte is a byte, here and in
+// `Chain`, so that a step writes few cache lines. The fields are in this order because a node with the widest field
+// first has 16 bytes.
 #[derive(Clone, Copy)]
 struct Node {
     priority: u64,
@@ -49,14 +51,14 @@ struct Node {
     next: Option<u8>,
 }
 
-// The keys of a chain's first node and of its last.
+// A chain, by the keys of its first node and of its last; both are `None` if it is empty.
 #[derive(Clone, Copy)]
 struct Chain {
     first: Option<u8>,
     last: Option<u8>,
 }
 
-/// The chains, the slab in which the nodes of all lie, and a mark for each place that stands in a chain.
+/// All chains of a book, the slab with their nodes, and for each place a mark, which is true if it is in a chain.
 #[derive(Drop)]
 pub(crate) struct Chains {
     chains: [Chain; CHAINS],
@@ -76,7 +78,7 @@ impl Model for Chains {
     ghost invariant = { IsGood };
 }
 
-// The key behind a node, or of the first where none is before.
+// Returns the key that follows the node `behind` in its chain, or `first` if `behind` is `None`.
 fn next_of(nodes: &Slab<Node>, first: Option<u8>, behind: Option<u8>) -> Option<u8>
     requires { IfSome behind (ContainsKey nodes.now) }
     ensures { (before : List Link) (to : Option ℕ) → IsLinked nodes.now first before to
@@ -88,7 +90,8 @@ fn next_of(nodes: &Slab<Node>, first: Option<u8>, behind: Option<u8>) -> Option<
     }
 }
 
-// Puts a key behind a node, or first where none is before, and answers the first.
+// Makes `key` follow the node `behind`. If `behind` is `None`, makes it the first key, and changes no node. Returns the
+// key of the first node after that.
 fn set_next(nodes: &mut Slab<Node>, first: Option<u8>, behind: Option<u8>, key: u8) -> Option<u8>
     requires { IfSome behind (ContainsKey nodes.old) }
     ensures { IsKeyPut first behind key result nodes.old nodes.new }
@@ -102,7 +105,8 @@ fn set_next(nodes: &mut Slab<Node>, first: Option<u8>, behind: Option<u8>, key: 
     }
 }
 
-// The last key of a chain as it was, where a node comes behind the place of a change; else another.
+// Returns the key of a chain's last node after a change: `last`, as it was, if the node `next` follows the change; else
+// `otherwise`.
 fn last_after(next: Option<u8>, last: Option<u8>, otherwise: Option<u8>) -> Option<u8>
     ensures { result ≡ (if is_some next then last else otherwise) }
 {
@@ -112,7 +116,7 @@ fn last_after(next: Option<u8>, last: Option<u8>, otherwise: Option<u8>) -> Opti
     }
 }
 
-// The first of a chain went: the next one is its first, and where there is none, none is its last.
+// Removes the first key from a chain: `next` becomes its first. If that is `None`, the chain is empty.
 fn move_on(chain: &mut Chain, next: Option<u8>)
     ensures first { chain.new.first ≡ next }
     ensures last { chain.new.last ≡ (if is_some next then chain.old.last else None) }
@@ -124,14 +128,16 @@ fn move_on(chain: &mut Chain, next: Option<u8>)
 }
 
 impl Chains {
-    /// Empty chains, with memory for this number of nodes.
+    /// Creates empty chains with memory for `places` nodes. Refuses if the allocation failed, or came with room for
+    /// more than `MOST_KEYS` nodes.
     pub(crate) fn make(alloc: Global, places: usize) -> Result<Chains, AllocError>
         ensures empty { IfOk result (λ q. (c : ℕ) → list_at q c ≡ []) }
         ensures room { IfOk result (λ q. places ≤ q.room) }
     {
         let nodes = Slab::with_capacity(alloc, places)?;
         if nodes.capacity() > MOST_KEYS {
-            // Not seen to happen: a slab promises at least the room asked for, and keys above 255 don't fit.
+            // Not seen to happen. A slab promises only that the room is at least what was asked for, and a key above
+            // 255 doesn't fit a byte.
             return Err(AllocError);
         }
         Ok(Chains {
@@ -144,7 +150,7 @@ impl Chains {
         })
     }
 
-    /// Those in a chain, the first one first.
+    /// Returns an iterator over the links of `chain`, from the first to the last.
     pub(crate) fn on(&self, chain: usize) -> Links<'_>
         requires { chain < CHAINS }
         ensures { result ≡ list_at self.now chain }
@@ -155,7 +161,7 @@ impl Chains {
         }
     }
 
-    /// The first in a chain.
+    /// Returns the first link of `chain`, or `None` if it is empty.
     pub(crate) fn first(&self, chain: usize) -> Option<Link>
         requires { chain < CHAINS }
         ensures { result ≡ first_link (list_at self.now chain) }
@@ -163,14 +169,15 @@ impl Chains {
         self.on(chain).next()
     }
 
-    /// Whether a place stands in a chain: one look at its mark.
+    /// Returns true if `place` is in a chain. Reads its mark alone.
     pub(crate) fn holds(&self, place: usize) -> bool
         ensures { not result ≡ (times place (places_below CHAINS (list_at self.now)) == 0) }
     {
         matches!(self.standing.get(place), Some(true))
     }
 
-    // The key of the last in a chain whose priority isn't above this one, met on a walk from the first.
+    // Returns the key of the node after which a wait of `priority` is inserted: the last whose priority isn't above it,
+    // or `None` if there is none. Walks `chain` from the first, up to the first whose priority is above.
     fn walk_behind(&self, chain: usize, priority: u64) -> Option<u8>
         requires { chain < CHAINS }
         ensures { result ≡ last_key (lower priority (list_at self.now chain)) }
@@ -185,7 +192,8 @@ impl Chains {
         behind
     }
 
-    // The same, in one step where the chain's last isn't above.
+    // Returns the same key as `walk_behind`, in one step if the priority of the last node of `chain` isn't above
+    // `priority`. Requires that the priorities in `chain` don't fall.
     fn behind(&self, chain: usize, priority: u64) -> Option<u8>
         requires chain { chain < CHAINS }
         requires ordered { IsNonDecreasing (priorities (list_at self.now chain)) }
@@ -198,8 +206,8 @@ impl Chains {
         self.walk_behind(chain, priority)
     }
 
-    // Puts a place that stands in no chain into one, behind a node or first. In line, as `append` and `take_first` are:
-    // called apart they make a step of a book a tenth longer.
+    // Inserts `place`, which is in no chain, into `chain`: after the node `behind`, or first if that is `None`.
+    // Inlined, as `append` and `take_first` are: as calls they make a step of a book a tenth longer.
     #[inline(always)]
     fn link(
         &mut self,
@@ -237,7 +245,7 @@ impl Chains {
         self.standing[place] = true;
     }
 
-    /// Puts a place that stands in no chain behind all in one that is no condition's.
+    /// Appends `place`, which is in no chain, to `chain`, which is that of the signallers or of the notified.
     #[inline(always)]
     pub(crate) fn append(&mut self, chain: usize, place: usize, condition: usize, priority: u64)
         requires chain { chain < CHAINS }
@@ -252,8 +260,8 @@ impl Chains {
         self.link(chain, behind, place, condition, priority);
     }
 
-    /// Puts a place that stands in no chain into one that stands in order, behind those whose priority is its own or
-    /// less.
+    /// Inserts `place`, which is in no chain, into `chain`, whose priorities don't fall: after the links whose priority
+    /// is at most `priority`, before the others. `chain` is also the condition that the link records.
     pub(crate) fn insert(&mut self, chain: usize, place: usize, priority: u64)
         requires chain { chain < CHAINS }
         requires place { place < MOST_PLACES }
@@ -267,7 +275,8 @@ impl Chains {
         self.link(chain, behind, place, chain, priority);
     }
 
-    /// Takes the first out of a chain, and answers its place.
+    /// Removes the first link of `chain` and returns its place. If the chain is empty, changes nothing and returns
+    /// `None`.
     #[inline(always)]
     pub(crate) fn take_first(&mut self, chain: usize) -> Option<usize>
         requires { chain < CHAINS }
@@ -283,8 +292,8 @@ impl Chains {
         Some(place)
     }
 
-    /// Puts the first in the chain of a condition behind those that were called: its node stays where it lies. Answers
-    /// whether there is one.
+    /// Moves the first link of `chain`, that of a condition, to the end of the chain of the notified. Its node keeps
+    /// its key. Returns false if the chain is empty, and then changes nothing; else returns true.
     #[inline(always)] // it has one caller
     pub(crate) fn call_first(&mut self, chain: usize) -> bool
         requires { chain < SIGNALLERS }
@@ -304,8 +313,8 @@ impl Chains {
         true
     }
 
-    /// Puts all in the chain of a condition behind those that were called, in their order: one link is set, however
-    /// many they are.
+    /// Moves all links of `chain`, that of a condition, to the end of the chain of the notified, in their order. Sets
+    /// the next key of one node at most, however many links there are.
     pub(crate) fn call_all(&mut self, chain: usize)
         requires { chain < SIGNALLERS }
         ensures { IsJoined chain self.old self.new }

@@ -1,4 +1,5 @@
-//! The book of a monitor's queues: the machine of entry, signallers and conditions for one thread.
+//! The queues of one monitor as Hoare defined it, for one thread: entry, waiting signallers, conditions and notified
+//! processes. It holds no data and no lock.
 #![tactic(auto)]
 
 pub mod book;

@@ -1,4 +1,4 @@
-//! What a book asks of its turn, and of the chains of signallers and of those called.
+//! What a book asks of its turn and of its chains: the next turn, priorities of waiters, and numbers of the notified.
 ghost use Rattle.std.specs.Prelude.{◌≡◌, ◌<◌, ◌≤◌, ◌==◌, length, not, map};
 ghost use Rattle.std.specs.List.{slice_get};
 ghost use Rattle.std.specs.Option.{option_map};
@@ -13,8 +13,8 @@ ghost use Rattle.wait_book.specs.declared.chains.Link.{Link};
 use crate::chains::{CALLED, CHAINS, Chains, SIGNALLERS};
 use hoare_law::turn::Turn;
 
-/// Who goes on where the monitor is given up: the longest waiting signaller, else the first that was called, else
-/// nobody.
+/// Returns the turn once the monitor is released: that of the longest waiting signaller, else that of the first
+/// notified process, else `Free`.
 pub(crate) fn turn_given_up(chains: &Chains) -> Turn
     ensures { result ≡ turn_given_up (places_in (list_at chains.now SIGNALLERS))
         (map wait_of (called_in (list_at chains.now CALLED))) }
@@ -28,7 +28,7 @@ pub(crate) fn turn_given_up(chains: &Chains) -> Turn
     }
 }
 
-/// The priority of the first that waits on a condition.
+/// Returns the priority of the first waiter on `condition`, or `None` if no process waits there.
 pub(crate) fn first_priority(chains: &Chains, condition: usize) -> Option<u64>
     requires { condition < CHAINS }
     ensures { result ≡ option_map (λ (x : Link). x.priority)
@@ -37,7 +37,8 @@ pub(crate) fn first_priority(chains: &Chains, condition: usize) -> Option<u64>
     chains.first(condition).map(|link| link.priority)
 }
 
-/// The priority of the `i`-th that waits on a condition, counted from 0.
+/// Returns the priority of the waiter number `i` on `condition`, counted from 0, or `None` if there are no more than
+/// `i`.
 pub(crate) fn nth_priority(chains: &Chains, condition: usize, i: usize) -> Option<u64>
     requires { condition < CHAINS }
     ensures { result ≡ option_map (λ (x : Link). x.priority)
@@ -47,7 +48,7 @@ pub(crate) fn nth_priority(chains: &Chains, condition: usize, i: usize) -> Optio
     Some(link.priority)
 }
 
-/// The number of a place among those that were called, counted from 1; 0 where it isn't among them.
+/// Returns the number of `place` among the notified, counted from 1, or 0 if it isn't among them.
 pub(crate) fn number_called(chains: &Chains, place: usize) -> usize
     requires { length (list_at chains.now CALLED) ≤ 64 }
     ensures number { result ≡ number_from 0 place (places_in (list_at chains.now CALLED)) }
@@ -63,7 +64,7 @@ pub(crate) fn number_called(chains: &Chains, place: usize) -> usize
     0
 }
 
-/// Whether a place is the one inside, or was resumed from one of the first conditions, which are Hoare's.
+/// Returns true if `place` is inside, or was resumed from one of the first `hoare` conditions, which are Hoare's.
 pub(crate) fn is_in_hand(turn: Turn, hoare: usize, place: usize) -> bool
     ensures { not result ≡ (times_in_hand place hoare turn == 0) }
 {
@@ -74,8 +75,9 @@ pub(crate) fn is_in_hand(turn: Turn, hoare: usize, place: usize) -> bool
     }
 }
 
-/// The chain in which a place stands that is to go on: that of the signallers where it returns from a signal, that of
-/// the called where it waited behind the first conditions, which are Hoare's; none where it was resumed.
+/// Returns the chain that the place to resume is in: the signallers' if it returns from a signal, that of the notified
+/// if it waited on a condition after the first `hoare`, which are Hoare's. Returns `None` if a signal resumed it, or if
+/// the monitor is owed to no place.
 pub(crate) fn chain_of(turn: Turn, hoare: usize) -> Option<usize>
     ensures { result ≡ chain_of turn hoare }
 {

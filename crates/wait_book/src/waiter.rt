@@ -1,13 +1,13 @@
-//! A process that waits.
+//! A waiter, as contracts see it.
 
-/// A process that waits: its place, the condition that it waits on, and its priority. Only contracts speak of it, as of
-/// what a book contains; no value of it is made.
+/// A process that waits on a condition. Contracts alone use this type, to say what a book contains; no code creates a
+/// value of it.
 #[derive(Clone, Copy)]
 pub struct Waiter {
-    /// Its place.
+    /// The place of the waiter.
     pub place: usize,
-    /// The condition that it waits on.
+    /// The condition on which it waits.
     pub condition: usize,
-    /// Its priority: the least goes on first.
+    /// The priority of its wait. The waiter of least priority is resumed first.
     pub priority: u64,
 }

@@ -1,4 +1,4 @@
-//! A book moved by any step, with what is refused.
+//! Any step of a book by its numbers, or its refusal.
 ghost use Rattle.std.specs.Prelude.{ℕ};
 
 use super::Book;
@@ -14,8 +14,8 @@ impl Book {
     ghost use Rattle.wait_book.specs.Stepping.{IsOfKind, IsSettled, act_refusal, after_step, condition_refusal};
     ghost use Rattle.wait_book.specs.Stepping.{enter_refusal, kind_refusal, refusal_of, settled};
 
-    // Whoever is owed the monitor goes on. It is called at three places of `try_step`, each of which is to have it in
-    // line.
+    // Lets the place to which the monitor is owed resume, if there is one. Returns the turn after that. `try_step`
+    // calls it at three places, and each is to have it inlined.
     #[inline(always)]
     fn settle(&mut self) -> Next
         ensures next { result ≡ next_of self.new.turn }
@@ -33,7 +33,7 @@ impl Book {
         }
     }
 
-    // The place, if it may come in.
+    // Returns the place if it may enter. Refuses, in this order, with `NoPlace`, `NotFree` and `NotOutside`.
     fn newcomer(&self, place: u64) -> Result<usize, StepRefused>
         ensures ok { IfOk result (λ k. (k ≡ place) × (self.now.turn ≡ turns.Free)
             × (k < self.now.sizes.places) × (times_in k self.now ≡ 0)) }
@@ -54,7 +54,7 @@ impl Book {
         Ok(place)
     }
 
-    // The place, if it is inside.
+    // Returns the place if it is inside. Refuses, in this order, with `NoPlace` and `NotInside`.
     fn holder(&self, place: u64) -> Result<usize, StepRefused>
         ensures ok { IfOk result (λ k. (k ≡ place) × (self.now.turn ≡ turns.Held k)) }
         ensures of { (h : History (Unit {0})) (further : Option StepRefused) → IsOf self.now h
@@ -71,7 +71,7 @@ impl Book {
         }
     }
 
-    // The condition, if there is one of this number.
+    // Returns the condition if the book has one of this number. Refuses with `NoCondition`.
     fn condition(&self, condition: u64) -> Result<usize, StepRefused>
         ensures ok { IfOk result (λ c. (c ≡ condition) × (c < self.now.sizes.conditions)) }
         ensures of { (h : History (Unit {0})) → IsOf self.now h → MatchResult result
@@ -84,7 +84,8 @@ impl Book {
         Ok(condition as usize)
     }
 
-    // The condition, if there is one of this number, and it is one of Hoare's or a Mesa condition as asked.
+    // Returns the condition if the book has one of this number and kind: a Mesa condition if `mesa`, else one of
+    // Hoare's. Refuses, in this order, with `NoCondition` and `WrongKind`.
     fn condition_of(&self, condition: u64, mesa: bool) -> Result<usize, StepRefused>
         ensures ok { IfOk result (λ c. (c ≡ condition)
             × IsOfKind self.now.sizes.conditions self.now.sizes.mesa mesa c) }
@@ -104,7 +105,8 @@ impl Book {
         Ok(condition)
     }
 
-    // The place, if it is inside, and the condition, if there is one of this number and kind.
+    // Returns the place if it is inside, with the condition if there is one of this number and kind. Refuses as
+    // `holder` does, then as `condition_of` does.
     fn holder_of(
         &self,
         place: u64,
@@ -122,7 +124,8 @@ impl Book {
         Ok((place, condition))
     }
 
-    // The place, if it is inside, and the condition, if there is one of this number.
+    // Returns the place if it is inside, with the condition if there is one of this number. Refuses as `holder` does,
+    // then as `condition` does.
     fn holder_on(&self, place: u64, condition: u64) -> Result<(usize, usize), StepRefused>
         ensures ok { IfOk result (λ r. (r.0 ≡ place) × (self.now.turn ≡ turns.Held r.0)
             × (r.1 ≡ condition) × (r.1 < self.now.sizes.conditions)) }
@@ -135,9 +138,12 @@ impl Book {
         Ok((place, condition))
     }
 
-    /// Does a step, and then lets the place that is owed the monitor go on, so that the answer is who is inside, or
-    /// that the monitor is free. Refused, in this order: `NoPlace`; `NotFree` and `NotOutside` (an `Enter`);
-    /// `NotInside`, `NoCondition` and `WrongKind` (the others). A refusal changes nothing.
+    /// Does `step`, and then lets the place to which the monitor is owed resume. So it returns `Held` of the place
+    /// inside, or `Free`, and never `For`.
+    ///
+    /// Refuses with the first that applies. An `Enter`: `NoPlace`, `NotFree`, `NotOutside`. Any other step: `NoPlace`,
+    /// `NotInside`, `NoCondition` (not a `Leave`), `WrongKind` (neither a `Leave` nor a `Wait`). A refusal changes
+    /// nothing.
     pub fn try_step(&mut self, step: Step) -> Result<Next, StepRefused>
         ensures of { (h : History (Unit {0})) → IsOf self.old h → MatchResult result
             (λ _. (refusal_of h step ≡ None) × IsOf self.new (after_step h step))

@@ -1,4 +1,4 @@
-//! The waiting priorities of a book.
+//! The waiting priorities of a book, as the trait `Waits` gives them to code.
 ghost use Rattle.std.specs.Prelude.{◌≡◌, ◌<◌, ℕ, length, slice_index};
 
 use super::Book;

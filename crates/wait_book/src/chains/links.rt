@@ -1,15 +1,15 @@
-//! A walk along a chain.
+//! The iterator along a chain.
 ghost use Rattle.std.specs.Iterator.{YieldsFirst, item_count};
 
 use super::{Link, Node};
 use slab::Slab;
 use std::marker::Model;
 
-/// Those in a chain from one on, seen as the list of those that are left.
+/// Iterates over the links of a chain. Its model is the list of the links that it hasn't yielded yet.
 #[derive(Drop)]
 pub(crate) struct Links<'a> {
     pub(super) nodes: &'a Slab<Node>,
-    // The key of the next node.
+    // The key of the node that it yields next, or `None` at the end of the chain.
     pub(super) at: Option<u8>,
 }
 

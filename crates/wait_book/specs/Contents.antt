@@ -1,4 +1,4 @@
--- What a book holds, and of which histories it is.
+-- What a book contains, and of which histories it is.
 use Rattle.std.specs.Prelude.{ℕ, ◌≡◌, ◌<◌, ◌+◌, ◌-◌, ◌==◌, nat_le, nat_lt, ◌&&◌, if◌then◌else◌, List, [], ◌∷◌, map}
 use Rattle.std.specs.Prelude.{Option, Some, None, ⊤}
 use Rattle.std.specs.List.{filter}
@@ -20,9 +20,9 @@ use Rattle.wait_book.specs.declared.steps.Next.TheVariants as next
 use Rattle.wait_book.specs.declared.steps.MakeRefused.{MakeRefused}
 use Rattle.wait_book.specs.declared.steps.MakeRefused.TheVariants.{BadPlaces, BadConditions}
 
--- what a book holds: the sizes of its monitor, how many it has memory for to wait and as waiting signallers (it may be
--- one memory for both), who waits (on each condition by rising priority, equal ones by time), the signallers (the
--- longest waiting first), who was called (the first called first), and whose turn it is
+-- What a book contains. `room_to_wait` and `room_to_signal` say for how many waiters and waiting signallers it has
+-- memory (it may be one memory for both). The waiters on each condition are by rising priority, and equal ones by time.
+-- The signallers have the longest waiting first, and the called, which are the notified, the first notified first.
 pub record Contents : Type 0 where
   pub sizes : Sizes
   pub room_to_wait : ℕ
@@ -32,12 +32,12 @@ pub record Contents : Type 0 where
   pub called : List Waiter
   pub turn : Turn
 
--- the sizes stay, and the memory is what was there: no more was taken
+-- the sizes and the memory are as they were: no more memory was taken
 abbrev pub SameSizes : Contents → Contents → Type 0
 SameSizes old new =
     (new.sizes ≡ old.sizes) × (new.room_to_wait ≡ old.room_to_wait) × (new.room_to_signal ≡ old.room_to_signal)
 
--- who waits on c, in the order in which signals would resume them
+-- the waiters on c, in the order in which signals would resume them
 abbrev pub waiters_on : ℕ → Contents → List Waiter
 waiters_on c b = filter (λ w. w.condition == c) b.waiters
 
@@ -45,38 +45,40 @@ waiters_on c b = filter (λ w. w.condition == c) b.waiters
 abbrev pub priorities_on : Contents → ℕ → List ℕ
 priorities_on b c = in_order (λ p. p) (map (λ (w : Waiter). w.priority) (waiters_on c b))
 
--- 1 where both are one place, else 0
+-- 1 if both are the same place, else 0
 unfoldable pub one : ℕ → ℕ → ℕ
 one k j = if k == j then 1 else 0
 
--- how often place k stands in a list
+-- how often place k is in a list
 abbrev pub times : ℕ → List ℕ → ℕ
 times k [] = 0
 times k (j ∷ js) = one k j + times k js
 
--- how often place k has the turn by hand, where the first m conditions are Hoare's: it is inside, or was resumed (one
--- that was called stands among the called until it goes on, as one that returns does among the signallers)
+-- 1 if place k has the turn by hand, else 0, if the first m conditions are Hoare's: it is inside, or a signal resumed
+-- it. (A notified place is in the list of the called until it resumes, and a signaller in that of the signallers until
+-- it returns.)
 abbrev pub times_in_hand : ℕ → ℕ → Turn → ℕ
 times_in_hand k m Free = 0
 times_in_hand k m (Held j) = one k j
 times_in_hand k m (Owed j c) = if nat_lt c m then one k j else 0
 times_in_hand k m (Return j) = 0
 
--- how many conditions are Hoare's
+-- the number of Hoare's conditions
 abbrev pub hoare_of : Contents → ℕ
 hoare_of b = b.sizes.conditions - b.sizes.mesa
 
--- how often place k stands anywhere in the book
+-- how often place k is in the book: in its lists, or by its turn
 abbrev pub times_in : ℕ → Contents → ℕ
 times_in k b =
     times k (map (λ (w : Waiter). w.place) b.waiters) +
     (times k b.signallers + (times k (map (λ (w : Waiter). w.place) b.called) + times_in_hand k (hoare_of b) b.turn))
 
--- the waiter as the event by which it began to wait
+-- the event by which the waiter began to wait
 abbrev pub wait_of : Waiter → Event (Unit {0})
 wait_of w = Wait w.place w.condition w.priority tt
 
--- the book is of the history: its lists, its turn and its places are what the history says
+-- the book is of the history: the history is legal, and the book's sizes, lists and turn and the places that are
+-- outside are what the history says
 pub record IsOf (b : Contents) (h : History (Unit {0})) : Type 0 where
   pub legal : IsLegal h
   pub sizes : h.sizes ≡ b.sizes
@@ -86,20 +88,20 @@ pub record IsOf (b : Contents) (h : History (Unit {0})) : Type 0 where
   pub turn_is : turn h.events ≡ b.turn
   pub outside_are : (k : ℕ) → outside k h.events ≡ (times_in k b == 0)
 
--- who goes on, as callers see the turn
+-- the turn as callers see it: which place is inside or resumes next
 abbrev pub next_of : Turn → Next
 next_of Free = next.Free
 next_of (Held k) = next.Held k
 next_of (Owed k c) = next.For k
 next_of (Return k) = next.For k
 
--- the place that is answered is below the number of places
+-- the place that is returned, if there is one, is below n, the number of places
 abbrev pub IsPlaceBelow : ℕ → Next → Type 0
 IsPlaceBelow n next.Free = ⊤
 IsPlaceBelow n (next.For k) = k < n
 IsPlaceBelow n (next.Held k) = k < n
 
--- the first refusal of these sizes, if memory is there
+-- the first refusal of these sizes, if the memory can be allocated
 abbrev pub make_refusal : Sizes → Option MakeRefused
 make_refusal n =
     if nat_le 1 n.places && nat_le n.places 64 then

@@ -1,4 +1,4 @@
--- How a book's fields stand for what it holds.
+-- How a book's fields represent its contents.
 use Rattle.std.specs.Prelude.{ℕ, ◌≡◌, ◌<◌, ◌≤◌, nat_lt, if◌then◌else◌, List, [], ◌∷◌, map, All, Option, Some, None, ⊤}
 use Rattle.std.specs.Prelude.{◌⊎◌}
 use Rattle.hoare_law.specs.declared.turn.Turn.{Turn}
@@ -13,23 +13,24 @@ use Rattle.wait_book.specs.declared.chains.Link.{Link}
 use Rattle.wait_book.specs.Contents.{Contents, hoare_of, times_in, waiters_on}
 use Rattle.wait_book.specs.Lists.{all_below, list_at, places_in}
 
--- one in the chain of a condition waits there
+-- a link in the chain of the condition c, as a waiter on c
 abbrev pub waiter_on : ℕ → Link → Waiter
 waiter_on c x = record { place = x.place; condition = c; priority = x.priority }
 
--- those that were called, each from the condition on which it waited
+-- a link in the chain of the called, as a waiter on the condition on which it waited
 abbrev pub waiter_of : Link → Waiter
 waiter_of x = record { place = x.place; condition = x.condition; priority = x.priority }
 
+-- the called of that chain
 abbrev pub called_in : List Link → List Waiter
 called_in xs = map waiter_of xs
 
--- those in the first n chains
+-- the waiters in the first n chains
 abbrev pub waiting_below : ℕ → (ℕ → List Link) → List Waiter
 waiting_below n at = all_below waiter_on n at
 
--- what the fields hold: the first chains are those of the conditions, then come that of the signallers and that of the
--- called
+-- the contents by the fields: the first chains are those of the conditions, and those of the signallers and of the
+-- called follow
 abbrev pub view_of : Inside → Contents
 view_of a = record {
   sizes = a.sizes;
@@ -41,19 +42,19 @@ view_of a = record {
   turn = a.turn;
 }
 
--- the chain in which a place stands that is to go on, where the first m conditions are Hoare's
+-- the chain of the place that is to resume, if it is in a chain; the first m conditions are Hoare's
 abbrev pub chain_of : Turn → ℕ → Option ℕ
 chain_of Free m = None
 chain_of (Held k) m = None
 chain_of (Owed k c) m = if nat_lt c m then None else Some CALLED
 chain_of (Return k) m = Some SIGNALLERS
 
--- place k, which waited on c, was called first
+-- place k, which waited on c, is the first of the called
 abbrev pub IsCalledFirst : ℕ → ℕ → List Waiter → Type 0
 IsCalledFirst k c [] = ⊥
 IsCalledFirst k c (w ∷ ws) = (w.place ≡ k) × (w.condition ≡ c)
 
--- the turn may stand beside these signallers and these called, where the first m conditions are Hoare's
+-- the turn agrees with the signallers us and the called ws, if the first m conditions are Hoare's
 abbrev pub IsTurnBeside : List ℕ → List Waiter → ℕ → Turn → Type 0
 IsTurnBeside us ws m Free = us ≡ []
 IsTurnBeside us ws m (Held k) = ⊤
@@ -61,9 +62,10 @@ IsTurnBeside us ws m (Owed k c) = (c < m) ⊎ IsCalledFirst k c ws
 IsTurnBeside [] ws m (Return k) = ⊥
 IsTurnBeside (u ∷ us) ws m (Return k) = u ≡ k
 
--- the sizes are in range, there is room for each place, each place stands once at most, those who wait on a condition
--- stand in order, and nobody waits on a condition that isn't the book's (`on_conditions`: no call asks for it; it says
--- that a signal can reach everybody who waits), and whoever was called waited on a Mesa condition
+-- The sizes are in range, and there is room for each place. Each place in the book is below the number of places, and
+-- is there once. The waiters on a condition are in order. No process waits on a condition that isn't the book's: no
+-- call requires this (`on_conditions`), but it says that a signal can reach each waiter. Each of the called waited on a
+-- Mesa condition. The turn agrees with the lists.
 pub record IsSound (b : Contents) : Type 0 where
   pub some_places : 0 < b.sizes.places
   pub few_places : b.sizes.places ≤ 64
@@ -79,6 +81,6 @@ pub record IsSound (b : Contents) : Type 0 where
   pub on_mesa : All (λ (w : Waiter). IsMesa b.sizes.conditions b.sizes.mesa w.condition) b.called
   pub turn_fits : IsTurnBeside b.signallers b.called (hoare_of b) b.turn
 
--- its fields hold what is sound
+-- the contents by the fields are sound
 abbrev pub IsGood : Inside → Type 0
 IsGood a = IsSound (view_of a)

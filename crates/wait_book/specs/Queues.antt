@@ -1,11 +1,12 @@
--- What is put into the list of those who wait, and taken out of it.
+-- What is inserted into the list of the waiters, and removed from it.
 use Rattle.std.specs.Prelude.{ℕ, ◌≡◌, ◌+◌, ◌==◌, not, if◌then◌else◌, List, [], ◌∷◌, ◌++◌, map}
 use Rattle.std.specs.List.{filter}
 use Rattle.hoare_law.specs.Priorities.{put_in}
 use Rattle.wait_book.specs.declared.waiter.Waiter.{Waiter}
 use Rattle.wait_book.specs.Contents.{one, times}
 
--- one more waits: on its condition behind those whose priority is its own or less, and the others wait as they did
+-- w was inserted: on its condition it follows the waiters of the same or a lesser priority, and the other waiters are
+-- as they were
 pub record PutsIn (w : Waiter) (old new : List Waiter) : Type 0 where
   pub on : (c : ℕ) → filter (λ (v : Waiter). v.condition == c) new
       ≡ (if w.condition == c then put_in (λ (v : Waiter). v.priority) w (filter (λ (v : Waiter). v.condition == c) old)
@@ -13,7 +14,7 @@ pub record PutsIn (w : Waiter) (old new : List Waiter) : Type 0 where
   pub more : (k : ℕ)
       → times k (map (λ (v : Waiter). v.place) new) ≡ times k (map (λ (v : Waiter). v.place) old) + one k w.place
 
--- the first on c is taken out of a list, and its place is k
+-- the first waiter on c, whose place is k, was removed from the list
 pub record TakesFirst (c : ℕ) (old new : List Waiter) (k : ℕ) : Type 0 where
   pub before : List Waiter
   pub first : Waiter
@@ -24,7 +25,7 @@ pub record TakesFirst (c : ℕ) (old new : List Waiter) (k : ℕ) : Type 0 where
   pub on : first.condition ≡ c
   pub place : first.place ≡ k
 
--- all on c are taken out of a list, and the others stay as they were
+-- all waiters on c were removed from the list, and the others are as they were
 pub record TakesAll (c : ℕ) (old new : List Waiter) : Type 0 where
   pub on : (d : ℕ)
       → filter (λ (w : Waiter). w.condition == d) new

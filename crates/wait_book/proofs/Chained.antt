@@ -1,4 +1,4 @@
--- What keeps the chains chains: a new node, and one taken out.
+-- What keeps the chains sound: a new node, and a removed node.
 use Rattle.std.proofs.Common.{◌≡◌, ◌≢◌, ℕ, zero, suc, ◌+◌, ◌<◌, ◌≤◌, true, false, cond, is_some, inl, inr, List, []}
 use Rattle.std.proofs.Common.{◌∷◌, ◌++◌, length, map, get_or, set, replicate, count_by, Option, Some, None, refl, ap}
 use Rattle.std.proofs.Common.{sym, ◌∙◌, subst, arith}
@@ -24,7 +24,7 @@ use Rattle.wait_book.proofs.Nodes.{same_end}
 use Rattle.wait_book.proofs.Lists.{eq_apart, keys_middle, keys_append, length_middle, length_put, length_one, put_same}
 use Rattle.wait_book.proofs.Lists.{put_other, times_put, times_one, times_two}
 
--- a node or none under a key
+-- a node under a key, or none
 
 pub held_few : (s : Slab Node) (k : ℕ) → held s k ≤ 1
 held_few s k = elim (is_some (get s k)) as (λ b. cond b 1 0 ≤ 1) [ true ↦ omega arith | false ↦ omega arith ]
@@ -38,7 +38,7 @@ held_some s k n e = rw e refl
 held_same : (s t : Slab Node) (k : ℕ) → get t k ≡ get s k → held t k ≡ held s k
 held_same s t k e = ap (λ o. cond (is_some o) 1 0) e
 
--- where there are no more chains there is no list
+-- a number from `CHAINS` on has no list
 pub beyond : {s : Slab Node} {chains : List Chain} {at : ℕ → List Link} → AreChains s chains at → (c : ℕ) → CHAINS ≤ c
     → at c ≡ []
 beyond {s = s} {chains = chains} {at = at} i c l =
@@ -76,14 +76,14 @@ lists_are {s = s} {chains = chains} {at = at} i c =
     lists_walked s chains c
     ∙ walk_linked (slab_len s) s (chain_at chains c).first (at c) (i.linked c).linked (chain_few i c)
 
--- the lists that are seen are those of the chains
+-- the lists that a contract sees are those of the chains
 pub AreChains-seen : {s : Slab Node} {chains : List Chain} {at : ℕ → List Link} → AreChains s chains at
     → AreChains s chains (λ c. get_or (lists_of s chains) c [])
 AreChains-seen {s = s} {chains = chains} {at = at} i =
     let same : at ≡ (λ c. get_or (lists_of s chains) c []) = λ j c. sym (lists_are i c) j in
     subst (AreChains s chains) same i
 
--- and those of an equal value
+-- the same for an equal value
 pub AreChains-equal : {s : Slab Node} {chains : List Chain} {v w : Lists} → v ≡ w → AreChains s chains (list_at v)
     → AreChains s chains (list_at w)
 AreChains-equal {s = s} {chains = chains} e i = subst (λ (u : Lists). AreChains s chains (list_at u)) e i
@@ -108,9 +108,9 @@ AreChains-none s e = record {
   counted = ap length (no_keys CHAINS) ∙ sym (ap (count_by is_some) e);
 }
 
--- where keys stand
+-- in which chains keys are
 
--- in two chains no more often than in all
+-- a key is in two chains at most as often as in all
 pub apart : {s : Slab Node} {chains : List Chain} {at : ℕ → List Link} → AreChains s chains at → (k c d : ℕ)
     → c < CHAINS → d ≢ c
     → times k (keys (at c)) + times k (keys (at d)) ≤ held s k
@@ -125,14 +125,14 @@ apart {s = s} {at = at} i k c d l n =
       )
     ]
 
--- in one chain once at most
+-- a key is in a chain once at most
 pub once_in : {s : Slab Node} {chains : List Chain} {at : ℕ → List Link} → AreChains s chains at → (k c : ℕ)
     → c < CHAINS → times k (keys (at c)) ≤ held s k
 once_in {at = at} i k c l = omega (arith, times_one (λ e (x : Link). x.key) k CHAINS c at l, i.once k)
 
 -- one chain changes
 
--- the chain that was set
+-- the chain that was set, and the others
 chain_same : (chains : List Chain) (c : ℕ) (v : Chain) → length chains ≡ CHAINS → c < CHAINS
     → chain_at (set chains c v) c ≡ v
 chain_same chains c v m l = get_or-set_same chains c v empty (omega arith)
@@ -150,14 +150,14 @@ chains_put s chains at c v xs m l here there d =
       | inr n ↦ rw (get_or-set_other chains c d v empty n, put_other c d xs at n) (there d n)
     ]
 
--- a chain whose nodes stayed as they were
+-- a chain whose nodes are as they were
 chain_kept : (s t : Slab Node) (v : Chain) (xs : List Link) → ((k : ℕ) → 0 < times k (keys xs) → get t k ≡ get s k)
     → IsChain s v xs → IsChain t v xs
 chain_kept s t v xs h i = record { linked = IsLinked-same s t v.first xs None h i.linked; last = i.last }
 
 -- a new node
 
--- the first nodes of a chain, and the key behind them
+-- the first nodes of a chain, and the key that follows them
 pub record Cut (s : Slab Node) (first : Option ℕ) (before after : List Link) : Type 0 where
   pub next : Option ℕ
   pub front : IsLinked s first before next
@@ -173,7 +173,7 @@ cut {s = s} {chains = chains} c before after i is =
     (subst (λ (xs : List Link). IsLinked s first xs None) is (i.linked c).linked) in
     record { next = r.0; front = r.1; back = r.2 }
 
--- they are as they were where a node is stored under a vacant key
+-- they are as they were after a node is stored under a vacant key
 pub cut-stored : {s mid : Slab Node} {chains : List Chain} {at : ℕ → List Link} {n : Node} (c k : ℕ)
     (before after : List Link) (next : Option ℕ)
     → AreChains s chains at → c < CHAINS
@@ -190,8 +190,8 @@ cut-stored {s = s} {mid = mid} {chains = chains} c k before after next i l is va
       held_none s k vacant,
     ))) front
 
--- what linking a new node does, in two steps: it is stored with the key behind it, and its own key is put behind the
--- one before
+-- what linking a new node does, in two steps: the node is stored with the key that follows it, and its own key is put
+-- after `behind`
 pub record Linking (s mid t : Slab Node) (first behind next first2 : Option ℕ) (x : Link) : Type 0 where
   pub vacant : get s x.key ≡ None
   pub stored : Updates s mid x.key (Some (node_of x next))
@@ -200,7 +200,7 @@ pub record Linking (s mid t : Slab Node) (first behind next first2 : Option ℕ)
 
 module _ {s mid t : Slab Node} {first behind next first2 : Option ℕ} {x : Link}
     (g : Linking s mid t first behind next first2 x) where
-  -- one node more
+  -- there is one more node
   linking_held : (k : ℕ) → held t k ≡ held s k + one k x.key
   linking_held k =
       elim (cases_eq k x.key) [
@@ -222,13 +222,13 @@ module _ {s mid t : Slab Node} {first behind next first2 : Option ℕ} {x : Link
         )
       ]
 
-  -- nodes that are neither new nor before it stay as they were
+  -- nodes other than the new one and that of `behind` are as they were
   linking_same : (k : ℕ) → 0 < held s k → behind ≢ Some k → get t k ≡ get s k
   linking_same k h n =
       let off : k ≢ x.key = λ e. omega (arith, ap (held s) e, held_none s x.key g.vacant) in
       g.put.others k n ∙ g.stored.others k off
 
-  -- the list with the new one in its place
+  -- the list with the new link in its place
   linking_list : (before after : List Link) → behind ≡ last_key before
       → ((k : ℕ) → times k (keys (before ++ after)) ≤ held s k)
       → IsLinked s first before next → IsLinked s next after None → IsLinked t first2 (before ++ x ∷ after) None
@@ -255,7 +255,7 @@ module _ {s mid t : Slab Node} {first behind next first2 : Option ℕ} {x : Link
       ∙ g.stored.changed in
       IsLinked-append t first2 before (Some x.key) (x ∷ after) None linked (refl, next, own, back)
 
--- its last key
+-- the last key of the new list
 pub last_put : (s : Slab Node) (last next : Option ℕ) (before : List Link) (x : Link) (after : List Link)
     → last ≡ last_key (before ++ after) → IsLinked s next after None
     → cond (is_some next) last (Some x.key) ≡ last_key (before ++ x ∷ after)
@@ -264,7 +264,7 @@ last_put s last next before x (y ∷ ys) e l =
     let n : next ≡ Some y.key = l.0 in
     rw n (e ∙ last_append None before y ys ∙ sym (last_append None before x (y ∷ ys)))
 
--- the chains with a new node, wherever the list was cut
+-- the chains with a new node, for each way to cut the list
 pub AreChains-linked : {s mid t : Slab Node} {chains : List Chain} {at : ℕ → List Link}
     {behind next first2 last2 : Option ℕ} {x : Link} (c : ℕ) (before after : List Link)
     → AreChains s chains at → c < CHAINS → Linking s mid t (chain_at chains c).first behind next first2 x
@@ -320,9 +320,10 @@ AreChains-linked {s = s} {t = t} {chains = chains} {at = at} {behind = behind} {
       );
     }
 
--- a node taken out
+-- a node is removed
 
--- what is left of a chain whose first node is taken out, and whether it has a last one
+-- the list xs begins with the link of the node n under the key k, and the links after it are linked from the key on
+-- that n holds; the slab t is s without that node
 pub record Takes (s t : Slab Node) (k : ℕ) (xs : List Link) (n : Node) : Type 0 where
   pub first : Link
   pub after : List Link
@@ -351,7 +352,7 @@ takes {s = s} {t = t} {chains = chains} {at = at} c k n i e g u =
       updates = subst (λ (j : ℕ). Updates s t j None) (sym o.key) u;
     }
 
--- the chains without it
+-- the chains without that node
 pub AreChains-taken : {s t : Slab Node} {chains : List Chain} {at : ℕ → List Link} {new : Chain} (c k : ℕ) (n : Node)
     → new.first ≡ n.next → new.last ≡ cond (is_some n.next) (chain_at chains c).last None
     → AreChains s chains at → c < CHAINS → (g : Takes s t k (at c) n) → slab_len t + 1 ≡ slab_len s
@@ -410,9 +411,9 @@ AreChains-taken {s = s} {t = t} {chains = chains} {at = at} {new = new} c k n f 
     last_taken s last next x [] e l = let n : next ≡ None = l in rw n refl
     last_taken s last next x (y ∷ ys) e l = let n : next ≡ Some y.key = l.0 in rw n e
 
--- a whole chain put behind another
+-- all of a chain are moved to the end of another
 
--- the first key of the one is put behind the last of the other
+-- the first key of that chain is put after the last key of the called
 pub AreChains-joined : {s t : Slab Node} {chains : List Chain} {at : ℕ → List Link} {first2 : Option ℕ} (c key : ℕ)
     → AreChains s chains at → c < CALLED → (chain_at chains c).first ≡ Some key
     → IsKeyPut (chain_at chains CALLED).first (chain_at chains CALLED).last key first2 s t
@@ -470,8 +471,8 @@ AreChains-joined {s = s} {t = t} {chains = chains} {at = at} {first2 = first2} c
       );
     }
 
--- the first of a chain put behind another chain, in the node that it had: as if that were taken out, and one with the
--- same key were linked then
+-- The first of a chain is moved to the end of another, in the node that it had. This is proved as a removal of the
+-- node, after which a node with the same key is linked.
 
 -- the slab without the node under a key
 abbrev pub without : Slab Node → ℕ → Slab Node
@@ -487,7 +488,7 @@ without-fewer s k n g = omega (
   held_some s k n g,
 )
 
--- a write of a node that is there leaves as many
+-- a write of a node that is there leaves the number of nodes as it was
 with_value-len : (s : Slab Node) (k : ℕ) (n m : Node) → get s k ≡ Some n → slab_len (with_value s k m) ≡ slab_len s
 with_value-len s k n m g = omega (
   arith,
@@ -495,7 +496,8 @@ with_value-len s k n m g = omega (
   held_some s k n g,
 )
 
--- the node under a key was the first of a chain: now the next one is, and it names `gone`, no key
+-- the node under the key was the first of the chain; then the next node is, and the key that the first node holds is
+-- `gone`, which is no key
 pub record Leaving (s : Slab Node) (chain new : Chain) (key : ℕ) (n : Node) (next gone : Option ℕ) : Type 0 where
   pub was : get s key ≡ Some n
   pub starts : chain.first ≡ Some key
@@ -504,7 +506,7 @@ pub record Leaving (s : Slab Node) (chain new : Chain) (key : ℕ) (n : Node) (n
   pub first : new.first ≡ next
   pub last : new.last ≡ cond (is_some next) chain.last None
 
--- the first of chain c now stands behind those called
+-- the first of chain c is at the end of the called
 pub record Calls (t : Slab Node) (chains : List Chain) (c : ℕ) (at : ℕ → List Link) : Type 0 where
   pub first : Link
   pub after : List Link
@@ -548,14 +550,14 @@ module _ {s : Slab Node} {chains : List Chain} {at : ℕ → List Link} {new : C
         others = λ k off. u.others k off ∙ sym ((without-updates s key n g.was).others k off);
       })
 
-  -- the node behind which it comes is there
+  -- there is a node under the key after which it is put
   pub behind_called : IfSome (chain_at (set chains c new) CALLED).last (ContainsKey mid)
   behind_called =
       behind-contains mid _ (at CALLED) None _ behind
       (cut-stored CALLED leaves.first.key (at CALLED) [] None left (omega arith)
       (called ∙ sym (append-nil (at CALLED))) vacant stored before)
 
-  -- once its key is put behind the last of them
+  -- the chains after its key is put after the last of the called
   pub calls : {t : Slab Node} {first2 : Option ℕ}
       → (let chain : Chain = chain_at (set chains c new) CALLED in IsKeyPut chain.first chain.last key first2 mid t)
       → Calls t (set (set chains c new) CALLED (record { first = first2; last = Some key })) c at

@@ -1,4 +1,4 @@
--- Who goes on is taken out of the chain in which it stands, if it stands in one.
+-- The place that resumes is removed from the chain that it is in, if it is in a chain.
 use Rattle.std.proofs.Common.{◌≡◌, ◌==◌, ◌⊎◌, inl, inr, ℕ, Bool, true, false, cond, [], Option, Some, None, refl, ap}
 use Rattle.std.proofs.Common.{sym, ◌∙◌, subst, arith}
 use Rattle.std.specs.Prelude.{MatchOption, nat_lt}
@@ -13,7 +13,7 @@ use Rattle.wait_book.proofs.Queued.{behind_first-map, shorter}
 use Rattle.wait_book.specs.Contents.{Contents, priorities_on}
 use Rattle.wait_book.proofs.Sound.{admitted, claimed, parts, returned, went_on}
 
--- it is that of the signallers or that of the called
+-- this chain is that of the signallers or that of the called
 pub chain_of-fits : (t : Turn) (m n : ℕ) → chain_of t m ≡ Some n → (n ≡ SIGNALLERS) ⊎ (n ≡ CALLED)
 chain_of-fits Free m n e = absurd (cc)
 chain_of-fits (Held k) m n e = absurd (cc)
@@ -24,7 +24,7 @@ chain_of-fits (Owed k c) m n e = by (nat_lt c m) e
     by false q = inr (cc)
 chain_of-fits (Return k) m n e = inl (cc)
 
--- what a book holds once the first of its chain is taken
+-- the chains after the first link of chain n was removed, if there is one
 abbrev Took : ℕ → Option ℕ → Lists → Lists → Type 0
 Took n r old new = MatchOption r ((list_at old n ≡ []) × (new ≡ old)) (λ place. IsTaken n place old new)
 
@@ -46,7 +46,7 @@ claimed-chain n k a new r (inr e) m =
     subst (λ (j : ℕ). claimed (Some j) k (view_of a) ≡ admitted k (view_of (record a { chains = new }))) (sym e)
     (parts s.room s.room s.waiters signallers first refl)
 
--- the waiting priorities stay
+-- a claim leaves the waiting priorities as they were
 pub claimed-priorities : (o : Option ℕ) (k d : ℕ) (b : Contents) → priorities_on (claimed o k b) d ≡ priorities_on b d
 claimed-priorities None k d b = refl
 claimed-priorities (Some n) k d b = by (n == SIGNALLERS)

@@ -60,7 +60,7 @@ Act = Event (Unit {0})
 pub IsOf-same : (b d : Contents) (h : Log) → b ≡ d → IsOf b h → IsOf d h
 IsOf-same b d h e o = subst (λ (v : Contents). IsOf v h) e o
 
--- a book where nothing happened
+-- a new book is of the history without events
 pub IsOf-opened : (n : Sizes) (x y : ℕ)
     → IsOf (record {
       sizes = n;
@@ -82,17 +82,17 @@ IsOf-opened n x y = record {
   outside_are = λ k. refl;
 }
 
--- who waits, after an event that leaves these alone
+-- the waiters after an event that isn't a wait
 
--- those whom an event leaves alone
+-- the waiters that an event doesn't concern
 abbrev spared : Act → List Waiter → List Waiter
 spared e ws = filter (λ (w : Waiter). not (concerns w.condition w.place e)) ws
 
--- they are those who wait by the events
+-- the waiters ws are those that the events say
 abbrev AreWaiting : List Waiter → List Act → Type 0
 AreWaiting ws h = (c : ℕ) → map wait_of (filter (on c) ws) ≡ in_order priority_of (waiting c h)
 
--- two tests that agree on those that a filter keeps
+-- two tests that agree on the elements that a filter keeps give the same list
 filter-agree_on : {X : Type 0} (r p q : X → Bool) (xs : List X) → ((x : X) → r x ≡ true → p x ≡ q x)
     → filter p (filter r xs) ≡ filter q (filter r xs)
 filter-agree_on r p q [] f = refl
@@ -105,7 +105,7 @@ filter-agree_on {X = X} r p q (x ∷ xs) f = by (r x) refl (filter-agree_on r p 
         ∙ ap (λ l. cond (q x) (x ∷ l) l) rest
     by false is rest = rest
 
--- those who waited and stay
+-- the waiters that an event doesn't concern remain
 waiters_stay : (b : Contents) (h : Log) (e : Act) (ws : List Waiter) → spared e b.waiters ≡ ws → IsOf b h
     → (c : ℕ)
     → map wait_of (filter (on c) ws) ≡ in_order priority_of
@@ -121,7 +121,7 @@ waiters_stay b h e ws f o c =
     ∙ ap (filter (λ x. not (concerns c (place_of x) e))) (o.waiters c)
     ∙ sym (in_order-filter priority_of (λ x. not (concerns c (place_of x) e)) (waiting c h.events))
 
--- no event but a wait adds one who waits
+-- an event that isn't a wait adds no waiter
 waiters_kept : (b : Contents) (h : Log) (e : Act) (ws : List Waiter) → ((c : ℕ) → waits_on c e ≡ false)
     → spared e b.waiters ≡ ws → IsOf b h
     → AreWaiting ws (h.events ++ e ∷ [])
@@ -131,7 +131,7 @@ waiters_kept b h e ws n f o c =
     ∙ ap (in_order priority_of)
     (sym (waiting-push c h.events e ∙ ap (λ t. kept ++ cond t (e ∷ []) []) (n c) ∙ append-nil _))
 
--- a wait adds its own to those who wait
+-- a wait adds its own waiter
 waiters_joined : (b : Contents) (h : Log) (w : Waiter) (ws : List Waiter) → PutsIn w b.waiters ws
     → spared (wait_of w) b.waiters ≡ b.waiters → IsOf b h
     → AreWaiting ws (h.events ++ wait_of w ∷ [])
@@ -148,7 +148,7 @@ waiters_joined b h w ws p f o c =
     by true vs = sym (put_in-map wait_of priority_of w vs)
     by false vs = refl
 
--- who is outside
+-- the places outside
 
 outside_by : (t : Bool) (k : ℕ) (e : Act) (o : Bool) (n m : ℕ) → (place_of e == k) ≡ t → o ≡ (n == 0)
     → (place_of e ≡ k → is_out (Some e) ≡ (m == 0))
@@ -156,7 +156,7 @@ outside_by : (t : Bool) (k : ℕ) (e : Act) (o : Bool) (n m : ℕ) → (place_of
 outside_by true k e o n m h p here off = here (eqb-true (place_of e) k h)
 outside_by false k e o n m h p here off = p ∙ ap (λ v. v == 0) (off h)
 
--- who is outside, after one more event
+-- the places outside after another event
 outside_kept : (b d : Contents) (h : Log) (e : Act) → ((k : ℕ) → outside k h.events ≡ (times_in k b == 0))
     → is_out (Some e) ≡ (times_in (place_of e) d == 0)
     → ((k : ℕ) → (place_of e == k) ≡ false → times_in k b ≡ times_in k d) → (k : ℕ)
@@ -166,7 +166,7 @@ outside_kept b d h e o here off k =
     ∙ outside_by (place_of e == k) k e (outside k h.events) (times_in k b) (times_in k d) refl (o k)
     (λ q. subst (λ (j : ℕ). is_out (Some e) ≡ (times_in j d == 0)) q here) (off k)
 
--- one more event, allowed, with what it does to each part
+-- the book after another event that is allowed, by what the event does to each part
 pub IsOf-push : (b d : Contents) (h : Log) (e : Act) → IsOf b h → d.sizes ≡ b.sizes → Allowed h e
     → AreWaiting d.waiters (h.events ++ e ∷ [])
     → filter (λ u. not (place_of e == u)) b.signallers ++ cond (is_signal e) (place_of e ∷ []) [] ≡ d.signallers
@@ -208,7 +208,7 @@ place_fits b h k o l = subst (λ (n : Sizes). k < n.places) (sym o.sizes) l
 condition_fits : (b : Contents) (h : Log) (c : ℕ) → IsOf b h → c < b.sizes.conditions → c < h.sizes.conditions
 condition_fits b h c o l = subst (λ (n : Sizes). c < n.conditions) (sym o.sizes) l
 
--- nobody who waits goes by an event of a place that doesn't wait, which takes nobody
+-- an event of a place that doesn't wait concerns no waiter if it takes none
 waiters_apart : (b : Contents) (e : Act) → ((d j : ℕ) → takes d j e ≡ false) → times (place_of e) (places b.waiters) ≡ 0
     → spared e b.waiters ≡ b.waiters
 waiters_apart b e none z =
@@ -225,7 +225,7 @@ called_apart b k z = append-nil _ ∙ filter-map wait_of (λ x. not (k == place_
     ∙ ap (map wait_of)
     (filter-apart (λ (w : Waiter). w.place) k (λ (w : Waiter). not (k == w.place)) b.called (λ v t. ap not t) z)
 
--- a newcomer
+-- an admission
 pub admitted_of : (b : Contents) (k : ℕ) (h : Log) → Enters b k → IsOf b h
     → IsOf (admitted k b) (with_event h (Admit k tt))
 admitted_of b k h i o =
@@ -274,7 +274,7 @@ left_of b k h i o =
     (zero_is _ (omega (arith, left_times b k k s e, s.once k, one_same k)))
     (λ j t. omega (arith, left_times b k j s e, one_apart j k (eq_swap j k ∙ t)))
 
--- the one resumed goes on
+-- the place that a signal resumed continues
 pub owed_of : (b : Contents) (k c : ℕ) (h : Log) → IsSound b → b.turn ≡ Owed k c → c < hoare_of b → IsOf b h
     → IsOf (admitted k b) (with_event h (Resume k c tt))
 owed_of b k c h s e l o =
@@ -293,7 +293,7 @@ owed_of b k c h s e l o =
     (positive _ (omega (arith, owed_times b k c k e l, owed_hand b k c e l)))
     (λ j t. sym (owed_times b k c j e l))
 
--- the first called goes
+-- removing the place of the first of the called removes the first alone
 first_goes : (k c : ℕ) (vs : List Waiter) → IsCalledFirst k c vs → times k (places vs) ≤ 1
     → filter (λ x. not (k == place_of x)) (map wait_of vs) ≡ map wait_of (behind_first vs)
 first_goes k c [] f l = absurd f
@@ -304,7 +304,7 @@ first_goes k c (w ∷ vs) f l =
     (filter-apart (λ (v : Waiter). v.place) k (λ (v : Waiter). not (k == v.place)) vs (λ v t. ap not t)
     (omega (arith, l, one_at k w.place e))))
 
--- the first that was called goes on
+-- the first of the called resumes
 pub went_on_of : (b : Contents) (k c : ℕ) (h : Log) → IsSound b → b.turn ≡ Owed k c → hoare_of b ≤ c → IsOf b h
     → IsOf (went_on k b) (with_event h (Resume k c tt))
 went_on_of b k c h s e l o =
@@ -327,11 +327,11 @@ went_on_of b k c h s e l o =
     (positive _ (omega (arith, went_on_times b k c k s e l, one_same k, count)))
     (λ j t. sym (went_on_times b k c j s e l))
 
--- the first of a list whose places stand once
+-- removing the first of a list removes it alone, if it isn't in the rest
 front_goes : (k : ℕ) (us : List ℕ) → times k us ≡ 0 → filter (λ u. not (k == u)) (k ∷ us) ≡ us
 front_goes k us z = rw (eq_self k) (filter-others k us z)
 
--- the first signaller goes on
+-- the first signaller returns
 pub returned_of : (b : Contents) (k : ℕ) (h : Log) → IsSound b → b.turn ≡ Return k → IsOf b h
     → IsOf (returned k b) (with_event h (Back k tt))
 returned_of b k h s e o =
@@ -348,28 +348,28 @@ returned_of b k h s e o =
     (positive _ (omega (arith, returned_times b k k s e, return_in b k s e)))
     (λ j t. sym (returned_times b k j s e))
 
--- the first on c is chosen
+-- the first waiter on c is chosen
 pub chosen-first_on : (b : Contents) (h : Log) (c : ℕ) → IsOf b h
     → chosen c h.events ≡ sorted.first_of (map wait_of (waiters_on c b))
 unfolding chosen
 chosen-first_on b h c o = law.chosen-first priority_of (waiting c h.events) ∙ ap sorted.first_of (sym (o.waiters c))
 
--- who is taken was chosen
+-- the waiter that is removed was chosen
 pub chosen-taken : (b : Contents) (h : Log) (c w : ℕ) (ws : List Waiter) → IsOf b h → (t : TakesFirst c b.waiters ws w)
     → chosen c h.events ≡ Some (wait_of t.first)
 chosen-taken b h c w ws o t =
     chosen-first_on b h c o ∙ ap (λ l. sorted.first_of (map wait_of l)) (filter-taken_on c b.waiters ws w t)
 
--- where nobody waits, nobody is chosen
+-- if no process waits, none is chosen
 pub chosen-nobody : (b : Contents) (h : Log) (c : ℕ) → IsOf b h → waiters_on c b ≡ [] → chosen c h.events ≡ None
 chosen-nobody b h c o e = chosen-first_on b h c o ∙ ap (λ l. sorted.first_of (map wait_of l)) e
 
--- what a pass adds where the place goes out, else what a signal adds
+-- what a pass adds if the flag is true, else what a signal adds
 abbrev pub after_handing : Bool → Log → ℕ → ℕ → Option Act → Log
 after_handing true = after_pass
 after_handing false = after_signal
 
--- it hands the monitor to the one that is chosen
+-- it hands the monitor to the chosen waiter
 pub after_handing-some : {D : Type 0} (out : Bool) (h : Log) (k c w : ℕ) (e : Act) (s : D) → place_of e ≡ w
     → after_handing out h k c (Some e) ≡ with_event h (without_data (handing out k c w s))
 after_handing-some true h k c w e s is = ap (λ j. with_event h (Pass k c j tt)) is
@@ -393,18 +393,18 @@ mesa_fits : (b : Contents) (h : Log) (c : ℕ) → IsOf b h → IsMesa b.sizes.c
 mesa_fits b h c o m = subst (λ (n : Sizes). IsMesa n.conditions n.mesa c) (sym o.sizes) m
 
 module _ (b : Contents) (k c w : ℕ) (ws : List Waiter) (r : Resumes b k c w ws) (h : Log) (o : IsOf b h) where
-  -- whoever signals is in range, and so are the condition and the one resumed
+  -- the signaller, the condition and the resumed place are in range
   ranges : (k < h.sizes.places) × ((c < h.sizes.conditions) × (w < h.sizes.places))
   ranges = (
     place_fits b h k o (held_in_range b k r.by.sound r.by.inside),
     (condition_fits b h c o r.fits, place_fits b h w o (taken_in_range b c w ws r.by.sound r.took)),
   )
 
-  -- who waits once the two places acted
+  -- the waiters after both places acted
   waiters_left : filter (λ (v : Waiter). not (k == v.place || w == v.place)) b.waiters ≡ ws
   waiters_left = filter-taken k c b.waiters ws w r.took (holder_apart b k r.by).0 (omega (arith, r.by.sound.once w))
 
-  -- k hands the monitor to the one resumed, and waits among the signallers unless it goes out
+  -- k hands the monitor to the resumed place, and is among the signallers unless the signal is its last act
   handed_of : c < hoare_of b → (out : Bool)
       → IsOf (resumed ws (cond out b.signallers (b.signallers ++ k ∷ [])) w c b)
       (with_event h (without_data (handing {S = Unit {0}} out k c w tt)))
@@ -430,7 +430,7 @@ module _ (b : Contents) (k c w : ℕ) (ws : List Waiter) (r : Resumes b k c w ws
       (positive _ (omega (arith, signalled_times b k c w k ws r l, held_hand b k r.by.inside)))
       (λ j q. sym (signalled_times b k c w j ws r l))
 
-  -- what a signal or a pass adds, where one is taken
+  -- what a signal or a pass adds if a waiter is removed
   pub after_handing-taken : c < hoare_of b → (out : Bool)
       → IsOf (resumed ws (cond out b.signallers (b.signallers ++ k ∷ [])) w c b)
       (after_handing out h k c (chosen c h.events))
@@ -439,7 +439,7 @@ module _ (b : Contents) (k c w : ℕ) (ws : List Waiter) (r : Resumes b k c w ws
       ∙ after_handing-some out h k c w (wait_of r.took.first) tt r.took.place))
       (handed_of l out)
 
-  -- k calls the one that it takes
+  -- k notifies the waiter that it removes
   notified_of : IsMesa b.sizes.conditions b.sizes.mesa c
       → IsOf (told ws (b.called ++ r.took.first ∷ []) b) (with_event h (Notify k c w tt))
   notified_of m =
@@ -466,20 +466,20 @@ module _ (b : Contents) (k c w : ℕ) (ws : List Waiter) (r : Resumes b k c w ws
       ∙ ap (λ j. with_event h (Notify k c j tt)) r.took.place))
       (notified_of m)
 
--- and where nobody waits, nobody is called
+-- if no process waits, a notify adds nothing
 pub after_notify-nobody : (b : Contents) (k c : ℕ) (h : Log) → waiters_on c b ≡ [] → IsOf b h
     → IsOf b (after_notify h k c (chosen c h.events))
 after_notify-nobody b k c h n o =
     subst (λ (y : Option Act). IsOf b (after_notify h k c y)) (sym (chosen-nobody b h c o n)) o
 
--- k calls all that wait on c
+-- k notifies all waiters on c
 
 module _ (b : Contents) (k c : ℕ) (ws : List Waiter) (i : Holds b k) (m : IsMesa b.sizes.conditions b.sizes.mesa c)
     (t : TakesAll c b.waiters ws) (h : Log) (o : IsOf b h) where
   stay_called : filter (λ x. not (k == place_of x)) (map wait_of b.called) ≡ map wait_of b.called
   stay_called = sym (append-nil _) ∙ called_apart b k (holder_apart b k i).2
 
-  -- who waits on other conditions stays
+  -- the waiters on other conditions remain
   others_left : spared (Broadcast k c tt) b.waiters ≡ ws
   others_left =
       filter-or (λ (w : Waiter). k == w.place) (λ (w : Waiter). c == w.condition) b.waiters
@@ -519,19 +519,19 @@ module _ (b : Contents) (k c : ℕ) (ws : List Waiter) (i : Holds b k) (m : IsMe
           let is_called : b.called ++ waiters_on c b ≡ b.called = ap (λ l. b.called ++ l) none ∙ append-nil _ in
           IsOf-same b _ h (λ j. told (sym same j) (sym is_called j) b) o
 
--- and where nobody waits
+-- what a signal or a pass adds if no process waits
 pub after_handing-nobody : (out : Bool) (b d : Contents) (k c : ℕ) (h : Log) → waiters_on c b ≡ [] → IsOf b h
     → IsOf d (after_handing out h k c None)
     → IsOf d (after_handing out h k c (chosen c h.events))
 after_handing-nobody out b d k c h n o x =
     subst (λ (y : Option Act). IsOf d (after_handing out h k c y)) (sym (chosen-nobody b h c o n)) x
 
--- whoever is owed the monitor goes on
+-- the place to which the monitor is owed resumes
 
 settles : (b d : Contents) (h : Log) (t : Turn) → b.turn ≡ t → IsOf b h → IsOf d (after_claim h t) → IsOf d (settled h)
 settles b d h t e o x = subst (λ (u : Turn). IsOf d (after_claim h u)) (sym (o.turn_is ∙ e)) x
 
--- the claim of the one who is owed, who returns, or who was called
+-- the claim of a place that was resumed, that was notified, or that returns
 pub claimed_of : (t : Turn) (b : Contents) (k : ℕ) (h : Log) → b.turn ≡ t → next_of t ≡ next.For k → IsSound b
     → IsOf b h → IsOf (claimed (chain_of t (hoare_of b)) k b) (settled h)
 claimed_of Free b k h e n s o = absurd (cc)
@@ -549,17 +549,17 @@ claimed_of (Return j) b k h e n s o =
     subst (λ (i : ℕ). IsOf (returned i b) (settled h)) q
     (settles b (returned j b) h (Return j) e o (returned_of b j h s e o))
 
--- what the counts of a place say
+-- the result r is true exactly if place k is outside, by the book and by each of its histories
 pub record SaysOutside (b : Contents) (k : ℕ) (r : Bool) : Type 0 where
   pub nowhere : r ≡ (times_in k b == 0)
   pub of : (h : Log) → IsOf b h → r ≡ outside k h.events
 
--- from the counts of an equal book
+-- it follows from the counts of an equal book
 pub outside-by_times : {b d : Contents} (k : ℕ) {r : Bool} → b ≡ d → r ≡ (times_in k b == 0) → SaysOutside d k r
 outside-by_times {d = d} k {r = r} e q =
     let m : r ≡ (times_in k d == 0) = q ∙ ap (λ (v : Contents). times_in k v == 0) e in
     record { nowhere = m; of = λ h o. m ∙ sym (o.outside_are k) }
 
--- a place that the history has outside stands nowhere
+-- a place that is outside by the history is nowhere in the book
 pub times_in-outside : (b : Contents) (k : ℕ) (h : Log) → IsOf b h → outside k h.events ≡ true → times_in k b ≡ 0
 times_in-outside b k h o e = eqb-true (times_in k b) 0 (sym (o.outside_are k) ∙ e)

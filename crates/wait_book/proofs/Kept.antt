@@ -1,4 +1,5 @@
--- Those in the chain of a condition wait there: one put in, one taken out, and all called.
+-- Each link in the chain of a condition records that condition: after an insertion, a removal, and the move of all
+-- links.
 use Rattle.std.proofs.Common.{◌≡◌, refl, ℕ, ◌<◌, inl, inr, List, [], ◌∷◌, ◌++◌, ap, sym, ◌∙◌, subst, arith}
 use Rattle.std.specs.Prelude.{All}
 use Rattle.std.proofs.lemmas.Bool.{cases_eq}
@@ -14,15 +15,15 @@ use Rattle.wait_book.proofs.Lists.{put_same, put_other}
 abbrev Waited : ℕ → Link → Type 0
 Waited c x = x.condition ≡ c
 
--- of an equal value
+-- the same for an equal value
 pub AreKept-equal : {v w : Lists} → v ≡ w → AreKept (list_at v) → AreKept (list_at w)
 AreKept-equal e m = subst (λ (u : Lists). AreKept (list_at u)) e m
 
--- of nobody
+-- it holds of empty chains
 pub AreKept-none : (at : ℕ → List Link) → ((c : ℕ) → at c ≡ []) → AreKept at
 AreKept-none at none = λ c l. subst (All (Waited c)) (sym (none c)) (All-nil (Waited c))
 
--- another list in chain c
+-- it holds with another list in chain c
 pub AreKept-list : (at bt : ℕ → List Link) (c : ℕ) (xs : List Link) → AreKept at
     → (c < MOST_CONDITIONS → All (Waited c) xs) → ((d : ℕ) → bt d ≡ list_put c xs at d) → AreKept bt
 AreKept-list at bt c xs m here lists = λ d l.
@@ -53,19 +54,19 @@ pub AreKept-taken : (at bt : ℕ → List Link) (c : ℕ) (x : Link) (after : Li
 AreKept-taken at bt c x after m is lists =
     AreKept-list at bt c after m (λ l. All-tail (Waited c) x after (subst (All (Waited c)) is (m c l))) lists
 
--- the first of chain c waits there
+-- the first link of chain c records c
 pub first_waits : (at : ℕ → List Link) (c : ℕ) (x : Link) (after : List Link) → AreKept at → c < MOST_CONDITIONS
     → at c ≡ x ∷ after → x.condition ≡ c
 first_waits at c x after m l is = All-head (Waited c) x after (subst (All (Waited c)) is (m c l))
 
--- and is put behind those called
+-- it holds after the first link of chain c was moved to the end of the called
 pub AreKept-called : (at bt : ℕ → List Link) (c : ℕ) (x : Link) (xs after : List Link) → AreKept at → at c ≡ x ∷ after
     → ((d : ℕ) → bt d ≡ list_put CALLED xs (list_put c after at) d) → AreKept bt
 AreKept-called at bt c x xs after m is lists =
     AreKept-list (list_put c after at) bt CALLED xs
     (AreKept-taken at (list_put c after at) c x after m is (λ d. refl)) (λ l. absurd (omega arith)) lists
 
--- all of chain c put behind those called
+-- it holds after all links of chain c were moved to the end of the called
 pub AreKept-joined : (at bt : ℕ → List Link) (c : ℕ) (xs : List Link) → AreKept at
     → ((d : ℕ) → bt d ≡ list_put c [] (list_put CALLED xs at) d) → AreKept bt
 AreKept-joined at bt c xs m lists =
@@ -73,7 +74,7 @@ AreKept-joined at bt c xs m lists =
     (AreKept-list at (list_put CALLED xs at) CALLED xs m (λ l. absurd (omega arith)) (λ d. refl))
     (λ l. All-nil (Waited c)) lists
 
--- where a chain has nobody, nothing changes
+-- if a chain is empty, moving all of its links changes nothing
 pub joined-none : (c : ℕ) (v : Lists) → c < MOST_CONDITIONS → list_at v c ≡ [] → IsJoined c v v
 joined-none c v l none = record {
   lists = λ d. sym (by d);

@@ -11,16 +11,16 @@ use Rattle.wait_book.proofs.Times.{eq_self, times-append}
 pub eq_apart : (d c : ℕ) → d ≢ c → eqb d c ≡ false
 eq_apart d c n = grind (arith, nat_tests)
 
--- the list that was put
+-- chain c has the list that was put there
 pub put_same : (c : ℕ) (xs : List Link) (at : ℕ → List Link) → list_put c xs at c ≡ xs
 put_same c xs at = rw (eq_self c) refl
 
--- and the others
+-- the other chains have the lists that they had
 pub put_other : (c d : ℕ) (xs : List Link) (at : ℕ → List Link) → d ≢ c → list_put c xs at d ≡ at d
 put_other c d xs at n = rw (eq_apart d c n) refl
 
 module _ {X : Type 0} (f : ℕ → Link → X) where
-  -- a list beyond those that are looked at
+  -- a list put into a chain from n on changes nothing below n
   pub below_past : (n c : ℕ) (xs : List Link) (at : ℕ → List Link) → n ≤ c
       → all_below f n (list_put c xs at) ≡ all_below f n at
   unfolding all_below
@@ -45,7 +45,7 @@ module _ {X : Type 0} (f : ℕ → Link → X) where
         apart : (n c : ℕ) → eqb n c ≡ false → c < suc n → c < n
         apart n c e l = grind (arith, nat_tests)
 
-    -- what is counted of all, with another list in chain c
+    -- a measure of the first n lists, with another list in chain c
     pub measure_put : (n c : ℕ) (xs : List Link) (at : ℕ → List Link) → c < n
         → m (all_below f n (list_put c xs at)) + m (map (f c) (at c)) ≡ m (all_below f n at) + m (map (f c) xs)
     unfolding all_below
@@ -56,22 +56,22 @@ module _ {X : Type 0} (f : ℕ → Link → X) where
         let r = measure_by (eqb n c) n c xs at refl l (λ l. measure_put n c xs at l) in
         omega arith
 
-    -- what is counted of one is no more than of all
+    -- the measure of a list is at most that of all
     pub measure_one : (n c : ℕ) (at : ℕ → List Link) → c < n → m (map (f c) (at c)) ≤ m (all_below f n at)
     measure_one n c at l = omega (arith, measure_put n c [] at l, sums [] [])
 
--- how often a number stands, in the first n lists with another list in chain c
+-- how often a number is in the first n lists, with another list in chain c
 pub times_put : (f : ℕ → Link → ℕ) (k n c : ℕ) (xs : List Link) (at : ℕ → List Link) → c < n
     → times k (all_below f n (list_put c xs at)) + times k (map (f c) (at c))
     ≡ times k (all_below f n at) + times k (map (f c) xs)
 times_put f k = measure_put f (times k) (times-append k)
 
--- no more often in one than in all
+-- a number is in a list at most as often as in all
 pub times_one : (f : ℕ → Link → ℕ) (k n c : ℕ) (at : ℕ → List Link) → c < n
     → times k (map (f c) (at c)) ≤ times k (all_below f n at)
 times_one f k = measure_one f (times k) (times-append k)
 
--- nor in two
+-- a number is in two lists at most as often as in all
 pub times_two : (f : ℕ → Link → ℕ) (k n c d : ℕ) (at : ℕ → List Link) → c < n → d < n → d ≢ c
     → times k (map (f c) (at c)) + times k (map (f d) (at d)) ≤ times k (all_below f n at)
 times_two f k n c d at l m apart =
@@ -81,7 +81,7 @@ times_two f k n c d at l m apart =
     ap (λ l. times k (map (f d) l)) (put_other c d [] at apart) in
     omega arith
 
--- how many
+-- the length of the first n lists, with another list in chain c
 pub length_put : {X : Type 0} (f : ℕ → Link → X) (n c : ℕ) (xs : List Link) (at : ℕ → List Link) → c < n
     → length (all_below f n (list_put c xs at)) + length (at c) ≡ length (all_below f n at) + length xs
 length_put f n c xs at l =
@@ -91,7 +91,7 @@ pub length_one : {X : Type 0} (f : ℕ → Link → X) (n c : ℕ) (at : ℕ →
     → length (at c) ≤ length (all_below f n at)
 length_one f n c at l = omega (arith, measure_one f length length-append n c at l, length-map (at c) (f c))
 
--- the first n lists, and one more
+-- how often a number is in the first n lists and the next
 pub times_next : (f : ℕ → Link → ℕ) (k n : ℕ) (at : ℕ → List Link)
     → times k (all_below f (suc n) at) ≡ times k (all_below f n at) + times k (map (f n) (at n))
 unfolding all_below
@@ -102,14 +102,14 @@ pub length_next : {X : Type 0} (f : ℕ → Link → X) (n : ℕ) (at : ℕ → 
 unfolding all_below
 length_next f n at = omega (arith, length-append (all_below f n at) (map (f n) (at n)), length-map (at n) (f n))
 
--- as many, whatever is made of them
+-- the length doesn't depend on what is made of the links
 pub length_same : {X Y : Type 0} (f : ℕ → Link → X) (g : ℕ → Link → Y) (n : ℕ) (at : ℕ → List Link)
     → length (all_below f n at) ≡ length (all_below g n at)
 unfolding all_below
 length_same f g zero at = refl
 length_same f g (suc n) at = omega (arith, length_next f n at, length_next g n at, length_same f g n at)
 
--- in the middle of a list
+-- how often a place is in a list with a link in its middle
 pub places_middle : (k : ℕ) (xs : List Link) (x : Link) (ys : List Link)
     → times k (places_in (xs ++ x ∷ ys)) ≡ times k (places_in (xs ++ ys)) + one k x.place
 places_middle k [] x ys = omega arith

@@ -1,4 +1,4 @@
--- The marks of the places that stand in the chains: one put in, and one taken out.
+-- The marks of the places in the chains, after an insertion and after a removal.
 use Rattle.std.proofs.Common.{◌≡◌, ◌≢◌, ℕ, zero, suc, ◌+◌, ◌<◌, ◌≤◌, Bool, true, false, cond, inl, inr, List, [], ◌∷◌}
 use Rattle.std.proofs.Common.{◌++◌, length, get_or, set, replicate, refl, ap, sym, ◌∙◌, subst, arith}
 use Rattle.std.proofs.lemmas.Bool.{cases_eq, cases_lt}
@@ -12,7 +12,7 @@ use Rattle.wait_book.specs.Linked.{AreMarked, marked}
 use Rattle.wait_book.proofs.Times.{one_same, one_apart}
 use Rattle.wait_book.proofs.Lists.{eq_apart, places_append, places_middle, put_other, times_put}
 
--- a mark that is set, and the others
+-- a mark that is set has its value, and the others keep theirs
 marked-set : (s : List Bool) (k : ℕ) (b : Bool) → k < length s → marked (set s k b) k ≡ cond b 1 0
 marked-set s k b l = ap (λ (v : Bool). cond v 1 0) (get_or-set_same s k b false l)
 
@@ -22,7 +22,7 @@ marked-other s k j b n = ap (λ (v : Bool). cond v 1 0) (get_or-set_other s k j 
 marked_few : (s : List Bool) (k : ℕ) → marked s k ≤ 1
 marked_few s k = elim (get_or s k false) as (λ b. cond b 1 0 ≤ 1) [ true ↦ omega arith | false ↦ omega arith ]
 
--- a marked place has a mark
+-- a place that is marked has a mark
 marked_within : (s : List Bool) (k : ℕ) → 0 < marked s k → k < length s
 marked_within s k p =
     elim (cases_lt k (length s)) [
@@ -32,7 +32,7 @@ marked_within s k p =
           absurd (omega (arith, none))
     ]
 
--- no marks, and nobody in the lists
+-- no place is marked, and the lists are empty
 no_mark : (n k : ℕ) → get_or (replicate n false) k false ≡ false
 no_mark zero k = refl
 no_mark (suc n) zero = refl
@@ -52,11 +52,11 @@ AreMarked-none {at = at} h =
           ∙ sym (ap (λ (v : Bool). cond v 1 0) (no_mark MOST_PLACES k));
     }
 
--- of an equal value
+-- the same for an equal value
 pub AreMarked-equal : {s : List Bool} {v w : Lists} → v ≡ w → AreMarked s (list_at v) → AreMarked s (list_at w)
 AreMarked-equal {s = s} e m = subst (λ (u : Lists). AreMarked s (list_at u)) e m
 
--- a place that stood in no list, put into one
+-- a place that was in no list is inserted into a list
 pub AreMarked-put : {s : List Bool} {at bt : ℕ → List Link} (c : ℕ) (before after : List Link) (x : Link)
     → AreMarked s at → c < CHAINS → x.place < MOST_PLACES
     → at c ≡ before ++ after → times x.place (places_below CHAINS at) ≡ 0
@@ -103,7 +103,7 @@ module _ {s : List Bool} {at : ℕ → List Link} (c : ℕ) (x : Link) (after : 
       omega
       (arith, m.many, marked_within s x.place (omega (arith, taken_times x.place, one_same x.place, m.once x.place)))
 
-  -- the first of a list, taken out
+  -- the first of a list is removed
   pub AreMarked-taken : {bt : ℕ → List Link} (p : ℕ) → x.place ≡ p → ((d : ℕ) → bt d ≡ list_put c after at d)
       → AreMarked (set s p false) bt
   AreMarked-taken {bt = bt} p e lists =
@@ -134,7 +134,7 @@ module _ {s : List Bool} {at : ℕ → List Link} (c : ℕ) (x : Link) (after : 
       subst (λ (j : ℕ). AreMarked (set s j false) bt) e
       (record { many = length-set s x.place false ∙ m.many; once = once })
 
-  -- and put behind another list
+  -- the first of a list is moved to the end of the called
   pub AreMarked-called : {bt : ℕ → List Link} → c < CALLED
       → ((d : ℕ) → bt d ≡ list_put CALLED (at CALLED ++ x ∷ []) (list_put c after at) d) → AreMarked s bt
   AreMarked-called {bt = bt} below lists =
@@ -152,7 +152,7 @@ module _ {s : List Bool} {at : ℕ → List Link} (c : ℕ) (x : Link) (after : 
         );
       }
 
--- a whole list put behind another
+-- all of a list are moved to the end of the called
 pub AreMarked-joined : {s : List Bool} {at bt : ℕ → List Link} (c : ℕ) → AreMarked s at → c < CALLED
     → ((d : ℕ) → bt d ≡ list_put c [] (list_put CALLED (at CALLED ++ at c) at) d) → AreMarked s bt
 AreMarked-joined {s = s} {at = at} {bt = bt} c m l lists =

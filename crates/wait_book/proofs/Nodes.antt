@@ -15,12 +15,12 @@ use Rattle.wait_book.proofs.Times.{one_same}
 
 -- the last of a list
 
--- behind one there is a last one
+-- a list with a link has a last key
 last_some : (j : ℕ) (xs : List Link) → last_from (Some j) xs ≡ None → ⊥
 last_some j [] h = absurd (cc)
 last_some j (x ∷ xs) h = last_some x.key xs h
 
--- only nothing has no last one
+-- only the empty list has no last key
 pub last_none : (xs : List Link) → last_key xs ≡ None → xs ≡ []
 last_none [] h = refl
 last_none (x ∷ xs) h = absurd (last_some x.key xs h)
@@ -29,12 +29,12 @@ last_in : (j b : ℕ) (xs : List Link) → last_from (Some j) xs ≡ Some b → 
 last_in j b [] h = let e : j ≡ b = cc in subst (λ (i : ℕ). 0 < one b i + 0) (sym e) (omega (arith, one_same b))
 last_in j b (x ∷ xs) h = omega (arith, last_in x.key b xs h)
 
--- the key of the last is one of the keys
+-- the last key is one of the keys
 pub last_within : (b : ℕ) (xs : List Link) → last_key xs ≡ Some b → 0 < times b (keys xs)
 last_within b [] h = absurd (cc)
 last_within b (x ∷ xs) h = last_in x.key b xs h
 
--- behind a list with one more at its end
+-- the last key of a list is the last key of its part from the link x on
 pub last_append : (k : Option ℕ) (xs : List Link) (x : Link) (ys : List Link)
     → last_from k (xs ++ x ∷ ys) ≡ last_from (Some x.key) ys
 last_append k [] x ys = refl
@@ -42,7 +42,7 @@ last_append k (y ∷ xs) x ys = last_append (Some y.key) xs x ys
 
 -- linked nodes
 
--- where the nodes of a list stay as they were
+-- nodes that are as they were are linked as they were
 pub IsLinked-same : (s t : Slab Node) (from : Option ℕ) (xs : List Link) (to : Option ℕ)
     → ((k : ℕ) → 0 < times k (keys xs) → get t k ≡ get s k)
     → IsLinked s from xs to → IsLinked t from xs to
@@ -54,14 +54,14 @@ IsLinked-same s t from (x ∷ xs) to h l = (
   IsLinked-same s t l.1 xs to (λ k p. h k (omega arith)) l.3,
 )
 
--- one list behind another
+-- two lists, of which the second follows the first, are linked as their joined list
 pub IsLinked-append : (s : Slab Node) (from : Option ℕ) (xs : List Link) (mid : Option ℕ) (ys : List Link)
     (to : Option ℕ)
     → IsLinked s from xs mid → IsLinked s mid ys to → IsLinked s from (xs ++ ys) to
 IsLinked-append s from [] mid ys to l m = subst (λ (k : Option ℕ). IsLinked s k ys to) (sym l) m
 IsLinked-append s from (x ∷ xs) mid ys to l m = (l.0, l.1, l.2, IsLinked-append s l.1 xs mid ys to l.3 m)
 
--- a list cut in two
+-- a linked list cut in two is two linked lists
 pub IsLinked-split : (s : Slab Node) (from : Option ℕ) (xs ys : List Link) (to : Option ℕ)
     → IsLinked s from (xs ++ ys) to
     → (mid : Option ℕ) × IsLinked s from xs mid × IsLinked s mid ys to
@@ -69,12 +69,12 @@ IsLinked-split s from [] ys to l = (from, refl, l)
 IsLinked-split s from (x ∷ xs) ys to l =
     let r = IsLinked-split s l.1 xs ys to l.3 in (r.0, (l.0, l.1, l.2, r.1), r.2)
 
--- from no key there is nothing
+-- from no key on there is no node
 pub linked_none : (s : Slab Node) (from : Option ℕ) (xs : List Link) → from ≡ None → IsLinked s from xs None → xs ≡ []
 linked_none s from [] e l = refl
 linked_none s from (x ∷ xs) e l = let f : from ≡ Some x.key = l.0 in absurd (cc)
 
--- where there is no last one, nothing comes between
+-- if a list has no last key, it begins where it ends
 pub linked_nothing : (s : Slab Node) (from : Option ℕ) (xs : List Link) (to : Option ℕ) → last_key xs ≡ None
     → IsLinked s from xs to → from ≡ to
 linked_nothing s from [] to e l = l
@@ -84,7 +84,7 @@ pub linked_nowhere : (s : Slab Node) (from : Option ℕ) (xs : List Link) → la
 linked_nowhere s from [] e = refl
 linked_nowhere s from (x ∷ xs) e = absurd (last_some x.key xs e)
 
--- the node under the first key, and those behind it
+-- the node under the first key, and those that follow
 pub record Opens (s : Slab Node) (k : ℕ) (xs : List Link) : Type 0 where
   pub first : Link
   pub after : List Link
@@ -105,7 +105,7 @@ opens s from k (x ∷ xs) e l =
 pub opens-contains : (s : Slab Node) (k : ℕ) (xs : List Link) → Opens s k xs → ContainsKey s k
 opens-contains s k xs o = rw o.node refl
 
--- the key of the last has a node, which names what comes behind
+-- there is a node under the last key, and it has the key that follows the list
 pub record Closes (s : Slab Node) (b : ℕ) (to : Option ℕ) : Type 0 where
   pub last : Link
   pub key : last.key ≡ b
@@ -122,14 +122,14 @@ closes s from (x ∷ y ∷ xs) to b e l = closes s l.1 (y ∷ xs) to b e l.3
 pub closes-contains : (s : Slab Node) (b : ℕ) (to : Option ℕ) → Closes s b to → ContainsKey s b
 closes-contains s b to c = rw c.node refl
 
--- what it names
+-- the key that this node has
 pub closes-next : (s : Slab Node) (b : ℕ) (to : Option ℕ) (n : Node) → Closes s b to → get s b ≡ Some n → n.next ≡ to
 closes-next s b to n c g =
     let same : Some (node_of c.last to) ≡ Some n = sym c.node ∙ g in
     let is : node_of c.last to ≡ n = cc in
     sym (ap (λ (m : Node). m.next) is)
 
--- behind the same last one comes the same
+-- lists with the same last key are followed by the same key
 pub same_end : (s : Slab Node) (from : Option ℕ) (xs ys : List Link) (to end : Option ℕ)
     → IsLinked s from xs to → IsLinked s from ys end → last_key xs ≡ last_key ys → to ≡ end
 same_end s from xs ys to end l m e = by (last_key xs) refl
@@ -140,22 +140,22 @@ same_end s from xs ys to end l m e = by (last_key xs) refl
         let there : Closes s b end = closes s from ys end b (sym e ∙ q) m in
         sym (closes-next s b to (node_of there.last end) (closes s from xs to b q l) there.node)
 
--- the node behind which one comes is there
+-- there is a node under the key `behind`, if that is the last key of a list
 pub behind-contains : (s : Slab Node) (from : Option ℕ) (xs : List Link) (to behind : Option ℕ) → behind ≡ last_key xs
     → IsLinked s from xs to → IfSome behind (ContainsKey s)
 behind-contains s from xs to None e l = tt
 behind-contains s from xs to (Some b) e l = closes-contains s b to (closes s from xs to b (sym e) l)
 
--- the node with another key behind it
+-- the node with another next key
 abbrev pub naming : Option ℕ → Node → Node
 naming to n = record { place = n.place; condition = n.condition; priority = n.priority; next = to }
 
--- the node under b now names another key, and the others are as they were
+-- the node under b has another next key, and the other nodes are as they were
 pub record Relinks (s t : Slab Node) (b : ℕ) (to : Option ℕ) : Type 0 where
   pub changed : (n : Node) → get s b ≡ Some n → get t b ≡ Some (naming to n)
   pub others : (k : ℕ) → k ≢ b → get t k ≡ get s k
 
--- so it is after a write of that node
+-- it holds after a write of that node
 pub Relinks-with_value : (s : Slab Node) (b : ℕ) (n : Node) (to : Option ℕ) → get s b ≡ Some n
     → Relinks s (with_value s b (naming to n)) b to
 Relinks-with_value s b n to g =
@@ -204,14 +204,14 @@ walk_linked (suc n) s from (x ∷ xs) l h =
     ap (walk (suc n) s) l.0 ∙ ap (found (walk n s) x.key) l.2
     ∙ ap (λ ys. x ∷ ys) (walk_linked n s l.1 xs l.3 (omega arith))
 
--- from no key there is nothing to walk
+-- from no key on a walk gives nothing
 pub walked_none : (s : Slab Node) → walked s None ≡ []
 walked_none s = walk_none (slab_len s) s
 
 pub walked_ends : (s : Slab Node) (from : Option ℕ) (e : Ends s from) → walked s from ≡ e.list
 walked_ends s from e = walk_linked (slab_len s) s from e.list e.linked e.few
 
--- a step of a walk: the first, and what is left
+-- a step of a walk: the first link, and those that are left
 pub walked_first : (s : Slab Node) (from : Option ℕ) (k : ℕ) (n : Node) → Ends s from → from ≡ Some k → get s k ≡ Some n
     → (walked s from ≡ record {
       key = k;
@@ -243,13 +243,13 @@ walked_first s from k n e f g =
         } ∷ ys in
         ap (at x.key) (sym e) ∙ ap (λ (j : ℕ). at j m) q
 
--- those before the first of a higher priority number
+-- the links before the first whose priority is above
 
--- of those behind the first
+-- a list that doesn't fall doesn't after its first either
 rising_after : (n : ℕ) (ns : List ℕ) → IsNonDecreasing (n ∷ ns) → IsNonDecreasing ns
 rising_after n ns r i j d le lt = r (suc i) (suc j) d (omega arith) (omega arith)
 
--- where the last isn't above, none is
+-- if the priority of the last link isn't above, none is
 pub record AllLower (p : ℕ) (x : Link) (xs : List Link) : Type 0 where
   pub all : lower p (x ∷ xs) ≡ x ∷ xs
   pub first : x.priority ≤ p
@@ -279,7 +279,7 @@ pub lower_all : (s : Slab Node) (from : Option ℕ) (xs : List Link) (to : Optio
 lower_all s from [] to b p n l e g h r = refl
 lower_all s from (x ∷ xs) to b p n l e g h r = (all_lower s from x xs to b p n l e g h r).all
 
--- those before and those from it on are all
+-- the links before the first whose priority is above, and those from it on, are all
 pub lower-higher : (p : ℕ) (xs : List Link) → lower p xs ++ higher p xs ≡ xs
 lower-higher p [] = refl
 lower-higher p (x ∷ xs) = by (leb x.priority p) (lower-higher p xs)

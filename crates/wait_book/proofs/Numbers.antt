@@ -1,4 +1,4 @@
--- The number of a place among the called, and how many they are.
+-- The number of a place among the called, and how many the called are.
 use Rattle.std.proofs.Common.{◌≡◌, ◌≤◌, ◌∷◌, List, [], ℕ, length, map, refl, ap, sym, ◌∙◌, arith}
 use Rattle.std.proofs.lemmas.List.{length-map}
 use Rattle.hoare_law.specs.declared.event.History.{History}
@@ -13,19 +13,19 @@ use Rattle.wait_book.specs.Numbers.{number_called, number_from}
 use Rattle.wait_book.proofs.Times.{few_once}
 use Rattle.wait_book.proofs.Waiters.{places}
 
--- no more are called than there are places
+-- there are at most as many called as places
 pub few_called : (b : Contents) → IsSound b → length b.called ≤ MOST_PLACES
 few_called b s =
     let few : length (places b.called) ≤ b.sizes.places =
     few_once (places b.called) b.sizes.places (λ j. omega (arith, s.once j)) (λ j p. s.in_range j (omega arith)) in
     omega (arith, s.few_places, length-map b.called (λ (w : Waiter). w.place))
 
--- the called of a chain, as the places of their waits
+-- the places of the called, taken as waits, are the places in their chain
 places_called : (xs : List Link) → map place_of (map wait_of (called_in xs)) ≡ places_in xs
 places_called [] = refl
 places_called (x ∷ xs) = ap (λ (js : List ℕ). x.place ∷ js) (places_called xs)
 
--- the number in the chain is the number among those that the history says are called
+-- the number in the chain is the number among the called of the history
 pub number-chain : (b : Contents) (h : History (Unit {0})) (k : ℕ) (xs : List Link) → IsOf b h → b.called ≡ called_in xs
     → number_from 0 k (places_in xs) ≡ number_called h.events k
 number-chain b h k xs o is =

@@ -26,25 +26,25 @@ use Rattle.wait_book.proofs.Sound.{told, waited, resumed, Resumes, taken_ordered
 use Rattle.wait_book.proofs.Histories.{chosen-first_on, chosen-nobody}
 use Rattle.wait_book.proofs.Signalled.{NobodyWaits}
 
--- they are those of the waiters as they stand
+-- the waiting priorities are those of the waiters, in the order of the list
 pub priorities_on-are : (b : Contents) (c : ℕ) → in_order key (waiters_on c b) ≡ waiters_on c b
     → priorities_on b c ≡ map key (waiters_on c b)
 priorities_on-are b c r = sym (map-in_order key (waiters_on c b)) ∙ ap (map key) r
 
--- none, where nobody waits
+-- there are none if no process waits
 pub priorities_on-nobody : (b : Contents) (c : ℕ) → waiters_on c b ≡ [] → priorities_on b c ≡ []
 priorities_on-nobody b c n = ap (λ l. in_order (λ p. p) (map key l)) n
 
--- where they are none, nobody waits
+-- if there are none, no process waits
 pub priorities_on-none : (b : Contents) (c : ℕ) → in_order key (waiters_on c b) ≡ waiters_on c b
     → priorities_on b c ≡ [] → waiters_on c b ≡ []
 priorities_on-none b c r e = map-none key (waiters_on c b) (sym (priorities_on-are b c r) ∙ e)
 
--- of an equal book
+-- the same for an equal book: there are none if no process waits
 pub no_priority_on : {b d : Contents} (c : ℕ) → b ≡ d → waiters_on c b ≡ [] → priorities_on d c ≡ []
 no_priority_on {b = b} c e n = subst (λ (v : Contents). priorities_on v c ≡ []) e (priorities_on-nobody b c n)
 
--- some, where one is taken
+-- there are some if a waiter is removed
 pub priorities_on-taken : {b d : Contents} {k c w : ℕ} {ws : List Waiter} → Resumes b k c w ws → b ≡ d
     → priorities_on d c ≢ []
 priorities_on-taken {b = b} {c = c} {w = w} {ws = ws} r e = λ none.
@@ -53,7 +53,7 @@ priorities_on-taken {b = b} {c = c} {w = w} {ws = ws} r e = λ none.
     priorities_on-none b c (r.by.sound.ordered c) (ap (λ (v : Contents). priorities_on v c) e ∙ none) in
     absurd (cc)
 
--- they are those of the history
+-- the waiting priorities are those of the history
 pub priorities_on-history : {b d : Contents} (h : History (Unit {0})) (c : ℕ) → b ≡ d → IsSound b → IsOf d h
     → priorities_on d c ≡ priorities h.events c
 unfolding priorities
@@ -62,19 +62,19 @@ priorities_on-history {b = b} {d = d} h c e s o =
     ∙ ap (λ (v : Contents). map key (waiters_on c v)) e
     ∙ sym (map-map priority_of wait_of (waiters_on c d)) ∙ ap (map priority_of) (o.waiters c)
 
--- nobody waits on c in the book where nobody does in the history
+-- if no process waits on c in the book, none does in the history
 pub waiting-none : (b : Contents) (h : History (Unit {0})) (c : ℕ) → IsOf b h → waiters_on c b ≡ []
     → waiting c h.events ≡ []
 waiting-none b h c o n = in_order-none priority_of (waiting c h.events) (sym (o.waiters c) ∙ ap (map wait_of) n)
 
--- and in the history where nobody does in the book
+-- if no process waits on c in the history, none does in the book
 pub waiters_on-none : (b : Contents) (h : History (Unit {0})) (c : ℕ) → IsOf b h → waiting c h.events ≡ []
     → waiters_on c b ≡ []
 waiters_on-none b h c o n = map-none wait_of (waiters_on c b) (o.waiters c ∙ ap (in_order priority_of) n)
 
 -- the first
 
--- its priority is the chosen one's
+-- the priority of the first waiter is that of the chosen wait
 pub first-chosen : (b : Contents) (h : History (Unit {0})) (c : ℕ) → IsOf b h
     → option_map key (find (on c) b.waiters) ≡ option_map priority_of (chosen c h.events)
 first-chosen b h c o =
@@ -83,7 +83,7 @@ first-chosen b h c o =
     ∙ first_of-map priority_of (map wait_of (waiters_on c b))
     ∙ ap (option_map priority_of) (sym (chosen-first_on b h c o))
 
--- and its place is that of the chosen one
+-- the place of the first waiter is that of the chosen wait
 pub first-chosen_place : (b : Contents) (h : History (Unit {0})) (c : ℕ) → IsOf b h
     → option_map (λ (w : Waiter). w.place) (find (on c) b.waiters) ≡ option_map place_of (chosen c h.events)
 first-chosen_place b h c o =
@@ -92,7 +92,7 @@ first-chosen_place b h c o =
     ∙ ap sorted.first_of (sym (map-map place_of wait_of (waiters_on c b)))
     ∙ first_of-map place_of (map wait_of (waiters_on c b)) ∙ ap (option_map place_of) (sym (chosen-first_on b h c o))
 
--- and the first of the priorities
+-- the priority of the first waiter is the first waiting priority
 pub first-priority : (b d : Contents) (c : ℕ) → b ≡ d → IsSound b
     → option_map key (find (on c) b.waiters) ≡ sorted.first_of (priorities_on d c)
 first-priority b d c e s =
@@ -102,7 +102,7 @@ first-priority b d c e s =
 
 -- what a wait and a signal do
 
--- a wait puts its priority in
+-- a wait inserts its priority
 pub priorities_on-joined : {b d : Contents} (w : Waiter) (ws : List Waiter) (c : ℕ) → PutsIn w b.waiters ws → b ≡ d
     → IsSound b → IsSound (waited ws b)
     → priorities_on (waited ws b) c ≡ joined (priorities_on d) w.condition w.priority c
@@ -124,7 +124,7 @@ taken_by true c d b ws w e t =
     (sym (ap (λ l. behind_first (map key l)) (filter-taken_on c b.waiters ws w t)))
 taken_by false c d b ws w e t = ap (map key) (sym (filter-taken_off c d b.waiters ws w t (eq_swap c d ∙ e)))
 
--- a signal and a pass take the first away
+-- a signal and a pass remove the first priority
 priorities_after : (b : Contents) (us : List ℕ) (k c w d : ℕ) (ws : List Waiter) → Resumes b k c w ws
     → priorities_on (resumed ws us w c b) d ≡ taken (priorities_on b) c d
 priorities_after b us k c w d ws r =
@@ -132,14 +132,14 @@ priorities_after b us k c w d ws r =
     ∙ taken_by (d == c) c d b ws w refl r.took
     ∙ ap (λ l. cond (d == c) (behind_first l) l) (sym (priorities_on-are b d (r.by.sound.ordered d)))
 
--- (of an equal book)
+-- the same for an equal book
 pub priorities_on-after : {b e : Contents} {k c w : ℕ} {ws : List Waiter} (us : List ℕ) → b ≡ e → Resumes b k c w ws
     → (d : ℕ)
     → priorities_on (resumed ws us w c b) d ≡ taken (priorities_on e) c d
 priorities_on-after {b = b} {k = k} {c = c} {w = w} {ws = ws} us q r d =
     priorities_after b us k c w d ws r ∙ ap (λ (v : Contents). taken (priorities_on v) c d) q
 
--- where nobody waits, they take nothing away
+-- if no process waits, they remove nothing
 pub priorities_on-untaken : {b d v : Contents} (c e : ℕ) (ps : List ℕ) → b ≡ d → NobodyWaits c b v
     → ps ≡ priorities_on v e → ps ≡ taken (priorities_on d) c e
 priorities_on-untaken {b = b} {d = d} c e ps is none same =
@@ -154,19 +154,19 @@ priorities_on-untaken {b = b} {d = d} c e ps is none same =
 
 -- how many wait, and the priority of the i-th
 
--- as many as priorities
+-- there are as many waiters as priorities
 pub length-priorities_on : (b d : Contents) (c : ℕ) → b ≡ d → IsSound b
     → length (waiters_on c b) ≡ length (priorities_on d c)
 length-priorities_on b d c e s =
     sym (length-map (waiters_on c b) key) ∙ ap length (sym (priorities_on-are b c (s.ordered c)))
     ∙ ap (λ (v : Contents). length (priorities_on v c)) e
 
--- so each has its waiter
+-- so each priority has its waiter
 pub length-waiters_on : (b d : Contents) (c i : ℕ) → b ≡ d → IsSound b → i < length (priorities_on d c)
     → i < length (waiters_on c b)
 length-waiters_on b d c i e s l = omega (arith, length-priorities_on b d c e s)
 
--- the i-th, as the code found it
+-- the priority of the i-th waiter, as the code found it
 pub nth-priority : {b d : Contents} (c i : ℕ) {o : Option ℕ} → b ≡ d → IsSound b
     → o ≡ option_map key (slice_get (waiters_on c b) i)
     → i < length (priorities_on d c) → o ≡ Some (slice_index (priorities_on d c) i)
@@ -184,9 +184,9 @@ fits-condition b d c i e s l =
       | inr h ↦ absurd (omega (arith, length-waiters_on b d c i e s l, ap length (s.on_conditions c h)))
     ]
 
--- whether somebody waits
+-- if a process waits
 
--- an answer that is something where somebody waits
+-- the result is true exactly if a process waits on c
 abbrev SaysWaiting : ℕ → History (Unit {0}) → Bool → Type 0
 SaysWaiting c h r = (r ≡ true → waiting c h.events ≡ [] → ⊥) × ((waiting c h.events ≢ []) → r ≡ true)
 
@@ -203,13 +203,13 @@ queue_by (w ∷ ws) b h c f r e o q i =
     let m : r ≡ true = i ∙ ap is_some (q ∙ n) in
     ((λ t z. absurd (let a = waiters_on-none b h c o z in cc)), (λ z. m))
 
--- somebody is chosen where somebody waits
+-- a wait is chosen exactly if a process waits
 pub queue-waiting : (b : Contents) (h : History (Unit {0})) (c : ℕ) (f : Option ℕ) (r : Bool) → IsOf b h
     → f ≡ option_map priority_of (chosen c h.events) → r ≡ is_some f
     → SaysWaiting c h r
 queue-waiting b h c f r o q i = queue_by (waiters_on c b) b h c f r refl o q i
 
--- a broadcast leaves none on its condition
+-- a broadcast leaves no priority on its condition
 pub priorities_on-emptied : {b e : Contents} (c d : ℕ) (ws vs : List Waiter) → b ≡ e → TakesAll c b.waiters ws
     → priorities_on (told ws vs b) d ≡ emptied (priorities_on e) c d
 priorities_on-emptied {b = b} c d ws vs q t =

@@ -1,4 +1,4 @@
--- What a change in one chain does to those who wait, to the signallers and to the called.
+-- What a change in one chain does to the waiters, to the signallers and to the called.
 use Rattle.std.proofs.Common.{◌≡◌, ◌≢◌, ℕ, zero, suc, ◌+◌, ◌<◌, ◌≤◌, Bool, true, false, not, cond, eqb, eq-eqb}
 use Rattle.std.proofs.Common.{eqb-true, leb, inl, inr, List, [], ◌∷◌, ◌++◌, length, map, Option, Some, None, refl, ap}
 use Rattle.std.proofs.Common.{sym, ◌∙◌, subst, arith}
@@ -28,7 +28,7 @@ use Rattle.wait_book.proofs.Nodes.{lower-higher}
 use Rattle.wait_book.proofs.Lists.{below_past, eq_apart, length_next, length_one, length_same, places_middle, put_same}
 use Rattle.wait_book.proofs.Lists.{put_other, times_next, times_put}
 
--- those on a condition
+-- the waiters on a condition
 
 on_own : (c : ℕ) (xs : List Link) → filter (on c) (map (waiter_on c) xs) ≡ map (waiter_on c) xs
 on_own c [] = refl
@@ -38,7 +38,7 @@ on_other : (c n : ℕ) (xs : List Link) → eqb n c ≡ false → filter (on c) 
 on_other c n [] e = refl
 on_other c n (x ∷ xs) e = rw e (on_other c n xs e)
 
--- nobody in the chains before a condition's waits on it
+-- no waiter in the chains before that of a condition is on it
 on_before : (n c : ℕ) (at : ℕ → List Link) → n ≤ c → filter (on c) (waiting_below n at) ≡ []
 unfolding all_below
 on_before zero c at l = refl
@@ -47,7 +47,7 @@ on_before (suc n) c at l =
     ∙ ap (λ ws. ws ++ filter (on c) (map (waiter_on n) (at n))) (on_before n c at (omega arith))
     ∙ on_other c n (at n) (eq_apart n c (omega arith))
 
--- those on a condition are those in its chain
+-- the waiters on a condition are those in its chain
 pub on_chain : (n c : ℕ) (at : ℕ → List Link) → c < n → filter (on c) (waiting_below n at) ≡ map (waiter_on c) (at c)
 unfolding all_below
 on_chain zero c at l = absurd (omega arith)
@@ -63,7 +63,7 @@ on_chain (suc n) c at l =
           ∙ append-nil _ ∙ on_chain n c at (omega arith)
     ]
 
--- their places
+-- the places of the waiters
 
 map_below : {X Y : Type 0} (g : X → Y) (f : ℕ → Link → X) (n : ℕ) (at : ℕ → List Link)
     → map g (all_below f n at) ≡ all_below (λ c (x : Link). g (f c x)) n at
@@ -74,13 +74,13 @@ map_below g f (suc n) at =
     ∙ ap (λ ys. ys ++ map g (map (f n) (at n))) (map_below g f n at)
     ∙ ap (λ ys. all_below (λ c (x : Link). g (f c x)) n at ++ ys) (map-map g (f n) (at n))
 
--- the places of those who wait are those in the chains
+-- the places of the waiters are those in the chains
 pub places_waiting : (n : ℕ) (at : ℕ → List Link) → places (waiting_below n at) ≡ places_below n at
 places_waiting n at = map_below (λ (w : Waiter). w.place) waiter_on n at
 
--- one that is put in
+-- a waiter that is inserted
 
--- into a list, as the law puts it in
+-- an insertion into a list, as `put_in` of the law does it
 put_lower : (x : Link) (xs : List Link)
     → put_in (λ (v : Link). v.priority) x xs ≡ lower x.priority xs ++ x ∷ higher x.priority xs
 put_lower x [] = refl
@@ -92,7 +92,7 @@ put_lower x (y ∷ ys) = by (leb y.priority x.priority) (put_lower x ys)
     by true h = ap (λ l. y ∷ l) h
     by false h = refl
 
--- into the chain of a condition
+-- an insertion into the chain of a condition
 put_waiters : (c : ℕ) (x : Link) (xs : List Link)
     → map (waiter_on c) (lower x.priority xs ++ x ∷ higher x.priority xs)
     ≡ put_in key (waiter_on c x) (map (waiter_on c) xs)
@@ -120,7 +120,7 @@ on_put c d x at l =
           (sym (eq_apart c d (λ e. off (sym e))))
     ]
 
--- what an insertion into the chain of a condition does to those who wait
+-- what an insertion into the chain of a condition does to the waiters
 pub PutsIn-put : (c place priority : ℕ) (old new : Lists) → c < MOST_CONDITIONS
     → IsPut c (lower priority (list_at old c)) (higher priority (list_at old c)) place c priority old new
     → PutsIn (record { place = place; condition = c; priority = priority })
@@ -156,7 +156,7 @@ PutsIn-put c place priority old new l p =
           );
     }
 
--- the first taken out
+-- the first is removed
 
 pub taken_below : (n c : ℕ) (x : Link) (after : List Link) (at : ℕ → List Link) → c < n → at c ≡ x ∷ after
     → TakesFirst c (waiting_below n at) (waiting_below n (list_put c after at)) x.place
@@ -197,7 +197,7 @@ taken_below (suc n) c x after at l e =
           }
     ]
 
--- what is taken out of the chain of a condition is taken out of those who wait
+-- what is removed from the chain of a condition is removed from the waiters
 pub TakesFirst-taken : (c place : ℕ) (old new : Lists) → c < MOST_CONDITIONS → IsTaken c place old new
     → TakesFirst c (waiting_below MOST_CONDITIONS (list_at old)) (waiting_below MOST_CONDITIONS (list_at new)) place
 TakesFirst-taken c place old new l t =
@@ -210,12 +210,12 @@ TakesFirst-taken c place old new l t =
     (waiting_below MOST_CONDITIONS (list_put c t.after (list_at old))) j) t.first_place
     (taken_below MOST_CONDITIONS c t.first t.after (list_at old) l t.was))
 
--- nobody waits where the chain is empty
+-- no process waits on a condition whose chain is empty
 pub waits-nobody : (c : ℕ) (v : Lists) → c < MOST_CONDITIONS → list_at v c ≡ []
     → filter (on c) (waiting_below MOST_CONDITIONS (list_at v)) ≡ []
 waits-nobody c v l e = on_chain MOST_CONDITIONS c (list_at v) l ∙ ap (map (waiter_on c)) e
 
--- another chain than the one that changes
+-- a chain other than the one that changes is as it was
 pub chain-same : {Y : Type 0} (g : List Link → Y) (c d : ℕ) (xs : List Link) (old new : Lists) → d ≢ c
     → ((e : ℕ) → list_at new e ≡ list_put c xs (list_at old) e) → g (list_at new d) ≡ g (list_at old d)
 chain-same g c d xs old new n h = ap g (h d ∙ put_other c d xs (list_at old) n)
@@ -233,7 +233,7 @@ beside_kept c xs old new l h =
       called = chain-same called_in c CALLED xs old new (omega arith) h;
     }
 
--- and those who wait, where a chain changes that is no condition's
+-- the waiters are as they were if a chain changes that is no condition's
 pub waiters-same : (c : ℕ) (xs : List Link) (old new : Lists) → MOST_CONDITIONS ≤ c
     → ((d : ℕ) → list_at new d ≡ list_put c xs (list_at old) d)
     → waiting_below MOST_CONDITIONS (list_at new) ≡ waiting_below MOST_CONDITIONS (list_at old)
@@ -241,7 +241,7 @@ waiters-same c xs old new l h =
     let lists : list_at new ≡ list_put c xs (list_at old) = λ i d. h d i in
     ap (waiting_below MOST_CONDITIONS) lists ∙ below_past waiter_on MOST_CONDITIONS c xs (list_at old) l
 
--- one more behind all in a chain
+-- an entry is appended to a chain
 pub chain-more : {X : Type 0} (f : Link → X) (c place condition priority : ℕ) (old new : Lists)
     → (p : IsPut c (list_at old c) [] place condition priority old new) → map f (list_at new c)
     ≡ map f (list_at old c) ++ f
@@ -249,7 +249,7 @@ pub chain-more : {X : Type 0} (f : Link → X) (c place condition priority : ℕ
 chain-more f c place condition priority old new p =
     ap (map f) (p.lists c ∙ put_same c _ (list_at old)) ∙ map-append f (list_at old c) _
 
--- the first of a chain less, if there is one
+-- a chain without its first link, if it has one
 pub record Shorter (c : ℕ) (old new : Lists) : Type 0 where
   pub room : new.room ≡ old.room
   pub waiters : waiting_below MOST_CONDITIONS (list_at new) ≡ waiting_below MOST_CONDITIONS (list_at old)
@@ -277,9 +277,9 @@ pub behind_first-map : {X : Type 0} (f : Link → X) (xs : List Link) → map f 
 behind_first-map f [] = refl
 behind_first-map f (x ∷ xs) = refl
 
--- all on a condition called
+-- all waiters on a condition are notified
 
--- those in another chain's are on another condition
+-- the waiters in another condition's chain are on another condition
 not_on : (t : Bool) (n c : ℕ) (xs : List Link) → eqb n c ≡ t
     → filter (λ w. not (on c w)) (map (waiter_on n) xs) ≡ map (waiter_on n) (cond t [] xs)
 not_on true n c [] e = refl
@@ -356,13 +356,13 @@ all_called c old new l j =
           (waited_all c (at c) j.waited ∙ sym (on_chain MOST_CONDITIONS c at l));
     }
 
--- chains with nobody in them
+-- no process waits if the chains are empty
 pub waits-none : (n : ℕ) (at : ℕ → List Link) → ((c : ℕ) → at c ≡ []) → waiting_below n at ≡ []
 unfolding all_below
 waits-none zero at h = refl
 waits-none (suc n) at h = ap (λ xs. waiting_below n at ++ map (waiter_on n) xs) (h n) ∙ append-nil _ ∙ waits-none n at h
 
--- how many stand in all
+-- the number of links in all chains
 
 pub total_is : (v : Lists)
     → total v
@@ -377,7 +377,7 @@ total_is v = omega (
   length-map (list_at v CALLED) waiter_of,
 )
 
--- how often a place stands in all
+-- how often a place is in all chains
 pub times_all : (k : ℕ) (v : Lists) → times k (places_below CHAINS (list_at v))
     ≡ times k (places (waiting_below MOST_CONDITIONS (list_at v))) + times k
     (places_in (list_at v SIGNALLERS)) + times k (places (called_in (list_at v CALLED)))
@@ -389,17 +389,17 @@ times_all k v = omega (
   ap (times k) (map-map (λ (w : Waiter). w.place) waiter_of (list_at v CALLED)),
 )
 
--- as many in the chain of a condition as wait on it
+-- the chain of a condition has as many links as processes wait on it
 pub chain-length : (c : ℕ) (v : Lists) → c < MOST_CONDITIONS
     → length (list_at v c) ≡ length (filter (on c) (waiting_below MOST_CONDITIONS (list_at v)))
 chain-length c v l = sym (ap length (on_chain MOST_CONDITIONS c (list_at v) l) ∙ length-map (list_at v c) (waiter_on c))
 
--- no more in the chain of a condition than wait
+-- the chain of a condition has at most as many links as processes wait on all conditions
 pub chain-few : (c : ℕ) (v : Lists) → c < MOST_CONDITIONS
     → length (list_at v c) ≤ length (waiting_below MOST_CONDITIONS (list_at v))
 chain-few c v l = length_one waiter_on MOST_CONDITIONS c (list_at v) l
 
--- the first of a condition
+-- the priority of the first waiter on a condition is that of the first link of its chain
 pub first-chain : (c : ℕ) (v : Lists) → c < MOST_CONDITIONS
     → option_map (λ (x : Link). x.priority) (first_link (list_at v c))
     ≡ option_map key (find (on c) (waiting_below MOST_CONDITIONS (list_at v)))
@@ -412,7 +412,7 @@ first-chain c v l =
     by [] = refl
     by (x ∷ xs) = refl
 
--- the i-th of a condition
+-- the priority of the i-th waiter on a condition is that of the i-th link of its chain
 pub nth-chain : (c i : ℕ) (v : Lists) → c < MOST_CONDITIONS
     → option_map (λ (x : Link). x.priority) (slice_get (list_at v c) i)
     ≡ option_map key (slice_get (filter (on c) (waiting_below MOST_CONDITIONS (list_at v))) i)
@@ -432,7 +432,7 @@ pub priorities-chain : (c : ℕ) (v : Lists) → c < MOST_CONDITIONS
 priorities-chain c v l =
     ap (map key) (on_chain MOST_CONDITIONS c (list_at v) l) ∙ map-map key (waiter_on c) (list_at v c)
 
--- they don't fall where those who wait stand in order
+-- they don't fall if the waiters on the condition are in order
 pub priorities-rise : (c : ℕ) (v : Lists) → c < MOST_CONDITIONS
     → in_order key (filter (on c) (waiting_below MOST_CONDITIONS (list_at v)))
     ≡ filter (on c) (waiting_below MOST_CONDITIONS (list_at v))

@@ -1,5 +1,5 @@
--- What a signal and a pass do to the chains, where one is resumed, and a notify, where one is called; and where nobody
--- waits.
+-- What a signal and a pass do to the chains if a waiter is resumed, and a notify if a waiter is notified; and what they
+-- do if no process waits.
 use Rattle.std.proofs.Common.{◌≡◌, ◌⊎◌, ◌<◌, ℕ, Bool, true, false, inl, inr, List, [], ◌∷◌, ◌++◌, map, arith, refl}
 use Rattle.std.proofs.Common.{ap, sym, subst, ◌∙◌}
 use Rattle.std.proofs.lemmas.List.{map-append}
@@ -18,7 +18,7 @@ use Rattle.wait_book.proofs.Lists.{below_past, put_other, put_same}
 use Rattle.wait_book.proofs.Queued.{BesideKept, TakesFirst-taken, beside_kept, chain-more, chain-same, on_chain}
 use Rattle.wait_book.proofs.Queued.{taken_below, waiters-same, waits-nobody}
 
--- nobody waits on c, and the book holds what it held
+-- no process waits on c, and the contents are as they were
 pub record NobodyWaits (c : ℕ) (old new : Contents) : Type 0 where
   pub nobody : waiters_on c old ≡ []
   pub same : new ≡ old
@@ -30,7 +30,7 @@ nobody_waits c a new l none same = record {
   same = ap (λ (v : Lists). view_of (record a { chains = v })) same;
 }
 
--- who is resumed is taken out of those who wait, and the other lists stay
+-- the resumed waiter is removed from the waiters, and the other lists are as they were
 pub record TakenOut (c resumed : ℕ) (old new : Lists) : Type 0 where
   pub took : TakesFirst c (waiting_below MOST_CONDITIONS (list_at old))
       (waiting_below MOST_CONDITIONS (list_at new)) resumed
@@ -45,7 +45,7 @@ taken_out c resumed old new l t = record {
   kept = beside_kept c _ old new l t.lists;
 }
 
--- who is resumed is taken out first, and then the signaller stands behind those held up before
+-- first the resumed waiter is removed, and then the signaller is appended to the signallers
 pub record Signalled (c place resumed : ℕ) (old between new : Lists) : Type 0 where
   pub took : TakesFirst c (waiting_below MOST_CONDITIONS (list_at old))
       (waiting_below MOST_CONDITIONS (list_at between)) resumed
@@ -69,7 +69,7 @@ signalled c place resumed old between new l t p =
           ∙ out.kept.called;
     }
 
--- who is called is taken out of those who wait, and stands behind those called before
+-- the notified waiter is removed from the waiters, and appended to the called
 pub record Notified (c place : ℕ) (old new : Lists) : Type 0 where
   pub took : TakesFirst c (waiting_below MOST_CONDITIONS (list_at old)) (waiting_below MOST_CONDITIONS (list_at new))
       place
@@ -77,7 +77,7 @@ pub record Notified (c place : ℕ) (old new : Lists) : Type 0 where
   pub signallers : places_in (list_at new SIGNALLERS) ≡ places_in (list_at old SIGNALLERS)
   pub called : called_in (list_at new CALLED) ≡ called_in (list_at old CALLED) ++ took.first ∷ []
 
--- the waiter that is taken out of those who wait is that of the chain's first
+-- the waiter that is removed is that of the first link of the chain
 first_waiter : (c place : ℕ) (x : Link) (xs : List Link) (old : Lists) (ws : List Waiter) → c < MOST_CONDITIONS
     → list_at old c ≡ x ∷ xs
     → (t : TakesFirst c (waiting_below MOST_CONDITIONS (list_at old)) ws place) → waiter_on c x ≡ t.first
@@ -115,7 +115,7 @@ notified c old new l f =
           ∙ ap (λ w. called_in (at CALLED) ++ w ∷ []) (first_waiter c f.first.place f.first f.after old _ l f.was took);
     }
 
--- the first was called, or nobody was there
+-- the first was notified, or the chain was empty
 pub called_or_none : (t : Bool) (c : ℕ) (old new : Lists) → CallsFirst t c old new
     → ((t ≡ true) × IsCalled c old new) ⊎ ((t ≡ false) × (list_at old c ≡ []) × (new ≡ old))
 called_or_none true c old new f = inl (refl, f)

@@ -27,33 +27,33 @@ use Rattle.wait_book.specs.Queues.{PutsIn, TakesAll, TakesFirst}
 use Rattle.wait_book.proofs.Times.{one_same, one_apart, one_le, times-append, few_once}
 use Rattle.wait_book.proofs.Waiters.{on, places, key, times-places, times-taken, filter-taken, filter-taken_off}
 
--- what each call leaves
+-- the contents after each call
 
--- place k comes in, or goes on
+-- place k enters, or resumes
 abbrev pub admitted : ℕ → Contents → Contents
 admitted k b = record b { turn = Held k }
 
--- the one inside waits, with this list of those who wait
+-- the place inside waits; the waiters are then ws
 abbrev pub waited : List Waiter → Contents → Contents
 waited ws b = record b { waiters = ws; turn = turn_given_up b.signallers (map wait_of b.called) }
 
--- the one inside goes out
+-- the place inside leaves
 abbrev pub left : Contents → Contents
 left b = record b { turn = turn_given_up b.signallers (map wait_of b.called) }
 
--- place w is resumed on c, with these lists left
+-- place w is resumed on c; the waiters and the signallers are then ws and us
 abbrev pub resumed : List Waiter → List ℕ → ℕ → ℕ → Contents → Contents
 resumed ws us w c b = record b { waiters = ws; signallers = us; turn = Owed w c }
 
--- the first signaller goes on
+-- the first signaller, k, returns
 abbrev pub returned : ℕ → Contents → Contents
 returned k b = record b { signallers = behind_first b.signallers; turn = Held k }
 
--- the first that was called goes on
+-- the first of the called, k, resumes
 abbrev pub went_on : ℕ → Contents → Contents
 went_on k b = record b { called = behind_first b.called; turn = Held k }
 
--- the one inside called some: these wait, and those are called
+-- the place inside notified waiters; the waiters and the called are then ws and vs
 abbrev pub told : List Waiter → List Waiter → Contents → Contents
 told ws vs b = record b { waiters = ws; called = vs }
 
@@ -65,7 +65,7 @@ hoare_below n m c h = omega (arith, h)
 pub mesa_past : (n m c : ℕ) → IsMesa n m c → n - m ≤ c
 mesa_past n m c h = omega (arith, h.0, h.1)
 
--- a place that was resumed has the turn by hand, and one that was called has not
+-- a place that a signal resumed has the turn by hand, and a notified place doesn't
 pub hand_hoare : (j k c m : ℕ) → c < m → times_in_hand j m (Owed k c) ≡ one j k
 hand_hoare j k c m l = let e : nat_lt c m ≡ true = grind (arith, nat_tests) in rw e refl
 
@@ -74,7 +74,7 @@ hand_mesa j k c m l = let e : nat_lt c m ≡ false = grind (arith, nat_tests) in
 
 -- whose turn it is
 
--- the called waited behind Hoare's conditions
+-- the called waited on conditions after the first m, which are Hoare's
 abbrev ArePast : ℕ → List Waiter → Type 0
 ArePast m vs = All (λ (w : Waiter). m ≤ w.condition) vs
 
@@ -84,38 +84,38 @@ are_past b s =
     (λ (w : Waiter). hoare_of b ≤ w.condition)
     (λ w h. mesa_past b.sizes.conditions b.sizes.mesa w.condition h) b.called s.on_mesa
 
--- a turn given up is in nobody's hand
+-- after a release no place has the turn by hand
 given_up_hand : (k m : ℕ) (us : List ℕ) (vs : List Waiter) → ArePast m vs
     → times_in_hand k m (turn_given_up us (map wait_of vs)) ≡ 0
 given_up_hand k m [] [] a = refl
 given_up_hand k m [] (v ∷ vs) a = hand_mesa k v.place v.condition m (All-head (λ (w : Waiter). m ≤ w.condition) v vs a)
 given_up_hand k m (u ∷ us) vs a = refl
 
--- and stands beside its signallers and its called
+-- the turn after a release agrees with the signallers and the called
 given_up_fits : (us : List ℕ) (vs : List Waiter) (m : ℕ) → IsTurnBeside us vs m (turn_given_up us (map wait_of vs))
 given_up_fits [] [] m = refl
 given_up_fits [] (v ∷ vs) m = inr (refl, refl)
 given_up_fits (u ∷ us) vs m = refl
 
--- by the turn that is known
+-- a known turn says which place has it by hand
 pub hand_of : (j : ℕ) (b : Contents) (t : Turn) → b.turn ≡ t
     → times_in_hand j (hoare_of b) b.turn ≡ times_in_hand j (hoare_of b) t
 hand_of j b t e = ap (times_in_hand j (hoare_of b)) e
 
--- who is inside or resumed stands in no list
+-- a place that is inside or was resumed is in no list
 pub hand_apart : (b : Contents) (k : ℕ) → IsSound b → times_in_hand k (hoare_of b) b.turn ≡ 1
     → (times k (places b.waiters) ≡ 0) × (times k b.signallers ≡ 0) × (times k (places b.called) ≡ 0)
 hand_apart b k s e = (omega (arith, s.once k), omega (arith, s.once k), omega (arith, s.once k))
 
--- who is inside has the turn by hand
+-- a place that is inside has the turn by hand
 pub held_hand : (b : Contents) (k : ℕ) → b.turn ≡ Held k → times_in_hand k (hoare_of b) b.turn ≡ 1
 held_hand b k e = hand_of k b (Held k) e ∙ one_same k
 
--- so does who is resumed
+-- a place that a signal resumed has the turn by hand
 pub owed_hand : (b : Contents) (k c : ℕ) → b.turn ≡ Owed k c → c < hoare_of b → times_in_hand k (hoare_of b) b.turn ≡ 1
 owed_hand b k c e l = hand_of k b (Owed k c) e ∙ hand_hoare k k c (hoare_of b) l ∙ one_same k
 
--- and is a place of the book
+-- a place that has the turn by hand is in range
 pub hand_in_range : (b : Contents) (k : ℕ) → IsSound b → times_in_hand k (hoare_of b) b.turn ≡ 1 → k < b.sizes.places
 hand_in_range b k s e = s.in_range k (omega arith)
 
@@ -123,22 +123,22 @@ front_of : (us : List ℕ) (vs : List Waiter) (m k : ℕ) → IsTurnBeside us vs
 front_of [] vs m k h = absurd h
 front_of (u ∷ us) vs m k h = ap (λ v. v ∷ us) h
 
--- who returns is the first signaller
+-- a place that returns is the first signaller
 pub return_front : (b : Contents) (k : ℕ) → IsSound b → b.turn ≡ Return k → b.signallers ≡ k ∷ behind_first b.signallers
 return_front b k s e =
     front_of b.signallers b.called (hoare_of b) k
     (subst (λ (t : Turn). IsTurnBeside b.signallers b.called (hoare_of b) t) e s.turn_fits)
 
--- whom the monitor is owed was resumed from one of Hoare's conditions, or called first
+-- a place that is owed the monitor was resumed from one of Hoare's conditions, or is the first of the called
 pub owed_cases : (b : Contents) (k c : ℕ) → IsSound b → b.turn ≡ Owed k c
     → (c < hoare_of b) ⊎ IsCalledFirst k c b.called
 owed_cases b k c s e = subst (λ (t : Turn). IsTurnBeside b.signallers b.called (hoare_of b) t) e s.turn_fits
 
--- so called first, where the condition is a Mesa condition
+-- it is the first of the called if the condition is a Mesa condition
 pub owed_called : (b : Contents) (k c : ℕ) → IsSound b → b.turn ≡ Owed k c → hoare_of b ≤ c → IsCalledFirst k c b.called
 owed_called b k c s e l = ⊎_elim (λ h. absurd (omega (arith, h, l))) (λ f. f) (owed_cases b k c s e)
 
--- how often a place stands among the called, where k was called first
+-- how often a place is among the called, if k is the first of them
 pub called_times : (j k c : ℕ) (vs : List Waiter) → IsCalledFirst k c vs
     → times j (places vs) ≡ one j k + times j (places (behind_first vs))
 called_times j k c [] f = absurd f
@@ -154,46 +154,46 @@ All-behind : (P : Waiter → Type 0) (vs : List Waiter) → All P vs → All P (
 All-behind P [] a = a
 All-behind P (w ∷ vs) a = All-tail P w vs a
 
--- how often a place stands among the signallers, where the first returns
+-- how often a place is among the signallers, if the first of them returns
 return_times : (b : Contents) (k j : ℕ) → IsSound b → b.turn ≡ Return k
     → times j b.signallers ≡ one j k + times j (behind_first b.signallers)
 return_times b k j s e = ap (times j) (return_front b k s e)
 
--- who returns stands in the book
+-- a place that returns is in the book
 pub return_in : (b : Contents) (k : ℕ) → IsSound b → b.turn ≡ Return k → 0 < times_in k b
 return_in b k s e = omega (arith, return_times b k k s e, one_same k)
 
--- the place that goes on is in range
+-- a place that is owed the monitor is in range
 pub owed_in_range : (b : Contents) (k c : ℕ) → IsSound b → b.turn ≡ Owed k c → k < b.sizes.places
 owed_in_range b k c s e = ⊎_elim (λ l. hand_in_range b k s (owed_hand b k c e l))
     (λ f. s.in_range k (omega (arith, called_times k k c b.called f, one_same k))) (owed_cases b k c s e)
 
--- so is the one inside
+-- a place that is inside is in range
 pub held_in_range : (b : Contents) (k : ℕ) → IsSound b → b.turn ≡ Held k → k < b.sizes.places
 held_in_range b k s e = hand_in_range b k s (held_hand b k e)
 
--- and the one that returns
+-- a place that returns is in range
 pub return_in_range : (b : Contents) (k : ℕ) → IsSound b → b.turn ≡ Return k → k < b.sizes.places
 return_in_range b k s e = s.in_range k (return_in b k s e)
 
--- the condition of the one owed is the book's
+-- the condition of a place that is owed the monitor is the book's
 pub owed_condition : (b : Contents) (k c : ℕ) → IsSound b → b.turn ≡ Owed k c → c < b.sizes.conditions
 owed_condition b k c s e =
     ⊎_elim (λ l. omega (arith, l)) (called_condition b.sizes.conditions b.sizes.mesa k c b.called s.on_mesa)
     (owed_cases b k c s e)
 
--- what a call by the one inside is given
+-- what a call by the place inside knows
 
--- a condition of an equal book
+-- a condition of an equal book is the book's
 pub same_condition : (b d : Contents) (c : ℕ) → b ≡ d → c < d.sizes.conditions → c < b.sizes.conditions
 same_condition b d c e h = subst (λ (v : Contents). c < v.sizes.conditions) (sym e) h
 
--- so of its kinds
+-- Hoare's conditions of an equal book are Hoare's conditions of the book
 pub same_hoare : (b d : Contents) (c : ℕ) → b ≡ d → IsHoare d.sizes.conditions d.sizes.mesa c → c < hoare_of b
 same_hoare b d c e h =
     subst (λ (v : Contents). c < hoare_of v) (sym e) (hoare_below d.sizes.conditions d.sizes.mesa c h)
 
--- and it has a chain
+-- one of Hoare's conditions has a chain
 pub hoare_chain : (b d : Contents) (c : ℕ) → b ≡ d → IsHoare d.sizes.conditions d.sizes.mesa c → IsSound b
     → c < MOST_CONDITIONS
 hoare_chain b d c e h s = omega (arith, same_condition b d c e (omega (arith, h)), s.few_conditions)
@@ -210,39 +210,39 @@ pub record Holds (b : Contents) (k : ℕ) : Type 0 where
   pub sound : IsSound b
   pub inside : b.turn ≡ Held k
 
--- from what a call asks for
+-- it follows from what a call requires
 pub holds : {b d : Contents} {k : ℕ} → b ≡ d → IsSound b → d.turn ≡ Held k → Holds b k
 holds e s h = record { sound = s; inside = ap (λ (v : Contents). v.turn) e ∙ h }
 
--- k is inside, and w, who is the first of those who wait on c, is taken out of them, which leaves ws
+-- place k is inside, and w, the first of the waiters on c, is removed from them, which leaves ws
 pub record Resumes (b : Contents) (k c w : ℕ) (ws : List Waiter) : Type 0 where
   pub by : Holds b k
   pub fits : c < b.sizes.conditions
   pub took : TakesFirst c b.waiters ws w
 
--- from what a call asks for, and what taking the first did
+-- it follows from what a call requires, and from the removal of the first
 abbrev pub resumes : {b d : Contents} {k c w : ℕ} {ws : List Waiter} → b ≡ d → IsSound b → d.turn ≡ Held k
     → c < d.sizes.conditions → TakesFirst c b.waiters ws w → Resumes b k c w ws
 resumes {b = b} {c = c} e s h l t = record { by = holds e s h; fits = same_condition b _ c e l; took = t }
 
--- the one inside stands in no list
+-- the place inside is in no list
 pub holder_apart : (b : Contents) (k : ℕ) → Holds b k
     → (times k (places b.waiters) ≡ 0) × (times k b.signallers ≡ 0) × (times k (places b.called) ≡ 0)
 holder_apart b k o = hand_apart b k o.sound (held_hand b k o.inside)
 
--- and doesn't wait in an equal book
+-- the place inside doesn't wait in an equal book
 pub apart_same : {b d : Contents} {k : ℕ} → b ≡ d → IsSound b → d.turn ≡ Held k → times k (places d.waiters) ≡ 0
 apart_same {b = b} {k = k} e s h =
     subst (λ (v : Contents). times k (places v.waiters) ≡ 0) e (holder_apart b k (holds e s h)).0
 
--- what a newcomer is given: a sound book where the monitor is free, and place k stands nowhere
+-- what an entering place knows: the book is sound, the monitor is free, and k is a place that is nowhere in the book
 pub record Enters (b : Contents) (k : ℕ) : Type 0 where
   pub sound : IsSound b
   pub free : b.turn ≡ Free
   pub place : k < b.sizes.places
   pub outside : times_in k b ≡ 0
 
--- from what a call asks for
+-- it follows from what a call requires
 pub enters : {b d : Contents} {k : ℕ} → b ≡ d → IsSound b → d.turn ≡ Free → k < d.sizes.places → times_in k d ≡ 0
     → Enters b k
 enters {k = k} e s f l z = record {
@@ -252,7 +252,7 @@ enters {k = k} e s f l z = record {
   outside = ap (times_in k) e ∙ z;
 }
 
--- a book that holds no place more often, with the same sizes
+-- a book with the same sizes in which each place is at most as often
 
 sound_fewer : (b d : Contents) → IsSound b → SameSizes b d → ((k : ℕ) → times_in k d ≤ times_in k b)
     → ((c : ℕ) → b.sizes.conditions ≤ c → waiters_on c d ≡ [])
@@ -287,7 +287,7 @@ waited_times b w ws j p s e =
     omega
     (arith, p.more j, given_up_hand j (hoare_of b) b.signallers b.called (are_past b s), hand_of j b (Held w.place) e)
 
--- those on a condition stay in order
+-- after a wait the waiters on each condition are in order
 waited_ordered : (b : Contents) (w : Waiter) (ws : List Waiter) (c : ℕ) → PutsIn w b.waiters ws
     → in_order key (waiters_on c b) ≡ waiters_on c b
     → in_order key (filter (on c) ws) ≡ filter (on c) ws
@@ -299,7 +299,7 @@ waited_ordered b w ws c p o = ap (in_order key) (p.on c) ∙ by (w.condition == 
     by true = in_order-put_in key w (waiters_on c b) o
     by false = o
 
--- and no other condition gets one
+-- after a wait no process waits on a condition that isn't the book's
 waited_conditions : (b : Contents) (w : Waiter) (ws : List Waiter) (c : ℕ) → PutsIn w b.waiters ws
     → w.condition < b.sizes.conditions → b.sizes.conditions ≤ c
     → waiters_on c b ≡ [] → filter (on c) ws ≡ []
@@ -307,7 +307,7 @@ waited_conditions b w ws c p l m n =
     let off : (w.condition == c) ≡ false = grind (arith, nat_tests) in
     p.on c ∙ ap (λ t. cond t (put_in key w (waiters_on c b)) (waiters_on c b)) off ∙ n
 
--- and keeps the book sound
+-- a wait keeps the book sound
 pub waited_sound : (b : Contents) (w : Waiter) (ws : List Waiter) → PutsIn w b.waiters ws → Holds b w.place
     → w.condition < b.sizes.conditions → IsSound (waited ws b)
 waited_sound b w ws p o l =
@@ -316,14 +316,14 @@ waited_sound b w ws p o l =
     (λ c. waited_ordered b w ws c p (o.sound.ordered c)) o.sound.on_mesa
     (given_up_fits b.signallers b.called (hoare_of b))
 
--- no more wait than there are places
+-- at most as many processes wait as there are places
 pub few_waiters : (b : Contents) → IsSound b → length b.waiters ≤ MOST_PLACES
 few_waiters b s =
     let few : length (places b.waiters) ≤ b.sizes.places =
     few_once (places b.waiters) b.sizes.places (λ j. omega (arith, s.once j)) (λ j p. s.in_range j (omega arith)) in
     omega (arith, s.few_places, length-map b.waiters (λ (w : Waiter). w.place))
 
--- there is room for the one inside
+-- there is room for the place inside
 pub room : (b : Contents) (k : ℕ) → Holds b k
     → length b.waiters + length b.signallers + length b.called < b.sizes.places
 room b k o =
@@ -354,12 +354,12 @@ room b k o =
 
 -- leave
 
--- a leave takes its place away
+-- a leave removes its place
 pub left_times : (b : Contents) (k j : ℕ) → IsSound b → b.turn ≡ Held k → times_in j (left b) + one j k ≡ times_in j b
 left_times b k j s e =
     omega (arith, given_up_hand j (hoare_of b) b.signallers b.called (are_past b s), hand_of j b (Held k) e)
 
--- and keeps the book sound
+-- a leave keeps the book sound
 pub left_sound : (b : Contents) (k : ℕ) → Holds b k → IsSound (left b)
 left_sound b k o =
     sound_fewer b (left b) o.sound (same b)
@@ -368,24 +368,24 @@ left_sound b k o =
 
 -- admit
 
--- a newcomer stands once more
+-- an entering place is in the book once more
 pub admitted_times : (b : Contents) (k j : ℕ) → b.turn ≡ Free → times_in j (admitted k b) ≡ times_in j b + one j k
 admitted_times b k j e = omega (arith, hand_of j b Free e)
 
--- so once at most, where it stood nowhere
+-- so it is there once at most, if it was nowhere
 once_more : (t : Bool) (b : Contents) (k j : ℕ) → eqb j k ≡ t → times_in k b ≡ 0 → times_in j b ≤ 1
     → times_in j b + one j k ≤ 1
 once_more true b k j h z o =
     let z2 : times_in j b ≡ 0 = ap (λ v. times_in v b) (eqb-true j k h) ∙ z in omega (arith, one_le j k)
 once_more false b k j h z o = omega (arith, one_apart j k h)
 
--- and in range
+-- each place is still in range
 ranged_more : (t : Bool) (b : Contents) (k j n : ℕ) → eqb j k ≡ t → k < n → (0 < times_in j b → j < n)
     → 0 < times_in j b + one j k → j < n
 ranged_more true b k j n h r o p = let q : j ≡ k = eqb-true j k h in omega arith
 ranged_more false b k j n h r o p = o (omega (arith, one_apart j k h))
 
--- a newcomer keeps the book sound
+-- an admission keeps the book sound
 pub admitted_sound : (b : Contents) (k : ℕ) → Enters b k → IsSound (admitted k b)
 admitted_sound b k i = record {
   some_places = i.sound.some_places;
@@ -406,12 +406,12 @@ admitted_sound b k i = record {
 
 -- claim
 
--- who is resumed goes on as often as it stood
+-- if a place resumes after a signal, each place is in the book as often as it was
 pub owed_times : (b : Contents) (k c j : ℕ) → b.turn ≡ Owed k c → c < hoare_of b
     → times_in j (admitted k b) ≡ times_in j b
 owed_times b k c j e l = omega (arith, hand_of j b (Owed k c) e, hand_hoare j k c (hoare_of b) l)
 
--- and who is called, as well
+-- the same if the first of the called resumes
 pub went_on_times : (b : Contents) (k c j : ℕ) → IsSound b → b.turn ≡ Owed k c → hoare_of b ≤ c
     → times_in j (went_on k b) ≡ times_in j b
 went_on_times b k c j s e l =
@@ -422,11 +422,11 @@ went_on_times b k c j s e l =
       called_times j k c b.called (owed_called b k c s e l),
     )
 
--- the first signaller goes on as often as it stood
+-- the same if the first signaller returns
 pub returned_times : (b : Contents) (k j : ℕ) → IsSound b → b.turn ≡ Return k → times_in j (returned k b) ≡ times_in j b
 returned_times b k j s e = omega (arith, hand_of j b (Return k) e, return_times b k j s e)
 
--- either keeps the book sound
+-- each of these keeps the book sound
 pub owed_sound : (b : Contents) (k c : ℕ) → IsSound b → b.turn ≡ Owed k c → c < hoare_of b → IsSound (admitted k b)
 owed_sound b k c s e l =
     sound_fewer b (admitted k b) s (same b)
@@ -442,12 +442,12 @@ returned_sound b k s e =
     sound_fewer b (returned k b) s (same b)
     (λ j. omega (arith, returned_times b k j s e)) s.on_conditions s.ordered s.on_mesa tt
 
--- who goes on, by the chain in which it stands
+-- the contents after place k has resumed, by the chain that it was in
 abbrev pub claimed : Option ℕ → ℕ → Contents → Contents
 claimed None k b = admitted k b
 claimed (Some n) k b = cond (n == SIGNALLERS) (returned k b) (went_on k b)
 
--- any of the three keeps the book sound
+-- the book is then sound
 pub claimed_sound : (t : Turn) (b : Contents) (k : ℕ) → b.turn ≡ t → next_of t ≡ next.For k → IsSound b
     → IsSound (claimed (chain_of t (hoare_of b)) k b)
 claimed_sound Free b k e n s = absurd (cc)
@@ -463,7 +463,7 @@ claimed_sound (Return j) b k e n s =
 
 -- signal and pass
 
--- the one resumed goes, and the rest stays in order
+-- once the resumed waiter is removed, the waiters on each condition are in order
 pub taken_ordered : (b : Contents) (k c w : ℕ) (ws : List Waiter) → Resumes b k c w ws → (d : ℕ)
     → in_order key (filter (on d) ws) ≡ filter (on d) ws
 taken_ordered b k c w ws r d =
@@ -473,7 +473,7 @@ taken_ordered b k c w ws r d =
     filter-filter stays (on d) b.waiters ∙ ap (filter (on d)) gone in
     ap (in_order key) (sym is) ∙ in_order-filtered key stays (waiters_on d b) (r.by.sound.ordered d) ∙ is
 
--- and nobody is left on another condition than before
+-- no process waits then on a condition that isn't the book's
 taken_conditions : (b : Contents) (k c w : ℕ) (ws : List Waiter) → Resumes b k c w ws → (d : ℕ) → b.sizes.conditions ≤ d
     → filter (on d) ws ≡ []
 taken_conditions b k c w ws r d l =
@@ -495,26 +495,26 @@ signalled_times b k c w j ws r l =
       times-append j b.signallers (k ∷ []),
     )
 
--- a pass takes its caller away
+-- a pass removes its caller
 pub passed_times : (b : Contents) (k c w j : ℕ) (ws : List Waiter) → Resumes b k c w ws → c < hoare_of b
     → times_in j (resumed ws b.signallers w c b) + one j k ≡ times_in j b
 passed_times b k c w j ws r l =
     omega
     (arith, hand_hoare j w c (hoare_of b) l, hand_of j b (Held k) r.by.inside, times-taken j c b.waiters ws w r.took)
 
--- either keeps the book sound, where no place stands more often
+-- a resumption keeps the book sound if no place is in the book more often
 resumed_sound : (b : Contents) (k c w : ℕ) (ws : List Waiter) (us : List ℕ) → Resumes b k c w ws → c < hoare_of b
     → ((j : ℕ) → times_in j (resumed ws us w c b) ≤ times_in j b) → IsSound (resumed ws us w c b)
 resumed_sound b k c w ws us r l o = sound_fewer b (resumed ws us w c b) r.by.sound (same b) o
     (taken_conditions b k c w ws r) (taken_ordered b k c w ws r) r.by.sound.on_mesa (inl l)
 
--- so does a signal
+-- a signal keeps the book sound
 pub signalled_sound : (b : Contents) (k c w : ℕ) (ws : List Waiter) → Resumes b k c w ws → c < hoare_of b
     → IsSound (resumed ws (b.signallers ++ k ∷ []) w c b)
 signalled_sound b k c w ws r l =
     resumed_sound b k c w ws (b.signallers ++ k ∷ []) r l (λ j. omega (arith, signalled_times b k c w j ws r l))
 
--- and a pass
+-- a pass keeps the book sound
 pub passed_sound : (b : Contents) (k c w : ℕ) (ws : List Waiter) → Resumes b k c w ws → c < hoare_of b
     → IsSound (resumed ws b.signallers w c b)
 passed_sound b k c w ws r l =
@@ -522,19 +522,19 @@ passed_sound b k c w ws r l =
 
 -- notify and broadcast
 
--- a notify moves the one that it calls
+-- a notify moves the waiter that it notifies
 pub notified_times : (b : Contents) (k c w j : ℕ) (ws : List Waiter) (r : Resumes b k c w ws)
     → times_in j (told ws (b.called ++ r.took.first ∷ []) b) ≡ times_in j b
 notified_times b k c w j ws r =
     let e : one j r.took.first.place ≡ one j w = ap (one j) r.took.place in
     omega (arith, times-taken j c b.waiters ws w r.took, times-places j b.called (r.took.first ∷ []))
 
--- one more of whom a fact holds
+-- a fact that holds of all elements of two lists holds of all of the joined list
 All-last : (P : Waiter → Type 0) (vs ws : List Waiter) → All P vs → All P ws → All P (vs ++ ws)
 All-last P [] ws a b = b
 All-last P (v ∷ vs) ws a b = All-cons P v (vs ++ ws) (All-head P v vs a) (All-last P vs ws (All-tail P v vs a) b)
 
--- and keeps the book sound
+-- a notify keeps the book sound
 pub notified_sound : (b : Contents) (k c w : ℕ) (ws : List Waiter) (r : Resumes b k c w ws)
     → IsMesa b.sizes.conditions b.sizes.mesa c → IsSound (told ws (b.called ++ r.took.first ∷ []) b)
 notified_sound b k c w ws r m =
@@ -548,7 +548,7 @@ notified_sound b k c w ws r m =
     (subst (λ (t : Turn). IsTurnBeside b.signallers (b.called ++ r.took.first ∷ []) (hoare_of b) t)
     (sym r.by.inside) tt)
 
--- those that a filter keeps, and the others
+-- the elements that a filter keeps, and the others, are all
 times-filter : (j : ℕ) (p : Waiter → Bool) (ws : List Waiter)
     → times j (places ws) ≡ times j (places (filter (λ w. not (p w)) ws)) + times j (places (filter p ws))
 times-filter j p [] = omega arith
@@ -562,7 +562,7 @@ times-filter j p (w ∷ ws) = by (p w) (times-filter j p ws)
     by true h = omega arith
     by false h = omega arith
 
--- a broadcast moves all that it calls
+-- a broadcast moves all waiters that it notifies
 pub broadcast_times : (b : Contents) (c j : ℕ) (ws : List Waiter) → TakesAll c b.waiters ws
     → times_in j (told ws (b.called ++ waiters_on c b) b) ≡ times_in j b
 broadcast_times b c j ws t =
@@ -599,7 +599,7 @@ emptied_ordered b c d ws t o = ap (in_order key) (t.on d) ∙ by (d == c) ∙ sy
     by true = refl
     by false = o
 
--- and keeps the book sound
+-- a broadcast keeps the book sound
 pub broadcast_sound : (b : Contents) (k c : ℕ) (ws : List Waiter) → Holds b k → IsMesa b.sizes.conditions b.sizes.mesa c
     → TakesAll c b.waiters ws → IsSound (told ws (b.called ++ waiters_on c b) b)
 broadcast_sound b k c ws o m t =
@@ -613,7 +613,7 @@ broadcast_sound b k c ws o m t =
 
 -- a new book
 
--- a book where nobody is
+-- a book with empty lists whose monitor is free is sound
 pub opened_sound : (n : Sizes) (x : ℕ) → 0 < n.places → n.places ≤ MOST_PLACES → 0 < n.conditions
     → n.conditions ≤ MOST_CONDITIONS → n.mesa ≤ n.conditions → n.places ≤ x
     → IsSound (record {
@@ -643,7 +643,7 @@ opened_sound n x a b d e g f = record {
 
 -- an equal book
 
--- a book with these parts
+-- books with equal parts are equal
 pub parts : {n : Sizes} {x y p q : ℕ} {ws vs : List Waiter} {us zs : List ℕ} {cs ds : List Waiter} {t r : Turn} → x ≡ y
     → p ≡ q → ws ≡ vs → us ≡ zs → cs ≡ ds → t ≡ r
     → (let b : Contents = record {

@@ -1,4 +1,4 @@
--- The list of those who wait: what taking one out and putting one in does to the places and to each condition.
+-- The list of the waiters: what the removal and the insertion of a waiter do to the places and to each condition.
 use Rattle.std.proofs.Common.{◌≡◌, ◌==◌, ℕ, suc, ◌+◌, ◌≤◌, Bool, true, false, not, eqb, eqb-true, ◌||◌}
 use Rattle.std.proofs.Common.{List, ◌∷◌, ◌++◌, length, map, refl, ap, sym, ◌∙◌, arith}
 use Rattle.std.specs.List.{filter}
@@ -11,21 +11,21 @@ use Rattle.wait_book.specs.Contents.{one, times}
 use Rattle.wait_book.specs.Queues.{TakesFirst}
 use Rattle.wait_book.proofs.Times.{eq_self, one_same, times-append, list_all-apart, filter-apart}
 
--- it waits on c
+-- the waiter is on c
 abbrev pub on : ℕ → Waiter → Bool
 on c = λ (w : Waiter). w.condition == c
 
--- their places
+-- the places of the waiters
 abbrev pub places : List Waiter → List ℕ
 places ws = map (λ (w : Waiter). w.place) ws
 
--- the priority of one that waits
+-- the priority of a waiter
 abbrev pub key : Waiter → ℕ
 key = λ (w : Waiter). w.priority
 
--- what was taken, by condition
+-- what was removed, by condition
 
--- those on c are the one taken and those who stay
+-- the waiters on c were the removed waiter and those that remain
 pub filter-taken_on : (c : ℕ) (old new : List Waiter) (k : ℕ) (t : TakesFirst c old new k)
     → filter (on c) old ≡ t.first ∷ filter (on c) new
 filter-taken_on c old new k t =
@@ -39,7 +39,7 @@ filter-taken_on c old new k t =
     ∙ ap (λ l. l ++ filter (on c) t.after) t.none_before in
     left ∙ ap (λ l. t.first ∷ l) (sym right)
 
--- those on another condition stay
+-- the waiters on another condition remain
 pub filter-taken_off : (c d : ℕ) (old new : List Waiter) (k : ℕ) → TakesFirst c old new k → (c == d) ≡ false
     → filter (on d) old ≡ filter (on d) new
 filter-taken_off c d old new k t apart =
@@ -49,21 +49,21 @@ filter-taken_off c d old new k t apart =
     ∙ ap (λ l. filter (on d) t.before ++ l) cut
     ∙ sym (ap (filter (on d)) t.is ∙ filter-append (on d) t.before t.after)
 
--- one less stays
+-- the list is one shorter
 pub length-taken : (c : ℕ) (old new : List Waiter) (k : ℕ) → TakesFirst c old new k → length old ≡ suc (length new)
 length-taken c old new k t =
     omega
     (arith, ap length t.was, ap length t.is, length-append t.before (t.first ∷ t.after), length-append t.before t.after)
 
--- what was taken, by place
+-- what was removed, by place
 
--- of two lists
+-- the counts of a place in two lists add up in the joined list
 pub times-places : (j : ℕ) (xs ys : List Waiter)
     → times j (places (xs ++ ys)) ≡ times j (places xs) + times j (places ys)
 times-places j xs ys =
     ap (times j) (map-append (λ (w : Waiter). w.place) xs ys) ∙ times-append j (places xs) (places ys)
 
--- the one taken out stands once less
+-- the place of the removed waiter is in the list once less
 pub times-taken : (j c : ℕ) (old new : List Waiter) (k : ℕ) → TakesFirst c old new k
     → times j (places old) ≡ times j (places new) + one j k
 times-taken j c old new k t =
@@ -73,7 +73,7 @@ times-taken j c old new k t =
     let e : one j t.first.place ≡ one j k = ap (one j) t.place in
     omega (arith, times-places j t.before (t.first ∷ t.after), times-places j t.before t.after)
 
--- a filter by place that two places alone fail
+-- a filter that only two places fail leaves a list without these places as it is
 pub filter-two_apart : (k w : ℕ) (ws : List Waiter) → times k (places ws) ≡ 0 → times w (places ws) ≡ 0
     → filter (λ (v : Waiter). not (eqb k v.place || eqb w v.place)) ws ≡ ws
 filter-two_apart k w ws y z =
@@ -85,7 +85,7 @@ or_true : (a b : Bool) → b ≡ true → not (a || b) ≡ false
 or_true true b h = refl
 or_true false b h = rw h refl
 
--- where k doesn't wait and who is taken waits once, only who is taken goes
+-- if k isn't among the waiters and the removed place w is once, the filter that k and w fail removes only w
 pub filter-taken : (k c : ℕ) (old new : List Waiter) (w : ℕ) → TakesFirst c old new w → times k (places old) ≡ 0
     → times w (places old) ≤ 1
     → filter (λ (v : Waiter). not (eqb k v.place || eqb w v.place)) old ≡ new
@@ -100,13 +100,13 @@ filter-taken k c old new w t y z =
     ap (filter p) t.was ∙ filter-append p t.before (t.first ∷ t.after) ∙ ap (λ l. filter p t.before ++ l) cut
     ∙ sym (ap (filter p) t.is ∙ filter-append p t.before t.after) ∙ stay
 
--- a place that stands nowhere, by its two counts
+-- if the first count of a place is 0, the place is nowhere exactly if its second count is 0
 pub nowhere : (a t : Bool) (x z n : ℕ) → a ≡ false → not a ≡ (x == 0) → not t ≡ (z == 0) → n ≡ x + z → not t ≡ (n == 0)
 nowhere a t x z n p e g s =
     let m : (x == 0) ≡ true = sym e ∙ ap not p in
     let i : n ≡ z = omega (arith, eqb-true x 0 m) in
     g ∙ sym (ap (λ v. v == 0) i)
 
--- a place that stands somewhere, by one of its counts
+-- a place is somewhere if a part of its count isn't 0
 pub somewhere : (a : Bool) (x n : ℕ) → a ≡ true → not a ≡ (x == 0) → x ≤ n → false ≡ (n == 0)
 somewhere a x n p e l = let m : (x == 0) ≡ false = sym e ∙ ap not p in grind (arith, nat_tests)

@@ -41,36 +41,36 @@ module _ {D : Type 0} where
       let mapped = map-in_order priority_of (waiting c h) in
       ap (in_order (λ n. n)) mapped ∙ in_order-in_order (λ n. n) (map priority_of (waiting c h)) ∙ sym mapped
 
-  -- the priorities of the book are those of the history
+  -- the waiting priorities of the book are those of the history
   pub priorities_on-history : (b : Contents) (h : History D) → IsOf b (erased h) → priorities_on b ≡ priorities h.events
   priorities_on-history b h o = λ i c. (ap (in_order (λ n. n)) (listed b h c o) ∙ in_order-priorities h.events c) i
 
   pub turn-history : (b : Contents) (h : History D) → IsOf b (erased h) → b.turn ≡ turn h.events
   turn-history b h o = sym o.turn_is ∙ turn-erased h.events
 
-  -- the book's answer is who goes on
+  -- what the book returns is the turn of the history
   pub next-history : (b : Contents) (h : History D) (next : Next) → IsOf b (erased h) → next ≡ next_of b.turn
       → next ≡ next_of (turn h.events)
   next-history b h next o is = is ∙ ap next_of (turn-history b h o)
 
-  -- who is outside stands nowhere in the book
+  -- a place that is outside is nowhere in the book
   pub times_in-outside : (b : Contents) (h : History D) (k : ℕ) → IsOf b (erased h) → outside k h.events ≡ true
       → times_in k b ≡ 0
   times_in-outside b h k o out = eqb-true (times_in k b) 0 (sym (o.outside_are k) ∙ outside-erased k h.events ∙ out)
 
-  -- a book of the history without data, and one event more
+  -- a book of the history without data, after another event
   pub IsOf-event : (b : Contents) (h : History D) (e : Event D) → IsOf b (with_event (erased h) (without_data e))
       → IsOf b (erased (with_event h e))
   IsOf-event b h e o = subst (IsOf b) (sym (erased-push h e)) o
 
-  -- so after the claim of the one who is owed the monitor, or who returns
+  -- so after the claim of a place to which the monitor is owed
   pub IsOf-claim : (b : Contents) (h : History D) (t : Turn) (e : Event D) → turn h.events ≡ t
       → after_claim (erased h) t ≡ with_event (erased h) (without_data e)
       → IsOf b (settled (erased h)) → IsOf b (erased (with_event h e))
   IsOf-claim b h t e is adds o =
       IsOf-event b h e (subst (IsOf b) (ap (after_claim (erased h)) (turn-erased h.events ∙ is) ∙ adds) o)
 
-  -- and after a signal and a pass
+  -- so after a signal and a pass
   pub IsOf-handing : (out : Bool) (b : Contents) (h : History D) (k c : ℕ) (x : Event D) (s : D)
       → chosen c h.events ≡ Some x
       → IsOf b (after_handing out (erased h) k c (chosen c (erased h).events))
@@ -79,7 +79,7 @@ module _ {D : Type 0} where
       (ap (after_handing out (erased h) k c) (chosen-erased c h.events ∙ ap (option_map without_data) is)
       ∙ after_handing-some out (erased h) k c (place_of x) (without_data x) s (place_of-erased x)) o)
 
-  -- and after a notify
+  -- so after a notify
   pub IsOf-notify : (b : Contents) (h : History D) (k c : ℕ) (x : Event D) (s : D) → chosen c h.events ≡ Some x
       → IsOf b (after_notify (erased h) k c (chosen c (erased h).events))
       → IsOf b (erased (with_event h (Notify k c (place_of x) s)))
@@ -87,7 +87,7 @@ module _ {D : Type 0} where
       (ap (after_notify (erased h) k c) (chosen-erased c h.events ∙ ap (option_map without_data) is)
       ∙ ap (λ j. with_event (erased h) (Notify k c j tt)) (place_of-erased x)) o)
 
-  -- and after a broadcast
+  -- so after a broadcast
   pub IsOf-broadcast : (b : Contents) (h : History D) (k c : ℕ) (s : D) → waiting c h.events ≢ []
       → IsOf b (after_broadcast (erased h) k c (waiting c (erased h).events))
       → IsOf b (erased (with_event h (Broadcast k c s)))
@@ -98,7 +98,7 @@ module _ {D : Type 0} where
       by (x ∷ xs) is = IsOf-event b h (Broadcast k c s) (subst (IsOf b)
           (ap (after_broadcast (erased h) k c) (waiting-erased c h.events ∙ ap (map without_data) is)) o)
 
-  -- somebody waits where a priority stands
+  -- a process waits exactly if there is a waiting priority
   pub waits-listed : (b : Bool) (h : List (Event D)) (c : ℕ)
       → (IsTrue b → priorities h c ≢ []) × (priorities h c ≢ [] → IsTrue b)
       → (IsTrue b → waiting c h ≢ []) × (waiting c h ≢ [] → IsTrue b)
@@ -111,13 +111,13 @@ module _ {D : Type 0} where
   kept_priority None = refl
   kept_priority (Some x) = ap (λ p. Some p) (priority_of-erased x)
 
-  -- the first priority is that of the chosen one
+  -- the first waiting priority is that of the chosen wait
   pub first-history : (r : Option ℕ) (h : History D) (c : ℕ) → r ≡ option_map priority_of (chosen c (erased h).events)
       → r ≡ option_map priority_of (chosen c h.events)
   first-history r h c is =
       is ∙ ap (option_map priority_of) (chosen-erased c h.events) ∙ kept_priority (chosen c h.events)
 
--- nothing is listed where that was told
+-- there is no priority if the result is false
 pub none-listed : {A : Type 0} (q : List A) → (IsTrue false → q ≢ []) × (q ≢ [] → IsTrue false) → q ≡ []
 none-listed [] told = refl
 none-listed (x ∷ q) told = absurd (true≢false (sym (told.1 (λ e. cc))))

@@ -3,7 +3,7 @@ use Rattle.wait_book.specs.Lists.{list_at, places_in}
 use Rattle.wait_book.specs.Numbers.{number_from}
 use Rattle.wait_book.proofs.queues.number_called.Given as goal
 
--- those that are left are counted on
+-- the count continues with the links that are left
 abbrev pub invariant-loop-link : goal.invariant-loop-link
 invariant-loop-link l =
     (goal.iterator-loop-link).can_next l.link-iterator ×

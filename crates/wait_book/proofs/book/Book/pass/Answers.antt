@@ -14,7 +14,7 @@ take_first-requires c =
       sound.hoare_chain (view_of c.self.inside) _ c.args.condition c.self.view_is c.requires.hoare c.self.invariant,
     )
 
--- where nobody waits
+-- if no process waits
 
 pub returns-in_default : goal.returns-in_default
 returns-in_default c =
@@ -36,7 +36,7 @@ returns-in_default c =
       sizes = search rules;
     }
 
--- where one is resumed
+-- if a waiter is resumed
 
 pub invariant_of-self-2 : goal.invariant_of-self-2
 invariant_of-self-2 c =

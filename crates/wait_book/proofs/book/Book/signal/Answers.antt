@@ -19,7 +19,7 @@ take_first-requires c =
       sound.hoare_chain (view_of c.self.inside) _ c.args.condition c.self.view_is c.requires.hoare c.self.invariant,
     )
 
--- where nobody waits
+-- if no process waits
 
 pub returns-in_default : goal.returns-in_default
 returns-in_default c =
@@ -41,7 +41,7 @@ returns-in_default c =
       sizes = search rules;
     }
 
--- where one is resumed
+-- if a waiter is resumed
 
 pub append-requires : goal.append-requires
 append-requires c =

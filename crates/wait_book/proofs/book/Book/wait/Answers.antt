@@ -31,7 +31,7 @@ insert-requires c =
           priorities-rise c.args.condition c.self.inside.chains below (c.self.invariant.ordered c.args.condition);
     }
 
--- whatever the priority is
+-- for any priority
 pub invariant_of-self : goal.invariant_of-self
 invariant_of-self c =
     let b : Contents = view_of c.self.inside in

@@ -23,7 +23,7 @@ index_mut-requires c =
     let list = list_at c.args.self.now c.args.chain in
     opens-contains s c.in-Some.key list (opens s _ c.in-Some.key list c.in-Some.is (i.linked c.args.chain).linked)
 
--- the first of the chain has left it
+-- the first link has left the chain
 left : (c : After-move_on) → Leaving c.self.inside.nodes (chain_at c.self.inside.chains c.args.chain)
     c.move_on.new.chain c.in-Some.key c.index_mut.result.now c.take-next.result c.take-next.new.self
 left c = record {

@@ -28,7 +28,7 @@ set_next-first-requires c =
     (cut-stored c.args.chain c.insert_reserved-key.result b.0 b.1 at.next i c.requires.chain b.2 stored.was_vacant
     stored.updates at.front)
 
--- who is put, in the node that the slab gave
+-- the new link, in the node that the slab gave
 abbrev who : After-last_after-last → Link
 who c = record {
   key = c.insert_reserved-key.result;
@@ -37,7 +37,7 @@ who c = record {
   priority = c.args.priority;
 }
 
--- the chains with that node, wherever the list was cut
+-- the chains with that node, for each way to cut the list
 linked : (c : After-last_after-last) (before after : List Link)
     → list_at c.args.self.now c.args.chain ≡ before ++ after → c.args.behind ≡ last_key before
     → (let new : Chain = record { first = c.set_next-first.result; last = c.last_after-last.result } in

@@ -2,7 +2,7 @@ use Rattle.std.proofs.Common.{◌≡◌}
 use Rattle.wait_book.specs.Lists.{last_from, last_key, list_at, lower}
 use Rattle.wait_book.proofs.chains.Chains.walk_behind.Given as goal
 
--- the last of those that aren't above is the one so far, or one of those that are left
+-- the last link whose priority isn't above is the one found so far, or one of those that are left
 abbrev pub invariant-loop-link : goal.invariant-loop-link
 invariant-loop-link l =
     (goal.iterator-loop-link).can_next l.link-iterator ×

@@ -1,4 +1,4 @@
--- What a rendezvous keeps of those that wait, and the traces of a meeting.
+-- What a rendezvous keeps of its waiters, and the traces of a meeting.
 use Rattle.std.proofs.Common.{◌≡◌, ◌≢◌, ℕ, List, [], ◌∷◌, length, Bool, true, true≢false, refl, sym, arith}
 use Rattle.hoare_law.specs.declared.event.History.{History}
 use Rattle.hoare_law.specs.declared.event.Event.TheVariants.{Pass}
@@ -12,20 +12,20 @@ use Rattle.cookbook.specs.declared.rendezvous.Rendezvous.{Rendezvous}
 use Rattle.cookbook.specs.declared.rendezvous.Rendezvous.TheVariants.{Empty, Offered, Answered}
 use Rattle.cookbook.specs.Meetings.{IsOffered, MeetingRests, MeetingReady}
 
--- where no offer is found, nobody is there
+-- if there is no offer, the rendezvous is empty
 pub found_empty : {T : Type 0} (s : Rendezvous T) (q : List ℕ) → MeetingRests s q → (IsOffered s → ⊥) → s ≡ Empty
 found_empty Empty q rests none = refl
 found_empty (Offered x) q rests none = absurd (none tt)
 found_empty (Answered x) q rests none = absurd rests
 
--- who finds nobody may wait with its offer
+-- a process that finds the rendezvous empty may wait with its offer
 pub MeetingRests-offered : {T : Type 0} (s d : Rendezvous T) (x : T) (q r : List ℕ) → MeetingRests s q → s ≡ Empty
     → d ≡ Offered x → r ≡ q → MeetingRests d (put_in (λ n. n) 0 r)
 MeetingRests-offered s d x q r rests empty state lists =
     let none : length q ≡ 0 = rw empty at rests in
     rw (state, lists) (omega (arith, none, length-put_in (λ n. n) 0 q))
 
--- where an offer was made one waits
+-- if there is an offer, exactly one process waits
 pub one_waits : {T : Type 0} (s : Rendezvous T) (x : T) (q r : List ℕ) → MeetingRests s q → s ≡ Offered x → r ≡ q
     → length r ≡ 1
 one_waits s x q r rests offered lists = rw lists (rw offered at rests)
@@ -37,19 +37,19 @@ somebody_waits (p ∷ r) one none = cc
 pub MeetingRests-nobody : {T : Type 0} (d : Rendezvous T) (r : List ℕ) → length r ≡ 1 → r ≡ [] → MeetingRests d r
 MeetingRests-nobody d r one none = absurd (somebody_waits r one none)
 
--- who made the offer may go on with the answer
+-- the process that made the offer may resume with the value of its partner
 pub MeetingReady-answered : {T : Type 0} (d : Rendezvous T) (y : T) (r : List ℕ) → length r ≡ 1 → d ≡ Answered y
     → MeetingReady d (behind_first r)
 MeetingReady-answered d y r one state = rw state (omega (arith, one, length-behind_first r))
 
--- who takes the answer leaves nobody waiting
+-- the process that takes the value of its partner leaves no waiter
 pub nobody_else : {T : Type 0} (s d : Rendezvous T) (q r : List ℕ) → MeetingReady s q → d ≡ Empty → r ≡ q
     → MeetingRests d r
 nobody_else (Answered x) d q r ready state lists = rw (state, lists) ready
 nobody_else Empty d q r ready state lists = absurd ready
 nobody_else (Offered x) d q r ready state lists = absurd ready
 
--- an exit that resumed somebody is a pass
+-- an exit that resumed a waiter is a pass
 pub record Passes_on {S : Type 0} (k c : ℕ) (s : S) (g h : History S) : Type 0 where
   pub to : ℕ
   pub chooses : Chooses c g.events to

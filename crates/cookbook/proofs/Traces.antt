@@ -1,5 +1,5 @@
--- A wait as a trace names it: one equation each for the place, the priority, the data and the front that the clause
--- names by other words.
+-- A wait as a trace names it: one equation each for the place, the priority, the data and the front, which have other
+-- names in the clause.
 use Rattle.std.proofs.Common.{◌≡◌, ℕ}
 use Rattle.hoare_law.specs.declared.event.History.{History}
 use Rattle.hoare_law.specs.declared.event.Event.TheVariants.{Wait, Resume}

@@ -7,8 +7,8 @@ use Rattle.cookbook.specs.declared.barrier.Arrival.{Arrival}
 use Rattle.cookbook.specs.declared.barrier.Arrival.TheVariants.{Last, Waited}
 use Rattle.cookbook.specs.Barriers.{Gathering, next, one_more, one_less, opened}
 
--- k found all others waiting, began the next generation, and resumed one of them; or it waited, went on in the next
--- generation, and resumed one more. Its answer is the generation that it found, and whether it came last
+-- either k found all others waiting, began the next generation, and resumed a waiter; or k waited, resumed in the next
+-- generation, and resumed one more waiter. The result gives the generation that k found, and if k came last or waited
 pub data Arrives (k : ℕ) (f h : History Gathering) : Arrival → Type 0 where
   came_last : (a : Gathering) (g : History Gathering) → AddsLast f (Admit k a) g → a.arrived + 1 ≡ a.parties
       → Finishes k 0 (opened a) g h → Arrives k f h (Last a.generation)

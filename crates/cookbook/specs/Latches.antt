@@ -1,11 +1,11 @@
--- What holds of a latch and of those that wait at it. The data is how often it must be counted down still; condition 0
--- is "the latch is open".
+-- What holds of a latch and of its waiters. The data is the number of counts left until it opens; condition 0 is "the
+-- latch is open".
 use Rattle.std.specs.Prelude.{ℕ, List, [], ◌≡◌, ◌≢◌, ◌<◌}
 
--- if somebody waits, the latch is shut
+-- if a process waits, the latch is shut
 abbrev pub LatchRests : ℕ → List ℕ → Type 0
 LatchRests left waiting = waiting ≢ [] → 0 < left
 
--- who is resumed finds it open
+-- a waiter that is resumed finds the latch open
 abbrev pub LatchReady : ℕ → Type 0
 LatchReady left = left ≡ 0

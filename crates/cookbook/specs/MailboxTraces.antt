@@ -5,8 +5,8 @@ use Rattle.hoare_law.specs.Growth.{ComesTo, Finishes}
 use Rattle.cookbook.specs.declared.mailbox.Letter.{Letter}
 use Rattle.cookbook.specs.Mailboxes.{TakesMostUrgent}
 
--- k put the letter in as the latest, after a wait with the letter's priority where there was no room, and resumed a
--- process that waits for mail
+-- k put the letter in as the latest, after a wait with the priority of the letter if there was no room first, and
+-- resumed a process that waits for mail if there was one
 pub record Sends (k : ℕ) (letter : Letter) (f h : History (List Letter)) : Type 0 where
   pub found : List Letter
   pub front : History (List Letter)
@@ -14,7 +14,8 @@ pub record Sends (k : ℕ) (letter : Letter) (f h : History (List Letter)) : Typ
   pub room : length found < 8
   pub finishes : Finishes k 1 (found ++ letter ∷ []) front h
 
--- k took out the most urgent letter, after a wait where there was none, and resumed a process that waits for room
+-- k took out the most urgent letter, after a wait if there was none first, and resumed a process that waits for room if
+-- there was one
 pub record Receives (k : ℕ) (letter : Letter) (f h : History (List Letter)) : Type 0 where
   pub found : List Letter
   pub others : List Letter

@@ -8,8 +8,8 @@ use Rattle.hoare_law.specs.Growth.{AddsLast, AddsTwo}
 use Rattle.cookbook.specs.declared.rendezvous.Rendezvous.{Rendezvous}
 use Rattle.cookbook.specs.declared.rendezvous.Rendezvous.TheVariants.{Empty, Offered, Answered}
 
--- k found nobody, waited with its value as the offer, and took the answer that it was resumed with; or it found an
--- offer, took it, and passed the monitor with its value as the answer to w, which waits
+-- k found no offer, waited with its value as the offer, and took the value with which it was resumed; or k found an
+-- offer, took it, left its own value, and passed the monitor to the waiter w
 pub data Exchanges {T : Type 0} (k : ℕ) (value : T) (f h : History (Rendezvous T)) : T → Type 0 where
   came_first : (y : T) (e g : History (Rendezvous T)) → AddsLast f (Admit k Empty) e
       → AddsTwo e (Wait k 0 0 (Offered value)) (Resume k 0 (Answered y)) g → h ≡ with_event g (Leave k Empty)

@@ -1,4 +1,4 @@
-//! A cyclic barrier: its parties meet, all go on, and meet again.
+//! A cyclic barrier: its parties meet, all continue, and meet again.
 ghost use Rattle.std.specs.Prelude.{◌≡◌, ◌<◌, ◌+◌, ◌↔◌, ℕ, All, IsTrue};
 ghost use Rattle.hoare_law.specs.Priorities.{nobody};
 ghost use Rattle.cookbook.specs.Barriers.{BarrierRests, fresh, one_more, one_less, opened};
@@ -10,12 +10,13 @@ use hoare_law::waits::Waits;
 use std::marker::Model;
 use std::sync::Wait;
 
-/// The condition *all have come* of a `Barrier`: parties that have come wait there for the last.
+/// The condition *all have come* of a `Barrier`: parties that have arrived wait there for the last.
 pub const ALL_HAVE_COME: usize = 0;
 
-/// A barrier for a fixed number of parties. `arrived` of them have come and not gone on, and `generation` counts,
-/// modulo 2^64, how often the parties have met. The one condition is 0, *all have come* (`ALL_HAVE_COME`); a party
-/// waits there with the generation as its priority.
+/// The data of a barrier for a fixed number of parties: `parties`; `arrived`, how many of them have arrived and not
+/// continued; and `generation`, how often the parties have met, modulo 2^64.
+///
+/// The only condition is 0, *all have come* (`ALL_HAVE_COME`). A party waits there with the generation as its priority.
 #[derive(Drop)]
 pub struct Barrier {
     parties: u32,
@@ -31,16 +32,17 @@ impl Model for Barrier {
     ghost view = { λ b. record { parties = b.parties; arrived = b.arrived; generation = b.generation } };
 }
 
-/// How an arrival ended, with how often the parties had met before, modulo 2^64: the generation that it was of.
+/// How an arrival ended. The number is the generation that it was of: how often the parties had met before, modulo
+/// 2^64.
 #[derive(Clone, Copy, Debug, PartialEq, Eq)]
 pub enum Arrival {
-    /// It came last, and let the others go.
+    /// The caller arrived last: the waiting parties resume.
     Last(u64),
-    /// It waited for the others.
+    /// The caller waited for the others.
     Waited(u64),
 }
 
-// Whether all that wait on condition 0 have this priority.
+// Returns true if all waiters on condition 0 have this priority.
 fn all_wait_with<W: Waits>(lists: &W, priority: u64) -> bool
     ensures { IsTrue result ↔ All (λ p. p ≡ priority) (W.waiting_priorities lists.now 0) }
 {
@@ -90,7 +92,7 @@ impl MonitorData for Barrier {
 }
 
 impl Barrier {
-    /// A barrier for a number of parties, 1 at least, of which none has come. They have met 0 times.
+    /// Creates a barrier for `parties` parties, at least 1. None has arrived, and they have met 0 times.
     pub fn new(parties: u32) -> Barrier
         requires { 0 < parties }
         ensures made { result ≡ fresh parties }
@@ -103,14 +105,14 @@ impl Barrier {
         }
     }
 
-    // How often the parties have met.
+    // Returns how often the parties have met, modulo 2^64.
     fn generation(&self) -> u64
         ensures { result ≡ self.now.generation }
     {
         self.generation
     }
 
-    // Whether all but one have come.
+    // Returns true if all parties but one have arrived.
     fn lacks_one(&self) -> bool
         requires { self.now.arrived < self.now.parties }
         ensures { IsTrue result ↔ (self.now.arrived + 1 ≡ self.now.parties) }
@@ -118,7 +120,7 @@ impl Barrier {
         self.parties - self.arrived == 1
     }
 
-    // One party has come, and is not the last.
+    // Counts the arrival of a party that is not the last.
     fn come(&mut self)
         requires { self.old.arrived < self.old.parties }
         ensures { self.new ≡ one_more self.old }
@@ -127,14 +129,14 @@ impl Barrier {
         self.arrived += 1;
     }
 
-    // The last party has come: the next generation begins. Those that wait go on one by one.
+    // Begins the next generation, when the last party has arrived. The waiting parties then resume one after another.
     fn open(&mut self)
         ensures { self.new ≡ opened self.old }
     {
         self.generation = self.generation.wrapping_add(1);
     }
 
-    // One party that waited goes on.
+    // Counts a party that waited as resumed.
     fn go(&mut self)
         requires { 0 < self.old.arrived }
         ensures { self.new ≡ one_less self.old }
@@ -142,8 +144,10 @@ impl Barrier {
         self.arrived -= 1;
     }
 
-    /// Waits until all parties have come, and answers the generation that this one was of, and whether it came last.
-    /// The last resumes one of those that wait, and each of these the next: no newcomer comes between.
+    /// Waits until all parties have arrived. Returns the generation of this arrival, as `Last` if the caller arrived
+    /// last, else as `Waited`.
+    ///
+    /// The last party resumes a waiting party, and each of these the next: no process enters in between.
     pub fn arrive<R: Wait, M: Monitor<Barrier>>(m: &M, rt: &R, out: M::Out) -> (M::Out, Arrival)
         requires { M.is_of m.now out }
         ensures of { M.is_of m.now result.0 }

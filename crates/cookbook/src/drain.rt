@@ -1,4 +1,4 @@
-//! A drain: work begins and ends, and who waits goes on when none is under way. Unlike a latch it may fill again.
+//! A drain: pieces of work begin and end, and waiters resume when none is under way. Unlike a latch it may fill again.
 ghost use Rattle.std.specs.Prelude.{◌≡◌, ◌<◌, ◌≤◌, ◌-◌, ◌+◌, ◌↔◌, IsTrue};
 ghost use Rattle.hoare_law.specs.Priorities.{nobody};
 ghost use Rattle.cookbook.specs.Drains.{DrainRests};
@@ -10,18 +10,19 @@ use hoare_law::waits::Waits;
 use std::marker::Model;
 use std::sync::Wait;
 
-/// The condition *all is done* of a `Drain`: who waits there waits until no work is under way.
+/// The condition *all is done* of a `Drain`: processes wait there until no work is under way.
 pub const ALL_IS_DONE: usize = 0;
 
-/// The most pieces of work that are under way at once.
+/// Upper bound on the number of pieces of work under way.
 pub const MOST_WORK: u32 = 1_000_000;
 
-/// As much work is under way as may be.
+/// Refusal of `Drain::begin`: `MOST_WORK` pieces of work are under way.
 #[derive(Clone, Copy, Debug, PartialEq, Eq, thiserror::Error)]
 #[error("too much work is under way")]
 pub struct TooMuchWork;
 
-/// How many pieces of work are under way. The one condition is 0, *all is done* (`ALL_IS_DONE`).
+/// The data of the monitor: the number of pieces of work under way. The only condition is 0, *all is done*
+/// (`ALL_IS_DONE`).
 #[derive(Drop)]
 pub struct Drain {
     under_way: u32,
@@ -67,7 +68,7 @@ impl MonitorData for Drain {
 }
 
 impl Drain {
-    /// A drain with no work under way.
+    /// Creates a drain with no work under way.
     pub fn new() -> Drain
         ensures made { result ≡ 0 }
         ensures rest { DrainRests result (nobody 0) }
@@ -75,14 +76,14 @@ impl Drain {
         Drain { under_way: 0 }
     }
 
-    // Whether no work is under way.
+    // Returns true if no work is under way.
     fn is_dry(&self) -> bool
         ensures { IsTrue result ↔ (self.now ≡ 0) }
     {
         self.under_way == 0
     }
 
-    // Whether no more may begin.
+    // Returns true if no more work may begin.
     fn is_full(&self) -> bool
         ensures { IsTrue result ↔ (MOST_WORK ≤ self.now) }
     {
@@ -96,14 +97,15 @@ impl Drain {
         self.under_way += 1;
     }
 
-    // Takes one away, if there is one.
+    // Counts one piece of work less, if one is under way.
     fn take_one(&mut self)
         ensures { self.new ≡ self.old - 1 }
     {
         self.under_way = self.under_way.saturating_sub(1);
     }
 
-    /// Begins a piece of work. Refused where `MOST_WORK` are under way.
+    /// Begins a piece of work. Returns `Err(TooMuchWork)` if `MOST_WORK` pieces are under way: then nothing has
+    /// changed.
     pub fn begin<R: Wait, M: Monitor<Drain>>(
         m: &M,
         rt: &R,
@@ -122,7 +124,7 @@ impl Drain {
         (m.leave(rt, inside), Ok(()))
     }
 
-    /// Ends a piece of work, if one is under way, and resumes a process that waits where none is any more.
+    /// Ends a piece of work, if one is under way. If none is under way then, this resumes a waiter if there is one.
     pub fn end<R: Wait, M: Monitor<Drain>>(m: &M, rt: &R, out: M::Out) -> M::Out
         requires { M.is_of m.now out }
         ensures of { M.is_of m.now result }
@@ -138,8 +140,8 @@ impl Drain {
         out
     }
 
-    /// Waits until no work is under way. Each process that goes on resumes the next, so all that wait go on before any
-    /// newcomer begins again.
+    /// Waits until no work is under way. Each process that continues resumes the next, so all waiters resume before any
+    /// entering process begins new work.
     pub fn drain<R: Wait, M: Monitor<Drain>>(m: &M, rt: &R, out: M::Out) -> M::Out
         requires { M.is_of m.now out }
         ensures of { M.is_of m.now result }

@@ -1,5 +1,5 @@
-//! A latch that opens once: it is counted down, and who waits goes on when nothing is left to count. It is never shut
-//! again.
+//! A latch that opens once. It is counted down, and its waiters resume when nothing is left to count. An open latch is
+//! never shut again.
 ghost use Rattle.std.specs.Prelude.{◌≡◌, ◌-◌, ◌↔◌, IsTrue};
 ghost use Rattle.hoare_law.specs.Priorities.{nobody};
 ghost use Rattle.cookbook.specs.Latches.{LatchRests};
@@ -11,11 +11,12 @@ use hoare_law::waits::Waits;
 use std::marker::Model;
 use std::sync::Wait;
 
-/// The condition *the latch is open* of a `Latch`: who waits there waits for the last count.
+/// The condition *the latch is open* of a `Latch`: processes wait there for the last count.
 pub const LATCH_IS_OPEN: usize = 0;
 
-/// How often a latch must be counted down still: it is open at 0. The one condition is 0, *the latch is open*
-/// (`LATCH_IS_OPEN`).
+/// The data of the monitor: how many counts are left until the latch opens. It is open at 0.
+///
+/// The only condition is 0, *the latch is open* (`LATCH_IS_OPEN`).
 #[derive(Drop)]
 pub struct Latch {
     left: u32,
@@ -61,7 +62,7 @@ impl MonitorData for Latch {
 }
 
 impl Latch {
-    /// A latch that opens once it is counted down `left` times; one for 0 is open.
+    /// Creates a latch that opens when it has been counted down `left` times. If `left` is 0, it is open.
     pub fn new(left: u32) -> Latch
         ensures made { result ≡ left }
         ensures rest { LatchRests result (nobody 0) }
@@ -69,21 +70,21 @@ impl Latch {
         Latch { left }
     }
 
-    // Whether nothing is left to count.
+    // Returns true if nothing is left to count.
     fn is_open(&self) -> bool
         ensures { IsTrue result ↔ (self.now ≡ 0) }
     {
         self.left == 0
     }
 
-    // Counts it down, if something is left to count.
+    // Counts down, if something is left to count.
     fn lower(&mut self)
         ensures { self.new ≡ self.old - 1 }
     {
         self.left = self.left.saturating_sub(1);
     }
 
-    /// Counts it down, and resumes a process that waits once it is open. An open latch stays open.
+    /// Counts the latch down. If it is open then, this resumes a waiter if there is one. An open latch stays open.
     pub fn count_down<R: Wait, M: Monitor<Latch>>(m: &M, rt: &R, out: M::Out) -> M::Out
         requires { M.is_of m.now out }
         ensures of { M.is_of m.now result }
@@ -99,7 +100,7 @@ impl Latch {
         out
     }
 
-    /// Waits until it is open. Each process that goes on resumes the next.
+    /// Waits until the latch is open. Each process that passes resumes the next waiter.
     pub fn pass<R: Wait, M: Monitor<Latch>>(m: &M, rt: &R, out: M::Out) -> M::Out
         requires { M.is_of m.now out }
         ensures of { M.is_of m.now result }

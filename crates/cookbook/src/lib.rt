@@ -1,5 +1,5 @@
-//! A cookbook of monitors, each over any `Monitor`: a cyclic barrier, a drain, a latch, a mailbox by priority, a
-//! rendezvous of pairs, the dining philosophers' table, and a work queue.
+//! A cookbook of seven monitors, each over any `Monitor`: a cyclic barrier, a drain, a latch, a mailbox by priority, a
+//! rendezvous of pairs, the table of the dining philosophers, and a work queue.
 #![tactic(auto)]
 
 pub mod barrier;

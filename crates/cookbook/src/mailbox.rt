@@ -1,5 +1,5 @@
-//! A mailbox of fixed room: the most urgent letter is received first, and who has the more urgent letter is let in
-//! first.
+//! A mailbox of fixed room. The most urgent letter is received first. If senders wait for room, the sender with the
+//! most urgent letter resumes first.
 ghost use Rattle.std.specs.Prelude.{◌≡◌, ◌<◌, ◌↔◌, ◌++◌, ◌∷◌, [], IsTrue, length};
 ghost use Rattle.hoare_law.specs.Priorities.{nobody};
 ghost use Rattle.cookbook.specs.Mailboxes.{MailRests, TakesMostUrgent};
@@ -12,7 +12,7 @@ use hoare_law::waits::Waits;
 use std::marker::Model;
 use std::sync::Wait;
 
-/// How many letters a mailbox holds.
+/// Number of letters that a `Mailbox` has room for.
 pub const ROOM: usize = 8;
 
 /// The condition *there is room* of a `Mailbox`: senders wait there.
@@ -21,18 +21,19 @@ pub const THERE_IS_ROOM: usize = 0;
 /// The condition *there is mail* of a `Mailbox`: receivers wait there.
 pub const THERE_IS_MAIL: usize = 1;
 
-/// A letter. The least priority is the most urgent.
+/// A letter, with its priority and its content.
 #[derive(Clone, Copy, Debug, Default, PartialEq, Eq)]
 pub struct Letter {
-    /// How urgent it is: the least priority is received first.
+    /// How urgent the letter is: the least number is received first.
     pub priority: u64,
-    /// What it says. A mailbox never looks at it.
+    /// Content of the letter. The mailbox doesn't use it.
     pub word: u64,
 }
 
-/// The letters that nobody has received yet, in the order in which they were sent. Condition 0 is *there is room*
-/// (`THERE_IS_ROOM`), and a sender waits there with its letter's priority; condition 1 is *there is mail*
-/// (`THERE_IS_MAIL`).
+/// The data of the monitor: the letters that no process has received, in the order in which they were sent.
+///
+/// Condition 0 is *there is room* (`THERE_IS_ROOM`): a sender waits there with the priority of its letter. Condition 1
+/// is *there is mail* (`THERE_IS_MAIL`).
 #[derive(Drop)]
 pub struct Mailbox {
     letters: ArrayVec<Letter, ROOM>,
@@ -90,7 +91,7 @@ impl MonitorData for Mailbox {
 }
 
 impl Mailbox {
-    /// A mailbox with no letter.
+    /// Creates a mailbox without letters.
     pub fn new() -> Mailbox
         ensures made { result ≡ [] }
         ensures rest { MailRests (length result) (nobody 0) (nobody 1) }
@@ -100,21 +101,21 @@ impl Mailbox {
         }
     }
 
-    // Whether there is no room.
+    // Returns true if there is no room.
     fn is_full(&self) -> bool
         ensures { IsTrue result ↔ (length self.now ≡ ROOM) }
     {
         self.letters.len() == ROOM
     }
 
-    // Whether there is no letter.
+    // Returns true if there is no letter.
     fn is_empty(&self) -> bool
         ensures { IsTrue result ↔ (length self.now ≡ 0) }
     {
         self.letters.is_empty()
     }
 
-    // Puts a letter in, as the latest.
+    // Adds a letter as the latest.
     fn put(&mut self, letter: Letter)
         requires { length self.old < ROOM }
         ensures { self.new ≡ self.old ++ letter ∷ [] }
@@ -122,7 +123,7 @@ impl Mailbox {
         self.letters.push(letter);
     }
 
-    // Takes the most urgent letter out, of equals the one that was sent first.
+    // Removes the most urgent letter and returns it; of equally urgent ones, that which was sent first.
     fn take(&mut self) -> Letter
         requires { 0 < length self.old }
         ensures { TakesMostUrgent self.old result self.new }
@@ -136,8 +137,8 @@ impl Mailbox {
         self.letters.remove(best)
     }
 
-    /// Sends a letter, once there is room for it, and resumes a process that waits for mail. Of those that wait for
-    /// room, who has the most urgent letter goes first.
+    /// Sends `letter`, and resumes a process that waits for mail if there is one. Waits if the mailbox is full, with
+    /// the priority of `letter`: of the waiting senders, the sender with the most urgent letter resumes first.
     pub fn send<R: Wait, M: Monitor<Mailbox>>(m: &M, rt: &R, out: M::Out, letter: Letter) -> M::Out
         requires { M.is_of m.now out }
         ensures of { M.is_of m.now result }
@@ -153,8 +154,8 @@ impl Mailbox {
         out
     }
 
-    /// Receives the most urgent letter, of equals the one that was sent first, once there is one, and resumes a process
-    /// that waits for room.
+    /// Receives the most urgent letter; of equally urgent ones, that which was sent first. Resumes a process that waits
+    /// for room if there is one. Waits if the mailbox is empty.
     pub fn receive<R: Wait, M: Monitor<Mailbox>>(m: &M, rt: &R, out: M::Out) -> (M::Out, Letter)
         requires { M.is_of m.now out }
         ensures of { M.is_of m.now result.0 }

@@ -1,4 +1,4 @@
-//! A rendezvous of pairs: two processes come together and exchange values.
+//! A rendezvous of pairs: two processes meet and exchange values.
 ghost use Rattle.std.specs.Prelude.{◌≡◌, ◌↔◌, IsTrue};
 ghost use Rattle.hoare_law.specs.Priorities.{nobody};
 ghost use Rattle.cookbook.specs.declared.rendezvous.Rendezvous.TheVariants as variant;
@@ -11,17 +11,19 @@ use hoare_law::waits::Waits;
 use std::mem;
 use std::sync::Wait;
 
-/// The condition *my partner has come* of a `Rendezvous`: who waits there offered a value, and waits for its partner's.
+/// The condition *my partner has come* of a `Rendezvous`: a process that has offered a value waits there for the value
+/// of its partner.
 pub const PARTNER_HAS_COME: usize = 0;
 
-/// How far a pair has come in its exchange. The one condition is 0, *my partner has come* (`PARTNER_HAS_COME`).
+/// The data of the monitor: how far a pair is in its exchange. The only condition is 0, *my partner has come*
+/// (`PARTNER_HAS_COME`).
 #[derive(Drop)]
 pub enum Rendezvous<T> {
-    /// Nobody waits for a partner.
+    /// No process waits for a partner.
     Empty,
-    /// One has come with this value, and waits for its partner.
+    /// A process has offered this value, and waits for its partner.
     Offered(T),
-    /// Its partner has come, took the first value, and left this one for it.
+    /// The partner has come, has taken the offered value, and has left this value for the waiting process.
     Answered(T),
 }
 
@@ -64,7 +66,7 @@ impl<T: Drop> MonitorData for Rendezvous<T> {
 }
 
 impl<T: Drop> Rendezvous<T> {
-    /// A rendezvous at which nobody waits.
+    /// Creates a rendezvous at which no process waits.
     pub fn new() -> Rendezvous<T>
         ensures made { result ≡ variant.Empty }
         ensures rest { MeetingRests result (nobody 0) }
@@ -72,14 +74,14 @@ impl<T: Drop> Rendezvous<T> {
         Rendezvous::Empty
     }
 
-    // Whether one waits for its partner.
+    // Returns true if a process waits for its partner.
     fn is_offered(&self) -> bool
         ensures { IsTrue result ↔ IsOffered self.now }
     {
         matches!(self, Rendezvous::Offered(_))
     }
 
-    // The first of a pair leaves its value.
+    // Leaves the value of the first of a pair.
     fn offer(&mut self, value: T)
         requires { self.old ≡ variant.Empty }
         ensures { self.new ≡ variant.Offered value }
@@ -87,7 +89,7 @@ impl<T: Drop> Rendezvous<T> {
         *self = Rendezvous::Offered(value);
     }
 
-    // The second takes the first value, and leaves its own.
+    // Takes the value of the first of a pair and returns it. Leaves that of the second.
     fn answer(&mut self, value: T) -> T
         requires { IsOffered self.old }
         ensures value { self.old ≡ variant.Offered result }
@@ -99,7 +101,7 @@ impl<T: Drop> Rendezvous<T> {
         }
     }
 
-    // The first takes the second value, and the next pair may come.
+    // Takes the value of the second of a pair and returns it. The next pair may come after that.
     fn collect(&mut self) -> T
         requires { IsAnswered self.old }
         ensures value { self.old ≡ variant.Answered result }
@@ -111,8 +113,8 @@ impl<T: Drop> Rendezvous<T> {
         }
     }
 
-    /// Waits until a partner has come, leaves it this value, and answers the partner's. Who finds one waiting is its
-    /// partner; no third process comes between the two.
+    /// Exchanges `value` with a partner, and returns the value of the partner. If a process waits with an offer, it is
+    /// the partner; else the caller waits until a partner comes. No third process enters between the two.
     pub fn meet<R: Wait, M: Monitor<Rendezvous<T>>>(
         m: &M,
         rt: &R,

@@ -1,5 +1,5 @@
-//! The dining philosophers' table: five seats, a fork between each two of them, and who eats needs both forks beside
-//! its seat.
+//! The table of the dining philosophers: five seats, and a fork between each two neighbouring seats. A philosopher
+//! needs both forks beside its seat to eat.
 ghost use Rattle.std.specs.Prelude.{◌≡◌, ◌≢◌, ◌<◌, ◌↔◌, ℕ, [], IsTrue, MatchOption};
 ghost use Rattle.hoare_law.specs.Priorities.{nobody};
 ghost use Rattle.hoare_law.specs.Waiting.{waiting};
@@ -12,10 +12,11 @@ use hoare_law::waits::Waits;
 use std::marker::Model;
 use std::sync::Wait;
 
-/// How many seats a table has. They are numbered from 0, round the table.
+/// Number of seats of a `Table`. They are numbered from 0, round the table.
 pub const SEATS: usize = 5;
 
-/// Who eats. Condition k is *the philosopher at seat k can eat*: there is one for each seat.
+/// The data of the monitor: for each seat, true if its philosopher eats. Condition k is *the philosopher at seat k can
+/// eat*: there is one condition for each seat, and each is one of Hoare's.
 #[derive(Drop)]
 pub struct Table {
     eats: [bool; SEATS],
@@ -29,7 +30,7 @@ impl Model for Table {
     ghost view = { λ t. t.eats };
 }
 
-/// Nobody eats at the seat, so nobody gets up.
+/// Refusal of `Table::get_up`: no philosopher eats at the seat.
 #[derive(Clone, Copy, Debug, PartialEq, Eq, thiserror::Error)]
 #[error("nobody eats at the seat")]
 pub struct NotEating;
@@ -65,7 +66,7 @@ impl MonitorData for Table {
 }
 
 impl Table {
-    /// A table at which nobody eats.
+    /// Creates a table at which no philosopher eats.
     pub fn new() -> Table
         ensures made { result ≡ all_up }
         ensures rest { TableRests result nobody }
@@ -75,7 +76,7 @@ impl Table {
         }
     }
 
-    // Whether no two neighbours eat.
+    // Returns true if no two neighbours eat.
     fn is_apart(&self) -> bool
         ensures { IsTrue result ↔ TableHolds self.now }
     {
@@ -87,7 +88,7 @@ impl Table {
         true
     }
 
-    // Whether somebody eats at the seat.
+    // Returns true if the philosopher at `seat` eats.
     fn is_eating(&self, seat: usize) -> bool
         requires { seat < SEATS }
         ensures { IsTrue result ↔ IsEating self.now seat }
@@ -95,7 +96,7 @@ impl Table {
         self.eats[seat]
     }
 
-    // Whether nobody eats at the seat nor beside it.
+    // Returns true if no philosopher eats at `seat` or beside it.
     fn can_eat(&self, seat: usize) -> bool
         requires { seat < SEATS }
         ensures { IsTrue result ↔ CanEat self.now seat }
@@ -103,7 +104,7 @@ impl Table {
         !self.eats[seat] && !self.eats[(seat + 1) % SEATS] && !self.eats[(seat + SEATS - 1) % SEATS]
     }
 
-    // Whether nobody waits who can eat.
+    // Returns true if no waiter can eat.
     #[tactic(auto, using(hoare_law::proofs::Joined::waiting_steps))]
     fn is_nobody_kept<W: Waits>(&self, lists: &W) -> bool
         ensures { IsTrue result ↔ ((c : ℕ) → c < SEATS → W.waiting_priorities lists.now c ≢ []
@@ -117,7 +118,7 @@ impl Table {
         true
     }
 
-    // The philosopher at the seat eats.
+    // Marks the philosopher at `seat` as eating.
     fn start(&mut self, seat: usize)
         requires { seat < SEATS }
         ensures { self.new ≡ seated self.old seat }
@@ -125,7 +126,7 @@ impl Table {
         self.eats[seat] = true;
     }
 
-    // The philosopher at the seat eats no longer.
+    // Marks the philosopher at `seat` as not eating.
     fn stop(&mut self, seat: usize)
         requires { seat < SEATS }
         ensures { self.new ≡ risen self.old seat }
@@ -133,7 +134,7 @@ impl Table {
         self.eats[seat] = false;
     }
 
-    // The first seat at which somebody waits who can eat.
+    // Returns the first seat at which a philosopher waits and can eat, or `None` if there is none.
     fn next_seat<M: Monitor<Table>>(m: &M, inside: &M::In) -> Option<usize>
         requires { M.is_of_in m.now inside.now }
         ensures lists { MatchOption result ((c : ℕ) → c < SEATS → M.lists_in inside.now c ≢ []
@@ -151,7 +152,8 @@ impl Table {
         None
     }
 
-    // The last act: of those that wait and can eat, who has the first seat goes on; where there is none, it leaves.
+    // Releases the monitor as the last act of a procedure. Of the waiters that can eat, the one with the first seat is
+    // resumed; if there is none, this is a plain leave.
     fn hand_on<R: Wait, M: Monitor<Table>>(m: &M, rt: &R, inside: M::In) -> M::Out
         requires of { M.is_of_in m.now inside }
         requires inv { TableHolds (M.data_in inside) }
@@ -167,7 +169,9 @@ impl Table {
         out
     }
 
-    /// Takes both forks beside the seat, once nobody eats there nor at a seat beside it.
+    /// Takes both forks beside `seat`. Waits until no philosopher eats at `seat` or beside it.
+    ///
+    /// If a waiter can eat then, it is resumed; which of several is not specified.
     pub fn sit_down<R: Wait, M: Monitor<Table>>(m: &M, rt: &R, out: M::Out, seat: usize) -> M::Out
         requires of { M.is_of m.now out }
         requires seat { seat < SEATS }
@@ -183,8 +187,10 @@ impl Table {
         Table::hand_on(m, rt, inside)
     }
 
-    /// Puts the forks down, so that both neighbours of the seat may eat. Refused exactly where nobody eats at the seat:
-    /// then nothing changed.
+    /// Puts down both forks beside `seat`, so that its neighbours may eat. If a waiter can eat then, it is resumed;
+    /// which of several is not specified.
+    ///
+    /// Returns `Err(NotEating)` exactly if no philosopher eats at `seat`. Then nothing has changed.
     pub fn get_up<R: Wait, M: Monitor<Table>>(
         m: &M,
         rt: &R,

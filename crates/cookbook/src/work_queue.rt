@@ -1,4 +1,4 @@
-//! A queue of jobs for a fixed number of workers, who are all sent home by one broadcast.
+//! A queue of jobs for a fixed number of workers. When it is shut down, one broadcast notifies all waiting workers.
 ghost use Rattle.std.specs.Prelude.{◌≡◌, ◌<◌, ◌↔◌, ◌∷◌, IsTrue, length, true, false};
 ghost use Rattle.hoare_law.specs.Priorities.{nobody};
 ghost use Rattle.cookbook.specs.WorkQueues.{WorkHolds, WorkRests, IsIdle, IsOver, begun, with_job, with_jobs};
@@ -12,29 +12,33 @@ use hoare_law::waits::Waits;
 use std::marker::Model;
 use std::sync::Wait;
 
-/// How many jobs a work queue holds.
+/// Number of jobs that a `WorkQueue` has room for.
 pub const ROOM: usize = 8;
 
-/// The condition *all are gone* of a `WorkQueue`, one of Hoare's: who shuts down waits there for the last worker to go.
+/// The condition *all are gone* of a `WorkQueue`, one of Hoare's. A process that shuts the queue down waits there until
+/// the last worker has gone.
 pub const ALL_ARE_GONE: usize = 0;
 
-/// The condition *a job, or closed* of a `WorkQueue`, a Mesa condition: workers wait there, and test again.
+/// The condition *a job, or closed* of a `WorkQueue`, a Mesa condition. Workers wait there, and test again when they
+/// resume.
 pub const JOB_OR_CLOSED: usize = 1;
 
-/// Why a job was not put in, with the job.
+/// Refusal of `WorkQueue::put`. It contains the job that was refused.
 #[derive(Clone, Copy, Debug, PartialEq, Eq, thiserror::Error)]
 pub enum PutRefused {
     /// The queue was shut down.
     #[error("the queue was shut down")]
     Closed(u64),
-    /// It is open and has no room.
+    /// The queue is open and has no room.
     #[error("the queue is full")]
     Full(u64),
 }
 
-/// The jobs that nobody has taken, each a number, in the order in which they were put in; whether the queue was
-/// shut down; and how many of its workers have not gone. Condition 0 is *all are gone* (`ALL_ARE_GONE`), one of
-/// Hoare's; condition 1 is *a job, or closed* (`JOB_OR_CLOSED`), a Mesa condition.
+/// The data of the monitor: the jobs that no worker has taken, each a number, in the order in which they were put in;
+/// if the queue was shut down; and how many workers have not gone. A worker has gone if `take` returned `None` to it.
+///
+/// Condition 0 is *all are gone* (`ALL_ARE_GONE`), one of Hoare's. Condition 1 is *a job, or closed* (`JOB_OR_CLOSED`),
+/// a Mesa condition.
 #[derive(Drop)]
 pub struct WorkQueue {
     jobs: ArrayVec<u64, ROOM>,
@@ -84,8 +88,8 @@ impl MonitorData for WorkQueue {
 }
 
 impl WorkQueue {
-    /// An open queue without a job, for so many workers, 1 at least. Each of them takes until there is nothing left
-    /// to take, and then calls no more.
+    /// Creates an open queue without jobs for `workers` workers, at least 1. Each worker is to call `take` until it
+    /// returns `None`, and not after that.
     pub fn new(workers: u32) -> WorkQueue
         requires { 0 < workers }
         ensures made { result ≡ begun workers }
@@ -98,14 +102,14 @@ impl WorkQueue {
         }
     }
 
-    // Whether it was shut down, no job is left, and every worker has gone.
+    // Returns true if the queue was shut down, no job is left, and every worker has gone.
     fn is_over(&self) -> bool
         ensures { IsTrue result ↔ IsOver self.now }
     {
         self.closed && self.jobs.is_empty() && self.workers == 0
     }
 
-    // Whether a worker has not gone, or all work is over.
+    // Returns true if a worker has not gone, or all work is over.
     #[tactic(auto, using(crate::proofs::WorkQueues::work_steps))]
     fn holds(&self) -> bool
         ensures { IsTrue result ↔ WorkHolds self.now }
@@ -114,42 +118,42 @@ impl WorkQueue {
         self.workers > 0 || self.is_over()
     }
 
-    // Whether a worker has to wait.
+    // Returns true if a worker has to wait: there is no job, and the queue is open.
     fn is_idle(&self) -> bool
         ensures { IsTrue result ↔ IsIdle self.now }
     {
         self.jobs.is_empty() && !self.closed
     }
 
-    // Whether there is a job.
+    // Returns true if there is a job.
     fn has_jobs(&self) -> bool
         ensures { IsTrue result ↔ (0 < length self.now.jobs) }
     {
         self.jobs.len() > 0
     }
 
-    // Whether there is no room.
+    // Returns true if there is no room.
     fn is_full(&self) -> bool
         ensures { IsTrue result ↔ (length self.now.jobs ≡ ROOM) }
     {
         self.jobs.len() == ROOM
     }
 
-    // Whether it was shut down.
+    // Returns true if the queue was shut down.
     fn is_closed(&self) -> bool
         ensures { IsTrue result ↔ (self.now.closed ≡ true) }
     {
         self.closed
     }
 
-    // Whether a worker has not gone.
+    // Returns true if a worker has not gone.
     fn has_workers(&self) -> bool
         ensures { IsTrue result ↔ (0 < self.now.workers) }
     {
         self.workers > 0
     }
 
-    // Puts a job in, as the latest.
+    // Adds a job as the latest.
     fn push(&mut self, job: u64)
         requires { length self.old.jobs < ROOM }
         ensures { self.new ≡ with_job job self.old }
@@ -157,7 +161,7 @@ impl WorkQueue {
         self.jobs.push(job);
     }
 
-    // Takes the oldest job out.
+    // Removes the oldest job and returns it.
     fn pop(&mut self) -> u64
         requires { 0 < length self.old.jobs }
         ensures oldest { self.old.jobs ≡ result ∷ self.new.jobs }
@@ -166,21 +170,21 @@ impl WorkQueue {
         self.jobs.remove(0)
     }
 
-    // No job is put in any more.
+    // Shuts the queue: no job can be put in after that.
     fn close(&mut self)
         ensures { self.new ≡ shut self.old }
     {
         self.closed = true;
     }
 
-    // One worker goes.
+    // Counts one more worker as gone.
     fn go(&mut self)
         ensures { self.new ≡ one_gone self.old }
     {
         self.workers = self.workers.saturating_sub(1);
     }
 
-    // Comes in, and waits as often as there is no job and the queue is open.
+    // Enters, and waits as often as it finds no job and the queue open.
     fn come_to_work<R: Wait, M: Monitor<WorkQueue>>(m: &M, rt: &R, out: M::Out) -> M::In
         requires { M.is_of m.now out }
         ensures of { M.is_of_in m.now result }
@@ -200,8 +204,10 @@ impl WorkQueue {
         unreachable!()
     }
 
-    /// Puts a job in, and calls a worker that waits for one. Refused: `Closed` where the queue was shut down, and
-    /// else `Full` where it has no room. Then the job comes back, and nothing changed.
+    /// Puts in `job` as the latest, and notifies a waiting worker if there is one.
+    ///
+    /// Returns `Err(Closed(job))` if the queue was shut down, else `Err(Full(job))` if it has no room. Then nothing has
+    /// changed.
     pub fn put<R: Wait, M: Monitor<WorkQueue>>(
         m: &M,
         rt: &R,
@@ -225,8 +231,11 @@ impl WorkQueue {
         (m.leave(rt, inside), Ok(()))
     }
 
-    /// Takes the oldest job, once there is one. None where the queue was shut down and no job is left: then the
-    /// worker has gone, and the last to go resumes who shuts down.
+    /// Takes the oldest job. Waits while there is no job and the queue is open.
+    ///
+    /// Returns `None` if the queue was shut down and no job is left: the calling worker has then gone. The last worker
+    /// to go resumes a process that waits in `shut_down`. A worker that calls again after `None` counts as one more
+    /// that has gone, so that `shut_down` may return too early.
     pub fn take<R: Wait, M: Monitor<WorkQueue>>(m: &M, rt: &R, out: M::Out) -> (M::Out, Option<u64>)
         requires { M.is_of m.now out }
         ensures of { M.is_of m.now result.0 }
@@ -246,8 +255,9 @@ impl WorkQueue {
         (out, None)
     }
 
-    /// Shuts the queue, sends home all workers that wait, and waits until every worker has gone. The jobs that were
-    /// put in before are taken by then. It may be called by several, and again.
+    /// Shuts the queue, notifies all waiting workers, and waits until every worker has gone. The jobs that were put in
+    /// earlier are taken by then. Several processes may call it, and it may be called again: each call resumes the
+    /// next process that waits in it.
     pub fn shut_down<R: Wait, M: Monitor<WorkQueue>>(m: &M, rt: &R, out: M::Out) -> M::Out
         requires { M.is_of m.now out }
         ensures of { M.is_of m.now result }

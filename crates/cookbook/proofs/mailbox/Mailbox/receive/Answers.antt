@@ -8,7 +8,7 @@ use Rattle.cookbook.proofs.mailbox.Mailbox.receive.Given.{Over}
 use Rattle.cookbook.proofs.mailbox.Mailbox.receive.Goals as goal
 use Rattle.cookbook.proofs.mailbox.Mailbox.receive.Goals.{After-state_mut, then-is_empty, else-is_empty}
 
--- it came in and, after a wait or without one, finds a letter
+-- the caller entered and, after a wait or without one, finds a letter
 came : (g : Over) (c : After-state_mut g)
     → Came g.M.Monitor c.args.m.now c.args.out (λ _ a. length a ≡ 0) (λ _. 1) (λ _. 0)
     (λ b q. LetterReady (length b) (q 0) (q 1)) c.if-is_empty.inside

@@ -8,7 +8,7 @@ use Rattle.cookbook.proofs.mailbox.Mailbox.send.Given.{Over}
 use Rattle.cookbook.proofs.mailbox.Mailbox.send.Goals as goal
 use Rattle.cookbook.proofs.mailbox.Mailbox.send.Goals.{After-state_mut, then-is_full, else-is_full}
 
--- it came in and, after a wait or without one, finds room
+-- the caller entered and, after a wait or without one, finds room
 came : (g : Over) (c : After-state_mut g)
     → Came g.M.Monitor c.args.m.now c.args.out (λ _ a. length a ≡ 8) (λ _. 0) (λ _. c.args.letter.priority)
     (λ b q. RoomReady (length b) (q 0) (q 1)) c.if-is_full.inside

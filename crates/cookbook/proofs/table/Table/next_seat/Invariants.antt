@@ -3,7 +3,7 @@ use Rattle.hoare_law.specs.Waiting.{waiting}
 use Rattle.cookbook.specs.Tables.{CanEat}
 use Rattle.cookbook.proofs.table.Table.next_seat.Given as goal
 
--- nobody waits who can eat, at the seats so far
+-- no waiter at the seats so far can eat
 abbrev pub invariant-loop-seat : goal.invariant-loop-seat
 invariant-loop-seat g l = record {
   lists : (c : ℕ) → c < l.seat → g.M.Monitor.lists_in l.inside c ≢ [] → CanEat (g.M.Monitor.data_in l.inside) c → ⊥;

@@ -7,7 +7,7 @@ use Rattle.cookbook.proofs.table.Table.sit_down.Given.{Over}
 use Rattle.cookbook.proofs.table.Table.sit_down.Goals as goal
 use Rattle.cookbook.proofs.table.Table.sit_down.Goals.{After-state_mut, then-not-can_eat, else-not-can_eat}
 
--- it came in and, after a wait or without one, finds that it can eat
+-- the caller entered and, after a wait or without one, finds that it can eat
 came : (g : Over) (c : After-state_mut g)
     → Came g.M.Monitor c.args.m.now c.args.out (λ _ t. CanEat t c.args.seat → ⊥) (λ _. c.args.seat) (λ _. 0)
     (λ t _. TableHolds t × CanEat t c.args.seat) c.if-not-can_eat.inside

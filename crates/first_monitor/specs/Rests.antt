@@ -1,12 +1,12 @@
--- What holds of the permits and of those that wait for one.
+-- What holds of the permits and of the processes that wait for one.
 use Rattle.std.specs.Prelude.{ℕ, List, [], ◌≡◌, ◌≢◌, ◌<◌, ◌≤◌}
 
--- whenever the monitor is given up: if somebody waits, no permit is free
+-- at each wait and each leave: if a process waits, no permit is free
 pub record PermitsRest (total free : ℕ) (waiting : List ℕ) : Type 0 where
   pub within : free ≤ total
   pub cause : waiting ≢ [] → free ≡ 0
 
--- who is resumed finds a free permit; if others still wait it is the only one
+-- a waiter that is resumed finds a free permit; if others still wait it is the only one
 pub record PermitsReady (total free : ℕ) (waiting : List ℕ) : Type 0 where
   pub within : free ≤ total
   pub some : 0 < free

@@ -14,11 +14,11 @@ abbrev pub priority_of : Class → ℕ
 priority_of Express = 0
 priority_of Standard = 1
 
--- as many permits, of which n are free
+-- the pool a with n permits free
 abbrev pub with_free : Permits → ℕ → Permits
 with_free a n = record { total = a.total; free = n }
 
--- k took one of the permits that it found free, after a wait with its class's priority where none was free
+-- k found a free permit, after a wait with the priority of its class if none was free first, and took it
 pub record Takes (k : ℕ) (class : Class) (f h : History Permits) : Type 0 where
   pub found : Permits
   pub front : History Permits
@@ -26,14 +26,15 @@ pub record Takes (k : ℕ) (class : Class) (f h : History Permits) : Type 0 wher
   pub some : 0 < found.free
   pub leaves : h ≡ with_event front (Leave k (with_free found (found.free - 1)))
 
--- k put a permit back and resumed a process that waits, or was refused where all were free
+-- k put a permit back and resumed a waiter if there was one; or it was refused, since all permits were free, and
+-- nothing changed
 pub data Gives (k : ℕ) (f h : History Permits) : Result (Unit {0}) NoneTaken → Type 0 where
   put_back : (a : Permits) (g : History Permits) → AddsLast f (Admit k a) g → a.free < a.total
       → Finishes k 0 (with_free a (a.free + 1)) g h → Gives k f h (Ok tt)
   refused : (a : Permits) (g : History Permits) (e : NoneTaken) → AddsLast f (Admit k a) g → a.free ≡ a.total
       → h ≡ with_event g (Leave k a) → Gives k f h (Err e)
 
--- k came in, found n permits free, and left
+-- k entered, found n permits free, and left
 pub record Looks (k : ℕ) (f h : History Permits) (n : ℕ) : Type 0 where
   pub found : Permits
   pub front : History Permits

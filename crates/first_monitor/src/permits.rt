@@ -1,4 +1,4 @@
-//! A pool of worker permits that two classes of callers share: who is express goes before who is standard, and within a
+//! A pool of worker permits that two classes of callers share. Express callers go before standard ones, and within a
 //! class the longest waiting goes first.
 ghost use Rattle.std.specs.Prelude.{◌≡◌, ◌<◌, ◌≤◌, ◌+◌, ◌-◌, ◌↔◌, IsTrue};
 ghost use Rattle.first_monitor.specs.Traces.{priority_of, Takes, Gives, Looks};
@@ -8,19 +8,20 @@ use hoare_law::monitor::Monitor;
 use hoare_law::waits::Waits;
 use std::sync::Wait;
 
-/// The condition *a permit is free*: who takes waits there.
+/// The condition *a permit is free*: callers of `take` wait there.
 pub const PERMIT_IS_FREE: usize = 0;
 
-/// How urgent a caller is. A class is the priority of its wait: the least goes first.
+/// How urgent a caller is. The class is the priority of its wait: the least goes first.
 #[derive(Clone, Copy, Debug, PartialEq, Eq)]
 pub enum Class {
-    /// It goes before all that are standard.
+    /// The caller goes before all standard callers that wait. Priority 0.
     Express,
-    /// It goes after all that are express.
+    /// The caller goes after all express callers that wait. Priority 1.
     Standard,
 }
 
 impl Class {
+    // Returns the priority of a wait of this class.
     fn priority(self) -> u64
         ensures { result ≡ priority_of self }
     {
@@ -31,7 +32,7 @@ impl Class {
     }
 }
 
-/// No permit is taken, so none can be given back.
+/// Refusal of `Permits::give`: no permit is taken, so none can be given back.
 #[derive(Clone, Copy, Debug, PartialEq, Eq, thiserror::Error)]
 #[error("no permit is taken")]
 pub struct NoneTaken;
@@ -43,8 +44,8 @@ pub struct Permits {
     free: u32,
 }
 
-// What holds of the data. `q` is, for each condition, the priorities of those that wait on it: `q 0` is that of
-// `PERMIT_IS_FREE`, the one condition.
+// What holds of the data. `q` has the priorities of the waiters on each condition: `q 0` those on `PERMIT_IS_FREE`, the
+// only condition.
 impl MonitorData for Permits {
     ghost use Rattle.std.specs.Prelude.{◌≤◌};
     ghost use Rattle.first_monitor.specs.Rests.{PermitsRest, PermitsReady};
@@ -60,11 +61,11 @@ impl MonitorData for Permits {
     // Always: no more permits are free than there are.
     ghost inv = { λ s. s.free ≤ s.total };
 
-    // At each wait and leave: who waits has a cause, namely that no permit is free.
+    // At each wait and leave: if a process waits it has a cause, namely that no permit is free.
     ghost rest = { λ s q. PermitsRest s.total s.free (q 0) };
 
-    // What a process finds that waited and is resumed: a permit is free. It may be the only one if others still wait,
-    // for it will take it, and then they have their cause again.
+    // What a waiter finds when it is resumed: a permit is free. If others still wait it is the only one: this process
+    // takes it, and then the others have their cause again.
     ghost ready = { λ c p s q. PermitsReady s.total s.free (q 0) };
 
     fn rest_holds<W: Waits>(&self, lists: &W) -> bool {
@@ -83,7 +84,7 @@ impl MonitorData for Permits {
 }
 
 impl Permits {
-    /// This number of permits, all free.
+    /// Creates a pool of `total` permits, all free.
     pub fn new(total: u32) -> Permits
         ensures { (result.total ≡ total) × (result.free ≡ total) }
     {
@@ -118,7 +119,7 @@ impl Permits {
         self.free += 1;
     }
 
-    /// Takes a permit, once one is free for this class.
+    /// Takes a permit. Waits if none is free, with the priority of `class`.
     pub fn take<R: Wait, M: Monitor<Permits>>(m: &M, rt: &R, out: M::Out, class: Class) -> M::Out
         requires { M.is_of m.now out }
         ensures of { M.is_of m.now result }
@@ -127,7 +128,7 @@ impl Permits {
     {
         let mut inside = m.enter(rt, out);
         if m.state(&inside).is_none_free() {
-            // Owed here: rest, with this process among the waiting. It has its cause: no permit is free.
+            // Owed here: rest, with this process among the waiters. It has its cause: no permit is free.
             inside = m.wait(rt, inside, PERMIT_IS_FREE, class.priority());
             // Found here: ready, so a permit is free, without a second test.
         }
@@ -135,7 +136,8 @@ impl Permits {
         m.leave(rt, inside)
     }
 
-    /// Gives a permit back, and hands the monitor to whoever waits for it. Refused where no permit is taken.
+    /// Gives a permit back, and resumes a waiter if there is one. Returns `Err(NoneTaken)` if no permit is taken: then
+    /// nothing has changed.
     pub fn give<R: Wait, M: Monitor<Permits>>(
         m: &M,
         rt: &R,
@@ -151,12 +153,13 @@ impl Permits {
             return (m.leave(rt, inside), Err(NoneTaken));
         }
         M::state_mut(&mut inside, m).put_one();
-        // Owed here: ready if somebody waits (then no permit was free before, so exactly one is now), else rest.
+        // Owed here: ready if a process waits (then no permit was free before, so exactly one is free at this point),
+        // else rest.
         let (out, _resumed) = m.signal_leave(rt, inside, PERMIT_IS_FREE);
         (out, Ok(()))
     }
 
-    /// How many permits are free.
+    /// Returns how many permits are free while the caller is inside.
     pub fn free<R: Wait, M: Monitor<Permits>>(m: &M, rt: &R, out: M::Out) -> (M::Out, u32)
         requires { M.is_of m.now out }
         ensures of { M.is_of m.now result.0 }

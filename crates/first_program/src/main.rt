@@ -1,4 +1,4 @@
-//! The first monitor on threads: a pool of permits, its workers, and a desk that looks on.
+//! The first monitor on threads: a pool of permits, its workers, and a desk that reads how many are free at the end.
 #![tactic(auto)]
 
 ghost use Rattle.std.specs.Prelude.{All};
@@ -16,10 +16,11 @@ const WORKERS: u32 = 4;
 
 const PERMITS: u32 = 2;
 
+// Number of jobs of each worker.
 const JOBS: u32 = 1000;
 
-// What one thread does, over its own place: a row of jobs, each with a permit. The place is handed in, since no two
-// threads may use one place; the monitor is shared.
+// Runs one worker, on its own place: `JOBS` jobs, each with a permit. Returns how many permits it gave back. The place
+// is passed in, since no two threads may use one place; the monitor is shared.
 fn work<R: Wait, M: Monitor<Permits>>(rt: &R, m: &M, out: M::Out, class: Class) -> u32
     requires { M.is_of m.now out }
 {
@@ -37,14 +38,14 @@ fn work<R: Wait, M: Monitor<Permits>>(rt: &R, m: &M, out: M::Out, class: Class) 
     done
 }
 
-// A monitor of permits that threads share. (A closure that goes to a thread needs a bound with no parameter of its
-// own.)
+// A monitor of permits that threads share. (A closure that is passed to a thread needs a bound without a parameter of
+// its own.)
 trait SharedPermits: Monitor<Permits> + Sync {}
 
 impl SharedPermits for Door<Permits> {}
 
-// One thread for each place. The closure says what it needs of the place that it is handed: that it is one of the
-// monitor's.
+// Runs one thread for each place, and returns how many jobs all did. The closure states what it requires of the place
+// that it receives: that it is a place of the monitor.
 fn work_all<R: Threads + Wait + Sync, M: SharedPermits>(
     rt: &R,
     m: &M,
@@ -76,7 +77,7 @@ where
 }
 
 fn run<R: Threads + Wait + Print + Sync>(rt: &R, alloc: Global) -> io::Result<()> {
-    // One place for each worker, and one for the desk. (Making a door can be refused: out of memory, or a number out of
+    // One place for each worker, and one for the desk. (`make` can be refused: out of memory, or a number out of
     // range.)
     let Ok((door, mut places)) = Door::make(alloc, Permits::new(PERMITS), WORKERS as usize + 1)
     else {

@@ -14,7 +14,7 @@ use std::sync::Wait;
 #[derive(Clone, Copy)]
 struct Workers;
 
-// Runs the worker with this number. Returns its place, and its answer: 1 if it could give its permit back.
+// Runs the worker with this number. Returns its place and its answer: 1 if it could give its permit back, else 0.
 fn work<R: Wait, M: Monitor<Permits>>(rt: &R, m: &M, out: M::Out, number: usize) -> (M::Out, u64)
     requires { M.is_of m.now out }
     ensures { M.is_of m.now result.0 }
@@ -30,16 +30,17 @@ fn work<R: Wait, M: Monitor<Permits>>(rt: &R, m: &M, out: M::Out, number: usize)
 }
 
 impl Program<Permits, Explored<Permits>> for Workers {
+    // Returns the number of workers.
     fn threads(&self) -> usize {
         3
     }
 
-    // The data with which each order begins.
+    // Returns the data with which each order begins.
     fn open(&self, _alloc: Global) -> Option<Permits> {
         Some(Permits::new(2))
     }
 
-    // What the thread with this number does, and what it answers.
+    // Runs the worker with this number on its place `out`. Returns its place and its answer.
     fn act<R: Wait>(
         &self,
         rt: &R,
@@ -53,7 +54,8 @@ impl Program<Permits, Explored<Permits>> for Workers {
         work(rt, m, out, number)
     }
 
-    // An order ends right if each worker could give its permit back. `_left` is the data at the end.
+    // Returns true if each worker could give its permit back: then the order ended right. `_left` is the data at the
+    // end.
     fn is_right(&self, _left: &Permits, answers: &[u64]) -> bool {
         answers.iter().all(|answer| *answer == 1)
     }
@@ -71,7 +73,7 @@ fn verdict(found: &Found) -> &'static str {
     }
 }
 
-// Prints how many orders there are, if all end right. Else it prints the first bad order, as a script for
+// Prints how many orders there are, if all end right. Else this prints the first bad order, as a script for
 // `hoare_script` and `script_picture`, and its verdict on standard error.
 fn main(rt: HostRuntime) -> io::Result<()> {
     let alloc = rt.alloc();

@@ -1,4 +1,4 @@
-//! The law, the book, lines of a text, scripts and their pictures.
+//! Tests of the law, the book, lines of a text, scripts and their pictures.
 
 mod books;
 mod compared;

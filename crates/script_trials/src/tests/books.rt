@@ -1,4 +1,4 @@
-//! The book, step by step.
+//! Tests of the book, step by step.
 mod agreeing;
 mod bounds;
 mod filling;
@@ -14,12 +14,12 @@ use std::process::Abort;
 use wait_book::book::Book;
 use wait_book::steps::Step;
 
-// A book of these numbers, where nothing happened yet.
+// Creates a book with these sizes, in which nothing has happened.
 fn made<R: Abort + AllocGlobal>(rt: &R, places: usize, conditions: usize, mesa: usize) -> Book {
     Book::make(rt.alloc(), places, conditions, mesa).expect(rt, "a book")
 }
 
-// The book and the plain monitor answer the same to a step, the one with this number.
+// Does a step, the one with this number, on the book and on the plain monitor. Fails if their answers differ.
 fn answer_alike<R: Abort>(rt: &R, number: u64, step: Step, book: &mut Book, plain: &mut Plain) {
     let found = book.try_step(step);
     expect_same(rt, (number, found), (number, plain.step(step)));

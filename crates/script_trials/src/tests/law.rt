@@ -32,7 +32,8 @@ fn joined_and_taken(rt: HostRuntime) {
     assert!(rt; rest.count(1) == 1 && rest.priority(1, 0) == 5);
 }
 
-// What three of the laws say of newcomers: none is admitted behind a signal, beside one inside, or before a signaller.
+// What three of the laws say of entering processes: none is admitted right after a signal, while a process is inside,
+// or while a signaller waits.
 fn newcomers_come_last<S>()
     ensures behind_a_signal { (h : History S) (k c w newcomer : ℕ) (s found : S)
         → Allowed (with_event h (Signal k c w s)) (Admit newcomer found) → ⊥ }
@@ -60,8 +61,8 @@ fn first_goes_first<S>()
     laws::waiters_taken_in_turn::<S>();
 }
 
-// What the laws of overtaking count, of lists written by hand: after a signal of place 1, which resumes place 2 from
-// condition 0, and after a notify by place 3 on the Mesa condition 1.
+// What the definitions of overtaking count in lists written by hand: after a signal of place 1, which resumes place 2
+// from condition 0, and after a notify by place 3 on the Mesa condition 1.
 fn counts_by_hand()
     ensures after_a_signal { let later : List (Event ⊤) = Resume 2 0 tt ∷ Wait 2 0 5 tt ∷ Back 1 tt
         ∷ Pass 1 0 2 tt ∷ Resume 2 0 tt ∷ Leave 2 tt ∷ [] in
@@ -79,8 +80,8 @@ fn counts_by_hand()
         × (waiters_up_to 1 9 h ≡ 0) }
 {}
 
-// A run can show of a law only that its call returns. What the laws say, the clauses of `newcomers_come_last` and
-// `first_goes_first` are proved by.
+// A run shows of a law only that its call returns. What the laws say is used to prove the clauses of
+// `newcomers_come_last` and `first_goes_first`.
 #[test]
 fn laws_can_be_called() {
     newcomers_come_last::<u8>();

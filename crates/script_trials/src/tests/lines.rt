@@ -1,4 +1,4 @@
-//! Lines, words and numbers of texts.
+//! Tests of lines, words and numbers of texts.
 mod forms;
 mod lines;
 mod texts;

@@ -1,6 +1,6 @@
-//! Numbers in which no pattern shows.
+//! Numbers without a visible pattern.
 
-/// The next of a row of numbers in which no pattern shows: those of Knuth's MMIX, whose low digits repeat soon.
+/// Returns the next number of a row without a visible pattern: that of Knuth's MMIX, whose low digits repeat soon.
 pub fn next_number(number: u64) -> u64 {
     number
         .wrapping_mul(6364136223846793005)

@@ -1,5 +1,5 @@
-//! A monitor that keeps nothing but the list of all that happened there, and reads each answer off that list by the
-//! filters of `past/filters.rt`. It stands beside the book, and shares no code with it.
+//! A monitor that stores nothing but the list of all its events, and computes each answer from that list by the filters
+//! of `past/filters.rt`. The book is compared with it, and shares no code with it.
 pub mod event;
 pub mod filters;
 
@@ -9,7 +9,8 @@ use hoare_law::turn::Turn;
 use std::alloc::{AllocError, Global};
 use wait_book::steps::{Next, Step, StepRefused};
 
-/// All that happened at a monitor of so many places and conditions, of which the last `mesa` are Mesa conditions.
+/// A monitor that stores all its events. `places` and `conditions` are its numbers of these; the last `mesa` conditions
+/// are Mesa conditions.
 #[derive(Drop)]
 pub struct Past {
     pub alloc: Global,
@@ -20,7 +21,7 @@ pub struct Past {
 }
 
 impl Past {
-    /// Nothing happened yet.
+    /// Creates a monitor at which nothing has happened.
     pub fn new(alloc: Global, places: u64, conditions: u64, mesa: u64) -> Past {
         Past {
             alloc,
@@ -31,28 +32,28 @@ impl Past {
         }
     }
 
-    /// Who waits on a condition, in the order in which they came to wait.
+    /// Returns the waits of the waiters on a condition, the longest first.
     pub fn waiting(&self, condition: usize) -> Result<Vec<Wait>, AllocError> {
         waiting(self.alloc, condition, self.events.as_slice())
     }
 
-    /// The wait of the process that a signal on a condition would resume.
+    /// Returns the wait of the process that a signal on a condition would resume, or `None` if no process waits there.
     pub fn chosen(&self, condition: usize) -> Result<Option<Wait>, AllocError> {
         let waits = self.waiting(condition)?;
         Ok(chosen(waits.as_slice()))
     }
 
-    /// Who was called and hasn't gone on.
+    /// Returns the waits of the places that were notified and have not resumed, in the order of the notifications.
     pub fn called(&self) -> Result<Vec<Wait>, AllocError> {
         called(self.alloc, self.events.as_slice())
     }
 
-    /// The waiting signallers.
+    /// Returns the waiting signallers, the longest first.
     pub fn urgent(&self) -> Result<Vec<usize>, AllocError> {
         urgent(self.alloc, self.events.as_slice())
     }
 
-    /// Whether a place is outside.
+    /// Returns true if `place` is outside.
     pub fn outside(&self, place: usize) -> bool {
         outside(place, self.events.as_slice())
     }
@@ -61,7 +62,7 @@ impl Past {
         turn(self.alloc, self.events.as_slice())
     }
 
-    /// Who goes on.
+    /// Returns whose turn it is.
     pub fn now(&self) -> Result<Next, AllocError> {
         Ok(match self.turn()? {
             Turn::Free => Next::Free,
@@ -70,12 +71,12 @@ impl Past {
         })
     }
 
-    /// Whether a number is that of a Mesa condition.
+    /// Returns true if `condition` is the number of a Mesa condition.
     pub fn is_mesa(&self, condition: u64) -> bool {
         condition < self.conditions && self.conditions - condition <= self.mesa
     }
 
-    /// Whether it is the return from a wait on a Mesa condition.
+    /// Returns true if `event` is the resumption of a place that waited on a Mesa condition.
     pub fn is_called_back(&self, event: Option<Event>) -> bool {
         matches!(event, Some(Event::Resume(_, condition)) if self.is_mesa(condition as u64))
     }
@@ -103,7 +104,7 @@ impl Past {
         Ok(None)
     }
 
-    /// Why a question about a condition is refused.
+    /// Returns why a question about `condition` is refused, or `None` if it isn't.
     pub fn refuses_question(&self, condition: u64) -> Option<StepRefused> {
         if condition < self.conditions {
             return None;
@@ -111,7 +112,8 @@ impl Past {
         Some(StepRefused::NoCondition)
     }
 
-    // A condition that isn't there, or isn't a Mesa condition or one of Hoare's, as asked.
+    // Returns why a step on a condition is refused: the condition doesn't exist, or is a Mesa condition but `mesa` is
+    // false, or the reverse.
     fn refuses_kind(&self, condition: u64, mesa: bool) -> Option<StepRefused> {
         if condition < self.conditions && self.is_mesa(condition) != mesa {
             return Some(StepRefused::WrongKind);
@@ -119,7 +121,7 @@ impl Past {
         self.refuses_question(condition)
     }
 
-    /// Why a step is refused.
+    /// Returns why a step is refused, or `None` if it isn't.
     pub fn refusal(&self, step: Step) -> Result<Option<StepRefused>, AllocError> {
         let (place, further) = match step {
             Step::Enter(place) => return self.refuses_entry(place),
@@ -138,7 +140,8 @@ impl Past {
         }
     }
 
-    // What happens by a step that isn't refused. Where nobody waits a signal, a notify and a broadcast are no events.
+    // Returns the event of a step that isn't refused. If no place waits, a signal, a notify and a broadcast are no
+    // events.
     fn event_of(&self, step: Step) -> Result<Option<Event>, AllocError> {
         let (place, condition) = match step {
             Step::Enter(place) => return Ok(Some(Event::Admit(place as usize))),
@@ -165,7 +168,7 @@ impl Past {
         })
     }
 
-    // Who is owed the monitor goes on.
+    // Adds the event by which the place that is owed the monitor continues, if there is one.
     fn settle(&mut self) -> Result<(), AllocError> {
         let event = match self.turn()? {
             Turn::Owed(place, condition) => Event::Resume(place, condition),
@@ -176,7 +179,7 @@ impl Past {
         Ok(())
     }
 
-    /// Does a step that isn't refused, and lets the place go on that is then owed the monitor.
+    /// Does a step that isn't refused. If a place is then owed the monitor, it continues.
     pub fn act(&mut self, step: Step) -> Result<(), AllocError> {
         if let Some(event) = self.event_of(step)? {
             self.events.push(event)?;
@@ -184,7 +187,7 @@ impl Past {
         self.settle()
     }
 
-    // How many are called by a step that isn't refused.
+    // Returns how many places a step notifies, if it isn't refused.
     fn calls(&self, step: Step) -> Result<usize, AllocError> {
         Ok(match step {
             Step::Notify(_, condition) => self.waiting(condition as usize)?.len().min(1),
@@ -193,7 +196,7 @@ impl Past {
         })
     }
 
-    /// Does a step: what it answers, and how many it called.
+    /// Does a step. Returns its answer, and how many places it notified.
     pub fn step(&mut self, step: Step) -> Result<(Result<Next, StepRefused>, usize), AllocError> {
         if let Some(refused) = self.refusal(step)? {
             return Ok((Err(refused), 0));

@@ -1,4 +1,4 @@
-//! Texts of a pattern.
+//! Texts from a pattern.
 use std::alloc::AllocError;
 
 /// What fills a gap of a pattern.
@@ -19,8 +19,8 @@ impl Part<'_> {
     }
 }
 
-/// Adds a pattern to a text, with one of these parts in the place of each `#`. (A `write!` of many parts takes the
-/// checker ten seconds where it stands, a call of this two.)
+/// Adds a pattern to a text, with the next of `parts` in place of each `#`. (The checker takes ten seconds for a
+/// `write!` of many parts in a body, and two for a call of this function.)
 pub fn add_filled(text: &mut String, pattern: &str, parts: &[Part<'_>]) -> Result<(), AllocError> {
     let mut rest = pattern;
     for part in parts {

@@ -1,4 +1,4 @@
-//! What scripts are drawn as, and how they end.
+//! Tests of how scripts are drawn, and of how they end.
 mod charts;
 mod faults;
 mod large;
@@ -16,12 +16,12 @@ use std::process::Abort;
 const HAND_OVER: &[u8] =
     b"monitor 2 1\nenter 0\nwait 0 0 0\nenter 1\nsignal 1 0\nleave 0\nleave 1\n";
 
-// Three wait on a Mesa condition, a fourth calls all of them, and a fifth comes behind them.
+// Three places wait on a Mesa condition, a fourth notifies all of them, and a fifth enters after them.
 const BROADCAST: &[u8] =
     b"monitor 5 1 1\nenter 0\nwait 0 0 2\nenter 1\nwait 1 0 1\nenter 2\nwait 2 0 1\nenter 3\nbroadcast 3 0\nenter 4\n\
         leave 3\nenter 4\nleave 1\nleave 2\nleave 0\nenter 4\nleave 4\n";
 
-// What a script is drawn as, and how it ends.
+// Draws a script. Returns how that ended, and the picture.
 fn drawn(alloc: Global, script: &[u8], form: Form) -> (Result<(), PictureFault>, Vec<u8>) {
     let mut reader = script;
     let mut writer = Vec::new(alloc);
@@ -29,14 +29,14 @@ fn drawn(alloc: Global, script: &[u8], form: Form) -> (Result<(), PictureFault>,
     (result, writer)
 }
 
-// What a script without a fault is drawn as.
+// Draws a script that has no fault.
 fn drawn_whole<R: Abort + AllocGlobal>(rt: &R, script: &[u8], form: Form) -> Vec<u8> {
     let (result, text) = drawn(rt.alloc(), script, form);
     expect_same(rt, result, Ok(()));
     text
 }
 
-// The chart of a script is these lines, and it ends so.
+// Draws a script as a chart, and fails if the end or the lines differ.
 fn is_drawn<R: Abort + AllocGlobal>(
     rt: &R,
     script: &[u8],
@@ -47,7 +47,7 @@ fn is_drawn<R: Abort + AllocGlobal>(
     expect_same(rt, (result, text.as_slice()), (wanted, lines));
 }
 
-// How often a text stands in another.
+// Returns how often `part` occurs in `text`.
 fn times(text: &[u8], part: &[u8]) -> usize {
     let mut found: usize = 0;
     for at in 0..text.len() {
@@ -58,7 +58,8 @@ fn times(text: &[u8], part: &[u8]) -> usize {
     found
 }
 
-// All of 64 places come in and wait, with the greatest priority or with 7.
+// Adds steps by which all 64 places enter and wait. The priority is the greatest, or 7 for all places but place 0
+// unless `greatest`.
 fn add_waits(script: &mut String, greatest: bool) -> Result<(), AllocError> {
     for place in 0..64u64 {
         let priority = if greatest || place == 0 { u64::MAX } else { 7 };
@@ -68,7 +69,7 @@ fn add_waits(script: &mut String, greatest: bool) -> Result<(), AllocError> {
     Ok(())
 }
 
-// A script in which each of 64 places waits, with the greatest priority or with 7.
+// Returns a script in which each of 64 places waits, with the priorities of `add_waits`.
 fn sixty_four_waits<R: Abort + AllocGlobal>(rt: &R, greatest: bool) -> String {
     let mut script = format!(in rt.alloc(); "monitor 64 1\n").expect(rt, "memory for a script");
     add_waits(&mut script, greatest).expect(rt, "memory for a script");

@@ -1,4 +1,4 @@
-//! Scripts: their rows, faults and limits.
+//! Tests of scripts: their rows, faults and limits.
 mod drawn;
 mod failures;
 mod faults;
@@ -13,7 +13,7 @@ use hoare_script::{ScriptFault, run};
 use std::alloc::Global;
 use std::process::Abort;
 
-// What a script is answered, and how it ends.
+// Runs a script. Returns how it ended, and its answers.
 fn told(alloc: Global, script: &[u8]) -> (Result<(), ScriptFault>, Vec<u8>) {
     let mut reader = script;
     let mut writer = Vec::new(alloc);
@@ -21,7 +21,7 @@ fn told(alloc: Global, script: &[u8]) -> (Result<(), ScriptFault>, Vec<u8>) {
     (result, writer)
 }
 
-// A script ends so, and these are its answers.
+// Runs a script, and fails if its end or its answers differ.
 fn is_told<R: Abort + AllocGlobal>(
     rt: &R,
     script: &[u8],

@@ -4,7 +4,7 @@ use std::fmt::Display;
 use std::panic::Expect;
 use std::process::Abort;
 
-/// What is shown of a refusal or a fault is this text.
+/// Fails the test if the `Display` text of `shown` isn't `text`.
 pub fn reads<R: Abort + AllocGlobal, T: Display>(rt: &R, shown: &T, text: &str) {
     let found = format!(in rt.alloc(); "{shown}").expect(rt, "memory for a text");
     expect_same(rt, found.as_str(), text);

@@ -3,7 +3,7 @@ use arrayvec::ArrayVec;
 use std::io;
 use std::io::{Read, Write};
 
-/// Gives its bytes, and then fails.
+/// A reader that gives its bytes, and then fails.
 #[derive(Drop)]
 pub struct Breaking<'a> {
     pub rest: &'a [u8],
@@ -18,7 +18,7 @@ impl Read for Breaking<'_> {
     }
 }
 
-/// Takes a byte a call while there is room, and then fails or takes nothing.
+/// A writer that takes one byte a call while there is room, and then fails or takes nothing.
 #[derive(Drop)]
 pub struct Filling {
     pub taken: ArrayVec<u8, 90>,
@@ -27,7 +27,7 @@ pub struct Filling {
 }
 
 impl Filling {
-    /// Nothing is taken yet.
+    /// Creates a writer that has taken nothing. It has room for `room` bytes, at most 90; then it fails if `fails`.
     pub fn new(room: usize, fails: bool) -> Filling {
         Filling {
             taken: ArrayVec::new(),

@@ -1,6 +1,6 @@
-//! The book beside two monitors that are written apart: one filters the list of all that happened (`past`), the other
-//! is told by where its places are (`plain`). After each drawn step all three say the same of who waits, who was
-//! called, whose turn it is and who is outside.
+//! Compares the book with two monitors that are written independently. One filters the list of all events (`past`), the
+//! other stores the position of each place (`plain`). After each drawn step all three agree on the waiters, the
+//! notified, the turn, and which places are outside.
 use super::plain::Plain;
 use super::plain::place::Group;
 use super::sized::SizedBook;
@@ -14,7 +14,7 @@ use std::panic::Expect;
 use std::process::Abort;
 use wait_book::steps::{MakeRefused, Next, Step};
 
-// Numbers of conditions and of Mesa conditions among them.
+// Numbers of conditions, each with the number of Mesa conditions among them.
 const KINDS: [(u64, u64); 14] = [
     (1, 0),
     (1, 1),
@@ -32,21 +32,22 @@ const KINDS: [(u64, u64); 14] = [
     (4, 4),
 ];
 
+// Number of steps of each history.
 const STEPS: u64 = 40;
 
-// 50 of each number of places and of each of `KINDS`.
+// Number of histories: 50 for each number of places and each entry of `KINDS`.
 const HISTORIES: u64 = 5_600;
 
-// How often something came up.
+// Number of times that each case came up.
 #[derive(Default, Drop)]
 struct Tally {
     done: usize,
     refused: usize,
-    // Two or more are called.
+    // Two or more places are notified.
     several_called: usize,
-    // Somebody is called while a signaller waits.
+    // A place is notified while a signaller waits.
     beside_signallers: usize,
-    // Who was called and waited again was called again.
+    // A place that was notified waited again and was notified again.
     called_again: usize,
     broadcasts_of_several: usize,
 }
@@ -55,7 +56,7 @@ fn count(counter: &mut usize, comes_up: bool) {
     *counter = counter.saturating_add(comes_up as usize);
 }
 
-// Whether these are a group of the plain monitor, in this order.
+// Returns true if a group of the plain monitor has exactly these waits, in this order.
 fn stand(plain: &Plain, group: Group, waits: &[Wait]) -> bool {
     for at in 0..waits.len() {
         if !plain.stands(waits[at].place as u64, group, at) {
@@ -65,7 +66,7 @@ fn stand(plain: &Plain, group: Group, waits: &[Wait]) -> bool {
     plain.count(group) == waits.len()
 }
 
-// Whether these are the signallers of the plain monitor, in this order.
+// Returns true if these are exactly the signallers of the plain monitor, in this order.
 fn stand_signalling(plain: &Plain, places: &[usize]) -> bool {
     for at in 0..places.len() {
         if !plain.stands(places[at] as u64, Group::Signallers, at) {
@@ -91,7 +92,7 @@ impl Three {
         })
     }
 
-    // Does a step: whether all three answer the same.
+    // Does a step on all three. Returns true if all three give the same answer.
     fn step(&mut self, step: Step, tally: &mut Tally) -> Result<bool, AllocError> {
         let told = self.past.step(step)?;
         let (answer, calls) = told;
@@ -101,7 +102,7 @@ impl Three {
         Ok(self.plain.step(step) == answer && self.book.step(step) == told)
     }
 
-    // Whether the table and the book say that these wait on a condition, in this order.
+    // Returns true if the plain monitor and the book have these waiters on a condition, in this order.
     fn have_waiting(&self, condition: usize, waits: &[Wait]) -> bool {
         stand(&self.plain, Group::On(condition as u64), waits)
             && self.book.has_waiting(condition, waits)
@@ -124,7 +125,7 @@ impl Three {
         Ok(true)
     }
 
-    // Whether all three say the same of a place.
+    // Returns true if all three agree on whether a place is outside.
     fn agree_on_place(&self, place: u64) -> bool {
         let outside = self.past.outside(place as usize);
         self.plain.outside(place) == outside && self.book.outside(place as usize) == outside
@@ -139,8 +140,8 @@ impl Three {
         true
     }
 
-    // Whether the list and the table say the same of the called and of the signallers. The book shows these as the
-    // turn, when it comes to them.
+    // Returns true if the list and the plain monitor agree on the notified places and the signallers. The book shows
+    // these places as the turn, when each of them is to continue.
     fn agree_to_come(&self, tally: &mut Tally) -> Result<bool, AllocError> {
         let signallers = self.past.urgent()?;
         let called = self.past.called()?;
@@ -160,7 +161,7 @@ impl Three {
         Ok(same_turn && same_waits && same_to_come && self.agree_outside())
     }
 
-    // A place that is outside, if there is one.
+    // Returns a place that is outside, chosen by `lot`, or `None` if there is none.
     fn newcomer(&self, lot: u64) -> Option<u64> {
         let places = self.past.places.max(1);
         let first = lot % places;
@@ -173,7 +174,7 @@ impl Three {
         None
     }
 
-    // A step of any place, mostly refused.
+    // Returns a step of any place; mostly it is refused.
     fn strange(&self, lot: u64) -> Step {
         let place = lot / 64 % self.past.places.saturating_add(1);
         let condition = lot / 1024 % self.past.conditions.saturating_add(1);
@@ -188,7 +189,8 @@ impl Three {
         }
     }
 
-    // A step of the place inside that isn't refused. It waits where another can go on.
+    // Returns a step of the place inside that isn't refused. It may be a wait only if another process can continue
+    // afterwards.
     fn suited(&self, place: u64, lot: u64) -> Step {
         let condition = lot / 64 % self.past.conditions.max(1);
         let goes_on = self.newcomer(lot).is_some() || self.plain.is_awaited();
@@ -202,7 +204,7 @@ impl Three {
         }
     }
 
-    // The next step: mostly one that isn't refused.
+    // Returns the next step; mostly it isn't refused.
     fn drawn(&self, lot: u64) -> Step {
         let further = lot / 16;
         match (self.plain.now(), self.newcomer(further)) {
@@ -213,7 +215,7 @@ impl Three {
     }
 }
 
-// What a place did before the last that it did, of these events.
+// Returns the last but one of these events of a place, or `None` if it has fewer than two.
 fn last_but_one(events: &[Event], place: usize) -> Option<Event> {
     let (mut last, mut before) = (None, None);
     for event in events {
@@ -225,7 +227,7 @@ fn last_but_one(events: &[Event], place: usize) -> Option<Event> {
     before
 }
 
-// How often a place that was called, and waited again at once, went on again by a call.
+// Returns how often a notified place resumed, waited again as its next act, was notified again, and resumed.
 fn calls_again(past: &Past) -> usize {
     let mut found = 0usize;
     for at in 0..past.events.len() {
@@ -238,7 +240,7 @@ fn calls_again(past: &Past) -> usize {
     found
 }
 
-// Drawn steps, the first of them by this number: whether all three agree throughout.
+// Does `STEPS` drawn steps, seeded with `number`. Returns true if all three agree after each of them.
 fn agree_throughout(three: &mut Three, number: u64, tally: &mut Tally) -> Result<bool, AllocError> {
     let mut lot = number;
     for _ in 0..STEPS {
@@ -252,7 +254,7 @@ fn agree_throughout(three: &mut Three, number: u64, tally: &mut Tally) -> Result
     Ok(true)
 }
 
-// The history with this number: whether all three agree throughout.
+// Runs the history with this number. Returns true if all three agree throughout.
 fn history<R: Abort + AllocGlobal>(rt: &R, number: u64, tally: &mut Tally) -> bool {
     let (conditions, mesa) = KINDS[(number / 8 % 14) as usize];
     let made = Three::make(rt.alloc(), number % 8 + 1, conditions, mesa);
@@ -260,7 +262,7 @@ fn history<R: Abort + AllocGlobal>(rt: &R, number: u64, tally: &mut Tally) -> bo
     agree_throughout(&mut three, number, tally).expect(rt, "memory for lists")
 }
 
-// By how much each of what is worth seeing came up too seldom.
+// Returns by how much each count of the tally is below what the test requires.
 fn missing(tally: &Tally) -> [usize; 6] {
     [
         200_000usize.saturating_sub(tally.done),

@@ -1,5 +1,5 @@
-//! What waits for nobody has bounds, which no clause says: steps of all kinds of a full book end, within the minute
-//! that `rt ci` gives a test.
+//! Tests that non-blocking calls have bounds, which no contract states: steps of all kinds on a full book end within
+//! the minute that `rt ci` allows a test.
 use super::made;
 use crate::tests::compared::expect_same;
 use hoare_law::waits::Waits;
@@ -8,7 +8,8 @@ use wait_book::steps::{Next, Step, StepRefused};
 
 const PLACES: u64 = 64;
 
-// All places but the first come in and wait, on all eight conditions, each before all that wait there.
+// All places but place 0 enter and wait, on all eight conditions. The priority of each is below those of all that wait
+// on its condition.
 fn fill(book: &mut Book) -> Result<(), StepRefused> {
     for place in 1..PLACES {
         book.try_step(Step::Enter(place))?;
@@ -17,7 +18,7 @@ fn fill(book: &mut Book) -> Result<(), StepRefused> {
     Ok(())
 }
 
-// The first place comes in, and calls all that wait on the last four conditions, which are Mesa conditions.
+// Place 0 enters, and notifies all waiters on the last four conditions, which are Mesa conditions.
 fn call_all(book: &mut Book) -> Result<(), StepRefused> {
     book.try_step(Step::Enter(0))?;
     for condition in 4..8 {
@@ -27,8 +28,8 @@ fn call_all(book: &mut Book) -> Result<(), StepRefused> {
     Ok(())
 }
 
-// Who is inside resumes the first that waits on a condition, and then each passes the monitor on, by turns on the first
-// four.
+// Place 0 resumes the first waiter on condition 1. Then the place inside passes again and again, on conditions 0 to 3
+// in rotation.
 fn empty(book: &mut Book) -> Result<(), StepRefused> {
     book.try_step(Step::Signal(0, 1))?;
     for turn in 0..PLACES {
@@ -39,7 +40,7 @@ fn empty(book: &mut Book) -> Result<(), StepRefused> {
     Ok(())
 }
 
-// How many wait on all conditions.
+// Returns how many places wait on all conditions together.
 fn waiting(book: &Book) -> usize {
     let mut count: usize = 0;
     for condition in 0..8usize {
@@ -48,7 +49,7 @@ fn waiting(book: &Book) -> usize {
     count
 }
 
-// A book is filled and emptied: what waits for nobody, in all its kinds. In the end nobody is inside and nobody waits.
+// Fills and empties a book by non-blocking calls of all kinds. In the end no place is inside and none waits.
 #[test]
 fn steps_end_in_time(rt: HostRuntime) {
     let mut book = made(&rt, 64, 8, 4);

@@ -1,4 +1,5 @@
-//! All chains filled and emptied in turn, beside the definitions' filters, which are written once more in `plain`.
+//! Fills and empties all chains of a book in turn, and compares it with `plain`, which has the filters of the
+//! definitions written once more.
 
 use super::plain::Plain;
 use super::plain::place::Group;
@@ -9,21 +10,21 @@ use hoare_law::waits::Waits;
 use wait_book::book::Book;
 use wait_book::steps::{Next, Step};
 
-// How the processes that wait are told apart in one part of the run, and how they are resumed.
+// The priorities of the waiters in one part of the run, and how the waiters are resumed.
 #[derive(Clone, Copy)]
 enum Kind {
     Equal,
     Rising,
     Falling,
     OneOfFour,
-    // Resumed by passes, in the other kinds by signals.
+    // Waiters are resumed by passes; in the other kinds by signals.
     Passed,
     // Any step on any condition.
     Mixed,
 }
 
-// 2,000 steps: the chain of a condition is filled in the first half, and emptied in the second, which fills and empties
-// the signallers' chain.
+// 2,000 steps: the first half fills the chain of a condition. The second half empties it, and fills and empties the
+// chain of the signallers.
 #[derive(Clone, Copy)]
 struct Part {
     condition: u64,
@@ -56,8 +57,8 @@ fn priority_of(kind: Kind, i: u64, number: u64) -> u64 {
     }
 }
 
-// Any step of the place inside, now and then on a condition that isn't there. Place 0 never waits, so that there is
-// always somebody who can come in.
+// Returns any step of the place inside, now and then on a condition that doesn't exist. Place 0 never waits, so that a
+// process can always enter.
 fn mixed_step(place: u64, number: u64) -> Step {
     let condition = (number >> 16) % 9;
     match (number >> 40) % 8 {
@@ -88,7 +89,7 @@ fn step_of(part: Part, i: u64, plain: &Plain, number: u64) -> Step {
     Step::Signal(place, part.condition)
 }
 
-// Whether as many wait on a condition, the first and the last of them with the same priorities.
+// Returns true if as many places wait on a condition in both, with the same first and last priority.
 fn is_like(book: &Book, plain: &Plain, condition: u64) -> bool {
     let count = book.count(condition as usize);
     if count != plain.count(Group::On(condition)) {
@@ -102,7 +103,8 @@ fn is_like(book: &Book, plain: &Plain, condition: u64) -> bool {
     plain.extremes(condition) == Some((first, last))
 }
 
-// How many wait at the end of a half, how many were signallers at once in it, and how many still are.
+// Returns what is expected of a half: how many places wait at its end, the most signallers at once during it, and how
+// many signallers are left at its end.
 fn fullest(part: Part) -> (usize, usize, usize) {
     if part.fills {
         (63, 0, 0)
@@ -113,8 +115,8 @@ fn fullest(part: Part) -> (usize, usize, usize) {
     }
 }
 
-// 100,000 steps of 64 places: each of the eight chains, and the signallers' chain, is filled up to 63 and emptied
-// again, with equal, rising, falling and mixed priorities; at last all at once.
+// 100,000 steps of 64 places. Each of the eight chains and the chain of the signallers is filled up to 63 and emptied
+// again, with equal, rising, falling and mixed priorities; at the end all chains are used together.
 #[test]
 fn fills_and_empties_all_chains(rt: HostRuntime) {
     let mut book = made(&rt, 64, 8, 0);
@@ -138,7 +140,8 @@ fn fills_and_empties_all_chains(rt: HostRuntime) {
     }
 }
 
-// The place inside waits on one Mesa condition, or all are called and go out.
+// Returns a step of the place inside. If `fills`, it waits on Mesa condition 7, except place 0, which leaves. Else it
+// notifies all that wait there, and then the places leave.
 fn calling_step(plain: &Plain, fills: bool, number: u64) -> Step {
     let (Next::Held(inside) | Next::For(inside)) = plain.now() else {
         return Step::Enter((number >> 32) % 64);
@@ -156,8 +159,8 @@ fn calling_step(plain: &Plain, fills: bool, number: u64) -> Step {
     Step::Notify(place, 7)
 }
 
-// 10,000 steps: the chain of a Mesa condition is filled up to 63 and emptied into that of the called, by a broadcast or
-// by notifies, and this one is emptied by leaves.
+// 10,000 steps. The chain of a Mesa condition is filled up to 63. Broadcasts or notifies empty it into the chain of the
+// notified, which leaves then empty.
 #[test]
 fn fills_and_empties_the_called(rt: HostRuntime) {
     let mut book = made(&rt, 64, 8, 1);

@@ -1,13 +1,13 @@
-//! A monitor told by where its places are, as the definitions' filters tell it: each place knows where it is and since
-//! when, and who goes on is found by looking at all places. No code of the book is used for it.
+//! A monitor that stores where each of its places is and since when, in the sense of the filters of the definitions. It
+//! finds the next place to continue by a search of all places, and uses no code of the book.
 
 pub mod place;
 
 use place::{Group, Where, is_before, is_better};
 use wait_book::steps::{Next, Step, StepRefused};
 
-/// A monitor of at most 64 places, of whose conditions the last `mesa` are Mesa conditions, told by where its places
-/// are.
+/// A monitor of at most 64 places that stores where its places are. Of its conditions the last `mesa` are Mesa
+/// conditions.
 #[derive(Drop)]
 pub struct Plain {
     size: u64,
@@ -20,7 +20,7 @@ pub struct Plain {
 }
 
 impl Plain {
-    /// Nobody is inside, and nobody waits.
+    /// Creates a monitor with no place inside and none waiting.
     pub fn new(size: u64, conditions: u64, mesa: u64) -> Plain {
         Plain {
             size,
@@ -33,7 +33,7 @@ impl Plain {
         }
     }
 
-    // Where each place is.
+    // Returns where each place is.
     fn standing(&self) -> &[Where] {
         &self.places[..(self.size as usize).min(64)]
     }
@@ -45,12 +45,12 @@ impl Plain {
         self.places.get(place as usize).copied()
     }
 
-    /// Whether a place is outside.
+    /// Returns true if `place` is outside.
     pub fn outside(&self, place: u64) -> bool {
         matches!(self.at(place), Some(Where::Outside))
     }
 
-    /// Whether a place waits in a group, with so many of it before.
+    /// Returns true if `place` waits in `group`, with exactly `before` places of the group before it.
     pub fn stands(&self, place: u64, group: Group, before: usize) -> bool {
         match self.at(place) {
             Some(at) => at.is_in(group) && self.before(at) == before,
@@ -58,7 +58,7 @@ impl Plain {
         }
     }
 
-    // How many go on before a place of their group.
+    // Returns how many places of the same group continue before this one.
     fn before(&self, at: Where) -> usize {
         let mut count: usize = 0;
         for one in self.standing() {
@@ -73,7 +73,7 @@ impl Plain {
         }
     }
 
-    // Who of a group goes on first: on a condition, whom a signal resumes.
+    // Returns the place of a group that continues first; on a condition, the one that a signal resumes.
     fn first(&self, group: Group) -> Option<usize> {
         let mut best = None;
         for (place, at) in self.standing().iter().enumerate() {
@@ -85,7 +85,7 @@ impl Plain {
         Some(place)
     }
 
-    // The signaller that waits longest, else the one that was called first.
+    // Returns the signaller that has waited longest; if there is none, the place that was notified first.
     fn longest(&self) -> Option<usize> {
         match self.first(Group::Signallers) {
             None => self.first(Group::Called),
@@ -93,7 +93,7 @@ impl Plain {
         }
     }
 
-    /// How many wait in a group.
+    /// Returns how many places wait in a group.
     pub fn count(&self, group: Group) -> usize {
         let mut count: usize = 0;
         for at in self.standing() {
@@ -102,7 +102,7 @@ impl Plain {
         count
     }
 
-    /// The least and the greatest priority on a condition.
+    /// Returns the least and the greatest priority on a condition, or `None` if no place waits there.
     pub fn extremes(&self, condition: u64) -> Option<(u64, u64)> {
         let mut found = None;
         for at in self.standing() {
@@ -116,18 +116,19 @@ impl Plain {
         found
     }
 
-    /// Whether somebody goes on where the place inside gives the monitor up.
+    /// Returns true if a place continues when the place inside releases the monitor.
     pub fn is_awaited(&self) -> bool {
         self.longest().is_some()
     }
 
-    // The monitor goes to a place.
+    // Puts a place inside.
     fn go_on(&mut self, place: usize) {
         self.put(place, Where::Inside);
         self.inside = Some(place);
     }
 
-    // The monitor is given up: to the signaller that waits longest, to the one that was called first, or nobody.
+    // Releases the monitor: to the signaller that has waited longest, else to the place that was notified first, else
+    // to no place.
     fn give_up(&mut self) {
         self.inside = None;
         if let Some(place) = self.longest() {
@@ -151,7 +152,7 @@ impl Plain {
         }
     }
 
-    // The place inside, if it is this one.
+    // Returns the number of the place inside if it is this one; else refuses.
     fn holder(&self, place: u64) -> Result<usize, StepRefused> {
         match self.at(place) {
             None => Err(StepRefused::NoPlace),
@@ -167,14 +168,15 @@ impl Plain {
         Ok(())
     }
 
-    // The place inside that acts on a condition, if it is this one and there is such a condition.
+    // Returns the number of the place inside if it is this one and the condition exists; else refuses.
     fn actor(&self, place: u64, condition: u64) -> Result<usize, StepRefused> {
         let place = self.holder(place)?;
         self.condition(condition)?;
         Ok(place)
     }
 
-    // The place inside that acts on a condition, if that is a Mesa condition, or one of Hoare's, as asked.
+    // Returns the number of the place inside if it is this one and the condition exists and is a Mesa condition exactly
+    // if `mesa`; else refuses.
     fn actor_of(&self, place: u64, condition: u64, mesa: bool) -> Result<usize, StepRefused> {
         let place = self.actor(place, condition)?;
         if (condition.saturating_add(self.mesa) >= self.conditions) != mesa {
@@ -210,7 +212,7 @@ impl Plain {
         Ok(())
     }
 
-    // The one that a signal would resume is called, if one waits.
+    // Notifies the waiter that a signal would resume, if there is one.
     fn call(&mut self, condition: u64) {
         if let Some(called) = self.first(Group::On(condition)) {
             self.put(called, Where::Called(self.calls));
@@ -251,7 +253,7 @@ impl Plain {
         }
     }
 
-    /// Whose turn it is.
+    /// Returns whose turn it is.
     pub fn now(&self) -> Next {
         match self.inside {
             Some(place) => Next::Held(place),
@@ -259,7 +261,7 @@ impl Plain {
         }
     }
 
-    /// Does a step, or tells why it is refused.
+    /// Does a step. Returns whose turn it is then, or why the step is refused.
     pub fn step(&mut self, step: Step) -> Result<Next, StepRefused> {
         self.steps = self.steps.wrapping_add(1);
         self.do_step(step)?;

@@ -1,4 +1,4 @@
-//! A book with its sizes, by which its calls are made where they may be.
+//! A book with its sizes, with which each of its calls is made only if its contract allows it.
 ghost use Rattle.std.specs.Prelude.{◌≡◌, IfSome};
 ghost use Rattle.hoare_law.specs.declared.turn.Turn.TheVariants as turns;
 ghost use Rattle.hoare_law.specs.Sizes.{IsMesa};
@@ -19,7 +19,7 @@ pub struct SizedBook {
 }
 
 impl SizedBook {
-    /// A book of these numbers, where nothing happened yet.
+    /// Creates a book with these sizes, in which nothing has happened.
     pub fn make(
         alloc: Global,
         places: usize,
@@ -39,17 +39,17 @@ impl SizedBook {
         }
     }
 
-    /// Who goes on.
+    /// Returns whose turn it is.
     pub fn now(&self) -> Next {
         self.book.now()
     }
 
-    /// Whether a place is outside.
+    /// Returns true if `place` exists and is outside.
     pub fn outside(&self, place: usize) -> bool {
         place < self.sizes.places && self.book.outside(place)
     }
 
-    // The place inside and the Mesa condition, if these are their numbers.
+    // Returns the place and the condition if the place is inside and the condition is a Mesa condition.
     fn caller(&self, place: u64, condition: u64) -> Option<(usize, usize)>
         ensures { IfSome result (λ r. (self.now.book.turn ≡ turns.Held r.0)
             × IsMesa self.now.book.sizes.conditions self.now.book.sizes.mesa r.1) }
@@ -66,7 +66,8 @@ impl SizedBook {
         }
     }
 
-    /// What a step answers, and how many it called. A notify and a broadcast are done by calls of their own.
+    /// Does a step. Returns its answer, and how many places it notified. A notify and a broadcast are done by calls of
+    /// their own.
     pub fn step(&mut self, step: Step) -> (Result<Next, StepRefused>, usize) {
         let calls = match step {
             Step::Notify(place, condition) => self.notify(place, condition),
@@ -79,20 +80,20 @@ impl SizedBook {
         }
     }
 
-    // How many a notify calls, if its place may call.
+    // Notifies, if the place may. Returns how many places that notified.
     fn notify(&mut self, place: u64, condition: u64) -> Option<usize> {
         let (place, condition) = self.caller(place, condition)?;
         let is_called = self.book.notify(place, condition);
         Some(is_called as usize)
     }
 
-    // How many a broadcast calls, if its place may call.
+    // Broadcasts, if the place may. Returns how many places that notified.
     fn broadcast(&mut self, place: u64, condition: u64) -> Option<usize> {
         let (place, condition) = self.caller(place, condition)?;
         Some(self.book.broadcast(place, condition))
     }
 
-    /// Whether these wait on a condition, in the order in which signals would resume them.
+    /// Returns true if exactly these wait on a condition, in the order in which signals would resume them.
     pub fn has_waiting(&self, condition: usize, waits: &[Wait]) -> bool {
         if condition >= self.sizes.conditions || self.book.count(condition) != waits.len() {
             return false;
@@ -103,7 +104,7 @@ impl SizedBook {
             && self.has_priorities(condition, waits)
     }
 
-    // Whether the priorities on a condition begin with those of the waits.
+    // Returns true if the priorities on a condition begin with those of the waits.
     fn has_priorities(&self, condition: usize, waits: &[Wait]) -> bool {
         for at in 0..waits.len() {
             if at >= self.book.count(condition) {

@@ -1,4 +1,4 @@
-//! Steps of a book, and what each answers.
+//! Steps of a book, and the answer to each.
 use super::plain::Plain;
 use super::{answer_alike, made};
 use crate::tests::compared::expect_same;
@@ -35,7 +35,7 @@ fn make_takes_the_most(rt: HostRuntime) -> Result<(), Fail> {
     Ok(())
 }
 
-// A book with so many places is made, whatever numbers of conditions it has.
+// Fails if a book with this number of places can't be made, with any number of conditions.
 fn takes_places<R: Abort + AllocGlobal>(rt: &R, places: usize) {
     for conditions in 1..=8 {
         let hoare = made(rt, places, conditions, 0);
@@ -49,7 +49,7 @@ fn takes_places<R: Abort + AllocGlobal>(rt: &R, places: usize) {
     }
 }
 
-// Each number of places is taken with each number of conditions: an answer of `Memory` fails.
+// Each number of places is accepted with each number of conditions: an answer of `Memory` fails.
 #[test]
 fn make_takes_all_sizes(rt: HostRuntime) {
     for places in 1..=64 {
@@ -57,10 +57,10 @@ fn make_takes_all_sizes(rt: HostRuntime) {
     }
 }
 
-// What a step is answered.
+// The answer to a step.
 type Answer = Result<Next, StepRefused>;
 
-// The book answers these steps so.
+// Does the steps on the book, and fails if an answer differs.
 fn answers<R: Abort>(rt: &R, mut book: Book, steps: &[(Step, Answer)]) {
     for (step, wanted) in steps {
         let found = book.try_step(*step);
@@ -161,14 +161,13 @@ const KINDS: &[(Step, Answer)] = &[
     (Step::Wait(0, 1, 0), Ok(Next::Free)),
 ];
 
-// The kind of the condition is looked at last. Where nobody waits, each of the steps that suit it leaves its place
-// inside.
+// The kind of the condition is tested last. If no place waits, each step that suits the kind leaves its place inside.
 #[test]
 fn kinds_are_refused_last(rt: HostRuntime) {
     answers(&rt, made(&rt, 3, 2, 1), KINDS);
 }
 
-// Each call of its own, with what it asks for proved of the history so far.
+// Each call of its own, with its premise proved of the history so far.
 #[test]
 fn calls_hand_the_monitor_on(rt: HostRuntime) -> Result<(), Fail> {
     let mut book = Book::make(rt.alloc(), 3, 2, 0)?;
@@ -188,8 +187,8 @@ fn calls_hand_the_monitor_on(rt: HostRuntime) -> Result<(), Fail> {
     Ok(())
 }
 
-// A newcomer's step, or one of the place inside, which waits in `waits` of 8 cases. Place 0 never waits, so that there
-// is always somebody who can come in.
+// Returns a step of an entering place, or of the place inside, which waits in `waits` of 8 cases. Place 0 never waits,
+// so that a process can always enter.
 fn mixed_step(now: Next, waits: u64, number: u64) -> Step {
     let condition = (number >> 16) % 8;
     let priority = (number >> 24) % 4;
@@ -210,9 +209,9 @@ fn mixed_step(now: Next, waits: u64, number: u64) -> Step {
     }
 }
 
-// 10,000 steps of 64 places on 8 conditions, by turns with many and with few waits, each answered as the definitions'
-// filters answer it. No step asks for memory: `rt try --test --fail-alloc N` passes with this test from the same N on
-// as without.
+// 10,000 steps of 64 places on 8 conditions, in alternation with many and with few waits. Their answers agree with the
+// filters of the definitions. No step allocates: `rt try --test --fail-alloc N` passes with this test from the same N
+// on as without.
 #[test]
 fn long_mixed_run(rt: HostRuntime) {
     let mut book = made(&rt, 64, 8, 0);
@@ -226,7 +225,7 @@ fn long_mixed_run(rt: HostRuntime) {
     }
 }
 
-// The same with notifies and broadcasts on the last four conditions.
+// Replaces steps on the last four conditions: a signal by a notify, and some passes by a broadcast.
 fn mesa_step(step: Step, number: u64) -> Step {
     match step {
         Step::Signal(place, condition) if condition >= 4 => Step::Notify(place, condition),

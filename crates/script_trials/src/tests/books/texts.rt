@@ -1,4 +1,4 @@
-//! How refusals read.
+//! Tests of the texts of refusals.
 
 use crate::tests::shown::reads;
 use wait_book::steps::{MakeRefused, StepRefused};

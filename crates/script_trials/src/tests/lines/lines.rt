@@ -1,4 +1,4 @@
-//! Lines, their limits, and what is left behind them.
+//! Tests of lines, their limits, and what is left after them.
 use crate::tests::compared::expect_same;
 use arrayvec::ArrayVec;
 use line_text::line::{Ended, Line, LineFault, read_line};
@@ -8,7 +8,7 @@ use std::process::Abort;
 // How a line ended, the line, and what is left of the text.
 type Read<'a> = (Result<Ended, LineFault>, &'a [u8], &'a [u8]);
 
-// Reads one line of a text where there is room.
+// Reads one line of a text with this room, and fails if the outcome differs.
 fn check<R: Abort>(rt: &R, text: &[u8], room: usize, wanted: Read<'_>) {
     let mut rest = text;
     let mut line: Line = ArrayVec::new();
@@ -16,7 +16,7 @@ fn check<R: Abort>(rt: &R, text: &[u8], room: usize, wanted: Read<'_>) {
     expect_same(rt, (result, line.as_slice(), rest), wanted);
 }
 
-// A text, the room for its first line, and how that is read.
+// A text, the room for its first line, and the outcome.
 type Row = (&'static [u8], usize, Read<'static>);
 
 fn check_all<R: Abort>(rt: &R, rows: &[Row]) {

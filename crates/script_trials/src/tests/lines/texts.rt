@@ -1,4 +1,4 @@
-//! How the faults of lines read.
+//! Tests of the texts of line faults.
 
 use crate::tests::shown::reads;
 use line_text::line::LineFault;

@@ -1,4 +1,4 @@
-//! What a watched reader and a watched writer do to those inside, and what they remember.
+//! Tests of a watched reader and a watched writer: their calls of the reader or writer inside, and what they record.
 use crate::tests::compared::expect_same;
 use arrayvec::ArrayVec;
 use line_text::line::{Ended, Line, LineFault, read_line};
@@ -7,7 +7,7 @@ use line_text::writer::{WatchedWriter, WriteFailed};
 use std::io;
 use std::io::{Read, Write};
 
-// Gives its bytes and then ends, or fails, and counts its calls, those that failed, and the bytes.
+// A reader that gives its bytes and then ends or fails. It counts its calls, the failed ones, and the bytes.
 #[derive(Drop)]
 struct Counting<'a> {
     rest: &'a [u8],
@@ -42,7 +42,7 @@ impl Read for Counting<'_> {
     }
 }
 
-// Each call of the watched reader is one of the reader inside, and the mark is set where that one failed.
+// Each call of the watched reader makes one call of the reader inside, and the mark is set if that call failed.
 #[test]
 fn reads_are_made_and_counted(rt: HostRuntime) {
     for (fails, end, failures) in [(false, Ok(None), 0), (true, Err(ReadFailed), 1)] {
@@ -80,7 +80,8 @@ fn line_of_a_failing_reader(rt: HostRuntime) {
     expect_same(&rt, (reader.calls, reader.bytes), (5, 4));
 }
 
-// Takes two bytes a call while there is room, and then fails or takes nothing, and counts its calls.
+// A writer that takes at most two bytes a call while there is room, and then fails or takes nothing. It counts its
+// calls.
 #[derive(Drop)]
 struct Filling {
     taken: ArrayVec<u8, 8>,
@@ -104,7 +105,7 @@ impl Write for Filling {
     }
 }
 
-// Three writes leave room for three bytes; then one byte of four finds none, and the mark is set.
+// Three calls leave room for three bytes. Then the last of four bytes finds no room, and the mark is set.
 #[test]
 fn writes_are_whole_or_marked(rt: HostRuntime) {
     for fails in [false, true] {

@@ -1,8 +1,8 @@
-//! What a line's words and numbers are.
+//! Tests of the words and numbers of a line.
 use crate::tests::compared::expect_same;
 use line_text::words::{first_word, number};
 
-// Lines, the first word of each, and what comes behind it.
+// Lines, the first word of each, and the rest after it.
 const FIRST_WORDS: &[(&[u8], &[u8], Option<&[u8]>)] = &[
     (b"", b"", None),
     (b"enter", b"enter", None),
@@ -19,7 +19,7 @@ fn first_words(rt: HostRuntime) {
     }
 }
 
-// Words, and the number that each is, if it is one.
+// Words, and the number that each spells, if it spells one.
 const NUMBERS: &[(&[u8], Option<u64>)] = &[
     (b"0", Some(0)),
     (b"7", Some(7)),

@@ -1,6 +1,6 @@
-//! What happens at a monitor.
+//! The events of a monitor.
 
-/// A place waits on a condition with a priority.
+/// The wait of a place on a condition, with a priority.
 #[derive(Clone, Copy, PartialEq, Eq)]
 pub struct Wait {
     pub place: usize,
@@ -8,10 +8,11 @@ pub struct Wait {
     pub priority: u64,
 }
 
-/// What a place does. A signal and a pass name whom they resume, and a notify whom it calls.
+/// An act of a place, whose number is first. A signal and a pass name the place that they resume, and a notify the
+/// place that it notifies.
 #[derive(Clone, Copy)]
 pub enum Event {
-    /// The place comes in.
+    /// The place enters.
     Admit(usize),
     /// The place waits on a condition.
     Wait(Wait),
@@ -19,20 +20,20 @@ pub enum Event {
     Signal(usize, usize, usize),
     /// The place signals a condition and is outside.
     Pass(usize, usize, usize),
-    /// The place goes out.
+    /// The place leaves.
     Leave(usize),
-    /// The place, which waited on a condition, goes on.
+    /// The place, which waited on a condition, resumes.
     Resume(usize, usize),
-    /// The place, which signalled, goes on.
+    /// The place, which signalled, returns.
     Back(usize),
-    /// The place calls one that waits on a condition.
+    /// The place notifies a waiter on a condition.
     Notify(usize, usize, usize),
-    /// The place calls all that wait on a condition.
+    /// The place notifies all waiters on a condition.
     Broadcast(usize, usize),
 }
 
 impl Event {
-    /// Whose it is.
+    /// Returns the place that acts.
     pub fn place(self) -> usize {
         match self {
             Event::Admit(place) | Event::Leave(place) | Event::Back(place) => place,
@@ -44,7 +45,7 @@ impl Event {
         }
     }
 
-    /// The wait on a condition, if it is one.
+    /// Returns the wait if the event is a wait on `condition`.
     pub fn wait_on(self, condition: usize) -> Option<Wait> {
         match self {
             Event::Wait(wait) if wait.condition == condition => Some(wait),
@@ -52,8 +53,8 @@ impl Event {
         }
     }
 
-    /// Whether it concerns a place that waits on a condition: the place acts, is resumed or called, or all that wait
-    /// there are called.
+    /// Returns true if the event concerns a place that waits on a condition: the place acts, is resumed or notified, or
+    /// all waiters there are notified.
     pub fn concerns(self, condition: usize, place: usize) -> bool {
         let is_named = match self {
             Event::Signal(_, _, named) | Event::Pass(_, _, named) | Event::Notify(_, _, named) => {

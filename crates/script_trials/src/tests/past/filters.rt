@@ -1,9 +1,9 @@
-//! What the definitions of `hoare_law` read off the list of all that happened, each as a filter over that list.
+//! The definitions of `hoare_law`, each as a filter over the list of all events.
 use super::event::{Event, Wait};
 use hoare_law::turn::Turn;
 use std::alloc::{AllocError, Global};
 
-// The place does nothing later.
+// Returns true if the place has no event in `later`.
 fn is_idle(place: usize, later: &[Event]) -> bool {
     for event in later {
         if event.place() == place {
@@ -13,7 +13,7 @@ fn is_idle(place: usize, later: &[Event]) -> bool {
     true
 }
 
-// Nothing that comes later concerns the place, which waits on a condition.
+// Returns true if no event in `later` concerns the place of this wait.
 fn is_untouched(wait: Wait, later: &[Event]) -> bool {
     for event in later {
         if event.concerns(wait.condition, wait.place) {
@@ -23,7 +23,7 @@ fn is_untouched(wait: Wait, later: &[Event]) -> bool {
     true
 }
 
-/// Who waits on a condition, by their waits.
+/// Returns the waits of the waiters on a condition, the longest first.
 pub fn waiting(alloc: Global, condition: usize, events: &[Event]) -> Result<Vec<Wait>, AllocError> {
     let mut found = Vec::new(alloc);
     for at in 0..events.len() {
@@ -35,7 +35,7 @@ pub fn waiting(alloc: Global, condition: usize, events: &[Event]) -> Result<Vec<
     Ok(found)
 }
 
-// No priority of these waits undercuts that of one.
+// Returns true if none of these waits has a lesser priority than `one`.
 fn is_least(waits: &[Wait], one: Wait) -> bool {
     for other in waits {
         if other.priority < one.priority {
@@ -45,7 +45,7 @@ fn is_least(waits: &[Wait], one: Wait) -> bool {
     true
 }
 
-/// The first of these waits whose priority no other undercuts.
+/// Returns the first of these waits whose priority no other undercuts, or `None` if there are none.
 pub fn chosen(waits: &[Wait]) -> Option<Wait> {
     for one in waits {
         if is_least(waits, *one) {
@@ -55,7 +55,7 @@ pub fn chosen(waits: &[Wait]) -> Option<Wait> {
     None
 }
 
-// How many of these waits, from the first on, have this priority or less.
+// Returns how many of these waits, from the first on, have this priority or less.
 fn behind(waits: &[Wait], priority: u64) -> usize {
     for at in 0..waits.len() {
         if waits[at].priority > priority {
@@ -65,7 +65,7 @@ fn behind(waits: &[Wait], priority: u64) -> usize {
     waits.len()
 }
 
-/// These waits by rising priority, equal ones as they stood.
+/// Returns these waits by rising priority; equal ones keep their order.
 pub fn in_order(alloc: Global, waits: &[Wait]) -> Result<Vec<Wait>, AllocError> {
     let mut placed = Vec::new(alloc);
     for wait in waits {
@@ -75,7 +75,7 @@ pub fn in_order(alloc: Global, waits: &[Wait]) -> Result<Vec<Wait>, AllocError> 
     Ok(placed)
 }
 
-// The waits of those that an event calls.
+// Returns the waits of the places that an event notifies.
 fn called_by(alloc: Global, before: &[Event], event: Event) -> Result<Vec<Wait>, AllocError> {
     match event {
         Event::Notify(_, condition, called) => {
@@ -91,7 +91,7 @@ fn called_by(alloc: Global, before: &[Event], event: Event) -> Result<Vec<Wait>,
     }
 }
 
-// Adds the waits whose places do nothing later.
+// Adds the waits whose places have no event in `later`.
 fn add_idle(found: &mut Vec<Wait>, waits: &[Wait], later: &[Event]) -> Result<(), AllocError> {
     for wait in waits {
         if is_idle(wait.place, later) {
@@ -101,7 +101,7 @@ fn add_idle(found: &mut Vec<Wait>, waits: &[Wait], later: &[Event]) -> Result<()
     Ok(())
 }
 
-/// Who was called and hasn't gone on, by their waits, in the order of the calls.
+/// Returns the waits of the places that were notified and have not resumed, in the order of the notifications.
 pub fn called(alloc: Global, events: &[Event]) -> Result<Vec<Wait>, AllocError> {
     let mut found = Vec::new(alloc);
     for at in 0..events.len() {
@@ -111,7 +111,7 @@ pub fn called(alloc: Global, events: &[Event]) -> Result<Vec<Wait>, AllocError> 
     Ok(found)
 }
 
-/// The places whose last event is a signal, in the order of those.
+/// Returns the places whose last event is a signal, in the order of those events.
 pub fn urgent(alloc: Global, events: &[Event]) -> Result<Vec<usize>, AllocError> {
     let mut found = Vec::new(alloc);
     for at in 0..events.len() {
@@ -123,7 +123,7 @@ pub fn urgent(alloc: Global, events: &[Event]) -> Result<Vec<usize>, AllocError>
     Ok(found)
 }
 
-// The turn where the monitor is given up.
+// Returns the turn after a release of the monitor.
 fn turn_given_up(alloc: Global, events: &[Event]) -> Result<Turn, AllocError> {
     if let Some(signaller) = urgent(alloc, events)?.first() {
         return Ok(Turn::Return(*signaller));
@@ -134,7 +134,7 @@ fn turn_given_up(alloc: Global, events: &[Event]) -> Result<Turn, AllocError> {
     }
 }
 
-/// Whose turn it is, by the last event.
+/// Returns whose turn it is, by the last event.
 pub fn turn(alloc: Global, events: &[Event]) -> Result<Turn, AllocError> {
     let Some(last) = events.last() else {
         return Ok(Turn::Free);
@@ -149,7 +149,7 @@ pub fn turn(alloc: Global, events: &[Event]) -> Result<Turn, AllocError> {
     }
 }
 
-/// A place did nothing yet, or last left or passed.
+/// Returns true if a place has no event, or its last is a leave or a pass.
 pub fn outside(place: usize, events: &[Event]) -> bool {
     let mut is_outside = true;
     for event in events {

@@ -1,4 +1,4 @@
-//! Charts that were drawn by hand.
+//! Tests against charts that were drawn by hand.
 use super::{BROADCAST, HAND_OVER, drawn_whole, is_drawn, sixty_four_waits};
 use crate::tests::compared::expect_same;
 use script_picture::picture::Form;
@@ -74,8 +74,8 @@ enter 1        .       c1:5    .       .
     is_drawn(&rt, script, Ok(()), lines);
 }
 
-// Of three that are called at once the two of least priority go on first, and of these the one that waits longer.
-// Whenever one goes on, the others move up.
+// Of three places that are notified at once the two of least priority resume first, the longer waiting of these before
+// the other. Whenever one resumes, the others move up.
 #[test]
 fn broadcast_as_text(rt: HostRuntime) {
     let lines = b"monitor 5 1 1    0           1           2           3       4
@@ -101,9 +101,9 @@ leave 4          .           .           .           .       .       -> free
     is_drawn(&rt, BROADCAST, Ok(()), lines);
 }
 
-// The called go on in the order of the calls: first 1, which a notify called; then 2, 3 and 0, which a broadcast
-// called, by rising priority (3, 3, 5), and 2 waited longer than 3; then 4, which a notify called last, though its
-// priority is the least.
+// The notified places resume in the order of the notifications: first 1, which a notify notified; then 2, 3 and 0,
+// which a broadcast notified, by rising priority (3, 3, 5), and 2 waited longer than 3. Last comes 4, which a notify
+// notified last, though its priority is the least.
 #[test]
 fn calls_in_order_as_text(rt: HostRuntime) {
     let script =
@@ -137,7 +137,7 @@ leave 4          .           .           .           .           .
     is_drawn(&rt, script, Ok(()), lines);
 }
 
-// A notify is an arrow that hands nothing over, and a signaller goes on before the one that is called.
+// A notify is drawn as an arrow without a hand-off, and a signaller returns before a notified place resumes.
 #[test]
 fn notify_as_text(rt: HostRuntime) {
     let script =
@@ -160,8 +160,8 @@ leave 1          .       .           .       -> free
     is_drawn(&rt, script, Ok(()), lines);
 }
 
-// Of two that wait with one priority a notify calls the one that waits longer, on whichever side it is, and of three on
-// another condition nobody.
+// Of two waiters with equal priority a notify notifies the longer waiting, on either side of the notifier. A third
+// notify, when only a place on the other condition waits, notifies none.
 #[test]
 fn notified_in_order_as_text(rt: HostRuntime) {
     let script =
@@ -182,8 +182,7 @@ notify 2 0       called 2    c1:0    [in]    called 1
     is_drawn(&rt, script, Ok(()), lines);
 }
 
-// Lanes that have no room side by side: two of them are 29 + 4 + 23 + 4 + 23 long with the step, and 3 more for an
-// arrow.
+// Lanes without room side by side: two of them are 29 + 4 + 23 + 4 + 23 long with the step, and 3 more for an arrow.
 #[test]
 fn folded_lanes_as_text(rt: HostRuntime) {
     let script =
@@ -212,7 +211,7 @@ leave 2                          c0:18446744073709551615    .       -> free
     is_drawn(&rt, script, Ok(()), lines);
 }
 
-// Scripts with a long last step, and how the chart of each ends.
+// Scripts with a long last step, and the end of the chart of each.
 const LONG_STEPS: &[(&[u8], &[u8])] = &[
     (
         b"monitor 2 1\nenter 0\nwait 0 0 18446744073709551615\nenter 1\nwait 1 0 100000\n",
@@ -232,9 +231,9 @@ const LONG_STEPS: &[(&[u8], &[u8])] = &[
     ),
 ];
 
-// A lane stands beside another where the line has 80 letters at most with an arrow behind it, and so does a remark. The
-// step has 29 letters, the first lane 4 + 23 and the second 4 + 3 and the digits of its priority: with 14 digits and 3
-// for an arrow that is 80. With 6 digits it is 69, and `-> free` is 4 + 7 more.
+// A lane is put beside another if the line has at most 80 letters with an arrow after it, and so is a remark. The step
+// has 29 letters, the first lane 4 + 23, and the second 4 + 3 and the digits of its priority. With 14 digits and 3 for
+// an arrow that is 80. With 6 digits it is 69, and `-> free` is 4 + 7 more.
 #[test]
 fn lines_of_eighty_as_text(rt: HostRuntime) {
     for (script, end) in LONG_STEPS {
@@ -244,7 +243,7 @@ fn lines_of_eighty_as_text(rt: HostRuntime) {
     }
 }
 
-// The length of the longest line.
+// Returns the length of the longest line.
 fn longest_line(text: &[u8]) -> usize {
     let mut length: usize = 0;
     let mut longest = 0;
@@ -258,7 +257,7 @@ fn longest_line(text: &[u8]) -> usize {
     longest
 }
 
-// No line is over 80 long, where all 64 places wait with priorities of one digit, or of twenty.
+// No line is over 80 letters long, with all 64 places waiting with priorities of one digit, or of twenty.
 #[test]
 fn lines_fit_a_terminal(rt: HostRuntime) {
     for greatest in [false, true] {

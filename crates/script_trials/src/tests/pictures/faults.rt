@@ -1,4 +1,4 @@
-//! Scripts that are at fault, or can't be read or drawn.
+//! Tests of scripts that have a fault, or can't be read or drawn.
 use super::{drawn, drawn_whole, is_drawn, times};
 use crate::tests::compared::expect_same;
 use crate::tests::repeated::repeated;
@@ -9,8 +9,8 @@ use script_picture::fault::PictureFault;
 use script_picture::picture::{Form, draw_script};
 use std::process::Abort;
 
-// 64 + 28 * 1,164 + 104 = 32,760, and one row more is over 32,767. What has no room isn't begun, and a chart has no
-// such limit.
+// The height is 64 + 28 * 1,164 + 104 = 32,760, and with one more row it is over 32,767. A picture that is too tall
+// isn't begun; a chart has no such limit.
 #[test]
 fn too_tall_for_an_svg(rt: HostRuntime) {
     let tallest = repeated(&rt, b"monitor 1 1\n", b"leave 0\n", 1_164);
@@ -25,7 +25,7 @@ fn too_tall_for_an_svg(rt: HostRuntime) {
     isnt_begun(&rt, bad.as_slice(), fault);
 }
 
-// An SVG of the script isn't begun, for this reason.
+// Fails unless an SVG of the script isn't begun, for this reason.
 fn isnt_begun<R: Abort + AllocGlobal>(rt: &R, script: &[u8], fault: PictureFault) {
     let (result, text) = drawn(rt.alloc(), script, Form::Svg);
     expect_same(rt, (result, text.as_slice()), (Err(fault), b"".as_slice()));
@@ -58,22 +58,22 @@ fn faults_after_what_was_read(rt: HostRuntime) {
     is_drawn(&rt, script, at_fault(ScriptFault::BadLine(3)), row);
 }
 
-// How a script ends that has this fault.
+// Returns how the drawing of a script with this fault ends.
 fn at_fault(fault: ScriptFault) -> Result<(), PictureFault> {
     Err(PictureFault::Script(fault))
 }
 
-// The chart of a script ends with this fault.
+// Draws a script as a chart, and fails unless it ends with this fault.
 fn ends_with<R: Abort + AllocGlobal>(rt: &R, script: &[u8], fault: ScriptFault) {
     let (result, _) = drawn(rt.alloc(), script, Form::Text);
     expect_same(rt, result, at_fault(fault));
 }
 
-// A step of 68 bytes with its end, that is refused: no place has this number.
+// A step of 68 bytes, its line end included, that is refused: no place has this number.
 const LONG_STEP: &[u8] = b"wait 18446744073709551615 18446744073709551615 18446744073709551615\n";
 
-// Behind a header of 12 bytes 15,420 such steps are 1,048,572 bytes, and one more is over 1,048,576. Each takes two
-// lines of the chart: 67 letters leave no room for 4 and `-> refused 1 (there is no such place)`.
+// After a header of 12 bytes 15,420 such steps are 1,048,572 bytes, and one more is over 1,048,576. Each takes two
+// lines of the chart: after 67 letters there is no room for 4 more and `-> refused 1 (there is no such place)`.
 #[test]
 fn long_line_and_large_script(rt: HostRuntime) {
     let longest = repeated(&rt, b"monitor 1 1\n", b"e", 256);
@@ -110,13 +110,13 @@ fn write_fault_of_a_whole_script(rt: HostRuntime) {
     }
 }
 
-// How a script ends of which nothing can be written.
+// Returns how a script ends if nothing can be written.
 fn full_end<R: AllocGlobal>(rt: &R, script: &[u8], form: Form) -> Result<(), PictureFault> {
     let mut reader = script;
     draw_script(rt.alloc(), &mut reader, &mut Filling::new(0, false), form)
 }
 
-// Faults, how each is shown, and its exit status.
+// Faults, the text of each, and its exit status.
 const FAULTS: &[(PictureFault, &str, u8)] = &[
     (
         PictureFault::Script(ScriptFault::BadLine(3)),

@@ -1,4 +1,4 @@
-//! Pictures of each number of places, and of 64 lanes with 254 rows. What is drawn there is worked out from the
+//! Tests of pictures with each number of places, and of 64 lanes with 254 rows. Their contents are computed from the
 //! measures in the README of `script_picture`, with the shapes of the picture that was worked out by hand.
 mod chart;
 mod svg;
@@ -15,8 +15,8 @@ use std::process::Abort;
 // The place that signals all others.
 const SIGNALLER: u64 = 31;
 
-// The row in which a place enters, which waits then: the places before it take two rows each. 127 rows later it is
-// resumed, and leaves in the row after that.
+// Returns the row in which a place enters that then waits: each place before it takes two rows. It is resumed 127 rows
+// later, and leaves in the row after that.
 fn entry(place: u64) -> u64 {
     let before = if place < SIGNALLER {
         place
@@ -26,7 +26,7 @@ fn entry(place: u64) -> u64 {
     before.saturating_mul(2)
 }
 
-// All places but the signaller enter and wait, in rows 0 to 125.
+// Adds rows 0 to 125: all places but the signaller enter and wait.
 fn add_waits(script: &mut String) -> Result<(), AllocError> {
     for place in 0..64u64 {
         if place != SIGNALLER {
@@ -37,7 +37,7 @@ fn add_waits(script: &mut String) -> Result<(), AllocError> {
     Ok(())
 }
 
-// The signaller, which entered in row 126, resumes each of them, which leaves at once, in rows 127 to 252.
+// Adds rows 127 to 252: the signaller, which entered in row 126, resumes each waiter, and that leaves at once.
 fn add_signals(script: &mut String) -> Result<(), AllocError> {
     for place in 0..64u64 {
         if place != SIGNALLER {
@@ -48,7 +48,7 @@ fn add_signals(script: &mut String) -> Result<(), AllocError> {
     Ok(())
 }
 
-// The whole script. Priorities are equal, so that the waiters resume by rising places.
+// Adds the whole script. Priorities are equal, so that the waiters resume by rising places.
 fn add_script(script: &mut String) -> Result<(), AllocError> {
     script.push_str("monitor 64 1\n")?;
     add_waits(script)?;
@@ -57,14 +57,15 @@ fn add_script(script: &mut String) -> Result<(), AllocError> {
     add_filled(script, "leave #\n", &[Number(SIGNALLER)])
 }
 
-// The script, as a text.
+// Returns the script.
 fn script<R: Abort + AllocGlobal>(rt: &R) -> String {
     let mut script = String::new(rt.alloc());
     add_script(&mut script).expect(rt, "memory for a script");
     script
 }
 
-// A script of a header alone is drawn as this line, as all places are idle; and as an SVG.
+// Draws a script of a header alone, in which all places are idle. Fails if its chart isn't one such line, or if the SVG
+// has a fault.
 fn is_drawn_idle<R: Abort + AllocGlobal>(rt: &R, places: u64, conditions: u64) {
     let script = format!(in rt.alloc(); "monitor {places} {conditions}").expect(
         rt,
@@ -79,7 +80,7 @@ fn is_drawn_idle<R: Abort + AllocGlobal>(rt: &R, places: u64, conditions: u64) {
     let _ = drawn_whole(rt, script.as_bytes(), Form::Svg);
 }
 
-// Each number of places is drawn: an answer of `Memory` fails.
+// Each number of places can be drawn: an answer of `Memory` fails.
 #[test]
 fn each_number_of_places(rt: HostRuntime) {
     for places in 1..=64u64 {

@@ -1,12 +1,12 @@
-//! SVGs that were worked out by hand.
+//! Tests against SVGs that were worked out by hand.
 use super::{BROADCAST, HAND_OVER, drawn_whole, sixty_four_waits, times};
 use crate::tests::compared::expect_same;
 use script_picture::picture::Form;
 use std::process::Abort;
 
 // The whole picture of `HAND_OVER`, worked out by hand from the measures in the README. The longest step has 11 letters
-// of 8 after a margin of 20, and a box of 7 letters is 68 wide: so the lanes stand at 20 + 88 + 24 + 34 = 166 and 68 +
-// 44 = 112 further, at 278, and remarks begin at 278 + 34 + 16 = 328. Rows are 28 high from 64 on, so that the last one
+// of 8 after a margin of 20, and a box of 7 letters is 68 wide. So the lanes are at 20 + 88 + 24 + 34 = 166 and 68 + 44
+// = 112 further, at 278, and remarks begin at 278 + 34 + 16 = 328. Rows are 28 high from 64 on, so that the last one
 // ends at 232 and the page at 336. A box has 3 free above and below; an arrow runs along a row's middle, and its head
 // is 8 long.
 const HAND_OVER_DRAWN: &[u8] =
@@ -75,7 +75,7 @@ text{font-family:ui-monospace,Menlo,Consolas,'DejaVu Sans Mono',monospace;font-s
 </svg>
 ";
 
-// Each of these stands in a picture once.
+// Fails unless each of these parts occurs exactly once in a picture.
 fn stand_once<R: Abort>(rt: &R, picture: &[u8], parts: &[&str]) {
     for part in parts {
         expect_same(rt, (*part, times(picture, part.as_bytes())), (*part, 1));
@@ -88,14 +88,14 @@ fn hand_over_as_svg(rt: HostRuntime) {
     expect_same(&rt, text.as_slice(), HAND_OVER_DRAWN);
 }
 
-// What stands once in the picture of two lanes and twelve idle places.
+// Parts that occur once in the picture of two lanes and twelve idle places.
 const IDLE_LANES: &[&str] = &[
-    // the picture, and what it is called
+    // the picture, and its name
     "<svg xmlns=\"http://www.w3.org/2000/svg\" width=\"932\" height=\"392\" viewBox=\"0 0 932 392\" role=\"img\"",
     ">A monitor with 14 places and 1 condition, in a script of 8 steps</title>",
     ">A chart of 8 rows, one for each step, and 2 lanes, one for each place that comes in, with 3 hand-overs and \
         1 refusal.</desc>",
-    // the lanes that are left out, and the two that are shown
+    // the lanes that are left out, and the two that are drawn
     "<text class=\"note\" x=\"616\" y=\"42\">(12 idle)</text>",
     "<text class=\"head\" x=\"318\" y=\"42\">place 1</text><path class=\"lane\" d=\"M318 64V288\"/>",
     "<text class=\"head\" x=\"498\" y=\"42\">place 13</text><path class=\"lane\" d=\"M498 64V288\"/>",
@@ -112,7 +112,7 @@ const IDLE_LANES: &[&str] = &[
     "<rect class=\"waits\" x=\"396\" y=\"179\" width=\"204\" height=\"50\" rx=\"4\"/>",
     "<text class=\"dark\" x=\"498\" y=\"194\">c0 p18446744073709551615</text>",
     "<rect class=\"inside\" x=\"396\" y=\"235\" width=\"204\" height=\"22\" rx=\"4\"/>",
-    // the signal from 1 to 13, the return from 13 to 1, and the pass from where 1 went out
+    // the signal from 1 to 13, the return from 13 to 1, and the pass of 1, from the point at which it left
     "<path class=\"edge\" d=\"M356 162H388\"/><path class=\"arrow\" d=\"M352 162H388\"/>\
         <path d=\"M396 162l-9-5v10z\"/>",
     "<path class=\"edge\" d=\"M392 190H360\"/><path class=\"arrow back\" d=\"M396 190H360\"/>\
@@ -120,16 +120,16 @@ const IDLE_LANES: &[&str] = &[
     "<circle cx=\"318\" cy=\"246\" r=\"4\"/>",
     "<path class=\"edge\" d=\"M322 246H388\"/><path class=\"arrow\" d=\"M318 246H388\"/>\
         <path d=\"M396 246l-9-5v10z\"/>",
-    // the step that is refused
+    // the refused step
     "<text class=\"refused\" x=\"20\" y=\"222\">enter 4</text>",
     "<text class=\"refused\" x=\"616\" y=\"222\">-> refused 2 (the monitor isn't free)</text>",
 ];
 
-// Each lane as wide as its own texts. The longest step has 30 letters, so that lane 1 begins at 20 + 240 + 24 = 284;
-// its longest text is its name, of 7 letters of 8 with 6 at each side: it is 68 wide, and its middle is 318. Lane 13
-// begins 44 behind it, at 396, and its longest text has 24 letters: it is 204 wide, and its middle is 498. Remarks
-// begin 16 behind it, at 616, and the longest has 37 letters: the width is 616 + 296 + 20 = 932. Eight rows end at 288,
-// and the page at 392. The other twelve places are idle.
+// Each lane is as wide as its own texts. The longest step has 30 letters, so that lane 1 begins at 20 + 240 + 24 = 284.
+// Its longest text is its name, of 7 letters of 8 with 6 at each side: it is 68 wide, and its middle is 318. Lane 13
+// begins 44 after it, at 396, and its longest text has 24 letters: it is 204 wide, and its middle is 498. Remarks begin
+// 16 after it, at 616. The longest has 37 letters: the width is 616 + 296 + 20 = 932. Eight rows end at 288, and the
+// page at 392. The other twelve places are idle.
 #[test]
 fn wide_and_idle_lanes_as_svg(rt: HostRuntime) {
     let script =
@@ -140,7 +140,7 @@ fn wide_and_idle_lanes_as_svg(rt: HostRuntime) {
     expect_same(&rt, times(text.as_slice(), b"class=\"head\""), 2);
 }
 
-// What stands once in the picture of `BROADCAST`.
+// Parts that occur once in the picture of `BROADCAST`.
 const CALLS: &[&str] = &[
     "<svg xmlns=\"http://www.w3.org/2000/svg\" width=\"1044\" height=\"616\" viewBox=\"0 0 1044 616\" role=\"img\"",
     ">A monitor with 5 places and 1 condition (1 Mesa), in a script of 16 steps</title>",
@@ -170,14 +170,17 @@ const CALLS: &[&str] = &[
     "<text class=\"note\" x=\"482\" y=\"597\">is called; 1 goes on first</text>",
 ];
 
-// The longest step has 13 letters, and `called 3` 8, so that a box of the first three lanes is 9 * 8 + 12 = 84 wide and
-// one of the others 68: the lanes stand at 20 + 104 + 24 + 42 = 190, 128 further at 318 and at 446, at 446 + 42 + 44 +
-// 34 = 566 and at 678, and remarks begin at 678 + 34 + 16 = 728; the longest has 37 letters. The broadcast is the
-// eighth row, from 260 on: its arrows run at 274, from the side of place 3's box, at 566 - 34 = 532. Of the three that
-// wait, 1 and 2 have priority 1, and 1 waits longer; 0 has priority 2. So 1 is called first, 2 second and 0 third. Two
-// rows later 1 goes on and the others move up, and so do 2 and 0 again two rows and a row later. Sixteen rows end at
-// 512. The last hand-over runs at 414 to the side of place 0's box, behind the boxes: the first of these comes after
-// its head.
+// The longest step has 13 letters, and `called 3` has 8, so that a box of the first three lanes is 9 * 8 + 12 = 84
+// wide, and a box of the others 68. The lanes are at 20 + 104 + 24 + 42 = 190, 128 further at 318 and at 446, at 446 +
+// 42 + 44 + 34 = 566, and at 678. Remarks begin at 678 + 34 + 16 = 728; the longest has 37 letters.
+//
+// The broadcast is the eighth row, from 260 on: its arrows run at 274, from the side of the box of place 3, at 566 - 34
+// = 532. Of the three waiters, 1 and 2 have priority 1, and 1 waits longer; 0 has priority 2. So 1 is notified first, 2
+// second and 0 third. Two rows later 1 resumes and the others move up. The same happens again with 2 two rows later,
+// and with 0 a row after that.
+//
+// Sixteen rows end at 512. The last hand-off runs at 414 to the side of the box of place 0, beneath the boxes: the
+// first of these is drawn after its head.
 #[test]
 fn broadcast_as_svg(rt: HostRuntime) {
     let text = drawn_whole(&rt, BROADCAST, Form::Svg);
@@ -186,10 +189,11 @@ fn broadcast_as_svg(rt: HostRuntime) {
     expect_same(&rt, times(text.as_slice(), b"class=\"called\""), 7);
 }
 
-// One wide lane leaves the others as they are: 20 + 29 * 8 + 24 = 276, then a lane of 204, 9 of 68 and 54 of 76 (their
-// names have two digits) with 63 gaps of 44, which is 7,692, then 16, a remark of 7 letters and 20. With 64 wide lanes,
-// the widest picture that there is but for longer steps and remarks: 20 + 30 * 8 + 24, then 64 * 204 + 63 * 44 =
-// 15,828, then 16 + 56 + 20.
+// One wide lane leaves the others as they are. Steps take 20 + 29 * 8 + 24 = 276. Then come a lane of 204, 9 of 68 and
+// 54 of 76 (their names have two digits) with 63 gaps of 44, which is 7,692; then 16, a remark of 7 letters and 20.
+//
+// With 64 wide lanes it is the widest picture, but for longer steps and remarks: 20 + 30 * 8 + 24, then 64 * 204 + 63 *
+// 44 = 15,828, then 16 + 56 + 20.
 #[test]
 fn widths_of_sixty_four_lanes(rt: HostRuntime) {
     for (greatest, want) in [(false, " width=\"8060\" "), (true, " width=\"16204\" ")] {

@@ -1,5 +1,5 @@
-//! Scripts that a generator draws, against a second interpreter. It keeps the list of all that happened, filters it for
-//! each answer (`past`), and shares nothing with the book.
+//! Tests of drawn scripts against a second interpreter, which stores the list of all events, filters it for each answer
+//! (`past`), and shares no code with the book.
 use super::told;
 use crate::tests::compared::expect_same;
 use crate::tests::numbers::next_number;
@@ -10,6 +10,7 @@ use std::panic::Expect;
 use std::process::Abort;
 use wait_book::steps::{Next, Step, StepRefused};
 
+// Number of lines of each script after its header.
 const LINES: usize = 50;
 
 #[derive(Clone, Copy)]
@@ -19,7 +20,7 @@ enum Line {
     First(u64),
 }
 
-// A word, and up to three numbers behind it.
+// A word, and up to three numbers after it.
 #[derive(Clone, Copy)]
 struct Words {
     word: &'static str,
@@ -44,7 +45,7 @@ fn words_of(line: Line) -> Words {
     Words { word, numbers }
 }
 
-// Adds a word and the numbers behind it.
+// Adds a word and the numbers after it.
 fn add_words(to: &mut String, words: &Words) -> Result<(), AllocError> {
     to.push_str(words.word)?;
     for number in words.numbers {
@@ -73,7 +74,7 @@ fn refusal(past: &Past, line: Line) -> Result<Option<StepRefused>, AllocError> {
     }
 }
 
-// Does a step that isn't refused, and writes who is then inside.
+// Does a step that isn't refused, and writes which place is then inside, if any.
 fn answer_step(past: &mut Past, to: &mut String, step: Step) -> Result<(), AllocError> {
     past.act(step)?;
     match past.now()? {
@@ -96,7 +97,7 @@ fn answer_queue(past: &Past, to: &mut String, condition: u64) -> Result<(), Allo
     }
 }
 
-// Does what a line asks, and writes the answer to it.
+// Does a line, and writes the line and its answer.
 fn answer(past: &mut Past, to: &mut String, line: Line) -> Result<(), AllocError> {
     add_words(to, &words_of(line))?;
     if let Some(refused) = refusal(past, line)? {
@@ -109,7 +110,7 @@ fn answer(past: &mut Past, to: &mut String, line: Line) -> Result<(), AllocError
     }
 }
 
-// A place that is outside, if there is one.
+// Returns a place that is outside, chosen by `lot`, or `None` if too few are outside for that choice.
 fn newcomer(past: &Past, lot: u64) -> Option<u64> {
     let mut left = lot / 8 % 3;
     for place in 0..past.places {
@@ -123,12 +124,13 @@ fn newcomer(past: &Past, lot: u64) -> Option<u64> {
     None
 }
 
-// Whether the condition suits a notify and a broadcast: unless the line is to be strange, a Mesa condition.
+// Returns true if notifies and broadcasts are drawn for the condition: it is a Mesa condition, unless the line is to be
+// strange.
 fn is_called(past: &Past, condition: u64, is_strange: bool) -> bool {
     !is_strange && past.is_mesa(condition)
 }
 
-// The next line: mostly one that isn't refused, and that leaves somebody outside.
+// Returns the next line: mostly it isn't refused, and leaves a place outside.
 fn drawn(past: &Past, lot: u64) -> Result<Line, AllocError> {
     let is_strange = lot / 4096 % 16 == 0;
     let any = lot / 8 % past.places.saturating_add(1);
@@ -161,7 +163,7 @@ fn drawn(past: &Past, lot: u64) -> Result<Line, AllocError> {
     })
 }
 
-// How often somebody was resumed, or went on after a call.
+// Returns the number of resumptions from a wait, by a signal or a notification.
 fn resumptions(past: &Past) -> usize {
     let mut count: usize = 0;
     for event in past.events.as_slice() {
@@ -170,7 +172,7 @@ fn resumptions(past: &Past) -> usize {
     count
 }
 
-// The monitor of the script with this number, with so many Mesa conditions.
+// Returns the monitor of the script with this number, with `mesa` Mesa conditions.
 fn past_of(alloc: Global, number: u64, mesa: u64) -> Past {
     let places = if number % 100 == 0 {
         64
@@ -193,7 +195,7 @@ fn spell_header(to: &mut String, past: &Past) -> Result<(), AllocError> {
     add_words(to, &words)
 }
 
-// Draws the lines of a script, with an answer to each.
+// Draws the lines of a script, each with its answer.
 fn draw(
     past: &mut Past,
     number: u64,
@@ -213,7 +215,7 @@ fn draw(
     Ok(())
 }
 
-// One script, answered twice: how many resumptions it had.
+// Answers one script in both ways, and fails if they differ. Returns its number of resumptions.
 fn is_answered_twice<R: Abort + AllocGlobal>(rt: &R, number: u64, mesa: u64) -> usize {
     let mut past = past_of(rt.alloc(), number, mesa);
     let mut script = String::new(rt.alloc());
@@ -235,7 +237,7 @@ fn two_hundred_thousand_lines(rt: HostRuntime) {
     assert!(rt; resumptions >= 14_000);
 }
 
-// With one Mesa condition or more.
+// Scripts with one Mesa condition or more.
 #[test]
 fn two_hundred_thousand_mesa_lines(rt: HostRuntime) {
     let mut resumptions = 0usize;

@@ -1,4 +1,4 @@
-//! A script that is cut off, a reader that fails and writers that fail, at each byte.
+//! Tests of a script that is cut off, a reader that fails and writers that fail, at each byte.
 use super::told;
 use crate::tests::compared::expect_same;
 use crate::tests::streams::{Breaking, Filling};
@@ -11,7 +11,7 @@ const SCRIPT: &[u8] = b"monitor 2 1\nenter 0\nwait 0 0 0\nenter 1\nsignal 1 0\nl
 const ANSWERS: &[u8] =
     b"enter 0 -> 0\nwait 0 0 0 -> free\nenter 1 -> 1\nsignal 1 0 -> 0\nleave 0 -> 1\nleave 1 -> free\n";
 
-// The answers to the first `lines` lines after the header.
+// Returns the answers to the first `lines` lines after the header.
 fn answers_to(lines: usize) -> &'static [u8] {
     let end = match lines {
         0 => 0,
@@ -25,7 +25,7 @@ fn answers_to(lines: usize) -> &'static [u8] {
     ANSWERS.get(..end).unwrap_or(ANSWERS)
 }
 
-// How the first `length` bytes of the script end, and how many lines of them are answered.
+// Returns how the first `length` bytes of the script end, and how many of their lines get an answer.
 fn at_cut(length: usize) -> (Result<(), ScriptFault>, usize) {
     match length {
         0 => (Err(ScriptFault::NoHeader), 0),
@@ -58,7 +58,7 @@ fn script_cut_at_each_byte(rt: HostRuntime) -> Result<(), Fail> {
     Ok(())
 }
 
-// How many step lines end at or before a byte.
+// Returns how many step lines end at or before a byte.
 fn lines_ended(length: usize) -> usize {
     match length {
         0..=19 => 0,
@@ -71,7 +71,7 @@ fn lines_ended(length: usize) -> usize {
     }
 }
 
-/// A script ends so whose reader fails behind it, and these are its answers.
+/// Runs a script whose reader fails after its last byte, and fails if the end or the answers differ.
 pub fn breaks<R: Abort + AllocGlobal>(
     rt: &R,
     script: &[u8],
@@ -94,7 +94,7 @@ fn script_reader_fails(rt: HostRuntime) -> Result<(), Fail> {
     Ok(())
 }
 
-// The script ends so on a writer of this room, which takes this of the answers.
+// Runs the script with a writer of this room, and fails if the end or the bytes taken differ.
 fn fills<R: Abort + AllocGlobal>(
     rt: &R,
     room: usize,

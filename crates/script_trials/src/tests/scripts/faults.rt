@@ -1,9 +1,9 @@
-//! How a fault is shown, and the exit status that it gives.
+//! Tests of the text and the exit status of each fault.
 use crate::tests::compared::expect_same;
 use crate::tests::shown::reads;
 use hoare_script::ScriptFault;
 
-// Faults, how each is shown, and its exit status.
+// Faults, the text of each, and its exit status.
 const FAULTS: &[(ScriptFault, &str, u8)] = &[
     (ScriptFault::NoHeader, "fault 1 NoHeader", 2),
     (ScriptFault::BadLine(3), "fault 2 BadLine line 3", 2),

@@ -1,4 +1,4 @@
-//! Where the text itself ends a script.
+//! Tests of texts that end a script.
 use super::failures::breaks;
 use super::is_told;
 use crate::tests::repeated::repeated;
@@ -6,7 +6,7 @@ use hoare_script::ScriptFault;
 use std::panic::Expect;
 use std::process::Abort;
 
-// Runs a script that is answered nothing.
+// Runs a script that gets no answer.
 fn check<R: Abort + AllocGlobal>(rt: &R, script: &[u8], wanted: Result<(), ScriptFault>) {
     is_told(rt, script, wanted, b"");
 }
@@ -14,7 +14,7 @@ fn check<R: Abort + AllocGlobal>(rt: &R, script: &[u8], wanted: Result<(), Scrip
 // A script, and how it ends.
 type Ended = (&'static [u8], Result<(), ScriptFault>);
 
-// Runs scripts that are answered nothing.
+// Runs scripts that get no answer.
 fn check_all<R: Abort + AllocGlobal>(rt: &R, scripts: &[Ended]) {
     for (script, wanted) in scripts {
         check(rt, *script, *wanted);
@@ -39,7 +39,7 @@ fn header_limits(rt: HostRuntime) {
     check_all(&rt, HEADERS);
 }
 
-// A script of so many places, whose last one enters.
+// Runs a script with this number of places, the last of which enters.
 fn enters<R: Abort + AllocGlobal>(rt: &R, places: u64, conditions: u64) {
     let last = places.saturating_sub(1);
     let script = format!(in rt.alloc(); "monitor {places} {conditions}\nenter {last}\n").expect(
@@ -50,7 +50,7 @@ fn enters<R: Abort + AllocGlobal>(rt: &R, places: u64, conditions: u64) {
     is_told(rt, script.as_bytes(), Ok(()), answer.as_bytes());
 }
 
-// Each number of places is taken: an answer of `Memory` fails.
+// Each number of places is accepted: an answer of `Memory` fails.
 #[test]
 fn header_sizes(rt: HostRuntime) {
     for places in 1..=64 {
@@ -73,7 +73,7 @@ fn mesa_limits(rt: HostRuntime) {
     check_all(&rt, MESA_HEADERS);
 }
 
-// A second header, an empty line, a second space, a leading 0 and the byte 255 spell nothing.
+// A second header, an empty line, a second space, a leading 0 and the byte 255 are no commands.
 const BAD_LINES: &[Ended] = &[
     (b"\n", Err(ScriptFault::BadHeader(1))),
     (b"monitor 1 1\nmonitor 1 1\n", Err(ScriptFault::BadLine(2))),
@@ -104,7 +104,7 @@ fn large_script(rt: HostRuntime) {
     is_told(&rt, script.as_slice(), fault, answers.as_slice());
 }
 
-// The 257th byte tells that the line is too long; where the reader gives a byte less, it fails before.
+// The 257th byte makes the line too long. If the reader gives one byte less, the reader fails first.
 #[test]
 fn endless_line(rt: HostRuntime) {
     let bytes = [b'e'; 257];

@@ -1,7 +1,7 @@
 //! Rows of scripts with Mesa conditions: each is a line with its answer, worked out by hand from the rules.
 use super::rows::check;
 
-// Who is called goes on behind the one that calls it, before a newcomer, and is no longer counted as waiting.
+// A notified place resumes after its notifier has left, before any entering process, and isn't counted as waiting.
 #[test]
 fn notify_one(rt: HostRuntime) {
     let rows = "enter 0 -> 0
@@ -17,7 +17,7 @@ leave 0 -> free
     check(&rt, "monitor 3 1 1", rows);
 }
 
-// All are called in the order in which signals would resume them.
+// All waiters are notified in the order in which signals would resume them.
 #[test]
 fn broadcast_all(rt: HostRuntime) {
     let rows = "enter 0 -> 0
@@ -50,7 +50,8 @@ leave 1 -> free
     check(&rt, "monitor 4 2 1", rows);
 }
 
-// Of three with priority 7 and one with 3, the one with 3 goes on first, and then the others as they came.
+// Of three waiters with priority 7 and one with 3, that with 3 resumes first, then the others in the order of their
+// waits.
 #[test]
 fn broadcast_by_priority_then_time(rt: HostRuntime) {
     let rows = "enter 0 -> 0
@@ -74,7 +75,7 @@ leave 3 -> free
     check(&rt, "monitor 5 1 1", rows);
 }
 
-// Place 0 is called, waits again while place 1 is still called, and is called again.
+// Place 0 is notified, waits again while place 1 is notified and not yet resumed, and is notified again.
 #[test]
 fn called_again(rt: HostRuntime) {
     let rows = "enter 0 -> 0
@@ -96,7 +97,8 @@ enter 0 -> 0
     check(&rt, "monitor 3 1 1", rows);
 }
 
-// Notifies one by one call in the order in which signals would resume, and a later wait is behind them.
+// Separate notifies notify in the order in which signals would resume, and a later wait comes after them, even with the
+// least priority.
 #[test]
 fn notified_in_turn(rt: HostRuntime) {
     let rows = "enter 0 -> 0
@@ -121,7 +123,7 @@ queue 0 -> true
     check(&rt, "monitor 4 1 1", rows);
 }
 
-// A call of nobody changes nothing, and isn't kept for who waits later.
+// A notify or a broadcast without waiters changes nothing, and isn't kept for later waiters.
 #[test]
 fn nobody_called(rt: HostRuntime) {
     let rows = "enter 0 -> 0
@@ -138,7 +140,7 @@ queue 0 -> true
     check(&rt, "monitor 2 1 1", rows);
 }
 
-// Two are called before place 3 signals, and it returns before them all the same.
+// Two places are notified before place 3 signals, and yet place 3 returns before they resume.
 #[test]
 fn signaller_before_two_called(rt: HostRuntime) {
     let rows = "enter 0 -> 0
@@ -162,7 +164,7 @@ enter 4 -> 4
     check(&rt, "monitor 5 2 1", rows);
 }
 
-// The third number is that of the conditions: none is one of Hoare's.
+// The third number is equal to that of the conditions: none is one of Hoare's.
 #[test]
 fn all_conditions_mesa(rt: HostRuntime) {
     let rows = "enter 0 -> 0
@@ -182,7 +184,7 @@ leave 0 -> free
     check(&rt, "monitor 2 2 2", rows);
 }
 
-// Refusals 1, 4 and 5 come before 6, which comes where nobody waits too. None changes anything.
+// Refusals 1, 4 and 5 come before 6, which comes even if no place waits. No refused step changes anything.
 #[test]
 fn wrong_kind_comes_last(rt: HostRuntime) {
     let rows = "signal 1 1 -> refused 1

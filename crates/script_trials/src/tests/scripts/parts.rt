@@ -1,4 +1,4 @@
-//! Each part of a script alone: the grammar, the book that a header opens, and how answers are spelled.
+//! Tests of each part of a script alone: the grammar, the book that a header opens, and how answers are spelled.
 use crate::tests::compared::expect_same;
 use hoare_script::answers::{Answer, answer_line, outcome_answer};
 use hoare_script::lines::{Command, Header, parse_command, parse_header};
@@ -32,7 +32,7 @@ fn headers(rt: HostRuntime) {
     }
 }
 
-// Lines, and the command that each is, if it is one.
+// Lines, and the command that each spells, if it spells one.
 const COMMANDS: &[(&[u8], Option<Command>)] = &[
     (b"enter 4", Some(Command::Do(Step::Enter(4)))),
     (b"wait 1 2 3", Some(Command::Do(Step::Wait(1, 2, 3)))),

@@ -1,4 +1,4 @@
-//! What a run reads of its text, and what it leaves.
+//! Tests of how much of its text a run reads.
 use crate::tests::compared::expect_same;
 use crate::tests::streams::Filling;
 use hoare_script::{ScriptFault, run, run_watched};
@@ -8,7 +8,7 @@ use std::io;
 use std::io::Read;
 use std::process::Abort;
 
-// Runs a script, and looks at its end and at what is left of the text.
+// Runs a script, and fails if its end or the rest of the text differs.
 fn check<R: Abort + AllocGlobal>(
     rt: &R,
     text: &[u8],
@@ -48,7 +48,7 @@ fn bytes_left_behind_a_verdict(rt: HostRuntime) {
     }
 }
 
-// Runs a script that is watched: its end, the reads that were made, and the bytes that they gave.
+// Runs a script with a watched reader. Returns its end, the number of reads, and the number of bytes that they gave.
 fn counted<R: Abort + AllocGlobal>(
     rt: &R,
     reader: &mut Endless,
@@ -63,8 +63,8 @@ fn counted<R: Abort + AllocGlobal>(
     (result, watched.calls(), watched.bytes())
 }
 
-// Gives a header's line, and then one line again and again, up to a limit of bytes, where it fails: so a run that reads
-// on is seen, and doesn't read for ever.
+// A reader that gives the line of a header, then one line again and again, and fails after `limit` bytes. So a run that
+// reads too much is detected, and ends.
 #[derive(Drop)]
 struct Endless {
     line: &'static [u8],
@@ -96,7 +96,7 @@ impl Read for Endless {
     }
 }
 
-// One byte more than a script may have is read, and none behind it.
+// One byte more than a script may have is read, and none after it.
 #[test]
 fn endless_script(rt: HostRuntime) {
     let mut reader = Endless::new(b"leave 0\n", 1_048_577);
@@ -104,7 +104,7 @@ fn endless_script(rt: HostRuntime) {
     expect_same(&rt, end, (Err(ScriptFault::TooMuch), 1_048_577, 1_048_577));
 }
 
-// The header's 12 bytes, and 257 of the line.
+// The 12 bytes of the header, and 257 bytes of the line.
 #[test]
 fn endless_second_line(rt: HostRuntime) {
     let mut reader = Endless::new(b"e", 269);
@@ -112,7 +112,7 @@ fn endless_second_line(rt: HostRuntime) {
     expect_same(&rt, end, (Err(ScriptFault::LineTooLong(2)), 269, 269));
 }
 
-// The limit of the reader fires: 20 bytes are given, and the next read fails.
+// The limit of the reader is reached: 20 bytes are given, and the next read fails.
 #[test]
 fn endless_reader_ends(rt: HostRuntime) {
     let mut reader = Endless::new(b"leave 0\n", 20);
@@ -120,7 +120,7 @@ fn endless_reader_ends(rt: HostRuntime) {
     expect_same(&rt, end, (Err(ScriptFault::ReadFault), 21, 20));
 }
 
-// A line whose answer can't be written is the last that is read, and both marks are what happened.
+// A line whose answer can't be written is the last that is read, and both marks report what happened.
 #[test]
 fn marks_of_a_full_writer(rt: HostRuntime) {
     let mut rest = b"monitor 1 1\nenter 0\nleave 0\n".as_slice();

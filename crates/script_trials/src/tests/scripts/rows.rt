@@ -1,4 +1,4 @@
-//! Each row is a line with its answer, as it is written.
+//! Rows of scripts: each is a line with its answer, as written by `run`.
 use super::is_told;
 use crate::tests::patterns::Part::Number;
 use crate::tests::patterns::add_filled;
@@ -7,7 +7,7 @@ use std::alloc::AllocError;
 use std::panic::Expect;
 use std::process::Abort;
 
-// Adds the lines of the rows. A row without an answer is a line itself, and is answered otherwise than it says.
+// Adds the lines of the rows. A row without an answer is a line itself: its answer then differs from the row.
 fn add_lines(script: &mut String, rows: &str) -> Result<(), AllocError> {
     for row in rows.lines() {
         let (line, _) = row.split_once(" -> ").unwrap_or((row, ""));
@@ -17,7 +17,7 @@ fn add_lines(script: &mut String, rows: &str) -> Result<(), AllocError> {
     Ok(())
 }
 
-/// Runs the script of a header and of the rows' lines, whose answers are the rows.
+/// Runs the script with this header and the lines of `rows`, and fails unless its answers are `rows`.
 pub fn check<R: Abort + AllocGlobal>(rt: &R, header: &str, rows: &str) {
     let mut script = format!(in rt.alloc(); "{header}\n").expect(rt, "memory for a script");
     add_lines(&mut script, rows).expect(rt, "memory for a script");
@@ -117,7 +117,7 @@ enter 0 -> refused 3
     check(&rt, "monitor 2 1", rows);
 }
 
-// The greatest number is a priority, and the next one is none.
+// The greatest number is a priority, and the next number is not.
 #[test]
 fn greatest_priority(rt: HostRuntime) {
     let script =
@@ -157,7 +157,7 @@ pass 1 0 -> free
 
 const WAITS: &str = "enter # -> #\nwait # 0 # -> free\n";
 
-// Places 0 to 62 come in and wait with priorities 62 to 0, and place 63 comes in.
+// Adds rows in which places 0 to 62 enter and wait with priorities 62 to 0, and place 63 enters.
 fn add_waiters(rows: &mut String) -> Result<(), AllocError> {
     for place in 0..63u64 {
         let priority = Number(62 - place);
@@ -167,7 +167,7 @@ fn add_waiters(rows: &mut String) -> Result<(), AllocError> {
     rows.push_str("enter 63 -> 63\n")
 }
 
-// Place 63 resumes places 62 to 0, each of which leaves, and leaves itself.
+// Adds rows in which place 63 resumes places 62 to 0, each of these leaves, and at last place 63 leaves.
 fn add_resumptions(rows: &mut String) -> Result<(), AllocError> {
     for place in (0..63u64).rev() {
         let place = Number(place);
@@ -185,7 +185,7 @@ fn sixty_three_priorities(rt: HostRuntime) {
     check(&rt, "monitor 64 8", rows.as_str());
 }
 
-// The script of docs/DEFINITIONS.md that has every step, worked there by hand.
+// The script of docs/DEFINITIONS.md that has every step, worked out there by hand.
 #[test]
 fn every_step(rt: HostRuntime) {
     let rows = "enter 0 -> 0

@@ -1,33 +1,33 @@
-//! Where a place is, and which of two goes on first.
+//! Where a place is, and which of two places continues first.
 
 /// Where a place is, and since which step it waits there.
 #[derive(Clone, Copy)]
 pub enum Where {
-    /// It is outside.
+    /// Outside.
     Outside,
-    /// It is inside.
+    /// Inside.
     Inside,
-    /// On a condition, with a priority.
+    /// Waits on a condition, with a priority, since a step.
     Waits(u64, u64, u64),
-    /// It is a signaller.
+    /// Waits as a signaller, since a step.
     Signals(u64),
-    /// As the one called with this number.
+    /// Is notified, by the notification with this number.
     Called(u64),
 }
 
-/// Those that wait together, in an order.
+/// Places that wait together, in an order.
 #[derive(Clone, Copy)]
 pub enum Group {
-    /// Who waits on a condition.
+    /// The waiters on a condition.
     On(u64),
     /// The signallers.
     Signallers,
-    /// Who was called.
+    /// The notified places.
     Called,
 }
 
 impl Where {
-    /// Whether a place that is there waits in a group.
+    /// Returns true if a place that is there waits in `group`.
     pub fn is_in(self, group: Group) -> bool {
         match (self, group) {
             (Where::Waits(on, _, _), Group::On(condition)) => on == condition,
@@ -37,8 +37,8 @@ impl Where {
     }
 }
 
-/// Whether of two in one group the one goes on before the other: on a condition the one of lesser priority, or else the
-/// one that waits longer; the signallers, and the called, each in turn.
+/// Returns true if, of two places in one group, `one` continues before `other`. On a condition the lesser priority goes
+/// first, and of equal ones the longer wait; signallers and notified places go in turn.
 pub fn is_before(one: Where, other: Where) -> bool {
     match (one, other) {
         (Where::Waits(on, priority, since), Where::Waits(there, least, last)) => {
@@ -50,7 +50,7 @@ pub fn is_before(one: Where, other: Where) -> bool {
     }
 }
 
-/// Whether a place goes on before the best found, if one was found.
+/// Returns true if a place that is `at` continues before `best`, or if there is no `best`.
 pub fn is_better(at: Where, best: Option<(usize, Where)>) -> bool {
     match best {
         Some((_, other)) => is_before(at, other),

@@ -1,6 +1,6 @@
-//! The chart of the script. Its longest step has 13 letters, and a lane takes 4 + 6, that of the signaller 4 + 4: six
-//! lanes stand side by side, which are 73 long, since a seventh and an arrow would be 86. So there are eleven blocks,
-//! and in the last one stand the lanes of places 60 to 63.
+//! The chart of the large script. Its longest step has 13 letters. A lane takes 4 + 6, and that of the signaller 4 + 4.
+//! Six lanes fit side by side, which are 73 long; a seventh and an arrow would make 86. So there are eleven blocks, and
+//! the last has the lanes of places 60 to 63.
 use super::{SIGNALLER, script};
 use crate::tests::compared::expect_same;
 use crate::tests::patterns::Part::{Number, Word};
@@ -12,7 +12,7 @@ use std::panic::Expect;
 
 const HEAD: &str = "\nmonitor 64 1     60        61        62        63\n";
 
-// Rows 118 to 126: the four enter and wait, and the signaller enters.
+// Rows 118 to 126: the four places enter and wait, and the signaller enters.
 const WAITS: &str = "enter 60         [in]      .         .         .
 wait 60 0 100    c0:100    .         .         .         -> free
 enter 61         c0:100    [in]      .         .
@@ -24,7 +24,7 @@ wait 63 0 100    c0:100    c0:100    c0:100    c0:100    -> free
 enter 31         c0:100    c0:100    c0:100    c0:100
 ";
 
-// Rows 245 to 253: the four are resumed and leave, and the signaller leaves.
+// Rows 245 to 253: the four places are resumed and leave, and the signaller leaves.
 const SIGNALS: &str = "signal 31 0 ---> [in]      c0:100    c0:100    c0:100
 leave 60 ------- .         c0:100    c0:100    c0:100
 signal 31 0 ---- . ------> [in]      c0:100    c0:100
@@ -36,7 +36,7 @@ leave 63 ------- . ------- . ------- . ------- .
 leave 31         .         .         .         .         -> free
 ";
 
-// A step in the room of the longest one, before the first of the four lanes.
+// Adds a step, as wide as the longest one, before the first of the four lanes.
 fn add_step<'a>(
     text: &mut String,
     word: &'a str,
@@ -51,7 +51,7 @@ fn add_step<'a>(
     )
 }
 
-// Rows 0 to 117: the places below 60 enter and wait, and the four are outside.
+// Adds rows 0 to 117: the places below 60 enter and wait, and the four are outside.
 fn add_waits(text: &mut String) -> Result<(), AllocError> {
     for place in 0..60u64 {
         if place != SIGNALLER {
@@ -64,7 +64,7 @@ fn add_waits(text: &mut String) -> Result<(), AllocError> {
     Ok(())
 }
 
-// Rows 127 to 244: the places below 60 are resumed and leave, and the four wait.
+// Adds rows 127 to 244: the places below 60 are resumed and leave, and the four wait.
 fn add_signals(text: &mut String) -> Result<(), AllocError> {
     for place in 0..60u64 {
         if place != SIGNALLER {
@@ -76,7 +76,7 @@ fn add_signals(text: &mut String) -> Result<(), AllocError> {
     Ok(())
 }
 
-// The whole last block, behind an empty line.
+// Adds an empty line and the whole last block.
 fn add_block(text: &mut String) -> Result<(), AllocError> {
     text.push_str(HEAD)?;
     add_waits(text)?;
@@ -85,7 +85,7 @@ fn add_block(text: &mut String) -> Result<(), AllocError> {
     text.push_str(SIGNALS)
 }
 
-// How many lines a text has.
+// Returns the number of lines of a text.
 fn count_lines(text: &[u8]) -> usize {
     let mut count: usize = 0;
     for byte in text {
@@ -96,7 +96,7 @@ fn count_lines(text: &[u8]) -> usize {
     count
 }
 
-// Each of the eleven blocks has the head and 254 rows, and an empty line is between two of them: 11 * 255 + 10 lines.
+// Each of the eleven blocks has the head and 254 rows, with an empty line between two blocks: 11 * 255 + 10 lines.
 #[test]
 fn sixty_four_lanes_as_text(rt: HostRuntime) {
     let script = script(&rt);

@@ -1,7 +1,7 @@
-//! The SVG of the script. The longest step has 13 letters and a box of 7 letters is 68 wide, one of 8 letters 76: the
-//! first box begins at 20 + 13 * 8 + 24 = 148, each of the first ten lanes takes 68 + 44, and each further one 76 + 44.
-//! So the last box ends at 7,704, remarks begin at 7,720, and with 7 letters the picture is 7,796 wide. 254 rows of 28
-//! end at 64 + 254 * 28 = 7,176.
+//! The SVG of the large script. The longest step has 13 letters, a box of 7 letters is 68 wide, and a box of 8 letters
+//! 76. The first box begins at 20 + 13 * 8 + 24 = 148, each of the first ten lanes takes 68 + 44, and each further one
+//! 76 + 44. So the last box ends at 7,704, remarks begin at 7,720, and with 7 letters the picture is 7,796 wide. 254
+//! rows of 28 end at 64 + 254 * 28 = 7,176.
 use super::{SIGNALLER, entry, script};
 use crate::tests::compared::expect_same;
 use crate::tests::patterns::Part::{Number, Word};
@@ -11,7 +11,7 @@ use script_picture::picture::Form;
 use std::alloc::AllocError;
 use std::panic::Expect;
 
-// The left side of a place's boxes.
+// Returns the left side of a place's boxes.
 fn left(place: u64) -> u64 {
     if place < 10 {
         return place.saturating_mul(112).saturating_add(148);
@@ -22,22 +22,22 @@ fn left(place: u64) -> u64 {
         .saturating_add(1_268)
 }
 
-// The width of a place's boxes.
+// Returns the width of a place's boxes.
 fn width(place: u64) -> u64 {
     if place < 10 { 68 } else { 76 }
 }
 
-// The right side of a place's boxes.
+// Returns the right side of a place's boxes.
 fn right(place: u64) -> u64 {
     left(place).saturating_add(width(place))
 }
 
-// The middle of a place's lane.
+// Returns the middle of a place's lane.
 fn middle(place: u64) -> u64 {
     left(place).saturating_add(width(place) / 2)
 }
 
-// The upper edge of a row.
+// Returns the upper edge of a row.
 fn top(row: u64) -> u64 {
     row.saturating_mul(28).saturating_add(64)
 }
@@ -46,7 +46,7 @@ const BAND: &str = "<rect class=\"band\" x=\"8\" y=\"#\" width=\"7780\" height=\
 
 const STEP: &str = "<text class=\"step\" x=\"#\" y=\"#\">#</text>\n";
 
-// A row's band, if its number is even, its step, and the answer of a step after which the monitor is free.
+// Adds a row: its band, if its number is even, its step, and the answer if the monitor is free after the step.
 fn add_row(text: &mut String, row: u64, step: &str) -> Result<(), AllocError> {
     let top = top(row);
     let line = top.saturating_add(18);
@@ -60,7 +60,7 @@ fn add_row(text: &mut String, row: u64, step: &str) -> Result<(), AllocError> {
     add_filled(text, STEP, &[Number(7_720), Number(line), Word("-> free")])
 }
 
-// All rows, of the lines of the script behind its header.
+// Adds all rows, for the lines of the script after its header.
 fn add_rows(text: &mut String, script: &str) -> Result<(), AllocError> {
     for (row, step) in script.lines().skip(1).enumerate() {
         add_row(text, row as u64, step)?;
@@ -71,7 +71,7 @@ fn add_rows(text: &mut String, script: &str) -> Result<(), AllocError> {
 const LANE: &str =
     "<text class=\"head\" x=\"#\" y=\"42\">place #</text><path class=\"lane\" d=\"M# 64V7176\"/>\n";
 
-// The name of each place over its lane.
+// Adds the name of each place over its lane.
 fn add_lanes(text: &mut String) -> Result<(), AllocError> {
     for place in 0..64u64 {
         let middle = Number(middle(place));
@@ -80,7 +80,7 @@ fn add_lanes(text: &mut String) -> Result<(), AllocError> {
     Ok(())
 }
 
-// Where a box stands: in the lane of a place, beside so many rows from one on.
+// The area of a box: in the lane of a place, beside `rows` rows from `row` on.
 #[derive(Clone, Copy)]
 struct Area {
     place: u64,
@@ -93,12 +93,12 @@ const AREA: &str = "<rect class=\"#\" x=\"#\" y=\"#\" width=\"#\" height=\"#\" r
 const LABEL: &str = "<text class=\"#\" x=\"#\" y=\"#\">#</text>\n";
 
 impl Area {
-    // The upper side.
+    // Returns the upper side.
     fn top(self) -> u64 {
         top(self.row).saturating_add(3)
     }
 
-    // A rectangle of a class, of this width.
+    // Adds a rectangle of a class, with this width.
     fn add(self, text: &mut String, class: &str, width: u64) -> Result<(), AllocError> {
         let (left, top) = (Number(left(self.place)), Number(self.top()));
         let height = Number(self.rows.saturating_mul(28).saturating_sub(6));
@@ -106,7 +106,7 @@ impl Area {
         add_filled(text, AREA, &parts)
     }
 
-    // A box of a class, with its text.
+    // Adds a box of a class, with its text.
     fn add_box<'a>(
         self,
         text: &mut String,
@@ -121,7 +121,7 @@ impl Area {
     }
 }
 
-// The box of a place that is inside, beside one row.
+// Adds the box of a place that is inside, beside one row.
 fn add_inside(text: &mut String, place: u64, row: u64) -> Result<(), AllocError> {
     let area = Area {
         place,
@@ -131,7 +131,7 @@ fn add_inside(text: &mut String, place: u64, row: u64) -> Result<(), AllocError>
     area.add_box(text, "inside", "light", "inside")
 }
 
-// The boxes of a place that waits: it is inside, waits beside 126 rows, and is inside again.
+// Adds the boxes of a place that waits: it is inside, waits beside 126 rows, and is inside again.
 fn add_waiter(text: &mut String, place: u64) -> Result<(), AllocError> {
     let entry = entry(place);
     add_inside(text, place, entry)?;
@@ -144,7 +144,7 @@ fn add_waiter(text: &mut String, place: u64) -> Result<(), AllocError> {
     add_inside(text, place, entry.saturating_add(127))
 }
 
-// The box of the signaller beside the row of a signal.
+// Adds the box of the signaller beside the row of a signal.
 fn add_signalling(text: &mut String, row: u64) -> Result<(), AllocError> {
     let area = Area {
         place: SIGNALLER,
@@ -156,7 +156,7 @@ fn add_signalling(text: &mut String, row: u64) -> Result<(), AllocError> {
     area.add_box(text, "signals", "dark", "signals")
 }
 
-// The boxes of the signaller: it is inside from row 126 on, and signals in each second row.
+// Adds the boxes of the signaller: it is inside from row 126 on, and signals in each second row.
 fn add_signaller(text: &mut String) -> Result<(), AllocError> {
     add_inside(text, SIGNALLER, 126)?;
     for signal in 0..63u64 {
@@ -167,7 +167,7 @@ fn add_signaller(text: &mut String) -> Result<(), AllocError> {
     Ok(())
 }
 
-// The boxes of all places.
+// Adds the boxes of all places.
 fn add_boxes(text: &mut String) -> Result<(), AllocError> {
     for place in 0..64u64 {
         if place == SIGNALLER {
@@ -183,7 +183,7 @@ const SHAFT: &str = "<path class=\"#\" d=\"M# #H#\"/>";
 
 const TIP: &str = "<path d=\"M# #l#-5v10z\"/>\n";
 
-// An arrow along the middle of a row, over its white edge: its head is 8 long.
+// Adds an arrow along the middle of a row, over its white edge. Its head is 8 long.
 fn add_arrow(text: &mut String, class: &str, y: u64, from: u64, to: u64) -> Result<(), AllocError> {
     let (begin, neck, back) = if from < to {
         (from.saturating_add(4), to.saturating_sub(8), "-9")
@@ -198,7 +198,8 @@ fn add_arrow(text: &mut String, class: &str, y: u64, from: u64, to: u64) -> Resu
 
 const DOT: &str = "<circle cx=\"#\" cy=\"#\" r=\"4\"/>\n";
 
-// The signal that resumes a place, between the sides of two boxes, and the return from where it left.
+// Adds the signal that resumes a place, between the sides of two boxes, and the return from the lane of the place that
+// left.
 fn add_hand_overs(text: &mut String, place: u64) -> Result<(), AllocError> {
     let (side, facing) = if place < SIGNALLER {
         (left(SIGNALLER), right(place))
@@ -212,7 +213,7 @@ fn add_hand_overs(text: &mut String, place: u64) -> Result<(), AllocError> {
     add_arrow(text, "arrow back", below, middle, side)
 }
 
-// The arrows of all rows.
+// Adds the arrows of all rows.
 fn add_arrows(text: &mut String) -> Result<(), AllocError> {
     for place in 0..64u64 {
         if place != SIGNALLER {
@@ -222,7 +223,7 @@ fn add_arrows(text: &mut String) -> Result<(), AllocError> {
     Ok(())
 }
 
-// All that is drawn of steps, lanes, boxes and hand-overs, in its order.
+// Adds all that is drawn of steps, lanes, boxes and hand-offs, in its order.
 fn add_all(text: &mut String, script: &str) -> Result<(), AllocError> {
     add_rows(text, script)?;
     add_lanes(text)?;
@@ -230,7 +231,7 @@ fn add_all(text: &mut String, script: &str) -> Result<(), AllocError> {
     add_arrows(text)
 }
 
-// What stands before the first band, and what stands from there on.
+// Splits a picture at the first band: returns what is before it, and the rest.
 fn cut(picture: &[u8]) -> (&[u8], &[u8]) {
     for at in 0..picture.len() {
         if picture[at..].starts_with(b"<rect class=\"band\"") {
@@ -240,9 +241,9 @@ fn cut(picture: &[u8]) -> (&[u8], &[u8]) {
     (picture, b"")
 }
 
-// How often each shape stands before all of these, and behind them, in the legend. The page and the header are before
-// them. The legend has three boxes, of which the half-filled one is three rectangles, two arrows, and a text in each
-// box and beside each of the five.
+// Each shape, how often it occurs before all of these, and how often after them, in the legend. The page and the header
+// are before them. The legend has three boxes, two arrows, and a text in each box and beside each of the five. The
+// half-filled box is three rectangles.
 const OTHERS: &[(&str, usize, usize)] = &[
     ("<rect", 1, 5),
     ("<text", 1, 8),

@@ -1,19 +1,19 @@
-//! What is said of a call.
+//! The result of a named call.
 
 /// How a call ended.
 #[derive(Clone, Copy)]
 pub enum Answer {
-    /// As it does where there is memory.
+    /// As it ends if there is memory.
     Made,
-    /// Want of memory; what was handed in is back, and nothing was written.
+    /// Out of memory. What was passed in came back, and nothing was written.
     Memory,
-    /// A thread that can't be started; nothing was written.
+    /// A thread couldn't be started. Nothing was written.
     Spawn,
-    /// What the call needs could not be made.
+    /// What the call needs couldn't be made.
     Unprepared,
-    /// Nothing has this name.
+    /// No call has this name.
     Unknown,
-    /// Otherwise than it may.
+    /// In a way in which it may not end.
     Wrong,
 }
 
@@ -21,21 +21,21 @@ impl Answer {
     ghost use Rattle.std.specs.Prelude.{◌≡◌, if◌then◌else◌};
     ghost use Rattle.refused_memory.specs.declared.answer.Answer.TheVariants as answers;
 
-    /// Made, where it was made right.
+    /// Returns `Made` if `right`, else `Wrong`.
     pub fn made_if(right: bool) -> Answer
         ensures { result ≡ (if right then answers.Made else answers.Wrong) }
     {
         if right { Answer::Made } else { Answer::Wrong }
     }
 
-    /// Want of memory, where nothing was lost or written.
+    /// Returns `Memory` if `clean`, which says that nothing was lost or written; else `Wrong`.
     pub fn memory_if(clean: bool) -> Answer
         ensures { result ≡ (if clean then answers.Memory else answers.Wrong) }
     {
         if clean { Answer::Memory } else { Answer::Wrong }
     }
 
-    /// The line.
+    /// Returns the line that is printed.
     pub fn text(self) -> &'static str {
         match self {
             Answer::Made => "made",

@@ -1,4 +1,4 @@
-//! What can be made, by name, and long runs of it. Each call takes no memory but its own.
+//! Calls by name: all that can be made, and long runs of it. Each takes no memory except that of the named call.
 
 use crate::answer::Answer;
 use crate::long::runs_long;
@@ -28,7 +28,7 @@ const ANSWERS: &[u8] =
 
 const DATA: Tally = Tally { value: 7 };
 
-/// Does what has this name.
+/// Does the call of this name. Returns `Unknown` if there is none.
 pub fn call<R: Threads + Wait + Sync>(rt: &R, alloc: Global, name: &[u8]) -> Answer {
     if let Some(answer) = makes_door(alloc, name) {
         return answer;
@@ -48,7 +48,7 @@ pub fn call<R: Threads + Wait + Sync>(rt: &R, alloc: Global, name: &[u8]) -> Ans
     }
 }
 
-// The doors.
+// Does the call of this name if it makes a door.
 fn makes_door(alloc: Global, name: &[u8]) -> Option<Answer> {
     match name {
         b"Door::make" => Some(door_answer(Door::make(alloc, DATA, 3))),
@@ -58,7 +58,7 @@ fn makes_door(alloc: Global, name: &[u8]) -> Option<Answer> {
     }
 }
 
-// What is made of data.
+// Does the call of this name if it makes the data of a scheduler or a fake.
 fn makes_data(alloc: Global, name: &[u8]) -> Option<Answer> {
     match name {
         b"Buffer::make" => Some(buffer_answer(Buffer::<u64>::make(alloc, 16))),
@@ -69,7 +69,7 @@ fn makes_data(alloc: Global, name: &[u8]) -> Option<Answer> {
     }
 }
 
-// Books, scripts and job files.
+// Does the call of this name if it is of a book, a script or a job file.
 fn does_script(alloc: Global, name: &[u8]) -> Option<Answer> {
     match name {
         b"Book::make" => Some(makes_book(alloc)),
@@ -79,7 +79,7 @@ fn does_script(alloc: Global, name: &[u8]) -> Option<Answer> {
     }
 }
 
-// The services.
+// Does the call of this name if it is of a disk service.
 fn does_service<R: Threads + Wait + Sync>(rt: &R, alloc: Global, name: &[u8]) -> Option<Answer> {
     if let Some(kind) = name.strip_prefix(b"disk_service::run ") {
         return Some(runs(rt, alloc, named_kind(kind)?));
@@ -93,7 +93,7 @@ fn does_service<R: Threads + Wait + Sync>(rt: &R, alloc: Global, name: &[u8]) ->
     }
 }
 
-// The kind of doors that has this name.
+// Returns the kind of doors that has this name.
 fn named_kind(name: &[u8]) -> Option<Kind> {
     match name {
         b"baton" => Some(Kind::Baton),
@@ -118,7 +118,7 @@ fn runs_script(alloc: Global) -> Answer {
     }
 }
 
-// The data have to come back.
+// Returns the answer to the making of a door. The data have to come back if it is refused.
 fn door_answer<T: Drop>(made: Result<T, (Tally, MakeRefused)>) -> Answer {
     match made {
         Ok(_door) => Answer::Made,

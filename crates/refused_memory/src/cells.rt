@@ -1,4 +1,4 @@
-//! The procedures of a bounded buffer with Mesa conditions, over and over, by threads that share it.
+//! Threads that share a bounded buffer with Mesa conditions, and call its procedures over and over.
 ghost use Rattle.std.specs.Prelude.{All};
 
 use any_door::AnyDoor;
@@ -10,7 +10,7 @@ use std::sync::atomic::{AtomicU64, Ordering};
 use std::thread;
 use std::thread::Threads;
 
-/// How many threads there are: each second one appends, and the others remove.
+/// Number of threads: every second one appends, and the others remove.
 pub const THREADS: usize = 4;
 
 /// A buffer that threads share.
@@ -18,7 +18,7 @@ pub trait SharedCells: Monitor<MesaBuffer<u64>> + Sync {}
 
 impl SharedCells for AnyDoor<MesaBuffer<u64>> {}
 
-// Appends the numbers below this one.
+// Appends the numbers 0 to `turns` - 1.
 fn append_all<R: Wait, M: Monitor<MesaBuffer<u64>>>(rt: &R, m: &M, out: M::Out, turns: u64)
     requires { M.is_of m.now out }
 {
@@ -28,7 +28,7 @@ fn append_all<R: Wait, M: Monitor<MesaBuffer<u64>>>(rt: &R, m: &M, out: M::Out, 
     }
 }
 
-// Removes so many items: their sum.
+// Removes `turns` items, and returns their sum.
 fn remove_all<R: Wait, M: Monitor<MesaBuffer<u64>>>(rt: &R, m: &M, out: M::Out, turns: u64) -> u64
     requires { M.is_of m.now out }
 {
@@ -42,7 +42,7 @@ fn remove_all<R: Wait, M: Monitor<MesaBuffer<u64>>>(rt: &R, m: &M, out: M::Out, 
     sum
 }
 
-// What one thread does, and the sum of what it removed.
+// Runs one thread: an even role appends, an odd role removes. Returns the sum of what it removed.
 fn go_on<R: Wait, M: Monitor<MesaBuffer<u64>>>(
     rt: &R,
     m: &M,
@@ -59,7 +59,8 @@ fn go_on<R: Wait, M: Monitor<MesaBuffer<u64>>>(
     remove_all(rt, m, out, turns)
 }
 
-/// A thread for each place, with so many items each: whether all that was appended was removed.
+/// Runs a thread for each of `THREADS` places, with `turns` items each. Returns true if the sum of the removed items is
+/// that of the appended ones.
 pub fn all_pass<R: Threads + Wait + Sync, M: SharedCells>(
     rt: &R,
     m: &M,

@@ -1,5 +1,5 @@
-//! Long runs and short ones of all that takes no memory once it is made. `tests/counted-memory` holds that both make as
-//! many requests.
+//! Long runs and short ones of all that takes no memory once it is made. `tests/counted-memory` checks that both make
+//! as many requests.
 use crate::answer::Answer;
 use crate::cells::{THREADS, all_pass};
 use crate::repeated::{Lines, Repeated};
@@ -19,20 +19,23 @@ use ticket_door::door::TicketDoor;
 use wait_book::book::Book;
 use wait_book::steps::{Next, Step};
 
+// Number of iterations of a short run.
 const FEW: u64 = 10;
 
+// Number of iterations of a long run.
 const MANY: u64 = 1000;
 
 const HEADER: &[u8] = b"monitor 4 3 1\n";
 
-// Every command, with priorities, on all three conditions; afterwards everybody is outside again.
+// Each command, with priorities, on all three conditions. After it all places are outside again.
 const PART: &[u8] =
     b"enter 0\nwait 0 0 2\nenter 1\nwait 1 1 3\nenter 2\nwait 2 2 1\nqueue 0\nfirst 1\nenter 3\nsignal 3 0\n\
     notify 0 2\npass 0 1\nbroadcast 1 2\nleave 1\nleave 3\nleave 2\nenter 9\n";
 
+// Number of lines of `PART`.
 const PART_LINES: u64 = 17;
 
-/// Does the run of this name, a long one or a short one.
+/// Does the run of this name: `few` or `many`, and what it repeats. Returns `None` if there is no such run.
 pub fn runs_long<R: Threads + Wait + Sync>(rt: &R, alloc: Global, name: &[u8]) -> Option<Answer> {
     if let Some(what) = name.strip_prefix(b"few ") {
         return run_of(rt, alloc, what, FEW);
@@ -41,7 +44,7 @@ pub fn runs_long<R: Threads + Wait + Sync>(rt: &R, alloc: Global, name: &[u8]) -
     run_of(rt, alloc, what, MANY)
 }
 
-// The run of what has this name, of so many turns.
+// Does the run that `what` names, with `turns` iterations.
 fn run_of<R: Threads + Wait + Sync>(
     rt: &R,
     alloc: Global,
@@ -63,7 +66,7 @@ fn run_of<R: Threads + Wait + Sync>(
     }
 }
 
-// Visits of the door that has this name.
+// Does the visits of the door that has this name.
 fn visits<R: Threads + Wait + Sync>(
     rt: &R,
     alloc: Global,
@@ -79,7 +82,7 @@ fn visits<R: Threads + Wait + Sync>(
     }
 }
 
-// A newcomer's step, or one of the place inside. Place 0 never waits, so that there is always somebody who can come in.
+// Returns a step of an entering place, or of the place inside. Place 0 never waits, so that a process can always enter.
 fn drawn_step(now: Next, lot: u64) -> Step {
     let condition = lot / 16 % 4;
     match now {
@@ -98,7 +101,8 @@ fn drawn_step(now: Next, lot: u64) -> Step {
     }
 }
 
-// Whether what a book answers of a condition and a place agrees: nobody who was called is outside.
+// Returns true if the book's answers on a condition and a place are consistent: a place that is outside isn't notified,
+// and `queue` agrees with `first`.
 fn agrees(book: &Book, lot: u64) -> bool {
     let (condition, place) = ((lot / 16 % 8) as usize, (lot / 128 % 64) as usize);
     if condition >= book.conditions() || place >= book.places() {
@@ -108,7 +112,8 @@ fn agrees(book: &Book, lot: u64) -> bool {
     !is_called_outside && book.queue(condition) == book.first(condition).is_some()
 }
 
-// A hundred times as many steps of a book, of which some are refused, with a look at it before each.
+// Does a hundred steps of a book in each iteration, of which some are refused. Before each step the book is asked
+// questions.
 fn steps(alloc: Global, turns: u64) -> Answer {
     let Ok(mut book) = Book::make(alloc, 64, 8, 4) else {
         return Answer::Memory;
@@ -126,7 +131,7 @@ fn steps(alloc: Global, turns: u64) -> Answer {
     Answer::made_if(done > turns.saturating_mul(50))
 }
 
-// A script with its part so often.
+// Runs a script that repeats its part `turns` times.
 fn script(alloc: Global, turns: u64) -> Answer {
     let mut reader = Repeated {
         rest: HEADER,
@@ -140,7 +145,7 @@ fn script(alloc: Global, turns: u64) -> Answer {
     }
 }
 
-// Whether all visits were seen.
+// Returns `Made` if a run was right, `Wrong` if it wasn't, and `Memory` if memory was refused.
 fn seen(visited: Result<bool, AllocError>) -> Answer {
     match visited {
         Ok(all) => Answer::made_if(all),
@@ -148,7 +153,7 @@ fn seen(visited: Result<bool, AllocError>) -> Answer {
     }
 }
 
-// Every call of a baton door, by seven threads.
+// Makes each call of a baton door, with seven threads.
 fn visits_baton<R: Threads + Wait + Sync>(rt: &R, alloc: Global, turns: u64) -> Answer {
     match Door::make(alloc, Visits::NONE, VISITORS as usize + 1) {
         Ok((door, places)) => seen(all_visit(rt, &door, places, turns)),
@@ -156,7 +161,7 @@ fn visits_baton<R: Threads + Wait + Sync>(rt: &R, alloc: Global, turns: u64) -> 
     }
 }
 
-// Every call of a ticket door that both have, by seven threads.
+// Makes each call that both doors have, of a ticket door, with seven threads.
 fn visits_ticket<R: Threads + Wait + Sync>(rt: &R, alloc: Global, turns: u64) -> Answer {
     match TicketDoor::make(alloc, Visits::NONE, VISITORS as usize + 1) {
         Ok((door, places)) => seen(all_visit(rt, &door, places, turns)),
@@ -164,7 +169,7 @@ fn visits_ticket<R: Threads + Wait + Sync>(rt: &R, alloc: Global, turns: u64) ->
     }
 }
 
-// Every call of a door that is one of both, by seven threads.
+// Makes each call of a door that is of either kind, with seven threads.
 fn visits_any<R: Threads + Wait + Sync>(
     rt: &R,
     alloc: Global,
@@ -177,7 +182,7 @@ fn visits_any<R: Threads + Wait + Sync>(
     }
 }
 
-// A buffer of one cell with Mesa conditions, by four threads.
+// Uses a buffer of one cell with Mesa conditions, with four threads.
 fn cells<R: Threads + Wait + Sync>(rt: &R, alloc: Global, kind: DoorKind, turns: u64) -> Answer {
     let Ok(cell) = MesaBuffer::make(alloc, 1) else {
         return Answer::Memory;
@@ -188,7 +193,7 @@ fn cells<R: Threads + Wait + Sync>(rt: &R, alloc: Global, kind: DoorKind, turns:
     }
 }
 
-// The calls that a ticket door alone has.
+// Makes the calls that only a ticket door has.
 fn turns_ticket<R: Wait>(rt: &R, alloc: Global, turns: u64) -> Answer {
     let Ok((door, mut places)) = TicketDoor::make(alloc, Tally { value: 0 }, 2) else {
         return Answer::Memory;
@@ -199,7 +204,7 @@ fn turns_ticket<R: Wait>(rt: &R, alloc: Global, turns: u64) -> Answer {
     }
 }
 
-// As many cylinders.
+// Returns the cylinders of `jobs` jobs.
 fn cylinders(alloc: Global, jobs: u64) -> Result<Vec<u16>, AllocError> {
     let mut cylinders = Vec::with_capacity(alloc, jobs as usize)?;
     for job in 0..jobs {
@@ -208,7 +213,7 @@ fn cylinders(alloc: Global, jobs: u64) -> Result<Vec<u16>, AllocError> {
     Ok(cylinders)
 }
 
-// As many jobs, done by four workers with all six schedulers.
+// Does `count` jobs by four workers with all six schedulers.
 fn jobs<R: Threads + Wait + Sync>(rt: &R, alloc: Global, kind: Kind, count: u64) -> Answer {
     let Ok(cylinders) = cylinders(alloc, count) else {
         return Answer::Unprepared;

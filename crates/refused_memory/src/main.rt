@@ -1,6 +1,6 @@
-//! Makes what standard input names, a line each, and says whether there was memory for it. `tests/refused-memory` runs
-//! it with each request for memory refused in turn, and `tests/counted-memory` counts the requests of long runs and of
-//! short ones.
+//! Makes what standard input names, one name a line, and prints if there was memory for it. `tests/refused-memory` runs
+//! this program with each request for memory refused in turn. `tests/counted-memory` counts the requests of long runs
+//! and of short ones.
 #![tactic(auto)]
 
 mod answer;
@@ -19,10 +19,10 @@ use line_text::line::{Ended, Line, LineFault, read_line};
 use line_text::reader::WatchedReader;
 use std::io;
 
-// More bytes than the names have.
+// Room for the line of a name, in bytes: more than any name has.
 const ROOM: usize = 4096;
 
-// The next name, if there is one.
+// Reads the next name. Returns true if there is one.
 fn is_named<R: io::Read>(reader: &mut WatchedReader<'_, R>, name: &mut Line) -> bool {
     match read_line(reader, name, ROOM) {
         Ok(Ended::Line) => true,

@@ -4,15 +4,15 @@ use arrayvec::ArrayVec;
 use std::io;
 use std::io::Write;
 
-/// What was written, of at most 128 bytes. Nothing is taken where there is no room.
+/// A writer that keeps at most 128 bytes. Without room it takes nothing.
 #[derive(Drop)]
 pub struct Noted {
-    /// The bytes, in order.
+    /// The bytes written, in order.
     pub bytes: ArrayVec<u8, 128>,
 }
 
 impl Noted {
-    /// Nothing written yet.
+    /// Creates a writer with nothing written.
     pub fn new() -> Noted {
         Noted {
             bytes: ArrayVec::new(),

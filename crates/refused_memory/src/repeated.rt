@@ -1,15 +1,15 @@
-//! A text that repeats a part, and a writer that counts lines. Neither takes memory.
+//! A reader that repeats a part, and a writer that counts lines. Neither takes memory.
 use std::io;
 use std::io::{Read, Write};
 
-/// Gives the rest, and then the part as often as is left.
+/// A reader that gives `rest`, and then `part` as often as `left` says.
 #[derive(Drop)]
 pub struct Repeated<'a> {
-    /// What is given next.
+    /// What it gives next.
     pub rest: &'a [u8],
-    /// What is given then, over and over.
+    /// What it gives then, again and again.
     pub part: &'a [u8],
-    /// How often the part is still to come.
+    /// Number of times that it still has to give `part`.
     pub left: u64,
 }
 
@@ -23,10 +23,10 @@ impl Read for Repeated<'_> {
     }
 }
 
-/// How many lines were written.
+/// A writer that counts lines.
 #[derive(Drop)]
 pub struct Lines {
-    /// How many lines were ended so far.
+    /// Number of lines that ended so far.
     pub count: u64,
 }
 

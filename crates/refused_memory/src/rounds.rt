@@ -1,4 +1,4 @@
-//! Every call of a monitor, over and over, by threads that share it. No call takes memory: a long run makes as many
+//! Threads that share a monitor, and make each call of it over and over. No call takes memory: a long run makes as many
 //! requests as a short one, which `tests/counted-memory` counts.
 ghost use Rattle.std.specs.Prelude.{◌<◌, All};
 
@@ -15,24 +15,24 @@ use std::thread;
 use std::thread::Threads;
 use ticket_door::door::TicketDoor;
 
-/// How many threads visit the monitor. One more resumes those that wait.
+/// Number of threads that visit the monitor. One more thread resumes the waiters.
 pub const VISITORS: u64 = 6;
 
-/// How many wait at most, that somebody is left who resumes them.
+/// Upper bound on the number of waiters, so that a thread is left that resumes them.
 const MOST_WAITING: usize = 3;
 
-/// The data: how often somebody came in, and how many visitors are done. Two conditions are Hoare's, and two Mesa
-/// conditions; nothing is asked of the data.
+/// The data of the monitor: how often a visitor entered, and how many visitors are done. Two conditions are Hoare's,
+/// and two are Mesa conditions. Nothing is required of the data.
 #[derive(Drop)]
 pub struct Visits {
-    /// How many visits there were.
+    /// Number of visits.
     pub visits: u64,
-    /// How many visitors are done.
+    /// Number of visitors that are done.
     pub done: u64,
 }
 
 impl Visits {
-    /// Nobody came in yet.
+    /// The data before any visit.
     pub const NONE: Visits = Visits { visits: 0, done: 0 };
 }
 
@@ -68,10 +68,10 @@ impl MonitorData for Visits {
 
 /// A monitor of visits that threads share.
 pub trait SharedVisits: Monitor<Visits> + Sync {
-    /// The number of entering threads that `status` reports.
+    /// Returns the number of entering threads that `status` reports.
     fn newcomers(&self) -> u64;
 
-    /// `signal_leave`, by the call that waits for nobody where the door has one.
+    /// Does `signal_leave`, by the non-blocking call if the door has one.
     fn pass_on<R: Wait>(&self, rt: &R, inside: Self::In, condition: usize) -> Self::Out
         requires of { Self.is_of_in self.now inside }
         requires hoare { condition < 2 }
@@ -120,13 +120,13 @@ impl SharedVisits for AnyDoor<Visits> {
     }
 }
 
-// The next of a row of numbers in which no pattern shows.
+// Returns the next number of a row without a visible pattern.
 fn draw(seed: u64) -> u64 {
     seed.wrapping_mul(6364136223846793005)
         .wrapping_add(1442695040888963407)
 }
 
-// Comes in, by a try where one is let in, and counts the visit.
+// Enters, by `try_enter` if that succeeds, else by `enter`, and counts the visit.
 fn come_in<R: Wait, M: Monitor<Visits>>(rt: &R, m: &M, out: M::Out) -> M::In
     requires { M.is_of m.now out }
     ensures { M.is_of_in m.now result }
@@ -141,7 +141,7 @@ fn come_in<R: Wait, M: Monitor<Visits>>(rt: &R, m: &M, out: M::Out) -> M::In
     inside
 }
 
-// Whether both ways to ask say the same of a condition.
+// Returns true if `queue` and `first` agree on a condition.
 fn agree<M: Monitor<Visits>>(m: &M, inside: &M::In, condition: usize) -> bool
     requires of { M.is_of_in m.now inside.now }
     requires in_range { condition < 4 }
@@ -149,7 +149,7 @@ fn agree<M: Monitor<Visits>>(m: &M, inside: &M::In, condition: usize) -> bool
     m.queue(inside, condition) == m.first(inside, condition).is_some()
 }
 
-// Whether fewer wait than may, by each way to ask.
+// Returns true if fewer than `MOST_WAITING` places wait, and `queue` and `first` agree on all conditions.
 fn may_wait<M: Monitor<Visits>>(m: &M, inside: &M::In) -> bool
     requires { M.is_of_in m.now inside.now }
 {
@@ -161,7 +161,7 @@ fn may_wait<M: Monitor<Visits>>(m: &M, inside: &M::In) -> bool
     hoare_agree && mesa_agree && hoare.saturating_add(mesa) < MOST_WAITING
 }
 
-// One visit, as its number says: it waits with a priority, signals, notifies, calls all, passes or just leaves.
+// Does one visit, chosen by `lot`: it waits with a priority, signals, notifies, broadcasts, passes or only leaves.
 fn visit<R: Wait, M: SharedVisits>(rt: &R, m: &M, out: M::Out, lot: u64) -> M::Out
     requires { M.is_of m.now out }
     ensures { M.is_of m.now result }
@@ -188,7 +188,7 @@ fn visit<R: Wait, M: SharedVisits>(rt: &R, m: &M, out: M::Out, lot: u64) -> M::O
     m.leave(rt, inside)
 }
 
-// Makes this number of visits, with a `status` before each, and notes that they are over.
+// Makes `turns` visits, with a `status` before each. Then counts this visitor as done.
 fn visit_many<R: Wait, M: SharedVisits>(rt: &R, m: &M, out: M::Out, me: u64, turns: u64)
     requires { M.is_of m.now out }
 {
@@ -206,7 +206,7 @@ fn visit_many<R: Wait, M: SharedVisits>(rt: &R, m: &M, out: M::Out, me: u64, tur
     m.leave(rt, inside);
 }
 
-// Resumes those that wait until all visitors are done: how many visits there were.
+// Resumes and notifies waiters until all visitors are done. Returns the number of visits.
 fn sweep<R: Wait, M: Monitor<Visits>>(rt: &R, m: &M, out: M::Out) -> u64
     requires { M.is_of m.now out }
 {
@@ -228,8 +228,8 @@ fn sweep<R: Wait, M: Monitor<Visits>>(rt: &R, m: &M, out: M::Out) -> u64
     unreachable!()
 }
 
-// What one thread does, and how many visits it saw in the end: the last to come resumes those that wait, the others
-// visit.
+// Runs one thread. The last to begin resumes waiters, and returns the number of visits at the end; the others visit,
+// and return 0.
 fn go_round<R: Wait, M: SharedVisits>(rt: &R, m: &M, out: M::Out, role: u64, turns: u64) -> u64
     requires { M.is_of m.now out }
 {
@@ -240,7 +240,8 @@ fn go_round<R: Wait, M: SharedVisits>(rt: &R, m: &M, out: M::Out, role: u64, tur
     sweep(rt, m, out)
 }
 
-/// A thread for each place, of which all but one visit this often: whether each visit was seen.
+/// Runs a thread for each place, of which all but one make `turns` visits each. Returns true if all visits were
+/// counted.
 pub fn all_visit<R: Threads + Wait + Sync, M: SharedVisits>(
     rt: &R,
     m: &M,

@@ -1,4 +1,4 @@
-//! Job files, and the service.
+//! Calls of job files and of the disk service.
 
 use crate::answer::Answer;
 use crate::noted::Noted;
@@ -27,7 +27,7 @@ pub fn reads_jobs(alloc: Global) -> Answer {
     }
 }
 
-// The answer to a fault, with nothing written.
+// Returns the answer to a fault. `clean` says that nothing was written.
 fn refused(fault: ServiceFault, clean: bool) -> Answer {
     match fault {
         ServiceFault::Spawn if clean => Answer::Spawn,
@@ -35,13 +35,13 @@ fn refused(fault: ServiceFault, clean: bool) -> Answer {
     }
 }
 
-// The jobs of the file, for so many workers.
+// Returns the jobs of the file for `workers` workers, or `None` if they are refused.
 fn jobs(alloc: Global, workers: u32) -> Result<Option<Jobs>, AllocError> {
     let cylinders = Vec::from_array(alloc, CYLINDERS)?;
     Ok(Jobs::make(400, workers, cylinders).ok())
 }
 
-/// The report of these jobs, done on doors of this kind.
+/// Does the jobs on doors of this kind, and returns the report.
 pub fn report_of<R: Threads + Wait + Sync>(
     rt: &R,
     alloc: Global,
@@ -54,7 +54,7 @@ pub fn report_of<R: Threads + Wait + Sync>(
     }
 }
 
-/// Has three jobs done by so many workers, on doors of this kind.
+/// Does three jobs by `workers` workers, on doors of this kind.
 pub fn serves<R: Threads + Wait + Sync>(rt: &R, alloc: Global, kind: Kind, workers: u32) -> Answer {
     let Ok(Some(jobs)) = jobs(alloc, workers) else {
         return Answer::Unprepared;
@@ -65,7 +65,7 @@ pub fn serves<R: Threads + Wait + Sync>(rt: &R, alloc: Global, kind: Kind, worke
     }
 }
 
-/// From the job file to its report, on doors of this kind.
+/// Runs the service from the job file to its report, on doors of this kind.
 pub fn runs<R: Threads + Wait + Sync>(rt: &R, alloc: Global, kind: Kind) -> Answer {
     let mut reader = FILE;
     let mut writer = Noted::new();

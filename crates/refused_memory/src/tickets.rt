@@ -1,4 +1,4 @@
-//! The calls that only a door by tickets has, over and over.
+//! The calls that only a ticket door has, over and over.
 
 use hoare_law::monitor::Monitor;
 use std::sync::Wait;
@@ -6,7 +6,7 @@ use test_support::tally::Tally;
 use ticket_door::door::TicketDoor;
 use ticket_door::place::TicketOut;
 
-// Counts a turn.
+// Counts an iteration.
 fn add_one<M: Monitor<Tally>>(m: &M, inside: M::In) -> M::In
     requires { M.is_of_in m.now inside }
     ensures { M.is_of_in m.now result }
@@ -17,7 +17,8 @@ fn add_one<M: Monitor<Tally>>(m: &M, inside: M::In) -> M::In
     inside
 }
 
-// Two places meet; one asks, comes in by its ticket and gives up, and the other then hands up.
+// Does one iteration. The two places meet. Place `a` takes a ticket, enters with it, and leaves by `give_up`. Then `b`
+// takes a ticket, enters with it, and leaves by `hand_up`.
 fn turn<R: Wait>(
     rt: &R,
     door: &TicketDoor<Tally>,
@@ -39,7 +40,7 @@ fn turn<R: Wait>(
     (a, b)
 }
 
-/// Two places take this many turns: how many the data counted.
+/// Does `turns` iterations with two places. Returns how many the data counted.
 pub fn take_turns<R: Wait>(
     rt: &R,
     door: &TicketDoor<Tally>,

@@ -1,5 +1,5 @@
-//! Whole job files, workers that meet and are at work at once, a job that is held up, and as many workers as there may
-//! be.
+//! Tests of whole job files, of workers that meet and are at work at once, of a job that is held up, and of the
+//! greatest number of workers.
 
 mod acts;
 mod at_once;

@@ -1,5 +1,5 @@
-//! A worker's acts in order: at each call of its gate another thread looks behind the doors. That what is done is kept
-//! before `end` no look finds: reviewed only.
+//! Tests the order of a worker's acts: at each call of its gate another thread reads the data of the doors. Reviewed
+//! only, since no such reading can find it: that what is done is kept before `end`.
 ghost use Rattle.std.specs.Prelude.{◌≡◌};
 ghost use Rattle.disk_service.specs.Doors.{AreThere, IsSeat};
 
@@ -31,11 +31,11 @@ enum Call {
     End(usize),
 }
 
-// How often the gate is called, of three jobs.
+// Number of calls of the gate, with three jobs.
 const CALLS: usize = 6;
 
-// What lies behind the doors: how many jobs the totals count, how many the board has, and whether both the buffer and
-// the drive are in.
+// What the doors have: how many jobs the totals count, how many the board has, and if both the buffer and the drive are
+// in.
 #[derive(Clone, Copy, Debug, PartialEq, Eq)]
 struct Found {
     counted: u64,
@@ -43,7 +43,7 @@ struct Found {
     are_in: bool,
 }
 
-// What the totals of this monitor say.
+// Reads the totals of this monitor.
 fn totals_of<R: Wait, M: Monitor<Single<Totals>>>(m: &M, rt: &R, out: M::Out) -> (M::Out, Totals)
     requires { M.is_of m.now out }
     ensures of { M.is_of m.now result.0 }
@@ -54,7 +54,7 @@ fn totals_of<R: Wait, M: Monitor<Single<Totals>>>(m: &M, rt: &R, out: M::Out) ->
     (out, totals)
 }
 
-// What the board of this monitor says.
+// Reads the board of this monitor.
 fn board_of<R: Wait, M: Monitor<ReadersWriters<Board>>>(
     m: &M,
     rt: &R,
@@ -69,8 +69,8 @@ fn board_of<R: Wait, M: Monitor<ReadersWriters<Board>>>(
     (out, board)
 }
 
-// What lies behind these doors. The seat comes back. (A buffer that is in can't be given back, and while the drive is
-// in none can be put in.)
+// Reads the data of these doors, and returns them with the seat. (If the buffer is in it can't be given back, and if
+// the drive is in none can be put in.)
 fn found_behind<R: Wait>(rt: &R, doors: &Doors, seat: Seat) -> (Seat, Found)
     requires { IsSeat doors.now seat }
     ensures { IsSeat doors.now result.0 }
@@ -92,7 +92,7 @@ fn found_behind<R: Wait>(rt: &R, doors: &Doors, seat: Seat) -> (Seat, Found)
     (seat, found)
 }
 
-// A gate that waits at each of its calls until the watcher has looked behind the doors.
+// A gate that waits at each of its calls until the watcher has read the data of the doors.
 #[derive(Drop)]
 struct Watched<'a, R: Wait> {
     rt: &'a R,
@@ -101,7 +101,7 @@ struct Watched<'a, R: Wait> {
 }
 
 impl<R: Wait> Watched<'_, R> {
-    // Says which call it is in, and waits for the look.
+    // Records the call, and waits until the watcher has read.
     fn await_look(&self, call: Call) {
         *self.call.lock(self.rt) = call;
         self.meeting.wait(self.rt);
@@ -118,7 +118,7 @@ impl<R: Wait> Gate for Watched<'_, R> {
         self.await_look(Call::End(job));
     }
 }
-// What the watcher finds at each call of the gate.
+// Returns what the watcher finds at each call of the gate.
 fn found_at_calls<R: Wait>(
     rt: &R,
     alloc: Global,
@@ -141,7 +141,7 @@ fn found_at_calls<R: Wait>(
     calls
 }
 
-// What a worker brings of the jobs, which it hands itself. At last it closes the board.
+// Hands out the jobs, does them as the one worker, and then closes the board. Returns what the worker kept.
 fn done_by<R: Wait, G: Gate>(
     rt: &R,
     alloc: Global,
@@ -158,7 +158,7 @@ fn done_by<R: Wait, G: Gate>(
     kept
 }
 
-// What the watcher finds, and what the worker brings.
+// Returns what the watcher finds, and what the worker kept.
 fn work_watched<R: Threads + Wait + Sync>(
     rt: &R,
     alloc: Global,
@@ -182,7 +182,7 @@ fn work_watched<R: Threads + Wait + Sync>(
     )
 }
 
-// With a clock beside them.
+// Does `work_watched` while a clock ticks.
 fn work_in_time<R: Threads + Wait + Sync>(
     rt: &R,
     alloc: Global,
@@ -207,7 +207,7 @@ fn work_in_time<R: Threads + Wait + Sync>(
     seen
 }
 
-// What is to be found where so many jobs are done, and nothing is out.
+// Returns what is to be found if `done` jobs are done, and neither the buffer nor the drive is out.
 fn after(done: u32) -> Found {
     Found {
         counted: u64::from(done),
@@ -216,7 +216,8 @@ fn after(done: u32) -> Found {
     }
 }
 
-// At each call all is done of the jobs before it, and at its end of the job itself.
+// Fails unless at each call all jobs before it are done, and at its end the job itself too, and the worker kept them in
+// this order.
 fn assert_in_order<R: Abort>(rt: &R, calls: &[(Call, Found)], kept: &[Done]) {
     let wanted: [(Call, Found); CALLS] = [
         (Call::Begin(0), after(0)),
@@ -231,8 +232,8 @@ fn assert_in_order<R: Abort>(rt: &R, calls: &[(Call, Found)], kept: &[Done]) {
     expect_same(rt, kept, jobs.as_slice());
 }
 
-// Returns what the watcher finds and the worker brings, on doors of this kind. (The doors are dropped in a function of
-// their own: in the test, where more is dropped beside them, that takes the checker a minute.)
+// Returns what the watcher finds and the worker kept, on doors of this kind. (The doors are dropped in a function of
+// their own: in the test, which drops more beside them, that takes the checker a minute.)
 fn watched_on<R: Threads + Wait + Sync>(
     rt: &R,
     alloc: Global,

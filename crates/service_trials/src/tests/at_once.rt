@@ -1,5 +1,6 @@
-//! How many workers are at work at once, by what `begin` sees: each job waits until as many have begun with it as there
-//! are workers. A service with fewer workers at work, or with one thread for all jobs, can't do it.
+//! Tests how many workers are at work at once. In `begin` each job waits until its whole group has begun, which is as
+//! many jobs as there are workers. A service with fewer workers at work, or with one thread for all jobs, fails the
+//! test.
 ghost use Rattle.std.specs.Prelude.{◌<◌};
 
 use crate::tests::compared::expect_same;
@@ -12,7 +13,7 @@ use std::test::Fail;
 use std::thread;
 use std::thread::Threads;
 
-// How many workers do how many jobs.
+// A number of workers, and a number of jobs for them.
 #[derive(Clone, Copy)]
 struct Size {
     workers: u32,
@@ -25,28 +26,28 @@ const FOUR: Size = Size {
     jobs: 12,
 };
 
-// As many workers as there may be, each with as many jobs.
+// The greatest number of workers, each with as many jobs.
 const SIXTEEN: Size = Size {
     workers: 16,
     jobs: 256,
 };
 
-// How often one that has begun looks for the others that begin with it, with a yield each time.
+// Number of polls of a job for the others of its group, with a yield after each.
 const TURNS: u32 = 10_000_000;
 
-// What is seen of the jobs.
+// What the gate sees of the jobs.
 #[derive(Drop)]
 struct AtOnce {
     size: Size,
     turns: u32,
-    // How often each job has begun, and ended after it had begun once.
+    // How often each job has begun, and how often it ended after it had begun once.
     begins: Vec<AtomicUsize>,
     ends: Vec<AtomicUsize>,
-    // How many have begun, and how many of them before the first one ended.
+    // How many jobs have begun; how many of them before the first ended; how many have ended.
     begun: AtomicUsize,
     before_an_end: AtomicUsize,
     ended: AtomicUsize,
-    // How many have begun and not ended, and the most that there were.
+    // How many jobs have begun and not ended, and the greatest such number so far.
     at_work: AtomicUsize,
     most_at_work: AtomicUsize,
     gave_up: AtomicBool,
@@ -55,7 +56,7 @@ struct AtOnce {
 // What was seen of a whole service.
 #[derive(Clone, Copy, Debug, PartialEq, Eq)]
 struct Seen {
-    // How many jobs have begun once, and ended once after that, and not more often.
+    // How many jobs began exactly once, and how many ended exactly once after that.
     begun_once: usize,
     ended_once: usize,
     before_an_end: usize,
@@ -64,7 +65,7 @@ struct Seen {
     gave_up: bool,
 }
 
-// A count for each job.
+// Returns a count of 0 for each job.
 fn counts(alloc: Global, jobs: usize) -> Result<Vec<AtomicUsize>, AllocError> {
     let mut counts = Vec::new(alloc);
     for _ in 0..jobs {
@@ -126,7 +127,7 @@ impl AtOnce {
         self.begun.fetch_add(1, Ordering::SeqCst);
     }
 
-    // Whether this job and all that begin with it have begun.
+    // Returns true if this job and all others of its group have begun.
     fn have_begun(&self, job: usize) -> bool {
         let workers = self.size.workers as usize;
         self.begun.load(Ordering::SeqCst) / workers > job / workers
@@ -158,7 +159,7 @@ impl Gate for AtOnce {
     }
 }
 
-// As many jobs for as many workers.
+// Returns `size.jobs` jobs for `size.workers` workers.
 fn some_jobs(alloc: Global, size: Size) -> Result<Jobs, Fail> {
     match Jobs::make(100, size.workers, vec![in alloc; 3u16; size.jobs]?) {
         Ok(jobs) => Ok(jobs),
@@ -166,8 +167,8 @@ fn some_jobs(alloc: Global, size: Size) -> Result<Jobs, Fail> {
     }
 }
 
-// As many different jobs had begun before the first ended as there are workers, each job began once and ended once
-// after that, and never were more at work.
+// Fails unless as many different jobs as there are workers began before the first ended. Each job has to have begun
+// once and ended once after that, and there may never have been more jobs at work than workers.
 fn assert_at_once<R: Abort>(rt: &R, answer: Result<Report, ServiceFault>, gate: &AtOnce) {
     let Ok(report) = answer else {
         panic!(rt; "no report")
@@ -185,7 +186,7 @@ fn assert_at_once<R: Abort>(rt: &R, answer: Result<Report, ServiceFault>, gate: 
     expect_same(rt, gate.seen(), wanted);
 }
 
-// Has these jobs done on doors of this kind.
+// Does these jobs on doors of this kind, and fails unless `assert_at_once` holds.
 fn assert_served<R: Threads + Wait + Abort + Sync>(
     rt: &R,
     alloc: Global,
@@ -222,8 +223,8 @@ fn sixteen_at_once_by_ticket(rt: HostRuntime) -> Result<(), Fail> {
     assert_served(&rt, rt.alloc(), Kind::Ticket, SIXTEEN)
 }
 
-// One thread that does all jobs, one after another, is seen. (With fewer turns, since a yield may take milliseconds
-// beside other work.)
+// The test detects one thread that does all jobs, one after another. (With fewer polls, since a yield may take
+// milliseconds with other work on the core.)
 #[test]
 fn one_at_a_time_is_seen(rt: HostRuntime) -> Result<(), Fail> {
     let gate = AtOnce::of(rt.alloc(), FOUR, 100)?;

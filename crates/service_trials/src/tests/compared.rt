@@ -1,10 +1,10 @@
-//! What all tests compare.
+//! The comparison that all tests use.
 
 use std::fmt::Debug;
 use std::process::Abort;
 
-/// Fails the test where the value that was found isn't the wanted one. (Each `assert_eq!` is checked where it stands,
-/// and takes the checker some two seconds; a call of this takes it half a second.)
+/// Fails the test if `found` isn't `wanted`. (The checker takes some two seconds for each `assert_eq!` in a body, and
+/// half a second for a call of this function.)
 pub fn expect_same<T: Copy + Debug + PartialEq, R: Abort>(rt: &R, found: T, wanted: T) {
     assert_eq!(rt; found, wanted);
 }

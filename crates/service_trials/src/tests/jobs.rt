@@ -1,4 +1,4 @@
-//! Job files, and what is gathered of results.
+//! Tests of job files, and of what is gathered of results.
 mod failures;
 mod gathering;
 mod lines;

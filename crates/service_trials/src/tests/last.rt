@@ -1,5 +1,5 @@
-//! The first job is held up until all others are done, with other workers. A service with one worker for them all can't
-//! do it.
+//! The first job is held up until other workers have done all other jobs. A service with one worker for them all fails
+//! the test.
 use crate::tests::compared::expect_same;
 use disk_service::{Done, Gate, Jobs, Report, ServiceFault, serve, serve_tickets};
 use std::alloc::Global;
@@ -10,10 +10,10 @@ use std::thread;
 
 const JOBS: usize = 16;
 
-// How often the first job looks whether all others have ended, with a yield each time.
+// Number of polls of the first job for the end of all others, with a yield after each.
 const TURNS: u32 = 10_000_000;
 
-// How many jobs have ended, and whether the first one gave up looking.
+// How many jobs have ended, and whether the first job stopped polling before all others had ended.
 #[derive(Drop)]
 struct FirstLast {
     turns: u32,
@@ -30,7 +30,7 @@ impl FirstLast {
         }
     }
 
-    // How many have ended, and whether the first gave up looking.
+    // Returns how many jobs have ended, and true if the first job stopped polling too early.
     fn seen(&self) -> (usize, bool) {
         (
             self.ended.load(Ordering::SeqCst),
@@ -58,7 +58,7 @@ impl Gate for FirstLast {
     }
 }
 
-// As many jobs on one cylinder, for four workers.
+// Returns `JOBS` jobs on one cylinder, for four workers.
 fn equal_jobs(alloc: Global) -> Result<Jobs, Fail> {
     match Jobs::make(100, 4, vec![in alloc; 3u16; JOBS]?) {
         Ok(jobs) => Ok(jobs),
@@ -66,7 +66,7 @@ fn equal_jobs(alloc: Global) -> Result<Jobs, Fail> {
     }
 }
 
-// The report has the jobs in their order, and the first one did not give up looking.
+// Fails unless the report has the jobs in their order, and the first job saw the end of all others.
 fn assert_in_order<R: Abort>(rt: &R, answer: Result<Report, ServiceFault>, gate: &FirstLast) {
     let Ok(report) = answer else {
         panic!(rt; "no report")
@@ -100,7 +100,7 @@ fn first_job_last_by_ticket(rt: HostRuntime) -> Result<(), Fail> {
     Ok(())
 }
 
-// The limit is met where the others don't end.
+// The limit is reached if the others don't end.
 #[test]
 fn first_job_first_looks_gave_up(rt: HostRuntime) {
     let gate = FirstLast::of(1000);

@@ -1,5 +1,5 @@
-//! Two workers meet: each begins its job only once the other has begun its own. A service that does its jobs one after
-//! another can't do it.
+//! Two workers meet: each begins its job only when the other has begun its own. A service that does its jobs one after
+//! another fails the test.
 use crate::tests::compared::expect_same;
 use disk_service::{Done, Gate, Jobs, Report, ServiceFault, serve, serve_tickets};
 use std::alloc::Global;
@@ -8,10 +8,10 @@ use std::sync::atomic::{AtomicBool, Ordering};
 use std::test::Fail;
 use std::thread;
 
-// How often one that has begun looks for the other, with a yield each time.
+// Number of polls of a job for the beginning of the other, with a yield after each.
 const TURNS: u32 = 10_000_000;
 
-// Which of two jobs have begun, and whether one gave up looking for the other.
+// Which of two jobs have begun, and whether one of them stopped polling before the other began.
 #[derive(Drop)]
 struct Meeting {
     turns: u32,
@@ -30,7 +30,7 @@ impl Meeting {
         }
     }
 
-    // Looks until this one has begun.
+    // Polls until the other job has begun, at most `turns` times.
     fn look_for(&self, other: &AtomicBool) {
         for _ in 0..self.turns {
             if other.load(Ordering::SeqCst) {
@@ -45,7 +45,7 @@ impl Meeting {
         self.gave_up.load(Ordering::SeqCst)
     }
 
-    // Both have begun, and neither gave up looking for the other.
+    // Returns true if both jobs have begun, and neither stopped polling too early.
     fn have_met(&self) -> bool {
         self.first.load(Ordering::SeqCst)
             && self.second.load(Ordering::SeqCst)
@@ -67,7 +67,7 @@ impl Gate for Meeting {
     fn end(&self, _job: usize) {}
 }
 
-// A job for each of two workers.
+// Returns a job for each of two workers.
 fn two_jobs(alloc: Global) -> Result<Jobs, Fail> {
     match Jobs::make(400, 2, vec![in alloc; 300, 3]?) {
         Ok(jobs) => Ok(jobs),
@@ -75,7 +75,7 @@ fn two_jobs(alloc: Global) -> Result<Jobs, Fail> {
     }
 }
 
-// The report is right, and the two have met.
+// Fails unless the report is right and the two jobs have met.
 fn assert_met<R: Abort>(rt: &R, answer: Result<Report, ServiceFault>, meeting: &Meeting) {
     let Ok(report) = answer else {
         panic!(rt; "no report")
@@ -104,7 +104,7 @@ fn two_workers_meet_by_ticket(rt: HostRuntime) -> Result<(), Fail> {
     Ok(())
 }
 
-// (With fewer turns, since a yield may take milliseconds beside other work.)
+// (With fewer polls, since a yield may take milliseconds with other work on the core.)
 #[test]
 fn one_after_another_gives_up(_rt: HostRuntime) -> Result<(), Fail> {
     let meeting = Meeting::of(1000);

@@ -14,7 +14,7 @@ const THREE_READS: &[u8] = b"job 0 cylinder 0 block 17\n\
     job 2 cylinder 300 block 24481\n\
     total jobs 3 sum 24524\n";
 
-// What the service answers, and what it wrote.
+// Returns the service's result, and what it wrote.
 fn ran<R: Threads + Wait + Sync>(
     rt: &R,
     alloc: Global,
@@ -74,7 +74,7 @@ fn job_file_limits(rt: HostRuntime) {
     }
 }
 
-// `disk 1 1` and this number of jobs.
+// Returns the file of `disk 1 1` and this number of jobs.
 fn many_lines(alloc: Global, jobs: u32) -> Result<Vec<u8>, AllocError> {
     let mut file = Vec::from_slice(alloc, b"disk 1 1\n")?;
     for _ in 0..jobs {

@@ -1,4 +1,5 @@
-//! The report is the same with any number of workers, byte for byte, and it is the one that is worked out here, apart.
+//! The report is the same with any number of workers, byte for byte, and it is the report that is computed here
+//! independently.
 use disk_service::{Jobs, NoGate, ServiceFault, serve, write_report};
 use std::alloc::{AllocError, Global};
 use std::io::Write;
@@ -9,7 +10,7 @@ use std::thread::Threads;
 
 const JOBS: u32 = 4096;
 
-// Cylinders in which no pattern shows.
+// Returns cylinders without a visible pattern.
 fn drawn(alloc: Global) -> Result<Vec<u16>, AllocError> {
     let mut cylinders = Vec::new(alloc);
     let mut lot = 1u32;
@@ -20,7 +21,7 @@ fn drawn(alloc: Global) -> Result<Vec<u16>, AllocError> {
     Ok(cylinders)
 }
 
-// The report of jobs on these cylinders. The sum of the blocks was found by another program (awk).
+// Returns the report of jobs on these cylinders. The sum of the blocks was found by another program (awk).
 fn wanted(alloc: Global, cylinders: &[u16]) -> Result<Vec<u8>, Fail> {
     let mut text = Vec::new(alloc);
     for (job, cylinder) in cylinders.iter().enumerate() {
@@ -32,7 +33,7 @@ fn wanted(alloc: Global, cylinders: &[u16]) -> Result<Vec<u8>, Fail> {
     Ok(text)
 }
 
-// The report that this number of workers brings about.
+// Returns the report of the service with this number of workers.
 fn reported<R: Threads + Wait + Sync>(
     rt: &R,
     alloc: Global,

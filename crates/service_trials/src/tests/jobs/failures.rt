@@ -1,4 +1,4 @@
-//! A job file that is cut off, a reader that fails and writers that fail, at each byte.
+//! Tests of a job file that is cut off, a reader that fails and writers that fail, at each byte.
 use crate::tests::compared::expect_same;
 use arrayvec::ArrayVec;
 use disk_jobs::{Done, Report, ServiceFault, read_jobs, write_report};
@@ -13,7 +13,7 @@ const REPORT: &[u8] = b"job 0 cylinder 0 block 17\n\
     job 2 cylinder 300 block 24481\n\
     total jobs 3 sum 24524\n";
 
-// The cylinders that the first `length` bytes of the file spell, or their fault.
+// Returns the cylinders that the first `length` bytes of the file spell, or their fault.
 fn at_cut(length: usize) -> Result<&'static [u16], ServiceFault> {
     match length {
         0 => Err(ServiceFault::NoHeader),
@@ -44,7 +44,7 @@ fn jobs_cut_at_each_byte(rt: HostRuntime) -> Result<(), Fail> {
     Ok(())
 }
 
-// Gives its bytes, and then fails.
+// A reader that gives its bytes, and then fails.
 #[derive(Drop)]
 struct Breaking<'a> {
     rest: &'a [u8],
@@ -73,7 +73,7 @@ fn jobs_reader_fails(rt: HostRuntime) -> Result<(), Fail> {
     Ok(())
 }
 
-// Takes a byte a call while there is room, and then fails or takes nothing.
+// A writer that takes one byte a call while there is room, and then fails or takes nothing.
 #[derive(Drop)]
 struct Filling {
     taken: ArrayVec<u8, 106>,

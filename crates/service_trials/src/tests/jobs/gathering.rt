@@ -1,10 +1,10 @@
-//! What jobs can be made, and what is gathered of their results.
+//! Tests of which jobs can be made, and of what is gathered of their results.
 use crate::tests::compared::expect_same;
 use disk_jobs::{BadJobs, Done, Jobs, Report, ServiceFault, gather};
 use std::alloc::Global;
 use std::test::Fail;
 
-// What is gathered of such results, where the jobs are on the cylinders 5 and 6.
+// Returns what is gathered of these results, with two jobs, on the cylinders 5 and 6.
 fn gathered(
     alloc: Global,
     results: &[(u32, u16)],

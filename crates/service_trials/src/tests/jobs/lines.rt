@@ -1,4 +1,4 @@
-//! Each fault of a job file at its line, and where reading stops.
+//! Tests of each fault of a job file at its line, and of how far such a file is read.
 use crate::tests::compared::expect_same;
 use disk_jobs::{ServiceFault, read_jobs, read_jobs_watched};
 use line_text::reader::WatchedReader;
@@ -12,7 +12,7 @@ fn last_of(alloc: Global, file: &[u8]) -> Result<usize, ServiceFault> {
     read_jobs(alloc, &mut reader).map(|jobs| jobs.cylinders().len())
 }
 
-// Whether each file's first fault is a bad line with this number.
+// Returns true if the first fault of each file is a bad line with this number.
 fn is_bad_at(alloc: Global, number: u64, files: &[&[u8]]) -> bool {
     let mut files = files.iter();
     files.all(|file| last_of(alloc, file) == Err(ServiceFault::BadLine(number)))
@@ -81,7 +81,7 @@ fn long_lines(rt: HostRuntime) -> Result<(), Fail> {
     Ok(())
 }
 
-// Gives the header, if there is one, and then one line for ever.
+// A reader that gives the header, if there is one, and then one line without end.
 #[derive(Drop)]
 struct Endless<'a> {
     header: &'a [u8],

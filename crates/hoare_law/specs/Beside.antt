@@ -1,3 +1,3 @@
--- What the crates need beside the definitions.
+-- What the crates use besides the definitions.
 pub mod Rising
 pub mod Erasure

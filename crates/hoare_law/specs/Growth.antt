@@ -1,4 +1,5 @@
--- How what a place knows of the history, its front, grows by a call.
+-- How a call makes the front of a place grow, the history that the place knows. In this file k is the place, c the
+-- condition, s the data, f the front before the call and h the front after it.
 use Rattle.std.specs.Prelude.{ℕ, List, [], ◌∷◌, ◌++◌, ◌≡◌, ◌≢◌, Bool, true, false, Some}
 use Rattle.hoare_law.specs.declared.event.Event.{Event}
 use Rattle.hoare_law.specs.declared.event.History.{History}
@@ -14,44 +15,48 @@ pub record Begins {S : Type 0} (f h : History S) : Type 0 where
   pub later : List (Event S)
   pub is : f.events ++ later ≡ h.events
 
--- h begins with f, and of place k's events exactly t is added
+-- h begins with f, and of the events of place k adds exactly t
 pub record Grows {S : Type 0} (k : ℕ) (t : List (Event S)) (f h : History S) : Type 0 where
   pub begins : Begins f h
   pub adds : own k h.events ≡ own k f.events ++ t
 
--- h begins with f, ends with e, and of e's place only e is added
+-- h begins with f and ends with e, and of the events of e's place adds only e
 pub record AddsLast {S : Type 0} (f : History S) (e : Event S) (h : History S) : Type 0 where
   pub grows : Grows (place_of e) (e ∷ []) f h
   pub ends : newest h.events ≡ Some e
 
--- h begins with f and then d, ends with e, and of e's place only these two are added
+-- h begins with f and then d, ends with e, and of the events of e's place adds only these two
 pub record AddsTwo {S : Type 0} (f : History S) (d e : Event S) (h : History S) : Type 0 where
   pub grows : Grows (place_of e) (d ∷ e ∷ []) f h
   pub begins : Begins (with_event f d) h
   pub ends : newest h.events ≡ Some e
 
--- what a signal adds, with the data t that the signaller finds at its return: it resumed somebody, or nobody waited
+-- what a signal adds: it resumed a waiter, and t are the data that the signaller finds when it returns; or no process
+-- waited, and nothing is added. The `Bool` is true if a waiter was resumed
 pub data Signals {S : Type 0} (k c : ℕ) (s t : S) (f h : History S) : Bool → Type 0 where
   resumed_one : (w : ℕ) → Chooses c f.events w → AddsTwo f (Signal k c w s) (Back k t) h → Signals k c s t f h true
   nobody_waited : waiting c f.events ≡ [] → h ≡ f → t ≡ s → Signals k c s t f h false
 
--- what a signal joined with the exit adds
+-- what a pass adds, a signal joined with the exit: it resumed a waiter, or no process waited and it is a plain leave.
+-- The `Bool` is true if a waiter was resumed
 pub data Exits {S : Type 0} (k c : ℕ) (s : S) (f h : History S) : Bool → Type 0 where
   passed_on : (w : ℕ) → Chooses c f.events w → h ≡ with_event f (Pass k c w s) → Exits k c s f h true
   just_left : waiting c f.events ≡ [] → h ≡ with_event f (Leave k s) → Exits k c s f h false
 
--- what a notify adds: it called the one that a signal would resume, or nobody waited
+-- what a notify adds: it notified the waiter that a signal would resume, or no process waited and nothing is added. The
+-- `Bool` is true if a waiter was notified
 pub data Notifies {S : Type 0} (k c : ℕ) (s : S) (f h : History S) : Bool → Type 0 where
   called_one : (w : ℕ) → Chooses c f.events w → h ≡ with_event f (Notify k c w s) → Notifies k c s f h true
   nobody_called : waiting c f.events ≡ [] → h ≡ f → Notifies k c s f h false
 
--- what a broadcast adds: it called all that waited, or nobody waited
+-- what a broadcast adds: it notified all waiters, or no process waited and nothing is added
 pub data Broadcasts {S : Type 0} (k c : ℕ) (s : S) (f h : History S) : Type 0 where
   called_all : waiting c f.events ≢ [] → h ≡ with_event f (Broadcast k c s) → Broadcasts k c s f h
   none_called : waiting c f.events ≡ [] → h ≡ f → Broadcasts k c s f h
 
--- k came in, and goes on with what it then finds; g is its front then. Where what it first found held it up (of its
--- front at that moment and of the data), it waited once, on the condition and with the priority that those data say
+-- k entered, and continues with the data `found` and the front g: at once, if what it first found doesn't hold it up,
+-- or else after one wait. Its front at that moment and the data decide if it is held up. The data also say the
+-- condition and the priority of the wait
 pub data ComesTo {S : Type 0} (k : ℕ) (held_up : History S → S → Type 0) (condition priority : S → ℕ) (f g : History S)
     (found : S) : Type 0 where
   at_once : AddsLast f (Admit k found) g → (held_up g found → ⊥) → ComesTo k held_up condition priority f g found
@@ -59,8 +64,8 @@ pub data ComesTo {S : Type 0} (k : ℕ) (held_up : History S → S → Type 0) (
       → AddsTwo e (Wait k (condition a) (priority a) a) (Resume k (condition a) found) g
       → ComesTo k held_up condition priority f g found
 
--- k gives the monitor up with s by its last act: a signal on c joined with the exit, or a signal on c that resumed
--- somebody, and then a plain exit
+-- k released the monitor with the data s by its last act: a signal on c joined with the exit, or a signal on c that
+-- resumed a waiter, and then a plain exit
 pub data Finishes {S : Type 0} (k c : ℕ) (s : S) (f h : History S) : Type 0 where
   exited : (b : Bool) → Exits k c s f h b → Finishes k c s f h
   signalled : (w : ℕ) (t : S) (g : History S) → Chooses c f.events w → AddsTwo f (Signal k c w s) (Back k t) g

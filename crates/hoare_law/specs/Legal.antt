@@ -1,4 +1,4 @@
--- Legal histories: those of Hoare's machine, with Mesa conditions beside Hoare's.
+-- Legal histories: those of Hoare's machine, with Mesa conditions besides Hoare's.
 use Rattle.std.specs.Prelude.{List, [], ◌∷◌, ◌++◌, ◌<◌, ◌≡◌, ◌≢◌, true, ⊤}
 use Rattle.hoare_law.specs.declared.event.Event.{Event}
 use Rattle.hoare_law.specs.declared.event.History.{History}
@@ -11,7 +11,7 @@ use Rattle.hoare_law.specs.Sizes.{IsHoare, IsMesa}
 use Rattle.hoare_law.specs.Waiting.{waiting, Chooses}
 use Rattle.hoare_law.specs.Turns.{turn, outside}
 
--- the condition and the other place that the event names are the monitor's
+-- the condition and the other place that the event names are in range for the monitor's sizes
 abbrev pub NamesInRange : {S : Type 0} → Sizes → Event S → Type 0
 NamesInRange n (Wait k c p s) = c < n.conditions
 NamesInRange n (Signal k c w s) = (c < n.conditions) × (w < n.places)
@@ -21,12 +21,13 @@ NamesInRange n (Notify k c w s) = (c < n.conditions) × (w < n.places)
 NamesInRange n (Broadcast k c s) = c < n.conditions
 NamesInRange n _ = ⊤
 
--- so is its own place
+-- the acting place, the condition and the other place are in range for the monitor's sizes
 abbrev pub IsInRange : {S : Type 0} → Sizes → Event S → Type 0
 IsInRange n e = (place_of e < n.places) × NamesInRange n e
 
--- the event is the turn's, finds the data as they were left, resumes or calls whom it should, and suits the condition's
--- kind: signals are for Hoare's, calls for Mesa conditions
+-- it is the turn for the event, a place that enters is outside, and the data found are as they were left. A signal, a
+-- pass or a notify names the place of the chosen waiter, and a broadcast finds a waiter. The condition is of the right
+-- kind: signals and passes are for Hoare's, notifies and broadcasts for Mesa conditions
 abbrev pub Fits : {S : Type 0} → History S → Event S → Type 0
 Fits f (Admit k s) = (turn f.events ≡ Free) × (outside k f.events ≡ true) × (s ≡ latest_data f)
 Fits f (Resume k c s) = (turn f.events ≡ Owed k c) × (s ≡ latest_data f)
@@ -39,11 +40,11 @@ Fits f (Notify k c w s) = (turn f.events ≡ Held k) × Chooses c f.events w × 
 Fits f (Broadcast k c s) =
     (turn f.events ≡ Held k) × (waiting c f.events ≢ []) × IsMesa f.sizes.conditions f.sizes.mesa c
 
--- the event may come next
+-- the event may come next, after the events of f
 pub record Allowed {S : Type 0} (f : History S) (e : Event S) : Type 0 where
   pub in_range : IsInRange f.sizes e
   pub fits : Fits f e
 
--- each event was allowed after those before it
+-- each event is allowed after the events before it
 pub record IsLegal {S : Type 0} (h : History S) : Type 0 where
   pub each : (f later : List (Event S)) (e : Event S) → h.events ≡ f ++ e ∷ later → Allowed (cut_to h f) e

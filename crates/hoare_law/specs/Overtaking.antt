@@ -15,45 +15,46 @@ use Rattle.hoare_law.specs.Waiting.{waiting}
 abbrev pub with_events : {S : Type 0} → History S → List (Event S) → History S
 with_events h later = cut_to h (h.events ++ later)
 
--- the place releases the monitor and resumes nobody: it waits or leaves
+-- the place releases the monitor and resumes no process: it waits or leaves
 abbrev pub is_release : {S : Type 0} → Event S → Bool
 is_release (Wait k c p s) = true
 is_release (Leave k s) = true
 is_release _ = false
 
--- how often the monitor is released
+-- how many releases there are
 unfoldable pub releases : {S : Type 0} → List (Event S) → ℕ
 releases later = length (filter is_release later)
 
+-- the event is the return of a signaller
 abbrev pub is_back : {S : Type 0} → Event S → Bool
 is_back (Back k s) = true
 is_back _ = false
 
--- the signallers that return, in this order
+-- the signallers that return, in their order
 unfoldable pub returned : {S : Type 0} → List (Event S) → List ℕ
 returned later = map place_of (filter is_back later)
 
--- how many signals resume a waiter
+-- how many signals there are, each of which resumes a waiter
 unfoldable pub signals : {S : Type 0} → List (Event S) → ℕ
 signals later = length (filter is_signal later)
 
--- a called process resumes: its condition is a Mesa condition, in a monitor of these sizes
+-- a notified process resumes: its condition is a Mesa condition, in a monitor of these sizes
 abbrev pub resumes_called : {S : Type 0} → Sizes → Event S → Bool
 resumes_called n (Resume k c s) = nat_le n.conditions (c + n.mesa)
 resumes_called n _ = false
 
--- the called processes that resume, in this order
+-- the notified processes that resume, in their order
 unfoldable pub resumed_called : {S : Type 0} → Sizes → List (Event S) → List ℕ
 resumed_called n later = map place_of (filter (resumes_called n) later)
 
--- the chosen one of the waiters on c is taken
+-- the event takes the chosen waiter from c
 abbrev pub takes_from : {S : Type 0} → ℕ → Event S → Bool
 takes_from c (Signal k d w s) = d == c
 takes_from c (Pass k d w s) = d == c
 takes_from c (Notify k d w s) = d == c
 takes_from c _ = false
 
--- how many of the waiters on c are taken, one by one
+-- how many waiters are taken from c by events that take one each
 unfoldable pub taken_from : {S : Type 0} → ℕ → List (Event S) → ℕ
 taken_from c later = length (filter (takes_from c) later)
 
@@ -86,6 +87,7 @@ is_notification _ = false
 unfoldable pub notifications : {S : Type 0} → List (Event S) → ℕ
 notifications later = length (filter is_notification later)
 
+-- the event is a wait
 abbrev pub is_wait : {S : Type 0} → Event S → Bool
 is_wait (Wait k c p s) = true
 is_wait _ = false

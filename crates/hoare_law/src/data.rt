@@ -1,50 +1,55 @@
-//! The data of a monitor, with what always holds of them, what holds at rest, and what a resumed process finds.
+//! A monitor's data, with the assertions of its author: what always holds, what holds at rest, and what a resumed
+//! process finds.
 ghost use Rattle.std.specs.Prelude.{◌≡◌, ◌<◌, ◌↔◌, ℕ, List, IsTrue};
 
 use crate::waits::Waits;
 
-/// The data of a monitor, with what its author says of them ("Monitors", Introduction: the invariant and the
-/// assertions).
+/// The data of a monitor, with the assertions of its author: the invariant, `rest` and `ready` (Hoare 1974,
+/// Introduction).
 ///
-/// `rest` is what holds at each wait and each leave. `ready` is what a process finds that waited on one of Hoare's
-/// conditions with a priority and is resumed; the waiting priorities then no longer have that process. Who waited on a
-/// Mesa condition finds `rest`. Hoare's own rules are the case in which neither looks at the priorities, `rest` is the
-/// invariant, and `ready` is the invariant and the condition's assertion.
+/// `rest` holds at each wait and each leave. `ready` holds for a process that waited on one of Hoare's conditions with
+/// a priority, when a signal resumes it; the waiting priorities are then those without that process. A process that
+/// waited on a Mesa condition finds `rest` when it resumes.
+///
+/// In Hoare's own rules neither looks at the priorities, `rest` is the invariant, and `ready` is the invariant and the
+/// condition's assertion.
 pub trait MonitorData {
-    /// How many conditions the monitor has: they are numbered from 0. A monitor can be made of 1 to 8.
+    /// Number of conditions, which are numbered from 0. A monitor can be made with 1 to 8.
     const CONDITIONS: usize;
 
-    /// The same number, to a contract.
+    /// Ghost copy of the constant `CONDITIONS`, for contracts.
     ghost CONDITIONS: { ℕ };
 
-    /// How many of them, the last ones, are Mesa conditions; the others are Hoare's.
+    /// Number of Mesa conditions. They are the last of the `CONDITIONS`; the others are Hoare's.
     const MESA: usize;
 
-    /// The same number, to a contract.
+    /// Ghost copy of the constant `MESA`, for contracts.
     ghost MESA: { ℕ };
 
-    /// What always holds of the data.
+    /// The invariant: what always holds of the data.
     ghost inv: { Self → Type 0 };
 
     /// What holds of the data and the waiting priorities at each wait and each leave.
     ghost rest: { Self → (ℕ → List ℕ) → Type 0 };
 
-    /// What a process that waited on a condition with a priority finds when it is resumed.
+    /// What a process that waited on a condition with a priority finds when it is resumed: the data, and the waiting
+    /// priorities without that process.
     ghost ready: { ℕ → ℕ → Self → (ℕ → List ℕ) → Type 0 };
 
-    /// Whether `rest` holds of the data and these waiting priorities.
+    /// Returns true if `rest` holds of the data and these waiting priorities.
     fn rest_holds<W: Waits>(&self, lists: &W) -> bool
         ensures { IsTrue result ↔ rest self.now (W.waiting_priorities lists.now) };
 
-    /// Whether `ready` holds, of a condition in range and a priority, for the data and these waiting priorities.
+    /// Returns true if `ready` holds for `condition`, which is in range, and `priority`, of the data and these waiting
+    /// priorities.
     fn ready_holds<W: Waits>(&self, condition: usize, priority: u64, lists: &W) -> bool
         requires { condition < CONDITIONS }
         ensures { IsTrue result
             ↔ ready condition priority self.now (W.waiting_priorities lists.now) };
 
-    /// Where `rest` holds, the invariant does.
+    /// If `rest` holds of the data, so does the invariant.
     ghost rest_inv: { (s : Self) (q : ℕ → List ℕ) → rest s q → inv s };
 
-    /// Where `ready` holds, the invariant does.
+    /// If `ready` holds of the data, so does the invariant.
     ghost ready_inv: { (c p : ℕ) (s : Self) (q : ℕ → List ℕ) → ready c p s q → inv s };
 }

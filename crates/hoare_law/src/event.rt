@@ -1,61 +1,64 @@
-//! What happens at a monitor: events, and histories of them.
+//! Events at a monitor, and histories of them. Contracts and proofs alone use them.
 use std::collections::LinkedList;
 
-/// One step of one process at a monitor. Histories stand in contracts alone: no value of this type is ever made.
+/// One step of one process at a monitor. Ghost: histories exist only in contracts and proofs, and no program makes a
+/// value of this type.
 ///
-/// `data` is the monitor's data as left (`Wait`, `Signal`, `Pass`, `Leave`), as found (`Admit`, `Resume`, `Back`), or
-/// as they are then in hand (`Notify`, `Broadcast`).
+/// `place` is the number of the process's place, `condition` the number of a condition; `resumed` and `called` are the
+/// place of the waiter that the event takes from the condition. `data` is the monitor's data: as the process left them
+/// (`Wait`, `Signal`, `Pass`, `Leave`), as it found them (`Admit`, `Resume`, `Back`), or as they are in hand then
+/// (`Notify`, `Broadcast`).
 pub enum Event<S> {
-    /// A newcomer comes in from outside.
+    /// The process enters from outside.
     Admit {
         place: usize,
         data: S,
     },
-    /// The process inside waits on a condition, with a priority, and gives the monitor up.
+    /// The process, which is inside, releases the monitor and waits on a condition with a priority.
     Wait {
         place: usize,
         condition: usize,
         priority: u64,
         data: S,
     },
-    /// The process inside hands the monitor to a waiting one, and is held up as a signaller.
+    /// The process, which is inside, hands off the monitor to a waiter, and is held up as a signaller.
     Signal {
         place: usize,
         condition: usize,
         resumed: usize,
         data: S,
     },
-    /// The process inside hands the monitor to a waiting one, and is outside: a signal as the last act.
+    /// The process, which is inside, hands off the monitor to a waiter, and is outside: a signal as the last act.
     Pass {
         place: usize,
         condition: usize,
         resumed: usize,
         data: S,
     },
-    /// The process inside goes out.
+    /// The process, which is inside, leaves the monitor.
     Leave {
         place: usize,
         data: S,
     },
-    /// A process that waited on a condition, and was resumed or called, goes on.
+    /// The process, which waited on a condition and was resumed or notified, resumes.
     Resume {
         place: usize,
         condition: usize,
         data: S,
     },
-    /// A process that signalled goes on.
+    /// The process, which signalled, returns.
     Back {
         place: usize,
         data: S,
     },
-    /// The process inside calls a process that waits on a Mesa condition, and stays inside.
+    /// The process, which is inside, notifies a waiter on a Mesa condition, and stays inside.
     Notify {
         place: usize,
         condition: usize,
         called: usize,
         data: S,
     },
-    /// The process inside calls all that wait on a Mesa condition, and stays inside.
+    /// The process, which is inside, notifies all waiters on a Mesa condition, and stays inside.
     Broadcast {
         place: usize,
         condition: usize,
@@ -63,25 +66,24 @@ pub enum Event<S> {
     },
 }
 
-/// The numbers of a monitor: how many places and conditions it has, and how many of the conditions, the last ones, are
-/// Mesa conditions.
+/// The sizes of a monitor: how many places and conditions it has, and how many of the conditions are Mesa conditions.
 #[derive(Clone, Copy, Debug, PartialEq, Eq)]
 pub struct Sizes {
-    /// How many places it has, numbered from 0.
+    /// Number of places, which are numbered from 0.
     pub places: usize,
-    /// How many conditions it has, numbered from 0, Mesa conditions included.
+    /// Number of conditions, Mesa conditions included. They are numbered from 0.
     pub conditions: usize,
-    /// How many of them, the last ones, are Mesa conditions.
+    /// Number of Mesa conditions: the last of the conditions.
     pub mesa: usize,
 }
 
-/// What happened at a monitor of these sizes, opened with this data: its events, the oldest first. No value of it is
-/// ever made.
+/// What happened at a monitor: its sizes, the data that it was opened with, and its events. Ghost: no program makes a
+/// value of this type.
 pub struct History<S> {
-    /// The numbers of the monitor.
+    /// The sizes of the monitor.
     pub sizes: Sizes,
-    /// The data that it was opened with.
+    /// The data that the monitor was opened with.
     pub opening: S,
-    /// What happened since, the oldest event first.
+    /// The events since the opening, the oldest first.
     pub events: LinkedList<Event<S>>,
 }

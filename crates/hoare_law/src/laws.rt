@@ -1,4 +1,4 @@
-//! What follows from the rules of legal histories: functions that do nothing, whose contracts are the laws.
+//! What follows from the rules of legal histories. Each function does nothing; its contract is a law.
 ghost use Rattle.std.specs.Prelude.{◌≡◌, ◌≢◌, ◌≤◌, ◌<◌, ◌+◌, ◌*◌, ◌↔◌, ◌++◌, ◌∷◌, ℕ, List, [], All, IsTrue, Some};
 ghost use Rattle.std.specs.Prelude.{None, true};
 ghost use Rattle.std.specs.Prelude.{false, length, map};
@@ -19,8 +19,8 @@ ghost use Rattle.hoare_law.specs.Admissions.{admissions};
 ghost use Rattle.hoare_law.specs.Overtaking.{with_events, releases, returned, signals, resumed_called, taken_from};
 ghost use Rattle.hoare_law.specs.Overtaking.{waits_below, waiters_up_to, visits, notifications, waiting_anywhere};
 
-/// After each beginning of a legal history at most one place is inside, by the place's own last event. Then it is that
-/// place's turn, and the place isn't outside too ("Monitors", Introduction).
+/// After each beginning of a legal history at most one place is inside, by its own last event. After a legal history it
+/// is then that place's turn, and a place whose turn it is isn't outside too (Hoare 1974, Introduction).
 pub fn one_is_inside<S>()
     ensures one { (h : History S) (f later : List (Event S)) (j k : ℕ) → IsLegal h
         → h.events ≡ f ++ later → inside j f ≡ true → inside k f ≡ true → j ≡ k }
@@ -31,7 +31,7 @@ pub fn one_is_inside<S>()
 {}
 
 /// After a signal the resumed process continues at once: no third process comes between, and it finds the data as the
-/// signaller left them ("Monitors", Introduction).
+/// signaller left them (Hoare 1974, Introduction).
 pub fn nothing_intervenes<S>()
     ensures signal { (h : History S) (k c w : ℕ) (s : S) (e : Event S)
         → Allowed (with_event h (Signal k c w s)) e → e ≡ Resume w c s }
@@ -39,7 +39,8 @@ pub fn nothing_intervenes<S>()
         → Allowed (with_event h (Pass k c w s)) e → e ≡ Resume w c s }
 {}
 
-/// A process enters only if no signaller waits to return ("Monitors", Interpretation), and no process is called.
+/// A process enters only if no signaller waits to return (Hoare 1974, Interpretation), and no notified process has yet
+/// to resume.
 pub fn newcomers_last<S>()
     ensures signallers { (h : History S) (k : ℕ) (s : S) → Allowed h (Admit k s)
         → urgent h.events ≡ [] }
@@ -47,8 +48,8 @@ pub fn newcomers_last<S>()
         → called h.events ≡ [] }
 {}
 
-/// A called process resumes only if no signaller waits to return, and the called processes resume in the order of their
-/// calls.
+/// A notified process resumes only if no signaller waits to return, and the notified processes resume in the order of
+/// their notifications.
 pub fn signallers_before_called<S>()
     ensures signallers { (h : History S) (k c : ℕ) (s : S) → IsLegal h
         → IsMesa h.sizes.conditions h.sizes.mesa c → Allowed h (Resume k c s) → urgent h.events ≡ [] }
@@ -58,7 +59,7 @@ pub fn signallers_before_called<S>()
         × (place_of x ≡ k) × (condition_of x ≡ c) }
 {}
 
-/// After a notify or a broadcast the next event is one of the caller's place.
+/// After a notify or a broadcast the next event is one of the same place.
 pub fn caller_goes_on<S>()
     ensures notify { (h : History S) (k c w : ℕ) (s : S) (e : Event S)
         → Allowed (with_event h (Notify k c w s)) e → place_of e ≡ k }
@@ -66,8 +67,8 @@ pub fn caller_goes_on<S>()
         → Allowed (with_event h (Broadcast k c s)) e → place_of e ≡ k }
 {}
 
-/// A called process waits nowhere: its entry is a wait on a Mesa condition and its place's last event, and no list of
-/// waiters has its place.
+/// A notified process waits nowhere. Its entry is a wait on a Mesa condition and is its place's last event, and no list
+/// of waiters has its place.
 pub fn called_wait_nowhere<S>()
     ensures { (h : History S) → IsLegal h → All (λ x.
         (newest (own (place_of x) h.events) ≡ Some x)
@@ -76,7 +77,7 @@ pub fn called_wait_nowhere<S>()
         × ((d : ℕ) → All (λ y. place_of x ≢ place_of y) (waiting d h.events))) (called h.events) }
 {}
 
-/// A notify adds the waiter that a signal would have resumed to the end of the called processes. A broadcast adds all
+/// A notify adds the waiter that a signal would have resumed to the end of the notified processes. A broadcast adds all
 /// waiters on the condition, in the order in which signals would have resumed them.
 pub fn called_in_turn<S>()
     ensures notify { (h : History S) (k c w : ℕ) (s : S) → IsLegal h → Allowed h (Notify k c w s)
@@ -87,15 +88,15 @@ pub fn called_in_turn<S>()
         ≡ called h.events ++ in_order priority_of (waiting c h.events) }
 {}
 
-/// An admitted process was outside, and no process was inside ("Monitors", Introduction).
+/// An admitted process was outside, and the turn was free: no process was inside (Hoare 1974, Introduction).
 pub fn admitted_from_outside<S>()
     ensures outside { (h : History S) (k : ℕ) (s : S) → Allowed h (Admit k s)
         → outside k h.events ≡ true }
     ensures free { (h : History S) (k : ℕ) (s : S) → Allowed h (Admit k s) → turn h.events ≡ Free }
 {}
 
-/// A signal resumes a waiter of least priority, and the longest waiting among equal priorities ("Monitors", Scheduled
-/// waits); it finds no waiter only if no process waits.
+/// A signal resumes a waiter of least priority, and of equal priorities the longest waiting (Hoare 1974, Scheduled
+/// Waits). It resumes no waiter only if no process waits on the condition.
 pub fn least_is_chosen<S>()
     ensures least { (c : ℕ) (h : List (Event S)) (x : Event S) → chosen c h ≡ Some x
         → All (λ y. priority_of x ≤ priority_of y) (waiting c h) }
@@ -105,7 +106,8 @@ pub fn least_is_chosen<S>()
     ensures nobody { (c : ℕ) (h : List (Event S)) → chosen c h ≡ None → waiting c h ≡ [] }
 {}
 
-/// A process that enters, resumes or returns finds the data as the last process left them ("Monitors", Introduction).
+/// A process that enters, resumes or returns finds the latest data: those of the last event, or the opening data (Hoare
+/// 1974, Introduction).
 pub fn data_as_left<S>()
     ensures admitted { (h : History S) (k : ℕ) (s : S) → Allowed h (Admit k s) → s ≡ latest_data h }
     ensures resumed { (h : History S) (k c : ℕ) (s : S) → Allowed h (Resume k c s)
@@ -113,15 +115,16 @@ pub fn data_as_left<S>()
     ensures back { (h : History S) (k : ℕ) (s : S) → Allowed h (Back k s) → s ≡ latest_data h }
 {}
 
-/// A legal history with one more event that is allowed after it is legal, and so is each beginning of a legal history.
+/// A legal history stays legal if an event that is allowed after it is added. Each beginning of a legal history is
+/// legal.
 pub fn legal_grows<S>()
     ensures goes_on { (h : History S) (e : Event S) → IsLegal h → Allowed h e
         → IsLegal (with_event h e) }
     ensures began { (f h : History S) → Begins f h → IsLegal h → IsLegal f }
 {}
 
-/// While a signaller waits, the signallers before it return, in turn, and no other signaller does: so none that signals
-/// later returns before it. (They are other places.) ("Monitors", Interpretation.)
+/// While a signaller waits, the signallers before it return in turn, and no other signaller returns. So no signaller
+/// that signals later returns before it (Hoare 1974, Interpretation). The other waiting signallers are other places.
 pub fn signallers_return_in_turn<S>()
     ensures order { (h : History S) (later : List (Event S)) (before behind : List ℕ) (k : ℕ)
         → IsLegal (with_events h later) → urgent h.events ≡ before ++ k ∷ behind → own k later ≡ []
@@ -131,8 +134,9 @@ pub fn signallers_return_in_turn<S>()
         → urgent h ≡ before ++ k ∷ behind → All (λ j. j ≢ k) (before ++ behind) }
 {}
 
-/// A signaller with n signallers before it returns right after the (n + 1)-th release of the monitor, counted from its
-/// signal, or from any later moment at which a process is inside. There are fewer such releases than places.
+/// A signaller with n signallers before it returns right after the (n + 1)-th release of the monitor. The releases are
+/// counted from its signal, or from any later moment at which a process is inside. There are fewer such releases than
+/// places.
 pub fn releases_until_return<S>()
     ensures at_most { (h : History S) (later : List (Event S)) (before behind : List ℕ) (k : ℕ)
         → IsLegal (with_events h later) → urgent h.events ≡ before ++ k ∷ behind → own k later ≡ []
@@ -155,7 +159,7 @@ pub fn releases_until_return<S>()
         → releases later < h.sizes.places }
 {}
 
-/// No process is admitted while a signaller or a called process waits.
+/// No process is admitted while a signaller waits, or while a notified process has yet to resume.
 pub fn no_admission_meanwhile<S>()
     ensures signaller { (h : History S) (later : List (Event S)) (before behind : List ℕ) (k : ℕ)
         → IsLegal (with_events h later) → urgent h.events ≡ before ++ k ∷ behind → own k later ≡ []
@@ -165,8 +169,8 @@ pub fn no_admission_meanwhile<S>()
         → admissions later ≡ 0 }
 {}
 
-/// While a called process waits, the processes called before it resume, in turn, and no other called process does.
-/// (They are other places.)
+/// While a notified process has yet to resume, the processes notified before it resume in turn, and no other notified
+/// process resumes. The other notified processes are other places.
 pub fn called_resume_in_turn<S>()
     ensures order { (h : History S) (later before behind : List (Event S)) (x : Event S)
         → IsLegal (with_events h later) → called h.events ≡ before ++ x ∷ behind → own (place_of x) later ≡ []
@@ -177,9 +181,9 @@ pub fn called_resume_in_turn<S>()
         → called h.events ≡ before ++ x ∷ behind → All (λ y. place_of y ≢ place_of x) (before ++ behind) }
 {}
 
-/// A called process with n called before it and m signallers resumes right after the (n + m + 1)-th release of the
-/// monitor, counted from any moment at which a process is inside, and one release later for each signal since. There
-/// are fewer such releases than places and signals since.
+/// A notified process with n notified processes before it and m signallers resumes right after the (n + m + 1)-th
+/// release of the monitor, and one release later for each signal since. The releases are counted from any moment at
+/// which a process is inside. There are fewer of them than places and signals since together.
 pub fn releases_until_resume<S>()
     ensures at_most { (h : History S) (later before behind : List (Event S)) (x : Event S)
         → IsLegal (with_events h later) → called h.events ≡ before ++ x ∷ behind → own (place_of x) later ≡ []
@@ -196,9 +200,10 @@ pub fn releases_until_resume<S>()
         → turn h.events ≡ Held j → releases later < h.sizes.places + signals later }
 {}
 
-/// While a waiter waits on c, with m waiters before it in the order of signals, the waiters taken from c are at most m
-/// and those that began to wait on c with a lesser priority since; it is next exactly when so many were taken. Of equal
-/// priorities the first to wait is the first to be taken ("Monitors", Scheduled waits).
+/// While a waiter waits on c, with m waiters before it in the order of signals, at most m + l waiters are taken from c.
+/// Here l is how many processes began to wait on c with a lesser priority since. The waiter is the next to be taken
+/// exactly when m + l were taken. Of equal priorities the first to wait is the first to be taken (Hoare 1974, Scheduled
+/// Waits).
 pub fn waiters_taken_in_turn<S>()
     ensures exact { (c : ℕ) (h : History S) (later before behind : List (Event S)) (x : Event S)
         → IsLegal (with_events h later) → in_order priority_of (waiting c h.events) ≡ before ++ x ∷ behind
@@ -221,8 +226,8 @@ pub fn waiters_taken_in_turn<S>()
     ensures plain { (c : ℕ) (later : List (Event S)) → waits_below c 0 later ≡ 0 }
 {}
 
-/// While a place is inside, the waiters on all conditions, the signallers, the called processes and that place are
-/// different places.
+/// While a place is inside, the waiters on all conditions, the signallers, the notified processes and that place are
+/// together at most as many as the monitor has places.
 pub fn all_have_places<S>()
     ensures { (h : History S) (k : ℕ) → IsLegal h → turn h.events ≡ Held k
         → length (waiting_anywhere h.events) + length (urgent h.events) + length (called h.events) + 1
@@ -230,8 +235,8 @@ pub fn all_have_places<S>()
 {}
 
 /// From its signal until its return a signaller waits for few visits of others: at most one for each process that waits
-/// on a condition at its signal, and two for each signaller that waits then. So there are at most three less than twice
-/// the places. Each visit is two events and its notifications.
+/// on a condition at its signal, and two for each signaller that waits then. With n places these are at most 2n - 3
+/// visits. For each visit there are at most two events, and the notifications besides.
 pub fn few_visits_until_return<S>()
     ensures visits { (h : History S) (later : List (Event S)) (k c w : ℕ) (s : S)
         → IsLegal (with_events h (Signal k c w s ∷ later)) → own k later ≡ []
@@ -246,9 +251,9 @@ pub fn few_visits_until_return<S>()
         → length later ≤ 2 * visits later + notifications later }
 {}
 
-/// What a caller of `signal` learns by a return after it resumed a waiter. Between its signal and its return the
-/// signallers before it returned, in turn, and no other signaller did; the monitor was released once oftener; no
-/// process was admitted; and few visits began.
+/// What the caller of `signal` learns when it returns after a waiter was resumed. Between its signal and its return the
+/// signallers before it returned, in turn, and no other signaller did. The monitor was released once more than they
+/// are; no process was admitted; and few visits began.
 pub fn between_signal_and_return<S>()
     ensures { (f h : History S) (k c w : ℕ) (s t : S) → IsLegal h
         → AddsTwo f (Signal k c w s) (Back k t) h
@@ -259,9 +264,9 @@ pub fn between_signal_and_return<S>()
         × (visits later + 3 ≤ 2 * f.sizes.places) }
 {}
 
-/// What a caller of `wait` learns when it resumes, on one of Hoare's conditions. Between its wait and its resumption
-/// these waiters were taken from the condition, and no other: each that waited there before it with its priority or a
-/// lesser one, each that came later with a lesser one, and itself.
+/// What the caller of `wait` learns when it resumes from one of Hoare's conditions: how many waiters were taken from
+/// the condition between its wait and its resumption. They are as many as waited there before it with at most its
+/// priority, plus as many as began to wait there later with a lesser priority, plus the caller itself.
 pub fn between_wait_and_resume<S>()
     ensures { (f h : History S) (k c p : ℕ) (s t : S) → IsLegal h
         → IsHoare h.sizes.conditions h.sizes.mesa c → AddsTwo f (Wait k c p s) (Resume k c t) h
@@ -270,8 +275,8 @@ pub fn between_wait_and_resume<S>()
         × (taken_from c later ≡ waiters_up_to c p f.events + waits_below c p later + 1) }
 {}
 
-/// Between two moments as many processes are admitted as `admissions` differ: so a process that is to be the i-th,
-/// counted from 0, waits for exactly i less those already admitted.
+/// The admissions between two moments are the difference of `admissions`. So a process that is to be the i-th, counted
+/// from 0, waits for exactly i minus `admissions` further admissions.
 pub fn admissions_add_up<S>()
     ensures { (h later : List (Event S)) → admissions (h ++ later) ≡ admissions h + admissions later }
 {}

@@ -1,4 +1,4 @@
-//! What each monitor promises: its calls, as a trait.
+//! The calls of a monitor and their contracts, as a trait. Each kind of monitor implements it.
 ghost use Rattle.std.specs.Prelude.{◌≡◌, ◌<◌, ◌↔◌, ◌≢◌, ℕ, List, [], length, slice_index, IsTrue, IfOk, IfErr};
 ghost use Rattle.std.specs.Prelude.{true, false, MatchOption};
 ghost use Rattle.std.specs.Borrow.{sem, Lends};
@@ -19,55 +19,58 @@ use crate::data::MonitorData;
 use crate::waits::Waits;
 use std::sync::Wait;
 
-/// The priority of a wait without priorities: of those that wait with it, who has waited longest goes on first.
+/// The priority of a plain wait, which is the least. Of processes that wait with this priority, the longest waiting
+/// resumes first.
 pub const PLAIN: u64 = 0;
 
-/// Hoare's monitor ("Monitors", Introduction and Scheduled Waits): who may do what with the data, what each call owes
-/// and what it gives.
+/// Hoare's monitor (Hoare 1974, Introduction and Scheduled Waits): what each process may do with the data, and what
+/// each call requires and ensures.
 ///
 /// A place outside is an `Out`, a place inside an `In`, which has the data in hand. Neither can be copied, so no place
-/// is inside twice, and an `In` can't be dropped: who is inside leaves. A place's front is the history that it knows:
-/// it stands in the contracts alone. A call that may wait for another thread takes `rt`, and keeps its promise if it
-/// returns. No call refuses, and none takes memory.
+/// is inside twice. An `In` can't be dropped: a process that is inside has to leave. The front of a place is the
+/// history that it knows; ghost: it exists only in contracts.
+///
+/// A call that may block takes `rt`; its contract holds if it returns. No call reports an error (`try_enter` may return
+/// the place unchanged), and none allocates memory.
 pub trait Monitor<D: MonitorData> {
-    /// A place outside. A place that is dropped is never heard of again.
+    /// A place outside. After a place is dropped, no process can use it again.
     type Out: Drop + Send;
 
-    /// A place inside, with the data.
+    /// A place inside, with the data in hand.
     type In;
 
-    /// The waiting priorities, as a process inside sees them.
+    /// The waiting priorities, as a process inside reads them.
     type Lists: Waits;
 
-    /// The place is of this monitor.
+    /// The place outside belongs to this monitor.
     ghost is_of: { Self → Self.Out → Type 0 };
 
-    /// The place inside is of this monitor.
+    /// The place inside belongs to this monitor.
     ghost is_of_in: { Self → Self.In → Type 0 };
 
-    /// The place's number.
+    /// The number of a place outside.
     ghost place: { Self.Out → ℕ };
 
     /// The number of a place inside.
     ghost place_in: { Self.In → ℕ };
 
-    /// The data in hand.
+    /// The data that a place inside has in hand.
     ghost data_in: { Self.In → D };
 
-    /// The waiting priorities.
+    /// The waiting priorities that a place inside has in hand.
     ghost lists_in: { Self.In → ℕ → List ℕ };
 
-    /// The history that the place knows.
+    /// The front of a place outside: the history that it knows.
     ghost front: { Self.Out → History D };
 
-    /// The history that a place inside knows.
+    /// The front of a place inside: the history that it knows.
     ghost front_in: { Self.In → History D };
 
-    /// The place with other data in hand.
+    /// The place inside with other data in hand.
     ghost with_data: { Self.In → D → Self.In };
 
-    /// Comes in, once nobody is inside, nobody was resumed or called and no signaller waits. `rest` holds of what is
-    /// found.
+    /// Enters the monitor. Blocks while a process is inside, a resumed or notified process has yet to continue, or a
+    /// signaller waits to return. `rest` holds of the data and the waiting priorities that the caller finds.
     fn enter<R: Wait>(&self, rt: &R, out: Self::Out) -> Self::In
         requires { is_of self.now out }
         ensures of { is_of_in self.now result }
@@ -76,10 +79,12 @@ pub trait Monitor<D: MonitorData> {
         ensures front { AddsLast (front out) (event.Admit (place out) (data_in result))
             (front_in result) };
 
-    /// `enter` where it can be at this moment; else `Err` gives the place back as it was. It waits for nobody. The
-    /// answer may be `Err` though nobody is inside and nobody is owed the monitor: where a word of the monitor
-    /// changed while the call looked at it, and on a door by tickets also where another place asked, or tries at the
-    /// same moment.
+    /// Enters as `enter` does if that is possible at this moment; otherwise returns the place unchanged, as `Err`.
+    /// Never blocks.
+    ///
+    /// It may return `Err` although no process is inside and the monitor is owed to none, if a word of the monitor
+    /// changed while the call read it. On a ticket door it may also do so if another place has taken a ticket, or
+    /// attempts to enter at the same moment.
     fn try_enter(&self, out: Self::Out) -> Result<Self::In, Self::Out>
         requires { is_of self.now out }
         ensures of { IfOk result (λ i. is_of_in self.now i) }
@@ -89,7 +94,8 @@ pub trait Monitor<D: MonitorData> {
             (event.Admit (place out) (data_in i)) (front_in i)) }
         ensures same { IfErr result (λ o. o ≡ out) };
 
-    /// Goes out. The caller owes `rest`.
+    /// Leaves the monitor; the place is then outside. The caller must make `rest` true of the data and the waiting
+    /// priorities.
     fn leave<R: Wait>(&self, rt: &R, inside: Self::In) -> Self::Out
         requires of { is_of_in self.now inside }
         requires rest { D.rest (data_in inside) (lists_in inside) }
@@ -98,10 +104,12 @@ pub trait Monitor<D: MonitorData> {
         ensures front { front result
             ≡ with_event (front_in inside) (event.Leave (place_in inside) (data_in inside)) };
 
-    /// Gives the monitor up until this process is resumed by a signal on the condition, or called by a notify or a
-    /// broadcast and the monitor given up to it. The caller owes `rest` with itself among the waiting. From one of
-    /// Hoare's conditions it comes back to `ready`, and the data as the signaller left them; from a Mesa condition to
-    /// `rest`, so that it tests again what it waited for.
+    /// Releases the monitor and waits on `condition` with `priority`. Blocks until a signal on the condition resumes
+    /// this process, or a notify or a broadcast notifies it and the monitor is then released to it.
+    ///
+    /// The caller must make `rest` true with itself among the waiters. After a wait on one of Hoare's conditions it
+    /// finds `ready`, and the data as the signaller left them. After a wait on a Mesa condition it finds `rest`, so it
+    /// must test again what it waited for.
     fn wait<R: Wait>(&self, rt: &R, inside: Self::In, condition: usize, priority: u64) -> Self::In
         requires of { is_of_in self.now inside }
         requires in_range { condition < D.CONDITIONS }
@@ -116,9 +124,11 @@ pub trait Monitor<D: MonitorData> {
             (event.Wait (place_in inside) condition priority (data_in inside))
             (event.Resume (place_in inside) condition (data_in result)) (front_in result) };
 
-    /// Hands the monitor to the process that waits on one of Hoare's conditions, if one does, and comes back before any
-    /// newcomer: then the answer is true, the caller owed `ready` for that process, and finds `rest`. Where nobody
-    /// waits the answer is false and nothing changed.
+    /// Hands off the monitor to the first waiter on `condition`, one of Hoare's, and blocks until the caller returns,
+    /// before any entering process. Returns true then. The caller must make `ready` true for that waiter, and finds
+    /// `rest` when it returns.
+    ///
+    /// If no process waits on the condition, returns false and changes nothing.
     fn signal<R: Wait>(&self, rt: &R, inside: Self::In, condition: usize) -> (Self::In, bool)
         requires of { is_of_in self.now inside }
         requires hoare { IsHoare D.CONDITIONS D.MESA condition }
@@ -133,8 +143,11 @@ pub trait Monitor<D: MonitorData> {
         ensures front { Signals (place_in inside) condition (data_in inside) (data_in result.0)
             (front_in inside) (front_in result.0) result.1 };
 
-    /// A signal as the last act: who waits is resumed, and the caller is outside at once. Where nobody waits it leaves,
-    /// and owed what a `leave` owes. True exactly where somebody was resumed.
+    /// Signals as the last act: hands off the monitor to the first waiter on `condition`, one of Hoare's; the caller is
+    /// outside at once. It must make `ready` true for that waiter. Returns true if a waiter was resumed.
+    ///
+    /// If no process waits on the condition, leaves and returns false. The caller must then make `rest` true, as for
+    /// `leave`.
     fn signal_leave<R: Wait>(&self, rt: &R, inside: Self::In, condition: usize) -> (Self::Out, bool)
         requires of { is_of_in self.now inside }
         requires hoare { IsHoare D.CONDITIONS D.MESA condition }
@@ -148,10 +161,12 @@ pub trait Monitor<D: MonitorData> {
         ensures front { Exits (place_in inside) condition (data_in inside) (front_in inside)
             (front result.0) result.1 };
 
-    /// Calls the process that waits on a Mesa condition and that a signal would resume: the longest waiting of least
-    /// priority. It no longer waits there, and goes on once the monitor is given up and no signaller waits, behind
-    /// those called before. The caller stays inside, with the data as they are, and owes nothing. True exactly where
-    /// somebody waited.
+    /// Notifies the waiter on a Mesa condition that a signal would resume: of those with the least priority, the
+    /// longest waiting. That process waits there no more. It resumes once the monitor is released and no signaller
+    /// waits, after the processes that were notified earlier.
+    ///
+    /// The caller stays inside with the same data, and needs to make no assertion true. Returns true if a process
+    /// waited.
     fn notify(&self, inside: &mut Self::In, condition: usize) -> bool
         requires of { is_of_in self.now inside.old }
         requires mesa { IsMesa D.CONDITIONS D.MESA condition }
@@ -163,8 +178,8 @@ pub trait Monitor<D: MonitorData> {
         ensures front { Notifies (place_in inside.old) condition (data_in inside.old)
             (front_in inside.old) (front_in inside.new) result };
 
-    /// Calls all that wait on a Mesa condition, in the order in which signals would resume them, and answers how many
-    /// they are.
+    /// Notifies all processes that wait on a Mesa condition, in the order in which signals would resume them. The
+    /// caller stays inside with the same data. Returns how many processes were notified.
     fn broadcast(&self, inside: &mut Self::In, condition: usize) -> usize
         requires of { is_of_in self.now inside.old }
         requires mesa { IsMesa D.CONDITIONS D.MESA condition }
@@ -176,34 +191,35 @@ pub trait Monitor<D: MonitorData> {
         ensures front { Broadcasts (place_in inside.old) condition (data_in inside.old)
             (front_in inside.old) (front_in inside.new) };
 
-    /// The data in hand.
+    /// Returns the data in hand.
     fn state<'a>(&self, inside: &'a Self::In) -> &'a D
         requires { is_of_in self.now inside.now }
         ensures { result.now ≡ data_in inside.now };
 
-    /// The data in hand, for writing: what is written is in hand afterwards, and all else stays. (The place goes first:
-    /// only a first parameter can lend.)
+    /// Lends the data in hand for writing: what the borrower writes is in hand afterwards, and all else is unchanged.
+    /// (`inside` is the first parameter because only a first parameter can lend.)
     fn state_mut<'a>(inside: &'a mut Self::In, monitor: &Self) -> &'a mut D
         requires { is_of_in monitor.now inside.old }
         ensures* writes { sem 𝓛
             (Lends Self.In.row D.row inside.entry result (with_data inside.entry.now)) }
         ensures value { result.now ≡ data_in inside.old };
 
-    /// The waiting priorities.
+    /// Returns the waiting priorities, which are those of the front.
     fn lists<'a>(&self, inside: &'a Self::In) -> &'a Self::Lists
         requires { is_of_in self.now inside.now }
         ensures lists { Self.Lists.waiting_priorities result.now ≡ lists_in inside.now }
         ensures front { Self.Lists.waiting_priorities result.now
             ≡ priorities (front_in inside.now).events };
 
-    /// Whether somebody waits on the condition (Hoare's `queue`).
+    /// Returns true if a process waits on the condition, which is in range (Hoare's `queue`).
     fn queue(&self, inside: &Self::In, condition: usize) -> bool
         requires of { is_of_in self.now inside.now }
         requires in_range { condition < D.CONDITIONS }
         ensures lists { IsTrue result ↔ (lists_in inside.now condition ≢ []) }
         ensures front { IsTrue result ↔ (waiting condition (front_in inside.now).events ≢ []) };
 
-    /// The priority of the process that a signal on the condition would resume, if somebody waits there.
+    /// Returns the priority of the process that a signal on the condition would resume, or `None` if no process waits
+    /// there. The condition is in range.
     fn first(&self, inside: &Self::In, condition: usize) -> Option<u64>
         requires of { is_of_in self.now inside.now }
         requires in_range { condition < D.CONDITIONS }
@@ -213,12 +229,13 @@ pub trait Monitor<D: MonitorData> {
         ensures front { result
             ≡ option_map priority_of (chosen condition (front_in inside.now).events) };
 
-    /// What a place outside knows is legal and lawful, and has it outside.
+    /// The front of a place outside is legal and lawful, has the numbers of conditions of `D`, and has the place
+    /// outside.
     ghost stands: { (m : Self) (o : Self.Out) → is_of m o
         → Stands D.rest D.ready (front o) × ((front o).sizes.conditions ≡ D.CONDITIONS)
         × ((front o).sizes.mesa ≡ D.MESA) × (outside (place o) (front o).events ≡ true) };
 
-    /// What a place inside knows is legal and lawful, and has it inside.
+    /// The front of a place inside is legal and lawful, has the numbers of conditions of `D`, and has the place inside.
     ghost stands_in: { (m : Self) (i : Self.In) → is_of_in m i
         → Stands D.rest D.ready (front_in i) × ((front_in i).sizes.conditions ≡ D.CONDITIONS)
         × ((front_in i).sizes.mesa ≡ D.MESA) × (turn (front_in i).events ≡ turns.Held (place_in i)) };
@@ -227,23 +244,23 @@ pub trait Monitor<D: MonitorData> {
     ghost lists_are: { (m : Self) (i : Self.In) → is_of_in m i
         → lists_in i ≡ priorities (front_in i).events };
 
-    /// Those of each condition rise: the least is the first.
+    /// The waiting priorities of each condition rise: the least is the first.
     ghost rise: { (m : Self) (i : Self.In) (c : ℕ) → is_of_in m i
         → IsNonDecreasing (lists_in i c) };
 
-    /// What is written is in hand.
+    /// After a write the written data are in hand.
     ghost takes_data: { (i : Self.In) (d : D) → data_in (with_data i d) ≡ d };
 
-    /// The place stays one of the monitor's.
+    /// After a write the place belongs to the same monitor.
     ghost keeps_of: { (m : Self) (i : Self.In) (d : D) → is_of_in m i
         → is_of_in m (with_data i d) };
 
-    /// The place's number stays.
+    /// A write doesn't change the place's number.
     ghost keeps_place: { (i : Self.In) (d : D) → place_in (with_data i d) ≡ place_in i };
 
-    /// The waiting priorities stay.
+    /// A write doesn't change the waiting priorities.
     ghost keeps_lists: { (i : Self.In) (d : D) → lists_in (with_data i d) ≡ lists_in i };
 
-    /// The history that the place knows stays.
+    /// A write doesn't change the front.
     ghost keeps_front: { (i : Self.In) (d : D) → front_in (with_data i d) ≡ front_in i };
 }

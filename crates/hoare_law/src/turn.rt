@@ -1,14 +1,15 @@
-//! Whose turn it is.
+//! The turn of a monitor.
 
 /// Whose turn it is at a monitor.
 #[derive(Clone, Copy, Debug, PartialEq, Eq)]
 pub enum Turn {
-    /// Nobody's: a newcomer may come in.
+    /// The monitor is free: a process that is outside may enter.
     Free,
-    /// That of this place, which is inside.
+    /// The place with this number is inside.
     Held(usize),
-    /// That of this place, which waited on this condition and was resumed or called.
+    /// The place with the first number is to resume: it waited on the condition with the second number, and was resumed
+    /// or notified.
     Owed(usize, usize),
-    /// That of this place, which signalled and returns.
+    /// The place with this number is to return: it signalled.
     Return(usize),
 }

@@ -1,12 +1,12 @@
-//! Data of which nothing is asked.
+//! Monitor data whose assertions always hold.
 use crate::data::MonitorData;
 use crate::waits::Waits;
 
-/// Data of which nothing is asked, for tests and measures: a value, and `CONDITIONS` conditions. Every state is at
-/// rest, and ready for whoever waited.
+/// A value with assertions that always hold, for tests and measures. It has `CONDITIONS` conditions, all Hoare's. Every
+/// value is at rest, and ready for every waiter.
 #[derive(Clone, Copy, Debug, Drop, PartialEq, Eq)]
 pub struct Unasked<T, const CONDITIONS: usize> {
-    /// The value: every one will do.
+    /// The value. Each is allowed.
     pub value: T,
 }
 

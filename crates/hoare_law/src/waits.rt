@@ -1,28 +1,30 @@
-//! The priorities of those that wait, as code reads them.
+//! The waiting priorities of a monitor, as code reads them.
 ghost use Rattle.std.specs.Prelude.{◌≡◌, ◌≢◌, ◌<◌, ◌≤◌, ◌-◌, ◌^◌, ℕ, List, [], length, slice_index};
 ghost use Rattle.hoare_law.specs.Priorities.{joined, taken};
 ghost use Rattle.std.specs.List.Sorted.{IsNonDecreasing};
 
-/// The priorities of the processes that wait on each condition, in the order in which signals would resume them
-/// ("Monitors", Scheduled Waits): the least first, and equal ones by time of waiting.
+/// The priorities of the processes that wait on each condition, in the order in which signals would resume them: the
+/// least first, and equal ones by time of waiting (Hoare 1974, Scheduled Waits).
 pub trait Waits {
-    /// The waiting priorities: for each number the list of its condition, empty where it is no condition.
+    /// The waiting priorities: for each number the list of the condition with that number, or the empty list if there
+    /// is none.
     ghost waiting_priorities: { Self → ℕ → List ℕ };
 
-    /// How many processes wait on the condition: 0 where it is no condition.
+    /// Returns how many processes wait on the condition, or 0 if there is no such condition.
     fn count(&self, condition: usize) -> usize
         ensures { result ≡ length (waiting_priorities self.now condition) };
 
-    /// The priority of the `i`-th of them, counted from 0. The caller knows that there are more than `i`.
+    /// Returns the priority of the `i`-th process that waits on the condition, counted from 0 in the order of the list.
+    /// The caller must know that more than `i` processes wait on it.
     fn priority(&self, condition: usize, i: usize) -> u64
         requires { i < length (waiting_priorities self.now condition) }
         ensures { result ≡ slice_index (waiting_priorities self.now condition) i };
 
-    /// They rise, so that the first is the priority of the process that a signal would resume.
+    /// The priorities of each condition rise, so the first is that of the process that a signal would resume.
     ghost rise: { (w : Self) (c : ℕ) → IsNonDecreasing (waiting_priorities w c) };
 }
 
-/// Nobody waits.
+/// The waiting priorities when no process waits.
 #[derive(Clone, Copy, Debug, PartialEq, Eq)]
 pub struct Nobody;
 
@@ -37,7 +39,7 @@ impl Waits for Nobody {
         0
     }
 
-    // There is no such process: every call would break what the trait asks.
+    // No caller can meet the trait's precondition, since no process waits.
     fn priority(&self, _condition: usize, i: usize) -> u64
         ensures { result ≡ slice_index (nobody _condition) i }
     {
@@ -47,7 +49,8 @@ impl Waits for Nobody {
     ghost rise = { λ w c i j d below h. absurd (Prim.omega arith) };
 }
 
-/// Lists with one more process: a priority joined to those of a condition. It is the test for what a wait owes.
+/// The lists with one more process: its priority is joined to those of a condition. With them code can test what a wait
+/// requires.
 #[derive(Drop)]
 pub struct Joined<'a, W: Waits> {
     lists: &'a W,
@@ -57,7 +60,8 @@ pub struct Joined<'a, W: Waits> {
 }
 
 impl<'a, W: Waits> Joined<'a, W> {
-    /// The lists with the priority put in its rising place of the condition, where fewer than `usize::MAX` wait.
+    /// Creates the lists with `priority` put in its rising place among those of `condition`. The caller must know that
+    /// fewer than `usize::MAX` processes wait on it.
     pub fn of(lists: &'a W, condition: usize, priority: u64) -> Joined<'a, W>
         requires { length (W.waiting_priorities lists.now condition) < 2 ^ 64 - 1 }
         ensures { ⟦<Joined<'a, W> as Waits>⟧.waiting_priorities result
@@ -112,7 +116,7 @@ impl<'a, W: Waits> Waits for Joined<'a, W> {
         j.priority c (W.rise j.lists.now c) };
 }
 
-/// Lists without one process: the first of a condition. It is the test for what a signal owes.
+/// The lists without one process: the first of a condition. With them code can test what a signal requires.
 #[derive(Drop)]
 pub struct Taken<'a, W: Waits> {
     lists: &'a W,
@@ -121,7 +125,7 @@ pub struct Taken<'a, W: Waits> {
 }
 
 impl<'a, W: Waits> Taken<'a, W> {
-    /// The lists without the first of the condition, where somebody waits on it.
+    /// Creates the lists without the first process of `condition`. The caller must know that a process waits on it.
     pub fn of(lists: &'a W, condition: usize) -> Taken<'a, W>
         requires { W.waiting_priorities lists.now condition ≢ [] }
         ensures { ⟦<Taken<'a, W> as Waits>⟧.waiting_priorities result
@@ -147,7 +151,7 @@ impl<'a, W: Waits> Waits for Taken<'a, W> {
 
     fn priority(&self, condition: usize, i: usize) -> u64 {
         if condition == self.condition {
-            let _count = self.lists.count(condition); // a number of 64 bits, so that i + 1 fits
+            let _count = self.lists.count(condition); // a 64-bit number, so i + 1 doesn't overflow
             self.lists.priority(condition, i + 1)
         } else {
             self.lists.priority(condition, i)

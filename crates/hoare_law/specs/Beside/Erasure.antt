@@ -5,6 +5,7 @@ use Rattle.hoare_law.specs.declared.event.History.{History}
 use Rattle.hoare_law.specs.declared.event.Event.TheVariants.{Admit, Wait, Signal, Pass, Leave, Resume, Back, Notify}
 use Rattle.hoare_law.specs.declared.event.Event.TheVariants.{Broadcast}
 
+-- the event with the unit in place of its data
 abbrev pub without_data : {S : Type 0} → Event S → Event (Unit {0})
 without_data (Admit k s) = Admit k tt
 without_data (Wait k c p s) = Wait k c p tt
@@ -16,9 +17,10 @@ without_data (Back k s) = Back k tt
 without_data (Notify k c w s) = Notify k c w tt
 without_data (Broadcast k c s) = Broadcast k c tt
 
+-- the events with the unit in place of their data
 abbrev pub all_without_data : {S : Type 0} → List (Event S) → List (Event (Unit {0}))
 all_without_data h = map without_data h
 
--- the history of the queues alone
+-- the history with the unit in place of its data: what it says of the queues alone
 abbrev pub erased : {S : Type 0} → History S → History (Unit {0})
 erased h = record { sizes = h.sizes; opening = tt; events = all_without_data h.events }

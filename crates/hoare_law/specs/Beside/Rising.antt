@@ -1,12 +1,11 @@
--- Rising lists stay rising where a priority is put in, and where the first is taken away. (Laws of the trait `Waits`
--- cite it.)
+-- Rising lists keep rising if a priority is put in, and if the first is removed. (Laws of the trait `Waits` cite this.)
 use Rattle.std.proofs.Common.{◌≡◌, ◌==◌, ℕ, zero, suc, ◌<◌, ◌≤◌, Bool, true, false, cond, leb, List, [], ◌∷◌, length}
 use Rattle.std.proofs.Common.{get_or, refl, arith}
 use Rattle.std.specs.List.Sorted.{IsNonDecreasing}
 use Rattle.std.proofs.lemmas.Bool.Decides.{nat_tests}
 use Rattle.hoare_law.specs.Priorities.{put_in, behind_first, joined, taken}
 
--- no element is below n
+-- no element of the list is below n
 abbrev pub IsFrom : ℕ → List ℕ → Type 0
 IsFrom n xs = (j d : ℕ) → j < length xs → n ≤ get_or xs j d
 

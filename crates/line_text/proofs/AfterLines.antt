@@ -25,7 +25,7 @@ drop_through-last (b ∷ l) n =
 pub append-line : (read l : List ℕ) (b : ℕ) (x : List ℕ) → (read ++ (l ++ b ∷ [])) ++ x ≡ read ++ (l ++ b ∷ x)
 append-line read l b x = append_assoc read (l ++ b ∷ []) x ∙ ap (λ v. read ++ v) (append_assoc l (b ∷ []) x)
 
--- reading stands at the line with a number: the lines before it were read, and of the text t0 there is t left
+-- reading is at the line with this number: the lines before it were read, and of the text t0 there is t left
 pub record AtLine (number : ℕ) (read t0 t : List ℕ) : Type 0 where
   pub some : 0 < number
   pub whole : t0 ≡ read ++ t
@@ -42,15 +42,15 @@ module _ {number : ℕ} {read t0 t : List ℕ} (g : AtLine number read t0 t) (l 
       let next : number ≡ suc (number - 1) = omega (arith, g.some) in
       ap (λ i. after_lines i t0) next ∙ ap (drop_through 10) (sym g.behind)
 
-  -- it and its end are read
+  -- the line at hand and its end are read
   pub after_lines-line : NoNewline l → t ≡ l ++ 10 ∷ x → x ≡ after_lines number t0
   after_lines-line n e = sym (after_lines-next ∙ ap (drop_through 10) e ∙ drop_through-line l x n)
 
-  -- it is read, and is the last
+  -- the line at hand is read, and is the last
   pub after_lines-last : NoNewline l → t ≡ l → x ≡ [] → x ≡ after_lines number t0
   after_lines-last n e z = z ∙ sym (after_lines-next ∙ ap (drop_through 10) e ∙ drop_through-last l n)
 
-  -- as much of it is read as a line may have, and one byte more
+  -- as many bytes of the line at hand are read as a line may have, and one byte more
   pub after_lines-long_line : (b : ℕ) → length l ≡ LONGEST_LINE → t ≡ l ++ b ∷ x
       → x ≡ drop (LONGEST_LINE + 1) (after_lines (number - 1) t0)
   after_lines-long_line b h e =
@@ -60,7 +60,7 @@ module _ {number : ℕ} {read t0 t : List ℕ} (g : AtLine number read t0 t) (l 
       (ap (drop (LONGEST_LINE + 1)) bytes
       ∙ drop-read (LONGEST_LINE + 1) (l ++ b ∷ []) x (omega (arith, length-append l (b ∷ []), h)))
 
-  -- reading stands at the next line
+  -- reading is at the next line
   pub AtLine-next : NoNewline l → t ≡ l ++ 10 ∷ x → AtLine (number + 1) (read ++ (l ++ 10 ∷ [])) t0 x
   AtLine-next n e =
       let same : number ≡ number + 1 - 1 = omega arith in

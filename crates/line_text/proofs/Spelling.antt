@@ -29,7 +29,7 @@ slice_split-at_first x (b ∷ bs) (suc i) n l e =
     let no : eqb b x ≡ false = ne_eqb b x (n 0 (omega arith)) in
     rw no (ap (onto_first b) (slice_split-at_first x bs i (λ k h. n (suc k) (omega arith)) (omega arith) e))
 
--- no separator
+-- a list without a separator is one part
 pub slice_split-whole : (x : ℕ) (bs : List ℕ) → ((k : ℕ) → k < length bs → get_or bs k 0 ≡ x → ⊥)
     → slice_split (λ b. eqb b x) bs ≡ bs ∷ []
 slice_split-whole x [] n = refl
@@ -55,7 +55,7 @@ slice_split-prefix (c ∷ l) y n =
           ∙ ap (onto_first c) r.2,
     )
 
--- a line goes on by a byte that doesn't end it: the first part has more bytes
+-- a line has one more byte, which doesn't end it: the first part has more bytes
 pub slice_split-longer : (l y : List ℕ) (b : ℕ) → NoNewline l → b ≢ 10
     → (p : List ℕ) × (ps : List (List ℕ)) × (slice_split is_newline (l ++ b ∷ y) ≡ p ∷ ps) × (length l < length p)
 slice_split-longer l y b n d =
@@ -68,7 +68,7 @@ slice_split-longer l y b n d =
       omega (arith, length-append line r.0, length-append l (b ∷ [])),
     )
 
--- more digits make no less
+-- with more digits the value is no less
 pub value_after-grows : (n : ℕ) (cs : List ℕ) → n ≤ value_after n cs
 value_after-grows n [] = omega arith
 value_after-grows n (c ∷ cs) = omega (arith, value_after-grows (10 * n + (c - 48)) cs)
@@ -90,7 +90,7 @@ is_digit-false : (c : ℕ) → ((c < 48) ⊎ (57 < c)) → is_digit c ≡ false
 is_digit-false c (inl h) = grind (arith, nat_tests)
 is_digit-false c (inr h) = grind (arith, nat_tests)
 
--- a byte that is no digit
+-- a byte is no digit, so the word has no value
 pub digits_of-no_digit : (w : List ℕ) (i : ℕ) → i < length w → all_digits w ≡ all_digits (drop i w)
     → ((get_or w i 0 < 48) ⊎ (57 < get_or w i 0)) → None ≡ digits_of w
 unfolding digits_of
@@ -103,7 +103,7 @@ no_both : (a b : Bool) (v : ℕ) → b ≡ false → None ≡ cond (a && b) (Som
 no_both true b v h = rw h refl
 no_both false b v h = refl
 
--- a number past 64 bits
+-- the value doesn't fit 64 bits, so the word has none
 pub digits_of-too_big : (w : List ℕ) (n i : ℕ) → i < length w → value_after 0 w ≡ value_after n (drop i w)
     → 2 ^ 64 ≤ 10 * n + (get_or w i 0 - 48) → None ≡ digits_of w
 unfolding digits_of
@@ -114,7 +114,7 @@ digits_of-too_big w n i l v h =
     (le-ltb (value_after 0 w) (2 ^ 64)
     (omega (arith, value_after-grows (10 * n + (get_or w i 0 - 48)) (drop (suc i) w))))
 
--- digits all read
+-- all digits are read, so the word has their value
 pub digits_of-value : (w : List ℕ) (n i : ℕ) → length w ≤ i → all_digits w ≡ all_digits (drop i w)
     → value_after 0 w ≡ value_after n (drop i w)
     → n < 2 ^ 64 → Some n ≡ digits_of w
@@ -125,7 +125,7 @@ digits_of-value w n i l a v h =
     let f : value_after 0 w ≡ n = v ∙ ap (value_after n) d in
     rw (e, f, lt-ltb n (2 ^ 64) h) refl
 
--- a first word before further ones
+-- a first word, and further ones after it
 pub words_of-next : (l : List ℕ) (w : Bor (List ℕ)) (o : Option (Bor (List ℕ))) (r : Bor (List ℕ))
     → words_of l ≡ words_from w o → o ≡ Some r → words_of l ≡ w.now ∷ words_of r.now
 words_of-next l w o r h e = h ∙ ap (words_from w) e

@@ -10,7 +10,7 @@ use Rattle.line_text.specs.declared.line.LineFault.{LineFault}
 use Rattle.line_text.specs.Line.{ReadsLine}
 use Rattle.line_text.specs.Streams.{Reads, AppendsPrefix}
 
--- more of a text is written: its next n bytes, of the m at most that were handed over
+-- more of a text is written: its next n bytes, of the at most m that were offered
 pub Appends-take : (a b c : Option (List ℕ)) (bs : List ℕ) (i n m : ℕ) → length bs - i ≤ m
     → Appends a b (take i bs) → Appends b c (take n (take m (drop i bs))) → Appends a c (take (i + n) bs)
 Appends-take a b c bs i n m l p q =
@@ -32,7 +32,7 @@ Reads-line (Some t) (Some x) (Some y) P S l e f is go p q =
 pub append-take_prefix : (w p r : List ℕ) (n : ℕ) → n ≤ length p → w ++ take n p ≡ take (length w + n) (w ++ (p ++ r))
 append-take_prefix w p r n h = sym (take-append-add w (p ++ r) n ∙ ap (λ v. w ++ v) (take-append-le n p r h))
 
--- the bytes behind the first n
+-- the bytes after the first n
 pub drop-read : (n : ℕ) (p x : List ℕ) → length p ≡ n → drop n (p ++ x) ≡ x
 drop-read n p x h = subst (λ (m : ℕ). drop m (p ++ x) ≡ x) h (drop-append_seam p x)
 

@@ -1,10 +1,10 @@
-//! Lines of one form: a word and its numbers.
+//! Lines of a fixed form: a word, and one to three numbers.
 ghost use Rattle.std.specs.Prelude.{◌≡◌};
 ghost use Rattle.line_text.specs.Forms.{one_number, three_numbers, two_numbers};
 
 use crate::words::{first_word, number};
 
-/// The number of a line that is this word and a number.
+/// Returns the number of a line that is `word` and a number, with single spaces between; `None` for any other line.
 #[tactic(auto, unfolding(crate::specs::Forms::one_number))]
 pub fn one_number(line: &[u8], word: &[u8]) -> Option<u64>
     ensures { result ≡ one_number word.now line.now }
@@ -20,7 +20,8 @@ pub fn one_number(line: &[u8], word: &[u8]) -> Option<u64>
     number(first)
 }
 
-/// The two numbers of a line that is this word and two numbers.
+/// Returns the two numbers of a line that is `word` and two numbers, with single spaces between; `None` for any other
+/// line.
 #[tactic(auto, unfolding(crate::specs::Forms::two_numbers))]
 pub fn two_numbers(line: &[u8], word: &[u8]) -> Option<(u64, u64)>
     ensures { result ≡ two_numbers word.now line.now }
@@ -39,7 +40,8 @@ pub fn two_numbers(line: &[u8], word: &[u8]) -> Option<(u64, u64)>
     Some((first, second))
 }
 
-/// The three numbers of a line that is this word and three numbers.
+/// Returns the three numbers of a line that is `word` and three numbers, with single spaces between; `None` for any
+/// other line.
 #[tactic(auto, unfolding(crate::specs::Forms::three_numbers))]
 pub fn three_numbers(line: &[u8], word: &[u8]) -> Option<(u64, u64, u64)>
     ensures { result ≡ three_numbers word.now line.now }

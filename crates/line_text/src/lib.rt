@@ -1,5 +1,5 @@
-//! Lines of a text, read with limits from any reader; their words and numbers, and how they are spelled; and bytes
-//! written to any writer.
+//! Lines of a text: reading them with limits from any reader, their words and numbers, and how these are spelled. Also
+//! writing bytes to any writer.
 #![tactic(auto)]
 
 pub mod forms;

@@ -1,4 +1,4 @@
-//! One line, with limits on its length and on the text.
+//! Reading one line, with limits on its length and on that of the text.
 ghost use Rattle.std.specs.Prelude.{◌≡◌, ◌+◌, ◌≤◌, ◌||◌, length};
 ghost use Rattle.line_text.specs.Line.{IsLineFor, NoNewline, ReadsLine, is_failed_read};
 ghost use Rattle.line_text.specs.Streams.{HasRead, ReadsFrom, has_read_failed, reader_name};
@@ -7,16 +7,16 @@ use crate::reader::WatchedReader;
 use arrayvec::ArrayVec;
 use std::io::Read;
 
-/// The most bytes of a line, its end not counted.
+/// The most bytes that a line may have, without its end.
 pub const LONGEST_LINE: usize = 256;
 
-/// Room for a line.
+/// A line without its end, of at most `LONGEST_LINE` bytes.
 pub type Line = ArrayVec<u8, LONGEST_LINE>;
 
-/// How a line ended: by its byte 10, or with the input.
+/// How a line ended.
 #[derive(Clone, Copy, Debug, PartialEq, Eq)]
 pub enum Ended {
-    /// By its byte 10, which was read and isn't kept.
+    /// By a newline (byte 10), which was read and isn't kept.
     Line,
     /// By the end of the input.
     Last,
@@ -31,14 +31,18 @@ pub enum LineFault {
     /// The line has over `LONGEST_LINE` bytes.
     #[error("a line has over 256 bytes")]
     TooLong,
-    /// The line goes on past the room.
+    /// The line with its end takes more bytes than the room.
     #[error("the text goes on past its room")]
     TooMuch,
 }
 
-/// Reads a line of at most `LONGEST_LINE` bytes; the line and its end may take at most `room` bytes of the text. It
-/// reads byte by byte, and none behind the end of the line, or behind the byte that is too many. A byte past the room
-/// is looked at before anything else.
+/// Reads a line of at most `LONGEST_LINE` bytes into `line`, which it clears first. The line with its end may take at
+/// most `room` bytes of the text.
+///
+/// It reads byte by byte, and no byte after the end of the line, or after the byte that is too many. It returns
+/// `Failed` if a read fails. It returns `TooMuch` if it reads a byte past the room, whatever that byte is. It returns
+/// `TooLong` if it reads, within the room, a byte past `LONGEST_LINE` that doesn't end the line. After a fault `line`
+/// has the bytes before it.
 pub fn read_line<R: Read>(
     reader: &mut WatchedReader<'_, R>,
     line: &mut Line,

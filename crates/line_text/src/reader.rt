@@ -1,4 +1,4 @@
-//! A reader that is watched.
+//! A reader that records failures and counts reads.
 ghost use Rattle.std.specs.Prelude.{◌≡◌, ◌||◌, false};
 ghost use Rattle.std.specs.Io.{ReadsAtMost};
 ghost use Rattle.std.specs.Io.KnownBytes.{ReadConsumes};
@@ -8,8 +8,8 @@ ghost use Rattle.line_text.specs.Streams.{has_read_failed, is_error, read_calls,
 use std::io;
 use std::io::Read;
 
-/// Another reader, with whether a read of it failed, and how many reads were made and how many bytes they gave: both
-/// counts stay at the greatest number of 64 bits.
+/// A wrapper of a reader. It records if a read failed, how many reads were made, and how many bytes they gave. Both
+/// counts stop at `u64::MAX`.
 #[derive(Drop)]
 pub struct WatchedReader<'a, R> {
     inner: &'a mut R,
@@ -24,7 +24,7 @@ pub struct WatchedReader<'a, R> {
 pub struct ReadFailed;
 
 impl<'a, R> WatchedReader<'a, R> {
-    /// Around a reader, none of whose reads is counted yet.
+    /// Creates the wrapper of `inner`. No read is counted yet, and none has failed.
     pub fn new(inner: &'a mut R) -> WatchedReader<'a, R>
         ensures same_reference { reader_name result ≡ inner.entry.ghost_name }
         ensures inner { reader_inside result ≡ inner.old }
@@ -40,21 +40,21 @@ impl<'a, R> WatchedReader<'a, R> {
         }
     }
 
-    /// Whether a read of the reader inside failed.
+    /// Returns true if a read of the wrapped reader failed.
     pub fn has_failed(&self) -> bool
         ensures { result ≡ has_read_failed self.now }
     {
         self.failed
     }
 
-    /// How many reads were made.
+    /// Returns how many reads of the wrapped reader were made, at most `u64::MAX`.
     pub fn calls(&self) -> u64
         ensures { result ≡ read_calls self.now }
     {
         self.calls
     }
 
-    /// How many bytes they gave.
+    /// Returns how many bytes the reads gave, at most `u64::MAX`.
     pub fn bytes(&self) -> u64
         ensures { result ≡ bytes_given self.now }
     {
@@ -63,7 +63,7 @@ impl<'a, R> WatchedReader<'a, R> {
 }
 
 impl<'a, R: Read> WatchedReader<'a, R> {
-    // One read of the reader inside. It sets the mark exactly where that read fails.
+    // Reads once from the wrapped reader. Sets the mark exactly if that read fails.
     fn read(&mut self, buf: &mut [u8]) -> io::Result<usize>
         ensures bound { ReadsAtMost result buf.new }
         ensures bytes { ReadConsumes (R.remaining (reader_inside self.old))
@@ -83,7 +83,7 @@ impl<'a, R: Read> WatchedReader<'a, R> {
         result
     }
 
-    /// The next byte, if there is one. Refused where a read fails.
+    /// Reads the next byte. Returns `None` at the end of the input, and `ReadFailed` if the read fails.
     pub fn read_byte(&mut self) -> Result<Option<u8>, ReadFailed>
         ensures known { ReadsFrom R.remaining self.old self.new (ReadsByte result) }
         ensures same_reference { reader_name self.new ≡ reader_name self.old }

@@ -2,7 +2,7 @@
 ghost use Rattle.std.specs.Prelude.{◌≡◌};
 ghost use Rattle.line_text.specs.Words.{begins_well, digits_of, number_of, words_from, words_of};
 
-/// The first word of a line, and what follows its space.
+/// Returns the first word of a line, and what follows the space after it, or `None` if no space follows.
 pub fn first_word(line: &[u8]) -> (&[u8], Option<&[u8]>)
     ensures { words_of line.now ≡ words_from result.0 result.1 }
 {
@@ -14,7 +14,7 @@ pub fn first_word(line: &[u8]) -> (&[u8], Option<&[u8]>)
     (line, None)
 }
 
-// What digits stand for, if they are digits and it has 64 bits.
+// Returns the value of the digits, or `None` if a byte is no digit or the value doesn't fit 64 bits.
 fn digits(word: &[u8]) -> Option<u64>
     ensures { result ≡ digits_of word.now }
 {
@@ -34,7 +34,7 @@ fn digits(word: &[u8]) -> Option<u64>
     Some(value)
 }
 
-// There is a digit, and the first one is 0 only where it is the only one.
+// Returns true if the word isn't empty, and begins with 0 only if that is its only byte.
 fn begins_well(word: &[u8]) -> bool
     ensures { result ≡ begins_well word.now }
 {
@@ -45,7 +45,8 @@ fn begins_well(word: &[u8]) -> bool
     }
 }
 
-/// The number that a word spells: `0`, or digits with no leading 0, up to 18446744073709551615.
+/// Returns the number that a word spells: `0`, or digits with no leading 0, up to 18446744073709551615. Returns `None`
+/// for any other word.
 #[tactic(auto, unfolding(crate::specs::Words::number_of))]
 pub fn number(word: &[u8]) -> Option<u64>
     ensures { result ≡ number_of word.now }

@@ -1,4 +1,4 @@
-//! A writer that is watched.
+//! A writer that records failures.
 ghost use Rattle.std.specs.Prelude.{◌≡◌, ◌||◌, false, OnOk, OnErr};
 ghost use Rattle.std.specs.Io.{WritesAtMost};
 ghost use Rattle.std.specs.Io.KnownBytes.{Appends, WriteAppends};
@@ -8,7 +8,8 @@ ghost use Rattle.line_text.specs.Streams.{writer_name};
 use std::io;
 use std::io::Write;
 
-/// Another writer, and whether a write of it failed or took nothing. There is no flush: who owns the writer flushes it.
+/// A wrapper of a writer. It records if a write failed or took no bytes. It never flushes: the owner of the writer
+/// does.
 #[derive(Drop)]
 pub struct WatchedWriter<'a, W> {
     inner: &'a mut W,
@@ -21,7 +22,7 @@ pub struct WatchedWriter<'a, W> {
 pub struct WriteFailed;
 
 impl<'a, W> WatchedWriter<'a, W> {
-    /// Around a writer, none of whose writes is looked at yet.
+    /// Creates the wrapper of `inner`. No write has failed yet.
     pub fn new(inner: &'a mut W) -> WatchedWriter<'a, W>
         ensures same_reference { writer_name result ≡ inner.entry.ghost_name }
         ensures inner { writer_inside result ≡ inner.old }
@@ -33,7 +34,7 @@ impl<'a, W> WatchedWriter<'a, W> {
         }
     }
 
-    /// Whether a write of the writer inside failed or took nothing.
+    /// Returns true if a write of the wrapped writer failed or took no bytes.
     pub fn has_failed(&self) -> bool
         ensures { result ≡ has_write_failed self.now }
     {
@@ -42,7 +43,7 @@ impl<'a, W> WatchedWriter<'a, W> {
 }
 
 impl<'a, W: Write> WatchedWriter<'a, W> {
-    // One write of the writer inside. It sets the mark exactly where that write fails or takes no bytes.
+    // Writes once to the wrapped writer. Sets the mark exactly if that write fails or takes no bytes.
     fn write(&mut self, buf: &[u8]) -> io::Result<usize>
         ensures bound { WritesAtMost result buf.now }
         ensures bytes { WriteAppends (W.contents (writer_inside self.old))
@@ -58,7 +59,8 @@ impl<'a, W: Write> WatchedWriter<'a, W> {
         result
     }
 
-    /// Writes all of the bytes. Where a write fails or takes nothing, a prefix of them is written, and not all.
+    /// Writes all of the bytes. Returns `WriteFailed` if a write fails or takes no bytes; then a prefix of the bytes is
+    /// written, and not all.
     pub fn write_whole(&mut self, bytes: &[u8]) -> Result<(), WriteFailed>
         ensures ok { OnOk result
             (Appends (W.contents (writer_inside self.old)) (W.contents (writer_inside self.new))

@@ -13,7 +13,7 @@ pub length-served_from : (i : ℕ) (cs : List ℕ) → length (served_from i cs)
 length-served_from i [] = refl
 length-served_from i (c ∷ cs) = ap suc (length-served_from (suc i) cs)
 
--- another number of them, so not the same
+-- as the lines aren't as many as the jobs, they aren't those of the jobs
 pub length-differs : (cs : List ℕ) (lines : List Served) → length lines ≢ length cs
     → (false ≡ true → lines ≡ served_from 0 cs) × (lines ≡ served_from 0 cs → false ≡ true)
 length-differs cs lines h = ((λ f. cc), (λ e. absurd (h (ap length e ∙ length-served_from 0 cs))))
@@ -36,7 +36,7 @@ All-served_from f i (c ∷ cs) h =
     All-cons (HasCylinder f) (served i c) (served_from (suc i) cs) (sym (h 0 (omega arith)) ∙ ap f (omega arith))
     (All-served_from f (suc i) cs (λ k j. ap f (omega arith) ∙ h (suc k) (omega arith)))
 
--- who has the same numbers, and the cylinder of each, is the same
+-- results with the same numbers, each with its cylinder, are the same
 same_jobs : (f : ℕ → ℕ) (xs ys : List Served) → map (λ (d : Served). d.job) xs ≡ map (λ (d : Served). d.job) ys
     → All (HasCylinder f) xs → All (HasCylinder f) ys
     → xs ≡ ys
@@ -92,7 +92,7 @@ agrees-unsorted cs results lines jobs sum done p a = record {
   done_are = a.done_are;
 }
 
--- a line that differs
+-- a line differs, so the lines aren't those of the jobs
 pub differs-at : (cs : List ℕ) (lines : List Served) (i : ℕ) (d : Served) → length lines ≡ length cs → i < length lines
     → d ≡ get_or lines i d
     → (d.job ≡ i → d.cylinder ≡ get_or cs i 0 → ⊥) → lines ≡ served_from 0 cs → false ≡ true
@@ -101,7 +101,7 @@ differs-at cs lines i d n l is unlike e =
     is ∙ ap (λ v. get_or v i d) e ∙ served_from-at 0 i cs d (omega arith) in
     absurd (unlike (ap (λ (v : Served). v.job) same ∙ omega arith) (ap (λ (v : Served). v.cylinder) same))
 
--- lines that agree one by one
+-- lines that agree one by one are the same
 pub same_at_each : (cs : List ℕ) (lines : List Served) → length lines ≡ length cs
     → ((k : ℕ) (d : Served) → k < length lines → get_or lines k d ≡ served k (get_or cs k 0)) → lines ≡ served_from 0 cs
 same_at_each cs lines n h = each 0 cs lines n (λ k d l. h k d l ∙ ap (λ v. served v (get_or cs k 0)) (omega arith))

@@ -1,4 +1,4 @@
--- What a job file is told, by how its next line ends.
+-- What a job file spells, by how its next line ends.
 use Rattle.std.proofs.Common.{◌≡◌, ◌≢◌, ℕ, ◌+◌, ◌<◌, ◌≤◌, List, [], ◌∷◌, ◌++◌, length, Option, Some, Err}
 use Rattle.std.proofs.Common.{refl, ap, ◌∙◌, arith}
 use Rattle.std.specs.List.{slice_split}
@@ -10,7 +10,7 @@ use Rattle.disk_jobs.specs.declared.fault.ServiceFault.TheVariants.{BadLine}
 use Rattle.disk_jobs.specs.JobLists.{JobList}
 use Rattle.disk_jobs.specs.JobTexts.{Ending, one_line, then_on, told_lines, told_from}
 
--- a line that others follow
+-- a line that other lines follow
 told_lines-line : (e : Ending) (s : Option JobList) (i : ℕ) (l : List ℕ) (parts : List (List ℕ)) → (parts ≡ [] → ⊥)
     → length l ≤ 256
     → told_lines e s i (l ∷ parts) ≡ then_on (one_line s i l) (λ j. told_lines e (Some j) (i + 1) parts)
@@ -23,7 +23,7 @@ told_lines-long : (e : Ending) (s : Option JobList) (i : ℕ) (l : List ℕ) (pa
 told_lines-long e s i l [] h = rw (lt-ltb 256 (length l) h) refl
 told_lines-long e s i l (p ∷ ps) h = rw (lt-ltb 256 (length l) h) refl
 
--- a line that its end of line ends
+-- a line that ends with a newline
 pub told_from-line : (e : Ending) (s : Option JobList) (i : ℕ) (l x : List ℕ) → NoNewline l → length l ≤ 256
     → told_from e s i (l ++ 10 ∷ x) ≡ then_on (one_line s i l) (λ j. told_from e (Some j) (i + 1) x)
 unfolding told_from

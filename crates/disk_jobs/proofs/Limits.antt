@@ -16,7 +16,7 @@ unfolding refusal_of
 refusal_of-none j h =
     record { some = grind (arith, nat_tests); few = grind (arith, nat_tests); room = grind (arith, nat_tests) }
 
--- what a test lets through
+-- what follows if a test lets the jobs through
 cond-ok : (b : Bool) (k j : JobList) (f : ServiceFault) → cond b (Ok k) (Err f) ≡ Ok j → (b ≡ true) × (k ≡ j)
 cond-ok true k j f e = (refl, subst (λ (v : Outcome). IsOkAnd v (λ x. k ≡ x)) e refl)
 cond-ok false k j f e = absurd (subst (λ (v : Outcome). NotOk v) e tt)
@@ -25,7 +25,7 @@ cond-ok false k j f e = absurd (subst (λ (v : Outcome). NotOk v) e tt)
     NotOk (Ok k) = ⊥
     NotOk (Err f) = Unit {0}
 
--- the jobs so far are one line more
+-- each good line adds one to the lines that the jobs come from
 header-counts : (i : ℕ) (n : Option (ℕ × ℕ)) (j : JobList) → header_line i n ≡ Ok j → lines_of (Some j) ≡ 1
 header-counts i None j e = cc
 header-counts i (Some n) j e =
@@ -50,7 +50,7 @@ one_line-counts None (Some j) i l o =
     let e = header-counts i (two_numbers (codes "disk") l) j o in (omega arith, omega arith)
 one_line-counts (Some s) (Some j) i l o = job-counts i s (one_number (codes "read") l) j o
 
--- a job that is let through
+-- a job that is accepted
 pub job_line-good : (j : JobList) (i c : ℕ) (n : Option ℕ) → n ≡ Some c → c ≤ j.cylmax → length j.cylinders < 4096
     → job_line j i n ≡ Ok (with_job j c)
 job_line-good j i c n e h l = rw e (grind (arith, nat_tests))

@@ -1,4 +1,4 @@
--- How reading a job file goes on, line by line.
+-- How reading a job file continues, line by line.
 use Rattle.std.proofs.Common.{◌≡◌, ◌≢◌, ℕ, ◌+◌, ◌≤◌, List, [], ◌∷◌, ◌++◌, length, Option, Some, None, Result, Ok, Err}
 use Rattle.std.proofs.Common.{refl, ap, sym, ◌∙◌, append_assoc, subst, arith, inl, inr}
 use Rattle.std.proofs.lemmas.List.{append-nil}
@@ -20,7 +20,7 @@ use Rattle.disk_jobs.specs.Readings.{BreaksOff, Gives, GivesTo, Follows, lines_o
 use Rattle.disk_jobs.proofs.Limits.{one_line-counts}
 use Rattle.disk_jobs.proofs.JobFiles.{told_from-line, told_from-long_line, told_from-end}
 
--- how far reading is: of the input t0 it has t left, and the rest is told from the jobs so far
+-- how far reading is: of the input t0 it has t left, and what the rest spells depends on the jobs so far
 pub record Going (number : ℕ) (s : Option JobList) (t0 t : List ℕ) : Type 0 where
   pub read : List ℕ
   pub text : AtLine number read t0 t
@@ -30,7 +30,7 @@ pub record Going (number : ℕ) (s : Option JobList) (t0 t : List ℕ) : Type 0 
 Going-start : (t : List ℕ) → Going 1 None t t
 Going-start t = record { read = []; text = AtLine-first t; goes = λ e x. refl }
 
--- the last line, where it isn't empty
+-- the last line, if it isn't empty
 at_end-some : (s : Option JobList) (i : ℕ) (l : List ℕ) → (l ≡ [] → ⊥) → at_end s i l ≡ one_line s i l
 at_end-some s i [] n = absurd (n refl)
 at_end-some s i (b ∷ bs) n = refl
@@ -40,11 +40,11 @@ no_lines None h = refl
 no_lines (Some j) h = absurd (omega arith)
 
 module _ (number : ℕ) (s : Option JobList) (t0 t : List ℕ) (g : Going number s t0 t) where
-  -- the rest of what is told, from where reading is
+  -- what the text spells is what the rest of it spells, from the line at hand
   told-rest : (e : Ending) → told e t0 ≡ told_from e s number t
   told-rest e = ap (told e) g.text.whole ∙ g.goes e t
 
-  -- from the line at hand the jobs go on: the header's line and theirs are those that were read
+  -- if the line at hand is good, its number is one more than the number of jobs with it
   lines-read : (j : JobList) (l : List ℕ) → number ≡ lines_of s + 1 → one_line s number l ≡ Ok j
       → number ≡ length j.cylinders + 1
   lines-read j l c o = let k = one_line-counts s (Some j) number l o in omega (arith, k.0, c)
@@ -65,7 +65,7 @@ module _ (number : ℕ) (s : Option JobList) (t0 t : List ℕ) (g : Going number
     inr (after_lines-long_line g.text l x b h e),
   )
 
-  -- a line and its end, from which the jobs go on
+  -- the line at hand is good, and it and its end are read: reading is at the next line
   Going-line : (j : JobList) (l x : List ℕ) → NoNewline l → length l ≤ LONGEST_LINE → t ≡ l ++ 10 ∷ x
       → one_line s number l ≡ Ok j
       → Going (number + 1) (Some j) t0 x
@@ -77,7 +77,7 @@ module _ (number : ℕ) (s : Option JobList) (t0 t : List ℕ) (g : Going number
         ∙ ap (λ (v : Outcome). then_on v (λ k. told_from f (Some k) (number + 1) y)) o;
   }
 
-  -- a line at fault, or for whose job there is no memory
+  -- the line at hand is at fault, or there is no memory for its job
   Gives-fault : (l x : List ℕ) (f : ServiceFault) (s' : Option JobList) → NoNewline l → length l ≤ LONGEST_LINE
       → t ≡ l ++ 10 ∷ x
       → number ≡ lines_of s + 1 → Follows (one_line s number l) number s' (Err f) → GivesTo t0 x s' (Err f)
@@ -157,7 +157,7 @@ module _ (number : ℕ) (s : Option JobList) (t0 t : List ℕ) (g : Going number
         z,
       )
 
--- what is known of a reader's bytes, where reading is at this line
+-- what is known of a reader's bytes, if reading is at this line
 pub record Known (k0 k : Option (List ℕ)) (number : ℕ) (s : Option JobList) : Type 0 where
   pub goes : Reads k0 k (Going number s)
 

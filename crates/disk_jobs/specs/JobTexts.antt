@@ -12,44 +12,45 @@ use Rattle.disk_jobs.specs.JobLists.{JobList, job_list, with_job}
 abbrev pub Outcome : Type 0
 Outcome = Result JobList ServiceFault
 
--- line i, which is to be `disk M W`
+-- the jobs by line i, which has to be `disk M W`; its two numbers are given, if it has this form
 abbrev pub header_line : ℕ → Option (ℕ × ℕ) → Outcome
 header_line i None = Err (BadLine i)
 header_line i (Some n) =
     if nat_le n.0 65535 && (nat_lt 0 n.1 && nat_le n.1 16) then Ok (job_list n.0 n.1 [])
     else Err (BadLine i)
 
--- line i, which is to be `read C`
+-- the jobs by line i, which has to be `read C`; its number is given, if it has this form
 abbrev pub job_line : JobList → ℕ → Option ℕ → Outcome
 job_line j i None = Err (BadLine i)
 job_line j i (Some c) =
     if nat_le c j.cylmax && nat_lt (length j.cylinders) 4096 then Ok (with_job j c)
     else Err (BadLine i)
 
--- line i: the header where there are no jobs yet, else a job
+-- the jobs by line i: it is the header if there are no jobs yet, else a job
 unfoldable pub one_line : Option JobList → ℕ → List ℕ → Outcome
 one_line None i line = header_line i (two_numbers (codes "disk") line)
 one_line (Some j) i line = job_line j i (one_number (codes "read") line)
 
+-- continues with the jobs, or keeps the fault
 abbrev pub then_on : Outcome → (JobList → Outcome) → Outcome
 then_on (Err f) go = Err f
 then_on (Ok j) go = go j
 
--- what comes of the bytes after the last whole line, which has number i
+-- what becomes of the bytes after the last whole line; they are line i
 abbrev pub Ending : Type 0
 Ending = Option JobList → ℕ → List ℕ → Outcome
 
--- the input ends there
+-- the input ends after these bytes
 abbrev pub at_end : Ending
 at_end None i [] = Err NoHeader
 at_end (Some j) i [] = Ok j
 at_end s i (b ∷ bs) = one_line s i (b ∷ bs)
 
--- a read fails there
+-- a read fails after these bytes
 abbrev pub at_cut : Ending
 at_cut s i last = Err ReadFault
 
--- whole lines from number i on, and what follows them
+-- what the lines from number i on spell; the last is what follows the last whole line, and e says what becomes of it
 abbrev pub told_lines : Ending → Option JobList → ℕ → List (List ℕ) → Outcome
 told_lines e s i [] = Err NoHeader
 told_lines e s i (last ∷ []) =
@@ -58,10 +59,11 @@ told_lines e s i (line ∷ next ∷ lines) =
     if nat_lt 256 (length line) then Err (BadLine i)
     else then_on (one_line s i line) (λ j. told_lines e (Some j) (i + 1) (next ∷ lines))
 
--- from line i on
+-- what a text spells if it begins with line i
 unfoldable pub told_from : Ending → Option JobList → ℕ → List ℕ → Outcome
 told_from e s i text = told_lines e s i (slice_split is_newline text)
 
+-- what a text spells if e says what becomes of the bytes after its last whole line
 abbrev pub told : Ending → List ℕ → Outcome
 told e text = told_from e None 1 text
 

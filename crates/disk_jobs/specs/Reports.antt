@@ -13,10 +13,12 @@ line_text d =
     codes "job " ++ (decimal d.job ++ (codes " cylinder " ++ (decimal d.cylinder
     ++ (codes " block " ++ (decimal (block_of d.cylinder) ++ 10 ∷ [])))))
 
+-- the lines of jobs, in order
 abbrev pub lines_text : List Served → List ℕ
 lines_text [] = []
 lines_text (d ∷ ds) = line_text d ++ lines_text ds
 
+-- the last line: how many jobs there are, and the sum of their blocks
 abbrev pub total_text : ℕ → ℕ → List ℕ
 total_text n s = codes "total jobs " ++ (decimal n ++ (codes " sum " ++ (decimal s ++ 10 ∷ [])))
 

@@ -1,11 +1,11 @@
-//! What a worker brings: a job that was done.
+//! The result of a job.
 ghost use Rattle.std.specs.Prelude.{◌≡◌};
 ghost use Rattle.disk_jobs.specs.Services.{block_of, served};
 
 use std::marker::Model;
 
-/// A job that is done: its number, its cylinder, and the block that lies there, (C * C + 17) mod 65536. To a contract
-/// it is the number and the cylinder, since they make the block.
+/// A job that is done: its number, its cylinder C, and the block on that cylinder, (C * C + 17) mod 65536. In contracts
+/// it is the number and the cylinder, which determine the block.
 #[derive(Clone, Copy, Debug, PartialEq, Eq)]
 pub struct Done {
     job: u32,
@@ -31,7 +31,7 @@ impl Model for Done {
 }
 
 impl Done {
-    /// A job of this number, done on this cylinder.
+    /// Creates the result of the job with this number, done on this cylinder.
     pub fn of(job: u32, cylinder: u16) -> Done
         ensures { result ≡ served job cylinder }
     {
@@ -44,21 +44,21 @@ impl Done {
         }
     }
 
-    /// The number of the job.
+    /// Returns the number of the job.
     pub fn job(&self) -> u32
         ensures { result ≡ self.now.job }
     {
         self.job
     }
 
-    /// The cylinder that was read.
+    /// Returns the cylinder that was read.
     pub fn cylinder(&self) -> u16
         ensures { result ≡ self.now.cylinder }
     {
         self.cylinder
     }
 
-    /// The block that lies there.
+    /// Returns the block on the cylinder.
     pub fn block(&self) -> u16
         ensures { result ≡ block_of self.now.cylinder }
     {

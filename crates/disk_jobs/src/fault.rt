@@ -4,14 +4,14 @@ ghost use Rattle.disk_jobs.specs.Faults.{status_of};
 
 use thiserror::Error;
 
-/// Why the service gives no report. Lines are counted from 1, the header's.
+/// Why the service gives no report. Lines are counted from 1, which is the header.
 #[derive(Clone, Copy, Debug, PartialEq, Eq, Error)]
 pub enum ServiceFault {
-    /// There is no memory for the jobs, or for the service.
+    /// Out of memory for the jobs or for the service.
     #[error("fault 1 Memory")]
     Memory,
-    /// The first line isn't `disk M W` with M up to 65535 and 1 to 16 workers; or a later one isn't `read C` with C up
-    /// to M, or is one job too many; or a line has over 256 bytes.
+    /// The first line isn't `disk M W` with M up to 65535 and 1 to 16 workers. Or a later line isn't `read C` with C up
+    /// to M, or is one job too many. Or a line has over 256 bytes. The value is the number of the line.
     #[error("fault 2 BadLine line {0}")]
     BadLine(u64),
     /// The input has no line.
@@ -32,7 +32,7 @@ pub enum ServiceFault {
 }
 
 impl ServiceFault {
-    /// The exit status of a program that the fault ends: 2 where the input is at fault, else 3.
+    /// Returns the exit status of a program that ends by the fault: 2 if the input is at fault, else 3.
     pub fn status(&self) -> u8
         ensures { result ≡ status_of self.now }
     {

@@ -1,4 +1,4 @@
-//! The report, from what the workers bring.
+//! The report, made of the results of the workers.
 ghost use Rattle.std.specs.Prelude.{◌≡◌, ◌↔◌, ◌≤◌, length, IfOk, IfErr, IsOk, IsTrue};
 ghost use Rattle.disk_jobs.specs.Gatherings.{Agrees, AgreesInOrder};
 ghost use Rattle.disk_jobs.specs.Reports.{account_of};
@@ -9,8 +9,9 @@ use crate::fault::ServiceFault;
 use crate::jobs::{Jobs, MOST_JOBS};
 use crate::report::Report;
 
-/// The report of the results, in the order of the jobs. Refused, by `Torn`, unless the results are, in any order, each
-/// job once with its cylinder, `jobs` and `done` are how many they are, and `sum` is the sum of their blocks.
+/// Makes the report of `results`, in the order of the jobs. Returns `Torn` unless three things hold: the results are,
+/// in any order, each job of `list` once with its cylinder; `jobs` and `done` are how many there are; and `sum` is the
+/// sum of their blocks.
 pub fn gather(
     list: &Jobs,
     results: Vec<Done>,
@@ -31,7 +32,7 @@ pub fn gather(
     }
 }
 
-// Whether the lines are those of the jobs, in order, and the counts are right.
+// Returns true if the lines are those of the jobs, in order, and the counts are right.
 #[tactic(auto, using(crate::proofs::Gathered::in_order_length))]
 fn agrees(list: &Jobs, lines: &[Done], jobs: u64, sum: u64, done: u32) -> bool
     ensures { IsTrue result ↔ AgreesInOrder list.now.cylinders lines.now jobs sum done }
@@ -44,7 +45,7 @@ fn agrees(list: &Jobs, lines: &[Done], jobs: u64, sum: u64, done: u32) -> bool
     jobs == count as u64 && done as usize == count && sum == blocks
 }
 
-// Whether the lines are each job once, in order and with its cylinder.
+// Returns true if the lines are each job once, in order and with its cylinder.
 fn is_in_order(cylinders: &[u16], lines: &[Done]) -> bool
     ensures { IsTrue result ↔ (lines.now ≡ served_from 0 cylinders.now) }
 {
@@ -59,7 +60,7 @@ fn is_in_order(cylinders: &[u16], lines: &[Done]) -> bool
     true
 }
 
-// The sum of the blocks.
+// Returns the sum of the blocks of the lines.
 fn sum_of(lines: &[Done]) -> u64
     requires { length lines.now ≤ 4096 }
     ensures { result ≡ sum_of lines.now }

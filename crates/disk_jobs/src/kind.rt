@@ -1,18 +1,18 @@
-//! Which monitors the service stands on.
+//! The kinds of monitors that a service can use.
 ghost use Rattle.std.specs.Prelude.{◌≡◌, map};
 ghost use Rattle.std.specs.String.{string_bytes};
 ghost use Rattle.disk_jobs.specs.Kinds.{kind_named, kind_of_words};
 
-/// The monitors of the service.
+/// The kind of the service's monitors.
 #[derive(Clone, Copy, Debug, PartialEq, Eq)]
 pub enum Kind {
-    /// Doors of one word each.
+    /// Baton doors, of one word each.
     Baton,
-    /// Doors with tickets and bells.
+    /// Ticket doors, with tickets and bells.
     Ticket,
 }
 
-// The kind of this name.
+// Returns the kind with this name, or `None` if there is none.
 fn kind_named(word: &[u8]) -> Option<Kind>
     ensures { result ≡ kind_named word.now }
 {
@@ -25,8 +25,8 @@ fn kind_named(word: &[u8]) -> Option<Kind>
     None
 }
 
-/// The kind that a program's arguments name: none at all, or `baton` alone, is `Baton`; `ticket` alone is `Ticket`; all
-/// else is none.
+/// Returns the kind that a program's arguments name. No argument, or `baton` alone, is `Baton`; `ticket` alone is
+/// `Ticket`; anything else is `None`.
 pub fn kind_of(words: &[String]) -> Option<Kind>
     ensures { result ≡ kind_of_words (map string_bytes words.now) }
 {

@@ -1,4 +1,5 @@
-//! The jobs of a disk service: job files, results, and the report that is gathered of them. Nothing here has a thread.
+//! The jobs of a disk service: job files, results, and the report that is made of the results. Nothing in this crate
+//! starts a thread.
 #![tactic(auto)]
 
 pub mod done;

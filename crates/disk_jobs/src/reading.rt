@@ -1,4 +1,4 @@
-//! A job file.
+//! Reading a job file.
 ghost use Rattle.std.specs.Prelude.{◌≡◌, ◌≢◌, ◌*◌, ◌||◌, codes, None, Some, IfErr, OnOk};
 ghost use Rattle.line_text.specs.Forms.{one_number, two_numbers};
 ghost use Rattle.line_text.specs.Streams.{HasRead, Reads, ReadsFrom, has_read_failed, reader_name};
@@ -15,16 +15,18 @@ use line_text::reader::WatchedReader;
 use std::alloc::Global;
 use std::io::Read;
 
-/// The most lines of a job file that are looked at: the header, 4,096 jobs, and the line that is too many.
+/// The most lines of a job file that are read: the header, 4,096 jobs, and the line that is too many.
 pub const MOST_LINES: u64 = 4098;
 
-// Room that no line goes past.
+// The room given to each line, in bytes: no line within the limits exceeds it.
 const ROOM: usize = LONGEST_LINE + 1;
 
-/// Reads a job file: `disk M W` with the last cylinder M, 0 to 65535, and 1 to 16 workers W; then up to 4,096 lines
-/// `read C` with C up to M. Refused by the earliest fault of the text: `NoHeader` where it has no line, else `BadLine`;
-/// or `ReadFault` where a read fails before it, and `Memory` where the room for a good line's job can't be had. It
-/// reads up to the end of the line at fault, or its byte 257.
+/// Reads a job file. Its first line is `disk M W`, with the last cylinder M, 0 to 65535, and 1 to 16 workers W. Then
+/// come up to 4,096 lines `read C` with C up to M.
+///
+/// Returns the earliest fault of the text: `NoHeader` if it has no line, else `BadLine`. Returns `ReadFault` if a read
+/// fails before that, and `Memory` if there is no memory for a good line's job. Reads up to the end of the line at
+/// fault, or to its byte 257.
 pub fn read_jobs<R: Read>(alloc: Global, reader: &mut R) -> Result<Jobs, ServiceFault>
     ensures { Reads (R.remaining reader.old) (R.remaining reader.new) (λ text left.
         Gives text left result) }
@@ -33,9 +35,10 @@ pub fn read_jobs<R: Read>(alloc: Global, reader: &mut R) -> Result<Jobs, Service
     read_jobs_watched(alloc, &mut watched)
 }
 
-/// `read_jobs`, with a reader that is watched: `ReadFault` is answered exactly where a read failed, and at most 4,098
-/// lines of 257 bytes are read, by as many reads as bytes at the most, as the watched reader counts both, whatever the
-/// reader beneath it is.
+/// Reads a job file as `read_jobs` does, from a watched reader. Returns `ReadFault` exactly if a read failed.
+///
+/// Reads at most 4,098 lines of 257 bytes: this many bytes, by at most as many reads, as the watched reader counts
+/// both. This holds for every wrapped reader.
 pub fn read_jobs_watched<R: Read>(
     alloc: Global,
     reader: &mut WatchedReader<'_, R>,
@@ -53,7 +56,7 @@ pub fn read_jobs_watched<R: Read>(
     whole(end, jobs)
 }
 
-// The jobs, where their lines were read to the end.
+// Returns the jobs, if all their lines were read, or else the fault.
 fn whole(end: Result<(), ServiceFault>, jobs: Option<Jobs>) -> Result<Jobs, ServiceFault>
     requires some { OnOk end (jobs ≢ None) }
     requires fault { IfErr end IsOfReading }
@@ -69,7 +72,7 @@ fn whole(end: Result<(), ServiceFault>, jobs: Option<Jobs>) -> Result<Jobs, Serv
     }
 }
 
-// The lines of a job file, of which none was read yet.
+// Reads the lines of a job file, none of which was read yet.
 fn read_lines<R: Read>(
     alloc: Global,
     reader: &mut WatchedReader<'_, R>,
@@ -111,7 +114,7 @@ fn read_lines<R: Read>(
     }
 }
 
-// The line with a number. Only a job takes memory.
+// Takes in one line, by its number. Only a job takes memory.
 #[tactic(auto, unfolding(crate::specs::JobTexts::one_line))]
 fn one_line(
     alloc: Global,
@@ -134,7 +137,7 @@ fn one_line(
     }
 }
 
-// The jobs that a header opens: none yet.
+// Returns the jobs that a header opens: none yet.
 fn header_line(alloc: Global, number: u64, line: &[u8]) -> Result<Jobs, ServiceFault>
     ensures value { result ≡ header_line number (two_numbers (codes "disk") line.now) }
     ensures fault { IfErr result (λ f. f ≡ ServiceFault.BadLine number) }
@@ -149,7 +152,7 @@ fn header_line(alloc: Global, number: u64, line: &[u8]) -> Result<Jobs, ServiceF
     Ok(Jobs::none(alloc, cylmax as u16, workers as u32))
 }
 
-// One job more.
+// Appends the job of a line.
 fn job_line(jobs: &mut Jobs, number: u64, line: &[u8]) -> Result<(), ServiceFault>
     ensures told { Follows (job_line jobs.old number (one_number (codes "read") line.now)) number
         (Some jobs.new) result }

@@ -12,19 +12,20 @@ use line_text::text::{Text, append, append_number};
 use line_text::writer::{WatchedWriter, WriteFailed};
 use std::io::Write;
 
-/// What the service reports: each job that was done, how many they are, and the sum of their blocks.
+/// What the service reports: each job that was done, how many there are, and the sum of their blocks.
 #[derive(Debug, Drop, PartialEq, Eq)]
 pub struct Report {
     /// The jobs that were done, in the order of their numbers.
     pub lines: Vec<Done>,
-    /// How many they are.
+    /// How many jobs were done.
     pub jobs: u64,
-    /// The sum of their blocks.
+    /// The sum of the blocks of these jobs.
     pub sum: u64,
 }
 
-/// Writes a report: a line `job I cylinder C block B` for each job in its order, then `total jobs N sum S`. Where a
-/// write fails or takes no bytes, a prefix is written, and not all: `WriteFault`. Nothing is flushed.
+/// Writes a report: a line `job I cylinder C block B` for each job in order, then `total jobs N sum S`. Returns
+/// `WriteFault` if a write fails or takes no bytes; then a prefix of the report is written, and not all. Nothing is
+/// flushed.
 pub fn write_report<W: Write>(report: &Report, writer: &mut W) -> Result<(), ServiceFault>
     ensures ok { OnOk result (Appends (W.contents writer.old) (W.contents writer.new)
         (report_text (account_of report.now))) }
@@ -36,8 +37,8 @@ pub fn write_report<W: Write>(report: &Report, writer: &mut W) -> Result<(), Ser
     write_report_watched(report, &mut watched)
 }
 
-/// `write_report`, with a writer that is watched: `WriteFault` is answered exactly where a write failed or took no
-/// bytes.
+/// Writes a report as `write_report` does, to a watched writer. Returns `WriteFault` exactly if a write failed or took
+/// no bytes.
 pub fn write_report_watched<W: Write>(
     report: &Report,
     writer: &mut WatchedWriter<'_, W>,
@@ -60,7 +61,7 @@ pub fn write_report_watched<W: Write>(
     }
 }
 
-// The lines of the jobs.
+// Writes the lines of the jobs.
 fn write_lines<W: Write>(
     lines: &[Done],
     writer: &mut WatchedWriter<'_, W>,
@@ -81,7 +82,7 @@ fn write_lines<W: Write>(
     Ok(())
 }
 
-// The line of a job.
+// Returns the line of a job.
 fn line_text(done: Done) -> Text
     ensures { result.items ≡ line_text done }
 {
@@ -96,7 +97,7 @@ fn line_text(done: Done) -> Text
     text
 }
 
-// The last line.
+// Returns the last line of a report.
 fn total_text(jobs: u64, sum: u64) -> Text
     ensures { result.items ≡ total_text jobs sum }
 {

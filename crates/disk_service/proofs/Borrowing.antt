@@ -35,7 +35,7 @@ joined k s f g h a b c t (in_vain n e h1 r u v) sum =
 joined k s f g h a b c t (once_more n m buffer d e h1 r u v w is) sum =
     once_more (a + n) c buffer d e h1 r (joined k s f g d a n (a + n) t u refl) v w (omega (arith, is, sum))
 
--- one after another
+-- the borrowings between f and g, and after them those between g and h
 pub Borrows-joined : (k s : ℕ) (f g h : History Pooled) (a b : ℕ) → Borrows k s f a g → Borrows k s g b h
     → Borrows k s f (a + b) h
 Borrows-joined k s f g h a b t u = joined k s f g h a b (a + b) t u refl

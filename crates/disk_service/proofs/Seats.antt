@@ -31,20 +31,20 @@ module _ {D : Type 0} where
       → k < n → HasPlace k os
   has-first t door n os first k l = let c = first.count in has_nth os k k (omega arith) (λ d. (first.each k d l).number)
 
--- the same number, in other words
+-- the same of an equal number
 pub there-at : {d : Doors} {p : Places} (n m : ℕ) → n ≡ m → AreThere d n p → AreThere d m p
 there-at n m e there = rw (sym e) there
 
 pub staffed-at : {d : Doors} {k : Desk} (n m : ℕ) → n ≡ m → IsStaffed d n k → IsStaffed d m k
 staffed-at n m e staffed = rw (sym e) staffed
 
--- where the one and the other are right, both are
+-- if a result joined of two is `Ok`, both are
 pub both-ok : {T U E : Type 0} (x : Result T E) (y : Result U E) (r : Result U E) (v : U) → r ≡ result_and x y
     → r ≡ Ok v → ((u : T) × (x ≡ Ok u)) × (y ≡ Ok v)
 both-ok (Ok u) y r v all is = ((u, refl), sym all ∙ is)
 both-ok (Err e) y r v all is = let clash : Err e ≡ Ok v = sym all ∙ is in cc
 
--- what follows where it is right
+-- what follows from an `Ok` result holds if the result is `Ok`
 pub if-ok : {T E : Type 0} (P : Type 0) (r : Result T E) → ((v : T) → r ≡ Ok v → P) → IfOk r (λ _. P)
 if-ok P (Ok v) f = f v refl
 if-ok P (Err e) f = tt

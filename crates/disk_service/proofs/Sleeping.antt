@@ -19,6 +19,6 @@ joined k f g h a b c s never e = let same : c ≡ a = omega arith in rw same s
 joined k f g h a b c s (again n m e h1 r t w is) sum =
     again (a + n) c e h1 r (joined k f g e a n (a + n) s t refl) w (omega (arith, is, sum))
 
--- one after another
+-- the sleeps between f and g, and after them those between g and h
 pub Sleeps-joined : (k : ℕ) (f g h : History ℕ) (a b : ℕ) → Sleeps k f a g → Sleeps k g b h → Sleeps k f (a + b) h
 Sleeps-joined k f g h a b s t = joined k f g h a b (a + b) s t refl

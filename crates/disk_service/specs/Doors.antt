@@ -1,4 +1,4 @@
--- The doors of the service, and whose places are where.
+-- The doors of the service, and the places at each.
 use Rattle.std.specs.Prelude.{ℕ, ◌<◌, ◌≡◌, List, length, slice_index_or, Option}
 use Rattle.hoare_law.specs.Lawful.{Rest, Ready}
 use Rattle.hoare_law.specs.Sizes.{Kinds, kinds_of}
@@ -18,7 +18,7 @@ use Rattle.disk_service.specs.declared.doors.Doors.{Doors}
 use Rattle.disk_service.specs.declared.seat.Seat.{Seat}
 use Rattle.disk_service.specs.declared.places.Places.{Places}
 
--- what is owed on a monitor of these data
+-- what a monitor of these data asks of each wait, leave and signal, and the kinds of its conditions
 pub record Terms (D : Type 0) : Type 1 where
   pub rest : Rest D
   pub ready : Ready D
@@ -28,12 +28,12 @@ module _ {D : Type 0} where
   abbrev pub terms : Rest D → Ready D → Kinds → Terms D
   terms rest ready kinds = record { rest = rest; ready = ready; kinds = kinds }
 
-  -- it is place k of the door, outside
+  -- o is place k of the door, outside
   pub record IsAt (t : Terms D) (door : DoorId) (k : ℕ) (o : PlaceOut D) : Type 0 where
     pub out : IsOut t.rest t.ready t.kinds door o
     pub number : o.place ≡ k
 
-  -- they are the first n places of the door, in order, outside
+  -- os are the first n places of the door, in order, outside
   pub record AreFirst (t : Terms D) (door : DoorId) (n : ℕ) (os : List (PlaceOut D)) : Type 0 where
     pub count : length os ≡ n
     pub each : (k : ℕ) (d : PlaceOut D) → k < n → IsAt t door k (slice_index_or os k d)
@@ -56,7 +56,7 @@ totals_terms = terms (λ s q. SingleRests s (q 0)) (λ c p s q. SingleReady s) (
 abbrev pub board_terms : Terms (Shared Board)
 board_terms = terms (λ s q. ReadersRest s (q 0) (q 1)) (λ c p s q. ReadersReady c s) (kinds_of 2 0)
 
--- each place of the seat is the door's that has the seat's number
+-- each place of the seat is the place of its door with the seat's number
 pub record IsSeat (d : Doors) (s : Seat) : Type 0 where
   pub items : IsAt items_terms (id_of d.items) s.number s.items
   pub clock : IsAt clock_terms (id_of d.clock) s.number s.clock
@@ -65,7 +65,7 @@ pub record IsSeat (d : Doors) (s : Seat) : Type 0 where
   pub totals : IsAt totals_terms (id_of d.totals) s.number s.totals
   pub board : IsAt board_terms (id_of d.board) s.number s.board
 
--- the first n places of each door are there
+-- the first n places of each door are there, in order
 pub record AreThere (d : Doors) (n : ℕ) (p : Places) : Type 0 where
   pub items : AreFirst items_terms (id_of d.items) n p.items.items
   pub clock : AreFirst clock_terms (id_of d.clock) n p.clock.items

@@ -29,20 +29,21 @@ pub data HandsOut (k : ℕ) (f : History (Buffered Item)) : List Item → Histor
   one_more : (before after : List Item) (item : Item) (g h : History (Buffered Item)) → HandsOut k f before g
       → Appends k item g h → after ≡ before ++ item ∷ [] → HandsOut k f after h
 
--- by the verdict on the start of the workers, with this number of rooms left in the desk: each worker that was started
--- has taken its room out, and so has the one that couldn't be started
+-- what was handed out, if starting the workers ended with this result, and this number of rooms is left in the desk.
+-- The room of each worker that was started is taken out, and so is that of the worker that couldn't be started
 abbrev pub HandsBy : JobList → ℕ → ℕ → History (Buffered Item) → History (Buffered Item) → Result (Unit {0})
     ServiceFault → Type 0
 -- each worker was started, and all items are handed out
 HandsBy j rooms k f h (Ok u) = (rooms ≡ 0) × HandsOut k f (whole j) h
--- the same
+-- out of memory after that: each worker was started, and all items are handed out
 HandsBy j rooms k f h (Err faults.Memory) = (rooms ≡ 0) × HandsOut k f (whole j) h
--- a worker couldn't be started: no job is handed out, and a stop item for each worker that was started
+-- a worker couldn't be started: no job is handed out, and a stop item for each worker that was started is
 HandsBy j rooms k f h (Err faults.Spawn) = HandsOut k f (stops (j.workers - (rooms + 1))) h
--- no other fault is answered
+-- no other fault is returned
 HandsBy j rooms k f h (Err e) = ⊥
 
--- by the verdict on the start of the clock and the workers: if it is Memory, each of them was started
+-- how many rooms are left, if starting the clock and the workers ended with this result; with `Ok` or `Memory` none is,
+-- and each of them was started
 abbrev pub StartsBy : ℕ → Result (Unit {0}) ServiceFault → Type 0
 StartsBy rooms (Ok u) = rooms ≡ 0
 StartsBy rooms (Err faults.Memory) = rooms ≡ 0

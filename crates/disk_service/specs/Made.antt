@@ -19,7 +19,7 @@ use Rattle.disk_service.specs.declared.data.Board.{Board}
 use Rattle.disk_service.specs.declared.doors.Doors.{Doors}
 use Rattle.disk_service.specs.declared.places.Places.{Places}
 
--- the kind of door that a kind of service stands on
+-- the kind of door that this kind of service uses
 abbrev pub door_kind : Kind → DoorKind
 door_kind Kind.Baton = DoorKind.Baton
 door_kind Kind.Ticket = DoorKind.Ticket
@@ -33,16 +33,16 @@ pub record AreOf (kind : Kind) (d : Doors) : Type 0 where
   pub totals : kind_behind d.totals ≡ door_kind kind
   pub board : kind_behind d.board ≡ door_kind kind
 
--- nothing has happened yet, at a door that was opened with these data
+-- nothing has happened yet at a door that was opened with these data
 pub record IsNew {D : Type 0} (s : D) (f : History D) : Type 0 where
   pub opening : f.opening ≡ s
   pub events : f.events ≡ []
 
--- that is what each of the n places knows
+-- each of the n places knows that nothing has happened yet at a door that was opened with these data
 pub record AreNew {D : Type 0} (s : D) (n : ℕ) (os : List (PlaceOut D)) : Type 0 where
   pub each : (k : ℕ) (d : PlaceOut D) → k < n → IsNew s (slice_index_or os k d).front
 
--- the door is of this kind, was opened with these data and has n places, and they are its places
+-- the door is of this kind, was opened with these data and has n places, and os are its places
 pub record IsMade {D : Type 0} (t : Terms D) (s : D) (k : Kind) (n : ℕ) (door : RawAnyDoor D)
     (os : List (PlaceOut D)) : Type 0 where
   pub kind : kind_behind door ≡ door_kind k
@@ -50,31 +50,32 @@ pub record IsMade {D : Type 0} (t : Terms D) (s : D) (k : Kind) (n : ℕ) (door 
   pub places : AreFirst t (id_of door) n os
   pub opening : AreNew s n os
 
--- 4 cells for items, and none in them
+-- 4 cells for items, all empty
 abbrev pub no_items : Buffered Item
 no_items = empty 4
 
--- the clock stands at 0
+-- the clock is at 0
 abbrev pub start_time : ℕ
 start_time = 0
 
--- a stream for each worker, and a free buffer for two
+-- a stream for each worker, and a free buffer for every two of them, rounded up
 abbrev pub free_buffers : ℕ → Pooled
 free_buffers workers = all_free ((workers + 1) / 2) workers
 
--- the drive is in, and the disk has its last cylinder here
+-- the drive is in, and `cylmax` is the disk's last cylinder
 abbrev pub idle_disk : ℕ → Disk Drive
 idle_disk cylmax = idle (record {}) cylmax
 
--- no job was done
+-- the totals while no job is done
 abbrev pub no_totals : Option Totals
 no_totals = Some (record { jobs = 0; sum = 0 })
 
--- nothing was written yet, and nobody reads
+-- the board while nothing was written and no process reads
 abbrev pub blank_board : Shared Board
 blank_board = unused (record { done = 0; closed = false })
 
--- the doors were opened with these data for these jobs, and nothing has happened yet that one of the n places knows
+-- the doors were opened with these data for these jobs, and each of the n places knows of nothing that has happened
+-- since
 pub record AreOpened (j : JobList) (n : ℕ) (p : Places) : Type 0 where
   pub items : AreNew no_items n p.items.items
   pub clock : AreNew start_time n p.clock.items

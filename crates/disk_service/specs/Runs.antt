@@ -14,22 +14,22 @@ use Rattle.disk_jobs.specs.Services.{service}
 abbrev pub Spells : List ℕ → List ℕ → Type 0
 Spells text left = (j : JobList) × (jobs_of text ≡ Ok j) × (left ≡ [])
 
--- the same, and of the report of their service P holds
+-- the text spells jobs and was read to its end, and P holds of the report of their service
 abbrev pub Reported : List ℕ → List ℕ → (List ℕ → Type 0) → Type 0
 Reported text left P = (j : JobList) × (jobs_of text ≡ Ok j) × (left ≡ []) × P (report_text (service j.cylinders))
 
--- by its verdict: what it read of the text, where left is left, and how its output grew
+-- what the run read of the text, of which `left` is left, and how its output grew, by its result
 abbrev pub Serves : List ℕ → List ℕ → Option (List ℕ) → Option (List ℕ) → Result (Unit {0}) ServiceFault → Type 0
 -- the report is written
 Serves text left old new (Ok u) = Reported text left (λ report. Appends old new report)
--- of the report a prefix is written, and not all
+-- a prefix of the report is written, and not all
 Serves text left old new (Err faults.WriteFault) = Reported text left (λ report. AppendsPrefix old new report)
--- nothing is written, for want of room for a job, or for the service of the jobs
+-- nothing is written, as there was no memory for a job or for the service of the jobs
 Serves text left old new (Err faults.Memory) = (EndsInJob text left ⊎ Spells text left) × (new ≡ old)
 -- nothing is written, though the text spells jobs
 Serves text left old new (Err faults.Spawn) = Spells text left × (new ≡ old)
 Serves text left old new (Err faults.Torn) = Spells text left × (new ≡ old)
--- nothing is written, and the fault is the text's, or the reader's
+-- nothing is written, and the fault is one of the text or of the reader
 Serves text left old new (Err (faults.BadLine i)) = Gives text left (Err (faults.BadLine i)) × (new ≡ old)
 Serves text left old new (Err faults.NoHeader) = Gives text left (Err faults.NoHeader) × (new ≡ old)
 Serves text left old new (Err faults.ReadFault) = Gives text left (Err faults.ReadFault) × (new ≡ old)

@@ -1,4 +1,4 @@
-//! What is written on the board, and read of it.
+//! Writing on the board, and reading it.
 ghost use Rattle.std.specs.Prelude.{◌≡◌};
 ghost use Rattle.disk_service.specs.Doors.{IsSeat};
 
@@ -9,8 +9,8 @@ use hoare_law::monitor::Monitor;
 use std::sync::Wait;
 use sweep_schedulers::readers_writers::{NoReader, ReadPass, ReadersWriters};
 
-/// Writes that `more` jobs are done, and, if this is the `last` word, that no more will be: whether the board took it.
-/// The seat comes back.
+/// Writes on the board that `more` jobs are done and, if `last`, that no more will be. Returns the seat, and true if
+/// the board took it.
 pub(crate) fn write<R: Wait>(
     rt: &R,
     doors: &Doors,
@@ -30,7 +30,7 @@ pub(crate) fn write<R: Wait>(
     (seat, written)
 }
 
-// Writes on the board of this monitor: whether it took it.
+// Writes on the board of this monitor. Returns true if the board took it.
 fn write_on<R: Wait, M: Monitor<ReadersWriters<Board>>>(
     m: &M,
     rt: &R,
@@ -48,7 +48,8 @@ fn write_on<R: Wait, M: Monitor<ReadersWriters<Board>>>(
     (out, next.is_some() && ended.is_ok())
 }
 
-/// Whether the board says that no more will be done. Where it can't be read it says no. The seat comes back.
+/// Returns the seat, and true if the board says that no more jobs will be done. If the board can't be read, returns
+/// false.
 pub(crate) fn is_closed<R: Wait>(rt: &R, doors: &Doors, seat: Seat) -> (Seat, bool)
     requires { IsSeat doors.now seat }
     ensures of { IsSeat doors.now result.0 }
@@ -60,7 +61,7 @@ pub(crate) fn is_closed<R: Wait>(rt: &R, doors: &Doors, seat: Seat) -> (Seat, bo
     (seat, closed)
 }
 
-// Whether the board of this monitor says that no more will be done.
+// Returns true if the board of this monitor says that no more jobs will be done, false also if it can't be read.
 fn read_closed<R: Wait, M: Monitor<ReadersWriters<Board>>>(
     m: &M,
     rt: &R,
@@ -77,7 +78,7 @@ fn read_closed<R: Wait, M: Monitor<ReadersWriters<Board>>>(
     (end_read(m, rt, out, pass), board.closed)
 }
 
-// Ends a read: where the pass comes back it is tried again.
+// Ends a read. If that is refused, which returns the pass, tries again.
 fn end_read<R: Wait, M: Monitor<ReadersWriters<Board>>>(
     m: &M,
     rt: &R,

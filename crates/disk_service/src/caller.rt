@@ -1,4 +1,4 @@
-//! What the caller's thread does while others run.
+//! What the caller's thread does while the others run.
 ghost use Rattle.std.specs.Prelude.{◌≡◌, length};
 ghost use Rattle.plain_schedulers.specs.BufferTraces.{Appends};
 ghost use Rattle.disk_service.specs.Doors.{IsSeat};
@@ -12,7 +12,7 @@ use disk_jobs::jobs::Jobs;
 use plain_schedulers::buffer::Buffer;
 use std::sync::Wait;
 
-/// Hands the numbers of the jobs on, in order, and then tells all workers to stop. The seat comes back.
+/// Hands out the numbers of the jobs, in order, and then a stop item for each worker. Returns the seat.
 pub fn hand_out<R: Wait>(rt: &R, doors: &Doors, jobs: &Jobs, seat: Seat) -> Seat
     requires { IsSeat doors.now seat }
     ensures of { IsSeat doors.now result }
@@ -23,7 +23,7 @@ pub fn hand_out<R: Wait>(rt: &R, doors: &Doors, jobs: &Jobs, seat: Seat) -> Seat
     stop_workers(rt, doors, seat, jobs.workers())
 }
 
-// Hands the numbers of the jobs on, in order. The seat comes back.
+// Hands out the numbers of the jobs, in order. Returns the seat.
 fn hand_on_jobs<R: Wait>(rt: &R, doors: &Doors, jobs: &Jobs, seat: Seat) -> Seat
     requires { IsSeat doors.now seat }
     ensures of { IsSeat doors.now result }
@@ -38,7 +38,7 @@ fn hand_on_jobs<R: Wait>(rt: &R, doors: &Doors, jobs: &Jobs, seat: Seat) -> Seat
     seat
 }
 
-/// Tells this number of workers to stop. The seat comes back.
+/// Hands out a stop item for each of this number of workers. Returns the seat.
 pub(crate) fn stop_workers<R: Wait>(rt: &R, doors: &Doors, seat: Seat, workers: u32) -> Seat
     requires { IsSeat doors.now seat }
     ensures of { IsSeat doors.now result }
@@ -52,7 +52,7 @@ pub(crate) fn stop_workers<R: Wait>(rt: &R, doors: &Doors, seat: Seat, workers: 
     seat
 }
 
-// Appends an item to those that wait for a worker. The seat comes back.
+// Appends an item to those that wait for a worker. Blocks while the buffer is full. Returns the seat.
 fn append<R: Wait>(rt: &R, doors: &Doors, seat: Seat, item: Item) -> Seat
     requires { IsSeat doors.now seat }
     ensures of { IsSeat doors.now result }
@@ -64,7 +64,7 @@ fn append<R: Wait>(rt: &R, doors: &Doors, seat: Seat, item: Item) -> Seat
     seat
 }
 
-/// Closes the board: where that is refused it is tried again. The seat comes back.
+/// Closes the board, and tries again if that is refused. Returns the seat.
 pub fn close_board<R: Wait>(rt: &R, doors: &Doors, seat: Seat) -> Seat
     requires { IsSeat doors.now seat }
     ensures of { IsSeat doors.now result }

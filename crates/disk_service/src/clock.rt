@@ -8,7 +8,7 @@ use crate::seat::Seat;
 use std::sync::Wait;
 use timed_schedulers::alarm::Alarm;
 
-/// Ticks until the board is closed. The seat comes back.
+/// Ticks until the board is closed. Returns the seat.
 pub fn tick_on<R: Wait>(rt: &R, doors: &Doors, seat: Seat) -> Seat
     requires { IsSeat doors.now seat }
     ensures of { IsSeat doors.now result }

@@ -1,10 +1,10 @@
-//! What lies in the monitors of the service.
+//! The data of the service's monitors.
 use disk_jobs::done::Done;
 
-/// What the buffer brings to a worker.
+/// What a worker removes from the buffer.
 #[derive(Clone, Copy, Debug, PartialEq, Eq)]
 pub enum Item {
-    /// The number of a job.
+    /// A job to do, by its number.
     Job(u32),
     /// There are no more jobs for this worker.
     Stop,
@@ -26,15 +26,15 @@ impl Drive {
 pub struct Totals {
     /// How many jobs were done.
     pub jobs: u64,
-    /// The sum of their blocks.
+    /// The sum of the blocks of these jobs.
     pub sum: u64,
 }
 
 impl Totals {
-    /// Nothing was done yet.
+    /// The totals while no job is done.
     pub(crate) const NONE: Totals = Totals { jobs: 0, sum: 0 };
 
-    /// The totals with one job more, unless a number is past its type.
+    /// Returns the totals with one more job, or `None` if a number overflows its type.
     pub(crate) fn with(self, done: Done) -> Option<Totals> {
         let jobs = self.jobs.checked_add(1)?;
         let sum = self.sum.checked_add(u64::from(done.block()))?;
@@ -42,17 +42,18 @@ impl Totals {
     }
 }
 
-/// What all may read: how many jobs were done, and whether no more will be.
+/// What every thread may read: how many jobs were done, and if no more will be.
 #[derive(Clone, Copy, Debug, PartialEq, Eq)]
 pub struct Board {
     /// How many jobs were done.
     pub done: u32,
-    /// Whether no more will be.
+    /// True if no more jobs will be done.
     pub closed: bool,
 }
 
 impl Board {
-    /// The board with `more` jobs done, closed if this is the `last` word, unless a number is past its type.
+    /// Returns the board with `more` jobs done, closed if it was or if `last`. Returns `None` if a number overflows its
+    /// type.
     pub(crate) fn with(self, more: u32, last: bool) -> Option<Board> {
         let done = self.done.checked_add(more)?;
         Some(Board {

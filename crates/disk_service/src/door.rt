@@ -1,4 +1,4 @@
-//! One door of the service: how it is opened and closed.
+//! Opening and closing one door of the service.
 ghost use Rattle.std.specs.Prelude.{◌≡◌, IfOk, IfErr};
 ghost use Rattle.hoare_law.specs.Priorities.{nobody};
 ghost use Rattle.hoare_law.specs.Sizes.{kinds_of};
@@ -13,10 +13,10 @@ use door_frame::place::Outside;
 use hoare_law::data::MonitorData;
 use std::alloc::Global;
 
-/// A door and its places.
+/// A door and its places, in order.
 pub(crate) type Made<D> = (AnyDoor<D>, Vec<Outside<D>>);
 
-// The kind of door that this kind of service stands on.
+// Returns the kind of door that this kind of service uses.
 fn door_kind(kind: Kind) -> DoorKind
     ensures { result ≡ door_kind kind }
 {
@@ -26,7 +26,8 @@ fn door_kind(kind: Kind) -> DoorKind
     }
 }
 
-/// A door of this kind with this number of places, and the places, in order.
+/// Opens a door of this kind with the data `state` and this number of places. Returns it and the places, in order, or
+/// `Memory` if it can't be made.
 pub(crate) fn opened<D: MonitorData + Send + Drop>(
     alloc: Global,
     kind: Kind,
@@ -47,7 +48,7 @@ pub(crate) fn opened<D: MonitorData + Send + Drop>(
     }
 }
 
-/// The data that the places left: all of them are handed in.
+/// Closes the door, given all of its places. Returns the data that the places left.
 pub(crate) fn closed<D: MonitorData + Send>(door: AnyDoor<D>, places: Vec<Outside<D>>) -> D
     requires { AreFirst (terms D.rest D.ready (kinds_of D.CONDITIONS D.MESA)) (id_of door) (id_of door).places
         places.items }

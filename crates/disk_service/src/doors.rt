@@ -20,7 +20,7 @@ use sweep_schedulers::readers_writers::ReadersWriters;
 use timed_schedulers::alarm::Alarm;
 use timed_schedulers::pool::Pool;
 
-/// How many items wait for a worker at most.
+/// The most items that wait for a worker.
 const CELLS: usize = 4;
 
 /// The doors of the service, one for each scheduler.
@@ -28,20 +28,21 @@ const CELLS: usize = 4;
 pub struct Doors {
     /// The jobs that wait for a worker.
     pub items: AnyDoor<Buffer<Item>>,
-    /// The time.
+    /// The time, in ticks.
     pub clock: AnyDoor<Alarm>,
     /// The buffers that blocks are read into.
     pub pool: AnyDoor<Pool>,
-    /// The disk.
+    /// The disk, with its drive.
     pub head: AnyDoor<Head<Drive>>,
     /// How many jobs were done, and the sum of their blocks.
     pub totals: AnyDoor<Single<Totals>>,
-    /// What all may read.
+    /// The board, which every thread may read.
     pub board: AnyDoor<ReadersWriters<Board>>,
 }
 
 impl Doors {
-    /// Doors for these jobs with this number of places each, and the places, in order.
+    /// Opens the doors for these jobs, with `count` places each. Returns the doors and the places, in order, or
+    /// `Memory` if a door can't be made.
     pub fn open(
         alloc: Global,
         kind: Kind,
@@ -75,10 +76,10 @@ impl Doors {
         Ok((doors, places))
     }
 
-    /// Lets the doors go, with what lies behind them.
+    /// Drops the doors, with the data that they protect.
     pub(crate) fn let_go(self) {}
 
-    /// Closes all doors, with all of their places: what the totals say, if they are in, and the board.
+    /// Closes all doors, given all of their places. Returns the totals, unless they are out, and the board.
     pub(crate) fn close(self, places: Places, count: usize) -> (Option<Totals>, Board)
         requires size { AreSized self count }
         requires places { AreThere self count places }
@@ -101,7 +102,7 @@ impl Doors {
     }
 }
 
-// The doors of the jobs that wait, of the time, and of the buffers, and their places.
+// Opens the doors of the items, of the time and of the buffers. Returns them with their places.
 fn first_doors(
     alloc: Global,
     kind: Kind,
@@ -120,7 +121,7 @@ fn first_doors(
     Ok((items, clock, pool))
 }
 
-// The door of the jobs that wait for a worker, and its places.
+// Opens the door of the items that wait for a worker. Returns it with its places.
 fn items_door(alloc: Global, kind: Kind, count: usize) -> Result<Made<Buffer<Item>>, ServiceFault>
     ensures made { IfOk result (λ r. IsMade items_terms no_items kind count r.0 r.1.items) }
     ensures fault { IfErr result (λ f. f ≡ ServiceFault.Memory) }
@@ -131,7 +132,8 @@ fn items_door(alloc: Global, kind: Kind, count: usize) -> Result<Made<Buffer<Ite
     }
 }
 
-// The door of the buffers that blocks are read into, one for two workers, and its places.
+// Opens the door of the buffers that blocks are read into, one for every two workers, rounded up. Returns it with its
+// places.
 fn pool_door(
     alloc: Global,
     kind: Kind,
@@ -149,7 +151,7 @@ fn pool_door(
     }
 }
 
-// The doors of the disk, of the totals and of the board, and their places.
+// Opens the doors of the disk, of the totals and of the board. Returns them with their places.
 fn other_doors(
     alloc: Global,
     kind: Kind,

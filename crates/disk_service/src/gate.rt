@@ -1,11 +1,11 @@
-//! What a caller may do around each job.
+//! What the service's caller may have done around each job.
 
-/// What is called around each job, by the worker that does it. All workers share it.
+/// Calls that a worker makes around each job that it does. All workers share the gate.
 pub trait Gate {
-    /// A worker has the job, and nothing of any monitor in hand.
+    /// Called when a worker has the job, and has nothing of any monitor in hand.
     fn begin(&self, job: usize);
 
-    /// The worker is done with the job.
+    /// Called when the worker is done with the job.
     fn end(&self, job: usize);
 }
 

@@ -17,24 +17,24 @@ use sweep_schedulers::readers_writers::ReadersWriters;
 use timed_schedulers::alarm::Alarm;
 use timed_schedulers::pool::Pool;
 
-/// The places of each door that no thread has: place 0, 1, .. in order.
+/// The places of each door that no thread has: place 0, 1, and so on, in order.
 #[derive(Drop)]
 pub struct Places {
-    /// At the door of the jobs that wait for a worker.
+    /// The places at the door of the items that wait for a worker.
     pub items: Vec<Outside<Buffer<Item>>>,
-    /// At the door of the time.
+    /// The places at the door of the time.
     pub clock: Vec<Outside<Alarm>>,
-    /// At the door of the buffers.
+    /// The places at the door of the buffers.
     pub pool: Vec<Outside<Pool>>,
-    /// At the door of the disk.
+    /// The places at the door of the disk.
     pub head: Vec<Outside<Head<Drive>>>,
-    /// At the door of the totals.
+    /// The places at the door of the totals.
     pub totals: Vec<Outside<Single<Totals>>>,
-    /// At the door of the board.
+    /// The places at the door of the board.
     pub board: Vec<Outside<ReadersWriters<Board>>>,
 }
 
-// The last of the places.
+// Takes the last of the places, of which there has to be at least one.
 fn take_last<D: MonitorData>(places: &mut Vec<Outside<D>>) -> Outside<D>
     requires { 0 < length places.old.items }
     ensures { (door : DoorId) (n : ℕ)
@@ -48,7 +48,7 @@ fn take_last<D: MonitorData>(places: &mut Vec<Outside<D>>) -> Outside<D>
     }
 }
 
-// The place behind the others, for which there is room.
+// Appends the place. There is memory for it.
 fn put_last<D: MonitorData>(
     places: &mut Vec<Outside<D>>,
     place: Outside<D>,
@@ -63,7 +63,8 @@ fn put_last<D: MonitorData>(
 }
 
 impl Places {
-    /// The last seat that nobody has: its number is how many are left then.
+    /// Takes the last seat that no thread has, of which there has to be at least one. Its number is the number of seats
+    /// that are left.
     pub fn take_seat(&mut self, number: u32) -> Seat
         requires { (d : Doors) × AreThere d (number + 1) self.old }
         ensures number { result.number ≡ number }
@@ -87,7 +88,7 @@ impl Places {
         }
     }
 
-    /// Takes the next seat back. The room that it had is still there.
+    /// Puts the seat back, which has to be the next by its number. The memory for it is still there.
     pub(crate) fn put_seat(&mut self, seat: Seat) -> Result<(), AllocError>
         ensures { IfOk result (λ _. (d : Doors) → AreThere d seat.number self.old → IsSeat d seat
             → AreThere d (seat.number + 1) self.new) }

@@ -18,8 +18,10 @@ use std::io::{Read, Write};
 use std::sync::Wait;
 use std::thread::Threads;
 
-/// Reads a job file, does its jobs on doors of this kind, and writes the report. Where a write fails or takes no bytes
-/// a prefix of the report is written, and not all; after any other fault nothing is. Nothing is flushed.
+/// Reads a job file, does its jobs on doors of this kind, and writes the report. If a write fails or takes no bytes, a
+/// prefix of the report is written, and not all. After any other fault nothing is written. Nothing is flushed.
+///
+/// Returns a fault of `read_jobs` or of `serve`, or `WriteFault`.
 pub fn run<T: Threads + Wait + Sync, R: Read, W: Write>(
     rt: &T,
     alloc: Global,
@@ -35,9 +37,11 @@ pub fn run<T: Threads + Wait + Sync, R: Read, W: Write>(
     run_watched(rt, alloc, kind, &mut watched_reader, &mut watched_writer)
 }
 
-/// `run`, with a reader and a writer that are watched: `ReadFault` is answered exactly where a read failed,
-/// `WriteFault` exactly where a write failed or took no bytes, and at most 4,098 lines of 257 bytes are read, by as
-/// many reads, whatever the reader is.
+/// Does as `run` does, with a watched reader and a watched writer. Returns `ReadFault` exactly if a read failed, and
+/// `WriteFault` exactly if a write failed or took no bytes.
+///
+/// Reads at most 4,098 lines of 257 bytes: this many bytes, by at most as many reads, as the watched reader counts
+/// both. This holds for every wrapped reader.
 pub fn run_watched<T: Threads + Wait + Sync, R: Read, W: Write>(
     rt: &T,
     alloc: Global,

@@ -1,4 +1,4 @@
-//! What a thread of the service has of its doors.
+//! What a thread of the service has of the doors.
 ghost use Rattle.std.specs.Prelude.{◌≡◌};
 ghost use Rattle.disk_service.specs.Doors.{IsSeat};
 ghost use Rattle.disk_service.specs.declared.doors.Doors.{Doors};
@@ -15,32 +15,32 @@ use sweep_schedulers::readers_writers::ReadersWriters;
 use timed_schedulers::alarm::Alarm;
 use timed_schedulers::pool::Pool;
 
-/// A place at each door, all of one number. Each thread has a seat, and the stream that it takes buffers for has that
-/// number too.
+/// A place at each door, all with one number. Each thread has a seat. The stream for which the thread takes buffers has
+/// that number too.
 #[derive(Drop)]
 pub struct Seat {
-    /// The number of each of its places. The workers have the numbers from 0 on, then come the clock and the caller.
+    /// The number of each of its places. The workers have the numbers from 0; then come the clock and the caller.
     pub number: u32,
-    /// Its place at the door of the jobs that wait for a worker.
+    /// The place at the door of the items that wait for a worker.
     pub items: Outside<Buffer<Item>>,
-    /// Its place at the door of the time.
+    /// The place at the door of the time.
     pub clock: Outside<Alarm>,
-    /// Its place at the door of the buffers.
+    /// The place at the door of the buffers.
     pub pool: Outside<Pool>,
-    /// Its place at the door of the disk.
+    /// The place at the door of the disk.
     pub head: Outside<Head<Drive>>,
-    /// Its place at the door of the totals.
+    /// The place at the door of the totals.
     pub totals: Outside<Single<Totals>>,
-    /// Its place at the door of the board.
+    /// The place at the door of the board.
     pub board: Outside<ReadersWriters<Board>>,
 }
 
 impl Seat {
-    /// Lets the seat go, with its places.
+    /// Drops the seat, with its places.
     pub(crate) fn let_go(self) {}
 }
 
-/// A thread gives its seat back: the one of this number, at these doors.
+/// The promise of a thread to give back its seat, the one with this number at these doors.
 #[derive(Clone, Copy)]
 pub(crate) struct SeatBack<'a> {
     /// The doors of the seat.

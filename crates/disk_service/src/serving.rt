@@ -1,4 +1,4 @@
-//! The service.
+//! The service: from the jobs to their report.
 ghost use Rattle.std.specs.Prelude.{◌≡◌, ◌+◌, vec_len, IfOk, IfErr};
 ghost use Rattle.disk_jobs.specs.Faults.{IsOfService};
 ghost use Rattle.disk_jobs.specs.Reports.{account_of};
@@ -19,9 +19,9 @@ use std::alloc::{AllocError, Global};
 use std::sync::Wait;
 use std::thread::Threads;
 
-/// Does the jobs on baton doors, with as many workers as they say, and reports them. Refused: `Memory` where the room
-/// for the service can't be had, `Spawn` where a thread can't be started, and `Torn` where what the workers bring isn't
-/// the jobs, or the counts don't agree with it. All that grows grows before the first thread is started.
+/// Does the jobs on baton doors, with as many workers as `jobs` says, and reports them. Returns `Memory` if there is no
+/// memory for the service, and `Spawn` if a thread can't be started. Returns `Torn` if the results aren't those of the
+/// jobs, or the counts don't agree with them. All memory is allocated before the first thread is started.
 pub fn serve<R: Threads + Wait + Sync, G: Gate + Sync>(
     rt: &R,
     alloc: Global,
@@ -34,7 +34,8 @@ pub fn serve<R: Threads + Wait + Sync, G: Gate + Sync>(
     serve_on(rt, alloc, Kind::Baton, jobs, gate)
 }
 
-/// The same on ticket doors.
+/// Does the jobs on ticket doors, with as many workers as `jobs` says, and reports them. Returns the same faults as
+/// `serve`.
 pub fn serve_tickets<R: Threads + Wait + Sync, G: Gate + Sync>(
     rt: &R,
     alloc: Global,
@@ -47,7 +48,7 @@ pub fn serve_tickets<R: Threads + Wait + Sync, G: Gate + Sync>(
     serve_on(rt, alloc, Kind::Ticket, jobs, gate)
 }
 
-// Room for what each worker does: any of them may do all jobs.
+// Allocates room for the results of each worker: any worker may do all jobs.
 fn rooms(alloc: Global, workers: u32, jobs: usize) -> Result<Vec<Vec<Done>>, AllocError>
     ensures { IfOk result (λ rooms. vec_len rooms ≡ workers) }
 {
@@ -58,7 +59,7 @@ fn rooms(alloc: Global, workers: u32, jobs: usize) -> Result<Vec<Vec<Done>>, All
     Ok(rooms)
 }
 
-// Room for what each worker does, and for what all do: any of them may do all jobs.
+// Allocates room for the results of each worker, and for all results: any worker may do all jobs.
 fn room_for(alloc: Global, jobs: &Jobs) -> Result<(Vec<Vec<Done>>, Vec<Done>), AllocError>
     ensures { IfOk result (λ r. vec_len r.0 ≡ jobs.now.workers) }
 {
@@ -92,7 +93,7 @@ pub(crate) fn serve_on<R: Threads + Wait + Sync, G: Gate + Sync>(
     serve_behind(rt, jobs, gate, doors, desk)
 }
 
-// Does the jobs behind these doors, and reports them.
+// Does the jobs on these doors, and reports them.
 fn serve_behind<R: Threads + Wait + Sync, G: Gate + Sync>(
     rt: &R,
     jobs: &Jobs,
@@ -114,7 +115,7 @@ fn serve_behind<R: Threads + Wait + Sync, G: Gate + Sync>(
     }
 }
 
-// Closes the doors, with all of their places, and reports what was done behind them.
+// Closes the doors, given all of their places, and reports the jobs that were done.
 fn report_behind(jobs: &Jobs, doors: Doors, desk: Desk) -> Result<Report, ServiceFault>
     requires size { AreSized doors (jobs.now.workers + 2) }
     requires places { AreThere doors (jobs.now.workers + 2) desk.places }

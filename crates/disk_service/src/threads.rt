@@ -1,4 +1,4 @@
-//! The threads of the service: a clock, the workers, and the caller's own.
+//! The threads of the service: the clock, the workers, and the caller's own.
 ghost use Rattle.std.specs.Prelude.{◌≡◌, ◌+◌, ◌≤◌, length, IfOk, IfErr, IfSome};
 ghost use Rattle.disk_service.specs.Doors.{AreThere, IsSeat};
 ghost use Rattle.disk_service.specs.Desks.{IsReady, IsStaffed};
@@ -20,19 +20,19 @@ use std::sync::Wait;
 use std::thread;
 use std::thread::{PromisedHandle, Scope, Threads};
 
-/// What the caller's thread has in hand: the places that no thread has, the room of each worker, and what is done.
+/// What the caller's thread has in hand: the places that no thread has, the rooms of the workers, and the results.
 #[derive(Drop)]
 pub(crate) struct Desk {
     /// The places that no thread has.
     pub places: Places,
-    /// For each worker that hasn't started yet, in order: the room in which it keeps what is done.
+    /// For each worker that hasn't started yet, in order: the room for its results.
     pub rooms: Vec<Vec<Done>>,
-    /// What was done by the workers that are joined.
+    /// The results of the workers that are joined.
     pub results: Vec<Done>,
 }
 
 impl Desk {
-    // Takes a worker's seat and its room out.
+    // Takes out a worker's seat and its room.
     fn take_out(&mut self, number: u32) -> (Seat, Vec<Done>)
         requires { (d : Doors) × IsStaffed d (number + 1) self.old }
         ensures number { result.0.number ≡ number }
@@ -46,7 +46,7 @@ impl Desk {
         }
     }
 
-    // Takes a worker's seat back, and what it did. The room for both is there.
+    // Puts back a worker's seat, and adds its results. The memory for both is there.
     fn take_back(&mut self, seat: Seat, kept: Vec<Done>) -> Result<(), ServiceFault>
         ensures places { IfOk result (λ _. (d : Doors) → AreThere d seat.number self.old.places
             → IsSeat d seat → AreThere d (seat.number + 1) self.new.places) }
@@ -58,7 +58,7 @@ impl Desk {
     }
 }
 
-// Adds what a worker did to the results. The room for it is there.
+// Adds a worker's results to all results. The memory for them is there.
 fn add_results(results: &mut Vec<Done>, kept: Vec<Done>) -> Result<(), ServiceFault>
     ensures { IfErr result (λ f. f ≡ ServiceFault.Memory) }
 {
@@ -68,7 +68,7 @@ fn add_results(results: &mut Vec<Done>, kept: Vec<Done>) -> Result<(), ServiceFa
     }
 }
 
-// Takes the next seat back. The room for it is there.
+// Puts back a seat, which has to be the next by its number. The memory for it is there.
 fn put_back(places: &mut Places, seat: Seat) -> Result<(), ServiceFault>
     ensures places { IfOk result (λ _. (d : Doors) → AreThere d seat.number places.old
         → IsSeat d seat → AreThere d (seat.number + 1) places.new) }
@@ -81,7 +81,7 @@ fn put_back(places: &mut Places, seat: Seat) -> Result<(), ServiceFault>
 }
 
 /// Runs the service: a clock and the workers, each on a thread of its own with a seat of its own. The caller's thread
-/// hands the jobs on. All threads are joined and give their seats back.
+/// hands out the jobs. All threads are joined and give back their seats.
 pub(crate) fn run_threads<R: Threads + Wait + Sync, G: Gate + Sync>(
     rt: &R,
     gate: &G,
@@ -105,7 +105,7 @@ pub(crate) fn run_threads<R: Threads + Wait + Sync, G: Gate + Sync>(
     )
 }
 
-// With the desk in hand: does as `with_clock` says, and gives the desk back.
+// Does as `with_clock` says, with the desk in hand, and returns the desk.
 fn direct<'s, 'e, R: Threads + Wait + Sync, G: Gate + Sync>(
     scope: &Scope<'s, &'e ()>,
     rt: &'e R,
@@ -125,7 +125,7 @@ fn direct<'s, 'e, R: Threads + Wait + Sync, G: Gate + Sync>(
     }
 }
 
-// Starts the clock and the workers, closes the board once they are done, and joins the clock.
+// Starts the clock and the workers, closes the board after the workers are done, and joins the clock.
 fn with_clock<'s, 'e, R: Threads + Wait + Sync, G: Gate + Sync>(
     scope: &Scope<'s, &'e ()>,
     rt: &'e R,
@@ -157,7 +157,7 @@ fn with_clock<'s, 'e, R: Threads + Wait + Sync, G: Gate + Sync>(
     outcome.and(back).and(put_back(&mut desk.places, mine))
 }
 
-// Starts the clock with this seat, on a thread of its own that promises it back.
+// Starts the clock with this seat, on a thread of its own that promises to give back the seat.
 fn start_clock<'s, 'e, R: Threads + Wait + Sync>(
     scope: &Scope<'s, &'e ()>,
     rt: &'e R,
@@ -174,7 +174,7 @@ fn start_clock<'s, 'e, R: Threads + Wait + Sync>(
         .ok()
 }
 
-// Starts a worker with this seat and this room, on a thread of its own that promises the seat back.
+// Starts a worker with this seat and this room, on a thread of its own that promises to give back the seat.
 fn start_worker<'s, 'e, R: Threads + Wait + Sync, G: Gate + Sync>(
     scope: &Scope<'s, &'e ()>,
     rt: &'e R,
@@ -193,7 +193,7 @@ fn start_worker<'s, 'e, R: Threads + Wait + Sync, G: Gate + Sync>(
     started.ok()
 }
 
-// With `left` workers still to be started: starts them, has all workers stopped, and joins those that it started.
+// Starts the `left` workers that aren't started yet, has all workers stopped, and joins those that it started.
 fn with_workers<'s, 'e, R: Threads + Wait + Sync, G: Gate + Sync>(
     scope: &Scope<'s, &'e ()>,
     rt: &'e R,

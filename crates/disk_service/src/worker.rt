@@ -20,9 +20,11 @@ use sweep_schedulers::head::Head;
 use timed_schedulers::alarm::Alarm;
 use timed_schedulers::pool::Pool;
 
-/// Does jobs until it is told to stop, and keeps what is done, for which there is room. The seat comes back. A refusal
-/// skips what depends on it: then that job isn't among those that are done. For each that is, the worker has slept for
-/// a tick, and has taken a buffer from the pool and given it back.
+/// Does jobs until it gets a stop item, and adds the results to `room`, in which there is memory for them. Returns the
+/// seat and the results.
+///
+/// If a monitor refuses a call, the worker skips what depends on it, and the job isn't among the results. For each
+/// result the worker has slept for a tick, and has taken a buffer from the pool and given it back.
 pub fn work<R: Wait, G: Gate>(
     rt: &R,
     gate: &G,
@@ -52,7 +54,7 @@ pub fn work<R: Wait, G: Gate>(
     unreachable!()
 }
 
-// The next job of this buffer, unless the worker is told to stop.
+// Returns the next job of this buffer, or `None` if the worker gets a stop item.
 fn next_job<R: Wait, M: Monitor<Buffer<Item>>>(m: &M, rt: &R, out: M::Out) -> (M::Out, Option<u32>)
     requires { M.is_of m.now out }
     ensures of { M.is_of m.now result.0 }
@@ -65,7 +67,7 @@ fn next_job<R: Wait, M: Monitor<Buffer<Item>>>(m: &M, rt: &R, out: M::Out) -> (M
     }
 }
 
-// Does a job, with the gate's calls around it, and keeps what is done.
+// Does a job, with the gate's calls around it, and keeps its result.
 fn do_job<R: Wait, G: Gate>(
     rt: &R,
     gate: &G,
@@ -89,7 +91,7 @@ fn do_job<R: Wait, G: Gate>(
     seat
 }
 
-// Does a job, if there is one of this number, and keeps what is done.
+// Does a job, if there is one with this number, and keeps its result.
 fn do_listed_job<R: Wait>(
     rt: &R,
     jobs: &Jobs,
@@ -114,7 +116,7 @@ fn do_listed_job<R: Wait>(
     seat
 }
 
-// Keeps what is done, where there is room.
+// Keeps the result, if there is memory for it.
 fn keep(kept: &mut Vec<Done>, done: Option<Done>)
     ensures { vec_len kept.new ≤ vec_len kept.old + jobs_in done }
 {
@@ -123,7 +125,8 @@ fn keep(kept: &mut Vec<Done>, done: Option<Done>)
     }
 }
 
-// One job: read, counted and on the board, or else not done.
+// Does a job: reads its block, counts it in the totals and writes it on the board. Returns `None` if one of these is
+// refused.
 fn serve_job<R: Wait>(
     rt: &R,
     doors: &Doors,
@@ -179,7 +182,7 @@ fn read_into_buffer<R: Wait>(
     (seat, read)
 }
 
-// Reads the block of a job into a buffer of this pool, which it gives back, with the drive of this head.
+// Reads the block of a job into a buffer of this pool, with the drive of this head, and gives back the buffer.
 fn use_buffer<R: Wait, P: Monitor<Pool>, H: Monitor<Head<Drive>>, C: Monitor<Alarm>>(
     pool: &P,
     head: &H,
@@ -216,7 +219,7 @@ fn use_buffer<R: Wait, P: Monitor<Pool>, H: Monitor<Head<Drive>>, C: Monitor<Ala
     ((at_pool, at_head, at_clock), read)
 }
 
-// Reads the block of a job with the drive of this monitor, which it has for a tick of the clock.
+// Reads the block of a job with the drive of this monitor, which it keeps for a tick of the clock.
 fn use_drive<R: Wait, H: Monitor<Head<Drive>>, C: Monitor<Alarm>>(
     head: &H,
     clock: &C,
@@ -251,7 +254,7 @@ fn use_drive<R: Wait, H: Monitor<Head<Drive>>, C: Monitor<Alarm>>(
     ((at_head, at_clock), Some(done))
 }
 
-// Adds a job to the totals: whether they took it.
+// Adds a job to the totals. Returns true if they took it.
 fn add_to_totals<R: Wait>(rt: &R, doors: &Doors, seat: Seat, done: Done) -> (Seat, bool)
     requires { IsSeat doors.now seat }
     ensures of { IsSeat doors.now result.0 }
@@ -265,7 +268,7 @@ fn add_to_totals<R: Wait>(rt: &R, doors: &Doors, seat: Seat, done: Done) -> (Sea
     (seat, added)
 }
 
-// Adds a job to the totals of this monitor: whether they took it.
+// Adds a job to the totals of this monitor. Returns true if they took it.
 fn add_to<R: Wait, M: Monitor<Single<Totals>>>(
     m: &M,
     rt: &R,

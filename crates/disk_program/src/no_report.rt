@@ -16,7 +16,7 @@ pub enum NoReport {
 }
 
 impl NoReport {
-    /// The exit status: 2 where the arguments are at fault, else the fault's.
+    /// Returns the exit status: 2 if the arguments are at fault, else that of the fault.
     pub fn status(&self) -> u8
         ensures { result ≡ status_without_report self.now }
     {

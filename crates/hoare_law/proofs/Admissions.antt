@@ -1,4 +1,4 @@
--- One event more, and how many were let in.
+-- How one more event changes the number of admissions.
 use Rattle.std.proofs.Common.{◌≡◌, ℕ, ◌+◌, Bool, true, false, cond, List, [], ◌∷◌, ◌++◌, length, refl, ap, ◌∙◌, arith}
 use Rattle.std.proofs.Common.{length-append}
 use Rattle.std.specs.List.{filter}
@@ -30,7 +30,7 @@ pub admissions-other : {S : Type 0} (h : History S) (e : Event S) → is_admit e
 unfolding with_event
 admissions-other h e other = let p = admissions-push h.events e false other in omega (arith, p)
 
--- of a history and its later events
+-- the admissions of a history and of its later events add up
 pub admissions-append : {S : Type 0} (h later : List (Event S))
     → admissions (h ++ later) ≡ admissions h + admissions later
 unfolding admissions

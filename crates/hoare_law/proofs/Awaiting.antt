@@ -1,4 +1,4 @@
--- What came between a wait on one of Hoare's conditions and its end.
+-- What happened between a wait on one of Hoare's conditions and its end.
 use Rattle.std.proofs.Common.{◌≡◌, ◌≢◌, ◌==◌, ◌&&◌, ◌+◌, not, ℕ, suc, List, [], ◌∷◌, ◌++◌, length, Bool, true}
 use Rattle.std.proofs.Common.{false, cond, leb, Some, refl, ap, sym, ◌∙◌, arith, eq-eqb, ne_eqb}
 use Rattle.std.proofs.Common.{true≢false, append_assoc, length-append}
@@ -37,7 +37,7 @@ use Rattle.hoare_law.proofs.Resuming.{no_elements, chosen_among}
 use Rattle.hoare_law.proofs.Between.{Between, between_two}
 
 module _ {X : Type 0} (key : X → ℕ) where
-  -- in a rising list an element is put in behind those of its own key or a smaller one
+  -- in a rising list an element is put in after those with its own key or a smaller one
   put_at : (w : X) (vs : List X) → Rising key vs
       → (us ts : List X) × (put_in key w vs ≡ us ++ w ∷ ts)
       × (length us ≡ length (filter (λ v. leb (key v) (key w)) vs))
@@ -79,7 +79,7 @@ module _ {S : Type 0} where
   unfolding waits_below
   waits_below-push c p later e = counted_push (comes_below c p) later e
 
-  -- a place that waits nowhere on c, and does nothing, doesn't come to wait there
+  -- a place that doesn't wait on c, and does nothing, doesn't come to wait there
   still_apart : (c k : ℕ) (g later : List (Event S)) → list_all (λ y. not (k == place_of y)) (waiting c g) ≡ true
       → own k later ≡ [] → list_all (λ y. not (k == place_of y)) (waiting c (g ++ later)) ≡ true
   still_apart c k g [] apart none =
@@ -103,7 +103,7 @@ module _ {S : Type 0} where
           rw apart_one refl
       added false other = refl
 
-  -- a waiter that an event of another place concerns waits there no longer
+  -- a waiter that an event of another place concerns no longer waits there
   concerned_leaves : (c k : ℕ) (g : List (Event S)) (e : Event S) → concerns c k e ≡ true → place_of e ≢ k
       → list_all (λ y. not (k == place_of y)) (waiting c (g ++ e ∷ [])) ≡ true
   concerned_leaves c k g e touched other =
@@ -146,7 +146,7 @@ module _ {S : Type 0} where
           ∙ still_apart c (place_of x) (g ++ e ∷ []) later (concerned_leaves c (place_of x) g e touched other) quiet) in
           absurd (true≢false (sym (eq-eqb (place_of x) (place_of y) (sym same)) ∙ not-true _ passes))
 
-  -- where a wait is put in
+  -- the position at which a wait is put in
   stands_at : (f : List (Event S)) (k c p : ℕ) (s : S) → turn f ≡ Held k
       → (us ts : List (Event S)) × (in_turn (f ++ Wait k c p s ∷ []) c ≡ us ++ Wait k c p s ∷ ts)
       × (length us ≡ waiters_up_to c p f)
@@ -166,8 +166,8 @@ module _ {S : Type 0} where
   handing_takes true j c k u = refl
   handing_takes false j c k u = refl
 
-  -- between a wait and its end the waiters before it were taken, those that came since with a lesser priority, and then
-  -- the waiter itself
+  -- between a wait and its end the waiters before it were taken, and those that began to wait later with a lesser
+  -- priority, and then the waiter itself
   pub wait_ended : (f h : History S) (k c p : ℕ) (s t : S) → IsLegal h
       → IsHoare h.sizes.conditions h.sizes.mesa c → AddsTwo f (Wait k c p s) (Resume k c t) h
       → (later : List (Event S)) × (h.events ≡ f.events ++ Wait k c p s ∷ (later ++ Resume k c t ∷ []))

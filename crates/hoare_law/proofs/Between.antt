@@ -1,4 +1,4 @@
--- What came between the two events that a call added.
+-- What happened between the two events that a call added.
 use Rattle.std.proofs.Common.{◌≡◌, ◌==◌, ◌+◌, ◌*◌, ◌≤◌, ℕ, List, [], ◌∷◌, ◌++◌, length, cond, Some}
 use Rattle.std.proofs.Common.{refl, ap, sym, ◌∙◌, arith, eq-eqb, append_assoc}
 use Rattle.std.proofs.lemmas.List.{append-nil, append_cancel_left, append_cancel_right}
@@ -20,12 +20,12 @@ use Rattle.hoare_law.proofs.Signallers.{given_up-push, legal_upto, length-parts}
 use Rattle.hoare_law.proofs.Resuming.{no_elements}
 use Rattle.hoare_law.proofs.Visits.{few_visits, few_in_all}
 
--- where nothing is left of a list of two parts
+-- if the second part of a list of two parts is empty, the first part is the list
 all_of : {X : Type 0} (whole front behind : List X) → whole ≡ front ++ behind → behind ≡ [] → front ≡ whole
 all_of whole front behind is none = sym (is ∙ ap (λ l. front ++ l) none ∙ append-nil front)
 
 module _ {S : Type 0} where
-  -- the events between two events of a place, with none of its own
+  -- the events between two events of a place; none of them is its own
   pub record Between (f : History S) (d e : Event S) (h : History S) : Type 0 where
     pub later : List (Event S)
     pub is : h.events ≡ f.events ++ d ∷ (later ++ e ∷ [])
@@ -67,7 +67,7 @@ module _ {S : Type 0} where
           between_by f d e h more mine adds
           (whole ∙ append_assoc f.events (d ∷ more) (x ∷ []) ∙ ap (λ y. f.events ++ d ∷ (more ++ y ∷ [])) one)
 
-  -- what came between a signal and its return
+  -- what happened between a signal and its return
   pub signal_returned : (f h : History S) (k c w : ℕ) (s t : S) → IsLegal h
       → AddsTwo f (Signal k c w s) (Back k t) h
       → (later : List (Event S)) × (h.events ≡ f.events ++ Signal k c w s ∷ (later ++ Back k t ∷ []))

@@ -1,4 +1,4 @@
--- Who is called after one more event.
+-- Which processes are notified after one more event.
 use Rattle.std.proofs.Common.{◌≡◌, ◌==◌, not, List, [], ◌∷◌, ◌++◌, Bool, ap, sym, ◌∙◌, append_assoc, append-nil}
 use Rattle.std.specs.List.{filter, list_all}
 use Rattle.std.proofs.lemmas.List.Elements.{filter-append}
@@ -8,11 +8,11 @@ use Rattle.hoare_law.specs.Called.{join_splits, called_by, called}
 use Rattle.hoare_law.proofs.Filters.{filter-and, filter-true}
 use Rattle.hoare_law.proofs.Tests.{list_all-push}
 
--- of those that each element adds the ones that q keeps beside each later one
+-- of what each element adds, the ones that q keeps for each later element
 abbrev kept_by : {X Y : Type 0} → (List X → X → List Y) → (Y → X → Bool) → List X → X → List X → List Y
 kept_by adds q before x later = filter (λ y. list_all (q y) later) (adds before x)
 
--- one more element keeps what q keeps beside it, and adds its own
+-- one more element keeps what q keeps for it, and adds its own
 join_splits-push : {X Y : Type 0} (adds : List X → X → List Y) (q : Y → X → Bool) (before h : List X) (e : X)
     → join_splits (kept_by adds q) before (h ++ e ∷ [])
     ≡ filter (λ y. q y e) (join_splits (kept_by adds q) before h) ++ adds (before ++ h) e
@@ -35,7 +35,7 @@ join_splits-push adds q before (x ∷ h) e =
     (sym (filter-append (λ y. q y e) (filter (λ y. list_all (q y) h) (adds before x))
     (join_splits (kept_by adds q) (before ++ x ∷ []) h)))
 
--- those that were called but for the one that acts, and those that e calls
+-- those that were notified, without the place that acts, and then those that e notifies
 pub called-push : {S : Type 0} (h : List (Event S)) (e : Event S)
     → called (h ++ e ∷ []) ≡ filter (λ x. not (place_of e == place_of x)) (called h) ++ called_by h e
 unfolding called

@@ -1,5 +1,5 @@
--- Who is inside calls those that wait on a Mesa condition: that it may, that it owes nothing, and what its front then
--- says.
+-- The place inside notifies waiters on a Mesa condition: that this is allowed, that it owes nothing, and what its front
+-- then says.
 use Rattle.std.proofs.Common.{◌≡◌, ◌≢◌, ◌==◌, ◌≤◌, not, ℕ, List, [], ◌∷◌, ◌++◌, length, Bool, true, false, cond, Some}
 use Rattle.std.proofs.Common.{refl, ap, sym, ◌∙◌, subst, arith, ne_eqb, eq-eqb, true≢false, length-append}
 use Rattle.std.specs.Prelude.{All}
@@ -30,7 +30,7 @@ use Rattle.hoare_law.proofs.Leaving.{Chooses-place}
 use Rattle.hoare_law.proofs.Waiters.{held-in_range, chosen-in_range, waiting-once}
 
 module _ {S : Type 0} where
-  -- it may call the one that a signal would resume
+  -- the place inside may notify the waiter that a signal would resume
   pub Allowed-notify : (f : History S) (k c : ℕ) (x : Event S) (s : S) → IsLegal f → turn f.events ≡ Held k
       → IsMesa f.sizes.conditions f.sizes.mesa c → chosen c f.events ≡ Some x
       → Allowed f (Notify k c (place_of x) s)
@@ -39,14 +39,14 @@ module _ {S : Type 0} where
     fits = (held, Chooses-place c f.events x is, mesa);
   }
 
-  -- and all that wait, where somebody does
+  -- it may notify all waiters, if there is one
   pub Allowed-broadcast : (f : History S) (k c : ℕ) (s : S) → IsLegal f → turn f.events ≡ Held k
       → IsMesa f.sizes.conditions f.sizes.mesa c → waiting c f.events ≢ []
       → Allowed f (Broadcast k c s)
   Allowed-broadcast f k c s legal held mesa some =
       record { in_range = (held-in_range f k legal held, mesa.0); fits = (held, some, mesa) }
 
-  -- either owes nothing
+  -- neither owes anything
   pub Owes-notify : (rest : Rest S) (ready : Ready S) (f : List (Event S)) (k c w : ℕ) (s : S)
       → Owes rest ready f (Notify k c w s)
   unfolding Owes
@@ -57,14 +57,14 @@ module _ {S : Type 0} where
   unfolding Owes
   Owes-broadcast rest ready f k c s = tt
 
-  -- and leaves its place inside
+  -- each leaves its place inside
   pub turn-notify : (f : History S) (k c w : ℕ) (s : S) → turn (with_event f (Notify k c w s)).events ≡ Held k
   turn-notify f k c w s = turn-in f k (Notify k c w s) refl refl
 
   pub turn-broadcast : (f : History S) (k c : ℕ) (s : S) → turn (with_event f (Broadcast k c s)).events ≡ Held k
   turn-broadcast f k c s = turn-in f k (Broadcast k c s) refl refl
 
-  -- the one inside was called by nobody
+  -- the place inside isn't notified
   pub others_called : (h : History S) (k : ℕ) → IsLegal h → turn h.events ≡ Held k
       → list_all (λ x. not (k == place_of x)) (called h.events) ≡ true
   others_called h k legal held = list_all-from_All (λ x. not (k == place_of x)) (called h.events)
@@ -79,7 +79,7 @@ module _ {S : Type 0} where
           true≢false
           (sym was.waits ∙ ap (waits_on (condition_of x)) (sym one) ∙ in_not_waiting r.0 (condition_of x) r.2)))
 
-  -- so its calls leave those called before as they are
+  -- so a notify or a broadcast leaves those that were notified before as they are
   pub called-call : (h : History S) (e : Event S) → IsLegal h → turn h.events ≡ Held (place_of e)
       → called (with_event h e).events ≡ called h.events ++ called_by h.events e
   unfolding with_event
@@ -91,7 +91,7 @@ module _ {S : Type 0} where
       → called (with_event h (Broadcast k c s)).events ≡ called h.events ++ in_order priority_of (waiting c h.events)
   called-broadcast h k c s legal may = called-call h (Broadcast k c s) legal may.fits.0
 
-  -- a notify calls the chosen one alone
+  -- a notify notifies the chosen waiter alone
   pub called_by-notify : (h : List (Event S)) (k c : ℕ) (x : Event S) (s : S) → chosen c h ≡ Some x
       → called_by h (Notify k c (place_of x) s) ≡ x ∷ []
   called_by-notify h k c x s is =
@@ -131,7 +131,7 @@ module _ {S : Type 0} where
       (waits_on (condition_of x) x ≡ true) × IsMesa h.sizes.conditions h.sizes.mesa (condition_of x)
       × ((d : ℕ) → All (λ y. place_of x ≢ place_of y) (waiting d h.events))
 
-  -- who is called waits nowhere
+  -- a notified process waits nowhere
   pub All-called_wait_nowhere : (h : History S) → IsLegal h → All (CalledApart h) (called h.events)
   All-called_wait_nowhere h legal =
       All-weaker (IsCalled h) (CalledApart h)

@@ -1,4 +1,4 @@
--- What holds of a process that came in and, after a wait or without one, goes on.
+-- What holds of a process that entered and continues, after a wait or without one.
 use Rattle.std.specs.Prelude.{ℕ, List, ◌≡◌}
 use Rattle.std.proofs.Common.{◌∙◌, refl}
 use Rattle.hoare_law.specs.declared.event.History.{History}
@@ -8,7 +8,7 @@ use Rattle.hoare_law.specs.Growth.{ComesTo, AddsLast, AddsTwo, at_once}
 use Rattle.hoare_law.proofs.Growth.{ComesTo-waited}
 
 module _ {Self D Out In Lists : Type 0} (M : Ghosts Self D Out In Lists) where
-  -- it came in by `out`, was held up where these data and its front said so, and stands inside at i, where Ready holds
+  -- the process entered by `out`, waited if these data and its front held it up, and is inside at i, where Ready holds
   pub record Came (m : Self) (out : Out) (held_up : History D → D → Type 0) (condition priority : D → ℕ)
       (Ready : D → (ℕ → List ℕ) → Type 0) (i : In) : Type 0 where
     pub of : M.is_of_in m i
@@ -18,7 +18,7 @@ module _ {Self D Out In Lists : Type 0} (M : Ghosts Self D Out In Lists) where
 
   module _ {m : Self} {out : Out} {held_up : History D → D → Type 0} {condition priority : D → ℕ}
       {Ready : D → (ℕ → List ℕ) → Type 0} {i : In} where
-    -- nothing held it up
+    -- nothing held the process up
     pub Came-at_once : M.is_of_in m i → M.place_in i ≡ M.place out
         → AddsLast (M.front out) (Admit (M.place out) (M.data_in i)) (M.front_in i)
         → (held_up (M.front_in i) (M.data_in i) → ⊥) → Ready (M.data_in i) (M.lists_in i)
@@ -26,7 +26,7 @@ module _ {Self D Out In Lists : Type 0} (M : Ghosts Self D Out In Lists) where
     Came-at_once of place front free ready =
         record { of = of; place = place; ready = ready; comes = at_once front free }
 
-    -- it was held up, and waited
+    -- the process was held up, and waited
     pub Came-waited : {j : In} {c p : ℕ} → M.place_in i ≡ M.place out
         → AddsLast (M.front out) (Admit (M.place out) (M.data_in i)) (M.front_in i)
         → held_up (M.front_in i) (M.data_in i)

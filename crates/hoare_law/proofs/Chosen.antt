@@ -1,4 +1,4 @@
--- Whom a signal resumes is the first by rising priority.
+-- The waiter that a signal resumes is the first by rising priority.
 use Rattle.std.proofs.Common.{◌≡◌, ℕ, ◌<◌, Bool, true, false, cond, leb, ◌&&◌, List, [], ◌∷◌, ◌++◌, Option, Some, None}
 use Rattle.std.proofs.Common.{refl, ap, sym, ◌∙◌, append_assoc, subst, arith}
 use Rattle.std.specs.List.{list_all, find}
@@ -16,7 +16,7 @@ module _ {X : Type 0} (key : X → ℕ) where
   abbrev pub chosen_of : List X → Option X
   chosen_of ws = find (is_least_of ws) ws
 
-  -- the better of two, the first where they are equal
+  -- the better of two, or the first if they are equally good
   abbrev better : Option X → X → X
   better None w = w
   better (Some b) w = cond (leb (key b) (key w)) b w
@@ -27,7 +27,7 @@ module _ {X : Type 0} (key : X → ℕ) where
       elim (leb (key v) (key w)) as (λ b. first_of (cond b (v ∷ put_in key w vs) (w ∷ v ∷ vs)) ≡ Some (cond b v w))
       [ true ↦ refl | false ↦ refl ]
 
-  -- a test that holds of the first found, beside the one that finds it
+  -- a test that holds of the first element found, along with the test that finds it
   find_both_by : (t : Bool) (p q : X → Bool) (x : X) (rest : Option X) (more : Option X) (b : X)
       → cond t (Some x) rest ≡ Some b → q b ≡ true
       → (rest ≡ Some b → more ≡ Some b) → cond (t && q x) (Some x) more ≡ Some b
@@ -49,7 +49,7 @@ module _ {X : Type 0} (key : X → ℕ) where
       let no : (p x && leb (key x) (key w)) ≡ false = ap (λ b. p x && b) high ∙ and_false (p x) in
       rw no (find_last p n ws w parts.1 l g)
 
-  -- the one found is least, and is the first in order
+  -- the element found has the least key, and is the first in order
   pub record IsChosen (ws : List X) (o : Option X) : Type 0 where
     pub found : chosen_of ws ≡ o
     pub first : first_of (in_order key ws) ≡ o
@@ -108,7 +108,7 @@ module _ {X : Type 0} (key : X → ℕ) where
   none_chosen : IsChosen [] None
   none_chosen = record { found = refl; first = refl; least = λ b e. refl; some = λ e. refl }
 
-  -- whom a signal resumes is the first in order
+  -- the waiter that a signal resumes is the first in order
   pub chosen-first : (ws : List X) → chosen_of ws ≡ first_of (in_order key ws)
   chosen-first ws =
       let r : (r : Option X) × IsChosen ws r = by_steps [] ws None none_chosen in r.1.found ∙ sym r.1.first

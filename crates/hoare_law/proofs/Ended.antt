@@ -1,5 +1,5 @@
--- Whose turn it is, isn't outside. So where everybody is outside it is nobody's turn, nobody waits, and the data are at
--- rest.
+-- The place whose turn it is isn't outside. So if all places are outside, the turn is free, no process waits, and the
+-- data are at rest.
 use Rattle.std.proofs.Common.{◌≡◌, ◌⊎◌, inl, inr, ℕ, ◌<◌, true, false, List, [], Option, Some, None, refl, ap, sym}
 use Rattle.std.proofs.Common.{◌∙◌, subst}
 use Rattle.std.proofs.Common.{true≢false}
@@ -21,11 +21,11 @@ use Rattle.hoare_law.proofs.Owed.{owed-in_range}
 use Rattle.hoare_law.proofs.Waiters.{held-in_range, return-in_range, chosen-waits, chosen-in_range}
 
 module _ {S : Type 0} where
-  -- everybody is outside
+  -- all places are outside
   abbrev pub AllOutside : History S → Type 0
   AllOutside h = (k : ℕ) → k < h.sizes.places → outside k h.events ≡ true
 
-  -- a place whose last event isn't its going out is not outside
+  -- a place whose last event isn't a leave or a pass isn't outside
   not_outside : (h : List (Event S)) (k : ℕ) (e : Event S) → newest (own k h) ≡ Some e → is_out (Some e) ≡ false
       → outside k h ≡ false
   unfolding outside
@@ -39,7 +39,7 @@ module _ {S : Type 0} where
   outside-returning h k is =
       let last = own-returning h k is in not_outside h k (Signal k last.0 last.1 last.2) last.3 refl
 
-  -- it is nobody's turn, or that of a place that isn't outside
+  -- the turn is free, or that of a place that isn't outside
   pub turn-outside : (h : History S) → IsLegal h
       → (turn h.events ≡ Free) ⊎ ((k : ℕ) × (k < h.sizes.places) × (outside k h.events ≡ false))
   turn-outside h legal = by (turn h.events) refl
@@ -74,7 +74,7 @@ module _ {S : Type 0} where
   pub priorities-ended : (h : History S) → IsLegal h → AllOutside h → priorities h.events ≡ nobody
   priorities-ended h legal out = λ i c. priorities-nobody c h.events (waiting-ended h c legal out) i
 
-  -- the data are at rest, with nobody waiting
+  -- the data are at rest, and no process waits
   pub rest-ended : (rest : Rest S) (ready : Ready S) (h : History S) → Stands rest ready h → AllOutside h
       → rest (latest_data h) nobody
   rest-ended rest ready h stands out =

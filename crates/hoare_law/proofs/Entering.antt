@@ -1,4 +1,4 @@
--- A place comes in, from outside, from a wait or from a signal: its front, whose turn it is, and what it finds.
+-- A place gets inside, from outside, from a wait or from a signal: its front, whose turn it is, and what it finds.
 use Rattle.std.proofs.Common.{◌≡◌, ◌==◌, not, ℕ, true, false, cond, List, [], ◌∷◌, ◌++◌, Some, refl, ap, sym, ◌∙◌}
 use Rattle.std.proofs.Common.{subst, eq-eqb}
 use Rattle.std.specs.List.{list_all}
@@ -31,7 +31,7 @@ held_by frees k us ws is = absurd (cc)
 held_by (hands w c) k us ws is = absurd (cc)
 
 module _ {S : Type 0} where
-  -- k's own events, one more at the end
+  -- the events of k, with one more at the end
   pub own-last : (k : ℕ) (h : List (Event S)) (e : Event S) → place_of e ≡ k → own k (h ++ e ∷ []) ≡ own k h ++ e ∷ []
   own-last k h e mine = own-push k h e ∙ ap (λ b. own k h ++ cond b (e ∷ []) []) (eq-eqb (place_of e) k mine)
 
@@ -47,7 +47,7 @@ module _ {S : Type 0} where
   unfolding with_event
   ends_with h e = newest-push h.events e
 
-  -- k is inside after an event that brings it in, and after a call of its own
+  -- k is inside after an event that brings it inside, and after a notify or a broadcast of its own
   pub turn-in : (h : History S) (k : ℕ) (e : Event S) → is_inside e ≡ true → place_of e ≡ k
       → turn (with_event h e).events ≡ Held k
   unfolding with_event
@@ -56,18 +56,18 @@ module _ {S : Type 0} where
       ∙ held_by (after e) (place_of e) (urgent (h.events ++ e ∷ [])) (called (h.events ++ e ∷ [])) inside
       ∙ ap (λ i. Held i) mine
 
-  -- a place is outside in each history with the same own events of it
+  -- a place is outside in each history with the same events of that place
   pub outside-same : (k : ℕ) (f h : History S) → own k h.events ≡ own k f.events → outside k f.events ≡ true
       → outside k h.events ≡ true
   unfolding outside
   outside-same k f h same out = ap (λ l. is_out (newest l)) same ∙ out
 
-  -- its sizes stay
+  -- the sizes stay the same
   pub sizes-with : (f h : History S) (e : Event S) (n : Sizes) → Begins f h → f.sizes ≡ n → (with_event h e).sizes ≡ n
   unfolding with_event
   sizes-with f h e n begins is = sym begins.sizes ∙ is
 
-  -- k, which knew f, adds one event last
+  -- k, which knew f, adds one event at the end
   pub AddsLast-one : (k : ℕ) (f h : History S) (e : Event S) → place_of e ≡ k → Begins f h
       → own k h.events ≡ own k f.events
       → AddsLast f e (with_event h e)
@@ -77,7 +77,7 @@ module _ {S : Type 0} where
     ends = ends_with h e;
   }
 
-  -- and after an event of its own another
+  -- k adds another event after one of its own
   pub AddsTwo-one : (k : ℕ) (f : History S) (d : Event S) (h : History S) (e : Event S) → place_of d ≡ k
       → place_of e ≡ k
       → Begins (with_event f d) h → own k h.events ≡ own k (with_event f d).events → AddsTwo f d e (with_event h e)
@@ -96,7 +96,7 @@ module _ {S : Type 0} where
     stood : (h : History S) (e : Event S) → Stands rest ready (with_event h e) → Stands rest ready h
     stood h e stands = Stands-front (Begins-push h e) stands
 
-    -- who comes in finds the data and the priorities as they were left
+    -- a place that gets inside finds the data and the priorities as they were left
     finds : (asks : S → (ℕ → List ℕ) → Type 0) (h : History S) (e : Event S) → is_inside e ≡ true
         → ((d j : ℕ) → takes d j e ≡ false)
         → ((d : ℕ) → list_all (λ x. not (place_of e == place_of x)) (waiting d h.events) ≡ true)
@@ -108,7 +108,7 @@ module _ {S : Type 0} where
         (sym (priorities-own h.events e (λ d j. concerns-own e d j (alone d j)) (λ d. in_not_waiting e d inside) apart))
         (subst (λ (t : S). asks t (priorities h.events)) (sym same) asked)
 
-    -- each kind what it is to find
+    -- what an admitted place finds
     pub finds-admit : (h : History S) (k : ℕ) (s : S) → Stands rest ready (with_event h (Admit k s))
         → rest s (priorities (with_event h (Admit k s)).events)
     finds-admit h k s stands =
@@ -123,7 +123,7 @@ module _ {S : Type 0} where
         finds rest h (Back k s) refl (λ d j. refl) (λ d. waiting-return h.events k d may.0) may.1
         (rest-return h k (stood h (Back k s) stands).lawful may.0)
 
-    -- who waited on one of Hoare's conditions
+    -- what a place finds that waited on one of Hoare's conditions
     pub finds-resume : (h f : History S) (k c p : ℕ) (s t : S)
         → own k h.events ≡ own k (with_event f (Wait k c p s)).events → IsHoare h.sizes.conditions h.sizes.mesa c
         → Stands rest ready (with_event h (Resume k c t))
@@ -136,7 +136,7 @@ module _ {S : Type 0} where
         (ready-owed h k c p s before hoare may.0
         (ap newest (same ∙ own-last k f.events (Wait k c p s) refl) ∙ newest-push (own k f.events) (Wait k c p s)))
 
-    -- and who waited on a Mesa condition
+    -- what a place finds that waited on a Mesa condition
     pub finds-called : (h : History S) (k c : ℕ) (t : S) → IsMesa h.sizes.conditions h.sizes.mesa c
         → Stands rest ready (with_event h (Resume k c t))
         → rest t (priorities (with_event h (Resume k c t)).events)

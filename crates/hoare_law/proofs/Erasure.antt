@@ -1,4 +1,4 @@
--- Who waits, who is chosen, whose turn it is and who is outside do not depend on the data.
+-- Which processes wait, which is chosen, whose turn it is and which places are outside don't depend on the data.
 use Rattle.std.proofs.Common.{◌≡◌, ◌==◌, ◌&&◌, ◌||◌, not, ℕ, List, [], ◌∷◌, ◌++◌, map, Bool, true, false, cond, leb}
 use Rattle.std.proofs.Common.{Option, Some, None, refl, ap, sym, ◌∙◌}
 use Rattle.std.specs.Option.{option_map}
@@ -23,7 +23,7 @@ use Rattle.hoare_law.proofs.Turns.{filter-map}
 use Rattle.hoare_law.proofs.Filters.{list_all-same, find-same}
 use Rattle.hoare_law.proofs.Sorted.{map-in_order, put_in-map}
 
--- maps and filters change places
+-- maps and filters commute
 newest-map : {X Y : Type 0} (f : X → Y) (xs : List X) → newest (map f xs) ≡ option_map f (newest xs)
 newest-map f [] = refl
 newest-map f (x ∷ []) = refl
@@ -73,16 +73,16 @@ map-map_same f g k [] same = refl
 map-map_same f g k (x ∷ xs) same = rw (same x, map-map_same f g k xs same) refl
 
 module _ {S : Type 0} where
-  -- what is read off an event but its data: place, priority and condition, whether it is a wait on c, whom it takes
-  -- from those that wait, whether it is a signal, what it makes of the monitor, and whether its place is outside behind
-  -- it
+  -- the parts of an event other than its data: its place, priority and condition, if it is a wait on c, and which
+  -- places it takes from the waiters. Also if it is a signal, what it makes of the monitor, and if its place is outside
+  -- after it
   abbrev SameParts : Event (Unit {0}) → Event S → Type 0
   SameParts d e =
       (place_of d ≡ place_of e) × (priority_of d ≡ priority_of e) × (condition_of d ≡ condition_of e)
       × ((c : ℕ) → waits_on c d ≡ waits_on c e) × ((c j : ℕ) → takes c j d ≡ takes c j e)
       × (is_signal d ≡ is_signal e) × (after d ≡ after e) × (is_out (Some d) ≡ is_out (Some e))
 
-  -- is the same without them
+  -- an event without its data has the same parts
   same_parts : (e : Event S) → SameParts (without_data e) e
   same_parts (Admit k s) = (refl, refl, refl, λ c. refl, λ c j. refl, refl, refl, refl)
   same_parts (Wait k d p s) = (refl, refl, refl, λ c. refl, λ c j. refl, refl, refl, refl)
@@ -94,11 +94,11 @@ module _ {S : Type 0} where
   same_parts (Notify k d w s) = (refl, refl, refl, λ c. refl, λ c j. refl, refl, refl, refl)
   same_parts (Broadcast k d s) = (refl, refl, refl, λ c. refl, λ c j. refl, refl, refl, refl)
 
-  -- the place stays
+  -- the place stays the same
   pub place_of-erased : (e : Event S) → place_of (without_data e) ≡ place_of e
   place_of-erased e = (same_parts e).0
 
-  -- the priority stays
+  -- the priority stays the same
   pub priority_of-erased : (e : Event S) → priority_of (without_data e) ≡ priority_of e
   priority_of-erased e = (same_parts e).1
 
@@ -138,17 +138,17 @@ module _ {S : Type 0} where
       ∙ list_all-same _ (λ x. not (place_of x == place_of e)) later
       (λ x. ap not ((λ i. place_of-erased x i == place_of-erased e i)))
 
-  -- the last event stays
+  -- the last event stays the same, without its data
   pub newest-erased : (h : List (Event S)) → newest (all_without_data h) ≡ option_map without_data (newest h)
   newest-erased h = newest-map without_data h
 
-  -- the own events stay
+  -- the events of a place stay the same, without their data
   pub own-erased : (k : ℕ) (h : List (Event S)) → own k (all_without_data h) ≡ all_without_data (own k h)
   own-erased k h =
       filter-map without_data (λ e. place_of e == k) h
       ∙ ap (map without_data) (filter_agree _ (λ e. place_of e == k) (λ e. ap (λ j. j == k) (place_of-erased e)) h)
 
-  -- the same wait
+  -- the same processes wait
   pub waiting-erased : (c : ℕ) (h : List (Event S)) → waiting c (all_without_data h) ≡ all_without_data (waiting c h)
   unfolding waiting
   waiting-erased c h =
@@ -181,12 +181,12 @@ module _ {S : Type 0} where
       ap (λ l. put_all priority_of l (all_without_data xs)) (put_in-erased x placed)
       ∙ put_all-erased (put_in priority_of x placed) xs
 
-  -- the same in the same order
+  -- the same processes in the same order
   pub in_order-erased : (xs : List (Event S))
       → in_order priority_of (all_without_data xs) ≡ all_without_data (in_order priority_of xs)
   in_order-erased xs = put_all-erased [] xs
 
-  -- each event calls the same
+  -- each event notifies the same processes
   called_by-erased : (f : List (Event S)) (e : Event S)
       → called_by (all_without_data f) (without_data e) ≡ all_without_data (called_by f e)
   called_by-erased f (Notify k c w s) =
@@ -203,7 +203,7 @@ module _ {S : Type 0} where
   called_by-erased f (Resume k c s) = refl
   called_by-erased f (Back k s) = refl
 
-  -- the same are called
+  -- the same processes are notified
   pub called-erased : (h : List (Event S)) → called (all_without_data h) ≡ all_without_data (called h)
   unfolding called
   called-erased h = join_splits-map without_data without_data
@@ -227,7 +227,7 @@ module _ {S : Type 0} where
       (λ i. turn_after (newest-erased h i) (urgent-erased h i) (called-erased h i))
       ∙ turn_after-erased (newest h) (urgent h) (called h)
 
-  -- the same are outside
+  -- the same places are outside
   pub outside-erased : (k : ℕ) (h : List (Event S)) → outside k (all_without_data h) ≡ outside k h
   unfolding outside
   outside-erased k h =
@@ -239,7 +239,7 @@ module _ {S : Type 0} where
       list_all-map _ without_data ws
       ∙ list_all-same _ _ ws (λ x i. leb (priority_of-erased e i) (priority_of-erased x i))
 
-  -- the same is chosen
+  -- the same waiter is chosen
   pub chosen-erased : (c : ℕ) (h : List (Event S))
       → chosen c (all_without_data h) ≡ option_map without_data (chosen c h)
   unfolding chosen
@@ -260,7 +260,7 @@ module _ {S : Type 0} where
   pub priorities-erased : (h : List (Event S)) → priorities (all_without_data h) ≡ priorities h
   priorities-erased h = λ i c. priorities_at h c i
 
-  -- one more event
+  -- a history with one more event
   pub erased-push : (h : History S) (e : Event S) → erased (with_event h e) ≡ with_event (erased h) (without_data e)
   unfolding with_event
   erased-push h e =

@@ -1,4 +1,4 @@
--- One more event at the end of a history: what is last, the data, the own events.
+-- One more event at the end of a history: the last event, the data, the events of a place.
 use Rattle.std.proofs.Common.{◌≡◌, ◌==◌, ℕ, List, [], ◌∷◌, ◌++◌, cond, Some, refl, ap, ◌⊎◌, inl, inr, ⊎_elim}
 use Rattle.std.proofs.lemmas.List.Elements.{filter-append}
 use Rattle.std.specs.Option.{option_map, unwrap_or}
@@ -19,12 +19,12 @@ pub own-push : {S : Type 0} (k : ℕ) (h : List (Event S)) (e : Event S)
     → own k (h ++ e ∷ []) ≡ own k h ++ cond (place_of e == k) (e ∷ []) []
 own-push k h e = filter-append (λ x. place_of x == k) h (e ∷ [])
 
--- no element stands in an empty list
+-- the empty list has no element
 pub none-split : {X : Type 0} (f g : List X) (x : X) → [] ≡ f ++ x ∷ g → ⊥
 none-split [] g x is = cc
 none-split (y ∷ f) g x is = cc
 
--- where an element of a list with one more stands: it is the last, or stood before
+-- an element of a list with one more is the last one, or was in the list before
 pub push-split : {X : Type 0} (h : List X) (e : X) (f g : List X) (x : X) → h ++ e ∷ [] ≡ f ++ x ∷ g
     → ((h ≡ f) × (e ≡ x) × (g ≡ [])) ⊎ ((l : List X) × (h ≡ f ++ x ∷ l) × (g ≡ l ++ e ∷ []))
 push-split [] e [] g x is = inl (refl, cc, cc)

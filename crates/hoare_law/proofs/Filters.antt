@@ -23,19 +23,19 @@ pub has_last : {X : Type 0} (xs : List X) → HasLast xs
 has_last [] = nothing refl
 has_last (x ∷ xs) = more_before x xs (has_last xs)
 
--- a last element stands behind the others
+-- the last element comes after the others
 pub newest-some : {X : Type 0} (xs : List X) (x : X) → newest xs ≡ Some x → (ys : List X) × (xs ≡ ys ++ x ∷ [])
 newest-some [] x is = absurd (cc)
 newest-some (y ∷ []) x is = ([], cc)
 newest-some (y ∷ z ∷ xs) x is =
     let r : (ys : List _) × (z ∷ xs ≡ ys ++ x ∷ []) = newest-some (z ∷ xs) x is in (y ∷ r.0, ap (λ l. y ∷ l) r.1)
 
--- only nothing is mapped to nothing
+-- only the empty list is mapped to the empty list
 pub map-none : {X Y : Type 0} (f : X → Y) (xs : List X) → map f xs ≡ [] → xs ≡ []
 map-none f [] is = refl
 map-none f (x ∷ xs) is = absurd (cc)
 
--- two filters change places
+-- two filters commute
 pub filter-filter : {X : Type 0} (p q : X → Bool) (xs : List X) → filter p (filter q xs) ≡ filter q (filter p xs)
 filter-filter p q [] = refl
 filter-filter p q (x ∷ xs) = by (p x) (q x) refl refl (filter-filter p q xs)
@@ -93,7 +93,7 @@ list_all-filter_own p (x ∷ xs) = by (p x) refl (list_all-filter_own p xs)
     by true is rest = rw is rest
     by false is rest = rest
 
--- where a filter keeps nothing, all fail its test
+-- if a filter keeps nothing, all elements fail its test
 pub list_all-filter_none : {X : Type 0} (p : X → Bool) (xs : List X) → filter p xs ≡ []
     → list_all (λ x. not (p x)) xs ≡ true
 list_all-filter_none p [] none = refl
@@ -104,7 +104,7 @@ list_all-filter_none p (x ∷ xs) none = by (p x) refl none (list_all-filter_non
     by true is e rest = absurd (cc)
     by false is e rest = rw is (rest e)
 
--- where all fail a test, a filter keeps nothing
+-- if all elements fail a test, a filter keeps none
 pub filter-none : {X : Type 0} (p : X → Bool) (xs : List X) → list_all (λ x. not (p x)) xs ≡ true → filter p xs ≡ []
 filter-none p [] a = refl
 filter-none p (x ∷ xs) a =
@@ -137,7 +137,7 @@ list_all-from_All p (x ∷ xs) a =
     let b : p x ≡ true = All-head (λ y. p y ≡ true) x xs a in
     rw b (list_all-from_All p xs (All-tail (λ y. p y ≡ true) x xs a))
 
--- what holds of all holds of one among them
+-- a test that holds of all elements of a list holds of each
 pub list_all-at : {X : Type 0} (p : X → Bool) (xs : List X) (x : X) (ys : List X) → list_all p (xs ++ x ∷ ys) ≡ true
     → p x ≡ true
 list_all-at p [] x ys a = (both_true _ _ a).0
@@ -153,7 +153,7 @@ pub find-same : {X : Type 0} (p q : X → Bool) (xs : List X) → ((x : X) → p
 find-same p q [] same = refl
 find-same p q (x ∷ xs) same = rw (same x) (ap (λ r. cond (q x) (Some x) r) (find-same p q xs same))
 
--- the one found passes the test, and stands in the list
+-- the element found passes the test, and is in the list
 pub find-passes : {X : Type 0} (p : X → Bool) (xs : List X) (x : X) → find p xs ≡ Some x → p x ≡ true
 find-passes p [] x is = absurd (cc)
 find-passes p (y ∷ xs) x is = by (p y) refl is (find-passes p xs x)
@@ -162,7 +162,7 @@ find-passes p (y ∷ xs) x is = by (p y) refl is (find-passes p xs x)
     by true e f rest = let same : y ≡ x = cc in ap p (sym same) ∙ e
     by false e f rest = rest f
 
--- what holds of all holds of the one found
+-- what holds of all elements holds of the element found
 pub All-find : {X : Type 0} (P : X → Type 0) (p : X → Bool) (xs : List X) (x : X) → find p xs ≡ Some x → All P xs → P x
 All-find P p [] x is all = absurd (cc)
 All-find P p (y ∷ xs) x is all = by (p y) is (λ f. All-find P p xs x f (All-tail P y xs all))
@@ -171,7 +171,7 @@ All-find P p (y ∷ xs) x is all = by (p y) is (λ f. All-find P p xs x f (All-t
     by true f rest = let same : y ≡ x = cc in subst P same (All-head P y xs all)
     by false f rest = rest f
 
--- what holds of each that passes, by what comes later
+-- what holds of each element that passes, by what comes later, holds of all that are kept
 pub All-filter_by_later : {X : Type 0} (P : X → Type 0) (test : X → List X → Bool) (xs : List X)
     → ((f : List X) (x : X) (later : List X) → xs ≡ f ++ x ∷ later → test x later ≡ true → P x)
     → All P (filter_by_later test xs)

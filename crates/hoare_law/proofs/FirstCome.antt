@@ -23,7 +23,7 @@ module _ {X : Type 0} (test : X → Bool) where
   some_pass (z ∷ front) behind y passes =
       omega (arith, more_pass z (front ++ y ∷ behind), some_pass front behind y passes)
 
-  -- where y alone passes, x stands before it however the list is parted
+  -- if y alone passes, x comes before y, however the list is divided
   stands_before : (longer between shorter front back : List X) (x y : X)
       → longer ++ x ∷ (between ++ y ∷ shorter) ≡ front ++ y ∷ back → test y ≡ true
       → length (filter test (front ++ y ∷ back)) ≤ 1
@@ -50,7 +50,7 @@ module _ {X : Type 0} (test : X → Bool) where
       let r = stands_before longer between shorter front back x y rest passes (omega (arith, once, fewer)) in
       (z ∷ r.0, r.1, ap (λ t. z ∷ t) r.2)
 
--- the chosen one doesn't stand behind a waiter of its priority or a lesser one
+-- the chosen waiter doesn't come after a waiter of its priority or a lesser one
 pub first_come : {S : Type 0} (c : ℕ) (h longer between shorter : List (Event S)) (x y : Event S)
     → waiting c h ≡ longer ++ x ∷ (between ++ y ∷ shorter) → priority_of x ≤ priority_of y → chosen c h ≢ Some y
 first_come {S = S} c h longer between shorter x y is low chosen_is =

@@ -1,4 +1,4 @@
--- The first of a list, and its elements by index.
+-- The first element of a list, and its elements by index.
 use Rattle.std.proofs.Common.{◌≡◌, ◌≢◌, ℕ, zero, suc, ◌<◌, length, arith, List, [], ◌∷◌, map, Option, Some, None, refl}
 use Rattle.std.specs.Prelude.{MatchOption, slice_index}
 use Rattle.std.specs.List.{slice_get}
@@ -10,7 +10,7 @@ pub first_of-map : {X Y : Type 0} (f : X → Y) (xs : List X) → first_of (map 
 first_of-map f [] = refl
 first_of-map f (x ∷ xs) = refl
 
--- a list is empty, or its first stands at index 0
+-- a list is empty, or its first element is at index 0
 pub MatchOption-first_of : (o : Option ℕ) (xs : List ℕ) → o ≡ first_of xs
     → MatchOption o (xs ≡ []) (λ p. (xs ≢ []) × (p ≡ slice_index xs 0))
 MatchOption-first_of None [] e = refl

@@ -1,4 +1,4 @@
--- What a front, or whose turn it is, tells of a legal and lawful history.
+-- What a front, or whose turn it is, says of a legal and lawful history.
 use Rattle.std.proofs.Common.{◌≡◌, ◌≢◌, ◌==◌, ⊎_elim, ℕ, List, [], ◌∷◌, ◌++◌, length, Bool, true, false, cond}
 use Rattle.std.proofs.Common.{Option, Some, None, refl, ap, sym, ◌∙◌, subst, arith, eq-eqb, eqb-true, ne_eqb}
 use Rattle.std.proofs.Common.{true≢false, length-append}
@@ -57,7 +57,7 @@ module _ {S : Type 0} where
   place_of-held h k (Notify j c w s) is a = held_one h.events j k a.fits.0 is
   place_of-held h k (Broadcast j c s) is a = held_one h.events j k a.fits.0 is
 
-  -- a place whose turn it is at its front finds the history there, where it did nothing since
+  -- if a place has the turn at its front and did nothing since, the history is its front
   pub still_held : (k : ℕ) (f log : History S) → IsLegal log → turn f.events ≡ Held k → Begins f log
       → own k log.events ≡ own k f.events → log ≡ f
   still_held k f log legal is begins same = by begins.later begins.is
@@ -83,7 +83,7 @@ module _ {S : Type 0} where
           let none : e ∷ own k more ≡ [] = sym kept ∙ one_more e more at placed in
           absurd (cc)
 
-  -- the last event handed the monitor to k, which waited on c with x
+  -- the last event handed off the monitor to k, which waited on c with x
   pub record IsHanded (h : List (Event S)) (k c : ℕ) (x : Event S) : Type 0 where
     pub hand : EndsHanding k c h
     pub chose : chosen c hand.before ≡ Some x
@@ -95,7 +95,7 @@ module _ {S : Type 0} where
   handing_fits true f k c w s a = (a.fits.0, a.fits.1)
   handing_fits false f k c w s a = (a.fits.0, a.fits.1)
 
-  -- whom the monitor was handed was chosen: its own last event is its wait
+  -- the process to which the monitor was handed off was chosen: its own last event is its wait
   pub owed-handed : (h : History S) (k c : ℕ) → IsLegal h → EndsHanding k c h.events
       → (x : Event S) × IsHanded h.events k c x
   owed-handed h k c legal r =
@@ -155,7 +155,7 @@ module _ {S : Type 0} where
         (subst (λ (l : List (Event S)). rest (data_of e) (priorities l)) (sym is)
         (give_up_owes rest ready g e gives (lawful.each g [] e is)))
 
-    -- whoever the monitor is owed, from one of Hoare's conditions, finds what was to be ready for its wait
+    -- a process to which the monitor is owed, from one of Hoare's conditions, finds what has to be ready for its wait
     pub ready-owed : (h : History S) (k c p : ℕ) (s : S) → Stands rest ready h
         → IsHoare h.sizes.conditions h.sizes.mesa c → turn h.events ≡ Owed k c
         → newest (own k h.events) ≡ Some (Wait k c p s) → ready c p (latest_data h) (priorities h.events)
@@ -175,7 +175,7 @@ module _ {S : Type 0} where
         (subst (λ (t : S). ready c (priority_of r.0) t (priorities h.events)) (sym kept)
         (subst (λ (g : List (Event S)). ready c (priority_of r.0) l.left (priorities g)) (sym l.ends) found))
 
-    -- and from a Mesa condition finds the monitor at rest
+    -- a process to which it is owed from a Mesa condition finds the monitor at rest
     pub rest-owed : (h : History S) (k c : ℕ) → Stands rest ready h → IsMesa h.sizes.conditions h.sizes.mesa c
         → turn h.events ≡ Owed k c → rest (latest_data h) (priorities h.events)
     rest-owed h k c stands mesa is =
@@ -195,13 +195,13 @@ module _ {S : Type 0} where
         subst (λ (l : List (Event S)). rest (unwrap_or (option_map data_of (newest l)) h.opening) (priorities l))
         (sym none) lawful.opens
 
-    -- and so does a newcomer
+    -- an entering process finds the monitor at rest
     pub rest-free : (h : History S) → IsLawful rest ready h → turn h.events ≡ Free
         → rest (latest_data h) (priorities h.events)
     rest-free h lawful is =
         ⊎_elim (rest_opening h lawful) (λ r. given_up h r.1.0 r.0 lawful r.1.1 r.2) (turn-free h.events is)
 
-  -- a place to which the monitor is owed did last wait
+  -- the last event of a place to which the monitor is owed is its wait
   pub own-owed : (h : History S) (k c : ℕ) → IsLegal h → turn h.events ≡ Owed k c
       → (p : ℕ) × (s : S) × (newest (own k h.events) ≡ Some (Wait k c p s))
   own-owed h k c legal is = by (turn-owed h.events k c is)
@@ -217,7 +217,7 @@ module _ {S : Type 0} where
           waits_on-is _ x was.waits ∙ (λ i. Wait (r.place i) (r.on i) (priority_of x) (data_of x)) in
           (priority_of x, data_of x, ap (λ j. newest (own j h.events)) (sym r.place) ∙ was.last ∙ ap (λ y. Some y) is)
 
-  -- the own events of k are k's
+  -- the events of k are those of place k
   pub place_of-own : (h : List (Event S)) (k : ℕ) (x : Event S) → newest (own k h) ≡ Some x → place_of x ≡ k
   place_of-own h k x is =
       let r : (ys : List (Event S)) × (own k h ≡ ys ++ x ∷ []) = newest-some (own k h) x is in
@@ -236,7 +236,7 @@ module _ {S : Type 0} where
   signal_is (Notify k c w s) is = absurd (cc)
   signal_is (Broadcast k c s) is = absurd (cc)
 
-  -- a place that returns did last signal
+  -- the last event of a place that returns is its signal
   pub own-returning : (h : List (Event S)) (k : ℕ) → turn h ≡ Return k
       → (c w : ℕ) × (s : S) × (newest (own k h) ≡ Some (Signal k c w s))
   own-returning h k is =

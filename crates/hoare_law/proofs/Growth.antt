@@ -1,4 +1,4 @@
--- How fronts grow, step upon step.
+-- How fronts grow, step by step.
 use Rattle.std.proofs.Common.{◌≡◌, ◌==◌, ℕ, List, [], ◌∷◌, ◌++◌, Bool, false, refl, sym, ap, ◌∙◌, append_assoc}
 use Rattle.std.proofs.Common.{append-nil, arith}
 use Rattle.std.proofs.lemmas.List.Elements.{filter-append}
@@ -34,7 +34,7 @@ Grows-trans {k = k} {s = s} {t = t} {f = f} a b = record {
 pub own-one : {S : Type 0} (e : Event S) → own (place_of e) (e ∷ []) ≡ e ∷ []
 own-one e = grind (arith)
 
--- one event more
+-- one more event
 pub Grows-one : {S : Type 0} (e : Event S) (f h : History S) → h ≡ with_event f e → Grows (place_of e) (e ∷ []) f h
 unfolding with_event
 Grows-one e f h is = rw is (record {
@@ -43,10 +43,10 @@ Grows-one e f h is = rw is (record {
       ∙ ap (λ x. own (place_of e) f.events ++ x) (own-one e);
 })
 
--- What a procedure adds, from the clauses of its calls. Each lemma takes a call's clause as it stands, and an equation
--- for each of the place, the data and the front that the clause names by other words.
+-- What a procedure adds, from the clauses of its calls. Each lemma takes a call's clause as it is, and an equation for
+-- each of the place, the data and the front that the clause names otherwise.
 module _ {S : Type 0} {k k1 : ℕ} {s s1 : S} {g g1 h : History S} where
-  -- it came in, was held up, and waited
+  -- the place entered, was held up, and waited
   pub ComesTo-waited : {held_up : History S → S → Type 0} {condition priority : S → ℕ} {c p : ℕ} {d : S} {f : History S}
       → AddsLast f (Admit k s) g → held_up g s
       → AddsTwo g1 (Wait k1 c p s1) (Resume k1 c d) h → k1 ≡ k → s1 ≡ s → g1 ≡ g → c ≡ condition s → p ≡ priority s
@@ -54,15 +54,15 @@ module _ {S : Type 0} {k k1 : ℕ} {s s1 : S} {g g1 h : History S} where
   ComesTo-waited enters held waits place state front on with =
       waited g s enters held (rw (place, state, front, on, with) at waits)
 
-  -- it left
+  -- the place left
   pub leaves-as : h ≡ with_event g1 (Leave k1 s1) → k1 ≡ k → s1 ≡ s → g1 ≡ g → h ≡ with_event g (Leave k s)
   leaves-as leaves place state front = rw (place, state, front) at leaves
 
-  -- its last act was a signal joined with the exit
+  -- the last act of the place was a signal joined with the exit
   pub Finishes-exit : {c : ℕ} {b : Bool} → Exits k1 c s1 g1 h b → k1 ≡ k → s1 ≡ s → g1 ≡ g → Finishes k c s g h
   Finishes-exit exits place state front = exited _ (rw (place, state, front) at exits)
 
--- a signal and then an exit
+-- the last acts of the place were a signal and then an exit
 pub Finishes-signal : {S : Type 0} {k c : ℕ} {s t : S} {f g h : History S} {b : Bool} → Signals k c s t f g b
     → h ≡ with_event g (Leave k t) → Finishes k c s f h
 Finishes-signal {t = t} {g = g} (resumed_one w chooses adds) is = signalled w t g chooses adds is

@@ -1,4 +1,4 @@
--- Who has the turn, by the last event, and who waits meanwhile.
+-- Which place has the turn, by the last event, and which processes wait meanwhile.
 use Rattle.std.proofs.Common.{◌≡◌, ◌≢◌, ◌==◌, ◌||◌, ◌⊎◌, inl, inr, not, ℕ, List, [], ◌∷◌, ◌++◌, Bool, true, false, cond}
 use Rattle.std.proofs.Common.{Some, refl, ap, sym, ◌∙◌, subst, eq-eqb, eqb-true}
 use Rattle.std.specs.List.{filter, list_all}
@@ -18,16 +18,16 @@ use Rattle.hoare_law.proofs.Waiting.{waiting-push}
 use Rattle.hoare_law.proofs.Turns.{turn-push, outside-push}
 use Rattle.hoare_law.proofs.Filters.{HasLast, nothing, pushed, has_last, list_all-filter_own, list_all-weaker}
 
--- the same place is inside after it
+-- the same place is inside after an event with this effect
 abbrev pub is_stay : After → Bool
 is_stay stays = true
 is_stay _ = false
 
--- the event's place is inside after it
+-- the place of the event is inside after it
 abbrev pub is_inside : {S : Type 0} → Event S → Bool
 is_inside e = is_stay (after e)
 
--- k hands the monitor to w, that waits on c: by a pass where it goes out, else by a signal
+-- k hands off the monitor to w, which waits on c: by a pass if `out` is true, else by a signal
 abbrev pub handing : {S : Type 0} → Bool → ℕ → ℕ → ℕ → S → Event S
 handing true k c w s = Pass k c w s
 handing false k c w s = Signal k c w s
@@ -36,17 +36,17 @@ abbrev pub is_free : After → Bool
 is_free frees = true
 is_free _ = false
 
--- the event gives the monitor up to nobody in particular
+-- the event releases the monitor to no particular place
 abbrev pub gives_up : {S : Type 0} → Event S → Bool
 gives_up e = is_free (after e)
 
--- given up, the monitor is held by nobody
+-- a monitor that was released is held by no place
 pub not_held : {S : Type 0} (us : List ℕ) (ws : List (Event S)) (k : ℕ) → turn_given_up us ws ≢ Held k
 not_held [] [] k e = cc
 not_held [] (w ∷ ws) k e = cc
 not_held (u ∷ us) ws k e = cc
 
--- it is owed where no signaller waits, to the first that was called
+-- it is owed, if no signaller waits, to the first notified process
 owed_first : {S : Type 0} (us : List ℕ) (ws : List (Event S)) (w c : ℕ) → turn_given_up us ws ≡ Owed w c
     → (us ≡ []) × (x : Event S) × (xs : List (Event S)) × (ws ≡ x ∷ xs) × (place_of x ≡ w) × (condition_of x ≡ c)
 owed_first [] [] w c e = absurd (cc)
@@ -72,7 +72,7 @@ first false b e = refl
 pub own_is_concerned : {S : Type 0} (e : Event S) (c k : ℕ) → not (concerns c k e) ≡ true → (place_of e == k) ≡ false
 own_is_concerned e c k n = first (place_of e == k) (takes c k e) n
 
--- and one that takes nobody concerns its own place alone
+-- an event that takes no waiter concerns its own place alone
 pub concerns-own : {S : Type 0} (e : Event S) (c k : ℕ) → takes c k e ≡ false → concerns c k e ≡ (place_of e == k)
 concerns-own e c k none = ap (λ b. place_of e == k || b) none ∙ or_false (place_of e == k)
   where
@@ -80,7 +80,7 @@ concerns-own e c k none = ap (λ b. place_of e == k || b) none ∙ or_false (pla
     or_false true = refl
     or_false false = refl
 
--- an event that hands the monitor on is a signal or a pass
+-- an event that hands off the monitor is a signal or a pass
 pub handing_is : {S : Type 0} (e : Event S) (w c : ℕ) → after e ≡ hands w c
     → (out : Bool) × (k : ℕ) × (s : S) × (e ≡ handing out k c w s)
 handing_is (Signal k d v s) w c is = (false, k, s, cc)
@@ -131,7 +131,7 @@ module _ {S : Type 0} where
   held_of frees j us ws k t = absurd (not_held us ws k t)
   held_of (hands w c) j us ws k t = absurd (cc)
 
-  -- the last event brought in the place whose turn it is, or is a call by it
+  -- the last event brought inside the place whose turn it is, or is a notify or a broadcast by it
   pub turn-held : (h : List (Event S)) (k : ℕ) → turn h ≡ Held k
       → (e : Event S) × Ends h e × (is_inside e ≡ true) × (place_of e ≡ k)
   turn-held h k is =
@@ -141,7 +141,7 @@ module _ {S : Type 0} where
       held_of (after r.0) (place_of r.0) (urgent h) (called h) k r.2 in
       (r.0, r.1, b.0, b.1)
 
-  -- the last event handed the monitor to w, that waited on c
+  -- the last event handed off the monitor to w, which waited on c
   pub record EndsHanding (w c : ℕ) (h : List (Event S)) : Type 0 where
     pub out : Bool
     pub by : ℕ
@@ -149,7 +149,7 @@ module _ {S : Type 0} where
     pub before : List (Event S)
     pub ends : h ≡ before ++ handing out by c w left ∷ []
 
-  -- the last event gave the monitor up, no signaller waits, and w, that waited on c, is the first that was called
+  -- the last event released the monitor, no signaller waits, and w, which waited on c, is the first notified process
   pub record EndsCalled (w c : ℕ) (h : List (Event S)) : Type 0 where
     pub by : Event S
     pub ends : Ends h by
@@ -161,7 +161,7 @@ module _ {S : Type 0} where
     pub place : place_of first ≡ w
     pub on : condition_of first ≡ c
 
-  -- so the monitor comes to be owed
+  -- how the monitor comes to be owed to a place
   pub data IsOwed (w c : ℕ) (h : List (Event S)) : Type 0 where
     handed : EndsHanding w c h → IsOwed w c h
     next_called : EndsCalled w c h → IsOwed w c h
@@ -209,7 +209,7 @@ module _ {S : Type 0} where
   return_of (hands w c) j us ws k t = absurd (cc)
   return_of frees j us ws k t = (refl, t)
 
-  -- the last event gave the monitor up, and k is the first waiting signaller
+  -- the last event released the monitor, and k is the first waiting signaller
   pub turn-return : (h : List (Event S)) (k : ℕ) → turn h ≡ Return k
       → (e : Event S) × Ends h e × (gives_up e ≡ true) × (us : List ℕ) × (urgent h ≡ k ∷ us)
   turn-return h k is =
@@ -230,7 +230,7 @@ module _ {S : Type 0} where
       → (gives_up e ≡ true) × (urgent h ≡ []) × (called h ≡ [])
   free_by g e h ends is = free_of (after e) (place_of e) (urgent h) (called h) (turn_by_last g e h ends ∙ is)
 
-  -- nothing happened, or the last event gave the monitor up, where nobody's turn it is
+  -- if the turn is free, nothing happened, or the last event released the monitor
   pub turn-free : (h : List (Event S)) → turn h ≡ Free → (h ≡ []) ⊎ ((e : Event S) × Ends h e × (gives_up e ≡ true))
   turn-free h is = by (has_last h)
     where
@@ -238,7 +238,7 @@ module _ {S : Type 0} where
       by (nothing none) = inl none
       by (pushed g e ends) = inr (e, (g, ends), (free_by g e h ends is).0)
 
-  -- no signaller waits where nobody's turn it is
+  -- if the turn is free, no signaller waits
   pub urgent-free : (h : List (Event S)) → turn h ≡ Free → urgent h ≡ []
   unfolding urgent
   urgent-free h is = by (has_last h)
@@ -247,7 +247,7 @@ module _ {S : Type 0} where
       by (nothing none) = ap urgent none
       by (pushed g e ends) = (free_by g e h ends is).1
 
-  -- and nobody is called
+  -- if the turn is free, no process is notified
   pub called-free : (h : List (Event S)) → turn h ≡ Free → called h ≡ []
   unfolding called
   called-free h is = by (has_last h)
@@ -256,7 +256,7 @@ module _ {S : Type 0} where
       by (nothing none) = ap called none
       by (pushed g e ends) = (free_by g e h ends is).2
 
-  -- k is the place that hands the monitor over, and s are the data that it leaves
+  -- k is the place that hands off the monitor, and s are the data that it leaves
   pub place_of-handing : (out : Bool) (k c w : ℕ) (s : S) → place_of (handing out k c w s) ≡ k
   place_of-handing true k c w s = refl
   place_of-handing false k c w s = refl
@@ -265,7 +265,7 @@ module _ {S : Type 0} where
   data_of-handing true k c w s = refl
   data_of-handing false k c w s = refl
 
-  -- it waits on no condition, and k and w are concerned
+  -- such an event is no wait, and concerns k and w
   pub waits_on-handing : (out : Bool) (d k c w : ℕ) (s : S) → waits_on d (handing out k c w s) ≡ false
   waits_on-handing true d k c w s = refl
   waits_on-handing false d k c w s = refl
@@ -274,7 +274,7 @@ module _ {S : Type 0} where
   concerns-handing true d j k c w s = refl
   concerns-handing false d j k c w s = refl
 
-  -- what no wait is, waits on no condition
+  -- an event that is no wait is no wait on a condition
   pub waits_not : (Is : Event S → Type 0) (e : Event S) (c : ℕ) → ((k d p : ℕ) (s : S) → Is (Wait k d p s) → ⊥) → Is e
       → waits_on c e ≡ false
   waits_not Is e c never is = by (waits_on c e) refl
@@ -283,7 +283,7 @@ module _ {S : Type 0} where
       by false no_wait = refl
       by true on = absurd (never (place_of e) c (priority_of e) (data_of e) (subst Is (waits_on-is c e on) is))
 
-  -- whoever is inside waits on none
+  -- an event after which its place is inside is no wait
   pub in_not_waiting : (e : Event S) (c : ℕ) → is_inside e ≡ true → waits_on c e ≡ false
   in_not_waiting e c is = waits_not (λ x. is_inside x ≡ true) e c (λ k d p s on. cc) is
 
@@ -298,7 +298,7 @@ module _ {S : Type 0} where
   in_not_out (Pass j d v s) is = absurd (cc)
   in_not_out (Leave j s) is = absurd (cc)
 
-  -- one that did last something else than to wait, waits nowhere
+  -- a place whose last event isn't a wait waits nowhere
   pub waiting-in : (g : List (Event S)) (e : Event S) (c : ℕ) → waits_on c e ≡ false
       → list_all (λ x. not (place_of e == place_of x)) (waiting c (g ++ e ∷ [])) ≡ true
   waiting-in g e c is =
@@ -320,7 +320,7 @@ module _ {S : Type 0} where
       ∙ ap (λ g. list_all (λ x. not (place_of r.0 == place_of x)) (waiting c g)) r.1.1
       ∙ waiting-in r.1.0 r.0 c (in_not_waiting r.0 c r.2)
 
-  -- and is not outside
+  -- the place whose turn it is isn't outside
   pub outside-held : (h : List (Event S)) (k : ℕ) → turn h ≡ Held k → outside k h ≡ false
   outside-held h k is =
       let r : (e : Event S) × Ends h e × (is_inside e ≡ true) × (place_of e ≡ k) = turn-held h k is in
@@ -329,7 +329,7 @@ module _ {S : Type 0} where
       ∙ ap (λ b. cond b (is_out (Some r.0)) (outside k r.1.0)) (eq-eqb (place_of r.0) k r.3)
       ∙ in_not_out r.0 r.2
 
-  -- its own last event brought it in, or is its call
+  -- the last event of the place whose turn it is brought it inside, or is a notify or a broadcast
   pub own-held : (h : List (Event S)) (k : ℕ) → turn h ≡ Held k
       → (e : Event S) × (newest (own k h) ≡ Some e) × (is_inside e ≡ true)
   own-held h k is =

@@ -1,4 +1,4 @@
--- Who is inside by its own events has the turn, in a legal history.
+-- A place that is inside by its own events has the turn, in a legal history.
 use Rattle.std.proofs.Common.{◌≡◌, ◌==◌, ℕ, zero, suc, List, [], ◌∷◌, ◌++◌, length, Bool, true, false, cond, Some}
 use Rattle.std.proofs.Common.{refl, ap, sym, ◌∙◌, arith, eq-eqb, eqb-true, true≢false, length-append}
 use Rattle.std.proofs.Common.{append_assoc}
@@ -34,7 +34,7 @@ module _ {S : Type 0} where
   unfolding inside
   nobody_inside k h none = ap (λ l. is_in (newest (own k l))) none
 
-  -- after such an event it is its place's turn
+  -- after such an event it is the turn of its place
   turn_by_in : (e : Event S) (us : List ℕ) (ws : List (Event S)) → is_in (Some e) ≡ true
       → turn_by e us ws ≡ Held (place_of e)
   turn_by_in (Admit k s) us ws is = refl
@@ -58,13 +58,14 @@ module _ {S : Type 0} where
   is_in-stays (Pass k c w s) is = absurd (cc)
   is_in-stays (Leave k s) is = absurd (cc)
 
-  -- whose turn it is, it is inside
+  -- the place whose turn it is, is inside
   pub inside_by_turn : (h : List (Event S)) (k : ℕ) → turn h ≡ Held k → inside k h ≡ true
   unfolding inside
   inside_by_turn h k is = let r = own-held h k is in ap is_in r.1 ∙ is_in-stays r.0 r.2
 
   module _ (h : History S) (k : ℕ) where
-    -- the last event is its own, and it is inside by it; or it was inside before, and then nobody else may act
+    -- the last event is the place's own, and it is inside by it; or it was inside before, and then no other place may
+    -- act
     by_last : (b : Bool) (g : List (Event S)) (e : Event S) → (place_of e == k) ≡ b
         → (inside k g ≡ true → turn g ≡ Held k) → Allowed (cut_to h g) e
         → cond b (is_in (Some e)) (inside k g) ≡ true → turn (g ++ e ∷ []) ≡ Held k
@@ -75,7 +76,7 @@ module _ {S : Type 0} where
         let same : place_of e ≡ k = place_of-held (cut_to h g) k e (before is) may in
         absurd (true≢false (sym (eq-eqb (place_of e) k same) ∙ other))
 
-    -- so it is after each beginning f, by its length
+    -- so it is after each beginning f, by induction on its length
     inside_upto : (n : ℕ) (f later : List (Event S)) → HasLast f → length f ≡ n → IsLegal h → h.events ≡ f ++ later
         → inside k f ≡ true → turn f ≡ Held k
     inside_upto n f later (nothing none) many legal starts is =

@@ -1,4 +1,4 @@
--- Where a priority stands that is put in its rising place, and what users ask of joined and taken lists.
+-- The position of a priority that is put in its rising place, and what users ask of joined and taken lists.
 use Rattle.std.proofs.Common.{◌≡◌, ◌≢◌, Bool, ℕ, zero, suc, ◌-◌, ◌<◌, ◌≤◌, List, [], ◌∷◌, length, get_or, true, false}
 use Rattle.std.proofs.Common.{cond, leb, refl, arith, sub-one}
 use Rattle.std.proofs.lemmas.Grind.{common_steps}
@@ -45,8 +45,8 @@ put_in_behind_one p qs (suc i) j h l above =
 
 pub ruleset joined_steps = (length-put_in, put_in_before, put_in_at, put_in_behind_one)
 
--- What waits of one's own ask of lists: how many wait after a wait or a signal, and that somebody does. A function
--- whose `rest` or `ready` counts who waits closes with the attribute
+-- What users' own waits and signals ask of lists: how many processes wait after a wait or a signal, and that one does.
+-- A function whose `rest` or `ready` counts the waiters is proved with the attribute
 --     #[tactic(auto, using(hoare_law::proofs::Joined::waiting_steps))]
 -- (`joined q c p c` computes to `put_in (λ n. n) p (q c)`, and `taken q c c` to `behind_first (q c)`.)
 pub length-behind_first : (xs : List ℕ) → length (behind_first xs) ≡ length xs - 1
@@ -60,7 +60,7 @@ length-some (x ∷ xs) some = grind (arith, common_steps)
 pub length-none : (xs : List ℕ) → xs ≡ [] → length xs ≡ 0
 length-none xs none = rw none refl
 
--- the first of a list with p is p or less
+-- the first of a list with p put in is at most p
 pub first-put_in : (p : ℕ) (qs : List ℕ) → get_or (put_in (λ n. n) p qs) 0 0 ≤ p
 first-put_in p [] = omega arith
 first-put_in p (q ∷ qs) = by (leb q p) refl

@@ -1,4 +1,5 @@
--- Who is inside gives the monitor up, by a wait, a leave, a signal or a pass: that it may, and what it owes.
+-- The place inside releases the monitor, by a wait, a leave, a signal or a pass: that this is allowed, and what it
+-- owes.
 use Rattle.std.proofs.Common.{◌≡◌, ◌≢◌, ℕ, ◌<◌, arith, Bool, true, false, cond, List, [], ◌∷◌, ◌++◌, Option, Some, None}
 use Rattle.std.proofs.Common.{refl, ap, sym, ◌∙◌, subst, eq-eqb}
 use Rattle.std.specs.Prelude.{IsSomeAnd, slice_index}
@@ -29,14 +30,14 @@ module _ {S : Type 0} where
   given_up_of frees k [] (w ∷ ws) left = tt
   given_up_of frees k (u ∷ us) ws left = tt
 
-  -- nobody is inside after an event that isn't one of a process inside
+  -- no place is inside after an event that doesn't leave its place inside
   pub given_up-left : (f : History S) (e : Event S) → is_inside e ≡ false → IsGivenUp (turn (with_event f e).events)
   unfolding with_event
   given_up-left f e left =
       let h : List (Event S) = f.events ++ e ∷ [] in
       subst IsGivenUp (sym (turn-push f.events e)) (given_up_of (after e) (place_of e) (urgent h) (called h) left)
 
-  -- the turn is that of whom a signal or a pass resumes
+  -- the turn is that of the place that a signal or a pass resumes
   pub turn-handing : (out : Bool) (h : History S) (k c w : ℕ) (s : S)
       → turn (with_event h (handing out k c w s)).events ≡ Owed w c
   unfolding with_event
@@ -51,7 +52,7 @@ module _ {S : Type 0} where
       outside-push k f.events e ∙ ap (λ b. cond b (is_out (Some e)) (outside k f.events)) (eq-eqb (place_of e) k mine)
       ∙ out
 
-  -- somebody is chosen where a priority stands
+  -- a waiter is chosen if there is a waiting priority
   pub chosen-some : (c : ℕ) (h : List (Event S)) → priorities h c ≢ [] → (x : Event S) × (chosen c h ≡ Some x)
   chosen-some c h some = by (chosen c h) refl
     where
@@ -63,7 +64,7 @@ module _ {S : Type 0} where
   unfolding Chooses
   Chooses-place c h x is = subst (λ (o : Option (Event S)). IsSomeAnd o (λ e. place_of e ≡ place_of x)) (sym is) refl
 
-  -- each kind is allowed to the one inside
+  -- the place inside may leave, wait, signal and pass
   pub Allowed-leave : (f : History S) (k : ℕ) (s : S) → IsLegal f → turn f.events ≡ Held k → Allowed f (Leave k s)
   Allowed-leave f k s legal held = record { in_range = (held-in_range f k legal held, tt); fits = held }
 
@@ -86,7 +87,7 @@ module _ {S : Type 0} where
       (held, Chooses-place c f.events x is, hoare)
 
   module _ (rest : Rest S) (ready : Ready S) where
-    -- and pays what it owes
+    -- the event makes true what it owes
     pub Owes-leave : (f : History S) (k : ℕ) (s : S) → turn f.events ≡ Held k → rest s (priorities f.events)
         → Owes rest ready f.events (Leave k s)
     unfolding Owes

@@ -1,4 +1,4 @@
--- What is known of those that were called, and of whom the monitor is owed to.
+-- What is known of the notified processes, and of the process to which the monitor is owed.
 use Rattle.std.proofs.Common.{◌≡◌, ◌==◌, ◌||◌, ◌<◌, not, ℕ, List, [], ◌∷◌, ◌++◌, Bool, true, false, cond, Some, refl}
 use Rattle.std.proofs.Common.{ap, sym, ◌∙◌, subst, arith, eqb-true, eq-eqb, append_assoc}
 use Rattle.std.specs.Prelude.{All}
@@ -37,7 +37,7 @@ second false b n = n
 pub one_kind : (n m c : ℕ) → IsHoare n m c → IsMesa n m c → ⊥
 one_kind n m c a b = omega (arith, a, b.0, b.1)
 
--- two facts of all
+-- two facts of all elements of a list
 All-both : {X : Type 0} (P Q : X → Type 0) (xs : List X) → All P xs → All Q xs → All (λ x. P x × Q x) xs
 All-both P Q xs a b = λ k d below. (a k d below, b k d below)
 
@@ -56,12 +56,12 @@ All-filter P Q p (x ∷ xs) f a = by (p x) refl (All-filter P Q p xs f (All-tail
     by false is rest = rest
 
 module _ {S : Type 0} where
-  -- x, the wait of a place, is apart from those that wait: none of them has its place
+  -- x, the wait of a place, is apart from the waiters: none of them has its place
   abbrev pub IsApart : List (Event S) → Event S → Type 0
   IsApart h x = (d : ℕ) → list_all (λ y. not (place_of x == place_of y)) (waiting d h) ≡ true
 
-  -- x was called and hasn't gone on: it is a wait on a Mesa condition and its place's last event, and its place waits
-  -- nowhere
+  -- what is known of x, the wait of a notified process that hasn't resumed: it is a wait on a Mesa condition and its
+  -- place's last event, and its place waits nowhere
   pub record IsCalled (h : History S) (x : Event S) : Type 0 where
     pub last : newest (own (place_of x) h.events) ≡ Some x
     pub waits : waits_on (condition_of x) x ≡ true
@@ -77,7 +77,7 @@ module _ {S : Type 0} where
       (own-push (place_of x) h e ∙ ap (λ b. own (place_of x) h ++ cond b (e ∷ []) []) (not-true _ other) ∙ append-nil _)
       ∙ last
 
-  -- one that does nothing stays apart
+  -- a place that does nothing stays apart
   apart_stays : (h : List (Event S)) (e x : Event S) → not (place_of e == place_of x) ≡ true → IsApart h x
       → IsApart (h ++ e ∷ []) x
   apart_stays h e x other apart = λ d.
@@ -103,11 +103,11 @@ module _ {S : Type 0} where
     apart = apart_stays f.events e x other was.apart;
   }
 
-  -- what is known of one that waits on c, beside k, which is inside
+  -- what is known of a waiter on c while k is inside
   abbrev OthersWait : History S → ℕ → ℕ → Event S → Type 0
   OthersWait f k c x = (Waits c f.events x × IsInRange f.sizes x) × (not (k == place_of x) ≡ true)
 
-  -- so is each
+  -- this is known of each waiter
   others_wait : (f : History S) (k c : ℕ) → IsLegal f → turn f.events ≡ Held k
       → All (OthersWait f k c) (waiting c f.events)
   others_wait f k c legal held =
@@ -122,7 +122,7 @@ module _ {S : Type 0} where
       all_of (x ∷ xs) a =
           let b = both_true _ _ a in All-cons (λ x. not (k == place_of x) ≡ true) x xs b.0 (all_of xs b.1)
 
-  -- one that waits is called by e, an event of k, which leaves nobody with its place waiting
+  -- a waiter is notified by e, an event of k, after which no waiter has its place
   called_now : (f : History S) (e x : Event S) (k c : ℕ) → place_of e ≡ k → IsMesa f.sizes.conditions f.sizes.mesa c
       → OthersWait f k c x → IsApart (f.events ++ e ∷ []) x → IsCalled (with_event f e) x
   unfolding with_event
@@ -135,7 +135,7 @@ module _ {S : Type 0} where
         apart = apart;
       }
 
-  -- a notify leaves nobody waiting with the place that it names
+  -- after a notify no waiter has the place that it names
   apart_notify : (h : List (Event S)) (k c w : ℕ) (s : S) (x : Event S) → place_of x ≡ w
       → IsApart (h ++ Notify k c w s ∷ []) x
   apart_notify h k c w s x named = λ d.
@@ -144,7 +144,7 @@ module _ {S : Type 0} where
       (λ y n. ap (λ j. not (j == place_of y)) named ∙ second (k == place_of y) (w == place_of y) n)
       (list_all-filter_own (λ y. not (k == place_of y || w == place_of y)) (waiting d h))
 
-  -- a broadcast on c leaves nobody waiting that waited there
+  -- after a broadcast on c no waiter has a place that waited there
   apart_broadcast : (h : List (Event S)) (k c : ℕ) (s : S) (x : Event S) → Waits c h x
       → IsApart (h ++ Broadcast k c s ∷ []) x
   apart_broadcast h k c s x was = λ d.
@@ -170,7 +170,7 @@ module _ {S : Type 0} where
           apart_by d off same =
               let e : (c == d) ≡ true = eq-eqb c d (sym same) in let no : true ≡ false = sym e ∙ off in cc
 
-  -- those that an event calls are called after it
+  -- the processes that an event notifies are notified after it
   All-called_by : (f : History S) (e : Event S) → IsLegal f → Allowed f e
       → All (IsCalled (with_event f e)) (called_by f.events e)
   All-called_by f (Notify k c w s) legal may =
@@ -223,16 +223,16 @@ module _ {S : Type 0} where
   unfolding called
   none_called h = All-nil (IsCalled (cut_to h []))
 
-  -- so are all that are called in a legal history
+  -- so this holds of all notified processes in a legal history
   pub All-called : (h : History S) → IsLegal h → All (IsCalled h) (called h.events)
   All-called h legal = All-called_steps h [] h.events refl legal (none_called h)
 
-  -- so the one that the monitor was given up to
+  -- so it holds of the process to which the monitor was released
   pub first-called : (h : History S) (w c : ℕ) → IsLegal h → (r : EndsCalled w c h.events) → IsCalled h r.first
   first-called h w c legal r =
       All-head (IsCalled h) r.first r.others (subst (All (IsCalled h)) r.are (All-called h legal))
 
-  -- the condition that it waited on is a Mesa condition
+  -- the condition on which that process waited is a Mesa condition
   pub called-mesa : (h : History S) (w c : ℕ) → IsLegal h → EndsCalled w c h.events
       → IsMesa h.sizes.conditions h.sizes.mesa c
   called-mesa h w c legal r =
@@ -243,14 +243,14 @@ module _ {S : Type 0} where
   handing_hoare true f k c w s may = may.fits.2
   handing_hoare false f k c w s may = may.fits.2
 
-  -- and that of one that was resumed is one of Hoare's
+  -- the condition of a process that was resumed is one of Hoare's
   pub handed-hoare : (h : History S) (w c : ℕ) → IsLegal h → EndsHanding w c h.events
       → IsHoare h.sizes.conditions h.sizes.mesa c
   handed-hoare h w c legal r =
       handing_hoare r.out (cut_to h r.before) r.by c w r.left
       (legal.each r.before [] (handing r.out r.by c w r.left) r.ends)
 
-  -- who is owed the monitor and waited on one of Hoare's conditions was resumed
+  -- a process to which the monitor is owed from one of Hoare's conditions was resumed
   pub turn-handed : (h : History S) (w c : ℕ) → IsLegal h → IsHoare h.sizes.conditions h.sizes.mesa c
       → turn h.events ≡ Owed w c → EndsHanding w c h.events
   turn-handed h w c legal hoare is = by (turn-owed h.events w c is)
@@ -259,7 +259,7 @@ module _ {S : Type 0} where
       by (handed r) = r
       by (next_called r) = absurd (one_kind h.sizes.conditions h.sizes.mesa c hoare (called-mesa h w c legal r))
 
-  -- and who waited on a Mesa condition was called
+  -- a process to which it is owed from a Mesa condition was notified
   pub turn-called : (h : History S) (w c : ℕ) → IsLegal h → IsMesa h.sizes.conditions h.sizes.mesa c
       → turn h.events ≡ Owed w c → EndsCalled w c h.events
   turn-called h w c legal mesa is = by (turn-owed h.events w c is)
@@ -268,7 +268,7 @@ module _ {S : Type 0} where
       by (handed r) = absurd (one_kind h.sizes.conditions h.sizes.mesa c (handed-hoare h w c legal r) mesa)
       by (next_called r) = r
 
-  -- place and condition to which the monitor is owed are the monitor's
+  -- the place and the condition to which the monitor is owed are in range
   pub owed-in_range : (h : History S) (w c : ℕ) → IsLegal h → turn h.events ≡ Owed w c
       → (w < h.sizes.places) × (c < h.sizes.conditions)
   owed-in_range h w c legal is = by (turn-owed h.events w c is)
@@ -282,7 +282,7 @@ module _ {S : Type 0} where
         (called-mesa h w c legal r).0,
       )
 
-  -- and the place waits nowhere
+  -- the place to which the monitor is owed waits nowhere
   pub waiting-owed : (h : History S) (k c d : ℕ) → IsLegal h → turn h.events ≡ Owed k c
       → list_all (λ x. not (k == place_of x)) (waiting d h.events) ≡ true
   waiting-owed h k c d legal is = by (turn-owed h.events k c is)

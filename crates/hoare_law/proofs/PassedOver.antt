@@ -1,4 +1,4 @@
--- A waiter is passed over only by the waiters before it and by those that came since with a lesser priority.
+-- A waiter is passed over only by the waiters before it, and by those that began to wait later with a lesser priority.
 use Rattle.std.proofs.Common.{◌≡◌, ◌==◌, ◌&&◌, ◌||◌, ◌+◌, not, ℕ, suc, List, [], ◌∷◌, ◌++◌, length, Bool}
 use Rattle.std.proofs.Common.{true, false, cond, leb, ltb, Some, refl, ap, sym, ◌∙◌, subst, arith, eq-eqb, eqb-true}
 use Rattle.std.proofs.Common.{true≢false}
@@ -30,12 +30,12 @@ use Rattle.hoare_law.proofs.Priorities.{waiting-own, waiting-outside, waiting-re
 use Rattle.hoare_law.proofs.Held.{waiting-held}
 use Rattle.hoare_law.proofs.Signallers.{legal_upto}
 
--- 1 if the test passed, else 0
+-- 1 if the test holds, else 0
 abbrev pub one_if : Bool → ℕ
 one_if b = cond b 1 0
 
 module _ {X : Type 0} (key : X → ℕ) where
-  -- one of a smaller key is put in before x
+  -- an element with a smaller key is put in before x
   put_before : (w x : X) (us vs : List X) → ltb (key w) (key x) ≡ true
       → (ts : List X) × (put_in key w (us ++ x ∷ vs) ≡ ts ++ x ∷ vs) × (length ts ≡ suc (length us))
   put_before w x [] vs less =
@@ -48,7 +48,7 @@ module _ {X : Type 0} (key : X → ℕ) where
       by true r = (u ∷ r.0, ap (λ l. u ∷ l) r.1, ap suc r.2)
       by false r = (w ∷ u ∷ us, refl, refl)
 
-  -- in a rising list any other is put in behind x
+  -- in a rising list any other element is put in after x
   put_behind : (w x : X) (us vs : List X) → ltb (key w) (key x) ≡ false → Rising key (us ++ x ∷ vs)
       → (ts : List X) × (put_in key w (us ++ x ∷ vs) ≡ us ++ x ∷ ts)
   put_behind w x [] vs kept rises =
@@ -60,7 +60,7 @@ module _ {X : Type 0} (key : X → ℕ) where
       (r.0, rw low (ap (λ l. u ∷ l) r.1))
 
 module _ {S : Type 0} where
-  -- what stands before x afterwards, and what was counted meanwhile
+  -- what comes before x afterwards, and what was counted meanwhile
   pub record Passed (c : ℕ) (h : List (Event S)) (us : List (Event S)) (x : Event S) (took put : ℕ) : Type 0 where
     pub before : List (Event S)
     pub behind : List (Event S)
@@ -84,7 +84,7 @@ module _ {S : Type 0} where
       ap (λ b. one_if (b && ltb (priority_of e) (priority_of x))) unput in
       record { before = us; behind = vs; now = same ∙ is; counts = omega (arith, none, nothing_put) }
 
-  -- a wait on c is put in before x or behind it
+  -- a wait on c is put in before x or after x
   passed_wait : (c : ℕ) (f : List (Event S)) (j d p : ℕ) (s : S) (us : List (Event S)) (x : Event S)
       (vs : List (Event S)) → turn f ≡ Held j → in_turn f c ≡ us ++ x ∷ vs → PassedBy c f (Wait j d p s) us x
   passed_wait c f j d p s us x vs held is = by (d == c) refl (ltb p (priority_of x)) refl
@@ -116,13 +116,13 @@ module _ {S : Type 0} where
           let none : one_if (comes_below c (priority_of x) put) ≡ 0 = rw (same, kept) refl in
           record { before = us; behind = r.0; now = joined_by true same ∙ r.1; counts = omega (arith, none) }
 
-  -- the first in order is the chosen one
+  -- the first waiter in order is the chosen one
   chosen_first : (c : ℕ) (h : List (Event S)) (x : Event S) (xs : List (Event S)) → in_turn h c ≡ x ∷ xs
       → chosen c h ≡ Some x
   unfolding chosen
   chosen_first c h x xs is = chosen-first priority_of (waiting c h) ∙ ap first_of is
 
-  -- a signal, a pass and a notify on c take the first, which isn't x
+  -- a signal, a pass and a notify on c take the first waiter, which isn't x
   passed_taking : (c : ℕ) (f : List (Event S)) (e : Event S) (j d w : ℕ) (us : List (Event S)) (x : Event S)
       (vs : List (Event S)) → ((b : ℕ) → waits_on b e ≡ false) → ((b i : ℕ) → concerns b i e ≡ (j == i || w == i))
       → takes_from c e ≡ (d == c) → turn f ≡ Held j → Chooses d f w → not (concerns c (place_of x) e) ≡ true
@@ -236,7 +236,8 @@ module _ {S : Type 0} where
   unfolding waits_below
   waits_below_more c p e later = counted_more (comes_below c p) e later
 
-  -- so many are before x afterwards: as many as before, without those taken, and with those of a lesser priority since
+  -- as many waiters come before x afterwards as before, without those taken, and with those that began to wait later
+  -- with a lesser priority
   pub passed : (c : ℕ) (h : History S) (f later : List (Event S)) (us : List (Event S)) (x : Event S)
       (vs : List (Event S)) → IsLegal h → h.events ≡ f ++ later → in_turn f c ≡ us ++ x ∷ vs
       → is_untouched c x later ≡ true
@@ -271,7 +272,8 @@ module _ {S : Type 0} where
       absurd (true≢false (sym (eq-eqb (place_of x) (place_of x) refl)
       ∙ not-true _ (list_all-at (λ y. not (place_of x == place_of y)) ts x vs others)))
 
-  -- a signal would resume x exactly when all before it were taken, and all that came since with a lesser priority
+  -- a signal would resume x exactly when all waiters before it were taken, and all that began to wait later with a
+  -- lesser priority
   pub passed_chosen : (c : ℕ) (h : List (Event S)) (us : List (Event S)) (x : Event S) (took put : ℕ)
       → Passed c h us x took put → (chosen c h ≡ Some x) ↔ (took ≡ length us + put)
   passed_chosen c h us x took put r = (

@@ -43,7 +43,7 @@ no_length [] l = refl
 no_length (x ∷ xs) l = absurd (omega arith)
 
 module _ {S : Type 0} where
-  -- they never decrease
+  -- the waiting priorities of a condition never decrease
   pub IsNonDecreasing-priorities : (h : List (Event S)) (c : ℕ) → IsNonDecreasing (priorities h c)
   unfolding priorities
   IsNonDecreasing-priorities h c =
@@ -60,7 +60,7 @@ module _ {S : Type 0} where
       (λ same. true≢false (sym w.on ∙ apart x (ap (λ j. newest (own j h)) same ∙ w.last)))))
       (waiting d h) (All-waiting d h))
 
-  -- whoever is outside waits nowhere
+  -- a place that is outside waits nowhere
   pub waiting-outside : (h : List (Event S)) (k d : ℕ) → outside k h ≡ true
       → list_all (λ x. not (k == place_of x)) (waiting d h) ≡ true
   unfolding outside
@@ -68,7 +68,7 @@ module _ {S : Type 0} where
       waiting-apart h k d
       (λ x last. waits_not (λ y. is_out (Some y) ≡ true) x d (λ j c p s on. cc) (ap is_out (sym last) ∙ is))
 
-  -- nor does a signaller that returns
+  -- a signaller that returns waits nowhere
   pub waiting-return : (h : List (Event S)) (k d : ℕ) → turn h ≡ Return k
       → list_all (λ x. not (k == place_of x)) (waiting d h) ≡ true
   waiting-return h k d is =
@@ -76,7 +76,7 @@ module _ {S : Type 0} where
       waiting-apart h k d (λ x last. let same : r.0 ≡ x = let e : Some r.0 ≡ Some x = sym r.1 ∙ last in cc in
       waits_not (λ y. is_signal y ≡ true) x d (λ j c p s on. cc) (ap is_signal (sym same) ∙ r.2))
 
-  -- an event of one that waits nowhere, which concerns no other, changes who waits only by its own wait
+  -- an event of a place that waits nowhere, which concerns no other place, changes the waiters only by its own wait
   pub waiting-own : (h : List (Event S)) (e : Event S) (d : ℕ) → ((j : ℕ) → concerns d j e ≡ (place_of e == j))
       → list_all (λ x. not (place_of e == place_of x)) (waiting d h) ≡ true
       → waiting d (h ++ e ∷ []) ≡ waiting d h ++ cond (waits_on d e) (e ∷ []) []
@@ -91,7 +91,7 @@ module _ {S : Type 0} where
   waiting-wait h k c p d s is =
       waiting-own h (Wait k c p s) d (λ j. concerns-own (Wait k c p s) d j refl) (waiting-held h k d is)
 
-  -- so the priorities stay, where it is no wait
+  -- so the priorities stay the same, if the event is no wait
   pub priorities-own : (h : List (Event S)) (e : Event S) → ((d j : ℕ) → concerns d j e ≡ (place_of e == j))
       → ((d : ℕ) → waits_on d e ≡ false)
       → ((d : ℕ) → list_all (λ x. not (place_of e == place_of x)) (waiting d h) ≡ true)
@@ -101,17 +101,17 @@ module _ {S : Type 0} where
       ((waiting-own h e d (own_alone d) (apart d) ∙ ap (λ b. waiting d h ++ cond b (e ∷ []) []) (no_wait d)
       ∙ append-nil _) i))
 
-  -- as at a leave
+  -- so they stay the same at a leave
   pub priorities-leave : (h : List (Event S)) (k : ℕ) (s : S) → turn h ≡ Held k
       → priorities (h ++ Leave k s ∷ []) ≡ priorities h
   priorities-leave h k s is =
       priorities-own h (Leave k s) (λ d j. concerns-own (Leave k s) d j refl) (λ d. refl) (λ d. waiting-held h k d is)
 
-  -- who waits on d, in the order in which signals would resume them
+  -- the waiters on d, in the order in which signals would resume them
   abbrev pub in_turn : List (Event S) → ℕ → List (Event S)
   in_turn h d = in_order priority_of (waiting d h)
 
-  -- a wait is put in
+  -- a wait is put in its rising place
   pub in_turn-wait : (h : List (Event S)) (k c p d : ℕ) (s : S) → turn h ≡ Held k
       → in_turn (h ++ Wait k c p s ∷ []) d ≡ cond (d == c) (put_in priority_of (Wait k c p s) (in_turn h d))
       (in_turn h d)
@@ -138,18 +138,18 @@ module _ {S : Type 0} where
       by true = map-put_in priority_of (Wait k c p s) (in_turn h d)
       by false = refl
 
-  -- a wait puts its priority in
+  -- a wait puts in its priority
   pub priorities-wait : (h : List (Event S)) (k c p : ℕ) (s : S) → turn h ≡ Held k
       → priorities (h ++ Wait k c p s ∷ []) ≡ joined (priorities h) c p
   priorities-wait h k c p s is = λ i d. priorities-wait_at h k c p d s is i
 
-  -- the chosen one is the first in order
+  -- the chosen waiter is the first in order
   pub in_turn-chosen : (c : ℕ) (h : List (Event S)) (x : Event S) → chosen c h ≡ Some x
       → in_turn h c ≡ x ∷ behind_first (in_turn h c)
   unfolding chosen
   in_turn-chosen c h x is = first_is _ x (sym (chosen-first priority_of (waiting c h)) ∙ is)
 
-  -- and its priority is the first of the waiting priorities
+  -- the priority of the chosen waiter is the first of the waiting priorities
   pub priorities-chosen : (c : ℕ) (h : List (Event S)) (x : Event S) → chosen c h ≡ Some x
       → priorities h c ≡ priority_of x ∷ behind_first (priorities h c)
   unfolding priorities
@@ -158,39 +158,39 @@ module _ {S : Type 0} where
       ap (map priority_of) (in_turn-chosen c h x is) in
       e ∙ ap (λ l. priority_of x ∷ behind_first l) (sym e)
 
-  -- so at index 0 of them
+  -- so it is at index 0 of them
   pub slice_index-chosen : (c : ℕ) (h : List (Event S)) (x : Event S) → chosen c h ≡ Some x
       → slice_index (priorities h c) 0 ≡ priority_of x
   slice_index-chosen c h x is = ap (λ l. slice_index l 0) (priorities-chosen c h x is)
 
-  -- nobody is chosen only where nobody waits
+  -- no waiter is chosen only if no process waits
   pub waiting-unchosen : (c : ℕ) (h : List (Event S)) → chosen c h ≡ None → waiting c h ≡ []
   unfolding chosen
   waiting-unchosen c h is =
       in_order-none priority_of (waiting c h) (first_none _ (sym (chosen-first priority_of (waiting c h)) ∙ is))
 
-  -- where nobody waits, nobody is chosen
+  -- if no process waits, none is chosen
   pub chosen-nobody : (c : ℕ) (h : List (Event S)) → waiting c h ≡ [] → chosen c h ≡ None
   unfolding chosen
   chosen-nobody c h none = chosen-first priority_of (waiting c h) ∙ ap (λ l. first_of (in_order priority_of l)) none
 
-  -- and no priority waits
+  -- if no process waits, there is no waiting priority
   pub priorities-nobody : (c : ℕ) (h : List (Event S)) → waiting c h ≡ [] → priorities h c ≡ []
   unfolding priorities
   priorities-nobody c h none = ap (λ l. map priority_of (in_order priority_of l)) none
 
-  -- where no priority waits, nobody does
+  -- if there is no waiting priority, no process waits
   pub waiting-no_priority : (c : ℕ) (h : List (Event S)) → priorities h c ≡ [] → waiting c h ≡ []
   unfolding priorities
   waiting-no_priority c h none = in_order-none priority_of (waiting c h) (map-none priority_of _ none)
 
-  -- somebody is chosen, whose place is w
+  -- the waiter is chosen, and its place is w
   pub Chooses-chosen : (c w : ℕ) (h : List (Event S)) → Chooses c h w
       → (x : Event S) × (chosen c h ≡ Some x) × (place_of x ≡ w)
   unfolding Chooses
   Chooses-chosen c w h is = some_and (λ x. place_of x ≡ w) (chosen c h) is
 
-  -- those in order behind the chosen one have other places
+  -- the waiters after the chosen one have other places
   pub apart_behind : (c : ℕ) (h : List (Event S)) (x : Event S) → chosen c h ≡ Some x
       → list_all (λ y. not (place_of x == place_of y)) (behind_first (in_turn h c)) ≡ true
   apart_behind c h x is =
@@ -209,7 +209,7 @@ module _ {S : Type 0} where
       list_all-filter_none (λ y. place_of x == place_of y) _
       (no_length _ (omega (arith, one, waiting-once c (place_of x) h)))
 
-  -- who is left in order where the chosen one goes
+  -- the waiters in order, without the chosen one
   in_turn-without : (c : ℕ) (h : List (Event S)) (x : Event S) → chosen c h ≡ Some x
       → in_order priority_of (filter (λ y. not (place_of x == place_of y)) (waiting c h)) ≡ behind_first (in_turn h c)
   in_turn-without c h x is =
@@ -224,7 +224,8 @@ module _ {S : Type 0} where
   map-behind_first [] = refl
   map-behind_first (x ∷ xs) = refl
 
-  -- an event that concerns k, which is inside, and w, whom it chooses, takes the chosen one from those that wait
+  -- an event that concerns k, which is inside, and w, the place that it chooses, takes the chosen waiter from the
+  -- waiters
   pub in_turn-takes : (h : List (Event S)) (e : Event S) (k c w d : ℕ) → waits_on d e ≡ false
       → ((j : ℕ) → concerns d j e ≡ (k == j || w == j)) → turn h ≡ Held k → Chooses c h w
       → in_turn (h ++ e ∷ []) d ≡ cond (d == c) (behind_first (in_turn h d)) (in_turn h d)
@@ -271,7 +272,7 @@ module _ {S : Type 0} where
       (ap (map priority_of) (in_turn-takes h (handing out k c w s) k c w d (waits_on-handing out d k c w s)
       (λ j. concerns-handing out d j k c w s) is chooses) ∙ map-taken h c d) i
 
-  -- so does a notify
+  -- a notify takes the first priority
   pub priorities-notify : (h : List (Event S)) (k c w : ℕ) (s : S) → turn h ≡ Held k → Chooses c h w
       → priorities (h ++ Notify k c w s ∷ []) ≡ taken (priorities h) c
   unfolding priorities
@@ -279,7 +280,7 @@ module _ {S : Type 0} where
       λ i d. (ap (map priority_of) (in_turn-takes h (Notify k c w s) k c w d refl (λ j. refl) is chooses)
       ∙ map-taken h c d) i
 
-  -- a broadcast leaves nobody waiting on its condition, and the others as they were
+  -- a broadcast leaves no waiter on its condition, and leaves the waiters on other conditions as they were
   pub waiting-broadcast : (h : List (Event S)) (k c d : ℕ) (s : S) → turn h ≡ Held k
       → waiting d (h ++ Broadcast k c s ∷ []) ≡ cond (d == c) [] (waiting d h)
   waiting-broadcast h k c d s is =
@@ -307,7 +308,7 @@ module _ {S : Type 0} where
       → priorities (h ++ Broadcast k c s ∷ []) ≡ emptied (priorities h) c
   priorities-broadcast h k c s is = λ i d. priorities-broadcast_at h k c d s is i
 
-  -- as many priorities wait as processes
+  -- there are as many waiting priorities as waiters
   pub length-priorities : (c : ℕ) (h : List (Event S)) → length (priorities h c) ≡ length (waiting c h)
   unfolding priorities
   length-priorities c h = length-map (in_turn h c) priority_of ∙ length-in_order priority_of (waiting c h)

@@ -1,4 +1,4 @@
--- Called processes resume in turn: which of them resume while one is still called, and how often the monitor is
+-- Notified processes resume in turn: which of them resume while one is still notified, and how often the monitor is
 -- released.
 use Rattle.std.proofs.Common.{◌≡◌, ◌≢◌, ◌==◌, ◌+◌, ◌≤◌, ◌⊎◌, inl, inr, not, ℕ, suc, List, [], ◌∷◌, ◌++◌, length}
 use Rattle.std.proofs.Common.{map, Bool, true, false, cond, leb, Some, refl, ap, sym, ◌∙◌, subst, arith, eq-eqb}
@@ -42,7 +42,7 @@ use Rattle.hoare_law.proofs.Signallers.{in_no_signal}
 use Rattle.hoare_law.proofs.Signallers.{own_other, legal_upto, give_up_same, back_step}
 use Rattle.hoare_law.proofs.PassedOver.{one_if, counted_more}
 
--- a test of all, read as a fact of all
+-- a test of all elements, read as a fact of all
 pub All-from_list_all : {X : Type 0} (p : X → Bool) (xs : List X) → list_all p xs ≡ true → All (λ x. p x ≡ true) xs
 All-from_list_all p [] a = All-nil (λ x. p x ≡ true)
 All-from_list_all p (x ∷ xs) a =
@@ -67,14 +67,14 @@ unfolding called
 none_often S w = omega arith
 
 module _ {S : Type 0} where
-  -- how often place w stands in a list
+  -- how often a list has place w
   abbrev often : ℕ → List (Event S) → ℕ
   often w xs = length (filter (λ x. w == place_of x) xs)
 
   often_apart : (w : ℕ) (xs : List (Event S)) → list_all (λ x. not (w == place_of x)) xs ≡ true → often w xs ≡ 0
   often_apart w xs apart = ap length (filter-none (λ x. w == place_of x) xs apart)
 
-  -- a place that was called waits nowhere
+  -- a place that was notified waits nowhere
   called_or_waits : (f : History S) (w c : ℕ) (xs : List (Event S)) → All (IsCalled f) xs
       → (often w xs ≡ 0) ⊎ (often w (waiting c f.events) ≡ 0)
   called_or_waits f w c [] all = inl refl
@@ -149,11 +149,11 @@ module _ {S : Type 0} where
       often_steps h (f ++ e ∷ []) later w legal (at ∙ sym (append_assoc f (e ∷ []) later))
       (often_step (cut_to h f) e w (legal_upto h f (e ∷ later) at legal) few)
 
-  -- no place is called twice
+  -- no place is notified twice
   pub called-once : (h : History S) (w : ℕ) → IsLegal h → often w (called h.events) ≤ 1
   called-once h w legal = often_steps h [] h.events w legal refl (none_often S w)
 
-  -- so those behind the first have other places
+  -- so the processes after the first have other places
   called_behind : (h : History S) (x : Event S) (xs : List (Event S)) → IsLegal h → called h.events ≡ x ∷ xs
       → list_all (λ y. not (place_of x == place_of y)) xs ≡ true
   called_behind h x xs legal is =
@@ -164,7 +164,7 @@ module _ {S : Type 0} where
       subst (λ (l : List (Event S)). often (place_of x) l ≤ 1) is (called-once h (place_of x) legal) in
       list_all-filter_none (λ y. place_of x == place_of y) xs (no_elements _ (omega (arith, split, few)))
 
-  -- what one event does while a process is called
+  -- what one event does while a process is notified
   pub record CalledStep (n : Sizes) (f : List (Event S)) (e : Event S) : Type 0 where
     pub up : given_up f ≡ one_if (is_back e) + one_if (resumes_called n e)
     pub signallers : length (urgent (f ++ e ∷ [])) + one_if (is_back e) ≡ length (urgent f) + one_if (is_signal e)
@@ -203,14 +203,14 @@ module _ {S : Type 0} where
         all_wait (called_by f.events e) goes (called-call f e legal held),
       )
 
-  -- an event of a place that wasn't called calls nobody
+  -- an event that notifies no process, of a place that isn't notified, leaves the notified processes as they are
   stays_called : (f : List (Event S)) (e : Event S) → called_by f e ≡ []
       → list_all (λ x. not (place_of e == place_of x)) (called f) ≡ true
       → called (f ++ e ∷ []) ≡ called f ++ []
   stays_called f e nobody apart =
       called-push f e ∙ ap (λ l. l ++ called_by f e) (filter-all _ (called f) apart) ∙ ap (λ l. called f ++ l) nobody
 
-  -- a place whose last event is no wait wasn't called
+  -- a place whose last event is no wait isn't notified
   called-apart : (f : History S) (k : ℕ) (x : Event S) → IsLegal f → newest (own k f.events) ≡ Some x
       → ((c : ℕ) → waits_on c x ≡ false) → list_all (λ y. not (k == place_of y)) (called f.events) ≡ true
   called-apart f k x legal last no_wait = list_all-from_All (λ y. not (k == place_of y)) (called f.events)
@@ -248,7 +248,7 @@ module _ {S : Type 0} where
           let many = ap length first in record { up = up; signallers = omega (arith, many); nobody = refl }
       counts (all_stay back admit up stay) = absurd (cc)
 
-  -- a process to which the monitor was handed wasn't called
+  -- a signal and a pass notify no process
   handing_calls : (out : Bool) (h : List (Event S)) (k c w : ℕ) (s : S) → called_by h (handing out k c w s) ≡ []
   handing_calls true h k c w s = refl
   handing_calls false h k c w s = refl
@@ -371,7 +371,7 @@ module _ {S : Type 0} where
       by true = refl
       by false = refl
 
-  -- while x, behind us, doesn't resume: the first of us resume in turn, and after each release a signaller returns or
+  -- while x, after us, doesn't resume: the first of us resume in turn, and after each release a signaller returns or
   -- one of them resumes
   pub record CalledMeanwhile (n : Sizes) (f later us : List (Event S)) (x : Event S)
       (vs : List (Event S)) : Type 0 where
@@ -408,7 +408,7 @@ module _ {S : Type 0} where
       by true = omega arith
       by false = omega arith
 
-  -- one event more, of which it is known whom it leaves before x and behind x
+  -- one more event, of which it is known which processes it leaves before x and after x
   called_by_one : (n : Sizes) (f : List (Event S)) (e : Event S) (later us ts : List (Event S)) (x : Event S)
       (vs ws added : List (Event S)) → CalledStep n f e → ws ≡ vs ++ added
       → (r : CalledMeanwhile n (f ++ e ∷ []) later ts x ws)
@@ -479,7 +479,7 @@ module _ {S : Type 0} where
       (λ ts ws now. called_meanwhile h (f ++ e ∷ []) later ts x ws legal (at ∙ sym (append_assoc f (e ∷ []) later)) now
       apart.1)
 
-  -- after a release without waiting signallers, the monitor is owed to the first called process
+  -- after a release without waiting signallers, the monitor is owed to the first notified process
   owed_to_first : (h : List (Event S)) (x : Event S) (xs : List (Event S)) → given_up h ≡ 1 → urgent h ≡ []
       → called h ≡ x ∷ xs → turn h ≡ Owed (place_of x) (condition_of x)
   owed_to_first h x xs up nobody first = by (has_last h)
@@ -504,7 +504,7 @@ module _ {S : Type 0} where
       by (nothing none) = let shut : given_up h ≡ 0 = given_up-none h none in absurd (omega (arith, shut, up))
       by (pushed g e ends) = by_end g e (is_release e) refl ends
 
-  -- a called process to which the monitor is owed is the first of the called
+  -- a notified process to which the monitor is owed is the first of them
   first_alone : (h : History S) (x first : Event S) (others left more : List (Event S)) → IsLegal h
       → called h.events ≡ first ∷ others → place_of first ≡ place_of x → called h.events ≡ left ++ x ∷ more
       → length left ≡ 0
@@ -522,7 +522,7 @@ module _ {S : Type 0} where
   none_left [] x more xs shut is = is
   none_left (y ∷ left) x more xs shut is = absurd (omega arith)
 
-  -- those before x resumed, or are left
+  -- the processes before x resumed, or are left
   gone_and_left : (n : Sizes) (f later us : List (Event S)) (x : Event S) (vs : List (Event S))
       → (r : CalledMeanwhile n f later us x vs)
       → length us ≡ length (resumed_called n later) + length r.left
@@ -531,8 +531,8 @@ module _ {S : Type 0} where
       ∙ length-append (resumed_called n later) (map place_of r.left)
       ∙ ap (λ m. length (resumed_called n later) + m) (length-map r.left place_of)
 
-  -- it is the turn of x exactly when there was one release more than called processes were before it, than signallers
-  -- waited and others signalled since
+  -- it is the turn of x exactly when there was one release more than there were notified processes before it, waiting
+  -- signallers, and signals since
   pub called_bound : (h : History S) (f later us : List (Event S)) (x : Event S) (vs : List (Event S)) → IsLegal h
       → h.events ≡ f ++ later → given_up f ≡ 0 → called f ≡ us ++ x ∷ vs → own (place_of x) later ≡ []
       → turn h.events ≡ Owed (place_of x) (condition_of x)
@@ -583,7 +583,7 @@ module _ {S : Type 0} where
           ∙ owed_to_first (f ++ later) x (vs ++ r.more) up (no_elements (urgent (f ++ later)) nobody)
           (none_left r.left x (vs ++ r.more) (called (f ++ later)) alone r.now)
 
-  -- wherever x is, there are no more releases than that
+  -- at any time there are no more releases than that
   pub called_at_most : (h : History S) (f later us : List (Event S)) (x : Event S) (vs : List (Event S)) → IsLegal h
       → h.events ≡ f ++ later → called f ≡ us ++ x ∷ vs → own (place_of x) later ≡ []
       → releases later ≤ length us + length (urgent f) + signals later + 1
@@ -606,7 +606,7 @@ module _ {S : Type 0} where
           All-cons (λ y. place_of y ≢ k) x xs
           (λ same. true≢false (sym (eq-eqb k (place_of x) (sym same)) ∙ is)) (rest n)
 
-  -- the other called processes are other places
+  -- the other notified processes are other places
   pub called-others : (h : History S) (us : List (Event S)) (x : Event S) (vs : List (Event S)) → IsLegal h
       → called h.events ≡ us ++ x ∷ vs → All (λ y. place_of y ≢ place_of x) (us ++ vs)
   called-others h us x vs legal is =

@@ -1,4 +1,4 @@
--- Waiters, signallers, called processes and the place inside are different places: there are no more of them than the
+-- Waiters, signallers, notified processes and the place inside are different places: there are no more of them than the
 -- monitor has places.
 use Rattle.std.proofs.Common.{◌≡◌, ◌==◌, ◌&&◌, ◌||◌, ◌+◌, ◌<◌, ◌≤◌, not, ℕ, suc, List, [], ◌∷◌, ◌++◌, length, map, Bool}
 use Rattle.std.proofs.Common.{true, false, cond, eqb, Some, refl, ap, sym, ◌∙◌, subst, arith, eq-eqb, eqb-true, ne_eqb}
@@ -51,7 +51,7 @@ below_of n q (u ∷ us) all any =
     by true is either rest = subst (λ (j : ℕ). j < n) (sym (eqb-true q u is)) (All-head (λ j. j < n) u us all)
     by false is either rest = rest either
 
--- places that stand once are no more than there are
+-- a list with no place twice has no more places than there are
 few_places : (us : List ℕ) (n : ℕ) → Once us → All (λ u. u < n) us → length us ≤ n
 few_places us n once all = length-le_from_distinct_below us n (distinct_of us once) (λ q any. below_of n q us all any)
 
@@ -62,7 +62,7 @@ apart_all u (v ∷ us) vs a b =
     let c : (not (u == v) ≡ true) × (list_all (λ t. not (u == t)) us ≡ true) = both_true _ _ a in
     rw c.0 (apart_all u us vs c.1 b)
 
--- two lists of places that stand once, apart from one another
+-- two lists, with no place twice and none in common
 Once-append : (us vs : List ℕ) → Once us → Once vs → All (λ u. list_all (λ v. not (u == v)) vs ≡ true) us
     → Once (us ++ vs)
 Once-append [] vs a b apart = b
@@ -85,7 +85,7 @@ module _ {S : Type 0} where
   unfolding waiting_anywhere
   anywhere-push h e = filter_by_later-push is_wait (λ x y. not (concerns (condition_of x) (place_of x) y)) h e
 
-  -- each stands once
+  -- no place is twice in the list
   abbrev OnceOf : List (Event S) → Type 0
   OnceOf [] = Unit {0}
   OnceOf (x ∷ xs) = (list_all (λ y. not (place_of x == place_of y)) xs ≡ true) × OnceOf xs
@@ -262,7 +262,7 @@ module _ {S : Type 0} where
       tail d true a = (both_true _ _ a).1
       tail d false a = a
 
-  -- a called process waits on no condition
+  -- a notified process waits on no condition
   called_apart_waiting : (h : History S) (y : Event S) → IsCalled h y
       → list_all (λ v. not (place_of y == v)) (map place_of (waiting_anywhere h.events)) ≡ true
   called_apart_waiting h y was = apart_places y (waiting_anywhere h.events)
@@ -271,7 +271,7 @@ module _ {S : Type 0} where
       (All-anywhere h.events))
       (λ d. ap (list_all (λ z. not (place_of y == place_of z))) (sym (waiting-anywhere d h.events)) ∙ was.apart d))
 
-  -- what stands once by number stands once
+  -- a list that has no place twice, by counting, has no place twice
   OnceOf-often : (xs : List (Event S)) → ((w : ℕ) → length (filter (λ x. w == place_of x) xs) ≤ 1) → OnceOf xs
   OnceOf-often [] few = tt
   OnceOf-often (x ∷ xs) few =
@@ -290,7 +290,7 @@ module _ {S : Type 0} where
       less w true le = omega (arith, le)
       less w false le = le
 
-  -- a signaller wasn't called
+  -- a signaller isn't notified
   called_no_signaller : (h : History S) (u : ℕ) → LastSignals h.events u → (xs : List (Event S)) → All (IsCalled h) xs
       → list_all (λ v. not (u == v)) (map place_of xs) ≡ true
   called_no_signaller h u was [] all = refl
@@ -320,7 +320,7 @@ module _ {S : Type 0} where
   All-mapped : (P : ℕ → Type 0) (xs : List (Event S)) → All (λ x. P (place_of x)) xs → All P (map place_of xs)
   All-mapped P xs all = All-map P place_of xs all
 
-  -- the place inside, the signallers, the called processes and the waiters are no more than there are places
+  -- there are no more of the place inside, the signallers, the notified processes and the waiters than there are places
   pub room_for_all : (h : History S) (k : ℕ) → IsLegal h → turn h.events ≡ Held k
       → length (waiting_anywhere h.events) + length (urgent h.events) + length (called h.events) + 1 ≤ h.sizes.places
   room_for_all h k legal held =

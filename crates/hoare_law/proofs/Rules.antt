@@ -1,4 +1,4 @@
--- What follows from the rules: who goes on next, and who is chosen.
+-- What follows from the rules: which process acts next, and which waiter is chosen.
 use Rattle.std.proofs.Common.{◌≡◌, ◌<◌, ◌≤◌, ℕ, List, [], ◌∷◌, ◌++◌, Bool, true, false, cond, leb, Some, refl, ap, sym}
 use Rattle.std.proofs.Common.{◌∙◌, arith}
 use Rattle.std.specs.Prelude.{All}
@@ -20,7 +20,7 @@ use Rattle.hoare_law.proofs.Held.{handing, data_of-handing}
 use Rattle.hoare_law.proofs.Leaving.{turn-handing}
 use Rattle.hoare_law.proofs.Waiters.{chosen-least}
 
--- the one found stands behind those that fail the test
+-- the element found comes after those that fail the test
 find-split : {X : Type 0} (p : X → Bool) (xs : List X) (x : X) → find p xs ≡ Some x
     → (front behind : List X) × (xs ≡ front ++ x ∷ behind) × All (λ y. p y ≡ false) front
 find-split p [] x is = absurd (cc)
@@ -57,12 +57,12 @@ module _ {S : Type 0} where
       by true is = let yes : is_least ws y ≡ true = least_more ws x y (grind (arith, nat_tests)) a in absurd (cc)
       by false is = grind (arith, nat_tests)
 
-  -- none that waits has a smaller priority than the chosen one
+  -- no waiter has a smaller priority than the chosen one
   pub chosen-no_less : (c : ℕ) (h : List (Event S)) (x : Event S) → chosen c h ≡ Some x
       → All (λ y. priority_of x ≤ priority_of y) (waiting c h)
   chosen-no_less c h x is = least_all (waiting c h) x (chosen-least c h x is)
 
-  -- and each that waits longer has a greater one
+  -- each waiter that waits longer than the chosen one has a greater priority
   pub chosen-longest : (c : ℕ) (h : List (Event S)) (x : Event S) → chosen c h ≡ Some x
       → (longer shorter : List (Event S)) × (waiting c h ≡ longer ++ x ∷ shorter)
       × All (λ y. priority_of x < priority_of y) longer
@@ -78,7 +78,7 @@ module _ {S : Type 0} where
             (λ y n. not_least (waiting c h) x y (chosen-least c h x is) n) r.0 r.3,
       )
 
-  -- it is w's turn to resume: only w does, with the data as they were left
+  -- it is w's turn to resume: only w acts next, with the data as they were left
   pub only_resume : (f : History S) (e : Event S) (w c : ℕ) → turn f.events ≡ Owed w c → Allowed f e
       → e ≡ Resume w c (latest_data f)
   only_resume f (Resume j d s) w c is a =
@@ -93,14 +93,14 @@ module _ {S : Type 0} where
   only_resume f (Broadcast j d s) w c is a = let t : Held j ≡ Owed w c = sym a.fits.0 ∙ is in absurd (cc)
   only_resume f (Back j s) w c is a = let t : Return j ≡ Owed w c = sym a.fits.0 ∙ is in absurd (cc)
 
-  -- behind a signal or a pass only the resumed one goes on, with the data as they were left
+  -- after a signal or a pass only the resumed process acts next, with the data as they were left
   pub after_handing : (out : Bool) (f : History S) (k c w : ℕ) (s : S) (e : Event S)
       → Allowed (with_event f (handing out k c w s)) e → e ≡ Resume w c s
   after_handing out f k c w s e a =
       only_resume (with_event f (handing out k c w s)) e w c (turn-handing out f k c w s) a
       ∙ ap (λ t. Resume w c t) (latest_data-push f (handing out k c w s) ∙ data_of-handing out k c w s)
 
-  -- it is k's turn to return: only k does, with the data as they were left
+  -- it is k's turn to return: only k acts next, with the data as they were left
   pub only_back : (f : History S) (e : Event S) (k : ℕ) → turn f.events ≡ Return k → Allowed f e
       → e ≡ Back k (latest_data f)
   only_back f (Back j s) k is a =

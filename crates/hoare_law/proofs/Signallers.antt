@@ -35,7 +35,7 @@ pub length-parts : {X : Type 0} (whole front behind : List X) → whole ≡ fron
     → length whole ≡ length front + length behind
 length-parts whole front behind is = ap length is ∙ length-append front behind
 
--- each stands once
+-- no place is twice in the list
 abbrev pub Once : List ℕ → Type 0
 Once [] = Unit {0}
 Once (u ∷ us) = (list_all (λ v. not (u == v)) us ≡ true) × Once us
@@ -75,7 +75,7 @@ once_first (j ∷ left) k more us once same =
     let other : not (j == k) ≡ true = list_all-at (λ v. not (j == v)) left k more once.0 in
     absurd (true≢false (sym (eq-eqb j k head) ∙ not-true _ other))
 
--- the others are others
+-- the other places of such a list are other than k
 others_by : (us : List ℕ) (k : ℕ) (vs : List ℕ) → Once (us ++ k ∷ vs) → All (λ j. j ≢ k) (us ++ vs)
 others_by [] k vs o = apart vs o.0
   where
@@ -94,7 +94,7 @@ unfolding urgent
 once_none S = tt
 
 module _ {S : Type 0} where
-  -- no place stands twice among the waiting signallers
+  -- no place is twice among the waiting signallers
   once_steps : (f later : List (Event S)) → Once (urgent f) → Once (urgent (f ++ later))
   once_steps f [] o = subst (λ (l : List (Event S)). Once (urgent l)) (sym (append-nil f)) o
   once_steps f (e ∷ later) o =
@@ -212,7 +212,7 @@ module _ {S : Type 0} where
       ∙ filter-all (λ u. not (k == u)) r.3 once.0 in
       comes_back refl refl refl (given_up-return h k is) (r.4 ∙ ap (λ l. k ∷ l) (sym now))
 
-  -- while signallers wait, no process may be admitted, and no called process may resume
+  -- while signallers wait, no process may be admitted, and no notified process may resume
   pub urgent_step : (f : History S) (e : Event S) → IsLegal f → Allowed f e → urgent f.events ≢ []
       → UrgentStep f.events e
   urgent_step f (Back k s) legal may some = back_step f.events k s may.fits.0
@@ -234,8 +234,8 @@ module _ {S : Type 0} where
   urgent_step f (Notify k c w s) legal may some = by_inside f.events (Notify k c w s) may.fits.0 refl refl
   urgent_step f (Broadcast k c s) legal may some = by_inside f.events (Broadcast k c s) may.fits.0 refl refl
 
-  -- while signaller k, behind us, doesn't return: the first of us return in turn, each after one release, and no
-  -- process is admitted
+  -- while signaller k, after us, doesn't return: the first of us return in turn, each after one release, and no process
+  -- is admitted
   pub record Meanwhile (f later : List (Event S)) (us : List ℕ) (k : ℕ) (vs : List ℕ) : Type 0 where
     pub left : List ℕ
     pub more : List ℕ
@@ -324,7 +324,7 @@ module _ {S : Type 0} where
       counted_by true = omega arith
       counted_by false = omega arith
 
-  -- what a legal history begins with is legal
+  -- each beginning of a legal history is legal
   pub legal_upto : (h : History S) (f later : List (Event S)) → h.events ≡ f ++ later → IsLegal h → IsLegal (cut_to h f)
   legal_upto h f later is legal =
       IsLegal-front {f = cut_to h f} {h = h} (record { sizes = refl; opening = refl; later = later; is = sym is }) legal
@@ -404,14 +404,14 @@ module _ {S : Type 0} where
           let zero : length r.left ≡ 0 = omega (arith, kept, many, up, often, r.times) in
           return_of_first (f ++ later) k (vs ++ r.more) up (first_now r.left (vs ++ r.more) _ zero r.now)
 
-  -- behind its signal k is the last of those that waited
+  -- after its signal k is the last of the waiting signallers
   pub urgent-signal : (f : List (Event S)) (k c w : ℕ) (s : S) → turn f ≡ Held k
       → urgent (f ++ Signal k c w s ∷ []) ≡ urgent f ++ k ∷ []
   urgent-signal f k c w s held =
       let r = own-held f k held in
       stay_by f (Signal k c w s) (urgent-apart f k r.0 r.1 (in_no_signal r.0 r.2))
 
-  -- counted from its signal
+  -- the same, counted from its signal
   pub signal_bound : (h : History S) (f later : List (Event S)) (k c w : ℕ) (s : S) → IsLegal h
       → h.events ≡ f ++ Signal k c w s ∷ later → own k later ≡ []
       → (releases later ≤ length (urgent f) + 1)
@@ -435,7 +435,7 @@ module _ {S : Type 0} where
       let r = signal_bound g f later k c w s (legal_upto h g.events (Back k t ∷ more) whole legal) refl none in
       r.1.0 (legal.each g.events more (Back k t) whole).fits.0
 
-  -- wherever it is, there are no more releases than that
+  -- at any time there are no more releases than that
   pub signaller_at_most : (h : History S) (f later : List (Event S)) (us : List ℕ) (k : ℕ) (vs : List ℕ) → IsLegal h
       → h.events ≡ f ++ later → urgent f ≡ us ++ k ∷ vs → own k later ≡ [] → releases later ≤ length us + 1
   signaller_at_most h f later us k vs legal at is none =

@@ -1,4 +1,4 @@
--- Lists in order of their keys: what one more element, a filter and a map do to them, and that they rise.
+-- Lists in order of their keys: how one more element, a filter and a map change them, and that they rise.
 use Rattle.std.proofs.Common.{◌≡◌, ℕ, ◌<◌, Bool, true, false, cond, leb, ◌&&◌, List, [], ◌∷◌, ◌++◌, map}
 use Rattle.std.proofs.Common.{refl, ap, sym, ◌∙◌, zero, suc, ◌+◌, ◌≤◌, length, get_or, subst, append_assoc, arith, Some}
 use Rattle.std.proofs.Common.{None, Option}
@@ -30,7 +30,7 @@ module _ {X : Type 0} (key : X → ℕ) where
       let e : leb m (key x) ≡ true = lower n m (key x) parts.0 l in
       rw e (list_all-lower n m ws l parts.1)
 
-  -- each is followed by none lower
+  -- each element is followed by none that is lower
   abbrev pub Rising : List X → Type 0
   Rising [] = Unit {0}
   Rising (v ∷ vs) = (list_all (λ x. leb (key v) (key x)) vs ≡ true) × Rising vs
@@ -57,7 +57,7 @@ module _ {X : Type 0} (key : X → ℕ) where
   Rising-put_in w [] r = (refl, tt)
   Rising-put_in w (v ∷ vs) r = rising_by (leb (key v) (key w)) w v vs refl r.0 r.1 (Rising-put_in w vs r.1)
 
-  -- before a list of higher ones
+  -- an element is put in before a list of higher ones
   pub put_front : (w : X) (n : ℕ) (vs : List X) → (key w) < n → list_all (λ x. leb n (key x)) vs ≡ true
       → put_in key w vs ≡ w ∷ vs
   put_front w n [] l a = refl
@@ -65,7 +65,7 @@ module _ {X : Type 0} (key : X → ℕ) where
       let p : (leb n (key v) ≡ true) × (list_all (λ x. leb n (key x)) vs ≡ true) = both_true _ _ a in
       rw (not_below n (key v) (key w) p.0 l) refl
 
-  -- a filter and a waiter put in change places
+  -- a filter and an element put in commute
   keep_put_by : (t s : Bool) (p : X → Bool) (w v : X) (vs : List X) → p w ≡ true → p v ≡ s → leb (key v) (key w) ≡ t
       → list_all (λ x. leb (key v) (key x)) vs ≡ true
       → filter p (put_in key w vs) ≡ put_in key w (filter p vs)
@@ -110,7 +110,7 @@ module _ {X : Type 0} (key : X → ℕ) where
   put_all-filter p [] vs r = refl
   put_all-filter p (w ∷ ws) vs r = order_by (p w) p vs ws w refl r (λ us q. put_all-filter p ws us q)
 
-  -- those who stay keep their order
+  -- the elements that are kept keep their order
   pub in_order-filter : (p : X → Bool) (ws : List X) → in_order key (filter p ws) ≡ filter p (in_order key ws)
   in_order-filter p ws = put_all-filter p ws [] tt
 
@@ -175,7 +175,7 @@ module _ {X : Type 0} (key : X → ℕ) where
   pub in_order-rising : (xs : List X) → Rising key xs → in_order key xs ≡ xs
   in_order-rising xs r = put_all-rising [] xs r
 
-  -- one more is not nothing
+  -- a list with one more element isn't empty
   pub put_in-some : (x : X) (ys : List X) → put_in key x ys ≢ []
   put_in-some x [] e = cc
   put_in-some x (y ∷ ys) e = by (leb (key y) (key x)) e
@@ -184,7 +184,7 @@ module _ {X : Type 0} (key : X → ℕ) where
       by true e = cc
       by false e = cc
 
-  -- only nothing is nothing in order
+  -- only the empty list is empty in order
   pub in_order-none : (xs : List X) → in_order key xs ≡ [] → xs ≡ []
   in_order-none xs none = by (has_last xs)
     where
@@ -193,13 +193,13 @@ module _ {X : Type 0} (key : X → ℕ) where
       by (pushed ys y is) =
           absurd (put_in-some y (in_order key ys) (sym (put_all-push key [] ys y) ∙ ap (in_order key) (sym is) ∙ none))
 
-  -- at most one is in order
+  -- a list of at most one element is in order
   pub in_order-short : (xs : List X) → length xs ≤ 1 → in_order key xs ≡ xs
   in_order-short [] l = refl
   in_order-short (x ∷ []) l = refl
   in_order-short (x ∷ y ∷ xs) l = absurd (omega arith)
 
-  -- one more
+  -- a list with one more element is longer by one
   pub length-put_in : (x : X) (ys : List X) → length (put_in key x ys) ≡ suc (length ys)
   length-put_in x [] = refl
   length-put_in x (y ∷ ys) = by (leb (key y) (key x)) (length-put_in x ys)
@@ -214,7 +214,7 @@ module _ {X : Type 0} (key : X → ℕ) where
   length-put_all placed [] = omega arith
   length-put_all placed (x ∷ xs) = omega (arith, length-put_all (put_in key x placed) xs, length-put_in key x placed)
 
-  -- as many as there were
+  -- a list in order is as long as before
   pub length-in_order : (xs : List X) → length (in_order key xs) ≡ length xs
   length-in_order xs = omega (arith, length-put_all [] xs)
 
@@ -237,26 +237,26 @@ pub IsNonDecreasing-in_order : (xs : List ℕ) → IsNonDecreasing (in_order (λ
 IsNonDecreasing-in_order xs = IsNonDecreasing-from_Rising _ (Rising-in_order (λ n. n) xs)
 
 module _ {X : Type 0} (key : X → ℕ) where
-  -- what is in order stays as it is
+  -- a list in order stays as it is
   pub in_order-in_order : (xs : List X) → in_order key (in_order key xs) ≡ in_order key xs
   in_order-in_order xs = in_order-rising key (in_order key xs) (Rising-in_order key xs)
 
-  -- of a list and perhaps one more
+  -- a list and perhaps one more element, in order
   pub in_order-push : (t : Bool) (x : X) (xs : List X)
       → in_order key (xs ++ cond t (x ∷ []) []) ≡ cond t (put_in key x (in_order key xs)) (in_order key xs)
   in_order-push true x xs = put_all-push key [] xs x
   in_order-push false x xs = ap (in_order key) (append-nil xs)
 
-  -- one more put into what stands in order, as pushed and put in order
+  -- an element put in a list in order, as pushed and put in order
   put_in-pushed : (x : X) (xs : List X) → in_order key xs ≡ xs → put_in key x xs ≡ in_order key (xs ++ x ∷ [])
   put_in-pushed x xs o = ap (put_in key x) (sym o) ∙ sym (put_all-push key [] xs x)
 
-  -- one more put into what stands in order leaves it so
+  -- a list in order stays in order if an element is put in
   pub in_order-put_in : (x : X) (xs : List X) → in_order key xs ≡ xs → in_order key (put_in key x xs) ≡ put_in key x xs
   in_order-put_in x xs o =
       ap (in_order key) (put_in-pushed x xs o) ∙ in_order-in_order (xs ++ x ∷ []) ∙ sym (put_in-pushed x xs o)
 
-  -- a filter leaves what stands in order so
+  -- a list in order stays in order if it is filtered
   pub in_order-filtered : (p : X → Bool) (xs : List X) → in_order key xs ≡ xs → in_order key (filter p xs) ≡ filter p xs
   in_order-filtered p xs o = in_order-filter key p xs ∙ ap (filter p) o
 
@@ -271,7 +271,7 @@ find-filter p (x ∷ xs) = by (p x) (find-filter p xs)
     by false rest = rest
 
 module _ {X : Type 0} (key : X → ℕ) (P : X → Type 0) where
-  -- all of a list, and one more put in by its key
+  -- what holds of all elements, with one more put in by its key
   pub All-put_in_by : (x : X) (xs : List X) → P x → All P xs → All P (put_in key x xs)
   All-put_in_by x [] p a = All-cons P x [] p a
   All-put_in_by x (y ∷ ys) p a = by (leb (key y) (key x)) (All-put_in_by x ys p (All-tail P y ys a))
@@ -285,11 +285,11 @@ module _ {X : Type 0} (key : X → ℕ) (P : X → Type 0) where
   All-put_all placed (x ∷ xs) a b =
       All-put_all (put_in key x placed) xs (All-put_in_by x placed (All-head P x xs b) a) (All-tail P x xs b)
 
-  -- what holds of all holds of all in order
+  -- what holds of all elements of a list holds of all in order
   pub All-in_order : (xs : List X) → All P xs → All P (in_order key xs)
   All-in_order xs a = All-put_all [] xs (All-nil P) a
 
--- all of a list of numbers, and one more put in
+-- what holds of all numbers of a list, with one more put in
 pub All-put_in : (P : ℕ → Type 0) (p : ℕ) (qs : List ℕ) → P p → All P qs → All P (put_in (λ n. n) p qs)
 All-put_in = All-put_in_by (λ n. n)
 

@@ -1,4 +1,4 @@
--- Whose turn it is and who is outside after one more event.
+-- Whose turn it is, and which places are outside, after one more event.
 use Rattle.std.proofs.Common.{◌≡◌, ◌==◌, ◌&&◌, not, ℕ, List, [], ◌∷◌, ◌++◌, Bool, true, false, cond, map, Some, refl}
 use Rattle.std.proofs.Common.{◌≢◌, ap, sym, ◌∙◌, ne_eqb}
 use Rattle.std.specs.List.{filter, list_all}
@@ -24,7 +24,7 @@ map_one : {S : Type 0} (b : Bool) (e : Event S) → map place_of (cond b (e ∷ 
 map_one true e = refl
 map_one false e = refl
 
--- the waiting signallers but the one that acts, and the one that e adds
+-- the waiting signallers, without the place that acts, and with the place that e adds
 pub urgent-push : {S : Type 0} (h : List (Event S)) (e : Event S)
     → urgent (h ++ e ∷ []) ≡ filter (λ u. not (place_of e == u)) (urgent h) ++ cond (is_signal e) (place_of e ∷ []) []
 unfolding urgent
@@ -53,7 +53,7 @@ pub outside-push : {S : Type 0} (k : ℕ) (h : List (Event S)) (e : Event S)
 unfolding outside
 outside-push k h e = ap (λ l. is_out (newest l)) (own-push k h e) ∙ out_by (place_of e == k) (own k h) e
 
--- so it is where another acts
+-- so a place is outside as it was, if another place acts
 pub outside-other : {S : Type 0} (k : ℕ) (h : List (Event S)) (e : Event S) → place_of e ≢ k
     → outside k (h ++ e ∷ []) ≡ outside k h
 outside-other k h e ne =

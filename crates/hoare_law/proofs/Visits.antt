@@ -46,7 +46,7 @@ either_true true = refl
 either_true false = refl
 
 module _ {S : Type 0} where
-  -- one more event adds its own wait at most
+  -- one more event adds at most its own wait to the waiters
   anywhere_more : (f : List (Event S)) (e : Event S)
       → length (waiting_anywhere (f ++ e ∷ [])) ≤ length (waiting_anywhere f) + one_if (is_wait e)
   anywhere_more f e =
@@ -59,7 +59,7 @@ module _ {S : Type 0} where
       added true = refl
       added false = refl
 
-  -- a wait waits
+  -- a wait adds a waiter
   anywhere_some : (f : List (Event S)) (e : Event S) → one_if (is_wait e) ≤ length (waiting_anywhere (f ++ e ∷ []))
   anywhere_some f e =
       let p : Event S → Bool = λ x. not (concerns (condition_of x) (place_of x) e) in
@@ -71,7 +71,7 @@ module _ {S : Type 0} where
       added true = refl
       added false = refl
 
-  -- a signal and a pass take one
+  -- a signal and a pass take a waiter
   anywhere_less : (f : List (Event S)) (e : Event S) (k c w : ℕ) → is_wait e ≡ false
       → ((b i : ℕ) → concerns b i e ≡ (k == i || w == i)) → Chooses c f w
       → length (waiting_anywhere (f ++ e ∷ [])) + 1 ≤ length (waiting_anywhere f)
@@ -97,7 +97,7 @@ module _ {S : Type 0} where
           ∙ ap (λ b. k == place_of r.0 || b) (eq-eqb w (place_of r.0) (sym r.2)) ∙ either_true (k == place_of r.0) in
           absurd (true≢false (sym touched ∙ not-true _ passes))
 
-  -- the event hands the monitor to a waiter
+  -- the event hands off the monitor to a waiter
   abbrev is_hand : Event S → Bool
   is_hand (Signal k c w s) = true
   is_hand (Pass k c w s) = true
@@ -328,13 +328,13 @@ module _ {S : Type 0} where
   signal_waits f k c w s may =
       let less = anywhere_less f.events (Signal k c w s) k c w refl (λ b i. refl) may.fits.1 in omega (arith, less)
 
-  -- so it finds at most two signallers less than there are places
+  -- so a place that may signal finds at most two signallers less than there are places
   pub signal_room : (f : History S) (k c w : ℕ) (s : S) → IsLegal f → Allowed f (Signal k c w s)
       → length (urgent f.events) + 2 ≤ f.sizes.places
   signal_room f k c w s legal may =
       omega (arith, room_for_all f k legal may.fits.0, signal_waits f k c w s may)
 
-  -- and until it returns there are fewer releases than places
+  -- until it returns there are fewer releases than places
   pub few_releases : (h : History S) (f later : List (Event S)) (k c w : ℕ) (s : S) → IsLegal h
       → h.events ≡ f ++ Signal k c w s ∷ later → own k later ≡ [] → releases later < h.sizes.places
   few_releases h f later k c w s legal at none =
@@ -342,7 +342,7 @@ module _ {S : Type 0} where
       (legal.each f later (Signal k c w s) at) in
       omega (arith, room, (signal_bound h f later k c w s legal at none).0)
 
-  -- the same for a called process, without the signals since
+  -- until a notified process resumes there are fewer releases than places and signals since together
   pub few_releases_called : (h : History S) (f later us : List (Event S)) (x : Event S) (vs : List (Event S)) (j : ℕ)
       → IsLegal h → h.events ≡ f ++ later → called f ≡ us ++ x ∷ vs → own (place_of x) later ≡ [] → turn f ≡ Held j
       → releases later < h.sizes.places + signals later
@@ -351,7 +351,7 @@ module _ {S : Type 0} where
       let many = ap length is ∙ length-append us (x ∷ vs) in
       omega (arith, room, many, called_at_most h f later us x vs legal at is none)
 
-  -- so there are fewer visits than twice the places
+  -- so there are at most three visits less than twice the places
   pub few_in_all : (h : History S) (f later : List (Event S)) (k c w : ℕ) (s : S) → IsLegal h
       → h.events ≡ f ++ Signal k c w s ∷ later → own k later ≡ []
       → visits later + 3 ≤ 2 * h.sizes.places
@@ -417,12 +417,12 @@ module _ {S : Type 0} where
       let step = event_step (cut_to h f) e (legal.each f later e at) in
       omega (arith, moved, rest, step, inside-push f e, comings_more e later, more_notified e later)
 
-  -- so there are at most two events for each visit that begins, and the notifications
+  -- so there are at most two events for each visit that begins and one more, besides the notifications
   pub few_events : (h : History S) (f later : List (Event S)) → IsLegal h → h.events ≡ f ++ later
       → length later ≤ 2 * visits later + notifications later + 1
   few_events h f later legal at = omega (arith, events_while h f later legal at, inside-one f)
 
-  -- and one less after a signal
+  -- after a signal there is one event less
   pub few_events_behind : (h : History S) (f later : List (Event S)) (k c w : ℕ) (s : S) → IsLegal h
       → h.events ≡ f ++ Signal k c w s ∷ later → length later ≤ 2 * visits later + notifications later
   few_events_behind h f later k c w s legal at =

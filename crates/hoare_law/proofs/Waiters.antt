@@ -1,4 +1,4 @@
--- What is known of a process that waits, of the one that is chosen, and of a waiting signaller.
+-- What is known of a process that waits, of the chosen waiter, and of a waiting signaller.
 use Rattle.std.proofs.Common.{◌≡◌, ◌≢◌, ◌==◌, ◌&&◌, ◌<◌, ◌≤◌, not, ℕ, List, [], ◌∷◌, ◌++◌, length}
 use Rattle.std.proofs.Common.{Bool, true, false, cond, Some, refl, ap, sym, ◌∙◌, subst, arith, eq-eqb, eqb-true, ne_eqb}
 use Rattle.std.specs.Prelude.{All}
@@ -27,7 +27,7 @@ module _ {S : Type 0} where
   own_none : (k : ℕ) (later : List (Event S)) → list_all (λ x. not (place_of x == k)) later ≡ true → own k later ≡ []
   own_none k later a = filter-none (λ x. place_of x == k) later a
 
-  -- an event behind which its place does nothing is the place's last
+  -- an event after which its place does nothing is the last of that place
   pub newest-own_split : (f later : List (Event S)) (x : Event S) (h : List (Event S)) → h ≡ f ++ x ∷ later
       → list_all (λ y. not (place_of y == place_of x)) later ≡ true
       → newest (own (place_of x) h) ≡ Some x
@@ -39,7 +39,7 @@ module _ {S : Type 0} where
       ap (own k) is ∙ filter-append (λ y. place_of y == k) f (x ∷ later) ∙ ap (λ l. own k f ++ l) tail in
       ap newest whole ∙ newest-push (own k f) x
 
-  -- whom nothing concerns does nothing
+  -- a place that no event concerns does nothing
   pub untouched_last : (c k : ℕ) (later : List (Event S)) → list_all (λ y. not (concerns c k y)) later ≡ true
       → list_all (λ y. not (place_of y == k)) later ≡ true
   untouched_last c k [] a = refl
@@ -47,7 +47,7 @@ module _ {S : Type 0} where
       let b : (not (concerns c k y) ≡ true) × (list_all (λ z. not (concerns c k z)) later ≡ true) = both_true _ _ a in
       rw (own_is_concerned y c k b.0) (untouched_last c k later b.1)
 
-  -- each that waits is its place's last event
+  -- each waiter's wait is the last event of its place
   pub All-waiting : (c : ℕ) (h : List (Event S)) → All (Waits c h) (waiting c h)
   unfolding waiting
   All-waiting c h = All-filter_by_later (Waits c h) (λ e later. waits_on c e && is_untouched c e later) h
@@ -55,11 +55,11 @@ module _ {S : Type 0} where
       let b : (waits_on c x ≡ true) × (is_untouched c x later ≡ true) = both_true _ _ t in
       record { on = b.0; last = newest-own_split f later x h is (untouched_last c (place_of x) later b.1) })
 
-  -- and each waiting signaller's last event is its signal
+  -- the last event of each waiting signaller is its signal
   abbrev pub LastSignals : List (Event S) → ℕ → Type 0
   LastSignals h k = (x : Event S) × (newest (own k h) ≡ Some x) × (is_signal x ≡ true)
 
-  -- so says each place that stands among the signallers
+  -- so this holds of each place among the signallers
   pub All-urgent : (h : List (Event S)) → All (LastSignals h) (urgent h)
   unfolding urgent
   All-urgent h =
@@ -69,12 +69,12 @@ module _ {S : Type 0} where
       let b : (is_signal x ≡ true) × (is_last_act x later ≡ true) = both_true _ _ t in
       (x, newest-own_split f later x h is b.1, b.0)))
 
-  -- wherever an event of a legal history stands, it is in range
+  -- each event of a legal history is in range
   pub in_range-at : (h : History S) (f later : List (Event S)) (e : Event S) → IsLegal h → h.events ≡ f ++ e ∷ later
       → IsInRange h.sizes e
   in_range-at h f later e legal is = (legal.each f later e is).in_range
 
-  -- of each kind that stands by what comes later
+  -- each event that is kept by what comes later is in range
   pub All-in_range : (h : History S) (test : Event S → List (Event S) → Bool) → IsLegal h
       → All (IsInRange h.sizes) (filter_by_later test h.events)
   All-in_range h test legal =
@@ -85,7 +85,7 @@ module _ {S : Type 0} where
   handing_in_range true h k c w s r = (r.1.1, r.1.0)
   handing_in_range false h k c w s r = (r.1.1, r.1.0)
 
-  -- who has the turn is a place of the monitor
+  -- the place whose turn it is, is a place of the monitor
   pub held-in_range : (h : History S) (k : ℕ) → IsLegal h → turn h.events ≡ Held k → k < h.sizes.places
   held-in_range h k legal is =
       let r : (e : Event S) × ((g : List (Event S)) × (h.events ≡ g ++ e ∷ [])) × (is_inside e ≡ true)
@@ -93,14 +93,14 @@ module _ {S : Type 0} where
       turn-held h.events k is in
       subst (λ (i : ℕ). i < h.sizes.places) r.3 (in_range-at h r.1.0 [] r.0 legal r.1.1).0
 
-  -- so are the waiting signallers
+  -- the waiting signallers are places of the monitor
   pub urgent-in_range : (h : History S) → IsLegal h → All (λ k. k < h.sizes.places) (urgent h.events)
   unfolding urgent
   urgent-in_range h legal =
       All-map (λ k. k < h.sizes.places) place_of _
       (All-weaker (IsInRange h.sizes) (λ e. place_of e < h.sizes.places) (λ e r. r.0) _ (All-in_range h _ legal))
 
-  -- and the one that returns
+  -- the signaller that returns is a place of the monitor
   pub return-in_range : (h : History S) (k : ℕ) → IsLegal h → turn h.events ≡ Return k → k < h.sizes.places
   return-in_range h k legal is = let r = turn-return h.events k is in
       All-head (λ (i : ℕ). i < h.sizes.places) k r.3
@@ -111,12 +111,12 @@ module _ {S : Type 0} where
   own-return h k is = let r = turn-return h k is in
       All-head (LastSignals h) k r.3 (subst (λ (us : List ℕ). All (LastSignals h) us) r.4 (All-urgent h))
 
-  -- the chosen one waits
+  -- the chosen waiter waits
   pub chosen-waits : (c : ℕ) (h : List (Event S)) (x : Event S) → chosen c h ≡ Some x → Waits c h x
   unfolding chosen
   chosen-waits c h x is = All-find (Waits c h) (is_least (waiting c h)) (waiting c h) x is (All-waiting c h)
 
-  -- and its wait is in range
+  -- the wait of the chosen waiter is in range
   pub chosen-in_range : (c : ℕ) (h : History S) (x : Event S) → IsLegal h → chosen c h.events ≡ Some x
       → IsInRange h.sizes x
   unfolding chosen waiting
@@ -124,7 +124,7 @@ module _ {S : Type 0} where
       All-find (IsInRange h.sizes) (is_least (waiting c h.events)) (waiting c h.events) x is
       (All-in_range h (λ e later. waits_on c e && is_untouched c e later) legal)
 
-  -- none that waits has a smaller priority
+  -- no waiter has a smaller priority than the chosen one
   pub chosen-least : (c : ℕ) (h : List (Event S)) (x : Event S) → chosen c h ≡ Some x → is_least (waiting c h) x ≡ true
   unfolding chosen
   chosen-least c h x is = find-passes (is_least (waiting c h)) (waiting c h) x is
@@ -133,7 +133,7 @@ module _ {S : Type 0} where
   pub condition-waits_on : (c : ℕ) (x : Event S) → waits_on c x ≡ true → condition_of x ≡ c
   condition-waits_on c x on = ap condition_of (waits_on-is c x on)
 
-  -- and each that waits on c is in range in a legal history
+  -- each wait of a waiter on c is in range in a legal history
   pub waiting-in_range : (c : ℕ) (h : History S) → IsLegal h → All (IsInRange h.sizes) (waiting c h.events)
   unfolding waiting
   waiting-in_range c h legal = All-in_range h (λ e later. waits_on c e && is_untouched c e later) legal
@@ -148,7 +148,7 @@ module _ {S : Type 0} where
       let one : x ≡ y = let e : Some x ≡ Some y = sym a.last ∙ ap (λ k. newest (own k h)) same ∙ b.last in cc in
       both_wait c d y (ap (waits_on c) (sym one) ∙ a.on) b.on
 
-  -- whoever waits on c waits on no other condition
+  -- a process that waits on c waits on no other condition
   pub waiting-elsewhere : (c d : ℕ) (h : List (Event S)) (x : Event S) → d ≢ c → Waits c h x
       → list_all (λ y. not (place_of x == place_of y)) (waiting d h) ≡ true
   waiting-elsewhere c d h x apart a = list_all-from_All (λ y. not (place_of x == place_of y)) (waiting d h)

@@ -1,4 +1,4 @@
--- Who waits after one more event.
+-- Which processes wait after one more event.
 use Rattle.std.proofs.Common.{◌≡◌, ◌&&◌, not, ℕ, List, [], ◌∷◌, ◌++◌, Bool, true, false, cond, refl, ap}
 use Rattle.std.specs.List.{filter, list_all}
 use Rattle.std.proofs.lemmas.List.Folds.{list_all-append}
@@ -17,7 +17,7 @@ kept_step true false b p x old new t e is = is
 kept_step true true true p x old new t e is = rw e (ap (λ l. x ∷ l) is)
 kept_step true true false p x old new t e is = rw e is
 
--- those that e leaves, and e
+-- the elements that e leaves, and e
 pub filter_by_later-push : {X : Type 0} (is : X → Bool) (q : X → X → Bool) (h : List X) (e : X)
     → filter_by_later (kept_by is q) (h ++ e ∷ [])
     ≡ filter (λ x. q x e) (filter_by_later (kept_by is q) h) ++ cond (is e) (e ∷ []) []
@@ -27,7 +27,7 @@ filter_by_later-push is q (x ∷ h) e =
     rw (list_all-append (q x) h (e ∷ []))
     (kept_step (is x) (list_all (q x) h) (q x e) (λ y. q y e) x _ _ _ refl (filter_by_later-push is q h e))
 
--- those that waited and aren't concerned by e, and e if it waits on c
+-- the waiters that e doesn't concern, and e if it waits on c
 pub waiting-push : {S : Type 0} (c : ℕ) (h : List (Event S)) (e : Event S)
     → waiting c (h ++ e ∷ []) ≡ filter (λ x. not (concerns c (place_of x) e)) (waiting c h) ++ cond
     (waits_on c e) (e ∷ []) []

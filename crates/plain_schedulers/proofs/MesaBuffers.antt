@@ -1,4 +1,4 @@
--- What a process adds that tests again, and what one adds that calls another.
+-- What a process adds to the history if it tests again, and if it notifies another.
 use Rattle.std.proofs.Common.{◌≡◌, ℕ, Bool, ◌∙◌}
 use Rattle.hoare_law.specs.declared.event.History.{History}
 use Rattle.hoare_law.specs.declared.event.Event.TheVariants.{Admit, Wait, Leave, Resume}
@@ -15,7 +15,8 @@ module _ {T : Type 0} {k k1 c : ℕ} {f g h : History (Buffered T)} {found now :
   Rounds-again waited held adds place = again g h found now waited held (rw place at adds)
 
 module _ {Self Out In Lists T : Type 0} (M : Ghosts Self (Buffered T) Out In Lists) where
-  -- it came in by `out`, waited on c as often as what it found held it up, and stands inside at i, where nothing does
+  -- the process of `out` entered, waited on c each time it found that it had to, and is inside at i, without a cause
+  -- to wait
   pub record CameFree (m : Self) (out : Out) (c : ℕ) (i : In) : Type 0 where
     pub of : M.is_of_in m i
     pub place : M.place_in i ≡ M.place out
@@ -24,14 +25,14 @@ module _ {Self Out In Lists T : Type 0} (M : Ghosts Self (Buffered T) Out In Lis
     pub comes : Rounds (M.place out) c (M.front out) (M.front_in i) (M.data_in i)
 
   module _ {m : Self} {out : Out} {c : ℕ} {i : In} where
-    -- nothing held it up
+    -- the process needn't wait
     pub CameFree-at_once : M.is_of_in m i → M.place_in i ≡ M.place out → BufferHolds (M.data_in i)
         → AddsLast (M.front out) (Admit (M.place out) (M.data_in i)) (M.front_in i) → (HoldsUp c (M.data_in i) → ⊥)
         → CameFree m out c i
     CameFree-at_once of place holds front free =
         record { of = of; place = place; holds = holds; free = free; comes = entered _ _ front }
 
-    -- it was held up, and waited until nothing did
+    -- the process had to wait, and waited until it needn't
     pub CameFree-waited : {j : In} → M.place_in i ≡ M.place out
         → AddsLast (M.front out) (Admit (M.place out) (M.data_in i)) (M.front_in i)
         → M.is_of_in m j → M.place_in j ≡ M.place_in i → BufferHolds (M.data_in j) → (HoldsUp c (M.data_in j) → ⊥)
@@ -47,7 +48,7 @@ module _ {Self Out In Lists T : Type 0} (M : Ghosts Self (Buffered T) Out In Lis
     }
 
 module _ {S : Type 0} {k k1 k2 c : ℕ} {s s1 s2 : S} {f f1 g h : History S} {b : Bool} where
-  -- a call, and then a leave
+  -- a notify, and then a leave
   pub Tells-leave : Notifies k1 c s1 f1 g b → k1 ≡ k → s1 ≡ s → f1 ≡ f → h ≡ with_event g (Leave k2 s2) → k2 ≡ k
       → s2 ≡ s → Tells k c s f h
   Tells-leave notifies place state front leaves placed kept = record {

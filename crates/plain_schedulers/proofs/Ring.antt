@@ -1,4 +1,4 @@
--- Lemmas about the cells of a buffer, which lie in a ring.
+-- Lemmas about the cells of a buffer, which are a ring.
 use Rattle.std.proofs.Common.{ap, refl, ◌∙◌, ℕ, zero, suc, ◌+◌, ◌-◌, ◌%◌, ◌<◌, ◌≤◌, ◌⊎◌, inl, inr, List, []}
 use Rattle.std.proofs.Common.{◌∷◌, ◌++◌, length, get_or, set, take, drop, map, replicate, ◌≡◌, ◌≢◌, Option, Some, None}
 use Rattle.std.proofs.Common.{append_assoc, arith, length-append}
@@ -14,14 +14,14 @@ use Rattle.plain_schedulers.specs.Buffers.{BufferHolds, BufferRests, added, empt
 use Rattle.hoare_law.specs.Priorities.{nobody}
 use Rattle.plain_schedulers.specs.Ring.{items_in, turned, ring_view, IsRing}
 
--- a place that passes the end at most once
+-- an index that passes the end at most once
 mod_wraps : (a n : ℕ) → a < n + n → ((a < n) × (a % n ≡ a)) ⊎ ((n ≤ a) × (a % n ≡ a - n))
 mod_wraps a n once = elim (cases_lt a n) [
   | inl below ↦ inl (below, mod-eq_of_lt below)
   | inr past ↦ inr (past, mod-eq-sub-mod past ∙ mod-eq_of_lt (omega arith))
 ]
 
--- turned cells are as many
+-- turned cells are as many as the cells
 length-turned : {T : Type 0} (last : ℕ) (cells : List (Option T)) → last < length cells
     → length (turned last cells) ≡ length cells
 length-turned last cells within =
@@ -54,7 +54,7 @@ turned-next last cells x within = elim (mod_wraps (last + 1) (length cells) (ome
       ) refl
 ]
 
--- the i-th of the turned cells is the cell i places on from the first of them
+-- the i-th of the turned cells is the cell i positions after the first of them
 get_or-turned : {T : Type 0} (last : ℕ) (cells : List (Option T)) (i : ℕ) (d : Option T) → last < length cells
     → i < length cells
     → get_or (turned last cells) i d ≡ get_or cells ((last + i) % length cells) d
@@ -76,7 +76,7 @@ get_or-turned last cells i d within below = elim (mod_wraps (last + i) (length c
       ) refl
 ]
 
--- a write i places on from the first of the turned cells is a write of the i-th
+-- a write i positions after the first of the turned cells is a write of the i-th
 turned-set : {T : Type 0} (last : ℕ) (cells : List (Option T)) (i : ℕ) (x : Option T) → last < length cells
     → i < length cells
     → turned last (set cells ((last + i) % length cells) x) ≡ set (turned last cells) i x
@@ -99,19 +99,19 @@ turned-set last cells i x within below = elim (mod_wraps (last + i) (length cell
       ) refl
 ]
 
--- n empty cells and then these items: how many they are together
+-- the number of n empty cells and then these items
 length-filled : {T : Type 0} (n : ℕ) (xs : List T) → length (replicate n None ++ map Some xs) ≡ n + length xs
 length-filled {T = T} n xs =
     let none : Option T = None in
     length-append (replicate n none) (map Some xs) ∙ rw (length-replicate n none, length-map xs Some) refl
 
--- the items in cells of which the last ones, and no others, hold items
+-- the items in n empty cells and then cells with these items are these items
 items_in-filled : {T : Type 0} (n : ℕ) (xs : List T) → items_in (replicate n None ++ map Some xs) ≡ xs
 items_in-filled zero [] = refl
 items_in-filled {T = T} zero (x ∷ xs) = ap (λ (l : List T). x ∷ l) (items_in-filled zero xs)
 items_in-filled (suc n) xs = items_in-filled n xs
 
--- cells in a ring hold as many items as are counted
+-- cells in a ring have as many items as are counted
 pub length-items_in : {T : Type 0} {cells : List (Option T)} {last count : ℕ} → IsRing cells last count
     → length (items_in (turned last cells)) ≡ count
 length-items_in {cells = cells} {last = last} {count = count} ring =
@@ -128,7 +128,7 @@ pub BufferHolds-ring : {T : Type 0} {cells : List (Option T)} {last count : ℕ}
 BufferHolds-ring ring =
     record { least = ring.least; most = ring.most; fits = let n = length-items_in ring in omega arith }
 
--- cells whose turned list is n empty ones and then these items are in a ring
+-- cells whose turned list is n empty cells and then these items are in a ring
 IsRing-filled : {T : Type 0} (cells : List (Option T)) (last n : ℕ) (xs : List T) → 1 ≤ length cells
     → length cells ≤ 4096 → last < length cells
     → turned last cells ≡ replicate n None ++ map Some xs → IsRing cells last (length xs)
@@ -163,7 +163,7 @@ ring_view-none {T = T} {cells = cells} {n = n} none =
     ap (λ (l : List (Option T)). items_in (l ++ [])) none ∙ items_in-filled n [] in
     rw (size, items) refl
 
--- rest holds of a buffer with no item and nobody waiting
+-- rest holds of a buffer with no item if no process waits
 pub BufferRests-empty : {T : Type 0} (n : ℕ) → 1 ≤ n → n ≤ 4096 → BufferRests (empty {T = T} n) (nobody 0) (nobody 1)
 BufferRests-empty n least most = record {
   inv = record { least = least; most = most; fits = omega arith };
@@ -171,7 +171,7 @@ BufferRests-empty n least most = record {
   nonfull = λ some. absurd (some refl);
 }
 
--- an item written in the last cell, from the next cell on
+-- after an item is written in the last cell: the turned cells, from the next cell on
 filled-push : {T : Type 0} {cells : List (Option T)} {last count : ℕ} (x : T) → IsRing cells last count
     → count < length cells
     → turned ((last + 1) % length cells) (set cells last (Some x))
@@ -187,7 +187,7 @@ filled-push {T = T} {cells = cells} {last = last} {count = count} x ring room =
       append_assoc (replicate (length cells - count - 1) None) (map Some items) (Some x ∷ []),
     ) refl
 
--- after an item is written in the last cell, the cells are in a ring with the next one as the last
+-- after an item is written in the last cell, the cells are in a ring with the next cell as the last
 pub IsRing-push : {T : Type 0} {cells : List (Option T)} {last count n : ℕ} (x : T) → IsRing cells last count
     → length (items_in (turned last cells)) < length cells
     → n ≡ length cells → IsRing (set cells last (Some x)) ((last + 1) % n) (count + 1)
@@ -214,7 +214,7 @@ added-ring {cells = cells} {last = last} {count = count} x ring room size =
     ∙ items_in-filled (length cells - count - 1) (items_in (turned last cells) ++ x ∷ []) in
     rw (size, items, length-set cells last (Some x)) refl
 
--- the oldest item and its cell, and the turned cells once it is emptied
+-- the oldest item and its cell, and the turned cells after that cell is emptied
 record Oldest {T : Type 0} (cells : List (Option T)) (last count at : ℕ) : Type 0 where
   x : T
   others : List T
@@ -222,7 +222,7 @@ record Oldest {T : Type 0} (cells : List (Option T)) (last count at : ℕ) : Typ
   is : (d : Option T) → get_or cells at d ≡ Some x
   after : turned last (set cells at None) ≡ replicate (length cells - count + 1) None ++ map Some others
 
--- where an item is in, the oldest is in the cell count places before the last, around the end
+-- if there is an item, the oldest is in the cell `count` positions before the last, around the end
 Oldest-ring : {T : Type 0} {cells : List (Option T)} {last count : ℕ} → IsRing cells last count → 0 < count
     → Oldest cells last count ((last + length cells - count) % length cells)
 Oldest-ring {T = T} {cells = cells} {last = last} {count = count} ring some =
@@ -253,7 +253,7 @@ Oldest-ring {T = T} {cells = cells} {last = last} {count = count} ring some =
           }
     ] refl
 
--- the cell count places before the last, around the end, isn't empty
+-- the cell `count` positions before the last, around the end, isn't empty
 pub oldest_is_in : {T : Type 0} {cells : List (Option T)} {last count n : ℕ} {a : Option T} → IsRing cells last count
     → 0 < length (items_in (turned last cells))
     → n ≡ length cells → a ≡ get_or cells ((last + n - count) % n) a → a ≢ None
@@ -265,7 +265,7 @@ oldest_is_in {cells = cells} {last = last} {count = count} {a = a} ring some siz
     let apart : Some o.x ≡ None = cc in
     cc
 
--- the item in that cell is the oldest, and once it is taken out the others are left
+-- the item in that cell is the oldest, and after it is taken out the others are left
 pub items_in-pop : {T : Type 0} {cells : List (Option T)} {last count n : ℕ} {a : Option T} (x : T)
     → IsRing cells last count → 0 < length (items_in (turned last cells))
     → n ≡ length cells → a ≡ get_or cells ((last + n - count) % n) a → a ≡ Some x
@@ -278,7 +278,7 @@ items_in-pop {cells = cells} {last = last} {count = count} {a = a} x ring some s
     let same : x ≡ o.x = cc in
     rw (size, same, ap items_in o.after, items_in-filled (length cells - count + 1) o.others) o.items
 
--- once it is taken out, the cells are in a ring with one item fewer
+-- after that item is taken out, the cells are in a ring with one item fewer
 pub IsRing-pop : {T : Type 0} {cells : List (Option T)} {last count n : ℕ} → IsRing cells last count
     → 0 < length (items_in (turned last cells)) → n ≡ length cells
     → IsRing (set cells ((last + n - count) % n) None) last (count - 1)

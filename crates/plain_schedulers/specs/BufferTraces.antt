@@ -4,8 +4,8 @@ use Rattle.hoare_law.specs.declared.event.History.{History}
 use Rattle.hoare_law.specs.Growth.{ComesTo, Finishes}
 use Rattle.plain_schedulers.specs.Buffers.{Buffered, added, with_items}
 
--- k put x in as the newest, after a wait on nonfull where there was no room, and resumed a process that waits on
--- nonempty
+-- k put x in as the newest and signalled on nonempty as its last act; before that it waited on nonfull, once, if it
+-- found no room
 pub record Appends {T : Type 0} (k : ℕ) (x : T) (f h : History (Buffered T)) : Type 0 where
   pub found : Buffered T
   pub front : History (Buffered T)
@@ -13,7 +13,8 @@ pub record Appends {T : Type 0} (k : ℕ) (x : T) (f h : History (Buffered T)) :
   pub room : length found.items < found.size
   pub finishes : Finishes k 0 (added found x) front h
 
--- k took out x, the oldest, after a wait on nonempty where there was none, and resumed a process that waits on nonfull
+-- k took out x, the oldest, and signalled on nonfull as its last act; before that it waited on nonempty, once, if it
+-- found no item
 pub record Removes {T : Type 0} (k : ℕ) (x : T) (f h : History (Buffered T)) : Type 0 where
   pub found : Buffered T
   pub others : List T

@@ -3,7 +3,7 @@ use Rattle.std.specs.Prelude.{ℕ, zero, suc, ◌-◌, ◌<◌, ◌≤◌, List,
 use Rattle.plain_schedulers.specs.declared.buffer.BufferRefused.{BufferRefused}
 use Rattle.plain_schedulers.specs.declared.buffer.BufferRefused.TheVariants as refused
 
--- how many cells there are, and the items in them, the oldest first
+-- the number of cells, and the items in them, the oldest first
 pub record Buffered (T : Type 0) : Type 0 where
   pub size : ℕ
   pub items : List T
@@ -20,31 +20,31 @@ with_items b items = record { size = b.size; items = items }
 abbrev pub added : {T : Type 0} → Buffered T → T → Buffered T
 added b x = with_items b (b.items ++ x ∷ [])
 
--- what is in holds up who waits on the condition: for an item there is none, for room there is none
+-- a process has to wait on the condition: on nonempty if there is no item, on nonfull if there is no room
 abbrev pub HoldsUp : {T : Type 0} → ℕ → Buffered T → Type 0
 HoldsUp zero b = length b.items ≡ 0
 HoldsUp (suc c) b = length b.items ≡ b.size
 
--- what always holds: 1 to 4096 cells, and no more items than cells
+-- what always holds: there are 1 to 4096 cells, and no more items than cells
 pub record BufferHolds {T : Type 0} (b : Buffered T) : Type 0 where
   pub least : 1 ≤ b.size
   pub most : b.size ≤ 4096
   pub fits : length b.items ≤ b.size
 
--- who waits for an item (the takers) finds none, and who waits for room (the putters) finds none
+-- if a process waits for an item (a taker), there is none; if a process waits for room (a putter), there is none
 pub record BufferRests {T : Type 0} (b : Buffered T) (takers putters : List ℕ) : Type 0 where
   pub inv : BufferHolds b
   pub nonempty : takers ≢ [] → length b.items ≡ 0
   pub nonfull : putters ≢ [] → length b.items ≡ b.size
 
--- who waited for an item finds one, and rest will hold again once it is taken out
+-- the process that waited for an item finds one, and rest will hold again after it takes that item out
 pub record ReadyNonempty {T : Type 0} (b : Buffered T) (takers putters : List ℕ) : Type 0 where
   pub inv : BufferHolds b
   pub some : 0 < length b.items
   pub others : takers ≢ [] → length b.items ≡ 1
   pub nonfull : putters ≢ [] → length b.items ≡ b.size
 
--- who waited for room finds some, and rest will hold again once an item is put in
+-- the process that waited for room finds some, and rest will hold again after it puts an item in
 pub record ReadyNonfull {T : Type 0} (b : Buffered T) (takers putters : List ℕ) : Type 0 where
   pub inv : BufferHolds b
   pub room : length b.items < b.size
@@ -56,14 +56,14 @@ abbrev pub BufferReady : {T : Type 0} → ℕ → Buffered T → List ℕ → Li
 BufferReady zero b takers putters = ReadyNonempty b takers putters
 BufferReady (suc c) b takers putters = ReadyNonfull b takers putters
 
--- the answers to a request for a buffer of n cells
+-- the results of a request for a buffer of n cells
 pub data Makes {T : Type 0} (n : ℕ) : Result (Buffered T) BufferRefused → Type 0 where
   too_small : n ≡ 0 → Makes n (Err refused.BadSize)
   too_large : 4096 < n → Makes n (Err refused.BadSize)
   no_memory : 1 ≤ n → n ≤ 4096 → Makes n (Err refused.Memory)
   made : 1 ≤ n → n ≤ 4096 → Makes n (Ok (empty n))
 
--- ready holds of nothing of which what always holds does not
+-- if ready holds, what always holds does too
 pub inv_of_ready : {T : Type 0} (c : ℕ) (b : Buffered T) (takers putters : List ℕ) → BufferReady c b takers putters
     → BufferHolds b
 inv_of_ready zero b takers putters h = h.inv

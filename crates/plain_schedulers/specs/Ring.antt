@@ -3,21 +3,22 @@ use Rattle.std.specs.Prelude.{ℕ, ◌-◌, ◌<◌, ◌≤◌, List, [], ◌∷
 use Rattle.std.specs.Prelude.{Some, None}
 use Rattle.plain_schedulers.specs.Buffers.{Buffered}
 
--- the items that lie in the cells
+-- the items in the cells, in the order of the cells
 abbrev pub items_in : {T : Type 0} → List (Option T) → List T
 items_in [] = []
 items_in (None ∷ cells) = items_in cells
 items_in (Some x ∷ cells) = x ∷ items_in cells
 
--- the cells from the given one on, around the end
+-- all cells, beginning with the given one, around the end
 abbrev pub turned : {T : Type 0} → ℕ → List (Option T) → List (Option T)
 turned last cells = drop last cells ++ take last cells
 
--- the cells as a buffer: the oldest item is the first from the given cell on
+-- the cells as a buffer: the oldest item is the first, counted from the given cell on
 abbrev pub ring_view : {T : Type 0} → List (Option T) → ℕ → Buffered T
 ring_view cells last = record { size = length cells; items = items_in (turned last cells) }
 
--- of 1 to 4096 cells, from the last pointer on and around the end, exactly the count cells before it hold items
+-- there are 1 to 4096 cells; counted from the cell `last` on, around the end, the final `count` cells have items, and
+-- no others have
 pub record IsRing {T : Type 0} (cells : List (Option T)) (last count : ℕ) : Type 0 where
   pub least : 1 ≤ length cells
   pub most : length cells ≤ 4096

@@ -6,7 +6,7 @@ use Rattle.hoare_law.specs.Events.{with_event}
 use Rattle.hoare_law.specs.Growth.{AddsLast, ComesTo, Finishes}
 use Rattle.plain_schedulers.specs.declared.single.NotOut.{NotOut}
 
--- k took the item that it found, after a wait on nonbusy where the item was out
+-- k took the item that it found and left; before that it waited on nonbusy, once, if it found the item out
 pub record Acquires {T : Type 0} (k : ℕ) (item : T) (f h : History (Option T)) : Type 0 where
   pub found : Option T
   pub front : History (Option T)
@@ -14,7 +14,7 @@ pub record Acquires {T : Type 0} (k : ℕ) (item : T) (f h : History (Option T))
   pub is_in : found ≡ Some item
   pub leaves : h ≡ with_event front (Leave k None)
 
--- k put the item in and resumed a process that waits on nonbusy, or was refused and has the item back
+-- k put the item in and signalled on nonbusy as its last act; or it was refused, left, and has the item back
 pub data Releases {T : Type 0} (k : ℕ) (item : T) (f h : History (Option T)) : Result (Unit {0})
     (NotOut T) → Type 0 where
   put_in : (a : Option T) (g : History (Option T)) → AddsLast f (Admit k a) g → a ≡ None

@@ -1,10 +1,10 @@
 -- What holds of a single item and its waiting processes. The data is the item, if it is in; condition 0 is nonbusy.
 use Rattle.std.specs.Prelude.{ℕ, List, [], ◌≡◌, ◌≢◌, Option, None, IsSome}
 
--- if somebody waits, the item is out
+-- if a process waits, the item is out
 abbrev pub SingleRests : {T : Type 0} → Option T → List ℕ → Type 0
 SingleRests item waiting = waiting ≢ [] → item ≡ None
 
--- who is resumed finds the item in: the signaller put it in, and rest will hold again once it is taken out
+-- the resumed process finds the item in: the signaller put it in, and rest will hold again after it is taken out
 abbrev pub SingleReady : {T : Type 0} → Option T → Type 0
 SingleReady item = IsSome item

@@ -1,4 +1,4 @@
-//! The bounded buffer.
+//! The bounded buffer, on Hoare's conditions; `mesa` has the same on Mesa conditions.
 pub mod mesa;
 mod ring;
 
@@ -15,29 +15,29 @@ use std::alloc::Global;
 use std::marker::Model;
 use std::sync::Wait;
 
-/// The most cells that a buffer has.
+/// The largest number of cells of a buffer.
 pub const MOST_CELLS: usize = 4096;
 
-/// The condition *nonempty* of a `Buffer`: who waits there waits for an item.
+/// The condition *nonempty* of a `Buffer`: a process waits on it until there is an item.
 pub const NONEMPTY: usize = 0;
 
-/// The condition *nonfull* of a `Buffer`: who waits there waits for room.
+/// The condition *nonfull* of a `Buffer`: a process waits on it until there is room.
 pub const NONFULL: usize = 1;
 
-/// Why no buffer was made.
+/// Why no buffer was created.
 #[derive(Clone, Copy, Debug, PartialEq, Eq, thiserror::Error)]
 pub enum BufferRefused {
-    /// The number of cells that was asked for isn't 1 to 4096.
+    /// The number of cells isn't 1 to 4096.
     #[error("a buffer has 1 to 4096 cells")]
     BadSize,
-    /// The number is in range, and the cells can't be had.
+    /// The number of cells is in range, but the allocation of the cells failed.
     #[error("out of memory")]
     Memory,
 }
 
-/// A bounded buffer ("Monitors", Example: Bounded Buffer): items come out in the order in which they went in. Condition
-/// 0 is *nonempty* (`NONEMPTY`), condition 1 is *nonfull* (`NONFULL`). `last` is the cell that the next item goes in,
-/// and the items lie in the `count` cells before it, around the end.
+/// A bounded buffer, first in, first out (Hoare 1974, Example: Bounded Buffer). Condition 0 is *nonempty* (`NONEMPTY`),
+/// condition 1 is *nonfull* (`NONFULL`). The cells are a ring: `last` is the index of the cell for the next item, and
+/// the items are in the `count` cells before it, around the end.
 ///
 /// With a monitor `m` of `Buffer::make(alloc, 4)?`, and `out`, a place of it:
 ///
@@ -106,8 +106,8 @@ impl<T: Drop> MonitorData for Buffer<T> {
 }
 
 impl<T: Drop> Buffer<T> {
-    /// A buffer of 1 to 4096 cells with no item. Refused: `BadSize` exactly where `n` is out of range, and else
-    /// `Memory` where the cells can't be had. No procedure takes memory.
+    /// Creates a buffer of `n` cells, 1 to 4096, with no item. Refused with `BadSize` exactly if `n` is out of range;
+    /// else with `Memory` if the allocation fails. No procedure of the buffer allocates.
     pub fn make(alloc: Global, n: usize) -> Result<Buffer<T>, BufferRefused>
         ensures made { Makes n result }
         ensures rest { IfOk result (λ b. BufferRests b (nobody 0) (nobody 1)) }
@@ -125,7 +125,8 @@ impl<T: Drop> Buffer<T> {
         })
     }
 
-    /// Puts an item in, once there is room, and resumes a process that waits for one.
+    /// Puts `item` in as the newest, once there is room, and leaves by a signal on *nonempty*, which resumes a waiter
+    /// if there is one. The caller waits on *nonfull*, once, if it finds the buffer full.
     pub fn append<R: Wait, M: Monitor<Buffer<T>>>(m: &M, rt: &R, out: M::Out, item: T) -> M::Out
         requires { M.is_of m.now out }
         ensures of { M.is_of m.now result }
@@ -141,7 +142,8 @@ impl<T: Drop> Buffer<T> {
         out
     }
 
-    /// Takes the oldest item out, once there is one, and resumes a process that waits for room.
+    /// Takes the oldest item out, once there is one, and returns it. Leaves by a signal on *nonfull*, which resumes a
+    /// waiter if there is one. The caller waits on *nonempty*, once, if it finds the buffer empty.
     pub fn remove<R: Wait, M: Monitor<Buffer<T>>>(m: &M, rt: &R, out: M::Out) -> (M::Out, T)
         requires { M.is_of m.now out }
         ensures of { M.is_of m.now result.0 }

@@ -11,11 +11,12 @@ use std::marker::Model;
 use std::sync::Wait;
 use std::{error, fmt};
 
-/// The condition *nonbusy* of a `Single`: who waits there waits for the item.
+/// The condition *nonbusy* of a `Single`: a process waits on it until the item is in.
 pub const NONBUSY: usize = 0;
 
-/// A single item that one process at a time has out ("Monitors", Introduction: the single resource scheduler).
-/// Condition 0 is *nonbusy* (`NONBUSY`); busy means that the item is out.
+/// A single item that one process at a time takes out (Hoare 1974, Introduction: the single resource scheduler).
+/// Condition 0 is *nonbusy* (`NONBUSY`); busy means that the item is out. To a contract a `Single` is an `Option` of
+/// its item.
 ///
 /// With a monitor `m` of `Single::with(7u64)`, and `out`, a place of it:
 ///
@@ -37,10 +38,10 @@ impl<T> Model for Single<T> {
     ghost view = { λ s. s.item };
 }
 
-/// The item is in, so none can be put in. What was handed in comes back.
+/// Why `release` is refused: an item is in, so none can be put in. It has the given item.
 #[derive(Debug, Drop)]
 pub struct NotOut<T> {
-    /// What was handed in.
+    /// The item that was given to `release`.
     pub item: T,
 }
 
@@ -84,7 +85,7 @@ impl<T: Drop> MonitorData for Single<T> {
 }
 
 impl<T: Drop> Single<T> {
-    /// A single with this item in.
+    /// Creates a single with `item` in.
     pub fn with(item: T) -> Single<T>
         ensures item { result ≡ Some item }
         ensures rest { SingleRests result (nobody 0) }
@@ -92,7 +93,7 @@ impl<T: Drop> Single<T> {
         Single { item: Some(item) }
     }
 
-    /// The item, if it is in.
+    /// Returns the item if it is in, else `None`.
     pub fn into_item(self) -> Option<T>
         ensures { result ≡ self }
     {
@@ -100,14 +101,14 @@ impl<T: Drop> Single<T> {
         item
     }
 
-    // Whether the item is in.
+    // Returns true if the item is in.
     fn is_in(&self) -> bool
         ensures { IsTrue result ↔ IsSome self.now }
     {
         self.item.is_some()
     }
 
-    // Takes the item out.
+    // Takes the item out. Returns `None` if it is out.
     fn take(&mut self) -> Option<T>
         ensures value { result ≡ self.old }
         ensures after { self.new ≡ None }
@@ -115,14 +116,15 @@ impl<T: Drop> Single<T> {
         self.item.take()
     }
 
-    // Puts an item in.
+    // Puts `item` in.
     fn put(&mut self, item: T)
         ensures { self.new ≡ Some item }
     {
         self.item = Some(item);
     }
 
-    /// Takes the item out, once it is in.
+    /// Takes the item out, once it is in, and returns it. The caller waits on *nonbusy*, once, if it finds the item
+    /// out.
     pub fn acquire<R: Wait, M: Monitor<Single<T>>>(m: &M, rt: &R, out: M::Out) -> (M::Out, T)
         requires { M.is_of m.now out }
         ensures of { M.is_of m.now result.0 }
@@ -139,8 +141,9 @@ impl<T: Drop> Single<T> {
         }
     }
 
-    /// Puts an item in and resumes a process that waits for it. Refused exactly where an item is in: then nothing
-    /// changed and the handed item comes back. (An item isn't bound to its monitor: any may be put in.)
+    /// Puts `item` in, and leaves by a signal on *nonbusy*, which resumes a waiter if there is one. Refused with
+    /// `NotOut` exactly if an item is in: then nothing changed, and the given item is returned. (An item isn't bound to
+    /// its monitor: any item of the type may be put in.)
     pub fn release<R: Wait, M: Monitor<Single<T>>>(
         m: &M,
         rt: &R,

@@ -12,8 +12,9 @@ use std::alloc::Global;
 use std::marker::Model;
 use std::sync::Wait;
 
-/// A bounded buffer whose two conditions, numbered as those of `Buffer`, are Mesa conditions: who waited tests again,
-/// and whoever puts an item in or takes one out calls one process and goes on.
+/// A bounded buffer whose two conditions, numbered as those of `Buffer`, are Mesa conditions. A process that waited
+/// tests again when it resumes. A process that puts an item in or takes an item out notifies one waiter, and then
+/// leaves.
 #[derive(Drop)]
 pub struct MesaBuffer<T> {
     buffer: Buffer<T>,
@@ -45,7 +46,7 @@ impl<T: Drop> MonitorData for MesaBuffer<T> {
     ghost ready = { λ c p b q. BufferHolds b };
 
     fn rest_holds<W: Waits>(&self, _lists: &W) -> bool {
-        let _len = self.buffer.len(); // what always holds of a buffer
+        let _len = self.buffer.len(); // the test of what always holds of a buffer
         true
     }
 
@@ -60,7 +61,8 @@ impl<T: Drop> MonitorData for MesaBuffer<T> {
 }
 
 impl<T: Drop> MesaBuffer<T> {
-    /// A buffer of 1 to 4096 cells with no item. Refused as `Buffer::make` does. No procedure takes memory.
+    /// Creates a buffer of `n` cells, 1 to 4096, with no item. Refused with `BadSize` exactly if `n` is out of range;
+    /// else with `Memory` if the allocation fails. No procedure of the buffer allocates.
     pub fn make(alloc: Global, n: usize) -> Result<MesaBuffer<T>, BufferRefused>
         ensures made { Makes n result }
         ensures rest { IfOk result BufferHolds }
@@ -71,21 +73,21 @@ impl<T: Drop> MesaBuffer<T> {
         }
     }
 
-    // Whether no item is in.
+    // Returns true if the buffer has no item.
     fn is_empty(&self) -> bool
         ensures { IsTrue result ↔ (length self.now.items ≡ 0) }
     {
         self.buffer.is_empty()
     }
 
-    // Whether no cell is free.
+    // Returns true if no cell is free.
     fn is_full(&self) -> bool
         ensures { IsTrue result ↔ (length self.now.items ≡ self.now.size) }
     {
         self.buffer.is_full()
     }
 
-    // Puts an item in, as the newest.
+    // Puts `item` in as the newest.
     fn push(&mut self, item: T)
         requires room { length self.old.items < self.old.size }
         ensures items { self.new ≡ added self.old item }
@@ -95,7 +97,7 @@ impl<T: Drop> MesaBuffer<T> {
         let _len = self.buffer.len();
     }
 
-    // Takes the oldest item out.
+    // Takes the oldest item out and returns it.
     fn pop(&mut self) -> T
         requires some { 0 < length self.old.items }
         ensures items { self.old.items ≡ result ∷ self.new.items }
@@ -107,7 +109,8 @@ impl<T: Drop> MesaBuffer<T> {
         item
     }
 
-    // Whether what is in holds up who waits on the condition.
+    // Returns true if a process for which `condition` is meant has to wait: on *nonempty* if there is no item, on
+    // *nonfull* if there is no room.
     fn holds_up(&self, condition: usize) -> bool
         ensures { IsTrue result ↔ HoldsUp condition self.now }
     {
@@ -117,8 +120,8 @@ impl<T: Drop> MesaBuffer<T> {
         self.is_full()
     }
 
-    // Waits on the condition as often as what is found holds it up.
-    #[inline(never)] // apart, so that who needn't wait has a short way
+    // Waits on `condition`, and again each time the process resumes and finds that it has to wait.
+    #[inline(never)] // apart, so that the path without a wait stays short
     fn wait_on<R: Wait, M: Monitor<MesaBuffer<T>>>(
         m: &M,
         rt: &R,
@@ -146,7 +149,8 @@ impl<T: Drop> MesaBuffer<T> {
         unreachable!()
     }
 
-    /// Puts an item in, once there is room, and calls a process that waits for one.
+    /// Puts `item` in as the newest, once there is room, notifies one waiter on *nonempty*, if there is one, and
+    /// leaves. The caller waits on *nonfull* each time it finds the buffer full.
     pub fn append<R: Wait, M: Monitor<MesaBuffer<T>>>(m: &M, rt: &R, out: M::Out, item: T) -> M::Out
         requires { M.is_of m.now out }
         ensures of { M.is_of m.now result }
@@ -162,7 +166,8 @@ impl<T: Drop> MesaBuffer<T> {
         m.leave(rt, inside)
     }
 
-    /// Takes the oldest item out, once there is one, and calls a process that waits for room.
+    /// Takes the oldest item out, once there is one, notifies one waiter on *nonfull*, if there is one, leaves, and
+    /// returns the item. The caller waits on *nonempty* each time it finds the buffer empty.
     pub fn remove<R: Wait, M: Monitor<MesaBuffer<T>>>(m: &M, rt: &R, out: M::Out) -> (M::Out, T)
         requires { M.is_of m.now out }
         ensures of { M.is_of m.now result.0 }

@@ -5,7 +5,7 @@ ghost use Rattle.plain_schedulers.specs.Buffers.{BufferHolds, added};
 use super::Buffer;
 use std::alloc::{AllocError, Global};
 
-// Cells with no item.
+// Creates `n` cells without an item.
 pub(super) fn empty_cells<T: Drop>(alloc: Global, n: usize) -> Result<Vec<Option<T>>, AllocError>
     ensures { IfOk result (λ cells. cells.items ≡ replicate n None) }
 {
@@ -16,7 +16,8 @@ pub(super) fn empty_cells<T: Drop>(alloc: Global, n: usize) -> Result<Vec<Option
     Ok(cells)
 }
 
-// The cell that is so many from the first one on, around the end once at most.
+// Returns the index of the cell at `cell`, counted around the end of the `size` cells at most once: `cell` modulo
+// `size`.
 #[inline]
 fn around(cell: usize, size: usize) -> usize
     requires once { cell < size + size }
@@ -26,7 +27,7 @@ fn around(cell: usize, size: usize) -> usize
 }
 
 impl<T: Drop> Buffer<T> {
-    // How many items are in.
+    // Returns the number of items.
     pub(super) fn len(&self) -> usize
         ensures told { result ≡ length self.now.items }
         ensures holds { BufferHolds self.now }
@@ -34,28 +35,28 @@ impl<T: Drop> Buffer<T> {
         self.count
     }
 
-    // How many cells there are.
+    // Returns the number of cells.
     pub(super) fn size(&self) -> usize
         ensures { result ≡ self.now.size }
     {
         self.cells.len()
     }
 
-    // Whether no item is in.
+    // Returns true if the buffer has no item.
     pub(super) fn is_empty(&self) -> bool
         ensures { IsTrue result ↔ (length self.now.items ≡ 0) }
     {
         self.len() == 0
     }
 
-    // Whether no cell is free.
+    // Returns true if no cell is free.
     pub(super) fn is_full(&self) -> bool
         ensures { IsTrue result ↔ (length self.now.items ≡ self.now.size) }
     {
         self.len() == self.size()
     }
 
-    // Puts an item in, as the newest.
+    // Puts `item` in as the newest.
     pub(super) fn push(&mut self, item: T)
         requires { length self.old.items < self.old.size }
         ensures { self.new ≡ added self.old item }
@@ -65,7 +66,7 @@ impl<T: Drop> Buffer<T> {
         self.count += 1;
     }
 
-    // Takes the oldest item out.
+    // Takes the oldest item out and returns it.
     pub(super) fn pop(&mut self) -> T
         requires { 0 < length self.old.items }
         ensures items { self.old.items ≡ result ∷ self.new.items }

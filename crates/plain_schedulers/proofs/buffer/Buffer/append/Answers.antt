@@ -8,7 +8,7 @@ use Rattle.plain_schedulers.proofs.buffer.Buffer.append.Given.{Over}
 use Rattle.plain_schedulers.proofs.buffer.Buffer.append.Goals as goal
 use Rattle.plain_schedulers.proofs.buffer.Buffer.append.Goals.{After-state_mut, then-is_full, else-is_full}
 
--- it came in and, after a wait or without one, finds room
+-- the process entered and, after a wait or without one, finds room
 came : (g : Over) (c : After-state_mut g)
     → Came g.M.Monitor c.args.m.now c.args.out (λ _ a. length a.items ≡ a.size) (λ _. 1) (λ _. 0)
     (λ b q. ReadyNonfull b (q 0) (q 1)) c.if-is_full.inside

@@ -8,7 +8,7 @@ use Rattle.plain_schedulers.proofs.buffer.Buffer.remove.Given.{Over}
 use Rattle.plain_schedulers.proofs.buffer.Buffer.remove.Goals as goal
 use Rattle.plain_schedulers.proofs.buffer.Buffer.remove.Goals.{After-state_mut, then-is_empty, else-is_empty}
 
--- it came in and, after a wait or without one, finds an item
+-- the process entered and, after a wait or without one, finds an item
 came : (g : Over) (c : After-state_mut g)
     → Came g.M.Monitor c.args.m.now c.args.out (λ _ a. length a.items ≡ 0) (λ _. 0) (λ _. 0)
     (λ b q. ReadyNonempty b (q 0) (q 1)) c.if-is_empty.inside

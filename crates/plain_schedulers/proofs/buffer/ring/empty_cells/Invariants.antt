@@ -1,6 +1,6 @@
 use Rattle.std.proofs.Common.{◌≡◌, replicate, None}
 use Rattle.plain_schedulers.proofs.buffer.ring.empty_cells.Given as goal
 
--- as many empty cells as were counted
+-- there are as many empty cells as the loop counted
 abbrev pub invariant-loop : goal.invariant-loop
 invariant-loop g l = l.cells.items ≡ replicate l.counter None

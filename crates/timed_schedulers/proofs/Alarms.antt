@@ -1,4 +1,4 @@
--- The rounds of a process that waits for its setting, and whom its signal resumes.
+-- The rounds of a process that waits for its setting, and which process its signal resumes.
 use Rattle.std.proofs.Common.{◌≡◌, ◌≢◌, ℕ, ◌+◌, ◌^◌, ◌<◌, ◌≤◌, List, [], ◌⊎◌, ⊎_elim, Ok, Bool, ◌∙◌, arith}
 use Rattle.std.specs.Prelude.{All, slice_index}
 use Rattle.std.specs.List.Sorted.{IsNonDecreasing}
@@ -13,13 +13,13 @@ use Rattle.hoare_law.proofs.Sorted.{All-put_in, All-behind_first}
 use Rattle.timed_schedulers.specs.AlarmTraces.{Rounds, none, more, Wakes, woke}
 use Rattle.timed_schedulers.specs.Alarms.{AlarmReady}
 
--- k came in at the time a, waited for its setting as often as it found an earlier time, and finds this one
+-- k entered at the time a, waited for its setting each time it found an earlier time, and finds the time `now`
 pub record Waited (k setting a : ℕ) (f g : History ℕ) (now : ℕ) : Type 0 where
   pub front : History ℕ
   pub enters : AddsLast f (Admit k a) front
   pub rounds : Rounds k setting front a g now
 
--- the time is no later than the setting; who waits is due later than the time, or no earlier than the setting
+-- the time is no later than the setting; each waiter is due later than the time, or no earlier than the setting
 pub record Early (setting now : ℕ) (q : List ℕ) : Type 0 where
   pub due : now ≤ setting
   pub others : All (λ r. now < r) q ⊎ All (λ r. setting ≤ r) q
@@ -36,13 +36,13 @@ Waited-more {now = now} {found = found} {g = g} {h = h} w early waits place stat
   rounds = more g h found now w.rounds early (rw (place, state, front) at waits);
 }
 
--- before the setting, who waits is due later than the time, and so is the setting
+-- before the setting, each waiter is due later than the time, and so is the setting
 pub Early-before : {setting now : ℕ} {q : List ℕ} → Early setting now q → now < setting
     → All (λ r. now < r) (put_in (λ n. n) setting q)
 Early-before {setting = setting} {now = now} {q = q} e before = All-put_in (λ r. now < r) setting q before
     (⊎_elim (λ all. all) (λ all. All-weaker (λ r. setting ≤ r) (λ r. now < r) (λ x l. omega arith) q all) e.others)
 
--- before the setting nobody is due, and from it on no one who waits is overdue
+-- no waiter is overdue: before the setting none is due, and at the setting each is due then or later
 pub Early-after : {setting now : ℕ} {q : List ℕ} → Early setting now q → All (λ r. now ≤ r) q
 Early-after {setting = setting} {now = now} {q = q} e =
     let due : now ≤ setting = e.due in
@@ -51,7 +51,7 @@ Early-after {setting = setting} {now = now} {q = q} e =
     (λ all. All-weaker (λ r. setting ≤ r) (λ r. now ≤ r) (λ x l. omega arith) q all)
     e.others
 
--- where nobody who waits is overdue, the first is due no later than the others
+-- if no waiter is overdue, the first is due no later than the others
 pub AlarmReady-first : {now now1 : ℕ} {q q1 : List ℕ} → IsNonDecreasing q → All (λ r. now ≤ r) q → now1 ≡ now → q1 ≡ q
     → q1 ≢ []
     → AlarmReady (slice_index q1 0) now1 (behind_first q1)
@@ -59,7 +59,7 @@ AlarmReady-first {now = now} {q = q} rises all time same some =
     let waits : q ≢ [] = λ none. some (same ∙ none) in
     rw (time, same) (record { due = all 0 0 (length-some q waits); first = All-behind_first q rises waits })
 
--- at its setting it signals and leaves
+-- at its setting k signals and leaves
 pub woken : {k k1 n a setting found answer s : ℕ} {f g g1 h : History ℕ} {b : Bool} → Waited k setting a f g found
     → setting ≡ a + n → found ≡ setting
     → answer ≡ found → setting < 2 ^ 64 → Exits k1 0 s g1 h b → k1 ≡ k → s ≡ found → g1 ≡ g → Wakes k n f h (Ok answer)

@@ -1,4 +1,4 @@
--- How a pool is kept after a buffer's owner changed, and which free buffer is the least.
+-- How a pool is kept after a buffer's owner changed, and which free buffer is the least-numbered.
 use Rattle.std.proofs.Common.{◌≡◌, ◌≢◌, ◌==◌, ℕ, suc, ◌+◌, ◌<◌, ◌≤◌, Bool, true, false, not, cond, List, [], ◌∷◌}
 use Rattle.std.proofs.Common.{length, get_or, set, Option, Some, None, inl, inr, refl, sym, ap, subst, ◌∙◌, arith}
 use Rattle.std.specs.Prelude.{IfSome, is_none, All}
@@ -13,7 +13,7 @@ use Rattle.timed_schedulers.specs.Pools.{is_own}
 use Rattle.timed_schedulers.proofs.Pools.{one_if, count_by-set}
 use Rattle.timed_schedulers.specs.Marks.{mark_of, owned, IsKept}
 
--- where some elements pass, the first that does is in the list
+-- if some elements pass, the first that passes is in the list
 some_passes : {X : Type 0} (p : X → Bool) (xs : List X) → 0 < count_by p xs → position_or_len p xs < length xs
 some_passes p [] some = absurd (omega arith)
 some_passes p (x ∷ xs) some =
@@ -38,7 +38,7 @@ free_first owners {b = b} first =
     let there = position-Some is_none owners b None first in
     (there.0, is_none-None _ there.1)
 
--- where a buffer is free, the least number with no mark is that of the first free one
+-- if a buffer is free, the least number with no mark is that of the first free buffer
 pub first_unmarked : {owners : List (Option ℕ)} {counts words read : List ℕ} {free b : ℕ}
     → IsKept owners counts free words → 0 < count_by is_none owners
     → read ≡ words → mark_of read b ≡ 0 → ((i : ℕ) → i < b → mark_of read i ≡ 1) → position is_none owners ≡ Some b
@@ -63,7 +63,7 @@ pub IsKept-few : {owners : List (Option ℕ)} {counts words : List ℕ} {free : 
 IsKept-few {owners = owners} s kept =
     omega (arith, kept.counted s, kept.size.most_buffers, count_by-le-length (is_own s) owners)
 
--- kept after the owner of b became another, where the counts and the marks followed
+-- the pool is kept after b got another owner, if the counts and the marks were changed accordingly
 IsKept-set : {owners : List (Option ℕ)} {counts words counts1 words1 : List ℕ} {free free1 b : ℕ} (old new : Option ℕ)
     → IsKept owners counts free words
     → b < length owners → get_or owners b None ≡ old → IfSome new (λ s. s < length counts)
@@ -89,7 +89,7 @@ IsKept-set {owners = owners} {counts = counts} {words = words} {counts1 = counts
       ];
     }
 
--- one more is counted at s
+-- the count of s is one more
 counts-more : (counts : List ℕ) (s : ℕ) → s < length counts → (t : ℕ)
     → get_or (set counts s (get_or counts s 0 + 1)) t 0 + 0 ≡ get_or counts t 0 + cond (s == t) 1 0
 counts-more counts s within t = elim (cases_eq t s) [
@@ -97,7 +97,7 @@ counts-more counts s within t = elim (cases_eq t s) [
   | inr apart ↦ rw (ne_eqb s t (λ e. apart (sym e)), get_or-set_other counts s t (get_or counts s 0 + 1) 0 apart) refl
 ]
 
--- one fewer is counted at s
+-- the count of s is one less
 counts-less : (counts : List ℕ) (s n : ℕ) → s < length counts → get_or counts s 0 ≡ n + 1 → (t : ℕ)
     → get_or (set counts s n) t 0 + cond (s == t) 1 0 ≡ get_or counts t 0 + 0
 counts-less counts s n within some t = elim (cases_eq t s) [

@@ -1,4 +1,4 @@
--- The marks in words, after a write of one word, and the least number that has none.
+-- The marks in words after a write of one word, and the least number without a mark.
 use Rattle.std.proofs.Common.{◌≡◌, ◌≢◌, ℕ, ◌+◌, ◌-◌, ◌*◌, ◌/◌, ◌%◌, ◌^◌, ◌<◌, List, length, get_or, set, inl, inr, refl}
 use Rattle.std.proofs.Common.{◌∙◌, arith}
 use Rattle.std.specs.Int.{bit_at}
@@ -22,14 +22,14 @@ mark_of-set_other words i j x within other kept = elim (cases_eq (j / 64) (i / 6
   | inr apart ↦ rw (get_or-set_other words (i / 64) (j / 64) x 0 apart) refl
 ]
 
--- what is at place t of word j is the mark of 64 * j + t
+-- bit t of word j is the mark of 64 * j + t
 pub mark_of-at : (words : List ℕ) (j t : ℕ) → t < 64 → mark_of words (64 * j + t) ≡ bit_at (get_or words j 0) t
 mark_of-at words j t small =
     let word : (64 * j + t) / 64 ≡ j = omega arith in
     let place : (64 * j + t) % 64 ≡ t = omega arith in
     rw (word, place) refl
 
--- marks at all places of words before j, and below t in word j
+-- all numbers are marked in the words before j, and in word j below bit t
 pub marked_below : (words : List ℕ) (j t : ℕ) → t < 65 → ((i : ℕ) → i < 64 * j → mark_of words i ≡ 1)
     → ((k : ℕ) → k < t → bit_at (get_or words j 0) k ≡ 1)
     → (i : ℕ) → i < 64 * j + t → mark_of words i ≡ 1
@@ -41,7 +41,7 @@ marked_below words j t small before here i below = elim (cases_lt i (64 * j)) [
       rw is (mark_of-at words j k (omega arith) ∙ here k (omega arith))
 ]
 
--- marks at all places of one more word, all of whose bits are set
+-- all numbers of one more word are marked, if all its bits are set
 pub marked_more : (words : List ℕ) (j : ℕ) → get_or words j 0 ≡ 2 ^ 64 - 1
     → ((i : ℕ) → i < 64 * j → mark_of words i ≡ 1) → (i : ℕ) → i < 64 * (j + 1) → mark_of words i ≡ 1
 marked_more words j full before i below =

@@ -1,4 +1,4 @@
--- What holds of a pool after a buffer was taken or became free, and what a stream found that took one.
+-- What holds of a pool after a buffer was taken or became free, and what a stream that took a buffer found.
 use Rattle.std.proofs.Common.{◌≡◌, ◌≢◌, ℕ, ◌+◌, ◌<◌, ◌≤◌, Bool, true, false, cond, List, [], length, get_or, set}
 use Rattle.std.proofs.Common.{Option, Some, None, Err, ◌∙◌, arith}
 use Rattle.std.specs.Prelude.{IfSome, is_none, ◌↔◌}
@@ -16,11 +16,11 @@ use Rattle.timed_schedulers.specs.Pools.{Pooled, PoolHolds, PoolRests, PoolReady
 use Rattle.timed_schedulers.specs.PoolTraces.{Takes, late}
 use Rattle.timed_schedulers.specs.declared.pool.NoStream.{NoStream}
 
--- 1 where the test passes
+-- 1 if the test passes
 abbrev pub one_if : {X : Type 0} → (X → Bool) → X → ℕ
 one_if p x = cond (p x) 1 0
 
--- how many pass once the owner of b is another
+-- the number of owners that pass after b got another owner
 pub count_by-set : (p : Option ℕ → Bool) (owners : List (Option ℕ)) (b : ℕ) (old new : Option ℕ) → b < length owners
     → get_or owners b None ≡ old
     → count_by p (set owners b new) + one_if p old ≡ count_by p owners + one_if p new
@@ -33,7 +33,7 @@ PoolHolds-with_owner p b owner holds stream = record {
   owners = All-set (λ o. IfSome o (λ s. s < p.streams)) p.owners b owner stream holds.owners;
 }
 
--- once a buffer became free, who is resumed finds one, and it is the only one
+-- after a buffer became free, the resumed process finds it, and it is the only free buffer
 pub PoolReady-freed : {p p1 : Pooled} {q q1 : List ℕ} {b s : ℕ} → PoolRests p q → b < length p.owners
     → get_or p.owners b None ≡ Some s → p1 ≡ with_owner p b None → q1 ≡ q
     → q1 ≢ [] → PoolReady p1 (behind_first q1)
@@ -46,12 +46,12 @@ PoolReady-freed {p = p} {b = b} {s = s} rests within is freed waits some =
       others = λ others. omega (arith, more, rests.nonfree (λ none. some (waits ∙ none)));
     })
 
--- where a buffer is free nobody waits
+-- if a buffer is free, no process waits
 pub PoolReady-idle : {p : Pooled} {q : List ℕ} → PoolRests p q → free_count p ≢ 0 → PoolReady p q
 PoolReady-idle rests some =
     record { inv = rests.inv; some = omega arith; others = λ waits. absurd (some (rests.nonfree waits)) }
 
--- once a free buffer was taken, rest holds
+-- after a free buffer was taken, rest holds
 pub PoolRests-taken : {p p1 : Pooled} {q q1 : List ℕ} {b s : ℕ} → PoolReady p q → s < p.streams
     → position is_none p.owners ≡ Some b → p1 ≡ with_owner p b (Some s) → q1 ≡ q → PoolRests p1 q1
 PoolRests-taken {p = p} {b = b} {s = s} ready stream first taken waits =
@@ -68,7 +68,7 @@ pub no_stream : {b : Bool} {s : ℕ} {p a : Pooled} → ((b ≡ true) ↔ (s < p
 no_stream {s = s} {p = p} tells not same =
     let none : p.streams ≤ s = omega (arith, iff_false tells not) in rw same at none
 
--- it waited, and then found that its stream is none
+-- k waited, and then found that its stream is none of the pool's
 pub Takes-late : {k k1 s n : ℕ} {a a1 found : Pooled} {f d d1 g h : History Pooled} {e : NoStream}
     → AddsLast f (Admit k a) d → s < a.streams → free_count a ≡ 0
     → AddsTwo d1 (Wait k1 0 n a1) (Resume k1 0 found) g → k1 ≡ k → a1 ≡ a → d1 ≡ d → n ≡ held s a → found.streams ≤ s

@@ -13,9 +13,9 @@ use Rattle.timed_schedulers.specs.declared.pool.GiveRefused.{GiveRefused}
 abbrev pub MustWait : ℕ → History Pooled → Pooled → Type 0
 MustWait s _ a = (s < a.streams) × (free_count a ≡ 0)
 
--- k took the least-numbered free buffer for s, after a wait on nonfree, with as many as s held, where none was free. Or
--- it was refused, for s is no stream: at once, or late, after a wait in which another pool took this one's place; then
--- it resumed a process that waits on nonfree
+-- k took the least-numbered free buffer for s; before that, if no buffer was free, it waited on nonfree, once, with the
+-- number of buffers that s held as its priority. Or k was refused, since s is no stream: at once, or late, after a wait
+-- during which another pool took this one's place; then k signalled on nonfree as its last act
 pub data Takes (k s : ℕ) (f h : History Pooled) : Result ℕ NoStream → Type 0 where
   refused : (a : Pooled) (g : History Pooled) (e : NoStream) → AddsLast f (Admit k a) g → a.streams ≤ s
       → h ≡ with_event g (Leave k a) → Takes k s f h (Err e)
@@ -27,7 +27,7 @@ pub data Takes (k s : ℕ) (f h : History Pooled) : Result ℕ NoStream → Type
       → AddsTwo d (Wait k 0 (held s a) a) (Resume k 0 found) g → found.streams ≤ s → Finishes k 0 found g h
       → Takes k s f h (Err e)
 
--- k was refused, or made buffer b free that s held, and resumed a process that waits on nonfree
+-- k was refused; or it freed buffer b, which s held, and signalled on nonfree as its last act
 pub data Gives (k s b : ℕ) (f h : History Pooled) : Result (Unit {0}) GiveRefused → Type 0 where
   refused : (a : Pooled) (g : History Pooled) (e : GiveRefused) → AddsLast f (Admit k a) g → Judges s b a (Err e)
       → h ≡ with_event g (Leave k a) → Gives k s b f h (Err e)

@@ -7,7 +7,7 @@ use Rattle.timed_schedulers.specs.declared.pool.PoolRefused.TheVariants as refus
 use Rattle.timed_schedulers.specs.declared.pool.GiveRefused.{GiveRefused}
 use Rattle.timed_schedulers.specs.declared.pool.GiveRefused.TheVariants as give
 
--- how many streams there are, and each buffer's owner: none where the buffer is free
+-- the number of streams, and the owner of each buffer: none if the buffer is free
 pub record Pooled : Type 0 where
   pub streams : ℕ
   pub owners : List (Option ℕ)
@@ -16,7 +16,7 @@ pub record Pooled : Type 0 where
 abbrev pub all_free : ℕ → ℕ → Pooled
 all_free buffers streams = record { streams = streams; owners = replicate buffers None }
 
--- the same pool, but for the owner of b
+-- the same pool, with another owner of b
 abbrev pub with_owner : Pooled → ℕ → Option ℕ → Pooled
 with_owner p b owner = record { streams = p.streams; owners = slice_set p.owners b owner }
 
@@ -25,11 +25,11 @@ abbrev pub is_own : ℕ → Option ℕ → Bool
 is_own s None = false
 is_own s (Some t) = t == s
 
--- how many buffers s holds
+-- the number of buffers that s holds
 abbrev pub held : ℕ → Pooled → ℕ
 held s p = count_by (is_own s) p.owners
 
--- how many buffers are free
+-- the number of free buffers
 abbrev pub free_count : Pooled → ℕ
 free_count p = count_by is_none p.owners
 
@@ -40,29 +40,29 @@ pub record IsSize (buffers streams : ℕ) : Type 0 where
   pub some_stream : 1 ≤ streams
   pub most_streams : streams ≤ 256
 
--- what always holds: 1 to 1024 buffers, 1 to 256 streams, and each owner is a stream
+-- what always holds: there are 1 to 1024 buffers and 1 to 256 streams, and each owner is a stream
 pub record PoolHolds (p : Pooled) : Type 0 where
   pub size : IsSize (length p.owners) p.streams
   pub owners : All (λ owner. IfSome owner (λ s. s < p.streams)) p.owners
 
--- if somebody waits, no buffer is free
+-- if a process waits, no buffer is free
 pub record PoolRests (p : Pooled) (waiting : List ℕ) : Type 0 where
   pub inv : PoolHolds p
   pub nonfree : waiting ≢ [] → free_count p ≡ 0
 
--- who is resumed finds a free buffer, and rest will hold again once it is taken
+-- the resumed process finds a free buffer, and rest will hold again after it takes that buffer
 pub record PoolReady (p : Pooled) (waiting : List ℕ) : Type 0 where
   pub inv : PoolHolds p
   pub some : 0 < free_count p
   pub others : waiting ≢ [] → free_count p ≡ 1
 
--- the answers to a request for a pool
+-- the results of a request for a pool
 pub data Makes (buffers streams : ℕ) : Result Pooled PoolRefused → Type 0 where
   bad_size : (IsSize buffers streams → ⊥) → Makes buffers streams (Err refused.BadSize)
   no_memory : IsSize buffers streams → Makes buffers streams (Err refused.Memory)
   made : IsSize buffers streams → Makes buffers streams (Ok (all_free buffers streams))
 
--- the answers to stream s, which gives buffer b back
+-- the results for stream s, which gives buffer b back
 pub data Judges (s b : ℕ) (p : Pooled) : Result (Unit {0}) GiveRefused → Type 0 where
   no_stream : p.streams ≤ s → Judges s b p (Err give.NoStream)
   no_buffer : s < p.streams → length p.owners ≤ b → Judges s b p (Err give.NoBuffer)

@@ -14,32 +14,32 @@ use std::alloc::Global;
 use std::marker::Model;
 use std::sync::Wait;
 
-/// The most buffers that a pool has.
+/// The largest number of buffers of a pool.
 pub const MOST_BUFFERS: u32 = 1024;
 
-/// The most streams that a pool has.
+/// The largest number of streams of a pool.
 pub const MOST_STREAMS: u32 = 256;
 
-/// The condition *nonfree* of a `Pool`: a stream that waits there waits for a free buffer.
+/// The condition *nonfree* of a `Pool`: a stream waits on it for a free buffer.
 pub const NONFREE: usize = 0;
 
-/// Why no pool was made.
+/// Why no pool was created.
 #[derive(Clone, Copy, Debug, PartialEq, Eq, thiserror::Error)]
 pub enum PoolRefused {
-    /// The number of buffers isn't 1 to 1024, or that of streams isn't 1 to 256.
+    /// The number of buffers isn't 1 to 1024, or the number of streams isn't 1 to 256.
     #[error("a pool has 1 to 1024 buffers and 1 to 256 streams")]
     BadSize,
-    /// Both numbers are in range, and the entries can't be had.
+    /// Both numbers are in range, but an allocation failed.
     #[error("out of memory")]
     Memory,
 }
 
-/// The number isn't that of a stream.
+/// Why `take` is refused: the pool has no stream of this number.
 #[derive(Clone, Copy, Debug, PartialEq, Eq, thiserror::Error)]
 #[error("no such stream")]
 pub struct NoStream;
 
-/// Why no buffer became free, the first of these that applies.
+/// Why `give` is refused: the first reason that applies, in this order.
 #[derive(Clone, Copy, Debug, PartialEq, Eq, thiserror::Error)]
 pub enum GiveRefused {
     /// The pool has no stream of this number.
@@ -48,15 +48,15 @@ pub enum GiveRefused {
     /// The pool has no buffer of this number.
     #[error("no such buffer")]
     NoBuffer,
-    /// The buffer is free, or another stream's.
+    /// The buffer is free, or another stream holds it.
     #[error("the stream doesn't hold the buffer")]
     NotHeld,
 }
 
-/// Buffers that streams of work share ("Monitors", Further Examples: Buffer Allocation; the details are this
-/// project's). Condition 0 is *nonfree* (`NONFREE`); a stream waits there with the number of buffers that it holds as
-/// its priority, so that who holds the fewest goes on first. The pool keeps which buffers are whose, and not the
-/// buffers.
+/// Buffers that streams of work share (Hoare 1974, Further Examples: Buffer Allocation; the details are this
+/// project's). Condition 0 is *nonfree* (`NONFREE`); a stream waits on it with the number of buffers that it holds as
+/// its priority, so that the waiter with the fewest resumes first. The pool records the owner of each buffer; it
+/// doesn't contain the buffers.
 ///
 /// With a monitor `m` of `Pool::make(alloc, 2, 3)?`, and `out`, a place of it:
 ///
@@ -118,8 +118,9 @@ impl MonitorData for Pool {
 }
 
 impl Pool {
-    /// A pool of 1 to 1024 buffers, all free, for 1 to 256 streams. Refused: `BadSize` exactly where a number is out of
-    /// range, and else `Memory` where the entries can't be had. No procedure takes memory.
+    /// Creates a pool of `buffers` buffers, 1 to 1024, all free, for `streams` streams, 1 to 256. Refused with
+    /// `BadSize` exactly if a number is out of range; else with `Memory` if an allocation fails. No procedure of the
+    /// pool allocates.
     pub fn make(alloc: Global, buffers: u32, streams: u32) -> Result<Pool, PoolRefused>
         ensures made { Makes buffers streams result }
         ensures rest { IfOk result (λ p. PoolRests p (nobody 0)) }
@@ -133,7 +134,7 @@ impl Pool {
         }
     }
 
-    // Whether the stream may give the buffer back.
+    // Returns `Ok` if `stream` may give `buffer` back, else the first reason why it may not.
     fn judge(&self, stream: u32, buffer: u32) -> Result<(), GiveRefused>
         ensures { Judges stream buffer self.now result }
     {
@@ -148,9 +149,10 @@ impl Pool {
         }
     }
 
-    /// Takes the least-numbered free buffer for the stream, once one is free, and answers its number. Refused exactly
-    /// where the number isn't that of a stream: at once, or after a wait, where meanwhile another pool was put in this
-    /// one's place; then the monitor is handed on.
+    /// Takes the least-numbered free buffer for `stream`, once a buffer is free, and returns its number. The caller
+    /// waits on *nonfree*, once, if it finds no free buffer. Refused with `NoStream` exactly if the pool has no stream
+    /// of this number: at once, or after the wait, if another pool was put in this one's place meanwhile. After the
+    /// wait the refused caller leaves by a signal on *nonfree*.
     pub fn take<R: Wait, M: Monitor<Pool>>(
         m: &M,
         rt: &R,
@@ -178,8 +180,9 @@ impl Pool {
         (m.leave(rt, inside), Ok(buffer))
     }
 
-    /// Frees a buffer that the stream holds, and resumes a process that waits for one. Refused, with nothing changed,
-    /// by the first that applies: `NoStream`, `NoBuffer`, and `NotHeld` where the buffer is free or another stream's.
+    /// Frees `buffer`, which `stream` holds, and leaves by a signal on *nonfree*, which resumes a waiter if there is
+    /// one. Refused by the first reason that applies, with nothing changed: `NoStream`; `NoBuffer`; `NotHeld` if the
+    /// buffer is free, or another stream holds it.
     pub fn give<R: Wait, M: Monitor<Pool>>(
         m: &M,
         rt: &R,

@@ -1,9 +1,9 @@
-//! Which numbers are marked, as the bits of words: the bit of number i is bit i % 64 of word i / 64. So the least
-//! number that is not marked is found by a look at 16 words at most, and not at 1,024 entries.
+//! Marked numbers, as the bits of words: number i has bit i % 64 of word i / 64. So the least number without a mark is
+//! found by a scan of at most 16 words, instead of 1,024 entries.
 ghost use Rattle.std.specs.Prelude.{◌≡◌, ◌≢◌, ◌<◌, ◌≤◌, ◌/◌, ℕ, length};
 ghost use Rattle.timed_schedulers.specs.Marks.{mark_of};
 
-// The least number that isn't marked.
+// Returns the least number that isn't marked.
 pub(super) fn least_unmarked(words: &[u64]) -> usize
     requires { length words.now ≤ 16 }
     ensures unmarked { mark_of words.now result ≡ 0 }
@@ -17,7 +17,7 @@ pub(super) fn least_unmarked(words: &[u64]) -> usize
     64 * words.len()
 }
 
-// Marks a number.
+// Marks the number `i`.
 pub(super) fn mark(words: &mut Vec<u64>, i: usize)
     requires { i / 64 < length words.old.items }
     ensures length { length words.new.items ≡ length words.old.items }
@@ -27,7 +27,7 @@ pub(super) fn mark(words: &mut Vec<u64>, i: usize)
     words[i / 64] |= 1 << (i % 64);
 }
 
-// Takes the mark of a number away.
+// Removes the mark of the number `i`.
 pub(super) fn unmark(words: &mut Vec<u64>, i: usize)
     requires { i / 64 < length words.old.items }
     ensures length { length words.new.items ≡ length words.old.items }

@@ -1,4 +1,4 @@
-//! The small changes of a pool: a buffer gets an owner, and becomes free.
+//! The basic operations of a pool: its tests and counts, and the change of one buffer's owner.
 ghost use Rattle.std.specs.Prelude.{◌≡◌, ◌↔◌, ◌<◌, ◌≤◌, IsTrue, IfOk, Some, None, length, slice_index_or, is_none};
 ghost use Rattle.std.specs.List.{position};
 ghost use Rattle.timed_schedulers.specs.Pools.{PoolHolds, IsSize, all_free, with_owner, free_count, held};
@@ -8,7 +8,7 @@ use super::marks::{least_unmarked, mark, unmark};
 use std::alloc::{AllocError, Global};
 
 impl Pool {
-    // A pool of which all buffers are free.
+    // Creates a pool with all buffers free.
     pub(super) fn all_free(
         alloc: Global,
         buffers: usize,
@@ -28,7 +28,7 @@ impl Pool {
         })
     }
 
-    // How many buffers are free.
+    // Returns the number of free buffers.
     pub(super) fn free(&self) -> usize
         ensures told { result ≡ free_count self.now }
         ensures holds { PoolHolds self.now }
@@ -36,21 +36,21 @@ impl Pool {
         self.free
     }
 
-    // Whether it is a stream.
+    // Returns true if the pool has a stream of this number.
     pub(super) fn has_stream(&self, stream: u32) -> bool
         ensures { IsTrue result ↔ (stream < self.now.streams) }
     {
         (stream as usize) < self.held.len()
     }
 
-    // Whether it is a buffer.
+    // Returns true if the pool has a buffer of this number.
     pub(super) fn has_buffer(&self, buffer: u32) -> bool
         ensures { IsTrue result ↔ (buffer < length self.now.owners) }
     {
         (buffer as usize) < self.owners.len()
     }
 
-    // Whether the stream owns the buffer.
+    // Returns true if `stream` owns `buffer`.
     pub(super) fn is_held(&self, stream: u32, buffer: u32) -> bool
         requires { buffer < length self.now.owners }
         ensures { IsTrue result ↔ (slice_index_or self.now.owners buffer None ≡ Some stream) }
@@ -58,7 +58,7 @@ impl Pool {
         self.owners[buffer as usize] == Some(stream)
     }
 
-    // How many buffers the stream owns.
+    // Returns the number of buffers that `stream` owns.
     pub(super) fn held(&self, stream: u32) -> u32
         requires { stream < self.now.streams }
         ensures { result ≡ held stream self.now }
@@ -66,7 +66,7 @@ impl Pool {
         self.held[stream as usize]
     }
 
-    // The least-numbered free buffer.
+    // Returns the number of the first free buffer.
     fn least_free(&self) -> usize
         requires { 0 < free_count self.now }
         ensures { position is_none self.now.owners ≡ Some result }
@@ -74,7 +74,7 @@ impl Pool {
         least_unmarked(&self.words)
     }
 
-    // Gives the least-numbered free buffer to the stream, and answers its number.
+    // Makes `stream` the owner of the least-numbered free buffer, and returns its number.
     pub(super) fn own_least(&mut self, stream: u32) -> u32
         requires stream { stream < self.old.streams }
         requires some { 0 < free_count self.old }
@@ -89,7 +89,7 @@ impl Pool {
         buffer as u32
     }
 
-    // Frees a buffer that the stream owns.
+    // Frees `buffer`, which `stream` owns.
     pub(super) fn set_free(&mut self, stream: u32, buffer: u32)
         requires within { buffer < length self.old.owners }
         requires held { slice_index_or self.old.owners buffer None ≡ Some stream }

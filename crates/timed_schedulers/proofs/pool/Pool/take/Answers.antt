@@ -24,7 +24,7 @@ returns-then-not-has_stream-2-clause-trace g c =
     (Finishes-exit c.signal_leave-out.ensures.front (c.wait-inside.ensures.place
     ∙ c.enter-inside.ensures.place) refl refl)
 
--- it came in and, after a wait or without one, is a stream and finds a buffer
+-- the process entered and, after a wait or without one, its stream is one of the pool's and it finds a free buffer
 came : (g : Over) (c : After-state_mut g)
     → Came g.M.Monitor c.args.m.now c.args.out (MustWait c.args.stream) (λ _. 0) (held c.args.stream)
     (λ p q. (c.args.stream < p.streams) × PoolReady p (q 0)) c.if-free-eq0.inside

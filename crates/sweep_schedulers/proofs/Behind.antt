@@ -1,4 +1,4 @@
--- How many begin before a writer that waits, and before a reader.
+-- The number of reads and writes that begin before a waiting writer, and before a waiting reader.
 use Rattle.std.proofs.Common.{◌≡◌, ◌≢◌, ℕ, ◌+◌, ◌*◌, ◌<◌, ◌≤◌, List, [], ◌∷◌, ◌++◌, true, false}
 use Rattle.std.proofs.Common.{length, Some, refl, inl, inr, sym, ◌∙◌, arith}
 use Rattle.std.specs.Prelude.{All}
@@ -16,7 +16,7 @@ use Rattle.sweep_schedulers.proofs.Rounds.{Runs-rests, Runs-in_turn, round_rests
 use Rattle.sweep_schedulers.proofs.Readers.{not_true}
 use Rattle.sweep_schedulers.proofs.Rounds.{without_writer, places_wait}
 
--- if w isn't of xs, those of xs stand before w, and it is still among the others
+-- if w isn't among xs, those of xs are before w, and w is still among the others
 split_before : (w : ℕ) (xs ys before rest : List ℕ) → All (λ k. k ≢ w) xs → xs ++ ys ≡ before ++ w ∷ rest
     → (left : List ℕ) × (before ≡ xs ++ left) × (ys ≡ left ++ w ∷ rest)
 split_before w [] ys before rest other e = (before, refl, e)
@@ -29,7 +29,7 @@ split_before w (x ∷ xs) ys (b ∷ before) rest other e =
     let (left, began, wait) = split_before w xs ys before rest (All-tail (λ k. k ≢ w) x xs other) others in
     (left, cc, wait)
 
--- the first of them is w only if all before w are gone
+-- the first is w only if all before w are gone
 none_left : (w : ℕ) (left rest others : List ℕ) → All (λ k. k ≢ w) left → left ++ w ∷ rest ≡ w ∷ others → left ≡ []
 none_left w [] rest others other e = refl
 none_left w (x ∷ left) rest others other e =
@@ -46,14 +46,14 @@ All-before P xs k all = (All-pop P (xs ++ k ∷ []) xs (Some k) refl all).0
 length_parts : (xs ys zs : List ℕ) → xs ≡ ys ++ zs → length xs ≡ length ys + length zs
 length_parts xs ys zs is = rw is (length-append ys zs)
 
--- each round has at most so many
+-- each round has at most `most` readers
 sum_most : (most : ℕ) (rounds : List ℕ) → All (λ n. n ≤ most) rounds → sum rounds ≤ length rounds * most
 sum_most most [] all = omega arith
 sum_most most (n ∷ rounds) all =
     let more = sum_most most rounds (All-tail (λ n. n ≤ most) n rounds all) in
     omega (arith, more, All-head (λ n. n ≤ most) n rounds all, sum_by-cons (λ n. n) n rounds)
 
--- in k rounds at most
+-- in at most k rounds
 reads_most : (reads k most : ℕ) (rounds : List ℕ) → reads ≤ sum rounds → length rounds ≤ k
     → All (λ n. n ≤ most) rounds → reads ≤ k * most
 reads_most reads k most rounds of few all =
@@ -79,7 +79,8 @@ module _ {T : Type 0} where
   round_size (admitted s a e n begun read admits more) = omega (arith, round_size more)
   round_size (refused s a e n begun x admits more) = omega (arith, round_size more)
 
-  -- each write that was in or began has ended, in a round at most, but that which is in; and each read is of a round
+  -- each write that was in or began has ended, in at most a round, except the write that is in; and each read is of a
+  -- round
   record Waited (s : Shared T) (m : Moment T) : Type 0 where
     rounds : length m.rounds + writers_in m.state ≤ length m.writes + writers_in s
     reads : m.reads ≤ sum m.rounds
@@ -92,7 +93,7 @@ module _ {T : Type 0} where
     reads = reads;
   }
 
-  -- a writer that hasn't begun now hadn't before
+  -- a writer that hasn't begun at the later moment hadn't at the earlier
   resumed_others : (w : ℕ) (ws : List ℕ) (m : Moment T) → All (λ k. k ≢ w) (writer_resumed ws m).writes
       → All (λ k. k ≢ w) m.writes
   resumed_others w [] m others = others
@@ -116,7 +117,7 @@ module _ {T : Type 0} where
   resumed_rounds (w ∷ ws) m = refl
 
 module _ {T : Type 0} (s : Shared T) (to_read w : ℕ) (before behind : List ℕ) where
-  -- the writer waits behind those before it that haven't begun
+  -- the writer waits after those before it that haven't begun
   waits_there : {m : Moment T} → Rests (counted_from s to_read (before ++ w ∷ behind))
       → Runs s to_read (before ++ w ∷ behind) m → All (λ k. k ≢ w) m.writes
       → (left came : List ℕ) × (before ≡ m.writes ++ left) × (m.to_write ≡ left ++ w ∷ (behind ++ came))

@@ -1,4 +1,5 @@
--- How many grants are due where the head stands: as one joins, as one is resumed, and as the head moves.
+-- The number of grants due at the cylinder under the head: when a request joins, when a request is resumed, and when
+-- the head moves.
 use Rattle.std.proofs.Common.{◌≡◌, ◌≢◌, ◌==◌, ℕ, zero, suc, ◌+◌, ◌-◌, ◌<◌, ◌≤◌, List, [], Bool, true, false, cond}
 use Rattle.std.proofs.Common.{Option, None, Some, count_by, ap, refl, sym, ◌∙◌, arith}
 use Rattle.std.specs.Prelude.{All, MatchOption, slice_index}
@@ -13,11 +14,11 @@ use Rattle.sweep_schedulers.specs.Heads.{waiting_here, counted, due, one_granted
 use Rattle.sweep_schedulers.proofs.Lists.{All-first, count_by-passes, count_by-fails, count_by-first, count_by-mirrored}
 use Rattle.sweep_schedulers.proofs.Lists.{count_by-above}
 
--- how many of these wait for the sweep in this direction and the cylinder here
+-- the number of these that wait for the sweep in this direction and the cylinder `here`
 abbrev pub at_here : Direction → ℕ → ℕ → List ℕ → List ℕ → ℕ
 at_here dir cylmax here ups downs = count_by (λ q. cylinder_of cylmax dir q == here) (of_sweep dir ups downs)
 
--- the priorities tell it too
+-- the priorities give the same number
 pub waiting_here-equal : {T : Type 0} (d : Disk T) (lists : ℕ → List ℕ) (c p : ℕ) → d.headpos ≤ d.cylmax
     → All (λ q. q ≤ d.cylmax) (lists 1) → c ≡ sweep d.direction → p ≡ priority_at d.cylmax d.direction d.headpos
     → count_by (λ q. q == p) (lists c) ≡ waiting_here d (lists 0) (lists 1)
@@ -57,7 +58,7 @@ pub down_first : (present : Direction) (cylmax here : ℕ) (ups downs : List ℕ
 down_first Up cylmax here ups downs is some = absurd (cc)
 down_first Down cylmax here ups downs is some = count_by-first (λ q. cylmax - q == here) downs some
 
--- one more of the present sweep for the cylinder here
+-- one more request of the present sweep for the cylinder `here`
 pub up_one : (present : Direction) (cylmax here : ℕ) (ups downs : List ℕ) → present ≡ Up
     → at_here present cylmax here (put_in (λ n. n) here ups) downs ≡ at_here present cylmax here ups downs + 1
 up_one Up cylmax here ups downs is = count_by-passes (λ q. q == here) here ups (grind (arith, nat_tests))
@@ -70,7 +71,7 @@ down_one Down cylmax here p ups downs is for =
     let passes : (cylmax - p == here) ≡ true = grind (arith, nat_tests) in
     count_by-passes (λ q. cylmax - q == here) p downs passes
 
--- with one more of the present sweep one more is counted, where it waits for the cylinder under the head
+-- with one more request of the present sweep, one more is counted if it waits for the cylinder under the head
 pub waiting_here-one : {T : Type 0} (d : Disk T) (ups downs : List ℕ) (p : ℕ) → d.headpos ≤ d.cylmax
     → p ≡ priority_at d.cylmax d.direction d.headpos
     → waiting_here d (put_in (λ n. n) p ups) (put_in (λ n. n) p downs) ≡ waiting_here d ups downs + 1
@@ -98,7 +99,7 @@ waiting_here-other d ups downs p on within = by d.direction
         let fails : (d.cylmax - p == d.headpos) ≡ false = grind (arith, nat_tests) in
         count_by-fails (λ q. d.cylmax - q == d.headpos) p downs fails
 
--- where the first of the present sweep waits for another cylinder nobody waits for the one under the head
+-- if the first of the present sweep waits for another cylinder, no request waits for the one under the head
 none_first : (qs : List ℕ) (here : ℕ) (o : Option ℕ) → IsNonDecreasing qs → All (λ q. here ≤ q) qs
     → MatchOption o (qs ≡ []) (λ p. (qs ≢ []) × (p ≡ slice_index qs 0)) → o ≢ Some here
     → 0 ≡ count_by (λ q. q == here) qs
@@ -126,12 +127,12 @@ waiting_here-none d lists c p o on sweeps rises to with told other =
     rw (to, with) (before_head d.direction d.cylmax d.headpos lists on sweeps.above sweeps.below) in
     none_first (lists c) p o rises before told other ∙ waiting_here-equal d lists c p on sweeps.downs_on_disk to with
 
--- where the head stays, those that are due stay so
+-- if the head stays, the due grants stay the same
 pub counted-there : {T : Type 0} (d : Disk T) (ups downs : List ℕ) (dest : ℕ) → d.headpos ≡ dest
     → d.stay ≡ waiting_here d ups downs → d ≡ counted (moved d dest) ups downs
 counted-there d ups downs dest here stay = rw (sym here) (ap (due d) stay)
 
--- who goes on is due no more
+-- a request that resumes is due no more
 less_due : (dir : Direction) (cylmax here p stay : ℕ) (ups downs : List ℕ) (t : Bool) → here ≤ cylmax → p ≤ cylmax
     → (p == priority_at cylmax dir here) ≡ t
     → stay ≡ at_here dir cylmax here (put_in (λ n. n) p ups) (put_in (λ n. n) p downs)

@@ -15,8 +15,8 @@ use Rattle.sweep_schedulers.proofs.Due.{waiting_here-equal, before_head}
 use Rattle.sweep_schedulers.proofs.Taken.{equals, All-counted, with_first, same_sweep, other_sweep, is_sweep, there}
 use Rattle.sweep_schedulers.proofs.Taken.{few_apart, few_counted, taken_own, few_taken, among_taken, among_joined}
 
--- how many grants may come before that of the request, with come the reach of the head; on its own sweep and at its
--- cylinder only those before it are left
+-- the number of grants that may come before that of the request, if the head is at `come`. On the request's own sweep
+-- and at its cylinder, only those of the requests before it are left
 abbrev left : Bool → ℕ → ℕ → ℕ → ℕ → ℕ → ℕ → ℕ
 left true cylmax come stay w p k = cond (come == p) k (stay + (p - come - 1) * w + k)
 left false cylmax come stay w p k = stay + (cylmax - come + p) * w + k
@@ -47,7 +47,7 @@ left_before : (cylmax come stay w p k : ℕ) → come ≢ p
 left_before cylmax come stay w p k apart =
     let fails : (come == p) ≡ false = grind (arith, nat_tests) in rw fails refl
 
--- one more is granted, where the head stands or at a later stop
+-- one more is granted, at the cylinder under the head or at a later stop
 module _ (cylmax come f p stay stay' w k : ℕ) (upto : come ≤ f) (here : f ≡ come → stay ≡ suc stay')
     (later : suc stay' ≤ w) where
   one_more : (a b : ℕ) → (f ≡ come → a ≡ b) → (come < f → suc a ≤ b) → suc (stay' + a * w + k) ≤ stay + b * w + k
@@ -79,7 +79,7 @@ one_turned cylmax come f p stay stay' w k before later =
     one_stop (p - f - 1) (cylmax - come + p) stay' stay w k later (omega (arith, before)) in
     omega (arith, more, after)
 
--- what waits finds the drive out
+-- a waiting request finds the drive out
 pub is_out : {T : Type 0} (m p k : ℕ) (own : Direction) (d : Disk T) (q : ℕ → List ℕ) → IsWaiting m own p k d q
     → d.drive ≡ None
 is_out m p k Up d q is = is.rests.up_busy (λ e. let a = is.among in let z : equals p (q 0) ≡ 0 = rw e refl in
@@ -87,7 +87,7 @@ is_out m p k Up d q is = is.rests.up_busy (λ e. let a = is.among in let z : equ
 is_out m p k Down d q is = is.rests.down_busy (λ e. let a = is.among in let z : equals p (q 1) ≡ 0 = rw e refl in
     omega (arith, a, z))
 
--- those are due that wait as far as the head is
+-- the due grants are those of the requests that wait for the present sweep at the position of the head
 stay_is : {T : Type 0} (d : Disk T) (q : ℕ → List ℕ) → HeadRests d (q 0) (q 1) → d.drive ≡ None
     → d.stay ≡ equals (reached d) (q (sweep d.direction))
 stay_is d q rests out =
@@ -118,7 +118,7 @@ module _ {T : Type 0} (m p k j : ℕ) (own : Direction) (e : Disk T) (q : ℕ �
   reached_first : reached (granted_first e drive q) ≡ first e.direction q
   reached_first = there e.direction e.cylmax (first e.direction q) on
 
-  -- one less is due there than waited
+  -- one grant less is due there than requests waited
   one_less_due : equals (first e.direction q) (q (sweep e.direction)) ≡ suc (granted_first e drive q).stay
   one_less_due =
       let f = first e.direction q in
@@ -144,7 +144,8 @@ module _ {T : Type 0} (m p k j : ℕ) (own : Direction) (e : Disk T) (q : ℕ �
       (taken q (sweep e.direction) (sweep e.direction)) all (omega (arith, some_left)) in
       omega (arith, upto, reached_first)
 
--- on its own sweep an equal one goes first at its cylinder, and another where the head is or at a stop before it
+-- on the request's own sweep, a request of equal priority is granted first at its cylinder, and any other at the
+-- cylinder under the head or at a stop before the request's
 on_own : {k j : ℕ} (m p cylmax come f stay stay' : ℕ) (dir own : Direction) → dir ≡ own → come ≤ f → f ≤ p
     → IsPassed own p dir f k j → (f ≡ come → stay ≡ suc stay') → ((dir ≡ own → f ≢ p) → suc stay' ≤ m - suc k)
     → suc (left true cylmax f stay' (m - suc j) p j) ≤ left true cylmax come stay (m - suc k) p k
@@ -178,7 +179,7 @@ on_other m p cylmax come f stay stay' dir own differ upto on (by_equal i same is
 on_other m p cylmax come f stay stay' dir own differ upto on (by_other i apart) here later =
     one_on_other cylmax come f p stay stay' (m - suc i) i upto here (later apart) on
 
--- while it waits a release finds a request, on the sweep on which the head goes on
+-- while the request waits, a release finds a request, on the sweep on which the head continues
 pub release_grants : {T : Type 0} (m p k : ℕ) (own : Direction) (d e : Disk T) (q : ℕ → List ℕ)
     → IsWaiting m own p k d q → KeepsOrTurns d q e → q (sweep e.direction) ≢ []
 release_grants m p k own d e q is (keeps some) = some
@@ -307,7 +308,7 @@ in_time m p own d q {k} is waits =
       left_within (sweep d.direction == sweep own) d.cylmax (reached d) d.stay (m - suc k) p k,
     )
 
--- at its cylinder it is one of those that are due
+-- at its cylinder the request is one of those that are due
 pub at_its_cylinder : {T : Type 0} (m p : ℕ) (own : Direction) (d : Disk T) (q : ℕ → List ℕ) {k n : ℕ}
     → IsWaiting m own p k d q → own ≡ d.direction → p ≡ reached d → Awaits m own p d q k n → n < d.stay
 at_its_cylinder m p own d q {k} is same there waits =
@@ -317,7 +318,7 @@ at_its_cylinder m p own d q {k} is same there waits =
     let some = is.among in
     omega (arith, granted_within m p own d q is waits, due, only, some)
 
--- so many stops, where the head stands and at a stop at most w are granted
+-- the grants of all stops, if at most w are made at each stop and at the cylinder under the head
 all_stops : (a b stay w k : ℕ) → stay ≤ w → suc a ≤ b → stay + a * w + k ≤ b * (w + k)
 all_stops a b stay w k due further =
     let some : suc a * w ≤ b * w = mul-le-mul_right w further in

@@ -9,24 +9,24 @@ use Rattle.std.proofs.lemmas.List.Sums.{sum_by-cons}
 use Rattle.hoare_law.specs.Priorities.{put_in, behind_first}
 use Rattle.hoare_law.specs.Beside.Rising.{IsNonDecreasing-behind_first}
 
--- what all keep, all but the first keep
+-- what holds of all, holds of all but the first
 pub All-others : (P : ℕ → Type 0) (q : List ℕ) → All P q → All P (behind_first q)
 All-others P [] all = all
 All-others P (x ∷ q) all = All-tail P x q all
 
--- what all keep, the first keeps
+-- what holds of all, holds of the first
 pub All-first : (P : ℕ → Type 0) (q : List ℕ) → q ≢ [] → All P q → P (slice_index q 0)
 All-first P [] some all = absurd (some refl)
 All-first P (x ∷ q) some all = All-head P x q all
 
--- where a test that finds any answers no, there are none
+-- if a test that finds any returns false, there are none
 pub none_told : {X : Type 0} (xs : List X) (b : Bool) → (xs ≢ [] → IsTrue b) → b ≡ false → xs ≡ []
 none_told [] b told untold = refl
 none_told (x ∷ xs) true told untold = absurd (cc)
 none_told (x ∷ xs) false told untold = let some : IsTrue false = told (λ e. cc) in absurd (cc)
 
 module _ (test : ℕ → Bool) where
-  -- one more counts where it passes
+  -- one more counts if it passes
   pub count_by-cons : (q : ℕ) (qs : List ℕ) → count_by test (q ∷ qs) ≡ cond (test q) 1 0 + count_by test qs
   count_by-cons q qs = sum_by-cons (λ r. cond (test r) 1 0) q qs
 
@@ -47,7 +47,7 @@ module _ (test : ℕ → Bool) where
   pub count_by-fails : (p : ℕ) (qs : List ℕ) → test p ≡ false → count_by test (put_in (λ n. n) p qs) ≡ count_by test qs
   count_by-fails p qs fails = count_by-put_in p qs ∙ (rw fails (omega arith))
 
-  -- the first and those behind it are all
+  -- the first and those after it are all
   pub count_by-first : (qs : List ℕ) → qs ≢ []
       → count_by test (put_in (λ n. n) (slice_index qs 0) (behind_first qs)) ≡ count_by test qs
   count_by-first [] some = absurd (some refl)
@@ -61,7 +61,7 @@ none_above p (q ∷ qs) above =
     let rest : count_by (λ r. r == p) qs ≡ 0 = none_above p qs (λ j l. above (suc j) (omega arith)) in
     count_by-cons (λ r. r == p) q qs ∙ (rw (apart, rest) refl)
 
--- where they rise and one is above p, those before it say how many are p
+-- if they rise and one is above p, those before it determine how many are p
 pub count_by-before : (p : ℕ) (qs : List ℕ) (i : ℕ) → IsNonDecreasing qs → i < length qs → p < get_or qs i 0
     → count_by (λ q. q == p) (take i qs) ≡ count_by (λ q. q == p) qs
 count_by-before p [] i rises l above = absurd (omega arith)
@@ -71,7 +71,7 @@ count_by-before p (q ∷ qs) (suc i) rises l above =
     let rest = count_by-before p qs i (IsNonDecreasing-behind_first (q ∷ qs) rises) (omega arith) above in
     omega (arith, rest, count_by-cons (λ r. r == p) q (take i qs), count_by-cons (λ r. r == p) q qs)
 
--- where they rise and the first is above p none is p
+-- if they rise and the first is above p, none is p
 pub count_by-above : (p : ℕ) (qs : List ℕ) → IsNonDecreasing qs → qs ≢ [] → p < slice_index qs 0
     → count_by (λ q. q == p) qs ≡ 0
 count_by-above p [] rises some above = refl
@@ -80,7 +80,7 @@ count_by-above p (q ∷ qs) rises some above = sym (count_by-before p (q ∷ qs)
 mirrored : (last here q : ℕ) → here ≤ last → q ≤ last → (q == last - here) ≡ (last - q == here)
 mirrored last here q h l = grind (arith, nat_tests)
 
--- as many are as far from last as here is as have the distance here from it
+-- as many are `last - here` as have the distance `here` from `last`
 pub count_by-mirrored : (last here : ℕ) (qs : List ℕ) → here ≤ last → All (λ q. q ≤ last) qs
     → count_by (λ q. q == last - here) qs ≡ count_by (λ q. last - q == here) qs
 count_by-mirrored last here [] h all = refl

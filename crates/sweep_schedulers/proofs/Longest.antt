@@ -1,4 +1,4 @@
--- A run in which a request waits as long as it may: on a disk of two cylinders, where two wait at a time.
+-- A run in which a request waits as long as it may: on a disk of two cylinders, with at most two waiting requests.
 use Rattle.std.proofs.Common.{◌≡◌, ℕ, ◌≤◌, ◌-◌, List, [], ◌∷◌, None, refl, arith}
 use Rattle.std.proofs.lemmas.List.Elements.{All-nil, All-cons}
 use Rattle.std.specs.Prelude.{All}
@@ -20,12 +20,12 @@ at_rest d ups downs inv out sweeps stay =
     record { inv = inv; up_busy = λ e. out; down_busy = λ e. out; sweeps = sweeps; stay = λ e. stay }
 
 module _ {T : Type 0} (drive : T) where
-  -- the disk, its drive out, with the head at this cylinder, on its way in this direction, with so many due there
+  -- the disk, its drive out, with the head at this cylinder, sweeping in this direction, with `stay` grants due there
   abbrev head_at : ℕ → Direction → ℕ → Disk T
   head_at here dir stay = record { drive = None; headpos = here; direction = dir; cylmax = 1; stay = stay }
 
-  -- one request waits at cylinder 0 for the way down, and another there for the way up, to which it is granted. A
-  -- third joins at cylinder 1 and is granted, and a fourth joins there for the way down and is granted
+  -- one request waits at cylinder 0 for the way down, and another there for the way up, which is granted. A third joins
+  -- at cylinder 1 and is granted, and a fourth joins there for the way down and is granted
   abbrev first_lists : ℕ → List ℕ
   first_lists = joined (joined nobody 0 0) 1 1
 

@@ -1,4 +1,5 @@
--- What readers and writers keep of those that wait, as a writer joins them, and as a reader or a writer comes in.
+-- What readers and writers keep of the waiting processes: when a writer joins them, and when a reader or a writer
+-- starts.
 use Rattle.std.proofs.Common.{◌≡◌, ℕ, ◌<◌, List, [], Result, Bool, true, false, refl, inl, inr, true≢false, sym, ◌∙◌}
 use Rattle.std.proofs.Common.{arith}
 use Rattle.hoare_law.specs.Priorities.{joined}
@@ -9,7 +10,7 @@ use Rattle.sweep_schedulers.specs.declared.readers_writers.ReadPass.{ReadPass}
 use Rattle.sweep_schedulers.specs.declared.readers_writers.TooManyReaders.{TooManyReaders}
 use Rattle.hoare_law.proofs.Sorted.{put_in-some}
 
--- where somebody is in, a writer may wait
+-- if a reader or a writer is in, a writer may wait
 pub ReadersRest-writer : {T : Type 0} {s : Shared T} (lists : ℕ → List ℕ) → ReadersRest s (lists 0) (lists 1)
     → IsInUse s
     → ReadersRest s (joined lists 1 0 0) (joined lists 1 0 1)
@@ -23,7 +24,7 @@ pub not_true : (b : Bool) → (b ≡ true → ⊥) → b ≡ false
 not_true true other = absurd (other refl)
 not_true false other = refl
 
--- who finds nobody in may write at once
+-- a process that finds no reader and no writer in may write at once
 pub WriteReady-at_once : {T : Type 0} {s : Shared T} {to_read to_write : List ℕ} → ReadersRest s to_read to_write
     → (IsInUse s → ⊥) → WriteReady s
 WriteReady-at_once rests unused = record {
@@ -32,7 +33,7 @@ WriteReady-at_once rests unused = record {
   no_reader = none_below _ (λ some. unused (inl some));
 }
 
--- with a writer in rest holds
+-- with a writer in, rest holds
 pub ReadersRest-reserved : {T : Type 0} {s d : Shared T} {to_read to_write : List ℕ} → WriteReady s → d ≡ with_writer s
     → ReadersRest d to_read to_write
 ReadersRest-reserved ready is = rw is (record {
@@ -56,7 +57,7 @@ admitted (room pass less) ready = record {
 }
 admitted (full e all) ready = record { inv = ready.inv; no_writer = ready.no_writer; some = omega (arith, all) }
 
--- who waits to read may go on then, and where nobody does rest holds
+-- a process that waits to read may resume then, and if none waits, rest holds
 pub ReadReady-admitted : {T : Type 0} {s d e : Shared T} {read : Result (ReadPass × T) TooManyReaders} → ReadReady s
     → Admits s d read → e ≡ d → ReadReady e
 ReadReady-admitted ready admits is =

@@ -43,7 +43,7 @@ one_at_once xs ys ws came k nobody all =
     rw nobody (append-nil (xs ++ k ∷ []) ∙ (one_more k began ∙ append_assoc ws came (k ∷ [])))
 
 module _ {T : Type 0} where
-  -- rest holds once a round is over, and no writer is in
+  -- after a round rest holds, and no writer is in
   round_on : {s e : Shared T} {n begun : ℕ} {ws : List ℕ} → ReadReady s → ReadersRest s [] ws → Round s n e begun
       → (ReadersRest e [] ws) × (e.busy ≡ false)
   round_on ready rests (over s) = (rests, ready.no_writer)
@@ -64,14 +64,14 @@ module _ {T : Type 0} where
   held_up m (inl busy) = inl busy
   held_up m (inr some) = inr (places_wait m.to_write some)
 
-  -- readers may go on to the data that a writer leaves
+  -- readers may resume with the data that a writer leaves
   pub written_ready : {s : Shared T} (value : T) → ReadersHold s → s.busy ≡ true → ReadReady (written s value)
   written_ready value holds busy = record {
     inv = record { most = holds.most; alone = λ _. holds.alone busy };
     no_writer = refl;
   }
 
-  -- if nobody is in, rest holds once the first of those that wait to write has begun
+  -- if no reader and no writer is in, rest holds after the first of the places that wait to write has begun
   resumed_rests : (ws : List ℕ) (m : Moment T) → m.to_write ≡ ws → m.state.readers ≡ 0 → (0 < m.to_read → ws ≢ [])
       → Rests (writer_resumed ws m)
   resumed_rests [] m is nobody to_read = record {
@@ -93,11 +93,11 @@ module _ {T : Type 0} where
       by (inl busy) = absurd (true≢false (sym busy ∙ free))
       by (inr waits) = places_in m.to_write waits
 
-  -- beside readers no writer is in
+  -- if readers are in, no writer is in
   pub without_writer : {s : Shared T} → ReadersHold s → 0 < s.readers → s.busy ≡ false
   without_writer holds some = not_true _ (λ busy. omega (arith, holds.alone busy, some))
 
-  -- if nobody is in, no writer waits
+  -- if no reader and no writer is in, no writer waits
   no_writer_waits : (m : Moment T) → Rests m → (IsInUse m.state → ⊥) → m.to_write ≡ []
   no_writer_waits m rests unused =
       none_wait m.to_write (λ some. unused (rests.writers (places_wait m.to_write some)))

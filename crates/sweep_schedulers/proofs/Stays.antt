@@ -29,7 +29,7 @@ taken_here r Down cylmax here some is =
     less_one (λ q. cylmax - q == here) (r 1) some passes
 
 module _ {T : Type 0} {d : Disk T} {q : ℕ → List ℕ} where
-  -- it stays out, and rests
+  -- the drive stays out, and the lists rest
   out : {e : Disk T} {r : ℕ → List ℕ} {n : ℕ} → d.drive ≡ None → Stays d q e r n → e.drive ≡ None
   out is none = is
   out is (joins e r n c p so_far rests) = out is so_far
@@ -51,7 +51,7 @@ module _ {T : Type 0} {d : Disk T} {q : ℕ → List ℕ} where
       let fewer = taken_here r e.direction e.cylmax e.headpos some here in
       omega (arith, before, due, fewer)
 
--- one more of the present sweep who waits where the head stands
+-- one more request of the present sweep waits for the cylinder under the head
 joined_one : (q : ℕ → List ℕ) (dir : Direction) (cylmax here : ℕ) → here ≤ cylmax
     → at_here dir cylmax here (joined q (sweep dir) (priority_at cylmax dir here) 0)
     (joined q (sweep dir) (priority_at cylmax dir here) 1)
@@ -59,7 +59,7 @@ joined_one : (q : ℕ → List ℕ) (dir : Direction) (cylmax here : ℕ) → he
 joined_one q Up cylmax here on = up_one Up cylmax here (q 0) (q 1) refl
 joined_one q Down cylmax here on = down_one Down cylmax here (cylmax - here) (q 0) (q 1) refl (omega arith)
 
--- nobody joins them: who would wait there for the present sweep breaks rest
+-- no request joins them: a further request for that cylinder and the present sweep breaks rest
 pub nobody_joins : {T : Type 0} (d : Disk T) (q : ℕ → List ℕ) → HeadRests d (q 0) (q 1) → d.drive ≡ None
     → HeadRests d (joined q (sweep d.direction) (priority_at d.cylmax d.direction d.headpos) 0)
     (joined q (sweep d.direction) (priority_at d.cylmax d.direction d.headpos) 1) → ⊥

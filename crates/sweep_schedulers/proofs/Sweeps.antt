@@ -1,4 +1,5 @@
--- What a disk head keeps of its waiting requests: as one joins, as one is granted, and as the head is handed on.
+-- What a disk head keeps of its waiting requests: when a request joins, when a request is granted, and when the drive
+-- is handed off.
 use Rattle.std.proofs.Common.{◌≡◌, ◌≢◌, ℕ, zero, suc, ◌+◌, ◌-◌, ◌≤◌, List, [], ◌∷◌, Bool, true, false, cond, leb}
 use Rattle.std.proofs.Common.{Option, Some, None, refl, sym, ◌∙◌, arith}
 use Rattle.std.specs.Prelude.{IsSome, slice_index}
@@ -20,7 +21,7 @@ use Rattle.sweep_schedulers.specs.HeadTraces.{Reaches, waited, HandsOn, keeps, t
 use Rattle.sweep_schedulers.proofs.Lists.{All-others, All-first}
 use Rattle.sweep_schedulers.proofs.Due.{at_here, joined_here, up_first, down_first, up_one, down_one}
 
--- dest lies before the head in this direction
+-- dest is ahead of the head in this direction, or under it
 abbrev IsAhead : {T : Type 0} → Disk T → Direction → ℕ → Type 0
 IsAhead d Up dest = d.headpos ≤ dest
 IsAhead d Down dest = dest ≤ d.headpos
@@ -33,11 +34,11 @@ ahead_by d dest true true Down e f = grind (arith, nat_tests)
 ahead_by d dest true false dir e f = grind (arith, nat_tests)
 ahead_by d dest false high dir e f = grind (arith, nat_tests)
 
--- the sweep that reaches dest has it before the head
+-- the sweep that reaches dest has it ahead of the head, or under it
 toward_ahead : {T : Type 0} (d : Disk T) (dest : ℕ) → IsAhead d (toward dest d) dest
 toward_ahead d dest = ahead_by d dest (leb d.headpos dest) (leb dest d.headpos) d.direction refl refl
 
--- the sweep that reaches a cylinder isn't the present one where the head stands there
+-- the sweep that reaches a cylinder isn't the present one if the head is there
 other_by : {T : Type 0} (d : Disk T) (dest : ℕ) (low high : Bool) (dir : Direction)
     → leb d.headpos dest ≡ low → leb dest d.headpos ≡ high → dir ≡ cond low (cond high (opposite dir) Up) Down
     → d.headpos ≡ dest → ⊥
@@ -55,7 +56,7 @@ not_both None out some = cc
 not_both (Some x) out some = cc
 
 module _ {T : Type 0} {d : Disk T} (lists : ℕ → List ℕ) where
-  -- one more waits, for a cylinder before the head
+  -- one more request waits, for a cylinder ahead of the head or under it
   rests_by : (dir : Direction) (dest : ℕ) → IsAhead d dir dest → (d.direction ≡ dir → d.headpos ≡ dest → ⊥)
       → dest ≤ d.cylmax → d.drive ≡ None → HeadRests d (lists 0) (lists 1)
       → HeadRests d (joined lists (sweep dir) (priority_at d.cylmax dir dest) 0)
@@ -94,7 +95,7 @@ module _ {T : Type 0} {d : Disk T} (lists : ℕ → List ℕ) where
       let urgent : p ≡ priority_at d.cylmax (toward dest d) dest = rw same at with in
       rw (sweeps, urgent) (rests_by (toward dest d) dest (toward_ahead d dest) (toward_other d dest) on busy r)
 
-  -- with the drive in, the first of the present sweep may go on
+  -- with the drive in, the first of the present sweep may resume
   first_by : (dir : Direction) → d.direction ≡ dir → ((i : ℕ) → IsNonDecreasing (lists i)) → lists (sweep dir) ≢ []
       → HeadFree d (lists 0) (lists 1) → d.stay ≡ waiting_here d (lists 0) (lists 1)
       → HeadReady (sweep dir) (slice_index (lists (sweep dir)) 0) d (taken lists (sweep dir) 0)
@@ -142,7 +143,7 @@ module _ {T : Type 0} {d : Disk T} (lists : ℕ → List ℕ) where
       let on : c ≡ sweep d.direction = rw same at is in
       rw on (first_by d.direction refl rise (rw on at some) f stay)
 
-  -- with the drive in, rest holds where nobody waits for either sweep
+  -- with the drive in, rest holds if no request waits for either sweep
   pub HeadRests-nobody : (dir : Direction) → lists (sweep dir) ≡ [] → lists (sweep (opposite dir)) ≡ []
       → HeadFree d (lists 0) (lists 1)
       → HeadRests d (lists 0) (lists 1)
@@ -161,7 +162,7 @@ module _ {T : Type 0} {d : Disk T} (lists : ℕ → List ℕ) where
     stay = λ out. absurd (not_both _ out f.is_in);
   }
 
--- however many are counted as due, who waits does so before the head
+-- however many are counted as due, each waiting request waits for a cylinder ahead of the head or under it
 pub OnSweeps-due : {T : Type 0} (d : Disk T) (n : ℕ) {ups downs : List ℕ} → OnSweeps d ups downs
     → OnSweeps (due d n) ups downs
 OnSweeps-due d n s = record {
@@ -175,13 +176,13 @@ pub HeadFree-due : {T : Type 0} (d : Disk T) (n : ℕ) {ups downs : List ℕ} �
     → HeadFree (due d n) ups downs
 HeadFree-due d n f = record { inv = f.inv; is_in = f.is_in; sweeps = OnSweeps-due d n f.sweeps }
 
--- who waited finds the drive in
+-- a request that waited finds the drive in
 pub HeadReady-free : {T : Type 0} (d : Disk T) (c p : ℕ) (ups downs : List ℕ) → HeadReady c p d ups downs
     → HeadFree d ups downs
 HeadReady-free d zero p ups downs r = r.free
 HeadReady-free d (suc c) p ups downs r = r.free
 
--- a drive that is in stays so as the head turns
+-- a drive that is in stays in when the head turns
 pub HeadFree-turned : {T : Type 0} {d : Disk T} {ups downs : List ℕ} → HeadFree d ups downs
     → HeadFree (turned d) ups downs
 HeadFree-turned f = record {
@@ -201,7 +202,7 @@ sweep_hoare Up = omega arith
 sweep_hoare Down = omega arith
 
 module _ {T : Type 0} (found : Disk T) (ups downs : List ℕ) where
-  -- the head at the cylinder of the one that is granted, which is the first before the head
+  -- the head is at the cylinder of the granted request, which is the first ahead of the head
   granted_by : (dir : Direction) (dest cylmax : ℕ) → dest ≤ cylmax → found.cylmax ≡ cylmax
       → HeadReady (sweep dir) (priority_at cylmax dir dest) found ups downs
       → HeadRests (counted (sent found dest) ups downs) ups downs
@@ -232,7 +233,7 @@ module _ {T : Type 0} (found : Disk T) (ups downs : List ℕ) where
     stay = λ out. refl;
   }
 
-  -- the one that is granted at the cylinder under the head was counted
+  -- a request that is granted at the cylinder under the head was counted
   less_by : (dir : Direction) (dest cylmax : ℕ) → dest ≤ cylmax → found.cylmax ≡ cylmax → found.headpos ≡ dest
       → HeadReady (sweep dir) (priority_at cylmax dir dest) found ups downs
       → (counted (sent found dest) ups downs).stay + 1 ≡ found.stay
@@ -249,7 +250,7 @@ module _ {T : Type 0} (found : Disk T) (ups downs : List ℕ) where
   HeadRests-granted {a = a} {dest = dest} r same to with on disk =
       granted_by (toward dest a) dest a.cylmax on disk (rw (to, with, same) at r)
 
-  -- and where the head stands at its cylinder, one grant less is due there
+  -- and if the head is at its cylinder, one grant less is due there
   pub stay-granted : {a a1 : Disk T} {c p dest : ℕ} → HeadReady c p found ups downs → a1 ≡ a
       → c ≡ sweep (toward dest a1) → p ≡ priority_at a1.cylmax (toward dest a1) dest → dest ≤ a.cylmax
       → found.cylmax ≡ a.cylmax → found.headpos ≡ dest → (counted (sent found dest) ups downs).stay + 1 ≡ found.stay
@@ -257,7 +258,7 @@ module _ {T : Type 0} (found : Disk T) (ups downs : List ℕ) where
       less_by (toward dest a) dest a.cylmax on disk here (rw (to, with, same) at r)
 
 module _ {T : Type 0} (found : Disk T) where
-  -- a request that found the drive in is granted: nobody waited
+  -- a request that found the drive in is granted: no request waited
   pub HeadRests-at_once : (us ds : List ℕ) (dest : ℕ) → (found.drive ≡ None → ⊥) → dest ≤ found.cylmax
       → HeadRests found us ds → HeadRests (counted (sent found dest) us ds) us ds
   HeadRests-at_once [] [] dest is_in on r = record {
@@ -275,7 +276,7 @@ module _ {T : Type 0} (found : Disk T) where
   HeadRests-at_once (x ∷ us) ds dest is_in on r = absurd (is_in (r.up_busy (λ e. cc)))
   HeadRests-at_once [] (x ∷ ds) dest is_in on r = absurd (is_in (r.down_busy (λ e. cc)))
 
-  -- and nobody was due
+  -- and no grant was due
   pub none_due : (us ds : List ℕ) → (found.drive ≡ None → ⊥) → HeadRests found us ds → 0 ≡ waiting_here found us ds
   none_due [] [] is_in r = none_here found.direction
     where
@@ -293,12 +294,12 @@ pub Reaches-waited : {T : Type 0} {k k1 c p dest : ℕ} {a a1 s1 found : Disk T}
 Reaches-waited busy waits place state front same to with =
     waited _ _ busy (rw (place, state, front, to, with, same) at waits)
 
--- how the head was handed on, with place, data and front by other names
+-- how the drive was handed off, with place, data and front by other names
 pub HandsOn-as : {T : Type 0} {k k1 : ℕ} {d d1 : Disk T} {g g1 h : History (Disk T)} → HandsOn k1 d1 g1 h → k1 ≡ k
     → d1 ≡ d → g1 ≡ g → HandsOn k d g h
 HandsOn-as hands place state front = rw (place, state, front) at hands
 
--- where those are counted already that are due
+-- if the due grants are counted already
 counted_as : {T : Type 0} {k c : ℕ} (d : Disk T) (n : ℕ) {g h : History (Disk T)} → d.stay ≡ n → Finishes k c d g h
     → Finishes k c (due d n) g h
 counted_as d n is finishes = rw (sym is) finishes
@@ -309,7 +310,7 @@ pub HandsOn-keeps : {T : Type 0} {k : ℕ} (d : Disk T) (ups downs : List ℕ) {
 HandsOn-keeps d ups downs up down stay some finishes =
     keeps some (counted_as d _ (rw (up, down) at stay) finishes)
 
--- those that are due are counted as it is handed on, however many were counted before
+-- the due grants are counted when the drive is handed off, however many were counted before
 pub HandsOn-due : {T : Type 0} {k : ℕ} (d : Disk T) (n : ℕ) {g h : History (Disk T)} → HandsOn k (due d n) g h
     → HandsOn k d g h
 HandsOn-due d n (keeps some finishes) = keeps some finishes

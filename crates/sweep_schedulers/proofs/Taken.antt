@@ -13,11 +13,11 @@ use Rattle.sweep_schedulers.specs.Sweeps.{AtMost, first, IsPassed, by_equal}
 use Rattle.sweep_schedulers.specs.Sweeps.{by_other}
 use Rattle.sweep_schedulers.proofs.Lists.{count_by-cons, count_by-put_in, count_by-first}
 
--- how many of these wait with this priority
+-- the number of these that wait with this priority
 abbrev pub equals : ℕ → List ℕ → ℕ
 equals p qs = count_by (λ s. s == p) qs
 
--- what all keep, each that is counted keeps
+-- what holds of all, holds of each that is counted
 pub All-counted : (P : ℕ → Type 0) (p : ℕ) (qs : List ℕ) → All P qs → 0 < equals p qs → P p
 All-counted P p [] all some = absurd (omega (arith, some))
 All-counted P p (x ∷ qs) all some = by (x == p) refl (All-counted P p qs (All-tail P x qs all))
@@ -49,7 +49,7 @@ apart_within s p (x ∷ qs) apart =
       count_by-cons (λ r. r == p) x qs,
     )
 
--- the first counts where it has this priority
+-- the first counts if it has this priority
 pub with_first : (p : ℕ) (qs : List ℕ) → qs ≢ []
     → equals p qs ≡ cond (slice_index qs 0 == p) 1 0 + equals p (behind_first qs)
 with_first p qs some =
@@ -102,7 +102,7 @@ pub few_taken : (dir : Direction) (q : ℕ → List ℕ) (m : ℕ) → AtMost m 
 few_taken Up q m few = omega (arith, few, shorter (q 0))
 few_taken Down q m few = omega (arith, few, shorter (q 1))
 
--- a request that is passed waits on, behind those that are left before it
+-- a request that is passed waits further, after those that are left before it
 fewer : {k j : ℕ} (p : ℕ) (dir own : Direction) (qs : List ℕ) → dir ≡ own → qs ≢ []
     → IsPassed own p dir (slice_index qs 0) k j → k < equals p qs → j < equals p (behind_first qs)
 fewer p dir own qs same some (by_equal i on is) among =

@@ -1,5 +1,5 @@
--- What the procedures of readers and writers add to the history. Whether somebody waits is asked of the front at that
--- moment.
+-- What the procedures of readers and writers add to the history. That a process waits at a moment is a statement about
+-- the front at that moment.
 use Rattle.std.specs.Prelude.{ℕ, ◌-◌, ◌+◌, ◌<◌, [], true, false, ◌≡◌, ◌≢◌, ◌⊎◌, Result, Ok, Err}
 use Rattle.hoare_law.specs.declared.event.History.{History}
 use Rattle.hoare_law.specs.declared.event.Event.TheVariants.{Admit, Leave}
@@ -12,16 +12,16 @@ use Rattle.sweep_schedulers.specs.declared.readers_writers.NoReader.{NoReader}
 use Rattle.sweep_schedulers.specs.declared.readers_writers.TooManyReaders.{TooManyReaders}
 use Rattle.sweep_schedulers.specs.ReadersWriters.{Shared, IsInUse, with_readers, with_writer, written}
 
--- a reader is held up where a writer is in, or somebody waits on oktowrite
+-- a reader has to wait if a writer is in, or a process waits on oktowrite
 abbrev pub ReaderHeldUp : {T : Type 0} → History (Shared T) → Shared T → Type 0
 ReaderHeldUp g a = (a.busy ≡ true) ⊎ (waiting 1 g.events ≢ [])
 
--- one reader more has a pass and the value, or there were 1,024 already
+-- one more reader is in, with a pass and the value; or 1,024 readers were in already
 pub data Admits {T : Type 0} (s : Shared T) : Shared T → Result (ReadPass × T) TooManyReaders → Type 0 where
   room : (pass : ReadPass) → s.readers < 1024 → Admits s (with_readers s (s.readers + 1)) (Ok (pass, s.value))
   full : (e : TooManyReaders) → s.readers ≡ 1024 → Admits s s (Err e)
 
--- k came to be admitted or refused, and in both cases resumed a process that waits on oktoread
+-- k was admitted or refused, after a wait if it had to wait, and in both cases signalled on oktoread as its last act
 pub record StartsRead {T : Type 0} (k : ℕ) (f h : History (Shared T))
     (read : Result (ReadPass × T) TooManyReaders) : Type 0 where
   pub found : Shared T
@@ -31,8 +31,8 @@ pub record StartsRead {T : Type 0} (k : ℕ) (f h : History (Shared T))
   pub admits : Admits found after read
   pub finishes : Finishes k 0 after front h
 
--- k was the last reader, and resumed a process that waits on oktowrite; or it left other readers in; or it was refused,
--- and has its pass
+-- k was the last reader, and signalled on oktowrite as its last act; or it left, and other readers stayed in; or it was
+-- refused, and has its pass
 pub data EndsRead {T : Type 0} (k : ℕ) (pass : ReadPass) (f h : History (Shared T)) : Result
     (Unit {0}) NoReader → Type 0 where
   no_reader : (a : Shared T) (g : History (Shared T)) → AddsLast f (Admit k a) g → a.readers ≡ 0
@@ -42,7 +42,7 @@ pub data EndsRead {T : Type 0} (k : ℕ) (pass : ReadPass) (f h : History (Share
   others : (a : Shared T) (g : History (Shared T)) → AddsLast f (Admit k a) g → 1 < a.readers
       → h ≡ with_event g (Leave k (with_readers a (a.readers - 1))) → EndsRead k pass f h (Ok tt)
 
--- k came to be the writer, and has the value
+-- k became the writer, after a wait if it had to wait, and has the value
 pub record StartsWrite {T : Type 0} (k : ℕ) (value : T) (f h : History (Shared T)) : Type 0 where
   pub found : Shared T
   pub front : History (Shared T)
@@ -50,8 +50,8 @@ pub record StartsWrite {T : Type 0} (k : ℕ) (value : T) (f h : History (Shared
   pub has : value ≡ found.value
   pub leaves : h ≡ with_event front (Leave k (with_writer found))
 
--- k left its value, and resumed a process that waits on oktoread if there is one, else one that waits on oktowrite; or
--- it was refused
+-- k left its value, and its last act was a signal on oktoread if a process waited there, else on oktowrite; or k was
+-- refused
 pub data EndsWrite {T : Type 0} (k : ℕ) (value : T) (f h : History (Shared T)) : Result (Unit {0})
     (NotOut T) → Type 0 where
   to_readers : (a : Shared T) (g : History (Shared T)) → AddsLast f (Admit k a) g → a.busy ≡ true

@@ -1,14 +1,14 @@
-//! Which way the head of a disk goes.
+//! The direction in which the head of a disk sweeps.
 ghost use Rattle.std.specs.Prelude.{◌≡◌};
 ghost use Rattle.sweep_schedulers.specs.Heads.{sweep, opposite};
 
-/// The condition *upsweep* of a disk head: who waits there waits for a cylinder on the way up.
+/// The condition *upsweep* of a disk head: a request waits on it for a cylinder on the way up.
 pub const UPSWEEP: usize = 0;
 
-/// The condition *downsweep* of a disk head: who waits there waits for a cylinder on the way down.
+/// The condition *downsweep* of a disk head: a request waits on it for a cylinder on the way down.
 pub const DOWNSWEEP: usize = 1;
 
-/// Which way a disk head sweeps.
+/// The direction in which a disk head sweeps.
 #[derive(Clone, Copy, Debug, PartialEq, Eq)]
 pub enum Direction {
     /// To higher cylinders.
@@ -18,7 +18,7 @@ pub enum Direction {
 }
 
 impl Direction {
-    // The condition of its sweep.
+    // Returns the condition of the sweep in this direction.
     pub(crate) fn sweep(self) -> usize
         ensures { result ≡ sweep self }
     {
@@ -28,7 +28,7 @@ impl Direction {
         }
     }
 
-    // The other way.
+    // Returns the other direction.
     pub(crate) fn opposite(self) -> Direction
         ensures { result ≡ opposite self }
     {

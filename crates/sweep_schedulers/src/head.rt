@@ -15,11 +15,11 @@ use hoare_law::waits::Waits;
 use std::marker::Model;
 use std::sync::Wait;
 
-/// A disk drive whose head sweeps over the cylinders 0 to `cylmax` ("Monitors", Disk Head Scheduler). Condition 0 is
-/// *upsweep* (`UPSWEEP`), where a request waits with its cylinder as its priority; condition 1 is *downsweep*
-/// (`DOWNSWEEP`), where it waits with the distance of its cylinder from the last one. A request for the cylinder under
-/// the head waits for the other sweep, so that a stream of them can't hold the head there. (In the paper it waits for
-/// the present one.) Busy means that the drive is out.
+/// A disk drive whose head sweeps over the cylinders 0 to `cylmax` (Hoare 1974, Disk Head Scheduler). Busy means that
+/// the drive is out. Condition 0 is *upsweep* (`UPSWEEP`); a request waits on it with its cylinder as its priority.
+/// Condition 1 is *downsweep* (`DOWNSWEEP`); a request waits on it with the distance of its cylinder from the last one
+/// as its priority. A request for the cylinder under the head waits for the other sweep, so that a stream of such
+/// requests can't hold the head there. (In the paper it waits for the present sweep.)
 ///
 /// With a monitor `m` of `Head::with('d', 400)`, and `out`, a place of it:
 ///
@@ -55,7 +55,7 @@ impl<T> Model for Head<T> {
     ghost invariant = { λ h. h.headpos ≤ h.cylmax };
 }
 
-/// The cylinder is past the last one of the disk.
+/// Why `request` is refused: the cylinder is past the last one of the disk.
 #[derive(Clone, Copy, Debug, PartialEq, Eq, thiserror::Error)]
 #[error("the cylinder is past the last one")]
 pub struct OffDisk;
@@ -100,7 +100,7 @@ impl<T: Drop> MonitorData for Head<T> {
 }
 
 impl<T: Drop> Head<T> {
-    /// A disk of the cylinders 0 to `cylmax` with this drive in. The head stands at cylinder 0 and sweeps up.
+    /// Creates a disk of the cylinders 0 to `cylmax` with `drive` in, the head at cylinder 0, sweeping up.
     pub fn with(drive: T, cylmax: u16) -> Head<T>
         ensures made { result ≡ idle drive cylmax }
         ensures rest { HeadRests result (nobody 0) (nobody 1) }
@@ -114,8 +114,8 @@ impl<T: Drop> Head<T> {
         }
     }
 
-    /// A disk of the cylinders 0 to `cylmax` with the head at `headpos`, sweeping in `direction`. No grant is counted
-    /// as due there.
+    /// Creates a disk of the cylinders 0 to `cylmax` with the head at `headpos`, sweeping in `direction`. No grant is
+    /// counted as due there. The caller passes a `headpos` of at most `cylmax`.
     pub fn standing(drive: Option<T>, headpos: u16, direction: Direction, cylmax: u16) -> Head<T>
         requires { headpos ≤ cylmax }
         ensures { result ≡ record {
@@ -135,8 +135,9 @@ impl<T: Drop> Head<T> {
         }
     }
 
-    /// How many grants are still due at the cylinder under the head, while the drive is out: so many requests wait for
-    /// it and the present sweep, and no other joins them. While the drive is in the number says nothing.
+    /// Returns the number of grants that are still due at the cylinder under the head, while the drive is out: so many
+    /// requests wait for that cylinder and the present sweep, and no other request joins them. While the drive is in,
+    /// the number has no meaning.
     pub fn stay(&self) -> usize
         ensures { result ≡ self.now.stay }
     {
@@ -158,7 +159,7 @@ impl<T: Drop> Head<T> {
         self.cylmax
     }
 
-    // Whether the head is at a cylinder.
+    // Returns true if the head is at cylinder `dest`.
     fn is_at(&self, dest: u16) -> bool
         ensures { IsTrue result ↔ (self.now.headpos ≡ dest) }
     {
@@ -179,8 +180,9 @@ impl<T: Drop> Head<T> {
         self.direction.sweep()
     }
 
-    /// Returns where a request for `dest` waits while the drive is out: the condition of the sweep that reaches `dest`
-    /// from where the head is, and the priority there. For the cylinder under the head it is the other sweep.
+    /// Returns on which condition and with which priority a request for `dest` waits while the drive is out. The
+    /// condition is that of the sweep that reaches `dest` from the position of the head: for the cylinder under the
+    /// head, the other sweep. The caller passes a `dest` of at most `cylmax`.
     pub fn stop_at(&self, dest: u16) -> (usize, u64)
         requires { dest ≤ self.now.cylmax }
         ensures sweep { result.0 ≡ sweep (toward dest self.now) }
@@ -194,7 +196,7 @@ impl<T: Drop> Head<T> {
         }
     }
 
-    /// Takes the drive out: returns it, or `None` if it was out already.
+    /// Takes the drive out and returns it. Returns `None` if it was out already.
     pub fn take(&mut self) -> Option<T>
         ensures drive { result ≡ self.old.drive }
         ensures after { self.new ≡ given_out self.old }
@@ -202,7 +204,8 @@ impl<T: Drop> Head<T> {
         self.drive.take()
     }
 
-    /// Puts the head at cylinder `dest`. The requests that wait, and the grants counted as due, are left as they are.
+    /// Moves the head to cylinder `dest`, at most `cylmax`. Leaves the waiting requests and the number of due grants as
+    /// they are.
     pub fn go(&mut self, dest: u16)
         requires { dest ≤ self.old.cylmax }
         ensures { self.new ≡ moved self.old dest }
@@ -210,7 +213,7 @@ impl<T: Drop> Head<T> {
         self.headpos = dest;
     }
 
-    // The priority with which a request for the cylinder under the head would wait for the present sweep.
+    // Returns the priority with which a request for the cylinder under the head would wait for the present sweep.
     fn priority_here(&self) -> u64
         ensures { result ≡ priority_at self.now.cylmax self.now.direction self.now.headpos }
     {
@@ -220,7 +223,7 @@ impl<T: Drop> Head<T> {
         }
     }
 
-    // How many wait for the present sweep and the cylinder under the head.
+    // Returns the number of requests that wait for the present sweep and the cylinder under the head.
     fn waiting_here<W: Waits>(&self, lists: &W) -> usize
         requires { All (λ p. p ≤ self.now.cylmax) (W.waiting_priorities lists.now 1) }
         ensures { let q = W.waiting_priorities lists.now in result ≡ waiting_here self.now (q 0) (q 1) }
@@ -228,7 +231,8 @@ impl<T: Drop> Head<T> {
         count_equal(lists, self.direction.sweep(), self.priority_here())
     }
 
-    // Whether those that wait there, and one of the present sweep with this priority beside them, are counted as due.
+    // Returns true if `stay` is the number of requests that wait for the present sweep and the cylinder under the head,
+    // after a request with `priority` is added to the present sweep.
     fn counts_with<W: Waits>(&self, priority: u64, lists: &W) -> bool
         requires on_disk { All (λ p. p ≤ self.now.cylmax) (W.waiting_priorities lists.now 1) }
         requires one { priority ≤ self.now.cylmax }
@@ -244,14 +248,15 @@ impl<T: Drop> Head<T> {
         }
     }
 
-    // So many grants are due there.
+    // Sets the number of grants that are due at the cylinder under the head.
     fn count(&mut self, stay: usize)
         ensures { self.new ≡ due self.old stay }
     {
         self.stay = stay;
     }
 
-    // One that waited for the present sweep with this priority goes on, and is due no more.
+    // Records that a request that waited for the present sweep with `priority` resumes: if it waited for the cylinder
+    // under the head, one grant less is due there.
     fn grant(&mut self, priority: u64)
         ensures { self.new ≡ one_granted self.old priority }
     {
@@ -260,21 +265,22 @@ impl<T: Drop> Head<T> {
         }
     }
 
-    /// Puts a drive in, in place of any that is in.
+    /// Puts `drive` in; it replaces the drive that is in, if there is one.
     pub fn put(&mut self, drive: T)
         ensures { self.new ≡ put self.old drive }
     {
         self.drive = Some(drive);
     }
 
-    /// Turns the head: it sweeps the other way from now on.
+    /// Turns the head: from then on it sweeps in the other direction.
     pub fn turn(&mut self)
         ensures { self.new ≡ turned self.old }
     {
         self.direction = self.direction.opposite();
     }
 
-    // Whether all that wait for a sweep wait for a cylinder before the head.
+    // Returns true if each request that waits for a sweep waits for a cylinder ahead of the head on that sweep, or
+    // under it.
     fn sweeps_hold<W: Waits>(&self, lists: &W) -> bool
         ensures { let q = W.waiting_priorities lists.now in IsTrue result
             ↔ OnSweeps self.now (q 0) (q 1) }
@@ -286,11 +292,12 @@ impl<T: Drop> Head<T> {
             && none_below(lists, DOWNSWEEP, u64::from(self.cylmax - self.headpos))
     }
 
-    /// Takes the drive out, with the head at `dest`: at once where the drive is in, else after one wait for the sweep
-    /// that reaches `dest` from where the head is. Refused where `dest` is past the last cylinder: then nothing
-    /// changed. A caller that has the place inside may put another disk in place of the first; a request that waited
-    /// and finds another last cylinder is refused too, even where `dest` would fit, and hands the drive on as a release
-    /// does.
+    /// Takes the drive out, with the head at `dest`, and returns it. It does so at once if the drive is in, else after
+    /// one wait for the sweep that reaches `dest` from the position of the head.
+    ///
+    /// Refused with `OffDisk` if `dest` is past the last cylinder: then nothing changed. A caller that has the place
+    /// inside may put in another disk instead of the first. A request that waited and then finds another last cylinder
+    /// is refused too, even if `dest` would fit, and hands the drive off as `release` does.
     pub fn request<R: Wait, M: Monitor<Head<T>>>(
         m: &M,
         rt: &R,
@@ -325,9 +332,10 @@ impl<T: Drop> Head<T> {
         }
     }
 
-    /// Puts a drive in and hands it on: to the next request of the present sweep, and where there is none the head
-    /// turns, to the next one of the other sweep. Refused exactly where the drive is in: then nothing changed and the
-    /// handed drive comes back. (A drive isn't bound to its monitor: any may be put in.)
+    /// Puts `drive` in and hands it off to the next request of the present sweep. If no request waits for the present
+    /// sweep, the head turns, and the drive goes to the next request of the other sweep, if there is one. Refused with
+    /// `NotOut` exactly if the drive is in: then nothing changed, and the given drive is returned. (A drive isn't bound
+    /// to its monitor: any drive of the type may be put in.)
     pub fn release<R: Wait, M: Monitor<Head<T>>>(
         m: &M,
         rt: &R,
@@ -347,7 +355,8 @@ impl<T: Drop> Head<T> {
         (Head::hand_on(m, rt, inside), Ok(()))
     }
 
-    // Puts the head at a cylinder, and counts those that are due there: they are counted where it is there already.
+    // Moves the head to `dest`, and counts the grants due there. If the head is there already, they are counted
+    // already.
     fn move_to<M: Monitor<Head<T>>>(m: &M, inside: M::In, dest: u16) -> M::In
         requires of { M.is_of_in m.now inside }
         requires on_disk { dest ≤ (M.data_in inside).cylmax }
@@ -370,8 +379,8 @@ impl<T: Drop> Head<T> {
         Head::recount(m, inside)
     }
 
-    // Counts as due those that wait for the present sweep and the cylinder under the head. Where the first of the sweep
-    // waits for another cylinder nobody does.
+    // Counts as due the requests that wait for the present sweep and the cylinder under the head. If the first of the
+    // sweep waits for another cylinder, there is no such request.
     fn recount<M: Monitor<Head<T>>>(m: &M, inside: M::In) -> M::In
         requires of { M.is_of_in m.now inside }
         requires inv { HeadHolds (M.data_in inside) }
@@ -394,8 +403,8 @@ impl<T: Drop> Head<T> {
         inside
     }
 
-    // Hands the drive that is in to the next request of the present sweep; where there is none the head turns. Only
-    // then those have to be counted that are due where the head is.
+    // Hands the drive, which is in, off to the next request of the present sweep; if there is none, the head turns
+    // first. Only then the grants due at the cylinder under the head have to be counted again.
     fn hand_on<R: Wait, M: Monitor<Head<T>>>(m: &M, rt: &R, inside: M::In) -> M::Out
         requires of { M.is_of_in m.now inside }
         requires free { HeadFree (M.data_in inside) (M.lists_in inside 0) (M.lists_in inside 1) }

@@ -1,4 +1,4 @@
-//! What follows from the meanings of `rest`: functions that do nothing, whose contracts are the laws.
+//! The laws that follow from the meanings of `rest`: functions without effect, whose contracts are the laws.
 ghost use Rattle.std.specs.Prelude.{◌≡◌, ◌≢◌, ◌+◌, ◌-◌, ◌*◌, ◌<◌, ◌≤◌, ◌++◌, ◌∷◌, ℕ, List, [], All, None, false};
 ghost use Rattle.std.specs.Prelude.{length};
 ghost use Rattle.std.specs.List.{sum};
@@ -16,9 +16,11 @@ ghost use Rattle.sweep_schedulers.specs.Stays.{Stays};
 ghost use Rattle.sweep_schedulers.specs.Sweeps.{Awaits, KeepsOrTurns, IsWaiting, first, granted_first};
 ghost use Rattle.sweep_schedulers.specs.Sweeps.{grants_before, reached};
 
-/// While a head stands at a cylinder and keeps its direction, it is granted there as often as its `stay` says at most,
-/// however many ask for that cylinder meanwhile: nobody joins those that wait there for the present sweep, and after n
-/// grants n less are due.
+/// Bounds how long a head stays at a cylinder. While the head is at a cylinder and keeps its direction, at most `stay`
+/// grants are made there, however many processes request that cylinder meanwhile:
+///
+/// - `nobody_joins`: no request joins those that wait for that cylinder and the present sweep.
+/// - `one_less`: after n grants, n less are due.
 pub fn a_head_moves_on<T>()
     ensures nobody_joins { (d : Disk T) (q : ℕ → List ℕ) → HeadRests d (q 0) (q 1) → d.drive ≡ None
         → HeadRests d (joined q (sweep d.direction) (priority_at d.cylmax d.direction d.headpos) 0)
@@ -27,21 +29,22 @@ pub fn a_head_moves_on<T>()
         → Stays d q e r n → n + e.stay ≡ d.stay }
 {}
 
-/// Bounds how long a request waits on a disk head ("Monitors", Disk Head Scheduler): while it waits, the drive is
-/// granted to others at most so many times, whatever they ask for.
+/// Bounds how long a request waits on a disk head (Hoare 1974, Disk Head Scheduler): the number of times that the drive
+/// is granted to other requests meanwhile, whatever they ask for.
 ///
-/// - `in_time`: at most `grants_before` times, a number of the disk, the request, and m, as many as wait at a time.
-/// - `at_its_cylinder`: fewer times than `stay`, if the head stands at its cylinder and sweeps in its direction.
+/// - `in_time`: at most `grants_before` times, a number computed from the disk, the request, and m, the largest number
+///   of requests that wait at a time.
+/// - `at_its_cylinder`: fewer times than `stay`, if the head is at its cylinder and sweeps in its direction.
 /// - `at_most`: at most (2 `cylmax` + 1) (m - 1) times, in any state. A place that releases doesn't wait, so of N
 ///   places m is N - 1.
-/// - `longest`: a run that comes to this number, on two cylinders with two that wait.
+/// - `longest`: a run that reaches this number, on two cylinders with two waiting requests.
 /// - `drive_is_out`, `release_grants`: meanwhile the drive is out, and each release grants it to a request.
 ///
 /// A step of `Awaits` is one call. `joins` is a `request` that finds the drive out, and waits. `grants` is a `release`,
 /// whose `HandsOn` keeps the direction or turns, with the end of the `request` that it resumes: by `as_released` and
 /// `as_requested` the disk is that of their traces. Other calls change nothing meanwhile, unless a caller puts another
 /// disk in through `state_mut`. Requests of equal priority are resumed in the order in which they came
-/// (`hoare_law::laws::least_is_chosen`), so those that came earlier are all that `IsPassed` counts.
+/// (`hoare_law::laws::least_is_chosen`), so `IsPassed` counts the earlier requests alone.
 pub fn a_request_is_granted<T>()
     ensures drive_is_out { (m p k : ℕ) (own : Direction) (d : Disk T) (q : ℕ → List ℕ) → IsWaiting m own p k d q
         → d.drive ≡ None }
@@ -64,14 +67,15 @@ pub fn a_request_is_granted<T>()
         → cylinder_of cylmax dir (priority_at cylmax dir dest) ≡ dest }
 {}
 
-/// A writer waits for the writers before it and their rounds of readers, and a reader for one write, however many come
-/// meanwhile ("Monitors", Readers and Writers). While a writer waits, reads begin only in rounds: a round begins when a
-/// write ends, and its readers are those that wait then. Only the writers before it begin, in their order.
+/// Bounds how long a writer and a reader wait (Hoare 1974, Readers and Writers), however many processes come meanwhile:
+/// a writer waits for the writers before it and their rounds of readers, and a reader for one write. While a writer
+/// waits, reads begin only in rounds: a round begins when a write ends, and its readers are those that wait then. Only
+/// the writers before it begin, in their order.
 ///
 /// - `writes`, `is_next`: at most k writes begin, if k writers were before it, and all of them once it is next.
 /// - `rounds`: at most one round for each of these writes, and one more if a writer was in at first.
 /// - `reads`, `at_most`: at most (k + 1) * `most` reads begin, if no round has more than `most` readers.
-/// - `beside_readers`: none begins, if it was next while readers were in.
+/// - `beside_readers`: no read and no write begins, if it was next while readers were in.
 /// - `one_write`: while a reader waits, no read begins and no write ends. So it resumes when the write of the writer
 ///   that was in ends, or, if readers were in, that of the first writer that waits.
 pub fn readers_go_in_rounds<T>()

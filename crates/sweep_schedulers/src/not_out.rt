@@ -1,10 +1,11 @@
-//! A refusal that gives an item back.
+//! A refusal that returns an item.
 use std::{error, fmt};
 
-/// Nothing is out, so nothing can be put in: the drive is in, or no writer is. What was handed in comes back.
+/// Why an item is refused: nothing is out, so nothing can be put in. The drive is in, or no writer is in. It has the
+/// given item.
 #[derive(Debug, Drop)]
 pub struct NotOut<T> {
-    /// What was handed in.
+    /// The item that was given.
     pub item: T,
 }
 

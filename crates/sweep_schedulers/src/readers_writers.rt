@@ -1,4 +1,4 @@
-//! A value that many read at once and one writes alone.
+//! A value that many processes read at once, or one process writes alone.
 ghost use Rattle.std.specs.Prelude.{◌≡◌, ◌↔◌, ◌<◌, ◌-◌, IsTrue, false};
 ghost use Rattle.hoare_law.specs.Priorities.{nobody};
 ghost use Rattle.sweep_schedulers.specs.ReadersWriters.{IsInUse, ReadersRest, unused, with_readers, with_writer};
@@ -13,25 +13,25 @@ use std::fmt;
 use std::marker::Model;
 use std::sync::Wait;
 
-/// The most readers that are in at a time.
+/// The largest number of readers that are in at a time.
 pub const MOST_READERS: u32 = 1024;
 
-/// The condition *oktoread* of a `ReadersWriters`: who waits there waits to read.
+/// The condition *oktoread* of a `ReadersWriters`: a process waits on it to read.
 pub const OKTOREAD: usize = 0;
 
-/// The condition *oktowrite* of a `ReadersWriters`: who waits there waits to write.
+/// The condition *oktowrite* of a `ReadersWriters`: a process waits on it to write.
 pub const OKTOWRITE: usize = 1;
 
-/// A value that many may read at a time, or one may write ("Monitors", Readers and Writers). Condition 0 is *oktoread*
-/// (`OKTOREAD`), condition 1 is *oktowrite* (`OKTOWRITE`); busy means that a writer is in. No reader overtakes a
-/// waiting writer, and the readers that wait when a writer ends go before the next writer.
+/// A value that up to 1,024 processes read at a time, or one process writes (Hoare 1974, Readers and Writers).
+/// Condition 0 is *oktoread* (`OKTOREAD`), condition 1 is *oktowrite* (`OKTOWRITE`); busy means that a writer is in. No
+/// reader overtakes a waiting writer, and the readers that wait when a writer ends go before the next writer.
 ///
 /// With a monitor `m` of `ReadersWriters::with(7u64)`, and `out`, a place of it:
 ///
 /// ```rust
 /// let (out, read) = ReadersWriters::start_read(&m, &rt, out);
 /// let (pass, value) = read?;
-/// let (out, ended) = ReadersWriters::end_read(&m, &rt, out, pass); // Ok(()), or the pass comes back
+/// let (out, ended) = ReadersWriters::end_read(&m, &rt, out, pass); // Ok(()), or the pass is returned
 /// let (out, value) = ReadersWriters::start_write(&m, &rt, out);
 /// let (out, written) = ReadersWriters::end_write(&m, &rt, out, value + 1);
 /// ```
@@ -53,35 +53,35 @@ impl<T: Copy> Model for ReadersWriters<T> {
         (record { value = s.value; readers = s.readers; busy = s.busy }) };
 }
 
-/// The right of one reader to be in. It can't be dropped or copied, so that each read is ended: by `end_read`. It isn't
-/// bound to its monitor.
+/// The right of one reader to be in. It can't be dropped or copied, so each read has to be ended, by `end_read`. It
+/// isn't bound to its monitor.
 #[derive(Debug)]
 pub struct ReadPass {
     unspent: (),
 }
 
 impl ReadPass {
-    // A pass for a reader that comes in.
+    // Creates the pass of a reader that starts.
     pub(crate) fn new() -> ReadPass {
         ReadPass { unspent: () }
     }
 
-    // The reader goes.
+    // Consumes the pass of a reader that ends.
     pub(crate) fn spend(self) {
         let ReadPass { unspent: () } = self;
     }
 }
 
-/// There are 1,024 readers in.
+/// Why `start_read` is refused: 1,024 readers are in.
 #[derive(Clone, Copy, Debug, PartialEq, Eq, thiserror::Error)]
 #[error("1024 readers are in")]
 pub struct TooManyReaders;
 
-/// No reader is in, so none can end. The pass that was handed in comes back. (It isn't an `Error`: an error may be
-/// dropped, and a pass may not.)
+/// Why `end_read` is refused: no reader is in, so none can end. It has the given pass. (It isn't an `Error`: an error
+/// may be dropped, and a pass may not.)
 #[derive(Debug)]
 pub struct NoReader {
-    /// The pass that was handed in.
+    /// The pass that was given to `end_read`.
     pub pass: ReadPass,
 }
 
@@ -124,7 +124,7 @@ impl<T: Copy> MonitorData for ReadersWriters<T> {
 }
 
 impl<T: Copy> ReadersWriters<T> {
-    /// A value with nobody in.
+    /// Creates a shared value with no reader and no writer in.
     pub fn with(value: T) -> ReadersWriters<T>
         ensures made { result ≡ unused value }
         ensures rest { ReadersRest result (nobody 0) (nobody 1) }
@@ -136,7 +136,7 @@ impl<T: Copy> ReadersWriters<T> {
         }
     }
 
-    /// The value.
+    /// Returns the value.
     pub fn into_value(self) -> T
         ensures { result ≡ self.value }
     {
@@ -144,28 +144,28 @@ impl<T: Copy> ReadersWriters<T> {
         value
     }
 
-    // How many readers are in.
+    // Returns the number of readers that are in.
     fn readers(&self) -> u32
         ensures { result ≡ self.now.readers }
     {
         self.readers
     }
 
-    // Whether a writer is in.
+    // Returns true if a writer is in.
     fn is_busy(&self) -> bool
         ensures { result ≡ self.now.busy }
     {
         self.busy
     }
 
-    // Whether a reader or a writer is in.
+    // Returns true if a reader or a writer is in.
     fn is_in_use(&self) -> bool
         ensures { IsTrue result ↔ IsInUse self.now }
     {
         self.readers > 0 || self.busy
     }
 
-    // One reader more, if there is room, with the value.
+    // Lets one more reader in, and returns its pass and the value. Refused if 1,024 readers are in.
     fn admit(&mut self) -> Result<(ReadPass, T), TooManyReaders>
         requires { self.old.busy ≡ false }
         ensures { Admits self.old self.new result }
@@ -177,7 +177,7 @@ impl<T: Copy> ReadersWriters<T> {
         Ok((ReadPass::new(), self.value))
     }
 
-    // One reader less, and how many are left.
+    // Lets one reader out, and returns the number of readers left.
     fn dismiss(&mut self) -> u32
         requires { 0 < self.old.readers }
         ensures after { self.new ≡ with_readers self.old (self.old.readers - 1) }
@@ -187,7 +187,7 @@ impl<T: Copy> ReadersWriters<T> {
         self.readers
     }
 
-    // A writer comes in, with the value.
+    // Lets a writer in, and returns the value.
     fn reserve(&mut self) -> T
         requires { self.old.readers ≡ 0 }
         ensures value { result ≡ self.old.value }
@@ -197,7 +197,7 @@ impl<T: Copy> ReadersWriters<T> {
         self.value
     }
 
-    // The writer goes, and leaves a value.
+    // Lets the writer out, which leaves `value`.
     fn write(&mut self, value: T)
         ensures { self.new ≡ written self.old value }
     {
@@ -205,9 +205,10 @@ impl<T: Copy> ReadersWriters<T> {
         self.busy = false;
     }
 
-    /// Goes in as a reader, once no writer is in or waits, and answers a pass and the value. Refused where 1,024
-    /// readers are in when the caller could go on: then nothing changed, and after a wait the next reader is resumed
-    /// all the same.
+    /// Starts a read, once no writer is in or waits, and returns a pass and the value. The caller waits on *oktoread*,
+    /// once, if it finds a writer in or waiting. Refused with `TooManyReaders` exactly if 1,024 readers are in then, at
+    /// once or after the wait: nothing changed. In both cases the caller leaves by a signal on *oktoread*, which
+    /// resumes the next waiting reader, if there is one.
     pub fn start_read<R: Wait, M: Monitor<ReadersWriters<T>>>(
         m: &M,
         rt: &R,
@@ -227,8 +228,9 @@ impl<T: Copy> ReadersWriters<T> {
         (out, read)
     }
 
-    /// Ends a read; the last reader lets a waiting writer in. Refused exactly where no reader is in: then nothing
-    /// changed and the pass comes back.
+    /// Ends the read of `pass`. The last reader leaves by a signal on *oktowrite*, which resumes a waiting writer, if
+    /// there is one. Refused with `NoReader` exactly if no reader is in: then nothing changed, and the pass is
+    /// returned.
     pub fn end_read<R: Wait, M: Monitor<ReadersWriters<T>>>(
         m: &M,
         rt: &R,
@@ -253,7 +255,8 @@ impl<T: Copy> ReadersWriters<T> {
         (out, Ok(()))
     }
 
-    /// Goes in as the writer, once no reader and no writer is in, and answers the value.
+    /// Starts a write, once no reader and no writer is in, and returns the value. The caller waits on *oktowrite*,
+    /// once, if it finds a reader or a writer in.
     pub fn start_write<R: Wait, M: Monitor<ReadersWriters<T>>>(
         m: &M,
         rt: &R,
@@ -272,8 +275,10 @@ impl<T: Copy> ReadersWriters<T> {
         (m.leave(rt, inside), value)
     }
 
-    /// Ends a write with this value, and lets the waiting readers in, or where there are none a waiting writer. Refused
-    /// exactly where no writer is in: then nothing changed and the handed value comes back.
+    /// Ends a write, which leaves `value`. If readers wait, the caller leaves by a signal on *oktoread*, which resumes
+    /// the first of them; each of them resumes the next. Else it leaves by a signal on *oktowrite*, which resumes a
+    /// waiting writer, if there is one. Refused with `NotOut` exactly if no writer is in: then nothing changed, and the
+    /// given value is returned.
     pub fn end_write<R: Wait, M: Monitor<ReadersWriters<T>>>(
         m: &M,
         rt: &R,

@@ -1,17 +1,17 @@
-//! What all priorities that wait on a condition keep, and how many are equal to one. They rise: the first and the last
-//! say what all keep, and the equal ones stand side by side.
+//! Tests of the priorities that wait on a condition. They rise: so the first and the last give the bounds of all, and
+//! equal priorities are next to each other.
 ghost use Rattle.std.specs.Prelude.{◌≡◌, ◌==◌, ◌≤◌, ◌↔◌, IsTrue, All, count_by};
 
 use hoare_law::waits::Waits;
 
-// Whether none of them is below this one.
+// Returns true if no priority that waits on `condition` is below `least`.
 pub(crate) fn none_below<W: Waits>(lists: &W, condition: usize, least: u64) -> bool
     ensures { IsTrue result ↔ All (λ p. least ≤ p) (W.waiting_priorities lists.now condition) }
 {
     lists.count(condition) == 0 || least <= lists.priority(condition, 0)
 }
 
-// Whether none of them is above this one.
+// Returns true if no priority that waits on `condition` is above `most`.
 pub(crate) fn none_above<W: Waits>(lists: &W, condition: usize, most: u64) -> bool
     ensures { IsTrue result ↔ All (λ p. p ≤ most) (W.waiting_priorities lists.now condition) }
 {
@@ -19,7 +19,7 @@ pub(crate) fn none_above<W: Waits>(lists: &W, condition: usize, most: u64) -> bo
     count == 0 || lists.priority(condition, count - 1) <= most
 }
 
-// How many of them are this one.
+// Returns how many priorities that wait on `condition` equal `priority`.
 pub(crate) fn count_equal<W: Waits>(lists: &W, condition: usize, priority: u64) -> usize
     ensures { result ≡ count_by (λ q. q == priority) (W.waiting_priorities lists.now condition) }
 {

@@ -28,7 +28,7 @@ recount-inside-requires-clause-sweeps g c =
     let lists = g.met.M.Monitor.keeps_lists c.args.inside c.turn.new.self in
     λ κs lives. rw (state, lists) (HeadFree-turned c.requires.free).sweeps
 
--- the head stayed where somebody waits for the present sweep, and else turned
+-- the head kept its direction if a request waits for the present sweep, and else turned
 swept : (g : Over) (c : After-state-2 g) →
     let M = g.M.Monitor in
     let inside = c.if-not-queue.inside in

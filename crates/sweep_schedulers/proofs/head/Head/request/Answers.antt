@@ -57,8 +57,8 @@ returns-then-cylmax-clause-trace g c =
     other
     (HandsOn-due _ _ (HandsOn-as c.hand_on.ensures.trace (met.keeps_place _ _ ∙ place) state (met.keeps_front _ _)))
 
--- it came in and, after a wait or without one, found the drive in, and dest on the disk; those are counted that are
--- then due where the head stands
+-- the request entered and, after a wait or without one, found the drive in, and dest on the disk; the grants are
+-- counted that are then due at the cylinder under the head
 came : (g : Over) (c : After-take-drive g) →
     let M = g.M.Monitor in
     let out = M.with_data c.if-is_busy.inside c.take-drive.new.self in

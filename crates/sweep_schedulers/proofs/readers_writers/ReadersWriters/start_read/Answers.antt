@@ -9,7 +9,7 @@ use Rattle.sweep_schedulers.proofs.readers_writers.ReadersWriters.start_read.Goa
 use Rattle.sweep_schedulers.proofs.readers_writers.ReadersWriters.start_read.Goals.{After-state_mut, then-is_busy}
 use Rattle.sweep_schedulers.proofs.readers_writers.ReadersWriters.start_read.Goals.{else-is_busy+else-queue}
 
--- it came in and, after a wait or without one, finds no writer in
+-- the process entered and, after a wait or without one, finds no writer in
 came : (g : Over) (c : After-state_mut g)
     → Came g.M.Monitor c.args.m.now c.args.out ReaderHeldUp (λ _. 0) (λ _. 0) (λ d _. ReadReady d) c.if-is_busy.inside
 came g c = elim c.if-is_busy.branch [

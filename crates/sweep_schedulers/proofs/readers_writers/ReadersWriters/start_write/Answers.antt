@@ -14,7 +14,7 @@ wait-inside-requires-clause-rest g c =
     ReadersRest-writer (g.M.Monitor.lists_in c.enter-inside.result) c.enter-inside.ensures.rest
     (rw c.state.ensures at (c.is_in_use.ensures.0 c.if-is_in_use.true))
 
--- it came in and, after a wait or without one, finds nobody in
+-- the process entered and, after a wait or without one, finds no reader and no writer in
 came : (g : Over) (c : After-state_mut g)
     → Came g.M.Monitor c.args.m.now c.args.out (λ _ a. IsInUse a) (λ _. 1) (λ _. 0)
     (λ d _. WriteReady d) c.if-is_in_use.inside

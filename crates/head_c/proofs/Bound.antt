@@ -1,4 +1,5 @@
--- How many grants go before a request: each run of the steps is one of a `Head`, with those counted as due that are.
+-- The number of grants made before that of a request: each run of the steps is one of a `Head` whose due grants are
+-- counted.
 use Rattle.std.proofs.Common.{◌≡◌, ℕ, ◌+◌, ◌-◌, ◌*◌, ◌<◌, ◌≤◌, ◌==◌, List, None, count_by, refl, subst, sym}
 use Rattle.std.proofs.Common.{arith}
 use Rattle.hoare_law.specs.Priorities.{joined, taken}
@@ -19,7 +20,7 @@ asked_for : (cylmax dest : ℕ) (dir : Direction) → dest ≤ cylmax
 asked_for cylmax dest Up on = refl
 asked_for cylmax dest Down on = omega (arith, on)
 
--- a request that asks joins none of those that are due
+-- a request that begins to wait doesn't join those whose grants are due
 joins_none : (d : Disk (Unit {0})) (q : ℕ → List ℕ) (cylinder : ℕ) → Rests d q → d.drive ≡ None
     → cylinder ≤ d.cylmax
     → (let r = joined q (sweep (toward cylinder d)) (priority_at d.cylmax (toward cylinder d) cylinder) in

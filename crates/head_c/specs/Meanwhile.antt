@@ -7,9 +7,9 @@ use Rattle.sweep_schedulers.specs.Heads.{Disk, sweep, toward, priority_at, put, 
 use Rattle.sweep_schedulers.specs.Sweeps.{AtMost, KeepsOrTurns, IsPassed, first}
 
 -- A request waits for the sweep in the direction own with priority p, after k others of that sweep and priority, which
--- came earlier. From this head and these lists on n grants go to others, and at most m requests wait at a time. A
--- request for a cylinder joins as `ask` says; or the drive comes back, the head keeps its direction or turns as
--- `give_back` says, and the first request of the sweep has the drive, as `grant` says
+-- came earlier. From this head and these lists on, n grants are made to other requests, and at most m requests wait at
+-- a time. Either a request for a cylinder joins, as `ask` determines. Or the drive is given back, the head keeps its
+-- direction or turns, as by `give_back`, and the first request of the sweep gets the drive, as by `grant`
 pub data Meanwhile (m : ℕ) (own : Direction) (p : ℕ) : Disk (Unit {0}) → (ℕ → List ℕ) → ℕ → ℕ → Type 0 where
   none : (d : Disk (Unit {0})) (q : ℕ → List ℕ) (k : ℕ) → Meanwhile m own p d q k 0
   asks : (d : Disk (Unit {0})) (q : ℕ → List ℕ) (k n cylinder : ℕ) → d.drive ≡ None → cylinder ≤ d.cylmax

@@ -1,13 +1,13 @@
-//! The refusals of the disk head's steps, as C sees them.
+//! The refusals of the disk head's steps, as codes for C.
 
-/// The cylinder is past the last one of the disk; or the last one itself is above 65,535.
+/// The code for a cylinder past the last one of the disk, or a last cylinder above 65,535.
 pub const OFF_DISK: u64 = 116;
 
-/// The drive is out already.
+/// The code for a grant of a drive that is out already.
 pub const IS_OUT: u64 = 117;
 
-/// The drive isn't out.
+/// The code for a drive that is given back and isn't out.
 pub const NOT_OUT: u64 = 118;
 
-/// The number is neither 1 nor 0, so it doesn't say whether a request waits.
+/// The code for a `waits` that is neither 1 nor 0, so that it doesn't say if a request waits.
 pub const NO_ANSWER: u64 = 119;

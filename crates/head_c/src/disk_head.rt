@@ -7,8 +7,8 @@ use sweep_schedulers::direction::Direction;
 use sweep_schedulers::head::Head;
 
 /// Four words of C's: the cylinder under the head; the last cylinder, at most 65,535; the sweep, 0 up and 1 down; and 1
-/// while the drive is out. All 0 is a head: cylinder 0 of a disk of one cylinder, sweeping up, with the drive in. To a
-/// contract it is a `Disk` with no grant counted as due.
+/// while the drive is out. Four words of 0 are a head: at cylinder 0 of a disk of one cylinder, sweeping up, with the
+/// drive in. To a contract it is a `Disk` with no grant counted as due.
 #[repr(C)]
 #[derive(Drop)]
 pub struct DiskHead {
@@ -44,7 +44,7 @@ impl Model for DiskHead {
 }
 
 impl DiskHead {
-    /// Returns the words of a head. How many grants are due isn't kept.
+    /// Returns the words of `head`. They don't keep the number of due grants.
     pub fn of(head: &Head<()>) -> DiskHead
         ensures { result ≡ due head.now 0 }
     {
@@ -56,7 +56,7 @@ impl DiskHead {
         }
     }
 
-    /// Returns the head that these words are. It has no grant counted as due.
+    /// Returns the head that these words are, with no grant counted as due.
     pub fn head(&self) -> Head<()>
         ensures same { result ≡ self.now }
         ensures none_due { result.stay ≡ 0 }
@@ -70,7 +70,7 @@ impl DiskHead {
         Head::standing(drive, self.at as u16, direction, self.last as u16)
     }
 
-    /// Keeps a head of the same disk in these words. How many grants are due isn't kept.
+    /// Writes `head`, a head of the same disk, into these words. They don't keep the number of due grants.
     pub fn keep(&mut self, head: &Head<()>)
         requires { head.now.cylmax ≡ self.old.cylmax }
         ensures { self.new ≡ due head.now 0 }

@@ -1,6 +1,6 @@
 //! The steps of a disk head for C: each function that C calls. `bindings/c/zaulinte_head.h` declares them.
 //!
-//! A head is four words of C's, all 0 at first. No function has a premise: each answers for every number. None waits,
+//! A head is four words of C's, all 0 at first. No function has a premise: each returns for every number. None blocks,
 //! and none allocates. They decide where a request waits, where the head goes and which condition is signalled; the
 //! caller makes the request wait, and signals, by a monitor of its own.
 #![tactic(auto)]
@@ -19,8 +19,8 @@ use codes::{IS_OUT, NO_ANSWER, NOT_OUT, OFF_DISK};
 use disk_head::DiskHead;
 use sweep_schedulers::head::Head;
 
-/// Makes a head at cylinder 0 of a disk of the cylinders 0 to `last`, sweeping up, with the drive in: 0. Refused: 116
-/// `last` is above 65,535.
+/// Makes a head at cylinder 0 of a disk of the cylinders 0 to `last`, sweeping up, with the drive in, and returns 0.
+/// Refused: 116 if `last` is above 65,535; then the head stays as it is.
 #[unsafe(no_mangle)]
 pub extern "C" fn zaulinte_head_make(head: &mut DiskHead, last: u64) -> u64
     ensures made { last ≤ 65535 → (result ≡ 0) × (head.new ≡ idle tt last) }
@@ -34,10 +34,11 @@ pub extern "C" fn zaulinte_head_make(head: &mut DiskHead, last: u64) -> u64
     0
 }
 
-/// A request asks for a cylinder. 0: the drive is in, so it goes on at once. 1: it waits first, on `condition` with
-/// `priority`: on 0 for the upsweep, with the cylinder, or on 1 for the downsweep, with the distance of the cylinder
-/// from the last one. For the cylinder under the head it waits for the other sweep. Refused: 116 the cylinder is past
-/// the last one. The head stays as it is; the two words do unless the answer is 1.
+/// Decides if a request for `cylinder` has to wait. Returns 0 if the drive is in: the request continues at once.
+/// Returns 1 if it waits first, on `condition` with `priority`: on 0 for the upsweep, with the cylinder, or on 1 for
+/// the downsweep, with the distance of the cylinder from the last one. For the cylinder under the head it waits for the
+/// other sweep. Refused: 116 if the cylinder is past the last one. The head isn't changed; `condition` and `priority`
+/// are written only if 1 is returned.
 #[unsafe(no_mangle)]
 pub extern "C" fn zaulinte_head_ask(
     head: &DiskHead,
@@ -68,8 +69,8 @@ pub extern "C" fn zaulinte_head_ask(
     1
 }
 
-/// A request has the drive: the drive is out, with the head at its cylinder: 0. Refused, in this order: 116 the
-/// cylinder is past the last one, 117 the drive is out already.
+/// Grants the drive to a request, and returns 0: the drive is out, with the head at `cylinder`. Refused, in this order:
+/// 116 if the cylinder is past the last one, 117 if the drive is out already. A refusal changes nothing.
 #[unsafe(no_mangle)]
 pub extern "C" fn zaulinte_head_grant(head: &mut DiskHead, cylinder: u64) -> u64
     ensures granted { cylinder ≤ head.old.cylmax → IsSome head.old.drive
@@ -103,8 +104,9 @@ pub extern "C" fn zaulinte_head_sweep(head: &DiskHead) -> u64
     head.head().sweep() as u64
 }
 
-/// The drive comes back: 0, and the caller signals `condition`. `waits` is 1 if a request waits for the present sweep,
-/// else 0; at 0 the head turns. Refused, in this order: 119 `waits` is neither, 118 the drive isn't out.
+/// Puts the drive back in, and returns 0: the caller then signals `condition`. `waits` is 1 if a request waits for the
+/// present sweep, else 0; at 0 the head turns. Refused, in this order: 119 if `waits` is neither, 118 if the drive
+/// isn't out. A refusal changes nothing.
 #[unsafe(no_mangle)]
 pub extern "C" fn zaulinte_head_give_back(
     head: &mut DiskHead,

@@ -1,4 +1,4 @@
--- A request that waited goes on as the first of the present sweep.
+-- A request that waited resumes as the first of the present sweep.
 use Rattle.std.proofs.Common.{◌≡◌, ◌≤◌, rules}
 use Rattle.sweep_schedulers.specs.Heads.{sent}
 use Rattle.head_c.proofs.Steps.{goes_first}

@@ -1,4 +1,4 @@
--- The numbers that C gets for answers and refusals.
+-- The codes that C gets for results and refusals.
 use Rattle.std.specs.Prelude.{ℕ, ◌≡◌, nat_lt, if◌then◌else◌, length, Option, Some, None}
 use Rattle.hoare_law.specs.declared.event.Event.{Event}
 use Rattle.hoare_law.specs.declared.event.History.{History}
@@ -16,7 +16,7 @@ use Rattle.wait_book.specs.declared.steps.MakeRefused.TheVariants.{BadPlaces, Ba
 use Rattle.wait_book.specs.Contents.{Contents, IsOf, IsPlaceBelow, next_of}
 use Rattle.wait_book.specs.Stepping.{after_step, refusal_of}
 
--- the place that goes on or is inside, or 64 where nobody is
+-- the place that resumes or is inside, or 64 if the monitor is free
 abbrev pub code_of : Next → ℕ
 code_of Free = 64
 code_of (For k) = k
@@ -35,30 +35,30 @@ make_code BadPlaces = 109
 make_code BadConditions = 110
 make_code Memory = 111
 
--- the answer tells whose turn it is after these events: the place that is inside, which is below 64, or 64 where
--- nobody is
+-- the code is whose turn it is after these events: the place that resumes or is inside, which is below 64, or 64 if the
+-- monitor is free
 pub record Tells (h : History (Unit {0})) (code : ℕ) : Type 0 where
   pub is : code ≡ code_of (next_of (turn h.events))
   pub below : IsPlaceBelow 64 (next_of (turn h.events))
 
--- what a step made of a book of history h, and its answer: it is done and the answer tells who is inside, or it is
--- refused, the answer is the refusal's, and the book is of the history that it was of
+-- what a step made of a book of history h, and its code. Either it was done, and the code is the place that is inside
+-- then. Or it was refused: the code is the refusal's, and the book is still of its history
 pub data Stepped (h : History (Unit {0})) (step : Step) (new : Contents) (code : ℕ) : Type 0 where
   done : refusal_of h step ≡ None → IsOf new (after_step h step) → Tells (after_step h step) code
       → Stepped h step new code
   refused : (r : StepRefused) → refusal_of h step ≡ Some r → IsOf new h → code ≡ refusal_code r
       → Stepped h step new code
 
--- whether a place is outside: 1 or 0, or 101 where there is no such place
+-- 1 if the place is outside, else 0; or 101 if no place has this number
 abbrev pub outside_code : History (Unit {0}) → ℕ → ℕ
 outside_code h k = if nat_lt k h.sizes.places then (if outside k h.events then 1 else 0) else 101
 
--- 1 where there is one, else 0
+-- 1 if there is one, else 0
 abbrev pub some_code : {X : Type 0} → Option X → ℕ
 some_code None = 0
 some_code (Some x) = 1
 
--- whether somebody waits on a condition, whom a signal would resume: 1 or 0, or 105 where there is no such condition
+-- 1 if a place waits on the condition, so that a signal would resume it, else 0; or 105 if no condition has this number
 abbrev pub queue_code : History (Unit {0}) → ℕ → ℕ
 queue_code h c = if nat_lt c h.sizes.conditions then some_code (chosen c h.events) else 105
 
@@ -66,14 +66,14 @@ abbrev pub priority_or : Option (Event (Unit {0})) → ℕ → ℕ
 priority_or None kept = kept
 priority_or (Some e) kept = priority_of e
 
--- the priority of whom a signal would resume, else what stood there
+-- the priority of the place that a signal would resume, or the former value if there is none
 abbrev pub first_or : History (Unit {0}) → ℕ → ℕ → ℕ
 first_or h c kept = if nat_lt c h.sizes.conditions then priority_or (chosen c h.events) kept else kept
 
--- 0 where there is such a condition, else 105
+-- 0 if a condition has this number, else 105
 abbrev pub condition_code : History (Unit {0}) → ℕ → ℕ
 condition_code h c = if nat_lt c h.sizes.conditions then 0 else 105
 
--- how many wait on a condition, or what stood there where there is no such condition
+-- the number of places that wait on the condition, or the former value if no condition has this number
 abbrev pub count_or : History (Unit {0}) → ℕ → ℕ → ℕ
 count_or h c kept = if nat_lt c h.sizes.conditions then length (priorities h.events c) else kept

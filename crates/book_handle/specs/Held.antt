@@ -3,7 +3,7 @@ use Rattle.std.specs.Prelude.{ℕ, ◌≡◌}
 use Rattle.hoare_law.specs.declared.event.History.{History}
 use Rattle.wait_book.specs.Contents.{Contents, IsOf}
 
--- there is a book, and it is of the history
+-- C holds a book, and it is of the history
 pub record Holds (live : ℕ) (book : Contents) (h : History (Unit {0})) : Type 0 where
   pub live_is : live ≡ 1
   pub of : IsOf book h

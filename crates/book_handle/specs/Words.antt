@@ -25,6 +25,6 @@ to_c s = record {
   few = s.few;
 }
 
--- C's words end as the last value behind r
+-- C's words end as the last value of the borrow r
 abbrev pub LendsWords : MutBor Held → MutBor (generic.Held Contents) → Fml
 LendsWords s r = Lends place.the_row (held.the_row books.the_row) s r to_c

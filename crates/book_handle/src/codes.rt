@@ -1,4 +1,4 @@
-//! The numbers that C gets for answers and refusals.
+//! The results and refusals of a book's calls, as codes for C.
 ghost use Rattle.std.specs.Prelude.{◌≡◌, ◌<◌, ◌≤◌};
 ghost use Rattle.hoare_law.specs.declared.event.History.{History};
 ghost use Rattle.wait_book.specs.Contents.{IsOf};
@@ -9,25 +9,25 @@ use hoare_law::waits::Waits;
 use wait_book::book::Book;
 use wait_book::steps::{MakeRefused, Next, Step, StepRefused};
 
-/// Nobody is inside.
+/// The code if no place is inside.
 pub const FREE: u64 = 64;
 
-/// There is no such place.
+/// The code if no place has this number.
 pub const NO_PLACE: u64 = 101;
 
-/// There is no such condition.
+/// The code if no condition has this number.
 pub const NO_CONDITION: u64 = 105;
 
-/// There is no book.
+/// The code if C holds no book.
 pub const NO_BOOK: u64 = 107;
 
-/// There is a book already.
+/// The code if C holds a book already.
 pub const IS_MADE: u64 = 108;
 
-/// Memory can't be had.
+/// The code if an allocation failed.
 pub const NO_MEMORY: u64 = 111;
 
-/// A refusal of a step, as a number.
+/// Returns the code of a refusal of a step: 101 to 106.
 pub fn refusal_code(refused: StepRefused) -> u64
     ensures { result ≡ refusal_code refused }
 {
@@ -41,7 +41,7 @@ pub fn refusal_code(refused: StepRefused) -> u64
     }
 }
 
-/// Why no book was made, as a number.
+/// Returns the code of the reason why no book was made: 109 to 111.
 pub fn make_code(refused: MakeRefused) -> u64
     ensures { result ≡ make_code refused }
 {
@@ -52,12 +52,13 @@ pub fn make_code(refused: MakeRefused) -> u64
     }
 }
 
-/// Who is inside, as a number: a place below 64, or `FREE`.
+/// Returns the number of the place that is inside, below 64, or `FREE`. A place that is handed the monitor is inside at
+/// once.
 pub fn inside(book: &Book) -> u64
     ensures of { (h : History (Unit {0})) → IsOf book.now h → Tells h result }
     ensures few { result ≤ 64 }
 {
-    let _ = book.places(); // at most 64, so that the place below is under it
+    let _ = book.places(); // at most 64: a place below it is less than 64
     match book.now() {
         Next::Free => FREE,
         Next::For(place) => place as u64,
@@ -65,7 +66,8 @@ pub fn inside(book: &Book) -> u64
     }
 }
 
-/// Does a step, and answers who is inside then, or why it is refused. A refusal changes nothing.
+/// Does `step`, and returns the number of the place that is inside then, below 64, or `FREE`. Refused as
+/// `Book::try_step`, with the code of the refusal; a refusal changes nothing.
 pub fn stepped(book: &mut Book, step: Step) -> u64
     ensures of { (h : History (Unit {0})) → IsOf book.old h → Stepped h step book.new result }
     ensures refused { 64 < result → book.new ≡ book.old }
@@ -76,7 +78,7 @@ pub fn stepped(book: &mut Book, step: Step) -> u64
     }
 }
 
-/// Whether a place is outside: 1 or 0. Refused: `NO_PLACE`.
+/// Returns 1 if `place` is outside, else 0. Refused: `NO_PLACE`.
 pub fn outside(book: &Book, place: u64) -> u64
     ensures { (h : History (Unit {0})) → IsOf book.now h → result ≡ outside_code h place }
 {
@@ -86,7 +88,7 @@ pub fn outside(book: &Book, place: u64) -> u64
     if book.outside(place as usize) { 1 } else { 0 }
 }
 
-/// Whether somebody waits on a condition: 1 or 0. Refused: `NO_CONDITION`.
+/// Returns 1 if a place waits on `condition`, else 0. Refused: `NO_CONDITION`.
 pub fn queue(book: &Book, condition: u64) -> u64
     ensures { (h : History (Unit {0})) → IsOf book.now h → result ≡ queue_code h condition }
 {
@@ -99,8 +101,8 @@ pub fn queue(book: &Book, condition: u64) -> u64
     }
 }
 
-/// Whether somebody waits on a condition: 1 or 0; and where one does, the priority of whom a signal would resume.
-/// Refused: `NO_CONDITION`.
+/// Returns 1 if a place waits on `condition`, and writes the priority of the place that a signal would resume to
+/// `priority`. Else returns 0. Refused: `NO_CONDITION`. If it doesn't return 1, `priority` stays as it is.
 pub fn first(book: &Book, condition: u64, priority: &mut u64) -> u64
     ensures answer { (h : History (Unit {0})) → IsOf book.now h → result ≡ queue_code h condition }
     ensures priority { (h : History (Unit {0})) → IsOf book.now h
@@ -118,7 +120,8 @@ pub fn first(book: &Book, condition: u64, priority: &mut u64) -> u64
     }
 }
 
-/// How many wait on a condition; the answer is 0. Refused: `NO_CONDITION`.
+/// Writes the number of places that wait on `condition` to `count`, and returns 0. Refused: `NO_CONDITION`; then
+/// `count` stays as it is.
 pub fn count(book: &Book, condition: u64, count: &mut u64) -> u64
     ensures answer { (h : History (Unit {0})) → IsOf book.now h
         → result ≡ condition_code h condition }

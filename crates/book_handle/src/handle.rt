@@ -1,4 +1,4 @@
-//! A book as C holds it.
+//! The pointer of a book that C holds.
 ghost use Rattle.std.specs.Prelude.{◌≡◌, ℕ};
 ghost use Rattle.std_alloc.specs.Box.Ownership.{box_owns};
 ghost use Rattle.c_handle.specs.Owned.{owned};
@@ -8,6 +8,7 @@ ghost use Rattle.wait_book.specs.contracts.book.Book as books;
 use std::alloc::{Allocator, Global};
 use std::marker::Model;
 
+/// A pointer that owns a book if the ghost field `live` is 1; `value` is then that book. It is
 /// `c_handle::handle::Handle<Book>` without a type argument, since no type with arguments crosses to C.
 #[repr(C)]
 pub struct Handle {

@@ -1,4 +1,4 @@
-//! A book that C holds by a pointer.
+//! A queue book that C holds by a pointer.
 #![tactic(auto)]
 
 pub mod codes;

@@ -1,4 +1,4 @@
-//! Where C keeps a book.
+//! The words in which C keeps a book, with the calls.
 ghost use Rattle.std.specs.Prelude.{◌≡◌, ◌≢◌, ◌<◌, ◌≤◌, ◌⊎◌, Some, None};
 ghost use Rattle.hoare_law.specs.declared.event.History.{History};
 ghost use Rattle.hoare_law.specs.Events.{opened};
@@ -17,8 +17,8 @@ use std::alloc::Global;
 use wait_book::book::Book;
 use wait_book::steps::Step;
 
-/// Where C keeps a book: all bytes 0 at first. `live` is 1 while there is one. It isn't `Drop`: a book that it holds
-/// has to be taken out.
+/// The words in which C keeps a book, all bytes 0 at first. `live` is 1 while there is a book. It isn't `Drop`: a book
+/// in it has to be taken out.
 #[repr(C)]
 pub struct Held {
     live: u64,
@@ -32,7 +32,7 @@ impl Held {
     ghost use Rattle.std.specs.Borrow.{sem};
     ghost use Rattle.book_handle.specs.Words.{of_c, LendsWords};
 
-    // The same words, as those of a generic handle.
+    // Returns the same words as those of a generic handle.
     #[inline(always)]
     fn held(&mut self) -> &mut held::Held<Book>
         ensures* writes_back { sem 𝓛 (LendsWords self.entry result) }
@@ -41,7 +41,9 @@ impl Held {
         unsafe { &mut *(self as *mut Held as *mut held::Held<Book>) }
     }
 
-    /// Makes a book where there is none. Refused, in this order: `IS_MADE`, then as `Book::make` refuses.
+    /// Makes a book of `places` places, 1 to 64, and `conditions` conditions, 1 to 8, the last `mesa` of which are Mesa
+    /// conditions, and returns 0. Refused, in this order: `IS_MADE`; then as `Book::make`, with the code of the reason;
+    /// `NO_MEMORY` also if the box for the book can't be allocated. A refusal changes nothing.
     pub fn make(&mut self, alloc: Global, places: u64, conditions: u64, mesa: u64) -> u64
         ensures there { self.old.live ≡ 1 → (result ≡ 108) × (self.new ≡ self.old) }
         ensures bad { self.old.live ≡ 0 → (e : MakeRefused)
@@ -65,7 +67,7 @@ impl Held {
         }
     }
 
-    /// Frees the book. Refused: `NO_BOOK`.
+    /// Frees the book, and returns 0. Refused: `NO_BOOK`, with nothing changed.
     pub fn free(&mut self, alloc: Global) -> u64
         ensures freed { self.new.live ≡ 0 }
         ensures told { self.old.live ≡ 1 → result ≡ 0 }
@@ -78,7 +80,8 @@ impl Held {
         0
     }
 
-    /// Does a step. Refused: `NO_BOOK`, else as `Book::try_step` refuses.
+    /// Does `step`, and returns the number of the place that is inside then, below 64, or `FREE`. Refused: `NO_BOOK`,
+    /// else as `Book::try_step`. A refusal changes nothing.
     pub fn step(&mut self, _alloc: Global, step: Step) -> u64
         ensures of { (h : History (Unit {0})) → Holds self.old.live self.old.handle.value h
             → (self.new.live ≡ 1) × Stepped h step self.new.handle.value result }
@@ -91,7 +94,7 @@ impl Held {
         codes::stepped(book, step)
     }
 
-    /// Who is inside. Refused: `NO_BOOK`.
+    /// Returns the number of the place that is inside, below 64, or `FREE`. Refused: `NO_BOOK`.
     pub fn now(&mut self, _alloc: Global) -> u64
         ensures of { (h : History (Unit {0})) → Holds self.old.live self.old.handle.value h
             → Holds self.new.live self.new.handle.value h × Tells h result }
@@ -103,7 +106,7 @@ impl Held {
         codes::inside(book)
     }
 
-    /// How many places it has. Refused: `NO_BOOK`.
+    /// Returns the number of places, at most 64. Refused: `NO_BOOK`.
     pub fn places(&mut self, _alloc: Global) -> u64
         ensures of { (h : History (Unit {0})) → Holds self.old.live self.old.handle.value h
             → Holds self.new.live self.new.handle.value h × (result ≡ h.sizes.places) × (result ≤ 64) }
@@ -115,7 +118,7 @@ impl Held {
         book.places() as u64
     }
 
-    /// How many conditions it has. Refused: `NO_BOOK`.
+    /// Returns the number of conditions, at most 8, Mesa conditions included. Refused: `NO_BOOK`.
     pub fn conditions(&mut self, _alloc: Global) -> u64
         ensures of { (h : History (Unit {0})) → Holds self.old.live self.old.handle.value h
             → Holds self.new.live self.new.handle.value h
@@ -128,7 +131,7 @@ impl Held {
         book.conditions() as u64
     }
 
-    /// Whether a place is outside: 1 or 0. Refused: `NO_BOOK`, `NO_PLACE`.
+    /// Returns 1 if `place` is outside, else 0. Refused, in this order: `NO_BOOK`, `NO_PLACE`.
     pub fn outside(&mut self, _alloc: Global, place: u64) -> u64
         ensures of { (h : History (Unit {0})) → Holds self.old.live self.old.handle.value h
             → Holds self.new.live self.new.handle.value h × (result ≡ outside_code h place) }
@@ -140,7 +143,7 @@ impl Held {
         codes::outside(book, place)
     }
 
-    /// Whether somebody waits on a condition: 1 or 0. Refused: `NO_BOOK`, `NO_CONDITION`.
+    /// Returns 1 if a place waits on `condition`, else 0. Refused, in this order: `NO_BOOK`, `NO_CONDITION`.
     pub fn queue(&mut self, _alloc: Global, condition: u64) -> u64
         ensures of { (h : History (Unit {0})) → Holds self.old.live self.old.handle.value h
             → Holds self.new.live self.new.handle.value h × (result ≡ queue_code h condition) }
@@ -152,8 +155,9 @@ impl Held {
         codes::queue(book, condition)
     }
 
-    /// Whether somebody waits on a condition: 1 or 0; and where one does, the priority of whom a signal would resume.
-    /// Refused: `NO_BOOK`, `NO_CONDITION`.
+    /// Returns 1 if a place waits on `condition`, and writes the priority of the place that a signal would resume to
+    /// `priority`. Else returns 0. Refused, in this order: `NO_BOOK`, `NO_CONDITION`. If it doesn't return 1,
+    /// `priority` stays as it is.
     pub fn first(&mut self, _alloc: Global, condition: u64, priority: &mut u64) -> u64
         ensures of { (h : History (Unit {0})) → Holds self.old.live self.old.handle.value h
             → Holds self.new.live self.new.handle.value h × (result ≡ queue_code h condition)
@@ -167,7 +171,8 @@ impl Held {
         codes::first(book, condition, priority)
     }
 
-    /// How many wait on a condition; the answer is 0. Refused: `NO_BOOK`, `NO_CONDITION`.
+    /// Writes the number of places that wait on `condition` to `count`, and returns 0. Refused, in this order:
+    /// `NO_BOOK`, `NO_CONDITION`; then `count` stays as it is.
     pub fn count(&mut self, _alloc: Global, condition: u64, count: &mut u64) -> u64
         ensures of { (h : History (Unit {0})) → Holds self.old.live self.old.handle.value h
             → Holds self.new.live self.new.handle.value h × (result ≡ condition_code h condition)

@@ -1,7 +1,7 @@
 //! The queue book for C: each function that C calls. `bindings/c/zaulinte_book.h` declares them.
 //!
 //! `book` is a word and two pointers of C's, all 0 at first; `alloc` is nothing to C. No function has a premise: each
-//! answers for every number, and where there is no book. A place that is answered is below 64.
+//! returns for every number, and if there is no book. A returned place is below 64.
 #![tactic(auto)]
 
 ghost use Rattle.std.specs.Prelude.{◌≡◌, ◌<◌, ◌≤◌, ◌⊎◌, Some, None};
@@ -19,8 +19,9 @@ use book_handle::place::Held;
 use std::alloc::Global;
 use wait_book::steps::Step;
 
-/// Makes a book of 1 to 64 places and 1 to 8 conditions, of which the last `mesa` are Mesa conditions; it answers 0.
-/// Refused, in this order: 108 there is one already, 109 bad places, 110 bad conditions, 111 no memory.
+/// Makes a book of 1 to 64 places and 1 to 8 conditions, the last `mesa` of which are Mesa conditions, and returns 0.
+/// Refused, in this order: 108 there is a book already, 109 bad places, 110 bad conditions, 111 no memory. A refusal
+/// changes nothing.
 #[unsafe(no_mangle)]
 pub extern "C" fn zaulinte_book_make(
     alloc: Global,
@@ -41,7 +42,7 @@ pub extern "C" fn zaulinte_book_make(
     book.make(alloc, places, conditions, mesa)
 }
 
-/// Frees the book; it answers 0. Refused: 107 there is none.
+/// Frees the book, and returns 0. Refused: 107 no book.
 #[unsafe(no_mangle)]
 pub extern "C" fn zaulinte_book_free(alloc: Global, book: &mut Held) -> u64
     ensures freed { book.new.live ≡ 0 }
@@ -51,9 +52,8 @@ pub extern "C" fn zaulinte_book_free(alloc: Global, book: &mut Held) -> u64
     book.free(alloc)
 }
 
-/// A place comes in. Who is inside then, 64 where nobody is.
-/// Refused, in this order: 107 no book, 101 no such place, 102 not free, 103 not outside.
-/// A refusal changes nothing.
+/// Lets `place` enter. Returns the place that is inside then, or 64 if none is. Refused, in this order: 107 no book,
+/// 101 no such place, 102 not free, 103 not outside. A refusal changes nothing.
 #[unsafe(no_mangle)]
 pub extern "C" fn zaulinte_book_enter(alloc: Global, book: &mut Held, place: u64) -> u64
     ensures of { (h : History (Unit {0})) → Holds book.old.live book.old.handle.value h
@@ -65,9 +65,8 @@ pub extern "C" fn zaulinte_book_enter(alloc: Global, book: &mut Held, place: u64
     book.step(alloc, Step::Enter(place))
 }
 
-/// The place inside goes out. Who is inside then, 64 where nobody is.
-/// Refused, in this order: 107 no book, 101 no such place, 104 not inside.
-/// A refusal changes nothing.
+/// Lets `place` leave. Returns the place that is inside then, or 64 if none is. Refused, in this order: 107 no book,
+/// 101 no such place, 104 not inside. A refusal changes nothing.
 #[unsafe(no_mangle)]
 pub extern "C" fn zaulinte_book_leave(alloc: Global, book: &mut Held, place: u64) -> u64
     ensures of { (h : History (Unit {0})) → Holds book.old.live book.old.handle.value h
@@ -79,9 +78,8 @@ pub extern "C" fn zaulinte_book_leave(alloc: Global, book: &mut Held, place: u64
     book.step(alloc, Step::Leave(place))
 }
 
-/// The place inside waits on a condition. Who is inside then, 64 where nobody is.
-/// Refused, in this order: 107 no book, 101 no such place, 104 not inside, 105 no such condition.
-/// A refusal changes nothing.
+/// Lets `place` wait on `condition` with `priority`. Returns the place that is inside then, or 64 if none is. Refused,
+/// in this order: 107 no book, 101 no such place, 104 not inside, 105 no such condition. A refusal changes nothing.
 #[unsafe(no_mangle)]
 pub extern "C" fn zaulinte_book_wait(
     alloc: Global,
@@ -99,9 +97,9 @@ pub extern "C" fn zaulinte_book_wait(
     book.step(alloc, Step::Wait(place, condition, priority))
 }
 
-/// The place inside signals one of Hoare's conditions. Who is inside then, 64 where nobody is. Refused, in this
-/// order: 107 no book, 101 no such place, 104 not inside, 105 no such condition, 106 a Mesa condition. A refusal
-/// changes nothing.
+/// Lets `place` signal `condition`, one of Hoare's. Returns the place that is inside then, or 64 if none is. Refused,
+/// in this order: 107 no book, 101 no such place, 104 not inside, 105 no such condition, 106 a Mesa condition. A
+/// refusal changes nothing.
 #[unsafe(no_mangle)]
 pub extern "C" fn zaulinte_book_signal(
     alloc: Global,
@@ -118,8 +116,8 @@ pub extern "C" fn zaulinte_book_signal(
     book.step(alloc, Step::Signal(place, condition))
 }
 
-/// The place inside signals one of Hoare's conditions as its last act. Who is inside then, 64 where nobody is.
-/// Refused, in this order: 107 no book, 101 no such place, 104 not inside, 105 no such condition, 106 a Mesa
+/// Lets `place` signal `condition`, one of Hoare's, as its last act. Returns the place that is inside then, or 64 if
+/// none is. Refused, in this order: 107 no book, 101 no such place, 104 not inside, 105 no such condition, 106 a Mesa
 /// condition. A refusal changes nothing.
 #[unsafe(no_mangle)]
 pub extern "C" fn zaulinte_book_pass(
@@ -137,9 +135,9 @@ pub extern "C" fn zaulinte_book_pass(
     book.step(alloc, Step::Pass(place, condition))
 }
 
-/// The place inside calls whom a signal on a Mesa condition would resume. Who is inside then, 64 where nobody is.
-/// Refused, in this order: 107 no book, 101 no such place, 104 not inside, 105 no such condition, 106 one of Hoare's
-/// conditions. A refusal changes nothing.
+/// Lets `place` notify the waiter on the Mesa condition `condition` that a signal would resume. Returns the place that
+/// is inside then, or 64 if none is. Refused, in this order: 107 no book, 101 no such place, 104 not inside, 105 no
+/// such condition, 106 one of Hoare's conditions. A refusal changes nothing.
 #[unsafe(no_mangle)]
 pub extern "C" fn zaulinte_book_notify(
     alloc: Global,
@@ -156,9 +154,9 @@ pub extern "C" fn zaulinte_book_notify(
     book.step(alloc, Step::Notify(place, condition))
 }
 
-/// The place inside calls all that wait on a Mesa condition. Who is inside then, 64 where nobody is. Refused, in this
-/// order: 107 no book, 101 no such place, 104 not inside, 105 no such condition, 106 one of Hoare's conditions. A
-/// refusal changes nothing.
+/// Lets `place` notify all waiters on the Mesa condition `condition`. Returns the place that is inside then, or 64 if
+/// none is. Refused, in this order: 107 no book, 101 no such place, 104 not inside, 105 no such condition, 106 one of
+/// Hoare's conditions. A refusal changes nothing.
 #[unsafe(no_mangle)]
 pub extern "C" fn zaulinte_book_broadcast(
     alloc: Global,
@@ -175,7 +173,7 @@ pub extern "C" fn zaulinte_book_broadcast(
     book.step(alloc, Step::Broadcast(place, condition))
 }
 
-/// Who is inside, 64 where nobody is. Refused: 107 no book.
+/// Returns the place that is inside, or 64 if none is. Refused: 107 no book.
 #[unsafe(no_mangle)]
 pub extern "C" fn zaulinte_book_now(alloc: Global, book: &mut Held) -> u64
     ensures of { (h : History (Unit {0})) → Holds book.old.live book.old.handle.value h
@@ -187,7 +185,7 @@ pub extern "C" fn zaulinte_book_now(alloc: Global, book: &mut Held) -> u64
     book.now(alloc)
 }
 
-/// How many places there are. Refused: 107 no book.
+/// Returns the number of places, at most 64. Refused: 107 no book.
 #[unsafe(no_mangle)]
 pub extern "C" fn zaulinte_book_places(alloc: Global, book: &mut Held) -> u64
     ensures of { (h : History (Unit {0})) → Holds book.old.live book.old.handle.value h
@@ -199,7 +197,7 @@ pub extern "C" fn zaulinte_book_places(alloc: Global, book: &mut Held) -> u64
     book.places(alloc)
 }
 
-/// How many conditions there are, Mesa conditions included. Refused: 107 no book.
+/// Returns the number of conditions, at most 8, Mesa conditions included. Refused: 107 no book.
 #[unsafe(no_mangle)]
 pub extern "C" fn zaulinte_book_conditions(alloc: Global, book: &mut Held) -> u64
     ensures of { (h : History (Unit {0})) → Holds book.old.live book.old.handle.value h
@@ -211,7 +209,7 @@ pub extern "C" fn zaulinte_book_conditions(alloc: Global, book: &mut Held) -> u6
     book.conditions(alloc)
 }
 
-/// Whether a place is outside: 1 or 0. Refused: 107 no book, 101 no such place.
+/// Returns 1 if `place` is outside, else 0. Refused, in this order: 107 no book, 101 no such place.
 #[unsafe(no_mangle)]
 pub extern "C" fn zaulinte_book_outside(alloc: Global, book: &mut Held, place: u64) -> u64
     ensures of { (h : History (Unit {0})) → Holds book.old.live book.old.handle.value h
@@ -223,7 +221,7 @@ pub extern "C" fn zaulinte_book_outside(alloc: Global, book: &mut Held, place: u
     book.outside(alloc, place)
 }
 
-/// Whether somebody waits on a condition: 1 or 0. Refused: 107 no book, 105 no such condition.
+/// Returns 1 if a place waits on `condition`, else 0. Refused, in this order: 107 no book, 105 no such condition.
 #[unsafe(no_mangle)]
 pub extern "C" fn zaulinte_book_queue(alloc: Global, book: &mut Held, condition: u64) -> u64
     ensures of { (h : History (Unit {0})) → Holds book.old.live book.old.handle.value h
@@ -235,8 +233,9 @@ pub extern "C" fn zaulinte_book_queue(alloc: Global, book: &mut Held, condition:
     book.queue(alloc, condition)
 }
 
-/// Whether somebody waits on a condition: 1 or 0; and where one does, the priority of whom a signal would resume.
-/// Refused: 107 no book, 105 no such condition.
+/// Returns 1 if a place waits on `condition`, and writes the priority of the place that a signal would resume to
+/// `priority`. Else returns 0. Refused, in this order: 107 no book, 105 no such condition. If it doesn't return 1,
+/// `priority` stays as it is.
 #[unsafe(no_mangle)]
 pub extern "C" fn zaulinte_book_first(
     alloc: Global,
@@ -254,7 +253,8 @@ pub extern "C" fn zaulinte_book_first(
     book.first(alloc, condition, priority)
 }
 
-/// How many wait on a condition; the answer is 0. Refused: 107 no book, 105 no such condition.
+/// Writes the number of places that wait on `condition` to `count`, and returns 0. Refused, in this order: 107 no book,
+/// 105 no such condition; then `count` stays as it is.
 #[unsafe(no_mangle)]
 pub extern "C" fn zaulinte_book_count(
     alloc: Global,

@@ -15,10 +15,10 @@ with_value h w = record h { value = w }
 abbrev pub held_with : {X : Type 0} → Held X → X → Held X
 held_with s w = record { live = s.live; spare = s.spare; handle = with_value s.handle w; same = s.same; few = s.few }
 
--- the handle ends with the last value behind r
+-- the handle ends with the last value of the borrow r
 abbrev pub LendsValue : (R : RattleType) → MutBor (Handle R.Denot) → MutBor R.Denot → Fml
 LendsValue R h r = Lends (handle.the_row R) R h r (with_value h.now)
 
--- C's words end with the last value behind r if a value was lent, else as they were
+-- C's words end with the last value of the borrow r if a value was lent, else as they were
 abbrev pub LendsHeld : (R : RattleType) → MutBor (Held R.Denot) → Option (MutBor R.Denot) → Fml
 LendsHeld R s r = LendsIf (held.the_row R) R s r (held_with s.now) s.now

@@ -2,7 +2,7 @@
 use Rattle.std.specs.Prelude.{ℕ, zero, suc}
 use base.Fml.{Fml, ftrue}
 
--- nothing if it is of no value, else the value
+-- nothing if there is no value, else the value
 abbrev pub owned : ℕ → Fml → Fml
 owned zero value = ftrue
 owned (suc n) value = value

@@ -35,7 +35,7 @@ impl<T> Handle<T> {
         unsafe { &mut *self.at }
     }
 
-    // Takes the value out, and leaves `blank` for a pointer.
+    // Takes the value out, and leaves `blank` as the pointer.
     pub(crate) fn empty(&mut self, alloc: Global, blank: *mut T) -> Loose<T, Global>
         requires { self.old.live ≡ 1 }
         ensures value { result.value ≡ self.old.value }
@@ -46,7 +46,7 @@ impl<T> Handle<T> {
         Loose { at, alloc }
     }
 
-    // Keeps a value.
+    // Keeps `value`.
     pub(crate) fn fill(&mut self, value: Loose<T, Global>)
         requires { self.old.live ≡ 0 }
         ensures live { self.new.live ≡ 1 }

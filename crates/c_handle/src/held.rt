@@ -1,12 +1,12 @@
-//! Where C keeps a value.
+//! The words in which C keeps a value, with the calls.
 ghost use Rattle.std.specs.Prelude.{◌≡◌, ◌≤◌, IsTrue, ◌↔◌, MatchOption, MatchResult, IfNone};
 
 use crate::handle::Handle;
 use crate::loose::Loose;
 use std::alloc::Global;
 
-/// Three words of C's: `live`, which is 1 while there is a value, and two pointers. All bytes zero is no value. It isn't `Drop`:
-/// a value has to be taken out.
+/// Three words of C's: `live`, which is 1 while there is a value, and two pointers. If all bytes are 0, there is no
+/// value. It isn't `Drop`: a value has to be taken out.
 #[repr(C)]
 pub struct Held<T> {
     live: u64,
@@ -28,7 +28,7 @@ impl<T> Held<T> {
         self.live != 0
     }
 
-    /// Lends the value in place, if there is one. It writes nothing.
+    /// Lends the value in place. Returns `None` if there is no value. Writes no word of C's.
     #[inline(always)]
     pub fn get_mut(&mut self) -> Option<&mut T>
         ensures* writes_back { sem 𝓛 (LendsHeld T.row self.entry result) }
@@ -43,7 +43,7 @@ impl<T> Held<T> {
 }
 
 impl<T: Drop> Held<T> {
-    /// Takes the value out, if there is one.
+    /// Takes the value out and returns it. Returns `None`, with nothing changed, if there is no value.
     pub fn take(&mut self, alloc: Global) -> Option<Box<T>>
         ensures taken { MatchOption result (self.old.live ≡ 0)
             (λ b. (self.old.live ≡ 1) × (b.value ≡ self.old.handle.value)) }
@@ -58,7 +58,7 @@ impl<T: Drop> Held<T> {
         Some(value.into_box())
     }
 
-    /// Keeps a boxed value. There is none.
+    /// Keeps the boxed `value`. The caller makes sure that there is no value.
     pub fn put(&mut self, value: Box<T>)
         requires empty { self.old.live ≡ 0 }
         ensures { (self.new.live ≡ 1) × (self.new.handle.value ≡ value.value) }
@@ -67,7 +67,8 @@ impl<T: Drop> Held<T> {
         self.live = 1;
     }
 
-    /// Keeps a value in a new box. There is none. Without memory it returns the value.
+    /// Keeps `value` in a new box. The caller makes sure that there is no value. If the allocation fails, it returns
+    /// `value`, and nothing has changed.
     pub fn keep(&mut self, alloc: Global, value: T) -> Result<(), T>
         requires empty { self.old.live ≡ 0 }
         ensures { MatchResult result

@@ -5,7 +5,7 @@ use Rattle.door_place.specs.Places.{GaveOut, NumberIs, elsewhere, in_hand, outsi
 use Rattle.door_place.specs.States.{Carried, NotOutside, number_of}
 use Rattle.door_place.specs.declared.state.State.{State}
 
--- a place that was given out is outside: so the number that it says is its own, and below 64
+-- a place that was given out is outside: so the returned number is its own, and below 64
 pub numbered : {old new : List (PlaceOut Carried)} {s : State} {n : ℕ} → GaveOut old new s → NumberIs s n
     → (n ≡ number_of s) × (n < 64)
 numbered g (outside o is same small) = (same ∙ ap number_of (sym is), small)

@@ -4,8 +4,8 @@ use Rattle.door_frame.specs.Places.{Closes, HasPlace, PlaceOut}
 use Rattle.door_place.specs.Places.{HasMore, KeeperOf, keeper_of}
 use Rattle.door_place.specs.States.{Carried, any, calm}
 
--- The door was closed with this word: all of its places were in hand, and one legal history left the word, which begins
--- with the front of each of them and in which no place did anything else.
+-- The door was closed with this word. All of its places were in hand, and one legal history left the word; it begins
+-- with the front of each of them, and no place did anything else in it.
 pub data WasClosed (old : Option KeeperOf) (value : ℕ) : Type 0 where
   closed : (k : KeeperOf) → old ≡ Some k → ((j : ℕ) → j < k.door.door.places → HasPlace j k.outs)
       → Closes calm any k.door.kinds k.door.door k.outs (record { value = value }) → WasClosed old value

@@ -8,7 +8,7 @@ use Rattle.door_place.specs.Deeds.{Deed}
 use Rattle.door_place.specs.declared.state.State.{State}
 use Rattle.door_place.specs.declared.state.State.TheVariants.{Outside}
 
--- a new door is there (0); else there is none as before, for the first reason that applies
+-- a new door is held (0); else there is none, as before, for the first reason that applies
 pub data Made (sizes : Sizes) (value live : ℕ) (new : Option KeeperOf) (code : ℕ) : Type 0 where
   made : (k : KeeperOf) → live ≡ 1 → new ≡ Some k → IsNew sizes value k → code ≡ 0 → Made sizes value live new code
   refused : live ≡ 0 → MadeNot sizes code → Made sizes value live new code
@@ -19,8 +19,8 @@ pub data GaveHeld (old new : Option KeeperOf) (p : PlaceAt) (code : ℕ) : Type 
       → GaveOut k.outs l.outs p.state → IsState p.door p.state → code ≡ number_of p.state → code < 64
       → GaveHeld old new p code
 
--- the keeper is still there and gave no place out: no door is held (107), or as `GaveNone` says; or it gave one out for
--- which there was no memory (111)
+-- the keeper is still there and gave no place out: no door is held (107), or as `GaveNone` states; or it gave out a
+-- place for which there was no memory (111)
 pub data GaveNothing (old new : Option KeeperOf) (code : ℕ) : Type 0 where
   no_door : old ≡ None → new ≡ None → code ≡ 107 → GaveNothing old new code
   refused_by : (k l : KeeperOf) → old ≡ Some k → new ≡ Some l → l.door ≡ k.door → GaveNone k.outs l.outs code

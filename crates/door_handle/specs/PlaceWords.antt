@@ -25,6 +25,6 @@ to_c s = record {
   few = s.few;
 }
 
--- C's words end as the last value behind r
+-- C's words end as the last value of the borrow r
 abbrev pub LendsWords : MutBor HeldPlace → MutBor (generic.Held PlaceAt) → Fml
 LendsWords s r = Lends words.the_row (held.the_row places.the_row) s r to_c

@@ -1,4 +1,4 @@
-//! The keeper of a door, which can be closed where it lies.
+//! The keeper of a door, as a value that can be closed in place.
 ghost use Rattle.std.specs.Prelude.{◌≡◌, IfNone, IfSome, None};
 ghost use Rattle.door_handle.specs.Desks.{Collected, WasClosed};
 
@@ -7,12 +7,12 @@ use door_place::keeper::Keeper;
 /// A keeper, until its door is closed.
 #[derive(Drop)]
 pub struct Desk {
-    /// The keeper, or `None` once the door is closed.
+    /// The keeper, or `None` after the door was closed.
     pub keeper: Option<Keeper>,
 }
 
 impl Desk {
-    /// Takes those places in hand that were given back.
+    /// Takes the places in hand that were given back.
     pub fn collect(&mut self)
         ensures { Collected self.old.keeper self.new.keeper }
     {
@@ -21,7 +21,8 @@ impl Desk {
         }
     }
 
-    /// Closes the door if all of its places are in hand, and returns its word.
+    /// Closes the door if all of its places are in hand, and returns its word. Else returns `None`, and the keeper is
+    /// as it was.
     pub fn close(&mut self) -> Option<u64>
         ensures closed { IfSome result (λ v. (self.new.keeper ≡ None) × WasClosed self.old.keeper v) }
         ensures kept { IfNone result (self.new.keeper ≡ self.old.keeper) }

@@ -1,4 +1,4 @@
-//! Where C keeps a door.
+//! The words in which C keeps a door, with the calls.
 ghost use Rattle.std.specs.Prelude.{◌≡◌, ◌≢◌, ◌<◌, ◌≤◌, ◌⊎◌};
 ghost use Rattle.hoare_law.specs.Sizes.{sizes_of};
 ghost use Rattle.door_handle.specs.Desks.{Collected, WasClosed};
@@ -13,8 +13,8 @@ use door_place::keeper::Keeper;
 use hoare_law::event::Sizes;
 use std::alloc::Global;
 
-/// Where C keeps a door: all bytes 0 at first. `live` is 1 while there is one. It isn't `Drop`: a door that it holds
-/// has to be closed.
+/// The words in which C keeps a door, all bytes 0 at first. `live` is 1 while there is a door. It isn't `Drop`: a door
+/// in it has to be closed.
 #[repr(C)]
 pub struct HeldDoor {
     live: u64,
@@ -28,7 +28,7 @@ impl HeldDoor {
     ghost use Rattle.std.specs.Borrow.{sem};
     ghost use Rattle.door_handle.specs.DoorWords.{of_c, LendsWords};
 
-    // The same words, as those of a generic handle.
+    // Returns the same words as those of a generic handle.
     #[inline(always)]
     fn held(&mut self) -> &mut held::Held<Desk>
         ensures* writes_back { sem 𝓛 (LendsWords self.entry result) }
@@ -37,8 +37,9 @@ impl HeldDoor {
         unsafe { &mut *(self as *mut HeldDoor as *mut held::Held<Desk>) }
     }
 
-    /// Makes a door of 1 to 64 places and 1 to 8 conditions, the last `mesa` of which are Mesa conditions, with a word
-    /// of the caller's in it. Refused, in this order: `IS_HELD`, `BAD_PLACES`, `BAD_CONDITIONS`, `NO_MEMORY`.
+    /// Makes a door of 1 to 64 places and 1 to 8 conditions, the last `mesa` of which are Mesa conditions, with the
+    /// caller's word `value` in it, and returns `DONE`. Refused, in this order: `IS_HELD`, `BAD_PLACES`,
+    /// `BAD_CONDITIONS`, `NO_MEMORY`.
     pub fn make(
         &mut self,
         alloc: Global,
@@ -72,9 +73,9 @@ impl HeldDoor {
         }
     }
 
-    /// Gives a place out, and returns its number, below 64. Refused, in this order: `IS_HELD` if `place` holds one,
-    /// `NOTHING_HELD`, and as `Keeper::give_out`; `NO_MEMORY` also if the place has no room of its own, and then it is
-    /// given back.
+    /// Gives a place out into `place`, and returns its number, below 64. Refused, in this order: `IS_HELD` if `place`
+    /// holds one, `NOTHING_HELD` if no door is held, and as `Keeper::give_out`; `NO_MEMORY` also if the box for the
+    /// place can't be allocated: then the place is given back. A refusal leaves `place` as it was.
     pub fn give_out(&mut self, alloc: Global, place: &mut HeldPlace) -> u64
         ensures held { place.old.live ≡ 1 → (result ≡ 108) × (self.new ≡ self.old) × (place.new ≡ place.old) }
         ensures none { place.old.live ≡ 0 → self.old.live ≡ 0
@@ -109,7 +110,7 @@ impl HeldDoor {
         }
     }
 
-    /// Takes those places in hand that were given back. Refused: `NOTHING_HELD`.
+    /// Takes the places in hand that were given back, and returns `DONE`. Refused: `NOTHING_HELD`.
     pub fn collect(&mut self) -> u64
         ensures collected { self.old.live ≡ 1 → (result ≡ 0) × (self.new.live ≡ 1)
             × Collected self.old.handle.value.keeper self.new.handle.value.keeper }
@@ -122,7 +123,8 @@ impl HeldDoor {
         DONE
     }
 
-    /// Closes the door, if all of its places are in hand, and tells its word. Refused: `NOTHING_HELD`, `IN_USE`.
+    /// Closes the door if all of its places are in hand, writes its word to `value`, and returns `DONE`. Refused:
+    /// `NOTHING_HELD`, `IN_USE`; then the door is held as it was, and `value` stays as it is.
     pub fn close(&mut self, alloc: Global, value: &mut u64) -> u64
         ensures closed { self.old.live ≡ 1 → result ≡ 0
             → (self.new.live ≡ 0) × WasClosed self.old.handle.value.keeper value.new }

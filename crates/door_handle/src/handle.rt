@@ -1,4 +1,4 @@
-//! The pointers of C's words. They are those of `c_handle` without a type argument, since no type with arguments
+//! The pointers in C's words. They are those of `c_handle` without a type argument, since no type with arguments
 //! crosses to C.
 ghost use Rattle.std.specs.Prelude.{◌≡◌, ℕ};
 ghost use Rattle.std_alloc.specs.Box.Ownership.{box_owns};
@@ -11,7 +11,7 @@ ghost use Rattle.door_place.specs.contracts.place.Place as places;
 use std::alloc::{Allocator, Global};
 use std::marker::Model;
 
-/// Where a door's desk lies.
+/// A pointer that owns the desk of a door if the ghost field `live` is 1; `value` is then that desk.
 #[repr(C)]
 pub struct DoorHandle {
     at: *mut u8,
@@ -25,7 +25,7 @@ impl Model for DoorHandle {
         (box_owns (⟦<Global as Allocator>⟧.dealloc_token h.alloc) desks.the_row h.at h.value) };
 }
 
-/// Where a place lies.
+/// A pointer that owns a place if the ghost field `live` is 1; `value` is then that place.
 #[repr(C)]
 pub struct PlaceHandle {
     at: *mut u8,

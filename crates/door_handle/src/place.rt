@@ -1,4 +1,4 @@
-//! Where C keeps a place.
+//! The words in which C keeps a place, with the calls.
 ghost use Rattle.std.specs.Prelude.{◌≡◌, ◌≤◌};
 ghost use Rattle.door_place.specs.States.{AsksFirst, AsksQueue, Counts, Gets, where_is};
 ghost use Rattle.door_handle.specs.Held.{Acted, GivenBack, IsSame};
@@ -10,8 +10,8 @@ use door_place::codes::{DONE, NOTHING_HELD};
 use door_place::place::Place;
 use std::alloc::Global;
 
-/// Where C keeps a place: all bytes 0 at first. `live` is 1 while there is one. It isn't `Drop`: a place that it holds
-/// has to be given back.
+/// The words in which C keeps a place, all bytes 0 at first. `live` is 1 while there is a place. It isn't `Drop`: a
+/// place in it has to be given back.
 #[repr(C)]
 pub struct HeldPlace {
     pub(crate) live: u64,
@@ -25,7 +25,7 @@ impl HeldPlace {
     ghost use Rattle.std.specs.Borrow.{sem};
     ghost use Rattle.door_handle.specs.PlaceWords.{of_c, LendsWords};
 
-    // The same words, as those of a generic handle.
+    // Returns the same words as those of a generic handle.
     #[inline(always)]
     pub(crate) fn held(&mut self) -> &mut held::Held<Place>
         ensures* writes_back { sem 𝓛 (LendsWords self.entry result) }
@@ -34,7 +34,7 @@ impl HeldPlace {
         unsafe { &mut *(self as *mut HeldPlace as *mut held::Held<Place>) }
     }
 
-    /// Does an act. Refused: `NOTHING_HELD`, else as the act is.
+    /// Does `act`, or refuses it, and returns the code. Refused: `NOTHING_HELD`, else as the act.
     pub fn act<A: Act>(&mut self, act: A) -> u64
         ensures acted { self.old.live ≡ 1
             → Acted (A.deed act) self.old.handle.value self.new.live self.new.handle.value result }
@@ -46,8 +46,8 @@ impl HeldPlace {
         place.act(act)
     }
 
-    /// Gives the place back to its door, and lets go of it. Refused: `NOTHING_HELD`, else as `Place::give_back`, and
-    /// then the place is held as it was.
+    /// Gives the place back to its door, and returns `DONE`: then no place is held. Refused: `NOTHING_HELD`, else as
+    /// `Place::give_back`; then the place is held as it was.
     pub fn give_back(&mut self, alloc: Global) -> u64
         ensures given { self.old.live ≡ 1
             → GivenBack self.old.handle.value self.new.live self.new.handle.value result }
@@ -66,7 +66,7 @@ impl HeldPlace {
         DONE
     }
 
-    /// Returns where the place is: outside (0), inside (1) or away (2). Refused: `NOTHING_HELD`.
+    /// Returns the state of the place: 0 outside, 1 inside, 2 away. Refused: `NOTHING_HELD`.
     pub fn where_is(&mut self) -> u64
         ensures asked { self.old.live ≡ 1 → IsSame self.old.handle.value self.new.live self.new.handle.value
             × (result ≡ where_is self.old.handle.value.state) }
@@ -78,7 +78,8 @@ impl HeldPlace {
         place.where_is()
     }
 
-    /// Reads the word that the place has in hand. Refused: `NOTHING_HELD`, else as `Place::get`.
+    /// Writes the word that the place has in hand to `value`. Refused: `NOTHING_HELD`, else as `Place::get`; then
+    /// `value` stays as it is.
     pub fn get(&mut self, value: &mut u64) -> u64
         ensures asked { self.old.live ≡ 1 → IsSame self.old.handle.value self.new.live self.new.handle.value
             × Gets self.old.handle.value.state value.old value.new result }
@@ -90,7 +91,7 @@ impl HeldPlace {
         place.get(value)
     }
 
-    /// Returns how many wait on a condition. Refused: `NOTHING_HELD`, else as `Place::count`.
+    /// Returns the number of places that wait on `condition`. Refused: `NOTHING_HELD`, else as `Place::count`.
     pub fn count(&mut self, condition: u64) -> u64
         ensures asked { self.old.live ≡ 1 → IsSame self.old.handle.value self.new.live self.new.handle.value
             × Counts self.old.handle.value.door self.old.handle.value.state condition result }
@@ -102,7 +103,7 @@ impl HeldPlace {
         place.count(condition)
     }
 
-    /// Returns whether somebody waits on a condition. Refused: `NOTHING_HELD`, else as `Place::queue`.
+    /// Returns 1 if a place waits on `condition`, else 0. Refused: `NOTHING_HELD`, else as `Place::queue`.
     pub fn queue(&mut self, condition: u64) -> u64
         ensures asked { self.old.live ≡ 1 → IsSame self.old.handle.value self.new.live self.new.handle.value
             × AsksQueue self.old.handle.value.door self.old.handle.value.state condition result }
@@ -114,7 +115,9 @@ impl HeldPlace {
         place.queue(condition)
     }
 
-    /// Reads the priority of the place that a signal would resume. Refused: `NOTHING_HELD`, else as `Place::first`.
+    /// Returns 1 if a place waits on `condition`, and writes the priority of the place that a signal would resume to
+    /// `priority`. Else returns 0. Refused: `NOTHING_HELD`, else as `Place::first`. If it doesn't return 1, `priority`
+    /// stays as it is.
     pub fn first(&mut self, condition: u64, priority: &mut u64) -> u64
         ensures asked { self.old.live ≡ 1 → IsSame self.old.handle.value self.new.live self.new.handle.value
             × AsksFirst self.old.handle.value.door self.old.handle.value.state condition

@@ -1,4 +1,4 @@
--- `held` lends the same words under the other name: both types own the same and lie in memory alike.
+-- `held` lends the same words under the other name: both types own the same and have the same layout in memory.
 use Rattle.std.proofs.Common.{[], ◌∷◌, refl}
 use mir.Syntax.{named}
 use mir.Val.{vptr}

@@ -9,7 +9,7 @@ use Rattle.door_handle.specs.Held.{GivenBack, refused_as}
 use Rattle.door_handle.specs.Held as held
 use Rattle.door_handle.proofs.place.HeldPlace.give_back.Goals as goal
 
--- what wasn't given back is as it was
+-- a place that wasn't given back is as it was
 unchanged : {old new : State} {code : ℕ} → GivesBack old new code → code ≢ 0 → (new ≡ old) × GivesBack old old code
 unchanged (given_back o is gone done) apart = absurd (apart done)
 unchanged (not_outside out same code) apart = (same, not_outside out refl code)
@@ -24,7 +24,7 @@ returns-then-code-ne-DONE-clause-given c = λ live.
     refused_as (record { live_is = c.in-Some.ensures.value.0; same = same ∙ was })
     (subst (λ (p : PlaceAt). GivesBack p.state p.state c.give_back-code.result) was e.1)
 
--- what was given back was outside
+-- a place that was given back was outside
 was_outside : {old new : State} {code : ℕ} → GivesBack old new code → code ≡ 0
     → (o : PlaceOut Carried) × (old ≡ Outside o)
 was_outside (given_back o is gone done) zero = (o, is)

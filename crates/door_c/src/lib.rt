@@ -1,8 +1,8 @@
 //! A running door and its places for C: each function that C calls. `bindings/c/zaulinte_door.h` declares them.
 //!
 //! A door and a place are each a word and two pointers of C's, all 0 at first; `alloc` is nothing to C. No function has
-//! a premise: each answers for every number, and if nothing is held. No function waits for another thread, and none
-//! wakes one: an act that releases the monitor answers which place to wake, below 64, or 64 if none is to be woken.
+//! a premise: each returns for every number, and if nothing is held. No function blocks, and none wakes a thread: an
+//! act that releases the monitor returns the place to wake, below 64, or 64 if none is to be woken.
 #![tactic(auto)]
 
 ghost use Rattle.std.specs.Prelude.{◌≡◌, ◌≢◌, ◌<◌, ◌≤◌};
@@ -20,8 +20,8 @@ use door_place::act::{
 use std::alloc::Global;
 
 /// Makes a door of 1 to 64 places and 1 to 8 conditions, the last `mesa` of which are Mesa conditions, with the word
-/// `value` in it: 0. Refused, in this order: 108 a door is held already, 109 bad places, 110 bad conditions, 111 an
-/// allocation failed.
+/// `value` in it, and returns 0. Refused, in this order: 108 a door is held already, 109 bad places, 110 bad
+/// conditions, 111 an allocation failed.
 #[unsafe(no_mangle)]
 pub extern "C" fn zaulinte_door_make(
     alloc: Global,
@@ -38,8 +38,8 @@ pub extern "C" fn zaulinte_door_make(
     door.make(alloc, places, conditions, mesa, value)
 }
 
-/// Gives a place out, for a thread of its own: its number, below 64. Refused, in this order: 108 `place` holds one
-/// already, 107 no door is held, 114 all places are taken, 111 an allocation failed.
+/// Gives a place out, for a thread of its own, and returns its number, below 64. Refused, in this order: 108 `place`
+/// holds one already, 107 no door is held, 114 all places are taken, 111 an allocation failed.
 #[unsafe(no_mangle)]
 pub extern "C" fn zaulinte_door_give_out(
     alloc: Global,
@@ -59,8 +59,8 @@ pub extern "C" fn zaulinte_door_give_out(
     door.give_out(alloc, place)
 }
 
-/// Gives a place back to its door: 0, and `place` holds none. Refused: 107 none is held, 103 it isn't outside, 102
-/// another thread has its slot in hand at this moment.
+/// Gives a place back to its door, and returns 0: `place` then holds none. Refused, in this order: 107 none is held,
+/// 103 it isn't outside, 102 another thread has its slot in hand at this moment.
 #[unsafe(no_mangle)]
 pub extern "C" fn zaulinte_door_give_back(alloc: Global, place: &mut HeldPlace) -> u64
     ensures given { place.old.live ≡ 1
@@ -70,7 +70,7 @@ pub extern "C" fn zaulinte_door_give_back(alloc: Global, place: &mut HeldPlace) 
     place.give_back(alloc)
 }
 
-/// Takes those places in hand that were given back: 0. Refused: 107 no door is held.
+/// Takes the places in hand that were given back, and returns 0. Refused: 107 no door is held.
 #[unsafe(no_mangle)]
 pub extern "C" fn zaulinte_door_collect(door: &mut HeldDoor) -> u64
     ensures collected { door.old.live ≡ 1 → (result ≡ 0) × (door.new.live ≡ 1)
@@ -80,8 +80,8 @@ pub extern "C" fn zaulinte_door_collect(door: &mut HeldDoor) -> u64
     door.collect()
 }
 
-/// Closes the door, if all of its places are in hand: 0, and `value` is its word. Refused: 107 no door is held, 112 a
-/// place isn't in hand: it was given out, and not given back and collected.
+/// Closes the door if all of its places are in hand, writes its word to `value`, and returns 0. Refused, in this order:
+/// 107 no door is held, 112 a place isn't in hand: it was given out, and not given back and collected.
 #[unsafe(no_mangle)]
 pub extern "C" fn zaulinte_door_close(alloc: Global, door: &mut HeldDoor, value: &mut u64) -> u64
     ensures closed { door.old.live ≡ 1 → result ≡ 0
@@ -93,7 +93,8 @@ pub extern "C" fn zaulinte_door_close(alloc: Global, door: &mut HeldDoor, value:
     door.close(alloc, value)
 }
 
-/// The place enters, if the monitor is free at this moment: 64, or 102. Refused: 107, 103 not outside.
+/// Attempts to let the place enter. Returns 64 if it is inside then, or 102 if the monitor isn't free at this moment.
+/// Refused, in this order: 107 no place is held, 103 not outside.
 #[unsafe(no_mangle)]
 pub extern "C" fn zaulinte_door_try_enter(place: &mut HeldPlace) -> u64
     ensures acted { place.old.live ≡ 1
@@ -103,8 +104,8 @@ pub extern "C" fn zaulinte_door_try_enter(place: &mut HeldPlace) -> u64
     place.act(TryEnter)
 }
 
-/// The place returns from its wait or its signal, if the monitor is owed to it at this moment: 64, or 102. Refused:
-/// 107, 113 it is not away.
+/// Attempts to let the place return from its wait or its signal. Returns 64 if it is inside then, or 102 if the monitor
+/// isn't owed to it at this moment. Refused, in this order: 107 no place is held, 113 not away.
 #[unsafe(no_mangle)]
 pub extern "C" fn zaulinte_door_try_return(place: &mut HeldPlace) -> u64
     ensures acted { place.old.live ≡ 1
@@ -114,7 +115,8 @@ pub extern "C" fn zaulinte_door_try_return(place: &mut HeldPlace) -> u64
     place.act(TryReturn)
 }
 
-/// The place leaves: which place to wake, or 64. Refused: 107, 104 not inside.
+/// Lets the place leave. Returns the place to wake, or 64. Refused, in this order: 107 no place is held, 104 not
+/// inside.
 #[unsafe(no_mangle)]
 pub extern "C" fn zaulinte_door_leave(place: &mut HeldPlace) -> u64
     ensures acted { place.old.live ≡ 1
@@ -124,8 +126,9 @@ pub extern "C" fn zaulinte_door_leave(place: &mut HeldPlace) -> u64
     place.act(Leave)
 }
 
-/// The place waits on a condition, with a priority: which place to wake, or 64. Once it is woken it tries to return.
-/// Refused: 107, 104, 105 no such condition.
+/// Lets the place wait on `condition` with `priority`: it is away then. Returns the place to wake, or 64. Once this
+/// place is woken, it attempts to return. Refused, in this order: 107 no place is held, 104 not inside, 105 no such
+/// condition.
 #[unsafe(no_mangle)]
 pub extern "C" fn zaulinte_door_wait(place: &mut HeldPlace, condition: u64, priority: u64) -> u64
     ensures acted { place.old.live ≡ 1
@@ -135,8 +138,9 @@ pub extern "C" fn zaulinte_door_wait(place: &mut HeldPlace, condition: u64, prio
     place.act(Wait(condition, priority))
 }
 
-/// The place signals one of Hoare's conditions: which place to wake, and then this place is away and tries to return
-/// once it is woken; or 64 if nobody waits there, and it is inside still. Refused: 107, 104, 105, 106 a Mesa condition.
+/// Lets the place signal `condition`, one of Hoare's. Returns the place to wake: then this place is away, and attempts
+/// to return once it is woken. Returns 64 if no place waits on the condition: this place is still inside. Refused, in
+/// this order: 107 no place is held, 104 not inside, 105 no such condition, 106 a Mesa condition.
 #[unsafe(no_mangle)]
 pub extern "C" fn zaulinte_door_signal(place: &mut HeldPlace, condition: u64) -> u64
     ensures acted { place.old.live ≡ 1
@@ -146,8 +150,8 @@ pub extern "C" fn zaulinte_door_signal(place: &mut HeldPlace, condition: u64) ->
     place.act(Signal(condition))
 }
 
-/// The place signals one of Hoare's conditions as its last act: which place to wake, or 64. Refused: 107, 104,
-/// 105, 106 a Mesa condition.
+/// Lets the place signal `condition`, one of Hoare's, as its last act. Returns the place to wake, or 64. Refused, in
+/// this order: 107 no place is held, 104 not inside, 105 no such condition, 106 a Mesa condition.
 #[unsafe(no_mangle)]
 pub extern "C" fn zaulinte_door_signal_leave(place: &mut HeldPlace, condition: u64) -> u64
     ensures acted { place.old.live ≡ 1
@@ -157,8 +161,9 @@ pub extern "C" fn zaulinte_door_signal_leave(place: &mut HeldPlace, condition: u
     place.act(SignalLeave(condition))
 }
 
-/// The place notifies the place that a signal on this Mesa condition would resume: how many it notified. Refused: 107,
-/// 104, 105, 106 one of Hoare's.
+/// Lets the place notify the waiter on the Mesa condition `condition` that a signal would resume. Returns the number of
+/// notified places, 1 or 0. Refused, in this order: 107 no place is held, 104 not inside, 105 no such condition, 106
+/// one of Hoare's.
 #[unsafe(no_mangle)]
 pub extern "C" fn zaulinte_door_notify(place: &mut HeldPlace, condition: u64) -> u64
     ensures acted { place.old.live ≡ 1
@@ -168,8 +173,8 @@ pub extern "C" fn zaulinte_door_notify(place: &mut HeldPlace, condition: u64) ->
     place.act(Notify(condition))
 }
 
-/// The place notifies all that wait on a Mesa condition: how many they were. Refused: 107, 104, 105, 106 one
-/// of Hoare's.
+/// Lets the place notify all waiters on the Mesa condition `condition`, and returns their number. Refused, in this
+/// order: 107 no place is held, 104 not inside, 105 no such condition, 106 one of Hoare's.
 #[unsafe(no_mangle)]
 pub extern "C" fn zaulinte_door_broadcast(place: &mut HeldPlace, condition: u64) -> u64
     ensures acted { place.old.live ≡ 1
@@ -179,7 +184,8 @@ pub extern "C" fn zaulinte_door_broadcast(place: &mut HeldPlace, condition: u64)
     place.act(Broadcast(condition))
 }
 
-/// The place inside writes the word that lies in the monitor: 0. Refused: 107, 104.
+/// Lets the place write `value` as the word in the monitor, and returns 0. Refused, in this order: 107 no place is
+/// held, 104 not inside.
 #[unsafe(no_mangle)]
 pub extern "C" fn zaulinte_door_set(place: &mut HeldPlace, value: u64) -> u64
     ensures acted { place.old.live ≡ 1
@@ -189,7 +195,8 @@ pub extern "C" fn zaulinte_door_set(place: &mut HeldPlace, value: u64) -> u64
     place.act(Set(value))
 }
 
-/// Reads the word that the place inside has in hand: 0. Refused: 107, 104.
+/// Writes the word in the monitor to `value`, and returns 0. Refused, in this order: 107 no place is held, 104 not
+/// inside.
 #[unsafe(no_mangle)]
 pub extern "C" fn zaulinte_door_get(place: &mut HeldPlace, value: &mut u64) -> u64
     ensures asked { place.old.live ≡ 1 → IsSame place.old.handle.value place.new.live place.new.handle.value
@@ -199,7 +206,8 @@ pub extern "C" fn zaulinte_door_get(place: &mut HeldPlace, value: &mut u64) -> u
     place.get(value)
 }
 
-/// Returns how many wait on a condition. Refused: 107, 104, 105.
+/// Returns the number of places that wait on `condition`. Refused, in this order: 107 no place is held, 104 not inside,
+/// 105 no such condition.
 #[unsafe(no_mangle)]
 pub extern "C" fn zaulinte_door_count(place: &mut HeldPlace, condition: u64) -> u64
     ensures asked { place.old.live ≡ 1 → IsSame place.old.handle.value place.new.live place.new.handle.value
@@ -209,7 +217,8 @@ pub extern "C" fn zaulinte_door_count(place: &mut HeldPlace, condition: u64) -> 
     place.count(condition)
 }
 
-/// Returns whether somebody waits on a condition: 1 or 0. Refused: 107, 104, 105.
+/// Returns 1 if a place waits on `condition`, else 0. Refused, in this order: 107 no place is held, 104 not inside, 105
+/// no such condition.
 #[unsafe(no_mangle)]
 pub extern "C" fn zaulinte_door_queue(place: &mut HeldPlace, condition: u64) -> u64
     ensures asked { place.old.live ≡ 1 → IsSame place.old.handle.value place.new.live place.new.handle.value
@@ -219,8 +228,8 @@ pub extern "C" fn zaulinte_door_queue(place: &mut HeldPlace, condition: u64) -> 
     place.queue(condition)
 }
 
-/// Returns whether somebody waits on a condition: 1 or 0; at 1 reads the priority of the place that a signal would
-/// resume. Refused: 107, 104, 105.
+/// Returns 1 if a place waits on `condition`, and writes the priority of the place that a signal would resume to
+/// `priority`. Else returns 0. Refused, in this order: 107 no place is held, 104 not inside, 105 no such condition.
 #[unsafe(no_mangle)]
 pub extern "C" fn zaulinte_door_first(
     place: &mut HeldPlace,
@@ -235,7 +244,7 @@ pub extern "C" fn zaulinte_door_first(
     place.first(condition, priority)
 }
 
-/// Returns where the place is: outside (0), inside (1) or away (2). Refused: 107.
+/// Returns the state of the place: 0 outside, 1 inside, 2 away. Refused: 107 no place is held.
 #[unsafe(no_mangle)]
 pub extern "C" fn zaulinte_door_state(place: &mut HeldPlace) -> u64
     ensures asked { place.old.live ≡ 1 → IsSame place.old.handle.value place.new.live place.new.handle.value

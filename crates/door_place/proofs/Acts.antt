@@ -26,7 +26,7 @@ use Rattle.door_place.specs.States.{Carried, Wakes, any, calm, front_of}
 use Rattle.door_place.specs.declared.state.State.{State}
 use Rattle.door_place.specs.declared.state.State.TheVariants.{Inside}
 
--- the place that a legal history has next is one of the monitor's
+-- the place that has its turn next in a legal history is one of the monitor's
 next_below : (h : History Carried) (n : ℕ) → IsLegal h → h.sizes.places ≤ n → IsPlaceBelow n (next_of (turn h.events))
 next_below h n legal few = by (turn h.events) refl
   where
@@ -36,7 +36,7 @@ next_below h n legal few = by (turn h.events) refl
     by (Owed k c) is = let k_is = (owed-in_range h k c legal is).0 in omega (arith, k_is, few)
     by (Return k) is = let k_is = return-in_range h k legal is in omega (arith, k_is, few)
 
--- so the code names it below 64
+-- so the code for that place is below 64
 pub woken : (d : StepId) {next : Next} {code : ℕ} {h : History Carried} → h.sizes ≡ sizes_at d.kinds d.door.places
     → Stands calm any h → d.door.places ≤ 64 → next ≡ next_of (turn h.events) → code ≡ code_of next → Wakes h code
 woken d {h = h} sized stands few next is = record {
@@ -44,7 +44,7 @@ woken d {h = h} sized stands few next is = record {
   below = next_below h 64 stands.legal (subst (λ (n : ℕ). n ≤ 64) (sym (ap (λ (z : Sizes). z.places) sized)) few);
 }
 
--- a history with one event more begins with it
+-- a history with one event more begins with the shorter one
 pub begun : {f h : History Carried} (e : Event Carried) → h ≡ with_event f e → Begins f h
 begun {f = f} e is = subst (Begins f) (sym is) (Begins-push f e)
 

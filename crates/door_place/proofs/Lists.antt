@@ -15,7 +15,7 @@ has_at k i [] e below is = absurd (omega (arith, below))
 has_at k zero (o ∷ os) e below is = inl is
 has_at k (suc i) (o ∷ os) e below is = inr (has_at k i os e (omega (arith, below)) is)
 
--- all of the first n are there, and place n is: so all of the first n + 1
+-- if all of the first n are in hand, and place n is, all of the first n + 1 are
 pub one_more : (os : List (PlaceOut Carried)) (n : ℕ) → ((k : ℕ) → k < n → HasPlace k os) → HasPlace n os → (k : ℕ)
     → k < n + 1 → HasPlace k os
 one_more os n all one k below = by (eqb k n) refl
@@ -32,7 +32,7 @@ pub gave : {old mid new : List (PlaceOut Carried)} (o : PlaceOut Carried) → (o
 gave o (inl none) is = returned o refl none
 gave o (inr same) is = in_hand o refl (sym same ∙ is)
 
--- more than more is more
+-- the places in hand after two collections are those before both, and perhaps more
 pub has_more_then : {d : StepId} {xs ys zs : List (PlaceOut Carried)} → HasMore d xs ys → HasMore d ys zs
     → HasMore d xs zs
 has_more_then {d = d} {xs = xs} x y = record {

@@ -1,4 +1,4 @@
--- A place and a keeper may move to another thread: all that they own says the same to every thread.
+-- A place and a keeper may move to another thread: the meaning of all that they own doesn't depend on the thread.
 use denote.Builtin.{u64}
 use denote.RattleType.{RattleType}
 use denote.Param.{number}

@@ -13,8 +13,8 @@ use Rattle.door_place.specs.Deeds.{Deed}
 use Rattle.door_place.specs.States.{IsState, Carried, NotOutside, any, calm, front_of, number_of}
 use Rattle.door_place.specs.declared.state.State.TheVariants.{Outside, Nowhere}
 
--- the act was done or refused: the place is still that of the same door, what it knows is legal and begins with what it
--- knew
+-- the act was done or refused: the place is still that of the same door; what it knows is legal, and begins with what
+-- it knew
 pub record Acts (d : StepId) (act : Deed) (old new : State) (code : ℕ) : Type 0 where
   pub made : act d old new code
   pub of : IsState d new
@@ -29,19 +29,19 @@ pub record PlaceAt : Type 0 where
 abbrev pub place_at : StepId → State → PlaceAt
 place_at d s = record { door = d; state = s }
 
--- the number of a place that is outside, below 64, or 64
+-- the number of a place that is outside, below 64; else 64
 pub data NumberIs (state : State) (n : ℕ) : Type 0 where
   outside : (o : PlaceOut Carried) → state ≡ Outside o → n ≡ o.place → n < 64 → NumberIs state n
   elsewhere : NotOutside state → n ≡ 64 → NumberIs state n
 
--- the place was given back (0): it isn't here any more; else it is as it was: it isn't outside (103), or its slot is in
+-- the place was given back (0), and isn't here then; else it is as it was: it isn't outside (103), or its slot is in
 -- another hand (102)
 pub data GivesBack (old new : State) (code : ℕ) : Type 0 where
   given_back : (o : PlaceOut Carried) → old ≡ Outside o → new ≡ Nowhere → code ≡ 0 → GivesBack old new code
   not_outside : NotOutside old → new ≡ old → code ≡ 103 → GivesBack old new code
   not_now : (o : PlaceOut Carried) → old ≡ Outside o → new ≡ old → code ≡ 102 → GivesBack old new code
 
--- a door with its places that the keeper has in hand
+-- a door with those of its places that the keeper has in hand
 pub record KeeperOf : Type 0 where
   pub door : StepId
   pub outs : List (PlaceOut Carried)
@@ -49,7 +49,7 @@ pub record KeeperOf : Type 0 where
 abbrev pub keeper_of : StepId → List (PlaceOut Carried) → KeeperOf
 keeper_of d os = record { door = d; outs = os }
 
--- a new door of these sizes, opened with the value, with all of its places
+-- a new door of these sizes, opened with the value, with all of its places in hand
 pub record IsNew (sizes : Sizes) (value : ℕ) (k : KeeperOf) : Type 0 where
   pub allowed : make_refusal sizes ≡ None
   pub places : k.door.door.places ≡ sizes.places
@@ -67,13 +67,13 @@ pub data GaveOut (old new : List (PlaceOut Carried)) (state : State) : Type 0 wh
   in_hand : (o : PlaceOut Carried) → state ≡ Outside o → old ≡ new ++ o ∷ [] → GaveOut old new state
   returned : (o : PlaceOut Carried) → state ≡ Outside o → old ≡ [] → GaveOut old new state
 
--- why it didn't: all places are taken (114), or no memory (111), in this order; it still has what it had in hand, or,
--- if it had none, what was given back
+-- why the keeper gave no place out: all places are taken (114), or no memory (111), in this order. It still has what it
+-- had in hand, or, if it had none, what was given back
 pub data GaveNone (old new : List (PlaceOut Carried)) (code : ℕ) : Type 0 where
   none_left : old ≡ [] → new ≡ [] → code ≡ 114 → GaveNone old new code
   no_memory : (old ≡ []) ⊎ (new ≡ old) → new ≢ [] → code ≡ 111 → GaveNone old new code
 
--- the keeper of the door has more places in hand than it had, each outside, and of this door
+-- the keeper of the door has all places in hand that it had, and perhaps more, each outside, and of this door
 pub record HasMore (d : StepId) (old new : List (PlaceOut Carried)) : Type 0 where
   pub more : List (PlaceOut Carried)
   pub of : All (IsOut calm any d.kinds d.door) more

@@ -22,7 +22,7 @@ use Rattle.door_place.specs.declared.state.State.TheVariants.{Outside, Inside, A
 abbrev pub Carried : Type 0
 Carried = Unasked ℕ 1
 
--- nothing is asked of it
+-- rest and ready ask nothing of the data
 abbrev pub calm : Rest Carried
 calm s q = ⊤
 
@@ -43,7 +43,7 @@ front_of (Inside i) = i.front
 front_of (Away o) = o.front
 front_of Nowhere = opened (sizes_of 0 0 0) (record { value = 0 })
 
--- its number
+-- the number of the place; 0 if it isn't here
 abbrev pub number_of : State → ℕ
 number_of (Outside o) = o.place
 number_of (Inside i) = i.place
@@ -62,7 +62,7 @@ abbrev pub NotAway : State → Type 0
 NotAway (Away o) = ⊥
 NotAway _ = ⊤
 
--- the code names the place that resumes next after this history, below 64, or is 64 if none does
+-- the code is the place that resumes next or is inside after this history, below 64, or 64 if there is none
 pub record Wakes (h : History Carried) (code : ℕ) : Type 0 where
   pub is : code ≡ code_of (next_of (turn h.events))
   pub below : IsPlaceBelow 64 (next_of (turn h.events))
@@ -74,14 +74,13 @@ pub data TriesToEnter (old new : State) (code : ℕ) : Type 0 where
   not_now : (o : PlaceOut Carried) → old ≡ Outside o → new ≡ old → code ≡ 102 → TriesToEnter old new code
   not_outside : NotOutside old → new ≡ old → code ≡ 103 → TriesToEnter old new code
 
--- a leave: the place is outside, and the code names the place to wake; it isn't inside (104)
+-- a leave: the place is outside, and the code is the place to wake; it isn't inside (104)
 pub data Leaves (old new : State) (code : ℕ) : Type 0 where
   left : (i : PlaceIn Carried) (o : PlaceOut Carried) → old ≡ Inside i → new ≡ Outside o → o.place ≡ i.place
       → o.front ≡ with_event i.front (Leave i.place i.state) → Wakes o.front code → Leaves old new code
   not_inside : NotInside old → new ≡ old → code ≡ 104 → Leaves old new code
 
--- a wait: the place is away, and the code names the place to wake; it isn't inside (104); there is no such condition
--- (105)
+-- a wait: the place is away, and the code is the place to wake; it isn't inside (104); there is no such condition (105)
 pub data Waits (d : StepId) (old : State) (c p : ℕ) (new : State) (code : ℕ) : Type 0 where
   waits : (i : PlaceIn Carried) (o : PlaceOut Carried) → old ≡ Inside i → new ≡ Away o → c < d.kinds.conditions
       → o.place ≡ i.place → o.front ≡ with_event i.front (Wait i.place c p i.state) → Wakes o.front code
@@ -90,8 +89,8 @@ pub data Waits (d : StepId) (old : State) (c p : ℕ) (new : State) (code : ℕ)
   no_condition : (i : PlaceIn Carried) → old ≡ Inside i → new ≡ old → d.kinds.conditions ≤ c → code ≡ 105
       → Waits d old c p new code
 
--- a signal: the place is away, and the code names the place that it resumed; nobody waits there (64); it isn't inside
--- (104); there is no such condition (105); it is a Mesa condition (106)
+-- a signal: the place is away, and the code is the place that it resumed; no place waits on the condition (64); the
+-- place isn't inside (104); there is no such condition (105); it is a Mesa condition (106)
 pub data Signals (d : StepId) (old : State) (c : ℕ) (new : State) (code : ℕ) : Type 0 where
   signals : (i : PlaceIn Carried) (o : PlaceOut Carried) → old ≡ Inside i → new ≡ Away o
       → IsHoare d.kinds.conditions d.kinds.mesa c → o.place ≡ i.place → HandsTo c i o.front → Wakes o.front code
@@ -104,7 +103,8 @@ pub data Signals (d : StepId) (old : State) (c : ℕ) (new : State) (code : ℕ)
   wrong_kind : (i : PlaceIn Carried) → old ≡ Inside i → new ≡ old → IsMesa d.kinds.conditions d.kinds.mesa c
       → code ≡ 106 → Signals d old c new code
 
--- a signal joined with the exit: the place is outside, and the code names the place to wake; else as a signal
+-- a signal joined with the exit: the place is outside, and the code is the place to wake; it isn't inside (104); there
+-- is no such condition (105); it is a Mesa condition (106)
 pub data SignalLeaves (d : StepId) (old : State) (c : ℕ) (new : State) (code : ℕ) : Type 0 where
   exits : (i : PlaceIn Carried) (o : PlaceOut Carried) (b : Bool) → old ≡ Inside i → new ≡ Outside o
       → IsHoare d.kinds.conditions d.kinds.mesa c → o.place ≡ i.place → Exits i.place c i.state i.front o.front b
@@ -115,8 +115,8 @@ pub data SignalLeaves (d : StepId) (old : State) (c : ℕ) (new : State) (code :
   wrong_kind : (i : PlaceIn Carried) → old ≡ Inside i → new ≡ old → IsMesa d.kinds.conditions d.kinds.mesa c
       → code ≡ 106 → SignalLeaves d old c new code
 
--- a notify: the place is inside as it was, and the code says how many it notified; it isn't inside (104); there is no
--- such condition (105); it is one of Hoare's (106)
+-- a notify: the place is inside as it was, and the code is the number of notified places; it isn't inside (104); there
+-- is no such condition (105); it is one of Hoare's (106)
 pub data Notifies (d : StepId) (old : State) (c : ℕ) (new : State) (code : ℕ) : Type 0 where
   notified : (i j : PlaceIn Carried) (b : Bool) → old ≡ Inside i → new ≡ Inside j
       → IsMesa d.kinds.conditions d.kinds.mesa c → j.place ≡ i.place → j.state ≡ i.state
@@ -127,7 +127,7 @@ pub data Notifies (d : StepId) (old : State) (c : ℕ) (new : State) (code : ℕ
   wrong_kind : (i : PlaceIn Carried) → old ≡ Inside i → new ≡ old → IsHoare d.kinds.conditions d.kinds.mesa c
       → code ≡ 106 → Notifies d old c new code
 
--- a broadcast: the same, and it notified all that waited
+-- a broadcast: the same, and all places that waited on the condition were notified
 pub data Broadcasts (d : StepId) (old : State) (c : ℕ) (new : State) (code : ℕ) : Type 0 where
   notified_all : (i j : PlaceIn Carried) → old ≡ Inside i → new ≡ Inside j
       → IsMesa d.kinds.conditions d.kinds.mesa c → j.place ≡ i.place → j.state ≡ i.state
@@ -158,14 +158,14 @@ pub data Gets (state : State) (before value code : ℕ) : Type 0 where
   got : (i : PlaceIn Carried) → state ≡ Inside i → value ≡ i.state.value → code ≡ 0 → Gets state before value code
   not_inside : NotInside state → value ≡ before → code ≡ 104 → Gets state before value code
 
--- how many wait on a condition; the place isn't inside (104); there is no such condition (105)
+-- the number of places that wait on a condition; the place isn't inside (104); there is no such condition (105)
 pub data Counts (d : StepId) (state : State) (c code : ℕ) : Type 0 where
   counted : (i : PlaceIn Carried) → state ≡ Inside i → c < d.kinds.conditions
       → code ≡ length (priorities i.front.events c) → Counts d state c code
   not_inside : NotInside state → code ≡ 104 → Counts d state c code
   no_condition : (i : PlaceIn Carried) → state ≡ Inside i → d.kinds.conditions ≤ c → code ≡ 105 → Counts d state c code
 
--- whether somebody waits on it (1 or 0); else as a count
+-- 1 if a place waits on the condition, else 0; the place isn't inside (104); there is no such condition (105)
 pub data AsksQueue (d : StepId) (state : State) (c code : ℕ) : Type 0 where
   somebody : (i : PlaceIn Carried) → state ≡ Inside i → c < d.kinds.conditions → priorities i.front.events c ≢ []
       → code ≡ 1 → AsksQueue d state c code
@@ -175,7 +175,7 @@ pub data AsksQueue (d : StepId) (state : State) (c code : ℕ) : Type 0 where
   no_condition : (i : PlaceIn Carried) → state ≡ Inside i → d.kinds.conditions ≤ c → code ≡ 105
       → AsksQueue d state c code
 
--- the same, and if somebody waits the priority of the place that a signal would resume
+-- the same, and if a place waits, the priority of the place that a signal would resume
 pub data AsksFirst (d : StepId) (state : State) (c before priority code : ℕ) : Type 0 where
   somebody : (i : PlaceIn Carried) → state ≡ Inside i → c < d.kinds.conditions → priorities i.front.events c ≢ []
       → priority ≡ slice_index (priorities i.front.events c) 0 → code ≡ 1 → AsksFirst d state c before priority code
@@ -185,7 +185,7 @@ pub data AsksFirst (d : StepId) (state : State) (c before priority code : ℕ) :
   no_condition : (i : PlaceIn Carried) → state ≡ Inside i → d.kinds.conditions ≤ c → priority ≡ before → code ≡ 105
       → AsksFirst d state c before priority code
 
--- where the place is: outside (0), inside (1) or away (2); it isn't here (107)
+-- the state of the place: outside (0), inside (1) or away (2); it isn't here (107)
 abbrev pub where_is : State → ℕ
 where_is (Outside o) = 0
 where_is (Inside i) = 1

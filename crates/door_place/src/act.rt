@@ -1,4 +1,4 @@
-//! What a place does. Each act is a type of its own, so that the code for an act holds that act alone.
+//! The acts of a place. Each act is a type of its own, so that the code for an act holds that act alone.
 ghost use Rattle.std.specs.Prelude.{◌≡◌, ◌≤◌};
 ghost use Rattle.baton_door.specs.StepDoors.{StepId};
 ghost use Rattle.door_place.specs.Codes.{code_of};
@@ -11,14 +11,15 @@ use crate::state::{Door, Limits, State};
 use door_frame::calls;
 use wait_book::steps::Next;
 
-/// One act of a place, done or refused.
+/// An act of a place, which is done or refused by a code. The refusals are tested in this order: the place's state, the
+/// number of the condition, the kind of the condition. A refusal changes nothing.
 pub trait Act: Copy {
     ghost use Rattle.std.specs.Prelude.{◌≡◌};
     ghost use Rattle.hoare_law.specs.Growth.{Begins};
     ghost use Rattle.door_place.specs.Deeds.{Deed};
     ghost use Rattle.door_place.specs.States.{IsState, front_of, number_of};
 
-    /// What the act makes of a place's state.
+    /// The relation of the door, the old state, the new state and the code: what the act makes of a place's state.
     ghost deed: { Self → Deed };
 
     /// Does the act, or refuses it. Returns the new state, and the code.
@@ -30,43 +31,51 @@ pub trait Act: Copy {
         ensures front { Begins (front_of state) (front_of result.0) };
 }
 
-/// The place tries to enter.
+/// An attempt to enter. Returns `NOBODY` if the place is inside then, or `NOT_NOW` if it isn't its turn at this moment.
+/// Refused: `NOT_OUTSIDE`.
 #[derive(Clone, Copy)]
 pub struct TryEnter;
 
-/// The place tries to return from its wait or its signal.
+/// An attempt to return from a wait or a signal. Returns `NOBODY` if the place is inside then, or `NOT_NOW` if it isn't
+/// its turn at this moment. Refused: `NOT_AWAY`.
 #[derive(Clone, Copy)]
 pub struct TryReturn;
 
-/// The place leaves.
+/// A leave: the place is outside then. Returns the place to wake, or `NOBODY`. Refused: `NOT_INSIDE`.
 #[derive(Clone, Copy)]
 pub struct Leave;
 
-/// The place waits on a condition, with a priority.
+/// A wait on a condition, `.0`, with a priority, `.1`: the place is away then. Returns the place to wake, or `NOBODY`.
+/// Refused: `NOT_INSIDE`, `NO_CONDITION`.
 #[derive(Clone, Copy)]
 pub struct Wait(pub u64, pub u64);
 
-/// The place signals one of Hoare's conditions.
+/// A signal on one of Hoare's conditions, `.0`. Returns the place to wake: the signaller is away then. If no place
+/// waits on the condition, it returns `NOBODY`, and the signaller is still inside. Refused: `NOT_INSIDE`,
+/// `NO_CONDITION`, `WRONG_KIND`.
 #[derive(Clone, Copy)]
 pub struct Signal(pub u64);
 
-/// The place signals one of Hoare's conditions as its last act.
+/// A signal on one of Hoare's conditions, `.0`, as the last act: the place is outside then. Returns the place to wake,
+/// or `NOBODY`. Refused: `NOT_INSIDE`, `NO_CONDITION`, `WRONG_KIND`.
 #[derive(Clone, Copy)]
 pub struct SignalLeave(pub u64);
 
-/// The place notifies the place that a signal on this Mesa condition would resume.
+/// A notify of the place that a signal on a Mesa condition, `.0`, would resume. Returns the number of notified places,
+/// 1 or 0. Refused: `NOT_INSIDE`, `NO_CONDITION`, `WRONG_KIND`.
 #[derive(Clone, Copy)]
 pub struct Notify(pub u64);
 
-/// The place notifies all that wait on a Mesa condition.
+/// A notify of all places that wait on a Mesa condition, `.0`. Returns their number. Refused: `NOT_INSIDE`,
+/// `NO_CONDITION`, `WRONG_KIND`.
 #[derive(Clone, Copy)]
 pub struct Broadcast(pub u64);
 
-/// The place writes the word that lies in the monitor.
+/// A write of a value, `.0`, as the word in the monitor. Returns `DONE`. Refused: `NOT_INSIDE`.
 #[derive(Clone, Copy)]
 pub struct Set(pub u64);
 
-/// Returns the code for the place that resumes next.
+/// Returns the number of the place that resumes next, below 64, or `NOBODY`.
 #[inline(always)]
 fn code_of(door: &Door, next: Next) -> u64
     ensures is { result ≡ code_of next }

@@ -1,4 +1,4 @@
-//! A door with those of its places that nobody has taken.
+//! A door with its places that are in hand: those that no thread has taken.
 ghost use Rattle.std.specs.Prelude.{◌≡◌, ◌⊎◌, ◌<◌, [], ℕ, IfOk, IfErr, true};
 ghost use Rattle.door_frame.specs.Places.{Closes, HasPlace};
 ghost use Rattle.door_place.specs.Places.{GaveNone, GaveOut, HasMore, IsNew, MadeNot};
@@ -16,7 +16,7 @@ use std::marker::Model;
 use std::sync::Arc;
 use wait_book::steps::MakeRefused;
 
-/// A door, and in hand those of its places that nobody has taken, or that were collected.
+/// A door with those of its places that are in hand: they weren't given out, or they were given back and collected.
 #[derive(Drop)]
 pub struct Keeper {
     shared: Arc<Shared>,
@@ -37,7 +37,7 @@ impl Model for Keeper {
     ghost invariant = { λ k. All (IsOut calm any (arc_value k.shared).kinds (arc_value k.shared).door) k.outs.items };
 }
 
-/// Returns whether the place with this number is among these.
+/// Returns true if a place with this number is among `outs`.
 fn has(outs: &[Out], number: usize) -> bool
     ensures { result ≡ true → HasPlace number outs.now }
 {
@@ -49,7 +49,7 @@ fn has(outs: &[Out], number: usize) -> bool
     false
 }
 
-/// Returns whether the first so many places are among these.
+/// Returns true if all places with numbers below `places` are among `outs`.
 fn has_all(outs: &[Out], places: usize) -> bool
     ensures { result ≡ true → (k : ℕ) → k < places → HasPlace k outs.now }
 {
@@ -62,9 +62,9 @@ fn has_all(outs: &[Out], places: usize) -> bool
 }
 
 impl Keeper {
-    /// Makes a door of these sizes: 1 to 64 places and 1 to 8 conditions, the last `sizes.mesa` of which are Mesa
-    /// conditions. A word of the caller's lies in it. Refused, in this order: `BAD_PLACES`, `BAD_CONDITIONS`,
-    /// `NO_MEMORY`.
+    /// Creates a door of these sizes, with all of its places in hand: 1 to 64 places and 1 to 8 conditions, the last
+    /// `sizes.mesa` of which are Mesa conditions. The caller's word `value` is in it. Refused, in this order:
+    /// `BAD_PLACES`, `BAD_CONDITIONS`, `NO_MEMORY`.
     pub fn make(alloc: Global, sizes: Sizes, value: u64) -> Result<Keeper, u64>
         ensures made { IfOk result (λ k. IsNew sizes value k) }
         ensures refused { IfErr result (λ code. MadeNot sizes code) }
@@ -98,7 +98,8 @@ impl Keeper {
         self.outs.push_reserved(out);
     }
 
-    /// Takes those places in hand that were given back.
+    /// Takes the places in hand that were given back. Leaves out a place whose slot another thread has in hand at this
+    /// moment.
     pub fn collect(&mut self)
         ensures door { self.new.door ≡ self.old.door }
         ensures outs { HasMore self.old.door self.old.outs self.new.outs }
@@ -119,8 +120,8 @@ impl Keeper {
         }
     }
 
-    /// Gives a place out, for a thread of its own. Refused, in this order: `NONE_LEFT` if all places are taken, and
-    /// `NO_MEMORY` if an allocation failed.
+    /// Gives a place out, for a thread of its own. If no place is in hand, it collects first. Refused, in this order:
+    /// `NONE_LEFT` if no place is in hand then, and `NO_MEMORY` if an allocation failed.
     pub fn give_out(&mut self) -> Result<Place, u64>
         ensures door { self.new.door ≡ self.old.door }
         ensures gave { IfOk result (λ p. (p.door ≡ self.old.door) × GaveOut self.old.outs self.new.outs p.state) }
@@ -140,8 +141,9 @@ impl Keeper {
         }
     }
 
-    /// Takes the door apart, if all of its places are in hand. The word is the one that one legal history left, which
-    /// begins with what each place knows and in which no place did anything else. Else the keeper comes back.
+    /// Closes the door if all of its places are in hand, and returns its word. One legal history left that word; it
+    /// begins with what each place knows, and no place did anything else in it. Else returns the keeper as it was. It
+    /// is also returned if a `Place` of this door still exists.
     pub fn close(self) -> Result<u64, Keeper>
         ensures all { IfOk result (λ v. (k : ℕ) → k < self.door.door.places → HasPlace k self.outs) }
         ensures closes { IfOk result (λ v. Closes calm any self.door.kinds self.door.door self.outs

@@ -1,5 +1,5 @@
-//! The places of a running door for callers that hold them without types, as C does: each place is a value with a
-//! state, and each act is done or refused. No call here waits for another thread, and none wakes one.
+//! The places of a running door for callers that can't hold them by types, as C can't: each place is a value with a
+//! state, and each act is done or refused. No call here blocks, and none wakes a thread.
 #![tactic(auto)]
 
 pub mod act;

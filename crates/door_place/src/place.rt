@@ -16,8 +16,8 @@ use door_frame::calls;
 use std::marker::Model;
 use std::sync::Arc;
 
-/// A place of a door, with its door. If it is dropped while it is inside it leaves first, and
-/// nobody learns which place to wake: give it back instead.
+/// A place of a door, with its door. If it is dropped while it is inside, it leaves first, and no caller learns which
+/// place to wake: give it back instead.
 pub struct Place {
     shared: Arc<Shared>,
     state: State,
@@ -47,7 +47,7 @@ impl Drop for Place {
     }
 }
 
-/// Puts a place that is outside into its slot.
+/// Puts a place that is outside into its slot. Returns the new state, and the code.
 fn given_back(state: State, shared: &Shared) -> (State, u64)
     requires { IsState shared.now state }
     ensures gives { GivesBack state result.0 result.1 }
@@ -63,7 +63,7 @@ fn given_back(state: State, shared: &Shared) -> (State, u64)
 }
 
 impl Place {
-    /// A place of the door that is shared, outside.
+    /// Creates a place that is outside, of the shared door.
     pub(crate) fn new(shared: Arc<Shared>, out: Out) -> Place
         requires { IsState (arc_value shared) (Outside out) }
         ensures { result ≡ place_at (arc_value shared) (Outside out) }
@@ -74,7 +74,7 @@ impl Place {
         })
     }
 
-    /// Does one act, or refuses it. Returns its code.
+    /// Does `act`, or refuses it, and returns the code.
     pub fn act<A: Act>(&mut self, act: A) -> u64
         ensures door { self.new.door ≡ self.old.door }
         ensures acts { Acts self.old.door (A.deed act) self.old.state self.new.state result }
@@ -85,8 +85,8 @@ impl Place {
         })
     }
 
-    /// Gives the place back to its door: then it isn't here any more. Refused: `NOT_OUTSIDE`, and `NOT_NOW` if another
-    /// thread has the place's slot in hand.
+    /// Gives the place back to its door, and returns `DONE`: it isn't here then. Refused, in this order: `NOT_OUTSIDE`;
+    /// `NOT_NOW` if another thread has the place's slot in hand. A refusal changes nothing.
     pub fn give_back(&mut self) -> u64
         ensures door { self.new.door ≡ self.old.door }
         ensures gives { GivesBack self.old.state self.new.state result }
@@ -95,7 +95,7 @@ impl Place {
         mem::replace_with(&mut self.state, shared, given_back)
     }
 
-    /// Returns the place's number if it is outside, and else `NOBODY`.
+    /// Returns the place's number, below 64, if it is outside, else `NOBODY`.
     pub fn number(&self) -> u64
         ensures { NumberIs self.now.state result }
     {
@@ -106,35 +106,38 @@ impl Place {
         }
     }
 
-    /// Returns where the place is: outside (0), inside (1) or away (2), or that it isn't here.
+    /// Returns the state of the place: 0 outside, 1 inside, 2 away, `NOTHING_HELD` if it isn't here.
     pub fn where_is(&self) -> u64
         ensures { result ≡ where_is self.now.state }
     {
         state::where_is(&self.state)
     }
 
-    /// Reads the word that the place has in hand.
+    /// Writes the word that the place has in hand to `value`, and returns `DONE`. Refused: `NOT_INSIDE`; then `value`
+    /// stays as it is.
     pub fn get(&self, value: &mut u64) -> u64
         ensures { Gets self.now.state value.old value.new result }
     {
         state::get(&self.state, value)
     }
 
-    /// Returns how many wait on a condition.
+    /// Returns the number of places that wait on `condition`. Refused, in this order: `NOT_INSIDE`, `NO_CONDITION`.
     pub fn count(&self, condition: u64) -> u64
         ensures { Counts self.now.door self.now.state condition result }
     {
         state::count(self.shared.door(), &self.state, condition)
     }
 
-    /// Returns whether somebody waits on a condition.
+    /// Returns 1 if a place waits on `condition`, else 0. Refused, in this order: `NOT_INSIDE`, `NO_CONDITION`.
     pub fn queue(&self, condition: u64) -> u64
         ensures { AsksQueue self.now.door self.now.state condition result }
     {
         state::queue(self.shared.door(), &self.state, condition)
     }
 
-    /// Reads the priority of the place that a signal would resume, if somebody waits on the condition.
+    /// Returns 1 if a place waits on `condition`, and writes the priority of the place that a signal would resume to
+    /// `priority`. Else returns 0. Refused, in this order: `NOT_INSIDE`, `NO_CONDITION`. If it doesn't return 1,
+    /// `priority` stays as it is.
     pub fn first(&self, condition: u64, priority: &mut u64) -> u64
         ensures { AsksFirst self.now.door self.now.state condition priority.old priority.new result }
     {

@@ -1,4 +1,4 @@
-//! What all places of a door share: the door, and a slot for each place, into which a place is put when it is given
+//! What all places of a door share: the door, and a slot for each place, into which the place is put when it is given
 //! back.
 ghost use Rattle.std.specs.Prelude.{◌≡◌, ◌<◌, All, IfOk, IfErr, IfSome};
 ghost use Rattle.door_frame.specs.Places.{IsOut};
@@ -45,7 +45,7 @@ fn slot(door: &Door) -> Counted<Option<Returned>>
     Counted::new(None, door)
 }
 
-/// Returns `places` empty slots for places of this door.
+/// Returns `places` empty slots for places of this door. Fails if the allocation fails.
 fn slots(
     alloc: Global,
     door: &Door,
@@ -61,7 +61,7 @@ fn slots(
 }
 
 impl Shared {
-    /// Makes the slots for a door of so many places.
+    /// Creates `places` slots for the door. Fails if the allocation fails.
     pub(crate) fn new(alloc: Global, door: Door, places: usize) -> Result<Shared, AllocError>
         ensures { IfOk result (λ s. s ≡ door) }
     {
@@ -85,7 +85,7 @@ impl Shared {
         door
     }
 
-    /// Puts a place into the slot of its number. It comes back if another thread has that slot in hand.
+    /// Puts a place into the slot of its number. Returns the place if another thread has that slot in hand.
     pub(crate) fn put(&self, out: Out) -> Result<(), Out>
         requires of { IsOut calm any self.now.kinds self.now.door out }
         ensures same { IfErr result (λ o. o ≡ out) }
@@ -103,7 +103,8 @@ impl Shared {
         Ok(())
     }
 
-    /// Takes the place with this number, if it lies in its slot and no other thread has the slot in hand.
+    /// Takes the place with this number. Returns `None` if it isn't in its slot, or another thread has the slot in
+    /// hand.
     pub(crate) fn take(&self, number: usize) -> Option<Out>
         ensures of { IfSome result (λ o. IsOut calm any self.now.kinds self.now.door o) }
     {

@@ -1,4 +1,4 @@
-//! Where a place of a door is, and what it can be asked there.
+//! The state of a place of a door, and the questions about it.
 ghost use Rattle.std.specs.Prelude.{◌≡◌, ◌+◌};
 ghost use Rattle.baton_door.specs.StepDoors.{StepId};
 ghost use Rattle.door_place.specs.States.{IsState, Gets, Counts, AsksQueue, AsksFirst, where_is};
@@ -10,34 +10,35 @@ use door_frame::waking::ByCaller;
 use hoare_law::unasked::Unasked;
 use hoare_law::waits::Waits;
 
-/// The data: one word of the caller's, as a rule a pointer to its own data, of which nothing is asked.
+/// The data of the monitor: one word of the caller's, as a rule a pointer to its own data. `rest` and `ready` ask
+/// nothing of it.
 pub type Carried = Unasked<u64, 1>;
 
 /// A door whose calls are steps, with one word of the caller's in it.
 pub type Door = StepDoor<Carried>;
 
-/// A place outside.
+/// A place that is outside.
 pub type Out = place::Outside<Carried, ByCaller>;
 
-/// A place inside.
+/// A place that is inside.
 pub type In = place::Inside<Carried, ByCaller>;
 
-/// A place that waits, or that has signalled and is to return.
+/// A place that is away: it waits, or has signalled and is to return.
 pub type Away = place::Away<Carried, ByCaller>;
 
-/// Where a place is. It can't be dropped: a place that is inside has to leave.
+/// The state of a place. It can't be dropped: a place that is inside has to leave.
 pub enum State {
-    /// It may enter.
+    /// The place is outside, and may enter.
     Outside(Out),
-    /// It has the monitor.
+    /// The place is inside, and has the monitor.
     Inside(In),
-    /// It waits, or has signalled and is to return.
+    /// The place is away: it waits, or has signalled and is to return.
     Away(Away),
-    /// It isn't here: it was given back.
+    /// The place isn't here: it was given back.
     Nowhere,
 }
 
-/// How many conditions a door has: all of them, and those of Hoare's, which are the first.
+/// The number of all conditions of a door, and of those of Hoare's, which are the first.
 #[derive(Clone, Copy)]
 pub(crate) struct Limits {
     pub(crate) conditions: u64,
@@ -58,7 +59,7 @@ impl Limits {
     }
 }
 
-/// Returns where the place is: outside (0), inside (1) or away (2), or that it isn't here.
+/// Returns the state of the place: 0 outside, 1 inside, 2 away, `NOTHING_HELD` if it isn't here.
 pub fn where_is(state: &State) -> u64
     ensures { result ≡ where_is state.now }
 {
@@ -70,7 +71,8 @@ pub fn where_is(state: &State) -> u64
     }
 }
 
-/// Reads the word that the place has in hand.
+/// Writes the word that the place has in hand to `value`, and returns `DONE`. Refused: `NOT_INSIDE`; then `value` stays
+/// as it is.
 pub fn get(state: &State, value: &mut u64) -> u64
     ensures { Gets state.now value.old value.new result }
 {
@@ -83,7 +85,7 @@ pub fn get(state: &State, value: &mut u64) -> u64
     }
 }
 
-/// Returns how many wait on a condition.
+/// Returns the number of places that wait on `condition`. Refused, in this order: `NOT_INSIDE`, `NO_CONDITION`.
 pub fn count(door: &Door, state: &State, condition: u64) -> u64
     requires { IsState door.now state.now }
     ensures { Counts door.now state.now condition result }
@@ -99,7 +101,7 @@ pub fn count(door: &Door, state: &State, condition: u64) -> u64
     }
 }
 
-/// Returns whether somebody waits on a condition.
+/// Returns 1 if a place waits on `condition`, else 0. Refused, in this order: `NOT_INSIDE`, `NO_CONDITION`.
 pub fn queue(door: &Door, state: &State, condition: u64) -> u64
     requires { IsState door.now state.now }
     ensures { AsksQueue door.now state.now condition result }
@@ -119,7 +121,9 @@ pub fn queue(door: &Door, state: &State, condition: u64) -> u64
     }
 }
 
-/// Reads the priority of the place that a signal would resume, if somebody waits on the condition.
+/// Returns 1 if a place waits on `condition`, and writes the priority of the place that a signal would resume to
+/// `priority`. Else returns 0. Refused, in this order: `NOT_INSIDE`, `NO_CONDITION`. If it doesn't return 1, `priority`
+/// stays as it is.
 pub fn first(door: &Door, state: &State, condition: u64, priority: &mut u64) -> u64
     requires { IsState door.now state.now }
     ensures { AsksFirst door.now state.now condition priority.old priority.new result }

@@ -5,8 +5,8 @@ use Rattle.std.specs.Fork.{GivesJobs}
 use denote.Param.Members.{Shared}
 use Rattle.test_support.specs.Numbered.{IsNumbered}
 
--- each place had its number as a job, a call of its job gave it back, and calls keep a monitor's places and their
--- numbers: so place k of the monitor is the one with that number again
+-- each place had its number as a job, its job gave it back, and calls keep a monitor's places and their numbers: so
+-- place k is again the place with number k
 pub acted : {F O : Type 0} {g : Shared F ((ℕ × O) × Unit {0}) (O × ℕ)} {f : F} {of : O → Type 0} {place : O → ℕ}
     (outs after : List O) (jobs : List (ℕ × O)) (done : List (O × ℕ)) {n m : ℕ}
     → ((k : ℕ) (d : ℕ × O) → k < n → (slice_index_or jobs k d).1 ≡ slice_index_or outs k d.1)

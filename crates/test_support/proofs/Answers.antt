@@ -10,11 +10,11 @@ use Rattle.test_support.specs.Answers.{FirstReady, IsLeft, is_return, untouched,
 use Rattle.test_support.proofs.Stages.{answered, called_back}
 
 module _ {S : Type 0} {is_ready : S → Type 0} where
-  -- it is the first one
+  -- the first of the answers is ready
   pub FirstReady-here : {a : S} {left : List S} → is_ready a → FirstReady is_ready (a ∷ left) a left
   FirstReady-here fits = record { dropped = []; order = refl; unready = All-nil (λ d. is_ready d → ⊥); fits = fits }
 
-  -- it stands behind one that isn't ready
+  -- the first of the answers isn't ready: the first ready answer is that of the rest
   pub FirstReady-behind : {x a : S} {answers left : List S} → (is_ready x → ⊥) → FirstReady is_ready answers a left
       → FirstReady is_ready (x ∷ answers) a left
   FirstReady-behind {x = x} unready t = record {
@@ -25,20 +25,20 @@ module _ {S : Type 0} {is_ready : S → Type 0} where
   }
 
 module _ {S : Type 0} {rest : Rest S} {ready : Ready S} {given : List S} where
-  -- an event that returns from no wait leaves the answers
+  -- an event that is no resumption leaves the answers unchanged
   pub IsLeft-untouched : (h : History S) {left : List S} (e : Event S) → is_return e ≡ false
       → IsLeft rest ready given h.events left → IsLeft rest ready given (with_event h e).events left
   unfolding with_event
   IsLeft-untouched h e none l = untouched e none l
 
-  -- a wait and its answer
+  -- the answers after a wait and its answer
   pub IsLeft-answered : (h : History S) (c p : ℕ) (s a : S) {answers left : List S}
       → FirstReady (λ d. ready c p d nobody) answers a left
       → IsLeft rest ready given h.events answers → IsLeft rest ready given (answered c p s a h).events left
   unfolding with_event
   IsLeft-answered h c p s a first l = took c p s a first l
 
-  -- a wait from which it was called
+  -- the answers after a wait, a notify and its answer
   pub IsLeft-called_back : (h : History S) (c p : ℕ) (s a : S) {answers left : List S}
       → FirstReady (λ d. rest d nobody) answers a left
       → IsLeft rest ready given h.events answers → IsLeft rest ready given (called_back c p s a h).events left

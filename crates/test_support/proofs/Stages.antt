@@ -27,32 +27,32 @@ use Rattle.hoare_law.proofs.Priorities.{priorities-leave, priorities-wait, prior
 use Rattle.hoare_law.proofs.Tests.{self_least}
 use Rattle.test_support.specs.Stage.{opened, Stage, none_wait, IsOutside, IsInside}
 
--- those that still wait after an event, and the one that it makes wait
+-- the waits that remain after an event, and the event itself if it is a wait
 abbrev pub still_wait : {S : Type 0} → (ℕ → List (Event S)) → Event S → ℕ → List (Event S)
 still_wait waits e c = filter (λ x. not (concerns c (place_of x) e)) (waits c) ++ cond (waits_on c e) (e ∷ []) []
 
--- those that are still called after an event, and those that it calls
+-- the notified that remain after an event, and those that the event notifies
 abbrev pub still_called : {S : Type 0} → List (Event S) → Event S → List (Event S) → List (Event S)
 still_called calls e more = filter (λ x. not (place_of e == place_of x)) calls ++ more
 
--- who waits before the answer comes: place 0 alone
+-- the waits before the answer comes: that of place 0 alone
 abbrev pub before : {S : Type 0} → ℕ → ℕ → S → ℕ → List (Event S)
 before c p s = still_wait (still_wait none_wait (Wait 0 c p s)) (Admit 1 s)
 
 only_one : {S : Type 0} (c p : ℕ) (s : S) → before c p s c ≡ Wait 0 c p s ∷ []
 only_one c p s = rw (eq-eqb c c refl) refl
 
--- the only one that waits is chosen
+-- the only waiter is the chosen
 pub chosen-only : {S : Type 0} {x : Event S} (c : ℕ) (h : List (Event S)) → waiting c h ≡ x ∷ [] → chosen c h ≡ Some x
 unfolding chosen
 chosen-only {x = x} c h only = ap (λ ws. find (is_least ws) ws) only ∙ (rw (self_least (priority_of x)) refl)
 
--- a wait, and an answer in the name of place 1
+-- the history after a wait, and an answer in the name of place 1
 abbrev pub answered : {S : Type 0} → ℕ → ℕ → S → S → History S → History S
 answered c p s s1 h =
     with_event (with_event (with_event (with_event h (Wait 0 c p s)) (Admit 1 s)) (Pass 1 c 0 s1)) (Resume 0 c s1)
 
--- a wait, and a call and an answer in the name of place 1
+-- the history after a wait, and a notify and an answer in the name of place 1
 abbrev pub called_back : {S : Type 0} → ℕ → ℕ → S → S → History S → History S
 called_back c p s s1 h =
     with_event
@@ -60,7 +60,7 @@ called_back c p s s1 h =
     (Resume 0 c s1)
 
 module _ {S : Type 0} {rest : Rest S} {ready : Ready S} {n m : ℕ} where
-  -- at the opening
+  -- the stage at the opening
   pub IsOutside-opened : {s : S} → rest s nobody → IsOutside rest ready n m s (opened n m s)
   unfolding turn urgent called waiting outside latest_data
   IsOutside-opened {s = s} rests = record {
@@ -85,7 +85,7 @@ module _ {S : Type 0} {rest : Rest S} {ready : Ready S} {n m : ℕ} where
       nothing [] later e is = cc
       nothing (x ∷ f) later e is = cc
 
-  -- after an event that may come next and is no signal
+  -- the stage after an event that is allowed next and is no signal
   pub Stage-push : {t : Turn} {s : S} {waits : ℕ → List (Event S)} {calls : List (Event S)} {a b : Bool} {h : History S}
       (e : Event S) (more : List (Event S))
       → Stage rest ready n m t s waits calls a b h → Allowed h e → Owes rest ready h.events e → is_signal e ≡ false
@@ -113,7 +113,7 @@ module _ {S : Type 0} {rest : Rest S} {ready : Ready S} {n m : ℕ} where
         second_is = outside-push 1 h.events e ∙ ap (cond (place_of e == 1) (is_out (Some e))) stage.second_is;
       }
 
-  -- those that wait, said otherwise
+  -- the stage with an equal list of waits
   pub Stage-waits : {t : Turn} {s : S} {waits same : ℕ → List (Event S)} {calls : List (Event S)} {a b : Bool}
       {h : History S}
       → ((c : ℕ) → waits c ≡ same c)
@@ -121,12 +121,12 @@ module _ {S : Type 0} {rest : Rest S} {ready : Ready S} {n m : ℕ} where
   Stage-waits {t = t} {s = s} {calls = calls} {a = a} {b = b} {h = h} is stage =
       subst (λ (w : ℕ → List (Event S)). Stage rest ready n m t s w calls a b h) (λ i c. is c i) stage
 
-  -- nobody waits by the front
+  -- no process waits by the front
   none_listed : {t : Turn} {s : S} {calls : List (Event S)} {a b : Bool} {h : History S}
       → Stage rest ready n m t s none_wait calls a b h → priorities h.events ≡ nobody
   none_listed {h = h} stage = λ i d. priorities-nobody d h.events (stage.waits_are d) i
 
-  -- place 0 comes in
+  -- place 0 enters
   pub IsInside-admit : {s : S} {h : History S} → IsOutside rest ready n m s h
       → IsInside rest ready n m (with_event h (Admit 0 s))
   unfolding Owes
@@ -139,7 +139,7 @@ module _ {S : Type 0} {rest : Rest S} {ready : Ready S} {n m : ℕ} where
         }) tt refl refl;
   }
 
-  -- place 0 goes out
+  -- place 0 leaves
   pub IsOutside-leave : {s : S} {h : History S} → IsInside rest ready n m h → rest s nobody
       → IsOutside rest ready n m s (with_event h (Leave 0 s))
   unfolding Owes
@@ -153,7 +153,7 @@ module _ {S : Type 0} {rest : Rest S} {ready : Ready S} {n m : ℕ} where
         rests = rests;
       }
 
-  -- place 0 waits, and nobody else does
+  -- place 0 waits, and no other place does
   pub Stage-wait : {c : ℕ} (p : ℕ) {s : S} {h : History S} → IsInside rest ready n m h → c < n
       → rest s (joined nobody c p)
       → Stage rest ready n m Free s (still_wait none_wait (Wait 0 c p s)) [] false true (with_event h (Wait 0 c p s))
@@ -165,7 +165,7 @@ module _ {S : Type 0} {rest : Rest S} {ready : Ready S} {n m : ℕ} where
       (record { in_range = (rw i.stage.sized (omega arith), rw i.stage.sized in_range); fits = i.stage.turn_is })
       (rw lists rests) refl refl
 
-  -- place 1 comes in
+  -- place 1 enters
   pub Stage-admit : {s : S} {waits : ℕ → List (Event S)} {a : Bool} {h : History S}
       → Stage rest ready n m Free s waits [] a true h
       → Stage rest ready n m (Held 1) s (still_wait waits (Admit 1 s)) [] a false (with_event h (Admit 1 s))
@@ -176,7 +176,7 @@ module _ {S : Type 0} {rest : Rest S} {ready : Ready S} {n m : ℕ} where
         fits = (stage.turn_is, stage.second_is, sym stage.data_are);
       }) tt refl refl
 
-  -- place 1 passes to the only one that waits
+  -- place 1 passes to the only waiter
   pub Stage-pass : {c p : ℕ} {s x s1 : S} {waits : ℕ → List (Event S)} {h : History S}
       → Stage rest ready n m (Held 1) s1 waits [] false false h → IsHoare n m c
       → waits c ≡ Wait 0 c p x ∷ [] → ((d : ℕ) → still_wait waits (Pass 1 c 0 s) d ≡ []) → ready c p s nobody
@@ -196,7 +196,7 @@ module _ {S : Type 0} {rest : Rest S} {ready : Ready S} {n m : ℕ} where
       })
       (rw (first, lists) is_ready) refl refl)
 
-  -- place 1 calls the only one that waits
+  -- place 1 notifies the only waiter
   pub Stage-call : {c p : ℕ} {s x s1 : S} {waits : ℕ → List (Event S)} {h : History S}
       → Stage rest ready n m (Held 1) s1 waits [] false false h → IsMesa n m c
       → waits c ≡ Wait 0 c p x ∷ [] → ((d : ℕ) → still_wait waits (Notify 1 c 0 s) d ≡ [])
@@ -211,7 +211,7 @@ module _ {S : Type 0} {rest : Rest S} {ready : Ready S} {n m : ℕ} where
       })
       tt refl (called_by-notify h.events 1 c (Wait 0 c p x) s first))
 
-  -- place 1 goes out, and the one that was called goes on
+  -- place 1 leaves, and the monitor is owed to the notified place 0
   pub Stage-leave : {c p : ℕ} {s x s1 : S} {h : History S}
       → Stage rest ready n m (Held 1) s1 none_wait (Wait 0 c p x ∷ []) false false h → rest s nobody
       → Stage rest ready n m (Owed 0 c) s none_wait (Wait 0 c p x ∷ []) false true (with_event h (Leave 1 s))
@@ -222,7 +222,7 @@ module _ {S : Type 0} {rest : Rest S} {ready : Ready S} {n m : ℕ} where
       Stage-push (Leave 1 s) [] stage (record { in_range = (rw stage.sized (omega arith), tt); fits = stage.turn_is })
       (rw none rests) refl refl
 
-  -- place 0 goes on
+  -- place 0 resumes
   pub IsInside-resume : {c : ℕ} {s : S} {calls : List (Event S)} {h : History S}
       → Stage rest ready n m (Owed 0 c) s none_wait calls false true h → c < n
       → still_called calls (Resume 0 c s) [] ≡ [] → IsInside rest ready n m (with_event h (Resume 0 c s))
@@ -253,7 +253,7 @@ module _ {S : Type 0} {rest : Rest S} {ready : Ready S} {n m : ℕ} where
       IsInside-resume
       (Stage-pass (Stage-admit (Stage-wait p i in_range rests)) hoare (only_one c p s) none is_ready) in_range refl
 
-  -- and after a wait from which it was called
+  -- place 0 is inside again after a wait, a notify and its answer
   pub IsInside-called_back : {c : ℕ} (p : ℕ) {s s1 : S} {h : History S} → IsInside rest ready n m h → IsMesa n m c
       → rest s (joined nobody c p) → rest s1 nobody
       → IsInside rest ready n m (called_back c p s s1 h)
@@ -266,7 +266,7 @@ module _ {S : Type 0} {rest : Rest S} {ready : Ready S} {n m : ℕ} where
       (Stage-leave (Stage-call (Stage-admit (Stage-wait p i mesa.0 rests)) mesa (only_one c p s) none) rests_too) mesa.0
       refl
 
--- a front grows by an event of another place, without one of its own
+-- a front grows by an event of another place, without an event of its own place
 Grows-other : {S : Type 0} (k : ℕ) (e : Event S) (h : History S) → (place_of e == k) ≡ false
     → Grows k [] h (with_event h e)
 unfolding with_event
@@ -277,7 +277,7 @@ Grows-other k e h other =
           ∙ ap (λ b. own k h.events ++ cond b (e ∷ []) []) other;
     }
 
--- by a wait and its answer, of place 0's events the wait and the return from it are added
+-- a wait and its answer add two events of place 0: the wait and the resumption
 pub AddsTwo-answered : {S : Type 0} (c p : ℕ) (s s1 : S) (h : History S)
     → AddsTwo h (Wait 0 c p s) (Resume 0 c s1) (answered c p s s1 h)
 unfolding with_event
@@ -296,7 +296,7 @@ AddsTwo-answered c p s s1 h =
       ends = newest-push h3.events (Resume 0 c s1);
     }
 
--- the same by a wait from which it was called
+-- a wait, a notify and its answer add the same two events of place 0
 pub AddsTwo-called_back : {S : Type 0} (c p : ℕ) (s s1 : S) (h : History S)
     → AddsTwo h (Wait 0 c p s) (Resume 0 c s1) (called_back c p s s1 h)
 unfolding with_event

@@ -1,5 +1,5 @@
--- What the one place of a fake monitor knows. Its history has two places: its own, 0, and 1, in whose name the answers
--- come.
+-- What the one place of a fake monitor knows. Its history has two places: its own, 0, and place 1, in whose name the
+-- answers come.
 use Rattle.std.specs.Prelude.{ℕ, List, [], ◌≡◌, Bool, true, false}
 use Rattle.hoare_law.specs.declared.event.Event.{Event}
 use Rattle.hoare_law.specs.declared.event.History.{History}
@@ -17,7 +17,7 @@ use Rattle.hoare_law.specs.Turns.{turn, urgent, outside}
 use Rattle.hoare_law.specs.Priorities.{nobody}
 use Rattle.hoare_law.specs.Lawful.{Rest, Ready, Stands}
 
--- nothing happened yet, at two places
+-- the history at the opening of a monitor with n conditions, m of them Mesa conditions, and two places
 abbrev pub opened : {S : Type 0} → ℕ → ℕ → S → History S
 opened n m s = law.opened (sizes_of n m 2) s
 
@@ -30,14 +30,14 @@ event_of k (Calls c) s = Notify k c 0 s
 event_of k (GoesOn c) s = Resume k c s
 event_of k Leaves s = Leave k s
 
--- nobody waits
+-- no process waits on c
 abbrev pub none_wait : {S : Type 0} → ℕ → List (Event S)
 none_wait c = []
 
 module _ {S : Type 0} (rest : Rest S) (ready : Ready S) (conditions mesa : ℕ) where
-  -- h is legal and lawful; it is this turn; these were the data; these wait, these are called, and no signaller waits;
-  -- places 0 and 1
-  -- are outside or not
+  -- h is legal and lawful, and has the two places. By h the turn is `now`, the latest data are s, the waits on c are
+  -- `waits c`, the notified are `calls`, and no signaller waits. `first` and `second` are true if place 0 and place 1
+  -- are outside.
   pub record Stage (now : Turn) (s : S) (waits : ℕ → List (Event S)) (calls : List (Event S)) (first second : Bool)
       (h : History S) : Type 0 where
     pub stands : Stands rest ready h
@@ -50,7 +50,7 @@ module _ {S : Type 0} (rest : Rest S) (ready : Ready S) (conditions mesa : ℕ) 
     pub first_is : outside 0 h.events ≡ first
     pub second_is : outside 1 h.events ≡ second
 
-  -- nobody is inside, and the data are at rest
+  -- no place is inside, and the data are at rest
   pub record IsOutside (s : S) (h : History S) : Type 0 where
     pub stage : Stage Free s none_wait [] true true h
     pub rests : rest s nobody

@@ -3,48 +3,48 @@
 use hoare_law::data::MonitorData;
 use hoare_law::waits::Waits;
 
-/// What a process did.
+/// What a process did or is about to do.
 #[derive(Clone, Copy, Debug, PartialEq, Eq)]
 pub enum Act {
-    /// It came in from outside.
+    /// The process entered from outside.
     EntersWith,
-    /// It goes on after a wait on this condition.
+    /// The process resumed after a wait on this condition.
     GoesOn(usize),
-    /// It is back after a signal.
+    /// The process is back after a signal.
     IsBack,
-    /// Nobody waited: its signal did nothing.
+    /// No process waited: the signal did nothing.
     HearsNobody,
-    /// It goes on after a notify, which answered this.
+    /// The process continues after a notify, which returned this.
     HasNotified(bool),
-    /// It goes on after a broadcast, which answered this.
+    /// The process continues after a broadcast, which returned this.
     HasBroadcast(usize),
-    /// It is about to wait on this condition, with this priority.
+    /// The process is about to wait on this condition, with this priority.
     Waits(usize, u64),
-    /// It is about to signal this condition.
+    /// The process is about to signal this condition.
     Signals(usize),
-    /// It is about to signal this condition and go out.
+    /// The process is about to signal this condition and leave.
     Passes(usize),
-    /// It is about to go out.
+    /// The process is about to leave.
     Leaves,
-    /// It is about to call who waits first on this condition.
+    /// The process is about to notify the first waiter on this condition.
     Notifies(usize),
-    /// It is about to call all that wait on this condition.
+    /// The process is about to notify all waiters on this condition.
     Broadcasts(usize),
 }
 
-/// A line of a diary: who did what, and the stamp that it found or left.
+/// A line of a diary: which process did what, and the stamp that it found or left.
 #[derive(Clone, Copy, Debug, PartialEq, Eq)]
 pub struct Line {
-    /// Whose line it is.
+    /// The place of the process.
     pub place: usize,
-    /// What it did, or is about to do.
+    /// What the process did, or is about to do.
     pub act: Act,
-    /// The stamp.
+    /// The stamp that the process found or left.
     pub stamp: u64,
 }
 
 impl Line {
-    /// Whether its process is about to do something: to give the monitor up, to signal, or to call.
+    /// Returns true if the process is about to act: to wait, leave, signal, pass, notify or broadcast.
     pub fn begins(self) -> bool {
         match self.act {
             Act::Waits(_, _) | Act::Signals(_) | Act::Passes(_) | Act::Leaves => true,
@@ -54,15 +54,15 @@ impl Line {
     }
 }
 
-/// A diary, and the last stamp. Nothing is asked of it. It has four conditions: two
-/// of Hoare's, and behind them two Mesa conditions.
+/// A diary and the last stamp: data without assertions. Of the four conditions the first two are Hoare's, the last two
+/// are Mesa conditions.
 #[derive(Drop)]
 pub struct Diary {
     lines: Vec<Line>,
     stamp: u64,
-    /// How many processes have finished.
+    /// Number of processes that have finished.
     pub finished: usize,
-    /// Whether a line could not be kept.
+    /// True if a line could not be kept.
     pub is_torn: bool,
 }
 
@@ -97,7 +97,7 @@ impl MonitorData for Diary {
 }
 
 impl Diary {
-    /// An empty diary over this room, with stamp 0.
+    /// Creates a diary with stamp 0 over `lines`, an empty vector with room.
     pub fn new(lines: Vec<Line>) -> Diary {
         Diary {
             lines,
@@ -107,7 +107,7 @@ impl Diary {
         }
     }
 
-    // Writes a line. One that can't be kept tears the diary.
+    // Appends a line with the current stamp. If the line can't be kept, marks the diary as torn.
     fn write(&mut self, place: usize, act: Act) {
         let line = Line {
             place,
@@ -119,18 +119,18 @@ impl Diary {
         }
     }
 
-    /// A process comes, and writes the stamp that it finds.
+    /// Writes down that the process at `place` entered or continues (`act`), with the stamp that it finds.
     pub fn finds(&mut self, place: usize, act: Act) {
         self.write(place, act);
     }
 
-    /// A process is about to do something, and leaves this stamp.
+    /// Writes down what the process at `place` is about to do (`act`), with `stamp`, which becomes the current stamp.
     pub fn leaves(&mut self, place: usize, act: Act, stamp: u64) {
         self.stamp = stamp;
         self.write(place, act);
     }
 
-    /// What was written, the oldest first.
+    /// Returns the lines, the oldest first.
     pub fn lines(&self) -> &[Line] {
         self.lines.as_slice()
     }

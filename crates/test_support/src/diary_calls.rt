@@ -1,14 +1,15 @@
-//! The calls of a diary's monitor: each writes down what it is about to do, and what it finds when it goes on.
+//! The calls of a diary's monitor. Each writes down what the process is about to do, and what it finds when it
+//! continues.
 ghost use Rattle.std.specs.Prelude.{◌≡◌, ◌<◌, ◌≤◌};
 
 use crate::diary::{Act, Diary};
 use hoare_law::monitor::Monitor;
 use std::sync::Wait;
 
-/// So many of a diary's conditions, the first ones, are Hoare's.
+/// The number of Hoare's conditions of a diary: its conditions 0 and 1.
 pub const HOARE: usize = 2;
 
-// It comes, and writes so.
+// Writes down that the process entered or continues.
 fn found<M: Monitor<Diary>>(m: &M, inside: M::In, place: usize, act: Act) -> M::In
     requires { M.is_of_in m.now inside }
     ensures of { M.is_of_in m.now result }
@@ -19,7 +20,7 @@ fn found<M: Monitor<Diary>>(m: &M, inside: M::In, place: usize, act: Act) -> M::
     inside
 }
 
-// It is about to do something, and writes so.
+// Writes down what the process is about to do, and leaves `stamp`.
 fn left<M: Monitor<Diary>>(m: &M, inside: M::In, place: usize, act: Act, stamp: u64) -> M::In
     requires { M.is_of_in m.now inside }
     ensures of { M.is_of_in m.now result }
@@ -30,7 +31,7 @@ fn left<M: Monitor<Diary>>(m: &M, inside: M::In, place: usize, act: Act, stamp: 
     inside
 }
 
-/// Comes in.
+/// Enters.
 pub fn enter<R: Wait, M: Monitor<Diary>>(rt: &R, m: &M, out: M::Out, place: usize) -> M::In
     requires { M.is_of m.now out }
     ensures of { M.is_of_in m.now result }
@@ -40,7 +41,7 @@ pub fn enter<R: Wait, M: Monitor<Diary>>(rt: &R, m: &M, out: M::Out, place: usiz
     found(m, inside, place, Act::EntersWith)
 }
 
-/// Goes out.
+/// Leaves, with `stamp`.
 pub fn leave<R: Wait, M: Monitor<Diary>>(
     rt: &R,
     m: &M,
@@ -56,7 +57,8 @@ pub fn leave<R: Wait, M: Monitor<Diary>>(
     m.leave(rt, inside)
 }
 
-/// Resumes who waits first on one of Hoare's conditions, and goes out.
+/// Signals `condition`, one of Hoare's, as the last act, with `stamp`: resumes its first waiter if there is one, and
+/// leaves.
 pub fn pass<R: Wait, M: Monitor<Diary>>(
     rt: &R,
     m: &M,
@@ -116,7 +118,7 @@ fn notify<M: Monitor<Diary>>(
     found(m, inside, place, Act::HasNotified(answer))
 }
 
-/// Calls all that wait on a Mesa condition.
+/// Notifies all waiters on `condition`, a Mesa condition, and leaves `stamp`.
 pub fn broadcast<M: Monitor<Diary>>(
     m: &M,
     inside: M::In,
@@ -135,7 +137,8 @@ pub fn broadcast<M: Monitor<Diary>>(
     found(m, inside, place, Act::HasBroadcast(answer))
 }
 
-/// Signals one of Hoare's conditions, or calls one or all that wait on a Mesa condition.
+/// Signals `condition` if it is one of Hoare's. If it is a Mesa condition, notifies its first waiter or all its
+/// waiters, by a bit of `lot`. Leaves `lot` as the stamp.
 pub fn rouse<R: Wait, M: Monitor<Diary>>(
     rt: &R,
     m: &M,
@@ -158,7 +161,7 @@ pub fn rouse<R: Wait, M: Monitor<Diary>>(
     broadcast(m, inside, place, condition, lot)
 }
 
-/// Waits with a priority that the lot gives.
+/// Waits on `condition`, with a priority from 0 to 3 taken from `lot`. Leaves `lot` as the stamp.
 pub fn wait<R: Wait, M: Monitor<Diary>>(
     rt: &R,
     m: &M,

@@ -1,4 +1,4 @@
-//! The monitor for tests.
+//! The monitor for tests, of one thread.
 ghost use Rattle.std.specs.Prelude.{◌≡◌, ◌<◌, ◌≤◌, IfOk, IfSome};
 ghost use Rattle.hoare_law.specs.Priorities.{nobody};
 ghost use Rattle.test_support.specs.Stage.{opened};
@@ -15,12 +15,13 @@ use std::collections::VecDeque;
 use std::snapshot::Snapshot;
 use std::sync::Wait;
 
-/// A monitor for tests, of two places: place 0 is one thread's, and nobody has place 1, in whose name the answers come.
+/// A monitor for tests, of two places. Place 0 is that of the one thread. No process has place 1: the given answers
+/// come in its name.
 ///
-/// A wait on one of Hoare's conditions goes on with the first of the given answers that is ready for it, as if place 1
-/// had come in, left the data so and passed. A wait on a Mesa condition goes on with the first that is at rest where
-/// nobody waits, as if place 1 had come in, called it, left the data so and gone out. Where there is none, it waits for
-/// ever.
+/// A wait on one of Hoare's conditions takes the first of the given answers that is ready for it, and resumes as if
+/// place 1 had entered, left the data so and passed. A wait on a Mesa condition takes the first answer that is at rest
+/// with no process waiting, and resumes as if place 1 had entered, notified the waiter, left the data so and left. If
+/// there is no such answer, the wait never returns.
 #[derive(Drop)]
 pub struct Fake<D: MonitorData> {
     pub(crate) table: Table<(), History<D>, D, Opening, Global>,
@@ -36,7 +37,7 @@ pub struct FakeOut<D: Drop + Send> {
     seat: Seat<(), History<D>>,
 }
 
-/// Place 0 inside.
+/// Place 0 inside, with the data and the answers that are left.
 pub struct FakeIn<D> {
     state: D,
     answers: VecDeque<D>,
@@ -44,7 +45,8 @@ pub struct FakeIn<D> {
     lists: Nobody,
 }
 
-// The first answer that is ready. Those before it are dropped.
+// Removes and returns the first answer that is ready for a wait on `condition` with `priority`, or `None` if there is
+// none. Drops the answers before it.
 fn next_ready<D: MonitorData + Drop>(
     answers: &mut VecDeque<D>,
     condition: usize,
@@ -63,7 +65,8 @@ fn next_ready<D: MonitorData + Drop>(
     None
 }
 
-// The first answer that is at rest where nobody waits. Those before it are dropped.
+// Removes and returns the first answer that is at rest with no process waiting, or `None` if there is none. Drops the
+// answers before it.
 fn next_at_rest<D: MonitorData + Drop>(answers: &mut VecDeque<D>) -> Option<D>
     ensures { IfSome result
         (λ a. FirstReady (λ d. D.rest d nobody) answers.old.items a answers.new.items) }
@@ -77,8 +80,9 @@ fn next_at_rest<D: MonitorData + Drop>(answers: &mut VecDeque<D>) -> Option<D>
 }
 
 impl<D: MonitorData + Drop + Send> Fake<D> {
-    /// A monitor with this data, and its place. Refused where there is no memory. The data has to be at rest where
-    /// nobody waits, and to have 1 to 8 conditions, of which at most all are Mesa conditions.
+    /// Creates a monitor with the data `state` and the given `answers`. Returns it with its place 0, which is outside.
+    /// The data must be at rest with no process waiting, and have 1 to 8 conditions, any number of them Mesa
+    /// conditions. Refused with `AllocError` if out of memory.
     pub fn of(
         alloc: Global,
         state: D,
@@ -154,7 +158,7 @@ impl<D: MonitorData + Drop + Send> Monitor<D> for Fake<D> {
         }
     }
 
-    /// Its monitor is free whenever place 0 is outside.
+    /// Always enters: the monitor is free whenever place 0 is outside.
     fn try_enter(&self, out: FakeOut<D>) -> Result<FakeIn<D>, FakeOut<D>> {
         let FakeOut {
             state: found,

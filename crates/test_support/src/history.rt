@@ -1,32 +1,34 @@
-//! The definitions of a monitor's history, held against the lines of a diary one after the other: who waits, who is
-//! resumed or called, who comes next. Of each place its last line is kept, and whether it was called since. It shares
-//! nothing with the book of queues that runs the doors.
+//! The judge of a diary: checks its lines, one after the other, against the definitions of a monitor's history: which
+//! process waits, which is resumed or notified, which is next. Keeps of each place its last line, and whether it was
+//! notified since. Shares nothing with the book of queues that runs the doors.
 
 use crate::diary::{Act, Line};
 
-/// The places of a diary.
+/// Number of places of a diary.
 const PLACES: usize = 9;
 
-/// What a place did last and which line that is, and which of all calls has called it since.
+/// The last line of a place, with its number. If the place was notified since: its number among all waiters notified so
+/// far, from 1.
 #[derive(Clone, Copy)]
 struct Known {
     last: Option<(usize, Act)>,
     call: Option<usize>,
 }
 
-/// As what a place may be next.
+/// A role in which a place may be next.
 #[derive(Clone, Copy)]
 enum Role {
-    /// It waits on this condition.
+    /// The place waits on this condition.
     WaitsOn(usize),
-    /// It signalled.
+    /// The place signalled.
     Signaller,
-    /// It was called.
+    /// The place was notified.
     Called,
 }
 
 impl Known {
-    /// Where the place stands among those of the role: by priority, and of equal ones by how long.
+    /// Returns the place's rank among the places with this role, the least first: its priority, then the line or the
+    /// notification since which it has the role. Returns `None` if it doesn't have the role.
     fn rank(self, role: Role) -> Option<(u64, usize)> {
         let (since, act) = self.last?;
         match (role, act, self.call) {
@@ -39,7 +41,7 @@ impl Known {
         }
     }
 
-    /// Whether the place is outside: it did nothing yet, or last left or passed.
+    /// Returns true if the place is outside: it did nothing yet, or its last act was a leave or a pass.
     fn is_outside(self) -> bool {
         match self.last {
             Some((_, act)) => matches!(act, Act::Leaves | Act::Passes(_)),
@@ -48,8 +50,8 @@ impl Known {
     }
 }
 
-/// What is known after some lines: of each place, how many calls there were, the last line, and how many that line
-/// called.
+/// What is known after some lines: the state of each place, how many waiters were notified in all, the last line, and
+/// how many waiters that line notified.
 #[derive(Drop)]
 struct Past {
     places: [Known; PLACES],
@@ -59,7 +61,7 @@ struct Past {
 }
 
 impl Past {
-    /// Before the first line.
+    /// Creates the state before the first line.
     fn new() -> Past {
         Past {
             places: [Known {
@@ -72,8 +74,8 @@ impl Past {
         }
     }
 
-    /// The first of a role. Of those that wait it is that of least priority, and of equal ones that which waits
-    /// longest; of the signallers that which signalled first; of the called that which was called first.
+    /// Returns the first place with the role, or `None` if there is none. Among waiters: the least priority, then the
+    /// longest wait. Among signallers: the first to signal. Among the notified: the first to be notified.
     fn first(&self, role: Role) -> Option<usize> {
         let mut best: Option<((u64, usize), usize)> = None;
         for place in 0..PLACES {
@@ -90,7 +92,7 @@ impl Past {
         best.map(|b| b.1)
     }
 
-    /// How many have the role.
+    /// Returns how many places have the role.
     fn count(&self, role: Role) -> usize {
         let mut count = 0usize;
         for known in self.places {
@@ -101,7 +103,7 @@ impl Past {
         count
     }
 
-    /// Calls the first that wait on the condition, this many at the most: how many there were.
+    /// Notifies the first waiters on `condition`, at most `most`. Returns how many it notified.
     fn call(&mut self, condition: usize, most: usize) -> usize {
         for called in 0..most {
             let Some(place) = self.first(Role::WaitsOn(condition)) else {
@@ -115,7 +117,7 @@ impl Past {
         most
     }
 
-    /// Reads a line, the one with this number.
+    /// Records `line`, which has the number `at`.
     fn read(&mut self, at: usize, line: Line) {
         if let Some(known) = self.places.get_mut(line.place) {
             known.last = Some((at, line.act));
@@ -129,7 +131,7 @@ impl Past {
         self.last = Some(line);
     }
 
-    /// Whether the line is that of a newcomer.
+    /// Returns true if `next` is the line of a process that is outside and enters.
     fn admits(&self, next: Line) -> bool {
         match self.places.get(next.place) {
             Some(known) => known.is_outside() && matches!(next.act, Act::EntersWith),
@@ -137,7 +139,7 @@ impl Past {
         }
     }
 
-    /// Whether the place goes on from the condition on which it waits.
+    /// Returns true if `next` says that `place` resumes from its wait, on the condition on which it waits.
     fn goes_on(&self, place: usize, next: Line) -> bool {
         let Some(known) = self.places.get(place) else {
             return false;
@@ -150,8 +152,8 @@ impl Past {
         }
     }
 
-    /// What comes after the monitor was given up: the first signaller is back; where nobody signalled, the first that
-    /// was called goes on; and only where nobody was called either, a newcomer comes in.
+    /// Returns true if `next` may follow a release of the monitor. If there are signallers, the first returns. If there
+    /// are none, the first notified process resumes. If there is neither, a process enters.
     fn is_next_given_up(&self, next: Line) -> bool {
         if let Some(place) = self.first(Role::Signaller) {
             return next.place == place && matches!(next.act, Act::IsBack);
@@ -162,8 +164,8 @@ impl Past {
         }
     }
 
-    /// What comes after what the last line is about to do. Who signals where nobody waits, and who calls, goes on at
-    /// once.
+    /// Returns true if `next` may follow `last`, which says what a process is about to do. A process that signals a
+    /// condition without waiters, notifies or broadcasts continues at once.
     fn is_next_after(&self, last: Line, next: Line) -> bool {
         let is_own = next.place == last.place;
         match last.act {
@@ -187,7 +189,7 @@ impl Past {
         }
     }
 
-    /// Whether the line may come next. Who comes finds the stamp that was left.
+    /// Returns true if `next` may follow. A process that enters or continues must find the stamp that was left.
     fn is_next(&self, next: Line) -> bool {
         match self.last {
             None => self.admits(next) && next.stamp == 0,
@@ -198,7 +200,7 @@ impl Past {
         }
     }
 
-    /// Whether the place was called.
+    /// Returns true if the place was notified and hasn't resumed since.
     fn is_called(&self, place: usize) -> bool {
         match self.places.get(place) {
             Some(known) => known.rank(Role::Called).is_some(),
@@ -206,8 +208,8 @@ impl Past {
         }
     }
 
-    /// Whether the line's process is about to take one of several that wait, or to call them, or goes on as one of
-    /// several called.
+    /// Returns true if there is a choice at `next`: its process is about to signal, pass, notify or broadcast on a
+    /// condition with several waiters, or resumes as one of several notified processes.
     fn has_choice(&self, next: Line) -> bool {
         match next.act {
             Act::Signals(on) | Act::Passes(on) | Act::Notifies(on) | Act::Broadcasts(on) => {
@@ -219,20 +221,20 @@ impl Past {
     }
 }
 
-/// What was found of the lines of a diary.
+/// What the judge found in the lines of a diary.
 pub struct Judged {
-    /// The first line that may not come where it stands, counted from 0.
+    /// Number, from 0, of the first line that may not follow the lines before it. `None` if there is none.
     pub unlawful: Option<usize>,
-    /// How often a signal or a pass came while more than one waited on its condition.
+    /// Number of signals and passes on a condition with more than one waiter.
     pub resumed: usize,
-    /// How often a notify or a broadcast came while more than one waited on its condition.
+    /// Number of notifies and broadcasts on a condition with more than one waiter.
     pub called: usize,
-    /// How often one went on while more than one was called.
+    /// Number of times that a notified process resumed while more than one was notified.
     pub went_on: usize,
 }
 
 impl Judged {
-    /// Counts the choice that came with such a line.
+    /// Counts the choice at a line with this act.
     fn count(&mut self, act: Act) {
         match act {
             Act::Signals(_) | Act::Passes(_) => self.resumed = self.resumed.saturating_add(1),
@@ -242,7 +244,7 @@ impl Judged {
     }
 }
 
-/// Holds the lines against the definitions, up to the first that may not come where it stands.
+/// Checks `lines` against the definitions, up to the first line that may not follow the lines before it.
 pub fn judge(lines: &[Line]) -> Judged {
     let mut past = Past::new();
     let mut judged = Judged {

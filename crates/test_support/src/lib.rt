@@ -1,6 +1,7 @@
-//! What the tests of monitors share: a monitor of one thread that any monitor's procedures run on, where what the other
-//! processes leave is given beforehand; a row's door, made and closed; a limit of time; a diary of what processes do,
-//! and who judges it. No function here fails a test: it hands back what was refused or came too late.
+//! What the tests of monitors share: a monitor of one thread (`fake`), on which the procedures of any monitor run; a
+//! row's door, made and closed; a limit of time; a diary of what processes do, and its judge. What the other processes
+//! leave in the monitor of one thread is given beforehand. No function here fails a test: it returns what was refused
+//! or was late.
 #![tactic(auto)]
 
 pub mod diary;

@@ -1,22 +1,23 @@
-//! A limit for tests: a call that never returns is noticed.
+//! A limit of time for tests, by which a call that never returns is noticed.
 
 use std::rt::Clock;
 use std::sync::atomic::{AtomicBool, Ordering};
 use std::thread;
 use std::time::{Duration, Instant};
 
-/// For how many seconds a test waits for its threads.
+/// The time that a test waits for its threads, in seconds.
 const LIMIT: u64 = 25;
 
-/// How often a place comes in, at the most, to see whether others wait. Alone that takes some fifteen seconds; beside
-/// busy threads the limit above comes first. (A million was too few: beside three busy threads every third run of the
-/// pool's rows met it.)
+/// The most visits by which a place polls whether others wait. Alone these take some fifteen seconds; on an
+/// oversubscribed machine `LIMIT` comes first. (A million was too few: with three busy threads every third run of the
+/// pool's rows reached it.)
 pub const VISITS: u32 = 40_000_000;
 
-/// The most looks.
+/// The most polls of a flag, a millisecond apart.
 const LOOKS: u32 = 1_000_000;
 
-/// Looks until the flag is set, for the time that a test has: whether it was set by then.
+/// Polls `ended` about once a millisecond until it is set, for at most `LIMIT` seconds. Returns true if it was set in
+/// that time. Returns false also if the clock fails.
 pub fn is_set_in_time<R: Clock>(rt: &R, ended: &AtomicBool) -> bool {
     if let Ok(start) = Instant::now(rt) {
         for _ in 0..LOOKS {

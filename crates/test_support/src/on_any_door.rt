@@ -1,4 +1,4 @@
-//! A door of either kind: how a row's monitor is made, and closed.
+//! A door of either kind: how the monitor of a row is made and closed.
 ghost use Rattle.std.specs.Prelude.{◌≡◌, vec_len, All, IfSome};
 ghost use Rattle.hoare_law.specs.Priorities.{nobody};
 ghost use Rattle.any_door.specs.Doors.{id_of};
@@ -10,7 +10,8 @@ use hoare_law::data::MonitorData;
 use hoare_law::monitor::Monitor;
 use std::alloc::Global;
 
-/// A door of this kind with the data, and its places, in order. None where it is refused.
+/// Creates a door of this kind with the data `state` for `count` places. Returns it with its places in order, or `None`
+/// if it is refused.
 pub fn made<D: MonitorData + Send + Drop>(
     alloc: Global,
     kind: DoorKind,
@@ -28,7 +29,7 @@ pub fn made<D: MonitorData + Send + Drop>(
     }
 }
 
-/// The data that the places left.
+/// Closes the door, given all its places in order. Returns the data that they left.
 pub fn closed<D: MonitorData + Send>(door: AnyDoor<D>, outs: Vec<Outside<D>>) -> D
     requires count { vec_len outs ≡ (id_of door).places }
     requires of { All (⟦<AnyDoor<D> as Monitor<D>>⟧.is_of door) outs.items }

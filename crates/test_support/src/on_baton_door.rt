@@ -1,4 +1,4 @@
-//! The baton door: how a row's monitor is made, and closed.
+//! The baton door: how the monitor of a row is made and closed.
 ghost use Rattle.std.specs.Prelude.{◌≡◌, vec_len, All, IfSome};
 ghost use Rattle.hoare_law.specs.Priorities.{nobody};
 ghost use Rattle.test_support.specs.Numbered.{IsNumbered};
@@ -9,7 +9,8 @@ use hoare_law::data::MonitorData;
 use hoare_law::monitor::Monitor;
 use std::alloc::Global;
 
-/// A door with the data, and its places, in order. None where it is refused.
+/// Creates a door with the data `state` for `count` places. Returns it with its places in order, or `None` if it is
+/// refused.
 pub fn made<D: MonitorData + Send + Drop>(
     alloc: Global,
     state: D,
@@ -26,7 +27,7 @@ pub fn made<D: MonitorData + Send + Drop>(
     }
 }
 
-/// The data that the places left.
+/// Closes the door, given all its places in order. Returns the data that they left.
 pub fn closed<D: MonitorData + Send>(door: Door<D>, outs: Vec<DoorOut<D>>) -> D
     requires count { vec_len outs ≡ door.places }
     requires of { All (⟦<Door<D> as Monitor<D>>⟧.is_of door) outs.items }

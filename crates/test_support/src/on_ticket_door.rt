@@ -1,4 +1,4 @@
-//! The ticket door: how a row's monitor is made, and closed.
+//! The ticket door: how the monitor of a row is made and closed.
 ghost use Rattle.std.specs.Prelude.{◌≡◌, vec_len, All, IfSome};
 ghost use Rattle.hoare_law.specs.Priorities.{nobody};
 ghost use Rattle.test_support.specs.Numbered.{IsNumbered};
@@ -10,7 +10,8 @@ use ticket_door::door::TicketDoor;
 use ticket_door::laws::make_at;
 use ticket_door::place::TicketOut;
 
-/// A door with this first ticket and the data, and its places, in order. None where it is refused.
+/// Creates a door with the first ticket `first` and the data `state` for `count` places. Returns it with its places in
+/// order, or `None` if it is refused.
 pub fn made<D: MonitorData + Send + Drop>(
     alloc: Global,
     first: u64,
@@ -28,7 +29,7 @@ pub fn made<D: MonitorData + Send + Drop>(
     }
 }
 
-/// The data that the places left.
+/// Closes the door, given all its places in order. Returns the data that they left.
 pub fn closed<D: MonitorData + Send>(door: TicketDoor<D>, outs: Vec<TicketOut<D>>) -> D
     requires count { vec_len outs ≡ door.door.places }
     requires of { All (⟦<TicketDoor<D> as Monitor<D>>⟧.is_of door) outs.items }

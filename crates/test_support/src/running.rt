@@ -1,4 +1,4 @@
-//! What tests on threads share, but for what ends a test: no library may end the process.
+//! What tests on threads share, except what ends a test: no library may end the process.
 ghost use Rattle.std.specs.Prelude.{◌≡◌, ◌<◌, ℕ, IfOk, IfErr, vec_len, slice_index_or};
 
 use crate::limit::VISITS;
@@ -12,7 +12,7 @@ use std::sync::atomic::{AtomicBool, Ordering};
 use std::thread;
 use std::time::Duration;
 
-/// The places, each with its number.
+/// Returns the places in the same order, each with its number, from 0. Refused with `AllocError` if out of memory.
 pub fn numbered<O: Drop>(alloc: Global, outs: Vec<O>) -> Result<Vec<(usize, O)>, AllocError>
     ensures count { IfOk result (λ jobs. vec_len jobs ≡ vec_len outs) }
     ensures same { IfOk result (λ jobs. (k : ℕ) (d : _) → k < vec_len jobs
@@ -21,7 +21,7 @@ pub fn numbered<O: Drop>(alloc: Global, outs: Vec<O>) -> Result<Vec<(usize, O)>,
     outs.into_iter().enumerate().collect(alloc)
 }
 
-/// The places, without their answers.
+/// Returns the places without what they returned. Refused with `AllocError` if out of memory.
 fn outs_of<O: Drop>(alloc: Global, done: Vec<(O, u64)>) -> Result<Vec<O>, AllocError>
     ensures count { IfOk result (λ outs. vec_len outs ≡ vec_len done) }
     ensures same { IfOk result (λ outs. (k : ℕ) (d : O) → k < vec_len outs
@@ -30,7 +30,8 @@ fn outs_of<O: Drop>(alloc: Global, done: Vec<(O, u64)>) -> Result<Vec<O>, AllocE
     done.into_iter().map(|d| d.0).collect(alloc)
 }
 
-/// The places, and apart from them what they answered.
+/// Returns the places, and separately the numbers that they returned, both in the same order. Refused with `AllocError`
+/// if out of memory.
 pub fn parted<O: Drop>(alloc: Global, done: Vec<(O, u64)>) -> Result<(Vec<O>, Vec<u64>), AllocError>
     ensures count { IfOk result (λ r. vec_len r.0 ≡ vec_len done) }
     ensures same { IfOk result (λ r. (k : ℕ) (d : O) → k < vec_len r.0
@@ -44,7 +45,7 @@ pub fn parted<O: Drop>(alloc: Global, done: Vec<(O, u64)>) -> Result<(Vec<O>, Ve
     Ok((outs, answers))
 }
 
-/// How many wait, on whatever condition.
+/// Returns the number of waiters on all conditions together.
 pub fn count_waiting<D: MonitorData, M: Monitor<D>>(m: &M, inside: &M::In) -> usize
     requires { M.is_of_in m.now inside.now }
 {
@@ -52,7 +53,8 @@ pub fn count_waiting<D: MonitorData, M: Monitor<D>>(m: &M, inside: &M::In) -> us
     (0..D::CONDITIONS).fold(0usize, |sum, c| sum.saturating_add(lists.count(c)))
 }
 
-/// Comes in once this many wait on the condition. After `VISITS` looks the place is outside again.
+/// Enters and leaves until `waiting` processes wait on `condition`, at most `VISITS` times. Returns the place inside as
+/// soon as that is so, or outside after the last visit. Yields after each visit.
 pub fn watch<D: MonitorData, R: Wait, M: Monitor<D>>(
     rt: &R,
     m: &M,
@@ -78,7 +80,8 @@ pub fn watch<D: MonitorData, R: Wait, M: Monitor<D>>(
     Err(out)
 }
 
-/// Looks for the sign of another place for 20 seconds, and takes it away: whether it came.
+/// Polls `sign`, which another place sets, for 20 seconds, once a millisecond, and clears it. Returns true if it was
+/// set.
 pub fn sign_came<R: Clock>(rt: &R, sign: &AtomicBool) -> bool {
     for _ in 0..20_000 {
         if sign.swap(false, Ordering::SeqCst) {

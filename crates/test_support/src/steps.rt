@@ -9,7 +9,8 @@ use hoare_law::data::MonitorData;
 use hoare_law::event::History;
 use std::marker::{Brand, PhantomData};
 
-/// What a seat knows at the opening. Nothing is asked of the table: each place's facts speak of what it knows.
+/// The rule of the monitor's table: a seat begins with the history at the opening. Nothing is asked of the table: each
+/// place's facts are about what it knows.
 pub(crate) struct Opening;
 
 impl<D: MonitorData> TableRule<(), History<D>, D> for Opening {
@@ -23,16 +24,16 @@ impl<D: MonitorData> TableRule<(), History<D>, D> for Opening {
 pub(crate) enum Deed {
     Enters,
     Waits { condition: usize, priority: u64 },
-    /// Resumes place 0, which waits on the condition, and goes out.
+    /// Resumes place 0, which waits on the condition, and leaves.
     Passes { condition: usize },
-    /// Calls place 0, which waits on the Mesa condition, and stays inside.
+    /// Notifies place 0, which waits on the Mesa condition, and stays inside.
     Calls { condition: usize },
-    /// Goes on after a wait on the condition.
+    /// Resumes after a wait on the condition.
     GoesOn { condition: usize },
     Leaves,
 }
 
-/// What a step makes of what a seat knows. Its call picks it.
+/// What a step makes of the history that a seat knows. Each call picks it.
 pub(crate) trait Telling<D> {
     ghost use Rattle.hoare_law.specs.declared.event.History.{History};
 
@@ -43,7 +44,7 @@ impl<D> Telling<D> for Brand {
     ghost after = { λ h. h };
 }
 
-/// A step by which a seat knows more.
+/// A step after which a seat knows more of the history.
 pub(crate) struct Tell<J> {
     of: PhantomData<J>,
 }
@@ -53,7 +54,7 @@ impl<D, J: Telling<D>> Play<(), History<D>> for Tell<J> {
 }
 
 impl<D: MonitorData> Fake<D> {
-    // A step with the pick of its call, which reads the other arguments.
+    // Takes a step with the `J` of this call, which reads the other arguments.
     fn step<J: Telling<D>>(
         &self,
         seat: &mut Seat<(), History<D>>,
@@ -68,7 +69,7 @@ impl<D: MonitorData> Fake<D> {
         self.table.shared.load::<Tell<J>>(seat, 0);
     }
 
-    // Adds what the place did, with the state that it found or left, to what the seat knows.
+    // Adds to what the seat knows the event of `place`: its deed, with the state that it found or left.
     pub(crate) fn tell(&self, seat: &mut Seat<(), History<D>>, place: usize, deed: Deed, state: &D)
         requires { seat.old.table_id ≡ self.now.table.shared.table_id }
         ensures table { seat.new.table_id ≡ seat.old.table_id }

@@ -1,4 +1,4 @@
-//! A number of which nothing is asked, as data for tests, and what one place does with it.
+//! A number as data for tests, without assertions, and what one place does with it.
 ghost use Rattle.std.specs.Prelude.{◌≡◌};
 
 use hoare_law::monitor::Monitor;
@@ -6,10 +6,10 @@ use hoare_law::unasked::Unasked;
 use hoare_law::waits::Waits;
 use std::sync::Wait;
 
-/// A number, of which nothing is asked, and one condition.
+/// A number without assertions, and one condition.
 pub type Tally = Unasked<u64, 1>;
 
-/// Appends a digit to the tally.
+/// Appends a decimal digit to the tally, modulo 2^64.
 pub fn write_digit<M: Monitor<Tally>>(m: &M, inside: M::In, digit: u64) -> M::In
     requires { M.is_of_in m.now inside }
     ensures of { M.is_of_in m.now result }
@@ -21,7 +21,7 @@ pub fn write_digit<M: Monitor<Tally>>(m: &M, inside: M::In, digit: u64) -> M::In
     inside
 }
 
-/// Adds one to the tally.
+/// Adds one to the tally, modulo 2^64.
 pub fn add_one<M: Monitor<Tally>>(m: &M, inside: M::In) -> M::In
     requires { M.is_of_in m.now inside }
     ensures of { M.is_of_in m.now result }
@@ -33,7 +33,7 @@ pub fn add_one<M: Monitor<Tally>>(m: &M, inside: M::In) -> M::In
     inside
 }
 
-// Whether a place inside finds 0, and that nobody waits.
+// Returns true if a place inside finds 0 and no process waits.
 fn finds_nobody<M: Monitor<Tally>>(m: &M, inside: &M::In) -> bool
     requires { M.is_of_in m.now inside.now }
 {
@@ -41,7 +41,7 @@ fn finds_nobody<M: Monitor<Tally>>(m: &M, inside: &M::In) -> bool
     found && !m.queue(inside, 0) && m.first(inside, 0).is_none()
 }
 
-/// One try: who comes in goes out again. Whether it came in.
+/// Makes one attempt to enter, and leaves if it succeeded. Returns the place, and true if it had entered.
 pub fn tries_once<R: Wait, M: Monitor<Tally>>(rt: &R, m: &M, out: M::Out) -> (M::Out, bool)
     requires { M.is_of m.now out }
     ensures of { M.is_of m.now result.0 }
@@ -53,7 +53,8 @@ pub fn tries_once<R: Wait, M: Monitor<Tally>>(rt: &R, m: &M, out: M::Out) -> (M:
     }
 }
 
-/// One place makes each call. Nobody waits, so nothing is resumed: it answers 1 where all calls say so, and leaves 42.
+/// Makes each call that one place can make alone: all but `wait`, `notify` and `broadcast`. No process waits, so
+/// nothing is resumed. Returns 1 if each call returned what it should, and leaves 42.
 pub fn calls_all<R: Wait, M: Monitor<Tally>>(rt: &R, m: &M, out: M::Out) -> (M::Out, u64)
     requires { M.is_of m.now out }
     ensures of { M.is_of m.now result.0 }

@@ -3,7 +3,7 @@ use Rattle.hoare_law.specs.Priorities.{nobody}
 use Rattle.test_support.specs.Answers.{FirstReady}
 use Rattle.test_support.proofs.fake.next_at_rest.Given as goal
 
--- the first at rest of those that are left is the first of all
+-- the first answer at rest of those that are left is the first at rest of all
 abbrev pub invariant-loop-answer : goal.invariant-loop-answer
 invariant-loop-answer g l = (a : _) (left : _) → FirstReady (λ d. g.D.MonitorData.rest d nobody) l.answers.items a left
     → FirstReady (λ d. g.D.MonitorData.rest d nobody) l.fn.answers.items a left

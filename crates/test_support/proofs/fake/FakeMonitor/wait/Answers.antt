@@ -4,7 +4,7 @@ use Rattle.test_support.proofs.Answers.{IsLeft-answered, IsLeft-called_back}
 use Rattle.test_support.proofs.Stages.{IsInside-answered, IsInside-called_back, AddsTwo-answered, AddsTwo-called_back}
 use Rattle.test_support.proofs.fake.FakeMonitor.wait.Goals as goal
 
--- from a Mesa condition
+-- a wait on a Mesa condition
 
 pub returns-then-CONDITIONS-condition-clause-of : goal.returns-then-CONDITIONS-condition-clause-of
 returns-then-CONDITIONS-condition-clause-of g c =
@@ -43,7 +43,7 @@ returns-then-CONDITIONS-condition-clause-front g c =
     )
     (AddsTwo-called_back _ _ _ _ _)
 
--- from one of Hoare's
+-- a wait on one of Hoare's conditions
 
 pub returns-clause-of : goal.returns-clause-of
 returns-clause-of g c =

@@ -1,4 +1,4 @@
--- Places that come back in the order in which they were handed out.
+-- Places that are returned in the order in which they were given out.
 use Rattle.std.proofs.Common.{ℕ, List, [], ◌∷◌, ◌++◌, map, length, ◌≡◌, ◌<◌, ap, sym, ◌∙◌, arith}
 use Rattle.std.specs.Prelude.{slice_index_or}
 use Rattle.std.proofs.Math.ListN.{get_or-map}
@@ -14,7 +14,7 @@ module _ {O : Type 0} (place : O → ℕ) where
       sym (get_or-map place back k d) ∙ ap (λ ks. slice_index_or ks k (place d)) same ∙ get_or-map place outs k d
       ∙ numbered k d (omega arith)
 
-  -- the last is back with its number, behind others with theirs
+  -- the last place is returned with its number, and those before it with theirs
   pub same-and-last : (outs back before after : List O) (o p : O) → outs ≡ before ++ o ∷ [] → back ≡ after ++ p ∷ []
       → map place after ≡ map place before → place p ≡ place o → map place back ≡ map place outs
   same-and-last outs back before after o p outs_are back_are same is =

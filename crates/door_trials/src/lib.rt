@@ -1,5 +1,5 @@
-//! Tests of the running doors: on one thread, in rows on both, and what many processes wrote down inside, held against
-//! the definitions.
+//! Tests of the running doors: on one thread, in rows on both doors, and what many processes wrote down inside, checked
+//! against the definitions.
 #![tactic(auto)]
 
 #[cfg(test)]

@@ -1,5 +1,5 @@
-//! What a test awaits: where it doesn't come in time the test fails. A library may not end the process, so these
-//! functions stand in each crate of trials, and `test_support` has what they call.
+//! What a test awaits: if it doesn't happen in time, the test fails. A library may not end the process. So each crate
+//! of trials has these functions, and `test_support` has what they call.
 ghost use Rattle.std.specs.Prelude.{◌≡◌, ℕ, IfOk, All, vec_len};
 ghost use Rattle.std.specs.Fork.{AcceptsJobs, GivesJobs};
 ghost use Rattle.test_support.specs.Numbered.{IsNumbered};
@@ -16,14 +16,15 @@ use std::thread::Threads;
 use test_support::limit::is_set_in_time;
 use test_support::running;
 
-/// Looks until the flag is set. Where that takes too long it ends the test as failed, with its threads not joined.
+/// Polls `ended` until it is set. If that takes longer than the limit, ends the test as failed, with its threads not
+/// joined.
 fn await_flag<R: Abort + Clock>(rt: &R, ended: &AtomicBool) {
     if !is_set_in_time(rt, ended) {
         panic!(rt; "the threads did not end within the limit")
     }
 }
 
-/// Does the work on another thread, while this one looks on.
+/// Does `work` on another thread, while this one watches the limit. Returns its result.
 fn within<R: Threads + Abort + Clock + Sync, F: FnOnce() -> T + Send, T: Send>(rt: &R, work: F) -> T
     requires { F.pre work }
     ensures { F.post work result }
@@ -45,7 +46,8 @@ fn within<R: Threads + Abort + Clock + Sync, F: FnOnce() -> T + Send, T: Send>(r
     result
 }
 
-/// Each place acts on a thread of its own. Threads that don't end fail the test.
+/// Lets each place act on a thread of its own. Returns the places, with what they returned. Fails the test if the
+/// threads don't end in time, or if out of memory.
 fn act_each<
     R: Threads + Abort + Clock + Sync,
     O: Send + Drop,
@@ -69,7 +71,8 @@ fn act_each<
     done
 }
 
-/// Each place of a monitor acts by its number: the places again, in order, and what they answered.
+/// Lets each place of a monitor act by its number, on a thread of its own. Returns the places in order, and what they
+/// returned. Fails the test if the threads don't end in time, or if out of memory.
 pub fn act_all<
     D: MonitorData,
     M: Monitor<D>,
@@ -95,7 +98,8 @@ pub fn act_all<
     parted
 }
 
-/// Comes in once this many wait on the condition.
+/// Enters when `waiting` processes wait on `condition`. Fails the test if that isn't seen within the visits of
+/// `running::watch`.
 pub fn watch<D: MonitorData, R: Wait + Abort, M: Monitor<D>>(
     rt: &R,
     m: &M,
@@ -114,7 +118,7 @@ pub fn watch<D: MonitorData, R: Wait + Abort, M: Monitor<D>>(
     }
 }
 
-/// Looks for the sign of another place, and takes it away.
+/// Polls `sign`, which another place sets, and clears it. Fails the test if it isn't set in time.
 pub fn await_sign<R: Abort + Clock>(rt: &R, sign: &AtomicBool) {
     if !running::sign_came(rt, sign) {
         panic!(rt; "no sign came");

@@ -4,13 +4,13 @@ use std::alloc::Global;
 use std::fmt::{Debug, Display};
 use std::process::Abort;
 
-/// Fails the test where the value that was found isn't the wanted one. (Each `assert_eq!` is checked where it stands,
-/// and takes the checker some two seconds; a call of this takes it half a second.)
+/// Fails the test if `found` isn't `wanted`. (The checker takes some two seconds for each `assert_eq!` that is written
+/// out, and half a second for a call of this function.)
 pub fn expect_same<T: Copy + Debug + PartialEq, R: Abort>(rt: &R, found: T, wanted: T) {
     assert_eq!(rt; found, wanted);
 }
 
-/// Fails the test where the value doesn't read so.
+/// Fails the test if `value` isn't shown as `wanted`, or if out of memory.
 pub fn reads_as<T: Display, R: Abort>(rt: &R, alloc: Global, value: &T, wanted: &str) {
     let Ok(shown) = format!(in alloc; "{value}") else {
         panic!(rt; "no memory")

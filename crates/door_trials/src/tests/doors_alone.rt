@@ -16,7 +16,7 @@ use test_support::{on_any_door, on_baton_door, on_ticket_door};
 use ticket_door::door::TicketDoor;
 use wait_book::steps::MakeRefused;
 
-// What comes back where a baton door of `N` conditions and this number of places is refused.
+// Returns what `make` gives back of a baton door of `N` conditions that it refuses: the data, and the refusal.
 fn refused_baton<const N: usize, R: Abort>(
     rt: &R,
     alloc: Global,
@@ -28,7 +28,7 @@ fn refused_baton<const N: usize, R: Abort>(
     (data.value, refused)
 }
 
-// The same of a ticket door.
+// Returns what `make` gives back of a ticket door of `N` conditions that it refuses: the data, and the refusal.
 fn refused_ticket<const N: usize, R: Abort>(
     rt: &R,
     alloc: Global,
@@ -41,7 +41,7 @@ fn refused_ticket<const N: usize, R: Abort>(
     (data.value, refused)
 }
 
-// Both doors of `N` conditions refuse this number of places, and the data come back.
+// Fails the test unless both doors of `N` conditions refuse this number of places, and return the data.
 fn both_refuse<const N: usize, R: Abort>(
     rt: &R,
     alloc: Global,
@@ -70,7 +70,7 @@ pub enum AloneRow {
     WhoTriesComesInWhereItIsFree,
 }
 
-// The last place of a monitor makes each call.
+// The last place of a monitor makes the calls of `calls_all`. Fails the test unless each returned what it should.
 fn one_calls_all<R: Wait + Abort, M: Monitor<Tally>>(
     rt: &R,
     m: &M,
@@ -111,7 +111,7 @@ fn acts<R: Wait + Abort, M: Monitor<Tally>>(
     }
 }
 
-// Does the row on a door of this kind, by its own type. Returns the number that the door is closed with.
+// Runs the row on a door of this kind, by its own type. Returns the number with which the door is closed.
 fn left_by<R: Wait + Abort>(
     rt: &R,
     alloc: Global,
@@ -138,7 +138,7 @@ fn left_by<R: Wait + Abort>(
     }
 }
 
-// Does the row on an `AnyDoor` of this kind. Returns the number that the door is closed with.
+// Runs the row on an `AnyDoor` of this kind. Returns the number with which the door is closed.
 fn left_by_any<R: Wait + Abort>(
     rt: &R,
     alloc: Global,
@@ -153,8 +153,8 @@ fn left_by_any<R: Wait + Abort>(
     on_any_door::closed(door, outs).value
 }
 
-/// Does the row on a door of this kind at each number of places from `least` to 64, by its own type and as an
-/// `AnyDoor`. Fails the test if one of them isn't made, or isn't closed with the wanted number.
+/// Runs the row on a door of this kind at each number of places from `least` to 64, by its own type and as an
+/// `AnyDoor`. Fails the test if a door isn't made, or isn't closed with the wanted number.
 pub fn leave_at_all_sizes<R: Wait + Abort>(
     rt: &R,
     alloc: Global,

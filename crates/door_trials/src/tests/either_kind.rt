@@ -1,5 +1,5 @@
-//! A door of either kind, which is chosen where it is made: all calls, several conditions and priorities, which door
-//! answers, and what its words say.
+//! A door of either kind, chosen when it is made: all calls, several conditions and priorities, which door serves the
+//! calls, and its status.
 ghost use Rattle.std.specs.Prelude.{◌≡◌};
 
 use crate::tests::awaited::act_all;
@@ -16,7 +16,7 @@ use std::sync::Wait;
 use test_support::on_any_door::{closed, made};
 use test_support::tally::{Tally, calls_all, tries_once};
 
-/// How many rounds each place of a diary has.
+/// Number of rounds of each place of a diary.
 const ROUNDS: u64 = 60;
 
 #[test]
@@ -27,7 +27,7 @@ fn both_holds_each_kind_once(rt: HostRuntime) {
     }
 }
 
-// A diary has four conditions of both sorts, and its places wait there with priorities 0 to 3.
+// A diary has two of Hoare's conditions and two Mesa conditions. Its places wait there with priorities 0 to 3.
 #[test]
 fn a_diary_of_either_kind_is_a_legal_history(host: HostRuntime) {
     let (rt, alloc) = (&host, host.alloc());
@@ -48,8 +48,8 @@ fn a_diary_of_either_kind_is_a_legal_history(host: HostRuntime) {
     }
 }
 
-// Where a ticket door is behind this one, place a asks there, and comes in and out. Place b tries on this door, before
-// and after: the ticket of a, and whether the tries came in.
+// If this is a ticket door, place a takes a ticket, enters with it and leaves. Place b makes an attempt to enter before
+// and after that visit. Returns the places, and on a ticket door a's ticket and for each attempt if it succeeded.
 fn asks_behind<R: Wait>(
     rt: &R,
     door: &AnyDoor<Tally>,
@@ -75,8 +75,9 @@ fn asks_behind<R: Wait>(
     }
 }
 
-// Place a makes each call of a door of this kind, in three visits, then asks behind it, and comes in once more: the
-// answers and the number that is left, and what the words say before all, while it is inside then and after it left.
+// On a door of this kind place a makes three visits, with the calls of `calls_all`, then those of `asks_behind`, and
+// then enters once more. Returns what the calls returned and the number that is left, and three statuses: before all
+// visits, during the last and after it.
 fn calls_asks_and_looks<R: Wait + Abort>(
     rt: &R,
     alloc: Global,
@@ -97,7 +98,7 @@ fn calls_asks_and_looks<R: Wait + Abort>(
     ((answer, behind, door.close(outs).value), seen)
 }
 
-// The visits of a door of tickets draw them, and who asked there is before who tries here.
+// On a ticket door the three visits took the tickets 0 to 2, and an attempt fails while another place has a ticket.
 #[test]
 fn the_door_of_its_kind_answers(rt: HostRuntime) {
     for (kind, behind) in [

@@ -1,4 +1,5 @@
-//! The judge of histories itself: by hand, a history that keeps all of its rules, and lines that break each rule.
+//! Tests of the judge of histories: with a history, written by hand, that keeps all of its rules, and with lines that
+//! break each rule.
 
 use crate::tests::compared::expect_same;
 use std::alloc::Global;
@@ -6,7 +7,7 @@ use std::process::Abort;
 use test_support::diary::{Act, Line};
 use test_support::history::{Judged, judge};
 
-/// What is written of a line: the place, what it did, and the stamp.
+/// A line as written here: the place, what it did, and the stamp.
 type Written = (usize, Act, u64);
 
 /// A history that keeps all rules, of six places that wait on one of Hoare's conditions and on a Mesa condition.
@@ -26,7 +27,7 @@ const LAWFUL: [Written; 46] = [
     (3, Act::IsBack, 11), // it signalled before 2
     (3, Act::Signals(1), 13),
     (3, Act::HearsNobody, 13),
-    (3, Act::Passes(1), 15), // nobody waits there
+    (3, Act::Passes(1), 15), // no process waits there
     (2, Act::IsBack, 15),
     (2, Act::Waits(2, 4), 17),
     (3, Act::EntersWith, 17),
@@ -59,7 +60,7 @@ const LAWFUL: [Written; 46] = [
     (5, Act::Leaves, 45),
 ];
 
-/// Lines that may not come in that history, each with the number of the line in whose stead it stands.
+/// Lines that break that history, each with the number of the line that it replaces.
 const UNLAWFUL: [(usize, Written); 38] = [
     // the first process enters, has one of the places, and finds the stamp 0
     (0, (0, Act::Leaves, 0)),
@@ -70,7 +71,7 @@ const UNLAWFUL: [(usize, Written); 38] = [
     (1, (0, Act::EntersWith, 0)),
     // the next process finds the stamp that was left
     (2, (2, Act::EntersWith, 0)),
-    // nobody signalled and nobody is notified: a process from outside enters
+    // no process signalled and none is notified: a process from outside enters
     (2, (0, Act::EntersWith, 1)),
     (2, (0, Act::GoesOn(0), 1)),
     (2, (1, Act::IsBack, 1)),
@@ -82,7 +83,7 @@ const UNLAWFUL: [(usize, Written); 38] = [
     (8, (2, Act::EntersWith, 7)),
     (8, (3, Act::HearsNobody, 7)),
     (36, (1, Act::GoesOn(1), 35)),
-    // nobody waits on the condition: the signaller stays inside
+    // no process waits on the condition: the signaller stays inside
     (14, (1, Act::HearsNobody, 13)),
     (14, (3, Act::IsBack, 13)),
     (14, (0, Act::GoesOn(0), 13)),
@@ -92,18 +93,18 @@ const UNLAWFUL: [(usize, Written); 38] = [
     (12, (4, Act::EntersWith, 11)),
     (16, (4, Act::EntersWith, 15)),
     (32, (3, Act::GoesOn(2), 31)),
-    // a waiter on the condition of a pass goes on before those notified
+    // a waiter on the condition of a pass resumes before those notified
     (36, (2, Act::GoesOn(2), 35)),
-    // a process that notifies stays inside, and is told whether there was a waiter
+    // a process that notifies stays inside, and learns if there was a waiter
     (24, (1, Act::HasNotified(false), 23)),
     (24, (3, Act::HasNotified(true), 23)),
     (24, (3, Act::GoesOn(2), 23)),
     (28, (1, Act::HasNotified(true), 27)),
-    // a process that broadcasts stays inside, and is told how many waiters there were
+    // a process that broadcasts stays inside, and learns how many waiters there were
     (26, (1, Act::HasBroadcast(3), 25)),
     (26, (2, Act::HasBroadcast(2), 25)),
     (26, (2, Act::GoesOn(2), 25)),
-    // those notified go on in the order of their calls, before a process from outside
+    // notified processes resume in the order of their notifications, before a process from outside
     (34, (2, Act::GoesOn(2), 33)),
     (34, (3, Act::GoesOn(3), 33)),
     (34, (5, Act::EntersWith, 33)),
@@ -112,8 +113,8 @@ const UNLAWFUL: [(usize, Written); 38] = [
     (44, (4, Act::GoesOn(2), 43)),
 ];
 
-// Judges the lawful history, in which this line stands in the stead of the one with this number, if there is one.
-// Returns which line is unlawful, and how often a signal, a call and a process that went on had a choice.
+// Judges the lawful history, with the line numbered `at`, if there is one, replaced by `unlawful`. Returns the number
+// of the unlawful line, and how often a signal, a notification and a resumption of a notified process had a choice.
 fn judged_with<R: Abort>(
     rt: &R,
     alloc: Global,

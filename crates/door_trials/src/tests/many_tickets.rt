@@ -16,7 +16,7 @@ use ticket_door::door::TicketDoor;
 use ticket_door::laws::make_at;
 use ticket_door::place::{Asked, TicketOut};
 
-/// All places ask.
+/// All places take tickets.
 fn all_ask(door: &TicketDoor<Tally>, outs: Vec<TicketOut<Tally>>, asks: &mut VecDeque<Asked<Tally>>)
     requires of { All (⟦<TicketDoor<Tally> as Monitor<Tally>>⟧.is_of door.now) outs.items }
     requires none { asks.old.items ≡ [] }
@@ -32,7 +32,7 @@ fn all_ask(door: &TicketDoor<Tally>, outs: Vec<TicketOut<Tally>>, asks: &mut Vec
     }
 }
 
-/// All come in and give up, in the order in which they asked: each notes the number that it finds and its ticket, and
+/// All places enter and leave, in the order of their tickets. Each notes the number that it finds and its ticket, and
 /// adds one to the number.
 fn all_come_in<R: Wait>(
     rt: &R,
@@ -61,7 +61,7 @@ fn all_come_in<R: Wait>(
     asks.destroy_empty();
 }
 
-// The tickets go on from the last number with 0.
+// The tickets wrap around from the last number to 0.
 #[test]
 fn sixty_four_tickets(rt: HostRuntime) -> Result<(), Fail> {
     let alloc = rt.alloc();

@@ -1,9 +1,9 @@
-//! A row of tests on a door: it is made, each place acts by its number, and it is closed.
+//! A row of tests on a door: the door is made, each place acts by its number, and the door is closed.
 
-/// The row on a door of this kind, by its own type, which is made with these data and this many places: the data that
-/// were left, and what the places answered. Each place acts by the function named last, which is over any monitor; it
-/// gets the runtime, the door, the place, its number and what stands in the brackets. (A macro, since in a method of a
-/// trait the checker lets nobody hand on a monitor of any type, and a closure is of one type.)
+/// Runs a row on a door of this kind, by the door's own type, made with the data `$state` and `$count` places. Returns
+/// the data that were left, and what the places returned. Each place acts by `$acts`, a function over any monitor; its
+/// arguments are the runtime, the door, the place, its number and the `$row` expressions. (This is a macro since the
+/// checker lets no method of a trait pass on a monitor of any type, and a closure has one type.)
 macro_rules! run {
     (
         @$door:ident($($ticket:literal)?), $rt:ident, $alloc:ident, $state:expr, $count:expr,

@@ -23,15 +23,15 @@ use test_support::tally::Tally;
 use ticket_door::door::TicketDoor;
 use ticket_door::place::TicketOut;
 
-/// How often a place is handed the monitor: that it isn't awake by then is seen at least once.
+/// Number of hand-offs to a place. In at least one of them the status must be seen before the place resumes.
 const ROUNDS: u64 = 20;
 
-/// For how many milliseconds it waits before. Then it sleeps.
+/// How long the place waits before each hand-off, in milliseconds. By then it sleeps.
 const STAY: u64 = 3;
 
-/// A door whose words a test looks at.
+/// A door whose status a test reads.
 pub trait ShowsStatus: Monitor<Tally> {
-    /// What its words say.
+    /// Returns the status of the door.
     fn seen(&self) -> Status;
 }
 
@@ -47,12 +47,13 @@ impl ShowsStatus for TicketDoor<Tally> {
     }
 }
 
-/// What the words say of this holder, with so many newcomers.
+/// Returns a status with this holder and this number of entering threads.
 pub fn status_of(holder: Holder, newcomers: u64) -> Status {
     Status { holder, newcomers }
 }
 
-// Comes in once another waits, hands the monitor to it, and looks: whether the words say so.
+// Enters when another process waits, and hands the monitor off to it. Returns true if the status then shows that the
+// monitor is owed to place 0.
 fn hands_over<R: Wait + Abort + Clock, M: ShowsStatus>(rt: &R, m: &M, out: M::Out) -> (M::Out, bool)
     requires { M.is_of m.now out }
     ensures of { M.is_of m.now result.0 }
@@ -64,8 +65,8 @@ fn hands_over<R: Wait + Abort + Clock, M: ShowsStatus>(rt: &R, m: &M, out: M::Ou
     (out, m.seen().holder == Holder::Owed(0))
 }
 
-/// Place 0 waits, again and again. Place 1 hands the monitor to it each time: it answers 1 where the words said so in
-/// one of the rounds.
+/// Place 0 waits, again and again. Place 1 hands the monitor off to it each time, and returns 1 if the status showed so
+/// in one of the rounds.
 pub fn waits_or_hands_over<R: Wait + Abort + Clock, M: ShowsStatus>(
     rt: &R,
     m: &M,
@@ -90,7 +91,8 @@ pub fn waits_or_hands_over<R: Wait + Abort + Clock, M: ShowsStatus>(
     (out, u64::from(was_owed))
 }
 
-/// Place 0 stays inside until a newcomer is seen, and answers 1. Place 1 comes once 0 is inside.
+/// Place 0 stays inside until an entering thread is seen, and returns the number seen, which must be 1. Place 1 enters
+/// when place 0 is inside.
 pub fn sees_a_newcomer<R: Wait + Abort + Clock, M: ShowsStatus>(
     rt: &R,
     m: &M,
@@ -119,7 +121,8 @@ pub fn sees_a_newcomer<R: Wait + Abort + Clock, M: ShowsStatus>(
     (m.leave(rt, inside), seen)
 }
 
-// The first that asked is served, and the others want in.
+// Three places take tickets. The status shows the place whose ticket is served as inside, and the others as entering
+// threads.
 fn ask_and_come_in<D: MonitorData + Send, R: Wait + Abort>(
     rt: &R,
     door: &TicketDoor<D>,

@@ -1,4 +1,4 @@
-//! A door whose calls are steps, through its places as values: what each act answers, on one thread.
+//! A door whose calls are steps, by its places as values: what each act returns, on one thread.
 use crate::tests::compared::expect_same;
 use door_place::act::{
     Broadcast, Leave, Notify, Set, Signal, SignalLeave, TryEnter, TryReturn, Wait,
@@ -22,7 +22,7 @@ fn two_places<R: Abort>(rt: &R, alloc: Global) -> Keeper {
     keeper
 }
 
-// Takes one of its places.
+// Takes one of the keeper's places.
 fn place_of<R: Abort>(rt: &R, keeper: &mut Keeper) -> Place {
     let Ok(place) = keeper.give_out() else {
         panic!(rt; "no place is left")
@@ -30,7 +30,7 @@ fn place_of<R: Abort>(rt: &R, keeper: &mut Keeper) -> Place {
     place
 }
 
-// What making a door of these sizes answers, or 0.
+// Returns the code with which `make` refuses a door of these sizes, or 0.
 fn made(alloc: Global, places: usize, conditions: usize, mesa: usize) -> u64 {
     let sizes = Sizes {
         places,
@@ -57,8 +57,8 @@ fn step_door_sizes_are_refused_in_order(rt: HostRuntime) {
     expect_same(&rt, codes, [109, 109, 110, 110, 110, 0]);
 }
 
-// What the place says of itself: where it is, the word, and of Hoare's condition how many wait there, whether somebody
-// does, and the least priority.
+// Returns what the place reports: where it is, the code of `get` with the word, and for Hoare's condition the number of
+// waiters, if there are any, and the code of `first` with the least priority.
 fn asked(place: &Place) -> [u64; 7] {
     let (mut value, mut priority) = (0, 0);
     let (got, first) = (place.get(&mut value), place.first(0, &mut priority));
@@ -73,7 +73,7 @@ fn asked(place: &Place) -> [u64; 7] {
     ]
 }
 
-// What a place does, or is asked, by its call of that name.
+// An act or a query of a place, by the call of that name.
 #[derive(Clone, Copy)]
 enum Call {
     TryEnter,
@@ -89,7 +89,7 @@ enum Call {
     GiveBack,
 }
 
-// Makes the call. Returns the code that the place answers.
+// Makes the call. Returns the code that the place returns.
 fn code_of(place: &mut Place, call: Call) -> u64 {
     match call {
         Call::TryEnter => place.act(TryEnter),
@@ -106,10 +106,10 @@ fn code_of(place: &mut Place, call: Call) -> u64 {
     }
 }
 
-// A step: the number of the place, its call, and the code that it has to answer.
+// A step: the number of the place, its call, and the code that the call must return.
 type Step = (usize, Call, u64);
 
-// Both places make their calls, in this order. (Each act by itself takes the checker some seconds where it is written.)
+// Both places make their calls, in this order. (The checker takes some seconds for each act that is written out.)
 fn walk<R: Abort>(rt: &R, zero: &mut Place, one: &mut Place, steps: &[Step]) {
     for (at, (number, call, wanted)) in steps.iter().enumerate() {
         let code = if *number == 0 {
@@ -133,7 +133,7 @@ const WAITS: [Step; 4] = [
 const SIGNALS: [Step; 5] = [
     (1, Call::Set(8), 0),
     (0, Call::TryReturn, 102),
-    (1, Call::Signal(0), 0), // place 0 goes on
+    (1, Call::Signal(0), 0), // place 0 resumes
     (1, Call::TryReturn, 102),
     (0, Call::TryReturn, 64),
 ];
@@ -167,7 +167,7 @@ const NOTIFIES: [Step; 8] = [
     (0, Call::Wait(1, 0), 64),
     (1, Call::TryEnter, 64),
     (1, Call::Broadcast(1), 1),
-    (1, Call::Leave, 0), // the notified place goes on
+    (1, Call::Leave, 0), // the notified place resumes
     (0, Call::TryReturn, 64),
     (0, Call::Leave, 64),
 ];
@@ -209,7 +209,7 @@ fn acts_are_refused_in_order(rt: HostRuntime) {
     closes_with(&rt, keeper, one, zero, 7);
 }
 
-// The keeper closes once both places were given back, and not before.
+// Fails the test unless the keeper can be closed once both places were given back, and not before.
 fn closes_with<R: Abort>(rt: &R, mut keeper: Keeper, mut a: Place, mut b: Place, value: u64) {
     expect_same(rt, a.give_back(), 0);
     keeper.collect();

@@ -40,7 +40,7 @@ pub fn comes_and_goes<D: MonitorData + Send, R: Wait>(
     door.give_up(door.come_in(rt, asked))
 }
 
-// Place b meets a, takes a ticket, enters with it and leaves. They come back in this order, with b's ticket.
+// Place b meets a, takes a ticket, enters with it and leaves. Returns a and b, with b's ticket.
 fn meets_and_visits<D: MonitorData + Send, R: Wait>(
     rt: &R,
     door: &TicketDoor<D>,
@@ -58,7 +58,7 @@ fn meets_and_visits<D: MonitorData + Send, R: Wait>(
     ((a, comes_and_goes(rt, door, b)), ticket)
 }
 
-// Three places take tickets, in the order c, a, b. They come back in this order, with their tickets.
+// Three places take tickets, in the order c, a, b. Returns the places in this order, with their tickets.
 fn three_take_tickets<D: MonitorData + Send>(
     door: &TicketDoor<D>,
     c: TicketOut<D>,
@@ -108,8 +108,8 @@ pub fn enter_and_write<R: Wait>(
     write_and_leave(door, door.come_in(rt, asked), digit)
 }
 
-// Place a comes in at once, and leaves with a signal that nobody waits for; it meets b, and b asks and comes in. They
-// come back in this order, with whether a resumed somebody, and b's ticket.
+// Place a enters at once, and leaves with a signal on a condition without waiters. It meets b; b takes a ticket and
+// enters. Returns a and b, true if a resumed a waiter, and b's ticket.
 fn hands_up_and_meets<R: Wait>(
     rt: &R,
     door: &TicketDoor<Tally>,
@@ -127,7 +127,7 @@ fn hands_up_and_meets<R: Wait>(
     (places, (told, ticket))
 }
 
-/// A door with this first ticket, and its three places.
+/// Creates a door with the first ticket `first`. Returns it with its three places. Fails the test if out of memory.
 pub fn three_places<R: Abort>(
     rt: &R,
     alloc: Global,
@@ -152,9 +152,10 @@ pub fn three_places<R: Abort>(
     (door, (a, b, c))
 }
 
-/// On a door with this first ticket three places ask, in the order c, a, b, and come in by their tickets; c writes
-/// seven. Then a hands up to nobody, and meets b, which asks once more; at last c asks again, and writes seven once
-/// more. The tickets of those that asked before, whether a resumed somebody, and what c has written then.
+/// On a door with the first ticket `first` three places take tickets, in the order c, a, b, and enter by them; c writes
+/// 7. Then a leaves with a signal on a condition without waiters, and meets b, which takes another ticket. At last c
+/// enters again, and writes 7 once more. Returns the tickets of c, a, b and again b, true if a resumed a waiter, and
+/// the tally.
 fn three_ask<R: Wait + Abort>(rt: &R, alloc: Global, first: u64) -> ([u64; 4], bool, u64) {
     let (door, (a, b, c)) = three_places(rt, alloc, first);
     let ((c, a, b), tickets) = three_take_tickets(&door, c, a, b);
@@ -207,8 +208,8 @@ fn tickets_past_the_last_number(rt: HostRuntime) {
     }
 }
 
-/// Place a takes a ticket, b tries, a enters and leaves, b tries again, and a takes one more ticket, enters and leaves.
-/// Returns the places, a's tickets, and whether each try entered.
+/// Place a takes a ticket, b makes an attempt, a enters and leaves, b makes another attempt, and a takes one more
+/// ticket, enters and leaves. Returns the places, a's tickets, and for each attempt if it succeeded.
 fn tries_around<R: Wait>(
     rt: &R,
     door: &TicketDoor<Tally>,
@@ -233,7 +234,7 @@ fn tries_around<R: Wait>(
     ((a, b), ((early, late), (before, between)))
 }
 
-/// On a door with this first ticket, which is closed: what `tries_around` returns of its two places.
+/// Creates a door with the first ticket `first`, and closes it. Returns what `tries_around` returns of its two places.
 fn tries_between<R: Wait + Abort>(rt: &R, alloc: Global, first: u64) -> ((u64, u64), (bool, bool)) {
     let Ok((door, mut outs)) = make_at(alloc, Tally { value: 0 }, 2, first) else {
         panic!(rt; "no memory")
@@ -246,7 +247,7 @@ fn tries_between<R: Wait + Abort>(rt: &R, alloc: Global, first: u64) -> ((u64, u
     tried
 }
 
-// Who tries isn't before who asked, and draws the ticket that is served.
+// An attempt doesn't succeed while another place has a ticket, and takes the ticket that is served.
 #[test]
 fn a_try_takes_the_ticket_between(rt: HostRuntime) {
     for (first, late) in [
@@ -276,8 +277,8 @@ fn places_meet(rt: HostRuntime) {
     expect_same(&rt, (told, tally.value), (false, 5));
 }
 
-// On a door of three places a enters; then b and c take tickets: at most two others are ahead of each. They come back
-// with b's ticket and c's.
+// On a door of three places a enters; then b and c take tickets: at most two other places are ahead of each. Returns
+// the places, with b's ticket and c's.
 fn two_ask_while_one_is_in<D: MonitorData + Send, R: Wait>(
     rt: &R,
     door: &TicketDoor<D>,
@@ -316,7 +317,7 @@ fn enters_after_two<R: Wait>(
     door.come_in(rt, asked)
 }
 
-// While a is inside b and c take tickets: they enter in this order, after a.
+// While a is inside, b and c take tickets: they enter in this order, after a.
 #[test]
 fn two_wait_behind_one(rt: HostRuntime) {
     let (door, (a, b, c)) = three_places(&rt, rt.alloc(), 0);

@@ -12,12 +12,13 @@ use hoare_law::waits::Waits;
 use std::process::Abort;
 use std::sync::Wait;
 
+/// Number of conditions.
 const CONDITIONS: usize = 8;
 
-/// So many of them, the first ones, are Hoare's.
+/// The number of Hoare's conditions: the first ones.
 const HOARE: usize = 4;
 
-/// How often a waiter went on. Nothing is asked of it.
+/// How often a waiter resumed: data without assertions.
 #[derive(Drop)]
 struct Resumed {
     times: u64,
@@ -53,7 +54,7 @@ impl MonitorData for Resumed {
     ghost ready_inv = { λ c p s q h. tt };
 }
 
-// Waits on the condition with the greatest priority, and counts that it went on.
+// Waits on `condition` with the greatest priority, and counts the resumption.
 fn waits<R: Wait, M: Monitor<Resumed>>(rt: &R, m: &M, out: M::Out, condition: usize) -> M::Out
     requires of { M.is_of m.now out }
     requires in_range { condition < 8 }
@@ -66,7 +67,7 @@ fn waits<R: Wait, M: Monitor<Resumed>>(rt: &R, m: &M, out: M::Out, condition: us
     m.leave(rt, inside)
 }
 
-// Resumes or notifies the waiter on the condition, and stays inside. Returns true if there was one.
+// Resumes or notifies the waiter on `condition`, and stays inside. Returns true if there was one.
 fn resumes<R: Wait, M: Monitor<Resumed>>(
     rt: &R,
     m: &M,
@@ -86,7 +87,7 @@ fn resumes<R: Wait, M: Monitor<Resumed>>(
     (inside, told)
 }
 
-// Resumes or notifies the waiter on the condition by the other call, and leaves. Returns true if there was one waiter.
+// Resumes or notifies the waiter on `condition` by the other call, and leaves. Returns true if there was one waiter.
 fn resumes_and_leaves<R: Wait, M: Monitor<Resumed>>(
     rt: &R,
     m: &M,
@@ -106,7 +107,7 @@ fn resumes_and_leaves<R: Wait, M: Monitor<Resumed>>(
     (m.leave(rt, inside), notified == 1)
 }
 
-// Resumes the waiter on the condition twice, once by each call. Returns true if it waited both times.
+// Resumes the waiter on `condition` twice, once by each call. Returns true if there was a waiter both times.
 fn resumes_twice<R: Wait + Abort, M: Monitor<Resumed>>(
     rt: &R,
     m: &M,
@@ -125,7 +126,8 @@ fn resumes_twice<R: Wait + Abort, M: Monitor<Resumed>>(
     (out, first && second)
 }
 
-// Place 0 waits twice on each condition. Place 1 resumes it each time, and answers on how many conditions it waited.
+// Place 0 waits twice on each condition. Place 1 resumes it each time. Returns the number of conditions on which place
+// 0 waited both times, if this is place 1.
 fn waits_or_resumes<R: Wait + Abort, M: Monitor<Resumed>>(
     rt: &R,
     m: &M,

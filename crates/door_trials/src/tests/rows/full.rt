@@ -1,4 +1,4 @@
-//! A door of the most places and conditions: each place waits, and goes on in its turn.
+//! A door of the most places and conditions: each place waits, and resumes in its turn.
 ghost use Rattle.std.specs.Prelude.{◌≡◌};
 
 use crate::tests::compared::expect_same;
@@ -11,14 +11,16 @@ use std::alloc::Global;
 use std::process::Abort;
 use std::sync::Wait;
 
+/// Number of places: the most that a door can have.
 const PLACES: usize = 64;
 
+/// Number of conditions: the most that a door can have.
 const CONDITIONS: usize = 8;
 
-/// Which places went on, in order, and eight conditions.
+/// The numbers of the places that resumed, in order, and eight conditions.
 type Order = Unasked<Vec<usize>, 8>;
 
-// How many wait.
+// Returns the number of waiters on all conditions.
 fn count_waiting<M: Monitor<Order>>(m: &M, inside: &M::In) -> usize
     requires { M.is_of_in m.now inside.now }
 {
@@ -26,7 +28,7 @@ fn count_waiting<M: Monitor<Order>>(m: &M, inside: &M::In) -> usize
     (0..CONDITIONS).fold(0usize, |sum, c| sum.saturating_add(lists.count(c)))
 }
 
-// Writes its number, and goes out.
+// Writes down the place's number, and leaves.
 fn write_and_leave<R: Wait, M: Monitor<Order>>(rt: &R, m: &M, inside: M::In, place: usize) -> M::Out
     requires { M.is_of_in m.now inside }
     ensures of { M.is_of m.now result }
@@ -37,7 +39,7 @@ fn write_and_leave<R: Wait, M: Monitor<Order>>(rt: &R, m: &M, inside: M::In, pla
     m.leave(rt, inside)
 }
 
-// Resumes all that wait, condition by condition; each goes out before the next.
+// Resumes all waiters, condition by condition. Each resumed process leaves before the next resumes.
 fn resume_all<R: Wait, M: Monitor<Order>>(rt: &R, m: &M, inside: M::In) -> M::In
     requires { M.is_of_in m.now inside }
     ensures of { M.is_of_in m.now result }
@@ -51,8 +53,8 @@ fn resume_all<R: Wait, M: Monitor<Order>>(rt: &R, m: &M, inside: M::In) -> M::In
     inside
 }
 
-// Each place waits on the condition of its number modulo 8, and the greater number goes first. The last to come resumes
-// the others and then waits on condition 0, where the first that comes for a second time finds it.
+// Each place waits on the condition of its number modulo 8, and the greater number resumes first. The last place to
+// enter resumes the others, and then waits on condition 0. The first place that enters a second time resumes it.
 fn waits_in_row<R: Wait, M: Monitor<Order>>(
     rt: &R,
     m: &M,
@@ -77,7 +79,7 @@ fn waits_in_row<R: Wait, M: Monitor<Order>>(
     (out, 0)
 }
 
-// A list with room for all places.
+// Creates an empty list with room for all places. Fails the test if out of memory.
 fn no_places<R: Abort>(rt: &R, alloc: Global) -> Vec<usize> {
     let Ok(places) = Vec::with_capacity(alloc, PLACES) else {
         panic!(rt; "no memory")
@@ -85,7 +87,7 @@ fn no_places<R: Abort>(rt: &R, alloc: Global) -> Vec<usize> {
     places
 }
 
-// The order in which they have to go on: by condition, the greater number first, but this one last.
+// Returns the order in which the places must resume: by condition, the greater number first, but `last` at the end.
 fn expected<R: Abort>(rt: &R, alloc: Global, last: usize) -> Vec<usize> {
     let mut row = no_places(rt, alloc);
     for turn in 0..PLACES {
@@ -98,7 +100,7 @@ fn expected<R: Abort>(rt: &R, alloc: Global, last: usize) -> Vec<usize> {
     row
 }
 
-// They went on in the order in which they have to.
+// Fails the test if the places didn't resume in the expected order.
 fn stands_in_order<R: Abort>(rt: &R, alloc: Global, row: &[usize]) {
     let Some(last) = row.last() else {
         panic!(rt; "nobody went on")

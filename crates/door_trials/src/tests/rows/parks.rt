@@ -1,4 +1,5 @@
-//! Parked entering threads: a thread that no other thread wakes enters, and many threads enter beside busy threads.
+//! Parked entering threads: a thread that no other thread wakes enters, and many threads enter while as many others
+//! keep a processor busy each.
 ghost use Rattle.std.specs.Prelude.{◌≡◌};
 
 use crate::tests::awaited::await_sign;

@@ -1,5 +1,6 @@
-//! Eight processes wait with priorities on two conditions of Hoare's and on two Mesa conditions, signal, pass, notify
-//! and broadcast, and a ninth resumes or calls who is left. What they wrote down is held against the definitions.
+//! Eight processes wait with priorities on two of Hoare's conditions and on two Mesa conditions, signal, pass, notify
+//! and broadcast. A ninth resumes or notifies the processes that still wait. What they wrote down is checked against
+//! the definitions.
 ghost use Rattle.std.specs.Prelude.{◌≡◌};
 
 use crate::tests::compared::expect_same;
@@ -18,27 +19,32 @@ use test_support::drawn::draw;
 use test_support::history::{Judged, judge};
 use test_support::running::count_waiting;
 
+/// Number of workers.
 const WORKERS: usize = 8;
 
-/// How many places a diary's monitor has.
+/// Number of places of a diary's monitor: the workers, and the place that sweeps.
 pub const PLACES: usize = WORKERS + 1;
 
-/// So often the whole test is done, each time with other numbers. (`tests/soak --visits` sets these three to more.)
+/// Number of times that the whole test is done, each time with other numbers. (`tests/soak --visits` sets this constant
+/// to more, and the next two to 250.)
 const DAYS: u64 = 1;
 
+/// Number of visits of each worker on a baton door.
 const ROUNDS: u64 = 300;
 
-/// Where threads outnumber processors, one admission by tickets takes longer.
+/// Number of visits of each worker on a ticket door. If threads outnumber processors, an admission by ticket takes
+/// longer.
 const TICKET_ROUNDS: u64 = 60;
 
-// Whether fewer than six wait, so that two workers at least go on.
+// Returns true if fewer than six processes wait, so that at least two workers don't wait.
 fn may_wait<M: Monitor<Diary>>(m: &M, inside: &M::In) -> bool
     requires { M.is_of_in m.now inside.now }
 {
     count_waiting(m, inside) < WORKERS - 2
 }
 
-// One visit of a worker: it waits (and may then signal or call), signals or calls, or calls and passes.
+// Makes one visit of a worker. It waits and may then rouse waiters, or it rouses waiters, or it notifies or broadcasts
+// and then passes. To rouse is to signal, to notify or to broadcast.
 fn visit<R: Wait, M: Monitor<Diary>>(rt: &R, m: &M, out: M::Out, place: usize, lot: u64) -> M::Out
     requires { M.is_of m.now out }
     ensures of { M.is_of m.now result }
@@ -49,7 +55,7 @@ fn visit<R: Wait, M: Monitor<Diary>>(rt: &R, m: &M, out: M::Out, place: usize, l
     if lot % 8 < 4 && may_wait(m, &inside) {
         let mut inside = wait(rt, m, inside, place, condition, lot);
         if lot / 128 % 2 == 0 {
-            // Its own signaller may still be held up: then two are.
+            // The signaller that resumed this worker may still be held up: then two signallers are.
             inside = rouse(rt, m, inside, place, (condition + 1) % 4, lot);
         }
         return leave(rt, m, inside, place, lot);
@@ -62,7 +68,7 @@ fn visit<R: Wait, M: Monitor<Diary>>(rt: &R, m: &M, out: M::Out, place: usize, l
     pass(rt, m, inside, place, condition % 2, lot)
 }
 
-// So many visits, and a note that they are over.
+// Makes `rounds` visits, and notes that this worker is finished.
 fn work<R: Wait, M: Monitor<Diary>>(
     rt: &R,
     m: &M,
@@ -87,7 +93,7 @@ fn work<R: Wait, M: Monitor<Diary>>(
     leave(rt, m, inside, place, 0)
 }
 
-// Resumes or calls those that wait until all workers are done.
+// Resumes or notifies waiters until all workers have finished, in at most 100,000 visits, a millisecond apart.
 fn sweep<R: Wait + Clock, M: Monitor<Diary>>(rt: &R, m: &M, out: M::Out, place: usize) -> M::Out
     requires { M.is_of m.now out }
     ensures of { M.is_of m.now result }
@@ -111,7 +117,7 @@ fn sweep<R: Wait + Clock, M: Monitor<Diary>>(rt: &R, m: &M, out: M::Out, place: 
     out
 }
 
-/// The workers work this many rounds, and the last place sweeps.
+/// Runs one place: each worker makes `rounds` visits, and the last place sweeps.
 pub fn works_or_sweeps<R: Wait + Clock, M: Monitor<Diary>>(
     rt: &R,
     m: &M,
@@ -131,7 +137,7 @@ pub fn works_or_sweeps<R: Wait + Clock, M: Monitor<Diary>>(
     }
 }
 
-/// A diary with room for all that they write.
+/// Creates a diary with room for all that the places write. Fails the test if out of memory.
 pub fn empty_diary<R: Abort>(rt: &R, alloc: Global) -> Diary {
     let Ok(lines) = Vec::with_capacity(alloc, 100_000) else {
         panic!(rt; "no memory")
@@ -139,7 +145,8 @@ pub fn empty_diary<R: Abort>(rt: &R, alloc: Global) -> Diary {
     Diary::new(lines)
 }
 
-/// What they wrote in all rounds is what the definitions allow, and they had choices.
+/// Fails the test unless the diary is whole and a legal history in which all workers finished. It must also be long
+/// enough, with enough choices of each kind.
 pub fn agrees<R: Abort>(rt: &R, diary: &Diary, rounds: u64) {
     let lines = diary.lines();
     let Judged {
@@ -158,7 +165,7 @@ pub fn agrees<R: Abort>(rt: &R, diary: &Diary, rounds: u64) {
     expect_same(rt, (is_long, had_choices), (true, true));
 }
 
-// How many rounds each place has, by the kind of the door.
+// Returns the number of visits of each worker, by the kind of the door.
 fn rounds_on(kind: DoorKind) -> u64 {
     match kind {
         DoorKind::Baton => ROUNDS,

@@ -1,4 +1,4 @@
-//! A tally: what is written is found, additions aren't lost, signallers return in order.
+//! A tally: what is written is found, no addition is lost, signallers return in order.
 ghost use Rattle.std.specs.Prelude.{◌≡◌};
 
 use crate::tests::awaited::watch;
@@ -7,8 +7,8 @@ use std::process::Abort;
 use std::sync::Wait;
 use test_support::tally::{Tally, add_one, write_digit};
 
-/// Place 0 writes 5, reads it at its next visit, waits and reads again: it answers both, as two digits. Place 1 adds
-/// one once 0 waits, and signals: it answers whether somebody was resumed.
+/// Place 0 writes 5, reads it at its next visit, waits and reads again. It returns both numbers, as two digits. Place 1
+/// adds one when place 0 waits, and signals. It returns 1 if it resumed a waiter.
 pub fn writes_or_adds<R: Wait + Abort, M: Monitor<Tally>>(
     rt: &R,
     m: &M,
@@ -33,7 +33,7 @@ pub fn writes_or_adds<R: Wait + Abort, M: Monitor<Tally>>(
     (m.leave(rt, inside), read)
 }
 
-/// Comes in, adds one and goes out, a thousand times.
+/// Enters, adds one and leaves, a thousand times.
 pub fn adds_thousand<R: Wait, M: Monitor<Tally>>(rt: &R, m: &M, out: M::Out) -> (M::Out, u64)
     requires { M.is_of m.now out }
     ensures of { M.is_of m.now result.0 }
@@ -47,8 +47,8 @@ pub fn adds_thousand<R: Wait, M: Monitor<Tally>>(rt: &R, m: &M, out: M::Out) -> 
     (out, 0)
 }
 
-/// Places 0 and 1 wait, and place 2 signals: 0 goes on, writes 1 and signals 1, which writes 2. Then 2 is back and
-/// writes 3, and then 0, which writes 4.
+/// Places 0 and 1 wait, and place 2 signals: place 0 resumes, writes 1 and signals place 1, which writes 2. Then place
+/// 2 returns and writes 3, and then place 0 returns and writes 4.
 pub fn signals_on<R: Wait + Abort, M: Monitor<Tally>>(
     rt: &R,
     m: &M,
@@ -71,7 +71,7 @@ pub fn signals_on<R: Wait + Abort, M: Monitor<Tally>>(
     (m.leave(rt, inside), 0)
 }
 
-// Waits, writes 2, waits again and writes 4: it answers what it found after each wait, 1 and 123 if nothing was lost.
+// Waits, writes 2, waits again and writes 4. Returns what it found after each wait: 1 and 123 if nothing was lost.
 fn is_resumed_twice<R: Wait, M: Monitor<Tally>>(rt: &R, m: &M, out: M::Out) -> (M::Out, u64)
     requires { M.is_of m.now out }
     ensures of { M.is_of m.now result.0 }
@@ -86,8 +86,8 @@ fn is_resumed_twice<R: Wait, M: Monitor<Tally>>(rt: &R, m: &M, out: M::Out) -> (
     (m.leave(rt, inside), found)
 }
 
-// Writes 1 once another waits, and signals; when it is back it writes 3, and leaves with a signal. It answers what it
-// found when it was back, if both signals resumed somebody.
+// Writes 1 when another process waits, and signals. When it is back it writes 3, and leaves with a signal. Returns what
+// it found when it was back if both signals resumed a waiter, otherwise 0.
 fn resumes_twice<R: Wait + Abort, M: Monitor<Tally>>(rt: &R, m: &M, out: M::Out) -> (M::Out, u64)
     requires { M.is_of m.now out }
     ensures of { M.is_of m.now result.0 }
@@ -100,7 +100,7 @@ fn resumes_twice<R: Wait + Abort, M: Monitor<Tally>>(rt: &R, m: &M, out: M::Out)
     (out, if told && told_leaving { found } else { 0 })
 }
 
-/// Place 0 waits twice, and place 1 resumes it by each of the two signals. They leave 1234, and answer 1123 and 12.
+/// Place 0 waits twice, and place 1 resumes it by each of the two signals. They leave 1234, and return 1123 and 12.
 pub fn resumes_by_each_signal<R: Wait + Abort, M: Monitor<Tally>>(
     rt: &R,
     m: &M,

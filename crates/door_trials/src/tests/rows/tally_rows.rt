@@ -28,19 +28,19 @@ enum TallyRow<'a> {
     TwoThousandAdditions,
     SignallersReturnInOrder,
     EachSignalResumes,
-    /// So does its signaller until it is back.
+    /// The signaller also sleeps, until it is back.
     WhoWaitsSleepsUntilItIsWoken,
-    /// Place 1 comes in after the sign.
+    /// Place 1 enters after the sign.
     ANewcomerComesInOnceNobodyIsInside(&'a AtomicBool),
     /// Place 0 stays inside until the sign.
     WhoTriesIsNotBeforeWhoIsResumed(&'a AtomicBool),
     WhoTriesAndWhoEntersLoseNoAddition,
     WhoIsHandedTheMonitorIsSeen,
-    /// Place 1 comes after the sign.
+    /// Place 1 enters after the sign.
     ANewcomerIsSeen(&'a AtomicBool),
-    /// They tell each other that they are inside.
+    /// The places signal to each other that they are inside.
     ANewcomerThatNobodyCallsComesIn(&'a Signs),
-    /// The visitors are counted as they go.
+    /// The visitors that are done are counted.
     EightComeInBesideEightBusyThreads(&'a AtomicUsize),
 }
 
@@ -77,7 +77,7 @@ fn acts<R: Wait + Abort + Clock + CpuClock, M: ShowsStatus>(
     }
 }
 
-// What the row has to leave, and what its places have to answer: 0 is the answer of one that has nothing to say.
+// Returns what the row must leave, and what its places must return: 0 for a place with nothing to report.
 fn wanted(row: TallyRow<'_>) -> (u64, &'static [u64]) {
     match row {
         TallyRow::OnePlaceCallsAll => (42, &[1]),
@@ -102,7 +102,8 @@ fn wanted(row: TallyRow<'_>) -> (u64, &'static [u64]) {
     }
 }
 
-// The newcomer is seen at once, and who is owed the monitor, being handed it, in one of the rounds.
+// The entering thread is always seen. The place that is owed the monitor after a hand-off is seen in at least one of
+// the rounds.
 #[test]
 fn a_tally_on_each_door_where_a_newcomer_and_who_is_owed_are_seen(host: HostRuntime) {
     let (rt, alloc) = (&host, host.alloc());

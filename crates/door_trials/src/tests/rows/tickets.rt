@@ -1,4 +1,4 @@
-//! Who asked comes in by its ticket, whoever is the first to look.
+//! Places enter in the order of their tickets, whichever polls first.
 ghost use Rattle.std.specs.Prelude.{◌≡◌};
 
 use crate::tests::awaited::{act_all, watch};
@@ -16,7 +16,7 @@ use test_support::tally::{Tally, write_digit};
 use ticket_door::door::TicketDoor;
 use ticket_door::place::TicketOut;
 
-// Looks until this many asked. The test fails after 20 seconds.
+// Polls until `count` places have taken tickets. Fails the test after 20 seconds.
 fn await_asked<R: Abort + Clock>(rt: &R, asked: &AtomicUsize, count: usize) {
     for _ in 0..20_000 {
         if asked.load(Ordering::SeqCst) == count {
@@ -27,8 +27,8 @@ fn await_asked<R: Abort + Clock>(rt: &R, asked: &AtomicUsize, count: usize) {
     panic!(rt; "a place did not ask")
 }
 
-// The places ask in the order of their numbers, and look in the opposite order: each writes its ticket's number,
-// counted from 1.
+// The places take tickets in the order of their numbers, and begin to poll in the opposite order. Each writes its
+// ticket plus one, and returns its ticket.
 fn asks_and_looks_late<R: Wait + Abort + Clock>(
     rt: &R,
     door: &TicketDoor<Tally>,
@@ -49,7 +49,7 @@ fn asks_and_looks_late<R: Wait + Abort + Clock>(
     (out, ticket)
 }
 
-// Comes in and gives up.
+// Enters, and leaves by `give_up`.
 fn comes_and_goes<R: Wait>(
     rt: &R,
     door: &TicketDoor<Tally>,
@@ -62,7 +62,7 @@ fn comes_and_goes<R: Wait>(
     door.give_up(door.enter(rt, out))
 }
 
-// Comes in, waits, and writes 2.
+// Enters, waits, and writes 2.
 fn waits_and_writes<R: Wait, M: Monitor<Tally>>(rt: &R, m: &M, out: M::Out) -> M::In
     requires { M.is_of m.now out }
     ensures of { M.is_of_in m.now result }
@@ -71,7 +71,7 @@ fn waits_and_writes<R: Wait, M: Monitor<Tally>>(rt: &R, m: &M, out: M::Out) -> M
     write_digit(m, m.wait(rt, m.enter(rt, out), 0, 0), 2)
 }
 
-// Comes in once another waits, and writes 1.
+// Enters when another process waits, and writes 1.
 fn watches_and_writes<R: Wait + Abort, M: Monitor<Tally>>(rt: &R, m: &M, out: M::Out) -> M::In
     requires { M.is_of m.now out }
     ensures of { M.is_of_in m.now result }
@@ -80,8 +80,8 @@ fn watches_and_writes<R: Wait + Abort, M: Monitor<Tally>>(rt: &R, m: &M, out: M:
     write_digit(m, watch(rt, m, out, 0, 1), 1)
 }
 
-// Place 0 draws three tickets, and waits at its fourth. Place 1 hands the monitor up to it, without waiting itself, and
-// answers whether it resumed somebody.
+// Place 0 takes and uses three tickets, and waits in the visit of its fourth. Place 1 resumes it by `hand_up`, which is
+// non-blocking, and returns 1 if it resumed a waiter.
 fn waits_or_hands_up<R: Wait + Abort>(
     rt: &R,
     door: &TicketDoor<Tally>,
@@ -105,7 +105,7 @@ fn waits_or_hands_up<R: Wait + Abort>(
 /// The rows of a ticket door.
 #[derive(Clone, Copy)]
 enum TicketRow<'a> {
-    /// How many have asked is counted.
+    /// How many places have taken tickets is counted.
     WhoAskedComesInByItsTicket(&'a AtomicUsize),
     WhoHandsUpResumesWhoWaits,
 }
@@ -130,7 +130,7 @@ fn acts<R: Wait + Abort + Clock>(
     }
 }
 
-// How many places act in the row, what they have to answer, and what they have to leave.
+// Returns the number of places that act in the row, what they must return, and what they must leave.
 fn wanted(row: TicketRow<'_>) -> (usize, &'static [u64], u64) {
     match row {
         TicketRow::WhoAskedComesInByItsTicket(_) => (3, &[0, 1, 2], 123),
@@ -138,7 +138,7 @@ fn wanted(row: TicketRow<'_>) -> (usize, &'static [u64], u64) {
     }
 }
 
-// Also where the waiting place's tickets went on from the last number with 0.
+// Also with first tickets from which the tickets of the waiting place wrap around from the last number to 0.
 #[test]
 fn tickets_on_a_ticket_door(host: HostRuntime) {
     let (rt, alloc) = (&host, host.alloc());

@@ -1,4 +1,5 @@
-//! Who only tries: it comes in where the monitor is free, and else is where it was. In rows on both doors.
+//! Attempts to enter: one succeeds if the monitor is free, and otherwise leaves the place where it was. In rows on both
+//! doors.
 ghost use Rattle.std.specs.Prelude.{◌≡◌, vec_len, All};
 ghost use Rattle.test_support.specs.Numbered.{IsNumbered};
 
@@ -13,16 +14,16 @@ use std::sync::Wait;
 use std::sync::atomic::{AtomicBool, Ordering};
 use test_support::tally::{Tally, add_one, write_digit};
 
-/// How many places come and go, each in a thread of its own.
+/// Number of places that enter and leave, each on a thread of its own.
 pub const PLACES: usize = 4;
 
-/// How often each comes.
+/// Number of visits of each of these places.
 pub const ROUNDS: u64 = 500;
 
-/// How often it tries before it enters.
+/// The most attempts of a place before it blocks in `enter`.
 const TRIES: u64 = 20;
 
-// One try: where the place comes in, it writes the digit and goes out. Whether it came in.
+// Makes one attempt. If it succeeds, the place writes the digit and leaves. Returns true if it entered.
 fn tries_to_write<R: Wait, M: Monitor<Tally>>(
     rt: &R,
     m: &M,
@@ -39,7 +40,8 @@ fn tries_to_write<R: Wait, M: Monitor<Tally>>(
     }
 }
 
-// Place a tries, and then is inside while place b tries, which tries again when a is out: whether each try came in.
+// Place a makes an attempt, and then is inside while place b makes one. When a has left, b makes another. Returns the
+// places, and for each attempt true if it succeeded.
 fn tries_while_held<R: Wait, M: Monitor<Tally>>(
     rt: &R,
     m: &M,
@@ -60,7 +62,8 @@ fn tries_while_held<R: Wait, M: Monitor<Tally>>(
     ((a, b), (free, held, again))
 }
 
-/// The same by the last two places of a monitor: the first try and the third come in.
+/// The last two places of a monitor make three attempts, as in `tries_while_held`. Fails the test unless the first and
+/// the third succeed.
 pub fn both_try<R: Wait + Abort, M: Monitor<Tally>>(rt: &R, m: &M, outs: Vec<M::Out>) -> Vec<M::Out>
     requires of { All (M.is_of m.now) outs.items }
     requires numbered { IsNumbered M.place outs.items }
@@ -90,8 +93,8 @@ fn who_tries_comes_in_where_it_is_free(rt: HostRuntime) {
     }
 }
 
-/// Place 0 waits, and once it is resumed it stays inside until the sign. Place 1 passes to it, and tries while the
-/// monitor is owed to it or it is inside: whether it came in.
+/// Place 0 waits, and once it is resumed it stays inside until the sign. Place 1 passes to it, and makes an attempt
+/// while the monitor is owed to place 0 or place 0 is inside. Place 1 returns 1 if it entered.
 pub fn waits_or_tries<R: Wait + Abort + Clock, M: Monitor<Tally>>(
     rt: &R,
     m: &M,
@@ -115,7 +118,7 @@ pub fn waits_or_tries<R: Wait + Abort + Clock, M: Monitor<Tally>>(
     (out, u64::from(came))
 }
 
-// Comes in by one of some tries, and else as others do.
+// Enters by one of at most `TRIES` attempts, and otherwise by `enter`.
 fn comes_in<R: Wait, M: Monitor<Tally>>(rt: &R, m: &M, out: M::Out) -> M::In
     requires { M.is_of m.now out }
     ensures of { M.is_of_in m.now result }
@@ -131,7 +134,7 @@ fn comes_in<R: Wait, M: Monitor<Tally>>(rt: &R, m: &M, out: M::Out) -> M::In
     m.enter(rt, out)
 }
 
-/// Comes in, adds one and goes out, so many times: each other time it tries first.
+/// Enters, adds one and leaves, `ROUNDS` times. Every other time it makes attempts first.
 pub fn adds_on<R: Wait, M: Monitor<Tally>>(rt: &R, m: &M, out: M::Out) -> (M::Out, u64)
     requires { M.is_of m.now out }
     ensures of { M.is_of m.now result.0 }

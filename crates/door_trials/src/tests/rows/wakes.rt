@@ -1,5 +1,5 @@
-//! What no contract says: that a waiter that is resumed wakes, that it slept till then, as does a signaller until it is
-//! back, and that a newcomer comes in.
+//! Tested only, since no contract says so: that a resumed waiter wakes, that it slept until then, as does a signaller
+//! until it is back, and that an entering thread enters.
 ghost use Rattle.std.specs.Prelude.{◌≡◌};
 
 use crate::tests::awaited::{await_sign, watch};
@@ -12,13 +12,13 @@ use std::thread;
 use std::time::{CpuClock, Duration};
 use test_support::tally::{Tally, write_digit};
 
-/// A place that sleeps in a call takes fewer milliseconds of the processor's time for it.
+/// CPU time in milliseconds: a place that sleeps in a call uses less than this for it.
 const AWAKE: u64 = 30;
 
-/// For how many milliseconds the other place makes it sleep.
+/// How long the other place makes it sleep, in milliseconds.
 const ASLEEP: u64 = 300;
 
-// What this thread has spent of the processor's time, in milliseconds.
+// Returns the CPU time that this thread has used, in milliseconds. Fails the test if there is no clock.
 fn spent<R: Abort + CpuClock>(rt: &R) -> u64 {
     let Ok(time) = rt.thread_cpu_time() else {
         panic!(rt; "no clock")
@@ -26,7 +26,8 @@ fn spent<R: Abort + CpuClock>(rt: &R) -> u64 {
     u64::try_from(time.as_millis()).unwrap_or(u64::MAX)
 }
 
-// Returns 0 if this thread slept since it had spent so much, and else how many milliseconds it has spent since.
+// Returns 0 if this thread slept since it had used `before` milliseconds of CPU time. Otherwise returns the CPU time
+// since then, in milliseconds.
 fn awake_since<R: Abort + CpuClock>(rt: &R, before: u64) -> u64 {
     let took = spent(rt).saturating_sub(before);
     if took < AWAKE { 0 } else { took }
@@ -36,9 +37,9 @@ fn pause<R: Clock>(rt: &R, millis: u64) {
     thread::sleep(rt, Duration::from_millis(millis));
 }
 
-/// Place 0 waits, writes 1, and stays inside for a while. Place 1 lets it wait for as long, signals, and writes 2 when
-/// it is back. Each answers 0 if it slept in its call, and else how many milliseconds of the processor's time the call
-/// took.
+/// Place 0 waits, then stays inside for `ASLEEP` milliseconds and writes 1. Place 1 lets it wait for as long, signals,
+/// and writes 2 when it is back. Each returns 0 if it slept in its call, otherwise the CPU time of the call in
+/// milliseconds.
 pub fn waits_long<R: Wait + Abort + Clock + CpuClock, M: Monitor<Tally>>(
     rt: &R,
     m: &M,
@@ -66,8 +67,8 @@ pub fn waits_long<R: Wait + Abort + Clock + CpuClock, M: Monitor<Tally>>(
     (m.leave(rt, write_digit(m, inside, 1)), awake)
 }
 
-/// Place 0 comes in, gives a sign, stays inside for a while and writes 1. Place 1 comes in after the sign, and writes
-/// 2.
+/// Place 0 enters, gives a sign, stays inside for 50 milliseconds and writes 1. Place 1 enters after the sign, and
+/// writes 2.
 pub fn comes_late<R: Wait + Abort + Clock, M: Monitor<Tally>>(
     rt: &R,
     m: &M,

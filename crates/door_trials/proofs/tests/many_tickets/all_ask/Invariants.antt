@@ -6,7 +6,7 @@ use Rattle.ticket_door.specs.Asked.{as_out}
 use Rattle.door_trials.proofs.Many.{IsUnaskedOut, IsUnaskedAsking}
 use Rattle.door_trials.proofs.tests.many_tickets.all_ask.Given as goal
 
--- each place is outside or has asked
+-- each place is outside or has a ticket
 abbrev pub invariant-loop-out : goal.invariant-loop-out
 invariant-loop-out l =
     All (IsUnaskedOut l.door.door) l.outs.items

@@ -6,7 +6,7 @@ use Rattle.ticket_door.specs.Asked.{as_out}
 use Rattle.door_trials.proofs.Many.{IsUnaskedOut, IsUnaskedAsking}
 use Rattle.door_trials.proofs.tests.many_tickets.all_come_in.Given as goal
 
--- each place has asked or is outside again
+-- each place has a ticket or is outside again
 abbrev pub invariant-loop-asked : goal.invariant-loop-asked
 invariant-loop-asked g l =
     All (IsUnaskedAsking l.door) l.asks.items

@@ -4,7 +4,7 @@ use Rattle.std.proofs.lemmas.List.Elements.{All-take}
 use Rattle.door_trials.proofs.Many.{IsUnaskedOut, all-and-one}
 use Rattle.door_trials.proofs.tests.tickets_in_turn.places_meet.Goals as goal
 
--- both were handed out, and both come back from the meeting
+-- both were given out, and both return from the meeting
 pub close-tally-requires-clause-of : goal.close-tally-requires-clause-of
 close-tally-requires-clause-of g c κs =
     let IsOurs = IsUnaskedOut c.in-Ok.door.door in

@@ -5,18 +5,18 @@ use std::alloc::Global;
 use std::fmt::{Debug, Display};
 use std::process::Abort;
 
-/// Fails the test where the value that was found isn't the wanted one. (Each `assert_eq!` is checked where it stands,
-/// and takes the checker some two seconds; a call of this takes it half a second.)
+/// Fails the test if `found` isn't `wanted`. (The checker takes some two seconds for each `assert_eq!` that is written
+/// out, and half a second for a call of this function.)
 pub fn expect_same<T: Copy + Debug + PartialEq, R: Abort>(rt: &R, found: T, wanted: T) {
     assert_eq!(rt; found, wanted);
 }
 
-/// Fails the test where something was found, and shows it.
+/// Fails the test if something was found, and shows it.
 pub fn expect_none<T: Copy + Debug, R: Abort>(rt: &R, found: Option<T>) {
     assert!(rt; found.is_none(), "found {found:?}");
 }
 
-/// Fails the test where the value doesn't read so.
+/// Fails the test if `value` isn't shown as `wanted`, or if out of memory.
 pub fn reads_as<T: Display, R: Abort>(rt: &R, alloc: Global, value: &T, wanted: &str) {
     let Ok(shown) = format!(in alloc; "{value}") else {
         panic!(rt; "no memory")
@@ -24,12 +24,12 @@ pub fn reads_as<T: Display, R: Abort>(rt: &R, alloc: Global, value: &T, wanted: 
     expect_same(rt, shown.as_str(), wanted);
 }
 
-/// Fails the test where the places of a row answered something else on a door of this kind.
+/// Fails the test if the places of a row on a door of this kind returned something else than `wanted`.
 pub fn answered<R: Abort>(rt: &R, kind: DoorKind, answers: &[u64], wanted: &[u64]) {
     expect_same(rt, (kind, answers), (kind, wanted));
 }
 
-/// Fails the test where not all places of a row answered on a door of this kind.
+/// Fails the test if not all places of a row on a door of this kind returned.
 pub fn all_answered<R: Abort>(rt: &R, kind: DoorKind, answers: &[u64], places: usize) {
     expect_same(rt, (kind, answers.len()), (kind, places));
 }

@@ -1,5 +1,5 @@
-//! The fake monitor, and the plain schedulers on it. A wait of it that finds no answer never returns, so each test runs
-//! within the limit.
+//! The fake monitor, and the plain schedulers on it. A wait on it that finds no answer never returns: then the limit
+//! that `rt ci` gives a test ends the test.
 ghost use Rattle.std.specs.Prelude.{◌≤◌};
 ghost use Rattle.hoare_law.specs.Priorities.{nobody};
 ghost use Rattle.plain_schedulers.specs.Buffers.{BufferRests};
@@ -17,7 +17,7 @@ use std::sync::Wait;
 use test_support::fake::{Fake, FakeOut};
 use test_support::tally::{Tally, calls_all};
 
-/// A fake monitor with these data and these answers. Where there is no memory the test fails.
+/// Creates a fake monitor with the data `state` and these answers. Fails the test if out of memory.
 pub fn with_answers<R: Abort, D: MonitorData + Drop + Send, const N: usize>(
     rt: &R,
     alloc: Global,
@@ -38,7 +38,7 @@ pub fn with_answers<R: Abort, D: MonitorData + Drop + Send, const N: usize>(
     made
 }
 
-/// Takes the data out of a fake monitor, and leaves others there.
+/// Takes the data out of a fake monitor, and leaves `others` there. Returns the data.
 pub fn take_data<R: Wait, D: MonitorData + Drop + Send>(
     rt: &R,
     fake: &Fake<D>,
@@ -57,15 +57,15 @@ pub fn take_data<R: Wait, D: MonitorData + Drop + Send>(
 // A step of a place at a single item.
 #[derive(Clone, Copy)]
 enum SingleStep {
-    /// It takes the item, which has to be this.
+    /// Takes the item, which must be this.
     Takes(u8),
-    /// It puts the item in where none is.
+    /// Puts the item in while none is in.
     Puts(u8),
-    /// It tries to put the item in where one is: it comes back.
+    /// Attempts to put the item in while one is in: it is given back.
     IsRefused(u8),
 }
 
-// Tries to put the item in where one is: it comes back.
+// Attempts to put the item in while one is in. Fails the test unless it is given back.
 fn is_refused<R: Wait + Abort, M: Monitor<Single<u8>>>(
     rt: &R,
     m: &M,
@@ -109,7 +109,7 @@ fn takes_single_step<R: Wait + Abort, M: Monitor<Single<u8>>>(
     }
 }
 
-// Takes the steps, one after another.
+// Takes the steps, one after the other.
 fn takes_single_steps<R: Wait + Abort, M: Monitor<Single<u8>>>(
     rt: &R,
     m: &M,
@@ -126,7 +126,7 @@ fn takes_single_steps<R: Wait + Abort, M: Monitor<Single<u8>>>(
     out
 }
 
-// Takes the steps at this item, with these answers: what is left.
+// Takes the steps at this item, with these answers. Returns the data that are left.
 fn on_single<R: Wait + Abort, const N: usize>(
     rt: &R,
     alloc: Global,
@@ -139,12 +139,13 @@ fn on_single<R: Wait + Abort, const N: usize>(
     take_data(rt, &fake, out, Single::with(0))
 }
 
-// A single whose item was acquired.
+// Returns a single whose item was acquired.
 fn with_item_out<R: Wait + Abort>(rt: &R, alloc: Global) -> Single<u8> {
     on_single(rt, alloc, Single::with(7), [], &[SingleStep::Takes(7)])
 }
 
-// Writes 2, passes, comes in again and waits: it finds 2 before the wait and 3 after, and resumed nobody.
+// Writes 2, passes, enters again and waits. Fails the test unless the pass resumed no waiter, and the place finds 2
+// before the wait and 3 after it.
 fn passes_and_waits<R: Wait + Abort, M: Monitor<Tally>>(rt: &R, m: &M, out: M::Out)
     requires { M.is_of m.now out }
 {
@@ -159,7 +160,7 @@ fn passes_and_waits<R: Wait + Abort, M: Monitor<Tally>>(rt: &R, m: &M, out: M::O
     expect_same(rt, (kept, found, resumed), (2, 3, false));
 }
 
-/// An empty buffer of this many cells.
+/// Creates an empty buffer of this many cells. Fails the test if out of memory.
 pub fn with_cells<T: Drop, R: Abort>(rt: &R, alloc: Global, cells: usize) -> Buffer<T>
     ensures { BufferRests result (nobody 0) (nobody 1) }
 {
@@ -169,13 +170,13 @@ pub fn with_cells<T: Drop, R: Abort>(rt: &R, alloc: Global, cells: usize) -> Buf
 /// A step of a place at a buffer.
 #[derive(Clone, Copy)]
 pub enum BufferStep {
-    /// It appends the item.
+    /// Appends the item.
     Appends(u8),
-    /// It removes an item, which has to be this.
+    /// Removes an item, which must be this.
     Removes(u8),
 }
 
-// Takes the steps, one after another.
+// Takes the steps, one after the other.
 fn takes_buffer_steps<R: Wait + Abort, M: Monitor<Buffer<u8>>>(
     rt: &R,
     m: &M,
@@ -199,7 +200,7 @@ fn takes_buffer_steps<R: Wait + Abort, M: Monitor<Buffer<u8>>>(
     out
 }
 
-// Takes the steps at an empty buffer of this many cells, with these answers: what is left.
+// Takes the steps at an empty buffer of this many cells, with these answers. Returns the data that are left.
 fn on_buffer<R: Wait + Abort, const N: usize>(
     rt: &R,
     alloc: Global,
@@ -212,12 +213,12 @@ fn on_buffer<R: Wait + Abort, const N: usize>(
     take_data(rt, &fake, out, with_cells(rt, alloc, cells))
 }
 
-// A buffer of one cell with the item 5, taken from another monitor after an append.
+// Returns a buffer of one cell with the item 5, taken from another monitor after an append.
 fn with_one_item<R: Wait + Abort>(rt: &R, alloc: Global) -> Buffer<u8> {
     on_buffer(rt, alloc, 1, [], &[BufferStep::Appends(5)])
 }
 
-// The first answer is ready, or stands behind one that isn't: of eight, seven are taken, in order.
+// The first answer is ready, or the first isn't and those after it are. Of eight answers seven are taken, in order.
 #[test]
 fn an_acquire_goes_on_with_the_first_answer_that_is_ready(host: HostRuntime) {
     let (rt, alloc) = (&host, host.alloc());
@@ -246,7 +247,7 @@ fn an_acquire_goes_on_with_the_first_answer_that_is_ready(host: HostRuntime) {
     on_single(rt, alloc, with_item_out(rt, alloc), answers, &in_order);
 }
 
-// Nothing is in before the first release.
+// No item is in before the first release.
 #[test]
 fn a_release_too_many_is_refused(host: HostRuntime) {
     let (rt, alloc) = (&host, host.alloc());
@@ -259,7 +260,7 @@ fn a_release_too_many_is_refused(host: HostRuntime) {
     on_single(rt, alloc, with_item_out(rt, alloc), [], &steps);
 }
 
-// What it finds after the wait is an answer of 3.
+// After the wait the place finds an answer of 3.
 #[test]
 fn what_is_written_in_hand_is_kept(host: HostRuntime) {
     let (rt, alloc) = (&host, host.alloc());
@@ -267,7 +268,7 @@ fn what_is_written_in_hand_is_kept(host: HostRuntime) {
     passes_and_waits(rt, &fake, out);
 }
 
-// Four items through a buffer of three cells.
+// Four items go through a buffer of three cells.
 #[test]
 fn items_come_out_in_order(host: HostRuntime) {
     let (rt, alloc) = (&host, host.alloc());
@@ -291,7 +292,7 @@ fn a_remove_waits_for_an_item(host: HostRuntime) {
     on_buffer(rt, alloc, 1, answers, &[BufferStep::Removes(5)]);
 }
 
-// The second append waits for room: what is in the buffer after it.
+// The second append waits for room. The last step shows what is in the buffer after it.
 #[test]
 fn an_append_waits_for_room(host: HostRuntime) {
     let (rt, alloc) = (&host, host.alloc());
@@ -304,7 +305,7 @@ fn an_append_waits_for_room(host: HostRuntime) {
     on_buffer(rt, alloc, 1, answers, &steps);
 }
 
-// With nobody waiting.
+// No process waits.
 #[test]
 fn each_call_is_made_once(host: HostRuntime) {
     let (rt, alloc) = (&host, host.alloc());

@@ -1,5 +1,5 @@
-//! Whether the data of the schedulers and of the cookbook are at rest, and ready for one that waits, as code tells it:
-//! with nobody waiting, and with one that waits on condition 0 with priority 5, or on condition 1.
+//! Tests of `rest_holds` and `ready_holds` of the data of the schedulers and of the cookbook: without a waiter, with a
+//! waiter on condition 0, and with a waiter on condition 1. The waiter has priority 5.
 ghost use Rattle.std.specs.Prelude.{◌<◌};
 
 use crate::tests::compared::expect_same;
@@ -20,7 +20,7 @@ use sweep_schedulers::readers_writers::ReadersWriters;
 use timed_schedulers::alarm::Alarm;
 use timed_schedulers::pool::Pool;
 
-// Whether the data are at rest with nobody waiting, with one on condition 0, and with one on condition 1.
+// Returns if the data are at rest: without a waiter, with a waiter on condition 0, and with a waiter on condition 1.
 fn rests<D: MonitorData>(data: &D) -> (bool, bool, bool) {
     (
         data.rest_holds(&Nobody),
@@ -29,8 +29,8 @@ fn rests<D: MonitorData>(data: &D) -> (bool, bool, bool) {
     )
 }
 
-// Whether they are ready for one that waited on condition 0 with priority 5, with nobody waiting beside it, and with
-// one.
+// Returns if the data are ready for a process that waited on condition 0 with priority 5: without another waiter, and
+// with another on condition 0.
 fn readies<D: MonitorData>(data: &D) -> (bool, bool)
     requires { 0 < D.CONDITIONS }
 {
@@ -40,7 +40,7 @@ fn readies<D: MonitorData>(data: &D) -> (bool, bool)
     )
 }
 
-// Both of them.
+// Fails the test unless the data are at rest, and ready, in just these cases.
 fn means<D: MonitorData, R: Abort>(
     rt: &R,
     data: &D,
@@ -53,8 +53,9 @@ fn means<D: MonitorData, R: Abort>(
     expect_same(rt, readies(data), ready);
 }
 
-// A sleeper set to 5 may sleep at 4, and is due at 5. A buffer of two cells with nothing in: who removes may wait, who
-// appends may not. An item, a drive and a free buffer are for who waits; a resource that nobody uses is for a reader.
+// A sleeper with setting 5 may sleep at time 4, and is due at 5. At an empty buffer of two cells a remove may wait, and
+// an append may not. An item, a drive and a free buffer are ready for the waiter; a resource that no process uses is
+// ready for a reader.
 #[test]
 fn data_at_rest_and_ready(rt: HostRuntime) -> Result<(), Fail> {
     let nothing_waits = (true, false, true);
@@ -74,8 +75,8 @@ fn data_at_rest_and_ready(rt: HostRuntime) -> Result<(), Fail> {
     Ok(())
 }
 
-// Nobody is due at a new head, which stands at cylinder 0: it is ready for one that waited for another cylinder, and
-// not for one that waited for its own and wasn't counted.
+// No grant is due at a new head, which is at cylinder 0. It is ready for a process that waited for another cylinder,
+// and not for a process that waited for cylinder 0 and wasn't counted.
 #[test]
 fn nobody_is_due_at_a_new_head(rt: HostRuntime) {
     let head = Head::with('d', 9);
@@ -84,8 +85,9 @@ fn nobody_is_due_at_a_new_head(rt: HostRuntime) {
     expect_same(&rt, head.ready_holds(0, 0, &Nobody), false);
 }
 
-// A party may wait only where it was counted. Nobody waits at an open latch, nor for room in an empty mailbox, nor
-// alone for an answer, nor beside free seats; an open latch, an empty mailbox and an empty table are for who waits.
+// A party may wait only if it was counted. No process may wait at an open latch, for room in an empty mailbox, alone
+// for an answer, or at a table with free seats. An open latch, an empty mailbox and an empty table are ready for the
+// waiter.
 #[test]
 fn recipes_at_rest_and_ready(rt: HostRuntime) -> Result<(), Fail> {
     let nothing_waits = (true, false, true);

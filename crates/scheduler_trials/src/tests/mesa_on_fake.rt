@@ -1,4 +1,4 @@
-//! The buffer with Mesa conditions on the fake monitor: who goes on after a wait tests again.
+//! The buffer with Mesa conditions on the fake monitor: a process that resumes after a wait tests again.
 ghost use Rattle.plain_schedulers.specs.Buffers.{BufferHolds};
 
 use crate::tests::compared::expect_same;
@@ -9,14 +9,14 @@ use std::alloc::Global;
 use std::process::Abort;
 use std::sync::Wait;
 
-// A buffer of one cell with no item.
+// Creates a buffer of one cell without an item. Fails the test if out of memory.
 fn empty<R: Abort>(rt: &R, alloc: Global) -> MesaBuffer<u8>
     ensures { BufferHolds result }
 {
     MesaBuffer::make(alloc, 1).expect(rt, "there is memory for one cell")
 }
 
-// Appends the item, or removes one.
+// Appends the item, or removes one, which must be that of the step.
 fn takes_step<R: Wait + Abort, M: Monitor<MesaBuffer<u8>>>(
     rt: &R,
     m: &M,
@@ -36,7 +36,7 @@ fn takes_step<R: Wait + Abort, M: Monitor<MesaBuffer<u8>>>(
     }
 }
 
-// Takes the step at a buffer with no item, with these answers: what is left.
+// Takes the step at a buffer without an item, with these answers. Returns the data that are left.
 fn on_empty<R: Wait + Abort, const N: usize>(
     rt: &R,
     alloc: Global,
@@ -48,7 +48,7 @@ fn on_empty<R: Wait + Abort, const N: usize>(
     take_data(rt, &fake, out, empty(rt, alloc))
 }
 
-// A remove that is called twice, and finds an item, which was appended on another monitor, the second time.
+// A remove is notified twice. The second time it finds an item, which was appended on another monitor.
 #[test]
 fn a_remove_tests_again_after_each_call(host: HostRuntime) {
     let (rt, alloc) = (&host, host.alloc());

@@ -5,8 +5,8 @@ ghost use Rattle.sweep_schedulers.specs.Rounds.{Moment, WriterWaits};
 
 use sweep_schedulers::laws;
 
-// A writer is next while readers are in: nobody overtakes it. A writer is in, and one waits before it: there are two
-// rounds at most.
+// If a writer is next while readers are in, no reader overtakes it. If a writer is in, and another waits before this
+// one, there are at most two rounds of readers.
 fn no_reader_overtakes<T>()
     ensures no_read { (s : Shared T) (r w : ℕ) (behind : List ℕ) (m : Moment T) → WriterWaits s r [] w behind m
         → s.busy ≡ false → m.reads ≡ 0 }
@@ -16,7 +16,7 @@ fn no_reader_overtakes<T>()
     laws::readers_go_in_rounds::<T>();
 }
 
-// That the call returns is all that a run can show of a law.
+// A run can show of a law only that the call returns.
 #[test]
 fn reader_rounds_can_be_called() {
     no_reader_overtakes::<u8>();

@@ -1,5 +1,5 @@
-//! What the cookbook's program does not run, on the fake monitor: a philosopher gets up where nobody eats, and a latch
-//! is opened twice.
+//! What the cookbook's program does not run, on the fake monitor: a philosopher gets up from a seat at which no
+//! philosopher eats, and a latch is opened twice.
 
 use crate::tests::compared::expect_same;
 use crate::tests::fake::with_answers;
@@ -10,7 +10,8 @@ use std::alloc::Global;
 use std::process::Abort;
 use std::sync::Wait;
 
-// Nobody eats at seat 1: it is refused at an empty table, and beside one that eats. At seat 2 it goes well once.
+// No philosopher eats at seat 1: getting up is refused at an empty table, and next to a philosopher that eats. At seat
+// 2 it succeeds once.
 fn gets_up_once<R: Wait + Abort, M: Monitor<Table>>(rt: &R, m: &M, out: M::Out)
     requires { M.is_of m.now out }
 {
@@ -30,7 +31,7 @@ fn nobody_gets_up_where_nobody_eats(host: HostRuntime) {
     gets_up_once(rt, &fake, out);
 }
 
-// Opens a latch, and counts it down once more: it stays open, so who passes waits for nobody.
+// Opens a latch, and counts it down once more: the latch stays open, so a pass doesn't wait.
 fn opens_twice<R: Wait, M: Monitor<Latch>>(rt: &R, m: &M, out: M::Out)
     requires { M.is_of m.now out }
 {
@@ -39,7 +40,7 @@ fn opens_twice<R: Wait, M: Monitor<Latch>>(rt: &R, m: &M, out: M::Out)
     let _out = Latch::pass(m, rt, out);
 }
 
-// A latch that one count opens, and one that is open.
+// A latch that one count opens, and a latch that is open.
 #[test]
 fn a_latch_that_is_opened_twice_stays_open(host: HostRuntime) {
     let (rt, alloc) = (&host, host.alloc());

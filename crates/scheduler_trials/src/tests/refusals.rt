@@ -1,5 +1,5 @@
-//! How the refusals of the schedulers and of the recipes read. (That of a read which nobody began stands in
-//! `rows::readers`, for its pass can't be made up.)
+//! How the refusals of the schedulers and of the recipes are shown. (The refusal of the end of a read that no process
+//! began is in `rows::readers`, since its pass can't be made up.)
 
 use crate::tests::compared::reads_as;
 use cookbook::drain::TooMuchWork;

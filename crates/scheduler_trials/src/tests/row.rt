@@ -1,5 +1,5 @@
-//! A row of tests on a door, of either kind or by its own type: it is made, each place acts by its number, and it is
-//! closed.
+//! A row of tests on a door, of either kind or by its own type: the door is made, each place acts by its number, and
+//! the door is closed.
 ghost use Rattle.std.specs.Prelude.{◌≡◌, vec_len, All};
 ghost use Rattle.hoare_law.specs.Priorities.{nobody};
 ghost use Rattle.any_door.specs.Doors.{id_of};
@@ -19,10 +19,11 @@ use std::thread::Threads;
 use test_support::{on_any_door, on_baton_door, on_ticket_door};
 use ticket_door::door::TicketDoor;
 
-/// The first ticket of a ticket door that is made by its own type: the third one after it is 0.
+/// The first ticket of a ticket door that is made by its own type: the third ticket after it is 0.
 const FIRST_TICKET: u64 = u64::MAX - 2;
 
-/// A door of this kind with the data, and this many places, in order. If it is refused the test fails.
+/// Creates a door of this kind with the data `state`. Returns it with its `count` places, in order. Fails the test if
+/// the door is refused.
 pub fn door<D: MonitorData + Send + Drop, R: Abort>(
     rt: &R,
     alloc: Global,
@@ -41,7 +42,8 @@ pub fn door<D: MonitorData + Send + Drop, R: Abort>(
     made
 }
 
-/// A baton door with the data, and this many places, in order. If it is refused the test fails.
+/// Creates a baton door with the data `state`. Returns it with its `count` places, in order. Fails the test if the door
+/// is refused.
 pub fn baton<D: MonitorData + Send + Drop, R: Abort>(
     rt: &R,
     alloc: Global,
@@ -59,8 +61,8 @@ pub fn baton<D: MonitorData + Send + Drop, R: Abort>(
     made
 }
 
-/// A ticket door with the data, and this many places, in order, whose tickets soon begin again at 0. If it is
-/// refused the test fails.
+/// Creates a ticket door, whose tickets soon wrap around to 0, with the data `state`. Returns it with its `count`
+/// places, in order. Fails the test if the door is refused.
 pub fn ticket<D: MonitorData + Send + Drop, R: Abort>(
     rt: &R,
     alloc: Global,
@@ -78,10 +80,10 @@ pub fn ticket<D: MonitorData + Send + Drop, R: Abort>(
     made
 }
 
-/// What the places of a row do, by their numbers, on any monitor that has a door's places. (In a method of a trait the
-/// checker lets nobody hand on a monitor whose places are of a type that isn't known.)
+/// What the places of a row do, by their numbers, on any monitor that has a door's places. (The checker lets no method
+/// of a trait pass on a monitor whose places are of an unknown type.)
 pub trait Row<D: MonitorData + Send>: Sync {
-    /// One place acts, and gives itself back with its answer.
+    /// Lets one place act. Returns the place, and what it reports.
     fn act<R: Wait + Abort + Clock, M: Monitor<D, Out = DoorOut<D>>>(
         &self,
         rt: &R,
@@ -94,8 +96,8 @@ pub trait Row<D: MonitorData + Send>: Sync {
         ensures place { M.place result.0 ≡ M.place out };
 }
 
-// The row on this door, with these places, which is then closed: the data that were left, and what the places answered.
-// (A macro, since a closure that goes to a thread is of one type of door.)
+// Runs the row on this door, with these places, and closes the door. Returns the data that were left, and what the
+// places returned. (This is a macro since a closure that goes to a thread is of one type of door.)
 macro_rules! run_on {
     ($rt:ident, $alloc:ident, $made:expr, $on:ident, $row:ident) => {{
         let (door, outs) = $made;
@@ -110,8 +112,8 @@ macro_rules! run_on {
     }};
 }
 
-/// The row on an `AnyDoor` of this kind, which is made with these data and this many places: the data that were left,
-/// and what the places answered.
+/// Runs the row on an `AnyDoor` of this kind, made with the data `state` and `count` places. Returns the data that were
+/// left, and what the places returned.
 pub fn run<D: MonitorData + Send + Drop, P: Row<D>, R: Threads + Wait + Abort + Clock + Sync>(
     rt: &R,
     alloc: Global,
@@ -131,7 +133,8 @@ pub fn run<D: MonitorData + Send + Drop, P: Row<D>, R: Threads + Wait + Abort + 
     )
 }
 
-/// The same on a door of this kind by its own type: a `Door`, or a `TicketDoor`.
+/// Runs the row on a `Door` or a `TicketDoor`, by this kind, made with the data `state` and `count` places. Returns the
+/// data that were left, and what the places returned.
 pub fn run_by_type<
     D: MonitorData + Send + Drop,
     P: Row<D>,

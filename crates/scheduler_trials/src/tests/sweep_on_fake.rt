@@ -23,19 +23,20 @@ use sweep_schedulers::laws;
 use sweep_schedulers::readers_writers::ReadersWriters;
 use test_support::fake::{Fake, FakeOut};
 
-// A trip to these cylinders.
+// Returns a trip to these cylinders. Fails the test if out of memory.
 fn trip_to<R: Abort, const N: usize>(rt: &R, alloc: Global, cylinders: [u16; N]) -> Trip {
     Vec::from_array(alloc, cylinders).expect(rt, "memory")
 }
 
-// A disk whose drive has been at this cylinder.
+// Returns a disk whose drive has been at this cylinder.
 fn disk<R: Abort>(rt: &R, alloc: Global, cylinder: u16, cylmax: u16) -> Head<Trip>
     ensures { HeadRests result (nobody 0) (nobody 1) }
 {
     Head::with(trip_to(rt, alloc, [cylinder]), cylmax)
 }
 
-// Goes to 5, waits for a request of 8 and is refused it late; then it goes to 15, on the disk that it found.
+// Takes the drive to cylinder 5. Then requests cylinder 8, waits, and is refused late. Then takes the drive to cylinder
+// 15, on the disk that it found.
 fn is_refused_late<R: Wait + Abort, M: Monitor<Head<Trip>>>(rt: &R, m: &M, out: M::Out)
     requires { M.is_of m.now out }
 {
@@ -46,7 +47,8 @@ fn is_refused_late<R: Wait + Abort, M: Monitor<Head<Trip>>>(rt: &R, m: &M, out: 
     expect_same(rt, other.as_slice(), [2, 15].as_slice());
 }
 
-// Goes to 5, and waits for a request of 8, which finds the drive in: nobody is due where it then is.
+// Takes the drive to cylinder 5. Then requests cylinder 8, waits, and finds the drive in. No grant is due at the
+// cylinder of the drive then.
 fn waits_and_counts<R: Wait + Abort, M: Monitor<Head<Trip>>>(rt: &R, m: &M, out: M::Out)
     requires { M.is_of m.now out }
 {
@@ -56,7 +58,8 @@ fn waits_and_counts<R: Wait + Abort, M: Monitor<Head<Trip>>>(rt: &R, m: &M, out:
     expect_same(rt, other.as_slice(), [2, 8, 0].as_slice());
 }
 
-// Goes to the last cylinder of a disk, and is refused the one past it, with this trip to hand in where one is.
+// Takes the drive to the last cylinder of a disk, and releases it. Then, if there is a number past the last cylinder,
+// requests it, which is refused, and releases a second drive, `trip`, which is given back.
 fn reaches_the_last<R: Wait + Abort, M: Monitor<Head<Trip>>>(
     rt: &R,
     m: &M,
@@ -79,11 +82,11 @@ fn reaches_the_last<R: Wait + Abort, M: Monitor<Head<Trip>>>(
 enum Play {
     IsRefusedLate,
     WaitsAndCounts,
-    /// It goes to the last cylinder, with this trip to hand in where one is.
+    /// Takes the drive to the last cylinder, with this trip as the second drive.
     ReachesTheLast(u16, Trip),
 }
 
-// Does it.
+// Does what `play` says.
 fn plays<R: Wait + Abort, M: Monitor<Head<Trip>>>(rt: &R, m: &M, out: M::Out, play: Play)
     requires { M.is_of m.now out }
 {
@@ -94,7 +97,7 @@ fn plays<R: Wait + Abort, M: Monitor<Head<Trip>>>(rt: &R, m: &M, out: M::Out, pl
     }
 }
 
-// Does it at this disk, of which nobody has the drive, with these answers.
+// Does what `play` says at this disk, whose drive no process has, with these answers.
 fn on_disk<R: Wait + Abort, const N: usize>(
     rt: &R,
     alloc: Global,
@@ -117,7 +120,7 @@ fn writes_and_reads<R: Wait + Abort, M: Monitor<Shared>>(rt: &R, alloc: Global, 
     ends_no_read(rt, alloc, m, out);
 }
 
-// Is in as a writer who found 0, and comes as a reader where the most are in.
+// Enters as a writer, finds 0, and asks to read when the most readers are in.
 fn comes_as_one_too_many<R: Wait + Abort, M: Monitor<Shared>>(rt: &R, m: &M, out: M::Out) -> M::Out
     requires { M.is_of m.now out }
     ensures { M.is_of m.now result }
@@ -126,7 +129,7 @@ fn comes_as_one_too_many<R: Wait + Abort, M: Monitor<Shared>>(rt: &R, m: &M, out
     is_one_too_many(rt, m, out)
 }
 
-// Is in as a writer, and waits to read; it finds these data, in which the most readers are in.
+// Enters as a writer, and waits to read. It finds the data `full`, in which the most readers are in.
 fn finds_the_most_readers<R: Wait + Abort>(
     rt: &R,
     alloc: Global,
@@ -139,7 +142,7 @@ fn finds_the_most_readers<R: Wait + Abort>(
     (fake, out)
 }
 
-// Starts this many reads and hands the data on to another monitor, where each pass ends one.
+// Starts this many reads and takes the data to another monitor, at which each pass ends a read.
 fn reads_elsewhere<R: Wait + Abort>(
     rt: &R,
     alloc: Global,
@@ -197,7 +200,7 @@ fn nobody_is_due_where_nobody_waits(host: HostRuntime) {
     );
 }
 
-// Nobody has the drive of the disk.
+// No process has the drive of the disk.
 #[test]
 fn a_disk_ends_at_its_last_cylinder(host: HostRuntime) {
     let (rt, alloc) = (&host, host.alloc());
@@ -233,7 +236,7 @@ fn waits_for_few<T>()
     laws::a_request_is_granted::<T>();
 }
 
-// That the calls return is all that a run can show of a law; what one says, the clause of `waits_for_few` is proved by.
+// A run can show of a law only that the call returns. What one of these laws says proves the clause of `waits_for_few`.
 #[test]
 fn laws_of_the_head_can_be_called() {
     waits_for_few::<u8>();

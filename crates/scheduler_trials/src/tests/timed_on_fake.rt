@@ -14,13 +14,13 @@ use timed_schedulers::pool::Pool;
 // A step of a place at an alarm clock.
 #[derive(Clone, Copy)]
 enum ClockStep {
-    /// It sleeps for so many ticks, and wakes at this time.
+    /// Sleeps for this many ticks, and wakes at this time.
     Wakes { ticks: u64, time: u64 },
-    /// It sets the clock past the last time, which is refused.
+    /// Sleeps for this many ticks, to past the last time, which is refused.
     IsTooFar(u64),
-    /// It ticks: this is the next time.
+    /// Ticks: this is the next time.
     Ticks(u64),
-    /// It ticks at the last time, which is refused.
+    /// Ticks at the last time, which is refused.
     IsFull,
 }
 
@@ -50,7 +50,7 @@ fn takes_step<R: Wait + Abort, M: Monitor<Alarm>>(
     }
 }
 
-// Takes the steps, one after another.
+// Takes the steps, one after the other.
 fn takes_steps<R: Wait + Abort, M: Monitor<Alarm>>(rt: &R, m: &M, out: M::Out, steps: &[ClockStep])
     requires { M.is_of m.now out }
 {
@@ -60,7 +60,7 @@ fn takes_steps<R: Wait + Abort, M: Monitor<Alarm>>(rt: &R, m: &M, out: M::Out, s
     }
 }
 
-// Takes the steps at a clock that stands at this time, with these answers.
+// Takes the steps at a clock with this time, with these answers.
 fn on_clock<R: Wait + Abort, const N: usize>(
     rt: &R,
     alloc: Global,
@@ -82,7 +82,7 @@ fn is_no_stream_late<R: Wait + Abort, M: Monitor<Pool>>(rt: &R, m: &M, out: M::O
     expect_same(rt, (first, least), (0, 0));
 }
 
-// Who sleeps finds a time past its setting, which isn't ready, one before it and then its setting.
+// A sleeper finds a time past its setting, which isn't ready for it, then a time before it, and then its setting.
 #[test]
 fn a_sleeper_waits_until_its_setting(host: HostRuntime) {
     let answers = [Alarm::at(3), Alarm::at(1), Alarm::at(2)];
@@ -90,8 +90,8 @@ fn a_sleeper_waits_until_its_setting(host: HostRuntime) {
     on_clock(&host, host.alloc(), 0, answers, &steps);
 }
 
-// Before the last time there is one tick, and a setting at the last time. At the last time nothing can be set past it,
-// and there is no next one, but who sets it goes on at once.
+// One tick before the last time the clock can tick once, and can be set to the last time. At the last time no setting
+// past it is possible, and no tick. A sleeper that sets the last time then continues at once.
 #[test]
 fn the_last_time_is_one_that_is_met(host: HostRuntime) {
     let (rt, alloc) = (&host, host.alloc());
@@ -114,7 +114,7 @@ fn the_last_time_is_one_that_is_met(host: HostRuntime) {
     on_clock(rt, alloc, last - 1, [], &ticks);
 }
 
-// A stream waits for the one buffer, and finds a pool in which it is none.
+// A stream waits for the one buffer, and finds a pool in which its number is no stream's.
 #[test]
 fn late_no_stream(host: HostRuntime) {
     let (rt, alloc) = (&host, host.alloc());

@@ -1,5 +1,5 @@
-//! Five sleepers set random times, and the clock ticks once all of them wait. What they wrote down is held
-//! against what an alarm clock is.
+//! Five sleepers set random times, and the clock ticks when all of them wait. What they wrote down is checked against
+//! what an alarm clock is.
 ghost use Rattle.std.specs.Prelude.{◌≡◌};
 
 use crate::tests::compared::{expect_none, expect_same};
@@ -10,17 +10,18 @@ use std::sync::Wait;
 use test_support::drawn::draw;
 use timed_schedulers::alarm::Alarm;
 
-/// How many places sleep.
+/// Number of places that sleep.
 pub const SLEEPERS: usize = 5;
 
+/// Number of sleeps of each of these places.
 const ROUNDS: u64 = 200;
 
-/// What happened.
+/// What a place did or is about to do.
 #[derive(Clone, Copy, Debug)]
 pub enum Line {
     /// The place is about to sleep for this many ticks.
     Sets { place: usize, ticks: u64 },
-    /// It woke, and found this time.
+    /// The place woke, and found this time.
     Wakes { place: usize, time: u64 },
     /// The clock is about to go to this time.
     Ticks { time: u64 },
@@ -34,8 +35,8 @@ struct Clockwork {
 }
 
 impl Clockwork {
-    // Whether this may happen next. Who sleeps wakes at its setting, and the clock goes on by one, when nobody is left
-    // who is due.
+    // Returns true if `line` may be next. A sleeper wakes at its setting. The clock advances by one, when no sleeper is
+    // due any more.
     fn allows(&mut self, line: Line) -> bool {
         match line {
             Line::Sets { place, ticks } => {
@@ -55,7 +56,7 @@ impl Clockwork {
     }
 }
 
-// The first line that may not stand where it stands.
+// Returns the first line that may not follow the lines before it.
 fn first_wrong(lines: &[Line]) -> Option<Line> {
     let mut clock = Clockwork {
         now: 0,
@@ -69,7 +70,7 @@ fn first_wrong(lines: &[Line]) -> Option<Line> {
     None
 }
 
-// How often somebody slept for a tick or more, and how often the clock ticked.
+// Returns how often a place slept for a tick or more, and how often the clock ticked.
 fn count_sleeps(lines: &[Line]) -> (usize, usize) {
     let (mut sleeps, mut ticked) = (0usize, 0usize);
     for line in lines {
@@ -82,7 +83,7 @@ fn count_sleeps(lines: &[Line]) -> (usize, usize) {
     (sleeps, ticked)
 }
 
-// Sleeps for a random time in each round.
+// Sleeps for a random time, from 0 to 3 ticks, in each round.
 fn sleeps_on<R: Wait + Abort, M: Monitor<Alarm>>(
     rt: &R,
     m: &M,
@@ -109,7 +110,7 @@ fn sleeps_on<R: Wait + Abort, M: Monitor<Alarm>>(
     out
 }
 
-// Ticks whenever all sleepers wait, until all have finished.
+// Ticks whenever all sleepers that have not finished wait, until all have finished.
 fn ticks_on<R: Wait + Abort, M: Monitor<Alarm>>(
     rt: &R,
     m: &M,
@@ -134,7 +135,7 @@ fn ticks_on<R: Wait + Abort, M: Monitor<Alarm>>(
     panic!(rt; "a sleeper sleeps on")
 }
 
-/// All places but the last sleep, and the last ticks.
+/// All places but the last sleep, and the last place ticks.
 pub fn sleeps_or_ticks_on<R: Wait + Abort, M: Monitor<Alarm>>(
     rt: &R,
     m: &M,
@@ -153,7 +154,7 @@ pub fn sleeps_or_ticks_on<R: Wait + Abort, M: Monitor<Alarm>>(
     }
 }
 
-/// What they wrote is what a clock does, and there were ticks that woke more than one.
+/// Fails the test unless the lines are what a clock does, all were written, and a tick woke more than one sleeper.
 pub fn is_a_clock<R: Abort>(rt: &R, log: Log<Line>) {
     let lines = log.into_lines();
     expect_none(rt, first_wrong(lines.as_slice()));

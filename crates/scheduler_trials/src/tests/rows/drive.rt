@@ -1,4 +1,4 @@
-//! A drive that a disk head grants: who has it takes it to a cylinder, and hands it on.
+//! A drive that a disk head grants. The process that has the drive takes it to a cylinder, and releases it.
 ghost use Rattle.std.specs.Prelude.{◌≡◌};
 
 use crate::tests::compared::expect_same;
@@ -7,10 +7,10 @@ use std::process::Abort;
 use std::sync::Wait;
 use sweep_schedulers::head::Head;
 
-/// The cylinders where a drive was, in order.
+/// The cylinders at which a drive was, in order.
 pub type Trip = Vec<u16>;
 
-/// Takes the drive to the cylinder.
+/// Requests the drive for cylinder `dest`, and adds the cylinder to the trip. Returns the drive.
 pub fn goes<R: Wait + Abort, M: Monitor<Head<Trip>>>(
     rt: &R,
     m: &M,
@@ -27,7 +27,7 @@ pub fn goes<R: Wait + Abort, M: Monitor<Head<Trip>>>(
     (out, drive)
 }
 
-/// Hands the drive on.
+/// Releases the drive. Fails the test if that is refused.
 pub fn hands_on<R: Wait + Abort, M: Monitor<Head<Trip>>>(
     rt: &R,
     m: &M,

@@ -12,7 +12,7 @@ use std::process::Abort;
 use std::sync::Wait;
 use test_support::on_any_door;
 
-// The only place of a monitor.
+// Returns the only place of a monitor.
 fn only<O: Drop, R: Abort>(rt: &R, outs: Vec<O>) -> O
     ensures { outs.items ≡ result ∷ [] }
 {
@@ -26,7 +26,7 @@ fn only<O: Drop, R: Abort>(rt: &R, outs: Vec<O>) -> O
     out
 }
 
-// The place of a monitor that has one.
+// Returns the list of the places of a monitor that has one.
 fn alone<O: Drop, R: Abort>(rt: &R, alloc: Global, out: O) -> Vec<O>
     ensures { result.items ≡ out ∷ [] }
 {
@@ -37,7 +37,7 @@ fn alone<O: Drop, R: Abort>(rt: &R, alloc: Global, out: O) -> Vec<O>
     outs
 }
 
-// Takes the item out, which has to be this.
+// Takes the item out, which must be `expected`.
 fn acquires<R: Wait + Abort, M: Monitor<Single<u64>>>(
     rt: &R,
     m: &M,
@@ -53,7 +53,7 @@ fn acquires<R: Wait + Abort, M: Monitor<Single<u64>>>(
     out
 }
 
-// Puts the item in where none is.
+// Puts the item in while none is in. Fails the test if that is refused.
 fn releases<R: Wait + Abort, M: Monitor<Single<u64>>>(
     rt: &R,
     m: &M,
@@ -69,8 +69,8 @@ fn releases<R: Wait + Abort, M: Monitor<Single<u64>>>(
     out
 }
 
-// Takes both items out. The second goes into the first monitor: there the first one is then refused, and
-// what is acquired is the second. The first one goes into the second monitor.
+// Takes both items out. The second item goes into the first monitor: the first item is then refused there, and an
+// acquire takes the second. The first item goes into the second monitor.
 fn change_items<R: Wait + Abort, M: Monitor<Single<u64>>>(
     rt: &R,
     alloc: Global,
@@ -103,7 +103,8 @@ fn change_items<R: Wait + Abort, M: Monitor<Single<u64>>>(
     (alone(rt, alloc, out), alone(rt, alloc, other))
 }
 
-// Two monitors on doors of this kind: what they have at the end.
+// Lets the items of two monitors change places on doors of this kind. Returns the items that the monitors have at the
+// end.
 fn change_on<R: Wait + Abort>(rt: &R, alloc: Global, kind: DoorKind) -> [Option<u64>; 2] {
     let (first, outs) = door(rt, alloc, kind, Single::with(7u64), 1);
     let (second, others) = door(rt, alloc, kind, Single::with(8u64), 1);

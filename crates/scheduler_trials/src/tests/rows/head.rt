@@ -1,5 +1,4 @@
-//! The disk head: in which order it goes to the cylinders. The drive that is handed on has the list of those where it
-//! was.
+//! The disk head: the order in which it visits the cylinders. The drive is a list of the cylinders at which it was.
 ghost use Rattle.std.specs.Prelude.{◌≡◌};
 ghost use Rattle.hoare_law.specs.Priorities.{nobody};
 ghost use Rattle.sweep_schedulers.specs.Heads.{HeadRests};
@@ -21,9 +20,9 @@ use std::sync::Wait;
 use sweep_schedulers::head::{Head, OffDisk};
 use sweep_schedulers::not_out::NotOut;
 
-/// Takes the drive to cylinder 50, twice where the plan has an idle drive once, and keeps it the last time; hands
-/// it on once the others wait; and takes it to the cylinder `last` when all others had it. The drive has to have
-/// been where the plan says.
+/// Takes the drive to cylinder 50 and keeps it until the others wait; if the plan has an idle release, it does so
+/// twice, and releases the drive in between. Then releases the drive, and takes it to the cylinder `last` when all
+/// others had it. The drive must have been at the cylinders of the plan.
 fn leads<R: Wait + Abort, M: Monitor<Head<Trip>>>(
     rt: &R,
     m: &M,
@@ -50,7 +49,7 @@ fn leads<R: Wait + Abort, M: Monitor<Head<Trip>>>(
     hands_on(rt, m, out, drive)
 }
 
-/// Takes the drive to the cylinder at this turn, and hands it on.
+/// Takes the drive to the planned cylinder at this turn, and releases it.
 fn follows<R: Wait + Abort + Clock, M: Monitor<Head<Trip>>>(
     rt: &R,
     m: &M,
@@ -71,7 +70,7 @@ fn follows<R: Wait + Abort + Clock, M: Monitor<Head<Trip>>>(
     hands_on(rt, m, out, drive)
 }
 
-/// Asks for a cylinder past the last one, which is refused.
+/// Requests a cylinder past the last one. Fails the test unless that is refused.
 pub fn is_off_disk<R: Wait + Abort, M: Monitor<Head<Trip>>>(
     rt: &R,
     m: &M,
@@ -87,7 +86,8 @@ pub fn is_off_disk<R: Wait + Abort, M: Monitor<Head<Trip>>>(
     out
 }
 
-/// Asks for a cylinder past the last one, and puts a second drive in, which comes back.
+/// Requests a cylinder past the last one, and puts a second drive in. Fails the test unless the request is refused and
+/// the drive is given back.
 pub fn is_refused<R: Wait + Abort, M: Monitor<Head<Trip>>>(
     rt: &R,
     m: &M,
@@ -109,20 +109,20 @@ pub fn is_refused<R: Wait + Abort, M: Monitor<Head<Trip>>>(
     out
 }
 
-/// Who asks for which cylinder while the drive is at 50, in which order.
+/// Which cylinders the places request while the drive is at 50, in their order.
 #[derive(Drop)]
 struct Plan<'a> {
-    /// Whether the drive was handed on once before, to nobody.
+    /// True if the drive is released once before, while no place waits.
     is_idle_once: bool,
     dests: &'a [u16],
     /// The cylinder of the last request.
     last: u16,
-    /// Where the drive has then been.
+    /// The cylinders at which the drive has been by then.
     trip: &'a [u16],
 }
 
-// Place 0 has the drive while the others ask for it in the order of their numbers; once all had it, it is refused what
-// is refused.
+// Place 0 has the drive while the others request it in the order of their numbers. When all had it, place 0 makes the
+// calls that are refused.
 fn leads_or_follows<R: Wait + Abort + Clock, M: Monitor<Head<Trip>>>(
     rt: &R,
     m: &M,
@@ -144,7 +144,7 @@ fn leads_or_follows<R: Wait + Abort + Clock, M: Monitor<Head<Trip>>>(
     }
 }
 
-/// A disk whose drive has been nowhere.
+/// Creates a disk whose drive has been at no cylinder.
 pub fn disk(alloc: Global, cylmax: u16) -> Head<Trip>
     ensures { HeadRests result (nobody 0) (nobody 1) }
 {
@@ -156,9 +156,9 @@ pub fn disk(alloc: Global, cylmax: u16) -> Head<Trip>
 enum HeadRow<'a> {
     /// In the turns and as planned.
     ByPlan(Global, &'a Turns, &'a Plan<'a>),
-    /// In the turns: one asks for the cylinder where the drive is, and the grants that are due there are counted.
+    /// In the turns: a place requests the cylinder of the drive, and the grants that are due there are counted.
     StayCountsGrants(&'a Turns),
-    /// Its places write down what they do.
+    /// The places write down what they do.
     TheDriveGoesBySweeps(&'a Log<Line>),
 }
 
@@ -185,7 +185,7 @@ impl Row<Head<Trip>> for HeadRow<'_> {
     }
 }
 
-/// Each cylinder in the order of a sweep. Who asks for the cylinder under the head waits for the way back.
+/// Each cylinder in the order of a sweep. A request for the cylinder of the head waits for the way back.
 const SWEEP_ORDER: Plan<'static> = Plan {
     is_idle_once: false,
     dests: &[70, 60, 20, 50, 40],
@@ -193,7 +193,7 @@ const SWEEP_ORDER: Plan<'static> = Plan {
     trip: &[50, 60, 70, 50, 40, 20, 0],
 };
 
-/// A release to nobody turns the head.
+/// A release while no place waits turns the head.
 const IDLE_RELEASE_TURNS: Plan<'static> = Plan {
     is_idle_once: true,
     dests: &[60, 40],
@@ -201,7 +201,7 @@ const IDLE_RELEASE_TURNS: Plan<'static> = Plan {
     trip: &[50, 50, 40, 60, 100],
 };
 
-// The last cylinder of the row's disk, and how many places act.
+// Returns the last cylinder of the row's disk, and how many places act.
 fn setting(row: HeadRow<'_>) -> (u16, usize) {
     match row {
         HeadRow::ByPlan(_, _, plan) => (100, plan.dests.len() + 1),

@@ -1,5 +1,5 @@
-//! Who asks for the cylinder under the head waits for the other sweep, and the head counts the grants that are still
-//! due there.
+//! A request for the cylinder of the head waits for the other sweep, and the head counts the grants that are still due
+//! there.
 ghost use Rattle.std.specs.Prelude.{◌≡◌};
 
 use crate::tests::compared::expect_same;
@@ -11,10 +11,10 @@ use std::rt::Clock;
 use std::sync::Wait;
 use sweep_schedulers::head::Head;
 
-/// How many places ask.
+/// Number of places that request the drive.
 pub const ASKING: usize = 5;
 
-/// Takes the drive to the cylinder, and writes behind it how many grants are then due there: `stay`.
+/// Takes the drive to the cylinder, and appends to the trip how many grants are then due there: `stay`.
 pub fn counts<R: Wait + Abort, M: Monitor<Head<Trip>>>(
     rt: &R,
     m: &M,
@@ -35,10 +35,10 @@ pub fn counts<R: Wait + Abort, M: Monitor<Head<Trip>>>(
     (out, drive)
 }
 
-/// What each place does: place 0 takes the drive to cylinder 10, and hands it on once three others wait. The places 1
-/// and 2 ask for cylinder 20, place 3 for 30, and place 4 for 20 when place 1 has the drive there, which hands it on
-/// once place 4 waits too. Place 4 has it when all others had it: it has to have been where the order says, with so
-/// many due.
+/// Runs one place. Place 0 takes the drive to cylinder 10, and releases it when three others wait. Places 1 and 2
+/// request cylinder 20, and place 3 requests 30. Place 4 requests 20 when place 1 has the drive there; place 1 releases
+/// the drive when place 4 waits too. Place 4 has the drive last: the drive must have been at these cylinders in this
+/// order, with these grants due.
 pub fn asks_or_counts<R: Wait + Abort + Clock, M: Monitor<Head<Trip>>>(
     rt: &R,
     m: &M,

@@ -1,5 +1,5 @@
-//! Five processes ask for random cylinders, and each hands the drive on once the others wait for it. What
-//! they wrote down is held against what a sweep is.
+//! Five processes request random cylinders, and each releases the drive when the others wait for it. What they wrote
+//! down is checked against what a sweep is.
 ghost use Rattle.std.specs.Prelude.{◌≡◌};
 
 use crate::tests::compared::{expect_none, expect_same};
@@ -11,34 +11,35 @@ use std::sync::Wait;
 use sweep_schedulers::head::Head;
 use test_support::drawn::draw;
 
-/// How many places ask.
+/// Number of places that request the drive.
 pub const PLACES: usize = 5;
 
+/// Number of requests of each place.
 const ROUNDS: u64 = 200;
 
 /// The last cylinder.
 pub const CYLMAX: u16 = 9;
 
-/// What happened.
+/// What a place did or is about to do.
 #[derive(Clone, Copy, Debug)]
 pub enum Line {
-    /// The place is about to ask for the cylinder.
+    /// The place is about to request the cylinder.
     Asks { place: usize, dest: u16 },
-    /// It has the drive there.
+    /// The place has the drive there.
     Gets { place: usize, dest: u16 },
-    /// It is about to hand the drive on; whoever asked before waits.
+    /// The place is about to release the drive. All places that requested it before wait.
     Gives { place: usize },
 }
 
-/// A cylinder that a place wants, and whether it waits for the way up, which is known once the drive is handed on.
+/// A cylinder that a place wants, and true if the place waits for the way up. That is known when the drive is released.
 #[derive(Clone, Copy)]
 struct Wish {
     dest: u16,
     goes_up: Option<bool>,
 }
 
-/// A disk as it should be: where the drive is and who has it, whether it goes up, who wishes what, and whose cylinder
-/// is next.
+/// A disk as it should be: the cylinder of the drive, true if it goes up, the place that has it, the wish of each
+/// place, and the wish that is next.
 #[derive(Drop)]
 struct Elevator {
     at: u16,
@@ -49,12 +50,13 @@ struct Elevator {
 }
 
 impl Elevator {
-    // The way on which the drive comes to the cylinder: it is before it, or under it and the drive goes the other way.
+    // Returns true if the drive comes to the cylinder on the way up: the cylinder is above the drive, or the drive is
+    // at it and goes down.
     fn is_above(&self, dest: u16) -> bool {
         self.at < dest || (self.at == dest && !self.goes_up)
     }
 
-    // The nearest cylinder that is wished for on this way.
+    // Returns the nearest wish on this way.
     fn nearest(&self, goes_up: bool) -> Option<Wish> {
         self.wishes
             .iter()
@@ -64,7 +66,8 @@ impl Elevator {
             .min_by_key(|wish| wish.dest.abs_diff(self.at))
     }
 
-    // Who asked since the drive is here waits on the way to its cylinder.
+    // A place that made its request since the drive came here waits for the way on which the drive comes to its
+    // cylinder.
     fn sort_wishes(&mut self) {
         for place in 0..PLACES {
             if let Some(wish) = self.wishes[place] {
@@ -76,7 +79,7 @@ impl Elevator {
         }
     }
 
-    // The drive goes on the way on which it is, and where nobody waits there, it turns.
+    // The drive keeps its way. If no place waits there, it turns.
     fn go_on(&mut self) {
         self.sort_wishes();
         self.next = self.nearest(self.goes_up);
@@ -86,7 +89,8 @@ impl Elevator {
         }
     }
 
-    // Whether the place may have the drive there: it is its wish, and the next where anybody waited.
+    // Returns true if the place may have the drive at `dest`: that is its wish, and, if any place waited, the wish that
+    // is next. Records that the place has it.
     fn lets(&mut self, place: usize, dest: u16) -> bool {
         if place >= PLACES {
             return false;
@@ -102,7 +106,7 @@ impl Elevator {
         wish.dest == dest && is_next && self.holder.replace(place).is_none()
     }
 
-    // Whether this may happen next.
+    // Returns true if `line` may be next, and records it.
     fn allows(&mut self, line: Line) -> bool {
         match line {
             Line::Asks { place, dest } => {
@@ -121,7 +125,7 @@ impl Elevator {
     }
 }
 
-// The first line that may not stand where it stands.
+// Returns the first line that may not follow the lines before it.
 fn first_wrong(lines: &[Line]) -> Option<Line> {
     let mut disk = Elevator {
         at: 0,
@@ -138,7 +142,7 @@ fn first_wrong(lines: &[Line]) -> Option<Line> {
     None
 }
 
-/// Asks for a random cylinder in each round, and hands the drive on when all others wait.
+/// Requests a random cylinder in each round, and releases the drive when all others wait or have finished.
 pub fn travels<R: Wait + Abort, M: Monitor<Head<Trip>>>(
     rt: &R,
     m: &M,
@@ -166,7 +170,7 @@ pub fn travels<R: Wait + Abort, M: Monitor<Head<Trip>>>(
     (out, 0)
 }
 
-/// What they wrote is what a sweep is, and all was written.
+/// Fails the test unless the lines are what a sweep is, and all were written.
 pub fn is_a_sweep<R: Abort>(rt: &R, log: Log<Line>) {
     let lines = log.into_lines();
     expect_none(rt, first_wrong(lines.as_slice()));

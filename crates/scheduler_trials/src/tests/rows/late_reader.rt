@@ -12,8 +12,8 @@ use std::rt::Clock;
 use std::sync::Wait;
 use std::sync::atomic::{AtomicU32, Ordering};
 
-// Starts this many reads, lets the writer and then the late reader come to wait, and ends the reads; it
-// counts each one just before its end. Both wait until the last one ends.
+// Starts this many reads, lets the writer and then the late reader begin to wait, and ends the reads. Counts each read
+// just before its end. The writer and the late reader wait until the last read ends.
 fn reads_while_both_wait<R: Wait + Abort, M: Monitor<Shared>>(
     rt: &R,
     m: &M,
@@ -38,7 +38,7 @@ fn reads_while_both_wait<R: Wait + Abort, M: Monitor<Shared>>(
     ends_read(rt, m, out, pass)
 }
 
-// Comes first of the two, and writes 6 where it finds 4, after all the reads.
+// Is the first of the two to wait. Finds 4, and writes 6, after all the reads.
 fn writes_after_all<R: Wait + Abort + Clock, M: Monitor<Shared>>(
     rt: &R,
     m: &M,
@@ -73,7 +73,7 @@ fn reads_late<R: Wait + Abort + Clock, M: Monitor<Shared>>(
     ends_read(rt, m, out, pass)
 }
 
-/// Place 0 has all the reads, place 1 writes, and place 2 is the late reader.
+/// Place 0 makes all the reads, place 1 writes, and place 2 is the late reader.
 pub fn reads_or_writes_late<R: Wait + Abort + Clock, M: Monitor<Shared>>(
     rt: &R,
     m: &M,

@@ -1,4 +1,4 @@
-//! The buffer with Mesa conditions: who is called tests again, before any newcomer comes in.
+//! The buffer with Mesa conditions: a notified process tests again, before any process enters.
 ghost use Rattle.std.specs.Prelude.{◌≡◌};
 ghost use Rattle.plain_schedulers.specs.Buffers.{BufferHolds};
 
@@ -16,15 +16,15 @@ use std::rt::Clock;
 use std::sync::Wait;
 use test_support::running::count_waiting;
 
-/// A buffer of this many cells, with Mesa conditions.
+/// Creates a buffer of this many cells, with Mesa conditions. Fails the test if out of memory.
 fn with_cells<R: Abort>(rt: &R, alloc: Global, cells: usize) -> MesaBuffer<u64>
     ensures { BufferHolds result }
 {
     MesaBuffer::make(alloc, cells).expect(rt, "there is memory for a buffer of this size")
 }
 
-// Lets two others wait for an item, and calls both though there is none: they wait again before it comes in. Then each
-// is called by an item. How many it called at first.
+// Lets two others wait for an item, and notifies both though there is none: they wait again before this place enters
+// again. Then appends an item for each. Returns how many waiters the broadcast notified.
 fn calls<R: Wait + Abort, M: Monitor<MesaBuffer<u64>>>(
     rt: &R,
     m: &M,
@@ -47,7 +47,7 @@ fn calls<R: Wait + Abort, M: Monitor<MesaBuffer<u64>>>(
     (out, called as u64)
 }
 
-// Place 0 calls the others, which wait for an item in the order of their numbers.
+// Place 0 notifies the others, which wait for an item in the order of their numbers.
 fn calls_or_removes<R: Wait + Abort + Clock, M: Monitor<MesaBuffer<u64>>>(
     rt: &R,
     m: &M,
@@ -66,7 +66,7 @@ fn calls_or_removes<R: Wait + Abort + Clock, M: Monitor<MesaBuffer<u64>>>(
     MesaBuffer::remove(m, rt, out)
 }
 
-// Calls all that wait, without a cause.
+// Notifies all waiters, without a cause.
 fn calls_all<R: Wait, M: Monitor<MesaBuffer<u64>>>(rt: &R, m: &M, out: M::Out) -> M::Out
     requires { M.is_of m.now out }
     ensures of { M.is_of m.now result }
@@ -78,8 +78,8 @@ fn calls_all<R: Wait, M: Monitor<MesaBuffer<u64>>>(rt: &R, m: &M, out: M::Out) -
     m.leave(rt, inside)
 }
 
-// An even place puts the numbers from 1 to this one in, an odd one takes as many items out: the sum of those. Before
-// every third turn it calls all others without a cause.
+// An even place appends the numbers from 1 to `count`. An odd place removes as many items, and returns their sum.
+// Before every third call the place notifies all others, without a cause.
 fn trades<R: Wait, M: Monitor<MesaBuffer<u64>>>(
     rt: &R,
     m: &M,
@@ -136,7 +136,7 @@ impl Row<MesaBuffer<u64>> for MesaRow<'_> {
     }
 }
 
-// How many cells and places there are in the row.
+// Returns how many cells and places there are in the row.
 fn setting(row: MesaRow<'_>) -> (usize, usize) {
     match row {
         MesaRow::WhoIsCalledTestsAgain(_) => (1, 3),
@@ -144,7 +144,8 @@ fn setting(row: MesaRow<'_>) -> (usize, usize) {
     }
 }
 
-// Whether the places answered what they have to: the sum of the items that were taken out is that of those put in.
+// Returns true if the places returned what they must. In the second row the sum of the items that were removed must be
+// that of the items appended.
 fn agrees(row: MesaRow<'_>, answers: &[u64]) -> bool {
     match row {
         MesaRow::WhoIsCalledTestsAgain(_) => answers == [2, 1, 2].as_slice(),
@@ -154,7 +155,7 @@ fn agrees(row: MesaRow<'_>, answers: &[u64]) -> bool {
     }
 }
 
-// Where the places answered something else the test fails.
+// Fails the test if the places returned something else.
 fn holds<R: Abort>(rt: &R, kind: DoorKind, row: MesaRow<'_>, answers: &[u64]) {
     let wanted = (kind, answers, true);
     expect_same(rt, (kind, answers, agrees(row, answers)), wanted);

@@ -1,5 +1,5 @@
-//! Four streams take two buffers each, of five, as often as they can. What they wrote down is held against what a pool
-//! is.
+//! Four streams take two buffers each, of five, as often as they can. What they wrote down is checked against what a
+//! pool is.
 ghost use Rattle.std.specs.Prelude.{◌≡◌};
 
 use crate::tests::compared::{expect_none, expect_same};
@@ -11,24 +11,26 @@ use std::rt::Clock;
 use std::sync::Wait;
 use timed_schedulers::pool::Pool;
 
-/// How many streams take buffers.
+/// Number of streams that take buffers.
 pub const STREAMS: u32 = 4;
 
-/// So many that a stream which waits for its second buffer never waits for ever: the others can't have all.
+/// Number of buffers: enough that no stream waits for its second buffer for ever, since the others can't have all.
 pub const BUFFERS: u32 = 5;
 
+/// Number of times that each stream takes two buffers.
 const ROUNDS: u64 = 200;
 
-/// What happened.
+/// What a stream did or is about to do.
 #[derive(Clone, Copy, Debug)]
 pub enum Line {
     /// The stream has taken the buffer.
     Has { stream: u32, buffer: u32 },
-    /// It is about to give it back.
+    /// The stream is about to give the buffer back.
     Gives { stream: u32, buffer: u32 },
 }
 
-// Whether this may happen next, where these are the holders of the buffers: a buffer has one holder, who gives it back.
+// Returns true if `line` may be next, if these are the holders of the buffers: a buffer has one holder, which gives it
+// back.
 fn allows(holders: &mut [Option<u32>; BUFFERS as usize], line: Line) -> bool {
     match line {
         Line::Has { stream, buffer } => {
@@ -40,7 +42,7 @@ fn allows(holders: &mut [Option<u32>; BUFFERS as usize], line: Line) -> bool {
     }
 }
 
-// The first line that may not stand where it stands.
+// Returns the first line that may not follow the lines before it.
 fn first_wrong(lines: &[Line]) -> Option<Line> {
     let mut holders = [None; BUFFERS as usize];
     for line in lines {
@@ -51,7 +53,7 @@ fn first_wrong(lines: &[Line]) -> Option<Line> {
     None
 }
 
-// Takes a buffer, and writes so.
+// Takes a buffer, and writes that down. Returns its number.
 fn holds<R: Wait + Abort, M: Monitor<Pool>>(
     rt: &R,
     m: &M,
@@ -68,7 +70,7 @@ fn holds<R: Wait + Abort, M: Monitor<Pool>>(
     (out, buffer)
 }
 
-// Writes that it gives the buffer back, and does.
+// Writes down that it gives the buffer back, and gives it back.
 fn lets_go<R: Wait + Abort, M: Monitor<Pool>>(
     rt: &R,
     m: &M,
@@ -109,7 +111,7 @@ fn uses_two<R: Wait + Abort + Clock, M: Monitor<Pool>>(
     out
 }
 
-// Once all others have finished, all buffers are free.
+// When all others have finished, takes all buffers: each must be free.
 fn takes_all<R: Wait + Abort, M: Monitor<Pool>>(
     rt: &R,
     m: &M,
@@ -130,7 +132,7 @@ fn takes_all<R: Wait + Abort, M: Monitor<Pool>>(
     out
 }
 
-/// The places are the streams, and one more takes all when they are done.
+/// Each place but the last is a stream. The last place takes all buffers when the streams are done.
 pub fn uses_or_takes_all<R: Wait + Abort + Clock, M: Monitor<Pool>>(
     rt: &R,
     m: &M,
@@ -148,7 +150,7 @@ pub fn uses_or_takes_all<R: Wait + Abort + Clock, M: Monitor<Pool>>(
     }
 }
 
-/// What they wrote is what a pool does, and all was written.
+/// Fails the test unless the lines are what a pool does, and all were written.
 pub fn is_a_pool<R: Abort>(rt: &R, log: Log<Line>) {
     let lines = log.into_lines();
     expect_none(rt, first_wrong(lines.as_slice()));

@@ -1,4 +1,4 @@
-//! The readers and writers: who waits for whom, and the most readers.
+//! The readers and writers: which process waits for which others, and the most readers.
 ghost use Rattle.std.specs.Prelude.{◌≡◌};
 
 use crate::tests::compared::{all_answered, expect_same, reads_as};
@@ -22,7 +22,7 @@ use std::sync::Wait;
 use std::sync::atomic::AtomicU32;
 use sweep_schedulers::readers_writers::{NoReader, ReadersWriters};
 
-/// Writes a number where this one stands, and tries to write another, which comes back.
+/// Writes `value` over `expected`, and attempts to write another number, which is given back.
 pub fn writes<R: Wait + Abort, M: Monitor<Shared>>(
     rt: &R,
     m: &M,
@@ -39,8 +39,8 @@ pub fn writes<R: Wait + Abort, M: Monitor<Shared>>(
     ends_no_write(rt, m, out, value.wrapping_add(1))
 }
 
-/// Starts this many reads, the last of which is the last that there is room for: one more is refused, and goes in once
-/// one has ended. Then each ends with its own pass.
+/// Starts this many reads, the last of which is the last that there is room for. One more is refused, and succeeds
+/// after one has ended. Then each read ends with its own pass.
 pub fn reads_to_the_limit<R: Wait + Abort, M: Monitor<Shared>>(
     rt: &R,
     m: &M,
@@ -63,8 +63,8 @@ pub fn reads_to_the_limit<R: Wait + Abort, M: Monitor<Shared>>(
     ends_read(rt, m, out, pass)
 }
 
-// Ends another monitor's read where none is: the pass comes back with a refusal that says so, and ends the read where
-// it began.
+// Ends a read of another monitor while no reader is in. The refusal says so and gives the pass back; the pass then ends
+// the read at the other monitor.
 fn ends_foreign_read<R: Wait + Abort, M: Monitor<Shared>, N: Monitor<Shared>>(
     rt: &R,
     alloc: Global,
@@ -89,7 +89,7 @@ fn ends_foreign_read<R: Wait + Abort, M: Monitor<Shared>, N: Monitor<Shared>>(
     out
 }
 
-/// Ends a read where none is: the pass, which is another monitor's, comes back.
+/// Ends a read while no reader is in. Fails the test unless the pass, which is another monitor's, is given back.
 pub fn ends_no_read<R: Wait + Abort, M: Monitor<Shared>>(
     rt: &R,
     alloc: Global,
@@ -104,8 +104,8 @@ pub fn ends_no_read<R: Wait + Abort, M: Monitor<Shared>>(
     ends_foreign_read(rt, alloc, m, out, &fake, other)
 }
 
-/// Is in as the writer while the others come to wait, and writes 3: both readers are in at once, and the other writer
-/// waits on.
+/// Is in as the writer while the others begin to wait, and writes 3. Then both readers are in at once, and the other
+/// writer still waits.
 fn writes_first<R: Wait + Abort, M: Monitor<Shared>>(
     rt: &R,
     m: &M,
@@ -127,7 +127,7 @@ fn writes_first<R: Wait + Abort, M: Monitor<Shared>>(
     out
 }
 
-/// Reads 3 at this turn, and goes out at the last one.
+/// Reads 3 at this turn, and ends the read at turn 4.
 fn reads<R: Wait + Abort + Clock, M: Monitor<Shared>>(
     rt: &R,
     m: &M,
@@ -145,8 +145,8 @@ fn reads<R: Wait + Abort + Clock, M: Monitor<Shared>>(
     ends_read(rt, m, out, pass)
 }
 
-/// Writes 4 after both readers, and has then the monitor for itself: it reads as often as there is room for, and ends a
-/// read where there is none.
+/// Writes 4 after both readers, and is then the only place that acts. It reads as often as there is room for, and ends
+/// a read while no reader is in.
 fn writes_last<R: Wait + Abort + Clock, M: Monitor<Shared>>(
     rt: &R,
     alloc: Global,
@@ -165,7 +165,7 @@ fn writes_last<R: Wait + Abort + Clock, M: Monitor<Shared>>(
     ends_no_read(rt, alloc, m, out)
 }
 
-// Place 0 writes while places 1 and 2 come to read, and then place 3 to write.
+// Place 0 writes while places 1 and 2 begin to wait to read, and then place 3 to write.
 fn reads_or_writes<R: Wait + Abort + Clock, M: Monitor<Shared>>(
     rt: &R,
     m: &M,
@@ -190,9 +190,9 @@ fn reads_or_writes<R: Wait + Abort + Clock, M: Monitor<Shared>>(
 #[derive(Clone, Copy)]
 enum ReadersRow<'a> {
     ReadersAndWriters(Global, &'a Turns),
-    /// The most readers are counted as they go.
+    /// The reads that end are counted.
     WriterBeforeLateReader(&'a Turns, &'a AtomicU32),
-    /// Its places write down what they do.
+    /// The places write down what they do.
     NoReaderIsInBesideAWriter(&'a Log<Line>),
 }
 
@@ -223,7 +223,7 @@ impl Row<Shared> for ReadersRow<'_> {
     }
 }
 
-// The first value of the row, and how many places act.
+// Returns the first value of the row, and how many places act.
 fn setting(row: ReadersRow<'_>) -> (u64, usize) {
     match row {
         ReadersRow::ReadersAndWriters(_, _) => (0, 4),
@@ -232,7 +232,7 @@ fn setting(row: ReadersRow<'_>) -> (u64, usize) {
     }
 }
 
-// Whether the last value of the row is what it has to be. (That of many writes is whichever came last.)
+// Returns true if the last value of the row is what it must be. (That of many writes is whichever came last.)
 fn agrees(row: ReadersRow<'_>, value: u64) -> bool {
     match row {
         ReadersRow::ReadersAndWriters(_, _) => value == 4,
@@ -241,7 +241,7 @@ fn agrees(row: ReadersRow<'_>, value: u64) -> bool {
     }
 }
 
-// Where the row left another value the test fails.
+// Fails the test if the row left another value.
 fn holds<R: Abort>(rt: &R, kind: DoorKind, row: ReadersRow<'_>, value: u64) {
     let wanted = (kind, value, true);
     expect_same(rt, (kind, value, agrees(row, value)), wanted);

@@ -1,5 +1,5 @@
-//! Three processes read and two write, each as often as it can. What they wrote down is held against what readers and
-//! writers may do.
+//! Three processes read and two write, each as often as it can. What they wrote down is checked against what readers
+//! and writers may do.
 ghost use Rattle.std.specs.Prelude.{◌≡◌, ◌<◌};
 
 use crate::tests::compared::expect_none;
@@ -11,46 +11,49 @@ use std::rt::Clock;
 use std::sync::Wait;
 use sweep_schedulers::readers_writers::{ReadPass, ReadersWriters};
 
+/// Number of places that read.
 const READERS: usize = 3;
 
-/// How many places read or write.
+/// Number of places that read or write.
 pub const PLACES: usize = 5;
 
+/// Number of reads or writes of each place.
 const ROUNDS: u64 = 200;
 
-/// What happened.
+/// What a place did or is about to do.
 #[derive(Clone, Copy, Debug)]
 pub enum Line {
-    /// The place is about to ask to read, and sees that somebody waits to write. (Written inside.)
+    /// The place is about to ask to read, and sees that another waits to write. (Written inside.)
     Sees {
         place: usize,
     },
-    /// It is in as a reader, with this value.
+    /// The place is in as a reader, with this value.
     Reads {
         place: usize,
         value: u64,
     },
-    /// It is about to go out as a reader.
+    /// The place is about to end its read.
     EndsRead {
         place: usize,
     },
-    /// It is in as a writer, with this value.
+    /// The place is in as a writer, with this value.
     Writes {
         place: usize,
         value: u64,
     },
-    /// It is about to go out as a writer and leave this value, while this many wait to read.
+    /// The place is about to end its write and leave this value, while this many places wait to read.
     EndsWrite {
         place: usize,
         value: u64,
         waiting: usize,
     },
-    /// It is out as a writer.
+    /// A place has ended its write.
     Wrote,
 }
 
-/// Readers and writers as they should be: who is in, how many writers are on their way out, the value, who may not read
-/// before somebody wrote, how often that was so, and how many read before somebody writes again.
+/// Readers and writers as they should be: which places are in, how many writers are about to end, and the value. Also
+/// which places may not read before the next write, how often that was so, and how many reads come before the next
+/// write.
 #[derive(Drop)]
 struct Room {
     reading: [bool; PLACES],
@@ -63,7 +66,8 @@ struct Room {
 }
 
 impl Room {
-    // A reader is in beside readers alone, finds what was written last, and overtook no writer that it saw.
+    // Records a read, and returns true if it is allowed: only readers are in, it finds what was written last, and it
+    // overtook no writer that the place saw.
     fn lets_read(&mut self, place: usize, value: u64) -> bool
         requires { place < PLACES }
     {
@@ -76,15 +80,16 @@ impl Room {
         is_right
     }
 
-    // A writer is alone, finds what was written last, and comes after the readers that waited when the last writer
-    // went.
+    // Records a write, and returns true if it is allowed: no other place is in, and it finds what was written last. It
+    // must come after the readers that waited when the last write ended.
     fn lets_write(&mut self, place: usize, value: u64) -> bool {
         let is_alone = self.writer.replace(place).is_none() && !self.reading.contains(&true);
         self.must_wait = [false; PLACES];
         is_alone && value == self.value && self.read_first == 0
     }
 
-    // Where a writer is in, the reader may wait for that one's end alone. Else it waits for who waits to write.
+    // If a writer is in or about to end, the reader may wait for the end of that write alone. Otherwise it must wait
+    // for a writer that waits.
     fn sees(&mut self, place: usize)
         requires { place < PLACES }
     {
@@ -94,7 +99,7 @@ impl Room {
         }
     }
 
-    // Whether this may happen next.
+    // Returns true if `line` may be next, and records it.
     fn allows(&mut self, line: Line) -> bool {
         match line {
             Line::Sees { place } => {
@@ -126,7 +131,7 @@ impl Room {
     }
 }
 
-// The first line that may not stand where it stands, and how often a reader met somebody who waited to write.
+// Returns the first line that may not follow the lines before it, and how often a reader met a waiting writer.
 fn first_wrong(lines: &[Line]) -> (Option<Line>, usize) {
     let mut room = Room {
         reading: [false; PLACES],
@@ -145,7 +150,7 @@ fn first_wrong(lines: &[Line]) -> (Option<Line>, usize) {
     (None, room.met_writers)
 }
 
-// Looks whether somebody waits to write, and asks to read.
+// Looks if a process waits to write, and asks to read.
 fn looks_and_reads<R: Wait + Abort, M: Monitor<Shared>>(
     rt: &R,
     m: &M,
@@ -170,7 +175,7 @@ fn looks_and_reads<R: Wait + Abort, M: Monitor<Shared>>(
     (out, pass)
 }
 
-// Reads as often as there are rounds.
+// Reads in each round.
 fn reads_on<R: Wait + Abort + Clock, M: Monitor<Shared>>(
     rt: &R,
     m: &M,
@@ -192,7 +197,7 @@ fn reads_on<R: Wait + Abort + Clock, M: Monitor<Shared>>(
     out
 }
 
-// Writes as often as there are rounds, what nobody else writes.
+// Writes in each round, a value that no other place and no other round writes.
 fn writes_on<R: Wait + Abort + Clock, M: Monitor<Shared>>(
     rt: &R,
     m: &M,
@@ -242,7 +247,7 @@ pub fn reads_or_writes_on<R: Wait + Abort + Clock, M: Monitor<Shared>>(
     }
 }
 
-// How many waited to read when a writer went.
+// Returns how many places waited to read when a write ended, over all writes.
 fn count_first(lines: &[Line]) -> usize {
     let mut sum = 0usize;
     for line in lines {
@@ -253,7 +258,7 @@ fn count_first(lines: &[Line]) -> usize {
     sum
 }
 
-/// What they wrote is what readers and writers do, and they had to wait for each other.
+/// Fails the test unless the lines are what readers and writers do, and they had to wait for each other.
 pub fn is_read_and_written<R: Abort>(rt: &R, log: Log<Line>) {
     let lines = log.into_lines();
     let (wrong, met_writers) = first_wrong(lines.as_slice());

@@ -12,7 +12,7 @@ use sweep_schedulers::readers_writers::{NoReader, ReadPass, ReadersWriters, TooM
 /// A number that is read and written.
 pub type Shared = ReadersWriters<u64>;
 
-/// Goes in as a reader, who has to find this.
+/// Begins a read, which must find `expected`.
 pub fn starts_read<R: Wait + Abort, M: Monitor<Shared>>(
     rt: &R,
     m: &M,
@@ -31,7 +31,7 @@ pub fn starts_read<R: Wait + Abort, M: Monitor<Shared>>(
     (out, pass)
 }
 
-/// Goes out as a reader.
+/// Ends a read.
 pub fn ends_read<R: Wait + Abort, M: Monitor<Shared>>(
     rt: &R,
     m: &M,
@@ -49,7 +49,7 @@ pub fn ends_read<R: Wait + Abort, M: Monitor<Shared>>(
     }
 }
 
-/// Goes in as a writer, who has to find this.
+/// Begins a write, which must find `expected`.
 pub fn starts_write<R: Wait + Abort, M: Monitor<Shared>>(
     rt: &R,
     m: &M,
@@ -65,7 +65,7 @@ pub fn starts_write<R: Wait + Abort, M: Monitor<Shared>>(
     out
 }
 
-/// Goes out as a writer, and leaves this.
+/// Ends a write, and leaves `value`.
 pub fn ends_write<R: Wait + Abort, M: Monitor<Shared>>(
     rt: &R,
     m: &M,
@@ -81,7 +81,7 @@ pub fn ends_write<R: Wait + Abort, M: Monitor<Shared>>(
     out
 }
 
-/// Ends a write where no writer is in: the number comes back.
+/// Ends a write while no writer is in. Fails the test unless the number is given back.
 pub fn ends_no_write<R: Wait + Abort, M: Monitor<Shared>>(
     rt: &R,
     m: &M,
@@ -100,7 +100,7 @@ pub fn ends_no_write<R: Wait + Abort, M: Monitor<Shared>>(
     out
 }
 
-/// Asks to read where the most readers are in.
+/// Asks to read while the most readers are in. Fails the test unless that is refused.
 pub fn is_one_too_many<R: Wait + Abort, M: Monitor<Shared>>(rt: &R, m: &M, out: M::Out) -> M::Out
     requires { M.is_of m.now out }
     ensures of { M.is_of m.now result }
@@ -113,7 +113,7 @@ pub fn is_one_too_many<R: Wait + Abort, M: Monitor<Shared>>(rt: &R, m: &M, out: 
     }
 }
 
-/// How many wait to read, and to write.
+/// Returns how many processes wait to read, and how many to write.
 pub fn waiting<R: Wait, M: Monitor<Shared>>(rt: &R, m: &M, out: M::Out) -> (M::Out, (usize, usize))
     requires { M.is_of m.now out }
     ensures of { M.is_of m.now result.0 }

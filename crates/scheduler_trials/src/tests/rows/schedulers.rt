@@ -15,7 +15,7 @@ use std::rt::Clock;
 use std::sync::Wait;
 use std::sync::atomic::{AtomicBool, Ordering};
 
-// Takes the item, gives a sign, lets another place wait for it, and puts it back: what it took.
+// Takes the item, gives a sign, lets another place wait for it, and puts it back. Returns what it took.
 fn lends<R: Wait + Abort, M: Monitor<Single<u64>>>(
     rt: &R,
     m: &M,
@@ -34,8 +34,8 @@ fn lends<R: Wait + Abort, M: Monitor<Single<u64>>>(
     (out, item)
 }
 
-// Waits for the item after the sign, puts it back, tries to put a second one in, and takes the first again: what it
-// took at first.
+// Waits for the item after the sign, puts it back, attempts to put a second item in, and takes the first again. Returns
+// what it took at first.
 fn borrows<R: Wait + Abort + Clock, M: Monitor<Single<u64>>>(
     rt: &R,
     m: &M,
@@ -83,8 +83,8 @@ impl Row<Single<u64>> for Lending<'_> {
     }
 }
 
-// Place 0 puts the numbers from 1 to this one in. Place 1 takes as many items out, and answers how many came in their
-// turn.
+// Place 0 appends the numbers from 1 to `count`. Place 1 removes as many items, and returns how many of them came in
+// their turn.
 fn appends_or_removes<R: Wait, M: Monitor<Buffer<u64>>>(
     rt: &R,
     m: &M,
@@ -110,7 +110,7 @@ fn appends_or_removes<R: Wait, M: Monitor<Buffer<u64>>>(
     (out, in_turn)
 }
 
-/// So many items go through a buffer.
+/// This many items go through a buffer.
 #[derive(Drop)]
 struct Filling(u64);
 

@@ -21,7 +21,7 @@ pub struct Log<L> {
 }
 
 impl<L> Log<L> {
-    /// A log with room for this many lines. Where there is no memory the test fails.
+    /// Creates a log with room for this many lines. Fails the test if out of memory.
     pub fn new<R: Abort>(rt: &R, alloc: Global, room: usize) -> Log<L> {
         let Ok(lines) = Vec::with_capacity(alloc, room) else {
             panic!(rt; "no memory")
@@ -32,32 +32,32 @@ impl<L> Log<L> {
         }
     }
 
-    /// The lines, the oldest first.
+    /// Returns the lines, the oldest first.
     pub fn into_lines(self) -> Vec<L> {
         let Log { lines, finished: _ } = self;
         lines.into_inner()
     }
 
-    /// A process writes no more.
+    /// Notes that a process writes no more.
     pub fn finish(&self) {
         self.finished.fetch_add(1, Ordering::SeqCst);
     }
 
-    /// How many write no more.
+    /// Returns how many processes write no more.
     pub fn finished(&self) -> usize {
         self.finished.load(Ordering::SeqCst)
     }
 }
 
 impl<L: Copy> Log<L> {
-    /// Writes a line. The test fails where there is no room.
+    /// Writes a line. Fails the test if there is no room.
     pub fn write<R: Wait + Abort>(&self, rt: &R, line: L) {
         self.lines.lock(rt).push(line).expect(rt, "memory");
     }
 }
 
-/// Comes in and goes out until all `others` wait or have finished: whether any waits. The test fails after `VISITS`
-/// times.
+/// Enters and leaves until all `others` wait or have finished. Returns true if any waits. Fails the test after `VISITS`
+/// visits.
 pub fn await_others<L, D: MonitorData, R: Wait + Abort, M: Monitor<D>>(
     rt: &R,
     m: &M,
@@ -83,7 +83,8 @@ pub fn await_others<L, D: MonitorData, R: Wait + Abort, M: Monitor<D>>(
     panic!(rt; "the others don't wait")
 }
 
-/// Comes in and goes out until somebody waits, or twenty times, and gives the others time to come after each look.
+/// Enters and leaves until another process waits, at most twenty times. Sleeps 50 microseconds after each visit, which
+/// gives the others time.
 pub fn linger<D: MonitorData, R: Wait + Clock, M: Monitor<D>>(rt: &R, m: &M, out: M::Out) -> M::Out
     requires { M.is_of m.now out }
     ensures of { M.is_of m.now result }

@@ -1,4 +1,5 @@
-//! The philosophers' table of the cookbook: of two that wait and can eat, who has the first seat goes on.
+//! The philosophers' table of the cookbook: of two philosophers that wait and can eat, the one with the first seat
+//! resumes.
 ghost use Rattle.std.specs.Prelude.{◌≡◌, ◌<◌};
 
 use crate::tests::compared::{answered, expect_same};
@@ -13,7 +14,8 @@ use std::rt::Clock;
 use std::sync::Wait;
 use test_support::running::count_waiting;
 
-// Eats at the seat, and gets up: how many waited meanwhile. Place 0 eats at once, and gets up when two others wait.
+// Eats at the seat, and gets up. Returns how many waited meanwhile. Place 0 eats at once, and gets up when two others
+// wait.
 fn eats<R: Wait + Abort, M: Monitor<Table>>(
     rt: &R,
     m: &M,
@@ -40,8 +42,8 @@ fn eats<R: Wait + Abort, M: Monitor<Table>>(
     (out, waiting as u64)
 }
 
-/// In the turns: while place 0 eats at seat 0, place 1 comes to wait for seat 1, and then place 2 for seat 0. Both can
-/// eat when it gets up, and one of them alone.
+/// In the turns: while place 0 eats at seat 0, place 1 begins to wait for seat 1, and then place 2 for seat 0. When
+/// place 0 gets up, each of them can eat, but not both.
 #[derive(Drop)]
 struct Dinner<'a>(&'a Turns);
 
@@ -63,7 +65,7 @@ impl Row<Table> for Dinner<'_> {
     }
 }
 
-// Place 2 goes on first, though it came later: it has the first seat. Place 1 waits meanwhile.
+// Place 2 resumes first, though it came later: it has the first seat. Place 1 waits meanwhile.
 #[test]
 fn who_has_the_first_seat_goes_on_first(host: HostRuntime) {
     let (rt, alloc) = (&host, host.alloc());

@@ -1,5 +1,5 @@
-//! In which order processes begin to wait: each awaits its turn, and one gives the turns, the next once those before it
-//! wait.
+//! The order in which processes begin to wait. Each waits outside for its turn, and one process gives the turns: the
+//! next when the processes before it wait.
 ghost use Rattle.std.specs.Prelude.{◌≡◌};
 
 use hoare_law::data::MonitorData;
@@ -13,31 +13,31 @@ use std::time::Duration;
 use test_support::limit::VISITS;
 use test_support::running::count_waiting;
 
-/// Whose turn it is. Nobody's is 0.
+/// The turn that was given last, or 0 if none was.
 #[derive(Drop)]
 pub struct Turns {
     now: AtomicUsize,
 }
 
 impl Turns {
-    /// It is nobody's turn yet.
+    /// Creates the turns, none of which is given.
     pub fn new() -> Turns {
         Turns {
             now: AtomicUsize::new(0),
         }
     }
 
-    /// Gives the turn, and with it all those before.
+    /// Gives the turn, and with it all turns before.
     pub fn give(&self, turn: usize) {
         self.now.store(turn, Ordering::SeqCst);
     }
 
-    /// Takes all turns back, when each of them was awaited.
+    /// Takes all turns back. Each must have been awaited.
     pub fn start_again(&self) {
         self.give(0);
     }
 
-    /// Waits outside until the turn was given. The test fails after ten thousand looks, a millisecond apart.
+    /// Waits outside until the turn is given. Fails the test after ten thousand polls, a millisecond apart.
     pub fn await_turn<R: Abort + Clock>(&self, rt: &R, turn: usize) {
         for _ in 0..10_000 {
             if self.now.load(Ordering::SeqCst) >= turn {
@@ -49,7 +49,7 @@ impl Turns {
     }
 }
 
-/// Comes in and goes out until this many wait. The test fails after `VISITS` times.
+/// Enters and leaves until `waiting` processes wait. Fails the test after `VISITS` visits.
 pub fn watch<D: MonitorData, R: Wait + Abort, M: Monitor<D>>(
     rt: &R,
     m: &M,
@@ -73,7 +73,7 @@ pub fn watch<D: MonitorData, R: Wait + Abort, M: Monitor<D>>(
     panic!(rt; "the others don't wait")
 }
 
-/// Gives the turns 1 to `count`, each once those before it wait, and comes back when all of them do.
+/// Gives the turns 1 to `count`, each when the processes before it wait. Returns when all of them wait.
 pub fn line_up<D: MonitorData, R: Wait + Abort, M: Monitor<D>>(
     rt: &R,
     m: &M,

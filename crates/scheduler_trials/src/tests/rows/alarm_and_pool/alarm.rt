@@ -14,7 +14,7 @@ use std::rt::Clock;
 use std::sync::Wait;
 use timed_schedulers::alarm::{Alarm, ClockFull, TooFar};
 
-/// Sleeps for this many ticks: the time at which it woke.
+/// Sleeps for this many ticks. Returns the time at which it woke.
 fn sleeps<R: Wait + Abort, M: Monitor<Alarm>>(
     rt: &R,
     m: &M,
@@ -29,7 +29,7 @@ fn sleeps<R: Wait + Abort, M: Monitor<Alarm>>(
     (out, woke.expect(rt, "the setting is in time"))
 }
 
-/// Ticks twice once three sleep: the second time.
+/// Ticks twice when three processes sleep. Returns the time of the second tick.
 fn ticks_twice<R: Wait + Abort, M: Monitor<Alarm>>(rt: &R, m: &M, out: M::Out) -> (M::Out, u64)
     requires { M.is_of m.now out }
     ensures of { M.is_of m.now result.0 }
@@ -42,7 +42,7 @@ fn ticks_twice<R: Wait + Abort, M: Monitor<Alarm>>(rt: &R, m: &M, out: M::Out) -
     (out, second.expect(rt, "there is a next time"))
 }
 
-/// Sets the clock past the last time, which is refused.
+/// Sleeps for this many ticks, to past the last time. Fails the test unless that is refused.
 pub fn is_too_far<R: Wait + Abort, M: Monitor<Alarm>>(
     rt: &R,
     m: &M,
@@ -58,7 +58,7 @@ pub fn is_too_far<R: Wait + Abort, M: Monitor<Alarm>>(
     out
 }
 
-/// Ticks at the last time, which is refused.
+/// Ticks at the last time. Fails the test unless that is refused.
 pub fn is_full<R: Wait + Abort, M: Monitor<Alarm>>(rt: &R, m: &M, out: M::Out) -> M::Out
     requires { M.is_of m.now out }
     ensures of { M.is_of m.now result }
@@ -69,8 +69,8 @@ pub fn is_full<R: Wait + Abort, M: Monitor<Alarm>>(rt: &R, m: &M, out: M::Out) -
     out
 }
 
-/// At the last time: nothing can be set past it, and there is no next one, but who sets it goes on at once: the time
-/// that it found.
+/// At the last time no setting past it is possible, and no tick, and a sleeper that sets the last time continues at
+/// once. Returns the time that the sleeper found.
 fn ends_the_clock<R: Wait + Abort, M: Monitor<Alarm>>(rt: &R, m: &M, out: M::Out) -> (M::Out, u64)
     requires { M.is_of m.now out }
     ensures of { M.is_of m.now result.0 }
@@ -104,7 +104,7 @@ fn sleeps_or_ticks<R: Wait + Abort, M: Monitor<Alarm>>(
 enum AlarmRow<'a> {
     SleepersWakeAtTheirSettings,
     AClockEndsAtItsLastTime,
-    /// Its places write down what they do.
+    /// The places write down what they do.
     AllThatAreDueWakeAtTheirTime(&'a Log<Line>),
 }
 
@@ -131,7 +131,7 @@ impl Row<Alarm> for AlarmRow<'_> {
     }
 }
 
-// At which time the clock begins in the row, and how many places act.
+// Returns the time at which the clock begins in the row, and how many places act.
 fn setting(row: AlarmRow<'_>) -> (u64, usize) {
     match row {
         AlarmRow::SleepersWakeAtTheirSettings => (0, 4),
@@ -140,7 +140,7 @@ fn setting(row: AlarmRow<'_>) -> (u64, usize) {
     }
 }
 
-// What the places have to answer.
+// Returns what the places must return.
 fn wanted(row: AlarmRow<'_>) -> &'static [u64] {
     match row {
         AlarmRow::SleepersWakeAtTheirSettings => &[2, 2, 1, 2],

@@ -1,4 +1,4 @@
-//! The pool: the least-numbered free buffer goes to the stream that holds the fewest.
+//! The pool: the free buffer with the least number goes to the stream that holds the fewest.
 ghost use Rattle.std.specs.Prelude.{◌≡◌};
 ghost use Rattle.hoare_law.specs.Priorities.{nobody};
 ghost use Rattle.timed_schedulers.specs.Pools.{PoolRests};
@@ -17,14 +17,14 @@ use std::rt::Clock;
 use std::sync::Wait;
 use timed_schedulers::pool::{GiveRefused, NoStream, Pool, PoolRefused};
 
-/// A pool of this many buffers, for this many streams.
+/// Creates a pool of this many buffers, for this many streams. Fails the test if out of memory.
 pub fn with_buffers<R: Abort>(rt: &R, alloc: Global, buffers: u32, streams: u32) -> Pool
     ensures { PoolRests result (nobody 0) }
 {
     Pool::make(alloc, buffers, streams).expect(rt, "there is memory for a pool of this size")
 }
 
-/// Takes a buffer for the stream: which one.
+/// Takes a buffer for the stream. Returns its number.
 pub fn takes<R: Wait + Abort, M: Monitor<Pool>>(
     rt: &R,
     m: &M,
@@ -39,7 +39,7 @@ pub fn takes<R: Wait + Abort, M: Monitor<Pool>>(
     (out, taken.expect(rt, "it is a stream"))
 }
 
-/// Tries to give the buffer back in the stream's name: the answer has to be this.
+/// Attempts to give the buffer back in the stream's name. Fails the test unless `expected` is returned.
 pub fn gives<R: Wait + Abort, M: Monitor<Pool>>(
     rt: &R,
     m: &M,
@@ -57,7 +57,7 @@ pub fn gives<R: Wait + Abort, M: Monitor<Pool>>(
     out
 }
 
-/// Takes for a number that isn't a stream's, which is refused.
+/// Attempts to take a buffer for a number that isn't a stream's. Fails the test unless that is refused.
 pub fn is_no_stream<R: Wait + Abort, M: Monitor<Pool>>(
     rt: &R,
     m: &M,
@@ -95,7 +95,7 @@ fn lends<R: Wait + Abort, M: Monitor<Pool>>(rt: &R, m: &M, out: M::Out, turns: &
     out
 }
 
-/// Takes a buffer for the stream at this turn: which one.
+/// Takes a buffer for the stream at this turn. Returns its number.
 fn borrows<R: Wait + Abort + Clock, M: Monitor<Pool>>(
     rt: &R,
     m: &M,
@@ -113,8 +113,8 @@ fn borrows<R: Wait + Abort + Clock, M: Monitor<Pool>>(
     (out, u64::from(buffer))
 }
 
-/// Takes all buffers of the largest pool, in order, for the last stream, and gives the last back: no number is one too
-/// many.
+/// Takes all buffers of the largest pool, in order, for the last stream, and gives the last back. Numbers past the last
+/// one are refused.
 pub fn takes_all<R: Wait + Abort, M: Monitor<Pool>>(rt: &R, m: &M, out: M::Out) -> M::Out
     requires { M.is_of m.now out }
     ensures of { M.is_of m.now result }
@@ -136,7 +136,8 @@ pub fn takes_all<R: Wait + Abort, M: Monitor<Pool>>(rt: &R, m: &M, out: M::Out) 
     out
 }
 
-// Place 0 lends; place 1 waits for stream 0, which holds two buffers, and then place 2 for stream 2, which holds none.
+// Place 0 lends. Place 1 waits for stream 0, which holds two buffers, and then place 2 waits for stream 2, which holds
+// none.
 fn lends_or_borrows<R: Wait + Abort + Clock, M: Monitor<Pool>>(
     rt: &R,
     m: &M,
@@ -159,7 +160,7 @@ fn lends_or_borrows<R: Wait + Abort + Clock, M: Monitor<Pool>>(
 #[derive(Clone, Copy)]
 enum PoolRow<'a> {
     WhoHoldsTheFewestBuffersGoesOnFirst(&'a Turns),
-    /// Its places write down what they do.
+    /// The places write down what they do.
     ABufferHasOneHolder(&'a Log<Line>),
 }
 
@@ -185,7 +186,7 @@ impl Row<Pool> for PoolRow<'_> {
     }
 }
 
-// How many buffers, streams and places there are in the row.
+// Returns how many buffers, streams and places there are in the row.
 fn setting(row: PoolRow<'_>) -> (u32, u32, usize) {
     match row {
         PoolRow::WhoHoldsTheFewestBuffersGoesOnFirst(_) => (3, 3, 3),
@@ -193,7 +194,7 @@ fn setting(row: PoolRow<'_>) -> (u32, u32, usize) {
     }
 }
 
-// What the places have to answer.
+// Returns what the places must return.
 fn wanted(row: PoolRow<'_>) -> &'static [u64] {
     match row {
         PoolRow::WhoHoldsTheFewestBuffersGoesOnFirst(_) => &[0, 0, 2],

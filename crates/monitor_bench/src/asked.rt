@@ -1,4 +1,4 @@
-//! What the program says of itself, and what its words ask for.
+//! The names that the program prints, and what its arguments ask for.
 use crate::opening::DoorKind;
 use std::env::Args;
 use std::io;
@@ -51,20 +51,20 @@ size: the bytes of a book, without those on the heap
 bench/run compares these with other monitors; bench/schedulers takes those of the schedulers, bench/buffers of the
        buffers in turn, bench/book of the book";
 
-/// Names the measurements.
+/// Prints the names of the measurements, and how the program is called. Returns an error if printing fails.
 pub fn show(rt: &impl Print) -> io::Result<()> {
     println!(rt; "{NAMES}")?;
     println!(rt; "{USAGE}")
 }
 
-/// What is measured.
+/// What the arguments ask to be measured.
 #[derive(Clone, Copy)]
 pub enum Measured {
     /// The monitor itself, on a door of this kind.
     Monitor(DoorKind),
-    /// The schedulers' procedures.
+    /// The schedulers' procedures, on a door of this kind.
     Schedulers(DoorKind),
-    /// The buffers with conditions of either kind, in turn.
+    /// The buffers with conditions of either kind in turn, on a door of this kind.
     Buffers(DoorKind),
     /// A full book of queues.
     Book,
@@ -72,7 +72,8 @@ pub enum Measured {
     BookOrders,
 }
 
-// Whether the word is the wanted one, and the word behind it then.
+// If `word` is `wanted`, returns true, and the next word or, if there is none, `word`. Otherwise returns false and
+// `word`.
 fn is_word(word: String, wanted: &str, words: &mut Args) -> (bool, String) {
     if word.as_str() == wanted {
         (true, words.next().unwrap_or(word))
@@ -81,7 +82,7 @@ fn is_word(word: String, wanted: &str, words: &mut Args) -> (bool, String) {
     }
 }
 
-// Which measures of a book are asked for.
+// Returns which measures of a book are asked for, and the word after the options.
 fn asked_of_book(word: String, words: &mut Args) -> (Measured, String) {
     let (of_orders, word) = is_word(word, "--orders", words);
     let measured = if of_orders {
@@ -92,7 +93,7 @@ fn asked_of_book(word: String, words: &mut Args) -> (Measured, String) {
     (measured, word)
 }
 
-// Which measures of a monitor.
+// Returns which measures of a monitor are asked for, and the word after the options.
 fn asked_of_monitor(word: String, words: &mut Args) -> (Measured, String) {
     let (of_tickets, word) = is_word(word, "--ticket", words);
     let kind = if of_tickets {
@@ -113,7 +114,7 @@ fn asked_of_monitor(word: String, words: &mut Args) -> (Measured, String) {
     (measured, word)
 }
 
-/// What the words before the number ask for, and the word that should be the number.
+/// Returns what the words before the number ask for, and the word that should be the number.
 pub fn asked(word: String, words: &mut Args) -> (Measured, String) {
     let (of_book, word) = is_word(word, "--book", words);
     if of_book {

@@ -6,17 +6,17 @@ use std::rt::Clock;
 use std::time::Duration;
 use wait_book::book::{Book, MOST_CONDITIONS, MOST_PLACES};
 
-// Nanoseconds for each of a number.
+// Returns the time of each of `count` steps, in whole nanoseconds.
 fn each(spent: Duration, count: u64) -> u128 {
     spent.as_nanos() / u128::from(count.max(1))
 }
 
-// Prints a figure.
+// Prints a figure in nanoseconds.
 fn tell_nanos<R: Print>(rt: &R, name: &str, nanos: u128) -> io::Result<()> {
     println!(rt; "{name} {nanos} ns")
 }
 
-// The three figures of a full book.
+// Measures the three figures of a full book, and prints them.
 fn measure_full<R: Print + Clock>(rt: &R, book: &mut Book, rounds: u64) -> io::Result<()> {
     let load = Load {
         waiters: 63,
@@ -33,12 +33,13 @@ fn measure_full<R: Print + Clock>(rt: &R, book: &mut Book, rounds: u64) -> io::R
     tell_nanos(rt, "book_signal_leave", signals)
 }
 
-// Prints a figure of a number of places that wait.
+// Prints a figure in nanoseconds, with a number of waiters in its name.
 fn tell_of<R: Print>(rt: &R, name: &str, waiters: u64, nanos: u128) -> io::Result<()> {
     println!(rt; "{name}_{waiters} {nanos} ns")
 }
 
-// The two figures of a number of places that wait on one condition with priorities in this order.
+// Measures the two figures of a number of places that wait on one condition with priorities in this order, and prints
+// them.
 fn measure_order<R: Print + Clock>(
     rt: &R,
     book: &mut Book,
@@ -62,7 +63,7 @@ fn measure_order<R: Print + Clock>(
     )
 }
 
-// The figures of an order, with few, some and all places waiting.
+// Measures the figures of an order, with few, some and all places waiting.
 fn measure_each<R: Print + Clock>(
     rt: &R,
     book: &mut Book,
@@ -75,7 +76,7 @@ fn measure_each<R: Print + Clock>(
     Ok(())
 }
 
-// The figures of all orders.
+// Measures the figures of all orders, then the clock and the size of a book, and prints them.
 fn measure_orders<R: Print + Clock>(rt: &R, book: &mut Book, rounds: u64) -> io::Result<()> {
     for order in [Order::Equal, Order::Rising, Order::Falling] {
         measure_each(rt, book, order, rounds)?;
@@ -85,7 +86,8 @@ fn measure_orders<R: Print + Clock>(rt: &R, book: &mut Book, rounds: u64) -> io:
     println!(rt; "size {} bytes", size_of::<Book>())
 }
 
-// The figure of calls of a number of places, of which each has a look at the clock in it, or 63 calls share one.
+// Returns the time of each call on a number of waiters, in nanoseconds. It includes two reads of the clock for each
+// round: for each broadcast or count, or for the notifies of all waiters.
 fn measure_call<R: Print + Clock>(
     rt: &R,
     book: &mut Book,
@@ -97,7 +99,7 @@ fn measure_call<R: Print + Clock>(
     Ok(each(spent, calls))
 }
 
-// The figures of notifies and broadcasts, on a book whose conditions are Mesa conditions.
+// Measures the figures of notifies and broadcasts, and of counts, on a book whose conditions are Mesa conditions.
 fn measure_calls<R: Print + Clock>(rt: &R, book: &mut Book, rounds: u64) -> io::Result<()> {
     let notify = measure_call(rt, book, Call::Notify, 63, rounds)?;
     tell_nanos(rt, "book_notify", notify)?;
@@ -110,7 +112,7 @@ fn measure_calls<R: Print + Clock>(rt: &R, book: &mut Book, rounds: u64) -> io::
     Ok(())
 }
 
-// A book of all places and conditions, of which the last `mesa` are Mesa conditions.
+// Creates a book of the most places and conditions, of which the last `mesa` are Mesa conditions.
 fn full_book(alloc: Global, mesa: usize) -> anyhow::Result<Book> {
     match Book::make(alloc, MOST_PLACES, MOST_CONDITIONS, mesa) {
         Ok(book) => Ok(book),
@@ -118,7 +120,8 @@ fn full_book(alloc: Global, mesa: usize) -> anyhow::Result<Book> {
     }
 }
 
-/// The figures of a full book, or with `of_orders` those of all orders, and of notifies and broadcasts: a line each.
+/// Measures the figures of a full book, or with `of_orders` those of all orders, and of notifies, broadcasts and
+/// counts, and prints a line for each. Returns an error if out of memory, if the clock fails or if printing fails.
 pub fn measure<R: Print + Clock>(
     rt: &R,
     alloc: Global,

@@ -9,15 +9,15 @@ use std::sync::Wait;
 use std::thread::Threads;
 use std::time::Duration;
 
-// The conditions of a buffer.
+// The kind of the conditions of a buffer.
 #[derive(Clone, Copy)]
 enum Conditions {
     Hoare,
     Mesa,
 }
 
-// In which order the rows come: each half is the other with the kinds exchanged. So what a row finds, as where the rows
-// before it left room in memory, isn't another thing for one kind.
+// The order of the rows: each half is the other with the kinds exchanged. So what a row finds, such as the room that
+// the rows before it left in memory, isn't different for one kind.
 const IN_TURN: [Conditions; 16] = [
     Conditions::Hoare,
     Conditions::Mesa,
@@ -37,7 +37,7 @@ const IN_TURN: [Conditions; 16] = [
     Conditions::Hoare,
 ];
 
-// How many rows of each kind there are.
+// Number of rows of each kind.
 const ROWS: u64 = 8;
 
 // How long all rows of each kind took.
@@ -47,7 +47,8 @@ struct Spent {
     mesa: Duration,
 }
 
-// The rows at this number of places, half of which append this many items each.
+// Measures the rows at this number of places, half of which append `items` items each. Returns how long all rows of
+// each kind took.
 fn in_turn<R: Clock + Threads + Wait + Sync>(
     rt: &R,
     alloc: Global,
@@ -72,7 +73,9 @@ fn in_turn<R: Clock + Threads + Wait + Sync>(
     Ok(Spent { hoare, mesa })
 }
 
-/// The rows of the buffers in turn: prints a line for each. A row before them isn't counted.
+/// Measures the rows of the buffers in turn, on a door of this kind, and prints a line for each figure. Half of the
+/// threads append `turns` / 100 items each. A row is run before them, and isn't counted. Returns an error if out of
+/// memory, if the clock fails or if printing fails.
 pub fn measure<R: Print + Eprint + Clock + Threads + Wait + Sync>(
     rt: &R,
     alloc: Global,

@@ -1,4 +1,4 @@
-//! What a release of the disk head takes while others wait elsewhere on the sweep, over any monitor.
+//! What a release of the disk head takes while others wait at other cylinders of the sweep, over any monitor.
 ghost use Rattle.std.specs.Prelude.{All, IfOk};
 
 use crate::opening::last_place;
@@ -16,7 +16,7 @@ use sweep_schedulers::direction::UPSWEEP;
 use sweep_schedulers::head::Head;
 use ticket_door::door::TicketDoor;
 
-/// A monitor of a disk head that threads share.
+/// A monitor of a disk head, which threads share.
 pub trait SharedDisk: Monitor<Head<u64>> + Sync {}
 
 impl SharedDisk for Door<Head<u64>> {}
@@ -26,15 +26,15 @@ impl SharedDisk for TicketDoor<Head<u64>> {}
 // What the threads of a disk know of each other.
 #[derive(Drop)]
 struct Rounds {
-    // How many of them know their cylinder.
+    // How many threads know their cylinder.
     cylinders: AtomicU64,
-    // Whether the next release at cylinder 1 is the first of an upsweep.
+    // True if the next release at cylinder 1 is the first of an upsweep.
     is_first: AtomicBool,
-    // Whether the last round is over.
+    // True if the last round is over.
     done: AtomicBool,
 }
 
-// Takes the drive to the cylinder and hands it on: how long the release took.
+// Takes the drive to the cylinder and releases it. Returns how long the release took.
 fn visit<R: Wait + Clock, M: Monitor<Head<u64>>>(
     rt: &R,
     m: &M,
@@ -53,7 +53,7 @@ fn visit<R: Wait + Clock, M: Monitor<Head<u64>>>(
     Ok((out, spent))
 }
 
-// Takes the drive to the cylinder and hands it on, until the rounds are over.
+// Takes the drive to the cylinder and releases it, until the rounds are over. Returns no time.
 fn visit_many<R: Wait + Clock, M: Monitor<Head<u64>>>(
     rt: &R,
     m: &M,
@@ -74,7 +74,8 @@ fn visit_many<R: Wait + Clock, M: Monitor<Head<u64>>>(
     unreachable!()
 }
 
-// The same at cylinder 1: how long the releases took that were the first of an upsweep.
+// Takes the drive to cylinder 1 and releases it, until the rounds are over. Returns how long the releases took that
+// were the first of an upsweep.
 fn visit_first<R: Wait + Clock, M: Monitor<Head<u64>>>(
     rt: &R,
     m: &M,
@@ -97,7 +98,7 @@ fn visit_first<R: Wait + Clock, M: Monitor<Head<u64>>>(
     unreachable!()
 }
 
-// Looks until this many wait for the upsweep.
+// Enters and leaves until at least `others` processes wait for the upsweep.
 fn line_up<R: Wait, M: Monitor<Head<u64>>>(rt: &R, m: &M, out: M::Out, others: usize) -> M::Out
     requires { M.is_of m.now out }
     ensures { M.is_of m.now result }
@@ -115,7 +116,7 @@ fn line_up<R: Wait, M: Monitor<Head<u64>>>(rt: &R, m: &M, out: M::Out, others: u
     unreachable!()
 }
 
-// At cylinder 0: starts each upsweep once all others wait for it, `turns` times.
+// At cylinder 0: starts each upsweep when all others wait for it, `turns` times. Returns no time.
 fn start_upsweeps<R: Wait, M: Monitor<Head<u64>>>(
     rt: &R,
     m: &M,
@@ -139,7 +140,8 @@ fn start_upsweeps<R: Wait, M: Monitor<Head<u64>>>(
     Ok(Duration::ZERO)
 }
 
-// The first place to come starts the upsweeps, the second one's releases are measured, and the others wait meanwhile.
+// The first place to start begins the upsweeps, the releases of the second are measured, and the others wait meanwhile.
+// Returns how long the measured releases took.
 fn sweep_many<R: Threads + Wait + Clock + Sync, M: SharedDisk>(
     rt: &R,
     m: &M,
@@ -180,14 +182,16 @@ where
 /// What the threads of a disk do.
 #[derive(Clone, Copy)]
 pub enum DiskLoad {
-    /// One of them takes the drive to the next cylinder and puts it in again.
+    /// One thread takes the drive to the next cylinder and releases it.
     Alone,
-    /// Releases of the drive are measured, at cylinder 1, each as the first of an upsweep on which all but two of them
-    /// wait.
+    /// Releases of the drive at cylinder 1 are measured. Each is the first of an upsweep on which all but two of the
+    /// places wait.
     Sweeping,
 }
 
-/// The threads of a disk do their load, this many times: how long that took.
+/// Lets the threads of a disk do their load, `turns` times. Returns how long that took, with `Sweeping` the measured
+/// releases alone. Returns an error if out of memory, if there is no place, if the clock fails, or if a request or a
+/// release is refused.
 pub fn work_disk<R: Threads + Wait + Clock + Sync, M: SharedDisk>(
     rt: &R,
     m: &M,

@@ -1,5 +1,5 @@
-//! What is measured with threads, over any monitor. Every place has a thread of its own; the threads share out their
-//! roles in the order in which they come.
+//! What is measured with threads, over any monitor. Every place has a thread of its own. The threads take their roles
+//! in the order in which they start.
 ghost use Rattle.std.specs.Prelude.{All};
 
 use crate::fairness::{Others, count_others};
@@ -22,30 +22,30 @@ use std::time::{Duration, Instant};
 use std::{io, thread};
 use ticket_door::door::TicketDoor;
 
-/// A monitor of a counter that threads share, with one condition. (A closure that goes to a thread needs a bound with
-/// no parameter, and one closure can't be handed on by a function that is generic over what it does: so each load has
-/// its own.)
+/// A monitor of a counter with one condition, which threads share. (A closure that goes to a thread needs a bound
+/// without a parameter, and a function that is generic over what it does can't pass a closure on. So each load has its
+/// own closure.)
 pub trait OneShared: Monitor<Unasked<u64, 1>> + Sync {}
 
 impl OneShared for Door<Unasked<u64, 1>> {}
 
 impl OneShared for TicketDoor<Unasked<u64, 1>> {}
 
-/// The same with eight conditions.
+/// A monitor of a counter with eight conditions, which threads share.
 pub trait EightShared: Monitor<Unasked<u64, 8>> + Sync {}
 
 impl EightShared for Door<Unasked<u64, 8>> {}
 
 impl EightShared for TicketDoor<Unasked<u64, 8>> {}
 
-/// The same of a buffer.
+/// A monitor of a buffer with Hoare's conditions, which threads share.
 pub trait SharedBuffer: Monitor<Buffer<u64>> + Sync {}
 
 impl SharedBuffer for Door<Buffer<u64>> {}
 
 impl SharedBuffer for TicketDoor<Buffer<u64>> {}
 
-/// The same of visits of all kinds.
+/// A monitor for visits of all kinds, which threads share.
 pub trait SharedMixed: Monitor<Mixed> + Sync {}
 
 impl SharedMixed for Door<Mixed> {}
@@ -55,17 +55,18 @@ impl SharedMixed for TicketDoor<Mixed> {}
 /// What the threads of a counter with one condition do.
 #[derive(Clone, Copy)]
 pub enum CounterLoad {
-    /// One of them comes in, adds one and goes out.
+    /// One thread enters, adds one and leaves.
     Alone,
-    /// All do so.
+    /// All threads enter, add one and leave.
     Contended,
-    /// This many wait, and one more signals them.
+    /// This many threads wait, and one more signals them.
     Waiting(u64),
-    /// One of two tries to come in, where this is found.
+    /// One of two places makes attempts to enter, and finds this.
     Tried(Found),
 }
 
-/// The threads of a counter with one condition do their load, this many times: how long that took.
+/// Lets the threads of a counter with one condition do their load, `turns` times. Returns how long that took. Returns
+/// an error if out of memory, if there are too few places, if the clock fails, or if an attempt has the wrong result.
 pub fn count_with<R: Threads + Wait + Clock + Sync, M: OneShared>(
     rt: &R,
     m: &M,
@@ -90,13 +91,14 @@ where
 /// What the threads of a counter with eight conditions do.
 #[derive(Clone, Copy)]
 pub enum WideLoad {
-    /// One of them comes in, adds one and goes out.
+    /// One thread enters, adds one and leaves.
     Alone,
-    /// A chain of signallers.
+    /// The threads are a chain of signallers.
     Chained,
 }
 
-/// The threads of a counter with eight conditions do their load, this many times: how long that took.
+/// Lets the threads of a counter with eight conditions do their load, `turns` times. Returns how long that took.
+/// Returns an error if out of memory, if there is no place, or if the clock fails.
 pub fn count_widely<R: Threads + Wait + Clock + Sync, M: EightShared>(
     rt: &R,
     m: &M,
@@ -116,7 +118,7 @@ where
     start.elapsed(rt)
 }
 
-// Threads that come in, add one and go out, each `turns` times.
+// Threads enter, add one and leave, `turns` times each.
 fn contended<R: Threads + Wait + Sync, M: OneShared>(
     rt: &R,
     m: &M,
@@ -137,7 +139,8 @@ where
     Ok(())
 }
 
-// One thread that does the same at one of the places. An error where there is none.
+// One thread at the last of the places enters, adds one and leaves, `turns` times. Returns an error if there is no
+// place.
 fn alone<const N: usize, R: Wait, M: Monitor<Unasked<u64, N>>>(
     rt: &R,
     m: &M,
@@ -151,7 +154,8 @@ fn alone<const N: usize, R: Wait, M: Monitor<Unasked<u64, N>>>(
     Ok(())
 }
 
-// All but the last to come wait, each with its number for a priority, `turns` times; the last signals them in turn.
+// All threads but the last to start wait `turns` times each, with their number as the priority. The last thread signals
+// until all waits have ended.
 fn waiting<R: Threads + Wait + Sync, M: OneShared>(
     rt: &R,
     m: &M,
@@ -181,7 +185,7 @@ where
     Ok(())
 }
 
-// A chain of signallers, eight deep, `turns` times over: each signals the next, and all return in turn.
+// A chain of signallers, eight deep, `turns` times: each signals the next, and all return in turn.
 fn chained<R: Threads + Wait + Sync, M: EightShared>(
     rt: &R,
     m: &M,
@@ -210,7 +214,7 @@ where
     Ok(())
 }
 
-// Half of the threads append to a buffer, the others remove, each `turns` times: how long that took.
+// Half of the threads append to a buffer, the others remove, `turns` times each. Returns how long that took.
 fn buffered<R: Threads + Wait + Clock + Sync, M: SharedBuffer>(
     rt: &R,
     m: &M,
@@ -243,13 +247,14 @@ where
 /// What the threads of a buffer do.
 #[derive(Clone, Copy)]
 pub enum BufferLoad {
-    /// Half of them append, the others remove.
+    /// Half of the threads append, the others remove.
     Shared,
-    /// One of them appends and removes in turn.
+    /// One thread appends and removes in turn.
     Alone,
 }
 
-/// The threads of a buffer do their load, each this many times: how long that took.
+/// Lets the threads of a buffer do their load, `turns` times each. Returns how long that took. Returns an error if out
+/// of memory, if there is no place, or if the clock fails.
 pub fn work_buffer<R: Threads + Wait + Clock + Sync, M: SharedBuffer>(
     rt: &R,
     m: &M,
@@ -267,8 +272,8 @@ where
     }
 }
 
-/// Threads that mix all calls, each `turns` times, and the last to come, who resumes those that wait: how long that
-/// took.
+/// Threads mix all calls, `turns` times each; the last to start resumes waiters until the others are done. Returns how
+/// long that took. Returns an error if out of memory or if the clock fails.
 pub fn mixed<R: Threads + Wait + Clock + Sync, M: SharedMixed>(
     rt: &R,
     m: &M,
@@ -291,7 +296,7 @@ where
     start.elapsed(rt)
 }
 
-/// Threads that come in and go out, each `turns` times: what each met.
+/// Threads enter and leave, `turns` times each. Returns for each what it met, or an error if out of memory.
 pub fn met<R: Threads + Wait + Sync, M: OneShared>(
     rt: &R,
     m: &M,

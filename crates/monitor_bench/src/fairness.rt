@@ -1,5 +1,5 @@
-//! How many others are let in while a place asks to be: eight threads that come in and go out, each as soon as it is
-//! out again.
+//! How many others are admitted between two visits of a place, with eight threads that enter and leave, each again as
+//! soon as it is outside.
 use crate::tries::Counter;
 use hoare_law::monitor::Monitor;
 use std::io;
@@ -8,13 +8,13 @@ use std::sync::Wait;
 /// What places met between one visit and the next.
 #[derive(Clone, Copy, Drop)]
 pub struct Others {
-    /// The most others that were let in between.
+    /// The most admissions of others in between.
     pub largest: u64,
-    /// All of them, added up.
+    /// The sum of the admissions of others in between.
     pub sum: u64,
-    /// How often nobody was let in between.
+    /// How often no other was admitted in between.
     pub none: u64,
-    /// How often a place came in again.
+    /// How often a place entered again.
     pub visits: u64,
 }
 
@@ -28,7 +28,7 @@ impl Others {
         }
     }
 
-    // One visit more, after this number of visits of others.
+    // Returns the record with one more visit, before which `others` others were admitted.
     fn after(self, others: u64) -> Others {
         Others {
             largest: self.largest.max(others),
@@ -38,7 +38,8 @@ impl Others {
         }
     }
 
-    /// Prints a line for each figure.
+    /// Prints a line for each figure: the most, the mean, and the share of visits before which no other was admitted,
+    /// in percent. Returns an error if printing fails.
     pub fn show<R: Print>(&self, rt: &R) -> io::Result<()> {
         let visits = u128::from(self.visits.max(1));
         let mean = u128::from(self.sum) * 100 / visits;
@@ -48,7 +49,7 @@ impl Others {
         println!(rt; "others_none {none} percent")
     }
 
-    // What two places met.
+    // Returns the record of the visits of both records.
     fn and(self, more: Others) -> Others {
         Others {
             largest: self.largest.max(more.largest),
@@ -59,7 +60,7 @@ impl Others {
     }
 }
 
-/// Comes in and goes out, `turns` times: what the place met. The data count those that were let in.
+/// Enters and leaves, `turns` times. Returns what the place met. The data count the admissions.
 pub fn count_others<R: Wait, M: Monitor<Counter>>(rt: &R, m: &M, out: M::Out, turns: u64) -> Others
     requires { M.is_of m.now out }
 {
@@ -81,7 +82,7 @@ pub fn count_others<R: Wait, M: Monitor<Counter>>(rt: &R, m: &M, out: M::Out, tu
     others
 }
 
-/// What all of them met.
+/// Returns the record of the visits of all records.
 pub fn all_met(met: &[Others]) -> Others {
     met.iter().fold(Others::new(), |all, one| all.and(*one))
 }

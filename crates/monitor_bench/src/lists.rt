@@ -1,4 +1,4 @@
-//! The lists of rows: of each its name, what is measured, at how many places, and for how many acts its time stands.
+//! The lists of rows. A row has a name, what is measured, the number of places, and how its time is divided into acts.
 
 use crate::disks::DiskLoad;
 use crate::doors::{BufferLoad, CounterLoad, WideLoad};
@@ -13,9 +13,9 @@ use timed_schedulers::pool::MOST_BUFFERS;
 pub enum Load {
     /// A counter with one condition.
     Counter(CounterLoad),
-    /// The same with eight conditions.
+    /// A counter with eight conditions.
     Wide(WideLoad),
-    /// A buffer.
+    /// A buffer with Hoare's conditions.
     Buffer(BufferLoad),
     /// A buffer with Mesa conditions, which threads share.
     MesaBuffer,
@@ -33,18 +33,18 @@ pub enum Load {
     Readers(Visit),
 }
 
-/// A row.
+/// A row of the measurements.
 #[derive(Clone, Copy)]
 pub struct Row {
-    /// Its name.
+    /// Its name in the output.
     pub name: &'static str,
-    /// How many places its door has.
+    /// Number of places of its door.
     pub places: usize,
     /// What is measured there.
     pub load: Load,
-    /// Which part of the turns that are asked for are taken: all, a tenth and so on.
+    /// Divisor of TURNS: the load is done TURNS / `part` times.
     pub part: u64,
-    /// How many acts a turn is. The figure is of one act.
+    /// Number of acts each time. The figure is the time of one act.
     pub acts: u64,
 }
 
@@ -80,8 +80,8 @@ const LAST_OF_POOL: Load = Load::Pool(MOST_BUFFERS, MOST_BUFFERS - 1);
 
 const SLEEPING: Load = Load::Alarm(AlarmLoad::Sleeping);
 
-/// The rows of the monitor itself: places that come in and go out, that hand over to each other, many that wait, and
-/// tries.
+/// The rows of the monitor itself: places that enter and leave, that hand the monitor to each other, many waiters, and
+/// attempts to enter.
 pub const MONITOR: &[Row] = &[
     row!("enter_leave", 1, ALONE, 1, 1),
     row!("enter_leave_2", 2, CONTENDED, 10, 2),
@@ -100,8 +100,8 @@ pub const MONITOR: &[Row] = &[
     row!("try_enter_no", 2, TRIED_HELD, 1, 1),
 ];
 
-/// The rows of the schedulers: what their procedures take where nobody waits, what a sleep of one tick takes, and what
-/// a release does while others wait. One figure stands for a pair of procedures that undo each other.
+/// The rows of the schedulers: what their procedures take if no process waits, what a sleep of one tick takes, and what
+/// a release takes while others wait. For a pair of procedures that undo each other there is one figure.
 pub const SCHEDULERS: &[Row] = &[
     row!("enter_leave", 1, ALONE, 1, 1),
     row!("acquire_release", 1, Load::Single, 1, 1),

@@ -1,4 +1,4 @@
-//! Loads on a book of queues: places wait, and signals resume them, or a notify or a broadcast calls them.
+//! Loads on a book of queues: places wait, and signals resume them, or a notify or a broadcast notifies them.
 use hoare_law::waits::Waits;
 use std::io;
 use std::rt::Clock;
@@ -9,19 +9,19 @@ use wait_book::steps::{Next, Step};
 // The last place, which signals the others.
 const SIGNALLER: u64 = 63;
 
-/// How the priorities come, one after another.
+/// The order of the priorities of the waiters, one after the other.
 #[derive(Clone, Copy)]
 pub enum Order {
-    /// All are one.
+    /// All priorities are equal.
     Equal,
-    /// Each is above those before.
+    /// Each priority is above those before it.
     Rising,
-    /// Each is below those before.
+    /// Each priority is below those before it.
     Falling,
 }
 
 impl Order {
-    /// The names of its two figures: of the waits, and of the signals.
+    /// Returns the names of the two figures of this order: of the waits, and of the signals.
     pub fn names(self) -> (&'static str, &'static str) {
         match self {
             Order::Equal => ("book_enter_wait_equal", "book_signal_leave_equal"),
@@ -30,7 +30,7 @@ impl Order {
         }
     }
 
-    // The priority of a place, 0 to 62.
+    // Returns the priority of place 0 to 62.
     fn priority(self, place: u64) -> u64 {
         match self {
             Order::Equal => 0,
@@ -40,24 +40,24 @@ impl Order {
     }
 }
 
-/// Who waits: 1 to 63 places, on 1 to 8 conditions in turn, with priorities in this order.
+/// Which places wait: 1 to 63 places, on 1 to 8 conditions in turn, with priorities in this order.
 #[derive(Clone, Copy)]
 pub struct Load {
-    /// How many places wait: 1 to 63.
+    /// Number of places that wait: 1 to 63.
     pub waiters: u64,
-    /// How many conditions they wait on in turn: 1 to 8.
+    /// Number of conditions on which they wait in turn: 1 to 8.
     pub conditions: u64,
-    /// How their priorities come.
+    /// The order of their priorities.
     pub order: Order,
 }
 
 impl Load {
-    // The condition of a place.
+    // Returns the condition of a place.
     fn condition(self, place: u64) -> u64 {
         place % self.conditions.max(1)
     }
 
-    // Each place comes in and waits.
+    // Each place enters and waits.
     fn enter_and_wait(self, book: &mut Book) {
         for place in 0..self.waiters {
             let _entered = book.try_step(Step::Enter(place));
@@ -66,7 +66,8 @@ impl Load {
         }
     }
 
-    // The last place signals each condition in turn until nobody waits; who is resumed goes out. How many were resumed.
+    // The last place signals each condition in turn until no place waits. Each resumed place leaves. Returns how many
+    // were resumed.
     fn signal_and_leave(self, book: &mut Book) -> u64 {
         let mut resumed = 0u64;
         let _entered = book.try_step(Step::Enter(SIGNALLER));
@@ -84,26 +85,26 @@ impl Load {
     }
 }
 
-/// What steps took, and how many places were resumed.
+/// How long steps took, and how many places were resumed.
 #[derive(Clone, Copy)]
 pub struct Spent {
-    /// How long the places took to come in and wait, over all rounds.
+    /// How long the places took to enter and wait, over all rounds.
     pub waits: Duration,
-    /// How long the signals took then, until all were out, over all rounds.
+    /// How long the signals took then, until all places were outside, over all rounds.
     pub signals: Duration,
     /// How many places were resumed, over all rounds.
     pub resumed: u64,
 }
 
 impl Spent {
-    /// Nothing yet.
+    /// Before the first round.
     pub const NONE: Spent = Spent {
         waits: Duration::ZERO,
         signals: Duration::ZERO,
         resumed: 0,
     };
 
-    // With one round more.
+    // Makes another round. Returns the sums with that round.
     fn with_round<R: Clock>(self, rt: &R, book: &mut Book, load: Load) -> io::Result<Spent> {
         let start = Instant::now(rt)?;
         load.enter_and_wait(book);
@@ -119,7 +120,7 @@ impl Spent {
     }
 }
 
-/// All wait and are resumed, a number of times over.
+/// Lets all places of the load wait and be resumed, `rounds` times. Returns the sums, or an error if the clock fails.
 pub fn spend<R: Clock>(rt: &R, book: &mut Book, load: Load, rounds: u64) -> io::Result<Spent> {
     let mut spent = Spent::NONE;
     for _ in 0..rounds {
@@ -128,7 +129,7 @@ pub fn spend<R: Clock>(rt: &R, book: &mut Book, load: Load, rounds: u64) -> io::
     Ok(spent)
 }
 
-/// What a number of rounds took in which 63 places come in and go out.
+/// Lets 63 places enter and leave, `rounds` times. Returns how long that took, or an error if the clock fails.
 pub fn come_and_go<R: Clock>(rt: &R, book: &mut Book, rounds: u64) -> io::Result<Duration> {
     let start = Instant::now(rt)?;
     for round in 0..rounds.saturating_mul(SIGNALLER) {
@@ -139,7 +140,8 @@ pub fn come_and_go<R: Clock>(rt: &R, book: &mut Book, rounds: u64) -> io::Result
     start.elapsed(rt)
 }
 
-/// What a number of rounds take in which the clock is looked at as often as in a load, and nothing is done.
+/// Reads the clock twice in each of `rounds` rounds, as for each figure of a load, and does nothing between. Returns
+/// how long that took, or an error if the clock fails.
 pub fn look_at_clock<R: Clock>(rt: &R, rounds: u64) -> io::Result<Duration> {
     let mut spent = Duration::ZERO;
     for _ in 0..rounds {
@@ -149,19 +151,19 @@ pub fn look_at_clock<R: Clock>(rt: &R, rounds: u64) -> io::Result<Duration> {
     Ok(spent)
 }
 
-/// How those that wait are called.
+/// What the last place does with the waiters.
 #[derive(Clone, Copy)]
 pub enum Call {
-    /// One by one.
+    /// Notifies them one by one.
     Notify,
-    /// All at once.
+    /// Notifies all of them at once.
     Broadcast,
-    /// Not at all: they are counted.
+    /// Counts them, and notifies none.
     Count,
 }
 
 impl Call {
-    // The last place, which is inside, does it to those that wait on condition 0. How many calls it took.
+    // The last place, which is inside, does this with the waiters on condition 0. Returns how many calls it made.
     fn make(self, book: &mut Book, waiters: u64) -> u64 {
         match self {
             Call::Notify => {
@@ -179,7 +181,7 @@ impl Call {
     }
 }
 
-// Who is inside goes out, and each that goes on after it, until the monitor is free.
+// The process inside leaves, and so does each process that resumes after it, until the monitor is free.
 fn leave_all(book: &mut Book) {
     for _ in 0..=SIGNALLER {
         let Next::Held(place) = book.now() else {
@@ -189,8 +191,9 @@ fn leave_all(book: &mut Book) {
     }
 }
 
-/// What calls of a number of places that wait on condition 0, a Mesa condition, took in a number of rounds, and how
-/// many calls there were. With `Count` nobody is called by what is measured.
+/// Measures calls on `waiters` places that wait on condition 0, a Mesa condition, in `rounds` rounds. Returns how long
+/// the calls took, and how many there were, or an error if the clock fails. With `Count` the measured calls notify no
+/// place.
 pub fn spend_on_calls<R: Clock>(
     rt: &R,
     book: &mut Book,

@@ -1,8 +1,13 @@
-//! Measures what the calls cost. Without arguments it names its measurements; `monitor_bench TURNS` takes them on the
-//! baton door and prints a line `NAME VALUE ns` for each, with its progress on standard error; with `--ticket` before,
-//! on the ticket door; with `--schedulers` before TURNS, those of the schedulers' procedures, with `--buffers` those of
-//! the buffers with conditions of either kind in turn. `monitor_bench --book TURNS` takes those of the book of queues
-//! alone; with `--orders` before TURNS, those of other loads on it, and its size in bytes.
+//! Measures what the calls cost.
+//!
+//! - `monitor_bench` without arguments names its measurements.
+//! - `monitor_bench TURNS` takes them on the baton door, and prints a line `NAME VALUE ns` for each, with other units
+//!   for how many others enter. Its progress is on standard error. With `--ticket` before, it takes them on the ticket
+//!   door.
+//! - With `--schedulers` before TURNS it takes those of the schedulers' procedures; with `--buffers` those of the
+//!   buffers with conditions of either kind in turn.
+//! - `monitor_bench --book TURNS` takes those of the book of queues alone. With `--orders` before TURNS it takes those
+//!   of other loads on it, and its size in bytes.
 #![tactic(auto)]
 
 mod asked;
@@ -35,20 +40,22 @@ use std::thread::Threads;
 use std::time::Duration;
 use std::{env, io};
 
-// Hundredths of a nanosecond for each of `count`, to the nearest.
+// Returns the time of each of `count` acts in hundredths of a nanosecond, to the nearest.
 fn each(spent: Duration, count: u64) -> u128 {
     let count = u128::from(count.max(1));
     let hundredths = spent.as_nanos().saturating_mul(100);
     hundredths.saturating_add(count / 2) / count
 }
 
+// Prints the line of a figure, the time of each of `count` acts in nanoseconds, and on standard error that it was
+// taken.
 fn tell<R: Print + Eprint>(rt: &R, name: &str, spent: Duration, count: u64) -> io::Result<()> {
     let one = each(spent, count);
     eprintln!(rt; "monitor_bench: {name} taken")?;
     println!(rt; "{name} {}.{:02} ns", one / 100, one % 100)
 }
 
-// How many others are let in before one of eight places.
+// Measures how many others enter between two visits of each of eight places, and prints a line for each figure.
 fn measure_others<R: Print + Threads + Wait + Sync>(
     rt: &R,
     alloc: Global,
@@ -59,7 +66,7 @@ fn measure_others<R: Print + Threads + Wait + Sync>(
     all_met(&found).show(rt)
 }
 
-// All rows of the monitor itself: prints a line for each.
+// Measures all rows of the monitor itself, and prints a line for each.
 fn measure<R: Print + Eprint + Clock + Threads + Wait + Sync>(
     rt: &R,
     alloc: Global,

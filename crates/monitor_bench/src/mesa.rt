@@ -12,7 +12,7 @@ use std::time::{Duration, Instant};
 use std::{io, thread};
 use ticket_door::door::TicketDoor;
 
-/// A monitor of a buffer with Mesa conditions that threads share.
+/// A monitor of a buffer with Mesa conditions, which threads share.
 pub trait SharedMesaBuffer: Monitor<MesaBuffer<u64>> + Sync {}
 
 impl SharedMesaBuffer for Door<MesaBuffer<u64>> {}
@@ -29,7 +29,7 @@ fn append_many<R: Wait, M: Monitor<MesaBuffer<u64>>>(rt: &R, m: &M, out: M::Out,
     }
 }
 
-// Removes `turns` items, and adds them up.
+// Removes `turns` items, and returns their sum.
 fn remove_many<R: Wait, M: Monitor<MesaBuffer<u64>>>(rt: &R, m: &M, out: M::Out, turns: u64) -> u64
     requires { M.is_of m.now out }
 {
@@ -43,7 +43,8 @@ fn remove_many<R: Wait, M: Monitor<MesaBuffer<u64>>>(rt: &R, m: &M, out: M::Out,
     sum
 }
 
-/// Half of the threads append, the others remove, each `turns` times: how long that took.
+/// Half of the threads append, the others remove, `turns` times each. Returns how long that took, or an error if out of
+/// memory or if the clock fails.
 pub fn mesa_buffered<R: Threads + Wait + Clock + Sync, M: SharedMesaBuffer>(
     rt: &R,
     m: &M,

@@ -1,5 +1,5 @@
-//! Nine threads that mix all calls: eight wait with priorities, signal, pass and leave on three conditions as a fixed
-//! row of numbers says, and one resumes those that wait until all are done.
+//! Nine threads that mix all calls. Eight wait with priorities, signal, pass and leave on three conditions, by a fixed
+//! row of numbers. The ninth resumes waiters until the eight are done.
 ghost use Rattle.std.specs.Prelude.{◌<◌};
 
 use hoare_law::monitor::Monitor;
@@ -8,22 +8,22 @@ use hoare_law::waits::Waits;
 use std::sync::Wait;
 use std::thread;
 
-/// How many threads mix the calls.
+/// Number of threads that mix the calls.
 pub const WORKERS: u64 = 8;
 
-/// How often somebody came in or came back, and how many workers are done.
+/// How often workers entered or came back from a call, and how many workers are done.
 #[derive(Drop)]
 pub struct Visits {
-    /// How often a worker came in or came back.
+    /// How often a worker entered, or came back from a wait or a signal.
     pub visits: u64,
     /// How many workers are done.
     pub finished: u64,
 }
 
-/// Their monitor's data, with three conditions.
+/// The data of their monitor, with three conditions.
 pub type Mixed = Unasked<Visits, 3>;
 
-// The next of a row of numbers in which no pattern shows.
+// Returns the number after `seed` in a row of numbers without a visible pattern.
 fn draw(seed: u64) -> u64 {
     seed.wrapping_mul(6364136223846793005)
         .wrapping_add(1442695040888963407)
@@ -39,7 +39,7 @@ fn note<M: Monitor<Mixed>>(m: &M, inside: M::In) -> M::In
     inside
 }
 
-// Whether fewer than half of the workers wait.
+// Returns true if fewer than half of the workers wait.
 fn may_wait<M: Monitor<Mixed>>(m: &M, inside: &M::In) -> bool
     requires { M.is_of_in m.now inside.now }
 {
@@ -59,7 +59,7 @@ fn leave<R: Wait, M: Monitor<Mixed>>(rt: &R, m: &M, inside: M::In) -> M::Out
     m.leave(rt, inside)
 }
 
-// One visit of a worker: it waits, signals, passes or just leaves.
+// Makes one visit of a worker: it waits, signals, passes or just leaves.
 fn visit<R: Wait, M: Monitor<Mixed>>(rt: &R, m: &M, out: M::Out, lot: u64) -> M::Out
     requires { M.is_of m.now out }
     ensures { M.is_of m.now result }
@@ -79,7 +79,7 @@ fn visit<R: Wait, M: Monitor<Mixed>>(rt: &R, m: &M, out: M::Out, lot: u64) -> M:
     out
 }
 
-// This number of visits, and a note that they are over.
+// Makes `turns` visits, and notes that this worker is done.
 fn visit_many<R: Wait, M: Monitor<Mixed>>(rt: &R, m: &M, out: M::Out, me: u64, turns: u64)
     requires { M.is_of m.now out }
 {
@@ -95,7 +95,7 @@ fn visit_many<R: Wait, M: Monitor<Mixed>>(rt: &R, m: &M, out: M::Out, me: u64, t
     m.leave(rt, inside);
 }
 
-// Resumes those that wait until all workers are done.
+// Resumes waiters until all workers are done.
 fn sweep<R: Wait, M: Monitor<Mixed>>(rt: &R, m: &M, out: M::Out)
     requires { M.is_of m.now out }
 {
@@ -115,7 +115,7 @@ fn sweep<R: Wait, M: Monitor<Mixed>>(rt: &R, m: &M, out: M::Out)
     unreachable!()
 }
 
-/// Nobody came in yet.
+/// Returns the data before any visit.
 pub fn unvisited() -> Mixed {
     let none = Visits {
         visits: 0,
@@ -124,7 +124,8 @@ pub fn unvisited() -> Mixed {
     Unasked { value: none }
 }
 
-/// The work of one thread: a worker's, or of the last to come, who resumes those that wait.
+/// Does the work of one thread: that of a worker if `role` is below `WORKERS`, otherwise that of the ninth thread,
+/// which resumes waiters.
 pub fn mix<R: Wait, M: Monitor<Mixed>>(rt: &R, m: &M, out: M::Out, role: u64, turns: u64)
     requires { M.is_of m.now out }
 {

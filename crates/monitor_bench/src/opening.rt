@@ -11,21 +11,21 @@ use std::io;
 use ticket_door::door::TicketDoor;
 use ticket_door::place::TicketOut;
 
-/// Which door is measured.
+/// The kind of door that is measured.
 #[derive(Clone, Copy)]
 pub enum DoorKind {
     /// The baton door.
     Baton,
-    /// The ticket door, which lets newcomers in in the order of their tickets.
+    /// The ticket door, which admits entering threads in the order of their tickets.
     Ticket,
 }
 
-/// What is said where there is no memory.
+/// Returns the error that is reported if out of memory.
 pub fn no_memory() -> io::Error {
     io::Error::from(AllocError)
 }
 
-/// A baton door, and its places.
+/// Creates a baton door with the data `state`. Returns it with its places. Every refusal is reported as `no_memory`.
 pub fn baton<D: MonitorData + Send + Drop>(
     alloc: Global,
     state: D,
@@ -40,7 +40,7 @@ pub fn baton<D: MonitorData + Send + Drop>(
     }
 }
 
-/// A ticket door, and its places.
+/// Creates a ticket door with the data `state`. Returns it with its places. Every refusal is reported as `no_memory`.
 pub fn ticket<D: MonitorData + Send + Drop>(
     alloc: Global,
     state: D,
@@ -55,7 +55,7 @@ pub fn ticket<D: MonitorData + Send + Drop>(
     }
 }
 
-/// The last of a door's places. An error where there is none.
+/// Returns the last of a door's places, or the error `no_memory` if there is none.
 pub fn last_place<D: MonitorData, M: Monitor<D>>(
     m: &M,
     mut places: Vec<M::Out>,

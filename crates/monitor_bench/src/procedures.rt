@@ -1,5 +1,6 @@
-//! What one thread does with the procedures of the schedulers, over any monitor: a pair of them, again and again, and
-//! how long that took. A refusal ends it.
+//! What one thread does with the procedures of the schedulers, over any monitor: it calls a pair of them `turns` times,
+//! and returns how long that took. A refusal ends it. Each public function returns an error if it is given no place, if
+//! the clock fails, or if a procedure other than the end of a read is refused.
 ghost use Rattle.std.specs.Prelude.{All, IfOk};
 
 use crate::opening::last_place;
@@ -14,10 +15,10 @@ use sweep_schedulers::head::Head;
 use sweep_schedulers::readers_writers::{NoReader, ReadPass, ReadersWriters};
 use timed_schedulers::pool::Pool;
 
-/// How many cylinders the disk has.
+/// Number of cylinders of the disk.
 pub const CYLINDERS: u16 = 1024;
 
-/// Takes the item out and puts the next in.
+/// Takes the item out and puts the next in, `turns` times. Returns how long that took.
 pub fn acquire_release<R: Wait + Clock, M: Monitor<Single<u64>>>(
     rt: &R,
     m: &M,
@@ -37,7 +38,7 @@ pub fn acquire_release<R: Wait + Clock, M: Monitor<Single<u64>>>(
     Ok(start.elapsed(rt)?)
 }
 
-/// Puts the numbers below `turns` in, and takes each out again.
+/// Appends the numbers below `turns`, and removes each again. Returns how long that took.
 pub fn append_remove<R: Wait + Clock, M: Monitor<Buffer<u64>>>(
     rt: &R,
     m: &M,
@@ -75,7 +76,8 @@ fn take_many<R: Wait, M: Monitor<Pool>>(
     Ok(out)
 }
 
-/// Takes a buffer for stream 0, and gives it back, after `kept` were taken that are kept.
+/// Takes a buffer for stream 0 and gives it back, `turns` times, after `kept` buffers were taken that are kept. Returns
+/// how long the pairs took.
 pub fn take_give<R: Wait + Clock, M: Monitor<Pool>>(
     rt: &R,
     m: &M,
@@ -96,7 +98,7 @@ pub fn take_give<R: Wait + Clock, M: Monitor<Pool>>(
     Ok(start.elapsed(rt)?)
 }
 
-/// Takes the drive to the next cylinder, and puts it in again.
+/// Takes the drive to the next cylinder and releases it, `turns` times. Returns how long that took.
 pub fn request_release<R: Wait + Clock, M: Monitor<Head<u64>>>(
     rt: &R,
     m: &M,
@@ -117,8 +119,8 @@ pub fn request_release<R: Wait + Clock, M: Monitor<Head<u64>>>(
     Ok(start.elapsed(rt)?)
 }
 
-// Says that a read can't be ended, and never returns: a pass can't be let go, so who still has one can't return without
-// it.
+// Prints that a read can't be ended, and never returns. A pass can't be dropped, so a thread that still has a pass
+// can't return without it.
 fn stay<R: Wait + Eprint + Clock>(rt: &R, refused: NoReader) -> ! {
     let _told = eprintln!(rt; "monitor_bench: end_read: {refused}");
     for _ in rt.forever() {
@@ -127,7 +129,7 @@ fn stay<R: Wait + Eprint + Clock>(rt: &R, refused: NoReader) -> ! {
     unreachable!()
 }
 
-// Ends a read.
+// Ends a read. If that is refused, never returns.
 fn end_read<R: Wait + Eprint + Clock, M: Monitor<ReadersWriters<u64>>>(
     rt: &R,
     m: &M,
@@ -144,7 +146,7 @@ fn end_read<R: Wait + Eprint + Clock, M: Monitor<ReadersWriters<u64>>>(
     }
 }
 
-// Goes in as a reader, and out again.
+// Begins and ends a read, `turns` times. Returns how long that took.
 fn start_end_read<R: Wait + Eprint + Clock, M: Monitor<ReadersWriters<u64>>>(
     rt: &R,
     m: &M,
@@ -163,7 +165,7 @@ fn start_end_read<R: Wait + Eprint + Clock, M: Monitor<ReadersWriters<u64>>>(
     Ok(start.elapsed(rt)?)
 }
 
-// Goes in as the writer, and out again with the next value.
+// Begins a write, and ends it with the next value, `turns` times. Returns how long that took.
 fn start_end_write<R: Wait + Clock, M: Monitor<ReadersWriters<u64>>>(
     rt: &R,
     m: &M,
@@ -183,16 +185,16 @@ fn start_end_write<R: Wait + Clock, M: Monitor<ReadersWriters<u64>>>(
     Ok(start.elapsed(rt)?)
 }
 
-/// How one thread goes in where data are read and written.
+/// What one thread does with the data that are read and written.
 #[derive(Clone, Copy)]
 pub enum Visit {
-    /// As a reader.
+    /// It reads.
     Read,
-    /// As the writer.
+    /// It writes.
     Write,
 }
 
-/// Goes in so, and out again.
+/// Begins and ends a read or a write, by `visit`, `turns` times. Returns how long that took.
 pub fn read_or_write<R: Wait + Eprint + Clock, M: Monitor<ReadersWriters<u64>>>(
     rt: &R,
     m: &M,

@@ -1,5 +1,5 @@
-//! The door of each row: made with its data, of the kind that is measured, and what its places do there. (All rows of
-//! one kind of data share a function: what is called at a door's own type is dear to check.)
+//! The door of each row, made with its data and of the kind that is measured, and what its places do. (All rows of one
+//! kind of data share a function, since a call at a door's own type takes long to check.)
 ghost use Rattle.std.specs.Prelude.{IfOk};
 ghost use Rattle.hoare_law.specs.Priorities.{nobody};
 
@@ -32,7 +32,8 @@ use sweep_schedulers::readers_writers::ReadersWriters;
 use timed_schedulers::alarm::Alarm;
 use timed_schedulers::pool::Pool;
 
-// How long the work took at the places of a door of this kind, made with these data and this number of places.
+// Makes a door of this kind with these data and this number of places, and does the work there. Returns what the work
+// returns.
 macro_rules! on_places {
     ($kind:ident, $rt:ident, $alloc:ident, $data:expr, $places:expr, $work:ident($($more:expr),*)) => {{
         let data = $data;
@@ -49,7 +50,7 @@ macro_rules! on_places {
     }};
 }
 
-// The cells of the buffer.
+// Number of cells of the buffer.
 const RING: usize = 16;
 
 fn counter<const N: usize>() -> Unasked<u64, N> {
@@ -74,14 +75,14 @@ fn mesa_ring(alloc: Global) -> io::Result<MesaBuffer<u64>>
     }
 }
 
-// A pool of this number of buffers, for one stream.
+// Creates a pool of this number of buffers, for one stream.
 fn pool(alloc: Global, buffers: u32) -> anyhow::Result<Pool>
     ensures { IfOk result (λ p. ⟦<Pool as MonitorData>⟧.rest p nobody) }
 {
     Pool::make(alloc, buffers, 1).context("a pool")
 }
 
-// A counter with one condition.
+// Measures a counter with one condition.
 fn counter_row<R: Clock + Threads + Wait + Sync>(
     rt: &R,
     alloc: Global,
@@ -93,7 +94,7 @@ fn counter_row<R: Clock + Threads + Wait + Sync>(
     on_places!(kind, rt, alloc, counter(), count, count_with(load, turns))
 }
 
-// The same with eight conditions.
+// Measures a counter with eight conditions.
 fn wide_row<R: Clock + Threads + Wait + Sync>(
     rt: &R,
     alloc: Global,
@@ -105,7 +106,8 @@ fn wide_row<R: Clock + Threads + Wait + Sync>(
     on_places!(kind, rt, alloc, counter(), count, count_widely(load, turns))
 }
 
-/// A buffer.
+/// Measures a buffer with Hoare's conditions on a door of this kind with `count` places. Returns how long the load
+/// took, done `turns` times. Returns an error if out of memory, if there is no place, or if the clock fails.
 pub fn buffer_row<R: Clock + Threads + Wait + Sync>(
     rt: &R,
     alloc: Global,
@@ -124,7 +126,8 @@ pub fn buffer_row<R: Clock + Threads + Wait + Sync>(
     )
 }
 
-/// A buffer with Mesa conditions.
+/// Measures a buffer with Mesa conditions that is shared by `count` threads, on a door of this kind. Returns how long
+/// the load took, done `turns` times. Returns an error if out of memory or if the clock fails.
 pub fn mesa_row<R: Clock + Threads + Wait + Sync>(
     rt: &R,
     alloc: Global,
@@ -142,7 +145,7 @@ pub fn mesa_row<R: Clock + Threads + Wait + Sync>(
     )
 }
 
-// Visits of all kinds.
+// Measures visits of all kinds.
 fn mixed_row<R: Clock + Threads + Wait + Sync>(
     rt: &R,
     alloc: Global,
@@ -153,7 +156,8 @@ fn mixed_row<R: Clock + Threads + Wait + Sync>(
     on_places!(kind, rt, alloc, unvisited(), count, mixed(turns))
 }
 
-/// How many others are let in before a place.
+/// Measures how many others enter between two visits of a place, on a door of this kind with `count` places. Returns
+/// for each place what it met in `turns` visits, or an error if out of memory.
 pub fn others_row<R: Threads + Wait + Sync>(
     rt: &R,
     alloc: Global,
@@ -164,7 +168,7 @@ pub fn others_row<R: Threads + Wait + Sync>(
     on_places!(kind, rt, alloc, counter(), count, met(turns))
 }
 
-// A single item.
+// Measures a single item.
 fn single_row<R: Clock + Wait>(
     rt: &R,
     alloc: Global,
@@ -174,7 +178,7 @@ fn single_row<R: Clock + Wait>(
     on_places!(kind, rt, alloc, Single::with(0), 1, acquire_release(turns))
 }
 
-// A pool of this number of buffers, of which this many are kept.
+// Measures a pool of this number of buffers, of which `kept` are kept.
 fn pool_row<R: Clock + Wait>(
     rt: &R,
     alloc: Global,
@@ -192,7 +196,7 @@ fn pool_row<R: Clock + Wait>(
     )
 }
 
-// An alarm clock.
+// Measures an alarm clock.
 fn alarm_row<R: Clock + Threads + Wait + Sync>(
     rt: &R,
     alloc: Global,
@@ -211,7 +215,7 @@ fn alarm_row<R: Clock + Threads + Wait + Sync>(
     )
 }
 
-// A disk head.
+// Measures a disk head.
 fn disk_row<R: Clock + Threads + Wait + Sync>(
     rt: &R,
     alloc: Global,
@@ -230,7 +234,7 @@ fn disk_row<R: Clock + Threads + Wait + Sync>(
     )
 }
 
-// Readers and writers.
+// Measures readers and writers.
 fn readers_row<R: Eprint + Clock + Wait>(
     rt: &R,
     alloc: Global,
@@ -248,7 +252,7 @@ fn readers_row<R: Eprint + Clock + Wait>(
     )
 }
 
-// How long a row takes, at this number of turns.
+// Returns how long the row's load takes, done `turns` times.
 fn time_of<R: Eprint + Clock + Threads + Wait + Sync>(
     rt: &R,
     alloc: Global,
@@ -271,7 +275,9 @@ fn time_of<R: Eprint + Clock + Threads + Wait + Sync>(
     }
 }
 
-/// Takes these rows: prints a line for each, with what one act of it took.
+/// Measures these rows on a door of this kind, and prints a line for each, with the time of one act. The load of a row
+/// is done `turns` / `part` times. Returns an error, with the row's name, if a row can't be measured, or if printing
+/// fails.
 pub fn measure_rows<R: Print + Eprint + Clock + Threads + Wait + Sync>(
     rt: &R,
     alloc: Global,

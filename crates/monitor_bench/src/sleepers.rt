@@ -15,7 +15,7 @@ use std::time::{Duration, Instant};
 use ticket_door::door::TicketDoor;
 use timed_schedulers::alarm::Alarm;
 
-/// A monitor of an alarm clock that threads share.
+/// A monitor of an alarm clock, which threads share.
 pub trait SharedAlarm: Monitor<Alarm> + Sync {}
 
 impl SharedAlarm for Door<Alarm> {}
@@ -62,13 +62,13 @@ fn sleep_many<R: Wait, M: Monitor<Alarm>>(
 // What one thread calls again and again.
 #[derive(Clone, Copy)]
 enum AlarmCall {
-    // The next time is set.
+    // A tick, which sets the next time.
     Tick,
     // A sleep of no tick, which returns at once.
     WakeAtOnce,
 }
 
-// Calls it `turns` times: how long that took.
+// Makes the call `turns` times. Returns how long that took.
 fn call_alarm<R: Wait + Clock, M: Monitor<Alarm>>(
     rt: &R,
     m: &M,
@@ -86,8 +86,8 @@ fn call_alarm<R: Wait + Clock, M: Monitor<Alarm>>(
     Ok(start.elapsed(rt)?)
 }
 
-// Ticks whenever all that aren't done sleep, until all are done. (At the last time nobody sleeps: so nobody is left
-// sleeping where the tick is refused.)
+// Ticks whenever all sleepers that aren't done sleep, until all are done. (At the last time no thread sleeps: so no
+// thread is left asleep if the tick is refused.)
 fn tick_all<R: Wait, M: Monitor<Alarm>>(
     rt: &R,
     m: &M,
@@ -117,7 +117,8 @@ fn tick_all<R: Wait, M: Monitor<Alarm>>(
     unreachable!()
 }
 
-// All but the last to come sleep until the next tick, `turns` times; the last ticks whenever all of them sleep.
+// All threads but the last to start sleep until the next tick, `turns` times each. The last ticks whenever all of them
+// sleep. Returns how long that took.
 fn sleep_and_tick<R: Threads + Wait + Clock + Sync, M: SharedAlarm>(
     rt: &R,
     m: &M,
@@ -155,15 +156,16 @@ where
 /// What the threads of an alarm clock do.
 #[derive(Clone, Copy)]
 pub enum AlarmLoad {
-    /// One of them sets the next time.
+    /// One thread sets the next time.
     Ticking,
-    /// One of them asks for a sleep of no tick, which returns at once.
+    /// One thread asks for a sleep of no tick, which returns at once.
     WakingAtOnce,
-    /// All but the last to come sleep until the next tick, and the last ticks.
+    /// All threads but the last to start sleep until the next tick, and the last ticks.
     Sleeping,
 }
 
-/// The threads of an alarm clock do their load, this many times: how long that took.
+/// Lets the threads of an alarm clock do their load, `turns` times. Returns how long that took. Returns an error if out
+/// of memory, if there is no place, if the clock fails, or if a tick or a sleep is refused.
 pub fn work_alarm<R: Threads + Wait + Clock + Sync, M: SharedAlarm>(
     rt: &R,
     m: &M,

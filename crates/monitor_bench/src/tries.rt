@@ -1,4 +1,4 @@
-//! A try to come in, over any monitor: where nobody is inside, and where another place is.
+//! Attempts to enter, over any monitor: while no place is inside, and while another place is.
 ghost use Rattle.std.specs.Prelude.{All};
 
 use crate::opening::no_memory;
@@ -11,7 +11,7 @@ use std::time::{Duration, Instant};
 /// The data: a counter with one condition.
 pub type Counter = Unasked<u64, 1>;
 
-// Tries to come in, `turns` times, and where it did adds one and goes out.
+// Makes `turns` attempts to enter. After each that succeeds, adds one and leaves.
 fn try_many<R: Wait, M: Monitor<Counter>>(rt: &R, m: &M, out: M::Out, turns: u64) -> M::Out
     requires { M.is_of m.now out }
     ensures { M.is_of m.now result }
@@ -30,7 +30,7 @@ fn try_many<R: Wait, M: Monitor<Counter>>(rt: &R, m: &M, out: M::Out, turns: u64
     out
 }
 
-// Tries where nobody is inside: how often the place came in.
+// Makes `turns` attempts while no other place is inside. Returns how many succeeded.
 fn try_free<R: Wait, M: Monitor<Counter>>(rt: &R, m: &M, out: M::Out, turns: u64) -> u64
     requires { M.is_of m.now out }
 {
@@ -41,7 +41,7 @@ fn try_free<R: Wait, M: Monitor<Counter>>(rt: &R, m: &M, out: M::Out, turns: u64
     came_in
 }
 
-// Tries where another place is inside: how often the place came in.
+// Makes `turns` attempts while another place is inside. Returns how many succeeded.
 fn try_held<R: Wait, M: Monitor<Counter>>(
     rt: &R,
     m: &M,
@@ -59,17 +59,17 @@ fn try_held<R: Wait, M: Monitor<Counter>>(
     came_in
 }
 
-/// Where a place tries to come in.
+/// What a place finds when it makes an attempt to enter.
 #[derive(Clone, Copy)]
 pub enum Found {
-    /// Nobody is inside.
+    /// No place is inside.
     Free,
-    /// Another place is.
+    /// Another place is inside.
     Held,
 }
 
-/// Tries at one of two places, `turns` times: how long that took. An error where the place came in, or did not, against
-/// what was found.
+/// Makes `turns` attempts at one of two places. Returns how long that took. Returns an error if there are fewer than
+/// two places, if the clock fails, or if an attempt succeeded or failed against `found`.
 pub fn tried<R: Wait + Clock, M: Monitor<Counter>>(
     rt: &R,
     m: &M,

@@ -7,7 +7,7 @@ use hoare_law::waits::Waits;
 use plain_schedulers::buffer::Buffer;
 use std::sync::Wait;
 
-/// Comes in, adds one and goes out, `turns` times.
+/// Enters, adds one and leaves, `turns` times.
 pub fn add_many<const N: usize, R: Wait, M: Monitor<Unasked<u64, N>>>(
     rt: &R,
     m: &M,
@@ -25,7 +25,7 @@ pub fn add_many<const N: usize, R: Wait, M: Monitor<Unasked<u64, N>>>(
     }
 }
 
-/// Waits on condition 0, `turns` times.
+/// Waits on condition 0 with `priority`, `turns` times.
 pub fn wait_many<const N: usize, R: Wait, M: Monitor<Unasked<u64, N>>>(
     rt: &R,
     m: &M,
@@ -71,7 +71,7 @@ pub fn signal_many<const N: usize, R: Wait, M: Monitor<Unasked<u64, N>>>(
     unreachable!()
 }
 
-/// Waits on a condition and then signals the next, `turns` times: a link of a chain.
+/// Waits on `condition` and then signals the next, `turns` times, as a link of a chain. The last link doesn't signal.
 pub fn link_many<const N: usize, R: Wait, M: Monitor<Unasked<u64, N>>>(
     rt: &R,
     m: &M,
@@ -96,7 +96,7 @@ pub fn link_many<const N: usize, R: Wait, M: Monitor<Unasked<u64, N>>>(
     }
 }
 
-// Whether a process waits on each condition.
+// Returns true if a process waits on each condition.
 fn is_chain_ready<const N: usize, M: Monitor<Unasked<u64, N>>>(m: &M, inside: &M::In) -> bool
     requires { M.is_of_in m.now inside.now }
 {
@@ -104,7 +104,7 @@ fn is_chain_ready<const N: usize, M: Monitor<Unasked<u64, N>>>(m: &M, inside: &M
     (0..N).all(|c| lists.count(c) > 0)
 }
 
-/// Signals the first link of a chain once all its links wait, `turns` times.
+/// Signals the first link of a chain when all its links wait, `turns` times.
 pub fn pull_many<const N: usize, R: Wait, M: Monitor<Unasked<u64, N>>>(
     rt: &R,
     m: &M,
@@ -142,7 +142,7 @@ pub fn append_many<R: Wait, M: Monitor<Buffer<u64>>>(rt: &R, m: &M, out: M::Out,
     }
 }
 
-/// Removes `turns` items, and adds them up.
+/// Removes `turns` items, and returns their sum.
 pub fn remove_many<R: Wait, M: Monitor<Buffer<u64>>>(rt: &R, m: &M, out: M::Out, turns: u64) -> u64
     requires { M.is_of m.now out }
 {

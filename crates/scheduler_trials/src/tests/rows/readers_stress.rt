@@ -150,7 +150,7 @@ fn first_wrong(lines: &[Line]) -> (Option<Line>, usize) {
     (None, room.met_writers)
 }
 
-// Looks if a process waits to write, and asks to read.
+// Asks to read. Writes down before if a process waits to write, and after which value it found.
 fn looks_and_reads<R: Wait + Abort, M: Monitor<Shared>>(
     rt: &R,
     m: &M,

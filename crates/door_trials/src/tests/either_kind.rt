@@ -48,8 +48,9 @@ fn a_diary_of_either_kind_is_a_legal_history(host: HostRuntime) {
     }
 }
 
-// If this is a ticket door, place a takes a ticket, enters with it and leaves. Place b makes an attempt to enter before
-// and after that visit. Returns the places, and on a ticket door a's ticket and for each attempt if it succeeded.
+// If this is a ticket door, place a takes a ticket, enters with it and leaves. Place b makes an attempt to enter when a
+// has the ticket, and another after a left. Returns the places, and on a ticket door a's ticket and for each attempt if
+// it succeeded.
 fn asks_behind<R: Wait>(
     rt: &R,
     door: &AnyDoor<Tally>,

@@ -150,7 +150,7 @@ fn first_wrong(lines: &[Line]) -> (Option<Line>, usize) {
     (None, room.met_writers)
 }
 
-// Asks to read. Writes down before if a process waits to write, and after which value it found.
+// Asks to read. Writes down, before that, whether a process waits to write, and then the value that the place found.
 fn looks_and_reads<R: Wait + Abort, M: Monitor<Shared>>(
     rt: &R,
     m: &M,

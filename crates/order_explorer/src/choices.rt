@@ -1,26 +1,25 @@
-//! The choices of a run: which of those that want in is let in next.
+//! The choices of a run: which of the entering places is admitted next.
 ghost use Rattle.std.specs.Prelude.{◌≡◌, ◌<◌, ◌≤◌, ◌++◌, ◌∷◌, [], IfOk, None, MatchBool, length, slice_index_or};
 ghost use Rattle.order_explorer.specs.Turns.{AreLast, IsNew, IsTurned};
 
 use crate::schedule::{Ending, Limit};
 use std::alloc::{AllocError, Global};
 
-/// One choice: who wanted in (bit k is place k), the place behind which they are counted, how many they are, and which
-/// of them was let in, counted from 0.
+/// One choice: which places were to enter, and which of them was admitted.
 #[derive(Clone, Copy, Debug, PartialEq, Eq)]
 pub struct Choice {
-    /// Who wanted in: bit k is place k.
+    /// The places that were to enter: bit k is place k.
     pub asking: u64,
-    /// The place behind which they are counted, round the row of 64 places.
+    /// The place after which these places are counted, round the row of 64 places.
     pub behind: usize,
-    /// How many they are.
+    /// The number of these places.
     pub count: u64,
-    /// Which of them was let in, counted from 0.
+    /// Which of them was admitted, counted from 0.
     pub taken: u64,
 }
 
-/// The choices of a run: those that are given beforehand, and then those that it made. The room for all is made
-/// beforehand.
+/// The choices of a run: first those that are given at its start, then those that it makes. The room for all of them is
+/// allocated before the first run.
 #[derive(Drop)]
 pub struct Choices {
     all: Vec<Choice>,
@@ -33,13 +32,14 @@ pub struct Choices {
 /// Which orders are tried.
 #[derive(Clone, Copy, Debug, PartialEq, Eq)]
 pub enum Orders {
-    /// All, one after the other.
+    /// All orders, one after the other.
     All,
-    /// Drawn ones, from this seed.
+    /// Orders that are drawn from this seed. An order may be drawn twice.
     Drawn(u64),
 }
 
-// Who asks, with this many others between it and a place, round the row of places.
+// Returns the place that the choice admits: after `behind`, round the row of 64 places, the entering place number
+// `taken`, counted from 0. Returns `None` if there are fewer.
 fn place_of(choice: Choice) -> Option<usize> {
     let mut others = choice.taken;
     for i in 1..65usize {
@@ -54,8 +54,8 @@ fn place_of(choice: Choice) -> Option<usize> {
     None
 }
 
-// Makes the last choice that has another place left the next one, and forgets those behind it. False where none has one
-// left.
+// Changes the last choice that has a place left to its next place, and removes the choices after it. Returns false if
+// no choice has a place left.
 fn turn_last(all: &mut Vec<Choice>) -> bool
     ensures { MatchBool result (IsTurned all.old.items all.new.items) (AreLast 0 all.old.items) }
 {
@@ -76,8 +76,9 @@ fn turn_last(all: &mut Vec<Choice>) -> bool
 }
 
 impl Choices {
-    /// No choices, with room for so many. They are as given, or drawn from a seed, or each is the next in turn of those
-    /// that ask.
+    /// Creates the record without choices, with room for `most` of them. Places are admitted in the order of `given`,
+    /// if there is one. Else, by `orders`, they are drawn from a seed, or each new choice admits the first place that
+    /// is to enter, counted from the latest one. Refuses if an allocation fails.
     pub fn none(
         alloc: Global,
         most: usize,
@@ -97,8 +98,8 @@ impl Choices {
         })
     }
 
-    // Which of so many is let in where nothing is given: the first, so that the first order is a fair one; or a drawn
-    // one.
+    // Returns which of `count` places a new choice admits, counted from 0: the first, so that the first order is a fair
+    // one; or a drawn one, if orders are drawn.
     fn pick(&mut self, count: u64) -> u64
         ensures first { self.old.drawn ≡ None → result ≡ 0 }
         ensures all { self.new.all ≡ self.old.all }
@@ -113,7 +114,9 @@ impl Choices {
         (state >> 33) % count.max(1)
     }
 
-    // The choice at hand: the given one, if the same places asked when it was given, or a new one, which is kept.
+    // Returns the next choice: the one that `turn` kept, or, after the last of these, a new one, which it appends.
+    // Refuses with `Differs` if other places were to enter when the kept choice was made, and with `Limit` if there is
+    // no room for a new one.
     fn at_hand(&mut self, asking: u64) -> Result<Choice, Ending>
         ensures same { IfOk result (λ c. c.asking ≡ asking) }
         ensures given { self.old.next < length self.old.all.items
@@ -143,7 +146,8 @@ impl Choices {
         Ok(made)
     }
 
-    // The place that the given order lets in next, where it wants in.
+    // Returns the place that the order `given` admits next. Refuses with `Differs` if that place isn't to enter, or if
+    // the order has ended.
     fn given_place(&self, given: &[usize], asking: u64) -> Result<usize, Ending> {
         match given.get(self.next) {
             Some(place) if *place < 64 && asking >> *place & 1 == 1 => Ok(*place),
@@ -151,15 +155,18 @@ impl Choices {
         }
     }
 
-    /// A place came in by a try: nothing was chosen, but a given order has it.
+    /// Notes that a place entered by an attempt. That is no choice, but a given order lists the place: it is skipped
+    /// there.
     pub fn came_by_try(&mut self) {
         if self.given.is_some() {
             self.next = self.next.saturating_add(1);
         }
     }
 
-    /// Who of those that ask is let in: as given, and else picked. Where others were asking when the choice was given,
-    /// the program hangs on something beside the choices.
+    /// Returns the place that is admitted next, of those that are to enter (bit k of `asking` is place k): the given
+    /// one, or else a picked one. Refuses with `Limit` if there is no room for a new choice. Refuses with `Differs` if
+    /// other places were to enter when the choice was made: then the program depends on something besides the choices.
+    /// Refuses with `Differs` also if a given order has ended, or its next place isn't to enter, or no place is.
     pub fn choose(&mut self, asking: u64) -> Result<usize, Ending> {
         if let Some(given) = &self.given {
             let place = self.given_place(given.as_slice(), asking)?;
@@ -175,7 +182,9 @@ impl Choices {
         Ok(place)
     }
 
-    /// Gives the next run its choices: the last one that can be made otherwise is. False where all orders were tried.
+    /// Prepares the choices of the next run: the last choice that has a place left admits its next place, and the
+    /// choices after it are removed. Drawn choices are all removed; a given order begins again. Returns false if all
+    /// orders were tried. If orders are drawn, or one is given, it always returns true.
     pub fn turn(&mut self) -> bool
         ensures { self.old.drawn ≡ None → self.old.given ≡ None
             → MatchBool result (IsTurned self.old.all.items self.new.all.items)

@@ -1,4 +1,4 @@
-//! The controller that the threads of a run share: it notes what they do, and lets them go on by turns.
+//! The controller that the threads of a run share: it notes what they do, and resumes them one at a time.
 
 use crate::event_log::{EventLog, Note};
 use crate::run_state::{Act, RunState};
@@ -6,10 +6,10 @@ use crate::schedule::{Ending, Schedule};
 use std::alloc::{AllocError, Global};
 use std::sync::{Condvar, Mutex, MutexGuard, Wait};
 
-/// The state of the run under a lock, a bell for each place, and one for who awaits the end of the run.
+/// The state of the run under a lock, a bell for each place, and one for the thread that awaits the end of the run.
 #[derive(Drop)]
 pub(crate) struct Controller {
-    /// What is known of the run, and who goes on.
+    /// What is known of the run, and whose turn it is.
     pub state: Mutex<RunState>,
     bells: Vec<Condvar>,
     ended: Condvar,
@@ -18,7 +18,7 @@ pub(crate) struct Controller {
 }
 
 impl Controller {
-    /// A controller of a run with this many threads.
+    /// Creates the controller of runs with `threads` threads and at most `steps` steps. Refuses if an allocation fails.
     pub fn make(
         alloc: Global,
         threads: usize,
@@ -38,7 +38,7 @@ impl Controller {
         })
     }
 
-    // Wakes whoever goes on.
+    // Wakes the thread whose turn it is, or, if the run is over, the thread that awaits its end.
     fn ring(&self, state: &RunState) {
         if state.is_over() {
             self.ended.notify_all();
@@ -52,14 +52,15 @@ impl Controller {
         }
     }
 
-    // Waits for the place's turn. Where the run is cut off, it never comes.
+    // Blocks until it is the turn of `place`. If the run is cut off, that turn never comes.
     fn await_turn<R: Wait>(&self, rt: &R, state: MutexGuard<'_, RunState>, place: usize) {
         if let Some(bell) = self.bells.get(place) {
             let _state = bell.wait_while(rt, state, |seen| !seen.is_turn_of(place));
         }
     }
 
-    /// A thread waits for its part in the next run. False where no run comes any more.
+    /// Blocks until it is the turn of the thread `place` to begin its part in the next run. Returns false if there is
+    /// no further run, or no such thread.
     pub fn begin<R: Wait>(&self, rt: &R, place: usize) -> bool {
         let Some(bell) = self.bells.get(place) else {
             return false;
@@ -70,19 +71,19 @@ impl Controller {
         !state.is_stopped()
     }
 
-    /// Notes a call that waits for nobody.
+    /// Logs a non-blocking call. It is reported at the next call of `act`.
     pub fn note(&self, note: Note) {
         self.notes.add(note);
     }
 
-    // Tells what was noted.
+    // Reports all logged calls to `state`.
     fn hear_notes(&self, state: &mut RunState) {
         for at in 0..self.notes.take_count() {
             state.hear(self.notes.get(at));
         }
     }
 
-    /// A place wants in, and waits until it is let in.
+    /// Notes that `place` is to enter, and blocks until it is admitted.
     pub fn ask<R: Wait>(&self, rt: &R, place: usize) {
         let mut state = self.state.lock(rt);
         state.ask(place);
@@ -90,7 +91,8 @@ impl Controller {
         self.await_turn(rt, state, place);
     }
 
-    /// The process inside acts. Where the run is cut off, it sleeps for ever.
+    /// Reports the logged calls, and then an act of the process inside. If the run is over then, the caller sleeps for
+    /// ever.
     pub fn act<R: Wait>(&self, rt: &R, act: Act) {
         let mut state = self.state.lock(rt);
         self.hear_notes(&mut state);
@@ -99,7 +101,7 @@ impl Controller {
         let _state = self.never.wait_while(rt, state, |seen| seen.is_over());
     }
 
-    /// The process that is inside is back from a wait or a signal.
+    /// Blocks until it is the turn of the place inside. That is the caller's place, back from a wait or a signal.
     pub fn come_back<R: Wait>(&self, rt: &R) {
         let state = self.state.lock(rt);
         if let Some(place) = state.inside() {
@@ -107,14 +109,14 @@ impl Controller {
         }
     }
 
-    /// A run begins.
+    /// Begins a run.
     pub fn start<R: Wait>(&self, rt: &R) {
         let mut state = self.state.lock(rt);
         state.start();
         self.ring(&state);
     }
 
-    /// No run comes any more: threads that wait for one end.
+    /// Ends the exploration: threads that wait for the next run end.
     pub fn stop<R: Wait>(&self, rt: &R) {
         let mut state = self.state.lock(rt);
         state.stop();
@@ -123,20 +125,20 @@ impl Controller {
         }
     }
 
-    /// Gives the next run its choices. False where all orders were tried.
+    /// Prepares the choices of the next run. Returns false if all orders were tried.
     pub fn turn_choices<R: Wait>(&self, rt: &R) -> bool {
         let mut state = self.state.lock(rt);
         state.turn_choices()
     }
 
-    /// A thread has ended, and answers this.
+    /// Notes that the thread of `place` has ended, with this answer.
     pub fn finish<R: Wait>(&self, rt: &R, place: usize, answer: u64) {
         let mut state = self.state.lock(rt);
         state.finish(place, answer);
         self.ring(&state);
     }
 
-    /// Waits for the end of the run.
+    /// Blocks until the run is over, and returns how it ended.
     pub fn await_ending<R: Wait>(&self, rt: &R) -> Ending {
         let state = self
             .ended
@@ -147,7 +149,7 @@ impl Controller {
         }
     }
 
-    /// Takes out what happened.
+    /// Takes out the record of the run, with the given ending.
     pub fn take_schedule<R: Wait>(&self, rt: &R, alloc: Global, ending: Ending) -> Schedule {
         let mut state = self.state.lock(rt);
         state.take_schedule(alloc, ending)

@@ -1,28 +1,28 @@
-//! What a call does that has no handle to wait with: it is noted in words, and told at the caller's next call that has
-//! one.
+//! The log of calls that have no handle to block with. Such a call only appends a note; the notes are reported to the
+//! run at the next call that has a handle.
 
 use std::alloc::{AllocError, Global};
 use std::sync::atomic::{AtomicU64, Ordering};
 
-/// A call that waits for nobody: a try by a place that came in, or a notify or a broadcast on a condition.
+/// A non-blocking call: an attempt by which a place entered, or a notify or a broadcast on a condition.
 #[derive(Clone, Copy)]
 pub enum Note {
-    /// This place tried, and came in.
+    /// This place entered by an attempt.
     Enter(usize),
-    /// The process inside calls one that waits on this condition, if one does.
+    /// The process inside notifies the chosen waiter on this condition, if there is one.
     Notify(usize),
-    /// The process inside calls all that wait on this condition.
+    /// The process inside notifies all waiters on this condition.
     Broadcast(usize),
 }
 
-/// Notes of the one process that runs, in order. The room for all is made beforehand.
+/// The notes of the one process that runs, in order. The room for all of them is allocated when it is created.
 #[derive(Drop)]
 pub struct EventLog {
     words: Vec<AtomicU64>,
     count: AtomicU64,
 }
 
-// A note as a word.
+// Encodes a note as a word: three times its number, plus its kind.
 fn word_of(note: Note) -> u64 {
     match note {
         Note::Enter(place) => (place as u64).wrapping_mul(3),
@@ -31,7 +31,7 @@ fn word_of(note: Note) -> u64 {
     }
 }
 
-// The note of a word.
+// Decodes a word that `word_of` returned.
 fn note_of(word: u64) -> Note {
     let number = (word / 3) as usize;
     match word % 3 {
@@ -42,7 +42,7 @@ fn note_of(word: u64) -> Note {
 }
 
 impl EventLog {
-    /// No notes, with room for so many.
+    /// Creates the log without notes, with room for `most` of them. Refuses if an allocation fails.
     pub fn none(alloc: Global, most: usize) -> Result<EventLog, AllocError> {
         let mut words = Vec::with_capacity(alloc, most)?;
         for _ in 0..most {
@@ -54,7 +54,7 @@ impl EventLog {
         })
     }
 
-    /// Notes one more. One for which there is no room is counted.
+    /// Appends a note. If there is no room for it, it is only counted.
     pub fn add(&self, note: Note) {
         let at = self.count.fetch_add(1, Ordering::SeqCst);
         if let Some(word) = self.words.get(at as usize) {
@@ -62,12 +62,13 @@ impl EventLog {
         }
     }
 
-    /// How many there are, and none are left.
+    /// Returns how many notes were added, with those that had no room, and sets this number to 0. The notes can still
+    /// be read until the next `add`.
     pub fn take_count(&self) -> u64 {
         self.count.swap(0, Ordering::SeqCst)
     }
 
-    /// The one that was noted behind so many. None where there was no room.
+    /// Returns note number `at`, counted from 0. Returns `None` if there was no room for it.
     pub fn get(&self, at: u64) -> Option<Note> {
         let word = self.words.get(at as usize)?;
         Some(note_of(word.load(Ordering::SeqCst)))

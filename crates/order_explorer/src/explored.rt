@@ -9,15 +9,18 @@ use hoare_law::data::MonitorData;
 use hoare_law::monitor::Monitor;
 use std::alloc::{AllocError, Global};
 
-/// A door whose admissions the controller of a run chooses: it implements `Monitor`.
+/// A door whose admissions the controller of a run chooses. It implements `Monitor`.
 #[derive(Drop)]
 pub struct Explored<D: MonitorData> {
+    /// The door that does the calls.
     pub(crate) door: AnyDoor<D>,
+    /// The controller that chooses the admissions.
     pub(crate) controller: Controller,
 }
 
 impl<D: MonitorData + Send + Drop> Explored<D> {
-    /// A monitor with these data and this many places, in order. Where something is refused, the data are dropped.
+    /// Creates a monitor on a door of this kind, with the data `state`, and its places, in order. The caller must prove
+    /// `rest` of the data with no process waiting. Refuses, and drops the data, if the door refuses.
     pub(crate) fn make(
         alloc: Global,
         kind: DoorKind,
@@ -35,10 +38,10 @@ impl<D: MonitorData + Send + Drop> Explored<D> {
     }
 }
 
-/// A place of such a monitor.
+/// A place of an `Explored` monitor, while it is outside.
 pub type Place<D> = Outside<D>;
 
-/// The number of a place.
+/// Returns the place unchanged, and its number.
 pub(crate) fn number_of<D>(out: Outside<D>) -> (Outside<D>, usize)
     ensures same { result.0 ≡ out }
     ensures number { result.1 ≡ out.place }

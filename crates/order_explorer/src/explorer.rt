@@ -1,4 +1,4 @@
-//! The runs: one for each order, until all were tried or one ends otherwise than it should.
+//! The exploration: one run for each order, until all orders were tried, or a run doesn't end as it should.
 ghost use Rattle.std.specs.Prelude.{◌≡◌, All, IfSome};
 ghost use Rattle.std.specs.Arc.{arc_value};
 ghost use Rattle.hoare_law.specs.Sizes.{kinds_of};
@@ -21,26 +21,26 @@ use std::sync::{Arc, Wait};
 use std::thread;
 use std::thread::Threads;
 
-/// How far the orders are tried, and on which door.
+/// The limits of an exploration, which orders it tries, and on which door.
 #[derive(Clone, Copy, Debug, PartialEq, Eq)]
 pub struct Limits {
-    /// The most runs.
+    /// The maximum number of runs.
     pub runs: u64,
-    /// The most steps of a run.
+    /// The maximum number of steps of a run: admissions, waits, signals, passes, leaves, notifies and broadcasts.
     pub steps: usize,
-    /// The most choices of a run.
+    /// The maximum number of choices of a run.
     pub depth: usize,
-    /// The most steps that a process waits on a condition.
+    /// The maximum number of steps for which a process waits on a condition, until it resumes.
     pub patience: usize,
-    /// Whether all orders are tried, or drawn ones.
+    /// All orders, or orders that are drawn.
     pub orders: Orders,
     /// The door under the monitor.
     pub door: DoorKind,
 }
 
 impl Limits {
-    /// All orders on a door of one word: as many runs, steps and choices as small programs need, and a wait of 40 steps
-    /// at most.
+    /// The limits for small programs: all orders on a baton door, as many runs, steps and choices as such programs
+    /// need, and waits of at most 40 steps.
     pub const USUAL: Limits = Limits {
         runs: 100_000,
         steps: 300,
@@ -51,28 +51,29 @@ impl Limits {
     };
 }
 
-/// What came of it. Each but the first has the last run. Where that one was cut off, its threads sleep until the
-/// process ends.
+/// The result of an exploration. Each variant but `AllOrders` has the last run. If that run was cut off, its threads
+/// sleep until the process ends.
 #[derive(Drop)]
 pub enum Found {
-    /// All orders were tried, in this many runs: in each all threads ended, and all was right.
+    /// All orders were tried, in this many runs. In each of them all threads ended, and all was right.
     AllOrders(u64),
-    /// A run in which nobody is inside and nobody wants in, and somebody waits.
+    /// In the last run no process is inside and none is to enter, but a process waits.
     Stuck(Schedule),
-    /// This place waited on a condition through more steps than the limit.
+    /// This place waited on a condition for more steps than the limit.
     Starved(usize, Schedule),
-    /// A run in which all threads ended, and what they left or answered is wrong.
+    /// In the last run all threads ended, but the data that they left, or their answers, are wrong.
     Wrong(Schedule),
-    /// The same choices came to others that want in: the program hangs on something beside the order of admissions. Or
-    /// the order that was given isn't one of the program's.
+    /// After the same choices other places were to enter: the program depends on something besides the order of
+    /// admissions. Or the order that was given isn't an order of the program.
     Differs(Schedule),
-    /// A limit was met after so many whole runs, in which all was right: there may be more orders. `Schedule` is the
-    /// last run.
+    /// This limit was met after this many whole runs, in which all was right: there may be more orders. The schedule is
+    /// that of the last run.
     Limit(Limit, u64, Schedule),
 }
 
 impl Found {
-    /// The last run: the bad one, or where a limit was met. None where all orders ended right.
+    /// Returns the last run: the bad one, or the one at which a limit was met. Returns `None` if all orders ended
+    /// right.
     pub fn schedule(&self) -> Option<&Schedule> {
         match self {
             Found::AllOrders(_) => None,
@@ -92,7 +93,7 @@ struct Shared<D: MonitorData, P> {
     explored: Explored<D>,
 }
 
-// What one thread does: its part in each run, until no run comes any more.
+// Does the part of one thread in each run, until there is no further run.
 fn serve<R: Wait, D: MonitorData + Send + Drop, P: Program<D, Explored<D>>>(
     rt: &R,
     program: &P,
@@ -112,7 +113,7 @@ fn serve<R: Wait, D: MonitorData + Send + Drop, P: Program<D, Explored<D>>>(
     }
 }
 
-// Starts a thread for one place.
+// Starts a thread for one place. Refuses if the thread can't be started.
 fn start_one<
     R: Threads + Wait + Copy + Send + 'static,
     D: MonitorData + Send + Drop + 'static,
@@ -133,7 +134,7 @@ fn start_one<
     }
 }
 
-// Starts a thread for each place.
+// Starts a thread for each place. Refuses if an allocation fails or a thread can't be started.
 fn start_all<
     R: Threads + Wait + Copy + Send + 'static,
     D: MonitorData + Send + Drop + 'static,
@@ -148,8 +149,9 @@ fn start_all<
     Ok(())
 }
 
-// Whether a run left and answered what is right. The data of the next run are put in. The place that looks is known to
-// no thread.
+// Returns true if the data that a whole run left and the answers of its threads are right, and puts in the data of the
+// next run. It enters by `desk`, a place that no thread has. Returns `None` if there are no such data, or if `rest`
+// doesn't hold of them.
 fn look<R: Wait, D: MonitorData + Send + Drop, P: Program<D, Explored<D>>>(
     rt: &R,
     alloc: Global,
@@ -176,7 +178,7 @@ fn look<R: Wait, D: MonitorData + Send + Drop, P: Program<D, Explored<D>>>(
     (door.leave(rt, inside), Some(right))
 }
 
-// What is found where a run was cut off behind so many whole ones.
+// Returns what is found if a run was cut off with this ending, after `whole` whole runs.
 fn found_cut(ending: Ending, whole: u64, schedule: Schedule) -> Found {
     match ending {
         Ending::Stuck => Found::Stuck(schedule),
@@ -186,7 +188,8 @@ fn found_cut(ending: Ending, whole: u64, schedule: Schedule) -> Found {
     }
 }
 
-// The runs, until one is cut off or ends wrong, or the limit or the last order has come.
+// Makes at most `runs` runs, until one is cut off or ends wrong, or until all orders were tried. Refuses if there are
+// no data for the next run.
 fn run_all<R: Wait, D: MonitorData + Send + Drop, P: Program<D, Explored<D>>>(
     rt: &R,
     alloc: Global,
@@ -221,7 +224,8 @@ fn run_all<R: Wait, D: MonitorData + Send + Drop, P: Program<D, Explored<D>>>(
     Ok(Found::Limit(Limit::Runs, runs, schedule))
 }
 
-// A controller for these limits, with the order that is given, if one is.
+// Creates a controller for these limits, with the order `given`, if there is one. Refuses if an allocation fails, or if
+// the number of threads or of conditions is out of range.
 fn controller_of<D: MonitorData>(
     alloc: Global,
     threads: usize,
@@ -241,7 +245,7 @@ fn controller_of<D: MonitorData>(
     Controller::make(alloc, threads, limits.steps, state)
 }
 
-// The place of who looks, and those of the threads.
+// Returns the place for `look`, and those for the threads.
 fn with_desk<D: MonitorData + Send + Drop>(
     explored: &Explored<D>,
     outs: Vec<Outside<D>>,
@@ -257,7 +261,7 @@ fn with_desk<D: MonitorData + Send + Drop>(
     Some((desk, outs))
 }
 
-// The runs of a program by threads that share it.
+// Makes the runs of a program by threads that share it.
 fn explore_shared<
     R: Threads + Wait + Copy + Send + 'static,
     D: MonitorData + Send + Drop + 'static,
@@ -281,7 +285,7 @@ fn explore_shared<
     Ok(found)
 }
 
-// The runs of a program under this controller.
+// Makes the runs of a program under this controller.
 fn explore_with<
     R: Threads + Wait + Copy + Send + 'static,
     D: MonitorData + Send + Drop + 'static,
@@ -307,8 +311,12 @@ fn explore_with<
     explore_shared(rt, alloc, shared, places, limits.runs)
 }
 
-/// Tries the orders in which the program's 1 to 63 threads can be let in, each in a run of its own: up to a limit, or
-/// to the first that ends wrong. Refused with no or more threads, or where memory, a thread or the data can't be had.
+/// Tries the orders in which the program's threads, 1 to 63, can be admitted, each in its own run, until a limit is
+/// met, or an order ends wrong.
+///
+/// Refuses with `AllocError` if the number of threads isn't 1 to 63, or the number of conditions isn't 1 to 8 or is
+/// below that of Mesa conditions. It also refuses if an allocation fails, a thread can't be started, or `Program::open`
+/// returns no data, or data of which `rest` doesn't hold.
 pub fn explore<
     R: Threads + Wait + Copy + Send + 'static,
     D: MonitorData + Send + Drop + 'static,
@@ -318,9 +326,9 @@ pub fn explore<
     explore_with(rt, alloc, program, controller, limits)
 }
 
-/// One run alone, in the order of a script that `Schedule::script` gave: its lines `enter K` say who is let in. Where
-/// it ends right the answer is `Limit(Limit::Runs, 1, ..)`, and where the program has no such order `Differs`. Refused
-/// as `explore`.
+/// Makes one run alone, in the order of a script that `Schedule::script` returned: its lines `enter K` name the places
+/// to admit. Returns `Limit(Limit::Runs, 1, ..)` if that run ends right, and `Differs` if the program has no such
+/// order. `limits.runs` and `limits.orders` aren't used. Refuses in the same cases as `explore`.
 pub fn explore_again<
     R: Threads + Wait + Copy + Send + 'static,
     D: MonitorData + Send + Drop + 'static,

@@ -1,5 +1,5 @@
-//! Tries the orders in which a monitor can let newcomers in: the threads of a small program run over a monitor whose
-//! admissions are chosen, again and again, until all orders were tried or one was found that hangs or ends wrong.
+//! Tries the orders in which a monitor can admit entering processes. The threads of a small program run again and again
+//! over a monitor whose admissions are chosen, until all orders were tried, or one was found that hangs or ends wrong.
 #![tactic(auto)]
 
 mod choices;

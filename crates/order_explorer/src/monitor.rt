@@ -1,4 +1,4 @@
-//! The calls of a monitor, each told to the controller.
+//! The calls of `Monitor` on an `Explored`: the controller notes each of them, and the door does it.
 
 use crate::event_log::Note;
 use crate::explored::{Explored, number_of};

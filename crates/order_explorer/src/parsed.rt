@@ -1,8 +1,9 @@
-//! The order of a script: who is let in, one after the other.
+//! The order of a script: which places are admitted, in sequence.
 
 use std::alloc::{AllocError, Global};
 
-/// The places of the script's lines `enter K`, in order. What is none of these is passed over.
+/// Returns the places of the script's lines `enter K`, in order, and skips everything else. Refuses if an allocation
+/// fails.
 pub(crate) fn order_of(alloc: Global, script: &str) -> Result<Vec<usize>, AllocError> {
     let mut order = Vec::new(alloc);
     let mut comes = false;

@@ -1,4 +1,4 @@
-//! What the controller knows of one run, and who goes on.
+//! What the controller knows of one run, and whose turn it is.
 
 ghost use Rattle.std.specs.Prelude.{◌≡◌, ◌↔◌, ◌<◌, ℕ, All, IsTrue, None, Some, length, slice_set};
 ghost use Rattle.wait_book.specs.Contents.{next_of};
@@ -17,15 +17,16 @@ use wait_book::steps::{Next, Step};
 pub enum Act {
     /// It waits on this condition, with this priority.
     Wait(usize, u64),
-    /// It signals on this condition, and is held up where somebody waits there.
+    /// It signals on this condition, and is held up if a process waits there.
     Signal(usize),
     /// It signals on this condition as its last act.
     Pass(usize),
-    /// It goes out.
+    /// It leaves the monitor.
     Leave,
 }
 
-/// What lies under the controller's lock.
+/// The state under the controller's lock: the book of the queues, what each thread does, the steps and choices of the
+/// run, and whose turn it is.
 #[derive(Drop)]
 pub struct RunState {
     book: Book,
@@ -43,7 +44,7 @@ pub struct RunState {
     run: u64,
 }
 
-// No run is under way: each thread has ended.
+// Returns the states of the threads before the first run: each has ended.
 fn none_under_way(alloc: Global, threads: usize) -> Result<Vec<ThreadState>, AllocError> {
     let mut standings = Vec::with_capacity(alloc, threads)?;
     for _ in 0..threads {
@@ -52,7 +53,7 @@ fn none_under_way(alloc: Global, threads: usize) -> Result<Vec<ThreadState>, All
     Ok(standings)
 }
 
-// Whether each thread has ended.
+// Returns true if each thread has ended.
 fn all_ended(standings: &[ThreadState]) -> bool
     ensures { IsTrue result ↔ All (λ s. s ≡ ThreadState.Ended) standings.now }
 {
@@ -61,7 +62,7 @@ fn all_ended(standings: &[ThreadState]) -> bool
         .all(|standing| *standing == ThreadState::Ended)
 }
 
-// How a run ends where nobody wants in and nobody is inside.
+// Returns how a run ends if no place is inside and none is to enter.
 fn ending_at_rest(standings: &[ThreadState]) -> Ending
     ensures { EndsAtRest standings.now result }
 {
@@ -72,7 +73,7 @@ fn ending_at_rest(standings: &[ThreadState]) -> Ending
     }
 }
 
-// No answers yet.
+// Returns the answers before the first run: all are 0.
 fn no_answers(alloc: Global, threads: usize) -> Result<Vec<u64>, AllocError> {
     let mut answers = Vec::with_capacity(alloc, threads)?;
     for _ in 0..threads {
@@ -82,7 +83,9 @@ fn no_answers(alloc: Global, threads: usize) -> Result<Vec<u64>, AllocError> {
 }
 
 impl RunState {
-    /// The state before the first run.
+    /// Creates the state before the first run. `kinds` are the number of conditions, and how many of them, the last
+    /// ones, are Mesa conditions. `steps` is the maximum number of steps of a run, and `patience` that for which a
+    /// place waits. Refuses if an allocation fails, or if the book refuses the number of threads or of conditions.
     pub fn make(
         alloc: Global,
         threads: usize,
@@ -112,7 +115,7 @@ impl RunState {
         })
     }
 
-    /// A run begins. All threads have ended the one before it, so nobody is inside and nobody waits.
+    /// Begins a run. All threads have ended the previous run, so no process is inside and none waits.
     pub fn start(&mut self) {
         for place in 0..self.standings.len() {
             self.set(place, ThreadState::Ready);
@@ -124,47 +127,47 @@ impl RunState {
         self.go_on();
     }
 
-    /// Gives the next run its choices. False where all orders were tried.
+    /// Prepares the choices of the next run. Returns false if all orders were tried.
     pub fn turn_choices(&mut self) -> bool {
         self.choices.turn()
     }
 
-    /// No run comes any more.
+    /// Notes that there is no further run.
     pub fn stop(&mut self) {
         self.stopped = true;
     }
 
-    /// Whether no run comes any more.
+    /// Returns true if there is no further run.
     pub fn is_stopped(&self) -> bool {
         self.stopped
     }
 
-    /// What the threads answered, in order.
+    /// Returns the answers of the threads, in the order of their numbers.
     pub fn answers(&self) -> &[u64] {
         self.answers.as_slice()
     }
 
-    /// How the run ended, if it has.
+    /// Returns how the run ended, if it has.
     pub fn ending(&self) -> Option<Ending> {
         self.ending
     }
 
-    /// Whether the run has ended.
+    /// Returns true if the run has ended.
     pub fn is_over(&self) -> bool {
         self.ending.is_some()
     }
 
-    /// Whose turn it is.
+    /// Returns the place whose thread runs, if there is one.
     pub fn turn(&self) -> Option<usize> {
         self.turn
     }
 
-    /// Whether this place may go on.
+    /// Returns true if the run hasn't ended and it is the turn of `place`.
     pub fn is_turn_of(&self, place: usize) -> bool {
         self.ending.is_none() && self.turn == Some(place)
     }
 
-    /// Who is inside.
+    /// Returns the place that is inside, if there is one.
     pub fn inside(&self) -> Option<usize>
         ensures { result ≡ held_by (next_of self.now.book.turn) }
     {
@@ -175,7 +178,7 @@ impl RunState {
         }
     }
 
-    // The place stands so.
+    // Sets what the thread of `place` does. Ignores a place out of range.
     fn set(&mut self, place: usize, standing: ThreadState)
         ensures set { place < length self.old.standings.items
             → self.new.standings.items ≡ slice_set self.old.standings.items place standing }
@@ -193,7 +196,7 @@ impl RunState {
         }
     }
 
-    // The first place that stands so.
+    // Returns the first place whose thread does this.
     fn first_that(&self, standing: ThreadState) -> Option<usize> {
         for place in 0..self.standings.len() {
             if self.standings[place] == standing {
@@ -203,7 +206,7 @@ impl RunState {
         None
     }
 
-    // Who wants in.
+    // Returns the places that are to enter: bit k is place k.
     fn asking(&self) -> u64 {
         let mut asking = 0u64;
         for place in 0..self.standings.len().min(64) {
@@ -214,7 +217,7 @@ impl RunState {
         asking
     }
 
-    // The first place that waited through more steps than the limit.
+    // Returns the first place that has waited for more steps than the limit.
     fn starved(&self) -> Option<usize> {
         let count = self.steps.len();
         for place in 0..self.standings.len() {
@@ -227,7 +230,8 @@ impl RunState {
         None
     }
 
-    // Notes a step.
+    // Does a step in the book and appends it to the steps. Ends the run if there is no room for it, the book refuses
+    // it, or a place has waited for too long then.
     fn step(&mut self, step: Step) {
         if self.steps.len() >= self.steps.capacity() {
             return self.end(Ending::Limit(Limit::Steps));
@@ -246,7 +250,8 @@ impl RunState {
         }
     }
 
-    // Chooses who goes on: who is inside, and else one that wants in.
+    // Chooses the place whose thread resumes: the place inside, or, if there is none, as `go_on_free` does. Changes
+    // nothing if the run has ended.
     fn go_on(&mut self)
         ensures { self.old.ending ≡ None → (k : ℕ) → held_by (next_of self.old.book.turn) ≡ Some k
             → self.new.turn ≡ Some k }
@@ -260,7 +265,8 @@ impl RunState {
         }
     }
 
-    // The same where the monitor is free.
+    // Chooses the place whose thread resumes if no place is inside: the first whose thread hasn't begun, or, if all
+    // have, a place that is to enter, which it admits. If there is none either, the run ends.
     fn go_on_free(&mut self) {
         if let Some(place) = self.first_that(ThreadState::Ready) {
             self.set(place, ThreadState::Outside);
@@ -281,19 +287,19 @@ impl RunState {
         }
     }
 
-    /// A place wants in.
+    /// Notes that `place` is to enter, and chooses the place whose thread resumes.
     pub fn ask(&mut self, place: usize) {
         self.set(place, ThreadState::Asks);
         self.go_on();
     }
 
-    /// A thread has ended, and answers this.
+    /// Notes that the thread of `place` has ended with this answer, and chooses the place whose thread resumes.
     pub fn finish(&mut self, place: usize, answer: u64) {
         self.note_end(place, answer);
         self.go_on();
     }
 
-    // A thread has ended, and answers this.
+    // Notes that the thread of `place` has ended with this answer.
     fn note_end(&mut self, place: usize, answer: u64)
         ensures { place < length self.old.standings.items
             → self.new.standings.items ≡ slice_set self.old.standings.items place ThreadState.Ended }
@@ -304,8 +310,8 @@ impl RunState {
         self.set(place, ThreadState::Ended);
     }
 
-    /// What was noted before: a place came in by a try, or the process inside called others. With no note there was no
-    /// room for it.
+    /// Does what was logged: a place entered by an attempt, or the process inside notified waiters. `None` means a
+    /// note without room: the run ends with `Limit`.
     pub fn hear(&mut self, note: Option<Note>) {
         let Some(note) = note else {
             return self.end(Ending::Limit(Limit::Steps));
@@ -325,7 +331,8 @@ impl RunState {
         }
     }
 
-    /// The process inside acts.
+    /// Does an act of the process inside. After a wait or a signal it chooses the place whose thread resumes; after a
+    /// pass or a leave the same thread runs on, outside.
     pub fn act(&mut self, act: Act) {
         let Some(place) = self.inside() else {
             return self.end(Ending::Refused);
@@ -353,7 +360,7 @@ impl RunState {
         }
     }
 
-    /// Takes out what happened.
+    /// Takes out the record of the run, with the given ending.
     pub fn take_schedule(&mut self, alloc: Global, ending: Ending) -> Schedule {
         Schedule {
             run: self.run,

@@ -1,4 +1,4 @@
-//! What is told of a run: how it ended, where its threads stood, and the script of its steps.
+//! The record of a run: how it ended, what each thread did at its end, and the script of its steps.
 
 use std::alloc::{AllocError, Global};
 use wait_book::steps::Step;
@@ -8,42 +8,43 @@ use wait_book::steps::Step;
 pub enum Ending {
     /// All threads ended.
     AllEnded,
-    /// Nobody is inside and nobody wants in, and somebody waits.
+    /// No process is inside and none is to enter, but a process waits.
     Stuck,
-    /// This place waited through more steps than the limit.
+    /// This place waited on a condition for more steps than the limit.
     Starved(usize),
     /// The run has more steps or choices than the limit.
     Limit(Limit),
-    /// The same choices came to others that want in: the program hangs on something beside the order of admissions. Or
-    /// the order that was given isn't one of the program's.
+    /// After the same choices other places were to enter: the program depends on something besides the order of
+    /// admissions. Or the order that was given isn't an order of the program.
     Differs,
-    /// The monitor did what the book of its queues refuses. (It never does.)
+    /// The book of the queues refused a step of the monitor, or a process acted that wasn't inside. (Neither happens.)
     Refused,
 }
 
-/// What there may be no more of.
+/// Which limit was met.
 #[derive(Clone, Copy, Debug, PartialEq, Eq)]
 pub enum Limit {
-    /// Runs.
+    /// The number of runs.
     Runs,
-    /// Steps of a run.
+    /// The number of steps of a run.
     Steps,
-    /// Choices of a run: one for each time that somebody is let in who asked.
+    /// The number of choices of a run: one for each admission, except those by an attempt.
     Depth,
 }
 
-/// Where a thread stands.
+/// What a thread does.
 #[derive(Clone, Copy, Debug, PartialEq, Eq)]
 pub enum ThreadState {
     /// It hasn't begun.
     Ready,
-    /// It does something outside the monitor.
+    /// It runs outside the monitor.
     Outside,
-    /// It wants in.
+    /// It is to enter.
     Asks,
     /// It is inside, or signalled and is held up.
     Inside,
-    /// It waits on this condition since this many steps were done, or was called there and hasn't gone on yet.
+    /// It waits on this condition, or was notified there and hasn't resumed yet. The second number is how many steps of
+    /// the run came before its wait.
     Waits(usize, usize),
     /// Its program has ended.
     Ended,
@@ -52,21 +53,21 @@ pub enum ThreadState {
 /// What happened in a run, in order.
 #[derive(Drop)]
 pub struct Schedule {
-    /// Which run it was, from 1 on.
+    /// The number of the run, counted from 1.
     pub run: u64,
-    /// How many threads, each with the place of its number.
+    /// The number of threads. Each has the place of its number.
     pub threads: usize,
-    /// How many conditions the monitor has.
+    /// The number of conditions of the monitor.
     pub conditions: usize,
     /// How many of them, the last ones, are Mesa conditions.
     pub mesa: usize,
-    /// Who is inside at its end.
+    /// The place that is inside at the end of the run, if there is one.
     pub inside: Option<usize>,
     /// The steps of the monitor.
     pub steps: Vec<Step>,
-    /// Where each thread stands at its end.
+    /// What each thread does at the end of the run.
     pub standings: Vec<ThreadState>,
-    /// How it ended.
+    /// How the run ended.
     pub ending: Ending,
 }
 
@@ -86,7 +87,7 @@ fn add_step(text: &mut String, step: Step) -> Result<(), AllocError> {
     }
 }
 
-// Adds a line that says where a thread stands that isn't inside, if it hasn't ended.
+// Adds a line that says what a thread does that isn't inside, unless it has ended.
 fn add_standing(text: &mut String, place: usize, standing: ThreadState) -> Result<(), AllocError> {
     match standing {
         ThreadState::Ready => writeln!(text, "thread {place} hasn't begun"),
@@ -104,7 +105,8 @@ fn add_standing(text: &mut String, place: usize, standing: ThreadState) -> Resul
 }
 
 impl Schedule {
-    /// The script of the run: `hoare_script` answers it and `script_picture` draws it.
+    /// Returns the script of the run, which `hoare_script` answers and `script_picture` draws. Refuses if an allocation
+    /// fails.
     pub fn script(&self, alloc: Global) -> Result<String, AllocError> {
         let threads = self.threads;
         let conditions = self.conditions;
@@ -121,7 +123,7 @@ impl Schedule {
         Ok(text)
     }
 
-    /// Who hasn't ended, and where each of them stands.
+    /// Returns a line for each thread that hasn't ended, with what it does. Refuses if an allocation fails.
     pub fn left(&self, alloc: Global) -> Result<String, AllocError> {
         let mut text = String::new(alloc);
         for place in 0..self.standings.len() {

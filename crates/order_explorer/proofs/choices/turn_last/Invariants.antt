@@ -2,7 +2,7 @@ use Rattle.std.proofs.Common.{◌≡◌, ◌≤◌, length}
 use Rattle.order_explorer.specs.Turns.{AreLast}
 use Rattle.order_explorer.proofs.choices.turn_last.Given as goal
 
--- the choices behind those that are left have no place left
+-- the choices after the first `left` have no place left
 abbrev pub invariant-loop-left : goal.invariant-loop-left
 invariant-loop-left l = record {
   same : l.all.items ≡ l.initial.all.items;

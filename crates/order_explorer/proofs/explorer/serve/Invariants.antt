@@ -3,7 +3,7 @@ use Rattle.door_frame.specs.Places.{IsOut}
 use Rattle.any_door.specs.Doors.{id_of}
 use Rattle.order_explorer.proofs.explorer.serve.Given as goal
 
--- the place stays one of the monitor's
+-- `out` remains a place of the monitor
 abbrev pub invariant-loop : goal.invariant-loop
 invariant-loop g l = IsOut g.D.MonitorData.rest g.D.MonitorData.ready
     (kinds_of g.D.MonitorData.CONDITIONS g.D.MonitorData.MESA) (id_of l.explored.door) l.out

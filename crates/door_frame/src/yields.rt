@@ -11,8 +11,9 @@ use std::thread;
 pub const PARK_MICROS: u64 = 100;
 
 /// A yield was long if at least this many parks ended while it lasted: 2.4 milliseconds with one thread parked whose
-/// parks run out, and less if more threads are parked, or are woken. If only parks that ran out counted, sixteen
-/// waiters at the baton door took 1.2 to 1.7 times as long, and no row was faster by a fifth.
+/// parks run out, and less if more threads are parked, or are woken. It wasn't shown that this is better than to count
+/// only parks that ran out. With that count sixteen waiters at the baton door took 1.2 to 1.7 times as long, but in
+/// this row single runs of the same program differ by as much. No row was faster by a fifth.
 const LONG_YIELD: u64 = 16;
 
 /// The number of times that entering threads don't yield after a long yield. Beside busy threads, with yields alone, a

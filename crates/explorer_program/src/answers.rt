@@ -1,6 +1,6 @@
-//! What programs ask of their threads' answers.
+//! What programs compute of the answers of their threads.
 
-/// Whether each thread answered 1.
+/// Returns true if the answer of each thread is 1.
 pub fn all_one(answers: &[u64]) -> bool {
     for answer in answers {
         if *answer != 1 {
@@ -10,7 +10,7 @@ pub fn all_one(answers: &[u64]) -> bool {
     true
 }
 
-/// The sum of what the threads answered.
+/// Returns the sum of the answers, modulo 2^64.
 pub fn sum_of(answers: &[u64]) -> u64 {
     let mut sum = 0u64;
     for answer in answers {

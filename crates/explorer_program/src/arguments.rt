@@ -1,29 +1,31 @@
-//! What the arguments ask for.
+//! The arguments of the program, and what they ask for.
 
 use order_explorer::{Limits, Orders};
 use std::{env, io};
 
-/// The arguments: a word, and the limits.
+/// The arguments: the first word, if there is one, and the limits.
 #[derive(Drop)]
 pub struct Arguments {
     word: Option<String>,
     limits: Limits,
 }
 
-/// What is asked for: a program's name, `all`, `times`, or without a word all; and how far orders are tried.
+/// What is asked for: one program by its name, or all (by `all`, `times`, or no word); and the limits of each
+/// exploration.
 #[derive(Clone, Copy)]
 pub struct Asked<'a> {
-    /// The word.
+    /// The first argument, if there is one.
     pub word: Option<&'a str>,
-    /// The limits.
+    /// The limits of each exploration.
     pub limits: Limits,
-    /// Whether the script of a bad order is printed too, where all programs are tried.
+    /// True if the script of a bad order is printed too when all programs are tried.
     pub with_script: bool,
 }
 
 impl Arguments {
-    /// The first argument is a program's name (its script alone is printed), `all`, or `times`; the second a seed, and
-    /// the third how many runs are made at the most.
+    /// Reads the arguments. The first is a program's name (only its script is printed), `all`, or `times`. The second
+    /// is a seed, by which orders are drawn, and the third the maximum number of runs. Of these two, an argument that
+    /// isn't a number is ignored. Refuses if the arguments can't be read.
     pub fn of(rt: &HostRuntime) -> io::Result<Arguments> {
         let mut words = env::args(rt)?;
         let _program = words.next();
@@ -38,7 +40,7 @@ impl Arguments {
         Ok(Arguments { word, limits })
     }
 
-    /// What they ask for.
+    /// Returns what the arguments ask for.
     pub fn asked(&self) -> Asked<'_> {
         let word = match &self.word {
             Some(word) => Some(word.as_str()),
@@ -52,24 +54,24 @@ impl Arguments {
     }
 }
 
-// The number that an argument is, if it is one.
+// Returns the number that an argument spells, if it spells one.
 fn number_of(word: Option<String>) -> Option<u64> {
     let word = word?;
     word.as_str().parse::<u64>().ok()
 }
 
 impl Asked<'_> {
-    /// Whether this word is asked for.
+    /// Returns true if the first argument is `word`.
     pub fn asks(&self, word: &str) -> bool {
         self.word == Some(word)
     }
 
-    /// Whether all programs are to be tried.
+    /// Returns true if all programs are to be tried.
     pub fn is_all(&self) -> bool {
         self.word.is_none() || self.asks("all") || self.asks("times")
     }
 
-    /// Whether programs of many orders are wanted too: where times are asked for, or one program.
+    /// Returns true if programs of many orders are to be tried too: if the word is `times`, or names one program.
     pub fn wants_long(&self) -> bool {
         self.word.is_some() && !self.asks("all")
     }

@@ -7,14 +7,14 @@ use plain_schedulers::buffer::Buffer;
 use std::alloc::Global;
 use std::sync::Wait;
 
-/// Places 0 and 1 put in as many items as there are rounds, and places 2 and 3 take as many out.
+/// Places 0 and 1 put `rounds` items in, each, and places 2 and 3 take as many out.
 #[derive(Clone, Copy)]
 pub struct OneCell {
-    /// How many items each place puts in, or takes out.
+    /// The number of items that each place puts in, or takes out.
     pub rounds: u32,
 }
 
-// Puts an item in so often.
+// Puts the item in `rounds` times.
 fn put<R: Wait, M: Monitor<Buffer<u64>>>(
     rt: &R,
     m: &M,
@@ -32,7 +32,7 @@ fn put<R: Wait, M: Monitor<Buffer<u64>>>(
     out
 }
 
-// Takes so many items out: their sum.
+// Takes `rounds` items out. The answer is their sum.
 fn take<R: Wait, M: Monitor<Buffer<u64>>>(rt: &R, m: &M, out: M::Out, rounds: u32) -> (M::Out, u64)
     requires { M.is_of m.now out }
     ensures { M.is_of m.now result.0 }
@@ -47,7 +47,7 @@ fn take<R: Wait, M: Monitor<Buffer<u64>>>(rt: &R, m: &M, out: M::Out, rounds: u3
     (out, sum)
 }
 
-// What a thread does, by its number.
+// Does the part of the thread with this number.
 fn acts<R: Wait, M: Monitor<Buffer<u64>>>(
     rt: &R,
     m: &M,

@@ -1,5 +1,5 @@
-//! The alarm clock: threads that tick and ask for the time; and sleepers, of whom one that sets it after the last tick
-//! sleeps for ever.
+//! The alarm clock: threads that tick and ask for the time; and sleepers. A sleeper that sets its alarm after the last
+//! tick sleeps for ever.
 
 use crate::answers::all_one;
 use hoare_law::monitor::Monitor;
@@ -11,14 +11,15 @@ use timed_schedulers::alarm::Alarm;
 /// Three threads at an alarm clock.
 #[derive(Clone, Copy)]
 pub enum Clock {
-    /// Places 0 and 1 sleep for a tick, and place 2 ticks twice: maybe before they come.
+    /// Places 0 and 1 sleep for a tick. Place 2 ticks twice, maybe before they set their alarms.
     Sleepers,
-    /// Each ticks, and asks for the time. Nobody sleeps: where somebody would, an order hangs, in which it sets the
-    /// clock after the last tick, as with `Sleepers`.
+    /// Each thread ticks, and asks for the time. No thread sleeps: else some order would hang, in which it sets its
+    /// alarm after the last tick, as with `Sleepers`.
     Tickers,
 }
 
-// What a sleeper does, or who ticks for the sleepers, by its number.
+// Does the part of thread `number` of `Sleepers`: places 0 and 1 sleep for a tick, and place 2 ticks twice. The answer
+// is 1 if its last call wasn't refused, else 0.
 fn sleep_and_tick<R: Wait, M: Monitor<Alarm>>(
     rt: &R,
     m: &M,
@@ -37,7 +38,7 @@ fn sleep_and_tick<R: Wait, M: Monitor<Alarm>>(
     (out, u64::from(second.is_ok()))
 }
 
-// What a ticker does.
+// Ticks, and asks for the time. The answer is that time, or 0 if `wakeme` was refused.
 fn tick_and_wake<R: Wait, M: Monitor<Alarm>>(rt: &R, m: &M, out: M::Out) -> (M::Out, u64)
     requires { M.is_of m.now out }
     ensures { M.is_of m.now result.0 }
@@ -47,7 +48,7 @@ fn tick_and_wake<R: Wait, M: Monitor<Alarm>>(rt: &R, m: &M, out: M::Out) -> (M::
     (out, woken.unwrap_or(0))
 }
 
-// What a thread does, by its number.
+// Does the part of the thread with this number.
 fn acts<R: Wait, M: Monitor<Alarm>>(
     rt: &R,
     m: &M,

@@ -1,11 +1,11 @@
-//! Threads that only come in and go out: the number of their orders is known.
+//! Threads that only enter and leave: the number of their orders is known.
 ghost use Rattle.std.specs.Prelude.{◌≡◌};
 
 use crate::tally::Tally;
 use hoare_law::monitor::Monitor;
 use std::sync::Wait;
 
-/// Comes in so often, and adds 1 at each visit.
+/// Makes `visits` visits, and adds 1 in each.
 pub fn visit<R: Wait, M: Monitor<Tally>>(rt: &R, m: &M, out: M::Out, visits: u32) -> M::Out
     requires { M.is_of m.now out }
     ensures { M.is_of m.now result }

@@ -1,22 +1,22 @@
-//! Threads that write their digits one behind the other, so that what is left tells the order: the last one is bad.
+//! Threads that append their digits to a number, so that the number left shows the order. The last order is bad.
 //!
-//! The first order goes round the places, and the next choice is the one furthest on that can be another. So in the
-//! last order the place is let in at each choice that is furthest behind the latest: itself, where it wants in, and
-//! else the one before it. With four threads of two visits that is 3, 3, 2, 2, 1, 1, 0, 0, and there are 8! / 2^4 =
-//! 2520 orders; with five of one visit it is 4, 3, 2, 1, 0, and there are 5! = 120.
+//! The first order goes round the places, and each next order changes the last choice that has a place left. So in the
+//! last order each choice admits the last place of the row that begins after the latest place: the latest place itself,
+//! if it is to enter, and else the place before it. With four threads of two visits that is 3, 3, 2, 2, 1, 1, 0, 0, and
+//! there are 8! / 2^4 = 2520 orders. With five threads of one visit it is 4, 3, 2, 1, 0, and there are 5! = 120 orders.
 
 use crate::tally::Tally;
 use hoare_law::monitor::{Monitor, PLAIN};
 use std::sync::Wait;
 
-/// What is written in the last order of four threads of two visits.
+/// The number that four threads of two visits leave in their last order.
 pub const LAST_OF_FOUR: u64 = 44_332_211;
 
-/// What stands before the last visit of five, in their last order.
+/// The number that the last of five threads of one visit finds in their last order.
 pub const ONE_LEFT_OF_FIVE: u64 = 5_432;
 
-/// Comes in so often, and writes the digit that is one more than its number behind those that stand there. Where it
-/// finds these digits, it waits first, and nobody signals.
+/// Makes `visits` visits, and in each appends the digit `number` + 1 to the digits that it finds. If it finds the
+/// digits `bad`, it waits first, and no process signals it.
 pub fn write_digits<R: Wait, M: Monitor<Tally>>(
     rt: &R,
     m: &M,

@@ -1,4 +1,4 @@
-//! The drain of the cookbook: two pieces of work begin and end, and two wait until none is under way.
+//! The drain of the cookbook: two pieces of work begin and end, and two threads wait until no work is under way.
 
 use crate::answers::all_one;
 use cookbook::drain::Drain;
@@ -7,11 +7,11 @@ use order_explorer::{Explored, Place, Program};
 use std::alloc::Global;
 use std::sync::Wait;
 
-/// Places 0 and 1 begin a piece of work and end it, and the other two drain.
+/// Places 0 and 1 begin a piece of work and end it, and places 2 and 3 drain.
 #[derive(Clone, Copy)]
 pub struct Draining;
 
-// What a thread does, by its number.
+// Does the part of the thread with this number.
 fn acts<R: Wait, M: Monitor<Drain>>(rt: &R, m: &M, out: M::Out, number: usize) -> (M::Out, u64)
     requires { M.is_of m.now out }
     ensures { M.is_of m.now result.0 }

@@ -7,14 +7,14 @@ use std::alloc::Global;
 use std::sync::Wait;
 use sweep_schedulers::head::Head;
 
-/// So many threads that each ask for a cylinder of their own, and put the drive back.
+/// Threads that each request their own cylinder, and give the drive back.
 #[derive(Clone, Copy)]
 pub struct Requests {
-    /// How many threads there are: 10 at most, for a cylinder of its own each.
+    /// The number of threads, at most 10, so that each has its own cylinder.
     pub threads: usize,
 }
 
-// What a thread does, by its number.
+// Does the part of the thread with this number.
 fn acts<R: Wait, M: Monitor<Head<u64>>>(rt: &R, m: &M, out: M::Out, number: usize) -> (M::Out, u64)
     requires { M.is_of m.now out }
     ensures { M.is_of m.now result.0 }

@@ -1,12 +1,12 @@
-//! Threads that share a word beside the monitor, which runs leave changed: the same choices come to other visits.
+//! Threads that share a word besides the monitor. Runs leave it changed, so the same choices lead to other visits.
 
 use crate::tally::Tally;
 use hoare_law::monitor::Monitor;
 use std::sync::Wait;
 use std::sync::atomic::{AtomicU64, Ordering};
 
-/// Comes in once; the first thread twice in each second run. `runs` is how many runs it was in so far: no run sets it
-/// back.
+/// Visits once; the first thread visits twice in each second run. `runs` is the number of runs in which the first
+/// thread was so far: no run resets it.
 pub fn visit_again<R: Wait, M: Monitor<Tally>>(
     rt: &R,
     m: &M,
@@ -24,8 +24,9 @@ pub fn visit_again<R: Wait, M: Monitor<Tally>>(
     out
 }
 
-/// Comes in once; but of the first two threads one stays outside, the second in the first run, and then by turns: as
-/// many want in, but others. The first thread of a run begins first, and counts it in `runs`.
+/// Visits once; but one of the first two threads stays outside: the second in the first run, and then each in turn. So
+/// in each run as many threads are to enter, but not the same ones. The first thread begins first in each run, and
+/// counts it in `runs`.
 pub fn visit_by_turns<R: Wait, M: Monitor<Tally>>(
     rt: &R,
     m: &M,

@@ -1,4 +1,4 @@
-//! The work queue of the cookbook: a job is put in, the queue is shut down, and two workers take what there is.
+//! The work queue of the cookbook: a thread puts a job in and shuts the queue down, and two workers take what there is.
 
 use crate::answers::sum_of;
 use cookbook::work_queue::WorkQueue;
@@ -11,7 +11,7 @@ use std::sync::Wait;
 #[derive(Clone, Copy)]
 pub struct Jobs;
 
-// What a thread does, by its number.
+// Does the part of the thread with this number.
 fn acts<R: Wait, M: Monitor<WorkQueue>>(rt: &R, m: &M, out: M::Out, number: usize) -> (M::Out, u64)
     requires { M.is_of m.now out }
     ensures { M.is_of m.now result.0 }

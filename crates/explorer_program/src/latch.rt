@@ -1,4 +1,4 @@
-//! The latch of the cookbook: two count down, and two pass.
+//! The latch of the cookbook: two threads count down, and two pass.
 
 use crate::answers::all_one;
 use cookbook::latch::Latch;
@@ -11,7 +11,7 @@ use std::sync::Wait;
 #[derive(Clone, Copy)]
 pub struct Starting;
 
-// What a thread does, by its number.
+// Does the part of the thread with this number.
 fn acts<R: Wait, M: Monitor<Latch>>(rt: &R, m: &M, out: M::Out, number: usize) -> (M::Out, u64)
     requires { M.is_of m.now out }
     ensures { M.is_of m.now result.0 }

@@ -4,7 +4,7 @@ use crate::tally::Tally;
 use hoare_law::monitor::Monitor;
 use std::sync::Wait;
 
-/// Reads in one visit, and writes one more in the next: what it read.
+/// Reads the number in one visit, and writes one more in the next. The answer is what it read.
 pub fn add_late<R: Wait, M: Monitor<Tally>>(rt: &R, m: &M, out: M::Out) -> (M::Out, u64)
     requires { M.is_of m.now out }
     ensures { M.is_of m.now result.0 }

@@ -1,4 +1,4 @@
-//! A gate whose opener calls one of those that wait, where all were meant.
+//! A gate whose opener notifies one waiter, but should notify all of them.
 
 use crate::mesa_gate::MesaGate;
 use hoare_law::monitor::Monitor;
@@ -10,7 +10,7 @@ use std::sync::Wait;
 #[derive(Clone, Copy)]
 pub struct OneCalled;
 
-// What a thread does, by its number.
+// Does the part of the thread with this number.
 fn acts<R: Wait, M: Monitor<MesaGate>>(rt: &R, m: &M, out: M::Out, number: usize) -> (M::Out, u64)
     requires { M.is_of m.now out }
     ensures { M.is_of m.now result.0 }

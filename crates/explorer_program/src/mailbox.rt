@@ -1,4 +1,4 @@
-//! The mailbox of the cookbook: two send, and two receive.
+//! The mailbox of the cookbook: two threads send, and two receive.
 
 use crate::answers::sum_of;
 use cookbook::mailbox::{Letter, Mailbox};
@@ -7,11 +7,11 @@ use order_explorer::{Explored, Place, Program};
 use std::alloc::Global;
 use std::sync::Wait;
 
-/// Places 0 and 1 send a letter each, and places 2 and 3 receive one each.
+/// Places 0 and 1 send a letter each, and places 2 and 3 receive a letter each.
 #[derive(Clone, Copy)]
 pub struct Letters;
 
-// What a thread does, by its number.
+// Does the part of the thread with this number.
 fn acts<R: Wait, M: Monitor<Mailbox>>(rt: &R, m: &M, out: M::Out, number: usize) -> (M::Out, u64)
     requires { M.is_of m.now out }
     ensures { M.is_of m.now result.0 }

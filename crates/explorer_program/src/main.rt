@@ -1,5 +1,6 @@
-//! Tries the orders of small programs over monitors, and prints what came of each. With a name it prints the script of
-//! that one's bad order alone, for `hoare_script` and `script_picture`.
+//! Tries the orders of small programs over monitors, and prints the outcome of each. If an argument names a program, it
+//! prints only the script of that program's bad order, for `hoare_script` and `script_picture`; the outcome goes to
+//! standard error.
 #![tactic(auto)]
 
 mod answers;
@@ -43,7 +44,7 @@ use std::rt::Clock;
 use std::sync::Wait;
 use std::thread::Threads;
 
-// Programs over a tally, each under its name.
+// Tries programs over a tally, each with its name.
 fn tell_tallies<R: Threads + Wait + Clock + Print + Eprint + Copy + Send + 'static>(
     teller: &mut Teller<'_, R>,
     programs: &[(&str, OfTally)],
@@ -53,8 +54,8 @@ fn tell_tallies<R: Threads + Wait + Clock + Print + Eprint + Copy + Send + 'stat
     }
 }
 
-// Programs over one kind of data, each under its name. (A call at a kind of data takes long to check: one is enough for
-// all of them.)
+// Tries programs over one kind of data, each with its name. (It takes long to check a call at a kind of data, so all of
+// them share one call.)
 fn tell_each<
     R: Threads + Wait + Clock + Print + Eprint + Copy + Send + 'static,
     D: MonitorData + Send + Drop + 'static,
@@ -65,7 +66,7 @@ fn tell_each<
     }
 }
 
-// Visits alone, signallers that return, and attempts to enter.
+// Tries programs of visits alone, of signallers that return, and of attempts to enter.
 fn tell_users<R: Threads + Wait + Clock + Print + Eprint + Copy + Send + 'static>(
     teller: &mut Teller<'_, R>,
 ) {
@@ -80,7 +81,7 @@ fn tell_users<R: Threads + Wait + Clock + Print + Eprint + Copy + Send + 'static
     tell_tallies(teller, &tallies);
 }
 
-// The single item, and both buffers.
+// Tries the single item, and both buffers.
 fn tell_plain<R: Threads + Wait + Clock + Print + Eprint + Copy + Send + 'static>(
     teller: &mut Teller<'_, R>,
 ) {
@@ -98,7 +99,7 @@ fn tell_plain<R: Threads + Wait + Clock + Print + Eprint + Copy + Send + 'static
     teller.tell("mesa-buffer", &mesa::MesaCell);
 }
 
-// The other schedulers.
+// Tries the other schedulers.
 fn tell_others<R: Threads + Wait + Clock + Print + Eprint + Copy + Send + 'static>(
     teller: &mut Teller<'_, R>,
 ) {
@@ -120,7 +121,7 @@ fn tell_others<R: Threads + Wait + Clock + Print + Eprint + Copy + Send + 'stati
     tell_each(teller, &readers);
 }
 
-// The recipes of the cookbook.
+// Tries the recipes of the cookbook.
 fn tell_recipes<R: Threads + Wait + Clock + Print + Eprint + Copy + Send + 'static>(
     teller: &mut Teller<'_, R>,
 ) {
@@ -133,7 +134,7 @@ fn tell_recipes<R: Threads + Wait + Clock + Print + Eprint + Copy + Send + 'stat
     teller.tell("work-queue", &jobs::Jobs);
 }
 
-// Programs of which some order is bad.
+// Tries programs that have a bad order.
 fn tell_bad<R: Threads + Wait + Clock + Print + Eprint + Copy + Send + 'static>(
     teller: &mut Teller<'_, R>,
 ) {
@@ -156,7 +157,7 @@ fn tell_bad<R: Threads + Wait + Clock + Print + Eprint + Copy + Send + 'static>(
     tell_tallies(teller, &tallies);
 }
 
-// Programs of many orders.
+// Tries programs of many orders, if they are asked for.
 fn tell_long<R: Threads + Wait + Clock + Print + Eprint + Copy + Send + 'static>(
     teller: &mut Teller<'_, R>,
 ) {
@@ -172,7 +173,8 @@ fn tell_long<R: Threads + Wait + Clock + Print + Eprint + Copy + Send + 'static>
     tell_tallies(teller, &tallies);
 }
 
-// A philosopher waits through 16 steps at the most, and the last of six threads through 4.
+// Tries programs in which a process waits for too long: philosophers that may wait for 16 steps, and six threads of
+// `OfTally::Dance` that may wait for 4.
 fn tell_hungry<R: Threads + Wait + Clock + Print + Eprint + Copy + Send + 'static>(
     teller: &mut Teller<'_, R>,
 ) {
@@ -189,7 +191,8 @@ fn tell_hungry<R: Threads + Wait + Clock + Print + Eprint + Copy + Send + 'stati
     teller.tell_with_script(limits, "starving-6", &dance);
 }
 
-// Three threads of two visits, within limits of their own: a run has 6 choices and 12 steps, and there are 90.
+// Tries three threads of two visits, each time with a limit that is too low by one: a run has 6 choices and 12 steps,
+// and there are 90 orders.
 fn tell_limits<R: Threads + Wait + Clock + Print + Eprint + Copy + Send + 'static>(
     teller: &mut Teller<'_, R>,
 ) {
@@ -210,7 +213,8 @@ fn tell_limits<R: Threads + Wait + Clock + Print + Eprint + Copy + Send + 'stati
     }
 }
 
-// Fifty drawn orders, of a program whose orders are all right, and of one of which some are bad, but not the first.
+// Tries fifty drawn orders: of a program whose orders are all right, and of a program with bad orders, of which the
+// first order isn't one.
 fn tell_drawn<R: Threads + Wait + Clock + Print + Eprint + Copy + Send + 'static>(
     teller: &mut Teller<'_, R>,
 ) {
@@ -224,7 +228,7 @@ fn tell_drawn<R: Threads + Wait + Clock + Print + Eprint + Copy + Send + 'static
     teller.tell_within(limits, "drawn-alarm", &clock::Clock::Sleepers);
 }
 
-// All of them, in order.
+// Tries all programs, in order.
 fn tell_all<R: Threads + Wait + Clock + Print + Eprint + Copy + Send + 'static>(
     teller: &mut Teller<'_, R>,
 ) {

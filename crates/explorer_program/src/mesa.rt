@@ -7,11 +7,11 @@ use plain_schedulers::buffer::mesa::MesaBuffer;
 use std::alloc::Global;
 use std::sync::Wait;
 
-/// Places 0 and 1 put in an item each, and places 2 and 3 take one out each.
+/// Places 0 and 1 put an item in, each, and places 2 and 3 take an item out, each.
 #[derive(Clone, Copy)]
 pub struct MesaCell;
 
-// What a thread does, by its number.
+// Does the part of the thread with this number.
 fn acts<R: Wait, M: Monitor<MesaBuffer<u64>>>(
     rt: &R,
     m: &M,

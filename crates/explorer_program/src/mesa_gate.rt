@@ -1,4 +1,4 @@
-//! A gate on a Mesa condition: who finds it shut waits until it is open.
+//! A gate on a Mesa condition: a process that finds it shut waits until it is open.
 
 use hoare_law::data::MonitorData;
 use hoare_law::monitor::{Monitor, PLAIN};
@@ -10,11 +10,11 @@ const IS_OPEN: usize = 0;
 /// A gate, which is shut until it is opened.
 #[derive(Drop)]
 pub struct MesaGate {
-    /// Whether it is open.
+    /// True if the gate is open.
     pub is_open: bool,
 }
 
-// Nothing is said of who waits, so that nothing is owed to them.
+// `rest` and `ready` say nothing of waiters, so nothing is owed to them.
 impl MonitorData for MesaGate {
     ghost use Rattle.std.specs.Prelude.{⊤};
 
@@ -46,7 +46,7 @@ impl MonitorData for MesaGate {
 }
 
 impl MesaGate {
-    /// Passes the gate, once it is open.
+    /// Passes the gate. If it is shut, waits first.
     pub fn pass<R: Wait, M: Monitor<MesaGate>>(m: &M, rt: &R, out: M::Out) -> M::Out
         requires { M.is_of m.now out }
         ensures { M.is_of m.now result }
@@ -58,7 +58,7 @@ impl MesaGate {
         m.leave(rt, inside)
     }
 
-    /// Opens the gate, and calls one that waits. (All that wait are meant.)
+    /// Opens the gate, and notifies one waiter. (It should notify all of them.)
     pub fn open_to_one<R: Wait, M: Monitor<MesaGate>>(m: &M, rt: &R, out: M::Out) -> M::Out
         requires { M.is_of m.now out }
         ensures { M.is_of m.now result }

@@ -1,22 +1,22 @@
-//! What came of an exploration: in words, and as the script of its last run.
+//! The outcome of an exploration: in words, and as the script of its last run.
 
 use order_explorer::{Ending, Found, Limit, Schedule};
 use std::alloc::{AllocError, Global};
 use std::io;
 
-/// What came of an exploration.
+/// What an exploration found, as it is printed.
 #[derive(Drop)]
 pub struct Outcome {
-    /// It in words.
+    /// A line in words; for a bad run also a line for each thread that hasn't ended.
     pub words: String,
-    /// The script of the last run. Where all orders ended right, there is none, and it is empty.
+    /// The script of the last run. It is empty if all orders ended right.
     pub script: String,
-    /// How the last run ended, if it is a bad one.
+    /// How the last run ended, if it is a bad run.
     pub ending: Option<Ending>,
 }
 
 impl Outcome {
-    /// What came of an exploration that found this.
+    /// Creates the outcome of an exploration that found this. Refuses if an allocation fails.
     pub fn of(alloc: Global, found: &Found) -> io::Result<Outcome> {
         Ok(Outcome {
             words: words_of(alloc, found)?,
@@ -25,13 +25,13 @@ impl Outcome {
         })
     }
 
-    /// Whether another exploration ended as this one did, with the same script.
+    /// Returns true if the last runs of both explorations ended alike, with the same script.
     pub fn is_as(&self, other: &Outcome) -> bool {
         self.ending == other.ending && self.script.as_str() == other.script.as_str()
     }
 }
 
-// The bad run, if one was found.
+// Returns the bad run, if the exploration found one.
 fn bad_of(found: &Found) -> Option<&Schedule> {
     match found {
         Found::Limit(..) => None,
@@ -39,7 +39,7 @@ fn bad_of(found: &Found) -> Option<&Schedule> {
     }
 }
 
-// How the bad run ended, if one was found.
+// Returns how the bad run ended, if the exploration found one.
 fn ending_of(found: &Found) -> Option<Ending> {
     match bad_of(found) {
         Some(bad) => Some(bad.ending),
@@ -47,7 +47,7 @@ fn ending_of(found: &Found) -> Option<Ending> {
     }
 }
 
-// The script of the last run.
+// Returns the script of the last run, or an empty text if there is no such run.
 fn script_of(alloc: Global, found: &Found) -> Result<String, AllocError> {
     match found.schedule() {
         Some(schedule) => schedule.script(alloc),
@@ -55,7 +55,7 @@ fn script_of(alloc: Global, found: &Found) -> Result<String, AllocError> {
     }
 }
 
-// What came of it, in words: of a bad run also which it is, and where its threads stand.
+// Returns the outcome in words: of a bad run also its number, and what its threads do.
 fn words_of(alloc: Global, found: &Found) -> Result<String, AllocError> {
     let mut words = String::new(alloc);
     add_words(&mut words, found)?;
@@ -67,7 +67,7 @@ fn words_of(alloc: Global, found: &Found) -> Result<String, AllocError> {
     Ok(words)
 }
 
-// Adds what came of it, without the run.
+// Adds the outcome in words, without the run.
 fn add_words(words: &mut String, found: &Found) -> Result<(), AllocError> {
     match found {
         Found::AllOrders(runs) => writeln!(words, "all {runs} orders end, and end right"),

@@ -1,4 +1,4 @@
-//! The pool of buffers: a few streams share one.
+//! The pool of buffers: a few streams share one buffer.
 
 use crate::answers::all_one;
 use hoare_law::monitor::Monitor;
@@ -7,14 +7,14 @@ use std::alloc::Global;
 use std::sync::Wait;
 use timed_schedulers::pool::Pool;
 
-/// So many streams that each take a buffer and give it back.
+/// Streams that each take a buffer and give it back.
 #[derive(Clone, Copy)]
 pub struct Streams {
-    /// How many threads there are: 4 at most, for a stream of its own each.
+    /// The number of threads, at most 4, so that each has its own stream.
     pub threads: usize,
 }
 
-// What a thread does, by its number.
+// Does the part of the thread with this number.
 fn acts<R: Wait, M: Monitor<Pool>>(rt: &R, m: &M, out: M::Out, number: usize) -> (M::Out, u64)
     requires { M.is_of m.now out }
     ensures { M.is_of m.now result.0 }

@@ -10,11 +10,11 @@ use sweep_schedulers::readers_writers::{NoReader, ReadPass, ReadersWriters};
 /// Place 2 writes, and the others read.
 #[derive(Clone, Copy)]
 pub struct Readers {
-    /// How many threads there are, the writer among them: 3 at least.
+    /// The number of threads, with the writer: at least 3.
     pub threads: usize,
 }
 
-// Ends a read: where the pass comes back it is tried again.
+// Ends a read. If `end_read` refuses and returns the pass, tries again.
 fn end_read<R: Wait, M: Monitor<ReadersWriters<u64>>>(
     rt: &R,
     m: &M,
@@ -36,7 +36,7 @@ fn end_read<R: Wait, M: Monitor<ReadersWriters<u64>>>(
     unreachable!()
 }
 
-// What a thread does, by its number.
+// Does the part of the thread with this number.
 fn acts<R: Wait, M: Monitor<ReadersWriters<u64>>>(
     rt: &R,
     m: &M,

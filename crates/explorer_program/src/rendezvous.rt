@@ -6,7 +6,7 @@ use order_explorer::{Explored, Place, Program};
 use std::alloc::Global;
 use std::sync::Wait;
 
-/// Each thread meets once, and answers its partner's number.
+/// Each thread meets once, and its answer is its partner's number.
 #[derive(Clone, Copy)]
 pub struct Pairs;
 

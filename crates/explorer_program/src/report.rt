@@ -1,4 +1,4 @@
-//! What is printed of explorations.
+//! Runs explorations, and prints their outcomes.
 
 use crate::arguments::Asked;
 use crate::outcome::Outcome;
@@ -11,7 +11,7 @@ use std::sync::Wait;
 use std::thread::Threads;
 use std::time::Instant;
 
-/// Tries programs and prints what comes of each, until one can't be tried or told.
+/// Tries programs and prints the outcome of each, until one can't be tried or printed.
 #[derive(Drop)]
 pub struct Teller<'a, R> {
     rt: R,
@@ -21,7 +21,7 @@ pub struct Teller<'a, R> {
 }
 
 impl<'a, R: Threads + Wait + Clock + Print + Eprint + Copy + Send + 'static> Teller<'a, R> {
-    /// Who tells what is asked for.
+    /// Creates a teller that tries and prints what is asked for.
     pub fn of(rt: R, alloc: Global, asked: Asked<'a>) -> Teller<'a, R> {
         let told = Ok(());
         Teller {
@@ -32,13 +32,14 @@ impl<'a, R: Threads + Wait + Clock + Print + Eprint + Copy + Send + 'static> Tel
         }
     }
 
-    /// What is asked for.
+    /// Returns what is asked for.
     pub fn asked(&self) -> Asked<'a> {
         self.asked
     }
 
-    /// Tries the orders of a program on both doors, and prints what came of it. Where it alone is asked for, that goes
-    /// to standard error, and the script of its bad order to standard output.
+    /// If all programs are asked for, tries the orders of this program on both doors, and prints the outcome. If this
+    /// program alone is asked for, tries it on the door of the limits, and prints the outcome to standard error, and
+    /// the script of its bad order to standard output. Else, or after a failure, does nothing.
     pub fn tell<
         D: MonitorData + Send + Drop + 'static,
         P: Program<D, Explored<D>> + Clone + 'static,
@@ -46,7 +47,7 @@ impl<'a, R: Threads + Wait + Clock + Print + Eprint + Copy + Send + 'static> Tel
         self.tell_within(self.asked.limits, name, program);
     }
 
-    /// The same, within limits of its own.
+    /// Does what `tell` does, within these limits.
     pub fn tell_within<
         D: MonitorData + Send + Drop + 'static,
         P: Program<D, Explored<D>> + Clone + 'static,
@@ -60,7 +61,7 @@ impl<'a, R: Threads + Wait + Clock + Print + Eprint + Copy + Send + 'static> Tel
         }
     }
 
-    /// The same, and prints the script of its bad order too.
+    /// Does what `tell_within` does, and prints the script of the bad order too.
     pub fn tell_with_script<
         D: MonitorData + Send + Drop + 'static,
         P: Program<D, Explored<D>> + Clone + 'static,
@@ -70,13 +71,13 @@ impl<'a, R: Threads + Wait + Clock + Print + Eprint + Copy + Send + 'static> Tel
         self.asked.with_script = false;
     }
 
-    /// Whether all was told.
+    /// Returns the first failure, if something couldn't be tried or printed.
     pub fn end(self) -> io::Result<()> {
         self.told
     }
 }
 
-// What comes of a program, as far as it is asked for.
+// Tries a program and prints its outcome, as far as it is asked for.
 fn tell_of<
     R: Threads + Wait + Clock + Print + Eprint + Copy + Send + 'static,
     D: MonitorData + Send + Drop + 'static,
@@ -91,7 +92,7 @@ fn tell_of<
     Ok(())
 }
 
-// Prints what comes of the program that alone is asked for.
+// Tries the program that alone is asked for, and prints its outcome.
 fn tell_one<
     R: Threads + Wait + Print + Eprint + Copy + Send + 'static,
     D: MonitorData + Send + Drop + 'static,
@@ -101,7 +102,7 @@ fn tell_one<
     tell_alone(&rt, name, &outcome)
 }
 
-// What comes of a program: of all its orders, or of that of a script alone.
+// Tries all orders of a program, or, if a script is given, that order alone. Returns the outcome.
 fn outcome_of<
     R: Threads + Wait + Copy + Send + 'static,
     D: MonitorData + Send + Drop + 'static,
@@ -115,7 +116,8 @@ fn outcome_of<
     Outcome::of(alloc, &found)
 }
 
-// What comes of a program on a door of one word, and how many microseconds it takes.
+// Tries all orders of a program, on the door of the limits. Returns the outcome, and the time that it took, in
+// microseconds.
 fn outcome_in_time<
     R: Threads + Wait + Clock + Copy + Send + 'static,
     D: MonitorData + Send + Drop + 'static,
@@ -127,7 +129,7 @@ fn outcome_in_time<
     Ok((outcome, spent.as_micros()))
 }
 
-// Prints what comes of it on both doors.
+// Tries a program on both doors, and prints the outcomes. Then runs its bad order again.
 fn tell_on_both<
     R: Threads + Wait + Clock + Print + Copy + Send + 'static,
     D: MonitorData + Send + Drop + 'static,
@@ -140,7 +142,7 @@ fn tell_on_both<
     tell_again(rt, alloc, asked.limits, &baton, program)
 }
 
-// Prints what comes of it on the other door, beside what came of it on the first.
+// Tries a program on the ticket door, and prints the outcome, and that on the baton door.
 fn tell_second<
     R: Threads + Wait + Print + Copy + Send + 'static,
     D: MonitorData + Send + Drop + 'static,
@@ -151,7 +153,7 @@ fn tell_second<
     tell_both(&rt, name, baton, ticket.words.as_str())
 }
 
-// Says so where the bad order, run again alone, ends otherwise.
+// If there is a bad order, runs it again alone, and prints a line if it ends otherwise.
 fn tell_again<
     R: Threads + Wait + Print + Copy + Send + 'static,
     D: MonitorData + Send + Drop + 'static,
@@ -168,7 +170,7 @@ fn tell_again<
     println!(&rt; "    the order alone ends otherwise")
 }
 
-// Prints what came of it on both doors, once where it is the same.
+// Prints the outcomes on both doors, or one of them if they are the same.
 fn tell_both<R: Print>(rt: &R, name: &str, baton: &str, ticket: &str) -> io::Result<()> {
     if baton == ticket {
         return print!(rt; "{name}: {baton}");
@@ -177,7 +179,7 @@ fn tell_both<R: Print>(rt: &R, name: &str, baton: &str, ticket: &str) -> io::Res
     print!(rt; "{name}, by tickets: {ticket}")
 }
 
-// Prints the script of the bad order, where that is asked for.
+// Prints the script of the bad order, if that is asked for.
 fn tell_script<R: Print>(rt: &R, asked: &Asked<'_>, script: &str) -> io::Result<()> {
     if asked.with_script {
         return print!(rt; "{script}");
@@ -185,7 +187,7 @@ fn tell_script<R: Print>(rt: &R, asked: &Asked<'_>, script: &str) -> io::Result<
     Ok(())
 }
 
-// Prints how long it took, where that is asked for.
+// Prints how long the exploration took, if that is asked for.
 fn tell_time<R: Print>(rt: &R, asked: &Asked<'_>, micros: u128) -> io::Result<()> {
     if asked.asks("times") {
         return println!(rt; "    in {micros} microseconds");
@@ -193,7 +195,8 @@ fn tell_time<R: Print>(rt: &R, asked: &Asked<'_>, micros: u128) -> io::Result<()
     Ok(())
 }
 
-// Prints what came of it on standard error, and the script of the bad order, or of the last one that was tried.
+// Prints the outcome to standard error, and to standard output the script of the bad order, or of the last run that met
+// a limit.
 fn tell_alone<R: Print + Eprint>(rt: &R, name: &str, outcome: &Outcome) -> io::Result<()> {
     let words = outcome.words.as_str();
     let script = outcome.script.as_str();

@@ -1,10 +1,11 @@
-//! Signallers that come back: four threads of which each second signals who waits, and goes on behind it.
+//! Signallers that return: each second of four threads signals the waiter, and resumes after it.
 
 use crate::tally::Tally;
 use hoare_law::monitor::{Monitor, PLAIN};
 use std::sync::Wait;
 
-/// Signals who waits, and multiplies by 10 what that one left; or waits, and adds 1.
+/// Visits once. If a process waits, signals it, and then multiplies the number that it left by 10. Else waits, and then
+/// adds 1.
 pub fn pair_up<R: Wait, M: Monitor<Tally>>(rt: &R, m: &M, out: M::Out) -> M::Out
     requires { M.is_of m.now out }
     ensures { M.is_of m.now result }

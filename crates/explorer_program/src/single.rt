@@ -1,4 +1,4 @@
-//! The single item: each thread takes it out and puts it in.
+//! The single item: each thread takes it out and puts it back.
 
 use crate::answers::sum_of;
 use hoare_law::monitor::Monitor;
@@ -7,14 +7,14 @@ use plain_schedulers::single::Single;
 use std::alloc::Global;
 use std::sync::Wait;
 
-/// So many threads of two visits, each of which adds 1 to the item and answers what it was.
+/// Threads of two visits. Each adds 1 to the item, and its answer is what the item was before.
 #[derive(Clone, Copy)]
 pub struct Items {
-    /// How many threads there are.
+    /// The number of threads.
     pub threads: usize,
 }
 
-// What a thread does.
+// Does the part of each thread.
 fn acts<R: Wait, M: Monitor<Single<u64>>>(rt: &R, m: &M, out: M::Out) -> (M::Out, u64)
     requires { M.is_of m.now out }
     ensures { M.is_of m.now result.0 }

@@ -1,13 +1,13 @@
-//! Two threads that resume each other, and one that waits with a lesser urgency and is passed over.
+//! Two threads that resume each other, and a third that waits with less urgency and is passed over.
 
 use crate::tally::Tally;
 use hoare_law::monitor::Monitor;
 use std::sync::Wait;
 
-// The priority with which two threads wait for each other.
+// The priority with which the two partners wait for each other.
 const PARTNER: u64 = 10;
 
-// Resumes a partner if one waits, and is held up until it leaves; else waits with this priority.
+// Visits once. If a partner waits, resumes it, and is held up until the partner leaves. Else waits with this priority.
 fn turn<R: Wait, M: Monitor<Tally>>(rt: &R, m: &M, out: M::Out, priority: u64) -> M::Out
     requires { M.is_of m.now out }
     ensures { M.is_of m.now result }
@@ -22,7 +22,7 @@ fn turn<R: Wait, M: Monitor<Tally>>(rt: &R, m: &M, out: M::Out, priority: u64) -
     m.leave(rt, inside)
 }
 
-// Turns a hundred times.
+// Calls `turn` a hundred times.
 fn turn_on<R: Wait, M: Monitor<Tally>>(rt: &R, m: &M, out: M::Out, priority: u64) -> M::Out
     requires { M.is_of m.now out }
     ensures { M.is_of m.now result }
@@ -34,7 +34,8 @@ fn turn_on<R: Wait, M: Monitor<Tally>>(rt: &R, m: &M, out: M::Out, priority: u64
     out
 }
 
-/// Of so many threads the first two turn as partners, and the last with a lesser urgency; the others come in once.
+/// Does the part of thread `number` of `threads`: the first two call `turn` as partners, and the last with less
+/// urgency; the others visit once.
 pub fn dance<R: Wait, M: Monitor<Tally>>(
     rt: &R,
     m: &M,

@@ -1,5 +1,5 @@
-//! The philosophers' table of the cookbook: three neighbours eat, and the two outer ones may take turns, so that the
-//! one between them waits.
+//! The philosophers' table of the cookbook: three neighbours eat. The two outer philosophers may take turns, so that
+//! the philosopher between them waits.
 ghost use Rattle.std.specs.Prelude.{◌<◌};
 
 use crate::answers::all_one;
@@ -9,14 +9,14 @@ use order_explorer::{Explored, Place, Program};
 use std::alloc::Global;
 use std::sync::Wait;
 
-/// The philosophers at the seats 0, 1 and 2: the one between the others eats once.
+/// The philosophers at the seats 0, 1 and 2. The philosopher at seat 1 eats once.
 #[derive(Clone, Copy)]
 pub struct Supper {
-    /// How often the two others eat.
+    /// The number of meals of each of the two others.
     pub meals: u32,
 }
 
-// Eats so often. The answer is 1, or 0 where the last time it couldn't get up.
+// Eats `meals` times. The answer is 1, or 0 if the last `get_up` was refused.
 fn eat<R: Wait, M: Monitor<Table>>(
     rt: &R,
     m: &M,

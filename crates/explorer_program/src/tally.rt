@@ -1,4 +1,4 @@
-//! Programs over a number of which nothing is asked: what the threads of each do stands in a file of its own.
+//! Programs over a number of which nothing is required. What the threads of each program do is in its own file.
 
 use crate::answers::sum_of;
 use crate::counting::visit;
@@ -16,36 +16,37 @@ use std::alloc::{AllocError, Global};
 use std::sync::Wait;
 use std::sync::atomic::AtomicU64;
 
-/// A number of which nothing is asked, and one condition.
+/// A number of which nothing is required, with one condition.
 pub type Tally = Unasked<u64, 1>;
 
 /// What the threads do over a tally.
 #[derive(Clone, Copy)]
 pub enum OfTally {
-    /// So many threads come in and go out, so many times each.
+    /// This many threads enter and leave, this many times each.
     Visits(usize, u32),
-    /// Four come in once: each second signals who waits, and goes on behind it.
+    /// Four threads visit once: each second thread signals the waiter, and resumes after it.
     Signals,
     /// Places 0 and 1 pass a gate that place 2 opens.
     Late,
-    /// Of so many, places 0 and 1 dance, the last waits to, and the others come in once.
+    /// Of this many threads the first two resume each other, the last waits to be resumed, and the others visit once.
     Dance(usize),
-    /// Two add 1 each, in two visits.
+    /// Two threads add 1 each, in two visits.
     Lost,
-    /// Three come in, the first twice in each second run.
+    /// Three threads visit once, but the first visits twice in each second run.
     Hidden,
-    /// Of three two come in, in each second run others.
+    /// Two of three threads visit, and in each second run another two.
     HiddenOthers,
-    /// Three of which two try to come in. The third waits where nobody came before it, or always.
+    /// Two of three threads attempt to enter. The third waits if neither visited before it, or, if this is true,
+    /// always.
     Try(bool),
-    /// Four come in twice: their last order is wrong.
+    /// Four threads visit twice. Their last order is wrong.
     WrongLast,
-    /// Five come in once: in their last order, the last waits.
+    /// Five threads visit once. In their last order the thread that enters last waits.
     StuckLast,
 }
 
-/// A program over a tally: what its threads do, and how many runs the first of them was in, which only `Hidden` and
-/// `HiddenOthers` count.
+/// A program over a tally: what its threads do, and the number of runs in which its first thread was. Only
+/// `OfTally::Hidden` and `OfTally::HiddenOthers` count these.
 #[derive(Drop)]
 pub struct Tallied {
     acts: OfTally,
@@ -53,7 +54,7 @@ pub struct Tallied {
 }
 
 impl Tallied {
-    /// The program in which the threads do this, and that no run was made of yet.
+    /// Creates the program in which the threads do this, with no run counted.
     pub fn of(acts: OfTally) -> Tallied {
         Tallied {
             acts,
@@ -68,7 +69,7 @@ impl Clone for Tallied {
     }
 }
 
-// What a thread does, by its number.
+// Does the part of the thread with this number.
 fn acts<R: Wait, M: Monitor<Tally>>(
     rt: &R,
     m: &M,

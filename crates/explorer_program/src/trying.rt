@@ -1,22 +1,22 @@
-//! Threads that try to come in, and ask where the monitor is taken.
+//! Threads that attempt to enter, and call `enter` if the attempt fails.
 //!
-//! Place 0 passes a gate: it waits where nobody has opened it. Each of the two others opens the gate and lets place 0
-//! through if it waits, and comes in once more: by a try, or by asking where the try fails. A try is no choice. It
-//! fails only behind a signal that resumed place 0, which has the monitor then: at most one does.
+//! Place 0 passes a gate: it waits if no place has opened it. Each of the two others opens the gate and lets place 0
+//! through if it waits. Then it enters once more: by an attempt, or, if the attempt fails, by `enter`. An attempt is no
+//! choice. It fails only after a signal that resumed place 0, which then has the monitor: at most one attempt fails.
 //!
-//! The orders, counted by hand: if place 0 enters first, it waits. Either of the two others lets it through, tries in
-//! vain, and asks; so both want in, and either may enter first: 2 times 2 orders. If one of the two enters first, in 2
-//! ways, it enters again at once, by its try, and ends; so place 0 and the other one want in, and either may enter
-//! first: 2 times 2 orders. These are 8.
+//! The orders, counted by hand. If place 0 enters first, it waits. Either of the two others lets it through, fails in
+//! its attempt, and calls `enter`. Both others are then to enter, and either may be first: 2 times 2 orders. If one of
+//! the two others enters first, in 2 ways, it enters again at once, by its attempt, and ends. Then place 0 and the
+//! remaining place are to enter, and either may be first: 2 times 2 orders. These are 8 orders.
 //!
-//! Where place 0 waits even behind both, nobody lets it through. Place 0 comes in first in the first 4 runs; the fifth
-//! order is 1, 2, 0.
+//! If place 0 waits even after both others, no place lets it through. Place 0 enters first in the first 4 runs; the
+//! fifth order is 1, 2, 0.
 
 use crate::tally::Tally;
 use hoare_law::monitor::{Monitor, PLAIN};
 use std::sync::Wait;
 
-// Waits where nobody has opened the gate, or always. The answer is 1 if it waited.
+// Passes the gate: waits if no place has opened it, or `always`. The answer is 1 if it waited, else 0.
 fn pass<R: Wait, M: Monitor<Tally>>(rt: &R, m: &M, out: M::Out, always: bool) -> (M::Out, u64)
     requires { M.is_of m.now out }
     ensures { M.is_of m.now result.0 }
@@ -29,7 +29,8 @@ fn pass<R: Wait, M: Monitor<Tally>>(rt: &R, m: &M, out: M::Out, always: bool) ->
     (m.leave(rt, inside), u64::from(waits))
 }
 
-// Adds 1 and signals, and comes in once more: then it adds 10 if it came in by a try, and 100 if it had to ask.
+// Adds 1, and signals as it leaves. Then enters once more, and adds 10 if it entered by an attempt, and 100 if by
+// `enter`.
 fn open<R: Wait, M: Monitor<Tally>>(rt: &R, m: &M, out: M::Out) -> M::Out
     requires { M.is_of m.now out }
     ensures { M.is_of m.now result }
@@ -47,7 +48,8 @@ fn open<R: Wait, M: Monitor<Tally>>(rt: &R, m: &M, out: M::Out) -> M::Out
     m.leave(rt, inside)
 }
 
-/// Place 0 passes the gate, and waits `always` or where nobody has opened it; the others open it.
+/// Does the part of thread `number`: place 0 passes the gate, and waits `always`, or if no place has opened it; the
+/// others open it. The answer is 1 if the thread waited, else 0.
 pub fn try_or_ask<R: Wait, M: Monitor<Tally>>(
     rt: &R,
     m: &M,
@@ -64,7 +66,8 @@ pub fn try_or_ask<R: Wait, M: Monitor<Tally>>(
     (open(rt, m, out), 0)
 }
 
-/// Whether both tries came in, or where place 0 waited, one of them.
+/// Returns true if both attempts succeeded, or, if place 0 waited, one of them. `left` is the number at the end, and
+/// `waited` is 1 if place 0 waited, else 0.
 pub fn is_tried(left: u64, waited: u64) -> bool {
     left == waited.wrapping_mul(90).wrapping_add(22)
 }

@@ -1,5 +1,5 @@
-//! A barrier that a party can withdraw from, with a `rest` that is too weak: who withdraws forgets that the others may
-//! now be complete.
+//! A barrier from which a party can withdraw, with a `rest` that is too weak: the party that withdraws forgets that the
+//! others may then be complete.
 ghost use Rattle.std.specs.Prelude.{◌≡◌, ◌<◌, ◌≤◌};
 
 use hoare_law::data::MonitorData;
@@ -11,14 +11,14 @@ use std::sync::Wait;
 
 const ALL_HAVE_COME: usize = 0;
 
-/// A barrier for a number of parties, of which some have come.
+/// A barrier for a number of parties, of which some have arrived.
 #[derive(Drop)]
 pub struct WeakBarrier {
     parties: u32,
     arrived: u32,
 }
 
-// The invariant alone: it doesn't say why anybody waits.
+// Nothing is required, so `rest` doesn't say why a process waits.
 impl MonitorData for WeakBarrier {
     ghost use Rattle.std.specs.Prelude.{⊤};
 
@@ -50,7 +50,8 @@ impl MonitorData for WeakBarrier {
 }
 
 impl WeakBarrier {
-    /// Waits until all parties have come. The last lets one go, and each that goes lets the next one go.
+    /// Arrives, and waits until all parties have arrived. The last party resumes a waiter as it leaves, and each waiter
+    /// then resumes the next.
     pub fn arrive<R: Wait, M: Monitor<WeakBarrier>>(m: &M, rt: &R, out: M::Out) -> M::Out
         requires { M.is_of m.now out }
         ensures { M.is_of m.now result }
@@ -66,7 +67,8 @@ impl WeakBarrier {
         out
     }
 
-    /// One party less is awaited. (Those that have come may now be all, and nobody lets them go.)
+    /// Withdraws a party: one party fewer is awaited. (Those that have arrived may then be all, and no process resumes
+    /// them.)
     pub fn withdraw<R: Wait, M: Monitor<WeakBarrier>>(m: &M, rt: &R, out: M::Out) -> M::Out
         requires { M.is_of m.now out }
         ensures { M.is_of m.now result }
@@ -78,11 +80,11 @@ impl WeakBarrier {
     }
 }
 
-/// Three parties: the first withdraws, the others come.
+/// Three parties: the first withdraws, the others arrive.
 #[derive(Clone, Copy)]
 pub struct Weak;
 
-// What a thread does, by its number.
+// Does the part of the thread with this number.
 fn acts<R: Wait, M: Monitor<WeakBarrier>>(
     rt: &R,
     m: &M,

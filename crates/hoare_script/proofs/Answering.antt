@@ -14,7 +14,7 @@ use Rattle.hoare_script.specs.Lines.{command_of, header_of, sizes_in}
 use Rattle.hoare_script.specs.Scripts.{State, Start, Running, Outcome, one_line, header_line, command_line, opened_by}
 use Rattle.hoare_script.specs.Runs.{IsAt, Follows, IsGoodHeader, OnFault}
 
--- a command's line, where a book stands
+-- the line of a command, if there is a book
 pub one_line-command : (b d : Contents) (i : ℕ) (line : List ℕ) (old new : Option (List ℕ))
     (r : Result (Unit {0}) ScriptFault)
     → ((h : History (Unit {0})) → IsOf b h → Follows (command_line h i line (command_of line)) old new (Some d) r)
@@ -49,7 +49,7 @@ one_line-no_header i line k f (inr w) Start st =
     (w.0 ∙ ap Err w.1, Appends-nil k)
 one_line-no_header i line k f (inr w) (Running h) st = absurd st
 
--- the line at which a fault stands, if it is one of a line
+-- the number of the line with the fault, or 0 if the fault isn't of a line
 abbrev pub fault_line : ScriptFault → ℕ
 fault_line (faults.BadLine i) = i
 fault_line (faults.BadHeader i) = i
@@ -70,7 +70,7 @@ header_line-number : (i : ℕ) (h : Option Header) (f : ScriptFault) → header_
 header_line-number i None f e = let is : f ≡ faults.BadHeader i = cc in ap fault_line is
 header_line-number i (Some h) f e = opened_by-number i h (make_refusal (sizes_in h)) f e
 
--- a line's fault stands at that line
+-- the fault of a line has the number of that line
 pub one_line-number : (s : State) (i : ℕ) (line : List ℕ) (f : ScriptFault) → one_line s i line ≡ Err f
     → fault_line f ≡ i
 unfolding one_line

@@ -1,4 +1,4 @@
--- What a book's calls promise is what a command is answered.
+-- What the calls of a book promise is the answer to a command.
 use Rattle.std.proofs.Common.{◌≡◌, ◌≢◌, ℕ, ◌<◌, ◌≤◌, Bool, true, false, List, [], ◌∷◌, Option, Some, None, Result, Ok}
 use Rattle.std.proofs.Common.{Err, refl, ap, sym, ◌∙◌, subst, cond}
 use Rattle.std.specs.Prelude.{IsTrue, MatchResult, IfOk, OnErr}
@@ -23,14 +23,14 @@ use Rattle.hoare_script.specs.Answers.{outcome_answer, answer_to, history_after,
 use Rattle.hoare_script.specs.Answers.{first_answer, turn_answer, priority_answer, is_nonempty}
 use Rattle.std.proofs.lemmas.Bool.{lt-ltb, le-ltb}
 
--- who goes on is who is inside
+-- the outcome of a step and the turn after it have the same answer
 outcome_answer-next_of : (t : Turn) → outcome_answer (Ok (next_of t)) ≡ turn_answer t
 outcome_answer-next_of turns.Free = refl
 outcome_answer-next_of (turns.Held k) = refl
 outcome_answer-next_of (turns.Owed k c) = refl
 outcome_answer-next_of (turns.Return k) = refl
 
--- a step of a book of h
+-- a step of a book of the history h
 pub answer_to-Do : (old new : Contents) (h : History (Unit {0})) (s : Step) (r : Result Next StepRefused) → IsOf old h
     → MatchResult r (λ _. (refusal_of h s ≡ None) × IsOf new (after_step h s)) (λ e. refusal_of h s ≡ Some e)
     → IfOk r (λ n. (n ≡ next_of new.turn) × IsSettled n) → OnErr r (new ≡ old)
@@ -84,7 +84,7 @@ answer_to-Queue b h c t o l w =
     ap Waiting (is_nonempty-test t (waiting c h.events) w.0 w.1)
     ∙ sym (ap (queue_answer h c) (condition_refusal-none b h c o l))
 
--- a priority, as the answer gives it
+-- the answer with a priority, or that no process waits
 abbrev pub priority_or_none : Option ℕ → Answer
 priority_or_none None = Nobody
 priority_or_none (Some p) = Priority p

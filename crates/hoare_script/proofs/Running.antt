@@ -1,4 +1,4 @@
--- How a run goes on, line by line.
+-- How a run continues, line by line.
 use Rattle.std.proofs.Common.{◌≡◌, ◌≢◌, ℕ, suc, ◌+◌, ◌-◌, ◌<◌, ◌≤◌, List, [], ◌∷◌, ◌++◌, length, take, drop, Option}
 use Rattle.std.proofs.Common.{Some, None, Result, Ok, Err}
 use Rattle.std.proofs.Common.{refl, ap, sym, ◌∙◌, append_assoc, subst, eqb, cond, Bool, true, false, arith}
@@ -29,7 +29,7 @@ use Rattle.hoare_script.specs.Runs.{IsAt, Follows, IsGoodHeader, OnFault, Tells,
 use Rattle.hoare_script.proofs.Answering.{one_line-number}
 use Rattle.hoare_script.proofs.Scripts.{told_from-line, told_from-long_line, told_from-past_limit, told_from-end}
 
--- how far a run is: of the input t0 it has t left, and what it wrote and will write is what the input is told
+-- the state of a run: of the input t0 it has t left, and what it wrote and will write is what `told` has of the input
 pub record Going (number room : ℕ) (opened : Option Contents) (old now : Option (List ℕ)) (t0 t : List ℕ) : Type 0 where
   pub state : State
   pub written : List ℕ
@@ -55,7 +55,7 @@ Going-start old t = record {
   counted = omega arith;
 }
 
--- nothing more is written, and a fault is told
+-- the script ends with a fault, and nothing more is written
 Whole-fault : (old now new : Option (List ℕ)) (w : List ℕ) (t : Told) (f : ScriptFault)
     → Appends old now w → Appends now new [] → t ≡ prepend w (stop f) → Whole t old new (Some f)
 Whole-fault old now new w t f p q e = (
@@ -63,13 +63,13 @@ Whole-fault old now new w t f p q e = (
   ap (λ (v : Told). v.fault) e,
 )
 
--- what a line wrote, and where the script then stands
+-- what a line wrote, and the state of the script after it
 IsOkAnd-parts : (out : Outcome) (P : List ℕ × State → Type 0) → IsOkAnd out P
     → (p : List ℕ × State) × (out ≡ Ok p) × P p
 IsOkAnd-parts (Ok p) P h = (p, refl, h)
 IsOkAnd-parts (Err f) P h = absurd h
 
--- two texts before what is told
+-- to prepend two texts is to prepend both as one text
 prepend-prepend : (w p : List ℕ) (t : Told) → prepend w (prepend p t) ≡ prepend (w ++ p) t
 prepend-prepend w p t = ap (λ (v : List ℕ). record { written = v; fault = t.fault }) (sym (append_assoc w p t.written))
 
@@ -79,24 +79,24 @@ IsAt-start None s h e = refl
 IsAt-start (Some b) Start h e = absurd h
 IsAt-start (Some b) (Running h) st e = cc
 
--- the last line, where it isn't empty
+-- the last line, if it isn't empty
 at_end-some : (s : State) (i : ℕ) (l : List ℕ) → (l ≡ [] → ⊥) → at_end s i l ≡ then_on (one_line s i l) (λ _. done)
 at_end-some s i [] n = absurd (n refl)
 at_end-some s i (b ∷ bs) n = refl
 
 module _ (number room : ℕ) (opened : Option Contents) (old now : Option (List ℕ)) (t0 t : List ℕ)
     (g : Going number room opened old now t0 t) where
-  -- the rest of what is told, from where the run is
+  -- the rest of `told`, from the state of the run on
   told-rest : (e : Ending) → told e t0 ≡ prepend g.written (told_from e g.state number room t)
   told-rest e = ap (told e) g.text.whole ∙ g.goes e t
 
-  -- a fault is told, and nothing more is written
+  -- the rest of the script is a fault, and nothing more is written
   Whole-stop : (new : Option (List ℕ)) (f : ScriptFault) → Appends now new []
       → told_from at_end g.state number room t ≡ stop f → Whole (told at_end t0) old new (Some f)
   Whole-stop new f a e =
       Whole-fault old now new g.written (told at_end t0) f g.appends a (told-rest at_end ∙ ap (prepend g.written) e)
 
-  -- what the lines before were answered
+  -- the answers to the lines before are what was written
   told-before : (told at_cut g.read).written ≡ g.written
   told-before =
       let none : told_from at_cut g.state number room [] ≡ stop faults.ReadFault =
@@ -204,7 +204,7 @@ module _ (number room : ℕ) (opened : Option Contents) (old now : Option (List 
   Tells-fault new l x go (faults.LineTooLong i) e b o m a = absurd o
   Tells-fault new l x go faults.TooMuch e b o m a = absurd o
 
-  -- the last line is answered
+  -- the answer to the last line is written
   Tells-end : (new : Option (List ℕ)) (x : List ℕ) (out : Outcome) (P : State → Type 0)
       → told_from at_end g.state number room t ≡ then_on out (λ _. done) → x ≡ []
       → IsOkAnd out (λ p. Appends now new p.0 × P p.1)
@@ -240,7 +240,7 @@ module _ (number room : ℕ) (opened : Option Contents) (old now : Option (List 
       sym (append-nil g.written) ∙ sym (ap (λ (v : Told). v.written) all) in
       ((subst (λ (v : List ℕ). Appends old now v) text g.appends, ap (λ (v : Told). v.fault) all), z)
 
-  -- a whole line is answered
+  -- the answer to a whole line is written
   Going-line : (d : Contents) (new : Option (List ℕ)) (l x : List ℕ) → NoNewline l → length l ≤ LONGEST_LINE
       → length l < room → t ≡ l ++ 10 ∷ x
       → IsOkAnd (one_line g.state number l) (λ p. Appends now new p.0 × IsAt (Some d) p.1)
@@ -265,7 +265,7 @@ module _ (number room : ℕ) (opened : Option Contents) (old now : Option (List 
         counted = omega (arith, length-append g.read line, length-append l (10 ∷ []), g.counted, r);
       }
 
--- where a reader's bytes are known, the run is so far: of k0 it had, k is left
+-- if the bytes of the reader are known, this is the state of the run: of k0, which the reader had, k is left
 pub record Known (k0 k old now : Option (List ℕ)) (number room : ℕ) (opened : Option Contents) : Type 0 where
   pub goes : Reads k0 k (Going number room opened old now)
 
@@ -277,12 +277,12 @@ Reads-start (Some t) old = Going-start old t
 pub Known-start : (k old : Option (List ℕ)) → Known k k old old 1 MOST_BYTES None
 Known-start k old = record { goes = Reads-start k old }
 
--- The ways out of the loop, and its turn: a line l was read, and m is left.
+-- The exits of the loop, and its iteration: a line l was read, and m is left.
 module _ {k0 k old now : Option (List ℕ)} {number room : ℕ} {opened : Option Contents}
     (h : Known k0 k old now number room opened)
     (m : Option (List ℕ)) (l : List ℕ) (one : NoNewline l) (short : length l ≤ LONGEST_LINE)
     (within : length l ≤ room) where
-  -- the line at hand ends in this way
+  -- the line that was read ends in this way
   ended : (S : List ℕ → List ℕ → Type 0) (e f : Result Ended LineFault) → e ≡ f
       → ((t0 t x : List ℕ) → Going number room opened old now t0 t → ReadsLine l f t x → S t0 x)
       → Reads k m (ReadsLine l e) → Reads k0 m S
@@ -318,7 +318,7 @@ module _ {k0 k old now : Option (List ℕ)} {number room : ℕ} {opened : Option
       (Tells-nothing number room opened old now t0 t g x (eqb number 1)
       (told_from-nothing number room opened old now t0 t g (b.0 ∙ z)) b.1)) r
 
-  -- what the last line is told
+  -- what `told_from` has of the last line
   told_from-last : (s : State) (t : List ℕ) → t ≡ l → (l ≡ [] → ⊥)
       → told_from at_end s number room t ≡ then_on (one_line s number l) (λ _. done)
   told_from-last s t e z =

@@ -1,4 +1,4 @@
--- What a script is told, by how its next line ends.
+-- What `told_from` has of a script, by how its next line ends.
 use Rattle.std.proofs.Common.{◌≡◌, ◌≢◌, ℕ, suc, ◌+◌, ◌-◌, ◌<◌, ◌≤◌, Bool, true, false, cond, ltb, List, [], ◌∷◌, ◌++◌}
 use Rattle.std.proofs.Common.{length, take}
 use Rattle.std.proofs.Common.{refl, ap, sym, ◌∙◌, length-append, arith}
@@ -13,7 +13,7 @@ use Rattle.line_text.proofs.Spelling.{slice_split-some, slice_split-longer}
 use Rattle.line_text.specs.Line.{NoNewline, is_newline}
 use Rattle.hoare_script.specs.Scripts.{State, Ending, stop, one_line, then_on, told_lines, told_from}
 
--- two tests that tell the same
+-- two tests with the same result
 ltb-same : (a b c d : ℕ) → (a < b → c < d) → (c < d → a < b) → ltb a b ≡ ltb c d
 ltb-same a b c d f g = grind (arith, nat_tests)
 
@@ -30,14 +30,14 @@ told_lines-long : (e : Ending) (over : Bool) (s : State) (i : ℕ) (l : List ℕ
 told_lines-long e over s i l [] h = rw (lt-ltb 256 (length l) h) refl
 told_lines-long e over s i l (p ∷ ps) h = rw (lt-ltb 256 (length l) h) refl
 
--- the line and its end, where there is room for both
+-- the line and its end, if there is room for both
 take-line : (room : ℕ) (l : List ℕ) (b : ℕ) (x : List ℕ) → length l < room
     → take room (l ++ b ∷ x) ≡ l ++ b ∷ take (room - (length l + 1)) x
 take-line room l b x h =
     let e : room ≡ length l + suc (room - (length l + 1)) = omega arith in
     ap (λ n. take n (l ++ b ∷ x)) e ∙ take-append-add l (b ∷ x) (suc (room - (length l + 1)))
 
--- a line that its end of line ends
+-- a line with its end
 pub told_from-line : (e : Ending) (s : State) (i room : ℕ) (l x : List ℕ) → NoNewline l → length l ≤ 256
     → length l < room
     → told_from e s i room (l ++ 10 ∷ x) ≡ then_on (one_line s i l)

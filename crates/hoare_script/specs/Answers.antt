@@ -1,4 +1,4 @@
--- What a command is answered where a history happened, and how an answer is spelled.
+-- The answer to a command after a history, and how an answer is spelled.
 use Rattle.std.specs.Prelude.{ℕ, List, [], ◌∷◌, ◌++◌, Bool, true, false, Option, Some, None, Result, Ok, Err, codes}
 use Rattle.std.specs.Prelude.{decimal}
 use Rattle.hoare_law.specs.declared.event.Event.{Event}
@@ -19,14 +19,14 @@ use Rattle.hoare_script.specs.declared.answers.Answer.TheVariants.{Free, Inside,
 use Rattle.hoare_script.specs.declared.lines.Command.{Command}
 use Rattle.hoare_script.specs.declared.lines.Command.TheVariants.{Do, Queue, First}
 
--- the place inside, or that the monitor is free
+-- the place that is inside, or to which the monitor is owed or returns; or that the monitor is free
 abbrev pub turn_answer : Turn → Answer
 turn_answer turns.Free = Free
 turn_answer (turns.Held k) = Inside k
 turn_answer (turns.Owed k c) = Inside k
 turn_answer (turns.Return k) = Inside k
 
--- a step's answer and the history after it, by what refuses it
+-- the answer to a step, and the history after it, by its refusal, if there is one
 abbrev pub step_answer : History (Unit {0}) → Step → Option StepRefused → Answer
 step_answer h s None = turn_answer (turn (after_step h s).events)
 step_answer h s (Some r) = Refused r
@@ -39,7 +39,7 @@ abbrev pub is_nonempty : {X : Type 0} → List X → Bool
 is_nonempty [] = false
 is_nonempty (x ∷ xs) = true
 
--- whether somebody waits on c
+-- true if a process waits on c; or the refusal
 abbrev pub queue_answer : History (Unit {0}) → ℕ → Option StepRefused → Answer
 queue_answer h c None = Waiting (is_nonempty (waiting c h.events))
 queue_answer h c (Some r) = Refused r
@@ -48,12 +48,12 @@ abbrev pub priority_answer : Option (Event (Unit {0})) → Answer
 priority_answer None = Nobody
 priority_answer (Some e) = Priority (priority_of e)
 
--- the priority of whom a signal on c would resume
+-- the priority of the chosen waiter on c, if there is one; or the refusal
 abbrev pub first_answer : History (Unit {0}) → ℕ → Option StepRefused → Answer
 first_answer h c None = priority_answer (chosen c h.events)
 first_answer h c (Some r) = Refused r
 
--- what a command is answered where h happened, and what then happened
+-- the answer to a command after the history h, and the history after the command
 unfoldable pub answer_to : History (Unit {0}) → Command → Answer
 answer_to h (Do s) = step_answer h s (refusal_of h s)
 answer_to h (Queue c) = queue_answer h c (condition_refusal h c)
@@ -85,7 +85,7 @@ text_of (Refused r) = codes "refused " ++ decimal (refusal_number r)
 abbrev pub answer_line : List ℕ → Answer → List ℕ
 answer_line line answer = line ++ (codes " -> " ++ (text_of answer ++ 10 ∷ []))
 
--- what the outcome of a book's step is answered
+-- the answer to a step of the book with this outcome
 abbrev pub outcome_answer : Result Next StepRefused → Answer
 outcome_answer (Ok next.Free) = Free
 outcome_answer (Ok (next.Held k)) = Inside k

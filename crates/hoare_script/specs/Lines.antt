@@ -56,12 +56,12 @@ command_of_words (w ∷ a ∷ b ∷ p ∷ x ∷ xs) = None
 unfoldable pub command_of : List ℕ → Option Command
 command_of line = command_of_words (words_of line)
 
--- with three numbers the last conditions are Mesa conditions, as many as the third says
+-- with three numbers the last conditions are Mesa conditions, as many as the third number says
 abbrev pub header_with_mesa : Option (ℕ × ℕ × ℕ) → Option Header
 header_with_mesa None = None
 header_with_mesa (Some n) = Some (record { places = n.0; conditions = n.1; mesa = n.2 })
 
--- with two numbers none is
+-- with two numbers no condition is a Mesa condition
 abbrev pub header_with : Option (ℕ × ℕ) → Option (ℕ × ℕ × ℕ) → Option Header
 header_with (Some n) three = Some (record { places = n.0; conditions = n.1; mesa = 0 })
 header_with None three = header_with_mesa three

@@ -1,4 +1,4 @@
--- What a run reads, writes and answers, by the input; and the status of a fault.
+-- What a run reads, writes and returns, by its input; and the exit status of a fault.
 use Rattle.std.specs.Prelude.{ℕ, suc, ◌≡◌, ◌≤◌, ◌<◌, ◌+◌, ◌-◌, Bool, true, false, List, [], ◌∷◌, ◌++◌, length, take}
 use Rattle.std.specs.Prelude.{drop}
 use Rattle.std.specs.Prelude.{Option, Some, None, Result, Ok, Err, IsOkAnd, ⊤}
@@ -13,11 +13,11 @@ use Rattle.hoare_script.specs.declared.fault.ScriptFault.TheVariants as faults
 use Rattle.hoare_script.specs.Lines.{header_of, sizes_in}
 use Rattle.hoare_script.specs.Scripts.{State, Start, Running, Outcome, Told, told, at_end, at_cut}
 
--- all that is told is written, and the fault is the one told
+-- all that t has as written is appended, and the fault is that of t
 abbrev pub Whole : Told → Option (List ℕ) → Option (List ℕ) → Option ScriptFault → Type 0
 Whole t old new f = Appends old new t.written × (t.fault ≡ f)
 
--- after i lines of text the next one is read: the answers to the i are written, and not all answers
+-- after i lines of text the next line is read: the answers to the i lines are written, and not all answers
 abbrev pub BreaksOff : ℕ → List ℕ → List ℕ → Option (List ℕ) → Option (List ℕ) → Type 0
 BreaksOff i text left old new =
     (read : List ℕ) × (n : ℕ)
@@ -29,37 +29,37 @@ BreaksOff i text left old new =
 abbrev pub IsGoodHeader : List ℕ → Type 0
 IsGoodHeader line = IsSomeAnd (header_of line) (λ h. make_refusal (sizes_in h) ≡ None)
 
--- the first line of a text is one
+-- the first line of a text is a good header
 abbrev pub HasGoodHeader : List ℕ → Type 0
 HasGoodHeader text =
     (line : List ℕ) × (lines : List (List ℕ))
     × (slice_split is_newline text ≡ line ∷ lines) × IsGoodHeader line
 
--- a run's verdict
+-- the result of a run
 abbrev pub Verdict : Type 0
 Verdict = Result (Unit {0}) ScriptFault
 
--- what a run over text writes, by its verdict, where it leaves left of the text
+-- what a run over text writes, by its result, if it leaves `left` of the text unread
 abbrev pub Writes : List ℕ → List ℕ → Option (List ℕ) → Option (List ℕ) → Verdict → Type 0
 Writes text left old new (Ok u) = Whole (told at_end text) old new None
 -- the answers to the lines that were read whole
 Writes text left old new (Err faults.ReadFault) =
     (read : List ℕ) × (text ≡ read ++ left) × Whole (told at_cut read) old new (Some faults.ReadFault)
 Writes text left old new (Err faults.WriteFault) = (i : ℕ) × BreaksOff i text left old new
--- nothing, and the first line is a good header: it alone takes memory, and a bad one is answered as the fault it is
+-- nothing, and the first line is a good header: it alone takes memory, and a bad header is returned as its own fault
 Writes text left old new (Err faults.Memory) = HasGoodHeader text × Appends old new []
--- the answers to the lines before it, and it is the fault that the text has
+-- the answers to the lines before the fault, which is the fault of the text
 Writes text left old new (Err f) = Whole (told at_end text) old new (Some f)
 
--- what a run leaves of a text, by its verdict: nothing behind the byte at which it stands is read
+-- what a run leaves unread of a text, by its result: no byte past the one at which the result is fixed is read
 abbrev pub Leaves : List ℕ → List ℕ → Verdict → Type 0
 Leaves text left (Ok u) = left ≡ []
 Leaves text left (Err faults.NoHeader) = left ≡ []
 Leaves text left (Err faults.TooMuch) = left ≡ drop (1048577) text
--- of its line the byte that is too many is the last
+-- the last byte that is read is the first of its line that is too many
 Leaves text left (Err (faults.LineTooLong i)) =
     left ≡ drop (257) (after_lines (i - 1) text)
--- its line and the end of it are read
+-- its line and the end of that line are read
 Leaves text left (Err (faults.BadLine i)) = left ≡ after_lines i text
 Leaves text left (Err (faults.BadHeader i)) = left ≡ after_lines i text
 -- the header and its end are read
@@ -68,18 +68,18 @@ Leaves text left (Err faults.Memory) = left ≡ after_lines 1 text
 Leaves text left (Err faults.WriteFault) = (i : ℕ) × (left ≡ after_lines i text)
 Leaves text left (Err faults.ReadFault) = (read : List ℕ) × (text ≡ read ++ left)
 
--- both
+-- what a run writes, and what it leaves unread
 abbrev pub Tells : List ℕ → List ℕ → Option (List ℕ) → Option (List ℕ) → Verdict → Type 0
 Tells text left old new r = Writes text left old new r × Leaves text left r
 
--- the book, if there is one, is where the script is
+-- there is a book exactly if the script is running, and the book is then of the script's history
 abbrev pub IsAt : Option Contents → State → Type 0
 IsAt None Start = ⊤
 IsAt None (Running h) = ⊥
 IsAt (Some b) Start = ⊥
 IsAt (Some b) (Running h) = IsOf b h
 
--- what a fault at a line leaves written
+-- what is written if a line ends in this fault
 abbrev pub OnFault : Outcome → Option (List ℕ) → Option (List ℕ) → ScriptFault → Type 0
 OnFault out old new faults.WriteFault = IsOkAnd out (λ p. AppendsPrefix old new p.0)
 OnFault out old new faults.Memory = Appends old new []
@@ -90,12 +90,12 @@ OnFault out old new faults.ReadFault = ⊥
 OnFault out old new (faults.LineTooLong i) = ⊥
 OnFault out old new faults.TooMuch = ⊥
 
--- what a line leaves: its answer, and a book that goes on
+-- what a line leaves: its answer is written, and the book is at the state after the line
 abbrev pub Follows : Outcome → Option (List ℕ) → Option (List ℕ) → Option Contents → Verdict → Type 0
 Follows out old new book (Ok u) = IsOkAnd out (λ p. Appends old new p.0 × IsAt book p.1)
 Follows out old new book (Err f) = OnFault out old new f
 
--- a read failed, or a write
+-- true if the result is a read fault; and if it is a write fault
 abbrev pub is_read_fault : {X : Type 0} → Result X ScriptFault → Bool
 is_read_fault (Err faults.ReadFault) = true
 is_read_fault _ = false
@@ -104,7 +104,7 @@ abbrev pub is_write_fault : {X : Type 0} → Result X ScriptFault → Bool
 is_write_fault (Err faults.WriteFault) = true
 is_write_fault _ = false
 
--- 2 where the text is at fault, 3 where the reader, the writer or memory is
+-- 2 if the text is at fault, 3 if the reader, the writer or memory is
 abbrev pub status_of : ScriptFault → ℕ
 status_of faults.NoHeader = 2
 status_of (faults.BadLine i) = 2

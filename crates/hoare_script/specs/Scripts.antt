@@ -1,4 +1,4 @@
--- What a script is answered: line by line, by the history that its commands make.
+-- The answers to a script, line by line, by the history that its commands make.
 use Rattle.std.specs.Prelude.{ℕ, ◌+◌, ◌==◌, nat_lt, Bool, if◌then◌else◌, List, [], ◌∷◌, ◌++◌, length, take, Option}
 use Rattle.std.specs.Prelude.{Some, None, Result, Ok, Err}
 use Rattle.std.specs.List.{slice_split}
@@ -14,12 +14,12 @@ use Rattle.hoare_script.specs.declared.lines.Command.{Command}
 use Rattle.hoare_script.specs.Lines.{command_of, header_of, sizes_in}
 use Rattle.hoare_script.specs.Answers.{answer_line, answer_to, history_after}
 
--- how far a script is: before its header, or where a history happened
+-- the state of a script: before its header, or after a history
 pub data State : Type 0 where
   Start : State
   Running : (history : History (Unit {0})) → State
 
--- what one line writes, and how the script goes on; or its fault
+-- what one line writes, and the state of the script after it; or its fault
 abbrev pub Outcome : Type 0
 Outcome = Result (List ℕ × State) ScriptFault
 
@@ -35,12 +35,12 @@ abbrev pub command_line : History (Unit {0}) → ℕ → List ℕ → Option Com
 command_line h i line None = Err (faults.BadLine i)
 command_line h i line (Some c) = Ok (answer_line line (answer_to h c), Running (history_after h c))
 
--- the line with number i
+-- the outcome of line i
 unfoldable pub one_line : State → ℕ → List ℕ → Outcome
 one_line Start i line = header_line i (header_of line)
 one_line (Running h) i line = command_line h i line (command_of line)
 
--- what is written, and the fault that ends it, if one does
+-- what a script writes, and the fault that ends it, if there is one
 pub record Told : Type 0 where
   pub written : List ℕ
   pub fault : Option ScriptFault
@@ -58,20 +58,20 @@ abbrev pub then_on : Outcome → (State → Told) → Told
 then_on (Err f) go = stop f
 then_on (Ok w) go = prepend w.0 (go w.1)
 
--- what comes of the bytes after the last whole line, which has number i
+-- what a script writes for the bytes after the last whole line, and its fault; these bytes are line i
 abbrev pub Ending : Type 0
 Ending = State → ℕ → List ℕ → Told
 
--- the input ends there
+-- the input ends after these bytes
 abbrev pub at_end : Ending
 at_end s i [] = if i == 1 then stop faults.NoHeader else done
 at_end s i (b ∷ bs) = then_on (one_line s i (b ∷ bs)) (λ _. done)
 
--- a read fails there
+-- a read fails after these bytes
 abbrev pub at_cut : Ending
 at_cut s i last = stop faults.ReadFault
 
--- whole lines, and what follows them; over: there are bytes past the limit
+-- whole lines, and the bytes after them; over is true if there are bytes past the limit
 abbrev pub told_lines : Ending → Bool → State → ℕ → List (List ℕ) → Told
 told_lines e over s i [] = done
 told_lines e over s i (last ∷ []) =

@@ -1,4 +1,4 @@
-//! How an answer is spelled.
+//! The answers to commands, and how they are spelled.
 ghost use Rattle.std.specs.Prelude.{◌≡◌, ◌+◌, ◌≤◌, ◌++◌, length, decimal};
 ghost use Rattle.hoare_script.specs.Answers.{answer_line, outcome_answer, refusal_number, text_of};
 
@@ -6,24 +6,25 @@ use arrayvec::ArrayVec;
 use line_text::text::{Text, append, append_number};
 use wait_book::steps::{Next, StepRefused};
 
-/// What a command is answered.
+/// The answer to a command.
 #[derive(Clone, Copy, Debug, PartialEq, Eq)]
 pub enum Answer {
-    /// The monitor is free.
+    /// The monitor is free after the step.
     Free,
-    /// This place is inside.
+    /// This place is inside after the step.
     Inside(usize),
-    /// Whether somebody waits on the condition.
+    /// True if a process waits on the condition.
     Waiting(bool),
-    /// Nobody waits on the condition.
+    /// No process waits on the condition, so there is no priority.
     Nobody,
-    /// The priority of the process that a signal on the condition would resume.
+    /// The priority of the chosen waiter on the condition: the waiter that a signal would resume, or, on a Mesa
+    /// condition, a notify would notify.
     Priority(u64),
     /// The command is refused, and changes nothing.
     Refused(StepRefused),
 }
 
-/// What a step is answered.
+/// Returns the answer to a step of the book with this outcome. A place to which the monitor is handed counts as inside.
 pub fn outcome_answer(outcome: Result<Next, StepRefused>) -> Answer
     ensures { result ≡ outcome_answer outcome }
 {
@@ -67,7 +68,8 @@ fn append_answer(text: &mut Text, answer: Answer)
     }
 }
 
-/// The line, ` -> `, the answer, and byte 10.
+/// Returns what is written for a command: its line, ` -> `, the answer, and byte 10. The caller must prove that the
+/// line has at most 256 bytes.
 pub fn answer_line(line: &[u8], answer: Answer) -> Text
     requires { length line.now ≤ 256 }
     ensures { result.items ≡ answer_line line.now answer }

@@ -1,12 +1,12 @@
-//! What can go wrong with a script.
+//! The faults that end a script.
 ghost use Rattle.std.specs.Prelude.{◌≡◌, ◌↔◌, IsNone};
 ghost use Rattle.hoare_script.specs.Runs.{status_of};
 
 use line_text::words::first_word;
 use thiserror::Error;
 
-/// Why a script ends early. A fault stands at a byte of the input, and the earliest is answered. Lines are counted from
-/// 1, the header's.
+/// Why a script ends early. Each fault is at a byte of the input, and the earliest is returned. Lines are counted from
+/// 1, which is the header.
 #[derive(Clone, Copy, Debug, PartialEq, Eq, Error)]
 pub enum ScriptFault {
     /// The input is empty.
@@ -19,13 +19,13 @@ pub enum ScriptFault {
     /// Mesa conditions than conditions.
     #[error("fault 3 BadHeader line {0}")]
     BadHeader(u64),
-    /// A read failed. The unfinished line before it isn't answered.
+    /// A read failed. The unfinished line at that point isn't answered.
     #[error("fault 4 ReadFault")]
     ReadFault,
     /// A write failed, or took no bytes.
     #[error("fault 5 WriteFault")]
     WriteFault,
-    /// There is no memory for the book. Nothing is written.
+    /// An allocation for the book failed. Nothing is written.
     #[error("fault 6 Memory")]
     Memory,
     /// A line has over 256 bytes, its end not counted.
@@ -37,7 +37,7 @@ pub enum ScriptFault {
 }
 
 impl ScriptFault {
-    /// The exit status of a program that the fault ends: 3 where a read, a write or memory failed, else 2.
+    /// Returns the exit status of a program that the fault ends: 3 if a read, a write or an allocation failed, else 2.
     pub fn status(&self) -> u8
         ensures { result ≡ status_of self.now }
     {

@@ -1,4 +1,4 @@
-//! Scripts: a text of one monitor's steps, answered line by line by the book of its queues.
+//! Answers scripts. A script is a text that takes one monitor through steps; the book of its queues answers each line.
 #![tactic(auto)]
 
 pub mod answers;

@@ -1,4 +1,4 @@
-//! How a line spells a header or a command.
+//! The grammar of a script: how a line spells a header or a command.
 ghost use Rattle.std.specs.Prelude.{◌≡◌};
 ghost use Rattle.hoare_script.specs.Lines.{command_of, command_of_one, command_of_three, command_of_two, header_of};
 
@@ -10,26 +10,26 @@ use wait_book::steps::Step;
 /// are Mesa conditions.
 #[derive(Clone, Copy, Debug, PartialEq, Eq)]
 pub struct Header {
-    /// The number of places, as the line spells it: a book takes 1 to 64.
+    /// The number of places, as the line spells it. A book accepts 1 to 64.
     pub places: u64,
-    /// The number of conditions, as the line spells it: a book takes 1 to 8.
+    /// The number of conditions, as the line spells it. A book accepts 1 to 8.
     pub conditions: u64,
-    /// How many of these, the last ones, are Mesa conditions: a book takes no more than there are.
+    /// How many of the conditions, the last ones, are Mesa conditions. A book accepts at most `conditions`.
     pub mesa: u64,
 }
 
-/// What a later line asks.
+/// What a line after the header asks for.
 #[derive(Clone, Copy, Debug, PartialEq, Eq)]
 pub enum Command {
     /// A step of a place, which changes the book.
     Do(Step),
-    /// Whether somebody waits on a condition (Hoare's `queue`).
+    /// A test if a process waits on this condition (Hoare's `queue`).
     Queue(u64),
-    /// The priority of the process that a signal on a condition would resume.
+    /// The priority of the chosen waiter on this condition.
     First(u64),
 }
 
-// A command with one number.
+// Returns the command that this word and one number spell, if they spell one.
 fn with_one(word: &[u8], first: &[u8]) -> Option<Command>
     ensures { result ≡ command_of_one word.now first.now }
 {
@@ -49,7 +49,7 @@ fn with_one(word: &[u8], first: &[u8]) -> Option<Command>
     None
 }
 
-// A command with two numbers.
+// Returns the command that this word and two numbers spell, if they spell one.
 fn with_two(word: &[u8], first: &[u8], second: &[u8]) -> Option<Command>
     ensures { result ≡ command_of_two word.now first.now second.now }
 {
@@ -70,7 +70,7 @@ fn with_two(word: &[u8], first: &[u8], second: &[u8]) -> Option<Command>
     None
 }
 
-// The command with three numbers.
+// Returns the command that this word and three numbers spell, if they spell one.
 fn with_three(word: &[u8], first: &[u8], second: &[u8], third: &[u8]) -> Option<Command>
     ensures { result ≡ command_of_three word.now first.now second.now third.now }
 {
@@ -83,7 +83,8 @@ fn with_three(word: &[u8], first: &[u8], second: &[u8], third: &[u8]) -> Option<
     None
 }
 
-/// The command that a line spells.
+/// Returns the command that a line spells by a word and one to three numbers. Returns `None` if the line has none of
+/// the forms of a command. The ranges of the numbers aren't tested here.
 #[tactic(auto, unfolding(crate::specs::Lines::command_of))]
 pub fn parse_command(line: &[u8]) -> Option<Command>
     ensures { result ≡ command_of line.now }
@@ -104,7 +105,8 @@ pub fn parse_command(line: &[u8]) -> Option<Command>
     with_three(word, first, second, third)
 }
 
-/// The header that a line spells, with any numbers. Without a third number no condition is a Mesa condition.
+/// Returns the header that a line spells by `monitor` and two or three numbers. Without a third number no condition is
+/// a Mesa condition. Returns `None` if the line has neither form. The ranges of the numbers aren't tested here.
 #[tactic(auto, unfolding(crate::specs::Lines::header_of))]
 pub fn parse_header(line: &[u8]) -> Option<Header>
     ensures { result ≡ header_of line.now }

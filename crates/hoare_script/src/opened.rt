@@ -1,4 +1,4 @@
-//! The book that a header opened, as commands ask it.
+//! The book that a header opened, and its answers to commands.
 ghost use Rattle.std.specs.Prelude.{◌≡◌, ◌≤◌, MatchResult, None, Some, ◌⊎◌};
 ghost use Rattle.hoare_law.specs.declared.event.History.{History};
 ghost use Rattle.hoare_law.specs.Events.{opened};
@@ -15,7 +15,7 @@ use std::marker::Model;
 use wait_book::book::Book;
 use wait_book::steps::{MakeRefused, Step, StepRefused};
 
-/// A script's book, with the number of its conditions. To a contract it is what the book holds.
+/// The book of a script, with the number of its conditions. In a contract it is what the book holds.
 #[derive(Drop)]
 pub struct Opened {
     book: Book,
@@ -34,7 +34,9 @@ impl Model for Opened {
 }
 
 impl Opened {
-    /// A book of the header's numbers of places, conditions and Mesa conditions. Refused as `Book::make` refuses.
+    /// Creates a book with the numbers of places, conditions and Mesa conditions of `header`. Refuses, in this order:
+    /// with `BadPlaces` if the places aren't 1 to 64; with `BadConditions` if the conditions aren't 1 to 8, or fewer
+    /// than the Mesa conditions; and with `Memory` if an allocation fails.
     pub fn make(alloc: Global, header: Header) -> Result<Opened, MakeRefused>
         ensures { MatchResult result
             (λ b. (make_refusal (sizes_in header) ≡ None)
@@ -53,7 +55,8 @@ impl Opened {
         }
     }
 
-    /// Does what a command asks, and answers it.
+    /// Does what `command` asks for, and returns the answer. If the book refuses the step, or the queried condition
+    /// doesn't exist, returns `Answer::Refused`, and changes nothing.
     pub fn answer(&mut self, command: Command) -> Answer
         ensures { (h : History (Unit {0})) → IsOf self.old h →
             (result ≡ answer_to h command) × IsOf self.new (history_after h command) }
@@ -65,8 +68,8 @@ impl Opened {
         }
     }
 
-    /// The number of a place among those that were called and haven't gone on yet, as `Book::number_called` counts
-    /// them.
+    /// Returns the number of `place` among the notified places that haven't resumed yet, as `Book::number_called`
+    /// counts them: 1 for the place that resumes first, and 0 for a place that isn't among them. It is at most 64.
     pub fn number_called(&self, place: usize) -> usize
         ensures of { (h : History (Unit {0})) → IsOf self.now h
             → result ≡ number_called h.events place }
@@ -75,7 +78,7 @@ impl Opened {
         self.book.number_called(place)
     }
 
-    // Does a step.
+    // Does a step, and returns its answer.
     fn step(&mut self, step: Step) -> Answer
         ensures { (h : History (Unit {0})) → IsOf self.old h →
             (result ≡ answer_to h (commands.Do step))
@@ -85,7 +88,7 @@ impl Opened {
         outcome_answer(outcome)
     }
 
-    // Whether somebody waits.
+    // Returns `Waiting`, with true if a process waits on the condition. Refuses if there is no such condition.
     fn queue(&self, condition: u64) -> Answer
         ensures { (h : History (Unit {0})) → IsOf self.now h →
             result ≡ answer_to h (commands.Queue condition) }
@@ -96,7 +99,8 @@ impl Opened {
         Answer::Waiting(self.book.queue(condition as usize))
     }
 
-    // The priority of whom a signal would resume.
+    // Returns the priority of the chosen waiter on the condition, if there is one. Refuses if there is no such
+    // condition.
     fn first(&self, condition: u64) -> Answer
         ensures { (h : History (Unit {0})) → IsOf self.now h →
             result ≡ answer_to h (commands.First condition) }

@@ -1,4 +1,4 @@
-//! A whole script.
+//! Runs a whole script: reads its lines, and writes the answers.
 ghost use Rattle.std.specs.Prelude.{◌≡◌, ◌≢◌, ◌≤◌, ◌==◌, ◌+◌, ◌||◌, if◌then◌else◌, [], length, false, IsOkAnd};
 ghost use Rattle.std.specs.Prelude.{MatchResult, None, Some, Ok, Err, OnOk, ◌⊎◌};
 ghost use Rattle.hoare_law.specs.declared.event.History.{History};
@@ -22,13 +22,25 @@ use std::alloc::Global;
 use std::io::{Read, Write};
 use wait_book::steps::MakeRefused;
 
-/// The most bytes of a script.
+/// The maximum length of a script, in bytes.
 pub const MOST_BYTES: usize = 1_048_576;
 
-/// Reads a script and writes the answer to each line after the header, before it answers the next. A fault ends it: its
-/// answer is the earliest of the text, unless a read, a write or memory fails first. `Memory` is answered to a good
-/// header alone. No byte behind the one at which the verdict stands is read, so at most `MOST_BYTES` + 1 bytes are. An
-/// interrupted read or write counts as failed, and nothing is flushed.
+/// Reads a script, and writes the answer to each line after the header before it reads the next line.
+///
+/// A fault ends the script. It is the earliest fault of the text, unless a read, a write or an allocation fails first.
+/// The answers to the lines before the fault are written, and after `WriteFault` not all answers of the text. No byte
+/// past the one at which the result is fixed is read, so at most `MOST_BYTES` + 1 bytes are read. An interrupted read
+/// or write counts as failed. Nothing is flushed.
+///
+/// Refuses with
+/// - `NoHeader` if the input is empty;
+/// - `BadHeader` if the first line isn't a header, or a book refuses its numbers;
+/// - `BadLine` if a later line has none of the forms of a command;
+/// - `LineTooLong` if a line has over 256 bytes, its end not counted;
+/// - `TooMuch` if the input has over `MOST_BYTES` bytes;
+/// - `ReadFault` if a read fails;
+/// - `WriteFault` if a write fails, or takes no bytes;
+/// - `Memory` if an allocation fails. Then the first line is a good header, and nothing is written.
 pub fn run<R: Read, W: Write>(
     alloc: Global,
     reader: &mut R,
@@ -44,9 +56,9 @@ pub fn run<R: Read, W: Write>(
     run_watched(alloc, &mut watched_reader, &mut watched_writer)
 }
 
-/// `run`, with a reader and a writer that are watched: `ReadFault` is answered exactly where a read failed,
-/// `WriteFault` exactly where a write failed or took no bytes, and at most `MOST_BYTES` + 1 reads are made, which give
-/// at most this number of bytes, whatever the reader is.
+/// Does what `run` does, and refuses in the same cases, with a reader and a writer that are watched. It returns
+/// `ReadFault` exactly if a read failed, and `WriteFault` exactly if a write failed or took no bytes. At most
+/// `MOST_BYTES` + 1 reads are made, and they give at most as many bytes, whatever the reader is.
 pub fn run_watched<R: Read, W: Write>(
     alloc: Global,
     reader: &mut WatchedReader<'_, R>,
@@ -69,7 +81,7 @@ pub fn run_watched<R: Read, W: Write>(
     answer_lines(alloc, reader, writer, &mut opened)
 }
 
-// The lines of a script, of which none was read yet.
+// Reads the lines of a script, from the first one on, and writes the answers.
 fn answer_lines<R: Read, W: Write>(
     alloc: Global,
     reader: &mut WatchedReader<'_, R>,
@@ -109,7 +121,7 @@ fn answer_lines<R: Read, W: Write>(
     }
 }
 
-// The text ends where the line with a number would begin: a script has one line at least.
+// Returns the result of a text that ends before line `number` begins. It refuses a text without a line.
 fn end_before(number: u64) -> Result<(), ScriptFault>
     ensures value { result ≡ (if number == 1 then Err ScriptFault.NoHeader else Ok tt) }
     ensures no_read { is_read_fault result ≡ false }
@@ -122,7 +134,7 @@ fn end_before(number: u64) -> Result<(), ScriptFault>
     }
 }
 
-// The line with a number. Only a header takes memory.
+// Opens the book by line `number`, or, if it is open, does what that line asks for. Only a header allocates memory.
 fn one_line<W: Write>(
     alloc: Global,
     writer: &mut WatchedWriter<'_, W>,
@@ -154,7 +166,8 @@ fn one_line<W: Write>(
     }
 }
 
-// Opens a book by a header.
+// Opens a book by a header. Refuses with `Memory` if an allocation fails, and with `BadHeader` if the line isn't a
+// header or the book refuses its numbers.
 fn header_line(alloc: Global, number: u64, line: &[u8]) -> Result<Opened, ScriptFault>
     ensures { MatchResult result
         (λ b. IsOkAnd (header_line number (header_of line.now))
@@ -173,7 +186,8 @@ fn header_line(alloc: Global, number: u64, line: &[u8]) -> Result<Opened, Script
     }
 }
 
-// Does what a line asks, and writes the answer.
+// Does what a line asks for, and writes the answer. Refuses with `BadLine` if the line is no command, and with
+// `WriteFault` if a write fails or takes no bytes.
 fn command_line<W: Write>(
     writer: &mut WatchedWriter<'_, W>,
     opened: &mut Opened,

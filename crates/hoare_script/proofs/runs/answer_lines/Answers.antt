@@ -11,7 +11,7 @@ use Rattle.hoare_script.proofs.Running as running
 use Rattle.hoare_script.proofs.Running.{Known}
 use Rattle.hoare_script.proofs.runs.answer_lines.Goals as goal
 
--- a line that its end of line ends leaves room for the end
+-- if a line has its end, there is room for that end
 line_room : (room : ℕ) (l : List ℕ) (f : Ended) → f ≡ how.Line → IsLineFor room l (Ok f) → length l < room
 line_room room l f e s = subst (λ (v : Ended). IsLineFor room l (Ok v)) e s
 

@@ -41,6 +41,7 @@ impl ServiceFault {
             _ => 3,
         }
     }
+
     /// Returns what was expected instead, to show it beside the line at fault. Returns `None` if the input isn't at
     /// fault.
     pub fn expected(&self) -> Option<&'static str>

@@ -46,6 +46,7 @@ impl ScriptFault {
             _ => 2,
         }
     }
+
     /// Returns what was expected instead, to show it beside `line`, the line at fault. Returns `None` if a read, a write
     /// or memory failed: then no line is at fault.
     pub fn expected(&self, line: &[u8]) -> Option<&'static str>

@@ -17,7 +17,7 @@ pub const MOST_PLACES: usize = 64;
 pub const MOST_CONDITIONS: usize = 8;
 
 /// The queues of one monitor: the waiters on each condition, the waiting signallers, the notified processes (names say
-/// *called*), and whose turn it is ("Monitors", Introduction, Interpretation and Scheduled Waits). It is for one
+/// *called*), and whose turn it is (Hoare 1974, Introduction, Interpretation and Scheduled Waits). It is for one
 /// thread, and holds no data.
 ///
 /// Clause `of` of a call that changes the book reads: for every history that the book was of, it is afterwards of that

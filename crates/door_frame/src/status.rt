@@ -35,6 +35,6 @@ impl Display for Holder {
 
 impl Display for Status {
     fn fmt<W: Write>(&self, f: &mut Formatter<W>) -> fmt::Result {
-        write!(f, "{}, {} waiting to come in", self.holder, self.newcomers)
+        write!(f, "{}, {} waiting to enter", self.holder, self.newcomers)
     }
 }

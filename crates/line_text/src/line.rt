@@ -32,7 +32,7 @@ pub enum LineFault {
     #[error("a line has over 256 bytes")]
     TooLong,
     /// The line with its end takes more bytes than the room.
-    #[error("the text goes on past its room")]
+    #[error("the text is longer than its limit")]
     TooMuch,
 }
 

@@ -8,24 +8,24 @@ pub const USAGE: &str =
     "usage: monitor_bench [[--ticket] [--schedulers | --buffers] TURNS | --book [--orders] TURNS]";
 
 const NAMES: &str = "\
-enter_leave: one thread comes in, adds one and goes out
+enter_leave: one thread enters, adds one and leaves
 enter_leave_2, _4, _8: 2, 4, 8 threads at once
 hand_over: a wait, a signal and the signaller's return, between two threads
 buffer_1_1, buffer_4_4: a bounded buffer of 16 cells, 1 or 4 appenders and as many removers
 waiting_16: a wait and a signal, with 16 processes that wait with priorities
 chain_8: one link of a chain of signallers eight deep
-mixed_9: a visit of eight threads that wait with priorities, signal, pass and leave, and a ninth that resumes who waits
+mixed_9: a visit of eight threads that wait with priorities, signal, pass and leave, and a ninth that resumes waiters
 wide_enter_leave: as enter_leave, on a monitor of 64 places and 8 conditions
-mesa_buffer_1_1, mesa_buffer_4_4: as buffer_1_1 and buffer_4_4, with Mesa conditions: who waited tests again, and who
-       puts an item in or takes one out calls one process and goes on
-try_enter: as enter_leave, by a try. try_enter_no: a try while another place is inside
-others_largest, _mean, _none: how many others were let in between two visits of a place, with eight threads that
-       come in and go out, each as soon as it is out: the most, the mean, and how often nobody was, of a hundred
-       (the mean is about 7 at most, in whatever order they come in)
+mesa_buffer_1_1, mesa_buffer_4_4: as buffer_1_1 and buffer_4_4, with Mesa conditions: a waiter that resumes tests again,
+       and a process that puts in or takes out an item notifies one waiter and continues
+try_enter: as enter_leave, by an attempt. try_enter_no: an attempt while another place is inside
+others_largest, _mean, _none: how many others entered between two visits of a place, with eight threads that leave and
+       enter again at once: the most, the mean, and how often no other did, of a hundred (the mean is about 7 at most,
+       in whatever order they enter)
 turns: TURNS for one thread; a tenth for each of several; a hundredth for hand-overs and buffers;
        a thousandth for waiting_16, chain_8 and mixed_9
 with --schedulers, the procedures of the schedulers: one figure for two that undo each other, so that two visits are in
-       it; one thread, and nobody waits, but in the last line:
+       it; one thread, and no process waits, except in the last two lines:
 enter_leave: as above, beside them
 acquire_release: a single item. append_remove: a buffer of 16 cells
 take_give_1, _1024, _last: a pool of 1 buffer, of 1024, and of 1024 of which the last alone is free
@@ -38,15 +38,15 @@ release_1, _60: a release of the disk head alone, as the first of a sweep on whi
 with --buffers, buffer_1_1, mesa_buffer_1_1, buffer_4_4 and mesa_buffer_4_4 alone: those of Hoare's conditions and those
        with Mesa conditions in turn, eight rows of each in one run, and their mean
 with --book, the steps of a book of queues alone, on one thread; TURNS in sum for each figure, which is their mean:
-book_enter_leave: a place comes in and goes out, where nobody waits (64 places, 8 conditions)
-book_enter_wait: a place comes in and waits on the next of eight conditions, with up to 62 others waiting
-book_signal_leave: a place is resumed by a signal and goes out, with up to 62 others waiting
+book_enter_leave: a place enters and leaves, and no place waits (64 places, 8 conditions)
+book_enter_wait: a place enters and waits on the next of eight conditions, with up to 62 others waiting
+book_signal_leave: a signal resumes a place, which leaves, with up to 62 others waiting
 with --book --orders, on one condition:
 book_enter_wait_ORDER_N, book_signal_leave_ORDER_N: 1, 8 or 63 wait, with priorities that are equal, rising or falling
-book_notify, book_broadcast_N: one of 63 is called, or all N, where 1, 8 or 63 wait on a Mesa condition; the calls
+book_notify, book_broadcast_N: one of 63 waiters on a Mesa condition is notified, or all N, 1, 8 or 63; these calls
        alone are measured
-book_count_N: N that wait are counted along the chain, as a broadcast does that is told how many it called
-clock: two looks at the clock, of which a share is in each figure: once for N waits, and once for N signals
+book_count_N: N waiters are counted along the chain, as a broadcast does that returns how many it notified
+clock: two reads of the clock, of which a share is in each figure: once for N waits, and once for N signals
 size: the bytes of a book, without those on the heap
 bench/run compares these with other monitors; bench/schedulers takes those of the schedulers, bench/buffers of the
        buffers in turn, bench/book of the book";

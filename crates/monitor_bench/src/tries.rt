@@ -89,6 +89,6 @@ pub fn tried<R: Wait + Clock, M: Monitor<Counter>>(
         Found::Held => try_held(rt, m, other, out, turns) == 0,
     };
     let spent = start.elapsed(rt)?;
-    anyhow::ensure!(as_found, "a try was answered wrongly");
+    anyhow::ensure!(as_found, "an attempt to enter had the wrong result");
     Ok(spent)
 }

@@ -192,12 +192,12 @@ fn place_sixty_three_is_owed(rt: HostRuntime) {
 fn statuses_read_plainly(host: HostRuntime) {
     let (rt, alloc) = (&host, host.alloc());
     for (holder, newcomers, wanted) in [
-        (Holder::Nobody, 0, "nobody inside, 0 waiting to come in"),
-        (Holder::Somebody, 1, "a place inside, 1 waiting to come in"),
+        (Holder::Nobody, 0, "nobody inside, 0 waiting to enter"),
+        (Holder::Somebody, 1, "a place inside, 1 waiting to enter"),
         (
             Holder::Owed(63),
             2,
-            "handed to place 63, 2 waiting to come in",
+            "handed to place 63, 2 waiting to enter",
         ),
     ] {
         reads_as(rt, alloc, &status_of(holder, newcomers), wanted);

@@ -27,7 +27,7 @@ fn refusals_of_the_plain_schedulers_read_plainly(rt: HostRuntime) {
 fn refusals_of_the_alarm_read_plainly(rt: HostRuntime) {
     let alloc = rt.alloc();
     reads_as(&rt, alloc, &TooFar, "the setting is past the last time");
-    let clock_full = "the clock stands at the last time";
+    let clock_full = "the clock is at the last time";
     reads_as(&rt, alloc, &ClockFull, clock_full);
 }
 

@@ -4,7 +4,7 @@
 //! returns for every number, and if there is no book. A returned place is below 64.
 #![tactic(auto)]
 
-ghost use Rattle.std.specs.Prelude.{◌≡◌, ◌<◌, ◌≤◌, ◌⊎◌, Some, None};
+ghost use Rattle.std.specs.Prelude.{◌≡◌, ◌≤◌, ◌⊎◌, Some, None};
 ghost use Rattle.hoare_law.specs.declared.event.History.{History};
 ghost use Rattle.hoare_law.specs.Events.{opened};
 ghost use Rattle.hoare_law.specs.Sizes.{sizes_of};
@@ -12,7 +12,7 @@ ghost use Rattle.wait_book.specs.declared.steps.MakeRefused.{MakeRefused};
 ghost use Rattle.wait_book.specs.declared.steps.Step.TheVariants as steps;
 ghost use Rattle.wait_book.specs.Contents.{make_refusal};
 ghost use Rattle.book_handle.specs.Held.{Holds};
-ghost use Rattle.book_handle.specs.Codes.{Stepped, Tells, make_code, outside_code, queue_code};
+ghost use Rattle.book_handle.specs.Codes.{LacksBook, RefusalKeeps, Steps, Tells, make_code, outside_code, queue_code};
 ghost use Rattle.book_handle.specs.Codes.{first_or, condition_code, count_or};
 
 use book_handle::place::Held;
@@ -47,7 +47,7 @@ pub extern "C" fn zaulinte_book_make(
 pub extern "C" fn zaulinte_book_free(alloc: Global, book: &mut Held) -> u64
     ensures freed { book.new.live ≡ 0 }
     ensures told { book.old.live ≡ 1 → result ≡ 0 }
-    ensures none { book.old.live ≡ 0 → (result ≡ 107) × (book.new ≡ book.old) }
+    ensures none { LacksBook book.old.live book.old book.new result }
 {
     book.free(alloc)
 }
@@ -56,11 +56,10 @@ pub extern "C" fn zaulinte_book_free(alloc: Global, book: &mut Held) -> u64
 /// 101 no such place, 102 not free, 103 not outside. A refusal changes nothing.
 #[unsafe(no_mangle)]
 pub extern "C" fn zaulinte_book_enter(alloc: Global, book: &mut Held, place: u64) -> u64
-    ensures of { (h : History (Unit {0})) → Holds book.old.live book.old.handle.value h
-        → (book.new.live ≡ 1)
-        × Stepped h (steps.Enter place) book.new.handle.value result }
-    ensures refused { 64 < result → book.new.handle.value ≡ book.old.handle.value }
-    ensures none { book.old.live ≡ 0 → (result ≡ 107) × (book.new ≡ book.old) }
+    ensures of { Steps book.old.live book.old.handle.value (steps.Enter place) book.new.live
+        book.new.handle.value result }
+    ensures refused { RefusalKeeps book.old.handle.value book.new.handle.value result }
+    ensures none { LacksBook book.old.live book.old book.new result }
 {
     book.step(alloc, Step::Enter(place))
 }
@@ -69,11 +68,10 @@ pub extern "C" fn zaulinte_book_enter(alloc: Global, book: &mut Held, place: u64
 /// 101 no such place, 104 not inside. A refusal changes nothing.
 #[unsafe(no_mangle)]
 pub extern "C" fn zaulinte_book_leave(alloc: Global, book: &mut Held, place: u64) -> u64
-    ensures of { (h : History (Unit {0})) → Holds book.old.live book.old.handle.value h
-        → (book.new.live ≡ 1)
-        × Stepped h (steps.Leave place) book.new.handle.value result }
-    ensures refused { 64 < result → book.new.handle.value ≡ book.old.handle.value }
-    ensures none { book.old.live ≡ 0 → (result ≡ 107) × (book.new ≡ book.old) }
+    ensures of { Steps book.old.live book.old.handle.value (steps.Leave place) book.new.live
+        book.new.handle.value result }
+    ensures refused { RefusalKeeps book.old.handle.value book.new.handle.value result }
+    ensures none { LacksBook book.old.live book.old book.new result }
 {
     book.step(alloc, Step::Leave(place))
 }
@@ -88,11 +86,10 @@ pub extern "C" fn zaulinte_book_wait(
     condition: u64,
     priority: u64,
 ) -> u64
-    ensures of { (h : History (Unit {0})) → Holds book.old.live book.old.handle.value h
-        → (book.new.live ≡ 1)
-        × Stepped h (steps.Wait place condition priority) book.new.handle.value result }
-    ensures refused { 64 < result → book.new.handle.value ≡ book.old.handle.value }
-    ensures none { book.old.live ≡ 0 → (result ≡ 107) × (book.new ≡ book.old) }
+    ensures of { Steps book.old.live book.old.handle.value (steps.Wait place condition priority) book.new.live
+        book.new.handle.value result }
+    ensures refused { RefusalKeeps book.old.handle.value book.new.handle.value result }
+    ensures none { LacksBook book.old.live book.old book.new result }
 {
     book.step(alloc, Step::Wait(place, condition, priority))
 }
@@ -107,11 +104,10 @@ pub extern "C" fn zaulinte_book_signal(
     place: u64,
     condition: u64,
 ) -> u64
-    ensures of { (h : History (Unit {0})) → Holds book.old.live book.old.handle.value h
-        → (book.new.live ≡ 1)
-        × Stepped h (steps.Signal place condition) book.new.handle.value result }
-    ensures refused { 64 < result → book.new.handle.value ≡ book.old.handle.value }
-    ensures none { book.old.live ≡ 0 → (result ≡ 107) × (book.new ≡ book.old) }
+    ensures of { Steps book.old.live book.old.handle.value (steps.Signal place condition) book.new.live
+        book.new.handle.value result }
+    ensures refused { RefusalKeeps book.old.handle.value book.new.handle.value result }
+    ensures none { LacksBook book.old.live book.old book.new result }
 {
     book.step(alloc, Step::Signal(place, condition))
 }
@@ -126,11 +122,10 @@ pub extern "C" fn zaulinte_book_pass(
     place: u64,
     condition: u64,
 ) -> u64
-    ensures of { (h : History (Unit {0})) → Holds book.old.live book.old.handle.value h
-        → (book.new.live ≡ 1)
-        × Stepped h (steps.Pass place condition) book.new.handle.value result }
-    ensures refused { 64 < result → book.new.handle.value ≡ book.old.handle.value }
-    ensures none { book.old.live ≡ 0 → (result ≡ 107) × (book.new ≡ book.old) }
+    ensures of { Steps book.old.live book.old.handle.value (steps.Pass place condition) book.new.live
+        book.new.handle.value result }
+    ensures refused { RefusalKeeps book.old.handle.value book.new.handle.value result }
+    ensures none { LacksBook book.old.live book.old book.new result }
 {
     book.step(alloc, Step::Pass(place, condition))
 }
@@ -145,11 +140,10 @@ pub extern "C" fn zaulinte_book_notify(
     place: u64,
     condition: u64,
 ) -> u64
-    ensures of { (h : History (Unit {0})) → Holds book.old.live book.old.handle.value h
-        → (book.new.live ≡ 1)
-        × Stepped h (steps.Notify place condition) book.new.handle.value result }
-    ensures refused { 64 < result → book.new.handle.value ≡ book.old.handle.value }
-    ensures none { book.old.live ≡ 0 → (result ≡ 107) × (book.new ≡ book.old) }
+    ensures of { Steps book.old.live book.old.handle.value (steps.Notify place condition) book.new.live
+        book.new.handle.value result }
+    ensures refused { RefusalKeeps book.old.handle.value book.new.handle.value result }
+    ensures none { LacksBook book.old.live book.old book.new result }
 {
     book.step(alloc, Step::Notify(place, condition))
 }
@@ -164,11 +158,10 @@ pub extern "C" fn zaulinte_book_broadcast(
     place: u64,
     condition: u64,
 ) -> u64
-    ensures of { (h : History (Unit {0})) → Holds book.old.live book.old.handle.value h
-        → (book.new.live ≡ 1)
-        × Stepped h (steps.Broadcast place condition) book.new.handle.value result }
-    ensures refused { 64 < result → book.new.handle.value ≡ book.old.handle.value }
-    ensures none { book.old.live ≡ 0 → (result ≡ 107) × (book.new ≡ book.old) }
+    ensures of { Steps book.old.live book.old.handle.value (steps.Broadcast place condition) book.new.live
+        book.new.handle.value result }
+    ensures refused { RefusalKeeps book.old.handle.value book.new.handle.value result }
+    ensures none { LacksBook book.old.live book.old book.new result }
 {
     book.step(alloc, Step::Broadcast(place, condition))
 }
@@ -179,8 +172,7 @@ pub extern "C" fn zaulinte_book_now(alloc: Global, book: &mut Held) -> u64
     ensures of { (h : History (Unit {0})) → Holds book.old.live book.old.handle.value h
         → Holds book.new.live book.new.handle.value h
         × Tells h result }
-    ensures none { book.old.live ≡ 0
-        → (result ≡ 107) × (book.new ≡ book.old) }
+    ensures none { LacksBook book.old.live book.old book.new result }
 {
     book.now(alloc)
 }
@@ -191,8 +183,7 @@ pub extern "C" fn zaulinte_book_places(alloc: Global, book: &mut Held) -> u64
     ensures of { (h : History (Unit {0})) → Holds book.old.live book.old.handle.value h
         → Holds book.new.live book.new.handle.value h
         × (result ≡ h.sizes.places) × (result ≤ 64) }
-    ensures none { book.old.live ≡ 0
-        → (result ≡ 107) × (book.new ≡ book.old) }
+    ensures none { LacksBook book.old.live book.old book.new result }
 {
     book.places(alloc)
 }
@@ -203,8 +194,7 @@ pub extern "C" fn zaulinte_book_conditions(alloc: Global, book: &mut Held) -> u6
     ensures of { (h : History (Unit {0})) → Holds book.old.live book.old.handle.value h
         → Holds book.new.live book.new.handle.value h
         × (result ≡ h.sizes.conditions) × (result ≤ 8) }
-    ensures none { book.old.live ≡ 0
-        → (result ≡ 107) × (book.new ≡ book.old) }
+    ensures none { LacksBook book.old.live book.old book.new result }
 {
     book.conditions(alloc)
 }
@@ -215,8 +205,7 @@ pub extern "C" fn zaulinte_book_outside(alloc: Global, book: &mut Held, place: u
     ensures of { (h : History (Unit {0})) → Holds book.old.live book.old.handle.value h
         → Holds book.new.live book.new.handle.value h
         × (result ≡ outside_code h place) }
-    ensures none { book.old.live ≡ 0
-        → (result ≡ 107) × (book.new ≡ book.old) }
+    ensures none { LacksBook book.old.live book.old book.new result }
 {
     book.outside(alloc, place)
 }
@@ -227,8 +216,7 @@ pub extern "C" fn zaulinte_book_queue(alloc: Global, book: &mut Held, condition:
     ensures of { (h : History (Unit {0})) → Holds book.old.live book.old.handle.value h
         → Holds book.new.live book.new.handle.value h
         × (result ≡ queue_code h condition) }
-    ensures none { book.old.live ≡ 0
-        → (result ≡ 107) × (book.new ≡ book.old) }
+    ensures none { LacksBook book.old.live book.old book.new result }
 {
     book.queue(alloc, condition)
 }

@@ -1,5 +1,5 @@
 -- The codes that C gets for results and refusals.
-use Rattle.std.specs.Prelude.{ℕ, ◌≡◌, nat_lt, if◌then◌else◌, length, Option, Some, None}
+use Rattle.std.specs.Prelude.{ℕ, ◌≡◌, ◌<◌, nat_lt, if◌then◌else◌, length, Option, Some, None}
 use Rattle.hoare_law.specs.declared.event.Event.{Event}
 use Rattle.hoare_law.specs.declared.event.History.{History}
 use Rattle.hoare_law.specs.Turns.{turn, outside}
@@ -15,6 +15,7 @@ use Rattle.wait_book.specs.declared.steps.MakeRefused.{MakeRefused}
 use Rattle.wait_book.specs.declared.steps.MakeRefused.TheVariants.{BadPlaces, BadConditions, Memory}
 use Rattle.wait_book.specs.Contents.{Contents, IsOf, IsPlaceBelow, next_of}
 use Rattle.wait_book.specs.Stepping.{after_step, refusal_of}
+use Rattle.book_handle.specs.Held.{Holds}
 
 -- the place that resumes or is inside, or 64 if the monitor is free
 abbrev pub code_of : Next → ℕ
@@ -48,6 +49,19 @@ pub data Stepped (h : History (Unit {0})) (step : Step) (new : Contents) (code :
       → Stepped h step new code
   refused : (r : StepRefused) → refusal_of h step ≡ Some r → IsOf new h → code ≡ refusal_code r
       → Stepped h step new code
+
+-- a step that finds a book (live is 1) of a history makes of it what the step says, and leaves it there
+abbrev pub Steps : ℕ → Contents → Step → ℕ → Contents → ℕ → Type 0
+Steps live old step live' new code =
+    (h : History (Unit {0})) → Holds live old h → (live' ≡ 1) × Stepped h step new code
+
+-- a refusal leaves the book as it was
+abbrev pub RefusalKeeps : Contents → Contents → ℕ → Type 0
+RefusalKeeps old new code = 64 < code → new ≡ old
+
+-- if there is no book (live is 0), the code is 107, and C's words are as they were
+abbrev pub LacksBook : {W : Type 0} → ℕ → W → W → ℕ → Type 0
+LacksBook live old new code = live ≡ 0 → (code ≡ 107) × (new ≡ old)
 
 -- 1 if the place is outside, else 0; or 101 if no place has this number
 abbrev pub outside_code : History (Unit {0}) → ℕ → ℕ

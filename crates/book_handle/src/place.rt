@@ -1,12 +1,12 @@
 //! The words in which C keeps a book, with the calls.
-ghost use Rattle.std.specs.Prelude.{◌≡◌, ◌≢◌, ◌<◌, ◌≤◌, ◌⊎◌, Some, None};
+ghost use Rattle.std.specs.Prelude.{◌≡◌, ◌≢◌, ◌≤◌, ◌⊎◌, Some, None};
 ghost use Rattle.hoare_law.specs.declared.event.History.{History};
 ghost use Rattle.hoare_law.specs.Events.{opened};
 ghost use Rattle.hoare_law.specs.Sizes.{sizes_of};
 ghost use Rattle.wait_book.specs.declared.steps.MakeRefused.{MakeRefused};
 ghost use Rattle.wait_book.specs.Contents.{make_refusal};
 ghost use Rattle.book_handle.specs.Held.{Holds};
-ghost use Rattle.book_handle.specs.Codes.{Stepped, Tells, make_code, outside_code, queue_code};
+ghost use Rattle.book_handle.specs.Codes.{LacksBook, RefusalKeeps, Steps, Tells, make_code, outside_code, queue_code};
 ghost use Rattle.book_handle.specs.Codes.{first_or, condition_code, count_or};
 
 use crate::codes;
@@ -71,7 +71,7 @@ impl Held {
     pub fn free(&mut self, alloc: Global) -> u64
         ensures freed { self.new.live ≡ 0 }
         ensures told { self.old.live ≡ 1 → result ≡ 0 }
-        ensures none { self.old.live ≡ 0 → (result ≡ 107) × (self.new ≡ self.old) }
+        ensures none { LacksBook self.old.live self.old self.new result }
     {
         let Some(book) = self.held().take(alloc) else {
             return NO_BOOK;
@@ -83,10 +83,10 @@ impl Held {
     /// Does `step`, and returns the number of the place that is inside then, below 64, or `FREE`. Refused: `NO_BOOK`,
     /// else as `Book::try_step`. A refusal changes nothing.
     pub fn step(&mut self, _alloc: Global, step: Step) -> u64
-        ensures of { (h : History (Unit {0})) → Holds self.old.live self.old.handle.value h
-            → (self.new.live ≡ 1) × Stepped h step self.new.handle.value result }
-        ensures refused { 64 < result → self.new.handle.value ≡ self.old.handle.value }
-        ensures none { self.old.live ≡ 0 → (result ≡ 107) × (self.new ≡ self.old) }
+        ensures of { Steps self.old.live self.old.handle.value step self.new.live
+            self.new.handle.value result }
+        ensures refused { RefusalKeeps self.old.handle.value self.new.handle.value result }
+        ensures none { LacksBook self.old.live self.old self.new result }
     {
         let Some(book) = self.held().get_mut() else {
             return NO_BOOK;
@@ -98,7 +98,7 @@ impl Held {
     pub fn now(&mut self, _alloc: Global) -> u64
         ensures of { (h : History (Unit {0})) → Holds self.old.live self.old.handle.value h
             → Holds self.new.live self.new.handle.value h × Tells h result }
-        ensures none { self.old.live ≡ 0 → (result ≡ 107) × (self.new ≡ self.old) }
+        ensures none { LacksBook self.old.live self.old self.new result }
     {
         let Some(book) = self.held().get_mut() else {
             return NO_BOOK;
@@ -110,7 +110,7 @@ impl Held {
     pub fn places(&mut self, _alloc: Global) -> u64
         ensures of { (h : History (Unit {0})) → Holds self.old.live self.old.handle.value h
             → Holds self.new.live self.new.handle.value h × (result ≡ h.sizes.places) × (result ≤ 64) }
-        ensures none { self.old.live ≡ 0 → (result ≡ 107) × (self.new ≡ self.old) }
+        ensures none { LacksBook self.old.live self.old self.new result }
     {
         let Some(book) = self.held().get_mut() else {
             return NO_BOOK;
@@ -123,7 +123,7 @@ impl Held {
         ensures of { (h : History (Unit {0})) → Holds self.old.live self.old.handle.value h
             → Holds self.new.live self.new.handle.value h
             × (result ≡ h.sizes.conditions) × (result ≤ 8) }
-        ensures none { self.old.live ≡ 0 → (result ≡ 107) × (self.new ≡ self.old) }
+        ensures none { LacksBook self.old.live self.old self.new result }
     {
         let Some(book) = self.held().get_mut() else {
             return NO_BOOK;
@@ -135,7 +135,7 @@ impl Held {
     pub fn outside(&mut self, _alloc: Global, place: u64) -> u64
         ensures of { (h : History (Unit {0})) → Holds self.old.live self.old.handle.value h
             → Holds self.new.live self.new.handle.value h × (result ≡ outside_code h place) }
-        ensures none { self.old.live ≡ 0 → (result ≡ 107) × (self.new ≡ self.old) }
+        ensures none { LacksBook self.old.live self.old self.new result }
     {
         let Some(book) = self.held().get_mut() else {
             return NO_BOOK;
@@ -147,7 +147,7 @@ impl Held {
     pub fn queue(&mut self, _alloc: Global, condition: u64) -> u64
         ensures of { (h : History (Unit {0})) → Holds self.old.live self.old.handle.value h
             → Holds self.new.live self.new.handle.value h × (result ≡ queue_code h condition) }
-        ensures none { self.old.live ≡ 0 → (result ≡ 107) × (self.new ≡ self.old) }
+        ensures none { LacksBook self.old.live self.old self.new result }
     {
         let Some(book) = self.held().get_mut() else {
             return NO_BOOK;
